@@ -1,0 +1,9 @@
+use Rattle.std.proofs.Common.{◌≡◌, ℕ, ◌<◌, length, get_or, None}
+use Rattle.dw_board.specs.Placement as of
+use Rattle.dw_board.proofs.position.codes_of.Given as goal
+
+abbrev pub invariant-loop-i : goal.invariant-loop-i
+invariant-loop-i l = record {
+  len : length l.codes ≡ 50;
+  written : (k : ℕ) → k < l.i → get_or l.codes k 0 ≡ of.cell_code (get_or l.cells k None);
+}

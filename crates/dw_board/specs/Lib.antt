@@ -1,0 +1,9 @@
+pub mod Geometry
+pub mod Tables
+pub mod SquareSet
+pub mod Boards
+pub mod Placement
+pub mod PlacementLaws
+pub mod Fen
+pub mod FenText
+pub mod Diagram

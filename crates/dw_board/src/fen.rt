@@ -1,0 +1,4 @@
+//! FEN texts of positions.
+
+pub mod fault;
+pub mod read;

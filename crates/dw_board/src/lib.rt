@@ -1,0 +1,11 @@
+//! Boards, squares and positions of draughts, their FEN texts and their diagrams.
+//!
+//! Everything is generic over the board. No call takes memory.
+#![tactic(auto)]
+
+pub mod board;
+pub mod fen;
+pub mod piece;
+pub mod position;
+pub mod square;
+pub mod squares;

@@ -1,0 +1,219 @@
+//! Positions: what stands on a board, and whose turn it is.
+ghost use Rattle.std.specs.Prelude.{◌≡◌, ◌≤◌, ◌<◌, ℕ, Some, None, Ok, Err, IsTrue, is_ok, count_by, if◌then◌else◌, MatchResult, Result};
+ghost use Rattle.dw_board.specs.Placement.{Placement, placed, put_fault};
+ghost use Rattle.dw_board.specs.Placement as of;
+ghost use Rattle.dw_board.specs.Placement.{side_code, cell_codes};
+ghost use Rattle.std.specs.Prelude.{◌==◌, ◌++◌, List, map};
+ghost use Rattle.std.proofs.Common.{rules};
+ghost use Rattle.std.specs.Hash as fed;
+ghost use Rattle.std.specs.Cmp.{partial_order_from_own_ties};
+ghost use Rattle.std.specs.Cmp.Rules.{comparing, hashing};
+ghost use Rattle.std.specs.Cmp.Lexicographic.{slice_cmp, pointwise};
+ghost use Rattle.std.specs.Ordering.{nat_cmp, on, then_cmp, as_partial_cmp, eq_of_both};
+ghost use Rattle.std.specs.Result.{result_err};
+
+use crate::board::Board;
+use crate::piece::{Kind, Piece, PutFault, Side};
+use crate::square::Square;
+use std::cmp::Ordering;
+use std::hash::{Hash, Hasher};
+use std::marker::{Model, PhantomData};
+
+/// Pieces on a board, and the side to move.
+#[derive(Clone, Copy)]
+pub struct Position<B: Board> {
+    cells: [Option<Piece>; 50],
+    turn: Side,
+    board: PhantomData<B>,
+}
+
+impl<B: Board> Model for Position<B> {
+    ghost use Rattle.dw_board.specs.Placement.{Placement, IsPosition};
+
+    ghost Value = { Placement };
+
+    ghost view = { λ p. record { cells = p.cells; turn = p.turn } };
+
+    ghost invariant = { λ p. IsPosition B.geometry p.cells };
+
+    ghost inverse = { λ v. record { cells = v.cells; turn = v.turn; board = record {} } };
+}
+
+impl<B: Board> Position<B> {
+    pub fn empty(turn: Side) -> Self
+        ensures { result ≡ of.empty turn }
+    {
+        Position {
+            cells: [None; 50],
+            turn,
+            board: PhantomData,
+        }
+    }
+
+    /// Puts a piece on an empty square, and changes nothing where it is refused.
+    pub fn put(&mut self, square: Square<B>, piece: Piece) -> Result<(), PutFault>
+        ensures fault { result_err result ≡ put_fault B.geometry self.old square piece }
+        ensures after { self.new ≡ (if is_ok result then placed self.old square (Some piece) else self.old) }
+    {
+        if self.at(square).is_some() {
+            return Err(PutFault::Taken);
+        }
+        if is_stuck(square, piece) {
+            return Err(PutFault::LastRow);
+        }
+        if B::SIDE <= self.count(piece.side) {
+            return Err(PutFault::TooMany);
+        }
+        self.cells[square.number() as usize - 1] = Some(piece);
+        Ok(())
+    }
+
+    pub fn clear(&mut self, square: Square<B>) -> Option<Piece>
+        ensures stood { result ≡ of.at self.old square }
+        ensures after { self.new ≡ placed self.old square None }
+    {
+        let stood = self.at(square);
+        self.cells[square.number() as usize - 1] = None;
+        stood
+    }
+
+    pub fn at(&self, square: Square<B>) -> Option<Piece>
+        ensures { result ≡ of.at self.now square }
+    {
+        self.cells[square.number() as usize - 1]
+    }
+
+    pub fn turn(&self) -> Side
+        ensures { result ≡ self.now.turn }
+    {
+        self.turn
+    }
+
+    pub fn set_turn(&mut self, side: Side)
+        ensures { self.new ≡ record self.old { turn = side } }
+    {
+        self.turn = side;
+    }
+
+    pub fn count(&self, side: Side) -> u8
+        ensures { result ≡ of.count self.now side }
+    {
+        count_of(&self.cells, side)
+    }
+}
+
+fn count_of(cells: &[Option<Piece>; 50], side: Side) -> u8
+    ensures { result ≡ count_by (of.is_of side) cells.now }
+{
+    let mut count = 0;
+    for cell in cells {
+        if let Some(piece) = cell
+            && piece.side == side
+        {
+            count += 1;
+        }
+    }
+    count
+}
+
+fn is_stuck<B: Board>(square: Square<B>, piece: Piece) -> bool
+    ensures { result ≡ of.is_stuck B.geometry square (Some piece) }
+{
+    matches!(piece.kind, Kind::Man) && on_last_row(square, piece.side)
+}
+
+fn on_last_row<B: Board>(square: Square<B>, side: Side) -> bool
+    ensures { result ≡ of.on_last_row B.geometry side square }
+{
+    match side {
+        Side::White => square.number() <= B::PER_ROW,
+        Side::Black => B::ROWS * B::PER_ROW < square.number() + B::PER_ROW,
+    }
+}
+
+/// A number for what stands on a square.
+fn cell_code(cell: Option<Piece>) -> u8
+    ensures { result ≡ of.cell_code cell }
+{
+    match cell {
+        None => 0,
+        Some(piece) => {
+            let kind = match piece.kind {
+                Kind::Man => 0,
+                Kind::King => 1,
+            };
+            1 + 2 * side_number(piece.side) + kind
+        }
+    }
+}
+
+fn side_number(side: Side) -> u8
+    ensures { result ≡ side_code side }
+{
+    match side {
+        Side::White => 0,
+        Side::Black => 1,
+    }
+}
+
+fn codes_of(cells: &[Option<Piece>; 50]) -> [u8; 50]
+    ensures { result ≡ map of.cell_code cells.now }
+{
+    let mut codes = [0; 50];
+    for i in 0..50 {
+        codes[i] = cell_code(cells[i]);
+    }
+    codes
+}
+
+impl<B: Board> PartialEq for Position<B> {
+    ghost eq = { eq_of_both (on (λ p. side_code p.turn) ◌==◌) (on cell_codes (pointwise ◌==◌)) };
+
+    ghost laws = { Prim.search (comparing, rules) depth 9 };
+
+    fn eq(&self, other: &Self) -> bool {
+        side_number(self.turn) == side_number(other.turn)
+            && codes_of(&self.cells) == codes_of(&other.cells)
+    }
+}
+
+impl<B: Board> Eq for Position<B> {
+    ghost laws = { Prim.search (comparing, rules) depth 9 };
+}
+
+impl<B: Board> Ord for Position<B> {
+    ghost cmp = { then_cmp (on (λ p. side_code p.turn) nat_cmp) (on cell_codes (slice_cmp nat_cmp)) };
+
+    ghost total = { Prim.search (comparing, rules) depth 9 };
+
+    ghost matches_partial_cmp = { Prim.search (comparing, rules) depth 9 };
+
+    ghost matches_eq = { Prim.search (comparing, rules) depth 9 };
+
+    fn cmp(&self, other: &Self) -> Ordering {
+        side_number(self.turn)
+            .cmp(&side_number(other.turn))
+            .then(codes_of(&self.cells).cmp(&codes_of(&other.cells)))
+    }
+}
+
+impl<B: Board> PartialOrd for Position<B> {
+    ghost partial_cmp = { as_partial_cmp (then_cmp (on (λ p. side_code p.turn) nat_cmp) (on cell_codes (slice_cmp nat_cmp))) };
+
+    ghost laws = { partial_order_from_own_ties (Prim.search (comparing, rules) depth 9) (Prim.search (comparing, rules) depth 9) };
+
+    fn partial_cmp(&self, other: &Self) -> Option<Ordering> {
+        Some(self.cmp(other))
+    }
+}
+
+impl<B: Board> Hash for Position<B> {
+    ghost hash_input = { λ p. fed.u8 (side_code p.turn) ++ fed.slice fed.u8 (cell_codes p) };
+
+    ghost respects_eq = { Prim.search (hashing, rules) };
+
+    fn hash<H: Hasher>(&self, state: &mut H) {
+        state.write_u8(side_number(self.turn));
+        codes_of(&self.cells).hash(state);
+    }
+}

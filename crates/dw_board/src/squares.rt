@@ -1,0 +1,133 @@
+//! Sets of squares, as padded words.
+ghost use Rattle.std.specs.Prelude.{◌≡◌, ◌≤◌, ◌<◌, ◌↔◌, ℕ, Some, IsTrue};
+ghost use Rattle.std.specs.FinSet as set;
+ghost use Rattle.dw_board.specs.Geometry as Geo;
+ghost use Rattle.std.specs.Prelude.{◌==◌};
+ghost use Rattle.std.proofs.Common.{rules};
+ghost use Rattle.std.specs.Hash as fed;
+ghost use Rattle.std.specs.Ordering.{on};
+ghost use Rattle.std.specs.Cmp.Rules.{comparing};
+ghost use Rattle.std.specs.Cmp.Lexicographic.{pointwise};
+ghost use Rattle.dw_board.specs.SquareSet.{word_of, same_members-is};
+
+use crate::board::{Board, Dir};
+use crate::square::Square;
+use std::hash::{Hash, Hasher};
+use std::marker::{Model, PhantomData};
+
+/// A set of squares: square s is the bit `s - 1 + (s - 1) / ROWS`.
+#[derive(Clone, Copy)]
+pub struct Squares<B: Board> {
+    word: u64,
+    board: PhantomData<B>,
+}
+
+impl<B: Board> Model for Squares<B> {
+    ghost use Rattle.std.specs.Ordering.{nat_cmp};
+    ghost use Rattle.std.specs.Coded.{coded_ℕ};
+    ghost use Rattle.std.specs.FinSet as set;
+    ghost use Rattle.dw_board.specs.SquareSet.{squares_of, word_of, IsWord, word_of-squares_of};
+
+    ghost Value = { set.FinSet nat_cmp };
+
+    ghost coded = { set.code coded_ℕ };
+
+    ghost view = { λ s. squares_of B.geometry s.word };
+
+    ghost invariant = { λ s. IsWord B.geometry s.word };
+
+    ghost inverse = { λ v. record { word = word_of B.geometry v; board = record {} } };
+
+    ghost inverse_ok = { λ a h i. record { word = word_of-squares_of B.geometry h.board a.word h.only i; board = a.board } };
+}
+
+fn place<B: Board>(square: Square<B>) -> u8
+    ensures value { result ≡ Geo.bit B.geometry square }
+    ensures small { result < 64 }
+    ensures on_board { Geo.OnBoard B.geometry square }
+{
+    let index = square.number() - 1;
+    index + index / B::ROWS
+}
+
+impl<B: Board> Squares<B> {
+    pub fn none() -> Self
+        ensures { result ≡ set.empty }
+    {
+        Squares {
+            word: 0,
+            board: PhantomData,
+        }
+    }
+
+    pub fn has(self, square: Square<B>) -> bool
+        ensures { result ≡ set.contains self square }
+    {
+        (self.word >> place(square)) & 1 == 1
+    }
+
+    pub fn with(self, square: Square<B>) -> Self
+        ensures { result ≡ set.insert self square }
+    {
+        Squares {
+            word: self.word | (1 << place(square)),
+            board: PhantomData,
+        }
+    }
+
+    pub fn or(self, other: Self) -> Self
+        ensures { result ≡ set.union self other }
+    {
+        Squares {
+            word: self.word | other.word,
+            board: PhantomData,
+        }
+    }
+
+    /// The squares that a step leads to from these.
+    pub fn shifted(self, direction: Dir) -> Self
+        ensures { (t : ℕ) → IsTrue (set.contains result t) ↔ ((s : ℕ) × (IsTrue (set.contains self s) × (Geo.step B.geometry s direction ≡ Some t))) }
+    {
+        Squares {
+            word: shifted_word::<B>(self.word, direction) & B::WORD,
+            board: PhantomData,
+        }
+    }
+}
+
+fn shifted_word<B: Board>(word: u64, direction: Dir) -> u64
+    ensures { result ≡ Geo.shifted_word B.geometry direction word }
+{
+    match direction {
+        Dir::UpLeft => word >> (B::PER_ROW + 1),
+        Dir::UpRight => word >> B::PER_ROW,
+        Dir::DownLeft => word << B::PER_ROW,
+        Dir::DownRight => word << (B::PER_ROW + 1),
+    }
+}
+
+impl<B: Board> PartialEq for Squares<B> {
+    ghost eq = { on set.items (pointwise ◌==◌) };
+
+    ghost laws = { Prim.search (comparing, rules) depth 9 };
+
+    #[tactic(auto, using(crate::specs::SquareSet::same_words))]
+    fn eq(&self, other: &Self) -> bool {
+        self.word == other.word
+    }
+}
+
+impl<B: Board> Eq for Squares<B> {
+    ghost laws = { Prim.search (comparing, rules) depth 9 };
+}
+
+impl<B: Board> Hash for Squares<B> {
+    ghost hash_input = { λ v. fed.u64 (word_of B.geometry v) };
+
+    ghost respects_eq = { λ x y h i. fed.u64 (word_of B.geometry ((same_members-is x y).0 h i)) };
+
+    #[tactic(auto, using(crate::specs::SquareSet::word_behind))]
+    fn hash<H: Hasher>(&self, state: &mut H) {
+        state.write_u64(self.word);
+    }
+}
