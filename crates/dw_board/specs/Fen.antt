@@ -1,14 +1,147 @@
--- The FEN texts of positions.
-use Rattle.std.specs.Prelude.{ℕ, List, length, nat_lt, if◌then◌else◌, Result, Ok, Err}
+-- A FEN text, read token by token: the position that it names, or its earliest fault.
+use Rattle.std.specs.Prelude.{ℕ, zero, suc, ◌+◌, ◌-◌, ◌||◌, nat_lt, Bool, true, false, if◌then◌else◌, Option, Some, None, Result, Ok, Err, List, [], ◌∷◌, length}
 use Rattle.dw_board.specs.Geometry.{Geometry}
-use Rattle.dw_board.specs.Placement.{Placement}
+use Rattle.dw_board.specs.Placement.{Placement, empty, placed, put_fault, same_side}
+use Rattle.dw_board.specs.FenTokens.{Token, tokens_from, is_sign, side_named, is_king_letter, number_named}
+use Rattle.dw_board.specs.declared.piece.Side.{Side}
+use Rattle.dw_board.specs.declared.piece.Kind.TheVariants.{Man, King}
+use Rattle.dw_board.specs.declared.piece.Piece.{Piece}
+use Rattle.dw_board.specs.declared.piece.PutFault.{PutFault}
+use Rattle.dw_board.specs.declared.piece.PutFault.TheVariants as put
 use Rattle.dw_board.specs.declared.fen.fault.FenFault.{FenFault}
-use Rattle.dw_board.specs.declared.fen.fault.FenFaultKind.TheVariants.{Rest, TooLong}
+use Rattle.dw_board.specs.declared.fen.fault.FenFaultKind.{FenFaultKind}
+use Rattle.dw_board.specs.declared.fen.fault.FenFaultKind.TheVariants.{Turn, Colon, Colour, Number, Twice, SameColour, LastRow, TooMany, Rest, TooLong, RangeBackwards}
+
+abbrev pub fault : {A : Type 0} → FenFaultKind → ℕ → Result A FenFault
+fault what place = Err (record { what = what; place = place })
+
+infixl 10 ◌>>=◌
+abbrev pub ◌>>=◌ : {A B : Type 0} → Result A FenFault → (A → Result B FenFault) → Result B FenFault
+(Ok x) >>= f = f x
+(Err e) >>= f = Err e
+
+-- a list as far as it is read: its colour, whether it is the second one, and what stands on the board
+pub record Listing : Type 0 where
+  pub side : Side
+  pub is_second : Bool
+  pub placed : Placement
+
+abbrev pub listing : Side → Bool → Placement → Listing
+listing side second p = record { side = side; is_second = second; placed = p }
+
+-- an item as far as it is read: whether K stands before it, its first number, and the place of that
+pub record Item : Type 0 where
+  pub is_king : Bool
+  pub from : ℕ
+  pub place : ℕ
+
+-- what was read last, and so what may stand next
+pub data Stage : Type 0 where
+  Start : Stage
+  AfterTurn : Side → Stage
+  AfterColon : Option Side → Placement → Stage
+  AfterColour : Listing → Stage
+  AfterComma : Listing → Stage
+  AfterKing : Listing → Stage
+  AfterNumber : Listing → Item → Stage
+  AfterDash : Listing → Item → Stage
+  AfterItem : Listing → Stage
+  AfterStop : Placement → Stage
+  AfterLists : Placement → Stage
+
+abbrev pub put_kind : PutFault → FenFaultKind
+put_kind put.Taken = Twice
+put_kind put.LastRow = LastRow
+put_kind put.TooMany = TooMany
+
+-- the first square could be set, and then the others
+abbrev pub then_set : Option PutFault → ℕ → Result Placement FenFault → Result Placement FenFault
+then_set None place others = others
+then_set (Some why) place others = fault (put_kind why) place
+
+-- so many squares from one on are set, one by one
+abbrev pub set_squares : Geometry → Piece → ℕ → ℕ → ℕ → Placement → Result Placement FenFault
+set_squares g piece place from zero p = Ok p
+set_squares g piece place from (suc more) p =
+    then_set (put_fault g p from piece) place (set_squares g piece place (from + 1) more (placed p from (Some piece)))
+
+abbrev pub piece_of : Listing → Item → Piece
+piece_of list item = record { side = list.side; kind = if item.is_king then King else Man }
+
+-- the item's squares, up to this one, are set; each of their faults has the place of the item's first number
+abbrev pub with_item : Geometry → Listing → Item → ℕ → Result Listing FenFault
+with_item g list item to =
+    set_squares g (piece_of list item) item.place item.from (to + 1 - item.from) list.placed >>= λ p. Ok (record list { placed = p })
+
+-- the stage behind a token that may be absent
+abbrev pub if_named : {A : Type 0} → Option A → FenFaultKind → ℕ → (A → Result Stage FenFault) → Result Stage FenFault
+if_named None what place next = fault what place
+if_named (Some x) what place next = next x
+
+-- a second list has the other colour
+abbrev pub list_begun : Option Side → Placement → ℕ → Side → Result Stage FenFault
+list_begun None p place side = Ok (AfterColour (record { side = side; is_second = false; placed = p }))
+list_begun (Some first) p place side =
+    if same_side first side then fault SameColour place else Ok (AfterColour (record { side = side; is_second = true; placed = p }))
+
+-- an item begins with K or a number
+abbrev pub item_begun : Geometry → Listing → Token → Result Stage FenFault
+item_begun g list t =
+    if is_king_letter t.text then Ok (AfterKing list)
+    else if_named (number_named g t.text) Number t.place (λ n. Ok (AfterNumber list (record { is_king = false; from = n; place = t.place })))
+
+-- behind an item a comma, a colon or a stop may stand
+abbrev pub item_ended : Listing → Token → Result Stage FenFault
+item_ended list t =
+    if is_sign 44 t.text then Ok (AfterComma list)
+    else (if is_sign 58 t.text then Ok (if list.is_second then AfterLists list.placed else AfterColon (Some list.side) list.placed)
+    else (if is_sign 46 t.text then Ok (AfterStop list.placed) else fault Rest t.place))
+
+-- the stage behind the next token, or what is wrong with that token
+unfoldable pub next_stage : Geometry → Stage → Token → Result Stage FenFault
+next_stage g Start t = if_named (side_named t.text) Turn t.place (λ side. Ok (AfterTurn side))
+next_stage g (AfterTurn turn) t = if is_sign 58 t.text then Ok (AfterColon None (empty turn)) else fault Colon t.place
+next_stage g (AfterColon first p) t = if_named (side_named t.text) Colour t.place (list_begun first p t.place)
+next_stage g (AfterColour list) t = if is_sign 58 t.text || is_sign 46 t.text then item_ended list t else item_begun g list t
+next_stage g (AfterComma list) t = item_begun g list t
+next_stage g (AfterKing list) t =
+    if_named (number_named g t.text) Number t.place (λ n. Ok (AfterNumber list (record { is_king = true; from = n; place = t.place })))
+next_stage g (AfterNumber list item) t =
+    if is_sign 45 t.text then Ok (AfterDash list item) else with_item g list item item.from >>= λ all. item_ended all t
+next_stage g (AfterDash list item) t =
+    if_named (number_named g t.text) Number t.place (λ to.
+    if nat_lt to item.from then fault RangeBackwards t.place else with_item g list item to >>= λ all. Ok (AfterItem all))
+next_stage g (AfterItem list) t = item_ended list t
+next_stage g (AfterStop p) t = fault Rest t.place
+next_stage g (AfterLists p) t = Ok (AfterLists p)
+
+-- the position, where the text may end here, or what is missing
+unfoldable pub at_end : Geometry → ℕ → Stage → Result Placement FenFault
+at_end g place Start = fault Turn place
+at_end g place (AfterTurn turn) = fault Colon place
+at_end g place (AfterColon first p) = fault Colour place
+at_end g place (AfterColour list) = Ok list.placed
+at_end g place (AfterComma list) = fault Number place
+at_end g place (AfterKing list) = fault Number place
+at_end g place (AfterNumber list item) = with_item g list item item.from >>= λ all. Ok all.placed
+at_end g place (AfterDash list item) = fault Number place
+at_end g place (AfterItem list) = Ok list.placed
+at_end g place (AfterStop p) = Ok p
+at_end g place (AfterLists p) = Ok p
+
+-- what the tokens from this stage on name; the text's end has this place
+unfoldable pub read_from : Geometry → ℕ → Stage → List Token → Result Placement FenFault
+read_from g end stage [] = at_end g end stage
+read_from g end stage (t ∷ tokens) = next_stage g stage t >>= λ next. read_from g end next tokens
+
+-- what the tokens behind an item that ends with this square say
+abbrev pub read_behind : Geometry → ℕ → Listing → Item → ℕ → List Token → Result Placement FenFault
+read_behind g end list item to tokens = with_item g list item to >>= λ all. read_from g end (AfterItem all) tokens
 
 -- what a text of at most 1,024 bytes says
 unfoldable pub short_fen : Geometry → List ℕ → Result Placement FenFault
-short_fen g text = Err (record { what = Rest; place = 1 })
+short_fen g text = read_from g (length text + 1) Start (tokens_from 1 text)
 
--- the position that a text names, or its earliest fault; a text is too long before anything else
+-- the position that a text names, or its earliest fault; too long comes before anything else
 abbrev pub fen : Geometry → List ℕ → Result Placement FenFault
-fen g text = if nat_lt 1024 (length text) then Err (record { what = TooLong; place = 1025 }) else short_fen g text
+fen g text = if nat_lt 1024 (length text) then fault TooLong 1025 else short_fen g text

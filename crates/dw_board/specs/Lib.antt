@@ -4,6 +4,9 @@ pub mod SquareSet
 pub mod Boards
 pub mod Placement
 pub mod PlacementLaws
+pub mod FenTokens
+pub mod FenBlanks
+pub mod FenReader
 pub mod Fen
 pub mod FenText
 pub mod Diagram

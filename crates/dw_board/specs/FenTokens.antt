@@ -1,0 +1,62 @@
+-- The tokens of a FEN text: letters, runs of digits and signs, with blanks before, between and behind them.
+use Rattle.std.specs.Prelude.{ℕ, ◌+◌, ◌-◌, ◌*◌, ◌==◌, ◌&&◌, ◌||◌, nat_le, Bool, true, false, if◌then◌else◌, Option, Some, None, List, [], ◌∷◌, map}
+use Rattle.dw_board.specs.Geometry.{Geometry, squares}
+use Rattle.dw_board.specs.declared.piece.Side.{Side}
+use Rattle.dw_board.specs.declared.piece.Side.TheVariants.{White, Black}
+
+-- the bytes of a token, and the place of the first of them in the text, counted from 1
+pub record Token : Type 0 where
+  pub text : List ℕ
+  pub place : ℕ
+
+-- a space or a tab
+abbrev pub is_blank : ℕ → Bool
+is_blank byte = (byte == 32) || (byte == 9)
+
+abbrev pub is_digit : ℕ → Bool
+is_digit byte = nat_le 48 byte && nat_le byte 57
+
+abbrev pub begins_with_digit : List ℕ → Bool
+begins_with_digit [] = false
+begins_with_digit (byte ∷ bytes) = is_digit byte
+
+-- a digit goes onto the front of the run of digits behind it
+abbrev pub onto_run : ℕ → ℕ → List Token → List Token
+onto_run digit place [] = []
+onto_run digit place (run ∷ tokens) = record { text = digit ∷ run.text; place = place } ∷ tokens
+
+abbrev pub with_byte : ℕ → ℕ → Bool → List Token → List Token
+with_byte byte place joins tokens =
+    if is_blank byte then tokens
+    else (if is_digit byte && joins then onto_run byte place tokens else record { text = byte ∷ []; place = place } ∷ tokens)
+
+-- the tokens of bytes, the first of which stands at this place
+abbrev pub tokens_from : ℕ → List ℕ → List Token
+tokens_from place [] = []
+tokens_from place (byte ∷ bytes) = with_byte byte place (begins_with_digit bytes) (tokens_from (place + 1) bytes)
+
+-- ---- what a token says
+abbrev pub is_sign : ℕ → List ℕ → Bool
+is_sign sign [] = false
+is_sign sign (byte ∷ []) = byte == sign
+is_sign sign (byte ∷ more ∷ bytes) = false
+
+-- W or B, in either case
+abbrev pub side_named : List ℕ → Option Side
+side_named text =
+    if is_sign 87 text || is_sign 119 text then Some White
+    else (if is_sign 66 text || is_sign 98 text then Some Black else None)
+
+-- K, in either case
+abbrev pub is_king_letter : List ℕ → Bool
+is_king_letter text = is_sign 75 text || is_sign 107 text
+
+abbrev pub square_numbered : Geometry → Bool → ℕ → Option ℕ
+square_numbered g is_number n = if is_number && (nat_le 1 n && nat_le n (squares g)) then Some n else None
+
+-- a run of one or two digits that gives the number of a square
+abbrev pub number_named : Geometry → List ℕ → Option ℕ
+number_named g [] = None
+number_named g (d ∷ []) = square_numbered g (is_digit d) (d - 48)
+number_named g (d ∷ e ∷ []) = square_numbered g (is_digit d && is_digit e) (10 * (d - 48) + (e - 48))
+number_named g (d ∷ e ∷ f ∷ bytes) = None
