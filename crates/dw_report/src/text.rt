@@ -1,0 +1,104 @@
+//! The texts of the report.
+ghost use Rattle.std.specs.Prelude.{◌≡◌, ◌++◌, codes, decimal};
+ghost use Rattle.dw_report.specs.Report.{fen_fault_text, refusal_text, found_text, first_line as line_of, problem_text as text_of};
+ghost use Rattle.dw_notation.specs.Problems.{numbered};
+
+use crate::settings::Command;
+use arrayvec::ArrayString;
+use dw_board::board::Board;
+use dw_board::diagram::diagram;
+use dw_board::fen::fault::{FenFault, FenFaultKind};
+use dw_board::fen::write::fen_text;
+use dw_notation::problems::{Problem, ProblemFault};
+use itoa::Buffer;
+
+/// The text of a problem, with all its lines: at most 384 bytes.
+#[tactic(auto, unfolding(crate::specs::Report::problem_text))]
+pub fn problem_text<B: Board>(command: Command, problem: &Problem<B>) -> ArrayString<384>
+    ensures { result.bytes ≡ text_of B.geometry command (numbered problem.now) }
+{
+    let mut text = ArrayString::new();
+    text.push_str(first_line(problem).as_str());
+    match command {
+        Command::Show => {
+            if let Ok(position) = &problem.found {
+                text.push_str(diagram(position).as_str());
+            }
+        }
+    }
+    text
+}
+
+/// A problem's first line: its number, and its position as it is written or why it is refused.
+fn first_line<B: Board>(problem: &Problem<B>) -> ArrayString<254>
+    ensures { result.bytes ≡ line_of B.geometry (numbered problem.now) }
+{
+    let mut line = ArrayString::new();
+    let mut digits = Buffer::new();
+    line.push_str("problem ");
+    line.push_str(digits.format(problem.number));
+    line.push_str(": ");
+    line.push_str(answer_text(problem).as_str());
+    line.push_str("\n");
+    line
+}
+
+/// The position as it is written, or why the problem is refused.
+fn answer_text<B: Board>(problem: &Problem<B>) -> ArrayString<192>
+    ensures { result.bytes ≡ found_text B.geometry problem.now.found }
+{
+    match &problem.found {
+        Ok(position) => fen_text(position),
+        Err(fault) => refused_text(*fault),
+    }
+}
+
+fn refused_text(fault: ProblemFault) -> ArrayString<192>
+    ensures { result.bytes ≡ codes "refused: " ++ refusal_text fault }
+{
+    let mut text = ArrayString::new();
+    text.push_str("refused: ");
+    match fault {
+        ProblemFault::Fen(fault) => text.push_str(fen_refusal(fault).as_str()),
+        ProblemFault::NoFen => text.push_str("2 no fen"),
+        ProblemFault::TwoFens => text.push_str("3 two fens"),
+        ProblemFault::WrongGame => text.push_str("4 wrong game"),
+        ProblemFault::LineTooLong => text.push_str("5 line too long"),
+        ProblemFault::SectionTooLong => text.push_str("6 section too long"),
+        ProblemFault::UnclosedTag => text.push_str("7 unclosed tag"),
+        ProblemFault::UnclosedComment => text.push_str("8 unclosed comment"),
+        ProblemFault::TooManyProblems => text.push_str("9 too many problems"),
+    }
+    text
+}
+
+/// The number and the name of a fault of a FEN text, and its place.
+fn fen_refusal(fault: FenFault) -> ArrayString<64>
+    ensures { result.bytes ≡ codes "1 fen: " ++ fen_fault_text fault.what ++ codes " at " ++ decimal fault.place }
+{
+    let mut text = ArrayString::new();
+    let mut digits = Buffer::new();
+    text.push_str("1 fen: ");
+    text.push_str(fault_name(fault.what));
+    text.push_str(" at ");
+    text.push_str(digits.format(fault.place));
+    text
+}
+
+fn fault_name(what: FenFaultKind) -> &'static str
+    ensures { result.now ≡ fen_fault_text what }
+{
+    match what {
+        FenFaultKind::Turn => "1 turn",
+        FenFaultKind::Colon => "2 colon",
+        FenFaultKind::Colour => "3 colour",
+        FenFaultKind::Number => "4 number",
+        FenFaultKind::Twice => "5 twice",
+        FenFaultKind::SameColour => "6 same colour",
+        FenFaultKind::LastRow => "7 last row",
+        FenFaultKind::TooMany => "8 too many",
+        FenFaultKind::Rest => "9 rest",
+        FenFaultKind::TooLong => "10 too long",
+        FenFaultKind::RangeBackwards => "11 range backwards",
+    }
+}
