@@ -1,7 +1,9 @@
 pub mod Geometry
-pub mod Tables
 pub mod SquareSet
+pub mod GeometryLaws
+pub mod SquareSetLaws
 pub mod Boards
+pub mod BoardLaws
 pub mod Placement
 pub mod PlacementLaws
 pub mod Fen

@@ -8,7 +8,8 @@ ghost use Rattle.std.specs.Hash as fed;
 ghost use Rattle.std.specs.Ordering.{on};
 ghost use Rattle.std.specs.Cmp.Rules.{comparing};
 ghost use Rattle.std.specs.Cmp.Lexicographic.{pointwise};
-ghost use Rattle.dw_board.specs.SquareSet.{word_of, same_members-is};
+ghost use Rattle.dw_board.specs.SquareSet.{word_of};
+ghost use Rattle.dw_board.specs.SquareSetLaws.{same_members-is};
 
 use crate::board::{Board, Dir};
 use crate::square::Square;
@@ -26,7 +27,8 @@ impl<B: Board> Model for Squares<B> {
     ghost use Rattle.std.specs.Ordering.{nat_cmp};
     ghost use Rattle.std.specs.Coded.{coded_ℕ};
     ghost use Rattle.std.specs.FinSet as set;
-    ghost use Rattle.dw_board.specs.SquareSet.{squares_of, word_of, IsWord, word_of-squares_of};
+    ghost use Rattle.dw_board.specs.SquareSet.{squares_of, word_of, IsWord};
+    ghost use Rattle.dw_board.specs.SquareSetLaws.{word_of-squares_of};
 
     ghost Value = { set.FinSet nat_cmp };
 
@@ -111,7 +113,7 @@ impl<B: Board> PartialEq for Squares<B> {
 
     ghost laws = { Prim.search (comparing, rules) depth 9 };
 
-    #[tactic(auto, using(crate::specs::SquareSet::same_words))]
+    #[tactic(auto, using(crate::proofs::Sets::same_words))]
     fn eq(&self, other: &Self) -> bool {
         self.word == other.word
     }
@@ -126,7 +128,7 @@ impl<B: Board> Hash for Squares<B> {
 
     ghost respects_eq = { λ x y h i. fed.u64 (word_of B.geometry ((same_members-is x y).0 h i)) };
 
-    #[tactic(auto, using(crate::specs::SquareSet::word_behind))]
+    #[tactic(auto, using(crate::proofs::Sets::word_behind))]
     fn hash<H: Hasher>(&self, state: &mut H) {
         state.write_u64(self.word);
     }
