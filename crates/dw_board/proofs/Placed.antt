@@ -1,8 +1,7 @@
 -- A position stays one where a piece is put, and the empty one is one.
-use Rattle.std.proofs.Common.{◌≡◌, ℕ, ◌+◌, ◌-◌, ◌*◌, ◌≤◌, ◌<◌, ◌≢◌, Bool, true, false, cond, List, Option, Some, None, length, get_or, set, replicate, count_by, refl, sym, ap, ◌∙◌, subst, arith, rules, get_or-set_other, get_or-set_same, ◌⊎◌, inl, inr}
-use Rattle.std.proofs.lemmas.Bool.{cases_Bool, cases_eq, cases_lt}
+use Rattle.std.proofs.Common.{◌≡◌, ℕ, ◌+◌, ◌-◌, ◌≤◌, ◌<◌, ◌≢◌, Bool, true, false, cond, List, Option, Some, None, length, get_or, set, replicate, count_by, refl, subst, arith, get_or-set_other, get_or-set_same, inl, inr}
+use Rattle.std.proofs.lemmas.Bool.{cases_eq, cases_lt}
 use Rattle.std.proofs.lemmas.List.Sums.{sum_by-set}
-use Rattle.std.proofs.lemmas.Grind.{common_steps}
 use Rattle.std.proofs.lemmas.List.{get_or-replicate, get_or_past, length-replicate}
 use Rattle.dw_board.specs.declared.piece.Side.{Side}
 use Rattle.dw_board.specs.declared.piece.Side.TheVariants.{White, Black}

@@ -1,23 +1,21 @@
 -- Words and sets: what each operation on words does to the set.
-use Rattle.std.proofs.Common.{◌≡◌, ℕ, suc, zero, ◌+◌, ◌-◌, ◌*◌, ◌/◌, ◌%◌, ◌^◌, ◌≤◌, ◌<◌, ◌≢◌, Bool, true, false, cond, not, ◌&&◌, ◌||◌, eqb, ltb, leb, Option, Some, None, is_some, refl, sym, ap, ◌∙◌, subst, arith, rules, ◌⊎◌, inl, inr, ◌↔◌, bit_or, bit_and, min, max}
+use Rattle.std.proofs.Common.{◌≡◌, ℕ, suc, ◌+◌, ◌-◌, ◌*◌, ◌/◌, ◌%◌, ◌^◌, ◌≤◌, ◌<◌, Bool, true, false, cond, not, ◌&&◌, ◌||◌, eqb, leb, Some, None, is_some, refl, sym, ap, ◌∙◌, subst, arith, inl, inr, ◌↔◌, bit_or, bit_and, min}
 use Rattle.std.specs.Int.{bit_at}
-use Rattle.std.specs.Ordering.{nat_cmp, eq_by_cmp}
+use Rattle.std.specs.Ordering.{nat_cmp}
 use Rattle.std.specs.FinSet as set
-use Rattle.std.specs.List.{list_any}
-use Rattle.std.specs.Cmp.Lexicographic.{pointwise, bytes_decides}
 use Rattle.std.specs.Cmp.{nat_cmp_total, unsigned_tied}
-use Rattle.std.proofs.lemmas.Bool.{cases_Bool, cases_lt, cases_eq, leb-true, eqb-true, le-leb, eq-eqb, ne_eqb, and_parts, lt-leb, true≢false, or_cases, and_from, agree_below, agree_below_at, or_left, or_right}
-use Rattle.std.proofs.lemmas.Nat.Bits.{bit_at_or, bit_at_and, bit_at-zero, bit_at-pow_same, bit_at-pow_other, bit_at-lt, same_from_bits, bit_at_cat_low, bit_at_cat_high, bit_at_set_same, bit_at_set_other, bit_at_clear_same, bit_at_clear_other, bit_at_not, bit_at_above}
-use Rattle.std.proofs.lemmas.Nat.{shr-shr, shr_split, pow_pos}
+use Rattle.std.proofs.lemmas.Bool.{cases_Bool, cases_lt, cases_eq, leb-true, eqb-true, eq-eqb, ne_eqb, and_parts, lt-leb, true≢false, or_cases, and_from}
+use Rattle.std.proofs.lemmas.Nat.Bits.{bit_at_and, bit_at-zero, bit_at-lt, bit_at_cat_low, bit_at_cat_high, bit_at_set_same, bit_at_set_other, bit_at_clear_same, bit_at_clear_other, bit_at_not}
+use Rattle.std.proofs.lemmas.Nat.{shr-shr, shr_split, pow_pos, le-div}
+use Rattle.std.proofs.Math.Nat.{div-mul-le_self}
 use Rattle.std.proofs.Common.{w64, add-zero}
 use Rattle.std.specs.Int.{bit_not}
-use Rattle.std.proofs.lemmas.Bool.Decides.{nat_tests}
 use Rattle.dw_board.specs.declared.board.Dir.{Dir}
 use Rattle.dw_board.specs.declared.board.Dir.TheVariants.{UpLeft, UpRight, DownLeft, DownRight}
-use Rattle.dw_board.specs.Geometry.{Geometry, IsBoard, squares, step, OnBoard, bit, IsShift, ShiftsAreSteps, shifted_word}
-use Rattle.dw_board.specs.SquareSet.{Squares, is_set, square_at, members_below, squares_of, word_below, word_of, OnlySquares, WholeBoard, IsWord}
+use Rattle.dw_board.specs.Geometry.{Geometry, IsBoard, step, OnBoard, bit, IsShift, ShiftsAreSteps, shifted_word}
+use Rattle.dw_board.specs.SquareSet.{Squares, is_set, square_at, squares_of, word_of, OnlySquares, WholeBoard, IsWord}
 use Rattle.dw_board.specs.GeometryLaws.{square_at-bit, bit-square_at, step-OnBoard}
-use Rattle.dw_board.specs.SquareSetLaws.{is_square, contains-insert, and-false, and-true, in_range_here, range_same, none_in_empty, member_more, contains-members_below, contains-squares_of, is_square-true, below_two, max_bits, is_set-or, first_true, bit-small, some_square, square_of_bit, contains-here, one_bit, here_bit, zero_one, same_bit, word_of-to, word_of-from, word_of-squares_of, whole_board, same_members, same_members-is}
+use Rattle.dw_board.specs.SquareSetLaws.{is_square, contains-insert, and-false, contains-squares_of, is_square-true, below_two, is_set-or, bit-small, square_of_bit, contains-here, zero_one, word_of-squares_of, same_members, same_members-is}
 
 pub contains-remove : (v : Squares) (k q : ℕ) → set.contains (set.remove v k) q ≡ (not (eqb q k) && set.contains v q)
 contains-remove v k q = set.contains-remove nat_cmp_total v k q ∙ ap (λ b. not b && set.contains v q) (unsigned_tied q k)
@@ -182,3 +180,65 @@ pub same_words : (g : Geometry) (a b : ℕ) (v w : Squares) → IsWord g a → I
 same_words g a b v w h k e f = same_tests (eqb a b) (same_members v w)
     (λ t. (same_members-is v w).1 (sym e ∙ (ap (squares_of g) (eqb-true a b t) ∙ f)))
     (λ t. eq-eqb a b (sym (word_behind g a v h e) ∙ (ap (word_of g) ((same_members-is v w).0 t) ∙ word_behind g b w k f)))
+
+pub OnlySquares-not : (g : Geometry) (a b : ℕ) → OnlySquares g a → OnlySquares g (bit_and a (bit_not w64 b))
+OnlySquares-not g a b h = OnlySquares-and_left g a (bit_not w64 b) h
+
+pub squares_of-and : (g : Geometry) (a b : ℕ) → squares_of g (bit_and a b) ≡ set.intersection (squares_of g a) (squares_of g b)
+squares_of-and g a b = squares_of-is g _ (set.intersection (squares_of g a) (squares_of g b))
+    (λ q e. squares_of-within g a q (and_parts _ _ (sym (set.contains-intersection nat_cmp_total (squares_of g a) (squares_of g b) q) ∙ e)).0)
+    (λ q on. set.contains-intersection nat_cmp_total (squares_of g a) (squares_of g b) q ∙ (ap (λ c. c && set.contains (squares_of g b) q) (contains-here g a q on) ∙ (ap (λ c. is_set a (bit g q) && c) (contains-here g b q on) ∙ sym (is_set-and a b (bit g q)))))
+
+pub squares_of-minus : (g : Geometry) → IsBoard g → (a b : ℕ) → b < 2 ^ 64 → squares_of g (bit_and a (bit_not w64 b)) ≡ set.difference (squares_of g a) (squares_of g b)
+squares_of-minus g board a b fits = squares_of-is g _ (set.difference (squares_of g a) (squares_of g b))
+    (λ q e. squares_of-within g a q (and_parts _ _ (sym (set.contains-difference nat_cmp_total (squares_of g a) (squares_of g b) q) ∙ e)).0)
+    (λ q on. set.contains-difference nat_cmp_total (squares_of g a) (squares_of g b) q ∙ (ap (λ c. c && not (set.contains (squares_of g b) q)) (contains-here g a q on) ∙ (ap (λ c. is_set a (bit g q) && not c) (contains-here g b q on) ∙ sym (is_set-minus a b (bit g q) fits (bit-small g board q on)))))
+
+pub squares_of-without : (g : Geometry) → IsBoard g → (w s : ℕ) → OnBoard g s → squares_of g (bit_and w (bit_not w64 (1 * 2 ^ bit g s % 2 ^ 64))) ≡ set.remove (squares_of g w) s
+squares_of-without g b w s on = squares_of-is g _ (set.remove (squares_of g w) s)
+    (λ q e. squares_of-within g w q (and_parts _ _ (sym (contains-remove (squares_of g w) s q) ∙ e)).1)
+    (λ q to. contains-remove (squares_of g w) s q ∙ (ap (λ c. not (eqb q s) && c) (contains-here g w q to) ∙ (ap (λ c. not c && is_set w (bit g q)) (same_place g b q s to on) ∙ sym (is_set-without w (bit g s) (bit g q) (bit-small g b s on) (bit-small g b q to)))))
+
+-- ---- the members of a word
+pub members-are : (g : Geometry) (w : ℕ) (v : Squares) → squares_of g w ≡ v → (s : ℕ) → (set.contains v s ≡ true) ↔ (OnBoard g s × (is_set w (bit g s) ≡ true))
+members-are g w v e s =
+    let is = ap (λ u. set.contains u s) e in (
+      (λ h. let on = squares_of-within g w s (is ∙ h) in (on, sym (contains-here g w s on) ∙ (is ∙ h))),
+      (λ h. sym is ∙ (contains-here g w s h.0 ∙ h.1)),
+    )
+
+-- ---- the least member
+abbrev pub square_there : Geometry → ℕ → ℕ
+square_there g x = x - x / (g.rows + 1) + 1
+
+the_square : (c : Bool) (n : ℕ) → is_some (cond c (Some n) None) ≡ true → cond c (Some n) None ≡ Some n
+the_square true n e = refl
+the_square false n e = absurd (true≢false (sym e))
+
+pub square_there-is : (g : Geometry) → IsBoard g → (w x : ℕ) → OnlySquares g w → bit_at w x ≡ 1 → OnBoard g (square_there g x) × (bit g (square_there g x) ≡ x)
+square_there-is g b w x only e = bit-square_at g b x (square_there g x) (the_square _ _ (only x e))
+
+quotients : (a b k : ℕ) → 0 < k → a ≤ b → a / k ≤ b / k
+quotients a b k pos h = le-div (a / k) b k pos (omega (arith, div-mul-le_self a k))
+
+pub bit-below : (g : Geometry) → IsBoard g → (s t : ℕ) → s ≤ t → bit g s ≤ bit g t
+bit-below g b s t h = let pos : 0 < g.rows = omega (arith, b.even, b.low) in omega (arith, quotients (s - 1) (t - 1) g.rows pos (omega arith))
+
+pub bit-ascends : (g : Geometry) → IsBoard g → (s t : ℕ) → OnBoard g t → bit g s ≤ bit g t → s ≤ t
+bit-ascends g b s t to h = elim (cases_lt t s) [
+  | inl less ↦ let pos : 0 < g.rows = omega (arith, b.even, b.low) in absurd (omega (arith, quotients (t - 1) (s - 1) g.rows pos (omega arith)))
+  | inr done ↦ done
+]
+
+pub least_member : (g : Geometry) → IsBoard g → (w x : ℕ) → OnlySquares g w → bit_at w x ≡ 1 → ((i : ℕ) → i < x → bit_at w i ≡ 0) → (t : ℕ) → set.contains (squares_of g w) t ≡ true → square_there g x ≤ t
+least_member g b w x only e below t has =
+    let to = squares_of-within g w t has in
+    let is = square_there-is g b w x only e in
+    bit-ascends g b (square_there g x) t to (elim (cases_lt (bit g t) x) [
+      | inl less ↦ absurd (zero_one (ap (λ n. eqb n 1) (sym (below (bit g t) less)) ∙ (sym (contains-here g w t to) ∙ has)))
+      | inr high ↦ omega (arith, is.1)
+    ])
+
+-- a word without a member is 0
+pub word-zero : (g : Geometry) → IsBoard g → (w : ℕ) → OnlySquares g w → squares_of g w ≡ set.empty → w ≡ 0
+word-zero g b w only e = sym (word_of-squares_of g b w only) ∙ (ap (word_of g) (e ∙ sym (squares_of-empty g)) ∙ word_of-squares_of g b 0 (IsWord-empty g b).only)

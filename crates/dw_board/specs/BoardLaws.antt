@@ -1,6 +1,6 @@
 -- The boards of ten and of eight rows meet the laws.
-use Rattle.std.proofs.Common.{◌≡◌, ℕ, ◌+◌, ◌*◌, ◌≤◌, refl, lit≤, lit<}
-use Rattle.dw_board.specs.Geometry.{Geometry, IsBoard, ShiftsAreSteps}
+use Rattle.std.proofs.Common.{refl, lit≤, lit<}
+use Rattle.dw_board.specs.Geometry.{IsBoard, ShiftsAreSteps}
 use Rattle.dw_board.specs.Boards.{ten, eight}
 use Rattle.dw_board.specs.GeometryLaws.{shifts_are_steps}
 use Rattle.dw_board.specs.SquareSet.{WholeBoard}

@@ -1,21 +1,15 @@
 -- Words and sets: a set is the set of its word, and a word the word of its set.
-use Rattle.std.proofs.Common.{◌≡◌, ℕ, suc, zero, ◌+◌, ◌-◌, ◌*◌, ◌/◌, ◌%◌, ◌^◌, ◌≤◌, ◌<◌, ◌≢◌, Bool, true, false, cond, not, ◌&&◌, ◌||◌, eqb, ltb, leb, Option, Some, None, is_some, refl, sym, ap, ◌∙◌, subst, arith, rules, ◌⊎◌, inl, inr, ◌↔◌, bit_or, bit_and, min, max}
-use Rattle.std.specs.Int.{bit_at}
+use Rattle.std.proofs.Common.{◌≡◌, ℕ, suc, zero, ◌+◌, ◌/◌, ◌^◌, ◌≤◌, ◌<◌, ◌≢◌, Bool, true, false, cond, ◌&&◌, ◌||◌, eqb, leb, Option, Some, None, is_some, refl, sym, ap, ◌∙◌, subst, arith, ◌⊎◌, inl, inr, ◌↔◌, bit_or, max}
 use Rattle.std.specs.Ordering.{nat_cmp, eq_by_cmp}
 use Rattle.std.specs.FinSet as set
 use Rattle.std.specs.List.{list_any}
 use Rattle.std.specs.Cmp.Lexicographic.{pointwise, bytes_decides}
 use Rattle.std.specs.Cmp.{nat_cmp_total, unsigned_tied}
-use Rattle.std.proofs.lemmas.Bool.{cases_Bool, cases_lt, cases_eq, leb-true, eqb-true, le-leb, eq-eqb, ne_eqb, and_parts, lt-leb, true≢false, or_cases, and_from, agree_below, agree_below_at, or_left, or_right}
-use Rattle.std.proofs.lemmas.Nat.Bits.{bit_at_or, bit_at_and, bit_at-zero, bit_at-pow_same, bit_at-pow_other, bit_at-lt, same_from_bits, bit_at_cat_low, bit_at_cat_high, bit_at_set_same, bit_at_set_other, bit_at_clear_same, bit_at_clear_other, bit_at_not, bit_at_above}
-use Rattle.std.proofs.lemmas.Nat.{shr-shr, shr_split, pow_pos}
-use Rattle.std.proofs.Common.{w64, add-zero}
-use Rattle.std.specs.Int.{bit_not}
+use Rattle.std.proofs.lemmas.Bool.{cases_lt, cases_eq, leb-true, eqb-true, le-leb, eq-eqb, ne_eqb, true≢false, or_cases, agree_below, agree_below_at, or_left, or_right}
+use Rattle.std.proofs.lemmas.Nat.Bits.{bit_at_or, bit_at-zero, bit_at-pow_same, bit_at-pow_other, bit_at-lt, same_from_bits, bit_at_above}
 use Rattle.std.proofs.lemmas.Bool.Decides.{nat_tests}
-use Rattle.dw_board.specs.declared.board.Dir.{Dir}
-use Rattle.dw_board.specs.declared.board.Dir.TheVariants.{UpLeft, UpRight, DownLeft, DownRight}
-use Rattle.dw_board.specs.Geometry.{Geometry, IsBoard, squares, step, OnBoard, bit, IsShift, ShiftsAreSteps, shifted_word}
-use Rattle.dw_board.specs.SquareSet.{Squares, is_set, square_at, members_below, squares_of, word_below, word_of, OnlySquares, WholeBoard, IsWord}
+use Rattle.dw_board.specs.Geometry.{Geometry, IsBoard, squares, OnBoard, bit}
+use Rattle.dw_board.specs.SquareSet.{Squares, is_set, square_at, members_below, squares_of, word_below, word_of, OnlySquares, WholeBoard}
 use Rattle.dw_board.specs.GeometryLaws.{square_at-bit, bit-square_at}
 
 abbrev pub is_square : Geometry → ℕ → Bool

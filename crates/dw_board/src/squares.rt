@@ -1,5 +1,5 @@
 //! Sets of squares, as padded words.
-ghost use Rattle.std.specs.Prelude.{◌≡◌, ◌≤◌, ◌<◌, ◌↔◌, ℕ, Some, IsTrue};
+ghost use Rattle.std.specs.Prelude.{◌≡◌, ◌≤◌, ◌<◌, ◌↔◌, ℕ, Some, IsTrue, IsNone, IfSome};
 ghost use Rattle.std.specs.FinSet as set;
 ghost use Rattle.dw_board.specs.Geometry as Geo;
 ghost use Rattle.std.specs.Prelude.{◌==◌};
@@ -8,7 +8,7 @@ ghost use Rattle.std.specs.Hash as fed;
 ghost use Rattle.std.specs.Ordering.{on};
 ghost use Rattle.std.specs.Cmp.Rules.{comparing};
 ghost use Rattle.std.specs.Cmp.Lexicographic.{pointwise};
-ghost use Rattle.dw_board.specs.SquareSet.{word_of};
+ghost use Rattle.dw_board.specs.SquareSet.{word_of, is_set, OnlySquares};
 ghost use Rattle.dw_board.specs.SquareSetLaws.{same_members-is};
 
 use crate::board::{Board, Dir};
@@ -84,6 +84,65 @@ impl<B: Board> Squares<B> {
             word: self.word | other.word,
             board: PhantomData,
         }
+    }
+
+    /// This set without the square.
+    pub fn without(self, square: Square<B>) -> Self
+        ensures { result ≡ set.remove self square }
+    {
+        Squares {
+            word: self.word & !(1 << place(square)),
+            board: PhantomData,
+        }
+    }
+
+    /// The squares in both sets.
+    pub fn and(self, other: Self) -> Self
+        ensures { result ≡ set.intersection self other }
+    {
+        Squares {
+            word: self.word & other.word,
+            board: PhantomData,
+        }
+    }
+
+    /// The squares of this set that are not in the other.
+    pub fn minus(self, other: Self) -> Self
+        ensures { result ≡ set.difference self other }
+    {
+        Squares {
+            word: self.word & !other.word,
+            board: PhantomData,
+        }
+    }
+
+    /// The number of squares, at most 50.
+    pub fn count(self) -> u8
+        ensures value { result ≡ set.len self }
+        ensures small { result ≤ 50 }
+    {
+        self.word.count_ones() as u8
+    }
+
+    /// The least square, or `None` in the empty set.
+    pub fn first(self) -> Option<Square<B>>
+        ensures none { IsNone result ↔ (self ≡ set.empty) }
+        ensures member { IfSome result (λ s. IsTrue (set.contains self s)) }
+        ensures least { IfSome result (λ s. (t : ℕ) → IsTrue (set.contains self t) → s ≤ t) }
+    {
+        if self.word == 0 {
+            return None;
+        }
+        let place = self.word.trailing_zeros() as u8;
+        Square::new(place - place / (B::ROWS + 1) + 1)
+    }
+
+    /// The padded word: the bit `s - 1 + (s - 1) / ROWS` for each square s of the set, and no other.
+    pub fn word(self) -> u64
+        ensures members { (s : ℕ) → IsTrue (set.contains self s) ↔ (Geo.OnBoard B.geometry s × IsTrue (is_set result (Geo.bit B.geometry s))) }
+        ensures only { OnlySquares B.geometry result }
+    {
+        self.word
     }
 
     /// The squares that a step leads to from these.
