@@ -13,6 +13,7 @@ ghost use Rattle.dw_board.specs.SquareSetLaws.{same_members-is};
 
 use crate::board::{Board, Dir};
 use crate::square::Square;
+use std::fmt;
 use std::hash::{Hash, Hasher};
 use std::marker::{Model, PhantomData};
 
@@ -164,6 +165,22 @@ fn shifted_word<B: Board>(word: u64, direction: Dir) -> u64
         Dir::UpRight => word >> B::PER_ROW,
         Dir::DownLeft => word << B::PER_ROW,
         Dir::DownRight => word << (B::PER_ROW + 1),
+    }
+}
+
+/// The empty set.
+impl<B: Board> Default for Squares<B> {
+    ghost is_default = { λ v. v ≡ set.empty };
+
+    fn default() -> Self {
+        Self::none()
+    }
+}
+
+/// The padded word, in base 16.
+impl<B: Board> fmt::Debug for Squares<B> {
+    fn fmt<W: fmt::Write>(&self, f: &mut fmt::Formatter<W>) -> fmt::Result {
+        write!(f, "{:#x}", self.word)
     }
 }
 
