@@ -4,6 +4,7 @@
 #![tactic(auto)]
 
 pub mod board;
+pub mod diagram;
 pub mod fen;
 pub mod piece;
 pub mod position;

@@ -1,6 +1,6 @@
 //! Positions: what stands on a board, and whose turn it is.
 ghost use Rattle.std.specs.Prelude.{◌≡◌, ◌≤◌, ◌<◌, ◌↔◌, ℕ, Some, None, Ok, Err, IsTrue, is_ok, count_by, if◌then◌else◌, MatchResult, Result};
-ghost use Rattle.dw_board.specs.Placement.{Placement, placed, put_fault};
+ghost use Rattle.dw_board.specs.Placement.{Placement, IsPosition, placed, put_fault};
 ghost use Rattle.dw_board.specs.Placement as of;
 ghost use Rattle.dw_board.specs.Geometry as Geo;
 ghost use Rattle.std.specs.FinSet as set;
@@ -87,7 +87,8 @@ impl<B: Board> Position<B> {
     }
 
     pub fn turn(&self) -> Side
-        ensures { result ≡ self.now.turn }
+        ensures value { result ≡ self.now.turn }
+        ensures position { IsPosition B.geometry self.now.cells }
     {
         self.turn
     }
@@ -99,7 +100,9 @@ impl<B: Board> Position<B> {
     }
 
     pub fn count(&self, side: Side) -> u8
-        ensures { result ≡ of.count self.now side }
+        ensures value { result ≡ of.count self.now side }
+        ensures fits { result ≤ B.geometry.side }
+        ensures small { result ≤ 20 }
     {
         count_of(&self.cells, side)
     }
