@@ -10,6 +10,7 @@ use crate::piece::{Kind, Piece, Side};
 use crate::position::Position;
 use crate::square::Square;
 use arrayvec::ArrayString;
+use std::fmt;
 
 /// The bytes that suffice for each written text.
 pub const FEN_ROOM: usize = 192;
@@ -104,4 +105,11 @@ fn push_digit(text: &mut ArrayString<FEN_ROOM>, digit: u8)
     ensures { text.new.bytes ≡ text.old.bytes ++ (48 + digit) ∷ [] }
 {
     text.push((b'0' + digit) as char);
+}
+
+/// The FEN text.
+impl<B: Board> fmt::Debug for Position<B> {
+    fn fmt<W: fmt::Write>(&self, f: &mut fmt::Formatter<W>) -> fmt::Result {
+        f.write_str(fen_text(self).as_str())
+    }
 }
