@@ -1,13 +1,11 @@
 -- The pieces of a side, one square after another, as a FEN text lists them.
-use Rattle.std.proofs.Common.{◌≡◌, ℕ, suc, zero, ◌+◌, ◌-◌, ◌*◌, ◌≤◌, ◌<◌, Bool, true, false, cond, List, [], ◌∷◌, ◌++◌, length, take, get_or, map, filter, count_by, Option, Some, None, refl, sym, ap, ◌∙◌, arith, if◌then◌else◌, codes, append_assoc, length-append, add-zero, add-one, add_comm, ◌⊎◌, inl, inr, decimal}
+use Rattle.std.proofs.Common.{◌≡◌, ℕ, suc, zero, ◌+◌, ◌-◌, ◌*◌, ◌≤◌, ◌<◌, Bool, true, false, cond, List, [], ◌∷◌, ◌++◌, length, take, get_or, map, filter, count_by, None, refl, sym, ap, ◌∙◌, arith, if◌then◌else◌, codes, append_assoc, length-append, add-zero, add-one, add_comm, inl, inr, decimal}
 use Rattle.std.specs.List.{join_with_byte, range_with_len}
 use Rattle.std.proofs.lemmas.Bool.{cases_Bool}
 use Rattle.std.proofs.lemmas.List.Elements.{filter-append}
 use Rattle.std.proofs.lemmas.List.{append-nil, map-append}
-use Rattle.std.proofs.lemmas.Fmt.{length-decimal-le}
 use Rattle.dw_board.specs.FenText.{item_text, king_mark}
 use Rattle.std.proofs.lemmas.List.Sums.{count_by_more_yes, count_by_more_no, sum_by-take-le}
-use Rattle.dw_board.specs.declared.piece.Piece.{Piece}
 use Rattle.dw_board.specs.declared.piece.Side.{Side}
 use Rattle.dw_board.specs.Placement.{Placement, at, is_of, count, IsPosition}
 use Rattle.dw_board.specs.Geometry.{Geometry, IsBoard, squares}

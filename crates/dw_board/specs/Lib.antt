@@ -9,3 +9,4 @@ pub mod PlacementLaws
 pub mod Fen
 pub mod FenText
 pub mod Diagram
+pub mod Laws

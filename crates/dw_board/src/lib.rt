@@ -6,6 +6,7 @@
 pub mod board;
 pub mod diagram;
 pub mod fen;
+pub mod laws;
 pub mod piece;
 pub mod position;
 pub mod square;

@@ -72,7 +72,12 @@ fn is_king(cell: Option<Piece>) -> bool
 }
 
 /// Appends a piece on its square, and a comma before it unless it is the first.
-fn push_item<B: Board>(text: &mut ArrayString<FEN_ROOM>, square: Square<B>, cell: Option<Piece>, is_first: bool)
+fn push_item<B: Board>(
+    text: &mut ArrayString<FEN_ROOM>,
+    square: Square<B>,
+    cell: Option<Piece>,
+    is_first: bool,
+)
     requires room { array_string_len text.old + 4 ≤ 192 }
     ensures bytes { text.new.bytes ≡ text.old.bytes ++ (if is_first then [] else codes ",") ++ king_mark cell ++ decimal square }
     ensures few { array_string_len text.new ≤ array_string_len text.old + 4 }

@@ -1,8 +1,7 @@
-use Rattle.std.proofs.Common.{◌≡◌, ◌≤◌, ◌<◌, ◌+◌, ◌*◌, ◌++◌, ◌∙◌, ℕ, List, Bool, true, false, Some, Option, ap, sym, subst, length, arith, refl, decimal, codes, if◌then◌else◌, []}
-use Rattle.dw_board.specs.Geometry as Geo
+use Rattle.std.proofs.Common.{◌+◌, ◌*◌, ◌++◌, ◌∙◌, ap, sym, length, arith, decimal, codes, if◌then◌else◌, []}
 use Rattle.dw_board.specs.Placement as of
-use Rattle.dw_board.specs.FenText.{items_text, king_mark}
-use Rattle.dw_board.proofs.Written.{IsWrittenTo, IsWrittenTo-with, IsWrittenTo-past, held-few, room_for}
+use Rattle.dw_board.specs.FenText.{king_mark}
+use Rattle.dw_board.proofs.Written.{IsWrittenTo-with, IsWrittenTo-past, held-few, room_for}
 use Rattle.dw_board.proofs.fen.write.push_items.Goals as goal
 use Rattle.dw_board.proofs.fen.write.push_items.Goals.{then-is_of, else-is_of}
 
