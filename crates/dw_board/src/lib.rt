@@ -11,3 +11,5 @@ pub mod piece;
 pub mod position;
 pub mod square;
 pub mod squares;
+#[cfg(test)]
+mod tests;
