@@ -1,8 +1,7 @@
 -- A position stays one where a piece is put, and the empty one is one.
-use Rattle.std.proofs.Common.{◌≡◌, ℕ, ◌+◌, ◌-◌, ◌*◌, ◌≤◌, ◌<◌, ◌≢◌, Bool, true, false, cond, List, Option, Some, None, length, get_or, set, replicate, count_by, refl, sym, ap, ◌∙◌, subst, arith, rules, get_or-set_other, get_or-set_same, ◌⊎◌, inl, inr}
-use Rattle.std.proofs.lemmas.Bool.{cases_Bool, cases_eq, cases_lt}
+use Rattle.std.proofs.Common.{◌≡◌, ◌∙◌, ℕ, ◌+◌, ◌-◌, ◌≤◌, ◌<◌, ◌≢◌, Bool, true, false, cond, List, Option, Some, None, length, get_or, set, replicate, count_by, refl, subst, arith, get_or-set_other, get_or-set_same, length-set, inl, inr}
+use Rattle.std.proofs.lemmas.Bool.{cases_eq, cases_lt}
 use Rattle.std.proofs.lemmas.List.Sums.{sum_by-set}
-use Rattle.std.proofs.lemmas.Grind.{common_steps}
 use Rattle.std.proofs.lemmas.List.{get_or-replicate, get_or_past, length-replicate}
 use Rattle.dw_board.specs.declared.piece.Side.{Side}
 use Rattle.dw_board.specs.declared.piece.Side.TheVariants.{White, Black}
@@ -29,6 +28,7 @@ side_fits cells i p side limit len free fits few =
 pub IsPosition-put : (g : Geometry) (cells : List (Option Piece)) (s : ℕ) (p : Piece) → IsPosition g cells → 1 ≤ s → s ≤ squares g → s - 1 < length cells
     → get_or cells (s - 1) None ≡ None → is_stuck g s (Some p) ≡ false → count_by (is_of p.side) cells < g.side → IsPosition g (set cells (s - 1) (Some p))
 IsPosition-put g cells s p h low on len free stuck few = record {
+  fifty = length-set cells (s - 1) (Some p) ∙ h.fifty;
   on_board = λ t past. let ne : t - 1 ≢ s - 1 = omega arith in rw get_or-set_other (h.on_board t past);
   white_fits = side_fits cells (s - 1) p White g.side len free h.white_fits (λ e. subst (λ side. count_by (is_of side) cells < g.side) e few);
   black_fits = side_fits cells (s - 1) p Black g.side len free h.black_fits (λ e. subst (λ side. count_by (is_of side) cells < g.side) e few);
@@ -46,6 +46,7 @@ empty_cell n i = elim (cases_lt i n) [
 
 pub IsPosition-empty : (g : Geometry) → IsPosition g (replicate 50 None)
 IsPosition-empty g = record {
+  fifty = refl;
   on_board = λ s past. empty_cell 50 (s - 1);
   white_fits = omega arith;
   black_fits = omega arith;

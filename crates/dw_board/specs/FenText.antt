@@ -1,5 +1,5 @@
 -- The one FEN text that is written for a position.
-use Rattle.std.specs.Prelude.{ℕ, List, [], ◌++◌, Bool, true, false, Option, Some, None, if◌then◌else◌, filter, map, codes, decimal}
+use Rattle.std.specs.Prelude.{ℕ, List, [], ◌++◌, Option, Some, None, if◌then◌else◌, filter, map, codes, decimal}
 use Rattle.std.specs.List.{join_with_byte, range_with_len}
 use Rattle.dw_board.specs.Geometry.{Geometry, squares}
 use Rattle.dw_board.specs.Placement.{Placement, at, is_of, is_man}

@@ -1,7 +1,9 @@
 pub mod Geometry
-pub mod Tables
 pub mod SquareSet
+pub mod GeometryLaws
+pub mod SquareSetLaws
 pub mod Boards
+pub mod BoardLaws
 pub mod Placement
 pub mod PlacementLaws
 pub mod FenTokens
@@ -10,3 +12,4 @@ pub mod FenReader
 pub mod Fen
 pub mod FenText
 pub mod Diagram
+pub mod Laws

@@ -1,355 +1,50 @@
--- Sets of squares, and the words that hold them: square s at the bit `bit g s`.
-use Rattle.std.proofs.Common.{◌≡◌, ℕ, suc, zero, ◌+◌, ◌-◌, ◌*◌, ◌/◌, ◌%◌, ◌^◌, ◌≤◌, ◌<◌, ◌≢◌, Bool, true, false, cond, not, ◌&&◌, ◌||◌, eqb, ltb, leb, Option, Some, None, is_some, refl, sym, ap, ◌∙◌, subst, arith, rules, ◌⊎◌, inl, inr, ◌↔◌, bit_or, bit_and, min, max}
+-- Sets of squares, and the padded words that hold them: square s is the bit `bit g s`.
+use Rattle.std.proofs.Common.{◌≡◌, ℕ, suc, zero, ◌+◌, ◌-◌, ◌/◌, ◌%◌, ◌^◌, Bool, true, cond, ◌&&◌, eqb, leb, Option, Some, None, is_some, bit_or}
 use Rattle.std.specs.Int.{bit_at}
-use Rattle.std.specs.Ordering.{nat_cmp, eq_by_cmp}
+use Rattle.std.specs.Ordering.{nat_cmp}
 use Rattle.std.specs.FinSet as set
-use Rattle.std.specs.List.{list_any}
-use Rattle.std.specs.Cmp.Lexicographic.{pointwise, bytes_decides}
-use Rattle.std.specs.Cmp.{nat_cmp_total, unsigned_tied}
-use Rattle.std.proofs.lemmas.Bool.{cases_Bool, cases_lt, cases_eq, leb-true, eqb-true, le-leb, eq-eqb, ne_eqb, and_parts, lt-leb, true≢false, or_cases, and_from, agree_below, agree_below_at, or_left, or_right}
-use Rattle.std.proofs.lemmas.Nat.Bits.{bit_at_or, bit_at_and, bit_at-zero, bit_at-pow_same, bit_at-pow_other, bit_at-lt, same_from_bits, bit_at_cat_low, bit_at_cat_high, bit_at_set_same, bit_at_set_other, bit_at_clear_same, bit_at_clear_other, bit_at_not, bit_at_above}
-use Rattle.std.proofs.lemmas.Nat.{shr-shr, shr_split, pow_pos}
-use Rattle.std.proofs.Common.{w64, add-zero}
-use Rattle.std.specs.Int.{bit_not}
-use Rattle.std.proofs.lemmas.Bool.Decides.{nat_tests}
-use Rattle.dw_board.specs.declared.board.Dir.{Dir}
-use Rattle.dw_board.specs.declared.board.Dir.TheVariants.{UpLeft, UpRight, DownLeft, DownRight}
-use Rattle.dw_board.specs.Geometry.{Geometry, IsBoard, squares, step, OnBoard, bit, IsShift, ShiftsAreSteps, shifted_word}
-use Rattle.dw_board.specs.Tables.{square_at, square_at-bit, bit-square_at, step-OnBoard}
+use Rattle.dw_board.specs.Geometry.{Geometry, IsBoard, squares, OnBoard, bit}
 
+-- a set of squares, by their numbers
 abbrev pub Squares : Type 0
 Squares = set.FinSet nat_cmp
 
+-- whether a bit of a word is set
 abbrev pub is_set : ℕ → ℕ → Bool
 is_set w x = eqb (bit_at w x) 1
 
-members_below : Geometry → ℕ → ℕ → Squares
+-- the square at a bit; a bit behind each row belongs to no square
+abbrev pub square_at : Geometry → ℕ → Option ℕ
+square_at g x = cond (leb (x + 1) (squares g + g.rows / 2) && leb (x % (g.rows + 1) + 1) g.rows) (Some (x - x / (g.rows + 1) + 1)) None
+
+-- the squares up to n whose bit is set
+unfoldable pub members_below : Geometry → ℕ → ℕ → Squares
 members_below g w zero = set.empty
 members_below g w (suc n) = cond (is_set w (bit g (suc n))) (set.insert (members_below g w n) (suc n)) (members_below g w n)
 
 -- the squares of a word
-pub squares_of : Geometry → ℕ → Squares
+unfoldable pub squares_of : Geometry → ℕ → Squares
 squares_of g w = members_below g w (squares g)
 
-word_below : Geometry → Squares → ℕ → ℕ
+-- the word of a set's squares up to n
+unfoldable pub word_below : Geometry → Squares → ℕ → ℕ
 word_below g v zero = 0
 word_below g v (suc n) = bit_or (cond (set.contains v (suc n)) (2 ^ bit g (suc n)) 0) (word_below g v n)
 
 -- the word of a set
-pub word_of : Geometry → Squares → ℕ
+unfoldable pub word_of : Geometry → Squares → ℕ
 word_of g v = word_below g v (squares g)
 
--- no bit but those of squares
+-- no bit is set but those of squares
 abbrev pub OnlySquares : Geometry → ℕ → Type 0
 OnlySquares g w = (x : ℕ) → bit_at w x ≡ 1 → is_some (square_at g x) ≡ true
 
-abbrev pub is_square : Geometry → ℕ → Bool
-is_square g q = leb 1 q && leb q (squares g)
-
-pub contains-insert : (v : Squares) (k q : ℕ) → set.contains (set.insert v k) q ≡ (eqb q k || set.contains v q)
-contains-insert v k q = set.contains-insert nat_cmp_total v k q ∙ ap (λ b. b || set.contains v q) (unsigned_tied q k)
-
-pub contains-remove : (v : Squares) (k q : ℕ) → set.contains (set.remove v k) q ≡ (not (eqb q k) && set.contains v q)
-contains-remove v k q = set.contains-remove nat_cmp_total v k q ∙ ap (λ b. not b && set.contains v q) (unsigned_tied q k)
-
-and-false : (b : Bool) → (b && false) ≡ false
-and-false true = refl
-and-false false = refl
-
-and-true : (b : Bool) → (b && true) ≡ b
-and-true true = refl
-and-true false = refl
-
--- one more number in a range
-in_range_here : (n : ℕ) → (leb 1 (suc n) && leb (suc n) (suc n)) ≡ true
-in_range_here n = let h : leb 1 (suc n) ≡ true = le-leb _ _ (omega arith) in let k : leb (suc n) (suc n) ≡ true = le-leb _ _ (omega arith) in rw (h, k) refl
-
-past_range : (n : ℕ) → (leb 1 (suc n) && leb (suc n) n) ≡ false
-past_range n = let h : leb (suc n) n ≡ false = lt-leb _ _ (omega arith) in rw h (and-false _)
-
-range_same : (q n : ℕ) → q ≢ suc n → leb q (suc n) ≡ leb q n
-range_same q n ne = grind (arith, nat_tests)
-
-none_in_empty : (q : ℕ) → (leb 1 q && leb q 0) ≡ false
-none_in_empty q = grind (arith, nat_tests)
-
-member_more : (b t : Bool) (v : Squares) (q n : ℕ) → set.contains v q ≡ ((leb 1 q && leb q n) && t) → (q ≡ suc n → t ≡ b)
-    → set.contains (cond b (set.insert v (suc n)) v) q ≡ ((leb 1 q && leb q (suc n)) && t)
-member_more true t v q n h is = contains-insert v (suc n) q ∙ (elim (cases_eq q (suc n)) [
-  | inl e ↦ rw (eq-eqb q (suc n) e, is e) (sym (and-true _ ∙ subst (λ x. (leb 1 x && leb x (suc n)) ≡ true) (sym e) (in_range_here n)))
-  | inr ne ↦ rw (ne_eqb q (suc n) ne, range_same q n ne) h
-])
-member_more false t v q n h is = elim (cases_eq q (suc n)) [
-  | inl e ↦ h ∙ (ap (λ b. (leb 1 q && leb q n) && b) (is e) ∙ and-false _) ∙ sym (ap (λ b. (leb 1 q && leb q (suc n)) && b) (is e) ∙ and-false _)
-  | inr ne ↦ rw (range_same q n ne) h
-]
-
-contains-members_below : (g : Geometry) (w n q : ℕ) → set.contains (members_below g w n) q ≡ ((leb 1 q && leb q n) && is_set w (bit g q))
-unfolding members_below
-contains-members_below g w zero q = set.contains-empty nat_cmp q ∙ sym (ap (λ b. b && is_set w (bit g q)) (none_in_empty q))
-contains-members_below g w (suc n) q = member_more (is_set w (bit g (suc n))) (is_set w (bit g q)) (members_below g w n) q n (contains-members_below g w n q) (λ e. ap (λ x. is_set w (bit g x)) e)
-
-pub contains-squares_of : (g : Geometry) (w q : ℕ) → set.contains (squares_of g w) q ≡ (is_square g q && is_set w (bit g q))
-unfolding squares_of
-contains-squares_of g w q = contains-members_below g w (squares g) q
-
-some_injective : {x y : ℕ} → Some x ≡ Some y → x ≡ y
-some_injective e = cc
-
-pub bit-injective : (g : Geometry) → IsBoard g → (s t : ℕ) → OnBoard g s → OnBoard g t → bit g s ≡ bit g t → s ≡ t
-bit-injective g b s t on to e = let p = square_at-bit g b s on in let q = square_at-bit g b t to in some_injective (sym p ∙ (ap (square_at g) e ∙ q))
-
-abbrev Off : Geometry → ℕ → Type 0
-Off g q = OnBoard g q → ⊥
-
-is_square-on : (g : Geometry) (q : ℕ) → is_square g q ≡ true → OnBoard g q
-is_square-on g q e = let p = and_parts _ _ e in (leb-true _ _ p.0, leb-true _ _ p.1)
-
-pub is_square-true : (g : Geometry) (q : ℕ) → OnBoard g q → is_square g q ≡ true
-is_square-true g q on = let h : leb 1 q ≡ true = le-leb _ _ on.0 in let k : leb q (squares g) ≡ true = le-leb _ _ on.1 in rw (h, k) refl
-
--- a word's squares are a set where the set has no other numbers, and each square by the word's bit
-pub squares_of-is : (g : Geometry) (w : ℕ) (v : Squares) → ((q : ℕ) → set.contains v q ≡ true → OnBoard g q)
-    → ((q : ℕ) → OnBoard g q → set.contains v q ≡ is_set w (bit g q)) → squares_of g w ≡ v
-squares_of-is g w v within is = set.same_set nat_cmp_total set.nat_cmp-IsAntisymmetric _ _ (λ q. contains-squares_of g w q ∙ (elim (cases_Bool (is_square g q)) [
-  | inl h ↦ rw h (sym (is q (is_square-on g q h)))
-  | inr h ↦ rw h (sym (elim (cases_Bool (set.contains v q)) [
-    | inl in_v ↦ absurd (true≢false (sym (is_square-true g q (within q in_v)) ∙ h))
-    | inr out ↦ out
-  ]))
-]))
-
-same_place : (g : Geometry) → IsBoard g → (q s : ℕ) → OnBoard g q → OnBoard g s → eqb q s ≡ eqb (bit g q) (bit g s)
-same_place g b q s to on = elim (cases_eq q s) [
-  | inl e ↦ eq-eqb q s e ∙ sym (eq-eqb _ _ (ap (bit g) e))
-  | inr ne ↦ ne_eqb q s ne ∙ sym (ne_eqb _ _ (λ e. ne (bit-injective g b q s to on e)))
-]
-
-pub squares_of-within : (g : Geometry) (w q : ℕ) → set.contains (squares_of g w) q ≡ true → OnBoard g q
-squares_of-within g w q e = is_square-on g q (and_parts _ _ (sym (contains-squares_of g w q) ∙ e)).0
-
--- ---- bits of words
-below_two : (n : ℕ) → n < 2 → (n ≡ 0) ⊎ (n ≡ 1)
-below_two n h = grind arith
-
-max_bits : (a b : ℕ) → a < 2 → b < 2 → eqb (max a b) 1 ≡ (eqb a 1 || eqb b 1)
-max_bits a b h k = elim (below_two a h) [ inl e ↦ elim (below_two b k) [ inl f ↦ rw (e, f) refl | inr f ↦ rw (e, f) refl ] | inr e ↦ elim (below_two b k) [ inl f ↦ rw (e, f) refl | inr f ↦ rw (e, f) refl ] ]
-
-min_bits : (a b : ℕ) → a < 2 → b < 2 → eqb (min a b) 1 ≡ (eqb a 1 && eqb b 1)
-min_bits a b h k = elim (below_two a h) [ inl e ↦ elim (below_two b k) [ inl f ↦ rw (e, f) refl | inr f ↦ rw (e, f) refl ] | inr e ↦ elim (below_two b k) [ inl f ↦ rw (e, f) refl | inr f ↦ rw (e, f) refl ] ]
-
-min_not_bits : (a b : ℕ) → a < 2 → b < 2 → eqb (min a (1 - b)) 1 ≡ (eqb a 1 && not (eqb b 1))
-min_not_bits a b h k = elim (below_two a h) [ inl e ↦ elim (below_two b k) [ inl f ↦ rw (e, f) refl | inr f ↦ rw (e, f) refl ] | inr e ↦ elim (below_two b k) [ inl f ↦ rw (e, f) refl | inr f ↦ rw (e, f) refl ] ]
-
-pub is_set-or : (a b x : ℕ) → is_set (bit_or a b) x ≡ (is_set a x || is_set b x)
-is_set-or a b x = ap (λ n. eqb n 1) (bit_at_or a b x) ∙ max_bits _ _ (bit_at-lt a x) (bit_at-lt b x)
-
-pub is_set-and : (a b x : ℕ) → is_set (bit_and a b) x ≡ (is_set a x && is_set b x)
-is_set-and a b x = ap (λ n. eqb n 1) (bit_at_and a b x) ∙ min_bits _ _ (bit_at-lt a x) (bit_at-lt b x)
-
-pub is_set-minus : (a b x : ℕ) → b < 2 ^ 64 → x < 64 → is_set (bit_and a (bit_not w64 b)) x ≡ (is_set a x && not (is_set b x))
-is_set-minus a b x fits low = ap (λ n. eqb n 1) (bit_at_and a _ x ∙ ap (λ n. min (bit_at a x) n) (bit_at_not w64 b x fits low)) ∙ min_not_bits _ _ (bit_at-lt a x) (bit_at-lt b x)
-
-pub is_set-with : (w k x : ℕ) → k < 64 → is_set (bit_or w (1 * 2 ^ k % 2 ^ 64)) x ≡ (eqb x k || is_set w x)
-is_set-with w k x low = elim (cases_eq x k) [
-  | inl e ↦ rw (e, bit_at_set_same w64 w k low, eq-eqb k k refl) refl
-  | inr ne ↦ rw (bit_at_set_other w64 w k low x ne, ne_eqb x k ne) refl
-]
-
-pub is_set-without : (w k x : ℕ) → k < 64 → x < 64 → is_set (bit_and w (bit_not w64 (1 * 2 ^ k % 2 ^ 64))) x ≡ (not (eqb x k) && is_set w x)
-is_set-without w k x low small = elim (cases_eq x k) [
-  | inl e ↦ rw (e, bit_at_clear_same w64 w k low, eq-eqb k k refl) refl
-  | inr ne ↦ rw (bit_at_clear_other w64 w k low x small ne, ne_eqb x k ne) refl
-]
-
-is_set-shr : (w k x : ℕ) → is_set (w / 2 ^ k) x ≡ is_set w (k + x)
-is_set-shr w k x = ap (λ n. eqb (n % 2) 1) (shr-shr w k x)
-
-bit_at-mod : (n x : ℕ) → x < 64 → bit_at (n % 2 ^ 64) x ≡ bit_at n x
-bit_at-mod n x low = sym (bit_at_cat_low (n / 2 ^ 64) 64 (n % 2 ^ 64) x low) ∙ ap (λ m. bit_at m x) (shr_split n 64)
-
-is_set-shl_low : (w k x : ℕ) → x < 64 → x < k → is_set (w * 2 ^ k % 2 ^ 64) x ≡ false
-is_set-shl_low w k x small low = ap (λ n. eqb n 1) (bit_at-mod (w * 2 ^ k) x small ∙ (ap (λ n. bit_at n x) (sym (add-zero (w * 2 ^ k))) ∙ (bit_at_cat_low w k 0 x low ∙ bit_at-zero x)))
-
-is_set-shl_high : (w k x : ℕ) → x < 64 → k ≤ x → is_set (w * 2 ^ k % 2 ^ 64) x ≡ is_set w (x - k)
-is_set-shl_high w k x small high = ap (λ n. eqb n 1) (bit_at-mod (w * 2 ^ k) x small ∙ (ap (λ n. bit_at n x) (sym (add-zero (w * 2 ^ k))) ∙ bit_at_cat_high w k 0 x (pow_pos k) high))
-
--- ---- a word shifted by one step
-shift_set : (g : Geometry) (d : Dir) (w x y : ℕ) → y < 64 → IsShift g d x y → is_set (shifted_word g d w) y ≡ is_set w x
-shift_set g UpLeft w x y small h = is_set-shr w (g.per_row + 1) y ∙ ap (is_set w) (let e : g.per_row + 1 + y ≡ x = omega arith in e)
-shift_set g UpRight w x y small h = is_set-shr w g.per_row y ∙ ap (is_set w) (let e : g.per_row + y ≡ x = omega arith in e)
-shift_set g DownLeft w x y small h = is_set-shl_high w g.per_row y small (omega arith) ∙ ap (is_set w) (let e : y - g.per_row ≡ x = omega arith in e)
-shift_set g DownRight w x y small h = is_set-shl_high w (g.per_row + 1) y small (omega arith) ∙ ap (is_set w) (let e : y - (g.per_row + 1) ≡ x = omega arith in e)
-
-down_from : (w k y : ℕ) → y < 64 → is_set (w * 2 ^ k % 2 ^ 64) y ≡ true → (x : ℕ) × (y ≡ x + k)
-down_from w k y small e = elim (cases_lt y k) [
-  | inl low ↦ absurd (true≢false (sym e ∙ is_set-shl_low w k y small low))
-  | inr high ↦ (y - k, omega arith)
-]
-
-shift_from : (g : Geometry) (d : Dir) (w y : ℕ) → y < 64 → is_set (shifted_word g d w) y ≡ true → (x : ℕ) × IsShift g d x y
-shift_from g UpLeft w y small e = (y + (g.per_row + 1), refl)
-shift_from g UpRight w y small e = (y + g.per_row, refl)
-shift_from g DownLeft w y small e = down_from w g.per_row y small e
-shift_from g DownRight w y small e = down_from w (g.per_row + 1) y small e
-
-first_true : (b c : Bool) (n s : ℕ) → cond (b && c) (Some n) None ≡ Some s → b ≡ true
-first_true true c n s e = refl
-first_true false c n s e = cc
-
-pub bit-small : (g : Geometry) → IsBoard g → (s : ℕ) → OnBoard g s → bit g s < 64
-bit-small g b s on = let h : bit g s + 1 ≤ squares g + g.rows / 2 = leb-true _ _ (first_true _ _ _ s (square_at-bit g b s on)) in omega arith
-
-some_square : (o : Option ℕ) → is_some o ≡ true → (s : ℕ) × (o ≡ Some s)
-some_square None e = absurd (true≢false (sym e))
-some_square (Some s) e = (s, refl)
-
-pub square_of_bit : (g : Geometry) → IsBoard g → (w x : ℕ) → OnlySquares g w → is_set w x ≡ true → (s : ℕ) × (OnBoard g s × (bit g s ≡ x))
-square_of_bit g b w x only e = let s = some_square (square_at g x) (only x (eqb-true _ _ e)) in (s.0, bit-square_at g b x s.0 s.1)
-
+-- the word of all squares
 pub record WholeBoard (g : Geometry) (m : ℕ) : Type 0 where
   pub only : OnlySquares g m
   pub all : (s : ℕ) → OnBoard g s → is_set m (bit g s) ≡ true
 
-pub contains-here : (g : Geometry) (w s : ℕ) → OnBoard g s → set.contains (squares_of g w) s ≡ is_set w (bit g s)
-contains-here g w s on = contains-squares_of g w s ∙ ap (λ b. b && is_set w (bit g s)) (is_square-true g s on)
-
--- the squares of a shifted word are the steps from the word's squares
-pub contains-shifted : (g : Geometry) → IsBoard g → ShiftsAreSteps g → (w m : ℕ) (d : Dir) → OnlySquares g w → WholeBoard g m → (t : ℕ)
-    → (set.contains (squares_of g (bit_and (shifted_word g d w) m)) t ≡ true) ↔ ((s : ℕ) × ((set.contains (squares_of g w) s ≡ true) × (step g s d ≡ Some t)))
-contains-shifted g b shifts w m d only whole t = (
-  λ e.
-      let to = squares_of-within g _ t e in
-      let small = bit-small g b t to in
-      let moved = (and_parts _ _ (sym (is_set-and (shifted_word g d w) m (bit g t)) ∙ (sym (contains-here g _ t to) ∙ e))).0 in
-      let x = shift_from g d w (bit g t) small moved in
-      let set_x = sym (shift_set g d w x.0 (bit g t) small x.1) ∙ moved in
-      let s = square_of_bit g b w x.0 only set_x in
-      (s.0, (contains-here g w s.0 s.1.0 ∙ (ap (is_set w) s.1.1 ∙ set_x), (shifts s.0 t d s.1.0 to).1 (subst (λ x. IsShift g d x (bit g t)) (sym s.1.1) x.1))),
-  λ p.
-      let on = squares_of-within g w p.0 p.1.0 in
-      let to = step-OnBoard g b p.0 t d on p.1.1 in
-      let small = bit-small g b t to in
-      let h = shift_set g d w (bit g p.0) (bit g t) small ((shifts p.0 t d on to).0 p.1.1) in
-      contains-here g _ t to ∙ (is_set-and (shifted_word g d w) m (bit g t) ∙ and_from _ _ (h ∙ (sym (contains-here g w p.0 on) ∙ p.1.0)) (whole.all t to)),
-)
-
--- ---- what keeps to squares
-pub OnlySquares-and : (g : Geometry) (a b : ℕ) → OnlySquares g b → OnlySquares g (bit_and a b)
-OnlySquares-and g a b h x e = h x (eqb-true _ _ (and_parts _ _ (sym (is_set-and a b x) ∙ eq-eqb _ _ e)).1)
-
-pub OnlySquares-and_left : (g : Geometry) (a b : ℕ) → OnlySquares g a → OnlySquares g (bit_and a b)
-OnlySquares-and_left g a b h x e = h x (eqb-true _ _ (and_parts _ _ (sym (is_set-and a b x) ∙ eq-eqb _ _ e)).0)
-
-pub OnlySquares-or : (g : Geometry) (a b : ℕ) → OnlySquares g a → OnlySquares g b → OnlySquares g (bit_or a b)
-OnlySquares-or g a b h k x e = elim (or_cases _ _ (sym (is_set-or a b x) ∙ eq-eqb _ _ e)) [ inl p ↦ h x (eqb-true _ _ p) | inr p ↦ k x (eqb-true _ _ p) ]
-
-pub OnlySquares-with : (g : Geometry) → IsBoard g → (w s : ℕ) → OnBoard g s → OnlySquares g w → OnlySquares g (bit_or w (1 * 2 ^ bit g s % 2 ^ 64))
-OnlySquares-with g b w s on h x e = elim (or_cases _ _ (sym (is_set-with w (bit g s) x (bit-small g b s on)) ∙ eq-eqb _ _ e)) [
-  | inl p ↦ ap (λ y. is_some (square_at g y)) (eqb-true _ _ p) ∙ ap is_some (square_at-bit g b s on)
-  | inr p ↦ h x (eqb-true _ _ p)
-]
-
-one_bit : (b : Bool) (k x : ℕ) → is_set (cond b (2 ^ k) 0) x ≡ true → (b ≡ true) × (k ≡ x)
-one_bit true k x e = elim (cases_eq x k) [
-  | inl is ↦ (refl, sym is)
-  | inr ne ↦ absurd (true≢false (sym e ∙ ap (λ n. eqb n 1) (bit_at-pow_other k x ne)))
-]
-one_bit false k x e = absurd (true≢false (sym e ∙ ap (λ n. eqb n 1) (bit_at-zero x)))
-
-here_bit : (b : Bool) (k : ℕ) → b ≡ true → is_set (cond b (2 ^ k) 0) k ≡ true
-here_bit true k e = ap (λ n. eqb n 1) (bit_at-pow_same k)
-here_bit false k e = absurd (true≢false (sym e))
-
-zero_one : eqb 0 1 ≡ true → ⊥
-zero_one e = true≢false (sym e)
-
-same_bit : (a b : ℕ) → a < 2 → b < 2 → (eqb a 1 ≡ true → eqb b 1 ≡ true) → (eqb b 1 ≡ true → eqb a 1 ≡ true) → a ≡ b
-same_bit a b h k to from = elim (below_two a h) [
-  | inl e ↦ elim (below_two b k) [ inl f ↦ e ∙ sym f | inr f ↦ e ∙ absurd (zero_one (subst (λ n. eqb n 1 ≡ true) e (from (eq-eqb b 1 f)))) ]
-  | inr e ↦ elim (below_two b k) [ inl f ↦ e ∙ absurd (zero_one (subst (λ n. eqb n 1 ≡ true) f (to (eq-eqb a 1 e)))) | inr f ↦ e ∙ sym f ]
-]
-
--- ---- a word from its squares
-word_of-to : (g : Geometry) (v : Squares) (n x : ℕ) → is_set (word_below g v n) x ≡ true → (s : ℕ) × (((1 ≤ s) × (s ≤ n)) × ((set.contains v s ≡ true) × (bit g s ≡ x)))
-unfolding word_below
-word_of-to g v zero x e = absurd (true≢false (sym e ∙ ap (λ n. eqb n 1) (bit_at-zero x)))
-word_of-to g v (suc n) x e = elim (or_cases _ _ (sym (is_set-or _ (word_below g v n) x) ∙ e)) [
-  | inl p ↦ let q = one_bit (set.contains v (suc n)) (bit g (suc n)) x p in (suc n, ((omega arith, omega arith), q))
-  | inr p ↦ let r = word_of-to g v n x p in (r.0, ((r.1.0.0, let h = r.1.0.1 in omega arith), r.1.1))
-]
-
-word_of-from : (g : Geometry) (v : Squares) (n s : ℕ) → 1 ≤ s → s ≤ n → set.contains v s ≡ true → is_set (word_below g v n) (bit g s) ≡ true
-unfolding word_below
-word_of-from g v zero s low high e = absurd (omega arith)
-word_of-from g v (suc n) s low high e = is_set-or _ (word_below g v n) (bit g s) ∙ (elim (cases_eq s (suc n)) [
-  | inl is ↦ or_left _ _ (subst (λ t. is_set (cond (set.contains v t) (2 ^ bit g t) 0) (bit g s) ≡ true) is (here_bit (set.contains v s) (bit g s) e))
-  | inr ne ↦ or_right _ _ (word_of-from g v n s low (omega arith) e)
-])
-
-pub word_of-squares_of : (g : Geometry) → IsBoard g → (w : ℕ) → OnlySquares g w → word_of g (squares_of g w) ≡ w
-unfolding word_of
-word_of-squares_of g b w only = same_from_bits _ _ (λ x. same_bit _ _ (bit_at-lt _ x) (bit_at-lt w x)
-    (λ e. let r = word_of-to g (squares_of g w) (squares g) x e in ap (is_set w) (sym r.1.1.1) ∙ (sym (contains-here g w r.0 r.1.0) ∙ r.1.1.0))
-    (λ e. let s = square_of_bit g b w x only e in subst (λ y. is_set (word_below g (squares_of g w) (squares g)) y ≡ true) s.1.1 (word_of-from g (squares_of g w) (squares g) s.0 s.1.0.0 s.1.0.1 (contains-here g w s.0 s.1.0 ∙ (ap (is_set w) s.1.1 ∙ e)))))
-
--- ---- a word of all squares, by a table
-pub whole_board : (g : Geometry) → IsBoard g → (m : ℕ) → m < 2 ^ 64 → agree_below (is_set m) (λ x. is_some (square_at g x)) 64 ≡ true → WholeBoard g m
-whole_board g b m fits table = record {
-  only = λ x e. elim (cases_lt x 64) [
-    | inl low ↦ sym (agree_below_at (is_set m) (λ x. is_some (square_at g x)) 64 x table low) ∙ eq-eqb _ _ e
-    | inr high ↦ absurd (zero_one (ap (λ n. eqb n 1) (sym (bit_at_above m 64 x fits high)) ∙ eq-eqb _ _ e))
-  ];
-  all = λ s on. agree_below_at (is_set m) (λ x. is_some (square_at g x)) 64 (bit g s) table (bit-small g b s on) ∙ ap is_some (square_at-bit g b s on);
-}
-
--- the invariant of a word of squares: its board too, since a model sees no laws of its parameter
+-- a word of squares; it names the board's laws too, since a model sees no laws of its parameter
 pub record IsWord (g : Geometry) (w : ℕ) : Type 0 where
   pub board : IsBoard g
   pub only : OnlySquares g w
-
-pub IsWord-empty : (g : Geometry) → IsBoard g → IsWord g 0
-IsWord-empty g b = record { board = b; only = λ x e. absurd (zero_one (ap (λ n. eqb n 1) (sym (bit_at-zero x)) ∙ eq-eqb _ _ e)) }
-
-pub squares_of-empty : (g : Geometry) → squares_of g 0 ≡ set.empty
-squares_of-empty g = squares_of-is g 0 set.empty
-    (λ q e. absurd (true≢false (sym e ∙ set.contains-empty nat_cmp q)))
-    (λ q on. set.contains-empty nat_cmp q ∙ sym (ap (λ n. eqb n 1) (bit_at-zero (bit g q))))
-
-pub squares_of-with : (g : Geometry) → IsBoard g → (w s : ℕ) → OnBoard g s → squares_of g (bit_or w (1 * 2 ^ bit g s % 2 ^ 64)) ≡ set.insert (squares_of g w) s
-squares_of-with g b w s on = squares_of-is g _ (set.insert (squares_of g w) s)
-    (λ q e. elim (or_cases _ _ (sym (contains-insert (squares_of g w) s q) ∙ e)) [
-      | inl p ↦ subst (OnBoard g) (sym (eqb-true q s p)) on
-      | inr p ↦ squares_of-within g w q p
-    ])
-    (λ q to. contains-insert (squares_of g w) s q ∙ (ap (λ c. eqb q s || c) (contains-here g w q to) ∙ (ap (λ c. c || is_set w (bit g q)) (same_place g b q s to on) ∙ sym (is_set-with w (bit g s) (bit g q) (bit-small g b s on)))))
-
-pub squares_of-or : (g : Geometry) (a b : ℕ) → squares_of g (bit_or a b) ≡ set.union (squares_of g a) (squares_of g b)
-squares_of-or g a b = squares_of-is g _ (set.union (squares_of g a) (squares_of g b))
-    (λ q e. elim (or_cases _ _ (sym (set.contains-union nat_cmp_total (squares_of g a) (squares_of g b) q) ∙ e)) [ inl p ↦ squares_of-within g a q p | inr p ↦ squares_of-within g b q p ])
-    (λ q on. set.contains-union nat_cmp_total (squares_of g a) (squares_of g b) q ∙ (ap (λ c. c || set.contains (squares_of g b) q) (contains-here g a q on) ∙ (ap (λ c. is_set a (bit g q) || c) (contains-here g b q on) ∙ sym (is_set-or a b (bit g q)))))
-
--- the word behind a set that a word stands for
-pub word_behind : (g : Geometry) (w : ℕ) (v : Squares) → IsWord g w → squares_of g w ≡ v → word_of g v ≡ w
-word_behind g w v h e = ap (word_of g) (sym e) ∙ word_of-squares_of g h.board w h.only
-
--- ---- equality of sets, by their members
-abbrev pub same_members : Squares → Squares → Bool
-same_members v w = pointwise eqb (set.items v) (set.items w)
-
-pub same_members-is : (v w : Squares) → (same_members v w ≡ true) ↔ (v ≡ w)
-same_members-is v w = (
-  (λ e. let i = (bytes_decides (set.items v) (set.items w)).0 e in
-      set.same_set nat_cmp_total set.nat_cmp-IsAntisymmetric v w (λ q. set.contains-items v q ∙ (ap (list_any (eq_by_cmp nat_cmp q)) i ∙ sym (set.contains-items w q)))),
-  (λ e. (bytes_decides (set.items v) (set.items w)).1 (ap set.items e)),
-)
-
-same_tests : (a b : Bool) → (a ≡ true → b ≡ true) → (b ≡ true → a ≡ true) → a ≡ b
-same_tests true b to from = sym (to refl)
-same_tests false true to from = from refl
-same_tests false false to from = refl
-
-pub same_words : (g : Geometry) (a b : ℕ) (v w : Squares) → IsWord g a → IsWord g b → squares_of g a ≡ v → squares_of g b ≡ w → eqb a b ≡ same_members v w
-same_words g a b v w h k e f = same_tests (eqb a b) (same_members v w)
-    (λ t. (same_members-is v w).1 (sym e ∙ (ap (squares_of g) (eqb-true a b t) ∙ f)))
-    (λ t. eq-eqb a b (sym (word_behind g a v h e) ∙ (ap (word_of g) ((same_members-is v w).0 t) ∙ word_behind g b w k f)))

@@ -3,3 +3,4 @@
 pub mod fault;
 pub mod read;
 mod tokens;
+pub mod write;

@@ -4,8 +4,12 @@
 #![tactic(auto)]
 
 pub mod board;
+pub mod diagram;
 pub mod fen;
+pub mod laws;
 pub mod piece;
 pub mod position;
 pub mod square;
 pub mod squares;
+#[cfg(test)]
+mod tests;

@@ -1,7 +1,9 @@
 //! Positions: what stands on a board, and whose turn it is.
-ghost use Rattle.std.specs.Prelude.{◌≡◌, ◌≤◌, ◌<◌, ℕ, Some, None, Ok, Err, IsTrue, is_ok, count_by, if◌then◌else◌, MatchResult, Result};
-ghost use Rattle.dw_board.specs.Placement.{Placement, placed, put_fault};
+ghost use Rattle.std.specs.Prelude.{◌≡◌, ◌≤◌, ◌<◌, ◌↔◌, ℕ, Some, None, Ok, Err, IsTrue, is_ok, count_by, if◌then◌else◌, MatchResult, Result};
+ghost use Rattle.dw_board.specs.Placement.{Placement, IsPosition, placed, put_fault};
 ghost use Rattle.dw_board.specs.Placement as of;
+ghost use Rattle.dw_board.specs.Geometry as Geo;
+ghost use Rattle.std.specs.FinSet as set;
 ghost use Rattle.dw_board.specs.Placement.{side_code, cell_codes};
 ghost use Rattle.std.specs.Prelude.{◌==◌, ◌++◌, List, map};
 ghost use Rattle.std.proofs.Common.{rules};
@@ -15,6 +17,7 @@ ghost use Rattle.std.specs.Result.{result_err};
 use crate::board::Board;
 use crate::piece::{Kind, Piece, PutFault, Side};
 use crate::square::Square;
+use crate::squares::Squares;
 use std::cmp::Ordering;
 use std::hash::{Hash, Hasher};
 use std::marker::{Model, PhantomData};
@@ -84,7 +87,8 @@ impl<B: Board> Position<B> {
     }
 
     pub fn turn(&self) -> Side
-        ensures { result ≡ self.now.turn }
+        ensures value { result ≡ self.now.turn }
+        ensures position { IsPosition B.geometry self.now.cells }
     {
         self.turn
     }
@@ -96,9 +100,31 @@ impl<B: Board> Position<B> {
     }
 
     pub fn count(&self, side: Side) -> u8
-        ensures { result ≡ of.count self.now side }
+        ensures value { result ≡ of.count self.now side }
+        ensures fits { result ≤ B.geometry.side }
+        ensures small { result ≤ 20 }
     {
         count_of(&self.cells, side)
+    }
+
+    fn stands(&self, square: Square<B>, piece: Piece) -> bool
+        ensures { IsTrue result ↔ (of.at self.now square ≡ Some piece) }
+    {
+        self.at(square) == Some(piece)
+    }
+
+    /// The squares on which a piece of this side and kind stands.
+    pub fn squares(&self, side: Side, kind: Kind) -> Squares<B>
+        ensures { (s : ℕ) → IsTrue (set.contains result s) ↔ (Geo.OnBoard B.geometry s × (of.at self.now s ≡ Some (record { side = side; kind = kind }))) }
+    {
+        let mut squares = Squares::none();
+        'squares: for index in 0..B::ROWS * B::PER_ROW {
+            let square = Square::behind(index);
+            if self.stands(square, Piece { side, kind }) {
+                squares = squares.with(square);
+            }
+        }
+        squares
     }
 }
 

@@ -1,5 +1,5 @@
 //! Sets of squares, as padded words.
-ghost use Rattle.std.specs.Prelude.{◌≡◌, ◌≤◌, ◌<◌, ◌↔◌, ℕ, Some, IsTrue};
+ghost use Rattle.std.specs.Prelude.{◌≡◌, ◌≤◌, ◌<◌, ◌↔◌, ℕ, Some, IsTrue, IsNone, IfSome};
 ghost use Rattle.std.specs.FinSet as set;
 ghost use Rattle.dw_board.specs.Geometry as Geo;
 ghost use Rattle.std.specs.Prelude.{◌==◌};
@@ -8,10 +8,12 @@ ghost use Rattle.std.specs.Hash as fed;
 ghost use Rattle.std.specs.Ordering.{on};
 ghost use Rattle.std.specs.Cmp.Rules.{comparing};
 ghost use Rattle.std.specs.Cmp.Lexicographic.{pointwise};
-ghost use Rattle.dw_board.specs.SquareSet.{word_of, same_members-is};
+ghost use Rattle.dw_board.specs.SquareSet.{word_of, is_set, OnlySquares};
+ghost use Rattle.dw_board.specs.SquareSetLaws.{same_members-is};
 
 use crate::board::{Board, Dir};
 use crate::square::Square;
+use std::fmt;
 use std::hash::{Hash, Hasher};
 use std::marker::{Model, PhantomData};
 
@@ -26,7 +28,8 @@ impl<B: Board> Model for Squares<B> {
     ghost use Rattle.std.specs.Ordering.{nat_cmp};
     ghost use Rattle.std.specs.Coded.{coded_ℕ};
     ghost use Rattle.std.specs.FinSet as set;
-    ghost use Rattle.dw_board.specs.SquareSet.{squares_of, word_of, IsWord, word_of-squares_of};
+    ghost use Rattle.dw_board.specs.SquareSet.{squares_of, word_of, IsWord};
+    ghost use Rattle.dw_board.specs.SquareSetLaws.{word_of-squares_of};
 
     ghost Value = { set.FinSet nat_cmp };
 
@@ -84,6 +87,65 @@ impl<B: Board> Squares<B> {
         }
     }
 
+    /// This set without the square.
+    pub fn without(self, square: Square<B>) -> Self
+        ensures { result ≡ set.remove self square }
+    {
+        Squares {
+            word: self.word & !(1 << place(square)),
+            board: PhantomData,
+        }
+    }
+
+    /// The squares in both sets.
+    pub fn and(self, other: Self) -> Self
+        ensures { result ≡ set.intersection self other }
+    {
+        Squares {
+            word: self.word & other.word,
+            board: PhantomData,
+        }
+    }
+
+    /// The squares of this set that are not in the other.
+    pub fn minus(self, other: Self) -> Self
+        ensures { result ≡ set.difference self other }
+    {
+        Squares {
+            word: self.word & !other.word,
+            board: PhantomData,
+        }
+    }
+
+    /// The number of squares, at most 50.
+    pub fn count(self) -> u8
+        ensures value { result ≡ set.len self }
+        ensures small { result ≤ 50 }
+    {
+        self.word.count_ones() as u8
+    }
+
+    /// The least square, or `None` in the empty set.
+    pub fn first(self) -> Option<Square<B>>
+        ensures none { IsNone result ↔ (self ≡ set.empty) }
+        ensures member { IfSome result (λ s. IsTrue (set.contains self s)) }
+        ensures least { IfSome result (λ s. (t : ℕ) → IsTrue (set.contains self t) → s ≤ t) }
+    {
+        if self.word == 0 {
+            return None;
+        }
+        let place = self.word.trailing_zeros() as u8;
+        Square::new(place - place / (B::ROWS + 1) + 1)
+    }
+
+    /// The padded word: the bit `s - 1 + (s - 1) / ROWS` for each square s of the set, and no other.
+    pub fn word(self) -> u64
+        ensures members { (s : ℕ) → IsTrue (set.contains self s) ↔ (Geo.OnBoard B.geometry s × IsTrue (is_set result (Geo.bit B.geometry s))) }
+        ensures only { OnlySquares B.geometry result }
+    {
+        self.word
+    }
+
     /// The squares that a step leads to from these.
     pub fn shifted(self, direction: Dir) -> Self
         ensures { (t : ℕ) → IsTrue (set.contains result t) ↔ ((s : ℕ) × (IsTrue (set.contains self s) × (Geo.step B.geometry s direction ≡ Some t))) }
@@ -106,12 +168,28 @@ fn shifted_word<B: Board>(word: u64, direction: Dir) -> u64
     }
 }
 
+/// The empty set.
+impl<B: Board> Default for Squares<B> {
+    ghost is_default = { λ v. v ≡ set.empty };
+
+    fn default() -> Self {
+        Self::none()
+    }
+}
+
+/// The padded word, in base 16.
+impl<B: Board> fmt::Debug for Squares<B> {
+    fn fmt<W: fmt::Write>(&self, f: &mut fmt::Formatter<W>) -> fmt::Result {
+        write!(f, "{:#x}", self.word)
+    }
+}
+
 impl<B: Board> PartialEq for Squares<B> {
     ghost eq = { on set.items (pointwise ◌==◌) };
 
     ghost laws = { Prim.search (comparing, rules) depth 9 };
 
-    #[tactic(auto, using(crate::specs::SquareSet::same_words))]
+    #[tactic(auto, using(crate::proofs::Sets::same_words))]
     fn eq(&self, other: &Self) -> bool {
         self.word == other.word
     }
@@ -126,7 +204,7 @@ impl<B: Board> Hash for Squares<B> {
 
     ghost respects_eq = { λ x y h i. fed.u64 (word_of B.geometry ((same_members-is x y).0 h i)) };
 
-    #[tactic(auto, using(crate::specs::SquareSet::word_behind))]
+    #[tactic(auto, using(crate::proofs::Sets::word_behind))]
     fn hash<H: Hasher>(&self, state: &mut H) {
         state.write_u64(self.word);
     }

@@ -1,8 +1,7 @@
-use Rattle.std.proofs.Common.{◌≡◌, ℕ, sym, ap, ◌∙◌, refl, eqb, Some, true, ◌↔◌, bit_or, bit_and, ◌*◌, ◌/◌, ◌^◌, ◌%◌}
+use Rattle.std.proofs.Common.{sym, ap, ◌∙◌, bit_and}
 use Rattle.std.specs.FinSet as set
-use Rattle.std.proofs.lemmas.Nat.Bits.{shr_and_one}
-use Rattle.dw_board.specs.Geometry as Geo
-use Rattle.dw_board.specs.SquareSet.{Squares, IsWord, squares_of, squares_of-with, squares_of-or, OnlySquares-with, OnlySquares-or, OnlySquares-and, contains-shifted, contains-here}
+use Rattle.dw_board.specs.SquareSet.{squares_of}
+use Rattle.dw_board.proofs.Sets.{OnlySquares-and, contains-shifted}
 use Rattle.dw_board.proofs.squares.Squares.shifted.Goals as goal
 
 pub invariant_of-result : goal.invariant_of-result

@@ -1,10 +1,11 @@
 -- The laws of a board follow from its numbers: there are four boards, and each is a table.
-use Rattle.std.proofs.Common.{◌≡◌, ℕ, suc, zero, ◌+◌, ◌-◌, ◌*◌, ◌/◌, ◌%◌, ◌≤◌, ◌<◌, Bool, true, false, cond, not, ◌&&◌, eqb, ltb, leb, Option, Some, None, refl, sym, ap, ◌∙◌, subst, arith, rules, lit≤, ◌⊎◌, inl, inr, ◌↔◌}
+use Rattle.std.proofs.Common.{◌≡◌, ℕ, suc, zero, ◌+◌, ◌-◌, ◌*◌, ◌/◌, ◌≤◌, Bool, true, false, cond, ◌&&◌, eqb, leb, Option, Some, None, refl, sym, ap, ◌∙◌, subst, arith, ◌⊎◌, inl, inr, ◌↔◌}
 use Rattle.std.proofs.lemmas.Bool.{agree_below, agree_below_at, leb-true, eqb-true, and_parts, cases_Bool, le-leb, true≢false}
 use Rattle.std.proofs.lemmas.Bool.Decides.{nat_tests}
 use Rattle.dw_board.specs.declared.board.Dir.{Dir}
 use Rattle.dw_board.specs.declared.board.Dir.TheVariants.{UpLeft, UpRight, DownLeft, DownRight}
-use Rattle.dw_board.specs.Geometry.{Geometry, IsBoard, squares, step, OnBoard, bit, stride, IsShift, ShiftsAreSteps, and_then}
+use Rattle.dw_board.specs.SquareSet.{square_at}
+use Rattle.dw_board.specs.Geometry.{Geometry, IsBoard, squares, step, OnBoard, bit, IsShift, ShiftsAreSteps, and_then}
 
 which : (p : ℕ) → 2 ≤ p → p ≤ 5 → (p ≡ 2) ⊎ ((p ≡ 3) ⊎ ((p ≡ 4) ⊎ (p ≡ 5)))
 which p low high = grind arith
@@ -22,10 +23,6 @@ at_boards P a b c d r p e low high =
         ]
       ]
     ]
-
--- the square at a place of a padded word
-abbrev pub square_at : Geometry → ℕ → Option ℕ
-square_at g x = cond (leb (x + 1) (squares g + g.rows / 2) && leb (x % (g.rows + 1) + 1) g.rows) (Some (x - x / (g.rows + 1) + 1)) None
 
 abbrev pub shifted_place : Geometry → Dir → ℕ → Option ℕ
 shifted_place g UpLeft x = cond (leb (g.per_row + 1) x) (Some (x - (g.per_row + 1))) None

@@ -1,0 +1,5 @@
+use Rattle.dw_board.proofs.Steps.{places_differ}
+use Rattle.dw_board.proofs.laws.places_differ.Goals as goal
+
+pub returns : goal.returns
+returns c = places_differ

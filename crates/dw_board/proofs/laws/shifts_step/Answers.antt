@@ -1,0 +1,5 @@
+use Rattle.dw_board.proofs.Steps.{shifts_step}
+use Rattle.dw_board.proofs.laws.shifts_step.Goals as goal
+
+pub returns : goal.returns
+returns c = shifts_step
