@@ -3,5 +3,6 @@
 //! Everything is generic over the board. No call takes memory.
 #![tactic(auto)]
 
+pub mod problems;
 pub mod streams;
 pub mod writes;
