@@ -1,20 +1,15 @@
 -- Lemmas on lines that are too long to be FEN texts: their length, their blankness and their last byte say all.
-use Rattle.std.proofs.Common.{◌≡◌, ℕ, ◌==◌, ◌+◌, ◌-◌, ◌<◌, ◌≤◌, ◌⊎◌, inl, inr, List, [], ◌∷◌, ◌++◌, length, take, slice_index, replicate, Bool, true, false, cond, ◌&&◌, ◌||◌, Option, Some, None, Err, refl, sym, ap, ◌∙◌, append_assoc, append-nil, arith, length-append, nat_lt, min, if◌then◌else◌}
+use Rattle.std.proofs.Common.{◌≡◌, ℕ, ◌==◌, ◌+◌, ◌-◌, ◌<◌, ◌≤◌, ◌⊎◌, inl, inr, List, [], ◌∷◌, ◌++◌, length, take, slice_index, replicate, Bool, true, false, cond, ◌&&◌, Option, Some, Err, refl, sym, ap, ◌∙◌, append-nil, arith, length-append, min, if◌then◌else◌}
 use Prim.Native.Nat.{zero, suc}
 use Rattle.std.proofs.lemmas.List.{length-take-le, length-replicate, get_or-append-add}
 use Rattle.std.proofs.lemmas.List.Folds.{list_all-append, list_all_more}
-use Rattle.std.proofs.lemmas.Bool.{lt-ltb, le-ltb, cases_lt}
+use Rattle.std.proofs.lemmas.Bool.{lt-ltb, cases_lt}
 use Rattle.std.proofs.Math.Seq.{take-append-add, take-length}
 use Rattle.std.specs.List.{list_all}
 use Rattle.dw_board.specs.Geometry.{Geometry}
-use Rattle.dw_board.specs.Fen.{fen}
-use Rattle.dw_board.specs.declared.fen.fault.FenFault.{FenFault}
-use Rattle.dw_board.specs.declared.fen.fault.FenFaultKind.TheVariants.{TooLong}
-use Rattle.dw_notation.specs.Lines.{without_return}
-use Rattle.dw_notation.specs.Found.{Found, is_blank, fen_found, text_found, line_found}
+use Rattle.dw_notation.specs.Found.{Found, is_blank, text_found, line_found}
 use Rattle.dw_notation.specs.Held.{SaysSame, padded, long_text_found}
-use Rattle.dw_notation.specs.declared.problems.ProblemFault.TheVariants.{Fen, LineTooLong}
-use Rattle.dw_notation.specs.declared.problems.line.LongLine.{LongLine}
+use Rattle.dw_notation.specs.declared.problems.ProblemFault.TheVariants.{LineTooLong}
 
 -- what a long line says, by its length, by whether it is blank up to its last byte, and by that byte
 abbrev pub long_found : ℕ → Bool → ℕ → Option Found

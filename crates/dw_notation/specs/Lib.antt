@@ -5,3 +5,6 @@ pub mod Lines
 pub mod Found
 pub mod Problems
 pub mod Held
+pub mod Ahead
+pub mod Cutting
+pub mod Reading

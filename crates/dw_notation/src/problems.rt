@@ -3,16 +3,17 @@
 //! Of its input a reader holds at most 4,096 bytes: 2,048 of its last read, 1,025 of a line, and a few more
 //! that say what is known of a longer line.
 
-
+mod cutter;
 mod line;
+mod mark;
+mod reader;
+mod scan;
 mod text;
-
-
-
 
 use dw_board::board::Board;
 use dw_board::fen::fault::FenFault;
 use dw_board::position::Position;
+pub use reader::Problems;
 use thiserror::Error;
 
 /// The most problems of one text. Where there are more, the next is `TooManyProblems`, and it is the last.

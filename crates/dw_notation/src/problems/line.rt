@@ -20,7 +20,7 @@ const MOST_PAST: usize = 3072;
 
 /// What is known of a line that is too long to be kept.
 #[derive(Clone, Copy)]
-pub struct LongLine {
+pub(super) struct LongLine {
     /// The bytes beyond `SHORTEST`, as far as they are counted.
     past: usize,
     /// Whether all bytes but the last are blank.
@@ -71,7 +71,7 @@ impl LongLine {
 
 /// What is held of a line: all of it, or of a longer one what decides what it says.
 #[derive(Drop)]
-pub struct Line {
+pub(super) struct Line {
     front: ArrayVec<u8, FRONT>,
     long: Option<LongLine>,
 }
@@ -79,7 +79,7 @@ pub struct Line {
 impl Line {
     ghost use Rattle.dw_notation.specs.Held.{held_line, SaysSame};
 
-    pub fn new() -> Line
+    pub(super) fn new() -> Line
         ensures { held_line result ≡ [] }
     {
         Line {
@@ -89,7 +89,7 @@ impl Line {
     }
 
     /// Forgets the line.
-    pub fn clear(&mut self)
+    pub(super) fn clear(&mut self)
         ensures { held_line self.new ≡ [] }
     {
         self.front.clear();
@@ -97,7 +97,7 @@ impl Line {
     }
 
     /// Puts a piece behind the line.
-    pub fn push(&mut self, piece: &[u8])
+    pub(super) fn push(&mut self, piece: &[u8])
         ensures { SaysSame (held_line self.old ++ piece.now) (held_line self.new) }
     {
         if piece.is_empty() {
@@ -112,7 +112,7 @@ impl Line {
     }
 
     /// What the line says, if it is no blank one.
-    pub fn found<B: Board>(&self) -> Option<Result<Position<B>, ProblemFault>>
+    pub(super) fn found<B: Board>(&self) -> Option<Result<Position<B>, ProblemFault>>
         ensures { result ≡ line_found B.geometry (held_line self.now) }
     {
         match self.long {

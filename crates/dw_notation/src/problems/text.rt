@@ -12,13 +12,13 @@ use dw_board::fen::read::read_fen;
 use dw_board::position::Position;
 
 /// A space or a tab.
-pub fn is_blank_byte(byte: u8) -> bool
+pub(super) fn is_blank_byte(byte: u8) -> bool
     ensures { result ≡ is_blank byte }
 {
     byte == b' ' || byte == b'\t'
 }
 
-pub fn is_blank_text(text: &[u8]) -> bool
+pub(super) fn is_blank_text(text: &[u8]) -> bool
     ensures { result ≡ list_all is_blank text.now }
 {
     text.iter().all(|byte| *byte == b' ' || *byte == b'\t')
@@ -38,7 +38,7 @@ fn text_of(line: &[u8]) -> &[u8]
 
 /// What a line says, if it is no blank one.
 #[tactic(auto, unfolding(crate::specs::Found::line_found))]
-pub fn read_line<B: Board>(line: &[u8]) -> Option<Result<Position<B>, ProblemFault>>
+pub(super) fn read_line<B: Board>(line: &[u8]) -> Option<Result<Position<B>, ProblemFault>>
     ensures { result ≡ line_found B.geometry line.now }
 {
     let text = text_of(line);
@@ -55,7 +55,10 @@ pub fn read_line<B: Board>(line: &[u8]) -> Option<Result<Position<B>, ProblemFau
 }
 
 /// What a text says that is too long for a FEN text.
-pub fn read_long_text<B: Board>(len: usize, is_blank: bool) -> Option<Result<Position<B>, ProblemFault>>
+pub(super) fn read_long_text<B: Board>(
+    len: usize,
+    is_blank: bool,
+) -> Option<Result<Position<B>, ProblemFault>>
     ensures { result ≡ long_text_found len is_blank }
 {
     if len > MAX_LINE {
