@@ -1,0 +1,18 @@
+-- What a reader or a writer of std shows as a source or a sink.
+use Rattle.std.specs.Prelude.{Bool}
+use Rattle.dw_notation.specs.declared.streams.Reading.{Reading}
+use Rattle.dw_notation.specs.declared.streams.Writing.{Writing}
+
+-- the reader that a source reads from
+abbrev pub read_from : {R : Type 0} → Reading R → R
+read_from source = source.reader
+
+abbrev pub has_read_failed : {R : Type 0} → Reading R → Bool
+has_read_failed source = source.has_failed
+
+-- the writer that a sink writes to
+abbrev pub written_to : {W : Type 0} → Writing W → W
+written_to sink = sink.writer
+
+abbrev pub has_write_failed : {W : Type 0} → Writing W → Bool
+has_write_failed sink = sink.has_failed

@@ -1,0 +1,34 @@
+-- What is held of a line that was not read to its end.
+use Rattle.std.specs.Prelude.{◌≡◌, ℕ, ◌+◌, if◌then◌else◌, List, [], ◌∷◌, ◌++◌, replicate, Bool, Option, Some, None, Err, nat_lt}
+use Rattle.dw_board.specs.Geometry.{Geometry}
+use Rattle.dw_board.specs.declared.fen.fault.FenFaultKind.TheVariants.{TooLong}
+use Rattle.dw_notation.specs.Found.{Found, line_found}
+use Rattle.dw_notation.specs.declared.problems.TheConstants.{MAX_LINE}
+use Rattle.dw_notation.specs.declared.problems.ProblemFault.TheVariants.{Fen, LineTooLong}
+use Rattle.dw_notation.specs.declared.problems.line.Line.{Line}
+use Rattle.dw_notation.specs.declared.problems.line.LongLine.{LongLine}
+
+-- what a text says that is too long for a FEN text, by its length and by whether it is blank
+abbrev pub long_text_found : ℕ → Bool → Option Found
+long_text_found length blank =
+    if nat_lt MAX_LINE length then Some (Err LineTooLong) else (if blank then None else Some (Err (Fen (record { what = TooLong; place = 1025 }))))
+
+-- 1,026 bytes and some more, blank up to the last one or not
+unfoldable pub padded : Bool → ℕ → ℕ → List ℕ
+padded blank past last = (if blank then 32 else 33) ∷ (replicate (1024 + past) 32 ++ last ∷ [])
+
+-- stands for a line that is not kept: as long, as blank up to its last byte, and with the same last byte
+abbrev pub long_bytes : LongLine → List ℕ
+long_bytes long = padded long.is_blank long.past long.last
+
+abbrev pub bytes_held : List ℕ → Option LongLine → List ℕ
+bytes_held front None = front
+bytes_held front (Some long) = long_bytes long
+
+-- a line that says what the one read so far says, whatever follows
+abbrev pub held_line : Line → List ℕ
+held_line line = bytes_held line.front.items line.long
+
+-- two beginnings of a line say the same, whatever follows
+abbrev pub SaysSame : List ℕ → List ℕ → Type 0
+SaysSame line other = (g : Geometry) (more : List ℕ) → line_found g (line ++ more) ≡ line_found g (other ++ more)

@@ -1,0 +1,10 @@
+pub mod Streams
+pub mod Endpoints
+pub mod Writes
+pub mod Lines
+pub mod Found
+pub mod Problems
+pub mod Held
+pub mod Ahead
+pub mod Cutting
+pub mod Reading

@@ -1,0 +1,38 @@
+-- The lines of a byte text.
+use Rattle.std.specs.Prelude.{◌≡◌, ℕ, ◌==◌, ◌-◌, ◌&&◌, if◌then◌else◌, List, [], ◌∷◌, length, take, slice_index, false}
+
+-- the text without a byte-order mark, the three bytes EF BB BF at its very front
+abbrev pub without_mark : List ℕ → List ℕ
+without_mark [] = []
+without_mark (a ∷ []) = a ∷ []
+without_mark (a ∷ b ∷ []) = a ∷ b ∷ []
+without_mark (a ∷ b ∷ c ∷ bytes) = if (a == 0xEF) && (b == 0xBB) && (c == 0xBF) then bytes else a ∷ b ∷ c ∷ bytes
+
+-- a byte goes onto the front of the first line
+abbrev pub onto_line : ℕ → List (List ℕ) → List (List ℕ)
+onto_line byte [] = (byte ∷ []) ∷ []
+onto_line byte (line ∷ lines) = (byte ∷ line) ∷ lines
+
+-- the same, where what has no line feed behind it is no line
+abbrev pub onto_whole_line : ℕ → List (List ℕ) → List (List ℕ)
+onto_whole_line byte [] = []
+onto_whole_line byte (line ∷ lines) = (byte ∷ line) ∷ lines
+
+-- the text cut at line feeds: the last line needs none, and nothing behind the last line feed is no line
+abbrev pub lines_of : List ℕ → List (List ℕ)
+lines_of [] = []
+lines_of (byte ∷ bytes) = if byte == 10 then [] ∷ lines_of bytes else onto_line byte (lines_of bytes)
+
+-- the lines that a line feed ends
+abbrev pub whole_lines_of : List ℕ → List (List ℕ)
+whole_lines_of [] = []
+whole_lines_of (byte ∷ bytes) = if byte == 10 then [] ∷ whole_lines_of bytes else onto_whole_line byte (whole_lines_of bytes)
+
+-- the line without one carriage return at its end
+abbrev pub without_return : List ℕ → List ℕ
+without_return line = if slice_index line (length line - 1) == 13 then take (length line - 1) line else line
+
+-- no line feed is among them
+abbrev pub NoLineFeed : List ℕ → Type 0
+NoLineFeed [] = Unit {0}
+NoLineFeed (byte ∷ bytes) = ((byte == 10) ≡ false) × NoLineFeed bytes

@@ -1,0 +1,39 @@
+-- The problems of a byte text.
+use Rattle.std.specs.Prelude.{ℕ, ◌==◌, ◌+◌, if◌then◌else◌, List, [], ◌∷◌, Option, Some, None, Err, nat_lt}
+use Rattle.dw_board.specs.Geometry.{Geometry}
+use Rattle.dw_notation.specs.Lines.{lines_of, whole_lines_of, without_mark}
+use Rattle.dw_notation.specs.Found.{Found, all_found}
+use Rattle.dw_notation.specs.declared.problems.TheConstants.{MAX_PROBLEMS}
+use Rattle.dw_notation.specs.declared.problems.Problem.{Problem}
+use Rattle.dw_notation.specs.declared.problems.Form.{Form}
+use Rattle.dw_notation.specs.declared.problems.Form.TheVariants.{Fens}
+use Rattle.dw_notation.specs.declared.problems.ProblemFault.TheVariants.{TooManyProblems}
+
+-- a numbered problem of a text
+pub record Numbered : Type 0 where
+  pub number : ℕ
+  pub found : Found
+
+-- what a problem handed out says, whatever the type of its board
+abbrev pub numbered : {B : Type 0} → Problem B → Numbered
+numbered problem = record { number = problem.number; found = problem.found }
+
+-- the problem handed out, if there is one
+abbrev pub numbered_in : {B : Type 0} → Option (Problem B) → List Numbered
+numbered_in None = []
+numbered_in (Some problem) = numbered problem ∷ []
+
+-- problems are numbered on from those handed out; one more than there may be is a fault, and it is the last
+abbrev pub number_from : ℕ → List Found → List Numbered
+number_from handed [] = []
+number_from handed (found ∷ more) =
+    if nat_lt handed MAX_PROBLEMS then record { number = handed + 1; found = found } ∷ number_from (handed + 1) more
+    else (if handed == MAX_PROBLEMS then record { number = handed + 1; found = Err TooManyProblems } ∷ [] else [])
+
+-- the problems of a text
+abbrev pub problems_of : Geometry → Form → List ℕ → List Numbered
+problems_of g Fens bytes = number_from 0 (all_found g (lines_of (without_mark bytes)))
+
+-- those of them that a line feed ends
+abbrev pub ended_problems_of : Geometry → Form → List ℕ → List Numbered
+ended_problems_of g Fens bytes = number_from 0 (all_found g (whole_lines_of (without_mark bytes)))

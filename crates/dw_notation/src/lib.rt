@@ -1,0 +1,8 @@
+//! Texts of draughts: where bytes come from and go, and the problems of a byte text.
+//!
+//! Everything is generic over the board. No call takes memory.
+#![tactic(auto)]
+
+pub mod problems;
+pub mod streams;
+pub mod writes;
