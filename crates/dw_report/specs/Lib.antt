@@ -1,2 +1,3 @@
+pub mod Chosen
 pub mod Report
 pub mod Running

@@ -1,5 +1,5 @@
 -- The report: for each chosen problem, in order, its text.
-use Rattle.std.specs.Prelude.{ℕ, ◌==◌, Bool, true, Option, Some, None, Result, Ok, Err, List, [], ◌++◌, filter, codes, decimal}
+use Rattle.std.specs.Prelude.{ℕ, Option, Result, Ok, Err, List, [], ◌++◌, filter, codes, decimal}
 use Rattle.std.specs.List.{flat_map}
 use Rattle.dw_board.specs.Geometry.{Geometry}
 use Rattle.dw_board.specs.FenText.{written}
@@ -11,6 +11,7 @@ use Rattle.dw_notation.specs.Found.{Found}
 use Rattle.dw_notation.specs.Problems.{Numbered, problems_of}
 use Rattle.dw_notation.specs.declared.problems.ProblemFault.{ProblemFault}
 use Rattle.dw_notation.specs.declared.problems.ProblemFault.TheVariants.{Fen, NoFen, TwoFens, WrongGame, LineTooLong, SectionTooLong, UnclosedTag, UnclosedComment, TooManyProblems}
+use Rattle.dw_report.specs.Chosen.{number_is_chosen}
 use Rattle.dw_report.specs.declared.settings.Command.{Command}
 use Rattle.dw_report.specs.declared.settings.Command.TheVariants.{Show}
 use Rattle.dw_report.specs.declared.settings.Settings.{Settings}
@@ -56,11 +57,6 @@ further_lines g Show (Err fault) = []
 
 unfoldable pub problem_text : Geometry → Command → Numbered → List ℕ
 problem_text g command problem = first_line g problem ++ further_lines g command problem.found
-
--- all problems are chosen, or the one of a number
-abbrev pub number_is_chosen : Option ℕ → ℕ → Bool
-number_is_chosen None number = true
-number_is_chosen (Some only) number = number == only
 
 abbrev pub chosen : Option ℕ → List Numbered → List Numbered
 chosen only problems = filter (λ problem. number_is_chosen only problem.number) problems

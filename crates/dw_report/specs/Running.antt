@@ -6,6 +6,7 @@ use Rattle.dw_board.specs.Geometry.{Geometry}
 use Rattle.dw_notation.specs.Problems.{Numbered, problems_of, ended_problems_of}
 use Rattle.dw_notation.specs.Writes.{IsBeginning}
 use Rattle.dw_notation.specs.declared.problems.TheConstants.{MAX_PROBLEMS}
+use Rattle.dw_report.specs.Chosen.{number_is_asked}
 use Rattle.dw_report.specs.Report.{report, report_on, chosen}
 use Rattle.dw_report.specs.declared.settings.Settings.{Settings}
 use Rattle.dw_report.specs.declared.settings.Summary.{Summary}
@@ -14,8 +15,7 @@ use Rattle.dw_report.specs.declared.settings.RunFault.TheVariants.{Read, Write}
 
 -- the problem that was asked for by its number
 abbrev pub is_asked : Option ℕ → Numbered → Bool
-is_asked None problem = false
-is_asked (Some only) problem = problem.number == only
+is_asked only problem = number_is_asked only problem.number
 
 -- the problems up to the one asked for
 abbrev pub up_to_asked : Option ℕ → List Numbered → List Numbered

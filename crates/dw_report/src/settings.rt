@@ -1,6 +1,6 @@
 //! What a run is asked to do, and what it did.
 ghost use Rattle.std.specs.Prelude.{◌≡◌};
-ghost use Rattle.dw_report.specs.Report.{number_is_chosen};
+ghost use Rattle.dw_report.specs.Chosen.{number_is_chosen, number_is_asked};
 
 use dw_notation::problems::Form;
 use thiserror::Error;
@@ -29,6 +29,16 @@ impl Settings {
     {
         match self.only {
             None => true,
+            Some(only) => number == only,
+        }
+    }
+
+    /// Whether the problem of this number is the one that was asked for: reading ends behind it.
+    pub fn asks_for(&self, number: u32) -> bool
+        ensures { result ≡ number_is_asked self.now.only number }
+    {
+        match self.only {
+            None => false,
             Some(only) => number == only,
         }
     }

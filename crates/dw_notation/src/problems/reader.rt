@@ -1,5 +1,5 @@
 //! The reader of problems.
-ghost use Rattle.std.specs.Prelude.{◌≡◌, ℕ, ◌+◌, ◌<◌, ◌≤◌, ◌||◌, List, [], Bool, true, false, IfSome, IfOk, IsErr, is_err};
+ghost use Rattle.std.specs.Prelude.{◌≡◌, ℕ, ◌+◌, ◌<◌, ◌≤◌, ◌||◌, List, [], Bool, true, false, length, option_to_list, IfSome, IfOk, IsErr, is_err};
 
 use super::cutter::Cutter;
 use super::{Form, MAX_PROBLEMS, Problem, ReadFault};
@@ -75,7 +75,8 @@ impl<'a, B: Board, S: Source> Problems<'a, B, S> {
         ensures stopped { IsErr result → HasStopped (S.is_failed (source_of self.new)) (cutter_of self.new) }
         ensures again { HasStopped (S.is_failed (source_of self.old)) (cutter_of self.old) → IsErr result }
         ensures stays { has_met_end (cutter_of self.old) ≡ true → has_met_end (cutter_of self.new) ≡ true }
-        ensures counted { IfOk result (λ o. IfSome o (λ problem. (problem.number ≡ handed_count (cutter_of self.new)) × (handed_count (cutter_of self.new) ≡ handed_count (cutter_of self.old) + 1) × (handed_count (cutter_of self.old) ≤ MAX_PROBLEMS))) }
+        ensures number { IfOk result (λ o. IfSome o (λ problem. (problem.number ≡ handed_count (cutter_of self.new)) × (handed_count (cutter_of self.old) ≤ MAX_PROBLEMS))) }
+        ensures counted { IfOk result (λ o. handed_count (cutter_of self.new) ≡ handed_count (cutter_of self.old) + length (option_to_list o)) }
     {
         'lines: loop {
             if self.cutter.handed() > MAX_PROBLEMS {

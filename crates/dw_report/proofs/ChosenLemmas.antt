@@ -1,0 +1,115 @@
+-- Lemmas on the problems that are chosen.
+use Rattle.std.proofs.Common.{◌≡◌, ℕ, zero, suc, ◌+◌, ◌<◌, ◌≤◌, ◌≢◌, inl, inr, List, [], ◌∷◌, ◌++◌, length, Bool, true, false, ◌||◌, Option, Some, None, Err, refl, sym, ap, ◌∙◌, append_assoc, append-nil, arith, subst, count_by, cond, eqb, ltb, length-append, is_err}
+use Rattle.std.specs.Prelude.{filter}
+use Rattle.std.specs.List.{list_any, flat_map}
+use Rattle.std.proofs.lemmas.List.Elements.{filter-append}
+use Rattle.std.proofs.lemmas.List.Folds.{list_any-append}
+use Rattle.std.proofs.lemmas.Grind.{flat_map-append}
+use Rattle.std.proofs.lemmas.List.Sums.{sum_by-append}
+use Rattle.std.proofs.lemmas.Bool.{cases_Bool, eqb-true, ne_eqb, eq-eqb, true≢false, or_cases, or_left, or_right}
+use Rattle.dw_board.specs.Geometry.{Geometry}
+use Rattle.dw_notation.specs.Found.{Found}
+use Rattle.dw_notation.specs.Problems.{Numbered, number_from, problems_of}
+use Rattle.dw_notation.specs.declared.problems.TheConstants.{MAX_PROBLEMS}
+use Rattle.dw_notation.specs.declared.problems.ProblemFault.TheVariants.{TooManyProblems}
+use Rattle.dw_notation.specs.declared.problems.Form.{Form}
+use Rattle.dw_notation.specs.declared.problems.Form.TheVariants.{Fens}
+use Rattle.dw_report.specs.Chosen.{number_is_chosen}
+use Rattle.dw_report.specs.Report.{chosen, report_on, problem_text}
+use Rattle.dw_report.specs.Running.{is_asked, up_to_asked, is_refused}
+use Rattle.dw_report.specs.declared.settings.Settings.{Settings}
+
+-- problems are numbered one by one, behind so many
+abbrev pub AreNumbered : ℕ → List Numbered → Type 0
+AreNumbered n [] = Unit {0}
+AreNumbered n (problem ∷ problems) = (problem.number ≡ n + 1) × AreNumbered (n + 1) problems
+
+numbered_cases : (handed : ℕ) (room last : Bool) (here one : Numbered) (rest : List Numbered) → AreNumbered (handed + 1) rest → here.number ≡ handed + 1 → one.number ≡ handed + 1
+    → AreNumbered handed (cond room (here ∷ rest) (cond last (one ∷ []) []))
+numbered_cases handed true last here one rest are is it = (is, are)
+numbered_cases handed false true here one rest are is it = (it, tt)
+numbered_cases handed false false here one rest are is it = tt
+
+pub number_from-AreNumbered : (handed : ℕ) (found : List Found) → AreNumbered handed (number_from handed found)
+number_from-AreNumbered handed [] = tt
+number_from-AreNumbered handed (f ∷ found) =
+    numbered_cases handed (ltb handed MAX_PROBLEMS) (eqb handed MAX_PROBLEMS) (record { number = handed + 1; found = f }) (record { number = handed + 1; found = Err TooManyProblems })
+    (number_from (handed + 1) found) (number_from-AreNumbered (handed + 1) found) refl refl
+
+pub problems_of-AreNumbered : (g : Geometry) (form : Form) (bytes : List ℕ) → AreNumbered 0 (problems_of g form bytes)
+problems_of-AreNumbered g Fens bytes = number_from-AreNumbered 0 _
+
+pub AreNumbered-behind : (n : ℕ) (xs ys : List Numbered) → AreNumbered n (xs ++ ys) → AreNumbered (n + length xs) ys
+AreNumbered-behind n [] ys h = let e : n ≡ n + 0 = omega arith in subst (λ k. AreNumbered k ys) e h
+AreNumbered-behind n (x ∷ xs) ys h = let e : n + 1 + length xs ≡ n + suc (length xs) = omega arith in subst (λ k. AreNumbered k ys) e (AreNumbered-behind (n + 1) xs ys h.1)
+
+-- behind a number no problem has it
+pub none_behind : (only n : ℕ) (problems : List Numbered) → only ≤ n → AreNumbered n problems → list_any (is_asked (Some only)) problems ≡ false
+none_behind only n [] h are = refl
+none_behind only n (p ∷ problems) h are =
+    let apart : eqb p.number only ≡ false = ne_eqb _ _ (λ e. omega (arith, are.0)) in
+    rw apart (none_behind only (n + 1) problems (omega arith) are.1)
+
+-- where none is asked for, none is chosen
+pub chosen-none : (only : ℕ) (problems : List Numbered) → list_any (is_asked (Some only)) problems ≡ false → chosen (Some only) problems ≡ []
+chosen-none only [] h = refl
+chosen-none only (p ∷ problems) h = elim (cases_Bool (eqb p.number only)) [
+  | inl hit ↦ absurd (true≢false (sym (or_left _ _ hit) ∙ h))
+  | inr other ↦ rw other (chosen-none only problems (sym (rw other refl) ∙ h))
+]
+
+pub up_to_asked-none : (only : Option ℕ) (problems : List Numbered) → list_any (is_asked only) problems ≡ false → up_to_asked only problems ≡ problems
+up_to_asked-none only [] h = refl
+up_to_asked-none only (p ∷ problems) h = elim (cases_Bool (is_asked only p)) [
+  | inl hit ↦ absurd (true≢false (sym (or_left _ _ hit) ∙ h))
+  | inr other ↦ rw other (ap (λ l. p ∷ l) (up_to_asked-none only problems (sym (rw other refl) ∙ h)))
+]
+
+pub up_to_asked-here : (only : Option ℕ) (front back : List Numbered) (p : Numbered) → list_any (is_asked only) front ≡ false → is_asked only p ≡ true
+    → up_to_asked only (front ++ p ∷ back) ≡ front ++ p ∷ []
+up_to_asked-here only [] back p h asked = rw asked refl
+up_to_asked-here only (q ∷ front) back p h asked = elim (cases_Bool (is_asked only q)) [
+  | inl hit ↦ absurd (true≢false (sym (or_left _ _ hit) ∙ h))
+  | inr other ↦ rw other (ap (λ l. q ∷ l) (up_to_asked-here only front back p (sym (rw other refl) ∙ h) asked))
+]
+
+-- ---- one problem more
+pub chosen-push : (only : Option ℕ) (front : List Numbered) (p : Numbered) → chosen only (front ++ p ∷ []) ≡ chosen only front ++ chosen only (p ∷ [])
+chosen-push only front p = filter-append (λ q. number_is_chosen only q.number) front (p ∷ [])
+
+pub any-push : (only : Option ℕ) (front : List Numbered) (p : Numbered) → list_any (is_asked only) front ≡ false → is_asked only p ≡ false → list_any (is_asked only) (front ++ p ∷ []) ≡ false
+any-push only front p h other = list_any-append (is_asked only) front (p ∷ []) ∙ rw (h, other) refl
+
+pub any-here : (only : Option ℕ) (front back : List Numbered) (p : Numbered) → is_asked only p ≡ true → list_any (is_asked only) (front ++ p ∷ back) ≡ true
+any-here only front back p hit = list_any-append (is_asked only) front (p ∷ back) ∙ or_right _ _ (or_left _ _ hit)
+
+pub report_on-append : (g : Geometry) (s : Settings) (front back : List Numbered) → report_on g s (front ++ back) ≡ report_on g s front ++ report_on g s back
+report_on-append g s front back =
+    ap (flat_map (problem_text g s.command)) (filter-append (λ q. number_is_chosen s.only q.number) front back) ∙ flat_map-append (problem_text g s.command) (chosen s.only front) (chosen s.only back)
+
+-- behind the problem that was asked for nothing is chosen
+pub chosen-asked : (only : Option ℕ) (front back : List Numbered) (p : Numbered) → AreNumbered 0 (front ++ p ∷ back) → is_asked only p ≡ true → chosen only back ≡ []
+chosen-asked None front back p are hit = cc
+chosen-asked (Some only) front back p are hit =
+    let here = AreNumbered-behind 0 front (p ∷ back) are in
+    chosen-none only back (none_behind only (0 + length front + 1) back (omega (arith, here.0, eqb-true _ _ hit)) here.1)
+
+pub chosen-through : (only : Option ℕ) (front back : List Numbered) (p : Numbered) → AreNumbered 0 (front ++ p ∷ back) → is_asked only p ≡ true
+    → chosen only (front ++ p ∷ back) ≡ chosen only (front ++ p ∷ [])
+chosen-through only front back p are hit =
+    ap (chosen only) (sym (append_assoc front (p ∷ []) back))
+    ∙ (filter-append (λ q. number_is_chosen only q.number) (front ++ p ∷ []) back
+    ∙ (ap (λ l. chosen only (front ++ p ∷ []) ++ l) (chosen-asked only front back p are hit) ∙ append-nil (chosen only (front ++ p ∷ []))))
+
+count_by-append : (xs ys : List Numbered) → count_by is_refused (xs ++ ys) ≡ count_by is_refused xs + count_by is_refused ys
+count_by-append xs ys = sum_by-append (λ x. cond (is_refused x) 1 0) xs ys
+
+pub count_by-one : (p : Numbered) (n : ℕ) → n + count_by is_refused (p ∷ []) ≡ cond (is_refused p) (n + 1) n
+count_by-one p n = elim (is_refused p) as (λ v. n + (0 + cond v 1 0) ≡ cond v (n + 1) n) [ true ↦ omega arith | false ↦ omega arith ]
+
+pub count_by-push : (only : Option ℕ) (front : List Numbered) (p : Numbered)
+    → count_by is_refused (chosen only (front ++ p ∷ [])) ≡ count_by is_refused (chosen only front) + count_by is_refused (chosen only (p ∷ []))
+count_by-push only front p = ap (count_by is_refused) (chosen-push only front p) ∙ count_by-append (chosen only front) (chosen only (p ∷ []))
+
+pub length-chosen-push : (only : Option ℕ) (front : List Numbered) (p : Numbered) → length (chosen only (front ++ p ∷ [])) ≡ length (chosen only front) + length (chosen only (p ∷ []))
+length-chosen-push only front p = ap length (chosen-push only front p) ∙ length-append (chosen only front) (chosen only (p ∷ []))

@@ -1,0 +1,2 @@
+pub mod ChosenLemmas
+pub mod Runs

@@ -1,0 +1,79 @@
+use Rattle.std.proofs.Common.{◌≡◌, ◌+◌, ℕ, true, false, Option, Some, Ok, List, [], ◌∷◌, length, count_by, rules, arith, sym, ◌∙◌, ap, add-zero}
+use Rattle.dw_notation.specs.Problems.{Numbered, numbered}
+use Rattle.dw_notation.specs.Cutting.{handed_count, has_met_end}
+use Rattle.dw_notation.specs.Reading.{source_of, cutter_of}
+use Rattle.dw_report.specs.Report.{chosen}
+use Rattle.dw_report.specs.Running.{is_refused}
+use Rattle.dw_report.proofs.Runs.{SoFar-start, SoFar-more, SoFar-next, SoFar-asked, SoFar-end, SoFar-write, CountsOne, failed-at_ok, count-le-length, length-chosen-le}
+use Rattle.dw_report.proofs.run.run.Goals as goal
+
+pub problems-init : goal.problems-init
+problems-init g c =
+    let new = c.new-problems.ensures in
+    let zero = c.default-summary.ensures in
+    record {
+      lender = search rules;
+      so_far = SoFar-start _ _ _ _ (cutter_of c.new-problems.result) c.default-summary.result new.met_end new.to_come new.ended new.handed zero.0 zero.1.0 zero.1.1;
+      end = λ met. let bad : true ≡ false = sym met ∙ new.met_end in cc;
+      source = search rules;
+      sink = search rules;
+      read = search rules;
+      shown = omega (arith, zero.1.0);
+      refused = omega (arith, zero.1.1);
+      bound = omega (arith, new.handed);
+    }
+
+pub returns-in-Ok-None-clause-report : goal.returns-in-Ok-None-clause-report
+returns-in-Ok-None-clause-report g c =
+    let so_far = c.problems.invariant in
+    let given = rw c.in-Ok-None.field-0-is at c.in-Ok-None.ensures.given in
+    let counted = rw c.in-Ok-None.field-0-is at c.in-Ok-None.ensures.counted in
+    let ends = SoFar-end _ _ _ _ _ _ _ (cutter_of c.problems.problems) (cutter_of c.next.new.self) c.problems.summary given.read so_far.so_far given.took
+    (record { none = given.gives.0; why = given.gives.2 }) (c.next.ensures.end so_far.end) (counted ∙ add-zero _) in
+    search rules
+
+pub returns-in-Err-report_problem-clause-report : goal.returns-in-Err-report_problem-clause-report
+returns-in-Err-report_problem-clause-report g c =
+    let so_far = c.problems.invariant in
+    let given = rw c.in-Ok-Some.field-0-is at c.in-Ok-Some.ensures.given in
+    let stops = SoFar-write _ _ _ _ _ _ _ _ (cutter_of c.problems.problems) (cutter_of c.next.new.self) c.problems.summary (numbered c.in-Ok-Some.problem) given.read so_far.so_far given.took
+    given.gives (c.next.ensures.end so_far.end) c.next.ensures.stays c.in-Err-report_problem.ensures.err in
+    search rules
+
+pub returns-then-asks_for-clause-report : goal.returns-then-asks_for-clause-report
+returns-then-asks_for-clause-report g c =
+    let so_far = c.problems.invariant in
+    let given = rw c.in-Ok-Some.field-0-is at c.in-Ok-Some.ensures.given in
+    let counted = rw c.in-Ok-Some.field-0-is at c.in-Ok-Some.ensures.counted in
+    let counts : CountsOne c.args.settings.now c.problems.summary c.in-Ok.counted (numbered c.in-Ok-Some.problem) =
+    record { read = c.in-Ok.ensures.read; shown = c.in-Ok.ensures.shown; refused = c.in-Ok.ensures.refused } in
+    let more = SoFar-more _ _ _ _ _ _ _ _ (cutter_of c.problems.problems) (cutter_of c.next.new.self) c.problems.summary c.in-Ok.counted (numbered c.in-Ok-Some.problem) given.read
+    so_far.so_far given.took given.gives (c.next.ensures.end so_far.end) c.next.ensures.stays counted c.in-Ok.ensures.ok counts in
+    let ends = SoFar-asked _ _ _ _ _ _ (cutter_of c.next.new.self) c.in-Ok.counted (numbered c.in-Ok-Some.problem) more (sym c.asks_for.ensures ∙ c.if-asks_for.true) in
+    search rules
+
+pub problems-preserved : goal.problems-preserved
+problems-preserved g c =
+    let so_far = c.problems.invariant in
+    let given = rw c.in-Ok-Some.field-0-is at c.in-Ok-Some.ensures.given in
+    let counted = rw c.in-Ok-Some.field-0-is at c.in-Ok-Some.ensures.counted in
+    let number = rw c.in-Ok-Some.field-0-is at c.in-Ok-Some.ensures.number in
+    let one : Numbered = numbered c.in-Ok-Some.problem in
+    let counts : CountsOne c.args.settings.now c.problems.summary c.in-Ok.counted one =
+    record { read = c.in-Ok.ensures.read; shown = c.in-Ok.ensures.shown; refused = c.in-Ok.ensures.refused } in
+    let end = c.next.ensures.end so_far.end in
+    let more = SoFar-more _ _ _ _ _ _ _ _ (cutter_of c.problems.problems) (cutter_of c.next.new.self) c.problems.summary c.in-Ok.counted one given.read
+    so_far.so_far given.took given.gives end c.next.ensures.stays counted c.in-Ok.ensures.ok counts in
+    let few = length-chosen-le c.args.settings.now.only one in
+    let refused = count-le-length c.args.settings.now.only one in
+    record {
+      lender = search rules;
+      so_far = SoFar-next _ _ _ _ _ _ (cutter_of c.next.new.self) c.in-Ok.counted one more (sym c.asks_for.ensures ∙ c.if-asks_for.false);
+      end = end;
+      source = failed-at_ok _ _ _ _ c.next.ensures.failed c.in-Ok-Some.is so_far.source;
+      sink = c.in-Ok.ensures.kept ∙ so_far.sink;
+      read = omega (arith, counts.read, so_far.read, counted);
+      shown = omega (arith, counts.read, counts.shown, so_far.shown, few);
+      refused = omega (arith, counts.shown, counts.refused, so_far.refused, refused);
+      bound = omega (arith, counted, number.1);
+    }

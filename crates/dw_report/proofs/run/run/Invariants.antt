@@ -1,0 +1,25 @@
+use Rattle.std.proofs.Common.{◌≡◌, ◌≤◌, ◌-◌, false}
+use Rattle.dw_notation.specs.Cutting.{EndIsTrue, handed_count}
+use Rattle.dw_notation.specs.Reading.{lender, source_of, cutter_of}
+use Rattle.dw_report.proofs.Runs.{SoFar}
+use Rattle.dw_report.proofs.run.run.Given as goal
+
+abbrev pub invariant-problems : goal.invariant-problems
+invariant-problems g l =
+    let source = g.S.Source in
+    let sink = g.K.Sink in
+    record {
+      lender : lender l.problems ≡ lender l.initial.problems;
+      so_far : SoFar g.B.Board.geometry l.settings (source.coming (source_of l.initial.problems)) (source.coming (source_of l.problems))
+          (sink.taken l.initial.sink) (sink.taken l.sink) (cutter_of l.problems) l.summary;
+      end : EndIsTrue (source.coming (source_of l.problems)) (cutter_of l.problems);
+      source : source.is_failed (source_of l.problems) ≡ false;
+      sink : sink.is_failed l.sink ≡ false;
+      read : l.summary.problems ≡ handed_count (cutter_of l.problems);
+      shown : l.summary.shown ≤ l.summary.problems;
+      refused : l.summary.refused ≤ l.summary.shown;
+      bound : handed_count (cutter_of l.problems) ≤ 1000001;
+    }
+
+abbrev pub decreases-problems : goal.decreases-problems
+decreases-problems g l = 1000001 - handed_count (cutter_of l.problems)
