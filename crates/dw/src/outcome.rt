@@ -1,0 +1,94 @@
+//! How the program ends: its exit status, and the line on standard error.
+ghost use Rattle.std.specs.Prelude.{◌≡◌};
+ghost use Rattle.dw.specs.Outcome.{outcome_of, done_of};
+
+use dw_report::settings::{RunFault, Summary};
+use std::fmt;
+use std::fmt::{Display, Formatter};
+
+/// How the program ended. `T` is the type of the texts that its line names.
+#[derive(Clone, Copy)]
+pub enum Ending<T> {
+    /// Help was asked for, and written.
+    Help,
+    /// Help was asked for, and standard output failed.
+    HelpNotWritten,
+    /// The words are no command; the text says why.
+    Words(T),
+    /// Memory was refused before the run.
+    Memory,
+    /// This FILE could not be opened.
+    NotOpened(T),
+    /// The run ended.
+    Ran(Result<Summary, RunFault>),
+}
+
+/// What is written on standard error.
+#[derive(Clone, Copy)]
+pub enum Message<T> {
+    /// Why the words are no command, with its own line ends.
+    Words(T),
+    Memory,
+    NotOpened(T),
+    NoProblem(u32),
+    ReadFailed,
+    WriteFailed,
+}
+
+impl<T: Display> Display for Message<T> {
+    fn fmt<W: fmt::Write>(&self, f: &mut Formatter<W>) -> fmt::Result {
+        match self {
+            Message::Words(text) => write!(f, "{text}"),
+            Message::Memory => write!(f, "dw: stopped: 1 memory, 0 expanded\n"),
+            Message::NotOpened(file) => write!(f, "dw: cannot open {file}\n"),
+            Message::NoProblem(number) => write!(f, "dw: no problem {number}\n"),
+            Message::ReadFailed => write!(f, "dw: read failed\n"),
+            Message::WriteFailed => write!(f, "dw: write failed\n"),
+        }
+    }
+}
+
+/// The exit status, 0 to 3, and what is written on standard error.
+#[derive(Clone, Copy)]
+pub struct Exit<T> {
+    pub status: u8,
+    pub message: Option<Message<T>>,
+}
+
+/// The status and the message for an ending; `only` is the number of the problem that was asked for.
+///
+/// Status 0 is done, 1 that something was refused or is not there, 2 that the words are no command, 3 that
+/// the program was stopped or a stream failed.
+pub fn outcome<T: Copy>(ending: Ending<T>, only: Option<u32>) -> Exit<T>
+    ensures { result ≡ outcome_of ending only }
+{
+    match ending {
+        Ending::Help => ends(0, None),
+        Ending::HelpNotWritten => ends(3, Some(Message::WriteFailed)),
+        Ending::Words(text) => ends(2, Some(Message::Words(text))),
+        Ending::Memory => ends(3, Some(Message::Memory)),
+        Ending::NotOpened(file) => ends(3, Some(Message::NotOpened(file))),
+        Ending::Ran(Err(RunFault::Read)) => ends(3, Some(Message::ReadFailed)),
+        Ending::Ran(Err(RunFault::Write)) => ends(3, Some(Message::WriteFailed)),
+        Ending::Ran(Ok(summary)) => done(summary, only),
+    }
+}
+
+/// The outcome of a run that ended by itself.
+fn done<T: Copy>(summary: Summary, only: Option<u32>) -> Exit<T>
+    ensures { result ≡ done_of summary only }
+{
+    if summary.refused > 0 {
+        return ends(1, None);
+    }
+    match only {
+        Some(number) if summary.shown == 0 => ends(1, Some(Message::NoProblem(number))),
+        _ => ends(0, None),
+    }
+}
+
+fn ends<T: Copy>(status: u8, message: Option<Message<T>>) -> Exit<T>
+    ensures { result ≡ record { status = status; message = message } }
+{
+    Exit { status, message }
+}
