@@ -10,6 +10,7 @@ pub mod FenTokens
 pub mod FenBlanks
 pub mod FenReader
 pub mod Fen
+pub mod FenGrammar
 pub mod FenText
 pub mod Diagram
 pub mod Laws
