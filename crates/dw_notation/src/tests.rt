@@ -1,4 +1,4 @@
-use crate::problems::{Form, Problems, ProblemFault, ReadFault};
+use crate::problems::{Form, ProblemFault, Problems, ReadFault};
 use crate::streams::{Reading, Sink, Writing};
 use crate::writes::{WriteFault, write_all};
 use dw_board::board::{Board, Eight, Ten};
@@ -48,7 +48,11 @@ impl io::Read for Chopped<'_> {
 
 // A letter for each of some calls of `next`: a line too long, a text too long for FEN, one problem too many,
 // any other problem, the end, a failure; `?` for a wrong number.
-fn letters<B: Board, R: io::Read + Drop>(alloc: Global, reader: R, calls: usize) -> Result<Vec<u8>, Fail> {
+fn letters<B: Board, R: io::Read + Drop>(
+    alloc: Global,
+    reader: R,
+    calls: usize,
+) -> Result<Vec<u8>, Fail> {
     let mut source = Reading::new(reader);
     let mut problems: Problems<'_, B, Reading<R>> = Problems::new(&mut source, Form::Fens);
     let mut all = Vec::new(alloc);
@@ -60,10 +64,14 @@ fn letters<B: Board, R: io::Read + Drop>(alloc: Global, reader: R, calls: usize)
             Ok(Some(problem)) => match problem.found {
                 Err(ProblemFault::LineTooLong) => b'L',
                 Err(ProblemFault::TooManyProblems) => b'9',
-                Err(ProblemFault::Fen(FenFault {
-                    what: FenFaultKind::TooLong,
-                    place: 1025,
-                })) => b'T',
+                Err(
+                    ProblemFault::Fen(
+                        FenFault {
+                            what: FenFaultKind::TooLong,
+                            place: 1025,
+                        },
+                    ),
+                ) => b'T',
                 _ => b'P',
             },
         };
@@ -95,7 +103,11 @@ fn cuts_lines(rt: HostRuntime) -> Result<(), Fail> {
         for step in [1, 2, 7, 9000] {
             let ten = letters::<Ten, _>(rt.alloc(), Chopped::new(text, step, 0, 0), want.len())?;
             assert_eq!(rt; ten.as_slice(), want, "{step} bytes a read");
-            let eight = letters::<Eight, _>(rt.alloc(), Chopped::new(text, step, 0, 0), want.len())?;
+            let eight = letters::<Eight, _>(
+                rt.alloc(),
+                Chopped::new(text, step, 0, 0),
+                want.len(),
+            )?;
             assert_eq!(rt; eight.as_slice(), want, "{step} bytes a read");
         }
     }
@@ -133,8 +145,16 @@ fn measures_lines(rt: HostRuntime) -> Result<(), Fail> {
         }
         text.extend_from_slice(end)?;
         for step in [1, 7, 9000] {
-            let found = letters::<Ten, _>(rt.alloc(), Chopped::new(text.as_slice(), step, 0, 0), 2)?;
-            assert_eq!(rt; found.as_slice(), [want, b'.'].as_slice(), "{count} of {byte}");
+            let found = letters::<Ten, _>(
+                rt.alloc(),
+                Chopped::new(text.as_slice(), step, 0, 0),
+                2,
+            )?;
+            assert_eq!(rt;
+                found.as_slice(),
+                [want, b'.'].as_slice(),
+                "{count} of {byte}"
+            );
         }
     }
     Ok(())
