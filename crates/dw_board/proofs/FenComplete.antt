@@ -47,18 +47,18 @@ two_signs (x ∷ y ∷ w) a b h k = cc
 
 apart : (w : Word) (a b : ℕ) → eqb a b ≡ false → is_sign a w ≡ true → is_sign b w ≡ false
 apart w a b ne h = elim (cases_Bool (is_sign b w)) [
-    | inl k ↦ true-false (sym (eq-eqb a b (two_signs w a b h k)) ∙ ne)
-    | inr k ↦ k
-  ]
+  | inl k ↦ true-false (sym (eq-eqb a b (two_signs w a b h k)) ∙ ne)
+  | inr k ↦ k
+]
 
 some-none : {A B : Type 0} (x : A) → None ≡ Some x → B
 some-none x e = cc
 
 digit_sign : (d sign : ℕ) → is_digit d ≡ true → is_digit sign ≡ false → eqb d sign ≡ false
 digit_sign d sign h k = elim (cases_Bool (eqb d sign)) [
-    | inl e ↦ true-false (sym h ∙ (ap is_digit (eqb-true d sign e) ∙ k))
-    | inr e ↦ e
-  ]
+  | inl e ↦ true-false (sym h ∙ (ap is_digit (eqb-true d sign e) ∙ k))
+  | inr e ↦ e
+]
 
 numbered_digit : (g : Geometry) (b : Bool) (k n : ℕ) → square_numbered g b k ≡ Some n → b ≡ true
 numbered_digit g true k n e = refl
@@ -90,9 +90,9 @@ closes-no_dash : (ws : List Word) → closes ws ≡ true → no_dash ws ≡ true
 unfolding closes no_dash
 closes-no_dash [] h = refl
 closes-no_dash (w ∷ ws) h = elim (or_cases _ _ h) [
-    | inl colon ↦ let k = apart w 58 45 refl colon in rw k refl
-    | inr stopped ↦ let k = apart w 46 45 refl stopped in rw k refl
-  ]
+  | inl colon ↦ let k = apart w 58 45 refl colon in rw k refl
+  | inr stopped ↦ let k = apart w 46 45 refl stopped in rw k refl
+]
 
 comma-no_dash : (w : Word) (ws : List Word) → is_sign 44 w ≡ true → no_dash (w ∷ ws) ≡ true
 unfolding no_dash

@@ -169,25 +169,25 @@ colon_ended g list t s ws p colon is f = colon_cases g list.side list.is_second 
 
 ended : (g : Geometry) (list : Listing) (t : Token) (s : Stage) (ws : List Word) (p : Placement) → item_ended list t ≡ Ok s → Follows g s ws p → Follows g (AfterItem list) (t.text ∷ ws) p
 ended g list t s ws p e f = elim (chosen (is_sign 44 t.text) _ _ _ e) [
-    | inl comma ↦ inr (t.text, ws, refl, comma.0, subst (λ x. Follows g x ws p) (same_ok _ _ _ refl comma.1) f)
-    | inr not_comma ↦ elim (chosen (is_sign 58 t.text) _ _ _ not_comma.1) [
-      | inl colon ↦ inl (colon_ended g list t s ws p colon.0 (same_ok _ _ _ refl colon.1) f)
-      | inr not_colon ↦ elim (chosen (is_sign 46 t.text) _ _ _ not_colon.1) [
-        | inl stopped ↦
-            let h = subst (λ x. Follows g x ws p) (same_ok _ _ _ refl stopped.1) f in
-            inl (end_after g list (t.text ∷ ws) p (subst (λ l. IsEnd (t.text ∷ l)) (sym h.0) (stop stopped.0)) h.1)
-        | inr other ↦ fault-ok _ _ s other.1
-      ]
+  | inl comma ↦ inr (t.text, ws, refl, comma.0, subst (λ x. Follows g x ws p) (same_ok _ _ _ refl comma.1) f)
+  | inr not_comma ↦ elim (chosen (is_sign 58 t.text) _ _ _ not_comma.1) [
+    | inl colon ↦ inl (colon_ended g list t s ws p colon.0 (same_ok _ _ _ refl colon.1) f)
+    | inr not_colon ↦ elim (chosen (is_sign 46 t.text) _ _ _ not_colon.1) [
+      | inl stopped ↦
+          let h = subst (λ x. Follows g x ws p) (same_ok _ _ _ refl stopped.1) f in
+          inl (end_after g list (t.text ∷ ws) p (subst (λ l. IsEnd (t.text ∷ l)) (sym h.0) (stop stopped.0)) h.1)
+      | inr other ↦ fault-ok _ _ s other.1
     ]
   ]
+]
 
 begun : (g : Geometry) (list : Listing) (t : Token) (s : Stage) (ws : List Word) (p : Placement) → item_begun g list t ≡ Ok s → Follows g s ws p → Items g list (t.text ∷ ws) p
 begun g list t s ws p e f = elim (chosen (is_king_letter t.text) _ _ _ e) [
-    | inl king ↦ subst (λ x. Follows g x ws p) (same_ok _ _ _ refl king.1) f t.text king.0
-    | inr man ↦
-        let h = named_ok (number_named g t.text) Number t.place (λ n. Ok (AfterNumber list (record { is_king = false; from = n; place = t.place }))) s man.1 in
-        subst (λ x. Follows g x ws p) (same_ok _ _ _ refl h.2) f t.text h.1
-  ]
+  | inl king ↦ subst (λ x. Follows g x ws p) (same_ok _ _ _ refl king.1) f t.text king.0
+  | inr man ↦
+      let h = named_ok (number_named g t.text) Number t.place (λ n. Ok (AfterNumber list (record { is_king = false; from = n; place = t.place }))) s man.1 in
+      subst (λ x. Follows g x ws p) (same_ok _ _ _ refl h.2) f t.text h.1
+]
 
 -- the first list, and what follows it
 first_then : (g : Geometry) (mover first : Side) (q : Placement) (t c : Word) (ws : List Word) (p : Placement) → q ≡ empty mover → side_named t ≡ Some mover → is_sign 58 c ≡ true
@@ -209,25 +209,25 @@ first_then g mover first q t c ws p is turn colon with =
 second_then : (g : Geometry) (first second : Side) (q : Placement) (d : Word) (ws : List Word) (p : Placement) → is_sign 58 d ≡ true → same_side first second ≡ false
     → WithList g (listing second true q) ws p → After g (listing first false q) (d ∷ ws) p
 second_then g first second q d ws p colon other with = elim with.after [
-    | inl bad ↦ true-false bad.0
-    | inr later ↦ elim later [
-      | inl end ↦ inr (inr (record {
-          is_first = refl;
-          colon = d;
-          vs = with.vs;
-          es = with.tail;
-          second = second;
-          js = with.is;
-          split = ap (λ l. d ∷ l) with.split;
-          sign = colon;
-          items = with.items;
-          other = other;
-          tail = end.1;
-          sets = subst (Sets g q (all_named second with.is)) (sym end.2) with.sets;
-        }))
-      | inr bad ↦ true-false bad.is_first
-    ]
+  | inl bad ↦ true-false bad.0
+  | inr later ↦ elim later [
+    | inl end ↦ inr (inr (record {
+      is_first = refl;
+      colon = d;
+      vs = with.vs;
+      es = with.tail;
+      second = second;
+      js = with.is;
+      split = ap (λ l. d ∷ l) with.split;
+      sign = colon;
+      items = with.items;
+      other = other;
+      tail = end.1;
+      sets = subst (Sets g q (all_named second with.is)) (sym end.2) with.sets;
+    }))
+    | inr bad ↦ true-false bad.is_first
   ]
+]
 
 bare_list : (g : Geometry) (list : Listing) (w : Word) (ws : List Word) (p : Placement) → side_named w ≡ Some list.side → After g list ws p → WithList g list (w ∷ ws) p
 bare_list g list w ws p named after = record { vs = w ∷ []; tail = ws; is = []; q = list.placed; split = refl; items = bare named; sets = refl; after = after }
@@ -264,9 +264,9 @@ step g Start t s ws p e f =
     let h = named_ok (side_named t.text) Turn t.place (λ side. Ok (AfterTurn side)) s e in
     subst (λ x. Follows g x ws p) (same_ok _ _ _ refl h.2) f t.text h.1
 step g (AfterTurn turn) t s ws p e f = λ w named. elim (chosen (is_sign 58 t.text) _ _ _ e) [
-    | inl colon ↦ subst (λ x. Follows g x ws p) (same_ok _ _ _ refl colon.1) f turn refl w t.text named colon.0
-    | inr other ↦ fault-ok _ _ s other.1
-  ]
+  | inl colon ↦ subst (λ x. Follows g x ws p) (same_ok _ _ _ refl colon.1) f turn refl w t.text named colon.0
+  | inr other ↦ fault-ok _ _ s other.1
+]
 step g (AfterColon None q) t s ws p e f = λ mover is w c named colon.
     let h = named_ok (side_named t.text) Colour t.place (list_begun None q t.place) s e in
     first_then g mover h.0 q w c (t.text ∷ ws) p is named colon (subst (λ x. Follows g x ws p) (same_ok _ _ _ refl h.2) f t.text h.1)
@@ -277,24 +277,24 @@ step g (AfterColon (Some first) q) t s ws p e f = λ d colon.
       | inr other ↦ second_then g first h.0 q d (t.text ∷ ws) p colon other.0 (subst (λ x. Follows g x ws p) (same_ok _ _ _ refl other.1) f t.text h.1)
     ]
 step g (AfterColour list) t s ws p e f = λ w named. elim (chosen (is_sign 58 t.text || is_sign 46 t.text) _ _ _ e) [
-    | inl none ↦ elim (ended g list t s ws p none.1 f) [
-      | inl after ↦ bare_list g list w (t.text ∷ ws) p named after
-      | inr items ↦ no_comma_here t.text items.0 ws items.1 none.0 items.3 items.2
-    ]
-    | inr item ↦ full_list g list w (t.text ∷ ws) p named (begun g list t s ws p item.1 f)
+  | inl none ↦ elim (ended g list t s ws p none.1 f) [
+    | inl after ↦ bare_list g list w (t.text ∷ ws) p named after
+    | inr items ↦ no_comma_here t.text items.0 ws items.1 none.0 items.3 items.2
   ]
+  | inr item ↦ full_list g list w (t.text ∷ ws) p named (begun g list t s ws p item.1 f)
+]
 step g (AfterComma list) t s ws p e f = begun g list t s ws p e f
 step g (AfterKing list) t s ws p e f = λ k king.
     let h = named_ok (number_named g t.text) Number t.place (λ n. Ok (AfterNumber list (record { is_king = true; from = n; place = t.place }))) s e in
     subst (λ x. Follows g x ws p) (same_ok _ _ _ refl h.2) f t.text h.1 k king
 step g (AfterNumber list item) t s ws p e f = λ v named. elim (chosen (is_sign 45 t.text) _ _ _ e) [
-    | inl dash ↦ subst (λ x. Follows g x ws p) (same_ok _ _ _ refl dash.1) f v t.text named dash.0
-    | inr other ↦
-        let h = bind_ok (with_item g list item item.from) (λ all. item_ended all t) s other.1 in
-        let set = item_sets g list item item.from h.0 h.1 in
-        range_then g item.is_king list (v ∷ []) (t.text ∷ ws) item.from item.from set.0 p (number named) set.2
-        (subst (λ x. Follows g (AfterItem x) (t.text ∷ ws) p) set.1 (ended g h.0 t s ws p h.2 f))
-  ]
+  | inl dash ↦ subst (λ x. Follows g x ws p) (same_ok _ _ _ refl dash.1) f v t.text named dash.0
+  | inr other ↦
+      let h = bind_ok (with_item g list item item.from) (λ all. item_ended all t) s other.1 in
+      let set = item_sets g list item item.from h.0 h.1 in
+      range_then g item.is_king list (v ∷ []) (t.text ∷ ws) item.from item.from set.0 p (number named) set.2
+      (subst (λ x. Follows g (AfterItem x) (t.text ∷ ws) p) set.1 (ended g h.0 t s ws p h.2 f))
+]
 step g (AfterDash list item) t s ws p e f = λ v d named dash.
     let h = named_ok (number_named g t.text) Number t.place _ s e in
     elim (chosen (ltb h.0 item.from) _ _ _ h.2) [

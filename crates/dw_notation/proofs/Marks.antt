@@ -26,7 +26,7 @@ pub slice_range-cons : (xs : List ℕ) (i j : ℕ) → i < j → j ≤ length xs
 slice_range-cons xs i j low high =
     let e : j - i ≡ (j - (i + 1)) + 1 = omega arith in
     let inside : i < length xs = omega arith in
-    rw (e, drop-cons xs i 0 inside, add-one, add-one) refl
+    rw (e, drop-cons xs i 0 inside, add-one (j - (i + 1)), add-one i) refl
 
 -- one more byte of a mark is passed over
 pub ahead-mark : (at_end : Bool) (g : Geometry) (line buffer more : List ℕ) (i j : ℕ) (front next : Front) → i < j → j ≤ length buffer

@@ -1,5 +1,5 @@
 -- What a reader of problems holds, and what it will hand out.
-use Rattle.std.specs.Prelude.{◌≡◌, ℕ, ◌+◌, ◌*◌, ◌<◌, ◌≤◌, ◌⊎◌, List, [], ◌∷◌, ◌++◌, length, Bool, true, false, Option, Some, None, option_to_list, Result, Ok, Err, MatchBool}
+use Rattle.std.specs.Prelude.{◌≡◌, ℕ, ◌+◌, ◌*◌, ◌<◌, ◌≤◌, ◌⊎◌, List, [], ◌∷◌, ◌++◌, length, Bool, true, false, Option, Some, None, option_to_list, Result, Ok, Err, MatchBool, IfOk, IfSome}
 use Rattle.std.specs.List.{slice_range}
 use Rattle.std.specs.Io.KnownBytes.{Consumes, IsAtEnd}
 use Rattle.dw_board.specs.Geometry.{Geometry}
@@ -55,6 +55,12 @@ pub record NextGives {B : Type 0} (g : Geometry) (coming left : Option (List ℕ
   pub read : List ℕ
   pub took : Consumes coming left read
   pub gives : Gives g old new read result
+
+-- each problem handed out is counted, and has the number of those handed out with it
+abbrev pub IsCounted : {B : Type 0} → Cutter → Cutter → Result (Option (Problem B)) ReadFault → Type 0
+IsCounted old new result = IfOk result (λ found.
+    (handed_count new ≡ handed_count old + length (option_to_list found))
+    × IfSome found (λ problem. (problem.number ≡ handed_count new) × (handed_count old ≤ MAX_PROBLEMS)))
 
 -- the end was met only where the source has nothing left
 abbrev pub EndIsTrue : Option (List ℕ) → Cutter → Type 0

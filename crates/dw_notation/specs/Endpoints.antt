@@ -1,5 +1,6 @@
 -- What a reader or a writer of std shows as a source or a sink.
-use Rattle.std.specs.Prelude.{Bool}
+use Rattle.std.specs.Prelude.{ℕ, ◌-◌, Bool}
+use Rattle.dw_notation.specs.declared.streams.TheConstants.{MAX_READS}
 use Rattle.dw_notation.specs.declared.streams.Reading.{Reading}
 use Rattle.dw_notation.specs.declared.streams.Writing.{Writing}
 
@@ -9,6 +10,10 @@ read_from source = source.reader
 
 abbrev pub has_read_failed : {R : Type 0} → Reading R → Bool
 has_read_failed source = source.has_failed
+
+-- how many reads it still makes
+abbrev pub reads_left : {R : Type 0} → Reading R → ℕ
+reads_left source = MAX_READS - source.reads
 
 -- the writer that a sink writes to
 abbrev pub written_to : {W : Type 0} → Writing W → W

@@ -5,4 +5,6 @@
 
 pub mod problems;
 pub mod streams;
+#[cfg(test)]
+mod tests;
 pub mod writes;

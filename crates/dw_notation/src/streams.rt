@@ -1,5 +1,5 @@
 //! Where bytes come from and where they go.
-ghost use Rattle.std.specs.Prelude.{◌≡◌, ℕ, ◌-◌, ◌<◌, ◌||◌, List, Bool, true, false, length, is_none, IfSome, IsNone, Option};
+ghost use Rattle.std.specs.Prelude.{◌≡◌, ℕ, ◌<◌, ◌||◌, List, Bool, true, false, length, is_none, IfSome, IsNone, Option};
 ghost use Rattle.dw_notation.specs.Streams.{PullTakes, PullFalls, GiveAdds, GiveFails};
 
 use std::io;
@@ -91,12 +91,13 @@ pub struct Reading<R> {
 }
 
 impl<R: io::Read> Reading<R> {
-    ghost use Rattle.dw_notation.specs.Endpoints.{read_from, has_read_failed};
+    ghost use Rattle.dw_notation.specs.Endpoints.{read_from, has_read_failed, reads_left};
 
     /// A source of the bytes that the reader has still to give.
     pub fn new(reader: R) -> Reading<R>
         ensures reader { read_from result ≡ reader }
         ensures sound { has_read_failed result ≡ false }
+        ensures reads { reads_left result ≡ MAX_READS }
     {
         Reading {
             reader,
@@ -107,15 +108,13 @@ impl<R: io::Read> Reading<R> {
 }
 
 impl<R: io::Read> Source for Reading<R> {
-    ghost use Rattle.dw_notation.specs.declared.streams.TheConstants.{MAX_READS};
-    ghost use Rattle.std.specs.Prelude.{◌-◌};
-    ghost use Rattle.dw_notation.specs.Endpoints.{read_from, has_read_failed};
+    ghost use Rattle.dw_notation.specs.Endpoints.{read_from, has_read_failed, reads_left};
 
     ghost coming = { λ s. R.remaining (read_from s) };
 
     ghost is_failed = { λ s. has_read_failed s };
 
-    ghost pulls_left = { λ s. MAX_READS - s.reads };
+    ghost pulls_left = { λ s. reads_left s };
 
     fn pull(&mut self, buffer: &mut [u8]) -> Option<usize> {
         if self.has_failed || self.reads >= MAX_READS {

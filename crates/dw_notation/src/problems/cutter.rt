@@ -67,7 +67,8 @@ impl Cutter {
 
     /// Puts what was passed over of a byte-order mark onto the line: no more of it comes.
     pub(super) fn leave_front(&mut self)
-        ensures line { SaysSame (held_line self.old.line ++ passed_over self.old.front) (held_line self.new.line) }
+        ensures line { SaysSame (held_line self.old.line ++ passed_over self.old.front)
+            (held_line self.new.line) }
         ensures rest { rest_of self.new ≡ rest_of self.old }
         ensures front { self.new.front ≡ Front.Behind }
         ensures handed { self.new.handed ≡ self.old.handed }
@@ -79,7 +80,8 @@ impl Cutter {
 
     /// Passes over a byte-order mark at the text's front, as far as it was read.
     fn pass_mark(&mut self)
-        ensures same { (g : Geometry) (at_end : Bool) (more : List ℕ) → found_ahead at_end g self.old more ≡ found_ahead at_end g self.new more }
+        ensures same { (g : Geometry) (at_end : Bool) (more : List ℕ)
+            → found_ahead at_end g self.old more ≡ found_ahead at_end g self.new more }
         ensures front { (self.new.front ≡ Front.Behind) ⊎ (rest_of self.new ≡ []) }
         ensures shorter { length (rest_of self.new) ≤ length (rest_of self.old) }
         ensures handed { self.new.handed ≡ self.old.handed }
@@ -105,10 +107,13 @@ impl Cutter {
         ensures handed { self.new.handed ≡ self.old.handed }
         ensures met_end { self.new.met_end ≡ self.old.met_end }
         ensures found { result ≡ true → ((g : Geometry) (at_end : Bool) (more : List ℕ) →
-            found_from at_end g (held_line self.old.line) (rest_of self.old ++ more) ≡ option_to_list (line_found g (held_line self.new.line)) ++ found_from at_end g [] (rest_of self.new ++ more)) }
+            found_from at_end g (held_line self.old.line) (rest_of self.old ++ more)
+            ≡ option_to_list (line_found g (held_line self.new.line))
+            ++ found_from at_end g [] (rest_of self.new ++ more)) }
         ensures shorter { result ≡ true → length (rest_of self.new) < length (rest_of self.old) }
         ensures none { result ≡ false → (rest_of self.new ≡ []) × ((g : Geometry) (at_end : Bool) (more : List ℕ) →
-            found_from at_end g (held_line self.old.line) (rest_of self.old ++ more) ≡ found_from at_end g (held_line self.new.line) more) }
+            found_from at_end g (held_line self.old.line) (rest_of self.old ++ more)
+            ≡ found_from at_end g (held_line self.new.line) more) }
     {
         let Cutter {
             ref buffer,
@@ -134,11 +139,14 @@ impl Cutter {
         ensures handed { self.new.handed ≡ self.old.handed }
         ensures met_end { self.new.met_end ≡ self.old.met_end }
         ensures found { result ≡ true → ((g : Geometry) (at_end : Bool) (more : List ℕ) →
-            found_ahead at_end g self.old more ≡ option_to_list (line_found g (held_line self.new.line)) ++ found_from at_end g [] (rest_of self.new ++ more)) }
+            found_ahead at_end g self.old more
+            ≡ option_to_list (line_found g (held_line self.new.line))
+            ++ found_from at_end g [] (rest_of self.new ++ more)) }
         ensures front { result ≡ true → self.new.front ≡ Front.Behind }
         ensures shorter { result ≡ true → length (rest_of self.new) < length (rest_of self.old) }
         ensures none { result ≡ false → rest_of self.new ≡ [] }
-        ensures same { result ≡ false → ((g : Geometry) (at_end : Bool) (more : List ℕ) → found_ahead at_end g self.old more ≡ found_ahead at_end g self.new more) }
+        ensures same { result ≡ false → ((g : Geometry) (at_end : Bool) (more : List ℕ)
+            → found_ahead at_end g self.old more ≡ found_ahead at_end g self.new more) }
     {
         self.pass_mark();
         self.front.is_behind() && self.cut_line()
@@ -152,7 +160,9 @@ impl Cutter {
         ensures front { self.new.front ≡ self.old.front }
         ensures handed { self.new.handed ≡ self.old.handed }
         ensures bytes { Consumes (S.coming source.old) (S.coming source.new) (rest_of self.new) }
-        ensures more { OnOk result (MatchBool self.new.met_end (S.pulls_left source.new ≤ S.pulls_left source.old) (S.pulls_left source.new < S.pulls_left source.old)) }
+        ensures more { OnOk result (MatchBool self.new.met_end
+            (S.pulls_left source.new ≤ S.pulls_left source.old)
+            (S.pulls_left source.new < S.pulls_left source.old)) }
         ensures end { self.new.met_end ≡ true → IsAtEnd (S.coming source.new) }
         ensures none { self.new.met_end ≡ true → rest_of self.new ≡ [] }
         ensures err { IsErr result → (self.new.met_end ≡ false) × (rest_of self.new ≡ []) }
@@ -180,7 +190,9 @@ impl Cutter {
         ensures met_end { self.new.met_end ≡ self.old.met_end }
         ensures handed { self.new.handed ≡ self.old.handed + length (option_to_list result) }
         ensures number { IfSome result (λ problem. problem.number ≡ self.new.handed) }
-        ensures given { (found : _) → number_from self.old.handed (option_to_list (line_found B.geometry (held_line self.old.line)) ++ found) ≡ numbered_in result ++ number_from self.new.handed found }
+        ensures given { (found : _)
+            → number_from self.old.handed (option_to_list (line_found B.geometry (held_line self.old.line)) ++ found)
+            ≡ numbered_in result ++ number_from self.new.handed found }
     {
         let found = self.line.found();
         self.line.clear();

@@ -37,7 +37,8 @@ impl LongLine {
         requires before { before ≤ 4098 }
         requires piece { 0 < length piece.now }
         requires long { 1026 ≤ before + length piece.now }
-        ensures { (line : List ℕ) → length line ≡ before → list_all is_blank line ≡ is_blank_before → SaysSame (line ++ piece.now) (long_bytes result) }
+        ensures { (line : List ℕ) → length line ≡ before → list_all is_blank line ≡ is_blank_before
+            → SaysSame (line ++ piece.now) (long_bytes result) }
     {
         let last = piece.len() - 1;
         let past = (before + piece.len() - SHORTEST).min(MOST_PAST);

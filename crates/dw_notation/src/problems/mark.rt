@@ -35,8 +35,10 @@ impl Front {
 
     /// The front with one more byte of a mark, if it is one.
     pub(super) fn with(self, byte: u8) -> Option<Front>
-        ensures mark { IfSome result (λ front. (bytes : List ℕ) → behind_mark self (byte ∷ bytes) ≡ behind_mark front bytes) }
-        ensures none { IfNone result ((bytes : List ℕ) → behind_mark self (byte ∷ bytes) ≡ passed_over self ++ (byte ∷ bytes)) }
+        ensures mark { IfSome result (λ front. (bytes : List ℕ)
+            → behind_mark self (byte ∷ bytes) ≡ behind_mark front bytes) }
+        ensures none { IfNone result ((bytes : List ℕ)
+            → behind_mark self (byte ∷ bytes) ≡ passed_over self ++ (byte ∷ bytes)) }
     {
         match (self, byte) {
             (Front::Bare, 0xEF) => Some(Front::One),

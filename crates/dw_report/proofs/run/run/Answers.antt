@@ -29,7 +29,7 @@ returns-in-Ok-None-clause-report g c =
     let given = rw c.in-Ok-None.field-0-is at c.in-Ok-None.ensures.given in
     let counted = rw c.in-Ok-None.field-0-is at c.in-Ok-None.ensures.counted in
     let ends = SoFar-end _ _ _ _ _ _ _ (cutter_of c.problems.problems) (cutter_of c.next.new.self) c.problems.summary given.read so_far.so_far given.took
-    (record { none = given.gives.0; why = given.gives.2 }) (c.next.ensures.end so_far.end) (counted ∙ add-zero _) in
+    (record { none = given.gives.0; why = given.gives.2 }) (c.next.ensures.end so_far.end) (counted.0 ∙ add-zero _) in
     search rules
 
 pub returns-in-Err-report_problem-clause-report : goal.returns-in-Err-report_problem-clause-report
@@ -48,7 +48,7 @@ returns-then-asks_for-clause-report g c =
     let counts : CountsOne c.args.settings.now c.problems.summary c.in-Ok.counted (numbered c.in-Ok-Some.problem) =
     record { read = c.in-Ok.ensures.read; shown = c.in-Ok.ensures.shown; refused = c.in-Ok.ensures.refused } in
     let more = SoFar-more _ _ _ _ _ _ _ _ (cutter_of c.problems.problems) (cutter_of c.next.new.self) c.problems.summary c.in-Ok.counted (numbered c.in-Ok-Some.problem) given.read
-    so_far.so_far given.took given.gives (c.next.ensures.end so_far.end) c.next.ensures.stays counted c.in-Ok.ensures.ok counts in
+    so_far.so_far given.took given.gives (c.next.ensures.end so_far.end) c.next.ensures.stays counted.0 c.in-Ok.ensures.ok counts in
     let ends = SoFar-asked _ _ _ _ _ _ (cutter_of c.next.new.self) c.in-Ok.counted (numbered c.in-Ok-Some.problem) more (sym c.asks_for.ensures ∙ c.if-asks_for.true) in
     search rules
 
@@ -57,13 +57,12 @@ problems-preserved g c =
     let so_far = c.problems.invariant in
     let given = rw c.in-Ok-Some.field-0-is at c.in-Ok-Some.ensures.given in
     let counted = rw c.in-Ok-Some.field-0-is at c.in-Ok-Some.ensures.counted in
-    let number = rw c.in-Ok-Some.field-0-is at c.in-Ok-Some.ensures.number in
     let one : Numbered = numbered c.in-Ok-Some.problem in
     let counts : CountsOne c.args.settings.now c.problems.summary c.in-Ok.counted one =
     record { read = c.in-Ok.ensures.read; shown = c.in-Ok.ensures.shown; refused = c.in-Ok.ensures.refused } in
     let end = c.next.ensures.end so_far.end in
     let more = SoFar-more _ _ _ _ _ _ _ _ (cutter_of c.problems.problems) (cutter_of c.next.new.self) c.problems.summary c.in-Ok.counted one given.read
-    so_far.so_far given.took given.gives end c.next.ensures.stays counted c.in-Ok.ensures.ok counts in
+    so_far.so_far given.took given.gives end c.next.ensures.stays counted.0 c.in-Ok.ensures.ok counts in
     let few = length-chosen-le c.args.settings.now.only one in
     let refused = count-le-length c.args.settings.now.only one in
     record {
@@ -72,8 +71,8 @@ problems-preserved g c =
       end = end;
       source = failed-at_ok _ _ _ _ c.next.ensures.failed c.in-Ok-Some.is so_far.source;
       sink = c.in-Ok.ensures.kept ∙ so_far.sink;
-      read = omega (arith, counts.read, so_far.read, counted);
+      read = omega (arith, counts.read, so_far.read, counted.0);
       shown = omega (arith, counts.read, counts.shown, so_far.shown, few);
       refused = omega (arith, counts.shown, counts.refused, so_far.refused, refused);
-      bound = omega (arith, counted, number.1);
+      bound = omega (arith, counted.0, counted.1.1);
     }
