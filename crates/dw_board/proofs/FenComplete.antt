@@ -1,18 +1,18 @@
 -- What is in the grammar is read.
 use Rattle.std.proofs.Common.{◌≡◌, ℕ, suc, zero, ◌+◌, ◌-◌, ◌≤◌, ◌<◌, Bool, true, false, ◌||◌, ◌&&◌, cond, List, [], ◌∷◌, ◌++◌, map, Option, Some, None, is_some, Result, Ok, Err, refl, sym, ap, ◌∙◌, subst, arith, ◌⊎◌, inl, inr, append_assoc, append-nil, ltb, eqb, leb}
 use Rattle.std.specs.List.{range_with_len, flat_map}
-use Rattle.std.proofs.lemmas.Bool.{cases_Bool, true≢false, eqb-true, eq-eqb, or_cases, and_parts, leb-true, ne_eqb}
+use Rattle.std.proofs.lemmas.Bool.{cases_Bool, true≢false, eqb-true, eq-eqb, or_cases, or_right, and_parts, leb-true, ne_eqb}
 use Rattle.dw_board.specs.Geometry.{Geometry}
 use Rattle.dw_board.specs.Placement.{Placement, empty, placed, put_fault, same_side}
 use Rattle.dw_board.specs.FenTokens.{Token, is_sign, side_named, is_king_letter, number_named, is_digit, square_numbered}
-use Rattle.dw_board.specs.FenReader.{first_is, first_named, behind, place_of, no_item}
+use Rattle.dw_board.specs.FenReader.{first_is, first_named, behind, place_of, no_item, is_empty}
 use Rattle.dw_board.specs.FenGrammar.{Word, Placing, IsRange, IsItem, IsItems, IsList, IsEnd, IsTail, named, all_named, Sets, Names, number, range, men, kings, single, more, bare, full, nothing, stop, ends, fields, one_list, two_lists}
-use Rattle.dw_board.specs.Fen.{fault, ◌>>=◌, Listing, Item, Stage, Start, AfterTurn, AfterColon, AfterColour, AfterComma, AfterKing, AfterNumber, AfterDash, AfterItem, AfterStop, AfterLists, read_from, with_item, then_set, set_squares, piece_of, listing, read_behind}
+use Rattle.dw_board.specs.Fen.{fault, ◌>>=◌, Listing, Item, Stage, Start, AfterTurn, AfterColon, AfterColour, AfterComma, AfterKing, AfterNumber, AfterDash, AfterItem, AfterStop, AfterLists, read_from, at_end, with_item, then_set, set_squares, piece_of, listing, read_behind}
 use Rattle.dw_board.specs.declared.piece.Side.{Side}
 use Rattle.dw_board.specs.declared.piece.Piece.{Piece}
 use Rattle.dw_board.specs.declared.piece.PutFault.{PutFault}
 use Rattle.dw_board.specs.declared.fen.fault.FenFault.{FenFault}
-use Rattle.dw_board.proofs.FenStages.{turn_read, colon_read, colour_read, second_read, list_nothing, list_something, comma_read, king_read, king_number, man_number, dash_read, range_read, number_read, list_colon, lists_read, list_ended, list_items}
+use Rattle.dw_board.proofs.FenStages.{turn_read, colon_read, colour_read, second_read, list_nothing, list_something, comma_read, king_read, king_number, man_number, dash_read, range_read, number_read, list_colon, lists_read, list_ended}
 
 abbrev texts : List Token → List Word
 texts ts = map (λ t. t.text) ts
@@ -116,6 +116,29 @@ pub record Cut (ts : List Token) (w : Word) (ws : List Word) : Type 0 where
 cut : (ts : List Token) (w : Word) (ws : List Word) → texts ts ≡ w ∷ ws → Cut ts w ws
 cut [] w ws e = cc
 cut (t ∷ ts) w ws e = record { first = t; rest = ts; is = refl; text = cc; others = cc }
+
+colon-closes : (w : Word) (ws : List Word) → is_sign 58 w ≡ true → closes (w ∷ ws) ≡ true
+unfolding closes
+colon-closes w ws h = rw h refl
+
+end-closes : (ws : List Word) → IsEnd ws → closes ws ≡ true
+unfolding closes
+end-closes ws nothing = refl
+end-closes ws (stop {w = w} h) = or_right (is_sign 58 w) _ h
+
+tail-closes : (ws : List Word) → IsTail ws → closes ws ≡ true
+tail-closes ws (ends h) = end-closes ws h
+tail-closes ws (fields {w = w} {ws = vs} h) = colon-closes w vs h
+
+none_left : (ts : List Token) → texts ts ≡ [] → (good bad : Result Placement FenFault) → cond (is_empty ts) good bad ≡ good
+none_left [] e good bad = refl
+none_left (t ∷ ts) e good bad = cc
+
+-- a list begins with its colour
+list_begins : {g : Geometry} (ws : List Word) (is : List Placing) (side : Side) → IsList g ws side is
+    → (w : Word) × (vs : List Word) × (ws ≡ w ∷ vs) × (side_named w ≡ Some side) × IsList g (w ∷ vs) side is
+list_begins ws is side (bare {w = w} h) = (w, [], refl, h, bare h)
+list_begins ws is side (full {w = w} {ws = vs} h items) = (w, vs, refl, h, full h items)
 
 -- reading on, up to where these words are left
 pub record Reads (g : Geometry) (end : ℕ) (from : Stage) (ts : List Token) (tail : List Word) (to : Stage) : Type 0 where
@@ -228,3 +251,75 @@ module _ (g : Geometry) (end : ℕ) where
         words = reads.words;
         same = list_something g end (listing side second p) ts (items-not_closed ws is items ts tail e) ∙ reads.same;
       }
+
+  -- ---- the text's end
+  end_read : (ws : List Word) → IsEnd ws → (list : Listing) (ts : List Token) → texts ts ≡ ws → read_from g end (AfterItem list) ts ≡ Ok list.placed
+  unfolding read_from at_end
+  end_read ws nothing list [] e = refl
+  end_read ws nothing list (t ∷ ts) e = cc
+  end_read ws (stop {w = w} h) list ts e =
+      let c = cut ts w [] e in
+      let sign : is_sign 46 c.first.text ≡ true = ap (is_sign 46) c.text ∙ h in
+      ap (read_from g end (AfterItem list)) c.is
+      ∙ (list_ended g end list (c.first ∷ c.rest) true (apart c.first.text 46 44 refl sign) (apart c.first.text 46 58 refl sign) (sym sign)
+      ∙ none_left c.rest c.others (Ok list.placed) _)
+
+  tail_read : (ws : List Word) → IsTail ws → (side : Side) (p : Placement) (ts : List Token) → texts ts ≡ ws → read_from g end (AfterItem (listing side true p)) ts ≡ Ok p
+  tail_read ws (ends h) side p ts e = end_read ws h (listing side true p) ts e
+  tail_read ws (fields {w = w} {ws = vs} h) side p ts e =
+      let c = cut ts w vs e in
+      ap (read_from g end (AfterItem (listing side true p))) c.is
+      ∙ (list_colon g end (listing side true p) (c.first ∷ c.rest) (ap (is_sign 58) c.text ∙ h) ∙ lists_read g end p c.rest)
+
+  -- the first list, behind its colon
+  first_list : (side : Side) (ws tail : List Word) (is : List Placing) → IsList g ws side is → (p q : Placement) (ts : List Token) → texts ts ≡ ws ++ tail → closes tail ≡ true
+      → Sets g p (all_named side is) q → Reads g end (AfterColon None p) ts tail (AfterItem (listing side false q))
+  first_list side ws tail is list p q ts e closed sets =
+      let h = list_begins ws is side list in
+      let c = cut ts h.0 (h.1 ++ tail) (e ∙ ap (λ l. l ++ tail) h.2) in
+      let reads = list_read side h.0 h.1 is h.4 false p q c.rest tail c.others closed sets in
+      record {
+        rest = reads.rest;
+        words = reads.words;
+        same = ap (read_from g end (AfterColon None p)) c.is ∙ (colour_read g end p (c.first ∷ c.rest) side (ap side_named c.text ∙ h.3) ∙ reads.same);
+      }
+
+  second_list : (first side : Side) (ws tail : List Word) (is : List Placing) → same_side first side ≡ false → IsList g ws side is → (p q : Placement) (ts : List Token) → texts ts ≡ ws ++ tail
+      → closes tail ≡ true → Sets g p (all_named side is) q → Reads g end (AfterColon (Some first) p) ts tail (AfterItem (listing side true q))
+  second_list first side ws tail is other list p q ts e closed sets =
+      let h = list_begins ws is side list in
+      let c = cut ts h.0 (h.1 ++ tail) (e ∙ ap (λ l. l ++ tail) h.2) in
+      let reads = list_read side h.0 h.1 is h.4 true p q c.rest tail c.others closed sets in
+      record {
+        rest = reads.rest;
+        words = reads.words;
+        same = ap (read_from g end (AfterColon (Some first) p)) c.is ∙ (second_read g end first p (c.first ∷ c.rest) side (ap side_named c.text ∙ h.3) other ∙ reads.same);
+      }
+
+  -- the turn and its colon
+  turn_then : (turn colon : Word) (ws : List Word) (mover : Side) (ts : List Token) → texts ts ≡ turn ∷ colon ∷ ws → side_named turn ≡ Some mover → is_sign 58 colon ≡ true
+      → Reads g end Start ts ws (AfterColon None (empty mover))
+  turn_then turn colon ws mover ts e named sign =
+      let c = cut ts turn (colon ∷ ws) e in
+      let d = cut c.rest colon ws c.others in
+      record {
+        rest = d.rest;
+        words = d.others;
+        same = ap (read_from g end Start) c.is ∙ (turn_read g end (c.first ∷ c.rest) mover (ap side_named c.text ∙ named)
+            ∙ (ap (read_from g end (AfterTurn mover)) d.is ∙ colon_read g end mover (d.first ∷ d.rest) (ap (is_sign 58) d.text ∙ sign)));
+      }
+
+  pub names_read : (ws : List Word) (p : Placement) → Names g ws p → (ts : List Token) → texts ts ≡ ws → read_from g end Start ts ≡ Ok p
+  names_read all p (one_list {turn = turn} {colon = colon} ws es mover first is named sign list ended sets) ts e =
+      let start = turn_then turn colon (ws ++ es) mover ts e named sign in
+      let l = first_list first ws es is list (empty mover) p start.rest start.words (end-closes es ended) sets in
+      start.same ∙ (l.same ∙ end_read es ended (listing first false p) l.rest l.words)
+  names_read all p (two_lists {turn = turn} {colon = colon} ws between vs es mover first second is js named sign list colon2 others different tail sets) ts e =
+      let start = turn_then turn colon (ws ++ between ∷ (vs ++ es)) mover ts e named sign in
+      let s = Sets-split g (empty mover) p (all_named first is) (all_named second js) sets in
+      let l = first_list first ws (between ∷ (vs ++ es)) is list (empty mover) s.0 start.rest start.words (colon-closes between (vs ++ es) colon2) s.1 in
+      let c = cut l.rest between (vs ++ es) l.words in
+      let m = second_list first second vs es js different others s.0 p c.rest c.others (tail-closes es tail) s.2 in
+      start.same ∙ (l.same ∙ (ap (read_from g end (AfterItem (listing first false s.0))) c.is
+      ∙ (list_colon g end (listing first false s.0) (c.first ∷ c.rest) (ap (is_sign 58) c.text ∙ colon2)
+      ∙ (m.same ∙ tail_read es tail second p m.rest m.words))))
