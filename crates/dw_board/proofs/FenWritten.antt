@@ -1,9 +1,9 @@
 -- The written text of a position is in the grammar.
-use Rattle.std.proofs.Common.{◌≡◌, ℕ, suc, zero, ◌+◌, ◌-◌, ◌*◌, ◌/◌, ◌%◌, ◌≤◌, ◌<◌, Bool, true, false, ◌||◌, ◌&&◌, cond, eqb, leb, List, [], ◌∷◌, ◌++◌, length, map, filter, Option, Some, None, refl, sym, ap, ◌∙◌, subst, arith, inl, inr, append_assoc, append-nil, decimal, codes}
+use Rattle.std.proofs.Common.{◌≡◌, ℕ, suc, zero, ◌+◌, ◌-◌, ◌*◌, ◌/◌, ◌%◌, ◌≤◌, ◌<◌, Bool, true, false, ◌||◌, ◌&&◌, cond, eqb, leb, List, [], ◌∷◌, ◌++◌, length, map, filter, Option, Some, None, refl, sym, ap, ◌∙◌, subst, arith, inl, inr, append_assoc, append-nil, length-append, decimal, codes}
 use Rattle.std.specs.List.{range_with_len, flat_map, join_with_byte}
 use Rattle.std.proofs.lemmas.Bool.{cases_Bool, cases_lt, le-leb, lt-leb, true≢false, and_parts}
 use Rattle.std.proofs.lemmas.Bool.Decides.{nat_tests}
-use Rattle.std.proofs.lemmas.Fmt.{decimal_digit, decimal_step}
+use Rattle.std.proofs.lemmas.Fmt.{decimal_digit, decimal_step, length-decimal-le}
 use Rattle.dw_board.specs.Geometry.{Geometry, IsBoard, OnBoard, squares}
 use Rattle.dw_board.specs.Placement.{Placement, IsPosition, empty, at, is_of, is_man}
 use Rattle.dw_board.specs.FenTokens.{Token, tokens_from, with_byte, onto_run, is_blank, is_digit, begins_with_digit, is_sign, side_named, is_king_letter, number_named}
@@ -16,6 +16,7 @@ use Rattle.dw_board.specs.declared.piece.Kind.{Kind}
 use Rattle.dw_board.specs.declared.piece.Kind.TheVariants.{Man, King}
 use Rattle.dw_board.specs.declared.piece.Piece.{Piece}
 use Rattle.dw_board.proofs.FenTokenLemmas.{tokens_from-sign, tokens_from-run}
+use Rattle.dw_board.proofs.Written.{held-few}
 use Rattle.dw_board.proofs.FenSetAll.{kind_at, piece_on, pieces_of, sets_all}
 
 abbrev texts : List Token → List Word
@@ -135,3 +136,126 @@ item-begins g b q s rest on none = item_of (at q s) where
   item_of : (o : Option Piece) → Begins g (king_mark o ++ decimal s) rest (λ ws. IsItem g ws (record { is_king = is_king o; from = s; to = s }))
   item_of None = man
   item_of (Some piece) = kind_of piece.kind
+
+-- ---- a list
+abbrev pub AllOn : Geometry → List ℕ → Type 0
+AllOn g [] = Unit {0}
+AllOn g (s ∷ ss) = OnBoard g s × AllOn g ss
+
+AllOn-range : (g : Geometry) (n a : ℕ) → 1 ≤ a → a + n ≤ squares g + 1 → AllOn g (range_with_len a n)
+AllOn-range g zero a low high = tt
+AllOn-range g (suc n) a low high = ((low, omega arith), AllOn-range g n (a + 1) (omega arith) (omega arith))
+
+AllOn-filter : (g : Geometry) (p : ℕ → Bool) (ss : List ℕ) → AllOn g ss → AllOn g (filter p ss)
+AllOn-filter g p [] all = tt
+AllOn-filter g p (s ∷ ss) all = elim (p s) as (λ v. AllOn g (cond v (s ∷ filter p ss) (filter p ss))) [ true ↦ (all.0, AllOn-filter g p ss all.1) | false ↦ AllOn-filter g p ss all.1 ]
+
+abbrev item_list : Placement → List ℕ → List ℕ
+item_list q ss = join_with_byte 44 (map (item_text q) ss)
+
+items-begins : (g : Geometry) → IsBoard g → (q : Placement) (s : ℕ) (ss rest : List ℕ) → AllOn g (s ∷ ss) → begins_with_digit rest ≡ false
+    → Begins g (item_list q (s ∷ ss)) rest (λ ws. IsItems g ws (map (placing q) (s ∷ ss)))
+items-begins g b q s [] rest on none =
+    let item = item-begins g b q s rest on.0 none in
+    record { front = item.front; split = item.split; holds = single item.holds }
+items-begins g b q s (x ∷ ss) rest on none =
+    let others = items-begins g b q x ss rest on.1 none in
+    let behind = 44 ∷ (item_list q (x ∷ ss) ++ rest) in
+    let item = item-begins g b q s behind on.0 refl in
+    record {
+      front = item.front ++ (44 ∷ []) ∷ others.front;
+      split = ap words (append_assoc (item_text q s) (44 ∷ item_list q (x ∷ ss)) rest)
+          ∙ (item.split
+          ∙ (ap (λ t. item.front ++ t) (words-sign 44 (item_list q (x ∷ ss) ++ rest) refl refl ∙ ap (λ t. (44 ∷ []) ∷ t) others.split)
+          ∙ sym (append_assoc item.front ((44 ∷ []) ∷ others.front) (words rest))));
+      holds = more item.front (44 ∷ []) others.front item.holds refl others.holds;
+    }
+
+list-begins : (g : Geometry) → IsBoard g → (q : Placement) (letter : ℕ) (side : Side) (ss rest : List ℕ) → is_blank letter ≡ false → is_digit letter ≡ false → side_named (letter ∷ []) ≡ Some side
+    → AllOn g ss → begins_with_digit rest ≡ false → Begins g (letter ∷ item_list q ss) rest (λ ws. IsList g ws side (map (placing q) ss))
+list-begins g b q letter side [] rest blank digit named on none = record { front = (letter ∷ []) ∷ []; split = words-sign letter rest blank digit; holds = bare named }
+list-begins g b q letter side (s ∷ ss) rest blank digit named on none =
+    let items = items-begins g b q s ss rest on none in
+    record {
+      front = (letter ∷ []) ∷ items.front;
+      split = words-sign letter (item_list q (s ∷ ss) ++ rest) blank digit ∙ ap (λ t. (letter ∷ []) ∷ t) items.split;
+      holds = full named items.holds;
+    }
+
+-- ---- the pieces that the text names
+kind-is : (o : Option Piece) → cond (is_king o) King Man ≡ kind_at o
+kind-is None = refl
+kind-is (Some piece) = elim piece.kind as (λ k. cond (cond (is_man k) false true) King Man ≡ k) [ Man ↦ refl | King ↦ refl ]
+
+named-is : (q : Placement) (side : Side) (s : ℕ) → named side (placing q s) ≡ (s, piece_on side q s) ∷ []
+named-is q side s =
+    let one : s + 1 - s ≡ 1 = omega arith in
+    ap (λ n. map (λ t. (t, record { side = side; kind = cond (is_king (at q s)) King Man })) (range_with_len s n)) one
+    ∙ ap (λ k. (s, record { side = side; kind = k }) ∷ []) (kind-is (at q s))
+
+all_named-is : (q : Placement) (side : Side) (ss : List ℕ) → all_named side (map (placing q) ss) ≡ map (λ s. (s, piece_on side q s)) ss
+all_named-is q side [] = refl
+all_named-is q side (s ∷ ss) = ap (λ l. l ++ all_named side (map (placing q) ss)) (named-is q side s) ∙ ap (λ l. (s, piece_on side q s) ∷ l) (all_named-is q side ss)
+
+-- ---- the whole text
+module _ (g : Geometry) (b : IsBoard g) (q : Placement) (pos : IsPosition g q.cells) where
+  whole : (t : ℕ) (turn : Side) → is_blank t ≡ false → is_digit t ≡ false → side_named (t ∷ []) ≡ Some turn → q.turn ≡ turn
+      → Names g (words (t ∷ 58 ∷ 87 ∷ ((items_text g q White ++ (58 ∷ 66 ∷ [])) ++ items_text g q Black))) q
+  whole t turn blank digit mover is =
+      let on = λ (side : Side). AllOn-filter g (λ s. is_of side (at q s)) (range_with_len 1 (squares g)) (AllOn-range g (squares g) 1 (omega arith) (omega arith)) in
+      let white = items_text g q White in
+      let black = items_text g q Black in
+      let behind = 58 ∷ 66 ∷ black in
+      let first = list-begins g b q 87 White (squares_held g q White) behind refl refl refl (on White) refl in
+      let second = list-begins g b q 66 Black (squares_held g q Black) [] refl refl refl (on Black) refl in
+      let joined : (white ++ (58 ∷ 66 ∷ [])) ++ black ≡ white ++ behind = append_assoc white (58 ∷ 66 ∷ []) black in
+      let second_words : words (66 ∷ black) ≡ second.front ++ [] = ap words (sym (append-nil (66 ∷ black))) ∙ second.split in
+      let split : words (t ∷ 58 ∷ 87 ∷ ((white ++ (58 ∷ 66 ∷ [])) ++ black)) ≡ (t ∷ []) ∷ (58 ∷ []) ∷ (first.front ++ (58 ∷ []) ∷ (second.front ++ [])) =
+      ap (λ l. words (t ∷ 58 ∷ 87 ∷ l)) joined
+      ∙ (words-sign t (58 ∷ 87 ∷ (white ++ behind)) blank digit
+      ∙ ap (λ l. (t ∷ []) ∷ l) (words-sign 58 (87 ∷ (white ++ behind)) refl refl
+      ∙ ap (λ l. (58 ∷ []) ∷ l) (first.split ∙ ap (λ l. first.front ++ l) (words-sign 58 (66 ∷ black) refl refl ∙ ap (λ l. (58 ∷ []) ∷ l) second_words)))) in
+      let sets : Sets g (empty turn) (all_named White (map (placing q) (squares_held g q White)) ++ all_named Black (map (placing q) (squares_held g q Black))) q =
+      subst (λ l. Sets g (empty turn) (l ++ all_named Black (map (placing q) (squares_held g q Black))) q) (sym (all_named-is q White (squares_held g q White)))
+      (subst (λ l. Sets g (empty turn) (pieces_of White q (range_with_len 1 (squares g)) ++ l) q) (sym (all_named-is q Black (squares_held g q Black)))
+      (subst (λ x. Sets g (empty x) (pieces_of White q (range_with_len 1 (squares g)) ++ pieces_of Black q (range_with_len 1 (squares g))) q) is (sets_all g b q pos))) in
+      subst (λ l. Names g l q) (sym split)
+      (two_lists first.front (58 ∷ []) second.front [] turn White Black (map (placing q) (squares_held g q White)) (map (placing q) (squares_held g q Black))
+      mover refl first.holds refl second.holds refl (ends nothing) sets)
+
+  by_turn : (turn : Side) → q.turn ≡ turn → Names g (words (side_text turn ++ codes ":W" ++ items_text g q White ++ codes ":B" ++ items_text g q Black)) q
+  by_turn White is = whole 87 White refl refl refl is
+  by_turn Black is = whole 66 Black refl refl refl is
+
+  pub written_names : Names g (words (written g q)) q
+  unfolding written
+  written_names = by_turn q.turn refl
+
+-- ---- its length
+length-item : (q : Placement) (s : ℕ) → s ≤ 50 → length (item_text q s) ≤ 3
+length-item q s low = omega (arith, length-append (king_mark (at q s)) (decimal s), mark (at q s), length-decimal-le 2 s (omega arith) (omega arith) (omega arith)) where
+  mark : (o : Option Piece) → length (king_mark o) ≤ 1
+  mark None = omega arith
+  mark (Some piece) = elim piece.kind as (λ k. length (cond (is_man k) [] (codes "K")) ≤ 1) [ Man ↦ omega arith | King ↦ omega arith ]
+
+length-item_list : (g : Geometry) → IsBoard g → (q : Placement) (ss : List ℕ) → AllOn g ss → length (item_list q ss) ≤ 4 * length ss
+length-item_list g b q [] on = omega arith
+length-item_list g b q (s ∷ []) on = omega (arith, length-item q s (omega (arith, on.0.1, b.squares_high)))
+length-item_list g b q (s ∷ x ∷ ss) on =
+    omega (arith, length-append (item_text q s) (44 ∷ item_list q (x ∷ ss)), length-item q s (omega (arith, on.0.1, b.squares_high)), length-item_list g b q (x ∷ ss) on.1)
+
+length-side_text : (side : Side) → length (side_text side) ≡ 1
+length-side_text White = refl
+length-side_text Black = refl
+
+pub length-written : (g : Geometry) → IsBoard g → (q : Placement) → IsPosition g q.cells → length (written g q) ≤ 1024
+unfolding written
+length-written g b q pos =
+    let on = λ (side : Side). AllOn-filter g (λ s. is_of side (at q s)) (range_with_len 1 (squares g)) (AllOn-range g (squares g) 1 (omega arith) (omega arith)) in
+    let items = λ (side : Side). length-item_list g b q (squares_held g q side) (on side) in
+    let few = λ (side : Side). held-few g b q pos side (squares g) (omega arith) in
+    let turn = side_text q.turn in
+    let white = items_text g q White in
+    let black = items_text g q Black in
+    omega (arith, items White, items Black, few White, few Black, length-side_text q.turn,
+      length-append turn (codes ":W"), length-append (turn ++ codes ":W") white, length-append (turn ++ codes ":W" ++ white) (codes ":B"), length-append (turn ++ codes ":W" ++ white ++ codes ":B") black)

@@ -14,3 +14,4 @@ pub mod FenGrammar
 pub mod FenText
 pub mod Diagram
 pub mod Laws
+pub mod FenLaws
