@@ -21,12 +21,14 @@ abbrev pub square_sign : Option Piece → ℕ
 square_sign None = 46
 square_sign (Some piece) = piece_sign piece.side piece.kind
 
--- the sign in a row and a column, both counted from 0: where their sum is even the square is light, and blank
+-- the sign in a row and a column, both counted from 0: a light square, where their sum is even, is blank
 abbrev pub sign_at : Geometry → Placement → ℕ → ℕ → ℕ
 sign_at g p r c = if (r + c) % 2 == 0 then 32 else square_sign (at p (r * g.per_row + c / 2 + 1))
 
+-- a row between two bars
 abbrev pub row_text : Geometry → Placement → ℕ → List ℕ
 row_text g p r = codes "|" ++ map (sign_at g p r) (range_with_len 0 g.rows) ++ codes "|\n"
 
+-- all rows, from the top
 unfoldable pub diagram_text : Geometry → Placement → List ℕ
 diagram_text g p = flat_map (row_text g p) (range_with_len 0 g.rows)

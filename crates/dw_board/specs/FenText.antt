@@ -16,16 +16,19 @@ abbrev pub king_mark : Option Piece → List ℕ
 king_mark None = []
 king_mark (Some piece) = if is_man piece.kind then [] else codes "K"
 
+-- a piece is written as its square's number
 abbrev pub item_text : Placement → ℕ → List ℕ
 item_text p s = king_mark (at p s) ++ decimal s
 
+-- a side's pieces, with commas between them
 abbrev pub items_text : Geometry → Placement → Side → List ℕ
 items_text g p side = join_with_byte 44 (map (item_text p) (squares_held g p side))
 
+-- a side's letter
 abbrev pub side_text : Side → List ℕ
 side_text White = codes "W"
 side_text Black = codes "B"
 
--- the turn, White's pieces, Black's pieces
+-- the turn, then White's pieces, then Black's, as in W:WK7,31:B
 unfoldable pub written : Geometry → Placement → List ℕ
 written g p = side_text p.turn ++ codes ":W" ++ items_text g p White ++ codes ":B" ++ items_text g p Black

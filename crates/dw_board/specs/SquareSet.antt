@@ -13,7 +13,7 @@ Squares = set.FinSet nat_cmp
 abbrev pub is_set : ℕ → ℕ → Bool
 is_set w x = eqb (bit_at w x) 1
 
--- the square at a bit; a bit behind each row belongs to no square
+-- the square of a bit; the bit behind each two rows belongs to none
 abbrev pub square_at : Geometry → ℕ → Option ℕ
 square_at g x = cond (leb (x + 1) (squares g + g.rows / 2) && leb (x % (g.rows + 1) + 1) g.rows) (Some (x - x / (g.rows + 1) + 1)) None
 

@@ -1,5 +1,10 @@
-//! Laws of the definitions, each the contract of a function that does nothing.
+//! Laws of the definitions, each the contract of a function that does nothing, and what `==` means.
+ghost use Rattle.std.specs.Prelude.{◌≡◌, ◌↔◌, IsTrue};
 ghost use Rattle.dw_board.specs.Laws.{StepsAreDiagonal, StepsStay, PlacesDiffer, ShiftsStep};
+
+use crate::board::Board;
+use crate::position::Position;
+use crate::squares::Squares;
 
 /// A step leads to the square whose row and column are both one further in its direction, and to no other.
 pub fn steps_are_diagonal()
@@ -16,3 +21,17 @@ pub fn places_differ()
 pub fn shifts_step()
     ensures { ShiftsStep }
 {}
+
+/// Equal positions have the same pieces on the same squares, and the same side to move.
+pub fn same_position<B: Board>(a: &Position<B>, b: &Position<B>) -> bool
+    ensures { IsTrue result ↔ (a.now ≡ b.now) }
+{
+    a == b
+}
+
+/// Equal sets have the same squares.
+pub fn same_squares<B: Board>(one: Squares<B>, other: Squares<B>) -> bool
+    ensures { IsTrue result ↔ (one ≡ other) }
+{
+    one == other
+}

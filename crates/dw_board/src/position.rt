@@ -22,7 +22,7 @@ use std::cmp::Ordering;
 use std::hash::{Hash, Hasher};
 use std::marker::{Model, PhantomData};
 
-/// Pieces on a board, and the side to move.
+/// Pieces on a board, and the side to move. A side has no more pieces than it may, and no man on its last row.
 #[derive(Clone, Copy)]
 pub struct Position<B: Board> {
     cells: [Option<Piece>; 50],
@@ -43,6 +43,7 @@ impl<B: Board> Model for Position<B> {
 }
 
 impl<B: Board> Position<B> {
+    /// The board without a piece.
     pub fn empty(turn: Side) -> Self
         ensures { result ≡ of.empty turn }
     {
@@ -53,7 +54,8 @@ impl<B: Board> Position<B> {
         }
     }
 
-    /// Puts a piece on an empty square, and changes nothing where it is refused.
+    /// Puts a piece on an empty square. It is refused, and nothing changes, for the first of these reasons: the
+    /// square is taken, it is a man's last row, the side has all its pieces.
     pub fn put(&mut self, square: Square<B>, piece: Piece) -> Result<(), PutFault>
         ensures fault { result_err result ≡ put_fault B.geometry self.old square piece }
         ensures after { self.new ≡ (if is_ok result then placed self.old square (Some piece) else self.old) }
@@ -71,6 +73,7 @@ impl<B: Board> Position<B> {
         Ok(())
     }
 
+    /// Empties a square, and tells what stood there.
     pub fn clear(&mut self, square: Square<B>) -> Option<Piece>
         ensures stood { result ≡ of.at self.old square }
         ensures after { self.new ≡ placed self.old square None }
@@ -80,12 +83,14 @@ impl<B: Board> Position<B> {
         stood
     }
 
+    /// What stands on a square.
     pub fn at(&self, square: Square<B>) -> Option<Piece>
         ensures { result ≡ of.at self.now square }
     {
         self.cells[square.number() as usize - 1]
     }
 
+    /// The side to move.
     pub fn turn(&self) -> Side
         ensures value { result ≡ self.now.turn }
         ensures position { IsPosition B.geometry self.now.cells }
@@ -93,12 +98,14 @@ impl<B: Board> Position<B> {
         self.turn
     }
 
+    /// Gives the move to a side.
     pub fn set_turn(&mut self, side: Side)
         ensures { self.new ≡ record self.old { turn = side } }
     {
         self.turn = side;
     }
 
+    /// The number of a side's pieces, at most 20.
     pub fn count(&self, side: Side) -> u8
         ensures value { result ≡ of.count self.now side }
         ensures fits { result ≤ B.geometry.side }
@@ -142,6 +149,7 @@ fn count_of(cells: &[Option<Piece>; 50], side: Side) -> u8
     count
 }
 
+/// Whether the piece would be a man on its last row.
 fn is_stuck<B: Board>(square: Square<B>, piece: Piece) -> bool
     ensures { result ≡ of.is_stuck B.geometry square (Some piece) }
 {
@@ -182,6 +190,7 @@ fn side_number(side: Side) -> u8
     }
 }
 
+/// The numbers of all cells.
 fn codes_of(cells: &[Option<Piece>; 50]) -> [u8; 50]
     ensures { result ≡ map of.cell_code cells.now }
 {

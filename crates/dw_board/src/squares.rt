@@ -44,6 +44,7 @@ impl<B: Board> Model for Squares<B> {
     ghost inverse_ok = { λ a h i. record { word = word_of-squares_of B.geometry h.board a.word h.only i; board = a.board } };
 }
 
+/// The place of a square's bit.
 fn place<B: Board>(square: Square<B>) -> u8
     ensures value { result ≡ Geo.bit B.geometry square }
     ensures small { result < 64 }
@@ -54,6 +55,7 @@ fn place<B: Board>(square: Square<B>) -> u8
 }
 
 impl<B: Board> Squares<B> {
+    /// The empty set.
     pub fn none() -> Self
         ensures { result ≡ set.empty }
     {
@@ -63,12 +65,14 @@ impl<B: Board> Squares<B> {
         }
     }
 
+    /// Whether the square is in the set.
     pub fn has(self, square: Square<B>) -> bool
         ensures { result ≡ set.contains self square }
     {
         (self.word >> place(square)) & 1 == 1
     }
 
+    /// This set and the square.
     pub fn with(self, square: Square<B>) -> Self
         ensures { result ≡ set.insert self square }
     {
@@ -78,6 +82,7 @@ impl<B: Board> Squares<B> {
         }
     }
 
+    /// The squares in either set.
     pub fn or(self, other: Self) -> Self
         ensures { result ≡ set.union self other }
     {
@@ -157,6 +162,7 @@ impl<B: Board> Squares<B> {
     }
 }
 
+/// The word, each bit moved by as much as a step moves a square's bit.
 fn shifted_word<B: Board>(word: u64, direction: Dir) -> u64
     ensures { result ≡ Geo.shifted_word B.geometry direction word }
 {

@@ -230,6 +230,8 @@ fn pieces(rt: HostRuntime) {
     position.set_turn(Side::Black);
     assert_eq!(rt; position.turn(), Side::Black);
     assert!(rt; other < position);
+    assert!(rt; !laws::same_position(&other, &position) && laws::same_position(&other, &other));
+    assert!(rt; laws::same_squares(set_of::<Ten>(&rt, &[7, 8]), set_of(&rt, &[8, 7])));
 }
 
 fn check_text<B: Board>(rt: &impl Abort, turn: Side, pieces: &[(Side, Kind, &[u8])], text: &str) {
