@@ -1,4 +1,5 @@
 //! Laws of the definitions, each the contract of a function that does nothing, and what `==` means.
+ghost use Rattle.dw_board.specs.FenLaws.{ReadingIsGrammar, WrittenIsFen, WrittenIsRead, NamesOne, EitherFenOrFaulty};
 ghost use Rattle.std.specs.Prelude.{◌≡◌, ◌↔◌, IsTrue};
 ghost use Rattle.dw_board.specs.Laws.{StepsAreDiagonal, StepsStay, PlacesDiffer, ShiftsStep};
 
@@ -35,3 +36,24 @@ pub fn same_squares<B: Board>(one: Squares<B>, other: Squares<B>) -> bool
 {
     one == other
 }
+
+/// A text is read as a position exactly where the grammar of FEN texts gives it that position.
+pub fn reading_is_grammar()
+    ensures { ReadingIsGrammar }
+{}
+
+/// The written text of a position is in the grammar with that position, and so it is read again.
+pub fn written_is_read()
+    ensures fen { WrittenIsFen }
+    ensures read { WrittenIsRead }
+{}
+
+/// A text is in the grammar with at most one position.
+pub fn names_one()
+    ensures { NamesOne }
+{}
+
+/// Exactly one of a position and an earliest fault holds of a text.
+pub fn either_fen_or_faulty()
+    ensures { EitherFenOrFaulty }
+{}

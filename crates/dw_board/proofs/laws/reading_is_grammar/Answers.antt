@@ -1,0 +1,5 @@
+use Rattle.dw_board.proofs.FenLawProofs as law
+use Rattle.dw_board.proofs.laws.reading_is_grammar.Goals as goal
+
+pub returns : goal.returns
+returns c = law.reading_is_grammar
