@@ -54,3 +54,12 @@ answer g text (Err f) e = inr (record { fault = f; first = e; names_none = λ p 
 
 pub either_fen_or_faulty : (g : Geometry) (text : List ℕ) → IsFen g text ⊎ IsFaulty g text
 either_fen_or_faulty g text = answer g text (fen g text) refl
+
+fen-is_short : (g : Geometry) (text : List ℕ) → length text ≤ 1024 → fen g text ≡ short_fen g text
+fen-is_short g text h = let l : ltb 1024 (length text) ≡ false = le-ltb 1024 (length text) h in rw l refl
+
+-- what a short text is read as is what the grammar gives it
+pub short_is_grammar : (g : Geometry) (text : List ℕ) (r : Result Placement FenFault) → length text ≤ 1024 → r ≡ short_fen g text → (p : Placement) → (r ≡ Ok p) ↔ Fen g text p
+short_is_grammar g text r short is p =
+    let same : r ≡ fen g text = is ∙ sym (fen-is_short g text short) in
+    ((λ e. is_fen g text p (sym same ∙ e)), (λ h. same ∙ is_read g text p h))

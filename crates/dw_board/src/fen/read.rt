@@ -1,6 +1,7 @@
 //! Reading FEN texts.
-ghost use Rattle.std.specs.Prelude.{◌≡◌, ◌+◌, ◌-◌, ◌≤◌, ◌<◌, Bool, false, if◌then◌else◌, Some, None, Ok, Err, MatchResult, OnOk, IfOk, length};
-ghost use Rattle.dw_board.specs.Placement.{same_side};
+ghost use Rattle.std.specs.Prelude.{◌≡◌, ◌+◌, ◌-◌, ◌≤◌, ◌<◌, Bool, false, if◌then◌else◌, Some, None, Ok, Err, ◌↔◌, MatchResult, OnOk, IfOk, length};
+ghost use Rattle.dw_board.specs.Placement.{Placement, same_side};
+ghost use Rattle.dw_board.specs.FenGrammar.{Fen};
 ghost use Rattle.dw_board.specs.FenTokens.{is_sign};
 ghost use Rattle.dw_board.specs.FenReader.{tokens_of, end_of, first_is, no_item};
 ghost use Rattle.dw_board.specs.Fen.{fen, short_fen, read_from, listing, Listing, Item, AfterColon, AfterColour, AfterComma, AfterNumber, AfterItem, read_behind};
@@ -18,7 +19,8 @@ pub const MAX_FEN: usize = 1024;
 
 /// Reads a position: exactly where the text is a FEN text of one, and else its earliest fault.
 pub fn read_fen<B: Board>(text: &[u8]) -> Result<Position<B>, FenFault>
-    ensures { result ≡ fen B.geometry text.now }
+    ensures exact { result ≡ fen B.geometry text.now }
+    ensures grammar { (p : Placement) → (result ≡ Ok p) ↔ Fen B.geometry text.now p }
 {
     if text.len() > MAX_FEN {
         return Err(FenFault {
