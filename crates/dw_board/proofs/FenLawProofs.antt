@@ -23,9 +23,9 @@ fen-short g text h = let l : ltb 1024 (length text) ≡ false = le-ltb 1024 (len
 
 is_fen : (g : Geometry) (text : List ℕ) (p : Placement) → fen g text ≡ Ok p → Fen g text p
 is_fen g text p e = elim (cases_lt 1024 (length text)) [
-    | inl long ↦ let bad : fault TooLong 1025 ≡ Ok p = sym (fen-long g text long) ∙ e in cc
-    | inr short ↦ (short, read_follows g (length text + 1) Start (tokens_from 1 text) p (sym (fen-short g text short) ∙ e))
-  ]
+  | inl long ↦ let bad : fault TooLong 1025 ≡ Ok p = sym (fen-long g text long) ∙ e in cc
+  | inr short ↦ (short, read_follows g (length text + 1) Start (tokens_from 1 text) p (sym (fen-short g text short) ∙ e))
+]
 
 is_read : (g : Geometry) (text : List ℕ) (p : Placement) → Fen g text p → fen g text ≡ Ok p
 is_read g text p h = fen-short g text h.0 ∙ names_read g (length text + 1) (words text) p h.1 (tokens_from 1 text) refl

@@ -30,8 +30,12 @@ count-le : (side : Side) (xs ys : List (Option Piece)) → length xs ≡ length 
 count-le side [] ys len h = omega arith
 count-le side (x ∷ xs) [] len h = absurd (omega arith)
 count-le side (x ∷ xs) (y ∷ ys) len h =
-    omega (arith, one_le (is_of side x) (is_of side y) _ _ (h 0) (count-le side xs ys (omega arith) (λ i. h (suc i))),
-      sum_by-append (λ z. one_if (is_of side z)) (x ∷ []) xs, sum_by-append (λ z. one_if (is_of side z)) (y ∷ []) ys)
+    omega (
+      arith,
+      one_le (is_of side x) (is_of side y) _ _ (h 0) (count-le side xs ys (omega arith) (λ i. h (suc i))),
+      sum_by-append (λ z. one_if (is_of side z)) (x ∷ []) xs,
+      sum_by-append (λ z. one_if (is_of side z)) (y ∷ []) ys,
+    )
 
 same_side-refl : (side : Side) → same_side side side ≡ true
 same_side-refl White = refl
@@ -79,39 +83,39 @@ pieces_of side q ss = map (λ s. (s, piece_on side q s)) (filter (λ s. is_of si
 
 is_of-other : (o : Option Piece) (a b : Side) → a ≢ b → is_of a o ≡ true → is_of b o ≡ false
 is_of-other o a b ne h = elim (cases_Bool (is_of b o)) [
-    | inl k ↦
-        let x = is_of-some a o h in
-        let y = is_of-some b o k in
-        let same : x.0 ≡ y.0 = cc in
-        absurd (ne (sym x.2 ∙ (ap (λ z. z.side) same ∙ y.2)))
-    | inr k ↦ k
-  ]
+  | inl k ↦
+      let x = is_of-some a o h in
+      let y = is_of-some b o k in
+      let same : x.0 ≡ y.0 = cc in
+      absurd (ne (sym x.2 ∙ (ap (λ z. z.side) same ∙ y.2)))
+  | inr k ↦ k
+]
 
 past_here : (side : Side) (q : Placement) (base : ℕ → Bool) (a t : ℕ) → is_of side (at q a) ≡ false → upto side q base a t ≡ upto side q base (a + 1) t
 past_here side q base a t off = elim (cases_eq t a) [
-    | inl e ↦ let o : is_of side (at q t) ≡ false = ap (λ x. is_of side (at q x)) e ∙ off in rw o refl
-    | inr ne ↦ elim (cases_lt t a) [
-      | inl low ↦ let l : ltb t a ≡ true = lt-ltb t a low in let m : ltb t (a + 1) ≡ true = lt-ltb t (a + 1) (omega arith) in rw (l, m) refl
-      | inr high ↦ let l : ltb t a ≡ false = le-ltb t a high in let m : ltb t (a + 1) ≡ false = le-ltb t (a + 1) (omega arith) in rw (l, m) refl
-    ]
-  ]
-
-other_square : (side : Side) (q : Placement) (base : ℕ → Bool) (a t : ℕ) → t ≢ a → upto side q base a t ≡ upto side q base (a + 1) t
-other_square side q base a t ne = elim (cases_lt t a) [
+  | inl e ↦ let o : is_of side (at q t) ≡ false = ap (λ x. is_of side (at q x)) e ∙ off in rw o refl
+  | inr ne ↦ elim (cases_lt t a) [
     | inl low ↦ let l : ltb t a ≡ true = lt-ltb t a low in let m : ltb t (a + 1) ≡ true = lt-ltb t (a + 1) (omega arith) in rw (l, m) refl
     | inr high ↦ let l : ltb t a ≡ false = le-ltb t a high in let m : ltb t (a + 1) ≡ false = le-ltb t (a + 1) (omega arith) in rw (l, m) refl
   ]
+]
+
+other_square : (side : Side) (q : Placement) (base : ℕ → Bool) (a t : ℕ) → t ≢ a → upto side q base a t ≡ upto side q base (a + 1) t
+other_square side q base a t ne = elim (cases_lt t a) [
+  | inl low ↦ let l : ltb t a ≡ true = lt-ltb t a low in let m : ltb t (a + 1) ≡ true = lt-ltb t (a + 1) (omega arith) in rw (l, m) refl
+  | inr high ↦ let l : ltb t a ≡ false = le-ltb t a high in let m : ltb t (a + 1) ≡ false = le-ltb t (a + 1) (omega arith) in rw (l, m) refl
+]
 
 is_part-count : (side : Side) (keep : ℕ → Bool) (q p : Placement) → IsPart keep q p → length q.cells ≡ 50 → count p side ≤ count q side
 is_part-count side keep q p part len = count-le side p.cells q.cells (part.fifty ∙ sym len) (λ i h. from_cond side (keep (suc i)) (get_or q.cells i None)
     (ap (is_of side) (sym (cell i)) ∙ h)) where
-  cell : (i : ℕ) → get_or p.cells i None ≡ cond (keep (suc i)) (get_or q.cells i None) None
-  cell i = let e : suc i - 1 ≡ i = omega arith in
-      ap (λ k. get_or p.cells k None) (sym e) ∙ (part.cells (suc i) (omega arith) ∙ ap (λ k. cond (keep (suc i)) (get_or q.cells k None) None) e)
+      cell : (i : ℕ) → get_or p.cells i None ≡ cond (keep (suc i)) (get_or q.cells i None) None
+      cell i = let e : suc i - 1 ≡ i = omega arith in
+          ap (λ k. get_or p.cells k None) (sym e) ∙ (part.cells (suc i) (omega arith) ∙ ap (λ k. cond (keep (suc i)) (get_or q.cells k None) None) e)
 
-  from_cond : (side : Side) (b : Bool) (o : Option Piece) → is_of side (cond b o None) ≡ true → is_of side o ≡ true
-  from_cond side true o h = h
-  from_cond side false o h = absurd (true≢false (sym h))
+      from_cond : (side : Side) (b : Bool) (o : Option Piece) → is_of side (cond b o None) ≡ true → is_of side o ≡ true
+      from_cond side true o h = h
+      from_cond side false o h = absurd (true≢false (sym h))
 
 -- one piece more
 module _ (g : Geometry) (on : IsBoard g) (q : Placement) (pos : IsPosition g q.cells) (side : Side) (base : ℕ → Bool) (free : (t : ℕ) → is_of side (at q t) ≡ true → base t ≡ false) where
@@ -209,9 +213,9 @@ part_whole g q p pos keep all part = λ i. record { cells = same i; turn = part.
 
 empty_at : (n i : ℕ) → get_or {A = Option Piece} (replicate n None) i None ≡ None
 empty_at n i = elim (cases_lt i n) [
-    | inl h ↦ get_or-replicate n i None None h
-    | inr h ↦ get_or_past (replicate n None) i None (rw length-replicate h)
-  ]
+  | inl h ↦ get_or-replicate n i None None h
+  | inr h ↦ get_or_past (replicate n None) i None (rw length-replicate h)
+]
 
 white_black : White ≢ Black
 white_black e = cc

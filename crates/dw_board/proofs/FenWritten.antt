@@ -76,26 +76,26 @@ square_ok g s n b on t e =
 
 decimal-spells : (g : Geometry) → IsBoard g → (s : ℕ) → OnBoard g s → Spells g s (decimal s)
 decimal-spells g b s on = elim (cases_lt s 10) [
-    | inl low ↦ record {
-        d = 48 + s;
-        ds = [];
-        is = decimal_digit s low;
-        digits = (digit-is s low, tt);
-        name = square_ok g s (48 + s - 48) (is_digit (48 + s)) on (digit-is s low) (omega arith);
+  | inl low ↦ record {
+    d = 48 + s;
+    ds = [];
+    is = decimal_digit s low;
+    digits = (digit-is s low, tt);
+    name = square_ok g s (48 + s - 48) (is_digit (48 + s)) on (digit-is s low) (omega arith);
+  }
+  | inr high ↦
+      let small : s < 100 = omega (arith, on.1, b.squares_high) in
+      let tens : s / 10 < 10 = omega arith in
+      let ones : s % 10 < 10 = omega arith in
+      record {
+        d = 48 + s / 10;
+        ds = (48 + s % 10) ∷ [];
+        is = two_digits s high small;
+        digits = (digit-is (s / 10) tens, (digit-is (s % 10) ones, tt));
+        name = square_ok g s (10 * (48 + s / 10 - 48) + (48 + s % 10 - 48)) (is_digit (48 + s / 10) && is_digit (48 + s % 10)) on
+            (let x = digit-is (s / 10) tens in let y = digit-is (s % 10) ones in rw (x, y) refl) (omega arith);
       }
-    | inr high ↦
-        let small : s < 100 = omega (arith, on.1, b.squares_high) in
-        let tens : s / 10 < 10 = omega arith in
-        let ones : s % 10 < 10 = omega arith in
-        record {
-          d = 48 + s / 10;
-          ds = (48 + s % 10) ∷ [];
-          is = two_digits s high small;
-          digits = (digit-is (s / 10) tens, (digit-is (s % 10) ones, tt));
-          name = square_ok g s (10 * (48 + s / 10 - 48) + (48 + s % 10 - 48)) (is_digit (48 + s / 10) && is_digit (48 + s % 10)) on
-              (let x = digit-is (s / 10) tens in let y = digit-is (s % 10) ones in rw (x, y) refl) (omega arith);
-        }
-  ]
+]
 
 -- ---- an item
 abbrev pub is_king : Option Piece → Bool
@@ -257,5 +257,15 @@ length-written g b q pos =
     let turn = side_text q.turn in
     let white = items_text g q White in
     let black = items_text g q Black in
-    omega (arith, items White, items Black, few White, few Black, length-side_text q.turn,
-      length-append turn (codes ":W"), length-append (turn ++ codes ":W") white, length-append (turn ++ codes ":W" ++ white) (codes ":B"), length-append (turn ++ codes ":W" ++ white ++ codes ":B") black)
+    omega (
+      arith,
+      items White,
+      items Black,
+      few White,
+      few Black,
+      length-side_text q.turn,
+      length-append turn (codes ":W"),
+      length-append (turn ++ codes ":W") white,
+      length-append (turn ++ codes ":W" ++ white) (codes ":B"),
+      length-append (turn ++ codes ":W" ++ white ++ codes ":B") black,
+    )

@@ -2,5 +2,7 @@
 
 pub mod fault;
 pub mod read;
+#[cfg(test)]
+mod tests;
 mod tokens;
 pub mod write;
