@@ -3,4 +3,6 @@
 
 pub mod run;
 pub mod settings;
+#[cfg(test)]
+mod tests;
 pub mod text;
