@@ -92,3 +92,76 @@ fn ends<T: Copy>(status: u8, message: Option<Message<T>>) -> Exit<T>
 {
     Exit { status, message }
 }
+
+#[cfg(test)]
+mod tests {
+    use super::*;
+    use std::test::Fail;
+
+    const NOTHING: Summary = Summary {
+        problems: 0,
+        shown: 0,
+        refused: 0,
+    };
+
+    const ONE_SHOWN: Summary = Summary {
+        problems: 2,
+        shown: 1,
+        refused: 0,
+    };
+
+    const ONE_REFUSED: Summary = Summary {
+        problems: 3,
+        shown: 3,
+        refused: 1,
+    };
+
+    // Each ending, the problem asked for, the status, and the line on standard error.
+    #[test]
+    fn statuses_and_lines(rt: HostRuntime) -> Result<(), Fail> {
+        let rows = [
+            (Ending::Help, None, 0, ""),
+            (Ending::HelpNotWritten, None, 3, "dw: write failed\n"),
+            (Ending::Words("why\n"), None, 2, "why\n"),
+            (
+                Ending::Memory,
+                None,
+                3,
+                "dw: stopped: 1 memory, 0 expanded\n",
+            ),
+            (
+                Ending::NotOpened("a b"),
+                Some(2),
+                3,
+                "dw: cannot open a b\n",
+            ),
+            (
+                Ending::Ran(Err(RunFault::Read)),
+                Some(2),
+                3,
+                "dw: read failed\n",
+            ),
+            (
+                Ending::Ran(Err(RunFault::Write)),
+                None,
+                3,
+                "dw: write failed\n",
+            ),
+            (Ending::Ran(Ok(NOTHING)), None, 0, ""),
+            (Ending::Ran(Ok(NOTHING)), Some(7), 1, "dw: no problem 7\n"),
+            (Ending::Ran(Ok(ONE_SHOWN)), Some(2), 0, ""),
+            (Ending::Ran(Ok(ONE_REFUSED)), None, 1, ""),
+            (Ending::Ran(Ok(ONE_REFUSED)), Some(3), 1, ""),
+        ];
+        for (ending, only, status, line) in rows {
+            let exit = outcome(ending, only);
+            assert_eq!(rt; exit.status, status, "{line}");
+            let written = match exit.message {
+                None => String::new(rt.alloc()),
+                Some(message) => format!(in rt.alloc(); "{message}")?,
+            };
+            assert_eq!(rt; written.as_str(), line);
+        }
+        Ok(())
+    }
+}
