@@ -63,9 +63,18 @@ def show(lines, board):
     return answers
 
 
+def problems(make, rng, count):
+    """So many random lines that are problems."""
+    lines = []
+    while len(lines) < count:
+        line = make(rng)
+        if is_problem(line):
+            lines.append(line)
+    return lines
+
+
 def check(name, lines, board):
     """Sends lines through the program, and what it wrote once more."""
-    lines = [line for line in lines if is_problem(line)]
     answers = show(lines, board)
     assert len(answers) == len(lines), (len(answers), len(lines))
     written = []
@@ -84,8 +93,8 @@ def main():
     seed = int(sys.argv[2]) if len(sys.argv) > 2 else 1
     rng = random.Random(seed)
     for board in ("10", "8"):
-        check("random bytes", [random_bytes(rng) for _ in range(count)], board)
-        check("random tokens", [random_tokens(rng) for _ in range(count)], board)
+        check("random bytes", problems(random_bytes, rng, count), board)
+        check("random tokens", problems(random_tokens, rng, count), board)
 
 
 if __name__ == "__main__":
