@@ -149,6 +149,85 @@ fn refuses_in_the_report(rt: HostRuntime) -> Result<(), Fail> {
     Ok(())
 }
 
+// A text, and the report on it.
+const WORKED: [(&[u8], &[u8]); 5] = [
+    (
+        b"b:b1-20:w31-50.\n",
+        b"problem 1: B:W31,32,33,34,35,36,37,38,39,40,41,42,43,44,45,46,47,48,49,50:B1,2,3,4,5,6,7,8,9,10,11,12,13,14,15,16,17,18,19,20
+| b b b b b|
+|b b b b b |
+| b b b b b|
+|b b b b b |
+| . . . . .|
+|. . . . . |
+| w w w w w|
+|w w w w w |
+| w w w w w|
+|w w w w w |
+",
+    ),
+    (
+        b"B:W18,24,27,28,K10,K15:B12,16,20,K22,K25,K29\n",
+        b"problem 1: B:WK10,K15,18,24,27,28:B12,16,20,K22,K25,K29
+| . . . . .|
+|. . . . W |
+| . b . . W|
+|b . w . b |
+| . B . w B|
+|. w w B . |
+| . . . . .|
+|. . . . . |
+| . . . . .|
+|. . . . . |
+",
+    ),
+    (
+        b"W:W3:B20\n\nW:W32:B28\n",
+        b"problem 1: refused: 1 fen: 7 last row at 4
+problem 2: W:W32:B28
+| . . . . .|
+|. . . . . |
+| . . . . .|
+|. . . . . |
+| . . . . .|
+|. . b . . |
+| . w . . .|
+|. . . . . |
+| . . . . .|
+|. . . . . |
+",
+    ),
+    (
+        b"W:W32:B28\r\r\n",
+        b"problem 1: refused: 1 fen: 9 rest at 10
+",
+    ),
+    (
+        b" w : w k 07 , 31 \n",
+        b"problem 1: W:WK7,31:B
+| . . . . .|
+|. W . . . |
+| . . . . .|
+|. . . . . |
+| . . . . .|
+|. . . . . |
+| w . . . .|
+|. . . . . |
+| . . . . .|
+|. . . . . |
+",
+    ),
+];
+
+#[test]
+fn shows_worked_positions(rt: HostRuntime) {
+    for (text, wanted) in WORKED {
+        let (answer, written) = ran::<Ten>(rt.alloc(), text, None);
+        assert!(rt; answer.is_ok());
+        assert_eq!(rt; written.as_slice(), wanted);
+    }
+}
+
 #[test]
 fn reports_on_one_problem_alone(rt: HostRuntime) {
     let (answer, written) = ran::<Ten>(rt.alloc(), THREE, Some(1));
