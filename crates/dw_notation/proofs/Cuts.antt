@@ -4,9 +4,11 @@ use Rattle.std.proofs.lemmas.List.{length-take, take-append-drop, drop-take, dro
 use Rattle.std.specs.List.{slice_range}
 use Rattle.dw_board.specs.Geometry.{Geometry}
 use Rattle.dw_notation.specs.Lines.{NoLineFeed}
-use Rattle.dw_notation.specs.Found.{Found, line_found}
+use Rattle.dw_notation.specs.Found.{line_found}
 use Rattle.dw_notation.specs.Ahead.{found_from}
 use Rattle.dw_notation.specs.Held.{SaysSame}
+use Rattle.dw_notation.specs.Pieces.{pieces_ahead, pieces_behind, pieces_cut}
+use Rattle.dw_notation.specs.declared.problems.pieces.Pieces.{Pieces}
 
 pub NoLineFeed-push : (bytes : List ℕ) (byte : ℕ) → NoLineFeed bytes → (byte == 10) ≡ false → NoLineFeed (bytes ++ byte ∷ [])
 NoLineFeed-push [] byte none h = (h, tt)
@@ -57,11 +59,12 @@ slice_range-drop xs i j k h =
     let e : j - i ≡ k + (j - (i + k)) = omega arith in
     rw (e, drop-take) (rw drop-drop refl)
 
--- the line begun after the cut of what was read
-pub found_from-rest : (at_end : Bool) (g : Geometry) (line more buffer : List ℕ) (x : List Found) (i j k : ℕ) → i + k ≤ j
-    → found_from at_end g line (slice_range buffer i j ++ more) ≡ x ++ found_from at_end g [] (drop k (slice_range buffer i j) ++ more)
-    → found_from at_end g line (slice_range buffer i j ++ more) ≡ x ++ found_from at_end g [] (slice_range buffer (i + k) j ++ more)
-found_from-rest at_end g line more buffer x i j k h e = e ∙ ap (λ l. x ++ found_from at_end g [] (l ++ more)) (sym (slice_range-drop buffer i j k h))
+-- what is behind a cut in what was read
+pub found-rest : (at_end : Bool) (g : Geometry) (old new : Pieces) (buffer more : List ℕ) (i j k : ℕ) → i + k ≤ j
+    → pieces_ahead at_end g old (slice_range buffer i j ++ more) ≡ option_to_list (pieces_cut g new) ++ pieces_behind at_end g new (drop k (slice_range buffer i j) ++ more)
+    → pieces_ahead at_end g old (slice_range buffer i j ++ more) ≡ option_to_list (pieces_cut g new) ++ pieces_behind at_end g new (slice_range buffer (i + k) j ++ more)
+found-rest at_end g old new buffer more i j k h e =
+    e ∙ ap (λ l. option_to_list (pieces_cut g new) ++ pieces_behind at_end g new (l ++ more)) (sym (slice_range-drop buffer i j k h))
 
 pub length-slice_range-le : (xs : List ℕ) (i j : ℕ) → length (slice_range xs i j) ≤ j - i
 length-slice_range-le xs i j = omega (arith, length-take (j - i) (drop i xs))

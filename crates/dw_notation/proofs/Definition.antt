@@ -1,5 +1,6 @@
 -- What a reader will hand out that has read nothing is the problems of the text.
-use Rattle.std.proofs.Common.{◌≡◌, ℕ, ◌==◌, List, [], ◌∷◌, ◌++◌, Bool, true, false, cond, option_to_list, refl, sym, ap, ◌∙◌, append_assoc, append-nil}
+use Rattle.std.proofs.Common.{◌≡◌, ℕ, ◌==◌, List, [], ◌∷◌, ◌++◌, Bool, true, false, cond, option_to_list, ◌&&◌, inl, inr, refl, sym, ap, ◌∙◌, append_assoc, append-nil}
+use Rattle.std.proofs.lemmas.Bool.{and_parts, eqb-true, cases_Bool, cond-true, cond-false}
 use Rattle.dw_notation.specs.Lines.{lines_of, whole_lines_of, onto_line, onto_whole_line}
 use Rattle.dw_board.specs.Geometry.{Geometry}
 use Rattle.dw_notation.specs.Found.{line_found, all_found}
@@ -7,13 +8,17 @@ use Rattle.dw_notation.specs.Ahead.{found_from}
 use Rattle.dw_notation.specs.Lines.{without_mark}
 use Rattle.dw_notation.specs.Ahead.{behind_mark}
 use Rattle.dw_notation.specs.Held.{held_line}
-use Rattle.dw_notation.specs.Problems.{number_from, problems_of, ended_problems_of}
-use Rattle.dw_notation.specs.Cutting.{rest_of, found_ahead, to_come, ended}
-use Rattle.dw_notation.specs.declared.problems.Form.{Form}
+use Rattle.dw_notation.specs.Sections.{bare, sections_found}
+use Rattle.dw_notation.specs.HeldSection.{held_of, held_bare, held_from, sections_ahead}
+use Rattle.dw_notation.specs.Pieces.{lines_ahead}
+use Rattle.dw_notation.specs.Problems.{found_of, ended_of}
 use Rattle.dw_notation.specs.declared.problems.Form.TheVariants.{Fens}
 use Rattle.dw_notation.specs.declared.problems.mark.Front.TheVariants.{Bare}
-use Rattle.dw_notation.specs.declared.problems.cutter.Cutter.{Cutter}
+use Rattle.dw_notation.specs.declared.problems.place.Place.TheVariants.{Outside}
+use Rattle.dw_notation.specs.declared.problems.lines.Lines.{Lines}
+use Rattle.dw_notation.specs.declared.problems.sections.Sections.{Sections}
 use Rattle.dw_notation.proofs.Cuts.{line_found-nil}
+use Rattle.dw_notation.proofs.Holding.{held_from-bare}
 
 -- a line begun goes onto the front of the first line
 abbrev join : List ℕ → List (List ℕ) → List (List ℕ)
@@ -74,22 +79,40 @@ found_from-join_whole g line (byte ∷ bytes) =
 pub found_from-whole_lines : (g : Geometry) (bytes : List ℕ) → found_from false g [] bytes ≡ all_found g (whole_lines_of bytes)
 found_from-whole_lines g bytes = found_from-join_whole g [] bytes ∙ ap (all_found g) (join_whole-nil (whole_lines_of bytes))
 
--- a cutter that holds nothing, at the front of the text
-found_ahead-new : (at_end : Bool) (g : Geometry) (cutter : Cutter) → held_line cutter.line ≡ [] → rest_of cutter ≡ [] → (cutter.front ≡ Bare)
-    → (bytes : List ℕ) → found_ahead at_end g cutter bytes ≡ found_from at_end g [] (without_mark bytes)
-found_ahead-new at_end g cutter line rest front bytes =
-    ap (λ l. found_from at_end g l (behind_mark cutter.front (rest_of cutter ++ bytes))) line
-    ∙ ap (λ f. found_from at_end g [] (behind_mark f (rest_of cutter ++ bytes))) front
-    ∙ ap (λ l. found_from at_end g [] (without_mark (l ++ bytes))) rest
+-- ---- nothing was read of a text of lines
+lines_ahead-new : (at_end : Bool) (g : Geometry) (lines : Lines) → held_line lines.line ≡ [] → (lines.front ≡ Bare)
+    → (bytes : List ℕ) → lines_ahead at_end g lines bytes ≡ found_from at_end g [] (without_mark bytes)
+lines_ahead-new at_end g lines line front bytes =
+    ap (λ l. found_from at_end g l (behind_mark lines.front bytes)) line
+    ∙ ap (λ f. found_from at_end g [] (behind_mark f bytes)) front
 
-pub to_come-new : (g : Geometry) (form : Form) (cutter : Cutter) → held_line cutter.line ≡ [] → rest_of cutter ≡ [] → (cutter.front ≡ Bare) → (cutter.handed ≡ 0)
-    → (bytes : List ℕ) → to_come g cutter bytes ≡ problems_of g form bytes
-to_come-new g Fens cutter line rest front handed bytes =
-    ap (λ n. number_from n (found_ahead true g cutter bytes)) handed
-    ∙ ap (number_from 0) (found_ahead-new true g cutter line rest front bytes ∙ found_from-lines g (without_mark bytes))
+pub lines-new : (g : Geometry) (lines : Lines) → held_line lines.line ≡ [] → (lines.front ≡ Bare) → (bytes : List ℕ) → lines_ahead true g lines bytes ≡ found_of g Fens bytes
+lines-new g lines line front bytes = lines_ahead-new true g lines line front bytes ∙ found_from-lines g (without_mark bytes)
 
-pub ended-new : (g : Geometry) (form : Form) (cutter : Cutter) → held_line cutter.line ≡ [] → rest_of cutter ≡ [] → (cutter.front ≡ Bare) → (cutter.handed ≡ 0)
-    → (bytes : List ℕ) → ended g cutter bytes ≡ ended_problems_of g form bytes
-ended-new g Fens cutter line rest front handed bytes =
-    ap (λ n. number_from n (found_ahead false g cutter bytes)) handed
-    ∙ ap (number_from 0) (found_ahead-new false g cutter line rest front bytes ∙ found_from-whole_lines g (without_mark bytes))
+pub lines-new_ended : (g : Geometry) (lines : Lines) → held_line lines.line ≡ [] → (lines.front ≡ Bare) → (bytes : List ℕ) → lines_ahead false g lines bytes ≡ ended_of g Fens bytes
+lines-new_ended g lines line front bytes = lines_ahead-new false g lines line front bytes ∙ found_from-whole_lines g (without_mark bytes)
+
+-- ---- nothing was read of a text of tags: its mark stands outside its sections
+outside-mark : (at_end : Bool) (g : Geometry) (a b c : ℕ) (bytes : List ℕ) → ((a == 0xEF) && (b == 0xBB) && (c == 0xBF)) ≡ true
+    → sections_found at_end g Outside bare (a ∷ b ∷ c ∷ bytes) ≡ sections_found at_end g Outside bare bytes
+outside-mark at_end g a b c bytes h =
+    let all = and_parts ((a == 0xEF) && (b == 0xBB)) (c == 0xBF) h in
+    let both = and_parts (a == 0xEF) (b == 0xBB) all.0 in
+    rw (eqb-true a 0xEF both.0, eqb-true b 0xBB both.1, eqb-true c 0xBF all.1) refl
+
+sections-mark : (at_end : Bool) (g : Geometry) (bytes : List ℕ) → sections_found at_end g Outside bare bytes ≡ sections_found at_end g Outside bare (without_mark bytes)
+sections-mark at_end g [] = refl
+sections-mark at_end g (a ∷ []) = refl
+sections-mark at_end g (a ∷ b ∷ []) = refl
+sections-mark at_end g (a ∷ b ∷ c ∷ bytes) = elim (cases_Bool ((a == 0xEF) && (b == 0xBB) && (c == 0xBF))) [
+  | inl mark ↦ outside-mark at_end g a b c bytes mark ∙ ap (sections_found at_end g Outside bare) (sym (cond-true _ bytes (a ∷ b ∷ c ∷ bytes) mark))
+  | inr none ↦ ap (sections_found at_end g Outside bare) (sym (cond-false _ bytes (a ∷ b ∷ c ∷ bytes) none))
+]
+
+pub sections-new : (at_end : Bool) (g : Geometry) (sections : Sections) → (sections.place ≡ Outside) → held_of sections.section ≡ held_bare
+    → (bytes : List ℕ) → sections_ahead at_end g sections bytes ≡ sections_found at_end g Outside bare (without_mark bytes)
+sections-new at_end g sections place section bytes =
+    ap (λ p. held_from at_end g p (held_of sections.section) bytes) place
+    ∙ ap (λ h. held_from at_end g Outside h bytes) section
+    ∙ held_from-bare at_end g Outside bytes
+    ∙ sections-mark at_end g bytes

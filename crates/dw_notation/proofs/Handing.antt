@@ -1,52 +1,51 @@
 -- Lemmas on what is handed out.
-use Rattle.std.proofs.Common.{◌≡◌, ℕ, ◌<◌, inl, inr, List, [], ◌∷◌, ◌++◌, Bool, true, false, option_to_list, Option, Some, None, Ok, Err, refl, sym, ap, ◌∙◌, append_assoc, append-nil, subst, MatchBool}
+use Rattle.std.proofs.Common.{◌≡◌, ℕ, ◌<◌, inl, inr, List, [], ◌∷◌, ◌++◌, Bool, true, false, Option, Some, None, Ok, Err, refl, sym, ap, ◌∙◌, append_assoc, append-nil, subst, MatchBool}
 use Rattle.std.proofs.KnownBytes.{Consumes-nil, Consumes-trans}
 use Rattle.dw_board.specs.Geometry.{Geometry}
-use Rattle.dw_notation.specs.Found.{Found, line_found}
+use Rattle.dw_notation.specs.Found.{Found}
 use Rattle.dw_notation.specs.Ahead.{found_from, behind_mark}
 use Rattle.dw_notation.specs.Held.{held_line}
+use Rattle.dw_notation.specs.Pieces.{pieces_ahead, pieces_behind}
 use Rattle.dw_notation.specs.Problems.{Numbered, numbered, number_from}
-use Rattle.dw_notation.specs.Cutting.{CarriesOn, TakesLine, TakesLast, HandsOut, NextGives, ReadsLine, rest_of, found_ahead, problems_from, to_come, ended}
+use Rattle.dw_notation.specs.Cutting.{CarriesOn, TakesPiece, TakesLast, HandsOut, NextGives, ReadsPiece, rest_of, found_ahead, found_behind, found_cut, problems_from, to_come, ended}
 use Rattle.dw_notation.specs.declared.problems.mark.Front.{Front}
 use Rattle.dw_notation.specs.declared.problems.mark.Front.TheVariants.{Bare, One, Two, Behind}
 use Rattle.dw_notation.specs.declared.problems.cutter.Cutter.{Cutter}
+use Rattle.dw_notation.specs.declared.problems.pieces.Pieces.{Pieces}
+use Rattle.dw_notation.specs.declared.problems.pieces.Pieces.TheVariants.{InLines, InSections}
 use Rattle.dw_notation.specs.declared.problems.Problem.{Problem}
 use Rattle.dw_notation.specs.declared.problems.ReadFault.{ReadFault}
-use Rattle.dw_notation.proofs.Cuts.{line_found-nil}
 use Rattle.dw_notation.proofs.Numbers.{number_from-over}
 
--- what handing out the line did
-pub record LineHanded (g : Geometry) (cut new : Cutter) (problems : List Numbered) : Type 0 where
-  pub line : held_line new.line ≡ []
+-- what handing out the piece did
+pub record PieceHanded (g : Geometry) (cut new : Cutter) (problems : List Numbered) : Type 0 where
+  pub ahead : (at_end : Bool) (more : List ℕ) → pieces_behind at_end g cut.pieces more ≡ pieces_ahead at_end g new.pieces more
   pub rest : rest_of new ≡ rest_of cut
-  pub front : new.front ≡ cut.front
-  pub given : (found : List Found) → number_from cut.handed (option_to_list (line_found g (held_line cut.line)) ++ found) ≡ problems ++ number_from new.handed found
+  pub given : (found : List Found) → number_from cut.handed (found_cut g cut ++ found) ≡ problems ++ number_from new.handed found
 
 pub HandsOut-refl : (g : Geometry) (coming : Option (List ℕ)) (cutter : Cutter) → HandsOut g coming coming cutter cutter []
 HandsOut-refl g coming cutter = record { read = []; took = Consumes-nil coming; same = λ at_end more. refl }
 
--- behind the front, with no line begun
-found_ahead-fresh : (at_end : Bool) (g : Geometry) (new : Cutter) (more : List ℕ) → held_line new.line ≡ [] → (new.front ≡ Behind)
-    → found_from at_end g [] (rest_of new ++ more) ≡ found_ahead at_end g new more
-found_ahead-fresh at_end g new more line behind =
-    ap (λ l. found_from at_end g l (rest_of new ++ more)) (sym line)
-    ∙ ap (λ f. found_from at_end g (held_line new.line) (behind_mark f (rest_of new ++ more))) (sym behind)
+-- what is behind the piece is ahead
+found_ahead-behind : (at_end : Bool) (g : Geometry) (cut new : Cutter) (problems : List Numbered) (more : List ℕ) → PieceHanded g cut new problems
+    → found_behind at_end g cut more ≡ found_ahead at_end g new more
+found_ahead-behind at_end g cut new problems more handed =
+    handed.ahead at_end (rest_of cut ++ more) ∙ ap (λ l. pieces_ahead at_end g new.pieces (l ++ more)) (sym handed.rest)
 
--- nothing so far, and then a line
-pub HandsOut-line : (g : Geometry) (coming left after : Option (List ℕ)) (old mid cut new : Cutter) (problems : List Numbered)
-    → HandsOut g coming left old mid [] → TakesLine left after mid cut → (cut.handed ≡ mid.handed) → LineHanded g cut new problems
+-- nothing so far, and then a piece
+pub HandsOut-piece : (g : Geometry) (coming left after : Option (List ℕ)) (old mid cut new : Cutter) (problems : List Numbered)
+    → HandsOut g coming left old mid [] → TakesPiece left after mid cut → (cut.handed ≡ mid.handed) → PieceHanded g cut new problems
     → HandsOut g coming after old new problems
-HandsOut-line g coming left after old mid cut new problems so_far line same_number handed = record {
-  read = so_far.read ++ line.read;
-  took = Consumes-trans coming left after so_far.read line.read so_far.took line.took;
+HandsOut-piece g coming left after old mid cut new problems so_far piece same_number handed = record {
+  read = so_far.read ++ piece.read;
+  took = Consumes-trans coming left after so_far.read piece.read so_far.took piece.took;
   same = λ at_end more.
-      ap (problems_from at_end g old) (append_assoc so_far.read line.read more)
-      ∙ so_far.same at_end (line.read ++ more)
-      ∙ ap (number_from mid.handed) (line.same g at_end more)
-      ∙ ap (λ n. number_from n (option_to_list (line_found g (held_line cut.line)) ++ found_from at_end g [] (rest_of cut ++ more))) (sym same_number)
-      ∙ handed.given (found_from at_end g [] (rest_of cut ++ more))
-      ∙ ap (λ l. problems ++ number_from new.handed (found_from at_end g [] (l ++ more))) (sym handed.rest)
-      ∙ ap (λ l. problems ++ number_from new.handed l) (found_ahead-fresh at_end g new more handed.line (handed.front ∙ line.behind));
+      ap (problems_from at_end g old) (append_assoc so_far.read piece.read more)
+      ∙ so_far.same at_end (piece.read ++ more)
+      ∙ ap (number_from mid.handed) (piece.same g at_end more)
+      ∙ ap (λ n. number_from n (found_cut g cut ++ found_behind at_end g cut more)) (sym same_number)
+      ∙ handed.given (found_behind at_end g cut more)
+      ∙ ap (λ l. problems ++ number_from new.handed l) (found_ahead-behind at_end g cut new problems more handed);
 }
 
 -- a problem that was handed out
@@ -79,9 +78,14 @@ ended-front g line One = refl
 ended-front g line Two = refl
 ended-front g line Behind = refl
 
--- nothing more ends, where all that was read is on the line
+-- nor does any piece begun
+ended-piece : (g : Geometry) (pieces : Pieces) → pieces_ahead false g pieces [] ≡ []
+ended-piece g (InLines lines) = ended-front g (held_line lines.line) lines.front
+ended-piece g (InSections sections) = refl
+
+-- nothing more ends, where all that was read belongs to the piece begun
 ended-none : (g : Geometry) (new : Cutter) → rest_of new ≡ [] → found_ahead false g new [] ≡ []
-ended-none g new none = ap (λ l. found_from false g (held_line new.line) (behind_mark new.front (l ++ []))) none ∙ ended-front g (held_line new.line) new.front
+ended-none g new none = ap (λ l. pieces_ahead false g new.pieces (l ++ [])) none ∙ ended-piece g new.pieces
 
 -- the source failed
 pub NextGives-err : {B : Type 0} (g : Geometry) (coming left after : Option (List ℕ)) (old mid new : Cutter) (fault : ReadFault)
@@ -103,26 +107,26 @@ NextGives-err g coming left after old mid new fault so_far on none same_number =
 
 -- the last piece of the text
 pub to_come-last : (g : Geometry) (coming left after : Option (List ℕ)) (old mid cut new : Cutter) (problems : List Numbered)
-    → (so_far : HandsOut g coming left old mid []) → (last : TakesLast left after mid cut) → (cut.handed ≡ mid.handed) → LineHanded g cut new problems
+    → (so_far : HandsOut g coming left old mid []) → (last : TakesLast left after mid cut) → (cut.handed ≡ mid.handed) → PieceHanded g cut new problems
     → (to_come g old (so_far.read ++ last.read) ≡ problems ++ to_come g new []) × (to_come g new [] ≡ [])
 to_come-last g coming left after old mid cut new problems so_far last same_number handed =
     let empty : to_come g new [] ≡ [] =
     ap (number_from new.handed) (
-    sym (found_ahead-fresh true g new [] handed.line (handed.front ∙ last.behind))
-    ∙ ap (λ l. found_from true g [] (l ++ [])) (handed.rest ∙ last.none)
-    ∙ ap option_to_list (line_found-nil g)
+    ap (λ l. pieces_ahead true g new.pieces (l ++ [])) (handed.rest ∙ last.none)
+    ∙ sym (handed.ahead true [])
+    ∙ last.over g
     ) in (
       so_far.same true last.read
           ∙ ap (number_from mid.handed) (last.same g)
-          ∙ ap (λ n. number_from n (option_to_list (line_found g (held_line cut.line)))) (sym same_number)
-          ∙ ap (number_from cut.handed) (sym (append-nil (option_to_list (line_found g (held_line cut.line)))))
+          ∙ ap (λ n. number_from n (found_cut g cut)) (sym same_number)
+          ∙ ap (number_from cut.handed) (sym (append-nil (found_cut g cut)))
           ∙ handed.given []
           ∙ ap (λ l. problems ++ l) (sym empty),
       empty,
     )
 
 pub NextGives-last : {B : Type 0} (g : Geometry) (coming left after : Option (List ℕ)) (old mid cut new : Cutter) (problem : Problem B)
-    → HandsOut g coming left old mid [] → TakesLast left after mid cut → (cut.handed ≡ mid.handed) → LineHanded g cut new (numbered problem ∷ []) → (new.met_end ≡ true)
+    → HandsOut g coming left old mid [] → TakesLast left after mid cut → (cut.handed ≡ mid.handed) → PieceHanded g cut new (numbered problem ∷ []) → (new.met_end ≡ true)
     → NextGives g coming after old new (Ok (Some problem))
 NextGives-last g coming left after old mid cut new problem so_far last same_number handed met = record {
   read = so_far.read ++ last.read;
@@ -133,7 +137,7 @@ NextGives-last g coming left after old mid cut new problem so_far last same_numb
 }
 
 pub NextGives-none : {B : Type 0} (g : Geometry) (coming left after : Option (List ℕ)) (old mid cut new : Cutter)
-    → HandsOut g coming left old mid [] → TakesLast left after mid cut → (cut.handed ≡ mid.handed) → LineHanded g cut new [] → (new.met_end ≡ true)
+    → HandsOut g coming left old mid [] → TakesLast left after mid cut → (cut.handed ≡ mid.handed) → PieceHanded g cut new [] → (new.met_end ≡ true)
     → NextGives {B = B} g coming after old new (Ok None)
 NextGives-none g coming left after old mid cut new so_far last same_number handed met =
     let end = to_come-last g coming left after old mid cut new [] so_far last same_number handed in
@@ -144,22 +148,22 @@ NextGives-none g coming left after old mid cut new so_far last same_number hande
     }
 
 pub NextGives-some : {B : Type 0} (g : Geometry) (coming left after : Option (List ℕ)) (old mid cut new : Cutter) (problem : Problem B) (is_whole : Bool)
-    → HandsOut g coming left old mid [] → ReadsLine left after mid cut (Ok is_whole) → (cut.handed ≡ mid.handed) → LineHanded g cut new (numbered problem ∷ []) → (new.met_end ≡ cut.met_end)
+    → HandsOut g coming left old mid [] → ReadsPiece left after mid cut (Ok is_whole) → (cut.handed ≡ mid.handed) → PieceHanded g cut new (numbered problem ∷ []) → (new.met_end ≡ cut.met_end)
     → NextGives g coming after old new (Ok (Some problem))
-NextGives-some g coming left after old mid cut new problem true so_far line same_number handed met =
-    NextGives-problem g coming after old new problem (HandsOut-line g coming left after old mid cut new (numbered problem ∷ []) so_far line same_number handed)
-NextGives-some g coming left after old mid cut new problem false so_far line same_number handed met =
-    NextGives-last g coming left after old mid cut new problem so_far line.0 same_number handed (met ∙ line.1)
+NextGives-some g coming left after old mid cut new problem true so_far piece same_number handed met =
+    NextGives-problem g coming after old new problem (HandsOut-piece g coming left after old mid cut new (numbered problem ∷ []) so_far piece same_number handed)
+NextGives-some g coming left after old mid cut new problem false so_far piece same_number handed met =
+    NextGives-last g coming left after old mid cut new problem so_far piece.0 same_number handed (met ∙ piece.1)
 
 pub NextGives-end : {B : Type 0} (g : Geometry) (coming left after : Option (List ℕ)) (old mid cut new : Cutter) (is_whole : Bool) → is_whole ≡ false
-    → HandsOut g coming left old mid [] → ReadsLine left after mid cut (Ok is_whole) → (cut.handed ≡ mid.handed) → LineHanded g cut new [] → (new.met_end ≡ cut.met_end)
+    → HandsOut g coming left old mid [] → ReadsPiece left after mid cut (Ok is_whole) → (cut.handed ≡ mid.handed) → PieceHanded g cut new [] → (new.met_end ≡ cut.met_end)
     → NextGives {B = B} g coming after old new (Ok None)
-NextGives-end g coming left after old mid cut new true e so_far line same_number handed met = cc
-NextGives-end g coming left after old mid cut new false e so_far line same_number handed met =
-    NextGives-none g coming left after old mid cut new so_far line.0 same_number handed (met ∙ line.1)
+NextGives-end g coming left after old mid cut new true e so_far piece same_number handed met = cc
+NextGives-end g coming left after old mid cut new false e so_far piece same_number handed met =
+    NextGives-none g coming left after old mid cut new so_far piece.0 same_number handed (met ∙ piece.1)
 
 pub HandsOut-blank : (g : Geometry) (coming left after : Option (List ℕ)) (old mid cut new : Cutter) (is_whole : Bool) → is_whole ≡ true
-    → HandsOut g coming left old mid [] → ReadsLine left after mid cut (Ok is_whole) → (cut.handed ≡ mid.handed) → LineHanded g cut new []
+    → HandsOut g coming left old mid [] → ReadsPiece left after mid cut (Ok is_whole) → (cut.handed ≡ mid.handed) → PieceHanded g cut new []
     → HandsOut g coming after old new []
-HandsOut-blank g coming left after old mid cut new false e so_far line same_number handed = cc
-HandsOut-blank g coming left after old mid cut new true e so_far line same_number handed = HandsOut-line g coming left after old mid cut new [] so_far line same_number handed
+HandsOut-blank g coming left after old mid cut new false e so_far piece same_number handed = cc
+HandsOut-blank g coming left after old mid cut new true e so_far piece same_number handed = HandsOut-piece g coming left after old mid cut new [] so_far piece same_number handed

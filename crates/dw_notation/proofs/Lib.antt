@@ -5,3 +5,5 @@ pub mod Marks
 pub mod Carries
 pub mod Definition
 pub mod Handing
+pub mod Names
+pub mod Holding

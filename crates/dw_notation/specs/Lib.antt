@@ -3,8 +3,12 @@ pub mod Endpoints
 pub mod Writes
 pub mod Lines
 pub mod Found
+pub mod Places
+pub mod Sections
+pub mod HeldSection
 pub mod Problems
 pub mod Held
 pub mod Ahead
+pub mod Pieces
 pub mod Cutting
 pub mod Reading

@@ -5,9 +5,14 @@
 
 mod cutter;
 mod line;
+mod lines;
 mod mark;
+mod pieces;
+mod place;
 mod reader;
 mod scan;
+mod section;
+mod sections;
 mod text;
 
 use dw_board::board::Board;
@@ -22,11 +27,17 @@ pub const MAX_PROBLEMS: u32 = 1_000_000;
 /// The most bytes of a line, without the carriage return at its end.
 pub const MAX_LINE: usize = 4096;
 
+/// The most bytes of a section, from its first bracket to the end of its last tag.
+pub const MAX_SECTION: usize = 65536;
+
 /// How a text holds its problems.
 #[derive(Clone, Copy, Debug, PartialEq, Eq)]
 pub enum Form {
     /// One FEN text a line. Lines of blanks alone are passed over.
     Fens,
+    /// Sections of tags, as those before the games of a file; a section is a problem, and its FEN tag holds
+    /// the FEN text. Comments stand in braces, and movetext is passed over.
+    Pdn,
 }
 
 /// Why a problem was refused. Its number is that of the variant, from 1 on.

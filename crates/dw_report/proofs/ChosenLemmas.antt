@@ -13,7 +13,6 @@ use Rattle.dw_notation.specs.Problems.{Numbered, number_from, problems_of}
 use Rattle.dw_notation.specs.declared.problems.TheConstants.{MAX_PROBLEMS}
 use Rattle.dw_notation.specs.declared.problems.ProblemFault.TheVariants.{TooManyProblems}
 use Rattle.dw_notation.specs.declared.problems.Form.{Form}
-use Rattle.dw_notation.specs.declared.problems.Form.TheVariants.{Fens}
 use Rattle.dw_report.specs.Chosen.{number_is_chosen}
 use Rattle.dw_report.specs.Report.{chosen, report_on, problem_text}
 use Rattle.dw_report.specs.Running.{is_asked, up_to_asked, is_refused}
@@ -37,7 +36,7 @@ number_from-AreNumbered handed (f ∷ found) =
     (number_from (handed + 1) found) (number_from-AreNumbered (handed + 1) found) refl refl
 
 pub problems_of-AreNumbered : (g : Geometry) (form : Form) (bytes : List ℕ) → AreNumbered 0 (problems_of g form bytes)
-problems_of-AreNumbered g Fens bytes = number_from-AreNumbered 0 _
+problems_of-AreNumbered g form bytes = number_from-AreNumbered 0 _
 
 pub AreNumbered-behind : (n : ℕ) (xs ys : List Numbered) → AreNumbered n (xs ++ ys) → AreNumbered (n + length xs) ys
 AreNumbered-behind n [] ys h = let e : n ≡ n + 0 = omega arith in subst (λ k. AreNumbered k ys) e h

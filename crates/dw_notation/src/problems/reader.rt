@@ -20,7 +20,7 @@ impl<'a, B: Board, S: Source> Problems<'a, B, S> {
     ghost use Rattle.dw_notation.specs.Problems.{problems_of, ended_problems_of};
     ghost use Rattle.dw_notation.specs.Cutting.{to_come, ended, has_met_end, handed_count};
     ghost use Rattle.dw_notation.specs.Cutting.{NextGives, EndIsTrue, IsStarved, HasStopped, IsCounted};
-    ghost use Rattle.dw_notation.specs.Cutting.{ReadsLine, weight};
+    ghost use Rattle.dw_notation.specs.Cutting.{ReadsPiece, weight};
     ghost use Rattle.dw_notation.specs.Reading.{lender, source_of, cutter_of};
 
     /// A reader of all problems that the source has still to give.
@@ -35,19 +35,18 @@ impl<'a, B: Board, S: Source> Problems<'a, B, S> {
         ensures met_end { has_met_end (cutter_of result) ≡ false }
         ensures handed { handed_count (cutter_of result) ≡ 0 }
     {
-        let Form::Fens = form;
         Problems {
             source,
-            cutter: Cutter::new(),
+            cutter: Cutter::new(form),
             board: PhantomData,
         }
     }
 
-    /// Reads up to the end of a line, and answers whether a line feed ends it.
-    fn next_line(&mut self) -> Result<bool, ReadFault>
+    /// Reads up to the end of a piece, and answers whether it ends before the text does.
+    fn next_piece(&mut self) -> Result<bool, ReadFault>
         ensures lender { lender self.new ≡ lender self.old }
         ensures handed { self.new.cutter.handed ≡ self.old.cutter.handed }
-        ensures line { ReadsLine (S.coming (source_of self.old)) (S.coming (source_of self.new))
+        ensures piece { ReadsPiece (S.coming (source_of self.old)) (S.coming (source_of self.new))
             self.old.cutter self.new.cutter result }
         ensures end { EndIsTrue (S.coming (source_of self.old)) self.old.cutter
             → EndIsTrue (S.coming (source_of self.new)) self.new.cutter }
@@ -64,7 +63,7 @@ impl<'a, B: Board, S: Source> Problems<'a, B, S> {
                 return Ok(true);
             }
             if self.cutter.met_end() {
-                self.cutter.leave_front();
+                self.cutter.finish();
                 return Ok(false);
             }
             match self.cutter.fill(self.source) {
@@ -92,11 +91,11 @@ impl<'a, B: Board, S: Source> Problems<'a, B, S> {
             → has_met_end (cutter_of self.new) ≡ true }
         ensures counted { IsCounted (cutter_of self.old) (cutter_of self.new) result }
     {
-        'lines: loop {
+        'pieces: loop {
             if self.cutter.handed() > MAX_PROBLEMS {
                 return Ok(None);
             }
-            match self.next_line() {
+            match self.next_piece() {
                 Err(fault) => return Err(fault),
                 Ok(is_whole) => {
                     if let Some(problem) = self.cutter.hand_out() {

@@ -1,6 +1,5 @@
 use Rattle.std.proofs.Common.{◌≡◌, ◌++◌, option_to_list, Some, sym, ◌∙◌, ap, arith}
-use Rattle.dw_notation.specs.Found.{line_found}
-use Rattle.dw_notation.specs.Held.{held_line}
+use Rattle.dw_notation.specs.Pieces.{pieces_cut}
 use Rattle.dw_notation.specs.Problems.{number_from}
 use Rattle.dw_notation.proofs.Numbers.{number_from-step, number_from-last}
 use Rattle.dw_notation.proofs.problems.cutter.Cutter.hand_out.Goals as goal
@@ -8,7 +7,7 @@ use Rattle.dw_notation.proofs.problems.cutter.Cutter.hand_out.Goals.{then-self-l
 
 pub returns-clause-given : goal.returns-clause-given
 returns-clause-given g c = λ found.
-    let said : Some c.in_ok-found.found ≡ line_found g.B.Board.geometry (held_line c.args.self.now.line) = c.in_ok-found.ensures in
+    let said : Some c.in_ok-found.found ≡ pieces_cut g.B.Board.geometry c.args.self.now.pieces = c.in_ok-found.ensures in
     ap (λ x. number_from c.args.self.now.handed (option_to_list x ++ found)) (sym said) ∙
     elim c.if-self-lt-MAX_PROBLEMS.branch [
       | then-self-lt-MAX_PROBLEMS w ↦ rw w.found-is (number_from-step _ _ found w.if-self-lt-MAX_PROBLEMS.true)

@@ -4,37 +4,37 @@ use Rattle.dw_notation.proofs.Carries.{not_err, or-not_err}
 use Rattle.dw_notation.proofs.problems.reader.Problems.next.Goals as goal
 
 pub returns-then-handed-gt-MAX_PROBLEMS-clause-given : goal.returns-then-handed-gt-MAX_PROBLEMS-clause-given
-returns-then-handed-gt-MAX_PROBLEMS-clause-given g c = NextGives-over _ _ _ _ _ c.lines.invariant.nothing (omega (arith, c.handed.ensures))
+returns-then-handed-gt-MAX_PROBLEMS-clause-given g c = NextGives-over _ _ _ _ _ c.pieces.invariant.nothing (omega (arith, c.handed.ensures))
 
 pub returns-in-Err-clause-given : goal.returns-in-Err-clause-given
 returns-in-Err-clause-given g c =
-    let line = c.in-Err.ensures.line in
-    NextGives-err _ _ _ _ _ c.lines.self.cutter c.next_line.new.self.cutter c.in-Err.fault c.lines.invariant.nothing line.0 line.1 c.next_line.ensures.handed
+    let piece = c.in-Err.ensures.piece in
+    NextGives-err _ _ _ _ _ c.pieces.self.cutter c.next_piece.new.self.cutter c.in-Err.fault c.pieces.invariant.nothing piece.0 piece.1 c.next_piece.ensures.handed
 
 pub returns-in-Some-clause-given : goal.returns-in-Some-clause-given
 returns-in-Some-clause-given g c =
     let handed = c.hand_out.ensures in
-    NextGives-some _ _ _ _ _ c.lines.self.cutter c.next_line.new.self.cutter c.hand_out.new.self c.in-Some.problem c.in-Ok.is_whole
-    c.lines.invariant.nothing c.in-Ok.ensures.line c.next_line.ensures.handed
-    (record { line = handed.line; rest = handed.rest; front = handed.front; given = c.in-Some.ensures.given }) handed.met_end
+    NextGives-some _ _ _ _ _ c.pieces.self.cutter c.next_piece.new.self.cutter c.hand_out.new.self c.in-Some.problem c.in-Ok.is_whole
+    c.pieces.invariant.nothing c.in-Ok.ensures.piece c.next_piece.ensures.handed
+    (record { ahead = handed.ahead _; rest = handed.rest; given = c.in-Some.ensures.given }) handed.met_end
 
 pub returns-then-not-is_whole-clause-given : goal.returns-then-not-is_whole-clause-given
 returns-then-not-is_whole-clause-given g c =
     let handed = c.hand_out.ensures in
-    NextGives-end _ _ _ _ _ c.lines.self.cutter c.next_line.new.self.cutter c.hand_out.new.self c.in-Ok.is_whole c.if-not-is_whole.true
-    c.lines.invariant.nothing c.in-Ok.ensures.line c.next_line.ensures.handed
-    (record { line = handed.line; rest = handed.rest; front = handed.front; given = c.in_default.ensures.given }) handed.met_end
+    NextGives-end _ _ _ _ _ c.pieces.self.cutter c.next_piece.new.self.cutter c.hand_out.new.self c.in-Ok.is_whole c.if-not-is_whole.true
+    c.pieces.invariant.nothing c.in-Ok.ensures.piece c.next_piece.ensures.handed
+    (record { ahead = handed.ahead _; rest = handed.rest; given = c.in_default.ensures.given }) handed.met_end
 
-pub lines-preserved : goal.lines-preserved
-lines-preserved g c =
-    let so_far = c.lines.invariant in
+pub pieces-preserved : goal.pieces-preserved
+pieces-preserved g c =
+    let so_far = c.pieces.invariant in
     let handed = c.hand_out.ensures in
-    let next = c.next_line.ensures in
+    let next = c.next_piece.ensures in
     record {
       lender = search rules;
-      nothing = HandsOut-blank _ _ _ _ _ c.lines.self.cutter c.next_line.new.self.cutter c.hand_out.new.self c.in-Ok.is_whole c.if-not-is_whole.false
-          so_far.nothing c.in-Ok.ensures.line next.handed
-          (record { line = handed.line; rest = handed.rest; front = handed.front; given = c.in_default.ensures.given });
+      nothing = HandsOut-blank _ _ _ _ _ c.pieces.self.cutter c.next_piece.new.self.cutter c.hand_out.new.self c.in-Ok.is_whole c.if-not-is_whole.false
+          so_far.nothing c.in-Ok.ensures.piece next.handed
+          (record { ahead = handed.ahead _; rest = handed.rest; given = c.in_default.ensures.given });
       end = search rules;
       handed = c.in_default.ensures.handed ∙ add-zero _ ∙ next.handed ∙ so_far.handed;
       stays = λ met. handed.met_end ∙ next.stays (so_far.stays met);

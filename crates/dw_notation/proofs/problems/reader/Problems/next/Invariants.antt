@@ -2,8 +2,8 @@ use Rattle.std.proofs.Common.{◌≡◌, true, []}
 use Rattle.dw_notation.specs.Cutting.{HandsOut, weight, EndIsTrue, IsStarved}
 use Rattle.dw_notation.proofs.problems.reader.Problems.next.Given as goal
 
-abbrev pub invariant-lines : goal.invariant-lines
-invariant-lines g l =
+abbrev pub invariant-pieces : goal.invariant-pieces
+invariant-pieces g l =
     let source = g.S.Source in
     record {
       lender : l.self.source.ghost_name ≡ l.initial.self.source.ghost_name;
@@ -15,5 +15,5 @@ invariant-lines g l =
       again : source.is_failed l.initial.self.source.now ≡ true → IsStarved l.initial.self.cutter → IsStarved l.self.cutter;
     }
 
-abbrev pub decreases-lines : goal.decreases-lines
-decreases-lines g l = weight (g.S.Source.pulls_left l.self.source.now) l.self.cutter
+abbrev pub decreases-pieces : goal.decreases-pieces
+decreases-pieces g l = weight (g.S.Source.pulls_left l.self.source.now) l.self.cutter

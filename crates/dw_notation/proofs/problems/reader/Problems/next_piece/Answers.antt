@@ -1,15 +1,15 @@
 use Rattle.std.proofs.Common.{◌≡◌, true, false, rules, arith, ◌∙◌, sym}
 use Rattle.dw_notation.proofs.Cuts.{length-slice_range-le}
 use Rattle.dw_notation.proofs.Carries.{CarriesOn-cut, CarriesOn-fill, TakesLast-end, weight-fill, not_err, or-not_err}
-use Rattle.dw_notation.proofs.problems.reader.Problems.next_line.Goals as goal
+use Rattle.dw_notation.proofs.problems.reader.Problems.next_piece.Goals as goal
 
-pub returns-then-met_end-clause-line : goal.returns-then-met_end-clause-line
-returns-then-met_end-clause-line g c =
-    let left = c.leave_front.ensures in
+pub returns-then-met_end-clause-piece : goal.returns-then-met_end-clause-piece
+returns-then-met_end-clause-piece g c =
+    let end = c.finish.ensures in
     let cut = c.cut.ensures in
     let so_far = CarriesOn-cut _ _ c.args.self.now.cutter c.reads.self.cutter c.cut.new.self c.reads.invariant.carried (cut.same c.if-cut.false) in (
-      TakesLast-end _ _ c.args.self.now.cutter c.cut.new.self c.leave_front.new.self so_far (cut.none c.if-cut.false) left.rest left.front left.line,
-      left.met_end ∙ sym c.met_end.ensures ∙ c.if-met_end.true,
+      TakesLast-end _ _ c.args.self.now.cutter c.cut.new.self c.finish.new.self so_far (cut.none c.if-cut.false) end.rest end.found end.over,
+      end.met_end ∙ sym c.met_end.ensures ∙ c.if-met_end.true,
     )
 
 pub reads-preserved : goal.reads-preserved
@@ -25,7 +25,7 @@ reads-preserved g c =
     let light = weight-fill new.met_end _ _ _ c.in-Ok.ensures.more (omega (arith, short, new.in_buffer)) fill.none in
     record {
       lender = search rules;
-      carried = CarriesOn-fill _ _ _ _ c.cut.new.self new carried none fill.line fill.front fill.bytes;
+      carried = CarriesOn-fill _ _ _ _ c.cut.new.self new carried none fill.pieces fill.bytes;
       handed = fill.handed ∙ cut.handed ∙ so_far.handed;
       stays = λ was. let bad : true ≡ false = sym (so_far.stays was) ∙ sym cut.met_end ∙ unmet in cc;
       end = λ _. fill.end;

@@ -1,6 +1,6 @@
 use Rattle.std.proofs.Common.{◌≡◌, ◌≤◌, ◌+◌, true, cond}
 use Rattle.dw_notation.specs.Cutting.{CarriesOn, weight, EndIsTrue, IsStarved}
-use Rattle.dw_notation.proofs.problems.reader.Problems.next_line.Given as goal
+use Rattle.dw_notation.proofs.problems.reader.Problems.next_piece.Given as goal
 
 abbrev pub invariant-reads : goal.invariant-reads
 invariant-reads g l =

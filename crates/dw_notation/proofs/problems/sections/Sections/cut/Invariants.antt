@@ -1,0 +1,7 @@
+use Rattle.std.proofs.Common.{◌≡◌, ℕ, List, ◌++◌, Bool, drop}
+use Rattle.dw_board.specs.Geometry.{Geometry}
+use Rattle.dw_notation.specs.HeldSection.{sections_ahead}
+use Rattle.dw_notation.proofs.problems.sections.Sections.cut.Given as goal
+
+abbrev pub invariant-bytes : goal.invariant-bytes
+invariant-bytes l = (g : Geometry) (at_end : Bool) (more : List ℕ) → sections_ahead at_end g l.initial.self (l.bytes ++ more) ≡ sections_ahead at_end g l.self (drop l.i l.bytes ++ more)

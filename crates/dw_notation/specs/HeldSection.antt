@@ -1,0 +1,129 @@
+-- What is held of a section, and what decides what it says.
+use Rattle.std.specs.Prelude.{ℕ, ◌==◌, ◌+◌, ◌-◌, ◌*◌, ◌||◌, if◌then◌else◌, not, min, List, [], ◌∷◌, ◌++◌, length, Bool, true, false, Option, Some, None, Err, nat_lt}
+use Rattle.std.specs.Char.{is_ascii_digit}
+use Rattle.dw_board.specs.Geometry.{Geometry}
+use Rattle.dw_board.specs.Fen.{fen}
+use Rattle.dw_notation.specs.Found.{Found, fen_found, is_blank}
+use Rattle.dw_notation.specs.Places.{step}
+use Rattle.dw_notation.specs.Sections.{kind_of, found_by, found_at_end}
+use Rattle.dw_notation.specs.declared.problems.TheConstants.{MAX_SECTION}
+use Rattle.dw_notation.specs.declared.problems.ProblemFault.TheVariants.{NoFen, TwoFens, WrongGame, SectionTooLong, UnclosedTag, UnclosedComment}
+use Rattle.dw_notation.specs.declared.problems.place.Place.{Place}
+use Rattle.dw_notation.specs.declared.problems.place.Deed.{Deed}
+use Rattle.dw_notation.specs.declared.problems.place.Deed.TheVariants.{Keep, Open, Count, AddName, OpenValue, AddValue, AddBoth, Close, Break, EndLine, NextTag, End}
+use Rattle.dw_notation.specs.declared.problems.section.Kind.{Kind}
+use Rattle.dw_notation.specs.declared.problems.section.Kind.TheVariants.{FenTag, GameTag, OtherTag}
+use Rattle.dw_notation.specs.declared.problems.section.Game.{Game}
+use Rattle.dw_notation.specs.declared.problems.section.Game.TheVariants.{Before, Within, Behind}
+use Rattle.dw_notation.specs.declared.problems.section.HeldSection.{HeldSection}
+use Rattle.dw_notation.specs.declared.problems.sections.Sections.{Sections}
+use Rattle.dw_notation.specs.declared.problems.sections.Cut.{Cut}
+use Rattle.dw_notation.specs.declared.problems.sections.Cut.TheVariants.{Nothing, Section, Comment}
+
+-- what is held of a section; bytes are counted up to one more than it may have, and the tags of FEN texts up to two
+pub record Held : Type 0 where
+  pub read : ℕ
+  pub size : ℕ
+  pub is_unclosed : Bool
+  pub name : List ℕ
+  pub kind : Kind
+  pub fens : ℕ
+  pub fen_text : List ℕ
+  pub game : Game
+  pub has_game : Bool
+  pub is_wrong : Bool
+
+abbrev pub held_of : HeldSection → Held
+held_of s = record {
+  read = s.read;
+  size = s.size;
+  is_unclosed = s.is_unclosed;
+  name = s.name.items;
+  kind = s.kind;
+  fens = s.fens;
+  fen_text = s.fen_text.items;
+  game = s.game;
+  has_game = s.has_game;
+  is_wrong = s.is_wrong;
+}
+
+abbrev pub held_bare : Held
+held_bare = record { read = 0; size = 0; is_unclosed = false; name = []; kind = OtherTag; fens = 0; fen_text = []; game = Before; has_game = false; is_wrong = false }
+
+-- one more, as far as it is counted
+abbrev pub counted : ℕ → ℕ → ℕ
+counted most n = if nat_lt n most then n + 1 else n
+
+-- one more byte, as far as they are kept
+abbrev pub kept : ℕ → List ℕ → ℕ → List ℕ
+kept most text byte = if nat_lt (length text) most then text ++ byte ∷ [] else text
+
+-- the game with one more byte of the value; any number from 21 on is held as 21
+abbrev pub game_on : Game → ℕ → Game
+game_on Before byte = if is_blank byte then Before else (if is_ascii_digit byte then Within (byte - 48) else Behind 20)
+game_on (Within n) byte = if is_ascii_digit byte then Within (min (n * 10 + (byte - 48)) 21) else Behind n
+game_on (Behind n) byte = Behind n
+
+-- the number of the game, where the value ends here
+abbrev pub number_held : Game → ℕ
+number_held Before = 20
+number_held (Within n) = n
+number_held (Behind n) = n
+
+abbrev pub counted_in : Held → Held
+counted_in h = record h { read = counted (MAX_SECTION + 1) h.read }
+
+abbrev pub value_on : Kind → Held → ℕ → Held
+value_on FenTag h byte = record h { fen_text = if h.fens == 0 then kept 1025 h.fen_text byte else h.fen_text }
+value_on GameTag h byte = record h { game = game_on h.game byte }
+value_on OtherTag h byte = h
+
+abbrev pub tag_on : Kind → Held → Held
+tag_on FenTag h = record h { fens = counted 2 h.fens }
+tag_on GameTag h = record h { has_game = true; is_wrong = not (number_held h.game == 20) || h.is_wrong }
+tag_on OtherTag h = h
+
+-- what a byte does to what is held
+abbrev pub held_after : Deed → Held → Held
+held_after Keep h = h
+held_after Open h = record held_bare { read = 1 }
+held_after Count h = counted_in h
+held_after (AddName byte) h = record (counted_in h) { name = kept 9 h.name byte }
+held_after OpenValue h = record (counted_in h) { kind = kind_of h.name; game = Before; fen_text = if h.fens == 0 then [] else h.fen_text }
+held_after (AddValue byte) h = value_on h.kind (counted_in h) byte
+held_after (AddBoth byte) h = value_on h.kind (value_on h.kind (counted_in h) 92) byte
+held_after Close h = tag_on h.kind (record (counted_in h) { size = counted (MAX_SECTION + 1) h.read })
+held_after Break h = record (counted_in h) { is_unclosed = true }
+held_after EndLine h = record (counted_in h) { size = h.read; is_unclosed = true }
+held_after NextTag h = record (counted_in h) { name = [] }
+held_after End h = h
+
+abbrev pub is_wrong_held : Geometry → Held → Bool
+is_wrong_held g h = if g.rows == 10 then h.is_wrong else h.has_game
+
+abbrev pub fens_held : Geometry → ℕ → List ℕ → Found
+fens_held g fens text = if fens == 0 then Err NoFen else (if fens == 1 then fen_found (fen g text) else Err TwoFens)
+
+-- what is held says
+abbrev pub held_found : Geometry → Held → Found
+held_found g h =
+    if nat_lt MAX_SECTION h.size then Err SectionTooLong else (if h.is_unclosed then Err UnclosedTag else (if is_wrong_held g h then Err WrongGame else fens_held g h.fens h.fen_text))
+
+-- what is held and then the bytes say
+abbrev pub held_from : Bool → Geometry → Place → Held → List ℕ → List Found
+held_from at_end g place h [] = if at_end then found_at_end place (held_found g h) (held_found g (held_after EndLine h)) else []
+held_from at_end g place h (byte ∷ bytes) =
+    found_by (step place byte).deed (held_found g h) ++ held_from at_end g (step place byte).place (held_after (step place byte).deed h) bytes
+
+-- the section begun and then the bytes
+abbrev pub sections_ahead : Bool → Geometry → Sections → List ℕ → List Found
+sections_ahead at_end g s bytes = held_from at_end g s.place (held_of s.section) bytes
+
+-- what was cut off and is to be handed out
+abbrev pub cut_found : Geometry → Cut → Held → Option Found
+cut_found g Nothing h = None
+cut_found g Section h = Some (held_found g h)
+cut_found g Comment h = Some (Err UnclosedComment)
+
+abbrev pub sections_cut : Geometry → Sections → Option Found
+sections_cut g s = cut_found g s.cut (held_of s.section)

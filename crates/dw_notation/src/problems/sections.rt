@@ -1,0 +1,100 @@
+//! The sections of a text of tags, one at a time.
+ghost use Rattle.std.specs.Prelude.{◌≡◌, ℕ, ◌+◌, ◌<◌, List, [], ◌∷◌, ◌++◌, Bool, true, false, length, drop, option_to_list, if◌then◌else◌, IfSome, IfNone};
+ghost use Rattle.dw_board.specs.Geometry.{Geometry};
+
+use super::ProblemFault;
+use super::place::{Deed, Place};
+use super::section::HeldSection;
+use dw_board::board::Board;
+use dw_board::position::Position;
+
+/// What was cut off of a text of tags.
+#[derive(Clone, Copy)]
+pub(super) enum Cut {
+    Nothing,
+    Section,
+    /// A comment that is not closed.
+    Comment,
+}
+
+/// How far a text of tags was read, and what was cut off last.
+#[derive(Drop)]
+pub(super) struct Sections {
+    place: Place,
+    section: HeldSection,
+    cut: Cut,
+}
+
+impl Sections {
+    ghost use Rattle.dw_notation.specs.HeldSection.{sections_ahead, sections_cut, held_of, held_bare};
+
+    pub(super) fn new() -> Sections
+        ensures place { result.place ≡ Place.Outside }
+        ensures section { held_of result.section ≡ held_bare }
+    {
+        Sections {
+            place: Place::Outside,
+            section: HeldSection::new(),
+            cut: Cut::Nothing,
+        }
+    }
+
+    /// Reads a byte, and answers whether it ends a section, which is then cut off.
+    fn add(&mut self, byte: u8) -> bool
+        ensures { (g : Geometry) (at_end : Bool) (more : List ℕ) → sections_ahead at_end g self.old (byte ∷ more)
+            ≡ (if result then option_to_list (sections_cut g self.new) else []) ++ sections_ahead at_end g self.new more }
+    {
+        let step = self.place.step(byte);
+        self.place = step.place;
+        if let Deed::End = step.deed {
+            self.cut = Cut::Section;
+            return true;
+        }
+        self.section.add(step.deed);
+        false
+    }
+
+    /// Reads up to the byte that ends a section, and answers its place; all bytes, if there is none.
+    pub(super) fn cut(&mut self, bytes: &[u8]) -> Option<usize>
+        ensures some { IfSome result (λ k. (k < length bytes.now) × ((g : Geometry) (at_end : Bool) (more : List ℕ) →
+            sections_ahead at_end g self.old (bytes.now ++ more)
+            ≡ option_to_list (sections_cut g self.new) ++ sections_ahead at_end g self.new (drop (k + 1) bytes.now ++ more))) }
+        ensures none { IfNone result ((g : Geometry) (at_end : Bool) (more : List ℕ) →
+            sections_ahead at_end g self.old (bytes.now ++ more) ≡ sections_ahead at_end g self.new more) }
+    {
+        'bytes: for (i, byte) in bytes.iter().enumerate() {
+            if self.add(*byte) {
+                return Some(i);
+            }
+        }
+        None
+    }
+
+    /// Cuts off what the text's end ends.
+    pub(super) fn finish(&mut self)
+        ensures found { (g : Geometry) → sections_ahead true g self.old [] ≡ option_to_list (sections_cut g self.new) }
+        ensures over { (g : Geometry) → sections_ahead true g self.new [] ≡ [] }
+    {
+        match self.place {
+            Place::Outside => self.cut = Cut::Nothing,
+            Place::Comment => self.cut = Cut::Comment,
+            Place::Between => self.cut = Cut::Section,
+            _ => {
+                self.section.add(Deed::EndLine);
+                self.cut = Cut::Section;
+            }
+        }
+        self.place = Place::Outside;
+    }
+
+    /// What was cut off says.
+    pub(super) fn found<B: Board>(&self) -> Option<Result<Position<B>, ProblemFault>>
+        ensures { result ≡ sections_cut B.geometry self.now }
+    {
+        match self.cut {
+            Cut::Nothing => None,
+            Cut::Section => Some(self.section.found()),
+            Cut::Comment => Some(Err(ProblemFault::UnclosedComment)),
+        }
+    }
+}
