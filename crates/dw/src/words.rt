@@ -1,5 +1,5 @@
 //! The words of the command line.
-use clap::{Arg, ArgMatches, Command as Words, value_parser};
+use clap::{Arg, ArgAction, ArgMatches, Command as Words, value_parser};
 use dw_notation::problems::Form;
 use dw_report::settings::{Command, Settings};
 use std::alloc::{AllocError, Global};
@@ -25,7 +25,8 @@ pub struct Request<'a> {
 const ABOUT: &str = "Reads problems of international draughts and reports on them.";
 
 const EXAMPLES: &str = "\
-Problems are read from FILE, or from standard input: one FEN text a line, as W:W27,45:B16.
+Problems are read from FILE, or from standard input: one FEN text a line, as W:W27,45:B16,
+or with --pdn out of the tags of a PDN file, as [FEN \"W:W27,45:B16\"].
 `dw COMMAND --help` says what a command does, with an example.
 
 Example:
@@ -39,8 +40,9 @@ const SHOW_ABOUT: &str = "Shows each problem's position as a diagram.";
 const SHOW_EXAMPLES: &str = "\
 In a diagram w and b are men, W and B kings, and a point is an empty square.
 
-Example:
-  echo W:W27,45:B16 | dw show";
+Examples:
+  echo W:W27,45:B16 | dw show
+  dw show --pdn examples/games.pdn";
 
 /// The commands that the program knows.
 pub fn command<'a>(alloc: Global) -> Result<Words<'a>, AllocError> {
@@ -57,6 +59,7 @@ fn show<'a>(alloc: Global) -> Result<Words<'a>, AllocError> {
         .about(SHOW_ABOUT)
         .after_help(SHOW_EXAMPLES)
         .arg(board(alloc))?
+        .arg(pdn(alloc))?
         .arg(problem(alloc))?
         .arg(file(alloc))
 }
@@ -68,6 +71,13 @@ fn board<'a>(alloc: Global) -> Arg<'a> {
         .value_parser(["10", "8"].as_slice())
         .default_value("10")
         .help("The board: 10 by 10 or 8 by 8")
+}
+
+fn pdn<'a>(alloc: Global) -> Arg<'a> {
+    Arg::new(alloc, "pdn")
+        .long("pdn")
+        .action(ArgAction::SetTrue)
+        .help("Read a PDN file: one problem for each section of tags")
 }
 
 fn problem<'a>(alloc: Global) -> Arg<'a> {
@@ -88,12 +98,16 @@ pub fn requested<'a>(matches: &ArgMatches<'a>) -> Option<Request<'a>> {
     Some(Request {
         settings: Settings {
             command: Command::Show,
-            form: Form::Fens,
+            form: form(show.get_flag("pdn")),
             only: show.get_one::<u32>("problem"),
         },
         board: board_size(show.get_str("board")),
         file: show.get_str("FILE"),
     })
+}
+
+fn form(is_pdn: bool) -> Form {
+    if is_pdn { Form::Pdn } else { Form::Fens }
 }
 
 fn board_size(rows: Option<&str>) -> BoardSize {
