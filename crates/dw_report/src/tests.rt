@@ -1,5 +1,7 @@
 //! Tests of whole runs: worked reports, and each read and each write failing in turn.
 
+mod pdn;
+
 use crate::run::run;
 use crate::settings::{Command, RunFault, Settings, Summary};
 use dw_board::board::{Board, Eight, Ten};
@@ -56,12 +58,16 @@ impl io::Write for Narrow {
     }
 }
 
-fn show(only: Option<u32>) -> Settings {
+fn settings_for(form: Form, only: Option<u32>) -> Settings {
     Settings {
         command: Command::Show,
-        form: Form::Fens,
+        form,
         only,
     }
+}
+
+fn show(only: Option<u32>) -> Settings {
+    settings_for(Form::Fens, only)
 }
 
 // The answer of a run over a text in memory, and what it wrote.
