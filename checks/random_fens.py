@@ -92,6 +92,7 @@ def main():
     count = int(sys.argv[1]) if len(sys.argv) > 1 else 100_000
     seed = int(sys.argv[2]) if len(sys.argv) > 2 else 1
     rng = random.Random(seed)
+    subprocess.run([TOP / "dw", "--help"], capture_output=True, check=False)  # so that it is built
     for board in ("10", "8"):
         check("random bytes", problems(random_bytes, rng, count), board)
         check("random tokens", problems(random_tokens, rng, count), board)
