@@ -98,7 +98,9 @@ outside-mark : (at_end : Bool) (g : Geometry) (a b c : ℕ) (bytes : List ℕ) �
 outside-mark at_end g a b c bytes h =
     let all = and_parts ((a == 0xEF) && (b == 0xBB)) (c == 0xBF) h in
     let both = and_parts (a == 0xEF) (b == 0xBB) all.0 in
-    rw (eqb-true a 0xEF both.0, eqb-true b 0xBB both.1, eqb-true c 0xBF all.1) refl
+    ap (λ x. sections_found at_end g Outside bare (x ∷ b ∷ c ∷ bytes)) (eqb-true a 0xEF both.0)
+    ∙ ap (λ x. sections_found at_end g Outside bare (x ∷ c ∷ bytes)) (eqb-true b 0xBB both.1)
+    ∙ ap (λ x. sections_found at_end g Outside bare (x ∷ bytes)) (eqb-true c 0xBF all.1)
 
 sections-mark : (at_end : Bool) (g : Geometry) (bytes : List ℕ) → sections_found at_end g Outside bare bytes ≡ sections_found at_end g Outside bare (without_mark bytes)
 sections-mark at_end g [] = refl

@@ -7,3 +7,5 @@ pub mod Definition
 pub mod Handing
 pub mod Names
 pub mod Holding
+pub mod Passing
+pub mod TagReading

@@ -5,6 +5,7 @@ pub mod Lines
 pub mod Found
 pub mod Places
 pub mod Sections
+pub mod Tags
 pub mod HeldSection
 pub mod Problems
 pub mod Held

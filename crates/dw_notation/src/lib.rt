@@ -3,6 +3,7 @@
 //! Everything is generic over the board. No call takes memory.
 #![tactic(auto)]
 
+pub mod laws;
 pub mod problems;
 pub mod streams;
 #[cfg(test)]

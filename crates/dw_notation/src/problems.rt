@@ -1,7 +1,7 @@
 //! The problems of a byte text, cut out of the bytes as they are read.
 //!
-//! Of its input a reader holds at most 4,096 bytes: 2,048 of its last read, 1,025 of a line, and a few more
-//! that say what is known of a longer line.
+//! Of its input a reader holds at most 4,096 bytes: 2,048 of its last read, 1,025 of a line or of a FEN tag's
+//! value, and a few more that say what is known of a longer line or hold the name of a tag.
 
 mod cutter;
 mod line;
@@ -35,8 +35,18 @@ pub const MAX_SECTION: usize = 65536;
 pub enum Form {
     /// One FEN text a line. Lines of blanks alone are passed over.
     Fens,
-    /// Sections of tags, as those before the games of a file; a section is a problem, and its FEN tag holds
-    /// the FEN text. Comments stand in braces, and movetext is passed over.
+    /// Sections of tags, as those before the games of a file. Each section is a problem.
+    ///
+    /// A section is a row of tags with blanks and line ends alone between them, and any other byte ends it.
+    /// A tag is a name and a value in quotation marks, in brackets and in one line; one that breaks this is
+    /// unclosed, and reaches to the end of its line. Between sections stand comments in braces, which don't
+    /// nest, and movetext, which is passed over. Names are compared without regard to the case of letters.
+    ///
+    /// A section is refused by the first of these that holds: it has more than `MAX_SECTION` bytes up to the
+    /// end of its last tag; a tag of it is unclosed; a GameType tag names another game than 20, the number at
+    /// the front of its value, or any game on a board without ten rows; it has two FEN tags, or none; the
+    /// value of its FEN tag is refused, at the place in the value. Otherwise the problem is the position.
+    /// A comment that the end of the text leaves open is one more problem.
     Pdn,
 }
 

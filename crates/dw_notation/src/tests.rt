@@ -1,3 +1,5 @@
+mod sections;
+
 use crate::problems::{Form, ProblemFault, Problems, ReadFault};
 use crate::streams::{Reading, Sink, Writing};
 use crate::writes::{WriteFault, write_all};

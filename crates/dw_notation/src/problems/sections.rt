@@ -1,6 +1,8 @@
 //! The sections of a text of tags, one at a time.
-ghost use Rattle.std.specs.Prelude.{◌≡◌, ℕ, ◌+◌, ◌<◌, List, [], ◌∷◌, ◌++◌, Bool, true, false, length, drop, option_to_list, if◌then◌else◌, IfSome, IfNone};
+ghost use Rattle.std.specs.Prelude.{◌≡◌, ℕ, ◌+◌, ◌<◌, ◌≤◌, List, [], ◌∷◌, ◌++◌, Bool, true, false, length, take, drop, not, option_to_list, if◌then◌else◌, IfSome, IfNone};
+ghost use Rattle.std.specs.List.{list_all};
 ghost use Rattle.dw_board.specs.Geometry.{Geometry};
+ghost use Rattle.dw_notation.specs.Tags.{opens, closes};
 
 use super::ProblemFault;
 use super::place::{Deed, Place};
@@ -15,6 +17,32 @@ pub(super) enum Cut {
     Section,
     /// A comment that is not closed.
     Comment,
+}
+
+/// How many bytes stand before the first that opens a tag or a comment.
+fn before_opening(bytes: &[u8]) -> usize
+    ensures within { result ≤ length bytes.now }
+    ensures all { list_all (λ byte. not (opens byte)) (take result bytes.now) ≡ true }
+{
+    'bytes: for (i, byte) in bytes.iter().enumerate() {
+        if *byte == b'[' || *byte == b'{' {
+            return i;
+        }
+    }
+    bytes.len()
+}
+
+/// How many bytes stand before the first that closes a comment.
+fn before_closing(bytes: &[u8]) -> usize
+    ensures within { result ≤ length bytes.now }
+    ensures all { list_all (λ byte. not (closes byte)) (take result bytes.now) ≡ true }
+{
+    'bytes: for (i, byte) in bytes.iter().enumerate() {
+        if *byte == b'}' {
+            return i;
+        }
+    }
+    bytes.len()
 }
 
 /// How far a text of tags was read, and what was cut off last.
@@ -54,6 +82,19 @@ impl Sections {
         false
     }
 
+    /// How many bytes say nothing here, and may be passed over at once.
+    fn passed(&self, bytes: &[u8]) -> usize
+        ensures within { result ≤ length bytes.now }
+        ensures same { (g : Geometry) (at_end : Bool) (more : List ℕ) → sections_ahead at_end g self.now (bytes.now ++ more)
+            ≡ sections_ahead at_end g self.now (drop result bytes.now ++ more) }
+    {
+        match self.place {
+            Place::Outside => before_opening(bytes),
+            Place::Comment => before_closing(bytes),
+            _ => 0,
+        }
+    }
+
     /// Reads up to the byte that ends a section, and answers its place; all bytes, if there is none.
     pub(super) fn cut(&mut self, bytes: &[u8]) -> Option<usize>
         ensures some { IfSome result (λ k. (k < length bytes.now) × ((g : Geometry) (at_end : Bool) (more : List ℕ) →
@@ -62,10 +103,13 @@ impl Sections {
         ensures none { IfNone result ((g : Geometry) (at_end : Bool) (more : List ℕ) →
             sections_ahead at_end g self.old (bytes.now ++ more) ≡ sections_ahead at_end g self.new more) }
     {
-        'bytes: for (i, byte) in bytes.iter().enumerate() {
-            if self.add(*byte) {
-                return Some(i);
+        let mut at = self.passed(bytes);
+        'bytes: while at < bytes.len() {
+            if self.add(bytes[at]) {
+                return Some(at);
             }
+            at += 1;
+            at += self.passed(&bytes[at..]);
         }
         None
     }

@@ -1,0 +1,19 @@
+//! Laws of the definitions, each the contract of a function that does nothing.
+ghost use Rattle.dw_notation.specs.Tags.{SectionsAreFound, LastSectionIsFound, CommentsSayNothing, OpenCommentIsFound, OthersSayNothing};
+
+/// A row of whole tags is one problem, which says what its tags say, and the byte that ends it is outside.
+pub fn sections_are_found()
+    ensures found { SectionsAreFound }
+    ensures last { LastSectionIsFound }
+{}
+
+/// A comment up to its first closing brace says nothing, and one that the text's end leaves open is a fault.
+pub fn comments_say_nothing()
+    ensures closed { CommentsSayNothing }
+    ensures open { OpenCommentIsFound }
+{}
+
+/// Movetext and whatever else stands outside says nothing.
+pub fn others_say_nothing()
+    ensures { OthersSayNothing }
+{}
