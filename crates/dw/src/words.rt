@@ -116,3 +116,83 @@ fn board_size(rows: Option<&str>) -> BoardSize {
         _ => BoardSize::Ten,
     }
 }
+
+#[cfg(test)]
+mod tests {
+    use super::*;
+    use std::test::Fail;
+
+    // Words, and the form, the problem, the board and the file that they ask for.
+    #[test]
+    fn words_that_ask(rt: HostRuntime) -> Result<(), Fail> {
+        let rows: [(&[&str], Form, Option<u32>, BoardSize, Option<&str>); 6] = [
+            (&["dw", "show"], Form::Fens, None, BoardSize::Ten, None),
+            (
+                &["dw", "show", "a.fen"],
+                Form::Fens,
+                None,
+                BoardSize::Ten,
+                Some("a.fen"),
+            ),
+            (
+                &["dw", "show", "--pdn", "a.pdn"],
+                Form::Pdn,
+                None,
+                BoardSize::Ten,
+                Some("a.pdn"),
+            ),
+            (
+                &["dw", "show", "--board", "8", "--problem", "1"],
+                Form::Fens,
+                Some(1),
+                BoardSize::Eight,
+                None,
+            ),
+            (
+                &["dw", "show", "--problem=1000000", "--board=10"],
+                Form::Fens,
+                Some(1_000_000),
+                BoardSize::Ten,
+                None,
+            ),
+            (
+                &["dw", "show", "--", "--pdn"],
+                Form::Fens,
+                None,
+                BoardSize::Ten,
+                Some("--pdn"),
+            ),
+        ];
+        for (words, form, only, board, file) in rows {
+            let matches = command(rt.alloc())?
+                .try_get_matches_from(words)
+                .ok()
+                .expect(&rt, "matches");
+            let request = requested(&matches).expect(&rt, "a command");
+            assert_eq!(rt; request.settings.form, form);
+            assert_eq!(rt; request.settings.only, only);
+            assert_eq!(rt; request.board, board);
+            assert_eq!(rt; request.file, file);
+        }
+        Ok(())
+    }
+
+    #[test]
+    fn words_that_are_no_command(rt: HostRuntime) -> Result<(), Fail> {
+        let rows: [&[&str]; 8] = [
+            &["dw"],
+            &["dw", "solve"],
+            &["dw", "show", "--board", "9"],
+            &["dw", "show", "--problem", "0"],
+            &["dw", "show", "--problem", "1000001"],
+            &["dw", "show", "--problem", "x"],
+            &["dw", "show", "a", "b"],
+            &["dw", "show", "--fen"],
+        ];
+        for words in rows {
+            let matches = command(rt.alloc())?.try_get_matches_from(words);
+            assert!(rt; matches.is_err());
+        }
+        Ok(())
+    }
+}
