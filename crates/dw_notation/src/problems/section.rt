@@ -175,20 +175,18 @@ impl HeldSection {
     }
 
     fn add_name(&mut self, byte: u8)
-        ensures { held_of self.new ≡ record (held_of self.old) { name = kept 9 self.old.name.items byte } }
+        ensures { held_of self.new ≡ held_after (Deed.AddName byte) (held_of self.old) }
     {
+        self.count();
         if self.name.len() < NAME {
             self.name.push(byte);
         }
     }
 
     fn open_value(&mut self)
-        ensures { held_of self.new ≡ record (held_of self.old) {
-          kind = kind_of self.old.name.items;
-          game = Game.Before;
-          fen_text = if self.old.fens == 0 then [] else self.old.fen_text.items;
-        } }
+        ensures { held_of self.new ≡ held_after Deed.OpenValue (held_of self.old) }
     {
+        self.count();
         self.kind = kind_of(self.name.as_slice());
         self.game = Game::Before;
         if self.fens == 0 {
@@ -227,6 +225,22 @@ impl HeldSection {
         }
     }
 
+    fn close(&mut self)
+        ensures { held_of self.new ≡ held_after Deed.Close (held_of self.old) }
+    {
+        self.count();
+        self.size = self.read;
+        self.add_tag();
+    }
+
+    fn end_line(&mut self)
+        ensures { held_of self.new ≡ held_after Deed.EndLine (held_of self.old) }
+    {
+        self.size = self.read;
+        self.is_unclosed = true;
+        self.count();
+    }
+
     /// Does what a byte does to a section.
     pub(super) fn add(&mut self, deed: Deed)
         ensures { held_of self.new ≡ held_after deed (held_of self.old) }
@@ -235,14 +249,8 @@ impl HeldSection {
             Deed::Keep | Deed::End => {}
             Deed::Open => self.open(),
             Deed::Count => self.count(),
-            Deed::AddName(byte) => {
-                self.count();
-                self.add_name(byte);
-            }
-            Deed::OpenValue => {
-                self.count();
-                self.open_value();
-            }
+            Deed::AddName(byte) => self.add_name(byte),
+            Deed::OpenValue => self.open_value(),
             Deed::AddValue(byte) => {
                 self.count();
                 self.add_value(byte);
@@ -252,20 +260,12 @@ impl HeldSection {
                 self.add_value(b'\\');
                 self.add_value(byte);
             }
-            Deed::Close => {
-                self.count();
-                self.size = self.read;
-                self.add_tag();
-            }
+            Deed::Close => self.close(),
             Deed::Break => {
                 self.count();
                 self.is_unclosed = true;
             }
-            Deed::EndLine => {
-                self.size = self.read;
-                self.is_unclosed = true;
-                self.count();
-            }
+            Deed::EndLine => self.end_line(),
             Deed::NextTag => {
                 self.count();
                 self.name.clear();
