@@ -1,8 +1,8 @@
 -- What a reader or a writer of std shows as a source or a sink.
 use Rattle.std.specs.Prelude.{ℕ, ◌-◌, Bool}
-use Rattle.dw_notation.specs.declared.streams.TheConstants.{MAX_READS}
-use Rattle.dw_notation.specs.declared.streams.Reading.{Reading}
-use Rattle.dw_notation.specs.declared.streams.Writing.{Writing}
+use Rattle.dw_notation.specs.declared.streams.reading.TheConstants.{MAX_READS}
+use Rattle.dw_notation.specs.declared.streams.reading.Reading.{Reading}
+use Rattle.dw_notation.specs.declared.streams.writing.Writing.{Writing}
 
 -- the reader that a source reads from
 abbrev pub read_from : {R : Type 0} → Reading R → R

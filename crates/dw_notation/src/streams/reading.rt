@@ -1,0 +1,62 @@
+//! A reader of std as a source.
+ghost use Rattle.std.specs.Prelude.{◌≡◌, false};
+
+use super::Source;
+use std::io;
+
+/// The most reads that one `Reading` makes.
+pub const MAX_READS: u64 = 1_000_000_000_000;
+
+/// A reader of std as a source. It makes at most `MAX_READS` reads, and none after one that failed.
+#[derive(Drop)]
+pub struct Reading<R> {
+    reader: R,
+    reads: u64,
+    has_failed: bool,
+}
+
+impl<R: io::Read> Reading<R> {
+    ghost use Rattle.dw_notation.specs.Endpoints.{read_from, has_read_failed, reads_left};
+
+    /// A source of the bytes that the reader has still to give.
+    pub fn new(reader: R) -> Reading<R>
+        ensures reader { read_from result ≡ reader }
+        ensures sound { has_read_failed result ≡ false }
+        ensures reads { reads_left result ≡ MAX_READS }
+    {
+        Reading {
+            reader,
+            reads: 0,
+            has_failed: false,
+        }
+    }
+}
+
+impl<R: io::Read> Source for Reading<R> {
+    ghost use Rattle.dw_notation.specs.Endpoints.{read_from, has_read_failed, reads_left};
+
+    ghost coming = { λ s. R.remaining (read_from s) };
+
+    ghost is_failed = { λ s. has_read_failed s };
+
+    ghost pulls_left = { λ s. reads_left s };
+
+    fn pull(&mut self, buffer: &mut [u8]) -> Option<usize> {
+        if self.has_failed || self.reads >= MAX_READS {
+            self.has_failed = true;
+            return None;
+        }
+        self.reads += 1;
+        match self.reader.read(buffer) {
+            Ok(count) => Some(count),
+            Err(_) => {
+                self.has_failed = true;
+                None
+            }
+        }
+    }
+
+    fn failed(&self) -> bool {
+        self.has_failed
+    }
+}
