@@ -1,12 +1,11 @@
 -- Lemmas on the problems that are chosen.
-use Rattle.std.proofs.Common.{◌≡◌, ℕ, zero, suc, ◌+◌, ◌<◌, ◌≤◌, ◌≢◌, inl, inr, List, [], ◌∷◌, ◌++◌, length, Bool, true, false, ◌||◌, Option, Some, None, Err, refl, sym, ap, ◌∙◌, append_assoc, append-nil, arith, subst, count_by, cond, eqb, ltb, length-append, is_err}
-use Rattle.std.specs.Prelude.{filter}
+use Rattle.std.proofs.Common.{◌≡◌, ℕ, suc, ◌+◌, ◌≤◌, inl, inr, List, [], ◌∷◌, ◌++◌, length, Bool, true, false, Option, Some, None, Err, refl, sym, ap, ◌∙◌, append_assoc, append-nil, arith, subst, count_by, cond, eqb, ltb, length-append}
 use Rattle.std.specs.List.{list_any, flat_map}
 use Rattle.std.proofs.lemmas.List.Elements.{filter-append}
 use Rattle.std.proofs.lemmas.List.Folds.{list_any-append}
 use Rattle.std.proofs.lemmas.Grind.{flat_map-append}
 use Rattle.std.proofs.lemmas.List.Sums.{sum_by-append}
-use Rattle.std.proofs.lemmas.Bool.{cases_Bool, eqb-true, ne_eqb, eq-eqb, true≢false, or_cases, or_left, or_right}
+use Rattle.std.proofs.lemmas.Bool.{cases_Bool, eqb-true, ne_eqb, true≢false, or_left, or_right}
 use Rattle.dw_board.specs.Geometry.{Geometry}
 use Rattle.dw_notation.specs.Found.{Found}
 use Rattle.dw_notation.specs.Problems.{Numbered, number_from, problems_of}

@@ -1,21 +1,19 @@
 -- Lemmas on a run so far.
-use Rattle.std.proofs.Common.{◌≡◌, ℕ, ◌+◌, ◌<◌, ◌≤◌, inl, inr, ◌⊎◌, List, [], ◌∷◌, ◌++◌, Bool, true, false, Option, Some, None, Ok, Err, refl, sym, ap, ◌∙◌, append_assoc, append-nil, arith, subst, MatchBool, length, length-append, count_by, IsTrue, Result, is_err, ◌||◌, cond}
+use Rattle.std.proofs.Common.{◌≡◌, ℕ, ◌+◌, ◌<◌, ◌≤◌, inl, inr, ◌⊎◌, List, [], ◌∷◌, ◌++◌, Bool, true, false, Option, Some, None, Ok, Err, refl, sym, ap, ◌∙◌, append_assoc, append-nil, arith, subst, MatchBool, length, length-append, count_by, Result, is_err, ◌||◌, cond}
 use Rattle.std.specs.List.{list_any, flat_map}
 use Rattle.std.proofs.lemmas.Bool.{cases_Bool}
 use Rattle.std.proofs.KnownBytes.{Consumes-trans, Appends-trans, Appends-nil}
 use Rattle.std.specs.Io.KnownBytes.{Consumes, Appends, IsAtEnd}
 use Rattle.dw_board.specs.Geometry.{Geometry}
-use Rattle.dw_notation.specs.Problems.{Numbered, numbered, problems_of, ended_problems_of}
-use Rattle.dw_notation.specs.Cutting.{NextGives, problems_from, to_come, ended, EndIsTrue, has_met_end, handed_count}
+use Rattle.dw_notation.specs.Problems.{Numbered, problems_of, ended_problems_of}
+use Rattle.dw_notation.specs.Cutting.{problems_from, to_come, ended, EndIsTrue, has_met_end, handed_count}
 use Rattle.dw_notation.specs.Writes.{StopsShort}
 use Rattle.dw_notation.specs.declared.problems.Form.{Form}
-use Rattle.dw_notation.specs.declared.problems.Problem.{Problem}
-use Rattle.dw_notation.specs.declared.problems.ReadFault.{ReadFault}
 use Rattle.dw_notation.specs.declared.problems.cutter.Cutter.{Cutter}
 use Rattle.dw_notation.specs.declared.problems.TheConstants.{MAX_PROBLEMS}
 use Rattle.dw_report.specs.Chosen.{number_is_chosen}
-use Rattle.dw_report.specs.Report.{report, report_on, chosen, problem_text}
-use Rattle.dw_report.specs.Running.{Counts, Finishes, StopsReading, StopsWriting, RunEnds, IsReadThrough, is_asked, is_refused, up_to_asked}
+use Rattle.dw_report.specs.Report.{report_on, chosen, problem_text}
+use Rattle.dw_report.specs.Running.{RunEnds, is_asked, is_refused, up_to_asked}
 use Rattle.dw_report.specs.declared.settings.Settings.{Settings}
 use Rattle.dw_report.specs.declared.settings.Summary.{Summary}
 use Rattle.dw_report.specs.declared.settings.RunFault.TheVariants.{Read, Write}

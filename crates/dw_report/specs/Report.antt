@@ -1,10 +1,9 @@
 -- The report: for each chosen problem, in order, its text.
-use Rattle.std.specs.Prelude.{ℕ, Option, Result, Ok, Err, List, [], ◌++◌, filter, codes, decimal}
+use Rattle.std.specs.Prelude.{ℕ, Option, Ok, Err, List, [], ◌++◌, filter, codes, decimal}
 use Rattle.std.specs.List.{flat_map}
 use Rattle.dw_board.specs.Geometry.{Geometry}
 use Rattle.dw_board.specs.FenText.{written}
 use Rattle.dw_board.specs.Diagram.{diagram_text}
-use Rattle.dw_board.specs.declared.fen.fault.FenFault.{FenFault}
 use Rattle.dw_board.specs.declared.fen.fault.FenFaultKind.{FenFaultKind}
 use Rattle.dw_board.specs.declared.fen.fault.FenFaultKind.TheVariants.{Turn, Colon, Colour, Number, Twice, SameColour, LastRow, TooMany, Rest, TooLong, RangeBackwards}
 use Rattle.dw_notation.specs.Found.{Found}

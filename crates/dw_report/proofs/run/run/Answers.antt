@@ -1,9 +1,6 @@
-use Rattle.std.proofs.Common.{◌≡◌, ◌+◌, ℕ, true, false, Option, Some, Ok, List, [], ◌∷◌, length, count_by, rules, arith, sym, ◌∙◌, ap, add-zero}
+use Rattle.std.proofs.Common.{◌≡◌, true, false, rules, arith, sym, ◌∙◌, add-zero}
 use Rattle.dw_notation.specs.Problems.{Numbered, numbered}
-use Rattle.dw_notation.specs.Cutting.{handed_count, has_met_end}
-use Rattle.dw_notation.specs.Reading.{source_of, cutter_of}
-use Rattle.dw_report.specs.Report.{chosen}
-use Rattle.dw_report.specs.Running.{is_refused}
+use Rattle.dw_notation.specs.Reading.{cutter_of}
 use Rattle.dw_report.proofs.Runs.{SoFar-start, SoFar-more, SoFar-next, SoFar-asked, SoFar-end, SoFar-write, CountsOne, failed-at_ok, count-le-length, length-chosen-le}
 use Rattle.dw_report.proofs.run.run.Goals as goal
 
