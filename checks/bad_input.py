@@ -9,7 +9,8 @@ import subprocess
 import tempfile
 import time
 
-DW = pathlib.Path(__file__).resolve().parent.parent / "dw"
+TOP = pathlib.Path(__file__).resolve().parent.parent
+DW = TOP / "dw"
 FEN = b"W:W32:B28\n"
 DIAGRAM = (b"| . . . . .|\n|. . . . . |\n| . . . . .|\n|. . . . . |\n| . . . . .|\n"
            b"|. . b . . |\n| . w . . .|\n|. . . . . |\n| . . . . .|\n|. . . . . |\n")
@@ -70,6 +71,12 @@ def streams():
         expect("a file with a blank in its name", run(["show", str(file)]), 0, b"", SHOWN)
 
 
+def example():
+    stored = TOP / "crates" / "dw"
+    assert (stored / "data" / "games.pdn").read_bytes() == (TOP / "examples" / "games.pdn").read_bytes()
+    expect("the example of a PDN file", run(["show", "--pdn", str(TOP / "examples" / "games.pdn")]), 1, b"", (stored / "stdout").read_bytes())
+
+
 def words():
     for given in ([], ["solve"], ["show", "--board", "9"], ["show", "--problem", "0"], ["show", "--problem", "1000001"],
                   ["show", "a", "b"], ["show", "--pdn=1"]):
@@ -86,5 +93,6 @@ if __name__ == "__main__":
     run(["--help"])  # so that it is built
     texts()
     streams()
+    example()
     words()
     many()
