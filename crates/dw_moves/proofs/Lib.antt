@@ -1,0 +1,9 @@
+pub mod Members
+pub mod Plain
+pub mod Exact
+pub mod Captures
+pub mod Rays
+pub mod LegalMoves
+pub mod PathTells
+pub mod PlayStays
+pub mod CaptureBound

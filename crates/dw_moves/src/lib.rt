@@ -1,0 +1,5 @@
+//! What a position of international draughts allows: quiet moves, captures, legal moves, and the position after a move.
+#![tactic(auto)]
+
+pub mod laws;
+pub mod moves;
