@@ -11,7 +11,8 @@ use Rattle.dw_moves.specs.Moves.{Member, Jumps, Path, other}
 use Rattle.dw_moves.specs.Laws.{PathIsShort}
 use Rattle.dw_moves.proofs.Members.{no_more}
 use Rattle.dw_moves.proofs.Exact.{same_side_refl}
-use Rattle.dw_moves.proofs.Rays.{jump_low, none_some}
+use Rattle.dw_moves.proofs.Rays.{jump_low}
+use Rattle.dw_moves.proofs.StepLaws.{none_some}
 
 abbrev one_of : Side → Option Piece → ℕ
 one_of side o = cond (is_of side o) 1 0

@@ -15,7 +15,8 @@ use Rattle.dw_board.specs.Placement.{Placement, at, placed, same_side}
 use Rattle.std.specs.FinSet as set
 use Rattle.dw_moves.specs.Moves.{Member, IsForward, Quiet, Jumps, Path, IsBest, Move, Legal, LegalAt, other, ray}
 use Rattle.dw_moves.specs.MoveLaws.{same_move}
-use Rattle.dw_moves.proofs.Rays.{jump_low, none_some}
+use Rattle.dw_moves.proofs.Rays.{jump_low}
+use Rattle.dw_moves.proofs.StepLaws.{none_some}
 use Rattle.dw_moves.proofs.Plain.{numbers_to, Capture, captures, captures_of, path_list, longest, best, quiet_for, quiet_of, quiet_list, move_of, legal_at, legal_list, forward, dirs, free_next, free_front}
 use Rattle.dw_moves.proofs.Members.{mem_map, mem_map_back, mem_flat, mem_flat_back, mem_left, mem_right, mem_cases, no_more, mem_filter, mem_filter_back}
 use Rattle.dw_moves.proofs.Exact.{option_cases, same_side_true, same_side_refl, Lands, front_lands, front_has, next_lands, next_has, all_dirs}

@@ -2,6 +2,7 @@ pub mod Members
 pub mod Plain
 pub mod Exact
 pub mod Captures
+pub mod StepLaws
 pub mod Rays
 pub mod LegalMoves
 pub mod PathTells

@@ -1,5 +1,5 @@
 -- Moves: what a position allows, and what a move leaves.
-use Rattle.std.specs.Prelude.{◌≡◌, ℕ, ◌+◌, ◌-◌, ◌≤◌, ◌<◌, ◌⊎◌, ◌==◌, ◌||◌, Bool, true, false, Option, Some, None, List, [], ◌∷◌, ◌++◌, length, cond, map, refl}
+use Rattle.std.specs.Prelude.{◌≡◌, ℕ, ◌+◌, ◌-◌, ◌≤◌, ◌<◌, ◌⊎◌, Bool, true, false, Option, Some, None, List, [], ◌∷◌, ◌++◌, length, cond, map, refl}
 use Rattle.std.specs.Coded.{Coded, code_by, coded×, coded_ℕ}
 use Rattle.std.proofs.Common.{zero, suc}
 use Rattle.std.specs.List.{range_with_len}
@@ -141,17 +141,17 @@ abbrev pub landed : Geometry → ℕ → Option Piece → Option Piece
 landed g to None = None
 landed g to (Some piece) = Some (crowned g to piece)
 
--- what is left on a square: the origin and the squares of what was taken are emptied
-abbrev pub left : Placement → Move → ℕ → Option Piece
-left p m s = cond (s == m.from || set.contains m.taken s) None (at p s)
+-- what is left on a square where these squares are emptied
+abbrev pub left : Placement → Squares → ℕ → Option Piece
+left p emptied s = cond (set.contains emptied s) None (at p s)
 
--- the placement without the origin's piece and what was taken
-abbrev pub emptied : Placement → Move → Placement
-emptied p m = record { cells = map (left p m) (range_with_len 1 50); turn = p.turn }
+-- the placement without what stands on these squares
+abbrev pub without : Placement → Squares → Placement
+without p emptied = record { cells = map (left p emptied) (range_with_len 1 50); turn = p.turn }
 
--- the position after a move: the piece stands on the last square, and it is the other player's turn
+-- the position after a move: the origin and the squares of what was taken are emptied, the piece stands on the last square, and it is the other player's turn
 abbrev pub play : Geometry → Placement → Move → Placement
-play g p m = record (placed (emptied p m) m.to (landed g m.to (at p m.from))) { turn = other p.turn }
+play g p m = record (placed (without p (set.insert m.taken m.from)) m.to (landed g m.to (at p m.from))) { turn = other p.turn }
 
 -- the side to move has no legal move
 abbrev pub NoMove : Geometry → Placement → Type 0

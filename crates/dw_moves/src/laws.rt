@@ -4,14 +4,11 @@ ghost use Rattle.dw_moves.specs.Laws.{PathTells, PathIsShort, MovesListed, OneBe
 
 use crate::moves::Move;
 use dw_board::board::Board;
-use dw_board::laws::steps_are_diagonal;
 
 /// The landings of a path tell what it takes.
 pub fn path_tells()
     ensures { PathTells }
-{
-    steps_are_diagonal();
-}
+{}
 
 /// A path takes at most all pieces of the other side.
 pub fn path_is_short()
@@ -31,9 +28,7 @@ pub fn one_best()
 /// A legal move leads from a position to a position.
 pub fn play_stays()
     ensures { PlayStays }
-{
-    steps_are_diagonal();
-}
+{}
 
 /// Equal moves begin and end on the same squares and take the same pieces.
 pub fn same_move<B: Board>(a: &Move<B>, b: &Move<B>) -> bool

@@ -2,4 +2,4 @@ use Rattle.dw_moves.proofs.PathTells.{path_tells}
 use Rattle.dw_moves.proofs.laws.path_tells.Goals as goal
 
 pub returns : goal.returns
-returns c = path_tells (record { diagonal = c.steps_are_diagonal.ensures.steps; stay = c.steps_are_diagonal.ensures.stay })
+returns c = path_tells
