@@ -1,13 +1,13 @@
 -- A path takes no more pieces than the other side has.
-use Rattle.std.proofs.Common.{◌≡◌, ℕ, ◌+◌, ◌-◌, ◌≤◌, zero, suc, List, [], ◌∷◌, length, refl, sym, ap, ◌∙◌, subst, inl, inr, arith, true, false, Option, Some, None, cond, get_or, get_or-set_other, set, count_by, ◌⊎◌}
-use Rattle.std.proofs.lemmas.List.{get_or_past, set_past, get_or-set_same}
+use Rattle.std.proofs.Common.{◌≡◌, ℕ, ◌+◌, ◌-◌, ◌≤◌, zero, suc, List, [], ◌∷◌, length, refl, sym, ap, ◌∙◌, subst, inl, inr, arith, true, Option, Some, None, cond, get_or, get_or-set_other, set, count_by}
+use Rattle.std.proofs.lemmas.List.{set_past, get_or-set_same}
 use Rattle.std.proofs.lemmas.Bool.{cases_Bool, cases_eq, cases_lt}
 use Rattle.std.proofs.lemmas.List.Sums.{sum_by-cons}
 use Rattle.dw_board.specs.declared.piece.Side.{Side}
 use Rattle.dw_board.specs.declared.piece.Piece.{Piece}
 use Rattle.dw_board.specs.Geometry.{Geometry}
 use Rattle.dw_board.specs.Placement.{Placement, at, placed, is_of, same_side, count}
-use Rattle.dw_moves.specs.Moves.{Member, Jumps, Path, other}
+use Rattle.dw_moves.specs.Moves.{Member, Jumps, other}
 use Rattle.dw_moves.specs.Laws.{PathIsShort}
 use Rattle.dw_moves.proofs.Members.{no_more}
 use Rattle.dw_moves.proofs.Exact.{same_side_refl}

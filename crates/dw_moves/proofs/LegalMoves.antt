@@ -1,5 +1,5 @@
 -- The plain list of moves holds exactly the legal moves.
-use Rattle.std.proofs.Common.{◌≡◌, ℕ, ◌<◌, ◌≤◌, zero, suc, List, [], ◌∷◌, ◌++◌, length, refl, ◌-◌, false, sym, ap, ◌∙◌, subst, inl, inr, arith, true, Some, None, ◌==◌, get_or, length-append, length-set}
+use Rattle.std.proofs.Common.{◌≡◌, ℕ, ◌<◌, ◌≤◌, ◌-◌, zero, suc, List, [], ◌∷◌, ◌++◌, length, map, refl, sym, ap, ◌∙◌, subst, inl, inr, arith, Bool, true, false, not, Some, None, ◌==◌, get_or, length-append, length-set}
 use Rattle.std.specs.Prelude.{filter}
 use Rattle.std.proofs.lemmas.List.{get_or_past}
 use Rattle.std.proofs.lemmas.Bool.{true≢false, eqb-true, eq-eqb, cases_Bool, cases_lt}
@@ -10,17 +10,22 @@ use Rattle.dw_board.specs.declared.piece.Kind.TheVariants.{Man, King}
 use Rattle.dw_board.specs.declared.board.Dir.{Dir}
 use Rattle.dw_board.specs.declared.board.Dir.TheVariants.{UpLeft, UpRight, DownLeft, DownRight}
 use Rattle.dw_board.specs.declared.piece.Piece.{Piece}
-use Rattle.dw_board.specs.Geometry.{Geometry, squares, OnBoard}
+use Rattle.dw_board.specs.Geometry.{Geometry, squares, OnBoard, is_down}
 use Rattle.dw_board.specs.Placement.{Placement, at, placed, same_side}
 use Rattle.std.specs.FinSet as set
 use Rattle.dw_moves.specs.Moves.{Member, IsForward, Quiet, Jumps, Path, IsBest, Move, Legal, LegalAt, other, ray}
 use Rattle.dw_moves.specs.MoveLaws.{same_move}
 use Rattle.dw_moves.proofs.Rays.{jump_low}
 use Rattle.dw_moves.proofs.StepLaws.{none_some}
-use Rattle.dw_moves.proofs.Plain.{numbers_to, Capture, captures, captures_of, path_list, longest, best, quiet_for, quiet_of, quiet_list, move_of, legal_at, legal_list, forward, dirs, free_next, free_front}
+use Rattle.dw_moves.specs.Plain.{numbers_to, dirs, is_forward, may_go, goes, quiet_for, targets_of, targets, quiet_pairs}
+use Rattle.dw_moves.proofs.Plain.{Capture, captures, captures_of, path_list, longest, best, quiet_move, quiet_list, move_of, legal_at, legal_list}
 use Rattle.dw_moves.proofs.Members.{mem_map, mem_map_back, mem_flat, mem_flat_back, mem_left, mem_right, mem_cases, no_more, mem_filter, mem_filter_back}
-use Rattle.dw_moves.proofs.Exact.{option_cases, same_side_true, same_side_refl, Lands, front_lands, front_has, next_lands, next_has, all_dirs}
+use Rattle.dw_moves.proofs.Exact.{option_cases, same_side_true, same_side_refl, Lands, lands_from, lands_in, all_dirs}
 use Rattle.dw_moves.proofs.Captures.{captures_from, captures_in}
+
+not_true : (b : Bool) → not b ≡ true → b ≡ false
+not_true true e = absurd (true≢false (sym e))
+not_true false e = refl
 
 pub squares_length : (n : ℕ) → length (numbers_to n) ≡ n
 squares_length zero = refl
@@ -124,77 +129,76 @@ best_below g p j k hj hk = elim (cases_lt 0 j) [
 pub best_only : (g : Geometry) (p : Placement) (j k : ℕ) → IsBest g p j → IsBest g p k → j ≡ k
 best_only g p j k hj hk = omega (arith, best_below g p j k hj hk, best_below g p k j hk hj)
 
-forward_from : (side : Side) (d : Dir) → Member d (forward side) → IsForward side d
-forward_from White UpLeft m = refl
-forward_from White UpRight m = refl
-forward_from White DownLeft m = elim m [ inl e ↦ cc | inr (inl e) ↦ cc | inr (inr e) ↦ absurd e ]
-forward_from White DownRight m = elim m [ inl e ↦ cc | inr (inl e) ↦ cc | inr (inr e) ↦ absurd e ]
-forward_from Black UpLeft m = elim m [ inl e ↦ cc | inr (inl e) ↦ cc | inr (inr e) ↦ absurd e ]
-forward_from Black UpRight m = elim m [ inl e ↦ cc | inr (inl e) ↦ cc | inr (inr e) ↦ absurd e ]
-forward_from Black DownLeft m = refl
-forward_from Black DownRight m = refl
+forward_from : (side : Side) (d : Dir) → is_forward side d ≡ true → IsForward side d
+forward_from White d e = not_true (is_down d) e
+forward_from Black d e = e
 
-forward_in : (side : Side) (d : Dir) → IsForward side d → Member d (forward side)
-forward_in White UpLeft f = inl refl
-forward_in White UpRight f = inr (inl refl)
-forward_in White DownLeft f = absurd (true≢false f)
-forward_in White DownRight f = absurd (true≢false f)
-forward_in Black UpLeft f = absurd (true≢false (sym f))
-forward_in Black UpRight f = absurd (true≢false (sym f))
-forward_in Black DownLeft f = inl refl
-forward_in Black DownRight f = inr (inl refl)
+forward_in : (side : Side) (d : Dir) → IsForward side d → is_forward side d ≡ true
+forward_in White d f = rw f refl
+forward_in Black d f = f
+
+may_from : (k : Kind) (side : Side) (d : Dir) → may_go k side d ≡ true → k ≡ Man → IsForward side d
+may_from Man side d e q = forward_from side d e
+may_from King side d e q = cc
+
+may_in : (k : Kind) (side : Side) (d : Dir) → (k ≡ Man → IsForward side d) → may_go k side d ≡ true
+may_in Man side d f = forward_in side d (f refl)
+may_in King side d f = refl
 
 -- a quiet landing of a piece on s
-record Goes (k : Kind) (g : Geometry) (cells : Placement) (side : Side) (s t : ℕ) : Type 0 where
-  dir : Dir
-  lands : Lands k cells (ray g s dir) t
-  ahead : k ≡ Man → IsForward side dir
+pub record Goes (k : Kind) (g : Geometry) (p : Placement) (side : Side) (s t : ℕ) (dir : Dir) : Type 0 where
+  pub lands : Lands k p (ray g s dir) t
+  pub ahead : k ≡ Man → IsForward side dir
 
-goes_from : (k : Kind) (g : Geometry) (cells : Placement) (side : Side) (s t : ℕ) → Member t (quiet_for k g cells side s) → Goes k g cells side s t
-goes_from Man g cells side s t m =
-    let f = mem_flat_back (λ d. free_next cells (ray g s d)) t (forward side) m in
-    record { dir = f.0; lands = next_lands cells (ray g s f.0) t f.2; ahead = λ _. forward_from side f.0 f.1 }
-goes_from King g cells side s t m =
-    let f = mem_flat_back (λ d. free_front cells (ray g s d)) t dirs m in
-    record { dir = f.0; lands = front_lands cells (ray g s f.0) t f.2; ahead = λ q. cc }
-
-goes_in : (k : Kind) (g : Geometry) (cells : Placement) (side : Side) (s t : ℕ) → Goes k g cells side s t → Member t (quiet_for k g cells side s)
-goes_in Man g cells side s t go =
-    let l = go.lands in
-    let e : ray g s go.dir ≡ t ∷ l.beyond = l.is ∙ ap (λ z. z ++ t ∷ l.beyond) (l.man refl) in
-    let here : Member t (free_next cells (ray g s go.dir)) = subst (λ z. Member t (free_next cells z)) (sym e) (next_has cells l.beyond t l.free) in
-    mem_flat (λ d. free_next cells (ray g s d)) go.dir t (forward side) (forward_in side go.dir (go.ahead refl)) here
-goes_in King g cells side s t go =
-    let l = go.lands in
-    let here : Member t (free_front cells (ray g s go.dir)) = subst (λ z. Member t (free_front cells z)) (sym l.is) (front_has cells l.before l.beyond t l.clear l.free) in
-    mem_flat (λ d. free_front cells (ray g s d)) go.dir t dirs (all_dirs go.dir) here
-
-quiet_of_from : (g : Geometry) (p : Placement) (s : ℕ) (m : Move) (piece : Piece) → OnBoard g s → at p s ≡ Some piece → Member m (quiet_of g p s (Some piece)) → Quiet g p m.from m.to × (m.taken ≡ set.empty)
-quiet_of_from g p s m piece on e h = elim (cases_Bool (same_side piece.side p.turn)) [
-  | inl own ↦
-      let f = mem_map_back (λ t. record { from = s; to = t; taken = set.empty }) m (quiet_for piece.kind g p p.turn s) (rw (own, quiet_of) at h) in
-      let go = goes_from piece.kind g p p.turn s f.0 f.1 in
-      subst (λ (m : Move). Quiet g p m.from m.to × (m.taken ≡ set.empty)) (sym f.2)
-      (record { piece = piece; stands = record { on_board = on; there = e; own = same_side_true piece.side p.turn own }; dir = go.dir; between = go.lands.before; beyond = go.lands.beyond; on_ray = go.lands.is; clear = go.lands.clear; free = go.lands.free; man = λ q. (go.lands.man q, go.ahead q) }, refl)
-  | inr not_own ↦ absurd (rw (not_own, quiet_of) at h)
+pub goes_from : (k : Kind) (g : Geometry) (p : Placement) (side : Side) (s t : ℕ) (d : Dir) → Member t (goes k g p side s d) → Goes k g p side s t d
+goes_from k g p side s t d m = elim (cases_Bool (may_go k side d)) [
+  | inl e ↦ record { lands = lands_from k p (ray g s d) t (rw e at m); ahead = may_from k side d e }
+  | inr e ↦ absurd (rw e at m)
 ]
+
+goes_in : (k : Kind) (g : Geometry) (p : Placement) (side : Side) (s t : ℕ) (d : Dir) → Goes k g p side s t d → Member t (goes k g p side s d)
+goes_in k g p side s t d h = rw (may_in k side d h.ahead) (lands_in k p (ray g s d) t h.lands)
+
+target_of_from : (g : Geometry) (p : Placement) (s t : ℕ) (piece : Piece) → OnBoard g s → at p s ≡ Some piece → Member t (targets_of g p s (Some piece)) → Quiet g p s t
+target_of_from g p s t piece on e m = elim (cases_Bool (same_side piece.side p.turn)) [
+  | inl own ↦
+      let f = mem_flat_back (goes piece.kind g p p.turn s) t dirs (rw own at m) in
+      let h = goes_from piece.kind g p p.turn s t f.0 f.2 in
+      record { piece = piece; stands = record { on_board = on; there = e; own = same_side_true piece.side p.turn own }; dir = f.0; between = h.lands.before; beyond = h.lands.beyond; on_ray = h.lands.is; clear = h.lands.clear; free = h.lands.free; man = λ q. (h.lands.man q, h.ahead q) }
+  | inr not_own ↦ absurd (rw not_own at m)
+]
+
+pub target_from : (g : Geometry) (p : Placement) (s t : ℕ) → OnBoard g s → Member t (targets g p s) → Quiet g p s t
+target_from g p s t on m = elim (option_cases (at p s)) [
+  | inl e ↦ absurd (rw (e, targets_of) at m)
+  | inr e ↦ target_of_from g p s t e.0 on e.1 (rw e.1 at m)
+]
+
+pub target_in : (g : Geometry) (p : Placement) (s t : ℕ) → Quiet g p s t → Member t (targets g p s)
+target_in g p s t h =
+    let own : same_side h.piece.side p.turn ≡ true = rw h.stands.own (same_side_refl p.turn) in
+    let there : Member t (quiet_for h.piece.kind g p p.turn s) = mem_flat (goes h.piece.kind g p p.turn s) h.dir t dirs (all_dirs h.dir)
+    (goes_in h.piece.kind g p p.turn s t h.dir (record { lands = record { before = h.between; beyond = h.beyond; is = h.on_ray; clear = h.clear; free = h.free; man = λ q. (h.man q).0 }; ahead = λ q. (h.man q).1 })) in
+    let here : Member t (targets_of g p s (Some h.piece)) = rw own there in
+    rw h.stands.there here
+
+pub pair_from : (g : Geometry) (p : Placement) (m : ℕ × ℕ) → Member m (quiet_pairs g p) → Quiet g p m.0 m.1
+pair_from g p m h =
+    let f = mem_flat_back (λ s. map (λ t. (s, t)) (targets g p s)) m (numbers_to (squares g)) h in
+    let k = mem_map_back (λ t. (f.0, t)) m (targets g p f.0) f.2 in
+    let q = target_from g p f.0 k.0 (from_number (squares g) f.0 f.1) k.1 in
+    subst (λ (m : ℕ × ℕ). Quiet g p m.0 m.1) (sym k.2) q
+
+pub pair_in : (g : Geometry) (p : Placement) (s t : ℕ) → Quiet g p s t → Member (s, t) (quiet_pairs g p)
+pair_in g p s t h = mem_flat (λ s. map (λ t. (s, t)) (targets g p s)) s (s, t) (numbers_to (squares g)) (number_in (squares g) s h.stands.on_board.0 h.stands.on_board.1) (mem_map (λ t. (s, t)) t (targets g p s) (target_in g p s t h))
 
 pub quiet_from : (g : Geometry) (p : Placement) (m : Move) → Member m (quiet_list g p) → Quiet g p m.from m.to × (m.taken ≡ set.empty)
 quiet_from g p m h =
-    let f = mem_flat_back (λ s. quiet_of g p s (at p s)) m (numbers_to (squares g)) h in
-    elim (option_cases (at p f.0)) [
-      | inl e ↦ absurd (rw (e, quiet_of) at f.2)
-      | inr e ↦ quiet_of_from g p f.0 m e.0 (from_number (squares g) f.0 f.1) e.1 (rw e.1 at f.2)
-    ]
+    let f = mem_map_back quiet_move m (quiet_pairs g p) h in
+    subst (λ (m : Move). Quiet g p m.from m.to × (m.taken ≡ set.empty)) (sym f.2) (pair_from g p f.0 f.1, refl)
 
 pub quiet_in : (g : Geometry) (p : Placement) (from to : ℕ) → Quiet g p from to → Member (record { from = from; to = to; taken = set.empty }) (quiet_list g p)
-quiet_in g p from to h =
-    let m : Move = record { from = from; to = to; taken = set.empty } in
-    let own : same_side h.piece.side p.turn ≡ true = rw h.stands.own (same_side_refl p.turn) in
-    let go : Goes h.piece.kind g p p.turn from to = record { dir = h.dir; lands = record { before = h.between; beyond = h.beyond; is = h.on_ray; clear = h.clear; free = h.free; man = λ q. (h.man q).0 }; ahead = λ q. (h.man q).1 } in
-    let here : Member m (quiet_of g p from (Some h.piece)) =
-    rw (own, quiet_of) (mem_map (λ t. record { from = from; to = t; taken = set.empty }) to (quiet_for h.piece.kind g p p.turn from) (goes_in h.piece.kind g p p.turn from to go)) in
-    mem_flat (λ s. quiet_of g p s (at p s)) from m (numbers_to (squares g)) (number_in (squares g) from h.stands.on_board.0 h.stands.on_board.1) (rw h.stands.there here)
+quiet_in g p from to h = mem_map quiet_move (from, to) (quiet_pairs g p) (pair_in g p from to h)
 
 at_from : (g : Geometry) (p : Placement) (k : ℕ) (m : Move) → Member m (legal_at g p (path_list g p) k) → LegalAt g p k m
 at_from g p zero m h = quiet_from g p m h

@@ -1,5 +1,5 @@
 -- A legal move leads to a position, and a path takes no more than the other side has.
-use Rattle.std.proofs.Common.{◌≡◌, ◌≢◌, ℕ, ◌+◌, ◌-◌, ◌≤◌, ◌<◌, ◌&&◌, zero, suc, List, [], ◌∷◌, ◌++◌, length, map, refl, sym, ap, ◌∙◌, subst, ◌⊎◌, inl, inr, arith, Bool, true, false, Option, Some, None, get_or, length-set, get_or-set_same, get_or-set_other, cond, set, count_by}
+use Rattle.std.proofs.Common.{◌≡◌, ◌≢◌, ℕ, ◌+◌, ◌-◌, ◌≤◌, ◌<◌, ◌&&◌, zero, suc, List, [], ◌∷◌, length, refl, sym, ap, ◌∙◌, subst, ◌⊎◌, inl, inr, arith, Bool, true, false, Option, Some, None, get_or, length-set, get_or-set_same, get_or-set_other, cond, set, count_by}
 use Rattle.std.proofs.lemmas.List.{get_or_past}
 use Rattle.std.proofs.lemmas.List.Sums.{sum_by-set, sum_by-cons}
 use Rattle.std.proofs.lemmas.List.FromFn.{get_or-map-range_with_len}
@@ -10,12 +10,10 @@ use Rattle.std.specs.Ordering.{nat_cmp, eq_by_cmp}
 use Rattle.dw_board.specs.SquareSet.{Squares}
 use Rattle.dw_board.specs.declared.piece.Side.{Side}
 use Rattle.dw_board.specs.declared.piece.Side.TheVariants.{White, Black}
-use Rattle.dw_board.specs.declared.piece.Kind.{Kind}
-use Rattle.dw_board.specs.declared.piece.Kind.TheVariants.{Man, King}
 use Rattle.dw_board.specs.declared.piece.Piece.{Piece}
 use Rattle.dw_board.specs.Geometry.{Geometry, IsBoard, OnBoard, squares}
-use Rattle.dw_board.specs.Placement.{Placement, IsPosition, at, placed, is_of, is_man, is_stuck, on_last_row}
-use Rattle.dw_moves.specs.Moves.{Member, Move, Quiet, Jumps, Stands, Legal, LegalAt, crowned, landed, left, without, play, other, last_of}
+use Rattle.dw_board.specs.Placement.{Placement, at, placed, is_of, is_man, is_stuck, on_last_row}
+use Rattle.dw_moves.specs.Moves.{Member, Move, Jumps, Stands, Legal, LegalAt, crowned, landed, left, without, play, last_of}
 use Rattle.dw_moves.specs.Laws.{PlayStays}
 use Rattle.dw_moves.proofs.Members.{mem_at}
 use Rattle.dw_moves.proofs.Rays.{ray_of_on, landing_on_ray}

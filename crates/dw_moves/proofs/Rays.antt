@@ -1,9 +1,9 @@
 -- Rays: their squares lie on the board, and a square lies in at most one direction from another.
-use Rattle.std.proofs.Common.{◌≡◌, ℕ, ◌+◌, ◌*◌, ◌/◌, ◌<◌, ◌≤◌, zero, suc, refl, sym, ap, subst, inl, inr, arith, Option, Some, None, List, [], ◌∷◌, ◌++◌, true, false, Bool, length, ◌-◌, ◌∙◌}
+use Rattle.std.proofs.Common.{◌≡◌, ℕ, ◌+◌, ◌*◌, ◌/◌, ◌<◌, ◌≤◌, zero, suc, refl, sym, ap, subst, inl, inr, arith, Option, Some, None, [], ◌∷◌, ◌++◌, true, false, Bool, length, ◌-◌, ◌∙◌}
 use Rattle.dw_board.specs.declared.board.Dir.{Dir}
 use Rattle.dw_board.specs.declared.board.Dir.TheVariants.{UpLeft, UpRight, DownLeft, DownRight}
 use Rattle.dw_board.specs.declared.piece.Piece.{Piece}
-use Rattle.dw_board.specs.Geometry.{Geometry, IsBoard, OnBoard, row, column, step, and_then, moved, is_down, is_right, squares}
+use Rattle.dw_board.specs.Geometry.{Geometry, IsBoard, OnBoard, row, column, step, and_then, moved, is_down, is_right}
 use Rattle.dw_board.specs.Placement.{Placement}
 use Rattle.dw_moves.specs.Moves.{Member, Jump, ray_of, ray}
 use Rattle.dw_moves.proofs.Members.{mem_at, mem_right}

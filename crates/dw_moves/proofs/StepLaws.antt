@@ -1,12 +1,12 @@
 -- Where a step leads: one row and one column further, and to a square of the board.
-use Rattle.std.proofs.Common.{◌≡◌, ℕ, ◌+◌, ◌-◌, ◌*◌, ◌/◌, ◌%◌, ◌<◌, ◌≤◌, refl, sym, ap, ◌∙◌, subst, mod-lt, mul-le-mul_right, arith, Bool, true, false, cond, Option, Some, None}
+use Rattle.std.proofs.Common.{◌≡◌, ℕ, ◌+◌, ◌-◌, ◌*◌, ◌/◌, ◌%◌, ◌<◌, ◌≤◌, refl, sym, ap, ◌∙◌, subst, mod-lt, mul-le-mul_right, arith, Bool, true, false, Option, Some, None}
 use Rattle.std.specs.Prelude.{nat_lt}
 use Rattle.std.proofs.lemmas.Bool.{ltb-true}
 use Rattle.std.proofs.lemmas.Option.{cond_some}
 use Rattle.std.proofs.lemmas.Nat.{div-mul-add, mod-mul-add}
 use Rattle.std.proofs.Math.Nat.{div-lt_iff_lt-mul}
 use Rattle.dw_board.specs.declared.board.Dir.{Dir}
-use Rattle.dw_board.specs.Geometry.{Geometry, IsBoard, OnBoard, row, column, step, and_then, moved, is_down, is_right, squares}
+use Rattle.dw_board.specs.Geometry.{Geometry, IsBoard, OnBoard, row, column, step, and_then, moved, is_down, is_right}
 
 -- y is the place behind x, or the one before it
 abbrev pub IsNext : Bool → ℕ → ℕ → Type 0

@@ -2,7 +2,7 @@
 use Rattle.std.specs.Prelude.{◌≡◌, ℕ, ◌≤◌, ◌↔◌, List, length}
 use Rattle.dw_board.specs.Geometry.{Geometry, IsBoard}
 use Rattle.dw_board.specs.Placement.{Placement, IsPosition, count}
-use Rattle.dw_moves.specs.Moves.{Member, NoRepeat, Quiet, Path, IsBest, Move, Legal, other, play}
+use Rattle.dw_moves.specs.Moves.{Member, Path, IsBest, Move, Legal, other, play}
 
 -- a path tells what it takes: two paths over the same landings from the same square take the same pieces in the same order
 abbrev pub PathTells : Type 0

@@ -1,3 +1,4 @@
 pub mod Moves
 pub mod MoveLaws
 pub mod Laws
+pub mod Plain
