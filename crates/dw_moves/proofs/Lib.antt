@@ -8,3 +8,7 @@ pub mod LegalMoves
 pub mod PathTells
 pub mod PlayStays
 pub mod CaptureBound
+pub mod Cleared
+pub mod Runs
+pub mod QuietOnce
+pub mod Played

@@ -47,7 +47,7 @@ left_cases p ss s = elim (cases_Bool (fin.contains ss s)) [ inl e ↦ inl (rw e 
 abbrev pub emptied : Move → Squares
 emptied m = fin.insert m.taken m.from
 
-left_origin : (p : Placement) (m : Move) → left p (emptied m) m.from ≡ None
+pub left_origin : (p : Placement) (m : Move) → left p (emptied m) m.from ≡ None
 left_origin p m =
     let e : fin.contains (emptied m) m.from ≡ true = fin.contains-insert nat_cmp_total m.taken m.from m.from ∙ or_left (eq_by_cmp nat_cmp m.from m.from) (fin.contains m.taken m.from) (unsigned_tied m.from m.from ∙ eq-eqb m.from m.from refl) in
     rw e refl
@@ -74,7 +74,7 @@ without_cases_origin p m len low i = elim (cases_eq i (m.from - 1)) [
   ]
 ]
 
-abbrev one_of : Side → Option Piece → ℕ
+abbrev pub one_of : Side → Option Piece → ℕ
 one_of side o = cond (is_of side o) 1 0
 
 -- what the move empties counts at least the mover's piece
@@ -138,8 +138,8 @@ play_at g p m s low high ne to_low =
 pub play_to : (g : Geometry) (p : Placement) (m : Move) → 1 ≤ m.to → m.to ≤ 50 → at (play g p m) m.to ≡ landed g m.to (at p m.from)
 play_to g p m low high = get_or-set_same (without p (emptied m)).cells (m.to - 1) (landed g m.to (at p m.from)) None (omega (arith, without_length p (emptied m)))
 
-past_none : (p : Placement) (m : Move) (s : ℕ) → at p s ≡ None → left p (emptied m) s ≡ None
-past_none p m s e = elim (left_cases p (emptied m) s) [ inl h ↦ h | inr h ↦ h ∙ e ]
+pub past_none : (p : Placement) (ss : Squares) (s : ℕ) → at p s ≡ None → left p ss s ≡ None
+past_none p ss s e = elim (left_cases p ss s) [ inl h ↦ h | inr h ↦ h ∙ e ]
 
 pub play_stays : PlayStays
 play_stays g b p m pos legal =
@@ -155,7 +155,7 @@ play_stays g b p m pos legal =
       fifty = len;
       on_board = λ t past. elim (cases_lt 50 t) [
         | inl beyond ↦ get_or_past (play g p m).cells (t - 1) None (omega arith)
-        | inr within ↦ play_at g p m t (omega arith) within (λ e. absurd (omega (arith, to.1))) to.0 ∙ past_none p m t (pos.on_board t past)
+        | inr within ↦ play_at g p m t (omega arith) within (λ e. absurd (omega (arith, to.1))) to.0 ∙ past_none p (emptied m) t (pos.on_board t past)
       ];
       white_fits = omega (arith, side_stays g p m White piece pos.fifty from fifty to s.1.there, pos.white_fits);
       black_fits = omega (arith, side_stays g p m Black piece pos.fifty from fifty to s.1.there, pos.black_fits);

@@ -128,7 +128,7 @@ toward_trans g UpRight s t u h k = (omega (arith, h.0, k.0), omega (arith, h.1, 
 toward_trans g DownLeft s t u h k = (omega (arith, h.0, k.0), omega (arith, h.1, k.1))
 toward_trans g DownRight s t u h k = (omega (arith, h.0, k.0), omega (arith, h.1, k.1))
 
-ray_of_toward : (g : Geometry) → IsBoard g → (n : ℕ) (d : Dir) (s x : ℕ) → OnBoard g s → Member x (ray_of g n s d) → Toward g d s x
+pub ray_of_toward : (g : Geometry) → IsBoard g → (n : ℕ) (d : Dir) (s x : ℕ) → OnBoard g s → Member x (ray_of g n s d) → Toward g d s x
 ray_of_toward g b zero d s x on m = absurd m
 ray_of_toward g b (suc n) d s x on m = elim (option_cases (step g s d)) [
   | inl e ↦ absurd (rw (e, ray_of) at m)

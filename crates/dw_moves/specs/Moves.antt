@@ -1,5 +1,5 @@
 -- Moves: what a position allows, and what a move leaves.
-use Rattle.std.specs.Prelude.{◌≡◌, ℕ, ◌≤◌, ◌<◌, ◌⊎◌, true, false, Option, Some, None, List, [], ◌∷◌, ◌++◌, length, cond, map, refl}
+use Rattle.std.specs.Prelude.{◌≡◌, ℕ, ◌≤◌, ◌<◌, ◌⊎◌, ◌↔◌, true, false, Option, Some, None, List, [], ◌∷◌, ◌++◌, length, cond, map, refl}
 use Rattle.std.specs.Coded.{Coded, code_by, coded×, coded_ℕ}
 use Rattle.std.proofs.Common.{zero, suc}
 use Rattle.std.specs.List.{range_with_len}
@@ -65,6 +65,13 @@ pub record Quiet (g : Geometry) (p : Placement) (from to : ℕ) : Type 0 where
   pub clear : AllEmpty p between
   pub free : at p to ≡ None
   pub man : piece.kind ≡ Man → (between ≡ []) × IsForward p.turn dir
+
+-- n is the number of quiet moves: a list holds each of them once, and has n of them
+pub record IsQuietCount (g : Geometry) (p : Placement) (n : ℕ) : Type 0 where
+  pub moves : List (ℕ × ℕ)
+  pub exactly : (from to : ℕ) → Member (from, to) moves ↔ Quiet g p from to
+  pub once : NoRepeat moves
+  pub count : length moves ≡ n
 
 -- a jump from s over an enemy on c to t: on one ray nothing stands between s and c, nor behind c up to and with t; for a man c is next to s, and t next to c
 pub record Jump (g : Geometry) (p : Placement) (piece : Piece) (s c t : ℕ) : Type 0 where

@@ -3,3 +3,5 @@
 
 pub mod laws;
 pub mod moves;
+pub mod play;
+pub mod quiet;
