@@ -12,3 +12,4 @@ pub mod Cleared
 pub mod Runs
 pub mod QuietOnce
 pub mod Played
+pub mod JumpSteps

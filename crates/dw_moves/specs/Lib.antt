@@ -2,3 +2,4 @@ pub mod Moves
 pub mod MoveLaws
 pub mod Laws
 pub mod Plain
+pub mod Chains

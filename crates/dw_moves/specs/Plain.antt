@@ -93,3 +93,7 @@ free_if p (Some t) = elim (at p t) [ None ↦ Some t | Some piece ↦ None ]
 
 abbrev pub free_step : Geometry → Placement → ℕ → Dir → Option ℕ
 free_step g p s d = free_if p (step g s d)
+
+-- no jump at all
+abbrev pub no_jumps : List (ℕ × ℕ)
+no_jumps = []
