@@ -1,19 +1,16 @@
 -- How the jumps of a piece are found square by square.
-use Rattle.std.proofs.Common.{◌≡◌, ◌≢◌, ℕ, ◌+◌, ◌≤◌, ◌<◌, zero, suc, List, [], ◌∷◌, ◌++◌, length, map, refl, sym, ap, ◌∙◌, subst, inl, inr, arith, Bool, true, false, Option, Some, None, length-append, append_assoc}
+use Rattle.std.proofs.Common.{◌≡◌, ℕ, ◌+◌, ◌≤◌, suc, List, [], ◌∷◌, ◌++◌, length, map, refl, sym, ap, ◌∙◌, subst, arith, true, false, Some, None, length-append, append_assoc}
 use Rattle.std.proofs.lemmas.List.{length-map}
-use Rattle.std.proofs.lemmas.Bool.{cases_Bool}
 use Rattle.dw_board.specs.declared.piece.Kind.{Kind}
 use Rattle.dw_board.specs.declared.piece.Kind.TheVariants.{Man, King}
 use Rattle.dw_board.specs.declared.piece.Side.{Side}
-use Rattle.dw_board.specs.declared.piece.Side.TheVariants.{White, Black}
 use Rattle.dw_board.specs.declared.piece.Piece.{Piece}
 use Rattle.dw_board.specs.declared.board.Dir.{Dir}
 use Rattle.dw_board.specs.Geometry.{Geometry, IsBoard, OnBoard, step}
 use Rattle.dw_board.specs.Placement.{Placement, at, same_side}
 use Rattle.dw_moves.specs.Moves.{ray, other}
-use Rattle.dw_moves.specs.Plain.{landings_for, king_takes, man_takes, takes_for, over_enemy, free_if, free_step}
+use Rattle.dw_moves.specs.Plain.{landings_for, king_takes, takes_for, over_enemy, free_if, free_step}
 use Rattle.dw_moves.proofs.StepLaws.{none_some, step_is}
-use Rattle.dw_moves.proofs.Exact.{option_cases, same_side_true}
 use Rattle.dw_moves.proofs.Rays.{ray_some, ray_none}
 use Rattle.dw_moves.proofs.Runs.{Freed, run_man, run_king, run_stop, run_short}
 

@@ -13,3 +13,5 @@ pub mod Runs
 pub mod QuietOnce
 pub mod Played
 pub mod JumpSteps
+pub mod Longest
+pub mod BestFrom

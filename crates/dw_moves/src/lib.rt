@@ -1,6 +1,7 @@
 //! What a position of international draughts allows: quiet moves, captures, legal moves, and the position after a move.
 #![tactic(auto)]
 
+pub mod best;
 mod jumps;
 pub mod laws;
 pub mod moves;

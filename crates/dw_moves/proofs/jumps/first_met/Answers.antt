@@ -1,7 +1,4 @@
-use Rattle.std.proofs.Common.{sym, ap, ◌∙◌, subst}
-use Rattle.dw_board.specs.Geometry.{OnBoard}
-use Rattle.dw_moves.specs.Moves.{ray}
-use Rattle.dw_moves.specs.Plain.{king_takes, free_step}
+use Rattle.std.proofs.Common.{sym, ◌∙◌, subst}
 use Rattle.dw_moves.proofs.JumpSteps.{Before, before_man, before_king, met_friend, met_enemy}
 use Rattle.dw_moves.proofs.jumps.first_met.Goals as goal
 use Rattle.dw_moves.proofs.jumps.first_met.Goals.{in-Man, in-King}
