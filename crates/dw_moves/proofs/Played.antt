@@ -85,10 +85,10 @@ pub played : (g : Geometry) → IsBoard g → (p : Placement) (n m : Move) → n
 played g b p n m same pos legal piece there cleared c_is crown k_is r after fault e side s_is final f =
     let P : Move → Type 0 = λ z. Legal g p z → final ≡ play g p z in
     subst P same (λ legal'.
-      let a = after_put g b p n piece pos legal' there cleared c_is crown k_is r after fault e in
-      let there' : landed g n.to (at p n.from) ≡ Some (crowned g n.to piece) = ap (landed g n.to) there in
-      let cells : final.cells ≡ (play g p n).cells = ap (λ z. z.cells) f ∙ (ap (λ z. z.cells) a ∙ ap (λ z. (placed (without p (emptied n)) n.to z).cells) (sym there')) in
-      same_placement final (play g p n) cells (ap (λ z. z.turn) f ∙ s_is)) legal
+    let a = after_put g b p n piece pos legal' there cleared c_is crown k_is r after fault e in
+    let there' : landed g n.to (at p n.from) ≡ Some (crowned g n.to piece) = ap (landed g n.to) there in
+    let cells : final.cells ≡ (play g p n).cells = ap (λ z. z.cells) f ∙ (ap (λ z. z.cells) a ∙ ap (λ z. (placed (without p (emptied n)) n.to z).cells) (sym there')) in
+    same_placement final (play g p n) cells (ap (λ z. z.turn) f ∙ s_is)) legal
 
 -- a piece stands on the origin
 pub origin_taken : (g : Geometry) (p : Placement) (n m : Move) → n ≡ m → Legal g p m → at p n.from ≡ None → ⊥

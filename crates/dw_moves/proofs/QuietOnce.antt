@@ -53,9 +53,13 @@ numbers_once (suc n) = once_append (numbers_to n) (suc n ∷ []) (numbers_once n
 dirs_once : NoRepeat dirs
 dirs_once = (
   (λ h. elim h [ inl e ↦ cc | inr (inl e) ↦ cc | inr (inr (inl e)) ↦ cc | inr (inr (inr e)) ↦ e ]),
-  ((λ h. elim h [ inl e ↦ cc | inr (inl e) ↦ cc | inr (inr e) ↦ e ]),
-  ((λ h. elim h [ inl e ↦ cc | inr e ↦ e ]),
-  ((λ h. h), tt))),
+  (
+    (λ h. elim h [ inl e ↦ cc | inr (inl e) ↦ cc | inr (inr e) ↦ e ]),
+    (
+      (λ h. elim h [ inl e ↦ cc | inr e ↦ e ]),
+      ((λ h. h), tt),
+    ),
+  ),
 )
 
 not_toward : (g : Geometry) (d : Dir) (s : ℕ) → Toward g d s s → ⊥
@@ -130,9 +134,9 @@ pub pairs_once : (g : Geometry) → IsBoard g → (p : Placement) → NoRepeat (
 pairs_once g b p = once_flat (pairs_from g p) (numbers_to (squares g)) (numbers_once (squares g))
     (λ s m. once_map (λ t. (s, t)) (λ x y e. ap (λ (q : ℕ × ℕ). q.1) e) (targets g p s) (targets_once g b p s (from_number (squares g) s m)))
     (λ s z m ms mz hs hz.
-      let x = mem_map_back (λ t. (s, t)) m (targets g p s) hs in
-      let y = mem_map_back (λ t. (z, t)) m (targets g p z) hz in
-      ap (λ (q : ℕ × ℕ). q.0) (sym x.2 ∙ y.2))
+    let x = mem_map_back (λ t. (s, t)) m (targets g p s) hs in
+    let y = mem_map_back (λ t. (z, t)) m (targets g p z) hz in
+    ap (λ (q : ℕ × ℕ). q.0) (sym x.2 ∙ y.2))
 
 -- the quiet moves from the squares up to i
 pub record Tallied (g : Geometry) (p : Placement) (i n : ℕ) : Type 0 where

@@ -76,7 +76,8 @@ fn longest<B: Board>(
     let found = jumps(position, piece, from);
     'jumps: for jump in found.as_slice() {
         if !taken.has(jump.over) {
-            let further = longest(position, piece, jump.landing, taken.with(jump.over), left - 1);
+            let used = taken.with(jump.over);
+            let further = longest(position, piece, jump.landing, used, left - 1);
             most = most.max(further + 1);
         }
     }

@@ -7,3 +7,5 @@ pub mod laws;
 pub mod moves;
 pub mod play;
 pub mod quiet;
+#[cfg(test)]
+mod tests;

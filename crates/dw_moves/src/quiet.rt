@@ -71,12 +71,7 @@ fn may_go(kind: Kind, side: Side, direction: Dir) -> bool
 }
 
 /// The number of squares that a piece can reach in one direction over empty squares: a man at most one.
-fn free_run<B: Board>(
-    position: &Position<B>,
-    kind: Kind,
-    from: Square<B>,
-    direction: Dir,
-) -> u32
+fn free_run<B: Board>(position: &Position<B>, kind: Kind, from: Square<B>, direction: Dir) -> u32
     requires { OnBoard B.geometry from }
     ensures value { result ≡ length (plain.landings_for kind position.now (ray B.geometry from direction)) }
     ensures small { result ≤ 10 }

@@ -6,5 +6,5 @@ pub returns-then-best-gt0 : goal.returns-then-best-gt0
 returns-then-best-gt0 g c = move_any g.B.Board.geometry c.args.position.now c.best.result c.best.ensures.value c.if-best-gt0.true
 
 pub returns-else-best-gt0 : goal.returns-else-best-gt0
-returns-else-best-gt0 g c = 
+returns-else-best-gt0 g c =
     move_by_quiet g.B.Board.geometry c.args.position.now c.best.result c.quiet_count.result c.best.ensures.value (λ some. absurd (omega (arith, some))) c.quiet_count.ensures
