@@ -1,0 +1,17 @@
+pub mod Members
+pub mod Plain
+pub mod Exact
+pub mod Captures
+pub mod StepLaws
+pub mod Rays
+pub mod LegalMoves
+pub mod PathTells
+pub mod PlayStays
+pub mod CaptureBound
+pub mod Cleared
+pub mod Runs
+pub mod QuietOnce
+pub mod Played
+pub mod JumpSteps
+pub mod Longest
+pub mod BestFrom

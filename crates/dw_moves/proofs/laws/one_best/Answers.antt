@@ -1,0 +1,6 @@
+use Rattle.dw_moves.proofs.Plain.{best}
+use Rattle.dw_moves.proofs.LegalMoves.{is_best, best_only}
+use Rattle.dw_moves.proofs.laws.one_best.Goals as goal
+
+pub returns : goal.returns
+returns c = record { some = λ g p. (best g p, is_best g p); only = best_only }

@@ -1,0 +1,5 @@
+use Rattle.dw_moves.proofs.PlayStays.{play_stays}
+use Rattle.dw_moves.proofs.laws.play_stays.Goals as goal
+
+pub returns : goal.returns
+returns c = play_stays

@@ -1,0 +1,5 @@
+pub mod Moves
+pub mod MoveLaws
+pub mod Laws
+pub mod Plain
+pub mod Chains

@@ -1,0 +1,165 @@
+-- Moves: what a position allows, and what a move leaves.
+use Rattle.std.specs.Prelude.{◌≡◌, ℕ, ◌≤◌, ◌<◌, ◌⊎◌, ◌↔◌, true, false, Option, Some, None, List, [], ◌∷◌, ◌++◌, length, cond, map, refl}
+use Rattle.std.specs.Coded.{Coded, code_by, coded×, coded_ℕ}
+use Rattle.std.proofs.Common.{zero, suc}
+use Rattle.std.specs.List.{range_with_len}
+use Rattle.std.specs.FinSet as set
+use Rattle.dw_board.specs.declared.board.Dir.{Dir}
+use Rattle.dw_board.specs.declared.piece.Side.{Side}
+use Rattle.dw_board.specs.declared.piece.Side.TheVariants.{White, Black}
+use Rattle.dw_board.specs.declared.piece.Kind.{Kind}
+use Rattle.dw_board.specs.declared.piece.Kind.TheVariants.{Man, King}
+use Rattle.dw_board.specs.declared.piece.Piece.{Piece}
+use Rattle.dw_board.specs.Geometry.{Geometry, step, OnBoard, is_down}
+use Rattle.dw_board.specs.Placement.{Placement, at, placed, on_last_row}
+use Rattle.dw_board.specs.SquareSet.{Squares}
+
+-- x is an element of a list
+abbrev pub Member : {X : Type 0} → X → List X → Type 0
+Member x [] = ⊥
+Member x (y ∷ ys) = (x ≡ y) ⊎ Member x ys
+
+-- no element stands twice in a list
+abbrev pub NoRepeat : {X : Type 0} → List X → Type 0
+NoRepeat [] = Unit {0}
+NoRepeat (x ∷ xs) = (Member x xs → ⊥) × NoRepeat xs
+
+-- the other player
+abbrev pub other : Side → Side
+other White = Black
+other Black = White
+
+-- the first n squares met on the way from s in a direction, fewer where the board ends
+abbrev pub ray_of : Geometry → ℕ → ℕ → Dir → List ℕ
+ray_of g zero s d = []
+ray_of g (suc n) s d = elim (step g s d) [ None ↦ [] | Some t ↦ t ∷ ray_of g n t d ]
+
+-- all squares met on the way from s in a direction, the nearest first
+abbrev pub ray : Geometry → ℕ → Dir → List ℕ
+ray g s d = ray_of g g.rows s d
+
+-- nothing stands on any of these squares
+abbrev pub AllEmpty : Placement → List ℕ → Type 0
+AllEmpty p [] = Unit {0}
+AllEmpty p (s ∷ ss) = (at p s ≡ None) × AllEmpty p ss
+
+-- White's men go up, Black's men down
+abbrev pub IsForward : Side → Dir → Type 0
+IsForward White d = is_down d ≡ false
+IsForward Black d = is_down d ≡ true
+
+-- a piece of the side to move stands on a square
+pub record Stands (g : Geometry) (p : Placement) (s : ℕ) (piece : Piece) : Type 0 where
+  pub on_board : OnBoard g s
+  pub there : at p s ≡ Some piece
+  pub own : piece.side ≡ p.turn
+
+-- a quiet move: on one ray nothing stands between from and to, and nothing on to; a man goes one square forward
+pub record Quiet (g : Geometry) (p : Placement) (from to : ℕ) : Type 0 where
+  pub piece : Piece
+  pub stands : Stands g p from piece
+  pub dir : Dir
+  pub between : List ℕ
+  pub beyond : List ℕ
+  pub on_ray : ray g from dir ≡ between ++ to ∷ beyond
+  pub clear : AllEmpty p between
+  pub free : at p to ≡ None
+  pub man : piece.kind ≡ Man → (between ≡ []) × IsForward p.turn dir
+
+-- n is the number of quiet moves: a list holds each of them once, and has n of them
+pub record IsQuietCount (g : Geometry) (p : Placement) (n : ℕ) : Type 0 where
+  pub moves : List (ℕ × ℕ)
+  pub exactly : (from to : ℕ) → Member (from, to) moves ↔ Quiet g p from to
+  pub once : NoRepeat moves
+  pub count : length moves ≡ n
+
+-- a jump from s over an enemy on c to t: on one ray nothing stands between s and c, nor behind c up to and with t; for a man c is next to s, and t next to c
+pub record Jump (g : Geometry) (p : Placement) (piece : Piece) (s c t : ℕ) : Type 0 where
+  pub dir : Dir
+  pub before : List ℕ
+  pub behind : List ℕ
+  pub beyond : List ℕ
+  pub on_ray : ray g s dir ≡ before ++ c ∷ (behind ++ t ∷ beyond)
+  pub clear : AllEmpty p before
+  pub enemy : (k : Kind) × (at p c ≡ Some (record { side = other piece.side; kind = k }))
+  pub clear_behind : AllEmpty p behind
+  pub free : at p t ≡ None
+  pub man : piece.kind ≡ Man → (before ≡ []) × (behind ≡ [])
+
+-- jumps one after another with one piece, which begins on s: it lands on each of the first list, over each of the second
+abbrev pub Jumps : Geometry → Placement → Piece → ℕ → List ℕ → List ℕ → Type 0
+Jumps g p piece s [] [] = Unit {0}
+Jumps g p piece s (t ∷ ts) (c ∷ cs) = Jump g p piece s c t × Jumps g p piece t ts cs
+Jumps g p piece s [] (c ∷ cs) = ⊥
+Jumps g p piece s (t ∷ ts) [] = ⊥
+
+-- a capture path: the square that the piece leaves counts as empty, what is jumped stays until the end, and nothing is jumped twice
+pub record Path (g : Geometry) (p : Placement) (from : ℕ) (landings taken : List ℕ) : Type 0 where
+  pub piece : Piece
+  pub stands : Stands g p from piece
+  pub jumps : Jumps g (placed p from None) piece from landings taken
+  pub once : NoRepeat taken
+
+-- k is the greatest number of pieces that a path takes, 0 where nothing can be taken
+pub record IsBest (g : Geometry) (p : Placement) (k : ℕ) : Type 0 where
+  pub reached : 0 < k → (from : ℕ) × (landings : List ℕ) × (taken : List ℕ) × Path g p from landings taken × (length taken ≡ k)
+  pub most : (from : ℕ) (landings taken : List ℕ) → Path g p from landings taken → length taken ≤ k
+
+-- a move: where it begins and ends, and what it takes
+pub record Move : Type 0 where
+  pub from : ℕ
+  pub to : ℕ
+  pub taken : Squares
+
+-- a move is stored as its parts
+abbrev pub move_code : Coded Move
+move_code =
+    code_by (ℕ × (ℕ × Squares)) (coded× coded_ℕ (coded× coded_ℕ (set.code coded_ℕ))) (λ m. (m.from, (m.to, m.taken)))
+    (λ p. record { from = p.0; to = p.1.0; taken = p.1.1 }) (λ _. refl)
+
+-- where jumps end that begin on s
+abbrev pub last_of : ℕ → List ℕ → ℕ
+last_of s [] = s
+last_of s (t ∷ ts) = last_of t ts
+
+-- landings on which a move can be played that takes k pieces
+pub record IsPathOf (g : Geometry) (p : Placement) (m : Move) (k : ℕ) (landings : List ℕ) : Type 0 where
+  pub over : List ℕ
+  pub path : Path g p m.from landings over
+  pub count : length over ≡ k
+  pub ends : last_of m.from landings ≡ m.to
+  pub takes : m.taken ≡ set.from_list over
+
+-- where the greatest number is k: a quiet move if it is 0, else a capture of k pieces
+abbrev pub LegalAt : Geometry → Placement → ℕ → Move → Type 0
+LegalAt g p zero m = Quiet g p m.from m.to × (m.taken ≡ set.empty)
+LegalAt g p (suc k) m = (landings : List ℕ) × IsPathOf g p m (suc k) landings
+
+-- a legal move: a quiet one where nothing can be taken, else a capture of the greatest number
+abbrev pub Legal : Geometry → Placement → Move → Type 0
+Legal g p m = (k : ℕ) × IsBest g p k × LegalAt g p k m
+
+-- a man that ends its move on its last row becomes a king
+abbrev pub crowned : Geometry → ℕ → Piece → Piece
+crowned g to piece = record { side = piece.side; kind = cond (on_last_row g piece.side to) King piece.kind }
+
+-- what stands on the last square of a move
+abbrev pub landed : Geometry → ℕ → Option Piece → Option Piece
+landed g to None = None
+landed g to (Some piece) = Some (crowned g to piece)
+
+-- what is left on a square where these squares are emptied
+abbrev pub left : Placement → Squares → ℕ → Option Piece
+left p emptied s = cond (set.contains emptied s) None (at p s)
+
+-- the placement without what stands on these squares
+abbrev pub without : Placement → Squares → Placement
+without p emptied = record { cells = map (left p emptied) (range_with_len 1 50); turn = p.turn }
+
+-- the position after a move: the origin and the squares of what was taken are emptied, the piece stands on the last square, and it is the other player's turn
+abbrev pub play : Geometry → Placement → Move → Placement
+play g p m = record (placed (without p (set.insert m.taken m.from)) m.to (landed g m.to (at p m.from))) { turn = other p.turn }
+
+-- the side to move has no legal move
+abbrev pub NoMove : Geometry → Placement → Type 0
+NoMove g p = (m : Move) → Legal g p m → ⊥

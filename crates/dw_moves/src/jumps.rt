@@ -1,0 +1,155 @@
+//! The jumps that a piece has from one square.
+ghost use Rattle.std.specs.Prelude.{◌≡◌, ◌≤◌, ◌+◌, ◌++◌, map, None, IfSome, length};
+ghost use Rattle.dw_board.specs.Geometry.{OnBoard};
+ghost use Rattle.dw_board.specs.Placement.{same_side};
+ghost use Rattle.dw_board.specs.declared.piece.Side as sides;
+ghost use Rattle.dw_moves.specs.Moves.{ray, other};
+ghost use Rattle.dw_moves.specs.Plain as plain;
+
+use crate::quiet::free_step;
+use arrayvec::ArrayVec;
+use dw_board::board::{Board, Dir};
+use dw_board::piece::{Kind, Piece, Side};
+use dw_board::position::Position;
+use dw_board::square::{Square, step};
+use std::marker::Model;
+
+/// One jump: over what, and where it lands.
+pub(crate) struct Jump<B: Board> {
+    pub over: Square<B>,
+    pub landing: Square<B>,
+}
+
+impl<B: Board> Model for Jump<B> {
+    ghost use Rattle.std.specs.Prelude.{ℕ};
+    ghost use Rattle.std.specs.Coded.{coded×, coded_ℕ};
+
+    ghost Value = { ℕ × ℕ };
+
+    ghost coded = { coded× coded_ℕ coded_ℕ };
+
+    ghost view = { λ j. (j.over, j.landing) };
+
+    ghost inverse = { λ v. record { over = v.0; landing = v.1 } };
+}
+
+impl<B: Board> Copy for Jump<B> {}
+
+impl<B: Board> Clone for Jump<B> {
+    fn clone(&self) -> Result<Self, std::alloc::AllocError> {
+        Ok(*self)
+    }
+}
+
+impl<B: Board> Default for Jump<B> {
+    fn default() -> Self {
+        Jump {
+            over: Square::default(),
+            landing: Square::default(),
+        }
+    }
+}
+
+/// The jumps of a piece from a square, at most ten in each direction.
+pub(crate) fn jumps<B: Board>(
+    position: &Position<B>,
+    piece: Piece,
+    from: Square<B>,
+) -> ArrayVec<Jump<B>, 40>
+    requires { OnBoard B.geometry from }
+    ensures { result.items ≡ plain.jump_list B.geometry position.now piece from }
+{
+    let mut found = ArrayVec::new();
+    add_jumps(position, piece, from, Dir::UpLeft, &mut found);
+    add_jumps(position, piece, from, Dir::UpRight, &mut found);
+    add_jumps(position, piece, from, Dir::DownLeft, &mut found);
+    add_jumps(position, piece, from, Dir::DownRight, &mut found);
+    found
+}
+
+/// Adds the jumps in one direction: over the piece that is met first, to a square behind it.
+fn add_jumps<B: Board>(
+    position: &Position<B>,
+    piece: Piece,
+    from: Square<B>,
+    direction: Dir,
+    found: &mut ArrayVec<Jump<B>, 40>,
+)
+    requires on_board { OnBoard B.geometry from }
+    requires room { length found.old.items + 10 ≤ 40 }
+    ensures items { found.new.items ≡ found.old.items ++ plain.takes_for piece.kind position.now piece.side (ray B.geometry from direction) }
+    ensures room { length found.new.items ≤ length found.old.items + 10 }
+{
+    if let Some(over) = first_met(position, piece, from, direction) {
+        add_landings(position, piece.kind, over, direction, found);
+    }
+}
+
+/// Adds the jumps over a piece: to the next square behind it, for a king to any square up to the next piece.
+fn add_landings<B: Board>(
+    position: &Position<B>,
+    kind: Kind,
+    over: Square<B>,
+    direction: Dir,
+    found: &mut ArrayVec<Jump<B>, 40>,
+)
+    requires on_board { OnBoard B.geometry over }
+    requires room { length found.old.items + 10 ≤ 40 }
+    ensures items { found.new.items ≡ found.old.items ++ map (λ t. (over, t)) (plain.landings_for kind position.now (ray B.geometry over direction)) }
+    ensures room { length found.new.items ≤ length found.old.items + 10 }
+{
+    let mut at = over;
+    'landings: while let Some(landing) = free_step(position, at, direction) {
+        found.push(Jump { over, landing });
+        match kind {
+            Kind::Man => break,
+            Kind::King => at = landing,
+        }
+    }
+}
+
+/// The enemy that the piece meets first: on the next square, for a king on the first square that is not empty.
+fn first_met<B: Board>(
+    position: &Position<B>,
+    piece: Piece,
+    from: Square<B>,
+    direction: Dir,
+) -> Option<Square<B>>
+    requires { OnBoard B.geometry from }
+    ensures none { result ≡ None → plain.takes_for piece.kind position.now piece.side (ray B.geometry from direction) ≡ plain.no_jumps }
+    ensures some { IfSome result (λ c. plain.takes_for piece.kind position.now piece.side (ray B.geometry from direction) ≡ map (λ t. (c, t)) (plain.landings_for piece.kind position.now (ray B.geometry c direction))) }
+    ensures on_board { IfSome result (OnBoard B.geometry) }
+{
+    let before = match piece.kind {
+        Kind::Man => from,
+        Kind::King => last_free(position, from, direction),
+    };
+    let met = step(before, direction)?;
+    let stands = position.at(met)?;
+    if is_enemy(stands, piece.side) {
+        Some(met)
+    } else {
+        None
+    }
+}
+
+/// Whether a piece is one of the other side.
+fn is_enemy(piece: Piece, side: Side) -> bool
+    ensures { result ≡ same_side piece.side (other side) }
+{
+    piece.side != side
+}
+
+/// The last square before the next piece or the edge.
+fn last_free<B: Board>(position: &Position<B>, from: Square<B>, direction: Dir) -> Square<B>
+    requires { OnBoard B.geometry from }
+    ensures takes { (side : sides.Side) → plain.king_takes position.now side (ray B.geometry from direction) ≡ plain.king_takes position.now side (ray B.geometry result direction) }
+    ensures on_board { OnBoard B.geometry result }
+    ensures blocked { plain.free_step B.geometry position.now result direction ≡ None }
+{
+    let mut at = from;
+    'empty: while let Some(next) = free_step(position, at, direction) {
+        at = next;
+    }
+    at
+}

@@ -1,0 +1,38 @@
+//! Laws of the definitions, each the contract of a function that does nothing, and what `==` means.
+ghost use Rattle.std.specs.Prelude.{◌≡◌, ◌↔◌, IsTrue};
+ghost use Rattle.dw_moves.specs.Laws.{PathTells, PathIsShort, MovesListed, OneBest, PlayStays};
+
+use crate::moves::Move;
+use dw_board::board::Board;
+
+/// The landings of a path tell what it takes.
+pub fn path_tells()
+    ensures { PathTells }
+{}
+
+/// A path takes at most all pieces of the other side.
+pub fn path_is_short()
+    ensures { PathIsShort }
+{}
+
+/// Some list has exactly the legal moves.
+pub fn moves_listed()
+    ensures { MovesListed }
+{}
+
+/// There is a greatest number of pieces that can be taken, and only one.
+pub fn one_best()
+    ensures { OneBest }
+{}
+
+/// A legal move leads from a position to a position.
+pub fn play_stays()
+    ensures { PlayStays }
+{}
+
+/// Equal moves begin and end on the same squares and take the same pieces.
+pub fn same_move<B: Board>(a: &Move<B>, b: &Move<B>) -> bool
+    ensures { IsTrue result ↔ (a.now ≡ b.now) }
+{
+    a == b
+}

@@ -1,0 +1,11 @@
+//! What a position of international draughts allows: quiet moves, captures, legal moves, and the position after a move.
+#![tactic(auto)]
+
+pub mod best;
+mod jumps;
+pub mod laws;
+pub mod moves;
+pub mod play;
+pub mod quiet;
+#[cfg(test)]
+mod tests;

@@ -1,0 +1,93 @@
+//! Moves.
+ghost use Rattle.std.specs.Prelude.{◌≡◌, ◌==◌, Ok};
+ghost use Rattle.std.specs.FinSet as set;
+ghost use Rattle.std.specs.Cmp.Rules.{comparing};
+ghost use Rattle.std.specs.Cmp.Lexicographic.{pointwise};
+ghost use Rattle.std.specs.Ordering.{on, eq_of_both};
+ghost use Rattle.std.proofs.Common.{rules};
+ghost use Rattle.dw_moves.specs.MoveLaws.{same_moves-is, move_bytes};
+
+use dw_board::board::Board;
+use dw_board::square::Square;
+use dw_board::squares::Squares;
+use std::alloc::AllocError;
+use std::hash::{Hash, Hasher};
+use std::marker::Model;
+
+/// A move: where it begins and ends, and the squares of the pieces that it takes, all of them in one set. Two ways
+/// to capture the same pieces between the same two squares are one move.
+pub struct Move<B: Board> {
+    pub from: Square<B>,
+    pub to: Square<B>,
+    pub taken: Squares<B>,
+}
+
+impl<B: Board> Model for Move<B> {
+    ghost use Rattle.dw_moves.specs.Moves.{Move, move_code};
+
+    ghost Value = { Move };
+
+    ghost coded = { move_code };
+
+    ghost view = { λ m. record { from = m.from; to = m.to; taken = m.taken } };
+
+    ghost inverse = { λ v. record { from = v.from; to = v.to; taken = v.taken } };
+}
+
+impl<B: Board> Move<B> {
+    /// A move that takes nothing.
+    pub fn quiet(from: Square<B>, to: Square<B>) -> Self
+        ensures { result ≡ record { from = from; to = to; taken = set.empty } }
+    {
+        Move {
+            from,
+            to,
+            taken: Squares::none(),
+        }
+    }
+}
+
+impl<B: Board> Copy for Move<B> {}
+
+impl<B: Board> Clone for Move<B> {
+    fn clone(&self) -> Result<Self, AllocError>
+        ensures { result ≡ Ok self.now }
+    {
+        Ok(*self)
+    }
+}
+
+/// From square 1 to square 1, with nothing taken: no legal move, but a value to fill an array with.
+impl<B: Board> Default for Move<B> {
+    ghost is_default = { λ m. m ≡ record { from = 1; to = 1; taken = set.empty } };
+
+    fn default() -> Self {
+        Move::quiet(Square::default(), Square::default())
+    }
+}
+
+impl<B: Board> PartialEq for Move<B> {
+    ghost eq = { eq_of_both (on (λ m. m.from) ◌==◌) (eq_of_both (on (λ m. m.to) ◌==◌) (on (λ m. set.items m.taken) (pointwise ◌==◌))) };
+
+    ghost laws = { Prim.search (comparing, rules) depth 9 };
+
+    fn eq(&self, other: &Self) -> bool {
+        self.from == other.from && self.to == other.to && self.taken == other.taken
+    }
+}
+
+impl<B: Board> Eq for Move<B> {
+    ghost laws = { Prim.search (comparing, rules) depth 9 };
+}
+
+impl<B: Board> Hash for Move<B> {
+    ghost hash_input = { move_bytes B.geometry };
+
+    ghost respects_eq = { λ x y h i. move_bytes B.geometry ((same_moves-is x y).0 h i) };
+
+    fn hash<H: Hasher>(&self, state: &mut H) {
+        self.from.hash(state);
+        self.to.hash(state);
+        self.taken.hash(state);
+    }
+}
