@@ -9,3 +9,5 @@ pub mod Names
 pub mod Holding
 pub mod Passing
 pub mod TagReading
+pub mod TagBreaking
+pub mod SectionReading

@@ -1,20 +1,16 @@
 -- How a text of whole tags is read.
-use Rattle.std.proofs.Common.{◌≡◌, ℕ, ◌+◌, ◌<◌, ◌==◌, ◌||◌, inl, inr, List, [], ◌∷◌, ◌++◌, length, Bool, true, false, not, cond, refl, sym, ap, ◌∙◌, subst, arith, append_assoc, append-nil, length-append}
+use Rattle.std.proofs.Common.{◌≡◌, ℕ, ◌+◌, ◌<◌, ◌==◌, ◌||◌, inl, inr, List, [], ◌∷◌, ◌++◌, length, Bool, true, false, refl, sym, ap, ◌∙◌, subst, arith, append_assoc, append-nil}
 use Rattle.std.proofs.lemmas.Bool.{ne_eqb, cases_Bool, or_parts, and_parts, not-true, both_ways}
 use Rattle.std.specs.List.{list_all}
 use Rattle.dw_board.specs.Geometry.{Geometry}
-use Rattle.dw_notation.specs.Found.{Found, is_blank}
+use Rattle.dw_notation.specs.Found.{is_blank}
 use Rattle.dw_notation.specs.Places.{step, at, is_name_byte, ends_line}
-use Rattle.dw_notation.specs.Sections.{Section, bare, kind_of, game_of, with_tag, after, section_found, found_by, sections_found}
-use Rattle.dw_notation.specs.Tags.{Tag, is_plain, Spells, IsTag, is_space, IsSection, with_fen, with_game, fens_of, games_of, tags_found, closes, SectionsAreFound, LastSectionIsFound, CommentsSayNothing, OpenCommentIsFound, OthersSayNothing}
+use Rattle.dw_notation.specs.Sections.{Section, kind_of, with_tag, after, section_found, found_by, sections_found}
+use Rattle.dw_notation.specs.Tags.{Tag, is_plain, Spells, is_space}
 use Rattle.dw_notation.specs.Tags.Spells.{nothing, quotation, backslash, lone, plain}
-use Rattle.dw_notation.specs.Tags.IsSection.{single, longer}
 use Rattle.dw_notation.specs.declared.problems.place.Place.{Place}
-use Rattle.dw_notation.specs.declared.problems.place.Place.TheVariants.{Outside, Comment, Between, BeforeName, InName, BehindName, InValue, Escaped, BehindValue}
-use Rattle.dw_notation.specs.declared.problems.place.Step.{Step}
-use Rattle.dw_notation.specs.declared.problems.place.Deed.TheVariants.{Keep, Open, Count, AddName, AddValue, AddBoth, End}
-use Rattle.dw_notation.specs.declared.problems.section.Kind.{Kind}
-use Rattle.dw_notation.specs.declared.problems.section.Kind.TheVariants.{FenTag, GameTag, OtherTag}
+use Rattle.dw_notation.specs.declared.problems.place.Place.TheVariants.{Between, BeforeName, InName, BehindName, InValue, Escaped, BehindValue}
+use Rattle.dw_notation.specs.declared.problems.place.Deed.TheVariants.{Count, AddName, AddValue, AddBoth}
 
 -- ---- bytes of one kind are none of another
 differs : (p : ℕ → Bool) (byte other : ℕ) → p byte ≡ true → p other ≡ false → (byte == other) ≡ false
@@ -30,10 +26,10 @@ blank_not_name : (byte : ℕ) → is_blank byte ≡ true → is_name_byte byte �
 blank_not_name byte h = elim (cases_Bool (is_name_byte byte)) [ inl is ↦ absurd (both_ways (is_blank byte) (name_not_blank byte is) h) | inr is_not ↦ is_not ]
 
 -- ---- reading a text leads from one place to another, and nothing is found on the way
-abbrev Reads : Place → Section → List ℕ → Place → Section → Type 0
+abbrev pub Reads : Place → Section → List ℕ → Place → Section → Type 0
 Reads place s text next t = (at_end : Bool) (g : Geometry) (more : List ℕ) → sections_found at_end g place s (text ++ more) ≡ sections_found at_end g next t more
 
-join_reads : (place mid next : Place) (s t u : Section) (text other : List ℕ) → Reads place s text mid t → Reads mid t other next u → Reads place s (text ++ other) next u
+pub join_reads : (place mid next : Place) (s t u : Section) (text other : List ℕ) → Reads place s text mid t → Reads mid t other next u → Reads place s (text ++ other) next u
 join_reads place mid next s t u text other one two at_end g more =
     ap (sections_found at_end g place s) (append_assoc text other more) ∙ one at_end g (other ++ more) ∙ two at_end g more
 
@@ -43,7 +39,7 @@ count_reads place next s byte e at_end g more =
     ap (λ t. found_by t.deed (section_found g s) ++ sections_found at_end g t.place (after t.deed s) more) e
 
 -- bytes of one kind that are counted
-run_reads : (p : ℕ → Bool) (place : Place) → ((byte : ℕ) → p byte ≡ true → step place byte ≡ at place Count)
+pub run_reads : (p : ℕ → Bool) (place : Place) → ((byte : ℕ) → p byte ≡ true → step place byte ≡ at place Count)
     → (text : List ℕ) → list_all p text ≡ true → (s : Section) (n : ℕ) → n ≡ s.read + length text → Reads place s text place (record s { read = n })
 run_reads p place counts [] all s n e at_end g more =
     let same : s.read ≡ n = omega arith in
@@ -62,7 +58,7 @@ behind_name byte h = rw h refl
 behind_value : (byte : ℕ) → is_blank byte ≡ true → step BehindValue byte ≡ at BehindValue Count
 behind_value byte h = rw h refl
 
-between : (byte : ℕ) → is_space byte ≡ true → step Between byte ≡ at Between Count
+pub between : (byte : ℕ) → is_space byte ≡ true → step Between byte ≡ at Between Count
 between byte h = rw (differs is_space byte 91 h refl, h) refl
 
 -- ---- a name
@@ -173,154 +169,3 @@ tag_reads s tag first middle last spelling n bare_name blank_first blank_middle 
     (join_reads InName InValue Between s2 s3 end (middle ++ 34 ∷ []) value_text (quote_reads middle blank_middle s2 r3 refl) value_part) in
     join_reads BeforeName BeforeName Between s s1 end first (tag.name ++ (middle ++ 34 ∷ value_text)) (run_reads is_blank BeforeName before_name first blank_first s r1 refl)
     (join_reads BeforeName InName Between s1 s2 end tag.name (middle ++ 34 ∷ value_text) (whole_name_reads tag.name some named s1 r2 bare_name refl) name_part)
-
--- ---- a section
--- where the reading stands behind these tags, which have so many bytes
-record StandsBehind (tags : List Tag) (n : ℕ) (s : Section) : Type 0 where
-  pub read : s.read ≡ n
-  pub size : s.size ≡ n
-  pub unclosed : s.is_unclosed ≡ false
-  pub fens : s.fens ≡ fens_of tags
-  pub games : s.games ≡ games_of tags
-
-StandsBehind-tag : (kind : Kind) (tags : List Tag) (tag : Tag) (n : ℕ) (s : Section) → kind_of tag.name ≡ kind → s.is_unclosed ≡ false → s.fens ≡ fens_of tags → s.games ≡ games_of tags
-    → StandsBehind (tag ∷ tags) n (with_tag kind (record s { read = n; size = n; name = tag.name; kind = kind_of tag.name; value = tag.value }))
-StandsBehind-tag FenTag tags tag n s is unclosed fens games = record {
-  read = refl;
-  size = refl;
-  unclosed = unclosed;
-  fens = ap (λ l. tag.value ∷ l) fens ∙ ap (λ k. with_fen k tag.value (fens_of tags)) (sym is);
-  games = games ∙ ap (λ k. with_game k tag.value (games_of tags)) (sym is);
-}
-StandsBehind-tag GameTag tags tag n s is unclosed fens games = record {
-  read = refl;
-  size = refl;
-  unclosed = unclosed;
-  fens = fens ∙ ap (λ k. with_fen k tag.value (fens_of tags)) (sym is);
-  games = ap (λ l. game_of tag.value ∷ l) games ∙ ap (λ k. with_game k tag.value (games_of tags)) (sym is);
-}
-StandsBehind-tag OtherTag tags tag n s is unclosed fens games = record {
-  read = refl;
-  size = refl;
-  unclosed = unclosed;
-  fens = fens ∙ ap (λ k. with_fen k tag.value (fens_of tags)) (sym is);
-  games = games ∙ ap (λ k. with_game k tag.value (games_of tags)) (sym is);
-}
-
-tag_length : (text : List ℕ) (tag : Tag) → (t : IsTag text tag) → length text ≡ length t.first + length tag.name + length t.middle + length t.spelling + length t.last + 4
-tag_length text tag t =
-    let l5 = length-append t.last (93 ∷ []) in
-    let l4 = length-append t.spelling (34 ∷ (t.last ++ 93 ∷ [])) in
-    let l3 = length-append t.middle (34 ∷ (t.spelling ++ 34 ∷ (t.last ++ 93 ∷ []))) in
-    let l2 = length-append tag.name (t.middle ++ 34 ∷ (t.spelling ++ 34 ∷ (t.last ++ 93 ∷ []))) in
-    let l1 = length-append t.first (tag.name ++ (t.middle ++ 34 ∷ (t.spelling ++ 34 ∷ (t.last ++ 93 ∷ [])))) in
-    let all = ap length t.joined in
-    omega (arith, l1, l2, l3, l4, l5, all)
-
--- a tag behind others, or the first
-next_tag_reads : (place : Place) (s t : Section) (tags : List Tag) (text : List ℕ) (tag : Tag) (n : ℕ)
-    → Reads place s (91 ∷ []) BeforeName t → t.name ≡ [] → t.is_unclosed ≡ false → t.fens ≡ fens_of tags → t.games ≡ games_of tags → n + 1 ≡ t.read + length text → IsTag text tag
-    → (u : Section) × Reads place s text Between u × StandsBehind (tag ∷ tags) n u
-next_tag_reads place s t tags text tag n opens bare_name unclosed fens games size is =
-    let length_is = tag_length text tag is in
-    let body = is.first ++ (tag.name ++ (is.middle ++ 34 ∷ (is.spelling ++ 34 ∷ (is.last ++ 93 ∷ [])))) in
-    let u : Section = with_tag (kind_of tag.name) (record t { read = n; size = n; name = tag.name; kind = kind_of tag.name; value = tag.value }) in
-    let reads : Reads BeforeName t body Between u =
-    tag_reads t tag is.first is.middle is.last is.spelling n bare_name is.blank_first is.blank_middle is.blank_last is.some is.named is.spells (omega arith) in (
-      u,
-      subst (λ l. Reads place s l Between u) (sym is.joined) (join_reads place BeforeName Between s t u (91 ∷ []) body opens reads),
-      StandsBehind-tag (kind_of tag.name) tags tag n t refl unclosed fens games,
-    )
-
-section_reads : {text : List ℕ} {tags : List Tag} → IsSection text tags → (s : Section) × Reads Outside bare text Between s × StandsBehind tags (length text) s
-section_reads (single {text} {tag} is) =
-    next_tag_reads Outside bare (record bare { read = 1 }) [] text tag (length text) (λ at_end g more. refl) refl refl refl refl (omega arith) is
-section_reads (longer text gap next {tags} {tag} is spaces is_tag) =
-    let before = section_reads is in
-    let s = before.0 in
-    let n = length text + length gap in
-    let t : Section = record s { read = n } in
-    let gap_reads : Reads Between s gap Between t = run_reads is_space Between between gap spaces s n (ap (λ k. k + length gap) (sym before.2.read)) in
-    let joined : length (text ++ (gap ++ next)) ≡ n + length next =
-    let one = length-append text (gap ++ next) in
-    let two = length-append gap next in
-    omega (arith, one, two) in
-    let step_size : length (text ++ (gap ++ next)) + 1 ≡ n + 1 + length next = omega (arith, joined) in
-    let tag_part = next_tag_reads Between t (record t { read = n + 1; name = [] }) tags next tag (length (text ++ (gap ++ next))) (λ at_end g more. refl) refl before.2.unclosed before.2.fens before.2.games step_size is_tag in (
-      tag_part.0,
-      join_reads Outside Between Between bare s tag_part.0 text (gap ++ next) before.1 (join_reads Between Between Between s t tag_part.0 gap next gap_reads tag_part.1),
-      tag_part.2,
-    )
-
--- behind the spaces that follow it, too
-whole_reads : (text gap : List ℕ) (tags : List Tag) → IsSection text tags → list_all is_space gap ≡ true
-    → (s : Section) × Reads Outside bare (text ++ gap) Between s × ((g : Geometry) → section_found g s ≡ tags_found g (length text) tags)
-whole_reads text gap tags is spaces =
-    let before = section_reads is in
-    let s = before.0 in
-    let n = s.read + length gap in
-    let stands = before.2 in (
-      record s { read = n },
-      join_reads Outside Between Between bare s (record s { read = n }) text gap before.1 (run_reads is_space Between between gap spaces s n refl),
-      λ g. rw (stands.size, stands.unclosed, stands.fens, stands.games) refl,
-    )
-
--- ---- outside a section what was read of one does not count
-any_section : (at_end : Bool) (g : Geometry) (s t : Section) (bytes : List ℕ)
-    → (sections_found at_end g Outside s bytes ≡ sections_found at_end g Outside t bytes) × (sections_found at_end g Comment s bytes ≡ sections_found at_end g Comment t bytes)
-any_section at_end g s t [] = (refl, refl)
-any_section at_end g s t (byte ∷ bytes) =
-    let rest = any_section at_end g s t bytes in
-    let from : Section → Step → List Found = λ u x. found_by x.deed (section_found g u) ++ sections_found at_end g x.place (after x.deed u) bytes in (
-      elim (byte == 91) as (λ v. from s (cond v (at BeforeName Open) (cond (byte == 123) (at Comment Keep) (at Outside Keep))) ≡ from t (cond v (at BeforeName Open) (cond (byte == 123) (at Comment Keep) (at Outside Keep)))) [
-        | true ↦ refl
-        | false ↦ elim (byte == 123) as (λ v. from s (cond v (at Comment Keep) (at Outside Keep)) ≡ from t (cond v (at Comment Keep) (at Outside Keep))) [ true ↦ rest.1 | false ↦ rest.0 ]
-      ],
-      elim (byte == 125) as (λ v. from s (cond v (at Outside Keep) (at Comment Keep)) ≡ from t (cond v (at Outside Keep) (at Comment Keep))) [ true ↦ rest.0 | false ↦ rest.1 ],
-    )
-
-pub sections_are_found : SectionsAreFound
-sections_are_found at_end g text gap more tags byte is spaces ends =
-    let whole = whole_reads text gap tags is spaces in
-    let s = whole.0 in
-    let parts = or_parts (byte == 91) (is_space byte) (not-true _ ends) in
-    let from : Section → Step → List Found = λ u x. found_by x.deed (section_found g u) ++ sections_found at_end g x.place (after x.deed u) more in
-    let ending : step Between byte ≡ cond (byte == 123) (at Comment End) (at Outside End) = rw (parts.0, parts.1) refl in
-    let outside : step Outside byte ≡ cond (byte == 123) (at Comment Keep) (at Outside Keep) = rw parts.0 refl in
-    let rest = any_section at_end g s bare more in
-    let found = whole.2 g in
-    let here : from s (cond (byte == 123) (at Comment End) (at Outside End)) ≡ tags_found g (length text) tags ∷ from bare (cond (byte == 123) (at Comment Keep) (at Outside Keep)) =
-    elim (byte == 123) as (λ v. from s (cond v (at Comment End) (at Outside End)) ≡ tags_found g (length text) tags ∷ from bare (cond v (at Comment Keep) (at Outside Keep))) [
-      | true ↦ ap (λ f. f ∷ sections_found at_end g Comment s more) found ∙ ap (λ l. tags_found g (length text) tags ∷ l) rest.1
-      | false ↦ ap (λ f. f ∷ sections_found at_end g Outside s more) found ∙ ap (λ l. tags_found g (length text) tags ∷ l) rest.0
-    ] in
-    ap (sections_found at_end g Outside bare) (sym (append_assoc text gap (byte ∷ more)))
-    ∙ whole.1 at_end g (byte ∷ more)
-    ∙ ap (from s) ending
-    ∙ here
-    ∙ ap (λ x. tags_found g (length text) tags ∷ from bare x) (sym outside)
-
-pub last_section_is_found : LastSectionIsFound
-last_section_is_found g text gap tags is spaces =
-    let whole = whole_reads text gap tags is spaces in
-    ap (sections_found true g Outside bare) (sym (append-nil (text ++ gap))) ∙ whole.1 true g [] ∙ ap (λ f. f ∷ []) (whole.2 g)
-
--- ---- comments
-comment_reads : (text : List ℕ) → list_all (λ byte. not (closes byte)) text ≡ true → (s : Section) → Reads Comment s text Comment s
-comment_reads [] all s at_end g more = refl
-comment_reads (byte ∷ text) all s at_end g more =
-    let both = and_parts (not (closes byte)) (list_all (λ b. not (closes b)) text) all in
-    let stays : step Comment byte ≡ at Comment Keep = rw (not-true (closes byte) both.0) refl in
-    ap (λ x. found_by x.deed (section_found g s) ++ sections_found at_end g x.place (after x.deed s) (text ++ more)) stays ∙ comment_reads text both.1 s at_end g more
-
-pub comments_say_nothing : CommentsSayNothing
-comments_say_nothing at_end g text more all = comment_reads text all bare at_end g (125 ∷ more)
-
-pub open_comment_is_found : OpenCommentIsFound
-open_comment_is_found g text all = ap (sections_found true g Comment bare) (sym (append-nil text)) ∙ comment_reads text all bare true g []
-
-pub others_say_nothing : OthersSayNothing
-others_say_nothing at_end g byte more h =
-    let parts = or_parts (byte == 91) (byte == 123) h in
-    let stays : step Outside byte ≡ at Outside Keep = rw (parts.0, parts.1) refl in
-    ap (λ x. found_by x.deed (section_found g bare) ++ sections_found at_end g x.place (after x.deed bare) more) stays

@@ -1,12 +1,12 @@
 -- The grammar of tags and sections, and what sections of whole tags say.
-use Rattle.std.specs.Prelude.{◌≡◌, ℕ, ◌==◌, ◌<◌, ◌||◌, if◌then◌else◌, not, List, [], ◌∷◌, ◌++◌, length, Bool, true, false, Err, nat_lt}
+use Rattle.std.specs.Prelude.{◌≡◌, ◌⊎◌, ℕ, ◌==◌, ◌<◌, ◌||◌, if◌then◌else◌, not, List, [], ◌∷◌, ◌++◌, length, Bool, true, false, Err, nat_lt}
 use Rattle.std.specs.List.{list_all}
 use Rattle.dw_board.specs.Geometry.{Geometry}
 use Rattle.dw_notation.specs.Found.{Found, is_blank}
 use Rattle.dw_notation.specs.Places.{is_name_byte, ends_line}
 use Rattle.dw_notation.specs.Sections.{kind_of, game_of, is_wrong, fens_found, bare, sections_found}
 use Rattle.dw_notation.specs.declared.problems.TheConstants.{MAX_SECTION}
-use Rattle.dw_notation.specs.declared.problems.ProblemFault.TheVariants.{WrongGame, SectionTooLong, UnclosedComment}
+use Rattle.dw_notation.specs.declared.problems.ProblemFault.TheVariants.{WrongGame, SectionTooLong, UnclosedTag, UnclosedComment}
 use Rattle.dw_notation.specs.declared.problems.place.Place.TheVariants.{Outside}
 use Rattle.dw_notation.specs.declared.problems.section.Kind.{Kind}
 use Rattle.dw_notation.specs.declared.problems.section.Kind.TheVariants.{FenTag, GameTag, OtherTag}
@@ -41,14 +41,31 @@ pub record IsTag (text : List ℕ) (tag : Tag) : Type 0 where
   pub spells : Spells spelling tag.value
   pub joined : text ≡ 91 ∷ (first ++ (tag.name ++ (middle ++ 34 ∷ (spelling ++ 34 ∷ (last ++ 93 ∷ [])))))
 
+-- a bracket and the bytes behind it in its line, no beginning of which is a whole tag
+pub record IsUnclosed (text : List ℕ) : Type 0 where
+  pub line : List ℕ
+  pub in_line : list_all (λ byte. not (ends_line byte)) line ≡ true
+  pub joined : text ≡ 91 ∷ line
+  pub broken : (front back : List ℕ) (tag : Tag) → text ≡ front ++ back → IsTag front tag → ⊥
+
 -- a blank or the end of a line
 abbrev pub is_space : ℕ → Bool
 is_space byte = is_blank byte || ends_line byte
 
--- a row of whole tags with spaces alone between them, the last tag in front
-pub data IsSection : List ℕ → List Tag → Type 0 where
-  single : {text : List ℕ} {tag : Tag} → IsTag text tag → IsSection text (tag ∷ [])
-  longer : (text gap next : List ℕ) {tags : List Tag} {tag : Tag} → IsSection text tags → list_all is_space gap ≡ true → IsTag next tag → IsSection (text ++ (gap ++ next)) (tag ∷ tags)
+-- spaces alone, and behind an unclosed tag the end of its line first
+abbrev pub IsGap : Bool → List ℕ → Type 0
+IsGap false gap = list_all is_space gap ≡ true
+IsGap true [] = ⊥
+IsGap true (byte ∷ gap) = (ends_line byte ≡ true) × (list_all is_space gap ≡ true)
+
+-- a row of tags with spaces alone between them: its whole tags, the last in front, whether some tag is unclosed, and whether the last one is
+pub data IsSection : List ℕ → List Tag → Bool → Bool → Type 0 where
+  single : {text : List ℕ} {tag : Tag} → IsTag text tag → IsSection text (tag ∷ []) false false
+  broken : {text : List ℕ} → IsUnclosed text → IsSection text [] true true
+  longer : (text gap next : List ℕ) {tags : List Tag} {tag : Tag} {some last : Bool} → IsSection text tags some last → IsGap last gap → IsTag next tag
+      → IsSection (text ++ (gap ++ next)) (tag ∷ tags) some false
+  longer_broken : (text gap next : List ℕ) {tags : List Tag} {some last : Bool} → IsSection text tags some last → IsGap last gap → IsUnclosed next
+      → IsSection (text ++ (gap ++ next)) tags true true
 
 abbrev pub with_fen : Kind → List ℕ → List (List ℕ) → List (List ℕ)
 with_fen FenTag value fens = value ∷ fens
@@ -70,9 +87,10 @@ abbrev pub games_of : List Tag → List ℕ
 games_of [] = []
 games_of (tag ∷ tags) = with_game (kind_of tag.name) tag.value (games_of tags)
 
--- what a section of these tags says that has so many bytes
-abbrev pub tags_found : Geometry → ℕ → List Tag → Found
-tags_found g size tags = if nat_lt MAX_SECTION size then Err SectionTooLong else (if is_wrong g (games_of tags) then Err WrongGame else fens_found g (fens_of tags))
+-- what a section of these tags says that has so many bytes, by whether a tag of it is unclosed
+abbrev pub tags_found : Geometry → ℕ → Bool → List Tag → Found
+tags_found g size some tags =
+    if nat_lt MAX_SECTION size then Err SectionTooLong else (if some then Err UnclosedTag else (if is_wrong g (games_of tags) then Err WrongGame else fens_found g (fens_of tags)))
 
 -- what a text says from outside any section
 abbrev pub outside_found : Bool → Geometry → List ℕ → List Found
@@ -85,13 +103,13 @@ ends_section byte = not ((byte == 91) || is_space byte)
 -- a section says what its tags say, and the byte that ends it is outside
 abbrev pub SectionsAreFound : Type 0
 SectionsAreFound =
-    (at_end : Bool) (g : Geometry) (text gap more : List ℕ) (tags : List Tag) (byte : ℕ) → IsSection text tags → list_all is_space gap ≡ true → ends_section byte ≡ true
-    → outside_found at_end g (text ++ (gap ++ byte ∷ more)) ≡ tags_found g (length text) tags ∷ outside_found at_end g (byte ∷ more)
+    (at_end : Bool) (g : Geometry) (text gap more : List ℕ) (tags : List Tag) (some last : Bool) (byte : ℕ) → IsSection text tags some last → IsGap last gap → ends_section byte ≡ true
+    → outside_found at_end g (text ++ (gap ++ byte ∷ more)) ≡ tags_found g (length text) some tags ∷ outside_found at_end g (byte ∷ more)
 
--- it needs no byte behind it at the end of the text
+-- at the end of the text it needs no byte behind it, and an unclosed tag no end of its line
 abbrev pub LastSectionIsFound : Type 0
 LastSectionIsFound =
-    (g : Geometry) (text gap : List ℕ) (tags : List Tag) → IsSection text tags → list_all is_space gap ≡ true → outside_found true g (text ++ gap) ≡ tags_found g (length text) tags ∷ []
+    (g : Geometry) (text gap : List ℕ) (tags : List Tag) (some last : Bool) → IsSection text tags some last → IsGap last gap ⊎ (gap ≡ []) → outside_found true g (text ++ gap) ≡ tags_found g (length text) some tags ∷ []
 
 -- opens a tag or a comment
 abbrev pub opens : ℕ → Bool

@@ -1,7 +1,8 @@
 //! Laws of the definitions, each the contract of a function that does nothing.
 ghost use Rattle.dw_notation.specs.Tags.{SectionsAreFound, LastSectionIsFound, CommentsSayNothing, OpenCommentIsFound, OthersSayNothing};
 
-/// A row of whole tags is one problem, which says what its tags say, and the byte that ends it is outside.
+/// A row of tags, whole or unclosed, is one problem, which says what its tags say, and the byte that ends it
+/// is outside. At the end of the text it needs no byte behind it.
 pub fn sections_are_found()
     ensures found { SectionsAreFound }
     ensures last { LastSectionIsFound }
