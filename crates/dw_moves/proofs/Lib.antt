@@ -15,3 +15,4 @@ pub mod Played
 pub mod JumpSteps
 pub mod Longest
 pub mod BestFrom
+pub mod Rows

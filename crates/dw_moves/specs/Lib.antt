@@ -3,3 +3,4 @@ pub mod MoveLaws
 pub mod Laws
 pub mod Plain
 pub mod Chains
+pub mod Rows

@@ -1,5 +1,6 @@
 //! Laws of the definitions, each the contract of a function that does nothing, and what `==` means.
 ghost use Rattle.std.specs.Prelude.{◌≡◌, ◌↔◌, IsTrue};
+ghost use Rattle.dw_moves.specs.Rows.{WorkedPositions};
 ghost use Rattle.dw_moves.specs.Laws.{PathTells, PathIsShort, MovesListed, OneBest, PlayStays};
 
 use crate::moves::Move;
@@ -28,6 +29,11 @@ pub fn one_best()
 /// A legal move leads from a position to a position.
 pub fn play_stays()
     ensures { PlayStays }
+{}
+
+/// Worked positions have exactly these legal moves.
+pub fn worked_positions()
+    ensures { WorkedPositions }
 {}
 
 /// Equal moves begin and end on the same squares and take the same pieces.

@@ -1,0 +1,5 @@
+use Rattle.dw_moves.proofs.Rows.{worked_positions}
+use Rattle.dw_moves.proofs.laws.worked_positions.Goals as goal
+
+pub returns : goal.returns
+returns c = worked_positions

@@ -1,0 +1,36 @@
+-- Worked positions on the board of ten rows, each with all its legal moves.
+use Rattle.std.specs.Prelude.{◌≡◌, ℕ, ◌-◌, Option, Some, None, List, [], ◌∷◌, slice_set, replicate, ◌↔◌}
+use Rattle.std.specs.FinSet as set
+use Rattle.dw_board.specs.declared.piece.Side.{Side}
+use Rattle.dw_board.specs.declared.piece.Side.TheVariants.{White, Black}
+use Rattle.dw_board.specs.declared.piece.Kind.{Kind}
+use Rattle.dw_board.specs.declared.piece.Kind.TheVariants.{Man, King}
+use Rattle.dw_board.specs.declared.piece.Piece.{Piece}
+use Rattle.dw_board.specs.Boards.{ten}
+use Rattle.dw_board.specs.Placement.{Placement, empty, placed}
+use Rattle.dw_moves.specs.Moves.{Member, Move, Legal}
+
+-- the same pieces on all these squares
+abbrev pub with_all : Placement → Side → Kind → List ℕ → Placement
+with_all p side kind_of [] = p
+with_all p side kind_of (s ∷ ss) = with_all (placed p s (Some (record { side = side; kind = kind_of }))) side kind_of ss
+
+-- White to move with these men and kings, against these men
+abbrev pub white_to_move : List ℕ → List ℕ → List ℕ → Placement
+white_to_move men kings enemies = with_all (with_all (with_all (empty White) White Man men) White King kings) Black Man enemies
+
+abbrev pub move : ℕ → ℕ → List ℕ → Move
+move from to taken = record { from = from; to = to; taken = set.from_list taken }
+
+-- these are the legal moves
+abbrev pub AreLegal : Placement → List Move → Type 0
+AreLegal p moves = (m : Move) → Member m moves ↔ Legal ten p m
+
+-- a man that passes its last row goes on as a man; a king takes four, lands on three squares, and what it has jumped still bars its way; a king takes one and lands on any square behind it; a man goes forward only
+pub record WorkedPositions : Type 0 where
+  pub passes : AreLegal (white_to_move (14 ∷ []) [] (8 ∷ 9 ∷ [])) (move 14 12 (9 ∷ 8 ∷ []) ∷ [])
+  pub barred : AreLegal (white_to_move [] (47 ∷ []) (17 ∷ 18 ∷ 24 ∷ 32 ∷ 33 ∷ []))
+      (move 47 38 (33 ∷ 18 ∷ 17 ∷ 32 ∷ []) ∷ move 47 43 (33 ∷ 18 ∷ 17 ∷ 32 ∷ []) ∷ move 47 49 (33 ∷ 18 ∷ 17 ∷ 32 ∷ []) ∷ [])
+  pub lands : AreLegal (white_to_move [] (46 ∷ []) (28 ∷ []))
+      (move 46 23 (28 ∷ []) ∷ move 46 19 (28 ∷ []) ∷ move 46 14 (28 ∷ []) ∷ move 46 10 (28 ∷ []) ∷ move 46 5 (28 ∷ []) ∷ [])
+  pub forward : AreLegal (white_to_move (28 ∷ []) [] []) (move 28 22 [] ∷ move 28 23 [] ∷ [])
