@@ -85,7 +85,8 @@ impl<B: Board> Position<B> {
 
     /// What stands on a square.
     pub fn at(&self, square: Square<B>) -> Option<Piece>
-        ensures { result ≡ of.at self.now square }
+        ensures value { result ≡ of.at self.now square }
+        ensures on_board { Geo.OnBoard B.geometry square }
     {
         self.cells[square.number() as usize - 1]
     }

@@ -15,7 +15,7 @@ use Rattle.dw_moves.proofs.StepLaws.{none_some}
 use Rattle.dw_moves.proofs.CaptureBound.{path_bound}
 use Rattle.dw_moves.proofs.LegalMoves.{best_only}
 
-some_same : (x y : Piece) → Some x ≡ Some y → x ≡ y
+pub some_same : (x y : Piece) → Some x ≡ Some y → x ≡ y
 some_same x y e = cc
 
 -- a chain that begins with nothing taken is a path, and a path is one

@@ -17,55 +17,51 @@ use Rattle.dw_moves.proofs.Runs.{Freed, run_man, run_king, run_stop, run_short}
 abbrev pub over_to : ℕ → ℕ → ℕ × ℕ
 over_to over t = (over, t)
 
--- the jumps added and those still to come
-pub record Added (g : Geometry) (p : Placement) (k : Kind) (d : Dir) (over at : ℕ) (old now : List (ℕ × ℕ)) : Type 0 where
+-- what was added for the squares reached, and what is still to come
+pub record Added {X : Type 0} (f : ℕ → X) (g : Geometry) (p : Placement) (k : Kind) (d : Dir) (from at : ℕ) (old now : List X) : Type 0 where
   pub on : OnBoard g at
-  pub all : now ++ map (λ t. (over, t)) (landings_for k p (ray g at d)) ≡ old ++ map (λ t. (over, t)) (landings_for k p (ray g over d))
+  pub all : now ++ map f (landings_for k p (ray g at d)) ≡ old ++ map f (landings_for k p (ray g from d))
 
-pub added_none : (g : Geometry) (p : Placement) (k : Kind) (d : Dir) (over : ℕ) (old : List (ℕ × ℕ)) → OnBoard g over → Added g p k d over over old old
-added_none g p k d over old on = record { on = on; all = refl }
+pub added_none : {X : Type 0} (f : ℕ → X) (g : Geometry) (p : Placement) (k : Kind) (d : Dir) (from : ℕ) (old : List X) → OnBoard g from → Added f g p k d from from old old
+added_none f g p k d from old on = record { on = on; all = refl }
 
-append_none : (xs : List (ℕ × ℕ)) → xs ++ [] ≡ xs
+append_none : {X : Type 0} (xs : List X) → xs ++ [] ≡ xs
 append_none [] = refl
 append_none (x ∷ xs) = ap (λ z. x ∷ z) (append_none xs)
 
-added_length : (g : Geometry) (p : Placement) (k : Kind) (d : Dir) (over s : ℕ) (old now : List (ℕ × ℕ)) → Added g p k d over s old now → length now + length (landings_for k p (ray g s d)) ≡ length old + length (landings_for k p (ray g over d))
-added_length g p k d over s old now h =
-    let f : ℕ → ℕ × ℕ = λ t. (over, t) in
-    omega (arith, ap length h.all, length-append now (map f (landings_for k p (ray g s d))), length-append old (map f (landings_for k p (ray g over d))), length-map (landings_for k p (ray g s d)) f, length-map (landings_for k p (ray g over d)) f)
+added_length : {X : Type 0} (f : ℕ → X) (g : Geometry) (p : Placement) (k : Kind) (d : Dir) (from s : ℕ) (old now : List X) → Added f g p k d from s old now → length now + length (landings_for k p (ray g s d)) ≡ length old + length (landings_for k p (ray g from d))
+added_length f g p k d from s old now h =
+    omega (arith, ap length h.all, length-append now (map f (landings_for k p (ray g s d))), length-append old (map f (landings_for k p (ray g from d))), length-map (landings_for k p (ray g s d)) f, length-map (landings_for k p (ray g from d)) f)
 
 some_more : (k : Kind) (g : Geometry) (p : Placement) (s : ℕ) (d : Dir) (t : ℕ) → Freed g p s d t → 1 ≤ length (landings_for k p (ray g s d))
 some_more Man g p s d t h = let l : length (landings_for Man p (ray g s d)) ≡ 1 = ap (λ z. length (landings_for Man p z)) h.ray_is ∙ ap length (run_man p t (ray g t d) h.free) in omega arith
 some_more King g p s d t h = let l : length (landings_for King p (ray g s d)) ≡ suc (length (landings_for King p (ray g t d))) = ap (λ z. length (landings_for King p z)) h.ray_is ∙ ap length (run_king p t (ray g t d) h.free) in omega arith
 
 -- there is room for one more
-pub added_room : (g : Geometry) → IsBoard g → (p : Placement) (k : Kind) (d : Dir) (over s t : ℕ) (old now : List (ℕ × ℕ)) → Added g p k d over s old now → Freed g p s d t → length now + 1 ≤ length old + 10
-added_room g b p k d over s t old now h f = omega (arith, added_length g p k d over s old now h, some_more k g p s d t f, run_short g b k p over d)
+pub added_room : {X : Type 0} (f : ℕ → X) (g : Geometry) → IsBoard g → (p : Placement) (k : Kind) (d : Dir) (from s t : ℕ) (old now : List X) → Added f g p k d from s old now → Freed g p s d t → length now + 1 ≤ length old + 10
+added_room f g b p k d from s t old now h e = omega (arith, added_length f g p k d from s old now h, some_more k g p s d t e, run_short g b k p from d)
 
-pub added_fits : (g : Geometry) → IsBoard g → (p : Placement) (k : Kind) (d : Dir) (over s : ℕ) (old now : List (ℕ × ℕ)) → Added g p k d over s old now → length now ≤ length old + 10
-added_fits g b p k d over s old now h = omega (arith, added_length g p k d over s old now h, run_short g b k p over d)
+pub added_fits : {X : Type 0} (f : ℕ → X) (g : Geometry) → IsBoard g → (p : Placement) (k : Kind) (d : Dir) (from s : ℕ) (old now : List X) → Added f g p k d from s old now → length now ≤ length old + 10
+added_fits f g b p k d from s old now h = omega (arith, added_length f g p k d from s old now h, run_short g b k p from d)
 
-pub added_more : (g : Geometry) (p : Placement) (k : Kind) (d : Dir) (over s t : ℕ) (old now new : List (ℕ × ℕ)) → k ≡ King → Added g p k d over s old now → Freed g p s d t → new ≡ now ++ (over, t) ∷ [] → Added g p k d over t old new
-added_more g p Man d over s t old now new k h f e = cc
-added_more g p King d over s t old now new k h f e =
-    let m : List ℕ → List (ℕ × ℕ) = map (λ t. (over, t)) in
-    let one : m (landings_for King p (ray g s d)) ≡ (over, t) ∷ m (landings_for King p (ray g t d)) = ap (λ z. m (landings_for King p z)) f.ray_is ∙ ap m (run_king p t (ray g t d) f.free) in
+pub added_more : {X : Type 0} (f : ℕ → X) (g : Geometry) (p : Placement) (k : Kind) (d : Dir) (from s t : ℕ) (old now new : List X) → k ≡ King → Added f g p k d from s old now → Freed g p s d t → new ≡ now ++ f t ∷ [] → Added f g p k d from t old new
+added_more f g p Man d from s t old now new k h e is = cc
+added_more f g p King d from s t old now new k h e is =
+    let one : map f (landings_for King p (ray g s d)) ≡ f t ∷ map f (landings_for King p (ray g t d)) = ap (λ z. map f (landings_for King p z)) e.ray_is ∙ ap (map f) (run_king p t (ray g t d) e.free) in
     record {
-      on = f.on;
-      all = ap (λ z. z ++ m (landings_for King p (ray g t d))) e ∙ (append_assoc now ((over, t) ∷ []) (m (landings_for King p (ray g t d))) ∙ (ap (λ z. now ++ z) (sym one) ∙ h.all));
+      on = e.on;
+      all = ap (λ z. z ++ map f (landings_for King p (ray g t d))) is ∙ (append_assoc now (f t ∷ []) (map f (landings_for King p (ray g t d))) ∙ (ap (λ z. now ++ z) (sym one) ∙ h.all));
     }
 
-pub added_last : (g : Geometry) (p : Placement) (k : Kind) (d : Dir) (over s t : ℕ) (old now new : List (ℕ × ℕ)) → k ≡ Man → Added g p k d over s old now → Freed g p s d t → new ≡ now ++ (over, t) ∷ [] → new ≡ old ++ map (λ t. (over, t)) (landings_for k p (ray g over d))
-added_last g p Man d over s t old now new k h f e =
-    let m : List ℕ → List (ℕ × ℕ) = map (λ t. (over, t)) in
-    let one : m (landings_for Man p (ray g s d)) ≡ (over, t) ∷ [] = ap (λ z. m (landings_for Man p z)) f.ray_is ∙ ap m (run_man p t (ray g t d) f.free) in
-    e ∙ (ap (λ z. now ++ z) (sym one) ∙ h.all)
-added_last g p King d over s t old now new k h f e = cc
+pub added_last : {X : Type 0} (f : ℕ → X) (g : Geometry) (p : Placement) (k : Kind) (d : Dir) (from s t : ℕ) (old now new : List X) → k ≡ Man → Added f g p k d from s old now → Freed g p s d t → new ≡ now ++ f t ∷ [] → new ≡ old ++ map f (landings_for k p (ray g from d))
+added_last f g p Man d from s t old now new k h e is =
+    let one : map f (landings_for Man p (ray g s d)) ≡ f t ∷ [] = ap (λ z. map f (landings_for Man p z)) e.ray_is ∙ ap (map f) (run_man p t (ray g t d) e.free) in
+    is ∙ (ap (λ z. now ++ z) (sym one) ∙ h.all)
+added_last f g p King d from s t old now new k h e is = cc
 
-pub added_stop : (g : Geometry) → IsBoard g → (p : Placement) (k : Kind) (d : Dir) (over s : ℕ) (old now : List (ℕ × ℕ)) → Added g p k d over s old now → free_step g p s d ≡ None → now ≡ old ++ map (λ t. (over, t)) (landings_for k p (ray g over d))
-added_stop g b p k d over s old now h e =
-    let m : List ℕ → List (ℕ × ℕ) = map (λ t. (over, t)) in
-    sym (append_none now) ∙ (ap (λ z. now ++ z) (ap m (sym (run_stop g b k p s d h.on e))) ∙ h.all)
+pub added_stop : {X : Type 0} (f : ℕ → X) (g : Geometry) → IsBoard g → (p : Placement) (k : Kind) (d : Dir) (from s : ℕ) (old now : List X) → Added f g p k d from s old now → free_step g p s d ≡ None → now ≡ old ++ map f (landings_for k p (ray g from d))
+added_stop f g b p k d from s old now h e =
+    sym (append_none now) ∙ (ap (λ z. now ++ z) (ap (map f) (sym (run_stop g b k p s d h.on e))) ∙ h.all)
 
 -- a king's jumps are those from the square reached
 pub record Reached (g : Geometry) (p : Placement) (d : Dir) (from at : ℕ) : Type 0 where

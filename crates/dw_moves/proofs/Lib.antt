@@ -15,4 +15,10 @@ pub mod Played
 pub mod JumpSteps
 pub mod Longest
 pub mod BestFrom
+pub mod Kept
+pub mod Walked
+pub mod Taking
+pub mod Quietly
+pub mod Filled
+pub mod TakesThese
 pub mod Rows

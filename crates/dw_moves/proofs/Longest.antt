@@ -15,7 +15,7 @@ use Rattle.dw_moves.specs.Chains.{Chain, ChainsFit, IsLongest}
 use Rattle.dw_moves.proofs.Exact.{jump_from, jump_in}
 use Rattle.dw_moves.proofs.Rays.{ray_of_on, landing_on_ray}
 
-contains-insert : (v : Squares) (k q : ℕ) → fin.contains (fin.insert v k) q ≡ (eqb q k || fin.contains v q)
+pub contains-insert : (v : Squares) (k q : ℕ) → fin.contains (fin.insert v k) q ≡ (eqb q k || fin.contains v q)
 contains-insert v k q = fin.contains-insert nat_cmp_total v k q ∙ ap (λ b. b || fin.contains v q) (unsigned_tied q k)
 
 not_in : (v : Squares) (k q : ℕ) → fin.contains (fin.insert v k) q ≡ false → (q ≢ k) × (fin.contains v q ≡ false)
@@ -61,13 +61,13 @@ pub record Tried (g : Geometry) (p : Placement) (piece : Piece) (s : ℕ) (taken
 pub tried_none : (g : Geometry) (p : Placement) (piece : Piece) (s : ℕ) (taken : Squares) (items : List (ℕ × ℕ)) → Tried g p piece s taken items 0 0
 tried_none g p piece s taken items = record { reached = ([], [], chain_none g p piece s taken, refl); covered = λ k c t low. absurd (omega arith) }
 
-here : (k n : ℕ) → k < n + 1 → (k ≡ n) ⊎ (k < n)
+pub here : (k n : ℕ) → k < n + 1 → (k ≡ n) ⊎ (k < n)
 here k n h = grind arith
 
-abbrev over_of : ℕ × ℕ → ℕ
+abbrev pub over_of : ℕ × ℕ → ℕ
 over_of j = j.0
 
-abbrev landing_of : ℕ × ℕ → ℕ
+abbrev pub landing_of : ℕ × ℕ → ℕ
 landing_of j = j.1
 
 -- the jump at i takes what was taken
@@ -102,7 +102,7 @@ tried_more g p piece s taken items i most c t further now h e j fresh l is = rec
   ];
 }
 
-index_of : (x : ℕ × ℕ) (xs : List (ℕ × ℕ)) → Member x xs → (k : ℕ) × (k < length xs) × (get_or xs k (0, 0) ≡ x)
+pub index_of : (x : ℕ × ℕ) (xs : List (ℕ × ℕ)) → Member x xs → (k : ℕ) × (k < length xs) × (get_or xs k (0, 0) ≡ x)
 index_of x [] m = absurd m
 index_of x (y ∷ xs) (inl e) = (0, omega arith, sym e)
 index_of x (y ∷ xs) (inr m) = let r = index_of x xs m in (suc r.0, omega (arith, r.1), r.2)

@@ -18,14 +18,14 @@ use Rattle.dw_moves.proofs.StepLaws.{step_is}
 use Rattle.dw_moves.proofs.Rays.{Toward, ray_of_toward, ray_of_none, ray_toward, one_dir}
 use Rattle.dw_moves.proofs.LegalMoves.{pair_from, pair_in, from_number, goes_from}
 
-once_append : {X : Type 0} → (xs ys : List X) → NoRepeat xs → NoRepeat ys → ((x : X) → Member x xs → Member x ys → ⊥) → NoRepeat (xs ++ ys)
+pub once_append : {X : Type 0} → (xs ys : List X) → NoRepeat xs → NoRepeat ys → ((x : X) → Member x xs → Member x ys → ⊥) → NoRepeat (xs ++ ys)
 once_append [] ys n m apart = m
 once_append (x ∷ xs) ys n m apart = (
   (λ h. elim (mem_cases x xs ys h) [ inl l ↦ n.0 l | inr r ↦ apart x (inl refl) r ]),
   once_append xs ys n.1 m (λ y l r. apart y (inr l) r),
 )
 
-once_map : {X Y : Type 0} (f : X → Y) → ((x y : X) → f x ≡ f y → x ≡ y) → (xs : List X) → NoRepeat xs → NoRepeat (map f xs)
+pub once_map : {X Y : Type 0} (f : X → Y) → ((x y : X) → f x ≡ f y → x ≡ y) → (xs : List X) → NoRepeat xs → NoRepeat (map f xs)
 once_map f same [] n = tt
 once_map f same (x ∷ xs) n = (
   (λ h. let k = mem_map_back f (f x) xs h in n.0 (subst (λ z. Member z xs) (sym (same x k.0 k.2)) k.1)),
@@ -40,13 +40,13 @@ mem_flat_in f y (x ∷ xs) m = elim (mem_cases y (f x) (flat_map f xs) m) [
 ]
 
 -- lists without repeats that share nothing make one without repeats
-once_flat : {X Y : Type 0} (f : X → List Y) → (xs : List X) → NoRepeat xs → ((x : X) → Member x xs → NoRepeat (f x)) → ((x z : X) (y : Y) → Member x xs → Member z xs → Member y (f x) → Member y (f z) → x ≡ z) → NoRepeat (flat_map f xs)
+pub once_flat : {X Y : Type 0} (f : X → List Y) → (xs : List X) → NoRepeat xs → ((x : X) → Member x xs → NoRepeat (f x)) → ((x z : X) (y : Y) → Member x xs → Member z xs → Member y (f x) → Member y (f z) → x ≡ z) → NoRepeat (flat_map f xs)
 once_flat f [] n each apart = tt
 once_flat f (x ∷ xs) n each apart =
     once_append (f x) (flat_map f xs) (each x (inl refl)) (once_flat f xs n.1 (λ z m. each z (inr m)) (λ a b y m k. apart a b y (inr m) (inr k)))
     (λ y l r. let k = mem_flat_in f y xs r in n.0 (subst (λ z. Member z xs) (sym (apart x k.0 y (inl refl) (inr k.1) l k.2)) k.1))
 
-numbers_once : (n : ℕ) → NoRepeat (numbers_to n)
+pub numbers_once : (n : ℕ) → NoRepeat (numbers_to n)
 numbers_once zero = tt
 numbers_once (suc n) = once_append (numbers_to n) (suc n ∷ []) (numbers_once n) ((λ h. h), tt) (λ x l r. elim r [ inl e ↦ absurd (omega (arith, from_number n x l)) | inr h ↦ h ])
 
@@ -118,7 +118,7 @@ quiet_for_once : (k : Kind) (g : Geometry) → IsBoard g → (p : Placement) (si
 quiet_for_once k g b p side s on = once_flat (goes k g p side s) dirs dirs_once (λ d m. goes_once k g b p side s d on)
     (λ d e t md me hd he. one_dir g s t d e (goes_toward k g b p side s t d on hd) (goes_toward k g b p side s t e on he))
 
-targets_once : (g : Geometry) → IsBoard g → (p : Placement) (s : ℕ) → OnBoard g s → NoRepeat (targets g p s)
+pub targets_once : (g : Geometry) → IsBoard g → (p : Placement) (s : ℕ) → OnBoard g s → NoRepeat (targets g p s)
 targets_once g b p s on = elim (option_cases (at p s)) [
   | inl e ↦ rw (e, targets_of) tt
   | inr e ↦ elim (cases_Bool (same_side e.0.side p.turn)) [

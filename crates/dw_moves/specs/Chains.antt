@@ -1,11 +1,11 @@
 -- Captures that go on from a square with a piece that has taken some already, and the longest of them.
-use Rattle.std.specs.Prelude.{◌≡◌, ℕ, ◌<◌, ◌≤◌, false, List, length}
+use Rattle.std.specs.Prelude.{◌≡◌, ℕ, ◌+◌, ◌<◌, ◌≤◌, ◌⊎◌, ◌↔◌, false, List, length}
 use Rattle.std.specs.FinSet as set
 use Rattle.dw_board.specs.declared.piece.Piece.{Piece}
 use Rattle.dw_board.specs.Geometry.{Geometry}
 use Rattle.dw_board.specs.Placement.{Placement}
 use Rattle.dw_board.specs.SquareSet.{Squares}
-use Rattle.dw_moves.specs.Moves.{Member, NoRepeat, Jumps, Path}
+use Rattle.dw_moves.specs.Moves.{Member, NoRepeat, Jumps, Path, Move, IsPathOf, last_of}
 
 -- jumps from s that take nothing twice and nothing that was taken before
 pub record Chain (g : Geometry) (p : Placement) (piece : Piece) (s : ℕ) (taken : Squares) (landings over : List ℕ) : Type 0 where
@@ -26,3 +26,47 @@ pub record IsLongest (g : Geometry) (p : Placement) (piece : Piece) (s : ℕ) (t
 pub record IsBestFrom (g : Geometry) (p : Placement) (from k : ℕ) : Type 0 where
   pub reached : 0 < k → (landings : List ℕ) × (taken : List ℕ) × Path g p from landings taken × (length taken ≡ k)
   pub most : (landings taken : List ℕ) → Path g p from landings taken → length taken ≤ k
+
+-- m is a move by a path that takes k pieces, k above 0
+abbrev pub Taking : Geometry → Placement → ℕ → Move → Type 0
+Taking g p k m = (0 < k) × ((landings : List ℕ) × IsPathOf g p m k landings)
+
+-- and it begins on this square
+abbrev pub TakingFrom : Geometry → Placement → ℕ → ℕ → Move → Type 0
+TakingFrom g p from k m = (m.from ≡ from) × Taking g p k m
+
+-- m is a move so far, which took n pieces, with a chain of jumps behind it: it takes k pieces, k above 0
+pub record EndsAs (g : Geometry) (p : Placement) (piece : Piece) (begun : Move) (n k : ℕ) (m : Move) : Type 0 where
+  pub landings : List ℕ
+  pub over : List ℕ
+  pub chain : Chain g p piece begun.to begun.taken landings over
+  pub some : 0 < k
+  pub count : n + length over ≡ k
+  pub from : m.from ≡ begun.from
+  pub to : m.to ≡ last_of begun.to landings
+  pub taken : m.taken ≡ set.union begun.taken (set.from_list over)
+
+-- m is this move, and it takes k pieces, k above 0
+abbrev pub Is : Move → ℕ → ℕ → Move → Type 0
+Is step n k m = (0 < k) × ((k ≡ n) × (m ≡ step))
+
+-- a list of moves that take k pieces becomes one of moves that take now pieces: of those that were there and of the captures, the longest
+pub record Longest (captures : ℕ → Move → Type 0) (k : ℕ) (moves : List Move) (now : ℕ) (kept : List Move) : Type 0 where
+  pub grown : k ≤ now
+  pub reached : (k ≡ now) ⊎ ((m : Move) × captures now m)
+  pub most : (j : ℕ) (m : Move) → captures j m → j ≤ now
+  pub exactly : (m : Move) → Member m kept ↔ (((now ≡ k) × Member m moves) ⊎ captures now m)
+  pub once : NoRepeat moves → NoRepeat kept
+
+-- a chain of jumps from s to t takes exactly these pieces
+pub record Takes (g : Geometry) (p : Placement) (piece : Piece) (s t : ℕ) (taken : Squares) : Type 0 where
+  pub landings : List ℕ
+  pub over : List ℕ
+  pub jumps : Jumps g p piece s landings over
+  pub once : NoRepeat over
+  pub ends : last_of s landings ≡ t
+  pub takes : taken ≡ set.from_list over
+
+-- m is a move by a path that takes as many pieces as m says
+abbrev pub IsCapture : Geometry → Placement → Move → Type 0
+IsCapture g p m = (landings : List ℕ) × IsPathOf g p m (set.len m.taken) landings

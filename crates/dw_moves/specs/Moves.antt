@@ -139,6 +139,11 @@ LegalAt g p (suc k) m = (landings : List ℕ) × IsPathOf g p m (suc k) landings
 abbrev pub Legal : Geometry → Placement → Move → Type 0
 Legal g p m = (k : ℕ) × IsBest g p k × LegalAt g p k m
 
+-- these are the legal moves, each once
+pub record AreLegal (g : Geometry) (p : Placement) (moves : List Move) : Type 0 where
+  pub exactly : (m : Move) → Member m moves ↔ Legal g p m
+  pub once : NoRepeat moves
+
 -- a man that ends its move on its last row becomes a king
 abbrev pub crowned : Geometry → ℕ → Piece → Piece
 crowned g to piece = record { side = piece.side; kind = cond (on_last_row g piece.side to) King piece.kind }

@@ -11,7 +11,8 @@ use Rattle.dw_board.specs.declared.board.Dir.TheVariants.{UpLeft, UpRight, DownL
 use Rattle.dw_board.specs.declared.piece.Piece.{Piece}
 use Rattle.dw_board.specs.Geometry.{Geometry, squares, is_down, step}
 use Rattle.dw_board.specs.Placement.{Placement, at, same_side}
-use Rattle.dw_moves.specs.Moves.{other, ray}
+use Rattle.std.specs.FinSet as set
+use Rattle.dw_moves.specs.Moves.{Move, other, ray}
 
 -- the numbers from 1 to n
 abbrev pub numbers_to : ℕ → List ℕ
@@ -85,6 +86,18 @@ targets g p s = targets_of g p s (at p s)
 -- all quiet moves
 abbrev pub quiet_pairs : Geometry → Placement → List (ℕ × ℕ)
 quiet_pairs g p = flat_map (λ s. map (λ t. (s, t)) (targets g p s)) (numbers_to (squares g))
+
+-- a move that takes nothing
+abbrev pub quiet_to : ℕ → ℕ → Move
+quiet_to from to = record { from = from; to = to; taken = set.empty }
+
+-- those to each of these squares
+abbrev pub quiet_all : ℕ → List ℕ → List Move
+quiet_all from ts = map (quiet_to from) ts
+
+-- all quiet moves, as moves
+abbrev pub quiet_moves : Geometry → Placement → List Move
+quiet_moves g p = flat_map (λ s. quiet_all s (targets g p s)) (numbers_to (squares g))
 
 -- the next square, where nothing stands on it
 abbrev pub free_if : Placement → Option ℕ → Option ℕ

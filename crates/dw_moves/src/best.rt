@@ -53,7 +53,7 @@ fn best_from<B: Board>(position: &Position<B>, from: Square<B>) -> u8
 }
 
 /// Whether a piece is one of this side.
-fn is_own(piece: Piece, side: Side) -> bool
+pub(crate) fn is_own(piece: Piece, side: Side) -> bool
     ensures { result ≡ same_side piece.side side }
 {
     piece.side == side

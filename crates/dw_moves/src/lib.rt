@@ -2,8 +2,10 @@
 #![tactic(auto)]
 
 pub mod best;
+mod chains;
 mod jumps;
 pub mod laws;
+pub mod legal;
 pub mod moves;
 pub mod play;
 pub mod quiet;

@@ -1,13 +1,16 @@
 //! Quiet moves.
-ghost use Rattle.std.specs.Prelude.{◌≡◌, ◌≤◌, length};
+ghost use Rattle.std.specs.Prelude.{◌≡◌, ◌≤◌, ◌↔◌, ◌++◌, length, IsTrue, OnOk};
 ghost use Rattle.dw_board.specs.Geometry.{OnBoard};
-ghost use Rattle.dw_moves.specs.Moves.{IsQuietCount, ray};
+ghost use Rattle.dw_moves.specs.Moves.{IsQuietCount, Quiet, Member, ray};
 ghost use Rattle.dw_moves.specs.Plain as plain;
 
+use crate::best::is_own;
+use crate::moves::Move;
 use dw_board::board::{Board, Dir};
 use dw_board::piece::{Kind, Side};
 use dw_board::position::Position;
 use dw_board::square::{Square, step};
+use std::alloc::AllocError;
 
 /// The number of quiet moves of the side to move, whether or not it must capture. A man moves one square diagonally
 /// forward to an empty square, White up and Black down; a king any number of empty squares along a diagonal.
@@ -101,4 +104,132 @@ pub(crate) fn free_step<B: Board>(
         None => Some(next),
         Some(_) => None,
     }
+}
+
+/// Adds the quiet moves of the side to move, whether or not it must capture.
+pub(crate) fn push_quiet<B: Board>(
+    position: &Position<B>,
+    moves: &mut Vec<Move<B>>,
+) -> Result<(), AllocError>
+    ensures { OnOk result (moves.new.items ≡ moves.old.items ++ plain.quiet_moves B.geometry position.now) }
+{
+    'squares: for index in 0..B::ROWS * B::PER_ROW {
+        if let Some(square) = Square::new(index + 1) {
+            push_quiet_from(position, square, moves)?;
+        }
+    }
+    Ok(())
+}
+
+/// Adds the quiet moves from a square.
+fn push_quiet_from<B: Board>(
+    position: &Position<B>,
+    from: Square<B>,
+    moves: &mut Vec<Move<B>>,
+) -> Result<(), AllocError>
+    requires { OnBoard B.geometry from }
+    ensures { OnOk result (moves.new.items ≡ moves.old.items ++ plain.quiet_all from (plain.targets B.geometry position.now from)) }
+{
+    match position.at(from) {
+        Some(stands) if stands.side == position.turn() => {
+            push_towards(position, stands.kind, from, Dir::UpLeft, moves)?;
+            push_towards(position, stands.kind, from, Dir::UpRight, moves)?;
+            push_towards(position, stands.kind, from, Dir::DownLeft, moves)?;
+            push_towards(position, stands.kind, from, Dir::DownRight, moves)
+        }
+        _ => Ok(()),
+    }
+}
+
+/// Adds the quiet moves of the mover's piece in one direction.
+fn push_towards<B: Board>(
+    position: &Position<B>,
+    kind: Kind,
+    from: Square<B>,
+    direction: Dir,
+    moves: &mut Vec<Move<B>>,
+) -> Result<(), AllocError>
+    requires { OnBoard B.geometry from }
+    ensures { OnOk result (moves.new.items ≡ moves.old.items ++ plain.quiet_all from (plain.goes kind B.geometry position.now position.now.turn from direction)) }
+{
+    if may_go(kind, position.turn(), direction) {
+        push_run(position, kind, from, direction, moves)
+    } else {
+        Ok(())
+    }
+}
+
+/// Adds a move to each square that a piece can reach in one direction over empty squares.
+fn push_run<B: Board>(
+    position: &Position<B>,
+    kind: Kind,
+    from: Square<B>,
+    direction: Dir,
+    moves: &mut Vec<Move<B>>,
+) -> Result<(), AllocError>
+    requires { OnBoard B.geometry from }
+    ensures { OnOk result (moves.new.items ≡ moves.old.items ++ plain.quiet_all from (plain.landings_for kind position.now (ray B.geometry from direction))) }
+{
+    let mut at = from;
+    'run: while let Some(landing) = free_step(position, at, direction) {
+        moves.push(Move::quiet(from, landing))?;
+        match kind {
+            Kind::Man => break,
+            Kind::King => at = landing,
+        }
+    }
+    Ok(())
+}
+
+/// Whether the side to move has a quiet move between two squares.
+pub(crate) fn is_quiet<B: Board>(position: &Position<B>, from: Square<B>, to: Square<B>) -> bool
+    ensures { IsTrue result ↔ Quiet B.geometry position.now from to }
+{
+    match position.at(from) {
+        Some(mover) if is_own(mover, position.turn()) => {
+            goes_to(position, mover.kind, from, Dir::UpLeft, to)
+                || goes_to(position, mover.kind, from, Dir::UpRight, to)
+                || goes_to(position, mover.kind, from, Dir::DownLeft, to)
+                || goes_to(position, mover.kind, from, Dir::DownRight, to)
+        }
+        _ => false,
+    }
+}
+
+/// Whether the mover's piece may go to a square in one direction.
+fn goes_to<B: Board>(
+    position: &Position<B>,
+    kind: Kind,
+    from: Square<B>,
+    direction: Dir,
+    to: Square<B>,
+) -> bool
+    requires { OnBoard B.geometry from }
+    ensures { IsTrue result ↔ Member to (plain.goes kind B.geometry position.now position.now.turn from direction) }
+{
+    may_go(kind, position.turn(), direction) && runs_to(position, kind, from, direction, to)
+}
+
+/// Whether a piece can reach a square in one direction over empty squares.
+fn runs_to<B: Board>(
+    position: &Position<B>,
+    kind: Kind,
+    from: Square<B>,
+    direction: Dir,
+    to: Square<B>,
+) -> bool
+    requires { OnBoard B.geometry from }
+    ensures { IsTrue result ↔ Member to (plain.landings_for kind position.now (ray B.geometry from direction)) }
+{
+    let mut at = from;
+    'run: while let Some(reached) = free_step(position, at, direction) {
+        if reached == to {
+            return true;
+        }
+        match kind {
+            Kind::Man => break,
+            Kind::King => at = reached,
+        }
+    }
+    false
 }

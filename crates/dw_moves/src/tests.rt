@@ -1,99 +1,210 @@
-//! Worked positions, at the boards of ten and of eight rows.
+//! Worked positions, at the boards of ten and of eight rows and at a small one of six.
+
+mod six;
 
 use crate::best::{best, has_move};
 use crate::laws;
+use crate::legal::{is_legal, legal, legal_into};
 use crate::moves::Move;
+use crate::play::play;
 use crate::quiet::quiet_count;
 use dw_board::board::{Board, Eight, Ten};
-use dw_board::piece::{Kind, Piece, Side};
+use dw_board::fen::read::read_fen;
+use dw_board::fen::write::fen_text;
 use dw_board::position::Position;
 use dw_board::square::Square;
+use dw_board::squares::Squares;
+use six::Six;
+use std::alloc::Global;
 use std::process::Abort;
+use std::test::Fail;
 
-/// White's men and kings, Black's men and kings.
-type Pieces<'a> = [&'a [u8]; 4];
+/// A legal move: its squares, what it takes, and the FEN text of the position after it.
+type After<'a> = (u8, u8, &'a [u8], &'a str);
 
-fn put_all<B: Board>(rt: &impl Abort, position: &mut Position<B>, piece: Piece, squares: &[u8]) {
-    for number in squares {
-        let square = Square::new(*number).expect(rt, "a square");
-        assert_eq!(rt; position.put(square, piece), Ok(()), "at {number}");
+fn position_of<B: Board>(rt: &impl Abort, text: &str) -> Position<B> {
+    read_fen::<B>(text.as_bytes()).ok().expect(rt, "a position")
+}
+
+fn square_of<B: Board>(rt: &impl Abort, number: u8) -> Square<B> {
+    Square::new(number).expect(rt, "a square")
+}
+
+fn move_of<B: Board>(rt: &impl Abort, from: u8, to: u8, numbers: &[u8]) -> Move<B> {
+    let mut taken = Squares::none();
+    for number in numbers {
+        taken = taken.with(square_of(rt, *number));
+    }
+    Move {
+        from: square_of(rt, from),
+        to: square_of(rt, to),
+        taken,
     }
 }
 
-fn position_of<B: Board>(rt: &impl Abort, turn: Side, pieces: Pieces<'_>) -> Position<B> {
-    let [white_men, white_kings, black_men, black_kings] = pieces;
-    let mut position = Position::empty(turn);
-    let rows = [
-        (Side::White, Kind::Man, white_men),
-        (Side::White, Kind::King, white_kings),
-        (Side::Black, Kind::Man, black_men),
-        (Side::Black, Kind::King, black_kings),
-    ];
-    for (side, kind, squares) in rows {
-        put_all(rt, &mut position, Piece { side, kind }, squares);
+fn check_counts<B: Board>(
+    rt: &impl Abort,
+    alloc: Global,
+    text: &str,
+    taking: u8,
+    quiet: u32,
+    count: usize,
+) {
+    let position = position_of::<B>(rt, text);
+    assert_eq!(rt; best(&position), taking, "taking at {text}");
+    assert_eq!(rt; quiet_count(&position), quiet, "quiet moves at {text}");
+    assert_eq!(rt; has_move(&position), count > 0, "any move at {text}");
+    let moves = legal(alloc, &position).expect(rt, "memory");
+    assert_eq!(rt; moves.len(), count, "legal moves at {text}");
+}
+
+fn check_moves<B: Board>(rt: &impl Abort, alloc: Global, text: &str, after: &[After<'_>]) {
+    let position = position_of::<B>(rt, text);
+    let moves = legal(alloc, &position).expect(rt, "memory");
+    assert_eq!(rt; moves.len(), after.len(), "legal moves at {text}");
+    for (from, to, taken, fen) in after {
+        let step = move_of::<B>(rt, *from, *to, taken);
+        assert!(rt; moves.contains(&step), "{from} to {to} at {text}");
+        assert!(rt; is_legal(&position, &step), "{from} to {to} at {text}");
+        assert_eq!(rt; fen_text(&play(&position, &step)).as_str(), *fen);
     }
-    position
 }
-
-fn check<B: Board>(rt: &impl Abort, turn: Side, pieces: Pieces<'_>, taking: u8, quiet: u32) {
-    let position = position_of::<B>(rt, turn, pieces);
-    assert_eq!(rt; best(&position), taking, "taking at {pieces:?}");
-    assert_eq!(rt; quiet_count(&position), quiet, "quiet moves at {pieces:?}");
-    assert_eq!(rt;
-        has_move(&position),
-        taking > 0 || quiet > 0,
-        "any move at {pieces:?}"
-    );
-}
-
-const ROWS_1_TO_4: [u8; 20] = [
-    1, 2, 3, 4, 5, 6, 7, 8, 9, 10, 11, 12, 13, 14, 15, 16, 17, 18, 19, 20,
-];
-
-const ROWS_7_TO_10: [u8; 20] = [
-    31, 32, 33, 34, 35, 36, 37, 38, 39, 40, 41, 42, 43, 44, 45, 46, 47, 48, 49, 50,
-];
-
-const FIRST_12: [u8; 12] = [1, 2, 3, 4, 5, 6, 7, 8, 9, 10, 11, 12];
-
-const LAST_12: [u8; 12] = [21, 22, 23, 24, 25, 26, 27, 28, 29, 30, 31, 32];
 
 #[test]
-fn on_ten_rows(rt: HostRuntime) {
-    let rows: [(Side, Pieces<'_>, u8, u32); 12] = [
-        (Side::Black, [&ROWS_7_TO_10, &[], &ROWS_1_TO_4, &[]], 0, 9),
-        (Side::White, [&[], &[], &[20], &[]], 0, 0),
-        (Side::White, [&[], &[47], &[17, 18, 24, 32, 33], &[]], 4, 4),
-        (Side::White, [&[38], &[], &[22, 23, 32, 33], &[]], 4, 0),
-        (Side::White, [&[14], &[], &[8, 9], &[]], 2, 1),
-        (
-            Side::White,
-            [&[47], &[], &[13, 14, 22, 31, 32, 41, 42], &[]],
-            5,
-            0,
-        ),
-        (Side::White, [&[], &[46], &[28], &[]], 1, 3),
-        (Side::White, [&[7], &[], &[], &[]], 0, 2),
-        (Side::White, [&[12], &[], &[8], &[]], 1, 1),
-        (Side::White, [&[28], &[], &[22], &[23]], 1, 0),
-        (Side::White, [&[28], &[], &[33], &[]], 1, 2),
-        (Side::White, [&[], &[46], &[37, 41], &[]], 0, 0),
+fn counts_on_ten_rows(rt: HostRuntime) {
+    let rows = [
+        ("b:b1-20:w31-50.", 0, 9, 9),
+        ("W:W:B20", 0, 0, 0),
+        ("W:WK47:B17,18,24,32,33", 4, 4, 3),
+        ("W:W38:B22,23,32,33", 4, 0, 1),
+        ("W:W14:B8,9", 2, 1, 1),
+        ("W:W47:B13,14,22,31,32,41,42", 5, 0, 2),
+        ("W:WK46:B28", 1, 3, 5),
+        ("W:W7:B", 0, 2, 2),
+        ("W:W12:B8", 1, 1, 1),
+        ("W:W28:B22,K23", 1, 0, 2),
+        ("W:W28:B33", 1, 2, 1),
+        ("W:WK46:B37,41", 0, 0, 0),
     ];
-    for (turn, pieces, taking, quiet) in rows {
-        check::<Ten>(&rt, turn, pieces, taking, quiet);
+    for (text, taking, quiet, count) in rows {
+        check_counts::<Ten>(&rt, rt.alloc(), text, taking, quiet, count);
     }
+}
+
+#[test]
+fn moves_on_ten_rows(rt: HostRuntime) {
+    check_moves::<Ten>(
+        &rt,
+        rt.alloc(),
+        "W:W14:B8,9",
+        &[(14, 12, &[8, 9], "B:W12:B")],
+    );
+    check_moves::<Ten>(
+        &rt,
+        rt.alloc(),
+        "W:WK47:B17,18,24,32,33",
+        &[
+            (47, 38, &[17, 18, 32, 33], "B:WK38:B24"),
+            (47, 43, &[17, 18, 32, 33], "B:WK43:B24"),
+            (47, 49, &[17, 18, 32, 33], "B:WK49:B24"),
+        ],
+    );
+    check_moves::<Ten>(
+        &rt,
+        rt.alloc(),
+        "W:W38:B22,23,32,33",
+        &[(38, 38, &[22, 23, 32, 33], "B:W38:B")],
+    );
+    check_moves::<Ten>(
+        &rt,
+        rt.alloc(),
+        "W:W47:B13,14,22,31,32,41,42",
+        &[
+            (47, 20, &[13, 14, 22, 31, 41], "B:W20:B32,42"),
+            (47, 20, &[13, 14, 22, 32, 42], "B:W20:B31,41"),
+        ],
+    );
+    check_moves::<Ten>(
+        &rt,
+        rt.alloc(),
+        "W:WK46:B28",
+        &[
+            (46, 5, &[28], "B:WK5:B"),
+            (46, 10, &[28], "B:WK10:B"),
+            (46, 14, &[28], "B:WK14:B"),
+            (46, 19, &[28], "B:WK19:B"),
+            (46, 23, &[28], "B:WK23:B"),
+        ],
+    );
+    check_moves::<Ten>(
+        &rt,
+        rt.alloc(),
+        "W:W7:B",
+        &[(7, 1, &[], "B:WK1:B"), (7, 2, &[], "B:WK2:B")],
+    );
+    check_moves::<Ten>(&rt, rt.alloc(), "W:W12:B8", &[(12, 3, &[8], "B:WK3:B")]);
+    check_moves::<Ten>(
+        &rt,
+        rt.alloc(),
+        "W:W28:B22,K23",
+        &[(28, 17, &[22], "B:W17:BK23"), (28, 19, &[23], "B:W19:B22")],
+    );
+    check_moves::<Ten>(&rt, rt.alloc(), "W:W:B20", &[]);
 }
 
 #[test]
 fn on_eight_rows(rt: HostRuntime) {
-    check::<Eight>(&rt, Side::White, [&LAST_12, &[], &FIRST_12, &[]], 0, 7);
-    check::<Eight>(&rt, Side::White, [&[22], &[], &[18], &[]], 1, 1);
+    check_counts::<Eight>(&rt, rt.alloc(), "W:W21-32:B1-12", 0, 7, 7);
+    check_moves::<Eight>(&rt, rt.alloc(), "W:W22:B18", &[(22, 15, &[18], "B:W15:B")]);
+}
+
+#[test]
+fn on_six_rows(rt: HostRuntime) {
+    check_counts::<Six>(&rt, rt.alloc(), "W:W13-18:B1-6", 0, 5, 5);
+    check_moves::<Six>(&rt, rt.alloc(), "W:W11:B8", &[(11, 6, &[8], "B:W6:B")]);
+}
+
+#[test]
+fn refuses_moves(rt: HostRuntime) {
+    let position = position_of::<Ten>(&rt, "W:W47:B13,14,22,31,32,41,42");
+    let rows: [(u8, u8, &[u8]); 5] = [
+        (47, 36, &[41]),
+        (47, 20, &[13, 14, 22, 31]),
+        (47, 20, &[13, 14, 22, 31, 42]),
+        (47, 9, &[13, 14, 22, 31, 41]),
+        (46, 20, &[13, 14, 22, 31, 41]),
+    ];
+    for (from, to, taken) in rows {
+        assert!(rt; !is_legal(&position, &move_of(&rt, from, to, taken)));
+    }
+    let opening = position_of::<Ten>(&rt, "W:W31-50:B1-20");
+    for (from, to) in [(31, 26), (35, 30)] {
+        assert!(rt; is_legal(&opening, &move_of(&rt, from, to, &[])));
+    }
+    for (from, to) in [(31, 22), (31, 36), (20, 24), (25, 20), (41, 37)] {
+        assert!(rt; !is_legal(&opening, &move_of(&rt, from, to, &[])));
+    }
+    assert!(rt; !is_legal(&opening, &Move::default()));
+}
+
+#[test]
+fn fills_a_list_again(rt: HostRuntime) -> Result<(), Fail> {
+    let first = position_of::<Ten>(&rt, "W:WK46:B28");
+    let second = position_of::<Ten>(&rt, "W:W28:B22,K23");
+    let mut moves = Vec::new(rt.alloc());
+    legal_into(&first, &mut moves)?;
+    assert_eq!(rt; moves.len(), 5);
+    let room = moves.capacity();
+    legal_into(&second, &mut moves)?;
+    assert_eq!(rt; moves.len(), 2);
+    assert_eq!(rt; moves.capacity(), room);
+    Ok(())
 }
 
 #[test]
 fn moves(rt: HostRuntime) {
     let first = Square::<Ten>::default();
-    let last = Square::new(50).expect(&rt, "a square");
+    let last = square_of(&rt, 50);
     assert!(rt; laws::same_move(&Move::default(), &Move::quiet(first, first)));
     assert!(rt; !laws::same_move(&Move::quiet(first, last), &Move::quiet(last, first)));
     let mut taking = Move::quiet(first, last);

@@ -10,7 +10,7 @@ returns-else-is_enemy-clause-none g c =
       | in-King w ↦ subst (Before g.B.Board.geometry c.args.position.now c.args.piece.kind c.args.piece.side c.args.direction c.args.from) (sym w.before-is)
           (before_king g.B.Board.geometry c.args.position.now c.args.piece.kind c.args.piece.side c.args.direction c.args.from w.last_free-before.result w.last_free-before.ensures.on_board w.in-King.is (w.last_free-before.ensures.takes c.args.piece.side) w.last_free-before.ensures.blocked)
     ] in
-    λ _. met_friend g.B.Board.geometry g.met.B.Board.numbers c.args.position.now c.args.piece.kind c.args.piece.side c.args.direction c.args.from c.match-piece.before c.in_ok-met.met c.in_ok-stands.stands before (sym c.step.ensures ∙ c.in_ok-met.was) (sym c.at.ensures ∙ c.in_ok-stands.was) (sym c.is_enemy.ensures ∙ c.if-is_enemy.false)
+    λ _. met_friend g.B.Board.geometry g.met.B.Board.numbers c.args.position.now c.args.piece.kind c.args.piece.side c.args.direction c.args.from c.match-piece.before c.in_ok-met.met c.in_ok-stands.stands before (sym c.step.ensures ∙ c.in_ok-met.was) (sym c.at.ensures.value ∙ c.in_ok-stands.was) (sym c.is_enemy.ensures ∙ c.if-is_enemy.false)
 
 pub returns-then-is_enemy-clause-some : goal.returns-then-is_enemy-clause-some
 returns-then-is_enemy-clause-some g c =
@@ -19,4 +19,4 @@ returns-then-is_enemy-clause-some g c =
       | in-King w ↦ subst (Before g.B.Board.geometry c.args.position.now c.args.piece.kind c.args.piece.side c.args.direction c.args.from) (sym w.before-is)
           (before_king g.B.Board.geometry c.args.position.now c.args.piece.kind c.args.piece.side c.args.direction c.args.from w.last_free-before.result w.last_free-before.ensures.on_board w.in-King.is (w.last_free-before.ensures.takes c.args.piece.side) w.last_free-before.ensures.blocked)
     ] in
-    met_enemy g.B.Board.geometry g.met.B.Board.numbers c.args.position.now c.args.piece.kind c.args.piece.side c.args.direction c.args.from c.match-piece.before c.in_ok-met.met c.in_ok-stands.stands before (sym c.step.ensures ∙ c.in_ok-met.was) (sym c.at.ensures ∙ c.in_ok-stands.was) (sym c.is_enemy.ensures ∙ c.if-is_enemy.true)
+    met_enemy g.B.Board.geometry g.met.B.Board.numbers c.args.position.now c.args.piece.kind c.args.piece.side c.args.direction c.args.from c.match-piece.before c.in_ok-met.met c.in_ok-stands.stands before (sym c.step.ensures ∙ c.in_ok-met.was) (sym c.at.ensures.value ∙ c.in_ok-stands.was) (sym c.is_enemy.ensures ∙ c.if-is_enemy.true)

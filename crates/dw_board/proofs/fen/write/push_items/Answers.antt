@@ -9,13 +9,13 @@ pub push_item-requires : goal.push_item-requires
 push_item-requires g c =
     let p = c.args.position.now in
     let all = ap (λ r. r * c.PER_ROW.result) (c.ROWS.ensures ∙ g.met.B.Board.rows_is) ∙ ap (λ n. g.B.Board.geometry.rows * n) (c.PER_ROW.ensures ∙ g.met.B.Board.per_row_is) in
-    let there = ap (λ s. of.is_of c.args.side (of.at p s)) (sym c.behind-square.ensures) ∙ (ap (of.is_of c.args.side) (sym c.at-cell.ensures) ∙ (sym c.is_of.ensures ∙ c.if-is_of.true)) in
+    let there = ap (λ s. of.is_of c.args.side (of.at p s)) (sym c.behind-square.ensures) ∙ (ap (of.is_of c.args.side) (sym c.at-cell.ensures.value) ∙ (sym c.is_of.ensures ∙ c.if-is_of.true)) in
     record { room = room_for g.B.Board.geometry g.met.B.Board.numbers p c.requires.position c.args.side c.squares.index c.args.text.now.bytes c.squares.text.bytes c.squares.is_first c.squares.invariant (omega arith) there c.requires.room }
 
 pub squares-preserved : goal.squares-preserved
 squares-preserved g c =
     let p = c.args.position.now in
-    let cell_is = c.at-cell.ensures ∙ ap (of.at p) c.behind-square.ensures in
+    let cell_is = c.at-cell.ensures.value ∙ ap (of.at p) c.behind-square.ensures in
     let test = ap (of.is_of c.args.side) (sym cell_is) ∙ sym c.is_of.ensures in
     elim c.if-is_of.branch [
       | then-is_of w ↦ IsWrittenTo-with p c.args.side c.squares.index c.args.text.now.bytes c.squares.text.bytes c.if-is_of.text.bytes c.squares.is_first c.if-is_of.is_first c.squares.invariant

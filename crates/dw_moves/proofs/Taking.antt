@@ -1,0 +1,107 @@
+-- The captures of a position, square by square.
+use Rattle.std.proofs.Common.{◌≡◌, ℕ, ◌+◌, ◌<◌, ◌≤◌, List, length, refl, sym, ap, ◌∙◌, subst, ◌⊎◌, inl, inr, arith, false, Some, None}
+use Rattle.std.proofs.lemmas.Bool.{true≢false}
+use Rattle.std.specs.FinSet as fin
+use Rattle.dw_board.specs.declared.piece.Side.{Side}
+use Rattle.dw_board.specs.declared.piece.Side.TheVariants.{White, Black}
+use Rattle.dw_board.specs.declared.piece.Piece.{Piece}
+use Rattle.dw_board.specs.Geometry.{Geometry, IsBoard, squares}
+use Rattle.dw_board.specs.Placement.{Placement, IsPosition, at, placed, count, same_side}
+use Rattle.dw_moves.specs.Moves.{Path, Stands, Move, other, last_of}
+use Rattle.dw_moves.specs.Chains.{ChainsFit, Taking, TakingFrom, EndsAs, Longest}
+use Rattle.dw_moves.proofs.Exact.{same_side_refl}
+use Rattle.dw_moves.proofs.StepLaws.{none_some}
+use Rattle.dw_moves.proofs.BestFrom.{some_same, path_of, chain_of, chains_fit}
+use Rattle.dw_moves.proofs.Kept.{longest_none, longest_then, longest_wider}
+use Rattle.dw_moves.proofs.Walked.{union_of_none}
+
+-- a move that has not begun
+abbrev pub start : ℕ → Move
+start from = record { from = from; to = from; taken = fin.empty }
+
+side_fits : (g : Geometry) (p : Placement) (side : Side) → IsPosition g p.cells → count p side ≤ g.side
+side_fits g p White pos = pos.white_fits
+side_fits g p Black pos = pos.black_fits
+
+-- no capture takes more than twenty pieces
+pub walk_fits : (g : Geometry) → IsBoard g → (p q : Placement) (from : ℕ) (piece : Piece) (b : Move) → IsPosition g p.cells → Stands g p from piece → q ≡ placed p from None → b ≡ start from → ChainsFit g q piece b.to b.taken 20
+walk_fits g board p q from piece b pos s q_is b_is =
+    let fits : ChainsFit g (placed p from None) piece from fin.empty 20 = λ ts cs chain. omega (arith, chains_fit g p from piece s ts cs chain, side_fits g p (other p.turn) pos, board.side_high) in
+    subst (λ (z : Move). ChainsFit g q piece z.to z.taken 20) (sym b_is) (subst (λ z. ChainsFit g z piece from fin.empty 20) (sym q_is) fits)
+
+ends_taking : (g : Geometry) (p : Placement) (from : ℕ) (piece : Piece) → Stands g p from piece → (k : ℕ) (m : Move) → EndsAs g (placed p from None) piece (start from) 0 k m → TakingFrom g p from k m
+ends_taking g p from piece s k m h = (
+  h.from,
+  (
+    h.some,
+    (
+      h.landings,
+      record {
+        over = h.over;
+        path = subst (λ z. Path g p z h.landings h.over) (sym h.from) (path_of g p from piece h.landings h.over s h.chain);
+        count = omega (arith, h.count);
+        ends = ap (λ z. last_of z h.landings) h.from ∙ sym h.to;
+        takes = h.taken ∙ union_of_none (fin.from_list h.over);
+      },
+    ),
+  ),
+)
+
+taking_ends : (g : Geometry) (p : Placement) (from : ℕ) (piece : Piece) → Stands g p from piece → (k : ℕ) (m : Move) → TakingFrom g p from k m → EndsAs g (placed p from None) piece (start from) 0 k m
+taking_ends g p from piece s k m h =
+    let ts : List ℕ = h.1.1.0 in
+    let is = h.1.1.1 in
+    record {
+      landings = ts;
+      over = is.over;
+      chain = chain_of g p from piece ts is.over s.there (subst (λ z. Path g p z ts is.over) h.0 is.path);
+      some = h.1.0;
+      count = omega (arith, is.count);
+      from = h.0;
+      to = sym is.ends ∙ ap (λ z. last_of z ts) h.0;
+      taken = is.takes ∙ sym (union_of_none (fin.from_list is.over));
+    }
+
+-- what the walk found from a square
+pub walked_from : (g : Geometry) (p q : Placement) (from : ℕ) (piece : Piece) (b : Move) (most k : ℕ) (moves new : List Move) → Stands g p from piece → q ≡ placed p from None → b ≡ start from → Longest (EndsAs g q piece b 0) most moves k new → Longest (TakingFrom g p from) most moves k new
+walked_from g p q from piece b most k moves new s q_is b_is h =
+    let here : Longest (EndsAs g (placed p from None) piece (start from) 0) most moves k new =
+    subst (λ z. Longest (EndsAs g (placed p from None) piece z 0) most moves k new) b_is (subst (λ z. Longest (EndsAs g z piece b 0) most moves k new) q_is h) in
+    longest_wider (EndsAs g (placed p from None) piece (start from) 0) (TakingFrom g p from) most k moves new (ends_taking g p from piece s) (λ j m f. inl (taking_ends g p from piece s j m f)) here
+
+taking_stands : (g : Geometry) (p : Placement) (from k : ℕ) (m : Move) → TakingFrom g p from k m → (piece : Piece) × Stands g p from piece
+taking_stands g p from k m h = let path : Path g p m.from h.1.1.0 h.1.1.1.over = h.1.1.1.path in (path.piece, subst (λ z. Stands g p z path.piece) h.0 path.stands)
+
+-- nothing stands there
+pub none_there : (g : Geometry) (p : Placement) (from most : ℕ) (moves : List Move) → at p from ≡ None → Longest (TakingFrom g p from) most moves most moves
+none_there g p from most moves e = longest_none (TakingFrom g p from) most moves (λ j m f. let s = taking_stands g p from j m f in none_some s.0 (sym e ∙ s.1.there))
+
+-- the other side's piece stands there
+pub enemy_there : (g : Geometry) (p : Placement) (from most : ℕ) (moves : List Move) (piece : Piece) → at p from ≡ Some piece → same_side piece.side p.turn ≡ false → Longest (TakingFrom g p from) most moves most moves
+enemy_there g p from most moves piece e other_is = longest_none (TakingFrom g p from) most moves (λ j m f.
+    let s = taking_stands g p from j m f in
+    let same : s.0 ≡ piece = some_same s.0 piece (sym s.1.there ∙ e) in
+    let own : piece.side ≡ p.turn = ap (λ z. z.side) (sym same) ∙ s.1.own in
+    true≢false (sym (same_side_refl p.turn) ∙ (ap (λ z. same_side z p.turn) (sym own) ∙ other_is)))
+
+-- the captures from the squares up to n
+abbrev pub TakingTo : Geometry → Placement → ℕ → ℕ → Move → Type 0
+TakingTo g p n k m = (m.from ≤ n) × Taking g p k m
+
+pub to_none : (g : Geometry) (p : Placement) (moves : List Move) → Longest (TakingTo g p 0) 0 moves 0 moves
+to_none g p moves = longest_none (TakingTo g p 0) 0 moves (λ j m f. let path : Path g p m.from f.1.1.0 f.1.1.1.over = f.1.1.1.path in omega (arith, f.0, path.stands.on_board.0))
+
+at_end : (s n : ℕ) → s ≤ n + 1 → (s ≡ n + 1) ⊎ (s ≤ n)
+at_end s n h = grind arith
+
+pub to_more : (g : Geometry) (p : Placement) (n from most k : ℕ) (moves now new : List Move) → from ≡ n + 1 → Longest (TakingTo g p n) 0 moves most now → Longest (TakingFrom g p from) most now k new → Longest (TakingTo g p (n + 1)) 0 moves k new
+to_more g p n from most k moves now new is h next =
+    longest_wider (λ j m. TakingTo g p n j m ⊎ TakingFrom g p from j m) (TakingTo g p (n + 1)) 0 k moves new
+    (λ j m x. elim x [ inl old ↦ (omega (arith, old.0), old.1) | inr here ↦ (omega (arith, here.0, is), here.1) ])
+    (λ j m f. elim (at_end m.from n f.0) [ inl last ↦ inl (inr (last ∙ sym is, f.1)) | inr before ↦ inl (inl (before, f.1)) ])
+    (longest_then (TakingTo g p n) (TakingFrom g p from) 0 most k moves now new h next)
+
+pub to_all : (g : Geometry) (p : Placement) (n k : ℕ) (moves new : List Move) → n ≡ squares g → Longest (TakingTo g p n) 0 moves k new → Longest (Taking g p) 0 moves k new
+to_all g p n k moves new is h = longest_wider (TakingTo g p n) (Taking g p) 0 k moves new (λ j m f. f.1) (λ j m f.
+    let path : Path g p m.from f.1.0 f.1.1.over = f.1.1.path in
+    inl (omega (arith, is, path.stands.on_board.1), f)) h

@@ -1,0 +1,148 @@
+//! Captures: whole chains of jumps, the longest of them kept.
+ghost use Rattle.std.specs.Prelude.{◌≡◌, ◌≤◌, ◌-◌, ◌↔◌, IfOk, IsTrue};
+ghost use Rattle.dw_board.specs.Geometry.{OnBoard};
+ghost use Rattle.dw_moves.specs.Chains.{ChainsFit, Taking, TakingFrom, EndsAs, Is, Longest, Takes, IsCapture};
+
+use crate::best::is_own;
+use crate::jumps::jumps;
+use crate::moves::Move;
+use dw_board::board::Board;
+use dw_board::piece::Piece;
+use dw_board::position::Position;
+use dw_board::square::Square;
+use dw_board::squares::Squares;
+use std::alloc::AllocError;
+
+/// Adds the captures of the greatest number, each once, and answers that number; adds none where it is 0.
+pub(crate) fn push_captures<B: Board>(
+    position: &Position<B>,
+    moves: &mut Vec<Move<B>>,
+) -> Result<u8, AllocError>
+    ensures { IfOk result (λ k. Longest (Taking B.geometry position.now) 0 moves.old.items k moves.new.items) }
+{
+    let mut most = 0;
+    'squares: for index in 0..B::ROWS * B::PER_ROW {
+        if let Some(square) = Square::new(index + 1) {
+            most = push_from(position, square, most, moves)?;
+        }
+    }
+    Ok(most)
+}
+
+/// Goes through the captures of what stands on a square.
+fn push_from<B: Board>(
+    position: &Position<B>,
+    from: Square<B>,
+    most: u8,
+    moves: &mut Vec<Move<B>>,
+) -> Result<u8, AllocError>
+    requires { OnBoard B.geometry from }
+    ensures { IfOk result (λ k. Longest (TakingFrom B.geometry position.now from) most moves.old.items k moves.new.items) }
+{
+    let Some(piece) = position.at(from) else {
+        return Ok(most);
+    };
+    if !is_own(piece, position.turn()) {
+        return Ok(most);
+    }
+    let mut rest = *position;
+    rest.clear(from);
+    walk(&rest, piece, Move::quiet(from, from), 0, most, moves)
+}
+
+/// Goes through the captures that begin with a move so far, which has taken so many pieces. It keeps those that take
+/// at least `most`, which rises with them, and answers how many the kept ones take.
+fn walk<B: Board>(
+    position: &Position<B>,
+    piece: Piece,
+    begun: Move<B>,
+    count: u8,
+    most: u8,
+    moves: &mut Vec<Move<B>>,
+) -> Result<u8, AllocError>
+    requires on_board { OnBoard B.geometry begun.to }
+    requires few { count ≤ 20 }
+    requires fits { ChainsFit B.geometry position.now piece begun.to begun.taken (20 - count) }
+    ensures { IfOk result (λ k. Longest (EndsAs B.geometry position.now piece begun count) most moves.old.items k moves.new.items) }
+{
+    let mut longest = most;
+    let mut goes_on = false;
+    let found = jumps(position, piece, begun.to);
+    'jumps: for jump in found.as_slice() {
+        if !begun.taken.has(jump.over) {
+            goes_on = true;
+            let further = Move {
+                from: begun.from,
+                to: jump.landing,
+                taken: begun.taken.with(jump.over),
+            };
+            longest = walk(position, piece, further, count + 1, longest, moves)?;
+        }
+    }
+    if goes_on {
+        Ok(longest)
+    } else {
+        offer(begun, count, longest, moves)
+    }
+}
+
+/// Keeps a capture of so many pieces where none that is kept takes more, once, and drops those that take fewer.
+fn offer<B: Board>(
+    step: Move<B>,
+    count: u8,
+    most: u8,
+    moves: &mut Vec<Move<B>>,
+) -> Result<u8, AllocError>
+    ensures { IfOk result (λ k. Longest (Is step count) most moves.old.items k moves.new.items) }
+{
+    if count == 0 || count < most {
+        return Ok(most);
+    }
+    if most < count {
+        moves.clear();
+    }
+    if !moves.contains(&step) {
+        moves.push(step)?;
+    }
+    Ok(count)
+}
+
+/// Whether the side to move can capture by a path that begins, ends and takes as this move does.
+pub(crate) fn is_capture<B: Board>(position: &Position<B>, step: &Move<B>) -> bool
+    ensures { IsTrue result ↔ IsCapture B.geometry position.now step.now }
+{
+    let Some(piece) = position.at(step.from) else {
+        return false;
+    };
+    if !is_own(piece, position.turn()) {
+        return false;
+    }
+    let mut rest = *position;
+    rest.clear(step.from);
+    takes(&rest, piece, step.from, step.to, step.taken)
+}
+
+/// Whether a piece can jump from one square to another and take exactly these pieces.
+fn takes<B: Board>(
+    position: &Position<B>,
+    piece: Piece,
+    from: Square<B>,
+    to: Square<B>,
+    left: Squares<B>,
+) -> bool
+    requires { OnBoard B.geometry from }
+    ensures { IsTrue result ↔ Takes B.geometry position.now piece from to left }
+{
+    if left.count() == 0 {
+        return from == to;
+    }
+    let found = jumps(position, piece, from);
+    'jumps: for jump in found.as_slice() {
+        if left.has(jump.over)
+            && takes(position, piece, jump.landing, to, left.without(jump.over))
+        {
+            return true;
+        }
+    }
+    false
+}
