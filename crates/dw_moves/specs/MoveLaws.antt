@@ -1,5 +1,5 @@
--- Equality of moves is equality of what contracts see.
-use Rattle.std.proofs.Common.{◌≡◌, ℕ, Bool, true, List, ◌++◌, sym, ap, ◌∙◌, ◌↔◌, eqb}
+-- Equality of moves is equality of what contracts see, and a list of legal moves has legal moves.
+use Rattle.std.proofs.Common.{◌≡◌, ℕ, ◌<◌, zero, suc, Bool, true, List, [], ◌∷◌, ◌++◌, length, get_or, sym, ap, ◌∙◌, ◌↔◌, inl, inr, arith, eqb}
 use Rattle.std.specs.Cmp.{nat_cmp_total}
 use Rattle.std.specs.Cmp.Lexicographic.{pointwise, bytes_decides}
 use Rattle.std.specs.FinSet as set
@@ -9,7 +9,8 @@ use Rattle.std.proofs.lemmas.Bool.{and_parts, and_from, eqb-true, eq-eqb}
 use Rattle.std.specs.Hash as fed
 use Rattle.dw_board.specs.Geometry.{Geometry}
 use Rattle.dw_board.specs.SquareSet.{Squares, word_of}
-use Rattle.dw_moves.specs.Moves.{Move}
+use Rattle.dw_board.specs.Placement.{Placement}
+use Rattle.dw_moves.specs.Moves.{Member, Move, Legal, AreLegal}
 
 -- sets with the same items are the same
 same_items : (v w : Squares) → set.items v ≡ set.items w → v ≡ w
@@ -33,3 +34,12 @@ same_moves-is m n = (
 -- what a move feeds a hasher: its squares, and the word of what it takes
 abbrev pub move_bytes : Geometry → Move → List (List ℕ)
 move_bytes g m = fed.u8 m.from ++ (fed.u8 m.to ++ fed.u64 (word_of g m.taken))
+
+member_at : (moves : List Move) (i : ℕ) (m : Move) → i < length moves → m ≡ get_or moves i m → Member m moves
+member_at [] i m low e = absurd (omega arith)
+member_at (x ∷ moves) zero m low e = inl e
+member_at (x ∷ moves) (suc i) m low e = inr (member_at moves i m (omega arith) e)
+
+-- each move of the list of legal moves is legal
+pub listed_is_legal : (g : Geometry) (p : Placement) (moves : List Move) (i : ℕ) (m : Move) → AreLegal g p moves → i < length moves → m ≡ get_or moves i m → Legal g p m
+listed_is_legal g p moves i m h low e = (h.exactly m).0 (member_at moves i m low e)

@@ -1,0 +1,67 @@
+//! Counts the lines of play from some positions, ply by ply, and says how many moves a second are made.
+//! The counts go to standard output, the speeds to standard error. A word gives plies to add to each depth.
+#![tactic(auto)]
+
+mod perft;
+
+use anyhow::Context;
+use dw_board::board::Ten;
+use dw_board::fen::read::read_fen;
+use dw_moves::moves::Move;
+use perft::{moves_made, perft};
+use std::env;
+use std::time::Instant;
+
+/// A position, and to how many plies its lines are counted.
+type Case = (&'static str, usize);
+
+/// The opening, and two positions with many captures.
+const CASES: [Case; 3] = [
+    ("B:W31-50:B1-20", 5),
+    (
+        "W:W25,27,28,30,32,33,34,35,37,38:B12,13,14,16,18,19,21,23,24,26",
+        7,
+    ),
+    (
+        "B:W6,9,10,11,20,21,22,23,30,K31,33,37,41,42,43,44,46:BK17,K24",
+        4,
+    ),
+];
+
+/// The most plies that are added.
+const MOST_ADDED: usize = 4;
+
+fn main(rt: HostRuntime) -> anyhow::Result<()> {
+    let added = plies_added(&rt)?;
+    for (text, plies) in CASES {
+        count_lines(&rt, text, plies.saturating_add(added))?;
+    }
+    Ok(())
+}
+
+/// The plies to add, by the first word.
+fn plies_added(rt: &HostRuntime) -> anyhow::Result<usize> {
+    let words = env::args(rt)?.collect::<Vec<String>>(rt.alloc())?;
+    let Some(word) = words.get(1) else {
+        return Ok(0);
+    };
+    let added = word.parse::<usize>().context("the word is no number of plies")?;
+    Ok(added.min(MOST_ADDED))
+}
+
+/// Writes the number of lines of each length, and how fast all moves of the longest ones are made.
+fn count_lines(rt: &HostRuntime, text: &str, plies: usize) -> anyhow::Result<()> {
+    let position = read_fen::<Ten>(text.as_bytes()).context("no FEN text")?;
+    let mut lists = Vec::new(rt.alloc());
+    println!(rt; "{text}")?;
+    for _ in 0..plies {
+        lists.push(Vec::<Move<Ten>>::new(rt.alloc()))?;
+        println!(rt; "{}", perft(&position, &mut lists)?)?;
+    }
+    let start = Instant::now(rt)?;
+    let moves = moves_made(&position, &mut lists)?;
+    let micros = start.elapsed(rt)?.as_micros().max(1);
+    let speed = u128::from(moves) * 1_000_000 / micros;
+    eprintln!(rt; "{moves} moves made in {micros} microseconds: {speed} a second")?;
+    Ok(())
+}

@@ -1,0 +1,44 @@
+//! Lines of play, counted.
+ghost use Rattle.std.specs.Prelude.{length};
+
+use dw_board::board::Board;
+use dw_board::position::Position;
+use dw_moves::legal::legal_into;
+use dw_moves::moves::Move;
+use dw_moves::play::play;
+use std::alloc::AllocError;
+
+/// The number of lines of as many moves as there are lists, one list for each ply.
+pub fn perft<B: Board>(
+    position: &Position<B>,
+    lists: &mut [Vec<Move<B>>],
+) -> Result<u64, AllocError> {
+    let Some((moves, rest)) = lists.split_first_mut() else {
+        return Ok(1);
+    };
+    legal_into(position, moves)?;
+    if rest.is_empty() {
+        return Ok(moves.len() as u64);
+    }
+    let mut count = 0_u64;
+    'moves: for step in moves.as_slice() {
+        count = count.saturating_add(perft(&play(position, step), rest)?);
+    }
+    Ok(count)
+}
+
+/// The number of moves made on all those lines: each is played, the last ones too.
+pub fn moves_made<B: Board>(
+    position: &Position<B>,
+    lists: &mut [Vec<Move<B>>],
+) -> Result<u64, AllocError> {
+    let Some((moves, rest)) = lists.split_first_mut() else {
+        return Ok(0);
+    };
+    legal_into(position, moves)?;
+    let mut count = moves.len() as u64;
+    'moves: for step in moves.as_slice() {
+        count = count.saturating_add(moves_made(&play(position, step), rest)?);
+    }
+    Ok(count)
+}
