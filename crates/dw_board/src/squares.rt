@@ -135,6 +135,7 @@ impl<B: Board> Squares<B> {
         ensures none { IsNone result ↔ (self ≡ set.empty) }
         ensures member { IfSome result (λ s. IsTrue (set.contains self s)) }
         ensures least { IfSome result (λ s. (t : ℕ) → IsTrue (set.contains self t) → s ≤ t) }
+        ensures on_board { IfSome result (Geo.OnBoard B.geometry) }
     {
         if self.word == 0 {
             return None;

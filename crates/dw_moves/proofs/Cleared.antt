@@ -1,67 +1,54 @@
--- Squares that are emptied one after another, and what a move needs on its last square.
-use Rattle.std.proofs.Common.{◌≡◌, ◌≢◌, ℕ, ◌+◌, ◌-◌, ◌≤◌, ◌<◌, length, refl, sym, ap, ◌∙◌, subst, ◌⊎◌, inl, inr, arith, true, false, None, get_or, length-set, get_or-set_same, get_or-set_other, set}
+-- Squares that are emptied one after another.
+use Rattle.std.proofs.Common.{◌≡◌, ◌≢◌, ℕ, ◌+◌, ◌-◌, ◌≤◌, ◌<◌, ◌&&◌, not, length, refl, sym, ap, ◌∙◌, subst, ◌⊎◌, inl, inr, arith, true, false, eqb, None, cond, get_or, length-set, get_or-set_same, get_or-set_other, set}
 use Rattle.std.proofs.lemmas.List.{ext_get_or}
-use Rattle.std.proofs.lemmas.Bool.{cases_lt}
+use Rattle.std.proofs.lemmas.Bool.{cases_eq, eq-eqb, eqb-true, cases_Bool}
 use Rattle.std.specs.FinSet as fin
-use Rattle.dw_board.specs.Geometry.{Geometry, squares}
-use Rattle.dw_board.specs.Placement.{Placement, IsPosition, placed}
+use Rattle.std.specs.Ordering.{nat_cmp}
+use Rattle.dw_board.specs.Geometry.{Geometry, IsBoard, OnBoard}
+use Rattle.dw_board.specs.Placement.{Placement, at, placed}
 use Rattle.dw_board.specs.SquareSet.{Squares}
 use Rattle.dw_moves.specs.Moves.{left, without}
-use Rattle.dw_moves.proofs.PlayStays.{without_at, without_length, past_none}
+use Rattle.dw_moves.proofs.PlayStays.{without_at, without_length}
+use Rattle.dw_moves.proofs.TakesThese.{contains-remove, not_removed}
 
--- of the squares up to n, those of a set are emptied
-pub record Cleared (p : Placement) (ss : Squares) (n : ℕ) (q : Placement) : Type 0 where
+-- what is left to empty, and what stands on the other squares, come to what all of it leaves
+pub record Clearing (p : Placement) (ss : Squares) (q : Placement) (rest : Squares) : Type 0 where
   pub fifty : length q.cells ≡ 50
   pub turn : q.turn ≡ p.turn
-  pub done : (k : ℕ) → k < n → get_or q.cells k None ≡ left p ss (k + 1)
-  pub rest : (k : ℕ) → n ≤ k → get_or q.cells k None ≡ get_or p.cells k None
+  pub comes_to : (s : ℕ) → 1 ≤ s → s ≤ 50 → left q rest s ≡ left p ss s
 
-pub cleared_none : (p : Placement) (ss : Squares) → length p.cells ≡ 50 → Cleared p ss 0 p
-cleared_none p ss len = record { fifty = len; turn = refl; done = λ k h. absurd (omega arith); rest = λ k h. refl }
+pub clearing_none : (p : Placement) (ss : Squares) → length p.cells ≡ 50 → Clearing p ss p ss
+clearing_none p ss len = record { fifty = len; turn = refl; comes_to = λ s low high. refl }
 
-here : (k n : ℕ) → k < n + 1 → (k ≡ n) ⊎ (k < n)
-here k n h = grind arith
+apart_false : (s t : ℕ) → (s ≢ t) → eqb s t ≡ false
+apart_false s t ne = elim (cases_Bool (eqb s t)) [ inl e ↦ absurd (ne (eqb-true s t e)) | inr e ↦ e ]
 
-pub cleared_more : (p : Placement) (ss : Squares) (n : ℕ) (q : Placement) → Cleared p ss n q → n < 50 → fin.contains ss (n + 1) ≡ true → Cleared p ss (n + 1) (placed q (n + 1) None)
-cleared_more p ss n q h low e =
-    let i : n + 1 - 1 ≡ n = omega arith in
-    record {
-      fifty = length-set q.cells (n + 1 - 1) None ∙ h.fifty;
-      turn = h.turn;
-      done = λ k less. elim (here k n less) [
-        | inl same ↦
-            let same' : n + 1 - 1 ≡ k = omega arith in
-            let in_set : fin.contains ss (k + 1) ≡ true = subst (λ z. fin.contains ss (z + 1) ≡ true) (sym same) e in
-            subst (λ z. get_or (set q.cells z None) k None ≡ left p ss (k + 1)) (sym same') (get_or-set_same q.cells k None None (omega (arith, h.fifty)) ∙ sym (rw in_set refl))
-        | inr before ↦ let ne : k ≢ n + 1 - 1 = omega arith in get_or-set_other q.cells (n + 1 - 1) k None None ne ∙ h.done k before
-      ];
-      rest = λ k more. let ne : k ≢ n + 1 - 1 = omega arith in get_or-set_other q.cells (n + 1 - 1) k None None ne ∙ h.rest k (omega arith);
-    }
-
-pub cleared_past : (p : Placement) (ss : Squares) (n : ℕ) (q : Placement) → Cleared p ss n q → fin.contains ss (n + 1) ≡ false → Cleared p ss (n + 1) q
-cleared_past p ss n q h e = record {
-  fifty = h.fifty;
+pub clearing_more : (g : Geometry) → IsBoard g → (p : Placement) (ss : Squares) (q : Placement) (rest : Squares) (s : ℕ) → Clearing p ss q rest → OnBoard g s → fin.contains rest s ≡ true → Clearing p ss (placed q s None) (fin.remove rest s)
+clearing_more g b p ss q rest s h on there = record {
+  fifty = length-set q.cells (s - 1) None ∙ h.fifty;
   turn = h.turn;
-  done = λ k less. elim (here k n less) [
+  comes_to = λ t low high. elim (cases_eq t s) [
     | inl same ↦
-        let out : fin.contains ss (k + 1) ≡ false = subst (λ z. fin.contains ss (z + 1) ≡ false) (sym same) e in
-        let i : k + 1 - 1 ≡ k = omega arith in
-        h.rest k (omega arith) ∙ (ap (λ z. get_or p.cells z None) (sym i) ∙ sym (rw out refl))
-    | inr before ↦ h.done k before
+        let gone : at (placed q s None) s ≡ None = get_or-set_same q.cells (s - 1) None None (omega (arith, h.fifty, on.0, on.1, b.squares_high)) in
+        let now : left (placed q s None) (fin.remove rest s) s ≡ None = ap (λ z. cond z None (at (placed q s None) s)) (not_removed rest s) ∙ gone in
+        let before : left q rest s ≡ None = ap (λ z. cond z None (at q s)) there in
+        let at_s : left (placed q s None) (fin.remove rest s) s ≡ left p ss s = now ∙ (sym before ∙ h.comes_to s (omega (arith, on.0)) (omega (arith, on.1, b.squares_high))) in
+        subst (λ z. left (placed q s None) (fin.remove rest s) z ≡ left p ss z) (sym same) at_s
+    | inr apart ↦
+        let other : t - 1 ≢ s - 1 = omega (arith, on.0) in
+        let stays : at (placed q s None) t ≡ at q t = get_or-set_other q.cells (s - 1) (t - 1) None None other in
+        let kept : fin.contains (fin.remove rest s) t ≡ fin.contains rest t = contains-remove rest s t ∙ ap (λ z. not z && fin.contains rest t) (apart_false t s apart) in
+        ap (λ z. cond z None (at (placed q s None) t)) kept ∙ (ap (λ z. cond (fin.contains rest t) None z) stays ∙ h.comes_to t low high)
   ];
-  rest = λ k more. h.rest k (omega arith);
 }
 
 same_placement : (p q : Placement) → p.cells ≡ q.cells → p.turn ≡ q.turn → p ≡ q
 same_placement p q c t = λ i. record { cells = c i; turn = t i }
 
-pub cleared_all : (g : Geometry) (p : Placement) (ss : Squares) (q : Placement) → IsPosition g p.cells → Cleared p ss (squares g) q → q ≡ without p ss
-cleared_all g p ss q pos h = same_placement q (without p ss) (ext_get_or None q.cells (without p ss).cells (h.fifty ∙ sym (without_length p ss)) (λ k low.
+pub clearing_all : (p : Placement) (ss : Squares) (q : Placement) (rest : Squares) → Clearing p ss q rest → rest ≡ fin.empty → q ≡ without p ss
+clearing_all p ss q rest h none = same_placement q (without p ss) (ext_get_or None q.cells (without p ss).cells (h.fifty ∙ sym (without_length p ss)) (λ k low.
     let within : k < 50 = omega (arith, h.fifty) in
-    elim (cases_lt k (squares g)) [
-      | inl on ↦ h.done k on ∙ sym (without_at p ss k within)
-      | inr past ↦
-          let i : k + 1 - 1 ≡ k = omega arith in
-          let none : get_or p.cells k None ≡ None = ap (λ z. get_or p.cells z None) (sym i) ∙ pos.on_board (k + 1) (omega arith) in
-          h.rest k past ∙ (none ∙ sym (without_at p ss k within ∙ past_none p ss (k + 1) (pos.on_board (k + 1) (omega arith))))
-    ])) h.turn
+    let i : k + 1 - 1 ≡ k = omega arith in
+    let nothing : fin.contains rest (k + 1) ≡ false = ap (λ z. fin.contains z (k + 1)) none ∙ fin.contains-empty nat_cmp (k + 1) in
+    let here : left q rest (k + 1) ≡ get_or q.cells k None = ap (λ z. cond z None (at q (k + 1))) nothing ∙ ap (λ z. get_or q.cells z None) i in
+    sym here ∙ (h.comes_to (k + 1) (omega arith) (omega arith) ∙ sym (without_at p ss k within)))) h.turn

@@ -33,7 +33,7 @@ in_list (c ∷ cs) q e = elim (or_cases (eqb q c) (fin.contains (fin.from_list {
   | inr there ↦ inr (in_list cs q there)
 ]
 
-contains-remove : (v : Squares) (k q : ℕ) → fin.contains (fin.remove v k) q ≡ (not (eqb q k) && fin.contains v q)
+pub contains-remove : (v : Squares) (k q : ℕ) → fin.contains (fin.remove v k) q ≡ (not (eqb q k) && fin.contains v q)
 contains-remove v k q = fin.contains-remove nat_cmp_total v k q ∙ ap (λ b. not b && fin.contains v q) (unsigned_tied q k)
 
 not_both : (b : Bool) → (b ≡ true → ⊥) → b ≡ false

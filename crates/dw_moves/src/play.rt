@@ -35,12 +35,10 @@ fn clear_all<B: Board>(position: &mut Position<B>, squares: Squares<B>)
     requires { IsPosition B.geometry position.old.cells }
     ensures { position.new ≡ without position.old squares }
 {
-    'squares: for index in 0..B::ROWS * B::PER_ROW {
-        if let Some(square) = Square::new(index + 1)
-            && squares.has(square)
-        {
-            position.clear(square);
-        }
+    let mut left = squares;
+    'squares: while let Some(square) = left.first() {
+        position.clear(square);
+        left = left.without(square);
     }
 }
 

@@ -1,11 +1,21 @@
-use Rattle.std.proofs.Common.{◌≡◌, subst, ◌∙◌}
-use Rattle.dw_board.specs.Geometry.{squares}
-use Rattle.dw_moves.proofs.Cleared.{Cleared, cleared_all}
-use Rattle.dw_moves.proofs.Played.{board_end}
+use Rattle.std.proofs.Common.{◌<◌, sym, ◌∙◌, subst, refl}
+use Rattle.std.specs.FinSet as fin
+use Rattle.dw_board.specs.Placement.{Placement}
+use Rattle.dw_moves.proofs.TakesThese.{fewer_left}
+use Rattle.dw_moves.proofs.Cleared.{Clearing, clearing_none, clearing_more, clearing_all}
 use Rattle.dw_moves.proofs.play.clear_all.Goals as goal
 
+pub squares-init : goal.squares-init
+squares-init g c = clearing_none c.args.position.now c.args.squares c.requires.fifty
+
+pub squares-smaller : goal.squares-smaller
+squares-smaller g c = subst (λ v. fin.len v < fin.len c.squares.left) (sym c.without-left.ensures) (fewer_left c.squares.left c.in-Some.square c.in-Some.ensures.member)
+
+pub squares-preserved : goal.squares-preserved
+squares-preserved g c =
+    subst (Clearing c.args.position.now c.args.squares c.clear.new.self) (sym c.without-left.ensures)
+    (subst (λ (q : Placement). Clearing c.args.position.now c.args.squares q (fin.remove c.squares.left c.in-Some.square)) (sym c.clear.ensures.after)
+    (clearing_more g.B.Board.geometry g.met.B.Board.numbers c.args.position.now c.args.squares c.squares.position c.squares.left c.in-Some.square c.squares.invariant c.in-Some.ensures.on_board c.in-Some.ensures.member))
+
 pub returns : goal.returns
-returns g c =
-    let end : c.squares.index ≡ squares g.B.Board.geometry = board_end g.B.Board.geometry c.squares.index c.ROWS.result c.PER_ROW.result (c.ROWS.ensures ∙ g.met.B.Board.rows_is) (c.PER_ROW.ensures ∙ g.met.B.Board.per_row_is) c.squares.auto.index-end c.squares-test.false in
-    cleared_all g.B.Board.geometry c.args.position.now c.args.squares c.squares.position c.requires
-    (subst (λ n. Cleared c.args.position.now c.args.squares n c.squares.position) end c.squares.invariant)
+returns g c = clearing_all c.args.position.now c.args.squares c.squares.position c.squares.left c.squares.invariant (c.in_default.ensures.none.0 refl)

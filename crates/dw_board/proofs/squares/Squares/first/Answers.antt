@@ -22,3 +22,8 @@ pub returns-clause-least : goal.returns-clause-least
 returns-clause-least g c =
     let is = least-is g.B.Board.geometry c.self.invariant.board c.self.inside.word c.ROWS.result c.args.self c.self.view_is c.self.invariant.only c.if-self-eq0.false (c.ROWS.ensures ∙ g.met.B.Board.rows_is) in
     rw (some_where c.new.result _ c.new.ensures is.on) is.least
+
+pub returns-clause-on_board : goal.returns-clause-on_board
+returns-clause-on_board g c =
+    let is = least-is g.B.Board.geometry c.self.invariant.board c.self.inside.word c.ROWS.result c.args.self c.self.view_is c.self.invariant.only c.if-self-eq0.false (c.ROWS.ensures ∙ g.met.B.Board.rows_is) in
+    rw (some_where c.new.result _ c.new.ensures is.on) is.on
