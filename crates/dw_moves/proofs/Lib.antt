@@ -15,4 +15,10 @@ pub mod Played
 pub mod JumpSteps
 pub mod Longest
 pub mod BestFrom
+pub mod SquareSets
+pub mod KernelSets
+pub mod KernelRuns
+pub mod FirstJump
+pub mod FirstStep
+pub mod OrChain
 pub mod Rows

@@ -3,6 +3,7 @@
 
 pub mod best;
 mod jumps;
+pub mod kernel;
 pub mod laws;
 pub mod moves;
 pub mod play;

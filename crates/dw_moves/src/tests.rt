@@ -1,6 +1,7 @@
 //! Worked positions, at the boards of ten and of eight rows.
 
 use crate::best::{best, has_move};
+use crate::kernel::can_capture;
 use crate::laws;
 use crate::moves::Move;
 use crate::quiet::quiet_count;
@@ -39,6 +40,11 @@ fn check<B: Board>(rt: &impl Abort, turn: Side, pieces: Pieces<'_>, taking: u8, 
     let position = position_of::<B>(rt, turn, pieces);
     assert_eq!(rt; best(&position), taking, "taking at {pieces:?}");
     assert_eq!(rt; quiet_count(&position), quiet, "quiet moves at {pieces:?}");
+    assert_eq!(rt;
+        can_capture(&position),
+        taking > 0,
+        "any capture at {pieces:?}"
+    );
     assert_eq!(rt;
         has_move(&position),
         taking > 0 || quiet > 0,
