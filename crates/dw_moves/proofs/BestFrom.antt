@@ -1,19 +1,21 @@
 -- From the longest captures of single pieces to the greatest number of a position.
-use Rattle.std.proofs.Common.{◌≡◌, ℕ, ◌+◌, ◌≤◌, ◌<◌, zero, suc, List, [], ◌∷◌, length, refl, sym, ap, ◌∙◌, subst, inl, inr, ◌⊎◌, arith, max, Some, None, false, true}
-use Rattle.std.proofs.lemmas.Bool.{cases_lt, true≢false, ltb-true, lt-ltb}
-use Rattle.std.specs.Prelude.{nat_lt, IsTrue}
+use Rattle.std.proofs.Common.{◌≡◌, ℕ, ◌+◌, ◌≤◌, ◌<◌, zero, suc, List, length, refl, sym, ap, ◌∙◌, subst, inl, inr, ◌⊎◌, arith, max, Some, None, false, true}
+use Rattle.std.proofs.lemmas.Bool.{cases_lt, true≢false}
+use Rattle.std.specs.Prelude.{◌↔◌, Bool, IsTrue}
 use Rattle.std.specs.FinSet as fin
 use Rattle.std.specs.Ordering.{nat_cmp}
 use Rattle.dw_board.specs.declared.piece.Piece.{Piece}
 use Rattle.dw_board.specs.Geometry.{Geometry, OnBoard, squares}
 use Rattle.dw_board.specs.Placement.{Placement, at, placed, count, same_side}
 use Rattle.dw_board.specs.SquareSet.{Squares}
-use Rattle.dw_moves.specs.Moves.{Jumps, Path, Stands, IsBest, IsQuietCount, Quiet, Move, Legal, LegalAt, Member, other, last_of}
+use Rattle.dw_moves.specs.Moves.{Jumps, Path, Stands, IsBest, CanCapture, Move, Legal, LegalAt, other, last_of}
+use Rattle.dw_moves.specs.Kernel.{CanStep}
+use Rattle.dw_moves.proofs.Plain.{best}
 use Rattle.dw_moves.specs.Chains.{Chain, ChainsFit, IsLongest, IsBestFrom}
 use Rattle.dw_moves.proofs.Exact.{same_side_true, same_side_refl}
 use Rattle.dw_moves.proofs.StepLaws.{none_some}
 use Rattle.dw_moves.proofs.CaptureBound.{path_bound}
-use Rattle.dw_moves.proofs.LegalMoves.{best_only}
+use Rattle.dw_moves.proofs.LegalMoves.{is_best, best_only}
 
 pub some_same : (x y : Piece) → Some x ≡ Some y → x ≡ y
 some_same x y e = cc
@@ -73,31 +75,28 @@ best_to_more g p n k j now h f small e = record {
 pub best_all : (g : Geometry) (p : Placement) (n k : ℕ) → n ≡ squares g → BestTo g p n k → IsBest g p k
 best_all g p n k e h = record { reached = h.reached; most = λ from ts cs path. h.most from (omega (arith, path.stands.on_board.1)) ts cs path }
 
--- some move is legal where something can be taken, or some quiet move is there
+-- some move is legal where something can be taken
 pub has_capture : (g : Geometry) (p : Placement) (k : ℕ) → IsBest g p k → 0 < k → (m : Move) × Legal g p m
 has_capture g p zero h some = absurd (omega arith)
 has_capture g p (suc k) h some =
     let r = h.reached some in
     (record { from = r.0; to = last_of r.0 r.1; taken = fin.from_list r.2 }, (suc k, h, (r.1, record { over = r.2; path = r.3; count = r.4; ends = refl; takes = refl })))
 
-first_quiet : (g : Geometry) (p : Placement) (moves : List (ℕ × ℕ)) → ((from to : ℕ) → Member (from, to) moves → Quiet g p from to) → 0 < length moves → (from : ℕ) × (to : ℕ) × Quiet g p from to
-first_quiet g p [] each some = absurd (omega arith)
-first_quiet g p (m ∷ moves) each some = (m.0, m.1, each m.0 m.1 (inl refl))
+-- nothing is taken where nothing can be
+pub best_none : (g : Geometry) (p : Placement) → (CanCapture g p → ⊥) → IsBest g p 0
+best_none g p none = record {
+  reached = λ some. absurd (omega arith);
+  most = λ from ts cs path. elim (cases_lt 0 (length cs)) [ inl some ↦ absurd (none (from, ts, cs, path, some)) | inr few ↦ few ];
+}
 
-pub has_quiet : (g : Geometry) (p : Placement) (n : ℕ) → IsBest g p 0 → IsQuietCount g p n → 0 < n → (m : Move) × Legal g p m
-has_quiet g p n best h some =
-    let q = first_quiet g p h.moves (λ from to. (h.exactly from to).0) (omega (arith, h.count)) in
-    (record { from = q.0; to = q.1; taken = fin.empty }, (0, best, (q.2, refl)))
-
-no_member : (moves : List (ℕ × ℕ)) (x : ℕ × ℕ) → Member x moves → 0 < length moves
-no_member [] x m = absurd m
-no_member (y ∷ moves) x m = omega arith
+pub capture_moves : (g : Geometry) (p : Placement) → CanCapture g p → (m : Move) × Legal g p m
+capture_moves g p h = has_capture g p (best g p) (is_best g p) (omega (arith, (is_best g p).most h.0 h.1 h.2 h.3, h.4))
 
 -- where nothing can be taken, a legal move is a quiet one
-pub legal_quiet : (g : Geometry) (p : Placement) (n : ℕ) → IsBest g p 0 → IsQuietCount g p n → (m : Move) → Legal g p m → 0 < n
-legal_quiet g p n best h m legal = at_k legal.0 (best_only g p legal.0 0 legal.1 best) legal.2 where
-  at_k : (k : ℕ) → k ≡ 0 → LegalAt g p k m → 0 < n
-  at_k zero e l = omega (arith, no_member h.moves (m.from, m.to) ((h.exactly m.from m.to).1 l.0), h.count)
+legal_steps : (g : Geometry) (p : Placement) → IsBest g p 0 → (m : Move) → Legal g p m → CanStep g p
+legal_steps g p best m legal = at_k legal.0 (best_only g p legal.0 0 legal.1 best) legal.2 where
+  at_k : (k : ℕ) → k ≡ 0 → LegalAt g p k m → CanStep g p
+  at_k zero e l = (m.from, m.to, l.0)
   at_k (suc k) e l = absurd (omega arith)
 
 -- the piece on the square is the other side's
@@ -113,16 +112,15 @@ not_there g p from e = best_nowhere g p from (λ piece s. none_some piece (sym e
 pub stands_own : (g : Geometry) (p : Placement) (from : ℕ) (q : Piece) → OnBoard g from → at p from ≡ Some q → same_side q.side p.turn ≡ true → Stands g p from q
 stands_own g p from q on e f = record { on_board = on; there = e; own = same_side_true q.side p.turn f }
 
-pub move_by_quiet : (g : Geometry) (p : Placement) (k n : ℕ) → IsBest g p k → (0 < k → ⊥) → IsQuietCount g p n → (IsTrue (nat_lt 0 n) → (m : Move) × Legal g p m) × (((m : Move) × Legal g p m) → IsTrue (nat_lt 0 n))
-move_by_quiet g p k n h none q =
-    let zero_is : k ≡ 0 = omega arith in
-    let best : IsBest g p 0 = subst (IsBest g p) zero_is h in (
-      (λ t. has_quiet g p n best q (ltb-true 0 n t)),
-      (λ m. lt-ltb 0 n (legal_quiet g p n best q m.0 m.1)),
-    )
+pub move_by_capture : (g : Geometry) (p : Placement) (r : Bool) → IsTrue r ↔ CanCapture g p → r ≡ true → IsTrue r ↔ ((m : Move) × Legal g p m)
+move_by_capture g p r h e = ((λ t. capture_moves g p (h.0 t)), (λ m. e))
 
-pub move_any : (g : Geometry) (p : Placement) (k : ℕ) → IsBest g p k → 0 < k → (IsTrue (nat_lt 0 k) → (m : Move) × Legal g p m) × (((m : Move) × Legal g p m) → IsTrue (nat_lt 0 k))
-move_any g p k h some = ((λ t. has_capture g p k h some), (λ m. lt-ltb 0 k some))
+pub move_by_step : (g : Geometry) (p : Placement) (r q : Bool) → IsTrue r ↔ CanCapture g p → r ≡ false → IsTrue q ↔ CanStep g p → IsTrue q ↔ ((m : Move) × Legal g p m)
+move_by_step g p r q h e s =
+    let none : IsBest g p 0 = best_none g p (λ k. true≢false (sym (h.1 k) ∙ e)) in (
+      (λ t. let step = s.0 t in (record { from = step.0; to = step.1; taken = fin.empty }, (0, none, (step.2, refl)))),
+      (λ m. s.1 (legal_steps g p none m.0 m.1)),
+    )
 
 pub fits_at : (g : Geometry) (p q : Placement) (from : ℕ) (piece : Piece) (v : Squares) (n : ℕ) → Stands g p from piece → q ≡ placed p from None → v ≡ fin.empty → n ≡ count p (other p.turn) → ChainsFit g q piece from v n
 fits_at g p q from piece v n s q_is v_is n_is ts cs chain =

@@ -1,11 +1,11 @@
 -- What the walks found is the list of legal moves.
-use Rattle.std.proofs.Common.{◌≡◌, ℕ, ◌<◌, ◌≤◌, zero, suc, List, [], ◌∷◌, ◌++◌, length, refl, sym, ap, ◌∙◌, subst, inl, inr, arith, ◌↔◌}
+use Rattle.std.proofs.Common.{◌≡◌, ℕ, ◌<◌, zero, suc, List, [], ◌∷◌, ◌++◌, length, refl, sym, ap, ◌∙◌, subst, inl, inr, arith, ◌↔◌}
 use Rattle.std.proofs.lemmas.Bool.{cases_lt}
 use Rattle.std.specs.FinSet as fin
 use Rattle.std.specs.Ordering.{nat_cmp}
 use Rattle.dw_board.specs.Geometry.{Geometry, IsBoard}
 use Rattle.dw_board.specs.Placement.{Placement}
-use Rattle.dw_moves.specs.Moves.{Member, NoRepeat, Path, IsBest, Move, Quiet, IsPathOf, Legal, LegalAt, AreLegal, last_of}
+use Rattle.dw_moves.specs.Moves.{Member, NoRepeat, IsBest, Move, Quiet, IsPathOf, Legal, LegalAt, AreLegal, last_of}
 use Rattle.dw_moves.specs.Plain.{quiet_moves}
 use Rattle.dw_moves.specs.Chains.{Taking, Longest, IsCapture}
 use Rattle.dw_moves.proofs.LegalMoves.{best_only}

@@ -136,11 +136,11 @@ forward_in : (side : Side) (d : Dir) → IsForward side d → is_forward side d 
 forward_in White d f = rw f refl
 forward_in Black d f = f
 
-may_from : (k : Kind) (side : Side) (d : Dir) → may_go k side d ≡ true → k ≡ Man → IsForward side d
+pub may_from : (k : Kind) (side : Side) (d : Dir) → may_go k side d ≡ true → k ≡ Man → IsForward side d
 may_from Man side d e q = forward_from side d e
 may_from King side d e q = cc
 
-may_in : (k : Kind) (side : Side) (d : Dir) → (k ≡ Man → IsForward side d) → may_go k side d ≡ true
+pub may_in : (k : Kind) (side : Side) (d : Dir) → (k ≡ Man → IsForward side d) → may_go k side d ≡ true
 may_in Man side d f = forward_in side d (f refl)
 may_in King side d f = refl
 

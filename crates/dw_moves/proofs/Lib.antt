@@ -21,4 +21,10 @@ pub mod Taking
 pub mod Quietly
 pub mod Filled
 pub mod TakesThese
+pub mod SquareSets
+pub mod KernelSets
+pub mod KernelRuns
+pub mod FirstJump
+pub mod FirstStep
+pub mod OrChain
 pub mod Rows

@@ -62,7 +62,7 @@ dirs_once = (
   ),
 )
 
-not_toward : (g : Geometry) (d : Dir) (s : ℕ) → Toward g d s s → ⊥
+pub not_toward : (g : Geometry) (d : Dir) (s : ℕ) → Toward g d s s → ⊥
 not_toward g UpLeft s h = absurd (omega (arith, h.0))
 not_toward g UpRight s h = absurd (omega (arith, h.0))
 not_toward g DownLeft s h = absurd (omega (arith, h.0))

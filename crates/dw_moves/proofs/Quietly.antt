@@ -1,5 +1,5 @@
 -- The list of quiet moves, and how it is filled.
-use Rattle.std.proofs.Common.{◌≡◌, ℕ, ◌+◌, suc, List, [], ◌∷◌, ◌++◌, map, refl, sym, ap, ◌∙◌, subst, ◌↔◌, inl, inr, arith, append_assoc, ◌⊎◌, Bool, true, false, Some, None}
+use Rattle.std.proofs.Common.{◌≡◌, ℕ, ◌+◌, suc, List, [], ◌∷◌, ◌++◌, refl, sym, ap, ◌∙◌, subst, ◌↔◌, inl, inr, arith, append_assoc, ◌⊎◌, Bool, true, false, Some, None}
 use Rattle.std.specs.Prelude.{IsTrue}
 use Rattle.std.proofs.lemmas.Bool.{true≢false}
 use Rattle.std.specs.List.{flat_map}

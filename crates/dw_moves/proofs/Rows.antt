@@ -1,8 +1,8 @@
 -- Worked positions, computed.
-use Rattle.std.proofs.Common.{◌≡◌, ◌↔◌, List, [], ◌∷◌, refl, sym, subst}
+use Rattle.std.proofs.Common.{◌≡◌, List, refl, sym, subst}
 use Rattle.dw_board.specs.Boards.{ten}
 use Rattle.dw_board.specs.Placement.{Placement}
-use Rattle.dw_moves.specs.Moves.{Member, Move, Legal}
+use Rattle.dw_moves.specs.Moves.{Member, Move}
 use Rattle.dw_moves.specs.Rows.{AreLegal, WorkedPositions}
 use Rattle.dw_moves.proofs.Plain.{legal_list}
 use Rattle.dw_moves.proofs.LegalMoves.{legal_from, legal_in}

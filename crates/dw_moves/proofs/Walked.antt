@@ -1,6 +1,6 @@
 -- How chains of jumps are walked, jump by jump, with the longest captures kept.
-use Rattle.std.proofs.Common.{◌≡◌, ℕ, ◌+◌, ◌-◌, ◌<◌, ◌≤◌, ◌||◌, List, [], ◌∷◌, length, refl, sym, ap, ◌∙◌, subst, ◌⊎◌, inl, inr, arith, Bool, true, false, get_or, eqb}
-use Rattle.std.proofs.lemmas.Bool.{true≢false, cases_Bool}
+use Rattle.std.proofs.Common.{◌≡◌, ℕ, ◌+◌, ◌-◌, ◌<◌, ◌≤◌, ◌||◌, List, [], ◌∷◌, length, refl, sym, ap, ◌∙◌, subst, ◌⊎◌, inl, inr, arith, Bool, true, false, get_or}
+use Rattle.std.proofs.lemmas.Bool.{true≢false}
 use Rattle.std.specs.FinSet as fin
 use Rattle.std.specs.Cmp.{nat_cmp_total}
 use Rattle.std.specs.Ordering.{nat_cmp, eq_by_cmp}
@@ -13,7 +13,7 @@ use Rattle.dw_moves.specs.MoveLaws.{same_move}
 use Rattle.dw_moves.specs.Plain.{jump_list}
 use Rattle.dw_moves.specs.Chains.{Chain, ChainsFit, EndsAs, Is, Longest}
 use Rattle.dw_moves.proofs.Exact.{jump_in}
-use Rattle.dw_moves.proofs.Longest.{Item, chain_none, chain_more, chain_tail, index_of, here, over_of, landing_of, jump_at, some_left, fits_behind}
+use Rattle.dw_moves.proofs.Longest.{chain_none, chain_more, chain_tail, index_of, here, over_of, landing_of, jump_at, some_left, fits_behind}
 use Rattle.dw_moves.proofs.Kept.{longest_none, longest_then, longest_wider}
 
 or_assoc : (a b c : Bool) → (a || (b || c)) ≡ ((b || a) || c)

@@ -3,4 +3,5 @@ pub mod MoveLaws
 pub mod Laws
 pub mod Plain
 pub mod Chains
+pub mod Kernel
 pub mod Rows

@@ -105,6 +105,10 @@ pub record IsBest (g : Geometry) (p : Placement) (k : ℕ) : Type 0 where
   pub reached : 0 < k → (from : ℕ) × (landings : List ℕ) × (taken : List ℕ) × Path g p from landings taken × (length taken ≡ k)
   pub most : (from : ℕ) (landings taken : List ℕ) → Path g p from landings taken → length taken ≤ k
 
+-- something can be taken
+abbrev pub CanCapture : Geometry → Placement → Type 0
+CanCapture g p = (from : ℕ) × (landings : List ℕ) × (taken : List ℕ) × Path g p from landings taken × (0 < length taken)
+
 -- a move: where it begins and ends, and what it takes
 pub record Move : Type 0 where
   pub from : ℕ

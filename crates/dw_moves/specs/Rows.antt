@@ -1,11 +1,10 @@
 -- Worked positions on the board of ten rows, each with all its legal moves.
-use Rattle.std.specs.Prelude.{◌≡◌, ℕ, ◌-◌, Option, Some, None, List, [], ◌∷◌, slice_set, replicate, ◌↔◌}
+use Rattle.std.specs.Prelude.{ℕ, Some, List, [], ◌∷◌, ◌↔◌}
 use Rattle.std.specs.FinSet as set
 use Rattle.dw_board.specs.declared.piece.Side.{Side}
 use Rattle.dw_board.specs.declared.piece.Side.TheVariants.{White, Black}
 use Rattle.dw_board.specs.declared.piece.Kind.{Kind}
 use Rattle.dw_board.specs.declared.piece.Kind.TheVariants.{Man, King}
-use Rattle.dw_board.specs.declared.piece.Piece.{Piece}
 use Rattle.dw_board.specs.Boards.{ten}
 use Rattle.dw_board.specs.Placement.{Placement, empty, placed}
 use Rattle.dw_moves.specs.Moves.{Member, Move, Legal}

@@ -6,8 +6,8 @@ ghost use Rattle.dw_moves.specs.Moves.{IsBest, Move, Legal};
 ghost use Rattle.dw_moves.specs.Chains.{ChainsFit, IsLongest, IsBestFrom};
 
 use crate::jumps::jumps;
+use crate::kernel::{can_capture, can_step};
 use crate::play::other;
-use crate::quiet::quiet_count;
 use dw_board::board::Board;
 use dw_board::piece::{Piece, Side};
 use dw_board::position::Position;
@@ -25,6 +25,9 @@ pub fn best<B: Board>(position: &Position<B>) -> u8
     ensures value { IsBest B.geometry position.now result }
     ensures small { result ≤ 20 }
 {
+    if !can_capture(position) {
+        return 0;
+    }
     let mut most = 0;
     'squares: for index in 0..B::ROWS * B::PER_ROW {
         if let Some(square) = Square::new(index + 1) {
@@ -88,5 +91,5 @@ fn longest<B: Board>(
 pub fn has_move<B: Board>(position: &Position<B>) -> bool
     ensures { IsTrue result ↔ ((m : Move) × Legal B.geometry position.now m) }
 {
-    best(position) > 0 || quiet_count(position) > 0
+    can_capture(position) || can_step(position)
 }

@@ -4,6 +4,7 @@
 pub mod best;
 mod chains;
 mod jumps;
+pub mod kernel;
 pub mod laws;
 pub mod legal;
 pub mod moves;

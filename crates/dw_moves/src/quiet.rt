@@ -63,7 +63,7 @@ fn quiet_towards<B: Board>(
 }
 
 /// Whether a piece may go this way where it takes nothing.
-fn may_go(kind: Kind, side: Side, direction: Dir) -> bool
+pub(crate) fn may_go(kind: Kind, side: Side, direction: Dir) -> bool
     ensures { result ≡ plain.may_go kind side direction }
 {
     match (kind, side) {

@@ -3,6 +3,7 @@
 mod six;
 
 use crate::best::{best, has_move};
+use crate::kernel::can_capture;
 use crate::laws;
 use crate::legal::{is_legal, legal, legal_into};
 use crate::moves::Move;
@@ -52,6 +53,7 @@ fn check_counts<B: Board>(
 ) {
     let position = position_of::<B>(rt, text);
     assert_eq!(rt; best(&position), taking, "taking at {text}");
+    assert_eq!(rt; can_capture(&position), taking > 0, "any capture at {text}");
     assert_eq!(rt; quiet_count(&position), quiet, "quiet moves at {text}");
     assert_eq!(rt; has_move(&position), count > 0, "any move at {text}");
     let moves = legal(alloc, &position).expect(rt, "memory");

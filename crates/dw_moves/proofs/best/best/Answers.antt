@@ -1,10 +1,14 @@
-use Rattle.std.proofs.Common.{subst, ◌∙◌}
+use Rattle.std.proofs.Common.{subst, sym, ◌∙◌}
+use Rattle.std.proofs.lemmas.Bool.{true≢false}
 use Rattle.dw_moves.specs.Chains.{IsBestFrom}
 use Rattle.dw_moves.proofs.Longest.{ord_max-is}
 use Rattle.dw_moves.proofs.Played.{board_end, board_next}
-use Rattle.dw_moves.proofs.BestFrom.{best_to_none, best_to_more, best_all}
+use Rattle.dw_moves.proofs.BestFrom.{best_none, best_to_none, best_to_more, best_all}
 use Rattle.dw_moves.proofs.best.best.Goals as goal
 use Rattle.dw_moves.proofs.best.best.Goals.{in-Some, in_default}
+
+pub returns-then-not-can_capture-clause-value : goal.returns-then-not-can_capture-clause-value
+returns-then-not-can_capture-clause-value g c = best_none g.B.Board.geometry c.args.position.now (λ k. true≢false (sym (c.can_capture.ensures.1 k) ∙ c.if-not-can_capture.true))
 
 pub squares-init : goal.squares-init
 squares-init g c = best_to_none g.B.Board.geometry c.args.position.now

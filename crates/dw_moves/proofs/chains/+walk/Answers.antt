@@ -1,13 +1,12 @@
 use Rattle.std.proofs.Common.{◌≡◌, ◌≤◌, ◌+◌, ◌-◌, true, false, sym, ap, ◌∙◌, subst, arith, refl}
 use Rattle.std.specs.FinSet as fin
 use Rattle.std.proofs.lemmas.Result.{IfOk-weaker}
-use Rattle.dw_board.specs.Geometry.{OnBoard}
 use Rattle.dw_moves.specs.Moves.{Move}
 use Rattle.dw_moves.specs.MoveLaws.{same_move}
 use Rattle.dw_moves.specs.Plain.{jump_list}
-use Rattle.dw_moves.specs.Chains.{ChainsFit, Is, EndsAs, Longest}
-use Rattle.dw_moves.proofs.Longest.{Item, item_of, landing_on}
-use Rattle.dw_moves.proofs.Walked.{Gone, further, gone_past, gone_more, gone_on, gone_here, gone_as, count_fits, chains_fit_behind}
+use Rattle.dw_moves.specs.Chains.{ChainsFit, Is, Longest}
+use Rattle.dw_moves.proofs.Longest.{item_of, landing_on}
+use Rattle.dw_moves.proofs.Walked.{further, gone_past, gone_more, gone_on, gone_here, gone_as, count_fits, chains_fit_behind}
 use Rattle.dw_moves.proofs.chains.+walk.Goals as goal
 use Rattle.dw_moves.proofs.chains.+walk.Goals.{then-not-has+in_ok-longest, else-not-has}
 

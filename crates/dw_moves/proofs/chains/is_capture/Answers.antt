@@ -1,8 +1,8 @@
-use Rattle.std.proofs.Common.{◌≡◌, true, false, sym, ap, ◌∙◌}
+use Rattle.std.proofs.Common.{◌≡◌, true, sym, ap, ◌∙◌}
 use Rattle.dw_board.specs.Placement.{same_side}
 use Rattle.dw_moves.specs.Moves.{Move}
 use Rattle.dw_moves.proofs.BestFrom.{stands_own}
-use Rattle.dw_moves.proofs.TakesThese.{capture_takes, no_capture, no_enemy_capture}
+use Rattle.dw_moves.proofs.TakesThese.{capture_takes}
 use Rattle.dw_moves.proofs.chains.is_capture.Goals as goal
 
 pub takes-requires : goal.takes-requires

@@ -1,4 +1,4 @@
-use Rattle.std.proofs.Common.{◌≡◌, ◌≤◌, ◌<◌, sym, ap, ◌∙◌, inl, inr, arith, refl}
+use Rattle.std.proofs.Common.{◌≤◌, sym, ap, ◌∙◌, inl, inr, arith, refl}
 use Rattle.std.specs.List.{list_any}
 use Rattle.dw_moves.specs.MoveLaws.{same_moves}
 use Rattle.dw_moves.proofs.Kept.{Left, offered_new, offered_old}

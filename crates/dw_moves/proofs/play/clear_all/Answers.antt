@@ -1,4 +1,4 @@
-use Rattle.std.proofs.Common.{◌<◌, sym, ◌∙◌, subst, refl}
+use Rattle.std.proofs.Common.{◌<◌, sym, subst, refl}
 use Rattle.std.specs.FinSet as fin
 use Rattle.dw_board.specs.Placement.{Placement}
 use Rattle.dw_moves.proofs.TakesThese.{fewer_left}

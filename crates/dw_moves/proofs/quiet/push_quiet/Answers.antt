@@ -1,7 +1,5 @@
-use Rattle.std.proofs.Common.{◌≡◌, ◌+◌, subst, sym, ap, ◌∙◌}
-use Rattle.dw_board.specs.Geometry.{squares}
-use Rattle.dw_moves.specs.Plain.{quiet_moves}
-use Rattle.dw_moves.proofs.Played.{board_end, board_next}
+use Rattle.std.proofs.Common.{◌+◌, subst, sym, ap, ◌∙◌}
+use Rattle.dw_moves.proofs.Played.{board_next}
 use Rattle.dw_moves.proofs.Quietly.{AddedTo, added_to_more}
 use Rattle.dw_moves.proofs.quiet.push_quiet.Goals as goal
 use Rattle.dw_moves.proofs.quiet.push_quiet.Goals.{in-Some+in_ok-push_quiet_from, in_default}

@@ -1,4 +1,4 @@
-use Rattle.std.proofs.Common.{◌≡◌, true, false, sym, ◌∙◌, refl}
+use Rattle.std.proofs.Common.{sym, ◌∙◌, refl}
 use Rattle.std.proofs.lemmas.Bool.{true≢false, eqb-true, eq-eqb}
 use Rattle.dw_moves.proofs.Runs.{freed, ray_falls}
 use Rattle.dw_moves.proofs.Quietly.{passed_more, reached_it, man_missed, run_missed}

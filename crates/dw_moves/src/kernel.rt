@@ -1,0 +1,122 @@
+//! Tests of the whole board at once, by sets of squares: no move is listed.
+ghost use Rattle.std.specs.Prelude.{◌↔◌, ℕ, IsTrue};
+ghost use Rattle.dw_moves.specs.Moves.{CanCapture};
+ghost use Rattle.dw_moves.specs.Kernel.{In, AreOf, AreSets, MenMeet, KingsMeet, Takes, Steps, CanStep};
+
+use crate::play::other;
+use crate::quiet::may_go;
+use dw_board::board::{Board, Dir};
+use dw_board::piece::{Kind, Side};
+use dw_board::position::Position;
+use dw_board::squares::Squares;
+
+/// Whether the side to move can take something.
+///
+/// A man can take an adjacent enemy, forward or backward, where the square behind it is empty. A king can take the
+/// one enemy on a diagonal that has only empty squares before it and an empty square behind it.
+pub fn can_capture<B: Board>(position: &Position<B>) -> bool
+    ensures { IsTrue result ↔ CanCapture B.geometry position.now }
+{
+    let field = Field::of(position);
+    field.takes(Dir::UpLeft)
+        || field.takes(Dir::UpRight)
+        || field.takes(Dir::DownLeft)
+        || field.takes(Dir::DownRight)
+}
+
+/// Whether the side to move has a quiet move, whether or not it must capture.
+pub(crate) fn can_step<B: Board>(position: &Position<B>) -> bool
+    ensures { IsTrue result ↔ CanStep B.geometry position.now }
+{
+    let field = Field::of(position);
+    let side = position.turn();
+    field.steps(side, Dir::UpLeft)
+        || field.steps(side, Dir::UpRight)
+        || field.steps(side, Dir::DownLeft)
+        || field.steps(side, Dir::DownRight)
+}
+
+/// The squares of a position, by what the side to move has to do with what stands there.
+#[derive(Drop)]
+struct Field<B: Board> {
+    men: Squares<B>,
+    kings: Squares<B>,
+    enemies: Squares<B>,
+    occupied: Squares<B>,
+}
+
+impl<B: Board> Field<B> {
+    fn of(position: &Position<B>) -> Self
+        ensures { AreSets B.geometry position.now result.men result.kings result.enemies result.occupied }
+    {
+        let side = position.turn();
+        let men = position.squares(side, Kind::Man);
+        let kings = position.squares(side, Kind::King);
+        let enemies = all_of(position, other(side));
+        Field {
+            men,
+            kings,
+            enemies,
+            occupied: men.or(kings).or(enemies),
+        }
+    }
+
+    /// Whether something can be taken in a direction.
+    fn takes(&self, direction: Dir) -> bool
+        ensures { IsTrue result ↔ Takes B.geometry self.now.men self.now.kings self.now.enemies self.now.occupied direction }
+    {
+        let met = self.met_by_men(direction).or(self.met_by_kings(direction));
+        any(met.shifted(direction).minus(self.occupied))
+    }
+
+    /// The enemies next to a man.
+    fn met_by_men(&self, direction: Dir) -> Squares<B>
+        ensures { (c : ℕ) → In c result ↔ MenMeet B.geometry self.now.men self.now.enemies self.now.occupied direction c }
+    {
+        self.men.shifted(direction).and(self.enemies)
+    }
+
+    /// The enemies that a king meets first. All kings go on together, until none has an empty square before it.
+    fn met_by_kings(&self, direction: Dir) -> Squares<B>
+        ensures { (c : ℕ) → In c result ↔ KingsMeet B.geometry self.now.kings self.now.enemies self.now.occupied direction c }
+    {
+        let mut reached = self.kings;
+        let mut met = Squares::none();
+        'run: for _ in 0..B::ROWS {
+            if !any(reached) {
+                return met;
+            }
+            let next = reached.shifted(direction);
+            met = met.or(next.and(self.enemies));
+            reached = next.minus(self.occupied);
+        }
+        met
+    }
+
+    /// Whether a piece of the side to move can go to the next square in a direction.
+    fn steps(&self, side: Side, direction: Dir) -> bool
+        ensures { IsTrue result ↔ Steps B.geometry side self.now.men self.now.kings self.now.occupied direction }
+    {
+        let movers = if may_go(Kind::Man, side, direction) {
+            self.kings.or(self.men)
+        } else {
+            self.kings
+        };
+        any(movers.shifted(direction).minus(self.occupied))
+    }
+}
+
+/// The squares on which this side's pieces stand.
+fn all_of<B: Board>(position: &Position<B>, side: Side) -> Squares<B>
+    ensures { AreOf B.geometry position.now side result }
+{
+    let men = position.squares(side, Kind::Man);
+    men.or(position.squares(side, Kind::King))
+}
+
+/// Whether a square is in the set.
+fn any<B: Board>(squares: Squares<B>) -> bool
+    ensures { IsTrue result ↔ ((s : ℕ) × In s squares) }
+{
+    squares != Squares::none()
+}
