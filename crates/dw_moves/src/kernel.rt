@@ -46,6 +46,7 @@ struct Field<B: Board> {
 }
 
 impl<B: Board> Field<B> {
+    /// The sets of a position.
     fn of(position: &Position<B>) -> Self
         ensures { AreSets B.geometry position.now result.men result.kings result.enemies result.occupied }
     {
