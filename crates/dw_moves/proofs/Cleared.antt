@@ -9,7 +9,7 @@ use Rattle.dw_board.specs.Placement.{Placement, at, placed}
 use Rattle.dw_board.specs.SquareSet.{Squares}
 use Rattle.dw_moves.specs.Moves.{left, without}
 use Rattle.dw_moves.proofs.PlayStays.{without_at, without_length}
-use Rattle.dw_moves.proofs.TakesThese.{contains-remove, not_removed}
+use Rattle.dw_moves.proofs.TakesThese.{contains-remove, not_removed, apart_false}
 
 -- what is left to empty, and what stands on the other squares, come to what all of it leaves
 pub record Clearing (p : Placement) (ss : Squares) (q : Placement) (rest : Squares) : Type 0 where
@@ -19,9 +19,6 @@ pub record Clearing (p : Placement) (ss : Squares) (q : Placement) (rest : Squar
 
 pub clearing_none : (p : Placement) (ss : Squares) → length p.cells ≡ 50 → Clearing p ss p ss
 clearing_none p ss len = record { fifty = len; turn = refl; comes_to = λ s low high. refl }
-
-apart_false : (s t : ℕ) → (s ≢ t) → eqb s t ≡ false
-apart_false s t ne = elim (cases_Bool (eqb s t)) [ inl e ↦ absurd (ne (eqb-true s t e)) | inr e ↦ e ]
 
 pub clearing_more : (g : Geometry) → IsBoard g → (p : Placement) (ss : Squares) (q : Placement) (rest : Squares) (s : ℕ) → Clearing p ss q rest → OnBoard g s → fin.contains rest s ≡ true → Clearing p ss (placed q s None) (fin.remove rest s)
 clearing_more g b p ss q rest s h on there = record {

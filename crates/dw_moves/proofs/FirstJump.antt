@@ -95,7 +95,7 @@ pub kind_cases : (k : Kind) → (k ≡ Man) ⊎ (k ≡ King)
 kind_cases Man = inl refl
 kind_cases King = inr refl
 
-first_jump : (g : Geometry) (p : Placement) (piece : Piece) (s : ℕ) (ts cs : List ℕ) → Jumps g p piece s ts cs → 0 < length cs → (c : ℕ) × (t : ℕ) × Jump g p piece s c t
+pub first_jump : (g : Geometry) (p : Placement) (piece : Piece) (s : ℕ) (ts cs : List ℕ) → Jumps g p piece s ts cs → 0 < length cs → (c : ℕ) × (t : ℕ) × Jump g p piece s c t
 first_jump g p piece s [] [] h some = absurd (omega arith)
 first_jump g p piece s [] (c ∷ cs) h some = absurd h
 first_jump g p piece s (t ∷ ts) [] h some = absurd h

@@ -27,4 +27,6 @@ pub mod KernelRuns
 pub mod FirstJump
 pub mod FirstStep
 pub mod OrChain
+pub mod StepBack
+pub mod KernelMovers
 pub mod Rows

@@ -42,7 +42,7 @@ pub record Stepped (g : Geometry) (d : Dir) (s t : ℕ) : Type 0 where
 pub row_low : (g : Geometry) → IsBoard g → (s : ℕ) → OnBoard g s → row g s < g.rows
 row_low g b s on = (div-lt_iff_lt-mul {k = g.per_row} {x = s - 1} {y = g.rows} (omega (arith, b.low))).1 (omega (arith, on.0, on.1))
 
-column_low : (g : Geometry) → IsBoard g → (s : ℕ) → column g s < 2 * g.per_row
+pub column_low : (g : Geometry) → IsBoard g → (s : ℕ) → column g s < 2 * g.per_row
 column_low g b s = let q : (s - 1) % g.per_row < g.per_row = mod-lt (s - 1) {m = g.per_row} (omega (arith, b.low)) in omega arith
 
 -- the light and the dark squares alternate

@@ -1,5 +1,5 @@
 -- Whether some chain of jumps takes exactly these pieces.
-use Rattle.std.proofs.Common.{◌≡◌, ℕ, ◌+◌, ◌<◌, ◌≤◌, ◌&&◌, ◌||◌, not, suc, List, [], ◌∷◌, length, refl, sym, ap, ◌∙◌, subst, inl, inr, arith, Bool, true, false, get_or, cond, eqb, Some, None}
+use Rattle.std.proofs.Common.{◌≡◌, ◌≢◌, ℕ, ◌+◌, ◌<◌, ◌≤◌, ◌&&◌, ◌||◌, not, suc, List, [], ◌∷◌, length, refl, sym, ap, ◌∙◌, subst, inl, inr, arith, Bool, true, false, get_or, cond, eqb, Some, None}
 use Rattle.std.specs.Prelude.{IsTrue, ◌↔◌}
 use Rattle.std.proofs.lemmas.Bool.{true≢false, cases_Bool, eqb-true, eq-eqb, or_cases}
 use Rattle.std.specs.FinSet as fin
@@ -39,6 +39,9 @@ contains-remove v k q = fin.contains-remove nat_cmp_total v k q ∙ ap (λ b. no
 not_both : (b : Bool) → (b ≡ true → ⊥) → b ≡ false
 not_both true h = absurd (h refl)
 not_both false h = refl
+
+pub apart_false : (s t : ℕ) → (s ≢ t) → eqb s t ≡ false
+apart_false s t ne = elim (cases_Bool (eqb s t)) [ inl e ↦ absurd (ne (eqb-true s t e)) | inr e ↦ e ]
 
 -- a set without a member, and with it again
 pub put_back : (v : Squares) (c : ℕ) → fin.contains v c ≡ true → fin.insert (fin.remove v c) c ≡ v

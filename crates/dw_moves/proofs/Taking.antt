@@ -1,12 +1,15 @@
 -- The captures of a position, square by square.
-use Rattle.std.proofs.Common.{◌≡◌, ℕ, ◌+◌, ◌≤◌, List, sym, ap, ◌∙◌, subst, ◌⊎◌, inl, inr, arith, false, Some, None}
-use Rattle.std.proofs.lemmas.Bool.{true≢false}
+use Rattle.std.proofs.Common.{◌≡◌, refl, ℕ, ◌+◌, ◌≤◌, List, sym, ap, ◌∙◌, subst, ◌⊎◌, inl, inr, arith, ◌&&◌, not, Bool, true, false, eqb, Some, None}
+use Rattle.std.proofs.lemmas.Bool.{true≢false, cases_eq}
 use Rattle.std.specs.FinSet as fin
+use Rattle.std.specs.Ordering.{nat_cmp}
 use Rattle.dw_board.specs.declared.piece.Side.{Side}
 use Rattle.dw_board.specs.declared.piece.Side.TheVariants.{White, Black}
 use Rattle.dw_board.specs.declared.piece.Piece.{Piece}
-use Rattle.dw_board.specs.Geometry.{Geometry, IsBoard, squares}
+use Rattle.dw_board.specs.Geometry.{Geometry, IsBoard}
 use Rattle.dw_board.specs.Placement.{Placement, IsPosition, at, placed, count, same_side}
+use Rattle.dw_board.specs.SquareSet.{Squares}
+use Rattle.dw_moves.specs.Kernel.{In, CanTakeFrom}
 use Rattle.dw_moves.specs.Moves.{Path, Stands, Move, other, last_of}
 use Rattle.dw_moves.specs.Chains.{ChainsFit, Taking, TakingFrom, EndsAs, Longest}
 use Rattle.dw_moves.proofs.Exact.{same_side_refl}
@@ -14,6 +17,8 @@ use Rattle.dw_moves.proofs.StepLaws.{none_some}
 use Rattle.dw_moves.proofs.BestFrom.{some_same, path_of, chain_of, chains_fit}
 use Rattle.dw_moves.proofs.Kept.{longest_none, longest_then, longest_wider}
 use Rattle.dw_moves.proofs.Walked.{union_of_none}
+use Rattle.dw_moves.proofs.FirstJump.{first_jump}
+use Rattle.dw_moves.proofs.TakesThese.{contains-remove, not_removed, apart_false}
 
 -- a move that has not begun
 abbrev pub start : ℕ → Move
@@ -84,24 +89,41 @@ enemy_there g p from most moves piece e other_is = longest_none (TakingFrom g p 
     let own : piece.side ≡ p.turn = ap (λ z. z.side) (sym same) ∙ s.1.own in
     true≢false (sym (same_side_refl p.turn) ∙ (ap (λ z. same_side z p.turn) (sym own) ∙ other_is)))
 
--- the captures from the squares up to n
-abbrev pub TakingTo : Geometry → Placement → ℕ → ℕ → Move → Type 0
-TakingTo g p n k m = (m.from ≤ n) × Taking g p k m
+-- the captures that begin on none of the squares still to come
+abbrev pub TakingPast : Geometry → Placement → Squares → ℕ → Move → Type 0
+TakingPast g p left k m = (fin.contains left m.from ≡ false) × Taking g p k m
 
-pub to_none : (g : Geometry) (p : Placement) (moves : List Move) → Longest (TakingTo g p 0) 0 moves 0 moves
-to_none g p moves = longest_none (TakingTo g p 0) 0 moves (λ j m f. let path : Path g p m.from f.1.1.0 f.1.1.1.over = f.1.1.1.path in omega (arith, f.0, path.stands.on_board.0))
+-- a capture begins on one of those on which one may begin
+pub past_none : (g : Geometry) (p : Placement) (left : Squares) (moves : List Move) → ((s : ℕ) → CanTakeFrom g p s → In s left) → Longest (TakingPast g p left) 0 moves 0 moves
+past_none g p left moves all = longest_none (TakingPast g p left) 0 moves (λ j m f.
+    let is = f.1.1.1 in
+    let path : Path g p m.from f.1.1.0 is.over = is.path in
+    let first = first_jump g (placed p m.from None) path.piece m.from f.1.1.0 is.over path.jumps (omega (arith, f.1.0, is.count)) in
+    true≢false (sym (all m.from (first.0, first.1, path.piece, path.stands, first.2)) ∙ f.0))
 
-at_end : (s n : ℕ) → s ≤ n + 1 → (s ≡ n + 1) ⊎ (s ≤ n)
-at_end s n h = grind arith
+out_of_rest : (left : Squares) (s t : ℕ) → fin.contains left t ≡ false → fin.contains (fin.remove left s) t ≡ false
+out_of_rest left s t e = contains-remove left s t ∙ (ap (λ b. not (eqb t s) && b) e ∙ none_of (not (eqb t s))) where
+  none_of : (b : Bool) → (b && false) ≡ false
+  none_of true = refl
+  none_of false = refl
 
-pub to_more : (g : Geometry) (p : Placement) (n from most k : ℕ) (moves now new : List Move) → from ≡ n + 1 → Longest (TakingTo g p n) 0 moves most now → Longest (TakingFrom g p from) most now k new → Longest (TakingTo g p (n + 1)) 0 moves k new
-to_more g p n from most k moves now new is h next =
-    longest_wider (λ j m. TakingTo g p n j m ⊎ TakingFrom g p from j m) (TakingTo g p (n + 1)) 0 k moves new
-    (λ j m x. elim x [ inl old ↦ (omega (arith, old.0), old.1) | inr here ↦ (omega (arith, here.0, is), here.1) ])
-    (λ j m f. elim (at_end m.from n f.0) [ inl last ↦ inl (inr (last ∙ sym is, f.1)) | inr before ↦ inl (inl (before, f.1)) ])
-    (longest_then (TakingTo g p n) (TakingFrom g p from) 0 most k moves now new h next)
+pub past_rest : (left : Squares) (s t : ℕ) → fin.contains (fin.remove left s) t ≡ false → (t ≡ s) ⊎ (fin.contains left t ≡ false)
+past_rest left s t e = elim (cases_eq t s) [
+  | inl same ↦ inl same
+  | inr apart ↦ inr (sym (contains-remove left s t ∙ ap (λ b. not b && fin.contains left t) (apart_false t s apart)) ∙ e)
+]
 
-pub to_all : (g : Geometry) (p : Placement) (n k : ℕ) (moves new : List Move) → n ≡ squares g → Longest (TakingTo g p n) 0 moves k new → Longest (Taking g p) 0 moves k new
-to_all g p n k moves new is h = longest_wider (TakingTo g p n) (Taking g p) 0 k moves new (λ j m f. f.1) (λ j m f.
-    let path : Path g p m.from f.1.0 f.1.1.over = f.1.1.path in
-    inl (omega (arith, is, path.stands.on_board.1), f)) h
+pub past_more : (g : Geometry) (p : Placement) (left rest : Squares) (from most k : ℕ) (moves now new : List Move) → rest ≡ fin.remove left from → Longest (TakingPast g p left) 0 moves most now → Longest (TakingFrom g p from) most now k new → Longest (TakingPast g p rest) 0 moves k new
+past_more g p left rest from most k moves now new is h next =
+    subst (λ v. Longest (TakingPast g p v) 0 moves k new) (sym is)
+    (longest_wider (λ j m. TakingPast g p left j m ⊎ TakingFrom g p from j m) (TakingPast g p (fin.remove left from)) 0 k moves new
+    (λ j m x. elim x [
+      | inl old ↦ (out_of_rest left from m.from old.0, old.1)
+      | inr here ↦ (ap (fin.contains (fin.remove left from)) here.0 ∙ not_removed left from, here.1)
+    ])
+    (λ j m f. elim (past_rest left from m.from f.0) [ inl last ↦ inl (inr (last, f.1)) | inr before ↦ inl (inl (before, f.1)) ])
+    (longest_then (TakingPast g p left) (TakingFrom g p from) 0 most k moves now new h next))
+
+pub past_all : (g : Geometry) (p : Placement) (left : Squares) (k : ℕ) (moves new : List Move) → left ≡ fin.empty → Longest (TakingPast g p left) 0 moves k new → Longest (Taking g p) 0 moves k new
+past_all g p left k moves new none h = longest_wider (TakingPast g p left) (Taking g p) 0 k moves new (λ j m f. f.1)
+    (λ j m f. inl (ap (λ v. fin.contains v m.from) none ∙ fin.contains-empty nat_cmp m.from, f)) h

@@ -1,16 +1,17 @@
 -- A position as sets of squares, and what its pieces meet and reach there.
-use Rattle.std.specs.Prelude.{◌≡◌, ℕ, ◌<◌, ◌⊎◌, ◌↔◌, Some, IsTrue}
+use Rattle.std.specs.Prelude.{◌≡◌, ℕ, ◌<◌, ◌⊎◌, ◌↔◌, Some, None, IsTrue}
 use Rattle.std.proofs.Common.{zero, suc}
 use Rattle.std.specs.FinSet as set
 use Rattle.dw_board.specs.declared.board.Dir.{Dir}
+use Rattle.dw_board.specs.declared.board.Dir.TheVariants.{UpLeft, UpRight, DownLeft, DownRight}
 use Rattle.dw_board.specs.declared.piece.Side.{Side}
 use Rattle.dw_board.specs.declared.piece.Kind.{Kind}
 use Rattle.dw_board.specs.declared.piece.Kind.TheVariants.{Man, King}
 use Rattle.dw_board.specs.declared.piece.Piece.{Piece}
 use Rattle.dw_board.specs.Geometry.{Geometry, step, OnBoard}
-use Rattle.dw_board.specs.Placement.{Placement, at}
+use Rattle.dw_board.specs.Placement.{Placement, at, placed}
 use Rattle.dw_board.specs.SquareSet.{Squares}
-use Rattle.dw_moves.specs.Moves.{IsForward, Quiet, other}
+use Rattle.dw_moves.specs.Moves.{IsForward, Quiet, Stands, Jump, other}
 
 -- a square is in a set
 abbrev pub In : ℕ → Squares → Type 0
@@ -55,3 +56,14 @@ Steps g side men kings occupied d = (s : ℕ) × (t : ℕ) × ((In s men × IsFo
 -- some quiet move is there
 abbrev pub CanStep : Geometry → Placement → Type 0
 CanStep g p = (from : ℕ) × (to : ℕ) × Quiet g p from to
+
+-- a capture begins on this square
+abbrev pub CanTakeFrom : Geometry → Placement → ℕ → Type 0
+CanTakeFrom g p s = (c : ℕ) × (t : ℕ) × (piece : Piece) × Stands g p s piece × Jump g (placed p s None) piece s c t
+
+-- the direction that leads back
+abbrev pub back : Dir → Dir
+back UpLeft = DownRight
+back UpRight = DownLeft
+back DownLeft = UpRight
+back DownRight = UpLeft

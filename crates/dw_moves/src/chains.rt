@@ -5,6 +5,7 @@ ghost use Rattle.dw_moves.specs.Chains.{ChainsFit, Taking, TakingFrom, EndsAs, I
 
 use crate::best::is_own;
 use crate::jumps::jumps;
+use crate::kernel::may_take;
 use crate::moves::Move;
 use dw_board::board::Board;
 use dw_board::piece::Piece;
@@ -21,10 +22,10 @@ pub(crate) fn push_captures<B: Board>(
     ensures { IfOk result (λ k. Longest (Taking B.geometry position.now) 0 moves.old.items k moves.new.items) }
 {
     let mut most = 0;
-    'squares: for index in 0..B::ROWS * B::PER_ROW {
-        if let Some(square) = Square::new(index + 1) {
-            most = push_from(position, square, most, moves)?;
-        }
+    let mut left = may_take(position);
+    'squares: while let Some(square) = left.first() {
+        most = push_from(position, square, most, moves)?;
+        left = left.without(square);
     }
     Ok(most)
 }

@@ -1,7 +1,8 @@
 //! Tests of the whole board at once, by sets of squares: no move is listed.
-ghost use Rattle.std.specs.Prelude.{◌↔◌, ℕ, IsTrue};
-ghost use Rattle.dw_moves.specs.Moves.{CanCapture};
-ghost use Rattle.dw_moves.specs.Kernel.{In, AreOf, AreSets, MenMeet, KingsMeet, Takes, Steps, CanStep};
+ghost use Rattle.std.specs.Prelude.{◌≡◌, ◌↔◌, ℕ, Some, IsTrue};
+ghost use Rattle.dw_board.specs.Geometry.{OnBoard, step};
+ghost use Rattle.dw_moves.specs.Moves.{CanCapture, Quiet, IsForward};
+ghost use Rattle.dw_moves.specs.Kernel.{In, AreOf, AreSets, MenMeet, KingsMeet, Takes, Steps, CanStep, CanTakeFrom, back};
 
 use crate::play::other;
 use crate::quiet::may_go;
@@ -34,6 +35,35 @@ pub(crate) fn can_step<B: Board>(position: &Position<B>) -> bool
         || field.steps(side, Dir::UpRight)
         || field.steps(side, Dir::DownLeft)
         || field.steps(side, Dir::DownRight)
+}
+
+/// The squares from which a quiet move may begin: each from which one does is among them.
+pub(crate) fn may_step<B: Board>(position: &Position<B>) -> Squares<B>
+    ensures { (s t : ℕ) → Quiet B.geometry position.now s t → In s result }
+{
+    let field = Field::of(position);
+    let side = position.turn();
+    let up = field
+        .before_empty(side, Dir::UpLeft)
+        .or(field.before_empty(side, Dir::UpRight));
+    let down = field
+        .before_empty(side, Dir::DownLeft)
+        .or(field.before_empty(side, Dir::DownRight));
+    field.kings.or(up).or(down)
+}
+
+/// The squares from which a capture may begin: each from which one does is among them.
+pub(crate) fn may_take<B: Board>(position: &Position<B>) -> Squares<B>
+    ensures { (s : ℕ) → CanTakeFrom B.geometry position.now s → In s result }
+{
+    let field = Field::of(position);
+    let up = field
+        .before_enemy(Dir::UpLeft)
+        .or(field.before_enemy(Dir::UpRight));
+    let down = field
+        .before_enemy(Dir::DownLeft)
+        .or(field.before_enemy(Dir::DownRight));
+    field.kings.or(up).or(down)
 }
 
 /// The squares of a position, by what the side to move has to do with what stands there.
@@ -94,6 +124,27 @@ impl<B: Board> Field<B> {
         met
     }
 
+    /// The squares from which a man can go one square in a direction, none where that is backward.
+    fn before_empty(&self, side: Side, direction: Dir) -> Squares<B>
+        ensures { (s t : ℕ) → OnBoard B.geometry s → In s self.now.men → IsForward side direction → step B.geometry s direction ≡ Some t → (In t self.now.occupied → ⊥) → In s result }
+    {
+        if may_go(Kind::Man, side, direction) {
+            let free = self.men.shifted(direction).minus(self.occupied);
+            free.shifted(opposite(direction))
+        } else {
+            Squares::none()
+        }
+    }
+
+    /// The squares from which a man can take in a direction.
+    fn before_enemy(&self, direction: Dir) -> Squares<B>
+        ensures { (s c t : ℕ) → OnBoard B.geometry s → In s self.now.men → step B.geometry s direction ≡ Some c → In c self.now.enemies → step B.geometry c direction ≡ Some t → (In t self.now.occupied → ⊥) → In s result }
+    {
+        let behind = self.met_by_men(direction).shifted(direction);
+        let back = opposite(direction);
+        behind.minus(self.occupied).shifted(back).shifted(back)
+    }
+
     /// Whether a piece of the side to move can go to the next square in a direction.
     fn steps(&self, side: Side, direction: Dir) -> bool
         ensures { IsTrue result ↔ Steps B.geometry side self.now.men self.now.kings self.now.occupied direction }
@@ -104,6 +155,18 @@ impl<B: Board> Field<B> {
             self.kings
         };
         any(movers.shifted(direction).minus(self.occupied))
+    }
+}
+
+/// The direction that leads back.
+fn opposite(direction: Dir) -> Dir
+    ensures { result ≡ back direction }
+{
+    match direction {
+        Dir::UpLeft => Dir::DownRight,
+        Dir::UpRight => Dir::DownLeft,
+        Dir::DownLeft => Dir::UpRight,
+        Dir::DownRight => Dir::UpLeft,
     }
 }
 

@@ -5,6 +5,7 @@ ghost use Rattle.dw_moves.specs.Moves.{IsQuietCount, Quiet, Member, ray};
 ghost use Rattle.dw_moves.specs.Plain as plain;
 
 use crate::best::is_own;
+use crate::kernel::may_step;
 use crate::moves::Move;
 use dw_board::board::{Board, Dir};
 use dw_board::piece::{Kind, Side};
@@ -113,10 +114,10 @@ pub(crate) fn push_quiet<B: Board>(
 ) -> Result<(), AllocError>
     ensures { OnOk result (moves.new.items ≡ moves.old.items ++ plain.quiet_moves B.geometry position.now) }
 {
-    'squares: for index in 0..B::ROWS * B::PER_ROW {
-        if let Some(square) = Square::new(index + 1) {
-            push_quiet_from(position, square, moves)?;
-        }
+    let mut left = may_step(position);
+    'squares: while let Some(square) = left.first() {
+        push_quiet_from(position, square, moves)?;
+        left = left.without(square);
     }
     Ok(())
 }

@@ -1,21 +1,19 @@
-use Rattle.std.proofs.Common.{◌≡◌, ◌+◌, sym, ap, ◌∙◌, subst}
-use Rattle.dw_board.specs.Geometry.{squares}
-use Rattle.dw_moves.specs.Chains.{Longest}
-use Rattle.dw_moves.proofs.Played.{board_end, board_next}
-use Rattle.dw_moves.proofs.Taking.{TakingTo, to_more, to_all}
+use Rattle.std.proofs.Common.{◌<◌, sym, subst, refl}
+use Rattle.std.specs.FinSet as fin
+use Rattle.dw_moves.proofs.TakesThese.{fewer_left}
+use Rattle.dw_moves.proofs.Taking.{past_none, past_more, past_all}
 use Rattle.dw_moves.proofs.chains.push_captures.Goals as goal
-use Rattle.dw_moves.proofs.chains.push_captures.Goals.{in-Some+in_ok-most, in_default}
+
+pub squares-init : goal.squares-init
+squares-init g c = past_none g.B.Board.geometry c.args.position.now c.may_take-left.result c.args.moves.now.items c.may_take-left.ensures
+
+pub squares-smaller : goal.squares-smaller
+squares-smaller g c = subst (λ v. fin.len v < fin.len c.squares.left) (sym c.without-left.ensures) (fewer_left c.squares.left c.in-Some.square c.in-Some.ensures.member)
 
 pub squares-preserved : goal.squares-preserved
-squares-preserved g c = elim c.match-new.branch [
-  | in-Some+in_ok-most w ↦
-      let next = to_more g.B.Board.geometry c.args.position.now c.squares.index w.in-Some.square c.squares.most w.in_ok-most.most c.args.moves.now.items c.squares.moves.items w.push_from.new.moves.items w.in-Some.ensures.1 c.squares.invariant w.in_ok-most.ensures in
-      subst (λ z. Longest (TakingTo g.B.Board.geometry c.args.position.now (c.squares.index + 1)) 0 c.args.moves.now.items z c.match-new.moves.items) (sym w.most-is)
-      (subst (λ z. Longest (TakingTo g.B.Board.geometry c.args.position.now (c.squares.index + 1)) 0 c.args.moves.now.items w.in_ok-most.most z) (ap (λ v. v.items) (sym w.moves-is)) next)
-  | in_default w ↦ absurd (w.in_default.ensures (board_next g.B.Board.geometry c.squares.index c.ROWS.result c.PER_ROW.result (c.ROWS.ensures ∙ g.met.B.Board.rows_is) (c.PER_ROW.ensures ∙ g.met.B.Board.per_row_is) c.squares-test.true))
-]
+squares-preserved g c =
+    past_more g.B.Board.geometry c.args.position.now c.squares.left c.without-left.result c.in-Some.square c.squares.most c.in_ok-most.most c.args.moves.now.items c.squares.moves.items c.push_from.new.moves.items
+    c.without-left.ensures c.squares.invariant c.in_ok-most.ensures
 
 pub returns : goal.returns
-returns g c =
-    let end : c.squares.index ≡ squares g.B.Board.geometry = board_end g.B.Board.geometry c.squares.index c.ROWS.result c.PER_ROW.result (c.ROWS.ensures ∙ g.met.B.Board.rows_is) (c.PER_ROW.ensures ∙ g.met.B.Board.per_row_is) c.squares.auto.index-end c.squares-test.false in
-    to_all g.B.Board.geometry c.args.position.now c.squares.index c.squares.most c.args.moves.now.items c.squares.moves.items end c.squares.invariant
+returns g c = past_all g.B.Board.geometry c.args.position.now c.squares.left c.squares.most c.args.moves.now.items c.squares.moves.items (c.in_default.ensures.none.0 refl) c.squares.invariant

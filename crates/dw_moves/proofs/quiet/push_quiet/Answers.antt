@@ -1,13 +1,19 @@
-use Rattle.std.proofs.Common.{◌+◌, subst, sym, ap, ◌∙◌}
-use Rattle.dw_moves.proofs.Played.{board_next}
-use Rattle.dw_moves.proofs.Quietly.{AddedTo, added_to_more}
+use Rattle.std.proofs.Common.{◌<◌, sym, subst, refl}
+use Rattle.std.specs.FinSet as fin
+use Rattle.dw_moves.proofs.TakesThese.{fewer_left}
+use Rattle.dw_moves.proofs.Quietly.{filling_none, filling_more, filling_all}
 use Rattle.dw_moves.proofs.quiet.push_quiet.Goals as goal
-use Rattle.dw_moves.proofs.quiet.push_quiet.Goals.{in-Some+in_ok-push_quiet_from, in_default}
+
+pub squares-init : goal.squares-init
+squares-init g c = filling_none g.B.Board.geometry c.args.position.now c.args.moves.now.items c.may_step-left.result c.may_step-left.ensures
+
+pub squares-smaller : goal.squares-smaller
+squares-smaller g c = subst (λ v. fin.len v < fin.len c.squares.left) (sym c.without-left.ensures) (fewer_left c.squares.left c.in-Some.square c.in-Some.ensures.member)
 
 pub squares-preserved : goal.squares-preserved
-squares-preserved g c = elim c.match-new.branch [
-  | in-Some+in_ok-push_quiet_from w ↦
-      subst (AddedTo g.B.Board.geometry c.args.position.now (c.squares.index + 1) c.args.moves.now.items) (ap (λ v. v.items) (sym w.moves-is))
-      (added_to_more g.B.Board.geometry c.args.position.now c.squares.index w.in-Some.square c.args.moves.now.items c.squares.moves.items w.push_quiet_from.new.moves.items w.in-Some.ensures.1 c.squares.invariant w.in_ok-push_quiet_from.ensures)
-  | in_default w ↦ absurd (w.in_default.ensures (board_next g.B.Board.geometry c.squares.index c.ROWS.result c.PER_ROW.result (c.ROWS.ensures ∙ g.met.B.Board.rows_is) (c.PER_ROW.ensures ∙ g.met.B.Board.per_row_is) c.squares-test.true))
-]
+squares-preserved g c =
+    filling_more g.B.Board.geometry c.args.position.now c.args.moves.now.items c.squares.moves.items c.push_quiet_from.new.moves.items c.squares.left c.without-left.result c.in-Some.square
+    c.squares.invariant c.in-Some.ensures.on_board c.in-Some.ensures.member c.in-Some.ensures.least c.without-left.ensures c.in_ok-push_quiet_from.ensures
+
+pub returns : goal.returns
+returns g c = filling_all g.B.Board.geometry c.args.position.now c.args.moves.now.items c.squares.moves.items c.squares.left (c.in_default.ensures.none.0 refl) c.squares.invariant
