@@ -29,4 +29,4 @@ pub mod FirstStep
 pub mod OrChain
 pub mod StepBack
 pub mod KernelMovers
-pub mod Rows
+pub mod WorkedPositions

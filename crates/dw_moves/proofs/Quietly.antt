@@ -216,16 +216,7 @@ own_quiet g p from to piece on e own =
       (λ q. goes_any piece.kind g p p.turn from to (subst (Member to) are (target_in g p from to q))),
     )
 
--- a test of two things, the second only where the first fails
-pub or_first : (a v : Bool) (A B : Type 0) → IsTrue a ↔ A → a ≡ true → v ≡ true → IsTrue v ↔ (A ⊎ B)
-or_first a v A B h e is = ((λ t. inl (h.0 e)), (λ x. is))
-
-pub or_second : (a b v : Bool) (A B : Type 0) → IsTrue a ↔ A → IsTrue b ↔ B → a ≡ false → v ≡ b → IsTrue v ↔ (A ⊎ B)
-or_second a b v A B h k e is = (
-  (λ t. inr (k.0 (sym is ∙ t))),
-  (λ x. elim x [ inl l ↦ absurd (true≢false (sym (h.1 l) ∙ e)) | inr r ↦ is ∙ k.1 r ]),
-)
-
+-- a test of what is the same as another thing
 pub both_ways : (v : Bool) (A B : Type 0) → IsTrue v ↔ A → A ↔ B → IsTrue v ↔ B
 both_ways v A B h k = ((λ t. k.0 (h.0 t)), (λ b. h.1 (k.1 b)))
 

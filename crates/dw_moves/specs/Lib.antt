@@ -4,4 +4,4 @@ pub mod Laws
 pub mod Plain
 pub mod Chains
 pub mod Kernel
-pub mod Rows
+pub mod WorkedPositions

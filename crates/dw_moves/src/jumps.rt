@@ -1,5 +1,5 @@
 //! The jumps that a piece has from one square.
-ghost use Rattle.std.specs.Prelude.{◌≡◌, ◌≤◌, ◌+◌, ◌++◌, map, None, IfSome, length};
+ghost use Rattle.std.specs.Prelude.{◌≡◌, ◌≤◌, ◌+◌, ◌++◌, map, None, IfSome, Ok, length};
 ghost use Rattle.dw_board.specs.Geometry.{OnBoard};
 ghost use Rattle.dw_board.specs.Placement.{same_side};
 ghost use Rattle.dw_board.specs.declared.piece.Side as sides;
@@ -12,6 +12,7 @@ use dw_board::board::{Board, Dir};
 use dw_board::piece::{Kind, Piece, Side};
 use dw_board::position::Position;
 use dw_board::square::{Square, step};
+use std::alloc::AllocError;
 use std::marker::Model;
 
 /// One jump: over what, and where it lands.
@@ -36,7 +37,9 @@ impl<B: Board> Model for Jump<B> {
 impl<B: Board> Copy for Jump<B> {}
 
 impl<B: Board> Clone for Jump<B> {
-    fn clone(&self) -> Result<Self, std::alloc::AllocError> {
+    fn clone(&self) -> Result<Self, AllocError>
+        ensures { result ≡ Ok self.now }
+    {
         Ok(*self)
     }
 }

@@ -1,6 +1,6 @@
 //! Laws of the definitions, each the contract of a function that does nothing, and what `==` means.
 ghost use Rattle.std.specs.Prelude.{◌≡◌, ◌↔◌, IsTrue};
-ghost use Rattle.dw_moves.specs.Rows.{WorkedPositions};
+ghost use Rattle.dw_moves.specs.WorkedPositions.{WorkedPositions};
 ghost use Rattle.dw_moves.specs.Laws.{PathTells, PathIsShort, MovesListed, OneBest, PlayStays};
 
 use crate::moves::Move;

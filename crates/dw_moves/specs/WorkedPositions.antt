@@ -22,14 +22,14 @@ abbrev pub move : ℕ → ℕ → List ℕ → Move
 move from to taken = record { from = from; to = to; taken = set.from_list taken }
 
 -- these are the legal moves
-abbrev pub AreLegal : Placement → List Move → Type 0
-AreLegal p moves = (m : Move) → Member m moves ↔ Legal ten p m
+abbrev pub AreTheLegal : Placement → List Move → Type 0
+AreTheLegal p moves = (m : Move) → Member m moves ↔ Legal ten p m
 
 -- a man that passes its last row goes on as a man; a king takes four, lands on three squares, and what it has jumped still bars its way; a king takes one and lands on any square behind it; a man goes forward only
 pub record WorkedPositions : Type 0 where
-  pub passes : AreLegal (white_to_move (14 ∷ []) [] (8 ∷ 9 ∷ [])) (move 14 12 (9 ∷ 8 ∷ []) ∷ [])
-  pub barred : AreLegal (white_to_move [] (47 ∷ []) (17 ∷ 18 ∷ 24 ∷ 32 ∷ 33 ∷ []))
+  pub passes : AreTheLegal (white_to_move (14 ∷ []) [] (8 ∷ 9 ∷ [])) (move 14 12 (9 ∷ 8 ∷ []) ∷ [])
+  pub barred : AreTheLegal (white_to_move [] (47 ∷ []) (17 ∷ 18 ∷ 24 ∷ 32 ∷ 33 ∷ []))
       (move 47 38 (33 ∷ 18 ∷ 17 ∷ 32 ∷ []) ∷ move 47 43 (33 ∷ 18 ∷ 17 ∷ 32 ∷ []) ∷ move 47 49 (33 ∷ 18 ∷ 17 ∷ 32 ∷ []) ∷ [])
-  pub lands : AreLegal (white_to_move [] (46 ∷ []) (28 ∷ []))
+  pub lands : AreTheLegal (white_to_move [] (46 ∷ []) (28 ∷ []))
       (move 46 23 (28 ∷ []) ∷ move 46 19 (28 ∷ []) ∷ move 46 14 (28 ∷ []) ∷ move 46 10 (28 ∷ []) ∷ move 46 5 (28 ∷ []) ∷ [])
-  pub forward : AreLegal (white_to_move (28 ∷ []) [] []) (move 28 22 [] ∷ move 28 23 [] ∷ [])
+  pub forward : AreTheLegal (white_to_move (28 ∷ []) [] []) (move 28 22 [] ∷ move 28 23 [] ∷ [])
