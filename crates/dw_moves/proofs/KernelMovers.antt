@@ -1,5 +1,5 @@
 -- The pieces that move or take are found from the squares that they reach.
-use Rattle.std.proofs.Common.{◌≡◌, ℕ, List, [], ◌∷◌, ◌++◌, refl, sym, ap, ◌∙◌, subst, ◌⊎◌, inl, inr, ◌↔◌, true, Some, None}
+use Rattle.std.proofs.Common.{◌≡◌, ℕ, ◌∷◌, ◌++◌, refl, sym, ap, ◌∙◌, subst, ◌⊎◌, inl, inr, ◌↔◌, Some, None}
 use Rattle.std.specs.FinSet as fin
 use Rattle.dw_board.specs.declared.board.Dir.{Dir}
 use Rattle.dw_board.specs.declared.board.Dir.TheVariants.{UpLeft, UpRight, DownLeft, DownRight}
@@ -12,7 +12,6 @@ use Rattle.dw_board.specs.Placement.{Placement, at, placed}
 use Rattle.dw_board.specs.SquareSet.{Squares}
 use Rattle.dw_moves.specs.Moves.{Member, IsForward, Quiet, Stands, Jump, other, ray}
 use Rattle.dw_moves.specs.Kernel.{In, AreSets, MenMeet, CanTakeFrom, back}
-use Rattle.dw_moves.proofs.Members.{mem_at}
 use Rattle.dw_moves.proofs.StepLaws.{step_is}
 use Rattle.dw_moves.proofs.StepBack.{step_back}
 use Rattle.dw_moves.proofs.SquareSets.{in_or, in_minus}

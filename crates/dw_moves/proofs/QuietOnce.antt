@@ -159,6 +159,12 @@ tally_more g p i n m h e small =
     let one : length (flat_map (pairs_from g p) (suc i ∷ [])) ≡ length (targets g p (suc i)) = omega (arith, length-append (pairs_from g p (suc i)) [], length-map (targets g p (suc i)) pair) in
     subst (λ z. Tallied g p z (n + m)) (sym next) (record { is = omega (arith, h.is); small = omega (arith, h.small) })
 
+-- a square from which no quiet move begins adds nothing
+pub tally_skip : (g : Geometry) (p : Placement) (n i : ℕ) → Tallied g p i n → targets g p (i + 1) ≡ [] → Tallied g p (i + 1) n
+tally_skip g p n i h none =
+    let same : n + 0 ≡ n = omega arith in
+    subst (Tallied g p (i + 1)) same (tally_more g p i n 0 h (sym (ap length none)) (omega arith))
+
 pub tally_all : (g : Geometry) → IsBoard g → (p : Placement) (n : ℕ) → Tallied g p (squares g) n → IsQuietCount g p n
 tally_all g b p n h = record {
   moves = quiet_pairs g p;

@@ -1,8 +1,7 @@
 -- The list of quiet moves, and how it is filled.
-use Rattle.std.proofs.Common.{◌≡◌, ◌≢◌, ℕ, ◌+◌, ◌-◌, ◌<◌, ◌≤◌, ◌&&◌, not, zero, suc, List, [], ◌∷◌, ◌++◌, refl, sym, ap, ◌∙◌, subst, ◌↔◌, inl, inr, arith, append_assoc, ◌⊎◌, Bool, true, false, Some, None}
+use Rattle.std.proofs.Common.{◌≡◌, ℕ, ◌+◌, suc, List, [], ◌∷◌, ◌++◌, refl, sym, ap, ◌∙◌, subst, ◌↔◌, inl, inr, arith, append_assoc, ◌⊎◌, Bool, true, false, Some, None}
 use Rattle.std.specs.Prelude.{IsTrue}
-use Rattle.std.proofs.lemmas.Bool.{true≢false, cases_eq}
-use Rattle.std.specs.Ordering.{nat_cmp}
+use Rattle.std.proofs.lemmas.Bool.{true≢false}
 use Rattle.std.specs.List.{flat_map}
 use Rattle.std.proofs.lemmas.List.{map-append}
 use Rattle.std.proofs.lemmas.Grind.{flat_map-append}
@@ -15,8 +14,6 @@ use Rattle.dw_board.specs.declared.piece.Piece.{Piece}
 use Rattle.dw_board.specs.declared.piece.Side.{Side}
 use Rattle.dw_board.specs.Geometry.{Geometry, IsBoard, OnBoard, squares}
 use Rattle.dw_board.specs.Placement.{Placement, at, same_side}
-use Rattle.dw_board.specs.SquareSet.{Squares}
-use Rattle.dw_moves.specs.Kernel.{In}
 use Rattle.dw_moves.specs.Moves.{Member, NoRepeat, Move, Quiet, ray}
 use Rattle.dw_moves.specs.MoveLaws.{same_move}
 use Rattle.dw_moves.specs.Plain.{numbers_to, dirs, landings_for, goes, quiet_for, targets_of, targets, quiet_to, quiet_all, quiet_moves, free_step}
@@ -26,7 +23,6 @@ use Rattle.dw_moves.proofs.Exact.{all_dirs, same_side_refl}
 use Rattle.dw_moves.proofs.StepLaws.{none_some}
 use Rattle.dw_moves.proofs.Runs.{Freed, run_man, run_king, run_stop}
 use Rattle.dw_moves.proofs.BestFrom.{some_same}
-use Rattle.dw_moves.proofs.TakesThese.{contains-remove, not_removed, apart_false}
 use Rattle.dw_moves.proofs.QuietOnce.{once_flat, once_map, numbers_once, targets_once}
 
 append_none : {X : Type 0} (xs : List X) → xs ++ [] ≡ xs
@@ -65,62 +61,9 @@ added_to_more g p n from old now new from_is h e =
     (e ∙ (ap (λ z. z ++ moves_from g p from) h ∙ (append_assoc old (flat_map (moves_from g p) (numbers_to n)) (moves_from g p from)
     ∙ ap (λ z. old ++ z) (ap (λ z. flat_map (moves_from g p) (numbers_to n) ++ z) (sym last) ∙ sym (flat_map-append (moves_from g p) (numbers_to n) (suc n ∷ []))))))
 
--- squares from which no quiet move begins add nothing
-added_skip : (g : Geometry) (p : Placement) (n d : ℕ) (old now : List Move) → AddedTo g p n old now → ((t : ℕ) → n < t → t ≤ n + d → targets g p t ≡ []) → AddedTo g p (n + d) old now
-added_skip g p n zero old now h none = let same : n ≡ n + 0 = omega arith in subst (λ z. AddedTo g p z old now) same h
-added_skip g p n (suc d) old now h none =
-    let same : n + d + 1 ≡ n + suc d = omega arith in
-    let before : AddedTo g p (n + d) old now = added_skip g p n d old now h (λ t low high. none t low (omega arith)) in
-    let nothing : now ≡ now ++ quiet_all (n + d + 1) (targets g p (n + d + 1)) = sym (append_none now) ∙ ap (λ z. now ++ quiet_all (n + d + 1) z) (sym (none (n + d + 1) (omega arith) (omega arith))) in
-    subst (λ z. AddedTo g p z old now) same (added_to_more g p (n + d) (n + d + 1) old now now refl before nothing)
-
-no_targets : (g : Geometry) (p : Placement) (s : ℕ) → OnBoard g s → ((t : ℕ) → Quiet g p s t → ⊥) → targets g p s ≡ []
-no_targets g p s on none = by_list (targets g p s) (λ t m. none t (target_from g p s t on m)) where
-  by_list : (ts : List ℕ) → ((t : ℕ) → Member t ts → ⊥) → ts ≡ []
-  by_list [] h = refl
-  by_list (t ∷ ts) h = absurd (h t (inl refl))
-
--- the squares up to n were added, and the quiet moves from those above it begin on squares still to come
-pub record Filling (g : Geometry) (p : Placement) (old now : List Move) (left : Squares) : Type 0 where
-  pub n : ℕ
-  pub within : n ≤ squares g
-  pub all : AddedTo g p n old now
-  pub above : (s : ℕ) → OnBoard g s → In s left → n < s
-  pub others : (s t : ℕ) → n < s → Quiet g p s t → In s left
-
-pub filling_none : (g : Geometry) (p : Placement) (old : List Move) (left : Squares) → ((s t : ℕ) → Quiet g p s t → In s left) → Filling g p old old left
-filling_none g p old left all = record { n = 0; within = omega arith; all = added_to_none g p old; above = λ s on m. omega (arith, on.0); others = λ s t low q. all s t q }
-
-pub filling_more : (g : Geometry) (p : Placement) (old now new : List Move) (left rest : Squares) (s : ℕ) → Filling g p old now left → OnBoard g s → In s left → ((t : ℕ) → In t left → s ≤ t) → rest ≡ fin.remove left s
-    → new ≡ now ++ quiet_all s (targets g p s) → Filling g p old new rest
-filling_more g p old now new left rest s h on m least is e =
-    let low : h.n < s = h.above s on m in
-    let d : ℕ = s - 1 - h.n in
-    let reach : h.n + d ≡ s - 1 = omega arith in
-    let skipped : AddedTo g p (s - 1) old now = subst (λ z. AddedTo g p z old now) reach (added_skip g p h.n d old now h.all (λ t after before.
-    no_targets g p t (omega arith, omega (arith, on.1)) (λ x q. let more : s ≤ t = least t (h.others t x after q) in omega arith))) in
-    let next : s ≡ s - 1 + 1 = omega (arith, on.0) in
-    let now_is : AddedTo g p s old new = subst (λ z. AddedTo g p z old new) (sym next) (added_to_more g p (s - 1) s old now new next skipped e) in
-    subst (Filling g p old new) (sym is) (record {
-      n = s;
-      within = on.1;
-      all = now_is;
-      above = λ t t_on t_in. elim (cases_eq t s) [
-        | inl same ↦ absurd (true≢false (sym t_in ∙ (ap (fin.contains (fin.remove left s)) same ∙ not_removed left s)))
-        | inr apart ↦ let there : In t left = sym (contains-remove left s t ∙ ap (λ b. not b && fin.contains left t) (apart_false t s apart)) ∙ t_in in let more : s ≤ t = least t there in omega (arith, more, apart)
-      ];
-      others = λ t x after q.
-          let apart : t ≢ s = (λ same. omega (arith, same)) in
-          contains-remove left s t ∙ (ap (λ b. not b && fin.contains left t) (apart_false t s apart) ∙ h.others t x (omega (arith, low)) q);
-    })
-
-pub filling_all : (g : Geometry) (p : Placement) (old now : List Move) (left : Squares) → left ≡ fin.empty → Filling g p old now left → now ≡ old ++ quiet_moves g p
-filling_all g p old now left none h =
-    let d : ℕ = squares g - h.n in
-    let reach : h.n + d ≡ squares g = omega (arith, h.within) in
-    let all : AddedTo g p (squares g) old now = subst (λ z. AddedTo g p z old now) reach (added_skip g p h.n d old now h.all (λ t after before.
-    no_targets g p t (omega arith, omega arith) (λ x q. true≢false (sym (h.others t x after q) ∙ (ap (λ v. fin.contains v t) none ∙ fin.contains-empty nat_cmp t))))) in
-    all
+-- a square from which no quiet move begins adds nothing
+pub added_to_skip : (g : Geometry) (p : Placement) (old now : List Move) (n : ℕ) → AddedTo g p n old now → targets g p (n + 1) ≡ [] → AddedTo g p (n + 1) old now
+added_to_skip g p old now n h none = added_to_more g p n (n + 1) old now now refl h (sym (append_none now) ∙ ap (λ z. now ++ quiet_all (n + 1) z) (sym none))
 
 -- the list holds exactly the quiet moves, each once
 pub quiet_move_from : (g : Geometry) (p : Placement) (m : Move) → Member m (quiet_moves g p) → Quiet g p m.from m.to × (m.taken ≡ fin.empty)

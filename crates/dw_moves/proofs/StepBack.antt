@@ -1,13 +1,13 @@
 -- A step back leads to where a step began.
-use Rattle.std.proofs.Common.{◌≡◌, ℕ, ◌+◌, ◌-◌, ◌*◌, ◌/◌, ◌%◌, ◌<◌, ◌≤◌, refl, sym, ap, ◌∙◌, arith, Bool, true, false, not, Option, Some, None}
+use Rattle.std.proofs.Common.{◌≡◌, ℕ, ◌+◌, ◌-◌, ◌*◌, ◌/◌, ◌%◌, ◌<◌, ap, ◌∙◌, arith, Bool, true, false, not, Option, Some}
 use Rattle.std.specs.Prelude.{nat_lt}
 use Rattle.std.proofs.lemmas.Bool.{lt-ltb}
 use Rattle.std.proofs.Math.Nat.{div-add-mod}
 use Rattle.dw_board.specs.declared.board.Dir.{Dir}
 use Rattle.dw_board.specs.declared.board.Dir.TheVariants.{UpLeft, UpRight, DownLeft, DownRight}
-use Rattle.dw_board.specs.Geometry.{Geometry, IsBoard, OnBoard, row, column, step, and_then, moved, is_down, is_right}
+use Rattle.dw_board.specs.Geometry.{Geometry, IsBoard, OnBoard, row, column, step, and_then, moved}
 use Rattle.dw_moves.specs.Kernel.{back}
-use Rattle.dw_moves.proofs.StepLaws.{IsNext, Stepped, step_is, row_low, column_low}
+use Rattle.dw_moves.proofs.StepLaws.{IsNext, step_is, row_low, column_low}
 
 moved_back : (b : Bool) (n x y : ℕ) → IsNext b x y → x < n → moved (not b) n y ≡ Some x
 moved_back true n x y h low =

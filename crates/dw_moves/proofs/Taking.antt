@@ -1,5 +1,5 @@
 -- The captures of a position, square by square.
-use Rattle.std.proofs.Common.{◌≡◌, refl, ℕ, ◌+◌, ◌≤◌, List, sym, ap, ◌∙◌, subst, ◌⊎◌, inl, inr, arith, ◌&&◌, not, Bool, true, false, eqb, Some, None}
+use Rattle.std.proofs.Common.{◌≡◌, refl, ℕ, ◌≤◌, List, sym, ap, ◌∙◌, subst, ◌⊎◌, inl, inr, arith, ◌&&◌, not, Bool, true, false, eqb, Some, None}
 use Rattle.std.proofs.lemmas.Bool.{true≢false, cases_eq}
 use Rattle.std.specs.FinSet as fin
 use Rattle.std.specs.Ordering.{nat_cmp}

@@ -19,10 +19,10 @@ pub fn quiet_count<B: Board>(position: &Position<B>) -> u32
     ensures { IsQuietCount B.geometry position.now result }
 {
     let mut count = 0;
-    'squares: for index in 0..B::ROWS * B::PER_ROW {
-        if let Some(square) = Square::new(index + 1) {
-            count += quiet_from(position, square);
-        }
+    let mut left = may_step(position);
+    'squares: while let Some(square) = left.first() {
+        count += quiet_from(position, square);
+        left = left.without(square);
     }
     count
 }

@@ -1,22 +1,31 @@
-use Rattle.std.proofs.Common.{◌≡◌, ◌+◌, length, subst, sym, ap, ◌∙◌}
-use Rattle.dw_board.specs.Geometry.{squares}
+use Rattle.std.proofs.Common.{◌<◌, ◌+◌, ℕ, length, sym, ap, ◌∙◌, subst, refl}
+use Rattle.std.specs.FinSet as fin
 use Rattle.dw_moves.specs.Plain.{targets}
-use Rattle.dw_moves.proofs.Played.{board_end, board_next}
-use Rattle.dw_moves.proofs.QuietOnce.{Tallied, tally_more, tally_all}
+use Rattle.dw_moves.proofs.TakesThese.{fewer_left}
+use Rattle.dw_moves.proofs.QuietOnce.{Tallied, tally_none, tally_more, tally_skip, tally_all}
+use Rattle.dw_moves.proofs.Sweeps.{sweep_none, sweep_more, sweep_all}
 use Rattle.dw_moves.proofs.quiet.quiet_count.Goals as goal
-use Rattle.dw_moves.proofs.quiet.quiet_count.Goals.{in-Some, in_default}
+
+pub squares-init : goal.squares-init
+squares-init g c =
+    sweep_none g.B.Board.geometry c.args.position.now (λ n. Tallied g.B.Board.geometry c.args.position.now n 0) c.may_step-left.result
+    (tally_none g.B.Board.geometry c.args.position.now) c.may_step-left.ensures
+
+pub squares-smaller : goal.squares-smaller
+squares-smaller g c = subst (λ v. fin.len v < fin.len c.squares.left) (sym c.without-left.ensures) (fewer_left c.squares.left c.in-Some.square c.in-Some.ensures.member)
 
 pub squares-preserved : goal.squares-preserved
-squares-preserved g c = elim c.match-new.branch [
-  | in-Some w ↦
-      let is = w.quiet_from-count.ensures.value ∙ ap (λ z. length (targets g.B.Board.geometry c.args.position.now z)) w.in-Some.ensures.1 in
-      subst (Tallied g.B.Board.geometry c.args.position.now (c.squares.index + 1)) (sym w.count-is)
-      (tally_more g.B.Board.geometry c.args.position.now c.squares.index c.squares.count w.quiet_from-count.result c.squares.invariant is w.quiet_from-count.ensures.small)
-  | in_default w ↦ absurd (w.in_default.ensures (board_next g.B.Board.geometry c.squares.index c.ROWS.result c.PER_ROW.result (c.ROWS.ensures ∙ g.met.B.Board.rows_is) (c.PER_ROW.ensures ∙ g.met.B.Board.per_row_is) c.squares-test.true))
-]
+squares-preserved g c =
+    let geo = g.B.Board.geometry in
+    let p = c.args.position.now in
+    let m : ℕ = c.quiet_from-count.result in
+    sweep_more geo p (λ n. Tallied geo p n c.squares.count) (λ n. Tallied geo p n (c.squares.count + m)) c.squares.left c.without-left.result c.in-Some.square (tally_skip geo p c.squares.count)
+    c.squares.invariant c.in-Some.ensures.on_board c.in-Some.ensures.member c.in-Some.ensures.least c.without-left.ensures
+    (λ n is before. subst (λ z. Tallied geo p z (c.squares.count + m)) (sym is)
+    (tally_more geo p n c.squares.count m before (c.quiet_from-count.ensures.value ∙ ap (λ z. length (targets geo p z)) is) c.quiet_from-count.ensures.small))
 
 pub returns : goal.returns
 returns g c =
-    let end : c.squares.index ≡ squares g.B.Board.geometry = board_end g.B.Board.geometry c.squares.index c.ROWS.result c.PER_ROW.result (c.ROWS.ensures ∙ g.met.B.Board.rows_is) (c.PER_ROW.ensures ∙ g.met.B.Board.per_row_is) c.squares.auto.index-end c.squares-test.false in
     tally_all g.B.Board.geometry g.met.B.Board.numbers c.args.position.now c.squares.count
-    (subst (λ n. Tallied g.B.Board.geometry c.args.position.now n c.squares.count) end c.squares.invariant)
+    (sweep_all g.B.Board.geometry c.args.position.now (λ n. Tallied g.B.Board.geometry c.args.position.now n c.squares.count) c.squares.left
+    (tally_skip g.B.Board.geometry c.args.position.now c.squares.count) (c.in_default.ensures.none.0 refl) c.squares.invariant)
