@@ -6,6 +6,7 @@ use Rattle.dw_board.specs.declared.piece.Side.TheVariants.{White, Black}
 use Rattle.dw_board.specs.declared.piece.Kind.{Kind}
 use Rattle.dw_board.specs.declared.piece.Kind.TheVariants.{Man, King}
 use Rattle.dw_board.specs.declared.piece.Piece.{Piece}
+use Rattle.dw_board.specs.declared.held.Held.{Held}
 use Rattle.dw_board.specs.Geometry.{Geometry}
 use Rattle.dw_board.specs.SquareSet.{Squares}
 use Rattle.dw_board.specs.Placement.{IsPosition, same_side}
@@ -31,12 +32,12 @@ standing_below cells side k (suc n) = cond (is_that side k (get_or cells n None)
 unfoldable pub standing : List (Option Piece) → Side → Kind → Squares
 standing cells side kind = standing_below cells side kind 50
 
--- of four sets that of a side and a kind
-abbrev pub one_of : Squares → Squares → Squares → Squares → Side → Kind → Squares
-one_of white_men white_kings black_men black_kings White Man = white_men
-one_of white_men white_kings black_men black_kings White King = white_kings
-one_of white_men white_kings black_men black_kings Black Man = black_men
-one_of white_men white_kings black_men black_kings Black King = black_kings
+-- of a position's sets that of a side and a kind
+abbrev pub set_of : {B : Type 0} → Held B → Side → Kind → Squares
+set_of h White Man = h.white_men
+set_of h White King = h.white_kings
+set_of h Black Man = h.black_men
+set_of h Black King = h.black_kings
 
 -- the set of a side and a kind, once a piece has come to a square
 abbrev pub entered : Side → Kind → Squares → ℕ → Piece → Squares

@@ -1,7 +1,7 @@
 //! The squares of each side's men and of its kings.
 ghost use Rattle.std.specs.Prelude.{◌≡◌, ⊤};
 ghost use Rattle.std.specs.FinSet as set;
-ghost use Rattle.dw_board.specs.Standing.{one_of, entered};
+ghost use Rattle.dw_board.specs.Standing.{set_of, entered};
 
 use crate::board::Board;
 use crate::piece::{Kind, Piece, Side};
@@ -21,7 +21,7 @@ pub(crate) struct Held<B: Board> {
 impl<B: Board> Held<B> {
     /// No piece at all.
     pub(crate) fn none() -> Self
-        ensures { (side : Side) (kind : Kind) → one_of result.white_men result.white_kings result.black_men result.black_kings side kind ≡ set.empty }
+        ensures { (side : Side) (kind : Kind) → set_of result side kind ≡ set.empty }
     {
         Held {
             white_men: Squares::none(),
@@ -33,7 +33,7 @@ impl<B: Board> Held<B> {
 
     /// The squares of this side's pieces of this kind.
     pub(crate) fn of(&self, side: Side, kind: Kind) -> Squares<B>
-        ensures { result ≡ one_of self.now.white_men self.now.white_kings self.now.black_men self.now.black_kings side kind }
+        ensures { result ≡ set_of self.now side kind }
     {
         match (side, kind) {
             (Side::White, Kind::Man) => self.white_men,
@@ -45,7 +45,7 @@ impl<B: Board> Held<B> {
 
     /// The same, and the piece on the square.
     pub(crate) fn with(self, square: Square<B>, piece: Piece) -> Self
-        ensures { (side : Side) (kind : Kind) → one_of result.white_men result.white_kings result.black_men result.black_kings side kind ≡ entered side kind (one_of self.white_men self.white_kings self.black_men self.black_kings side kind) square piece }
+        ensures { (side : Side) (kind : Kind) → set_of result side kind ≡ entered side kind (set_of self side kind) square piece }
     {
         let mut held = self;
         match (piece.side, piece.kind) {
@@ -59,7 +59,7 @@ impl<B: Board> Held<B> {
 
     /// The same, and nothing on the square. It leaves each set without asking which one it is in.
     pub(crate) fn without(self, square: Square<B>) -> Self
-        ensures { (side : Side) (kind : Kind) → one_of result.white_men result.white_kings result.black_men result.black_kings side kind ≡ set.remove (one_of self.white_men self.white_kings self.black_men self.black_kings side kind) square }
+        ensures { (side : Side) (kind : Kind) → set_of result side kind ≡ set.remove (set_of self side kind) square }
     {
         Held {
             white_men: self.white_men.without(square),

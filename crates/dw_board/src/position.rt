@@ -36,7 +36,7 @@ pub struct Position<B: Board> {
 
 impl<B: Board> Model for Position<B> {
     ghost use Rattle.dw_board.specs.Placement.{Placement};
-    ghost use Rattle.dw_board.specs.Standing.{standing, one_of, IsKept};
+    ghost use Rattle.dw_board.specs.Standing.{standing, set_of, IsKept};
     ghost use Rattle.dw_board.specs.declared.piece.Side.TheVariants.{White, Black};
     ghost use Rattle.dw_board.specs.declared.piece.Kind.TheVariants.{Man, King};
 
@@ -44,7 +44,7 @@ impl<B: Board> Model for Position<B> {
 
     ghost view = { λ p. record { cells = p.cells; turn = p.turn } };
 
-    ghost invariant = { λ p. IsKept B.geometry p.cells (one_of p.held.white_men p.held.white_kings p.held.black_men p.held.black_kings) };
+    ghost invariant = { λ p. IsKept B.geometry p.cells (set_of p.held) };
 
     ghost inverse = { λ v. record { cells = v.cells; held = record { white_men = standing v.cells White Man; white_kings = standing v.cells White King; black_men = standing v.cells Black Man; black_kings = standing v.cells Black King }; turn = v.turn; board = record {} } };
 
