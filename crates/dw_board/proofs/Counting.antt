@@ -74,7 +74,7 @@ ones_next g b w n only low =
     ])
 
 -- ---- the squares up to n
-len_more : (v : Squares) (c : Bool) (n : ℕ) → set.contains v n ≡ false → set.len (cond c (set.insert v n) v) ≡ cond c 1 0 + set.len v
+pub len_more : (v : Squares) (c : Bool) (n : ℕ) → set.contains v n ≡ false → set.len (cond c (set.insert v n) v) ≡ cond c 1 0 + set.len v
 len_more v true n e = set.len-insert nat_cmp_total v n ∙ (ap (λ b. cond b (set.len v) (set.len v + 1)) e ∙ add_comm _ 1)
 len_more v false n e = omega arith
 

@@ -1,4 +1,4 @@
--- A position stays one where a piece is put, and the empty one is one.
+-- A position stays one where a piece is put or taken away, and the empty one is one.
 use Rattle.std.proofs.Common.{◌≡◌, ◌∙◌, ℕ, ◌+◌, ◌-◌, ◌≤◌, ◌<◌, ◌≢◌, Bool, true, false, cond, List, Option, Some, None, length, get_or, set, replicate, count_by, refl, subst, arith, get_or-set_other, get_or-set_same, length-set, inl, inr}
 use Rattle.std.proofs.lemmas.Bool.{cases_eq, cases_lt}
 use Rattle.std.proofs.lemmas.List.Sums.{sum_by-set}
@@ -9,7 +9,7 @@ use Rattle.dw_board.specs.declared.piece.Piece.{Piece}
 use Rattle.dw_board.specs.Geometry.{Geometry, squares}
 use Rattle.dw_board.specs.Placement.{IsPosition, is_of, is_stuck, same_side}
 
-same_side-true : (a b : Side) → same_side a b ≡ true → a ≡ b
+pub same_side-true : (a b : Side) → same_side a b ≡ true → a ≡ b
 same_side-true White White e = refl
 same_side-true White Black e = cc
 same_side-true Black White e = cc
@@ -25,6 +25,10 @@ side_fits : (cells : List (Option Piece)) (i : ℕ) (p : Piece) (side : Side) (l
 side_fits cells i p side limit len free fits few =
     counted (same_side p.side side) _ _ limit _ (sum_by-set (λ x. cond (is_of side x) 1 0) cells i (Some p) None len) (rw free refl) fits (λ h. few (same_side-true p.side side h))
 
+-- an emptied cell adds nothing to a side
+fewer : (cells : List (Option Piece)) (i : ℕ) (side : Side) (limit : ℕ) → i < length cells → count_by (is_of side) cells ≤ limit → count_by (is_of side) (set cells i None) ≤ limit
+fewer cells i side limit len fits = let h = sum_by-set (λ x. cond (is_of side x) 1 0) cells i None None len in omega arith
+
 pub IsPosition-put : (g : Geometry) (cells : List (Option Piece)) (s : ℕ) (p : Piece) → IsPosition g cells → 1 ≤ s → s ≤ squares g → s - 1 < length cells
     → get_or cells (s - 1) None ≡ None → is_stuck g s (Some p) ≡ false → count_by (is_of p.side) cells < g.side → IsPosition g (set cells (s - 1) (Some p))
 IsPosition-put g cells s p h low on len free stuck few = record {
@@ -38,7 +42,22 @@ IsPosition-put g cells s p h low on len free stuck few = record {
   ];
 }
 
-empty_cell : (n i : ℕ) → get_or {A = Option Piece} (replicate n None) i None ≡ None
+pub IsPosition-clear : (g : Geometry) (cells : List (Option Piece)) (s : ℕ) → IsPosition g cells → s - 1 < length cells → 1 ≤ s → IsPosition g (set cells (s - 1) None)
+IsPosition-clear g cells s h len low = record {
+  fifty = length-set cells (s - 1) None ∙ h.fifty;
+  on_board = λ t past. elim (cases_eq (t - 1) (s - 1)) [
+    | inl e ↦ rw (e, get_or-set_same) refl
+    | inr ne ↦ rw get_or-set_other (h.on_board t past)
+  ];
+  white_fits = fewer cells (s - 1) White g.side len h.white_fits;
+  black_fits = fewer cells (s - 1) Black g.side len h.black_fits;
+  no_stuck_man = λ t at. elim (cases_eq (t - 1) (s - 1)) [
+    | inl e ↦ rw (e, get_or-set_same) refl
+    | inr ne ↦ rw get_or-set_other (h.no_stuck_man t at)
+  ];
+}
+
+pub empty_cell : (n i : ℕ) → get_or {A = Option Piece} (replicate n None) i None ≡ None
 empty_cell n i = elim (cases_lt i n) [
   | inl h ↦ get_or-replicate n i None None h
   | inr h ↦ get_or_past (replicate n None) i None (rw length-replicate h)

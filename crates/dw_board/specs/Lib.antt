@@ -6,6 +6,7 @@ pub mod Boards
 pub mod BoardLaws
 pub mod Placement
 pub mod PlacementLaws
+pub mod Standing
 pub mod FenTokens
 pub mod FenBlanks
 pub mod FenReader

@@ -6,6 +6,7 @@
 pub mod board;
 pub mod diagram;
 pub mod fen;
+mod held;
 pub mod laws;
 pub mod piece;
 pub mod position;

@@ -1,5 +1,5 @@
 //! Positions: what stands on a board, and whose turn it is.
-ghost use Rattle.std.specs.Prelude.{◌≡◌, ◌≤◌, ◌<◌, ◌↔◌, ℕ, Some, None, Ok, Err, IsTrue, is_ok, count_by, if◌then◌else◌, MatchResult, Result};
+ghost use Rattle.std.specs.Prelude.{◌≡◌, ◌≤◌, ◌<◌, ◌↔◌, ℕ, Some, None, Ok, Err, IsTrue, is_ok, if◌then◌else◌, MatchResult, Result};
 ghost use Rattle.dw_board.specs.Placement.{Placement, IsPosition, placed, put_fault};
 ghost use Rattle.dw_board.specs.Placement as of;
 ghost use Rattle.dw_board.specs.Geometry as Geo;
@@ -15,6 +15,7 @@ ghost use Rattle.std.specs.Ordering.{nat_cmp, on, then_cmp, as_partial_cmp, eq_o
 ghost use Rattle.std.specs.Result.{result_err};
 
 use crate::board::Board;
+use crate::held::Held;
 use crate::piece::{Kind, Piece, PutFault, Side};
 use crate::square::Square;
 use crate::squares::Squares;
@@ -23,23 +24,31 @@ use std::hash::{Hash, Hasher};
 use std::marker::{Model, PhantomData};
 
 /// Pieces on a board, and the side to move. A side has no more pieces than it may, and no man on its last row.
+///
+/// It keeps both what stands on each square and where each side's men and kings stand, and reads either without a search.
 #[derive(Clone, Copy)]
 pub struct Position<B: Board> {
     cells: [Option<Piece>; 50],
+    held: Held<B>,
     turn: Side,
     board: PhantomData<B>,
 }
 
 impl<B: Board> Model for Position<B> {
-    ghost use Rattle.dw_board.specs.Placement.{Placement, IsPosition};
+    ghost use Rattle.dw_board.specs.Placement.{Placement};
+    ghost use Rattle.dw_board.specs.Standing.{standing, set_of, IsKept};
+    ghost use Rattle.dw_board.specs.declared.piece.Side.TheVariants.{White, Black};
+    ghost use Rattle.dw_board.specs.declared.piece.Kind.TheVariants.{Man, King};
 
     ghost Value = { Placement };
 
     ghost view = { λ p. record { cells = p.cells; turn = p.turn } };
 
-    ghost invariant = { λ p. IsPosition B.geometry p.cells };
+    ghost invariant = { λ p. IsKept B.geometry p.cells (set_of p.held) };
 
-    ghost inverse = { λ v. record { cells = v.cells; turn = v.turn; board = record {} } };
+    ghost inverse = { λ v. record { cells = v.cells; held = record { white_men = standing v.cells White Man; white_kings = standing v.cells White King; black_men = standing v.cells Black Man; black_kings = standing v.cells Black King }; turn = v.turn; board = record {} } };
+
+    ghost inverse_ok = { λ a h i. record { cells = a.cells; held = record { white_men = h.standing_is White Man i; white_kings = h.standing_is White King i; black_men = h.standing_is Black Man i; black_kings = h.standing_is Black King i }; turn = a.turn; board = a.board } };
 }
 
 impl<B: Board> Position<B> {
@@ -49,6 +58,7 @@ impl<B: Board> Position<B> {
     {
         Position {
             cells: [None; 50],
+            held: Held::none(),
             turn,
             board: PhantomData,
         }
@@ -70,6 +80,7 @@ impl<B: Board> Position<B> {
             return Err(PutFault::TooMany);
         }
         self.cells[square.number() as usize - 1] = Some(piece);
+        self.held = self.held.with(square, piece);
         Ok(())
     }
 
@@ -80,6 +91,7 @@ impl<B: Board> Position<B> {
     {
         let stood = self.at(square);
         self.cells[square.number() as usize - 1] = None;
+        self.held = self.held.without(square);
         stood
     }
 
@@ -112,42 +124,15 @@ impl<B: Board> Position<B> {
         ensures fits { result ≤ B.geometry.side }
         ensures small { result ≤ 20 }
     {
-        count_of(&self.cells, side)
-    }
-
-    fn stands(&self, square: Square<B>, piece: Piece) -> bool
-        ensures { IsTrue result ↔ (of.at self.now square ≡ Some piece) }
-    {
-        self.at(square) == Some(piece)
+        self.held.of(side, Kind::Man).count() + self.held.of(side, Kind::King).count()
     }
 
     /// The squares on which a piece of this side and kind stands.
     pub fn squares(&self, side: Side, kind: Kind) -> Squares<B>
         ensures { (s : ℕ) → IsTrue (set.contains result s) ↔ (Geo.OnBoard B.geometry s × (of.at self.now s ≡ Some (record { side = side; kind = kind }))) }
     {
-        let mut squares = Squares::none();
-        'squares: for index in 0..B::ROWS * B::PER_ROW {
-            let square = Square::behind(index);
-            if self.stands(square, Piece { side, kind }) {
-                squares = squares.with(square);
-            }
-        }
-        squares
+        self.held.of(side, kind)
     }
-}
-
-fn count_of(cells: &[Option<Piece>; 50], side: Side) -> u8
-    ensures { result ≡ count_by (of.is_of side) cells.now }
-{
-    let mut count = 0;
-    for cell in cells {
-        if let Some(piece) = cell
-            && piece.side == side
-        {
-            count += 1;
-        }
-    }
-    count
 }
 
 /// Whether the piece would be a man on its last row.

@@ -226,6 +226,11 @@ fn pieces(rt: HostRuntime) {
     );
     assert_eq!(rt; position.clear(square_of(&rt, 32)), Some(WHITE_MAN));
     assert_eq!(rt; position.at(square_of(&rt, 32)), None);
+    assert_eq!(rt; position.count(Side::White), 2);
+    assert_eq!(rt;
+        position.squares(Side::White, Kind::Man),
+        set_of(&rt, &[31])
+    );
     let other = position;
     position.set_turn(Side::Black);
     assert_eq!(rt; position.turn(), Side::Black);

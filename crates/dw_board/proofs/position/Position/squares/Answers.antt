@@ -1,22 +1,15 @@
-use Rattle.std.proofs.Common.{◌≡◌, ◌∙◌, ℕ, Some, ap, sym, subst}
-use Rattle.std.proofs.lemmas.Bool.{true≢false}
-use Rattle.dw_board.specs.Placement as of
+use Rattle.std.proofs.Common.{◌∙◌, sym, ap}
 use Rattle.std.specs.FinSet as set
-use Rattle.dw_board.proofs.Held.{Holds-none, Holds-with, Holds-past}
+use Rattle.dw_board.specs.Placement as of
+use Rattle.dw_board.proofs.Standing.{standing-members}
 use Rattle.dw_board.proofs.position.Position.squares.Goals as goal
-use Rattle.dw_board.proofs.position.Position.squares.Goals.{then-stands, else-stands}
 
-pub squares-init : goal.squares-init
-squares-init g c = Holds-none (λ s. of.at c.args.self.now s ≡ Some (record { side = c.args.side; kind = c.args.kind })) c.none-squares.result c.none-squares.ensures
-
-pub squares-preserved : goal.squares-preserved
-squares-preserved g c =
-    let P : ℕ → Type 0 = λ s. of.at c.args.self.now s ≡ Some (record { side = c.args.side; kind = c.args.kind }) in
-    elim c.if-stands.branch [
-      | then-stands w ↦ Holds-with P c.squares.index c.squares.squares c.if-stands.squares c.squares.invariant
-          (subst P c.behind-square.ensures (c.stands.ensures.0 w.if-stands.true))
-          (w.squares-is ∙ (w.with-squares.ensures ∙ ap (set.insert c.squares.squares) c.behind-square.ensures))
-      | else-stands w ↦ Holds-past P c.squares.index c.squares.squares c.if-stands.squares c.squares.invariant
-          (λ h. true≢false (sym (c.stands.ensures.1 (subst P (sym c.behind-square.ensures) h)) ∙ w.if-stands.false))
-          w.squares-is
-    ]
+pub returns : goal.returns
+returns g c = λ s.
+    let is = c.self.invariant in
+    let here = standing-members g.B.Board.geometry g.met.B.Board.numbers c.self.inside.cells is.position c.args.side c.args.kind s in
+    let same = ap (λ v. set.contains v s) (is.standing_is c.args.side c.args.kind ∙ sym c.of.ensures) in
+    let cell = ap (λ v. of.at v s) c.self.view_is in (
+      (λ e. let h = here.0 (same ∙ e) in (h.0, sym cell ∙ h.1)),
+      (λ h. sym same ∙ here.1 (h.0, cell ∙ h.1)),
+    )

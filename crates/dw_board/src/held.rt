@@ -1,0 +1,82 @@
+//! The squares of each side's men and of its kings.
+ghost use Rattle.std.specs.Prelude.{◌≡◌, ⊤};
+ghost use Rattle.std.specs.FinSet as set;
+ghost use Rattle.dw_board.specs.Standing.{set_of, entered};
+
+use crate::board::Board;
+use crate::piece::{Kind, Piece, Side};
+use crate::square::Square;
+use crate::squares::Squares;
+use std::alloc::AllocError;
+
+/// Where the pieces of a position stand: a set of squares for each side and kind.
+#[derive(Copy)]
+pub(crate) struct Held<B: Board> {
+    white_men: Squares<B>,
+    white_kings: Squares<B>,
+    black_men: Squares<B>,
+    black_kings: Squares<B>,
+}
+
+impl<B: Board> Held<B> {
+    /// No piece at all.
+    pub(crate) fn none() -> Self
+        ensures { (side : Side) (kind : Kind) → set_of result side kind ≡ set.empty }
+    {
+        Held {
+            white_men: Squares::none(),
+            white_kings: Squares::none(),
+            black_men: Squares::none(),
+            black_kings: Squares::none(),
+        }
+    }
+
+    /// The squares of this side's pieces of this kind.
+    pub(crate) fn of(&self, side: Side, kind: Kind) -> Squares<B>
+        ensures { result ≡ set_of self.now side kind }
+    {
+        match (side, kind) {
+            (Side::White, Kind::Man) => self.white_men,
+            (Side::White, Kind::King) => self.white_kings,
+            (Side::Black, Kind::Man) => self.black_men,
+            (Side::Black, Kind::King) => self.black_kings,
+        }
+    }
+
+    /// The same, and the piece on the square.
+    pub(crate) fn with(self, square: Square<B>, piece: Piece) -> Self
+        ensures { (side : Side) (kind : Kind) → set_of result side kind ≡ entered side kind (set_of self side kind) square piece }
+    {
+        let mut held = self;
+        match (piece.side, piece.kind) {
+            (Side::White, Kind::Man) => held.white_men = held.white_men.with(square),
+            (Side::White, Kind::King) => held.white_kings = held.white_kings.with(square),
+            (Side::Black, Kind::Man) => held.black_men = held.black_men.with(square),
+            (Side::Black, Kind::King) => held.black_kings = held.black_kings.with(square),
+        }
+        held
+    }
+
+    /// The same, and nothing on the square. It leaves each set without asking which one it is in.
+    pub(crate) fn without(self, square: Square<B>) -> Self
+        ensures { (side : Side) (kind : Kind) → set_of result side kind ≡ set.remove (set_of self side kind) square }
+    {
+        Held {
+            white_men: self.white_men.without(square),
+            white_kings: self.white_kings.without(square),
+            black_men: self.black_men.without(square),
+            black_kings: self.black_kings.without(square),
+        }
+    }
+}
+
+/// By hand: a derived `clone` tells of words, and this one that the sets are the same.
+impl<B: Board> Clone for Held<B> {
+    ghost is_clone = { λ held clone. clone ≡ held };
+
+    ghost is_infallible = { λ _. ⊤ };
+
+    fn clone(&self) -> Result<Self, AllocError> {
+        Ok(*self)
+    }
+}
