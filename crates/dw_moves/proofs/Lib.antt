@@ -27,4 +27,7 @@ pub mod KernelRuns
 pub mod FirstJump
 pub mod FirstStep
 pub mod OrChain
+pub mod Lex
+pub mod Ascending
+pub mod MoveKeys
 pub mod Rows
