@@ -21,6 +21,7 @@ pub mod Taking
 pub mod Quietly
 pub mod Filled
 pub mod TakesThese
+pub mod Followed
 pub mod SquareSets
 pub mod KernelSets
 pub mod KernelRuns

@@ -22,6 +22,15 @@ LandsAt g p m (suc k) landings = IsPathOf g p m (suc k) landings
 abbrev pub LandsOn : Geometry → Placement → Move → List ℕ → Type 0
 LandsOn g p m landings = (k : ℕ) × IsBest g p k × LandsAt g p m k landings
 
+-- m is a capture of as many pieces as can be taken, and these squares are its start and the landings of one of its paths
+pub record IsPathFor (g : Geometry) (p : Placement) (m : Move) (squares : List ℕ) : Type 0 where
+  pub most : ℕ
+  pub best : IsBest g p most
+  pub some : 0 < most
+  pub landings : List ℕ
+  pub leads : IsPathOf g p m most landings
+  pub are : squares ≡ m.from ∷ landings
+
 -- the least path of a move, without its start
 pub record IsLeastPath (g : Geometry) (p : Placement) (m : Move) (landings : List ℕ) : Type 0 where
   pub leads : LandsOn g p m landings
