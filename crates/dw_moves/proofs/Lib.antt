@@ -22,6 +22,7 @@ pub mod Quietly
 pub mod Sweeps
 pub mod Filled
 pub mod TakesThese
+pub mod Followed
 pub mod SquareSets
 pub mod KernelSets
 pub mod KernelRuns
@@ -30,4 +31,7 @@ pub mod FirstStep
 pub mod OrChain
 pub mod StepBack
 pub mod KernelMovers
+pub mod Lex
+pub mod Ascending
+pub mod MoveKeys
 pub mod WorkedPositions

@@ -16,7 +16,8 @@ first_occupied cells [] (s ∷ m) r q c d x y e hl hm hc hd =
     let same : s ≡ c = cc in let empty : at cells c ≡ None = subst (λ z. at cells z ≡ None) same hm.0 in absurd (cc)
 first_occupied cells (s ∷ l) (t ∷ m) r q c d x y e hl hm hc hd = first_occupied cells l m r q c d x y (cc) hl.1 hm.1 hc hd
 
-one_taken : (g : Geometry) → IsBoard g → (cells : Placement) (piece : Piece) (s t c d : ℕ) → OnBoard g s → Jump g cells piece s c t → Jump g cells piece s d t → c ≡ d
+-- a jump between two squares takes one piece
+pub one_taken : (g : Geometry) → IsBoard g → (cells : Placement) (piece : Piece) (s t c d : ℕ) → OnBoard g s → Jump g cells piece s c t → Jump g cells piece s d t → c ≡ d
 one_taken g b cells piece s t c d on h k =
     let same : h.dir ≡ k.dir = one_dir g s t h.dir k.dir (ray_toward g b h.dir s t on (landing_on_ray g cells piece s c t h)) (ray_toward g b k.dir s t on (landing_on_ray g cells piece s d t k)) in
     first_occupied cells h.before k.before (h.behind ++ t ∷ h.beyond) (k.behind ++ t ∷ k.beyond) c d

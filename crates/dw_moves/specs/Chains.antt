@@ -70,3 +70,20 @@ pub record Takes (g : Geometry) (p : Placement) (piece : Piece) (s t : ℕ) (tak
 -- m is a move by a path that takes as many pieces as m says
 abbrev pub IsCapture : Geometry → Placement → Move → Type 0
 IsCapture g p m = (landings : List ℕ) × IsPathOf g p m (set.len m.taken) landings
+
+-- m is a move so far with jumps behind it onto these squares, one after another
+pub record GoesOn (g : Geometry) (p : Placement) (piece : Piece) (begun : Move) (landings : List ℕ) (m : Move) : Type 0 where
+  pub over : List ℕ
+  pub chain : Chain g p piece begun.to begun.taken landings over
+  pub from : m.from ≡ begun.from
+  pub to : m.to ≡ last_of begun.to landings
+  pub taken : m.taken ≡ set.union begun.taken (set.from_list over)
+
+-- m begins on s and jumps onto each of these squares in turn, and takes nothing twice
+pub record LandsOnEach (g : Geometry) (p : Placement) (piece : Piece) (s : ℕ) (landings : List ℕ) (m : Move) : Type 0 where
+  pub over : List ℕ
+  pub jumps : Jumps g p piece s landings over
+  pub once : NoRepeat over
+  pub from : m.from ≡ s
+  pub to : m.to ≡ last_of s landings
+  pub taken : m.taken ≡ set.from_list over

@@ -3,6 +3,7 @@ use Rattle.std.specs.Prelude.{◌≡◌, ℕ, ◌≤◌, ◌↔◌, List, length
 use Rattle.dw_board.specs.Geometry.{Geometry, IsBoard}
 use Rattle.dw_board.specs.Placement.{Placement, IsPosition, count}
 use Rattle.dw_moves.specs.Moves.{Member, Path, IsBest, Move, Legal, other, play}
+use Rattle.dw_moves.specs.Order.{IsKey, Precedes, IsListOf}
 
 -- a path tells what it takes: two paths over the same landings from the same square take the same pieces in the same order
 abbrev pub PathTells : Type 0
@@ -26,3 +27,14 @@ pub record OneBest : Type 0 where
 -- a legal move leads from a position to a position
 abbrev pub PlayStays : Type 0
 PlayStays = (g : Geometry) → IsBoard g → (p : Placement) (m : Move) → IsPosition g p.cells → Legal g p m → IsPosition g (play g p m).cells
+
+-- each legal move has a key, and only one; different moves have different keys
+pub record MovesHaveKeys : Type 0 where
+  pub each : (g : Geometry) (p : Placement) (m : Move) → Legal g p m → (key : List ℕ) × IsKey g p m key
+  pub one : (g : Geometry) (p : Placement) (m : Move) (k l : List ℕ) → IsKey g p m k → IsKey g p m l → k ≡ l
+  pub differ : (g : Geometry) → IsBoard g → (p : Placement) (m n : Move) (k : List ℕ) → IsKey g p m k → IsKey g p n k → m ≡ n
+
+-- some list has exactly the legal moves in ascending order, and only one does
+pub record MovesInOrder : Type 0 where
+  pub some : (g : Geometry) → IsBoard g → (p : Placement) → (moves : List Move) × IsListOf (Precedes g p) (Legal g p) moves
+  pub only : (g : Geometry) (p : Placement) (moves others : List Move) → IsListOf (Precedes g p) (Legal g p) moves → IsListOf (Precedes g p) (Legal g p) others → moves ≡ others

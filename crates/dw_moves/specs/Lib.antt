@@ -1,5 +1,6 @@
 pub mod Moves
 pub mod MoveLaws
+pub mod Order
 pub mod Laws
 pub mod Plain
 pub mod Chains

@@ -13,7 +13,7 @@ use Rattle.dw_board.specs.Placement.{Placement}
 use Rattle.dw_moves.specs.Moves.{Member, Move, Legal, AreLegal}
 
 -- sets with the same items are the same
-same_items : (v w : Squares) → set.items v ≡ set.items w → v ≡ w
+pub same_items : (v w : Squares) → set.items v ≡ set.items w → v ≡ w
 same_items v w e = set.same_set nat_cmp_total set.nat_cmp-IsAntisymmetric v w (λ q. set.contains-items v q ∙ (ap (list_any (eq_by_cmp nat_cmp q)) e ∙ sym (set.contains-items w q)))
 
 -- moves with the same parts are the same

@@ -1,7 +1,7 @@
 //! Laws of the definitions, each the contract of a function that does nothing, and what `==` means.
 ghost use Rattle.std.specs.Prelude.{◌≡◌, ◌↔◌, IsTrue};
 ghost use Rattle.dw_moves.specs.WorkedPositions.{WorkedPositions};
-ghost use Rattle.dw_moves.specs.Laws.{PathTells, PathIsShort, MovesListed, OneBest, PlayStays};
+ghost use Rattle.dw_moves.specs.Laws.{PathTells, PathIsShort, MovesListed, OneBest, PlayStays, MovesHaveKeys, MovesInOrder};
 
 use crate::moves::Move;
 use dw_board::board::Board;
@@ -29,6 +29,16 @@ pub fn one_best()
 /// A legal move leads from a position to a position.
 pub fn play_stays()
     ensures { PlayStays }
+{}
+
+/// Each legal move has a key, and only one; different moves have different keys.
+pub fn moves_have_keys()
+    ensures { MovesHaveKeys }
+{}
+
+/// The legal moves can be listed in ascending order, in one way.
+pub fn moves_in_order()
+    ensures { MovesInOrder }
 {}
 
 /// Worked positions have exactly these legal moves.

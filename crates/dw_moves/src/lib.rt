@@ -3,6 +3,7 @@
 
 pub mod best;
 mod chains;
+pub mod follow;
 mod jumps;
 pub mod kernel;
 pub mod laws;

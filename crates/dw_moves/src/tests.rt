@@ -3,6 +3,7 @@
 mod six;
 
 use crate::best::{best, has_move};
+use crate::follow::follow;
 use crate::kernel::can_capture;
 use crate::laws;
 use crate::legal::{is_legal, legal, legal_into};
@@ -164,6 +165,70 @@ fn on_eight_rows(rt: HostRuntime) {
 fn on_six_rows(rt: HostRuntime) {
     check_counts::<Six>(&rt, rt.alloc(), "W:W13-18:B1-6", 0, 5, 5);
     check_moves::<Six>(&rt, rt.alloc(), "W:W11:B8", &[(11, 6, &[8], "B:W6:B")]);
+}
+
+fn check_path<B: Board>(
+    rt: &impl Abort,
+    alloc: Global,
+    text: &str,
+    numbers: &[u8],
+    made: Option<(u8, u8, &[u8])>,
+) -> Result<(), Fail> {
+    let position = position_of::<B>(rt, text);
+    let mut squares = Vec::new(alloc);
+    for number in numbers {
+        squares.push(square_of::<B>(rt, *number))?;
+    }
+    let step = match made {
+        Some((from, to, taken)) => Some(move_of(rt, from, to, taken)),
+        None => None,
+    };
+    assert!(rt; follow(&position, squares.as_slice()) == step, "{text}");
+    Ok(())
+}
+
+#[test]
+fn follows_paths(rt: HostRuntime) -> Result<(), Fail> {
+    let round = "W:W38:B22,23,32,33";
+    let far = "W:W47:B13,14,22,31,32,41,42";
+    let rows: [(&str, &[u8], Option<(u8, u8, &[u8])>); 9] = [
+        (
+            round,
+            &[38, 27, 18, 29, 38],
+            Some((38, 38, &[22, 23, 32, 33])),
+        ),
+        (
+            round,
+            &[38, 29, 18, 27, 38],
+            Some((38, 38, &[22, 23, 32, 33])),
+        ),
+        (round, &[38, 27, 18], None),
+        (round, &[38, 27, 18, 27, 38], None),
+        (round, &[22, 31], None),
+        (round, &[38], None),
+        (round, &[], None),
+        (
+            far,
+            &[47, 36, 27, 18, 9, 20],
+            Some((47, 20, &[13, 14, 22, 31, 41])),
+        ),
+        (
+            far,
+            &[47, 38, 27, 18, 9, 20],
+            Some((47, 20, &[13, 14, 22, 32, 42])),
+        ),
+    ];
+    for (text, squares, made) in rows {
+        check_path::<Ten>(&rt, rt.alloc(), text, squares, made)?;
+    }
+    check_path::<Ten>(&rt, rt.alloc(), "W:W31-50:B1-20", &[31, 26], None)?;
+    check_path::<Eight>(
+        &rt,
+        rt.alloc(),
+        "W:W22:B18",
+        &[22, 15],
+        Some((22, 15, &[18])),
+    )
 }
 
 #[test]

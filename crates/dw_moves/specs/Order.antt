@@ -1,0 +1,61 @@
+-- The least path of a move, its key, and the order of moves.
+use Rattle.std.specs.Prelude.{◌≡◌, ℕ, ◌<◌, ◌⊎◌, ◌↔◌, List, [], ◌∷◌}
+use Rattle.std.proofs.Common.{zero, suc}
+use Rattle.std.specs.FinSet as set
+use Rattle.dw_board.specs.Geometry.{Geometry}
+use Rattle.dw_board.specs.Placement.{Placement}
+use Rattle.dw_moves.specs.Moves.{Member, Move, Quiet, IsBest, IsPathOf}
+
+-- lists of numbers in lexicographic order; what begins a list comes before it
+abbrev pub LexLess : List ℕ → List ℕ → Type 0
+LexLess [] [] = ⊥
+LexLess [] (y ∷ ys) = Unit {0}
+LexLess (x ∷ xs) [] = ⊥
+LexLess (x ∷ xs) (y ∷ ys) = (x < y) ⊎ ((x ≡ y) × LexLess xs ys)
+
+-- the squares on which a move that takes k pieces may land, one after another
+abbrev pub LandsAt : Geometry → Placement → Move → ℕ → List ℕ → Type 0
+LandsAt g p m zero landings = Quiet g p m.from m.to × (m.taken ≡ set.empty) × (landings ≡ m.to ∷ [])
+LandsAt g p m (suc k) landings = IsPathOf g p m (suc k) landings
+
+-- the squares on which a legal move may land: it takes as many pieces as can be taken
+abbrev pub LandsOn : Geometry → Placement → Move → List ℕ → Type 0
+LandsOn g p m landings = (k : ℕ) × IsBest g p k × LandsAt g p m k landings
+
+-- m is a capture of as many pieces as can be taken, and these squares are its start and the landings of one of its paths
+pub record IsPathFor (g : Geometry) (p : Placement) (m : Move) (squares : List ℕ) : Type 0 where
+  pub most : ℕ
+  pub best : IsBest g p most
+  pub some : 0 < most
+  pub landings : List ℕ
+  pub leads : IsPathOf g p m most landings
+  pub are : squares ≡ m.from ∷ landings
+
+-- the least path of a move, without its start
+pub record IsLeastPath (g : Geometry) (p : Placement) (m : Move) (landings : List ℕ) : Type 0 where
+  pub leads : LandsOn g p m landings
+  pub least : (others : List ℕ) → LandsOn g p m others → LexLess others landings → ⊥
+
+-- all but the last
+abbrev pub front : List ℕ → List ℕ
+front [] = []
+front (s ∷ []) = []
+front (s ∷ t ∷ ts) = s ∷ front (t ∷ ts)
+
+-- from, to, and the squares between on the least path
+abbrev pub IsKey : Geometry → Placement → Move → List ℕ → Type 0
+IsKey g p m key = (landings : List ℕ) × IsLeastPath g p m landings × (key ≡ m.from ∷ m.to ∷ front landings)
+
+-- m comes before n in the order of moves
+abbrev pub Precedes : Geometry → Placement → Move → Move → Type 0
+Precedes g p m n = (k : List ℕ) × (l : List ℕ) × IsKey g p m k × IsKey g p n l × LexLess k l
+
+-- strictly ascending: each element comes before all that follow
+abbrev pub IsAscending : {X : Type 0} → (X → X → Type 0) → List X → Type 0
+IsAscending R [] = Unit {0}
+IsAscending {X} R (x ∷ xs) = ((y : X) → Member y xs → R x y) × IsAscending R xs
+
+-- the strictly ascending list whose members are exactly what P holds of
+pub record IsListOf {X : Type 0} (R : X → X → Type 0) (P : X → Type 0) (xs : List X) : Type 0 where
+  pub ascending : IsAscending R xs
+  pub exactly : (x : X) → Member x xs ↔ P x
