@@ -45,7 +45,9 @@ fn plies_added(rt: &HostRuntime) -> anyhow::Result<usize> {
     let Some(word) = words.get(1) else {
         return Ok(0);
     };
-    let added = word.parse::<usize>().context("the word is no number of plies")?;
+    let added = word
+        .parse::<usize>()
+        .context("the word is no number of plies")?;
     Ok(added.min(MOST_ADDED))
 }
 
