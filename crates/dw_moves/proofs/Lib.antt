@@ -31,4 +31,6 @@ pub mod OrChain
 pub mod Lex
 pub mod Ascending
 pub mod MoveKeys
+pub mod LeastLandings
+pub mod Listing
 pub mod Rows
