@@ -87,6 +87,9 @@ begins g p piece s to left some landings h = by_chain landings h.over h.jumps h.
         behind = record { over = cs; jumps = jumps.1; once = once.1; ends = ends; takes = ap (λ w. fin.remove w c) takes ∙ taken_out (fin.from_list cs) c fresh };
       }
 
+one_vec : (x y : ArrayVec ℕ) → Some x ≡ Some y → x ≡ y
+one_vec x y e = cc
+
 -- the least landings that begin with one of the jumps at indices below i
 pub record LeastOf (g : Geometry) (p : Placement) (piece : Piece) (s to : ℕ) (left : Squares) (items : List (ℕ × ℕ)) (i : ℕ) (o : Option (ArrayVec ℕ)) : Type 0 where
   pub leads : (v : ArrayVec ℕ) → o ≡ Some v → TakesBy g p piece s to left v.items
@@ -118,7 +121,7 @@ pub least_of_more : (g : Geometry) (p : Placement) (piece : Piece) (s to : ℕ) 
     → LeastBy g p piece t to (fin.remove left c) v.items → w.items ≡ t ∷ v.items → IsLesser o w r → LeastOf g p piece s to left items (i + 1) (Some r)
 least_of_more g p piece s to left items i c t o v w r h is jump there behind w_is lesser = record {
   leads = λ u e.
-      let r_is : u ≡ r = one_vec u r e in
+      let r_is : u ≡ r = one_vec u r (sym e) in
       elim lesser.one [
         | inl kept ↦ h.leads u (kept ∙ ap Some (sym r_is))
         | inr new ↦ subst (λ (z : ArrayVec ℕ). TakesBy g p piece s to left z.items) (sym (r_is ∙ new)) (subst (TakesBy g p piece s to left) (sym w_is) (takes_by_more g p piece s c t to left v.items jump there behind.leads))
@@ -140,9 +143,6 @@ least_of_more g p piece s to left items i c t o v w r h is jump there behind w_i
     ],
   );
 } where
-  one_vec : (x y : ArrayVec ℕ) → Some y ≡ Some x → x ≡ y
-  one_vec x y e = cc
-
   not_below : (x y : ℕ) (xs ys : List ℕ) → x ≡ y → (LexLess xs ys → ⊥) → LexLess (x ∷ xs) (y ∷ ys) → ⊥
   not_below x y xs ys e h (inl less) = omega arith
   not_below x y xs ys e h (inr less) = h less.1
@@ -165,9 +165,7 @@ least_of_all g p piece s to left items i o is all some h = if_some (λ (v : Arra
       let k = h.least r.0 b.c b.t b.rest (omega (arith, r.1)) r.2 b.there b.behind in
       let same : v ≡ k.0 = one_vec v k.0 (sym e ∙ k.1) in
       k.2 (subst (λ (z : ArrayVec ℕ). LexLess (b.t ∷ b.rest) z.items) same (subst (λ z. LexLess z v.items) b.is less));
-}) where
-  one_vec : (x y : ArrayVec ℕ) → Some x ≡ Some y → x ≡ y
-  one_vec x y e = cc
+})
 
 pub least_of_nothing : (g : Geometry) (p : Placement) (piece : Piece) (s to : ℕ) (left : Squares) (items : List (ℕ × ℕ)) (i : ℕ) (o : Option (ArrayVec ℕ)) → items ≡ jump_list g p piece s → length items ≤ i → (fin.len left ≡ 0 → ⊥) → LeastOf g p piece s to left items i o → o ≡ None → (landings : List ℕ) → TakesBy g p piece s to left landings → ⊥
 least_of_nothing g p piece s to left items i o is all some h none landings takes =
@@ -182,17 +180,13 @@ lesser_kept o v w is less = record {
   one = inl (sym is);
   below_kept = λ u e below. let same : v ≡ u = one_vec v u (is ∙ e) in lex_irrefl v.items (subst (λ (z : ArrayVec ℕ). LexLess z.items v.items) (sym same) below);
   below_others = λ below. lex_asym v.items w.items less below;
-} where
-  one_vec : (x y : ArrayVec ℕ) → Some x ≡ Some y → x ≡ y
-  one_vec x y e = cc
+}
 
 pub lesser_other : (o : Option (ArrayVec ℕ)) (w : ArrayVec ℕ) → ((v : ArrayVec ℕ) → o ≡ Some v → LexLess v.items w.items → ⊥) → IsLesser o w w
 lesser_other o w h = record { one = inr refl; below_kept = h; below_others = lex_irrefl w.items }
 
 pub lesser_than : (o : Option (ArrayVec ℕ)) (v w : ArrayVec ℕ) → Some v ≡ o → (LexLess v.items w.items → ⊥) → IsLesser o w w
-lesser_than o v w is h = lesser_other o w (λ u e below. let same : v ≡ u = one_vec v u (is ∙ e) in h (subst (λ (z : ArrayVec ℕ). LexLess z.items w.items) (sym same) below)) where
-  one_vec : (x y : ArrayVec ℕ) → Some x ≡ Some y → x ≡ y
-  one_vec x y e = cc
+lesser_than o v w is h = lesser_other o w (λ u e below. let same : v ≡ u = one_vec v u (is ∙ e) in h (subst (λ (z : ArrayVec ℕ). LexLess z.items w.items) (sym same) below))
 
 -- a legal move takes at most twenty pieces
 pub legal_small : (g : Geometry) → IsBoard g → (p : Placement) (m : Move) → IsPosition g p.cells → Legal g p m → fin.len m.taken ≤ 20
