@@ -34,4 +34,6 @@ pub mod KernelMovers
 pub mod Lex
 pub mod Ascending
 pub mod MoveKeys
+pub mod LeastLandings
+pub mod Listing
 pub mod WorkedPositions

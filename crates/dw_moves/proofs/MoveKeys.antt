@@ -102,7 +102,7 @@ lesser_is xs ys = elim (lex_cases xs ys) as (λ c. Lesser xs ys (elim c [ inl e 
 ]
 
 -- nothing in a list that isn't below a bound is below what isn't above it
-not_less : (x y z : List ℕ) → (LexLess x y → ⊥) → (LexLess y z → ⊥) → LexLess x z → ⊥
+pub not_less : (x y z : List ℕ) → (LexLess x y → ⊥) → (LexLess y z → ⊥) → LexLess x z → ⊥
 not_less x y z h k l = elim (lex_cases x y) [
   | inl e ↦ k (subst (λ w. LexLess w z) e l)
   | inr (inl q) ↦ h q
@@ -172,7 +172,7 @@ front_last s t u (v ∷ ts) (w ∷ us) f l =
     let rest : v ∷ ts ≡ w ∷ us = front_last t v w ts us (cc) l in
     let heads : t ≡ u = cc in cc
 
-jumps_long : (g : Geometry) (cells : Placement) (piece : Piece) (s : ℕ) (ts cs : List ℕ) → Jumps g cells piece s ts cs → length ts ≡ length cs
+pub jumps_long : (g : Geometry) (cells : Placement) (piece : Piece) (s : ℕ) (ts cs : List ℕ) → Jumps g cells piece s ts cs → length ts ≡ length cs
 jumps_long g cells piece s [] [] h = refl
 jumps_long g cells piece s [] (c ∷ cs) h = absurd h
 jumps_long g cells piece s (t ∷ ts) [] h = absurd h

@@ -36,7 +36,7 @@ in_list (c ∷ cs) q e = elim (or_cases (eqb q c) (fin.contains (fin.from_list {
 pub contains-remove : (v : Squares) (k q : ℕ) → fin.contains (fin.remove v k) q ≡ (not (eqb q k) && fin.contains v q)
 contains-remove v k q = fin.contains-remove nat_cmp_total v k q ∙ ap (λ b. not b && fin.contains v q) (unsigned_tied q k)
 
-not_both : (b : Bool) → (b ≡ true → ⊥) → b ≡ false
+pub not_both : (b : Bool) → (b ≡ true → ⊥) → b ≡ false
 not_both true h = absurd (h refl)
 not_both false h = refl
 

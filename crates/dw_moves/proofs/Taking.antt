@@ -24,7 +24,7 @@ use Rattle.dw_moves.proofs.TakesThese.{contains-remove, not_removed, apart_false
 abbrev pub start : ℕ → Move
 start from = record { from = from; to = from; taken = fin.empty }
 
-side_fits : (g : Geometry) (p : Placement) (side : Side) → IsPosition g p.cells → count p side ≤ g.side
+pub side_fits : (g : Geometry) (p : Placement) (side : Side) → IsPosition g p.cells → count p side ≤ g.side
 side_fits g p White pos = pos.white_fits
 side_fits g p Black pos = pos.black_fits
 

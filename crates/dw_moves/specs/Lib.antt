@@ -4,5 +4,6 @@ pub mod Order
 pub mod Laws
 pub mod Plain
 pub mod Chains
+pub mod Listing
 pub mod Kernel
 pub mod WorkedPositions

@@ -1,10 +1,11 @@
 -- The least path of a move, its key, and the order of moves.
-use Rattle.std.specs.Prelude.{◌≡◌, ℕ, ◌<◌, ◌⊎◌, ◌↔◌, List, [], ◌∷◌}
+use Rattle.std.specs.Prelude.{◌≡◌, ℕ, ◌<◌, ◌⊎◌, ◌↔◌, List, [], ◌∷◌, map, refl}
+use Rattle.std.specs.Coded.{Coded, code_by, coded×, coded_ℕ, coded_list}
 use Rattle.std.proofs.Common.{zero, suc}
 use Rattle.std.specs.FinSet as set
 use Rattle.dw_board.specs.Geometry.{Geometry}
 use Rattle.dw_board.specs.Placement.{Placement}
-use Rattle.dw_moves.specs.Moves.{Member, Move, Quiet, IsBest, IsPathOf}
+use Rattle.dw_moves.specs.Moves.{Member, Move, Quiet, IsBest, IsPathOf, Legal, move_code}
 
 -- lists of numbers in lexicographic order; what begins a list comes before it
 abbrev pub LexLess : List ℕ → List ℕ → Type 0
@@ -59,3 +60,21 @@ IsAscending {X} R (x ∷ xs) = ((y : X) → Member y xs → R x y) × IsAscendin
 pub record IsListOf {X : Type 0} (R : X → X → Type 0) (P : X → Type 0) (xs : List X) : Type 0 where
   pub ascending : IsAscending R xs
   pub exactly : (x : X) → Member x xs ↔ P x
+
+-- a move with a path, the start first
+pub record Listed : Type 0 where
+  pub step : Move
+  pub path : List ℕ
+
+-- it is stored as its parts
+abbrev pub listed_code : Coded Listed
+listed_code = code_by (Move × List ℕ) (coded× move_code (coded_list coded_ℕ)) (λ l. (l.step, l.path)) (λ p. record { step = p.0; path = p.1 }) (λ _. refl)
+
+-- the path is the move's start and its least landings
+abbrev pub HasLeastPath : Geometry → Placement → Listed → Type 0
+HasLeastPath g p l = (landings : List ℕ) × IsLeastPath g p l.step landings × (l.path ≡ l.step.from ∷ landings)
+
+-- the legal moves in ascending order, each with its least path
+pub record AreListed (g : Geometry) (p : Placement) (list : List Listed) : Type 0 where
+  pub in_order : IsListOf (Precedes g p) (Legal g p) (map (λ l. l.step) list)
+  pub paths : (l : Listed) → Member l list → HasLeastPath g p l

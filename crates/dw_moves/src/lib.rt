@@ -8,6 +8,7 @@ mod jumps;
 pub mod kernel;
 pub mod laws;
 pub mod legal;
+pub mod listed;
 pub mod moves;
 pub mod play;
 pub mod quiet;

@@ -7,6 +7,7 @@ ghost use Rattle.std.specs.Ordering.{on, eq_of_both};
 ghost use Rattle.std.proofs.Common.{rules};
 ghost use Rattle.dw_moves.specs.MoveLaws.{same_moves-is, move_bytes};
 
+use arrayvec::ArrayVec;
 use dw_board::board::Board;
 use dw_board::square::Square;
 use dw_board::squares::Squares;
@@ -90,4 +91,21 @@ impl<B: Board> Hash for Move<B> {
         self.to.hash(state);
         self.taken.hash(state);
     }
+}
+
+/// A move with one of its paths, the start first.
+#[derive(Drop)]
+pub struct Listed<B: Board> {
+    pub step: Move<B>,
+    pub path: ArrayVec<Square<B>, 21>,
+}
+
+impl<B: Board> Model for Listed<B> {
+    ghost use Rattle.dw_moves.specs.Order.{Listed, listed_code};
+
+    ghost Value = { Listed };
+
+    ghost coded = { listed_code };
+
+    ghost view = { λ l. record { step = l.step; path = l.path.items } };
 }

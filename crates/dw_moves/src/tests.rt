@@ -7,6 +7,7 @@ use crate::follow::follow;
 use crate::kernel::can_capture;
 use crate::laws;
 use crate::legal::{is_legal, legal, legal_into};
+use crate::listed::listed;
 use crate::moves::Move;
 use crate::play::play;
 use crate::quiet::quiet_count;
@@ -167,28 +168,34 @@ fn on_six_rows(rt: HostRuntime) {
     check_moves::<Six>(&rt, rt.alloc(), "W:W11:B8", &[(11, 6, &[8], "B:W6:B")]);
 }
 
+fn squares_of<B: Board>(rt: &impl Abort, alloc: Global, numbers: &[u8]) -> Vec<Square<B>> {
+    let mut squares = Vec::new(alloc);
+    for number in numbers {
+        squares
+            .push(square_of::<B>(rt, *number))
+            .expect(rt, "memory");
+    }
+    squares
+}
+
 fn check_path<B: Board>(
     rt: &impl Abort,
     alloc: Global,
     text: &str,
     numbers: &[u8],
     made: Option<(u8, u8, &[u8])>,
-) -> Result<(), Fail> {
+) {
     let position = position_of::<B>(rt, text);
-    let mut squares = Vec::new(alloc);
-    for number in numbers {
-        squares.push(square_of::<B>(rt, *number))?;
-    }
+    let squares = squares_of::<B>(rt, alloc, numbers);
     let step = match made {
         Some((from, to, taken)) => Some(move_of(rt, from, to, taken)),
         None => None,
     };
     assert!(rt; follow(&position, squares.as_slice()) == step, "{text}");
-    Ok(())
 }
 
 #[test]
-fn follows_paths(rt: HostRuntime) -> Result<(), Fail> {
+fn follows_paths(rt: HostRuntime) {
     let round = "W:W38:B22,23,32,33";
     let far = "W:W47:B13,14,22,31,32,41,42";
     let rows: [(&str, &[u8], Option<(u8, u8, &[u8])>); 9] = [
@@ -219,9 +226,9 @@ fn follows_paths(rt: HostRuntime) -> Result<(), Fail> {
         ),
     ];
     for (text, squares, made) in rows {
-        check_path::<Ten>(&rt, rt.alloc(), text, squares, made)?;
+        check_path::<Ten>(&rt, rt.alloc(), text, squares, made);
     }
-    check_path::<Ten>(&rt, rt.alloc(), "W:W31-50:B1-20", &[31, 26], None)?;
+    check_path::<Ten>(&rt, rt.alloc(), "W:W31-50:B1-20", &[31, 26], None);
     check_path::<Eight>(
         &rt,
         rt.alloc(),
@@ -229,6 +236,63 @@ fn follows_paths(rt: HostRuntime) -> Result<(), Fail> {
         &[22, 15],
         Some((22, 15, &[18])),
     )
+}
+
+/// A listed move: its path, and what it takes.
+type Row<'a> = (&'a [u8], &'a [u8]);
+
+fn check_listed<B: Board>(rt: &impl Abort, alloc: Global, text: &str, rows: &[Row<'_>]) {
+    let position = position_of::<B>(rt, text);
+    let list = listed(alloc, &position).expect(rt, "memory");
+    assert_eq!(rt; list.len(), rows.len(), "listed moves at {text}");
+    let mut items = list.as_slice().iter();
+    for (path, taken) in rows {
+        let item = items.next().expect(rt, "a move");
+        let squares = squares_of::<B>(rt, alloc, path);
+        assert!(rt;
+            item.path.as_slice() == squares.as_slice(),
+            "a path at {text}"
+        );
+        let first = *path.first().expect(rt, "a start");
+        let last = *path.last().expect(rt, "an end");
+        assert!(rt;
+            item.step == move_of(rt, first, last, taken),
+            "a move at {text}"
+        );
+    }
+}
+
+#[test]
+fn lists_in_order(rt: HostRuntime) {
+    check_listed::<Ten>(
+        &rt,
+        rt.alloc(),
+        "W:W38:B22,23,32,33",
+        &[(&[38, 27, 18, 29, 38], &[22, 23, 32, 33])],
+    );
+    check_listed::<Ten>(
+        &rt,
+        rt.alloc(),
+        "W:W47:B13,14,22,31,32,41,42",
+        &[
+            (&[47, 36, 27, 18, 9, 20], &[13, 14, 22, 31, 41]),
+            (&[47, 38, 27, 18, 9, 20], &[13, 14, 22, 32, 42]),
+        ],
+    );
+    check_listed::<Ten>(
+        &rt,
+        rt.alloc(),
+        "W:W28:B22,K23",
+        &[(&[28, 17], &[22]), (&[28, 19], &[23])],
+    );
+    check_listed::<Ten>(
+        &rt,
+        rt.alloc(),
+        "W:W7,12:B",
+        &[(&[7, 1], &[]), (&[7, 2], &[]), (&[12, 8], &[])],
+    );
+    check_listed::<Ten>(&rt, rt.alloc(), "W:W:B20", &[]);
+    check_listed::<Eight>(&rt, rt.alloc(), "W:W22:B18", &[(&[22, 15], &[18])]);
 }
 
 #[test]
