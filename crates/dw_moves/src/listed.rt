@@ -20,10 +20,7 @@ use dw_board::squares::Squares;
 use std::alloc::{AllocError, Global};
 
 /// All legal moves in ascending order, each once and with its least path; or want of memory.
-pub fn listed<B: Board>(
-    alloc: Global,
-    position: &Position<B>,
-) -> Result<Vec<Listed<B>>, AllocError>
+pub fn listed<B: Board>(alloc: Global, position: &Position<B>) -> Result<Vec<Listed<B>>, AllocError>
     ensures { IfOk result (λ list. AreListed B.geometry position.now list.items) }
 {
     let moves = legal(alloc, position)?;
