@@ -11,3 +11,4 @@ pub mod Passing
 pub mod TagReading
 pub mod TagBreaking
 pub mod SectionReading
+pub mod MoveTexts
