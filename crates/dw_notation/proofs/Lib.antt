@@ -12,3 +12,4 @@ pub mod TagReading
 pub mod TagBreaking
 pub mod SectionReading
 pub mod MoveTexts
+pub mod LineTexts

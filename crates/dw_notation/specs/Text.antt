@@ -1,10 +1,10 @@
 -- The texts of moves and of lines.
-use Rattle.std.specs.Prelude.{◌≡◌, ℕ, ◌+◌, ◌==◌, ◌&&◌, nat_lt, if◌then◌else◌, not, Bool, true, List, [], ◌∷◌, ◌++◌, map, count_by, codes, decimal}
+use Rattle.std.specs.Prelude.{◌≡◌, ℕ, ◌+◌, ◌/◌, ◌%◌, ◌==◌, ◌&&◌, nat_lt, if◌then◌else◌, Bool, List, [], ◌∷◌, ◌++◌, map, count_by, codes, decimal}
 use Rattle.std.specs.List.{join_with_byte}
 use Rattle.std.specs.FinSet as set
 use Rattle.dw_board.specs.Geometry.{Geometry}
 use Rattle.dw_board.specs.Placement.{Placement}
-use Rattle.dw_moves.specs.Moves.{Member, Move, play}
+use Rattle.dw_moves.specs.Moves.{Member, Move, Legal, play}
 use Rattle.dw_moves.specs.Order.{Listed, AreListed}
 
 -- the numbers of squares with a mark between them
@@ -40,20 +40,21 @@ pub record IsMoveText (g : Geometry) (p : Placement) (m : Move) (text : List ℕ
   pub same : item.step ≡ m
   pub is : text ≡ text_among list item
 
--- the attacker's moves have their number and a dot before them
-abbrev pub numbered_words : Bool → ℕ → List (List ℕ) → List (List ℕ)
-numbered_words attacks number words = if attacks then (decimal number ++ codes ".") ∷ words else words
+-- moves that can be played one after another
+abbrev pub ArePlayable : Geometry → Placement → List Move → Type 0
+ArePlayable g p [] = Unit {0}
+ArePlayable g p (m ∷ moves) = Legal g p m × ArePlayable g (play g p m) moves
 
--- the number of the attacker's next move
-abbrev pub next_number : Bool → ℕ → ℕ
-next_number attacks number = if attacks then number else number + 1
+-- the attacker moves at the even plies, counted from 0, and has the number of the move and a dot before it
+abbrev pub numbered : ℕ → List (List ℕ) → List (List ℕ)
+numbered ply words = if ply % 2 == 0 then (decimal (ply / 2 + 1) ++ codes ".") ∷ words else words
 
--- the words of moves that are played one after another
-abbrev pub AreWords : Geometry → Placement → Bool → ℕ → List Move → List (List ℕ) → Type 0
-AreWords g p attacks number [] words = words ≡ []
-AreWords g p attacks number (m ∷ moves) words = (text : List ℕ) × (rest : List (List ℕ)) × IsMoveText g p m text
-    × AreWords g (play g p m) (not attacks) (next_number attacks number) moves rest × (words ≡ numbered_words attacks number (text ∷ rest))
+-- the words of moves that are played one after another, from a ply on
+abbrev pub AreWords : Geometry → Placement → ℕ → List Move → List (List ℕ) → Type 0
+AreWords g p ply [] words = words ≡ []
+AreWords g p ply (m ∷ moves) words = (text : List ℕ) × (rest : List (List ℕ)) × IsMoveText g p m text
+    × AreWords g (play g p m) (ply + 1) moves rest × (words ≡ numbered ply (text ∷ rest))
 
 -- the text of a line: its words with blanks between them, as in 1. 45-40 16-21 2. 27x16
 abbrev pub IsLineText : Geometry → Placement → List Move → List ℕ → Type 0
-IsLineText g p moves text = (words : List (List ℕ)) × AreWords g p true 1 moves words × (text ≡ join_with_byte 32 words)
+IsLineText g p moves text = (words : List (List ℕ)) × AreWords g p 0 moves words × (text ≡ join_with_byte 32 words)

@@ -4,6 +4,7 @@
 #![tactic(auto)]
 
 pub mod laws;
+pub mod line_text;
 pub mod move_text;
 pub mod problems;
 pub mod streams;

@@ -1,0 +1,20 @@
+-- How the text of a line is written, word by word.
+use Rattle.std.specs.Prelude.{◌≡◌, ℕ, List, [], ◌∷◌, ◌++◌}
+use Rattle.std.specs.List.{join_with_byte}
+use Rattle.std.proofs.Common.{zero, suc}
+use Rattle.dw_moves.specs.Moves.{Member, Move}
+use Rattle.dw_moves.specs.Order.{Listed}
+
+-- one of these is this move
+abbrev pub HasStep : List Listed → Move → Type 0
+HasStep list m = (l : Listed) × Member l list × (l.step ≡ m)
+
+-- words with a blank before each
+abbrev pub spaced : List (List ℕ) → List ℕ
+spaced [] = []
+spaced (w ∷ words) = 32 ∷ (w ++ spaced words)
+
+-- what words add to the text of a line at a ply
+abbrev pub onto : ℕ → List (List ℕ) → List ℕ
+onto zero words = join_with_byte 32 words
+onto (suc ply) words = spaced words
