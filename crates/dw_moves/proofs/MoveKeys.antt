@@ -9,7 +9,7 @@ use Rattle.dw_board.specs.Placement.{Placement, placed}
 use Rattle.dw_board.specs.SquareSet.{Squares}
 use Rattle.dw_moves.specs.Moves.{Member, Move, Jumps, Path, Legal, LegalAt, last_of}
 use Rattle.dw_moves.specs.MoveLaws.{same_items, same_move}
-use Rattle.dw_moves.specs.Order.{LexLess, LandsAt, front, IsKey, Precedes, IsListOf}
+use Rattle.dw_moves.specs.Order.{LexLess, LandsAt, front, IsKey, IsLeastPath, Precedes, IsListOf, Listed, HasLeastPath, AreListed}
 use Rattle.dw_moves.proofs.Plain.{Capture, path_list, best, legal_list}
 use Rattle.dw_moves.proofs.Members.{mem_map, mem_map_back, mem_filter, mem_filter_back}
 use Rattle.dw_moves.proofs.LegalMoves.{path_from, path_in, is_best, best_only, legal_from, legal_in}
@@ -141,19 +141,23 @@ lands_somewhere : (g : Geometry) (p : Placement) (m : Move) (k : ℕ) → LegalA
 lands_somewhere g p m zero legal = (m.to ∷ [], (legal.0, legal.1, refl))
 lands_somewhere g p m (suc k) legal = legal
 
-pub key_is : (g : Geometry) (p : Placement) (m : Move) → Legal g p m → IsKey g p m (key_of g p m)
-key_is g p m legal =
+-- the least of its landings
+abbrev pub least_landings : Geometry → Placement → Move → List ℕ
+least_landings g p m = least_in (landings_at g p m (best g p))
+
+least_path_is : (g : Geometry) (p : Placement) (m : Move) → Legal g p m → IsLeastPath g p m (least_landings g p m)
+least_path_is g p m legal =
     let k = best g p in
     let at_best : LegalAt g p k m = subst (λ k. LegalAt g p k m) (best_only g p legal.0 k legal.1 (is_best g p)) legal.2 in
     let some = lands_somewhere g p m k at_best in
-    let h = least_in_is (landings_at g p m k) some.0 (lands_in_list g p m k some.0 some.1) in (
-      least_in (landings_at g p m k),
-      record {
-        leads = (k, is_best g p, lands_from_list g p m k (least_in (landings_at g p m k)) at_best h.0);
-        least = λ others o. h.1 others (lands_in_list g p m k others (subst (λ k. LandsAt g p m k others) (best_only g p o.0 k o.1 (is_best g p)) o.2));
-      },
-      refl,
-    )
+    let h = least_in_is (landings_at g p m k) some.0 (lands_in_list g p m k some.0 some.1) in
+    record {
+      leads = (k, is_best g p, lands_from_list g p m k (least_in (landings_at g p m k)) at_best h.0);
+      least = λ others o. h.1 others (lands_in_list g p m k others (subst (λ k. LandsAt g p m k others) (best_only g p o.0 k o.1 (is_best g p)) o.2));
+    }
+
+pub key_is : (g : Geometry) (p : Placement) (m : Move) → Legal g p m → IsKey g p m (key_of g p m)
+key_is g p m legal = (least_landings g p m, least_path_is g p m legal, refl)
 
 pub one_key : (g : Geometry) (p : Placement) (m : Move) (k l : List ℕ) → IsKey g p m k → IsKey g p m l → k ≡ l
 one_key g p m k l h f =
@@ -228,6 +232,54 @@ in_order g b p = record {
   );
 }
 
+-- a move with its least path
+abbrev pub listing_of : Geometry → Placement → Move → Listed
+listing_of g p m = record { step = m; path = m.from ∷ least_landings g p m }
+
+abbrev pub listing : Geometry → Placement → List Listed
+listing g p = map (listing_of g p) (ordered g p)
+
+listing_steps : (g : Geometry) (p : Placement) (moves : List Move) → map (λ (l : Listed). l.step) (map (listing_of g p) moves) ≡ moves
+listing_steps g p [] = refl
+listing_steps g p (m ∷ moves) = ap (λ z. m ∷ z) (listing_steps g p moves)
+
+pub listed_in_order : (g : Geometry) → IsBoard g → (p : Placement) → AreListed g p (listing g p)
+listed_in_order g b p =
+    let order = in_order g b p in
+    record {
+      in_order = subst (IsListOf (Precedes g p) (Legal g p)) (sym (listing_steps g p (ordered g p))) order;
+      paths = λ l m.
+          let f = mem_map_back (listing_of g p) l (ordered g p) m in
+          subst (HasLeastPath g p) (sym f.2) (least_landings g p f.0, least_path_is g p f.0 ((order.exactly f.0).0 f.1), refl);
+    }
+
+-- a move has one least path
+one_path : (g : Geometry) (p : Placement) (l k : Listed) → l.step ≡ k.step → HasLeastPath g p l → HasLeastPath g p k → l ≡ k
+one_path g p l k same h f =
+    let f' : IsLeastPath g p l.step f.0 = subst (λ z. IsLeastPath g p z f.0) (sym same) f.1 in
+    let landings : h.0 ≡ f.0 = elim (lex_cases h.0 f.0) [
+      | inl e ↦ e
+      | inr (inl less) ↦ absurd (f'.least h.0 h.1.leads less)
+      | inr (inr more) ↦ absurd (h.1.least f.0 f'.leads more)
+    ] in
+    let paths : l.path ≡ k.path = h.2 ∙ (ap (λ z. l.step.from ∷ z) landings ∙ (ap (λ (m : Move). m.from ∷ f.0) same ∙ sym f.2)) in
+    λ i. record { step = same i; path = paths i }
+
+one_listing : (g : Geometry) (p : Placement) (list others : List Listed) → map (λ (l : Listed). l.step) list ≡ map (λ (l : Listed). l.step) others → ((l : Listed) → Member l list → HasLeastPath g p l) → ((l : Listed) → Member l others → HasLeastPath g p l) → list ≡ others
+one_listing g p [] [] e h f = refl
+one_listing g p [] (k ∷ others) e h f = cc
+one_listing g p (l ∷ list) [] e h f = cc
+one_listing g p (l ∷ list) (k ∷ others) e h f =
+    let heads : l.step ≡ k.step = cc in
+    let tails : map (λ (l : Listed). l.step) list ≡ map (λ (l : Listed). l.step) others = cc in
+    let one = one_path g p l k heads (h l (inl refl)) (f k (inl refl)) in
+    let rest = one_listing g p list others tails (λ z m. h z (inr m)) (λ z m. f z (inr m)) in
+    λ i. one i ∷ rest i
+
 -- only one list has them in order
 pub one_order : (g : Geometry) (p : Placement) (moves others : List Move) → IsListOf (Precedes g p) (Legal g p) moves → IsListOf (Precedes g p) (Legal g p) others → moves ≡ others
 one_order g p = list_only (Precedes g p) (Legal g p) (precedes_asym g p)
+
+-- and with their least paths
+pub one_list : (g : Geometry) (p : Placement) (list others : List Listed) → AreListed g p list → AreListed g p others → list ≡ others
+one_list g p list others h k = one_listing g p list others (one_order g p (map (λ (l : Listed). l.step) list) (map (λ (l : Listed). l.step) others) h.in_order k.in_order) h.paths k.paths

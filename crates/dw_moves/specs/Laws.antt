@@ -3,7 +3,7 @@ use Rattle.std.specs.Prelude.{◌≡◌, ℕ, ◌≤◌, ◌↔◌, List, length
 use Rattle.dw_board.specs.Geometry.{Geometry, IsBoard}
 use Rattle.dw_board.specs.Placement.{Placement, IsPosition, count}
 use Rattle.dw_moves.specs.Moves.{Member, Path, IsBest, Move, Legal, other, play}
-use Rattle.dw_moves.specs.Order.{IsKey, Precedes, IsListOf}
+use Rattle.dw_moves.specs.Order.{IsKey, Precedes, IsListOf, Listed, AreListed}
 
 -- a path tells what it takes: two paths over the same landings from the same square take the same pieces in the same order
 abbrev pub PathTells : Type 0
@@ -34,7 +34,9 @@ pub record MovesHaveKeys : Type 0 where
   pub one : (g : Geometry) (p : Placement) (m : Move) (k l : List ℕ) → IsKey g p m k → IsKey g p m l → k ≡ l
   pub differ : (g : Geometry) → IsBoard g → (p : Placement) (m n : Move) (k : List ℕ) → IsKey g p m k → IsKey g p n k → m ≡ n
 
--- some list has exactly the legal moves in ascending order, and only one does
+-- some list has exactly the legal moves in ascending order, and only one does; so has one with their least paths
 pub record MovesInOrder : Type 0 where
   pub some : (g : Geometry) → IsBoard g → (p : Placement) → (moves : List Move) × IsListOf (Precedes g p) (Legal g p) moves
   pub only : (g : Geometry) (p : Placement) (moves others : List Move) → IsListOf (Precedes g p) (Legal g p) moves → IsListOf (Precedes g p) (Legal g p) others → moves ≡ others
+  pub listed : (g : Geometry) → IsBoard g → (p : Placement) → (list : List Listed) × AreListed g p list
+  pub same : (g : Geometry) (p : Placement) (list others : List Listed) → AreListed g p list → AreListed g p others → list ≡ others

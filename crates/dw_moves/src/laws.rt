@@ -36,7 +36,7 @@ pub fn moves_have_keys()
     ensures { MovesHaveKeys }
 {}
 
-/// The legal moves can be listed in ascending order, in one way.
+/// The legal moves can be listed in ascending order, in one way, and each with its least path.
 pub fn moves_in_order()
     ensures { MovesInOrder }
 {}

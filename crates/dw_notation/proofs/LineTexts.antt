@@ -134,12 +134,6 @@ member_at [] i d low = absurd (omega (arith, low))
 member_at (x ∷ list) zero d low = inl refl
 member_at (x ∷ list) (suc i) d low = inr (member_at list i d (omega (arith, low)))
 
--- the element at an index is the same, whatever stands for none
-pub any_default : (list : List Listed) (i : ℕ) (d e : Listed) → i < length list → get_or list i d ≡ get_or list i e
-any_default [] i d e low = absurd (omega (arith, low))
-any_default (x ∷ list) zero d e low = refl
-any_default (x ∷ list) (suc i) d e low = any_default list i d e (omega (arith, low))
-
 -- a legal move is one of the list of all
 pub legal_has_step : (g : Geometry) (p : Placement) (m : Move) (list : List Listed) → AreListed g p list → Legal g p m → HasStep list m
 legal_has_step g p m list all legal = back list ((all.in_order.exactly m).1 legal) where

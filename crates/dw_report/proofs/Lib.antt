@@ -1,2 +1,3 @@
 pub mod ChosenLemmas
+pub mod MoveLines
 pub mod Runs

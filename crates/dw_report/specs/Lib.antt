@@ -1,3 +1,5 @@
 pub mod Chosen
 pub mod Report
+pub mod Writing
 pub mod Running
+pub mod Laws

@@ -1,18 +1,22 @@
 -- The report: for each chosen problem, in order, its text.
-use Rattle.std.specs.Prelude.{ℕ, Option, Ok, Err, List, [], ◌++◌, filter, codes, decimal}
+use Rattle.std.specs.Prelude.{◌≡◌, ℕ, Option, Ok, Err, List, [], ◌∷◌, ◌++◌, length, filter, codes, decimal}
 use Rattle.std.specs.List.{flat_map}
 use Rattle.dw_board.specs.Geometry.{Geometry}
+use Rattle.dw_board.specs.Placement.{Placement}
 use Rattle.dw_board.specs.FenText.{written}
 use Rattle.dw_board.specs.Diagram.{diagram_text}
 use Rattle.dw_board.specs.declared.fen.fault.FenFaultKind.{FenFaultKind}
 use Rattle.dw_board.specs.declared.fen.fault.FenFaultKind.TheVariants.{Turn, Colon, Colour, Number, Twice, SameColour, LastRow, TooMany, Rest, TooLong, RangeBackwards}
+use Rattle.dw_moves.specs.Moves.{IsBest, play}
+use Rattle.dw_moves.specs.Order.{Listed, AreListed}
+use Rattle.dw_notation.specs.Text.{text_among}
 use Rattle.dw_notation.specs.Found.{Found}
 use Rattle.dw_notation.specs.Problems.{Numbered, problems_of}
 use Rattle.dw_notation.specs.declared.problems.ProblemFault.{ProblemFault}
 use Rattle.dw_notation.specs.declared.problems.ProblemFault.TheVariants.{Fen, NoFen, TwoFens, WrongGame, LineTooLong, SectionTooLong, UnclosedTag, UnclosedComment, TooManyProblems}
 use Rattle.dw_report.specs.Chosen.{number_is_chosen}
 use Rattle.dw_report.specs.declared.settings.Command.{Command}
-use Rattle.dw_report.specs.declared.settings.Command.TheVariants.{Show}
+use Rattle.dw_report.specs.declared.settings.Command.TheVariants.{Show, Moves}
 use Rattle.dw_report.specs.declared.settings.Settings.{Settings}
 
 -- the number and the name of a fault of a FEN text
@@ -49,21 +53,50 @@ found_text g (Err fault) = codes "refused: " ++ refusal_text fault
 abbrev pub first_line : Geometry → Numbered → List ℕ
 first_line g problem = codes "problem " ++ decimal problem.number ++ codes ": " ++ found_text g problem.found ++ codes "\n"
 
--- what the command adds for a position; nothing follows a refusal
-abbrev pub further_lines : Geometry → Command → Found → List ℕ
-further_lines g Show (Ok position) = diagram_text g position
-further_lines g Show (Err fault) = []
+-- what is written of one of the legal moves: its text, and the position after it
+abbrev pub move_line : Geometry → Placement → List Listed → Listed → List ℕ
+move_line g p list l = text_among list l ++ codes " " ++ written g (play g p l.step) ++ codes "\n"
 
-unfoldable pub problem_text : Geometry → Command → Numbered → List ℕ
-problem_text g command problem = first_line g problem ++ further_lines g command problem.found
+-- how many moves there are, and how many pieces each of them takes
+abbrev pub count_line : ℕ → ℕ → List ℕ
+count_line moves taken = codes "moves " ++ decimal moves ++ codes " taking " ++ decimal taken ++ codes "\n"
+
+-- the lines of all legal moves in order, and their count
+pub record IsMovesText (g : Geometry) (p : Placement) (text : List ℕ) : Type 0 where
+  pub list : List Listed
+  pub all : AreListed g p list
+  pub most : ℕ
+  pub best : IsBest g p most
+  pub is : text ≡ flat_map (move_line g p list) list ++ count_line (length list) most
+
+-- what the command says of a position
+abbrev pub IsAnswer : Geometry → Command → Placement → List ℕ → Type 0
+IsAnswer g Show p text = text ≡ diagram_text g p
+IsAnswer g Moves p text = IsMovesText g p text
+
+-- what follows a first line: the answer, and nothing behind a refusal
+abbrev pub IsFurther : Geometry → Command → Found → List ℕ → Type 0
+IsFurther g command (Ok p) text = IsAnswer g command p text
+IsFurther g command (Err fault) text = text ≡ []
+
+-- the text of a problem: its first line, and what follows it
+pub record IsProblemText (g : Geometry) (command : Command) (problem : Numbered) (text : List ℕ) : Type 0 where
+  pub further : List ℕ
+  pub follows : IsFurther g command problem.found further
+  pub is : text ≡ first_line g problem ++ further
+
+-- the texts of problems, one behind another
+abbrev pub AreTexts : Geometry → Command → List Numbered → List ℕ → Type 0
+AreTexts g command [] text = text ≡ []
+AreTexts g command (problem ∷ problems) text = (one : List ℕ) × (rest : List ℕ) × IsProblemText g command problem one × AreTexts g command problems rest × (text ≡ one ++ rest)
 
 abbrev pub chosen : Option ℕ → List Numbered → List Numbered
 chosen only problems = filter (λ problem. number_is_chosen only problem.number) problems
 
 -- the texts of the chosen ones among some problems
-abbrev pub report_on : Geometry → Settings → List Numbered → List ℕ
-report_on g settings problems = flat_map (problem_text g settings.command) (chosen settings.only problems)
+abbrev pub IsReportOn : Geometry → Settings → List Numbered → List ℕ → Type 0
+IsReportOn g settings problems text = AreTexts g settings.command (chosen settings.only problems) text
 
 -- the report on a byte text
-abbrev pub report : Geometry → Settings → List ℕ → List ℕ
-report g settings bytes = report_on g settings (problems_of g settings.form bytes)
+abbrev pub IsReport : Geometry → Settings → List ℕ → List ℕ → Type 0
+IsReport g settings bytes text = IsReportOn g settings (problems_of g settings.form bytes) text

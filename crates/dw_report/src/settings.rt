@@ -10,6 +10,9 @@ use thiserror::Error;
 pub enum Command {
     /// The position, as a diagram.
     Show,
+    /// All legal moves in order, each with the position after it; then how many they are, and how many pieces each
+    /// of them takes.
+    Moves,
 }
 
 /// What a run is asked to do.
@@ -55,9 +58,23 @@ pub struct Summary {
     pub refused: u32,
 }
 
+/// Why a run was stopped.
+#[derive(Clone, Copy, Debug, PartialEq, Eq, Error)]
+pub enum Stop {
+    /// Memory was refused.
+    #[error("1 memory")]
+    Memory,
+    /// The limit on the positions to expand was reached. No command meets it yet.
+    #[error("2 limit")]
+    Limit,
+}
+
 /// Why a run ended before its report was whole.
 #[derive(Clone, Copy, Debug, PartialEq, Eq, Error)]
 pub enum RunFault {
+    /// It was stopped, after this many positions were expanded: none, since nothing is searched yet.
+    #[error("stopped: {why}, {expanded} expanded")]
+    Stopped { why: Stop, expanded: u64 },
     /// The source failed.
     #[error("read failed")]
     Read,

@@ -1,36 +1,22 @@
 //! The texts of the report.
-ghost use Rattle.std.specs.Prelude.{◌≡◌, ◌++◌, codes, decimal};
-ghost use Rattle.dw_report.specs.Report.{fen_fault_text, refusal_text, found_text, first_line as line_of, problem_text as text_of};
+ghost use Rattle.std.specs.Prelude.{◌≡◌, ◌<◌, ◌++◌, length, codes, decimal, HoldsAt};
+ghost use Rattle.dw_moves.specs.Order.{AreListed};
+ghost use Rattle.dw_report.specs.Report.{fen_fault_text, refusal_text, found_text, first_line as line_of, move_line as line_of_move, count_line as line_of_count};
 ghost use Rattle.dw_notation.specs.Problems.{numbered};
 
-use crate::settings::Command;
 use arrayvec::ArrayString;
 use dw_board::board::Board;
-use dw_board::diagram::diagram;
 use dw_board::fen::fault::{FenFault, FenFaultKind};
 use dw_board::fen::write::fen_text;
+use dw_board::position::Position;
+use dw_moves::moves::Listed;
+use dw_moves::play::play;
+use dw_notation::move_text::move_text;
 use dw_notation::problems::{Problem, ProblemFault};
 use itoa::Buffer;
 
-/// The text of a problem, with all its lines: at most 384 bytes.
-#[tactic(auto, unfolding(crate::specs::Report::problem_text))]
-pub fn problem_text<B: Board>(command: Command, problem: &Problem<B>) -> ArrayString<384>
-    ensures { result.bytes ≡ text_of B.geometry command (numbered problem.now) }
-{
-    let mut text = ArrayString::new();
-    text.push_str(first_line(problem).as_str());
-    match command {
-        Command::Show => {
-            if let Ok(position) = &problem.found {
-                text.push_str(diagram(position).as_str());
-            }
-        }
-    }
-    text
-}
-
 /// A problem's first line: its number, and its position as it is written or why it is refused.
-fn first_line<B: Board>(problem: &Problem<B>) -> ArrayString<254>
+pub fn first_line<B: Board>(problem: &Problem<B>) -> ArrayString<254>
     ensures { result.bytes ≡ line_of B.geometry (numbered problem.now) }
 {
     let mut line = ArrayString::new();
@@ -39,6 +25,38 @@ fn first_line<B: Board>(problem: &Problem<B>) -> ArrayString<254>
     line.push_str(digits.format(problem.number));
     line.push_str(": ");
     line.push_str(answer_text(problem).as_str());
+    line.push_str("\n");
+    line
+}
+
+/// The line of a legal move: its text, and the position after it. The place is that of the move in the list of all.
+pub fn move_line<B: Board>(
+    position: &Position<B>,
+    list: &[Listed<B>],
+    place: usize,
+) -> ArrayString<264>
+    requires all { AreListed B.geometry position.now list.now }
+    requires place { place < length list.now }
+    ensures { HoldsAt (λ item. result.bytes ≡ line_of_move B.geometry position.now list.now item) list.now place }
+{
+    let item = &list[place];
+    let mut line = ArrayString::new();
+    line.push_str(move_text(list, place).as_str());
+    line.push_str(" ");
+    line.push_str(fen_text(&play(position, &item.step)).as_str());
+    line.push_str("\n");
+    line
+}
+
+/// The last line of a list of moves: how many they are, and how many pieces each of them takes.
+pub fn count_line(moves: usize, taken: u8) -> ArrayString<64>
+    ensures { result.bytes ≡ line_of_count moves taken }
+{
+    let mut line = ArrayString::new();
+    line.push_str("moves ");
+    line.push_str(Buffer::new().format(moves));
+    line.push_str(" taking ");
+    line.push_str(Buffer::new().format(taken));
     line.push_str("\n");
     line
 }
