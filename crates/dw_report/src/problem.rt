@@ -2,6 +2,7 @@
 ghost use Rattle.std.specs.Prelude.{◌≡◌, ◌≢◌, Ok, Err};
 ghost use Rattle.dw_notation.specs.Problems.{numbered};
 ghost use Rattle.dw_report.specs.Report.{IsProblemText, IsAnswer, IsMovesText};
+ghost use Rattle.dw_report.specs.declared.problem.TextFault.TheVariants as because;
 ghost use Rattle.dw_report.specs.Running.{TextEnds, SinkEnds, IsProblemPart, AreLinesOf};
 
 use crate::laws::one_report;
@@ -28,7 +29,7 @@ pub enum TextFault {
 }
 
 impl From<AllocError> for TextFault {
-    ghost from_gives = { λ _ fault. fault ≡ TextFault.Memory };
+    ghost from_gives = { λ _ fault. fault ≡ because.Memory };
 
     fn from(_refused: AllocError) -> TextFault {
         TextFault::Memory
@@ -36,7 +37,7 @@ impl From<AllocError> for TextFault {
 }
 
 impl From<WriteFault> for TextFault {
-    ghost from_gives = { λ _ fault. fault ≡ TextFault.Sink };
+    ghost from_gives = { λ _ fault. fault ≡ because.Sink };
 
     fn from(_failed: WriteFault) -> TextFault {
         TextFault::Sink

@@ -1,0 +1,77 @@
+-- Lemmas on texts that are written piece by piece.
+use Rattle.std.proofs.Common.{◌≡◌, ℕ, List, [], ◌∷◌, ◌++◌, refl, sym, ap, ◌∙◌, subst, inl, append_assoc, append-nil, Option, Result, Ok, Err}
+use Rattle.std.specs.Io.KnownBytes.{Appends}
+use Rattle.std.proofs.KnownBytes.{Appends-trans, Appends-nil}
+use Rattle.dw_board.specs.Geometry.{Geometry, IsBoard}
+use Rattle.dw_board.specs.Placement.{Placement}
+use Rattle.dw_notation.specs.Problems.{Numbered}
+use Rattle.dw_notation.specs.Writes.{StopsShort}
+use Rattle.dw_report.specs.Report.{IsAnswer, IsFurther, IsProblemText, AreTexts, first_line}
+use Rattle.dw_report.specs.Running.{TextEnds, AreLinesOf, IsProblemPart}
+use Rattle.dw_report.specs.Writing.{Writes, WritesShort}
+use Rattle.dw_report.specs.declared.problem.TextFault.{TextFault}
+use Rattle.dw_report.specs.declared.problem.TextFault.TheVariants.{Memory, Sink}
+use Rattle.dw_report.specs.declared.settings.Command.{Command}
+
+pub at_memory : {X : Type 0} (P Part : List ℕ → Type 0) (old new : Option (List ℕ)) (result : Result X TextFault) → result ≡ Err Memory → Writes Part old new → TextEnds P Part old new result
+at_memory P Part old new result e h = subst (TextEnds P Part old new) (sym e) h
+
+pub at_sink : {X : Type 0} (P Part : List ℕ → Type 0) (old new : Option (List ℕ)) (result : Result X TextFault) → result ≡ Err Sink → WritesShort P old new → TextEnds P Part old new result
+at_sink P Part old new result e h = subst (TextEnds P Part old new) (sym e) h
+
+-- nothing is whole lines at the front of any text
+pub no_lines : (P : List ℕ → Type 0) → (text : List ℕ) × P text → (old : Option (List ℕ)) → Writes (AreLinesOf P) old old
+no_lines P some old = record {
+  text = [];
+  is = record { text = some.0; is = some.1; front = record { back = some.0; joined = refl }; whole = inl refl };
+  wrote = Appends-nil old;
+}
+
+-- a piece inside a text was cut short
+pub stops_within : (old mid new : Option (List ℕ)) (before piece after whole : List ℕ) → whole ≡ (before ++ piece) ++ after → Appends old mid before → StopsShort mid new piece → StopsShort old new whole
+stops_within old mid new before piece after whole split wrote stop = record {
+  out = before ++ stop.out;
+  taken = Appends-trans old mid new before stop.out wrote stop.taken;
+  front = record {
+    back = stop.front.back ++ after;
+    joined =
+        append_assoc before stop.out (stop.front.back ++ after)
+        ∙ (ap (λ z. before ++ z) (sym (append_assoc stop.out stop.front.back after) ∙ ap (λ z. z ++ after) stop.front.joined)
+        ∙ (sym (append_assoc before piece after) ∙ sym split));
+  };
+}
+
+-- a problem's first line was cut short
+pub first_line_short : (g : Geometry) (command : Command) (problem : Numbered) (old new : Option (List ℕ)) → (text : List ℕ) × AreTexts g command (problem ∷ []) text → StopsShort old new (first_line g problem) → WritesShort (IsProblemText g command problem) old new
+first_line_short g command problem old new some stop =
+    let one = some.1.0 in
+    let is = some.1.2 in
+    record {
+      text = one;
+      is = is;
+      stops = stops_within old old new [] (first_line g problem) is.further one is.is (Appends-nil old) stop;
+    }
+
+answer_behind : {X : Type 0} (g : Geometry) (command : Command) (problem : Numbered) (old mid new : Option (List ℕ)) (result : Result X TextFault) → Appends old mid (first_line g problem)
+    → TextEnds (IsFurther g command problem.found) (AreLinesOf (IsFurther g command problem.found)) mid new result → TextEnds (IsProblemText g command problem) (IsProblemPart g command problem) old new result
+answer_behind g command problem old mid new (Ok x) first h = record {
+  text = first_line g problem ++ h.text;
+  is = record { further = h.text; follows = h.is; is = refl };
+  wrote = Appends-trans old mid new (first_line g problem) h.text first h.wrote;
+}
+answer_behind g command problem old mid new (Err Memory) first h = record {
+  text = first_line g problem ++ h.text;
+  is = record { lines = h.text; are = h.is; is = refl };
+  wrote = Appends-trans old mid new (first_line g problem) h.text first h.wrote;
+}
+answer_behind g command problem old mid new (Err Sink) first h = record {
+  text = first_line g problem ++ h.text;
+  is = record { further = h.text; follows = h.is; is = refl };
+  stops = stops_within old mid new (first_line g problem) h.text [] (first_line g problem ++ h.text) (sym (append-nil (first_line g problem ++ h.text))) first h.stops;
+}
+
+-- behind a first line the answer on the position that was found
+pub problem_ends : {X : Type 0} (g : Geometry) (command : Command) (problem : Numbered) (p : Placement) (old mid new : Option (List ℕ)) (result : Result X TextFault) → problem.found ≡ Ok p → Appends old mid (first_line g problem)
+    → TextEnds (IsAnswer g command p) (AreLinesOf (IsAnswer g command p)) mid new result → TextEnds (IsProblemText g command problem) (IsProblemPart g command problem) old new result
+problem_ends g command problem p old mid new result found first h =
+    answer_behind g command problem old mid new result first (subst (λ f. TextEnds (IsFurther g command f) (AreLinesOf (IsFurther g command f)) mid new result) (sym found) h)
