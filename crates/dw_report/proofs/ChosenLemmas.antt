@@ -1,9 +1,8 @@
 -- Lemmas on the problems that are chosen.
 use Rattle.std.proofs.Common.{◌≡◌, ℕ, suc, ◌+◌, ◌≤◌, inl, inr, List, [], ◌∷◌, ◌++◌, length, Bool, true, false, Option, Some, None, Err, refl, sym, ap, ◌∙◌, append_assoc, append-nil, arith, subst, count_by, cond, eqb, ltb, length-append}
-use Rattle.std.specs.List.{list_any, flat_map}
+use Rattle.std.specs.List.{list_any}
 use Rattle.std.proofs.lemmas.List.Elements.{filter-append}
 use Rattle.std.proofs.lemmas.List.Folds.{list_any-append}
-use Rattle.std.proofs.lemmas.Grind.{flat_map-append}
 use Rattle.std.proofs.lemmas.List.Sums.{sum_by-append}
 use Rattle.std.proofs.lemmas.Bool.{cases_Bool, eqb-true, ne_eqb, true≢false, or_left, or_right}
 use Rattle.dw_board.specs.Geometry.{Geometry}
@@ -13,8 +12,9 @@ use Rattle.dw_notation.specs.declared.problems.TheConstants.{MAX_PROBLEMS}
 use Rattle.dw_notation.specs.declared.problems.ProblemFault.TheVariants.{TooManyProblems}
 use Rattle.dw_notation.specs.declared.problems.Form.{Form}
 use Rattle.dw_report.specs.Chosen.{number_is_chosen}
-use Rattle.dw_report.specs.Report.{chosen, report_on, problem_text}
-use Rattle.dw_report.specs.Running.{is_asked, up_to_asked, is_refused}
+use Rattle.dw_report.specs.Report.{chosen, AreTexts, IsReportOn}
+use Rattle.dw_report.specs.Running.{is_asked, up_to_asked, is_refused, IsPartOn}
+use Rattle.dw_report.specs.declared.settings.Command.{Command}
 use Rattle.dw_report.specs.declared.settings.Settings.{Settings}
 
 -- problems are numbered one by one, behind so many
@@ -81,9 +81,33 @@ any-push only front p h other = list_any-append (is_asked only) front (p ∷ [])
 pub any-here : (only : Option ℕ) (front back : List Numbered) (p : Numbered) → is_asked only p ≡ true → list_any (is_asked only) (front ++ p ∷ back) ≡ true
 any-here only front back p hit = list_any-append (is_asked only) front (p ∷ back) ∙ or_right _ _ (or_left _ _ hit)
 
-pub report_on-append : (g : Geometry) (s : Settings) (front back : List Numbered) → report_on g s (front ++ back) ≡ report_on g s front ++ report_on g s back
-report_on-append g s front back =
-    ap (flat_map (problem_text g s.command)) (filter-append (λ q. number_is_chosen s.only q.number) front back) ∙ flat_map-append (problem_text g s.command) (chosen s.only front) (chosen s.only back)
+pub chosen-append : (only : Option ℕ) (front back : List Numbered) → chosen only (front ++ back) ≡ chosen only front ++ chosen only back
+chosen-append only front back = filter-append (λ q. number_is_chosen only q.number) front back
+
+texts-append : (g : Geometry) (command : Command) (front back : List Numbered) (text behind : List ℕ) → AreTexts g command front text → AreTexts g command back behind → AreTexts g command (front ++ back) (text ++ behind)
+texts-append g command [] back text behind h k = subst (AreTexts g command back) (ap (λ z. z ++ behind) (sym h)) k
+texts-append g command (p ∷ front) back text behind h k = (h.0, h.1 ++ behind, h.2, texts-append g command front back h.1 behind h.3 k, ap (λ z. z ++ behind) h.4 ∙ append_assoc h.0 h.1 behind)
+
+-- the report on some problems and on those behind them
+pub report_on-append : (g : Geometry) (s : Settings) (front back : List Numbered) (text behind : List ℕ) → IsReportOn g s front text → IsReportOn g s back behind → IsReportOn g s (front ++ back) (text ++ behind)
+report_on-append g s front back text behind h k = subst (λ l. AreTexts g s.command l (text ++ behind)) (sym (chosen-append s.only front back)) (texts-append g s.command (chosen s.only front) (chosen s.only back) text behind h k)
+
+-- a part of the text of one of some problems, behind the texts of those before them
+pub part_on-behind : (g : Geometry) (s : Settings) (front mid back all : List Numbered) (text out : List ℕ) → all ≡ (front ++ mid) ++ back → IsReportOn g s front text → IsPartOn g s mid out → IsPartOn g s all (text ++ out)
+part_on-behind g s front mid back all text out split h part = record {
+  before = chosen s.only front ++ part.before;
+  problem = part.problem;
+  behind = part.behind ++ chosen s.only back;
+  are =
+      ap (chosen s.only) split ∙ (chosen-append s.only (front ++ mid) back
+      ∙ (ap (λ l. l ++ chosen s.only back) (chosen-append s.only front mid ∙ (ap (λ l. chosen s.only front ++ l) part.are ∙ sym (append_assoc (chosen s.only front) part.before (part.problem ∷ part.behind))))
+      ∙ append_assoc (chosen s.only front ++ part.before) (part.problem ∷ part.behind) (chosen s.only back)));
+  texts = text ++ part.texts;
+  whole = texts-append g s.command (chosen s.only front) part.before text part.texts h part.whole;
+  last = part.last;
+  part = part.part;
+  is = ap (λ z. text ++ z) part.is ∙ sym (append_assoc text part.texts part.last);
+}
 
 -- behind the problem that was asked for nothing is chosen
 pub chosen-asked : (only : Option ℕ) (front back : List Numbered) (p : Numbered) → AreNumbered 0 (front ++ p ∷ back) → is_asked only p ≡ true → chosen only back ≡ []

@@ -1,23 +1,28 @@
 -- Lemmas on a run so far.
 use Rattle.std.proofs.Common.{◌≡◌, ℕ, ◌+◌, ◌<◌, ◌≤◌, inl, inr, ◌⊎◌, List, [], ◌∷◌, ◌++◌, Bool, true, false, Option, Some, None, Ok, Err, refl, sym, ap, ◌∙◌, append_assoc, append-nil, arith, subst, MatchBool, length, length-append, count_by, Result, is_err, ◌||◌, cond}
-use Rattle.std.specs.List.{list_any, flat_map}
+use Rattle.std.specs.List.{list_any}
 use Rattle.std.proofs.lemmas.Bool.{cases_Bool}
 use Rattle.std.proofs.KnownBytes.{Consumes-trans, Appends-trans, Appends-nil}
 use Rattle.std.specs.Io.KnownBytes.{Consumes, Appends, IsAtEnd}
 use Rattle.dw_board.specs.Geometry.{Geometry}
 use Rattle.dw_notation.specs.Problems.{Numbered, problems_of, ended_problems_of}
 use Rattle.dw_notation.specs.Cutting.{problems_from, to_come, ended, EndIsTrue, has_met_end, handed_count}
-use Rattle.dw_notation.specs.Writes.{StopsShort}
 use Rattle.dw_notation.specs.declared.problems.Form.{Form}
 use Rattle.dw_notation.specs.declared.problems.cutter.Cutter.{Cutter}
 use Rattle.dw_notation.specs.declared.problems.TheConstants.{MAX_PROBLEMS}
 use Rattle.dw_report.specs.Chosen.{number_is_chosen}
-use Rattle.dw_report.specs.Report.{report_on, chosen, problem_text}
-use Rattle.dw_report.specs.Running.{RunEnds, is_asked, is_refused, up_to_asked}
+use Rattle.dw_report.specs.Report.{AreTexts, IsReportOn, chosen}
+use Rattle.dw_report.specs.Running.{RunEnds, TextEnds, IsPartOn, ended_by, is_asked, is_refused, up_to_asked}
+use Rattle.dw_report.specs.Writing.{Writes, WritesShort}
+use Rattle.dw_report.specs.declared.problem.TextFault.{TextFault}
+use Rattle.dw_report.specs.declared.problem.TextFault.TheVariants as TextFault
+use Rattle.dw_report.specs.declared.settings.Stop.{Stop}
+use Rattle.dw_report.specs.declared.settings.Stop.TheVariants.{Memory}
 use Rattle.dw_report.specs.declared.settings.Settings.{Settings}
 use Rattle.dw_report.specs.declared.settings.Summary.{Summary}
-use Rattle.dw_report.specs.declared.settings.RunFault.TheVariants.{Read, Write}
-use Rattle.dw_report.proofs.ChosenLemmas.{AreNumbered, problems_of-AreNumbered, up_to_asked-none, up_to_asked-here, chosen-through, any-push, any-here, report_on-append, count_by-push, length-chosen-push}
+use Rattle.dw_report.specs.declared.settings.RunFault.TheVariants.{Stopped, Read, Write}
+use Rattle.dw_report.proofs.ChosenLemmas.{AreNumbered, problems_of-AreNumbered, up_to_asked-none, up_to_asked-here, chosen-through, any-push, any-here, report_on-append, part_on-behind, count_by-push, length-chosen-push}
+use Rattle.dw_report.proofs.Writings.{begins_within}
 
 abbrev pub problems_by : Geometry → Form → Bool → List ℕ → List Numbered
 problems_by g form true = problems_of g form
@@ -159,7 +164,7 @@ HasHanded-end g form bytes left after old new handed next has took gives end =
 pub record RunsSoFar (g : Geometry) (settings : Settings) (bytes : List ℕ) (left taken after : Option (List ℕ)) (cutter : Cutter) (summary : Summary) : Type 0 where
   pub handed : List Numbered
   pub has : HasHanded g settings.form bytes left cutter handed
-  pub wrote : Appends taken after (report_on g settings handed)
+  pub wrote : Writes (IsReportOn g settings handed) taken after
   pub count : length handed ≡ handed_count cutter
   pub read : summary.problems ≡ length handed
   pub shown : summary.shown ≡ length (chosen settings.only handed)
@@ -179,7 +184,7 @@ SoFar-start g settings None taken cutter summary unmet all ends none read shown 
 SoFar-start g settings (Some bytes) taken cutter summary unmet all ends none read shown refused = record {
   handed = [];
   has = HasHanded-start g settings.form bytes cutter unmet all ends;
-  wrote = Appends-nil taken;
+  wrote = record { text = []; is = refl; wrote = Appends-nil taken };
   count = sym none;
   read = read;
   shown = shown;
@@ -197,7 +202,7 @@ pub record CountsOne (settings : Settings) (old new : Summary) (problem : Number
 pub record OneMore (g : Geometry) (settings : Settings) (bytes : List ℕ) (left taken after : Option (List ℕ)) (cutter : Cutter) (summary : Summary) (problem : Numbered) : Type 0 where
   pub before : List Numbered
   pub has : HasHanded g settings.form bytes left cutter (before ++ problem ∷ [])
-  pub wrote : Appends taken after (report_on g settings (before ++ problem ∷ []))
+  pub wrote : Writes (IsReportOn g settings (before ++ problem ∷ [])) taken after
   pub count : length (before ++ problem ∷ []) ≡ handed_count cutter
   pub read : summary.problems ≡ length (before ++ problem ∷ [])
   pub shown : summary.shown ≡ length (chosen settings.only (before ++ problem ∷ []))
@@ -211,13 +216,17 @@ More g settings (Some bytes) left taken after cutter summary problem = OneMore g
 pub SoFar-more : (g : Geometry) (settings : Settings) (coming left after taken mid written : Option (List ℕ)) (old new : Cutter) (summary counted : Summary) (problem : Numbered) (next : List ℕ)
     → SoFar g settings coming left taken mid old summary → Consumes left after next → GivesOne g old new next problem (has_met_end new) → EndIsTrue after new
     → (has_met_end old ≡ true → has_met_end new ≡ true) → handed_count new ≡ handed_count old + 1
-    → Appends mid written (report_on g settings (problem ∷ [])) → CountsOne settings summary counted problem
+    → Writes (IsReportOn g settings (problem ∷ [])) mid written → CountsOne settings summary counted problem
     → More g settings coming after taken written new counted problem
 SoFar-more g settings None left after taken mid written old new summary counted problem next so_far took gives end stays one wrote counts = tt
 SoFar-more g settings (Some bytes) left after taken mid written old new summary counted problem next so_far took gives end stays one wrote counts = record {
   before = so_far.handed;
   has = HasHanded-next g settings.form bytes left after old new so_far.handed problem next so_far.has took gives end stays;
-  wrote = subst (Appends taken written) (sym (report_on-append g settings so_far.handed (problem ∷ []))) (Appends-trans taken mid written _ _ so_far.wrote wrote);
+  wrote = record {
+    text = so_far.wrote.text ++ wrote.text;
+    is = report_on-append g settings so_far.handed (problem ∷ []) so_far.wrote.text wrote.text so_far.wrote.is wrote.is;
+    wrote = Appends-trans taken mid written so_far.wrote.text wrote.text so_far.wrote.wrote wrote.wrote;
+  };
   count = length-append so_far.handed (problem ∷ []) ∙ (ap (λ n. n + 1) so_far.count ∙ sym one);
   read = counts.read ∙ (ap (λ n. n + 1) so_far.read ∙ sym (length-append so_far.handed (problem ∷ [])));
   shown = counts.shown ∙ (ap (λ n. n + length (chosen settings.only (problem ∷ []))) so_far.shown ∙ sym (length-chosen-push settings.only so_far.handed problem));
@@ -251,7 +260,7 @@ SoFar-asked g settings (Some bytes) left taken after cutter summary problem more
     let through : chosen settings.only (problems_of g settings.form bytes) ≡ chosen settings.only (more.before ++ problem ∷ []) =
     ap (chosen settings.only) split ∙ chosen-through settings.only more.before all.0 problem are asked in
     record {
-      wrote = subst (Appends taken after) (sym (ap (flat_map (problem_text g settings.command)) through)) more.wrote;
+      wrote = record { text = more.wrote.text; is = subst (λ l. AreTexts g settings.command l more.wrote.text) (sym through) more.wrote.is; wrote = more.wrote.wrote };
       counts = record {
         read = more.read ∙ sym (ap (λ l. length (up_to_asked settings.only l)) split ∙ ap length (up_to_asked-here settings.only more.before all.0 problem more.unasked asked));
         shown = more.shown ∙ sym (ap length through);
@@ -267,7 +276,7 @@ SoFar-end g settings None left after taken mid old new summary next so_far took 
 SoFar-end g settings (Some bytes) left after taken mid old new summary next so_far took gives end same =
     let all = HasHanded-end g settings.form bytes left after old new so_far.handed next so_far.has took gives end in
     record {
-      wrote = subst (λ l. Appends taken mid (report_on g settings l)) (sym all) so_far.wrote;
+      wrote = record { text = so_far.wrote.text; is = subst (λ l. IsReportOn g settings l so_far.wrote.text) (sym all) so_far.wrote.is; wrote = so_far.wrote.wrote };
       counts = record {
         read = so_far.read ∙ sym (ap (λ l. length (up_to_asked settings.only l)) all ∙ ap length (up_to_asked-none settings.only so_far.handed so_far.unasked));
         shown = so_far.shown ∙ sym (ap (λ l. length (chosen settings.only l)) all);
@@ -288,36 +297,72 @@ SoFar-read g settings (Some bytes) left after taken mid old new summary next so_
     record {
       read = has.read ++ next;
       took = Consumes-trans (Some bytes) left after has.read next has.took took;
-      wrote = subst (λ l. Appends taken mid (report_on g settings l)) (sym (full g settings.form bytes left old so_far.handed has unmet false next ∙ ap (λ l. so_far.handed ++ l) none ∙ append-nil so_far.handed)) so_far.wrote;
+      wrote = record {
+        text = so_far.wrote.text;
+        is = subst (λ l. IsReportOn g settings l so_far.wrote.text) (sym (full g settings.form bytes left old so_far.handed has unmet false next ∙ ap (λ l. so_far.handed ++ l) none ∙ append-nil so_far.handed)) so_far.wrote.is;
+        wrote = so_far.wrote.wrote;
+      };
     }
+
+-- all problems that bytes may have behind those handed out have texts
+abbrev pub HaveTexts : Geometry → Settings → Type 0
+HaveTexts g settings = (problems : List Numbered) → (text : List ℕ) × AreTexts g settings.command problems text
 
 pub SoFar-write : (g : Geometry) (settings : Settings) (coming left after taken mid written : Option (List ℕ)) (old new : Cutter) (summary : Summary) (problem : Numbered) (next : List ℕ)
     → SoFar g settings coming left taken mid old summary → Consumes left after next → GivesOne g old new next problem (has_met_end new) → EndIsTrue after new
-    → (has_met_end old ≡ true → has_met_end new ≡ true) → StopsShort mid written (report_on g settings (problem ∷ []))
+    → (has_met_end old ≡ true → has_met_end new ≡ true) → HaveTexts g settings → WritesShort (IsReportOn g settings (problem ∷ [])) mid written
     → RunEnds g settings coming after taken written (Err Write)
-SoFar-write g settings None left after taken mid written old new summary problem next so_far took gives end stays stop = tt
-SoFar-write g settings (Some bytes) left after taken mid written old new summary problem next so_far took gives end stays stop =
+SoFar-write g settings None left after taken mid written old new summary problem next so_far took gives end stays exist short = tt
+SoFar-write g settings (Some bytes) left after taken mid written old new summary problem next so_far took gives end stays exist short =
     let has = HasHanded-next g settings.form bytes left after old new so_far.handed problem next so_far.has took gives end stays in
     let handed = so_far.handed in
-    let on = report_on g settings in
+    let before = so_far.wrote.text in
     record {
       read = has.read;
       took = has.took;
       met_end = has_met_end new;
       end = has.end;
-      out = on handed ++ stop.out;
-      wrote = Appends-trans taken mid written _ _ so_far.wrote stop.taken;
+      out = before ++ short.stops.out;
+      wrote = Appends-trans taken mid written before short.stops.out so_far.wrote.wrote short.stops.taken;
       front = λ more none.
           let rest = HasHanded-front g settings.form bytes after new (handed ++ problem ∷ []) has more none in
+          let behind = exist (chosen settings.only rest.0) in
           record {
-            back = stop.front.back ++ on rest.0;
-            joined =
-                append_assoc (on handed) stop.out (stop.front.back ++ on rest.0)
-                ∙ ap (λ l. on handed ++ l) (sym (append_assoc stop.out stop.front.back (on rest.0)) ∙ ap (λ l. l ++ on rest.0) stop.front.joined)
-                ∙ sym (ap on rest.1 ∙ (ap on (append_assoc handed (problem ∷ []) rest.0)
-                ∙ (report_on-append g settings handed (problem ∷ rest.0) ∙ ap (λ l. on handed ++ l) (report_on-append g settings (problem ∷ []) rest.0))));
+            whole = (before ++ short.text) ++ behind.0;
+            is = subst (λ l. IsReportOn g settings l ((before ++ short.text) ++ behind.0)) (sym rest.1)
+                (report_on-append g settings (handed ++ problem ∷ []) rest.0 (before ++ short.text) behind.0 (report_on-append g settings handed (problem ∷ []) before short.text so_far.wrote.is short.is) behind.1);
+            front = begins_within before short.stops.out short.text behind.0 short.stops.front;
           };
     }
+
+pub SoFar-stopped : (g : Geometry) (settings : Settings) (coming left after taken mid written : Option (List ℕ)) (old new : Cutter) (summary : Summary) (problem : Numbered) (next : List ℕ) (why : Stop) (expanded : ℕ)
+    → SoFar g settings coming left taken mid old summary → Consumes left after next → GivesOne g old new next problem (has_met_end new) → EndIsTrue after new
+    → (has_met_end old ≡ true → has_met_end new ≡ true) → Writes (IsPartOn g settings (problem ∷ [])) mid written
+    → RunEnds g settings coming after taken written (Err (Stopped why expanded))
+SoFar-stopped g settings None left after taken mid written old new summary problem next why expanded so_far took gives end stays part = tt
+SoFar-stopped g settings (Some bytes) left after taken mid written old new summary problem next why expanded so_far took gives end stays part =
+    let has = HasHanded-next g settings.form bytes left after old new so_far.handed problem next so_far.has took gives end stays in
+    let handed = so_far.handed in
+    record {
+      read = has.read;
+      took = has.took;
+      met_end = has_met_end new;
+      end = has.end;
+      out = so_far.wrote.text ++ part.text;
+      wrote = Appends-trans taken mid written so_far.wrote.text part.text so_far.wrote.wrote part.wrote;
+      front = λ more none.
+          let rest = HasHanded-front g settings.form bytes after new (handed ++ problem ∷ []) has more none in
+          part_on-behind g settings handed (problem ∷ []) rest.0 (problems_of g settings.form (has.read ++ more)) so_far.wrote.text part.text rest.1 so_far.wrote.is part.is;
+    }
+
+-- a problem's text was not written to its end, and so the run ends
+pub SoFar-fault : (g : Geometry) (settings : Settings) (coming left after taken mid written : Option (List ℕ)) (old new : Cutter) (summary : Summary) (problem : Numbered) (next : List ℕ) (fault : TextFault)
+    → SoFar g settings coming left taken mid old summary → Consumes left after next → GivesOne g old new next problem (has_met_end new) → EndIsTrue after new
+    → (has_met_end old ≡ true → has_met_end new ≡ true) → HaveTexts g settings
+    → TextEnds {X = Summary} (IsReportOn g settings (problem ∷ [])) (IsPartOn g settings (problem ∷ [])) mid written (Err fault)
+    → RunEnds g settings coming after taken written (Err (ended_by fault))
+SoFar-fault g settings coming left after taken mid written old new summary problem next TextFault.Memory so_far took gives end stays exist h = SoFar-stopped g settings coming left after taken mid written old new summary problem next Memory 0 so_far took gives end stays h
+SoFar-fault g settings coming left after taken mid written old new summary problem next TextFault.Sink so_far took gives end stays exist h = SoFar-write g settings coming left after taken mid written old new summary problem next so_far took gives end stays exist h
 
 -- a call that answered did not fail
 pub failed-at_ok : {A E : Type 0} (now was : Bool) (r : Result A E) (x : A) → now ≡ (was || is_err r) → r ≡ Ok x → was ≡ false → now ≡ false

@@ -1,13 +1,15 @@
 -- Lemmas on texts that are written piece by piece.
-use Rattle.std.proofs.Common.{◌≡◌, ℕ, List, [], ◌∷◌, ◌++◌, refl, sym, ap, ◌∙◌, subst, inl, append_assoc, append-nil, Option, Result, Ok, Err}
+use Rattle.std.proofs.Common.{◌≡◌, ℕ, List, [], ◌∷◌, ◌++◌, refl, sym, ap, ◌∙◌, subst, inl, append_assoc, append-nil, Option, Result, Ok, Err, true, false}
 use Rattle.std.specs.Io.KnownBytes.{Appends}
 use Rattle.std.proofs.KnownBytes.{Appends-trans, Appends-nil}
 use Rattle.dw_board.specs.Geometry.{Geometry, IsBoard}
 use Rattle.dw_board.specs.Placement.{Placement}
 use Rattle.dw_notation.specs.Problems.{Numbered}
-use Rattle.dw_notation.specs.Writes.{StopsShort}
-use Rattle.dw_report.specs.Report.{IsAnswer, IsFurther, IsProblemText, AreTexts, first_line}
-use Rattle.dw_report.specs.Running.{TextEnds, AreLinesOf, IsProblemPart}
+use Rattle.dw_notation.specs.Writes.{IsBeginning, StopsShort}
+use Rattle.dw_report.specs.Chosen.{number_is_chosen}
+use Rattle.dw_report.specs.Report.{IsAnswer, IsFurther, IsProblemText, AreTexts, IsReportOn, chosen, first_line}
+use Rattle.dw_report.specs.Running.{TextEnds, AreLinesOf, IsProblemPart, IsPartOn}
+use Rattle.dw_report.specs.declared.settings.Settings.{Settings}
 use Rattle.dw_report.specs.Writing.{Writes, WritesShort}
 use Rattle.dw_report.specs.declared.problem.TextFault.{TextFault}
 use Rattle.dw_report.specs.declared.problem.TextFault.TheVariants.{Memory, Sink}
@@ -27,18 +29,22 @@ no_lines P some old = record {
   wrote = Appends-nil old;
 }
 
+-- a beginning of a piece inside a text
+pub begins_within : (before out piece after : List ℕ) → IsBeginning out piece → IsBeginning (before ++ out) ((before ++ piece) ++ after)
+begins_within before out piece after h = record {
+  back = h.back ++ after;
+  joined =
+      append_assoc before out (h.back ++ after)
+      ∙ (ap (λ z. before ++ z) (sym (append_assoc out h.back after) ∙ ap (λ z. z ++ after) h.joined)
+      ∙ sym (append_assoc before piece after));
+}
+
 -- a piece inside a text was cut short
 pub stops_within : (old mid new : Option (List ℕ)) (before piece after whole : List ℕ) → whole ≡ (before ++ piece) ++ after → Appends old mid before → StopsShort mid new piece → StopsShort old new whole
 stops_within old mid new before piece after whole split wrote stop = record {
   out = before ++ stop.out;
   taken = Appends-trans old mid new before stop.out wrote stop.taken;
-  front = record {
-    back = stop.front.back ++ after;
-    joined =
-        append_assoc before stop.out (stop.front.back ++ after)
-        ∙ (ap (λ z. before ++ z) (sym (append_assoc stop.out stop.front.back after) ∙ ap (λ z. z ++ after) stop.front.joined)
-        ∙ (sym (append_assoc before piece after) ∙ sym split));
-  };
+  front = subst (IsBeginning (before ++ stop.out)) (sym split) (begins_within before stop.out piece after stop.front);
 }
 
 -- a problem's first line was cut short
@@ -75,3 +81,30 @@ pub problem_ends : {X : Type 0} (g : Geometry) (command : Command) (problem : Nu
     → TextEnds (IsAnswer g command p) (AreLinesOf (IsAnswer g command p)) mid new result → TextEnds (IsProblemText g command problem) (IsProblemPart g command problem) old new result
 problem_ends g command problem p old mid new result found first h =
     answer_behind g command problem old mid new result first (subst (λ f. TextEnds (IsFurther g command f) (AreLinesOf (IsFurther g command f)) mid new result) (sym found) h)
+
+-- a fault handed on says the same of a text that this one makes up
+pub fault_stays : {X Y : Type 0} (P Q Part Piece : List ℕ → Type 0) (old new : Option (List ℕ)) (r : Result X TextFault) (s : Result Y TextFault) (fault other : TextFault) → r ≡ Err fault → s ≡ Err other → fault ≡ other
+    → ((text : List ℕ) → P text → Q text) → ((text : List ℕ) → Part text → Piece text) → TextEnds P Part old new r → TextEnds Q Piece old new s
+fault_stays {X = X} P Q Part Piece old new r s fault other was is same to part h = at_fault fault (is ∙ ap Err (sym same)) (subst (TextEnds P Part old new) was h) where
+  at_fault : (fault : TextFault) → s ≡ Err fault → TextEnds {X = X} P Part old new (Err fault) → TextEnds Q Piece old new s
+  at_fault Memory e h = at_memory Q Piece old new s e (record { text = h.text; is = part h.text h.is; wrote = h.wrote })
+  at_fault Sink e h = at_sink Q Piece old new s e (record { text = h.text; is = to h.text h.is; stops = h.stops })
+
+-- the problem is chosen
+pub chosen_one : (only : Option ℕ) (problem : Numbered) → number_is_chosen only problem.number ≡ true → chosen only (problem ∷ []) ≡ problem ∷ []
+chosen_one only problem e = rw e refl
+
+pub chosen_none : (only : Option ℕ) (problem : Numbered) → number_is_chosen only problem.number ≡ false → chosen only (problem ∷ []) ≡ []
+chosen_none only problem e = rw e refl
+
+pub one_report_on : (g : Geometry) (settings : Settings) (problem : Numbered) → number_is_chosen settings.only problem.number ≡ true → (text : List ℕ) → IsProblemText g settings.command problem text → IsReportOn g settings (problem ∷ []) text
+one_report_on g settings problem e text h = subst (λ l. AreTexts g settings.command l text) (sym (chosen_one settings.only problem e)) (text, [], h, refl, sym (append-nil text))
+
+pub one_part_on : (g : Geometry) (settings : Settings) (problem : Numbered) → number_is_chosen settings.only problem.number ≡ true → (text : List ℕ) → IsProblemPart g settings.command problem text → IsPartOn g settings (problem ∷ []) text
+one_part_on g settings problem e text h = record { before = []; problem = problem; behind = []; are = chosen_one settings.only problem e; texts = []; whole = refl; last = text; part = h; is = refl }
+
+pub no_report_on : (g : Geometry) (settings : Settings) (problem : Numbered) (old : Option (List ℕ)) → number_is_chosen settings.only problem.number ≡ false → Writes (IsReportOn g settings (problem ∷ [])) old old
+no_report_on g settings problem old e = record { text = []; is = subst (λ l. AreTexts g settings.command l []) (sym (chosen_none settings.only problem e)) refl; wrote = Appends-nil old }
+
+pub chosen_report_on : (g : Geometry) (settings : Settings) (problem : Numbered) (old new : Option (List ℕ)) → number_is_chosen settings.only problem.number ≡ true → Writes (IsProblemText g settings.command problem) old new → Writes (IsReportOn g settings (problem ∷ [])) old new
+chosen_report_on g settings problem old new e h = record { text = h.text; is = one_report_on g settings problem e h.text h.is; wrote = h.wrote }
