@@ -13,6 +13,7 @@ use dw_notation::streams::{Reading, Sink, Source, Writing};
 use dw_report::run::run;
 use dw_report::settings::{RunFault, Summary};
 use outcome::{Ending, outcome};
+use std::alloc::Global;
 use std::env;
 use std::fs::File;
 use std::process::ExitCode;
@@ -61,13 +62,18 @@ fn obey(rt: &HostRuntime, matches: &ArgMatches<'_>) -> ExitCode {
     let mut sink = Writing::new(rt.stdout());
     match request.file {
         None => {
-            let ran = report(&request, &mut Reading::new(rt.stdin()), &mut sink);
+            let ran = report(
+                rt.alloc(),
+                &request,
+                &mut Reading::new(rt.stdin()),
+                &mut sink,
+            );
             end_with(rt, Ending::Ran(ran), only)
         }
         Some(path) => match File::open(rt, path) {
             Err(_) => end_with(rt, Ending::NotOpened(path), only),
             Ok(file) => {
-                let ran = report(&request, &mut Reading::new(file), &mut sink);
+                let ran = report(rt.alloc(), &request, &mut Reading::new(file), &mut sink);
                 end_with(rt, Ending::Ran(ran), only)
             }
         },
@@ -76,6 +82,7 @@ fn obey(rt: &HostRuntime, matches: &ArgMatches<'_>) -> ExitCode {
 
 /// Writes the report on the board that was asked for.
 fn report<S: Source, K: Sink>(
+    alloc: Global,
     request: &Request<'_>,
     source: &mut S,
     sink: &mut K,
@@ -84,8 +91,8 @@ fn report<S: Source, K: Sink>(
     requires sink { K.is_failed sink.old ≡ false }
 {
     match request.board {
-        BoardSize::Ten => run::<Ten, S, K>(source, sink, &request.settings),
-        BoardSize::Eight => run::<Eight, S, K>(source, sink, &request.settings),
+        BoardSize::Ten => run::<Ten, S, K>(alloc, source, sink, &request.settings),
+        BoardSize::Eight => run::<Eight, S, K>(alloc, source, sink, &request.settings),
     }
 }
 

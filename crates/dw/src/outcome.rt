@@ -2,7 +2,7 @@
 ghost use Rattle.std.specs.Prelude.{◌≡◌};
 ghost use Rattle.dw.specs.Outcome.{outcome_of, done_of};
 
-use dw_report::settings::{RunFault, Summary};
+use dw_report::settings::{RunFault, Stop, Summary};
 use std::fmt;
 use std::fmt::{Display, Formatter};
 
@@ -28,7 +28,8 @@ pub enum Ending<T> {
 pub enum Message<T> {
     /// Why the words are no command, with its own line ends.
     Words(T),
-    Memory,
+    /// Why the program was stopped, and how many positions it had expanded.
+    Stopped(Stop, u64),
     NotOpened(T),
     NoProblem(u32),
     ReadFailed,
@@ -39,7 +40,9 @@ impl<T: Display> Display for Message<T> {
     fn fmt<W: fmt::Write>(&self, f: &mut Formatter<W>) -> fmt::Result {
         match self {
             Message::Words(text) => write!(f, "{text}"),
-            Message::Memory => write!(f, "dw: stopped: 1 memory, 0 expanded\n"),
+            Message::Stopped(why, expanded) => {
+                write!(f, "dw: stopped: {why}, {expanded} expanded\n")
+            }
             Message::NotOpened(file) => write!(f, "dw: cannot open {file}\n"),
             Message::NoProblem(number) => write!(f, "dw: no problem {number}\n"),
             Message::ReadFailed => write!(f, "dw: read failed\n"),
@@ -66,8 +69,11 @@ pub fn outcome<T: Copy>(ending: Ending<T>, only: Option<u32>) -> Exit<T>
         Ending::Help => ends(0, None),
         Ending::HelpNotWritten => ends(3, Some(Message::WriteFailed)),
         Ending::Words(text) => ends(2, Some(Message::Words(text))),
-        Ending::Memory => ends(3, Some(Message::Memory)),
+        Ending::Memory => ends(3, Some(Message::Stopped(Stop::Memory, 0))),
         Ending::NotOpened(file) => ends(3, Some(Message::NotOpened(file))),
+        Ending::Ran(Err(RunFault::Stopped { why, expanded })) => {
+            ends(3, Some(Message::Stopped(why, expanded)))
+        }
         Ending::Ran(Err(RunFault::Read)) => ends(3, Some(Message::ReadFailed)),
         Ending::Ran(Err(RunFault::Write)) => ends(3, Some(Message::WriteFailed)),
         Ending::Ran(Ok(summary)) => done(summary, only),
@@ -128,6 +134,24 @@ mod tests {
                 None,
                 3,
                 "dw: stopped: 1 memory, 0 expanded\n",
+            ),
+            (
+                Ending::Ran(Err(RunFault::Stopped {
+                    why: Stop::Memory,
+                    expanded: 0,
+                })),
+                Some(2),
+                3,
+                "dw: stopped: 1 memory, 0 expanded\n",
+            ),
+            (
+                Ending::Ran(Err(RunFault::Stopped {
+                    why: Stop::Limit,
+                    expanded: 1,
+                })),
+                None,
+                3,
+                "dw: stopped: 2 limit, 1 expanded\n",
             ),
             (
                 Ending::NotOpened("a b"),

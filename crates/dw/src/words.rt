@@ -44,6 +44,16 @@ Examples:
   echo W:W27,45:B16 | dw show
   dw show --pdn examples/games.pdn";
 
+const MOVES_ABOUT: &str = "Lists each problem's legal moves, each with the position after it.";
+
+const MOVES_EXAMPLES: &str = "\
+A quiet move is written 32-28 and a capture 32x23, or with all its squares where two captures
+have the same start and end. Behind the moves stand their number and how many pieces each takes.
+
+Examples:
+  echo W:WK46:B28 | dw moves
+  dw moves --problem 2 examples/problems.fen";
+
 /// The commands that the program knows.
 pub fn command<'a>(alloc: Global) -> Result<Words<'a>, AllocError> {
     Words::new(alloc, "dw")
@@ -51,13 +61,20 @@ pub fn command<'a>(alloc: Global) -> Result<Words<'a>, AllocError> {
         .after_help(EXAMPLES)
         .subcommand_required(true)
         .arg_required_else_help(true)
-        .subcommand(show(alloc)?)
+        .subcommand(reading(alloc, "show", SHOW_ABOUT, SHOW_EXAMPLES)?)?
+        .subcommand(reading(alloc, "moves", MOVES_ABOUT, MOVES_EXAMPLES)?)
 }
 
-fn show<'a>(alloc: Global) -> Result<Words<'a>, AllocError> {
-    Words::new(alloc, "show")
-        .about(SHOW_ABOUT)
-        .after_help(SHOW_EXAMPLES)
+/// A command that reads problems.
+fn reading<'a>(
+    alloc: Global,
+    name: &'static str,
+    about: &'static str,
+    examples: &'static str,
+) -> Result<Words<'a>, AllocError> {
+    Words::new(alloc, name)
+        .about(about)
+        .after_help(examples)
         .arg(board(alloc))?
         .arg(pdn(alloc))?
         .arg(problem(alloc))?
@@ -94,16 +111,23 @@ fn file<'a>(alloc: Global) -> Arg<'a> {
 
 /// What parsed words ask for.
 pub fn requested<'a>(matches: &ArgMatches<'a>) -> Option<Request<'a>> {
-    let show = matches.subcommand_matches("show")?;
-    Some(Request {
+    if let Some(words) = matches.subcommand_matches("show") {
+        return Some(request_of(words, Command::Show));
+    }
+    let words = matches.subcommand_matches("moves")?;
+    Some(request_of(words, Command::Moves))
+}
+
+fn request_of<'a>(words: &ArgMatches<'a>, command: Command) -> Request<'a> {
+    Request {
         settings: Settings {
-            command: Command::Show,
-            form: form(show.get_flag("pdn")),
-            only: show.get_one::<u32>("problem"),
+            command,
+            form: form(words.get_flag("pdn")),
+            only: words.get_one::<u32>("problem"),
         },
-        board: board_size(show.get_str("board")),
-        file: show.get_str("FILE"),
-    })
+        board: board_size(words.get_str("board")),
+        file: words.get_str("FILE"),
+    }
 }
 
 fn form(is_pdn: bool) -> Form {
@@ -121,6 +145,22 @@ fn board_size(rows: Option<&str>) -> BoardSize {
 mod tests {
     use super::*;
     use std::test::Fail;
+
+    #[test]
+    fn commands_that_are_asked_for(rt: HostRuntime) -> Result<(), Fail> {
+        for (name, wanted) in [("show", Command::Show), ("moves", Command::Moves)] {
+            let words = ["dw", name, "--problem", "3", "a.fen"];
+            let matches = command(rt.alloc())?
+                .try_get_matches_from(words.as_slice())
+                .ok()
+                .expect(&rt, "matches");
+            let request = requested(&matches).expect(&rt, "a command");
+            assert_eq!(rt; request.settings.command, wanted);
+            assert_eq!(rt; request.settings.only, Some(3));
+            assert_eq!(rt; request.file, Some("a.fen"));
+        }
+        Ok(())
+    }
 
     // Words, and the form, the problem, the board and the file that they ask for.
     #[test]

@@ -1,5 +1,6 @@
 //! Tests of whole runs: worked reports, and each read and each write failing in turn.
 
+mod moves;
 mod pdn;
 
 use crate::run::run;
@@ -78,7 +79,7 @@ fn ran<B: Board>(
 ) -> (Result<Summary, RunFault>, Vec<u8>) {
     let mut source = Reading::new(text);
     let mut sink = Writing::new(Vec::new(alloc));
-    let answer = run::<B, _, _>(&mut source, &mut sink, &show(only));
+    let answer = run::<B, _, _>(alloc, &mut source, &mut sink, &show(only));
     (answer, sink.into_inner())
 }
 
@@ -287,7 +288,7 @@ fn does_not_read_behind_the_chosen_problem(rt: HostRuntime) {
         fails_at: 2,
     });
     let mut sink = Writing::new(Vec::new(rt.alloc()));
-    let answer = run::<Ten, _, _>(&mut source, &mut sink, &show(Some(1)));
+    let answer = run::<Ten, _, _>(rt.alloc(), &mut source, &mut sink, &show(Some(1)));
     assert_eq!(rt;
         answer,
         Ok(Summary {
@@ -322,7 +323,7 @@ fn keeps_what_ended_before_a_failed_read(rt: HostRuntime) {
                 fails_at: k,
             });
             let mut sink = Writing::new(Vec::new(rt.alloc()));
-            let answer = run::<Ten, _, _>(&mut source, &mut sink, &show(None));
+            let answer = run::<Ten, _, _>(rt.alloc(), &mut source, &mut sink, &show(None));
             let read = (step * (k as usize - 1)).min(THREE.len());
             if ended || answer.is_ok() {
                 ended = true;
@@ -365,7 +366,7 @@ fn keeps_a_beginning_before_a_failed_write(rt: HostRuntime) {
                 writes: 0,
                 fails_at: k,
             });
-            let answer = run::<Ten, _, _>(&mut source, &mut sink, &show(None));
+            let answer = run::<Ten, _, _>(rt.alloc(), &mut source, &mut sink, &show(None));
             let Narrow { taken, .. } = sink.into_inner();
             assert!(rt;
                 whole.as_slice().starts_with(taken.as_slice()),
@@ -389,7 +390,7 @@ fn keeps_a_beginning_before_a_failed_write(rt: HostRuntime) {
         writes: 0,
         fails_at: 0,
     });
-    let answer = run::<Ten, _, _>(&mut source, &mut sink, &show(None));
+    let answer = run::<Ten, _, _>(rt.alloc(), &mut source, &mut sink, &show(None));
     assert_eq!(rt; answer, Err(RunFault::Write));
 }
 
@@ -426,7 +427,7 @@ fn ends_at_one_problem_too_many(rt: HostRuntime) {
         lines: 1_000_002,
     });
     let mut sink = Writing::new(Vec::new(rt.alloc()));
-    let answer = run::<Ten, _, _>(&mut source, &mut sink, &show(Some(1_000_001)));
+    let answer = run::<Ten, _, _>(rt.alloc(), &mut source, &mut sink, &show(Some(1_000_001)));
     assert_eq!(rt;
         answer,
         Ok(Summary {

@@ -19,7 +19,7 @@ fn ran<B: Board>(alloc: Global, text: &[u8], step: usize) -> (Result<Summary, Ru
     });
     let mut sink = Writing::new(Vec::new(alloc));
     let settings = settings_for(Form::Pdn, None);
-    let answer = run::<B, _, _>(&mut source, &mut sink, &settings);
+    let answer = run::<B, _, _>(alloc, &mut source, &mut sink, &settings);
     (answer, sink.into_inner())
 }
 
