@@ -11,3 +11,5 @@ pub mod Passing
 pub mod TagReading
 pub mod TagBreaking
 pub mod SectionReading
+pub mod MoveNames
+pub mod MoveAnswers

@@ -13,3 +13,5 @@ pub mod Ahead
 pub mod Pieces
 pub mod Cutting
 pub mod Reading
+pub mod MoveReading
+pub mod MoveTexts

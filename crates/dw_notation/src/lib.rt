@@ -5,6 +5,7 @@
 
 pub mod laws;
 pub mod problems;
+pub mod read_move;
 pub mod streams;
 #[cfg(test)]
 mod tests;
