@@ -13,3 +13,4 @@ pub mod TagBreaking
 pub mod SectionReading
 pub mod MoveNames
 pub mod MoveAnswers
+pub mod MoveWritten

@@ -10,67 +10,17 @@ use Rattle.dw_moves.specs.Moves.{Member, NoRepeat, Move, Legal, AreLegal}
 use Rattle.dw_moves.specs.MoveLaws.{same_move}
 use Rattle.dw_moves.specs.Order.{IsPathFor}
 use Rattle.dw_moves.proofs.Members.{mem_left, mem_right, mem_cases}
-use Rattle.dw_notation.specs.MoveReading.{Named, QuietMove, Capture, Fits, FitsSquares, IsQuietBetween, FitsAlone, TwoFit, IsAnswer, Names, IsRead}
+use Rattle.dw_notation.specs.MoveReading.{Named, QuietMove, Capture, Fits, FitsSquares, IsQuietBetween, FitsAlone, TwoFit, IsAnswer, Names, IsAnswered, IsRead}
+use Rattle.dw_notation.proofs.MoveNames.{names_one}
 use Rattle.dw_notation.specs.MoveTexts.{Takes, IsOneOf, IsOnlyOne, AreTwo, IsOnly}
 use Rattle.dw_notation.specs.declared.read_move.MoveFault.{MoveFault}
 use Rattle.dw_notation.specs.declared.read_move.MoveFault.TheVariants.{Syntax, NoSuchMove, Ambiguous, Memory}
-
--- ---- quiet moves
-abbrev pub quiet : ℕ → ℕ → Move
-quiet from to = record { from = from; to = to; taken = set.empty }
-
-only_quiet : (g : Geometry) (p : Placement) (from to : ℕ) (m : Move) → IsQuietBetween g p from to m → m ≡ quiet from to
-only_quiet g p from to m h = same_move m (quiet from to) h.1.0 h.1.1 h.2
-
-pub quiet_legal : (g : Geometry) (p : Placement) (from to : ℕ) (m : Move) → m ≡ quiet from to → Legal g p m → FitsAlone g p (QuietMove from to) m
-quiet_legal g p from to m is legal = record {
-  fits = (legal, (ap (λ z. z.from) is, ap (λ z. z.to) is), ap (λ z. z.taken) is);
-  alone = λ other h. only_quiet g p from to other h ∙ sym is;
-}
-
-pub quiet_not_legal : (g : Geometry) (p : Placement) (from to : ℕ) (m : Move) → m ≡ quiet from to → (Legal g p m → ⊥) → (other : Move) → Fits g p (QuietMove from to) other → ⊥
-quiet_not_legal g p from to m is refused other h = refused (subst (Legal g p) (only_quiet g p from to other h ∙ sym is) h.0)
-
--- ---- paths
--- what many squares stand for
-fits_path : (g : Geometry) (p : Placement) (squares : List ℕ) (m : Move) → 2 ≤ length squares → (length squares ≡ 2 → ⊥) → IsPathFor g p m squares → FitsSquares g p squares m
-fits_path g p [] m some many h = absurd (omega arith)
-fits_path g p (s ∷ []) m some many h = absurd (omega arith)
-fits_path g p (s ∷ t ∷ []) m some many h = absurd (many refl)
-fits_path g p (s ∷ t ∷ u ∷ squares) m some many h = h
-
-path_fits : (g : Geometry) (p : Placement) (squares : List ℕ) (m : Move) → (length squares ≡ 2 → ⊥) → FitsSquares g p squares m → IsPathFor g p m squares
-path_fits g p [] m many h = absurd h
-path_fits g p (s ∷ []) m many h = absurd h
-path_fits g p (s ∷ t ∷ []) m many h = absurd (many refl)
-path_fits g p (s ∷ t ∷ u ∷ squares) m many h = h
-
-one_some : (m n : Move) → Some m ≡ Some n → m ≡ n
-one_some m n e = cc
-
-none_is_some : (m : Move) → None ≡ Some m → ⊥
-none_is_some m e = cc
-
--- the answer of a move that may be there
-abbrev pub answer_of : Option Move → Result Move MoveFault
-answer_of None = Err NoSuchMove
-answer_of (Some m) = Ok m
-
-pub followed : (g : Geometry) (p : Placement) (squares : List ℕ) (found : Option Move) → 2 ≤ length squares → (length squares ≡ 2 → ⊥) → ((m : Move) → (found ≡ Some m) ↔ IsPathFor g p m squares) → IsAnswer g p (Capture squares) (answer_of found)
-followed g p squares None some many path = λ m h. none_is_some m ((path m).1 (path_fits g p squares m many h))
-followed g p squares (Some n) some many path = record {
-  fits = fits_path g p squares n some many ((path n).0 refl);
-  alone = λ other h. sym (one_some n other ((path other).1 (path_fits g p squares other many h)));
-}
 
 -- ---- the captures between two squares
 -- the one found among some moves, where there is one
 abbrev pub FoundIn : List Move → ℕ → ℕ → Option Move → Type 0
 FoundIn moves from to None = (m : Move) → IsOneOf moves from to m → ⊥
 FoundIn moves from to (Some m) = IsOnlyOne moves from to m
-
-pub found_none : (from to : ℕ) → FoundIn [] from to None
-found_none from to m h = h.0
 
 -- one more move, which is none
 found_past : (moves : List Move) (x : Move) (from to : ℕ) (found : Option Move) → FoundIn moves from to found → (Takes from to x → ⊥) → FoundIn (moves ++ x ∷ []) from to found
@@ -139,12 +89,6 @@ module _ (moves : List Move) (from to i : ℕ) (x : Move) (low : i < length move
     differ = λ e. not_before moves i x once low is (subst (λ z. Member z (take i moves)) e h.one.0);
   }
 
-pub found_in_all : (moves : List Move) (from to i : ℕ) (found : Option Move) → length moves ≤ i → FoundIn (take i moves) from to found → IsOnly moves from to (answer_of found)
-found_in_all moves from to i found all h = by_found found (subst (λ z. FoundIn z from to found) (take_all i moves all) h) where
-  by_found : (f : Option Move) → FoundIn moves from to f → IsOnly moves from to (answer_of f)
-  by_found None k = k
-  by_found (Some m) k = k
-
 -- among all legal moves
 pub only_answers : (g : Geometry) (p : Placement) (moves : List Move) (from to : ℕ) (answer : Result Move MoveFault) → AreLegal g p moves → IsOnly moves from to answer → IsAnswer g p (Capture (from ∷ to ∷ [])) answer
 only_answers g p moves from to (Ok m) h k = record {
@@ -162,16 +106,49 @@ only_answers g p moves from to (Err Ambiguous) h k = record {
 }
 only_answers g p moves from to (Err Memory) h k = absurd k
 
--- ---- the answer to a text
--- what it names is answered
-pub named_read : (g : Geometry) (p : Placement) (text : List ℕ) (named : Named) (answer : Result Move MoveFault) → Names g text named → IsAnswer g p named answer → IsRead g p text answer
-named_read g p text named (Ok m) names h = record { named = named; names = names; answers = h }
-named_read g p text named (Err Syntax) names h = absurd h
-named_read g p text named (Err NoSuchMove) names h = record { named = named; names = names; answers = h }
-named_read g p text named (Err Ambiguous) names h = record { named = named; names = names; answers = h }
-named_read g p text named (Err Memory) names h = record { named = named; names = names; answers = h }
+-- ---- one answer
+-- two answers are the same, or memory was refused
+abbrev Agree : Result Move MoveFault → Result Move MoveFault → Type 0
+Agree answer other = (answer ≡ other) ⊎ ((answer ≡ Err Memory) ⊎ (other ≡ Err Memory))
 
--- it names nothing
-pub names_nothing : (g : Geometry) (text : List ℕ) → ((from to : ℕ) → Names g text (QuietMove from to) → ⊥) → ((squares : List ℕ) → Names g text (Capture squares) → ⊥) → (named : Named) → Names g text named → ⊥
-names_nothing g text quietly capturing (QuietMove from to) h = quietly from to h
-names_nothing g text quietly capturing (Capture squares) h = capturing squares h
+answers_agree : (g : Geometry) (p : Placement) (named : Named) (answer other : Result Move MoveFault) → IsAnswer g p named answer → IsAnswer g p named other → Agree answer other
+answers_agree g p named (Ok m) (Ok n) h k = inl (ap Ok (k.alone m h.fits))
+answers_agree g p named (Ok m) (Err Syntax) h k = absurd k
+answers_agree g p named (Ok m) (Err NoSuchMove) h k = absurd (k m h.fits)
+answers_agree g p named (Ok m) (Err Ambiguous) h k = absurd (k.differ (h.alone k.first k.fits ∙ sym (h.alone k.second k.fits_too)))
+answers_agree g p named (Ok m) (Err Memory) h k = inr (inr refl)
+answers_agree g p named (Err Syntax) other h k = absurd h
+answers_agree g p named (Err NoSuchMove) (Ok n) h k = absurd (h n k.fits)
+answers_agree g p named (Err NoSuchMove) (Err Syntax) h k = absurd k
+answers_agree g p named (Err NoSuchMove) (Err NoSuchMove) h k = inl refl
+answers_agree g p named (Err NoSuchMove) (Err Ambiguous) h k = absurd (h k.first k.fits)
+answers_agree g p named (Err NoSuchMove) (Err Memory) h k = inr (inr refl)
+answers_agree g p named (Err Ambiguous) (Ok n) h k = absurd (h.differ (k.alone h.first h.fits ∙ sym (k.alone h.second h.fits_too)))
+answers_agree g p named (Err Ambiguous) (Err Syntax) h k = absurd k
+answers_agree g p named (Err Ambiguous) (Err NoSuchMove) h k = absurd (k h.first h.fits)
+answers_agree g p named (Err Ambiguous) (Err Ambiguous) h k = inl refl
+answers_agree g p named (Err Ambiguous) (Err Memory) h k = inr (inr refl)
+answers_agree g p named (Err Memory) other h k = inr (inl refl)
+
+-- a text names nothing, or is answered by what it names
+abbrev NamesNothing : Geometry → List ℕ → Result Move MoveFault → Type 0
+NamesNothing g text answer = (answer ≡ Err Syntax) × ((named : Named) → Names g text named → ⊥)
+
+read_cases : (g : Geometry) (p : Placement) (text : List ℕ) (answer : Result Move MoveFault) → IsRead g p text answer → NamesNothing g text answer ⊎ IsAnswered g p text answer
+read_cases g p text (Ok m) h = inr h
+read_cases g p text (Err Syntax) h = inl (refl, h)
+read_cases g p text (Err NoSuchMove) h = inr h
+read_cases g p text (Err Ambiguous) h = inr h
+read_cases g p text (Err Memory) h = inr h
+
+pub one_answer : (g : Geometry) (p : Placement) (text : List ℕ) (answer other : Result Move MoveFault) → IsRead g p text answer → IsRead g p text other → Agree answer other
+one_answer g p text answer other h k = elim (read_cases g p text answer h) [
+  | inl a ↦ elim (read_cases g p text other k) [
+    | inl b ↦ inl (a.0 ∙ sym b.0)
+    | inr b ↦ absurd (a.1 b.named b.names)
+  ]
+  | inr a ↦ elim (read_cases g p text other k) [
+    | inl b ↦ absurd (b.1 a.named a.names)
+    | inr b ↦ answers_agree g p a.named answer other a.answers (subst (λ z. IsAnswer g p z other) (names_one g text b.named a.named b.names a.names) b.answers)
+  ]
+]

@@ -15,3 +15,5 @@ pub mod Cutting
 pub mod Reading
 pub mod MoveReading
 pub mod MoveTexts
+pub mod MoveReadingLaws
+pub mod Text

@@ -1,6 +1,6 @@
 //! Texts of draughts: where bytes come from and go, and the problems of a byte text.
 //!
-//! Everything is generic over the board. No call takes memory.
+//! Everything is generic over the board. No call but `read_move` takes memory.
 #![tactic(auto)]
 
 pub mod laws;
