@@ -1,18 +1,14 @@
 -- Which answer is right, by what was found among the legal moves.
-use Rattle.std.proofs.Common.{◌≡◌, ℕ, ◌+◌, ◌<◌, ◌≤◌, zero, suc, Bool, true, false, List, [], ◌∷◌, ◌++◌, length, take, get_or, Option, Some, None, is_some, Result, Ok, Err, refl, sym, ap, ◌∙◌, subst, ◌⊎◌, inl, inr, arith}
-use Rattle.std.specs.Prelude.{◌↔◌}
-use Rattle.std.specs.FinSet as set
+use Rattle.std.proofs.Common.{◌≡◌, ℕ, ◌+◌, ◌<◌, zero, suc, true, false, List, [], ◌∷◌, ◌++◌, length, take, get_or, Option, Some, None, is_some, Result, Ok, Err, refl, sym, ap, ◌∙◌, subst, ◌⊎◌, inl, inr, arith}
 use Rattle.std.proofs.lemmas.Bool.{true≢false}
-use Rattle.std.proofs.lemmas.List.{take_more, take_all}
+use Rattle.std.proofs.lemmas.List.{take_more}
 use Rattle.dw_board.specs.Geometry.{Geometry}
 use Rattle.dw_board.specs.Placement.{Placement}
-use Rattle.dw_moves.specs.Moves.{Member, NoRepeat, Move, Legal, AreLegal}
-use Rattle.dw_moves.specs.MoveLaws.{same_move}
-use Rattle.dw_moves.specs.Order.{IsPathFor}
+use Rattle.dw_moves.specs.Moves.{Member, NoRepeat, Move, AreLegal}
 use Rattle.dw_moves.proofs.Members.{mem_left, mem_right, mem_cases}
-use Rattle.dw_notation.specs.MoveReading.{Named, QuietMove, Capture, Fits, FitsSquares, IsQuietBetween, FitsAlone, TwoFit, IsAnswer, Names, IsAnswered, IsRead}
+use Rattle.dw_notation.specs.MoveReading.{Named, Capture, IsAnswer, Names, IsAnswered, IsRead}
 use Rattle.dw_notation.proofs.MoveNames.{names_one}
-use Rattle.dw_notation.specs.MoveTexts.{Takes, IsOneOf, IsOnlyOne, AreTwo, IsOnly}
+use Rattle.dw_notation.specs.MoveReader.{Takes, IsOneOf, IsOnlyOne, AreTwo, IsOnly}
 use Rattle.dw_notation.specs.declared.read_move.MoveFault.{MoveFault}
 use Rattle.dw_notation.specs.declared.read_move.MoveFault.TheVariants.{Syntax, NoSuchMove, Ambiguous, Memory}
 

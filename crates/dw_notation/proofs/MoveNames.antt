@@ -1,11 +1,11 @@
 -- What the text of a move names, number by number from its front.
-use Rattle.std.proofs.Common.{◌≡◌, ℕ, ◌+◌, ◌<◌, ◌≤◌, Bool, true, false, List, [], ◌∷◌, ◌++◌, length, take, drop, Option, Some, None, refl, sym, ap, ◌∙◌, subst, ◌⊎◌, inl, inr, arith, append_assoc, append-nil, length-append}
-use Rattle.std.proofs.lemmas.Bool.{cases_Bool, true≢false, or_cases, eqb-true, and_parts}
+use Rattle.std.proofs.Common.{◌≡◌, ℕ, ◌<◌, ◌≤◌, true, false, List, [], ◌∷◌, ◌++◌, length, Some, None, refl, sym, ap, ◌∙◌, subst, ◌⊎◌, inl, inr, arith, append_assoc, append-nil, length-append}
+use Rattle.std.proofs.lemmas.Bool.{cases_Bool, true≢false, or_cases, eqb-true}
 use Rattle.dw_board.specs.Geometry.{Geometry}
 use Rattle.dw_board.specs.FenTokens.{is_digit, begins_with_digit, number_named}
 use Rattle.dw_board.specs.FenBlanks.{AreDigits}
 use Rattle.dw_notation.specs.MoveReading.{IsNumber, is_cross, AreCrossed, single, more, Named, QuietMove, Capture, Names, by_dash, by_crosses}
-use Rattle.dw_notation.specs.MoveTexts.{Begins, BeginsNowhere}
+use Rattle.dw_notation.specs.MoveReader.{Begins, BeginsNowhere}
 
 one_number : (g : Geometry) (text : List ℕ) (s t : ℕ) → IsNumber g text s → IsNumber g text t → s ≡ t
 one_number g text s t h k = let e : Some s ≡ Some t = sym h ∙ k in cc
@@ -52,16 +52,6 @@ pub one_begin : (g : Geometry) (text : List ℕ) (s t : ℕ) (rest others : List
 one_begin g text s t rest others h k =
     let same = one_front h.front k.front rest others (number_digits g h.front s h.number) (number_digits g k.front t k.number) h.ends k.ends (sym h.joined ∙ k.joined) in
     (one_number g h.front s t h.number (subst (λ z. IsNumber g z t) (sym same.0) k.number), same.1)
-
--- the digits at the front are a number
-pub begins_here : (g : Geometry) (text front rest : List ℕ) (s : ℕ) → text ≡ front ++ rest → begins_with_digit rest ≡ false → number_named g front ≡ Some s → Begins g text s rest
-begins_here g text front rest s joined ends is = record { front = front; joined = joined; number = is; ends = ends }
-
--- they are none
-pub begins_nowhere : (g : Geometry) (text front rest : List ℕ) → text ≡ front ++ rest → begins_with_digit rest ≡ false → AreDigits front → number_named g front ≡ None → BeginsNowhere g text
-begins_nowhere g text front rest joined ends are none s others h =
-    let same = one_front h.front front others rest (number_digits g h.front s h.number) are h.ends ends (sym h.joined ∙ joined) in
-    absent s (sym none ∙ (ap (number_named g) (sym same.0) ∙ h.number))
 
 -- ---- numbers joined by crosses
 -- what stands behind the first number: nothing, or a cross and the other numbers
@@ -119,9 +109,6 @@ crossed_more g text s rest cross next squares h is joins others =
 pub record Reading (g : Geometry) (text done rest : List ℕ) : Type 0 where
   pub forth : (others : List ℕ) → AreCrossed g rest others → AreCrossed g text (done ++ others)
   pub back : (squares : List ℕ) → AreCrossed g text squares → (others : List ℕ) × (squares ≡ done ++ others) × AreCrossed g rest others
-
-pub reading_none : (g : Geometry) (text : List ℕ) → Reading g text [] text
-reading_none g text = record { forth = λ others h. h; back = λ squares h. (squares, refl, h) }
 
 pub reading_more : (g : Geometry) (text done rest now : List ℕ) (s : ℕ) (behind : List ℕ) (cross : ℕ) (next : List ℕ) → Reading g text done rest → now ≡ done ++ s ∷ [] → Begins g rest s behind → behind ≡ cross ∷ next → is_cross cross ≡ true → Reading g text now next
 reading_more g text done rest now s behind cross next h now_is k is joins = subst (λ z. Reading g text z next) (sym now_is) (record {

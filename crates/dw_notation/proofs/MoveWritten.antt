@@ -1,18 +1,18 @@
 -- The written text of a legal move names that move alone.
-use Rattle.std.proofs.Common.{◌≡◌, ◌==◌, ℕ, ◌+◌, ◌-◌, ◌*◌, ◌/◌, ◌%◌, ◌<◌, ◌≤◌, zero, suc, Bool, true, false, ◌&&◌, cond, eqb, leb, ltb, List, [], ◌∷◌, ◌++◌, length, map, Option, Some, None, Result, Ok, Err, refl, sym, ap, ◌∙◌, subst, ◌⊎◌, inl, inr, arith, decimal, count_by}
+use Rattle.std.proofs.Common.{◌≡◌, ℕ, ◌+◌, ◌-◌, ◌*◌, ◌/◌, ◌%◌, ◌<◌, ◌≤◌, zero, suc, Bool, true, false, ◌&&◌, cond, eqb, leb, List, [], ◌∷◌, ◌++◌, length, map, Some, None, Result, Ok, Err, refl, sym, ap, ◌∙◌, subst, ◌⊎◌, inl, inr, arith, decimal, count_by}
 use Rattle.std.specs.FinSet as set
 use Rattle.std.specs.Ordering.{nat_cmp}
-use Rattle.std.proofs.lemmas.Bool.{cases_Bool, cases_lt, le-leb, ltb-true, true≢false, and_parts, and_from, eqb-true, eq-eqb, ne_eqb}
+use Rattle.std.proofs.lemmas.Bool.{cases_Bool, cases_lt, le-leb, ltb-true, and_parts, and_from, eqb-true, eq-eqb, ne_eqb}
 use Rattle.std.proofs.lemmas.Bool.Decides.{nat_tests}
 use Rattle.std.proofs.lemmas.Fmt.{decimal_digit, decimal_step}
 use Rattle.std.proofs.lemmas.List.Sums.{sum_by-cons}
 use Rattle.dw_board.specs.Geometry.{Geometry, IsBoard, OnBoard, squares}
 use Rattle.dw_board.specs.Placement.{Placement, IsPosition, placed}
-use Rattle.dw_board.specs.FenTokens.{is_digit, number_named}
+use Rattle.dw_board.specs.FenTokens.{is_digit}
 use Rattle.dw_board.specs.declared.piece.Piece.{Piece}
-use Rattle.dw_moves.specs.Moves.{Member, Move, Quiet, Jumps, Path, IsBest, IsPathOf, Legal, LegalAt, ray, last_of}
+use Rattle.dw_moves.specs.Moves.{Member, Move, Quiet, Jumps, Path, IsBest, IsPathOf, Legal, LegalAt, last_of}
 use Rattle.dw_moves.specs.MoveLaws.{same_move}
-use Rattle.dw_moves.specs.Order.{Precedes, IsAscending, IsPathFor, LandsAt, IsLeastPath, Listed, AreListed}
+use Rattle.dw_moves.specs.Order.{Precedes, IsAscending, IsPathFor, LandsAt, Listed, AreListed}
 use Rattle.dw_moves.proofs.Members.{mem_map, mem_map_back, mem_at}
 use Rattle.dw_moves.proofs.Rays.{ray_of_on, landing_on_ray}
 use Rattle.dw_moves.proofs.PathTells.{path_tells}
@@ -20,8 +20,8 @@ use Rattle.dw_moves.proofs.LegalMoves.{best_only}
 use Rattle.dw_moves.proofs.Filled.{legal_count}
 use Rattle.dw_moves.proofs.LeastLandings.{legal_small}
 use Rattle.dw_moves.proofs.MoveKeys.{jumps_long, precedes_asym}
-use Rattle.dw_notation.specs.Text.{squares_text, has_ends, shares_ends, capture_text, text_among, IsMoveText}
-use Rattle.dw_notation.specs.MoveReading.{IsNumber, AreCrossed, single, more, Named, QuietMove, Capture, Names, by_dash, by_crosses, IsQuietBetween, IsCaptureBetween, FitsAlone, IsAnswered, IsRead}
+use Rattle.dw_notation.specs.Text.{squares_text, has_ends, shares_ends, text_among, IsMoveText}
+use Rattle.dw_notation.specs.MoveReading.{IsNumber, AreCrossed, single, more, QuietMove, Capture, by_dash, by_crosses, IsAnswered, IsRead}
 use Rattle.dw_notation.specs.declared.read_move.MoveFault.{MoveFault}
 use Rattle.dw_notation.specs.declared.read_move.MoveFault.TheVariants.{Memory}
 use Rattle.dw_notation.proofs.MoveAnswers.{one_answer}

@@ -14,6 +14,6 @@ pub mod Pieces
 pub mod Cutting
 pub mod Reading
 pub mod MoveReading
-pub mod MoveTexts
+pub mod MoveReader
 pub mod MoveReadingLaws
 pub mod Text

@@ -5,7 +5,7 @@ ghost use Rattle.dw_board.specs.FenBlanks.{AreDigits};
 ghost use Rattle.dw_moves.specs.Moves.{NoRepeat};
 ghost use Rattle.dw_notation.specs.declared.read_move.MoveFault.TheVariants.{Memory};
 ghost use Rattle.dw_notation.specs.MoveReading.{Names, QuietMove, Capture, IsAnswer, IsRead, is_cross};
-ghost use Rattle.dw_notation.specs.MoveTexts.{Begins, BeginsNowhere, IsOnly, Takes};
+ghost use Rattle.dw_notation.specs.MoveReader.{Begins, BeginsNowhere, IsOnly, Takes};
 
 use arrayvec::ArrayVec;
 use dw_board::board::Board;
@@ -23,7 +23,7 @@ const MAX_SQUARES: usize = 21;
 /// Why no move was read from a text. Its number is that of the variant, from 1 on.
 #[derive(Clone, Copy, Debug, PartialEq, Eq, Error)]
 pub enum MoveFault {
-    /// The text is not the text of a move on this board.
+    /// The text names no squares as a move does, or none of this board.
     #[error("syntax")]
     Syntax,
     /// No legal move fits the text.
@@ -57,7 +57,8 @@ impl From<AllocError> for MoveFault {
 ///
 /// # Errors
 ///
-/// `Syntax` comes before memory is taken, `Memory` where it is refused.
+/// `Syntax` for any other text, before memory is taken; `NoSuchMove` where no legal move fits, and `Ambiguous` where
+/// several do; `Memory` where memory is refused.
 pub fn read_move<B: Board>(
     alloc: Global,
     position: &Position<B>,

@@ -1,5 +1,5 @@
-use Rattle.std.proofs.Common.{sym, subst}
-use Rattle.dw_notation.specs.MoveTexts.{IsOnly}
+use Rattle.std.proofs.Common.{subst}
+use Rattle.dw_notation.specs.MoveReader.{IsOnly}
 use Rattle.dw_notation.proofs.MoveAnswers.{only_answers}
 use Rattle.dw_notation.proofs.read_move.capture_between.Goals as goal
 

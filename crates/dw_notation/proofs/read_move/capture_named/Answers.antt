@@ -1,4 +1,4 @@
-use Rattle.std.proofs.Common.{◌≡◌, ◌<◌, ◌≤◌, ◌∷◌, ◌++◌, [], length, refl, sym, ◌∙◌, ap, arith, rules, length-append}
+use Rattle.std.proofs.Common.{◌≡◌, ◌∷◌, ◌++◌, [], length, sym, ◌∙◌, arith, rules}
 use Rattle.std.proofs.lemmas.Bool.{eqb-true}
 use Rattle.dw_notation.specs.MoveReading.{AreCrossed, by_crosses}
 use Rattle.dw_notation.proofs.MoveNames.{reading_more, reading_ends, reading_nowhere, reading_breaks, reading_full, empty_text, no_capture, lone_number}

@@ -1,4 +1,4 @@
-use Rattle.std.proofs.Common.{◌≡◌, ◌∷◌, ℕ, List, length, refl, sym, ◌∙◌, ap, arith, rules, None, Some}
+use Rattle.std.proofs.Common.{◌≡◌, ◌∷◌, ℕ, length, sym, ◌∙◌, ap, arith, rules, None, Some}
 use Rattle.dw_board.specs.FenTokens.{number_named}
 use Rattle.dw_notation.specs.MoveReading.{Names, QuietMove}
 use Rattle.dw_notation.proofs.MoveNames.{dash_names, dash_nowhere, dash_other, dash_alone}

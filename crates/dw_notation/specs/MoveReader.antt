@@ -1,5 +1,5 @@
 -- What the parts of reading a move's text find.
-use Rattle.std.specs.Prelude.{◌≡◌, ℕ, ◌<◌, ◌≤◌, Bool, true, false, Result, Ok, Err, List, [], ◌∷◌, ◌++◌, length}
+use Rattle.std.specs.Prelude.{◌≡◌, ℕ, ◌<◌, false, Result, Ok, Err, List, ◌++◌}
 use Rattle.std.specs.FinSet as set
 use Rattle.dw_board.specs.Geometry.{Geometry}
 use Rattle.dw_board.specs.FenTokens.{begins_with_digit}
