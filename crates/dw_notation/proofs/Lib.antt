@@ -6,11 +6,11 @@ pub mod Carries
 pub mod Definition
 pub mod Handing
 pub mod Names
+pub mod MoveNames
+pub mod MoveAnswers
+pub mod MoveWritten
 pub mod Holding
 pub mod Passing
 pub mod TagReading
 pub mod TagBreaking
 pub mod SectionReading
-pub mod MoveNames
-pub mod MoveAnswers
-pub mod MoveWritten

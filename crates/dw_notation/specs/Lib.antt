@@ -1,6 +1,7 @@
 pub mod Streams
 pub mod Endpoints
 pub mod Writes
+pub mod Text
 pub mod Lines
 pub mod Found
 pub mod Places
@@ -16,4 +17,3 @@ pub mod Reading
 pub mod MoveReading
 pub mod MoveReader
 pub mod MoveReadingLaws
-pub mod Text

@@ -11,12 +11,15 @@ use std::alloc::Global;
 use std::process::Abort;
 use std::test::Fail;
 
-// A text, and what is read from it: where the move begins and ends and what it takes, or why there is none.
-type Row<'a> = (&'a str, Result<(u8, u8, &'a [u8]), MoveFault>);
+// What is read: where a move begins and ends and what it takes, or why there is none.
+type Answer<'a> = Result<(u8, u8, &'a [u8]), MoveFault>;
 
-const SYNTAX: Result<(u8, u8, &'static [u8]), MoveFault> = Err(MoveFault::Syntax);
+// A text, and what is read from it.
+type Row<'a> = (&'a str, Answer<'a>);
 
-const NO_SUCH_MOVE: Result<(u8, u8, &'static [u8]), MoveFault> = Err(MoveFault::NoSuchMove);
+const SYNTAX: Answer<'static> = Err(MoveFault::Syntax);
+
+const NO_SUCH_MOVE: Answer<'static> = Err(MoveFault::NoSuchMove);
 
 fn position_of<B: Board>(rt: &impl Abort, text: &str) -> Position<B> {
     read_fen::<B>(text.as_bytes()).ok().expect(rt, "a position")
@@ -41,7 +44,7 @@ fn move_of<B: Board>(rt: &impl Abort, from: u8, to: u8, numbers: &[u8]) -> Move<
 fn is_answer<B: Board>(
     rt: &impl Abort,
     found: &Result<Move<B>, MoveFault>,
-    want: &Result<(u8, u8, &[u8]), MoveFault>,
+    want: &Answer<'_>,
 ) -> bool {
     match want {
         Ok((from, to, taken)) => {
@@ -182,7 +185,7 @@ fn counts_squares(rt: HostRuntime) -> Result<(), Fail> {
     Ok(())
 }
 
-// Holds also where memory is refused.
+// Holds also where memory is refused. Each row begins with whether its text may take memory.
 #[test]
 fn is_right_or_wants_memory(rt: HostRuntime) {
     let position = position_of::<Ten>(&rt, "W:W47:B13,14,22,31,32,41,42");
