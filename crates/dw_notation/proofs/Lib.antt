@@ -6,6 +6,9 @@ pub mod Carries
 pub mod Definition
 pub mod Handing
 pub mod Names
+pub mod MoveNames
+pub mod MoveAnswers
+pub mod MoveWritten
 pub mod Holding
 pub mod Passing
 pub mod TagReading

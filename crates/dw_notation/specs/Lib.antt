@@ -15,3 +15,6 @@ pub mod Ahead
 pub mod Pieces
 pub mod Cutting
 pub mod Reading
+pub mod MoveReading
+pub mod MoveReader
+pub mod MoveReadingLaws

@@ -1,5 +1,6 @@
 //! Laws of the definitions, each the contract of a function that does nothing.
 ghost use Rattle.dw_notation.specs.Tags.{SectionsAreFound, LastSectionIsFound, CommentsSayNothing, OpenCommentIsFound, OthersSayNothing};
+ghost use Rattle.dw_notation.specs.MoveReadingLaws.{NamesOneThing, HasOneAnswer, WrittenMoveIsNamed, WrittenMoveIsRead};
 
 /// A row of tags, whole or unclosed, is one problem, which says what its tags say, and the byte that ends it
 /// is outside. At the end of the text it needs no byte behind it.
@@ -17,4 +18,16 @@ pub fn comments_say_nothing()
 /// Movetext and whatever else stands outside says nothing.
 pub fn others_say_nothing()
     ensures { OthersSayNothing }
+{}
+
+/// The text of a move names one thing at most, and so it is read in one way, where memory is not refused.
+pub fn texts_have_one_answer()
+    ensures named { NamesOneThing }
+    ensures answer { HasOneAnswer }
+{}
+
+/// The written text of a legal move is read as that move, where memory is not refused.
+pub fn written_moves_are_read()
+    ensures named { WrittenMoveIsNamed }
+    ensures read { WrittenMoveIsRead }
 {}

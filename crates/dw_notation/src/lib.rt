@@ -1,12 +1,13 @@
 //! Texts of draughts: where bytes come from and go, and the problems of a byte text.
 //!
-//! Everything is generic over the board. No call takes memory.
+//! Everything is generic over the board. No call but `read_move` takes memory.
 #![tactic(auto)]
 
 pub mod laws;
 pub mod line_text;
 pub mod move_text;
 pub mod problems;
+pub mod read_move;
 pub mod streams;
 #[cfg(test)]
 mod tests;

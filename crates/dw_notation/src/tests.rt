@@ -1,3 +1,4 @@
+mod read_move;
 mod sections;
 
 use crate::problems::{Form, ProblemFault, Problems, ReadFault};

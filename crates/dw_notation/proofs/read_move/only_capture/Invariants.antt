@@ -1,0 +1,6 @@
+use Rattle.std.proofs.Common.{take}
+use Rattle.dw_notation.proofs.MoveAnswers.{FoundIn}
+use Rattle.dw_notation.proofs.read_move.only_capture.Given as goal
+
+abbrev pub invariant-moves : goal.invariant-moves
+invariant-moves g l = FoundIn (take l.step-index l.moves) l.from l.to l.found

@@ -1,0 +1,232 @@
+//! Reading the text of a move.
+ghost use Rattle.std.specs.Prelude.{◌≡◌, ◌≤◌, ◌<◌, ◌∷◌, [], List, ℕ, length, take, drop, false, MatchOption, IsTrue, ◌↔◌};
+ghost use Rattle.dw_board.specs.FenTokens.{number_named, begins_with_digit};
+ghost use Rattle.dw_board.specs.FenBlanks.{AreDigits};
+ghost use Rattle.dw_moves.specs.Moves.{NoRepeat};
+ghost use Rattle.dw_notation.specs.declared.read_move.MoveFault.TheVariants.{Memory};
+ghost use Rattle.dw_notation.specs.MoveReading.{Names, QuietMove, Capture, IsAnswer, IsRead, is_cross};
+ghost use Rattle.dw_notation.specs.MoveReader.{Begins, BeginsNowhere, IsOnly, Takes};
+
+use arrayvec::ArrayVec;
+use dw_board::board::Board;
+use dw_board::position::Position;
+use dw_board::square::Square;
+use dw_moves::follow::follow;
+use dw_moves::legal::{is_legal, legal};
+use dw_moves::moves::Move;
+use std::alloc::{AllocError, Global};
+use thiserror::Error;
+
+/// The most squares of a capture: its start, and a landing for each of twenty pieces.
+const MAX_SQUARES: usize = 21;
+
+/// Why no move was read from a text. Its number is that of the variant, from 1 on.
+#[derive(Clone, Copy, Debug, PartialEq, Eq, Error)]
+pub enum MoveFault {
+    /// The text names no squares as a move does, or none of this board.
+    #[error("syntax")]
+    Syntax,
+    /// No legal move fits the text.
+    #[error("no such move")]
+    NoSuchMove,
+    /// Several legal captures have the two squares of the text.
+    #[error("ambiguous")]
+    Ambiguous,
+    /// Memory was refused.
+    #[error("memory")]
+    Memory,
+}
+
+impl From<AllocError> for MoveFault {
+    ghost from_gives = { λ _ e. e ≡ Memory };
+
+    fn from(_refused: AllocError) -> MoveFault {
+        MoveFault::Memory
+    }
+}
+
+/// The legal move that a text names.
+///
+/// A text is a number, then either `-` and a number, or one to twenty times `x` or `X` and a number, and nothing
+/// else. A number is one or two digits that give the number of a square: `07` is 7, `007` is none.
+///
+/// - `-` stands for the quiet move between its two squares, never for a capture.
+/// - Two squares joined by `x` stand for the capture between them. Where there are several, the text is ambiguous.
+/// - Three or more stand for the capture that has exactly this path: its start, and then each square on which it
+///   lands. It need not be the least of the move's paths.
+///
+/// # Errors
+///
+/// `Syntax` for any other text, before memory is taken; `NoSuchMove` where no legal move fits, and `Ambiguous` where
+/// several do; `Memory` where memory is refused.
+pub fn read_move<B: Board>(
+    alloc: Global,
+    position: &Position<B>,
+    text: &[u8],
+) -> Result<Move<B>, MoveFault>
+    ensures { IsRead B.geometry position.now text.now result }
+{
+    if let Some((from, to)) = quiet_named(text) {
+        return quiet_move(position, from, to);
+    }
+    let Some(squares) = capture_named(text) else {
+        return Err(MoveFault::Syntax);
+    };
+    capture(alloc, position, squares.as_slice())
+}
+
+/// The squares of a quiet move, where a text names one.
+fn quiet_named<B: Board>(text: &[u8]) -> Option<(Square<B>, Square<B>)>
+    ensures { MatchOption result ((from to : ℕ) → Names B.geometry text.now (QuietMove from to) → ⊥) (λ r. Names B.geometry text.now (QuietMove r.0 r.1)) }
+{
+    let Some((from, behind)) = first_square(text) else {
+        return None;
+    };
+    let (sign, rest) = behind.split_first()?;
+    if *sign != b'-' {
+        return None;
+    }
+    Some((from, square_named(rest)?))
+}
+
+/// The start of a capture and squares on which it lands, where a text names one.
+fn capture_named<B: Board>(text: &[u8]) -> Option<ArrayVec<Square<B>, MAX_SQUARES>>
+    ensures { MatchOption result
+        ((squares : List ℕ) → Names B.geometry text.now (Capture squares) → ⊥)
+        (λ squares. Names B.geometry text.now (Capture squares.items)) }
+{
+    let mut squares = ArrayVec::new();
+    let mut rest = text;
+    'numbers: loop {
+        let Some((square, behind)) = first_square(rest) else {
+            return None;
+        };
+        if squares.is_full() {
+            return None;
+        }
+        squares.push(square);
+        let Some((sign, next)) = behind.split_first() else {
+            return if squares.len() > 1 {
+                Some(squares)
+            } else {
+                None
+            };
+        };
+        if !is_cross(*sign) {
+            return None;
+        }
+        rest = next;
+    }
+}
+
+/// Whether a byte joins the squares of a capture.
+fn is_cross(byte: u8) -> bool
+    ensures { result ≡ is_cross byte }
+{
+    byte == b'x' || byte == b'X'
+}
+
+/// The square that the digits at the front of a text number, and what stands behind them.
+fn first_square<B: Board>(text: &[u8]) -> Option<(Square<B>, &[u8])>
+    ensures { MatchOption result (BeginsNowhere B.geometry text.now) (λ r. Begins B.geometry text.now r.0 r.1.now) }
+{
+    let (digits, rest) = text.split_at(digits_at(text));
+    Some((square_named(digits)?, rest))
+}
+
+/// How many digits stand at the front.
+fn digits_at(text: &[u8]) -> usize
+    ensures within { result ≤ length text.now }
+    ensures digits { AreDigits (take result text.now) }
+    ensures all { begins_with_digit (drop result text.now) ≡ false }
+{
+    let mut count = 0;
+    'digits: while count < text.len() && text[count].is_ascii_digit() {
+        count += 1;
+    }
+    count
+}
+
+/// The square that one or two digits number.
+fn square_named<B: Board>(digits: &[u8]) -> Option<Square<B>>
+    ensures { result ≡ number_named B.geometry digits.now }
+{
+    match digits {
+        [ones] if ones.is_ascii_digit() => Square::new(*ones - b'0'),
+        [tens, ones] if tens.is_ascii_digit() && ones.is_ascii_digit() => {
+            Square::new(10 * (*tens - b'0') + (*ones - b'0'))
+        }
+        _ => None,
+    }
+}
+
+/// The quiet move between two squares.
+fn quiet_move<B: Board>(
+    position: &Position<B>,
+    from: Square<B>,
+    to: Square<B>,
+) -> Result<Move<B>, MoveFault>
+    ensures { IsAnswer B.geometry position.now (QuietMove from to) result }
+{
+    let step = Move::quiet(from, to);
+    if is_legal(position, &step) {
+        Ok(step)
+    } else {
+        Err(MoveFault::NoSuchMove)
+    }
+}
+
+/// The capture that is named by its start and squares on which it lands.
+fn capture<B: Board>(
+    alloc: Global,
+    position: &Position<B>,
+    squares: &[Square<B>],
+) -> Result<Move<B>, MoveFault>
+    requires { 2 ≤ length squares.now }
+    ensures { IsAnswer B.geometry position.now (Capture squares.now) result }
+{
+    match squares {
+        [from, to] => capture_between(alloc, position, *from, *to),
+        _ => follow(position, squares).ok_or(MoveFault::NoSuchMove),
+    }
+}
+
+/// The capture between two squares.
+fn capture_between<B: Board>(
+    alloc: Global,
+    position: &Position<B>,
+    from: Square<B>,
+    to: Square<B>,
+) -> Result<Move<B>, MoveFault>
+    ensures { IsAnswer B.geometry position.now (Capture (from ∷ to ∷ [])) result }
+{
+    let moves = legal(alloc, position)?;
+    only_capture(moves.as_slice(), from, to)
+}
+
+/// The capture between two squares among these moves.
+fn only_capture<B: Board>(
+    moves: &[Move<B>],
+    from: Square<B>,
+    to: Square<B>,
+) -> Result<Move<B>, MoveFault>
+    requires { NoRepeat moves.now }
+    ensures { IsOnly moves.now from to result }
+{
+    let mut found = None;
+    'moves: for step in moves {
+        if is_capture_between(step, from, to) {
+            if found.is_some() {
+                return Err(MoveFault::Ambiguous);
+            }
+            found = Some(*step);
+        }
+    }
+    found.ok_or(MoveFault::NoSuchMove)
+}
+
+fn is_capture_between<B: Board>(step: &Move<B>, from: Square<B>, to: Square<B>) -> bool
+    ensures { IsTrue result ↔ Takes from to step.now }
+{
+    step.from == from && step.to == to && step.taken.count() > 0
+}
