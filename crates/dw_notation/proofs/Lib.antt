@@ -16,3 +16,4 @@ pub mod TagBreaking
 pub mod SectionReading
 pub mod MoveTexts
 pub mod LineTexts
+pub mod TextLaws

@@ -2,6 +2,7 @@ pub mod Streams
 pub mod Endpoints
 pub mod Writes
 pub mod Text
+pub mod TextLaws
 pub mod LineWords
 pub mod Lines
 pub mod Found

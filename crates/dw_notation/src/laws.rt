@@ -1,6 +1,9 @@
 //! Laws of the definitions, each the contract of a function that does nothing.
 ghost use Rattle.dw_notation.specs.Tags.{SectionsAreFound, LastSectionIsFound, CommentsSayNothing, OpenCommentIsFound, OthersSayNothing};
+ghost use Rattle.dw_notation.specs.TextLaws.{MovesHaveTexts};
 ghost use Rattle.dw_notation.specs.MoveReadingLaws.{NamesOneThing, HasOneAnswer, WrittenMoveIsNamed, WrittenMoveIsRead};
+
+use dw_moves::laws::{moves_have_keys, moves_in_order};
 
 /// A row of tags, whole or unclosed, is one problem, which says what its tags say, and the byte that ends it
 /// is outside. At the end of the text it needs no byte behind it.
@@ -19,6 +22,14 @@ pub fn comments_say_nothing()
 pub fn others_say_nothing()
     ensures { OthersSayNothing }
 {}
+
+/// Each legal move of a position has a text, and only one; different moves have different texts.
+pub fn moves_have_texts()
+    ensures { MovesHaveTexts }
+{
+    moves_in_order();
+    moves_have_keys();
+}
 
 /// The text of a move names one thing at most, and so it is read in one way, where memory is not refused.
 pub fn texts_have_one_answer()

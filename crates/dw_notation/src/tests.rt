@@ -1,5 +1,6 @@
 mod read_move;
 mod sections;
+mod texts;
 
 use crate::problems::{Form, ProblemFault, Problems, ReadFault};
 use crate::streams::{Reading, Sink, Writing};
