@@ -1,0 +1,54 @@
+//! A memo that holds nothing.
+ghost use Rattle.std.specs.Prelude.{◌≡◌, []};
+ghost use Rattle.dw_memo.specs.Noting.{IsNote};
+
+use crate::bounds::Bounds;
+use crate::memo::{Memo, Noted};
+use dw_board::board::Board;
+use dw_board::position::Position;
+use std::marker::Model;
+
+/// Keeps nothing, and counts what it was given.
+#[derive(Drop)]
+pub struct NoMemo {
+    dropped: u64,
+}
+
+impl Model for NoMemo {
+    ghost use Rattle.std.specs.Prelude.{ℕ};
+
+    ghost Value = { ℕ };
+
+    ghost view = { λ m. m.dropped };
+}
+
+impl NoMemo {
+    /// A memo that was given nothing yet.
+    pub fn new() -> Self
+        ensures { result ≡ 0 }
+    {
+        NoMemo { dropped: 0 }
+    }
+}
+
+impl<B: Board> Memo<B> for NoMemo {
+    ghost content = { λ _. [] };
+
+    ghost dropped = { λ m. m };
+
+    fn look(&mut self, _position: &Position<B>) -> Option<Bounds> {
+        None
+    }
+
+    fn put(&mut self, position: &Position<B>, bounds: Bounds) -> Noted
+        ensures note { IsNote [] position.now bounds result [] self.old self.new }
+        ensures not_kept { result ≡ Noted.NotKept }
+    {
+        self.dropped = self.dropped.saturating_add(1);
+        Noted::NotKept
+    }
+
+    fn dropped(&self) -> u64 {
+        self.dropped
+    }
+}
