@@ -1,5 +1,5 @@
 //! A memo that forgets what was asked for longest ago.
-ghost use Rattle.std.specs.Prelude.{◌≡◌, ◌≤◌, [], IfOk};
+ghost use Rattle.std.specs.Prelude.{◌≡◌, ◌≤◌, [], IfOk, ⊤};
 ghost use Rattle.dw_memo.specs.Noting.{IsNote};
 ghost use Rattle.dw_memo.specs.Recent.{content_of, IsRecent};
 
@@ -49,6 +49,8 @@ impl<B: Board> Memo<B> for LruMemo<B> {
     ghost content = { λ m. m.content };
 
     ghost dropped = { λ m. m.dropped };
+
+    ghost may_answer = { λ _. ⊤ };
 
     fn look(&mut self, position: &Position<B>) -> Option<Bounds> {
         self.cache.get(position).copied()

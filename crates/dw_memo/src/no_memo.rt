@@ -1,6 +1,6 @@
 //! A memo that holds nothing.
 ghost use Rattle.std.specs.Prelude.{◌≡◌, []};
-ghost use Rattle.dw_memo.specs.Noting.{IsNote};
+ghost use Rattle.dw_memo.specs.declared.memo.Noted.TheVariants.{NotKept};
 
 use crate::bounds::Bounds;
 use crate::memo::{Memo, Noted};
@@ -36,14 +36,13 @@ impl<B: Board> Memo<B> for NoMemo {
 
     ghost dropped = { λ m. m };
 
+    ghost may_answer = { λ answer. answer ≡ NotKept };
+
     fn look(&mut self, _position: &Position<B>) -> Option<Bounds> {
         None
     }
 
-    fn put(&mut self, position: &Position<B>, bounds: Bounds) -> Noted
-        ensures note { IsNote [] position.now bounds result [] self.old self.new }
-        ensures not_kept { result ≡ Noted.NotKept }
-    {
+    fn put(&mut self, _position: &Position<B>, _bounds: Bounds) -> Noted {
         self.dropped = self.dropped.saturating_add(1);
         Noted::NotKept
     }

@@ -2,7 +2,7 @@
 ghost use Rattle.std.specs.Prelude.{◌≡◌, ◌≤◌, ◌<◌, [], length, IfOk};
 ghost use Rattle.dw_board.specs.Placement.{IsPosition, side_code};
 ghost use Rattle.dw_memo.specs.Slots as of;
-ghost use Rattle.dw_memo.specs.Noting.{IsNote};
+ghost use Rattle.dw_memo.specs.declared.memo.Noted.TheVariants.{Kept};
 
 use crate::bounds::Bounds;
 use crate::memo::{Memo, Noted};
@@ -49,15 +49,14 @@ impl<B: Board> Memo<B> for SlotMemo<B> {
 
     ghost dropped = { λ m. m.dropped };
 
+    ghost may_answer = { λ answer. answer ≡ Kept };
+
     fn look(&mut self, position: &Position<B>) -> Option<Bounds> {
         let slot = slot_of(position, self.slots.len());
         bounds_in(&self.slots[slot], position)
     }
 
-    fn put(&mut self, position: &Position<B>, bounds: Bounds) -> Noted
-        ensures note { IsNote self.old.content position.now bounds result self.new.content self.old.dropped self.new.dropped }
-        ensures kept { result ≡ Noted.Kept }
-    {
+    fn put(&mut self, position: &Position<B>, bounds: Bounds) -> Noted {
         let slot = slot_of(position, self.slots.len());
         let lost = lost(&self.slots[slot], position);
         self.slots[slot] = Some((*position, bounds));

@@ -5,6 +5,6 @@ use Rattle.dw_memo.proofs.no_memo.NoMemoMemo.put.Goals as goal
 
 pub returns-clause-note : goal.returns-clause-note
 returns-clause-note g c =
-    counted_on [] c.args.position.now c.args.bounds NotKept [] 1 c.args.self.now c.saturating_add-self-inside.result
-    (unchanged [] c.args.position.now c.args.bounds tt (λ e m. absurd m))
+    counted_on [] c.args._position.now c.args._bounds NotKept [] 1 c.args.self.now c.saturating_add-self-inside.result
+    (unchanged [] c.args._position.now c.args._bounds tt (λ e m. absurd m))
     (omega (arith, c.saturating_add-self-inside.ensures, c.self.view_is))
