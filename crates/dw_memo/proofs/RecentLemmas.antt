@@ -3,7 +3,7 @@ use Rattle.std.proofs.Common.{◌≡◌, ◌≢◌, ℕ, zero, suc, ◌+◌, ◌
 use Rattle.std.specs.Int.{from_bool}
 use Rattle.std.specs.Map.{lookup, lookup_entry, remove_entry}
 use Rattle.std.specs.Option.{option_map, option_map_or, IsSome}
-use Rattle.lru.specs.LruCache.{LruCache, promoted, put_entries, displaced}
+use Rattle.lru.specs.LruCache.{LruCache, lru_cache, promoted, put_entries, displaced}
 use Rattle.dw_board.specs.Placement.{Placement}
 use Rattle.dw_board.specs.PlacementLaws.{same, same-is}
 use Rattle.dw_memo.specs.declared.bounds.Bounds.{Bounds}
@@ -206,7 +206,7 @@ module _ (c : LruCache Placement Bounds) (k : Placement) (v : Bounds) (r : IsRec
     some_room = r.some_room;
   }
 
-  pub put_recent : IsRecent (put_entries same c k v) c.cap
+  put_recent : IsRecent (put_entries same c k v) c.cap
   put_recent = after_recent (lookup_entry (same k) c.entries) refl
 
   apart : lookup_entry (same k) c.entries ≡ None → (e : Entry) → Member e (content_of c.entries) → e.position ≢ k
@@ -271,7 +271,7 @@ module _ (c : LruCache Placement Bounds) (k : Placement) (v : Bounds) (r : IsRec
   other_at (Some f) d h last other = let s : (k, f.1) ≡ d = cc in absurd (other (ap (λ (e : Pair). e.0) (sym s)))
 
   -- no pair came out
-  pub noted_none : displaced same c k v ≡ None → IsNote (content_of c.entries) k v Kept (content_of (put_entries same c k v)) 0 0
+  noted_none : displaced same c k v ≡ None → IsNote (content_of c.entries) k v Kept (content_of (put_entries same c k v)) 0 0
   noted_none h = none_at (lookup_entry (same k) c.entries) refl (sym out-is ∙ h)
 
   some_at : (o : Option Pair) (d : Pair) (b : Bool) → lookup_entry (same k) c.entries ≡ o → out o ≡ Some d → same d.0 k ≡ b → IsNote (content_of c.entries) k v Kept (content_of (after o)) 0 (from_bool (not b))
@@ -279,7 +279,7 @@ module _ (c : LruCache Placement Bounds) (k : Placement) (v : Bounds) (r : IsRec
   some_at o d false h last q = other_at o d h last (λ e. let s = (same-is d.0 k).1 e in absurd (cc))
 
   -- a pair came out, the position's own one or another
-  pub noted_some : (d : Pair) → displaced same c k v ≡ Some d → IsNote (content_of c.entries) k v Kept (content_of (put_entries same c k v)) 0 (from_bool (not (same d.0 k)))
+  noted_some : (d : Pair) → displaced same c k v ≡ Some d → IsNote (content_of c.entries) k v Kept (content_of (put_entries same c k v)) 0 (from_bool (not (same d.0 k)))
   noted_some d h = some_at (lookup_entry (same k) c.entries) d (same d.0 k) refl (sym out-is ∙ h) refl
 
   none_found : (o : Option Pair) → lookup_entry (same k) c.entries ≡ o → option_map (λ (e : Pair). e.1) o ≡ None → lookup_entry (same k) c.entries ≡ None
@@ -287,6 +287,23 @@ module _ (c : LruCache Placement Bounds) (k : Placement) (v : Bounds) (r : IsRec
   none_found (Some f) q e = absurd (cc)
 
   -- memory was refused, which is never done where the position is held
-  pub noted_nothing : (IsSome (lookup (same k) c.entries) → false ≡ true) → IsNote (content_of c.entries) k v NotKept (content_of c.entries) 0 1
+  noted_nothing : (IsSome (lookup (same k) c.entries) → false ≡ true) → IsNote (content_of c.entries) k v NotKept (content_of c.entries) 0 1
   noted_nothing refused = unchanged (content_of c.entries) k v r.map
       (apart (none_found (lookup_entry (same k) c.entries) refl (sym (lookup-is (same k) c.entries) ∙ is_none (lookup (same k) c.entries) refused)))
+
+-- ---- what a cache is after it was asked to put a pair in
+module _ (c new : LruCache Placement Bounds) (k : Placement) (v : Bounds) (r : IsRecent c.entries c.cap) where
+  pub recent_after : new ≡ lru_cache (put_entries same c k v) c.cap → IsRecent new.entries new.cap
+  recent_after e = subst (λ (z : LruCache Placement Bounds). IsRecent z.entries z.cap) (sym e) (put_recent c k v r)
+
+  pub note_some : new ≡ lru_cache (put_entries same c k v) c.cap → (d : Placement × Bounds) (n : ℕ) → displaced same c k v ≡ Some d → n ≡ from_bool (not (same d.0 k))
+      → IsNote (content_of c.entries) k v Kept (content_of new.entries) 0 n
+  note_some e d n h q =
+      subst (λ (z : LruCache Placement Bounds). IsNote (content_of c.entries) k v Kept (content_of z.entries) 0 n) (sym e)
+      (subst (λ (m : ℕ). IsNote (content_of c.entries) k v Kept (content_of (put_entries same c k v)) 0 m) (sym q) (noted_some c k v r d h))
+
+  pub note_none : new ≡ lru_cache (put_entries same c k v) c.cap → displaced same c k v ≡ None → IsNote (content_of c.entries) k v Kept (content_of new.entries) 0 0
+  note_none e h = subst (λ (z : LruCache Placement Bounds). IsNote (content_of c.entries) k v Kept (content_of z.entries) 0 0) (sym e) (noted_none c k v r h)
+
+  pub note_refused : new ≡ c → (IsSome (lookup (same k) c.entries) → false ≡ true) → IsNote (content_of c.entries) k v NotKept (content_of new.entries) 0 1
+  note_refused e h = subst (λ (z : LruCache Placement Bounds). IsNote (content_of c.entries) k v NotKept (content_of z.entries) 0 1) (sym e) (noted_nothing c k v r h)

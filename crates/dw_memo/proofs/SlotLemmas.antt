@@ -1,18 +1,18 @@
 -- Tables in which each position has one slot.
-use Rattle.std.proofs.Common.{◌≡◌, ◌≢◌, ℕ, zero, suc, ◌+◌, ◌-◌, ◌<◌, ◌≤◌, ◌⊎◌, Bool, true, false, not, cond, List, [], ◌∷◌, length, slice_get, Option, Some, None, refl, sym, ap, ◌∙◌, subst, inl, inr, arith}
+use Rattle.std.proofs.Common.{◌≡◌, ◌≢◌, ℕ, zero, suc, ◌<◌, ◌⊎◌, Bool, true, false, not, cond, [], ◌∷◌, length, slice_get, get_or, Option, Some, None, refl, sym, ap, ◌∙◌, subst, inl, inr, arith}
 use Rattle.std.specs.Int.{from_bool}
 use Rattle.std.proofs.lemmas.Bool.{cases_lt}
-use Rattle.std.proofs.lemmas.List.{length-replicate}
+use Rattle.std.proofs.lemmas.Option.{slice_get_read}
 use Rattle.std.proofs.Math.ListN.{set, length-set, replicate}
 use Rattle.dw_board.specs.Geometry.{Geometry}
 use Rattle.dw_board.specs.Placement.{Placement}
 use Rattle.dw_board.specs.PlacementLaws.{same, same-is}
 use Rattle.dw_memo.specs.declared.bounds.Bounds.{Bounds}
 use Rattle.dw_memo.specs.declared.memo.Noted.TheVariants.{Kept}
-use Rattle.dw_memo.specs.Content.{Entry, entry, Content, Member, positions, IsMap, IsFound}
-use Rattle.dw_memo.specs.Noting.{IsPutIn, AreMissing, IsNote}
+use Rattle.dw_memo.specs.Content.{Entry, entry, Member, positions, IsMap, IsFound}
+use Rattle.dw_memo.specs.Noting.{IsPutIn, IsNote}
 use Rattle.dw_memo.specs.Slots.{Slots, held, slot_of, bounds_in, lost, IsTable}
-use Rattle.dw_memo.proofs.EntryLemmas.{position_held, bounds_held}
+use Rattle.dw_memo.proofs.EntryLemmas.{bounds_held}
 use Rattle.dw_memo.proofs.NoteLemmas.{none_missing, one_missing}
 
 abbrev Pair : Type 0
@@ -66,9 +66,6 @@ empty_held : (n : ℕ) → held (replicate n None) ≡ []
 empty_held zero = refl
 empty_held (suc n) = empty_held n
 
-none_there : (n k : ℕ) (p : Placement) (b : Bounds) → Holds (replicate n None) k p b → ⊥
-none_there n k p b h = subst (Member (entry p b)) (empty_held n) (at_held (replicate n None) k p b h)
-
 -- ---- a look-up
 -- the slot of the position does not hold it
 not_here : (g : Geometry) (slots : Slots) (k : ℕ) (p : Placement) (was : Option Pair) → IsTable g slots → k ≡ slot_of g p (length slots) → slice_get slots k ≡ Some was
@@ -87,7 +84,7 @@ some_found g slots k p f false t here h e = not_here g slots k p (Some f) t here
     let s : f ≡ (p, b) = cc in
     let i = (same-is f.0 p).1 (ap (λ (x : Pair). x.0) s) in absurd (cc))
 
-pub found : (g : Geometry) (slots : Slots) (k : ℕ) (p : Placement) (was : Option (Placement × Bounds)) → IsTable g slots → k ≡ slot_of g p (length slots) → slice_get slots k ≡ Some was
+found : (g : Geometry) (slots : Slots) (k : ℕ) (p : Placement) (was : Option (Placement × Bounds)) → IsTable g slots → k ≡ slot_of g p (length slots) → slice_get slots k ≡ Some was
     → IsFound (held slots) p (bounds_in was p)
 found g slots k p None t here h = not_here g slots k p None t here h (λ b q. absurd (cc))
 found g slots k p (Some f) t here h = some_found g slots k p f (same f.0 p) t here h refl
@@ -188,7 +185,7 @@ module _ (g : Geometry) (slots : Slots) (k : ℕ) (p : Placement) (b : Bounds) (
   some_lost f true h e = none_lost (Some f) h (λ d q. let s : f ≡ d = cc in subst (λ (x : Pair). x.0 ≡ p) s ((same-is f.0 p).0 e))
   some_lost f false h e = one_lost f h (λ q. let s = (same-is f.0 p).1 q in absurd (cc))
 
-  pub noted : (was : Option (Placement × Bounds)) → slice_get slots k ≡ Some was → IsNote (held slots) p b Kept (held after) 0 (lost was p)
+  noted : (was : Option (Placement × Bounds)) → slice_get slots k ≡ Some was → IsNote (held slots) p b Kept (held after) 0 (lost was p)
   noted None h = none_lost None h (λ d q. absurd (cc))
   noted (Some f) h = some_lost f (same f.0 p) h refl
 
@@ -197,11 +194,20 @@ pub is_none : {X : Type 0} (R : Option X → Type 0) → ((x : X) → R (Some x)
 is_none R some None h = refl
 is_none R some (Some x) h = absurd (some x h)
 
-pub new_table : (g : Geometry) (n : ℕ) (slots : Slots) → 1 ≤ n → slots ≡ replicate n None → IsTable g slots
-new_table g n slots some e = subst (IsTable g) (sym e) (record {
-  some_slot = omega (arith, length-replicate {A = Option Pair} n None);
-  placed = λ k p b h. absurd (none_there n k p b h);
-})
-
 pub new_held : (n : ℕ) (slots : Slots) → slots ≡ replicate n None → held slots ≡ []
 new_held n slots e = ap held e ∙ empty_held n
+
+-- ---- the slot of a position as the program reads it
+pub found_in : (g : Geometry) (slots : Slots) (n k : ℕ) (p : Placement) (was : Option (Placement × Bounds)) (o : Option Bounds)
+    → IsTable g slots → n ≡ length slots → k ≡ slot_of g p n → k < n → was ≡ get_or slots k was → o ≡ bounds_in was p
+    → IsFound (held slots) p o
+found_in g slots n k p was o t len here inside read is =
+    subst (IsFound (held slots) p) (sym is)
+    (found g slots k p was t (here ∙ ap (slot_of g p) len) (slice_get_read slots n k was len inside read))
+
+pub noted_in : (g : Geometry) (slots : Slots) (n k : ℕ) (p : Placement) (b : Bounds) (was : Option (Placement × Bounds)) (l : ℕ)
+    → IsTable g slots → n ≡ length slots → k ≡ slot_of g p n → k < n → was ≡ get_or slots k was → l ≡ lost was p
+    → IsNote (held slots) p b Kept (held (set slots k (Some (p, b)))) 0 l
+noted_in g slots n k p b was l t len here inside read is =
+    subst (λ (x : ℕ). IsNote (held slots) p b Kept (held (set slots k (Some (p, b)))) 0 x) (sym is)
+    (noted g slots k p b t (here ∙ ap (slot_of g p) len) (omega (arith, len, inside)) was (slice_get_read slots n k was len inside read))

@@ -118,7 +118,8 @@ fn losses_are_counted(rt: HostRuntime) -> Result<(), Fail> {
     check_sizes::<Eight>(&rt, rt.alloc())
 }
 
-// A note that finds no memory answers so, loses its own entry alone, and a later one is kept.
+// A note that finds no memory answers so, loses its own entry alone, and a later one may be kept. With ample memory
+// all are kept: run it with an allocation that fails.
 fn check_want_of_memory<B: Board>(rt: &impl Abort, alloc: Global) {
     let Ok(mut memo) = LruMemo::<B>::new(alloc, 2) else {
         return;
@@ -135,7 +136,6 @@ fn check_want_of_memory<B: Board>(rt: &impl Abort, alloc: Global) {
     }
 }
 
-// It passes with ample memory too. Each allocation was refused in turn by running it so.
 #[test]
 fn wants_memory(rt: HostRuntime) {
     check_want_of_memory::<Ten>(&rt, rt.alloc());
