@@ -1,0 +1,5 @@
+pub mod EntryLemmas
+pub mod NoteLemmas
+pub mod RecentLemmas
+pub mod SlotLemmas
+pub mod WordLemmas

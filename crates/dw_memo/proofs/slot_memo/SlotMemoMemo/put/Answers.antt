@@ -1,0 +1,20 @@
+use Rattle.std.proofs.Common.{◌≡◌, Some, length, arith, subst}
+use Rattle.std.proofs.Math.ListN.{set}
+use Rattle.dw_memo.specs.declared.memo.Noted.TheVariants.{Kept}
+use Rattle.dw_memo.specs.Holding.{Holding}
+use Rattle.dw_memo.specs.Noting.{IsNote}
+use Rattle.dw_memo.specs.Slots.{held}
+use Rattle.dw_memo.proofs.NoteLemmas.{counted_on}
+use Rattle.dw_memo.proofs.SlotLemmas.{noted_in}
+use Rattle.dw_memo.proofs.slot_memo.SlotMemoMemo.put.Goals as goal
+
+pub returns-clause-note : goal.returns-clause-note
+returns-clause-note g c =
+    let slots = c.self.inside.slots.items in
+    let after = held (set slots c.slot_of-slot.result (Some (c.args.position.now, c.args.bounds))) in
+    let n : c.len.result ≡ length slots = omega (arith, c.len.ensures, c.self.inside.slots.ok) in
+    subst (λ (h : Holding). IsNote h.content c.args.position.now c.args.bounds Kept after h.dropped c.saturating_add-self-inside.result) c.self.view_is
+    (counted_on (held slots) c.args.position.now c.args.bounds Kept after c.lost-lost.result c.self.inside.dropped c.saturating_add-self-inside.result
+    (noted_in g.B.Board.geometry slots c.len.result c.slot_of-slot.result c.args.position.now c.args.bounds c.index.result.now c.lost-lost.result
+    c.self.invariant n c.slot_of-slot.ensures.slot c.slot_of-slot.ensures.within c.index.ensures c.lost-lost.ensures)
+    c.saturating_add-self-inside.ensures)

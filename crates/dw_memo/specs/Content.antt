@@ -1,0 +1,41 @@
+-- What a memo holds: a finite map from positions to bounds, as a list of entries.
+use Rattle.std.specs.Prelude.{◌≡◌, ◌↔◌, ◌⊎◌, List, [], ◌∷◌, map, Option, Some, None}
+use Rattle.dw_board.specs.Placement.{Placement}
+use Rattle.dw_memo.specs.declared.bounds.Bounds.{Bounds}
+
+-- what is known of a position: what stands on the board and whose turn it is, and the bounds
+pub record Entry : Type 0 where
+  pub position : Placement
+  pub bounds : Bounds
+
+abbrev pub entry : Placement → Bounds → Entry
+entry p b = record { position = p; bounds = b }
+
+abbrev pub Content : Type 0
+Content = List Entry
+
+-- x stands in the list
+abbrev pub Member : {X : Type 0} → X → List X → Type 0
+Member x [] = ⊥
+Member x (y ∷ ys) = (x ≡ y) ⊎ Member x ys
+
+-- nothing stands twice
+abbrev pub NoRepeat : {X : Type 0} → List X → Type 0
+NoRepeat [] = Unit {0}
+NoRepeat (x ∷ xs) = (Member x xs → ⊥) × NoRepeat xs
+
+abbrev pub positions : Content → List Placement
+positions c = map (λ e. e.position) c
+
+-- a position stands once
+abbrev pub IsMap : Content → Type 0
+IsMap c = NoRepeat (positions c)
+
+-- the same entries, in any order
+abbrev pub SameEntries : Content → Content → Type 0
+SameEntries c d = (e : Entry) → Member e c ↔ Member e d
+
+-- what is found for a position: its bounds, or that it isn't there
+abbrev pub IsFound : Content → Placement → Option Bounds → Type 0
+IsFound c p (Some b) = Member (entry p b) c
+IsFound c p None = Member p (positions c) → ⊥

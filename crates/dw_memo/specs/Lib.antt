@@ -1,0 +1,6 @@
+pub mod Bounding
+pub mod Content
+pub mod Noting
+pub mod Holding
+pub mod Recent
+pub mod Slots

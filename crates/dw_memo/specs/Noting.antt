@@ -1,0 +1,29 @@
+-- What a note does to a memo, which may lose entries.
+use Rattle.std.specs.Prelude.{◌≡◌, ◌≢◌, ℕ, ◌+◌, ◌-◌, ◌^◌, ◌⊎◌, min, List, length}
+use Rattle.dw_board.specs.Placement.{Placement}
+use Rattle.dw_memo.specs.declared.bounds.Bounds.{Bounds}
+use Rattle.dw_memo.specs.declared.memo.Noted.{Noted}
+use Rattle.dw_memo.specs.declared.memo.Noted.TheVariants.{Kept}
+use Rattle.dw_memo.specs.Content.{Entry, entry, Content, Member, NoRepeat, IsMap}
+
+-- the given entry, or an old one of another position: what a memo that loses nothing holds after a note
+abbrev pub IsPutIn : Content → Placement → Bounds → Entry → Type 0
+IsPutIn old p b e = (e ≡ entry p b) ⊎ (Member e old × (e.position ≢ p))
+
+-- the entries that should be there and aren't: each stands once in the list, and no other does
+pub record AreMissing (old : Content) (p : Placement) (b : Bounds) (new : Content) (missing : List Entry) : Type 0 where
+  pub each_once : NoRepeat missing
+  pub only : (e : Entry) → Member e missing → IsPutIn old p b e × (Member e new → ⊥)
+  pub given : Member (entry p b) new ⊎ Member (entry p b) missing
+  pub others : (e : Entry) → Member e old → (e.position ≡ p) ⊎ (Member e new ⊎ Member e missing)
+
+-- Bounds were given for a position. The new content has no other entry than it should, the given one where the answer
+-- is that it was kept, and the count grew by the entries that are missing, up to the greatest 64-bit number.
+pub record IsNote (old : Content) (p : Placement) (b : Bounds) (answer : Noted) (new : Content) (before after : ℕ) : Type 0 where
+  pub map_before : IsMap old
+  pub map : IsMap new
+  pub only : (e : Entry) → Member e new → IsPutIn old p b e
+  pub kept : answer ≡ Kept → Member (entry p b) new
+  pub missing : List Entry
+  pub are_missing : AreMissing old p b new missing
+  pub count : after ≡ min (before + length missing) (2 ^ 64 - 1)

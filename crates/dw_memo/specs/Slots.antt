@@ -1,0 +1,55 @@
+-- A table in which each position has one slot.
+use Rattle.std.specs.Prelude.{◌≡◌, ℕ, ◌*◌, ◌/◌, ◌%◌, ◌^◌, ◌≤◌, List, [], ◌∷◌, length, slice_get, Option, Some, None, bit_xor, not, cond}
+use Rattle.std.specs.Int.{from_bool}
+use Rattle.dw_board.specs.PlacementLaws.{same}
+use Rattle.dw_board.specs.declared.piece.Side.{Side}
+use Rattle.dw_board.specs.declared.piece.Side.TheVariants.{White, Black}
+use Rattle.dw_board.specs.declared.piece.Kind.{Kind}
+use Rattle.dw_board.specs.declared.piece.Kind.TheVariants.{Man, King}
+use Rattle.dw_board.specs.Geometry.{Geometry}
+use Rattle.dw_board.specs.SquareSet.{word_of}
+use Rattle.dw_board.specs.Standing.{standing}
+use Rattle.dw_board.specs.Placement.{Placement, side_code}
+use Rattle.dw_memo.specs.declared.bounds.Bounds.{Bounds}
+use Rattle.dw_memo.specs.Content.{entry, Content}
+
+-- slots, each with a position and its bounds, or empty
+abbrev pub Slots : Type 0
+Slots = List (Option (Placement × Bounds))
+
+-- what the slots hold
+abbrev pub held : Slots → Content
+held [] = []
+held (None ∷ slots) = held slots
+held (Some e ∷ slots) = entry e.0 e.1 ∷ held slots
+
+-- the bounds of a position, if the slot holds it
+abbrev pub bounds_in : Option (Placement × Bounds) → Placement → Option Bounds
+bounds_in None p = None
+bounds_in (Some e) p = cond (same e.0 p) (Some e.1) None
+
+-- how many entries are lost when a position comes into a slot: that of another position
+abbrev pub lost : Option (Placement × Bounds) → Placement → ℕ
+lost None p = 0
+lost (Some e) p = from_bool (not (same e.0 p))
+
+-- the padded word of the squares on which a side's men or its kings stand
+unfoldable pub word : Geometry → Placement → Side → Kind → ℕ
+word g p side kind = word_of g (standing p.cells side kind)
+
+-- a hash, and one word more: a product by an odd constant, whose upper half is then mixed into the lower one
+unfoldable pub mixed : ℕ → ℕ → ℕ
+mixed hash w = let product = (bit_xor hash w * 11400714819323198485) % 2 ^ 64 in bit_xor product (product / 2 ^ 32)
+
+-- the side to move, and then the four words
+unfoldable pub hash_of : Geometry → Placement → ℕ
+hash_of g p = mixed (mixed (mixed (mixed (side_code p.turn) (word g p White Man)) (word g p White King)) (word g p Black Man)) (word g p Black King)
+
+-- the slot of a position, among so many
+abbrev pub slot_of : Geometry → Placement → ℕ → ℕ
+slot_of g p n = hash_of g p % n
+
+-- there is a slot, and each position stands in its own
+pub record IsTable (g : Geometry) (slots : Slots) : Type 0 where
+  pub some_slot : 1 ≤ length slots
+  pub placed : (k : ℕ) (p : Placement) (b : Bounds) → slice_get slots k ≡ Some (Some (p, b)) → k ≡ slot_of g p (length slots)

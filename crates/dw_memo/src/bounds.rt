@@ -1,0 +1,56 @@
+//! Bounds: what is known of a position.
+ghost use Rattle.std.specs.Prelude.{◌≡◌, is_some};
+ghost use Rattle.dw_memo.specs.Bounding as of;
+
+/// In how many moves of its own the side to move can't force a win, and in how many it can. `None` says nothing.
+#[derive(Clone, Copy, Debug, Default, PartialEq, Eq)]
+pub struct Bounds {
+    /// There is no win in so many moves, nor in fewer.
+    pub fails: Option<u8>,
+    /// There is a win in so many moves, and in more.
+    pub wins: Option<u8>,
+}
+
+impl Bounds {
+    /// Whether there is a win in so many moves, or `None` where the bounds don't say.
+    pub fn decide(self, moves: u8) -> Option<bool>
+        ensures value { result ≡ of.decided self moves }
+        ensures decides { is_some result ≡ of.decides self moves }
+    {
+        if self.wins.is_some_and(|wins| wins <= moves) {
+            Some(true)
+        } else if self.fails.is_some_and(|fails| moves <= fails) {
+            Some(false)
+        } else {
+            None
+        }
+    }
+
+    /// These bounds, and that there is a win in so many moves. A win in fewer moves stays.
+    pub fn with_win(self, moves: u8) -> Self
+        ensures { result ≡ of.with_win self moves }
+    {
+        let wins = match self.wins {
+            Some(wins) => wins.min(moves),
+            None => moves,
+        };
+        Bounds {
+            wins: Some(wins),
+            ..self
+        }
+    }
+
+    /// These bounds, and that there is no win in so many moves. None in more moves stays.
+    pub fn with_fail(self, moves: u8) -> Self
+        ensures { result ≡ of.with_fail self moves }
+    {
+        let fails = match self.fails {
+            Some(fails) => fails.max(moves),
+            None => moves,
+        };
+        Bounds {
+            fails: Some(fails),
+            ..self
+        }
+    }
+}

@@ -1,0 +1,12 @@
+//! Caches of what is known of positions: in how many moves the side to move wins, and in how many it doesn't.
+//!
+//! A caller works over the trait `Memo` and uses only its clauses: a cache may lose what was noted, and counts it.
+#![tactic(auto)]
+
+pub mod bounds;
+pub mod lru_memo;
+pub mod memo;
+pub mod no_memo;
+pub mod slot_memo;
+#[cfg(test)]
+mod tests;

@@ -1,0 +1,56 @@
+//! What a cache of bounds is.
+ghost use Rattle.std.specs.Prelude.{◌≡◌, ℕ};
+ghost use Rattle.dw_memo.specs.Content.{Content, IsMap, SameEntries, IsFound};
+ghost use Rattle.dw_memo.specs.Noting.{IsNote};
+
+use crate::bounds::Bounds;
+use dw_board::board::Board;
+use dw_board::position::Position;
+
+/// Whether a note was kept.
+#[derive(Clone, Copy, Debug, PartialEq, Eq)]
+pub enum Noted {
+    Kept,
+    NotKept,
+}
+
+/// A map from positions to bounds that may forget. It counts what it forgets.
+///
+/// In contracts `content` is the map, `dropped` the count, and `may_answer` tells which answers a note can give.
+pub trait Memo<B: Board> {
+    ghost use Rattle.dw_memo.specs.declared.memo.Noted.{Noted};
+
+    ghost content: { Self → Content };
+
+    ghost dropped: { Self → ℕ };
+
+    ghost may_answer: { Noted → Type 0 };
+
+    /// The bounds of a position, the side to move included, or `None` where it is not held.
+    fn look(&mut self, position: &Position<B>) -> Option<Bounds>
+        ensures map { IsMap (content self.old) }
+        ensures found { IsFound (content self.old) position.now result }
+        ensures map_after { IsMap (content self.new) }
+        ensures same { SameEntries (content self.old) (content self.new) }
+        ensures dropped { dropped self.new ≡ dropped self.old };
+
+    /// Holds these bounds for a position, in place of those that it had. Entries may be lost by it, the given one too,
+    /// and each of them is counted. This is what a memo has to bring; callers have it as `note`.
+    fn put(&mut self, position: &Position<B>, bounds: Bounds) -> Noted
+        ensures answer { may_answer result }
+        ensures note { IsNote (content self.old) position.now bounds result (content self.new) (dropped self.old) (dropped self.new) };
+
+    /// How many entries were lost or not kept so far; from `u64::MAX` on it stays the same.
+    fn dropped(&self) -> u64
+        ensures map { IsMap (content self.now) }
+        ensures count { result ≡ dropped self.now };
+
+    /// Holds these bounds for a position, in place of those that it had. Entries may be lost by it, the given one too,
+    /// and each of them is counted.
+    final fn note(&mut self, position: Position<B>, bounds: Bounds) -> Noted
+        ensures answer { may_answer result }
+        ensures note { IsNote (content self.old) position bounds result (content self.new) (dropped self.old) (dropped self.new) }
+    {
+        self.put(&position, bounds)
+    }
+}

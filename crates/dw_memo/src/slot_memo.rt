@@ -1,0 +1,138 @@
+//! A memo of fixed size, in which each position has one slot.
+ghost use Rattle.std.specs.Prelude.{◌≡◌, ◌≤◌, ◌<◌, [], length, IfOk};
+ghost use Rattle.dw_board.specs.Placement.{IsPosition, side_code};
+ghost use Rattle.dw_memo.specs.Slots as of;
+ghost use Rattle.dw_memo.specs.declared.memo.Noted.TheVariants.{Kept};
+
+use crate::bounds::Bounds;
+use crate::memo::{Memo, Noted};
+use dw_board::board::Board;
+use dw_board::piece::{Kind, Side};
+use dw_board::position::Position;
+use std::alloc::{AllocError, Global};
+use std::marker::Model;
+
+/// A table of slots. A position that is noted takes the place of the one that stood in its slot.
+#[derive(Drop)]
+pub struct SlotMemo<B: Board> {
+    slots: Vec<Option<(Position<B>, Bounds)>>,
+    dropped: u64,
+}
+
+impl<B: Board> Model for SlotMemo<B> {
+    ghost use Rattle.dw_memo.specs.Holding.{Holding};
+    ghost use Rattle.dw_memo.specs.Slots.{held, IsTable};
+
+    ghost Value = { Holding };
+
+    ghost view = { λ m. record { content = held m.slots.items; dropped = m.dropped } };
+
+    ghost invariant = { λ m. IsTable B.geometry m.slots.items };
+}
+
+impl<B: Board> SlotMemo<B> {
+    /// An empty memo of so many slots, 1 to 4,000,000, or want of memory. No memory is taken later.
+    pub fn new(alloc: Global, slots: usize) -> Result<Self, AllocError>
+        requires some { 1 ≤ slots }
+        requires most { slots ≤ 4_000_000 }
+        ensures { IfOk result (λ m. m ≡ record { content = []; dropped = 0 }) }
+    {
+        Ok(SlotMemo {
+            slots: vec![in alloc; None; slots]?,
+            dropped: 0,
+        })
+    }
+}
+
+impl<B: Board> Memo<B> for SlotMemo<B> {
+    ghost content = { λ m. m.content };
+
+    ghost dropped = { λ m. m.dropped };
+
+    ghost may_answer = { λ answer. answer ≡ Kept };
+
+    fn look(&mut self, position: &Position<B>) -> Option<Bounds> {
+        let slot = slot_of(position, self.slots.len());
+        bounds_in(&self.slots[slot], position)
+    }
+
+    fn put(&mut self, position: &Position<B>, bounds: Bounds) -> Noted {
+        let slot = slot_of(position, self.slots.len());
+        let lost = lost(&self.slots[slot], position);
+        self.slots[slot] = Some((*position, bounds));
+        self.dropped = self.dropped.saturating_add(lost);
+        Noted::Kept
+    }
+
+    fn dropped(&self) -> u64 {
+        self.dropped
+    }
+}
+
+/// The bounds of a position, if the slot holds it and not another one.
+fn bounds_in<B: Board>(
+    slot: &Option<(Position<B>, Bounds)>,
+    position: &Position<B>,
+) -> Option<Bounds>
+    ensures { result ≡ of.bounds_in slot.now position.now }
+{
+    match slot {
+        Some((held, bounds)) if held == position => Some(*bounds),
+        _ => None,
+    }
+}
+
+/// How many entries are lost when a position comes into a slot.
+fn lost<B: Board>(slot: &Option<(Position<B>, Bounds)>, position: &Position<B>) -> u64
+    ensures { result ≡ of.lost slot.now position.now }
+{
+    match slot {
+        Some((other, _)) => u64::from(other != position),
+        None => 0,
+    }
+}
+
+/// The slot of a position, among so many.
+fn slot_of<B: Board>(position: &Position<B>, slots: usize) -> usize
+    requires { 1 ≤ slots }
+    ensures slot { result ≡ of.slot_of B.geometry position.now slots }
+    ensures within { result < slots }
+{
+    (hash_of(position) % slots as u64) as usize
+}
+
+/// A hash of the side to move and of the squares where each kind of piece stands.
+fn hash_of<B: Board>(position: &Position<B>) -> u64
+    ensures { result ≡ of.hash_of B.geometry position.now }
+{
+    let turn = side_number(position.turn());
+    let hash = mixed(turn, word(position, Side::White, Kind::Man));
+    let hash = mixed(hash, word(position, Side::White, Kind::King));
+    let hash = mixed(hash, word(position, Side::Black, Kind::Man));
+    mixed(hash, word(position, Side::Black, Kind::King))
+}
+
+fn side_number(side: Side) -> u64
+    ensures { result ≡ side_code side }
+{
+    match side {
+        Side::White => 0,
+        Side::Black => 1,
+    }
+}
+
+/// The padded word of the squares on which a side's men or its kings stand.
+fn word<B: Board>(position: &Position<B>, side: Side, kind: Kind) -> u64
+    requires { IsPosition B.geometry position.now.cells }
+    ensures { result ≡ of.word B.geometry position.now side kind }
+{
+    position.squares(side, kind).word()
+}
+
+/// A hash, and one word more.
+fn mixed(hash: u64, word: u64) -> u64
+    ensures { result ≡ of.mixed hash word }
+{
+    let product = (hash ^ word).wrapping_mul(0x9E37_79B9_7F4A_7C15);
+    product ^ (product >> 32)
+}
