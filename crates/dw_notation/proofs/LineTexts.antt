@@ -101,8 +101,8 @@ line_more g p moves i ply current after text new word m h low is written played 
           subst (IsLineText g p moves) joins (h.whole (numbered ply (word ∷ rest)) all);
       room = omega (arith, ap length e, length-append text (onto ply (numbered ply (word ∷ []))), numbered_short ply word (omega (arith, h.same)) short, h.room);
     } where
-  later : (ply : ℕ) (rest : List (List ℕ)) (new : List ℕ) → new ++ spaced rest ≡ new ++ onto (ply + 1) rest
-  later ply rest new = ap (λ l. new ++ l) (sym (onto_later (ply + 1) rest (omega arith)))
+      later : (ply : ℕ) (rest : List (List ℕ)) (new : List ℕ) → new ++ spaced rest ≡ new ++ onto (ply + 1) rest
+      later ply rest new = ap (λ l. new ++ l) (sym (onto_later (ply + 1) rest (omega arith)))
 
 pub line_all : (g : Geometry) (p : Placement) (moves : List Move) (i ply : ℕ) (current : Placement) (text : List ℕ) → LineTo g p moves i ply current text → length moves ≤ i → IsLineText g p moves text
 line_all g p moves i ply current text h all =

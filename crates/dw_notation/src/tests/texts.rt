@@ -40,7 +40,12 @@ fn writes_moves(rt: HostRuntime) -> Result<(), Fail> {
     let alloc = rt.alloc();
     check_texts::<Ten>(&rt, alloc, "W:W27,45:B16", &["27-21", "27-22", "45-40"])?;
     check_texts::<Ten>(&rt, alloc, "W:W38:B22,23,32,33", &["38x38"])?;
-    check_texts::<Ten>(&rt, alloc, "W:WK47:B17,18,24,32,33", &["47x38", "47x43", "47x49"])?;
+    check_texts::<Ten>(
+        &rt,
+        alloc,
+        "W:WK47:B17,18,24,32,33",
+        &["47x38", "47x43", "47x49"],
+    )?;
     check_texts::<Ten>(
         &rt,
         alloc,
@@ -80,9 +85,21 @@ fn line_of<B: Board>(
 fn writes_lines(rt: HostRuntime) -> Result<(), Fail> {
     let alloc = rt.alloc();
     let rows = [
-        ("W:W27,45:B16", ["45-40", "16-21", "27x16"], "1. 45-40 16-21 2. 27x16"),
-        ("W:W27,32,38:B18", ["27-22", "18x27", "32x21"], "1. 27-22 18x27 2. 32x21"),
-        ("W:W27,32,38:B18", ["32-28", "18-22", "28x17"], "1. 32-28 18-22 2. 28x17"),
+        (
+            "W:W27,45:B16",
+            ["45-40", "16-21", "27x16"],
+            "1. 45-40 16-21 2. 27x16",
+        ),
+        (
+            "W:W27,32,38:B18",
+            ["27-22", "18x27", "32x21"],
+            "1. 27-22 18x27 2. 32x21",
+        ),
+        (
+            "W:W27,32,38:B18",
+            ["32-28", "18-22", "28x17"],
+            "1. 32-28 18-22 2. 28x17",
+        ),
     ];
     for (fen, words, wanted) in rows {
         let text = line_of::<Ten>(&rt, alloc, fen, words)?;

@@ -48,10 +48,7 @@ const ROWS: [(&str, &str); 11] = [
     ),
     ("W:W:B20", "moves 0 taking 0\n"),
     ("W:W32:B28", "32x23 B:W23:B\nmoves 1 taking 1\n"),
-    (
-        "B:W23:B19",
-        "19x28 W:W:B28\nmoves 1 taking 1\n",
-    ),
+    ("B:W23:B19", "19x28 W:W:B28\nmoves 1 taking 1\n"),
 ];
 
 #[test]
@@ -60,7 +57,12 @@ fn lists_moves(rt: HostRuntime) {
         let (answer, written) = ran::<Ten>(rt.alloc(), Form::Fens, fen);
         assert!(rt; answer.is_ok(), "{fen}");
         let first = "problem 1: ".len() + fen.len() + 1;
-        assert_eq!(rt; &written[..first - 1], format!(in rt.alloc(); "problem 1: {fen}").expect(&rt, "room").as_bytes());
+        assert_eq!(rt;
+            &written[..first - 1],
+            format!(in rt.alloc(); "problem 1: {fen}")
+                .expect(&rt, "room")
+                .as_bytes()
+        );
         assert_eq!(rt; &written[first..], wanted.as_bytes(), "{fen}");
     }
 }
@@ -77,7 +79,8 @@ fn lists_moves_of_the_small_board(rt: HostRuntime) {
 #[test]
 fn lists_moves_of_sections(rt: HostRuntime) {
     let text = "[FEN \"W:W32:B28\"] {x";
-    let wanted = "problem 1: W:W32:B28\n32x23 B:W23:B\nmoves 1 taking 1\nproblem 2: refused: 8 unclosed comment\n";
+    let wanted =
+        "problem 1: W:W32:B28\n32x23 B:W23:B\nmoves 1 taking 1\nproblem 2: refused: 8 unclosed comment\n";
     let (answer, written) = ran::<Ten>(rt.alloc(), Form::Pdn, text);
     assert_eq!(rt; written.as_slice(), wanted.as_bytes());
     assert_eq!(rt;
