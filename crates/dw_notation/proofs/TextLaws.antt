@@ -1,12 +1,12 @@
 -- Each legal move has one text, and different ones have different texts.
-use Rattle.std.proofs.Common.{◌≡◌, ℕ, ◌<◌, List, [], ◌∷◌, map, refl, sym, ap, ◌∙◌, subst, inl, inr, arith}
-use Rattle.dw_board.specs.Geometry.{Geometry, IsBoard}
-use Rattle.dw_board.specs.Placement.{Placement, IsPosition}
+use Rattle.std.proofs.Common.{◌≡◌, ℕ, List, [], ◌∷◌, map, refl, sym, ap, ◌∙◌, subst, inl, inr, arith}
+use Rattle.dw_board.specs.Geometry.{Geometry}
+use Rattle.dw_board.specs.Placement.{Placement}
 use Rattle.dw_moves.specs.Laws.{MovesInOrder, MovesHaveKeys}
-use Rattle.dw_moves.specs.Moves.{Member, Move, Legal}
+use Rattle.dw_moves.specs.Moves.{Member, Move}
 use Rattle.dw_moves.specs.Order.{LexLess, Precedes, IsAscending, Listed}
 use Rattle.dw_notation.specs.MoveReading.{Fits}
-use Rattle.dw_notation.specs.Text.{IsMoveText, text_among}
+use Rattle.dw_notation.specs.Text.{text_among}
 use Rattle.dw_notation.specs.TextLaws.{MovesHaveTexts}
 use Rattle.dw_notation.proofs.LineTexts.{legal_has_step}
 use Rattle.dw_notation.proofs.MoveNames.{names_one}

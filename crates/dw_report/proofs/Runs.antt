@@ -3,7 +3,7 @@ use Rattle.std.proofs.Common.{◌≡◌, ℕ, ◌+◌, ◌<◌, ◌≤◌, inl, 
 use Rattle.std.specs.List.{list_any}
 use Rattle.std.proofs.lemmas.Bool.{cases_Bool}
 use Rattle.std.proofs.KnownBytes.{Consumes-trans, Appends-trans, Appends-nil}
-use Rattle.std.specs.Io.KnownBytes.{Consumes, Appends, IsAtEnd}
+use Rattle.std.specs.Io.KnownBytes.{Consumes, IsAtEnd}
 use Rattle.dw_board.specs.Geometry.{Geometry}
 use Rattle.dw_notation.specs.Problems.{Numbered, problems_of, ended_problems_of}
 use Rattle.dw_notation.specs.Cutting.{problems_from, to_come, ended, EndIsTrue, has_met_end, handed_count}
@@ -15,7 +15,6 @@ use Rattle.dw_report.specs.Report.{AreTexts, IsReportOn, chosen}
 use Rattle.dw_report.specs.Running.{RunEnds, TextEnds, IsPartOn, ended_by, is_asked, is_refused, up_to_asked}
 use Rattle.dw_report.specs.Writing.{Writes, WritesShort}
 use Rattle.dw_report.specs.declared.problem.TextFault.{TextFault}
-use Rattle.dw_report.specs.declared.problem.TextFault.TheVariants as TextFault
 use Rattle.dw_report.specs.declared.settings.Stop.{Stop}
 use Rattle.dw_report.specs.declared.settings.Stop.TheVariants.{Memory}
 use Rattle.dw_report.specs.declared.settings.Settings.{Settings}

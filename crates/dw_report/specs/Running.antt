@@ -16,7 +16,6 @@ use Rattle.dw_report.specs.declared.settings.RunFault.TheVariants.{Stopped, Read
 use Rattle.dw_report.specs.declared.settings.Command.{Command}
 use Rattle.dw_report.specs.declared.settings.Command.TheVariants.{Moves}
 use Rattle.dw_report.specs.declared.problem.TextFault.{TextFault}
-use Rattle.dw_report.specs.declared.problem.TextFault.TheVariants as TextFault
 use Rattle.dw_report.specs.declared.problem.TextFault.TheVariants.{Sink}
 use Rattle.dw_report.specs.declared.settings.Stop.{Stop}
 use Rattle.dw_report.specs.declared.settings.Stop.TheVariants.{Memory}

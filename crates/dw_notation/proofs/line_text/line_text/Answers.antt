@@ -1,4 +1,4 @@
-use Rattle.dw_notation.proofs.LineTexts.{line_start, next_playable, line_more, line_all}
+use Rattle.dw_notation.proofs.LineTexts.{line_more, line_all}
 use Rattle.dw_notation.proofs.line_text.line_text.Goals as goal
 
 pub moves-preserved : goal.moves-preserved

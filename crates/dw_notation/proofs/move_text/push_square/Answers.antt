@@ -1,4 +1,4 @@
-use Rattle.std.proofs.Common.{sym, ap, ◌∙◌, length, arith}
+use Rattle.std.proofs.Common.{ap, length, arith}
 use Rattle.dw_notation.proofs.MoveTexts.{two_digits}
 use Rattle.dw_notation.proofs.move_text.push_square.Goals as goal
 

@@ -1,8 +1,7 @@
-use Rattle.std.proofs.Common.{◌≡◌, ◌++◌, length, sym, ap, ◌∙◌, subst, arith, Err, get_or}
+use Rattle.std.proofs.Common.{sym, ap, ◌∙◌, subst, Err}
 use Rattle.std.proofs.lemmas.Result.{err_from_is_err_and}
-use Rattle.dw_moves.specs.Order.{Listed, AreListed}
-use Rattle.dw_notation.specs.Writes.{StopsShort}
-use Rattle.dw_report.specs.Report.{IsMovesText, move_line}
+use Rattle.dw_moves.specs.Order.{AreListed}
+use Rattle.dw_report.specs.Report.{IsMovesText}
 use Rattle.dw_report.specs.Running.{AreLinesOf}
 use Rattle.dw_report.proofs.MoveLines.{no_move, moves_some, lines_more, lines_all, line_short, count_short}
 use Rattle.dw_report.proofs.Writings.{at_memory, at_sink, no_lines}

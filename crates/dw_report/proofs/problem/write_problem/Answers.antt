@@ -1,9 +1,9 @@
-use Rattle.std.proofs.Common.{◌≡◌, [], ◌∷◌, sym, ap, ◌∙◌, subst, Err}
+use Rattle.std.proofs.Common.{[], ◌∷◌, ap, ◌∙◌, subst, Err}
 use Rattle.std.specs.Io.KnownBytes.{Appends}
 use Rattle.std.proofs.lemmas.Result.{err_from_is_err_and}
 use Rattle.dw_notation.specs.Problems.{numbered}
 use Rattle.dw_notation.specs.Writes.{StopsShort}
-use Rattle.dw_report.specs.Report.{IsProblemText, first_line}
+use Rattle.dw_report.specs.Report.{IsProblemText}
 use Rattle.dw_report.specs.Running.{IsProblemPart}
 use Rattle.dw_report.proofs.Writings.{at_sink, first_line_short, problem_ends}
 use Rattle.dw_report.proofs.problem.write_problem.Goals as goal
