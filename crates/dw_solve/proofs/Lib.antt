@@ -1,0 +1,2 @@
+mod WinLemmas
+mod FactLemmas

@@ -1,0 +1,4 @@
+pub mod Wins
+pub mod Facts
+pub mod Laws
+pub mod Trial

@@ -1,0 +1,21 @@
+//! Laws of the definitions, each the contract of a function that does nothing.
+ghost use Rattle.dw_solve.specs.Laws.{WinsStay, WinsAreDecided, ClosedIsTrue};
+
+use dw_moves::laws::moves_listed;
+
+/// A win within some number of moves is one within more, and so is a loss.
+pub fn wins_stay()
+    ensures { WinsStay }
+{}
+
+/// A position has a win within so many moves, or it has none.
+pub fn wins_are_decided()
+    ensures { WinsAreDecided }
+{
+    moves_listed()
+}
+
+/// Where each bound of a memo follows from others in one move and its replies, all of them are right.
+pub fn closed_is_true()
+    ensures { ClosedIsTrue }
+{}

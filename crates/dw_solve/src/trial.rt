@@ -1,0 +1,24 @@
+//! A guess at how good a move is.
+ghost use Rattle.dw_moves.specs.Moves.{Legal, play};
+ghost use Rattle.dw_solve.specs.Trial.{IsTrial};
+
+use dw_board::board::Board;
+use dw_board::position::Position;
+use dw_moves::kernel::can_capture;
+use dw_moves::moves::Move;
+use dw_moves::play::play as played;
+use dw_moves::quiet::quiet_count;
+
+/// How free the other side is after a legal move: the number of its quiet moves, or 0 where it must capture. A move
+/// that leaves less freedom is worth trying first.
+pub fn trial<B: Board>(position: &Position<B>, step: &Move<B>) -> u32
+    requires { Legal B.geometry position.now step.now }
+    ensures { IsTrial B.geometry (play B.geometry position.now step.now) result }
+{
+    let after = played(position, step);
+    if can_capture(&after) {
+        0
+    } else {
+        quiet_count(&after)
+    }
+}
