@@ -1,13 +1,13 @@
 -- What is in the grammar is read.
-use Rattle.std.proofs.Common.{◌≡◌, ℕ, suc, zero, ◌+◌, ◌-◌, ◌≤◌, ◌<◌, Bool, true, false, ◌||◌, ◌&&◌, cond, List, [], ◌∷◌, ◌++◌, map, Option, Some, None, is_some, Result, Ok, Err, refl, sym, ap, ◌∙◌, subst, arith, ◌⊎◌, inl, inr, append_assoc, append-nil, ltb, eqb, leb}
-use Rattle.std.specs.List.{range_with_len, flat_map}
-use Rattle.std.proofs.lemmas.Bool.{cases_Bool, true≢false, eqb-true, eq-eqb, or_cases, or_right, and_parts, leb-true, ne_eqb}
+use Rattle.std.proofs.Common.{◌≡◌, ℕ, suc, zero, ◌+◌, ◌-◌, Bool, true, false, ◌||◌, cond, List, [], ◌∷◌, ◌++◌, map, Option, Some, None, Result, Ok, refl, sym, ap, ◌∙◌, subst, inl, inr, append_assoc, append-nil, eqb}
+use Rattle.std.specs.List.{range_with_len}
+use Rattle.std.proofs.lemmas.Bool.{cases_Bool, eqb-true, eq-eqb, or_cases, or_right}
 use Rattle.dw_board.specs.Geometry.{Geometry}
 use Rattle.dw_board.specs.Placement.{Placement, empty, placed, put_fault, same_side}
 use Rattle.dw_board.specs.FenTokens.{Token, is_sign, side_named, is_king_letter, number_named, is_digit, square_numbered}
-use Rattle.dw_board.specs.FenReader.{first_is, first_named, behind, place_of, no_item, is_empty}
+use Rattle.dw_board.specs.FenReader.{first_is, first_named, behind, no_item, is_empty}
 use Rattle.dw_board.specs.FenGrammar.{Word, Placing, IsRange, IsItem, IsItems, IsList, IsEnd, IsTail, named, all_named, Sets, Names, number, range, men, kings, single, more, bare, full, nothing, stop, ends, fields, one_list, two_lists}
-use Rattle.dw_board.specs.Fen.{fault, ◌>>=◌, Listing, Item, Stage, Start, AfterTurn, AfterColon, AfterColour, AfterComma, AfterKing, AfterNumber, AfterDash, AfterItem, AfterStop, AfterLists, read_from, at_end, with_item, then_set, set_squares, piece_of, listing, read_behind}
+use Rattle.dw_board.specs.Fen.{◌>>=◌, Listing, Item, Stage, Start, AfterTurn, AfterColon, AfterColour, AfterComma, AfterKing, AfterNumber, AfterDash, AfterItem, read_from, at_end, with_item, then_set, set_squares, piece_of, listing}
 use Rattle.dw_board.specs.declared.piece.Side.{Side}
 use Rattle.dw_board.specs.declared.piece.Piece.{Piece}
 use Rattle.dw_board.specs.declared.piece.PutFault.{PutFault}

@@ -1,13 +1,13 @@
 -- The laws of FEN texts.
-use Rattle.std.proofs.Common.{◌≡◌, ℕ, suc, ◌+◌, ◌≤◌, ◌<◌, Bool, true, false, cond, ltb, List, length, Result, Ok, Err, refl, sym, ap, ◌∙◌, ◌⊎◌, inl, inr, ◌↔◌, arith, map}
+use Rattle.std.proofs.Common.{◌≡◌, ℕ, ◌+◌, ◌≤◌, ◌<◌, true, false, ltb, List, length, Result, Ok, Err, refl, sym, ◌∙◌, ◌⊎◌, inl, inr, ◌↔◌}
 use Rattle.std.proofs.lemmas.Bool.{cases_lt, lt-ltb, le-ltb}
 use Rattle.dw_board.specs.Geometry.{Geometry, IsBoard}
 use Rattle.dw_board.specs.Placement.{Placement, IsPosition}
 use Rattle.dw_board.specs.FenTokens.{tokens_from}
 use Rattle.dw_board.specs.Fen.{fen, short_fen, Start, read_from, fault}
-use Rattle.dw_board.specs.FenGrammar.{Fen, Names, words}
+use Rattle.dw_board.specs.FenGrammar.{Fen, words}
 use Rattle.dw_board.specs.FenText.{written}
-use Rattle.dw_board.specs.FenLaws.{IsFen, IsFaulty, IsFirstFault}
+use Rattle.dw_board.specs.FenLaws.{IsFen, IsFaulty}
 use Rattle.dw_board.specs.declared.fen.fault.FenFault.{FenFault}
 use Rattle.dw_board.specs.declared.fen.fault.FenFaultKind.TheVariants.{TooLong}
 use Rattle.dw_board.proofs.FenSound.{read_follows}

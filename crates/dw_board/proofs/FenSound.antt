@@ -1,14 +1,13 @@
 -- What is read is in the grammar.
-use Rattle.std.proofs.Common.{◌≡◌, ℕ, suc, zero, ◌+◌, ◌-◌, ◌≤◌, ◌<◌, Bool, true, false, ◌||◌, cond, List, [], ◌∷◌, ◌++◌, map, Option, Some, None, Result, Ok, Err, refl, sym, ap, ◌∙◌, subst, arith, ◌⊎◌, inl, inr, append_assoc, ltb}
-use Rattle.std.specs.List.{range_with_len, flat_map}
-use Rattle.std.proofs.lemmas.Bool.{cases_Bool, ltb-false, ltb-true, true≢false, eqb-true, eq-eqb, or_cases}
+use Rattle.std.proofs.Common.{◌≡◌, ℕ, suc, zero, ◌+◌, ◌-◌, Bool, true, false, ◌||◌, cond, List, [], ◌∷◌, ◌++◌, map, Option, Some, None, Result, Ok, Err, refl, sym, ap, ◌∙◌, subst, ◌⊎◌, inl, inr, append_assoc, ltb}
+use Rattle.std.specs.List.{range_with_len}
+use Rattle.std.proofs.lemmas.Bool.{cases_Bool, ltb-false, eqb-true, eq-eqb, or_cases}
 use Rattle.dw_board.specs.Geometry.{Geometry}
 use Rattle.dw_board.specs.Placement.{Placement, empty, placed, put_fault, same_side}
 use Rattle.dw_board.specs.FenTokens.{Token, is_sign, side_named, is_king_letter, number_named}
 use Rattle.dw_board.specs.FenGrammar.{Word, Placing, IsRange, IsItem, IsItems, IsList, IsEnd, IsTail, named, all_named, Sets, Names, number, range, men, kings, single, more, bare, full, nothing, stop, ends, fields, one_list, two_lists}
 use Rattle.dw_board.specs.Fen.{fault, ◌>>=◌, Listing, Item, Stage, Start, AfterTurn, AfterColon, AfterColour, AfterComma, AfterKing, AfterNumber, AfterDash, AfterItem, AfterStop, AfterLists, next_stage, at_end, read_from, with_item, item_ended, item_begun, list_begun, if_named, then_set, set_squares, piece_of, listing}
 use Rattle.dw_board.specs.declared.piece.Side.{Side}
-use Rattle.dw_board.specs.declared.piece.Kind.TheVariants.{Man, King}
 use Rattle.dw_board.specs.declared.piece.Piece.{Piece}
 use Rattle.dw_board.specs.declared.piece.PutFault.{PutFault}
 use Rattle.dw_board.specs.declared.fen.fault.FenFault.{FenFault}

@@ -1,14 +1,14 @@
 -- Lemmas on the tokens of a text.
-use Rattle.std.proofs.Common.{◌≡◌, ℕ, suc, zero, ◌+◌, ◌-◌, ◌≤◌, ◌<◌, Bool, true, false, ◌&&◌, ◌||◌, cond, eqb, leb, List, [], ◌∷◌, ◌++◌, length, take, drop, Option, Some, None, is_some, refl, sym, ap, ◌∙◌, subst, arith, ◌⊎◌, inl, inr, length-drop, get_or, slice_get}
+use Rattle.std.proofs.Common.{◌≡◌, ℕ, suc, zero, ◌+◌, ◌≤◌, Bool, true, false, ◌&&◌, ◌||◌, cond, eqb, List, [], ◌∷◌, ◌++◌, length, take, drop, Some, None, refl, sym, ap, ◌∙◌, arith, inl, inr, slice_get}
 use Rattle.std.specs.Option.{option_eq}
-use Rattle.std.proofs.lemmas.Bool.{cases_Bool, and_parts, eqb-true, true≢false, leb-true, or_cases, eq-eqb, ne_eqb, cases_eq}
+use Rattle.std.proofs.lemmas.Bool.{cases_Bool, and_parts, eqb-true, eq-eqb, ne_eqb, cases_eq}
 use Rattle.std.proofs.lemmas.Bool.Decides.{nat_tests}
 use Rattle.std.proofs.lemmas.List.{take-append-drop, length-take-le}
 use Rattle.dw_board.specs.Geometry.{Geometry}
 use Rattle.dw_board.specs.declared.piece.Side.TheVariants.{White, Black}
 use Rattle.dw_board.specs.FenTokens.{Token, tokens_from, with_byte, onto_run, is_blank, is_digit, begins_with_digit, is_sign, side_named, is_king_letter, number_named}
 use Rattle.dw_board.specs.FenBlanks.{begins_with_blank, AreDigits, IsSignByte}
-use Rattle.dw_board.specs.FenReader.{first_is, first_named, left_of, behind, place_of, is_empty}
+use Rattle.dw_board.specs.FenReader.{first_is, first_named, behind, place_of, is_empty}
 
 pub tokens_from-blank : (place byte : ℕ) (bytes : List ℕ) → is_blank byte ≡ true → tokens_from place (byte ∷ bytes) ≡ tokens_from (place + 1) bytes
 tokens_from-blank place byte bytes h = rw h refl

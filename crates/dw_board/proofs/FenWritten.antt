@@ -1,14 +1,14 @@
 -- The written text of a position is in the grammar.
-use Rattle.std.proofs.Common.{◌≡◌, ℕ, suc, zero, ◌+◌, ◌-◌, ◌*◌, ◌/◌, ◌%◌, ◌≤◌, ◌<◌, Bool, true, false, ◌||◌, ◌&&◌, cond, eqb, leb, List, [], ◌∷◌, ◌++◌, length, map, filter, Option, Some, None, refl, sym, ap, ◌∙◌, subst, arith, inl, inr, append_assoc, append-nil, length-append, decimal, codes}
-use Rattle.std.specs.List.{range_with_len, flat_map, join_with_byte}
-use Rattle.std.proofs.lemmas.Bool.{cases_Bool, cases_lt, le-leb, lt-leb, true≢false, and_parts}
+use Rattle.std.proofs.Common.{◌≡◌, ℕ, suc, zero, ◌+◌, ◌-◌, ◌*◌, ◌/◌, ◌%◌, ◌≤◌, ◌<◌, Bool, true, false, ◌&&◌, cond, leb, List, [], ◌∷◌, ◌++◌, length, map, filter, Option, Some, None, refl, sym, ap, ◌∙◌, subst, arith, inl, inr, append_assoc, append-nil, length-append, decimal, codes}
+use Rattle.std.specs.List.{range_with_len, join_with_byte}
+use Rattle.std.proofs.lemmas.Bool.{cases_lt, le-leb}
 use Rattle.std.proofs.lemmas.Bool.Decides.{nat_tests}
 use Rattle.std.proofs.lemmas.Fmt.{decimal_digit, decimal_step, length-decimal-le}
 use Rattle.dw_board.specs.Geometry.{Geometry, IsBoard, OnBoard, squares}
 use Rattle.dw_board.specs.Placement.{Placement, IsPosition, empty, at, is_of, is_man}
-use Rattle.dw_board.specs.FenTokens.{Token, tokens_from, with_byte, onto_run, is_blank, is_digit, begins_with_digit, is_sign, side_named, is_king_letter, number_named}
-use Rattle.dw_board.specs.FenBlanks.{AreDigits, IsSignByte}
-use Rattle.dw_board.specs.FenGrammar.{Word, words, Placing, IsRange, IsItem, IsItems, IsList, IsEnd, IsTail, named, all_named, Sets, Names, number, range, men, kings, single, more, bare, full, nothing, stop, ends, fields, one_list, two_lists}
+use Rattle.dw_board.specs.FenTokens.{Token, tokens_from, with_byte, onto_run, is_blank, is_digit, begins_with_digit, side_named, number_named}
+use Rattle.dw_board.specs.FenBlanks.{AreDigits}
+use Rattle.dw_board.specs.FenGrammar.{Word, words, Placing, IsItem, IsItems, IsList, named, all_named, Sets, Names, number, men, kings, single, more, bare, full, nothing, ends, two_lists}
 use Rattle.dw_board.specs.FenText.{squares_held, king_mark, item_text, items_text, side_text, written}
 use Rattle.dw_board.specs.declared.piece.Side.{Side}
 use Rattle.dw_board.specs.declared.piece.Side.TheVariants.{White, Black}

@@ -1,83 +1,28 @@
 -- The sets of the squares on which pieces stand: what a piece that comes or goes does to them.
-use Rattle.std.proofs.Common.{◌≡◌, ◌∙◌, ℕ, suc, zero, ◌+◌, ◌-◌, ◌≤◌, ◌<◌, ◌≢◌, ◌↔◌, Bool, true, false, cond, ◌&&◌, leb, List, Option, Some, None, length, get_or, set as put_at, take, replicate, count_by, refl, sym, ap, arith, get_or-set_other, get_or-set_same, inl, inr}
+use Rattle.std.proofs.Common.{◌≡◌, ◌∙◌, ℕ, suc, zero, ◌+◌, ◌-◌, ◌≤◌, ◌<◌, ◌≢◌, Bool, true, false, cond, ◌&&◌, leb, List, Option, Some, None, length, get_or, set as put_at, take, replicate, count_by, refl, sym, ap, arith, get_or-set_other, get_or-set_same, inl, inr}
 use Rattle.std.specs.Ordering.{nat_cmp}
 use Rattle.std.specs.FinSet as set
 use Rattle.std.specs.Cmp.{nat_cmp_total}
 use Rattle.std.proofs.Math.Seq.{take-length}
-use Rattle.std.proofs.lemmas.Bool.{cases_Bool, cases_eq, cases_lt, and_parts, and_from, leb-true, le-leb, lt-leb, eq-eqb, ne_eqb}
+use Rattle.std.proofs.lemmas.Bool.{cases_Bool, cases_eq, cases_lt, and_from, le-leb, lt-leb, eq-eqb, ne_eqb}
 use Rattle.std.proofs.lemmas.List.Sums.{count_by_more_yes, count_by_more_no}
 use Rattle.dw_board.specs.declared.piece.Side.{Side}
 use Rattle.dw_board.specs.declared.piece.Side.TheVariants.{White, Black}
 use Rattle.dw_board.specs.declared.piece.Kind.{Kind}
 use Rattle.dw_board.specs.declared.piece.Kind.TheVariants.{Man, King}
 use Rattle.dw_board.specs.declared.piece.Piece.{Piece}
-use Rattle.dw_board.specs.Geometry.{Geometry, IsBoard, squares, OnBoard}
+use Rattle.dw_board.specs.Geometry.{Geometry}
 use Rattle.dw_board.specs.SquareSet.{Squares}
-use Rattle.dw_board.specs.SquareSetLaws.{contains-insert, and-false, none_in_empty, member_more}
+use Rattle.dw_board.specs.SquareSetLaws.{contains-insert, and-false}
 use Rattle.dw_board.specs.Placement.{IsPosition, is_of, same_side}
 use Rattle.dw_board.specs.Standing.{same_kind, is_that, standing_below, standing, entered, IsKept}
+use Rattle.dw_board.specs.StandingLaws.{contains-below, contains-standing}
 use Rattle.dw_board.proofs.Sets.{contains-remove, past_range}
 use Rattle.dw_board.proofs.Counting.{len_more}
-use Rattle.dw_board.proofs.Placed.{same_side-true, empty_cell}
+use Rattle.dw_board.proofs.Placed.{empty_cell}
 
 abbrev Cells : Type 0
 Cells = List (Option Piece)
-
--- ---- a piece of a side and a kind
-same_kind-true : (a b : Kind) → same_kind a b ≡ true → a ≡ b
-same_kind-true Man Man e = refl
-same_kind-true Man King e = cc
-same_kind-true King Man e = cc
-same_kind-true King King e = refl
-
-is_that-some : (side : Side) (k : Kind) (o : Option Piece) → is_that side k o ≡ true → o ≡ Some (record { side = side; kind = k })
-is_that-some side k None e = cc
-is_that-some side k (Some p) e =
-    let h = and_parts _ _ e in
-    let a = same_side-true p.side side h.0 in
-    let b = same_kind-true p.kind k h.1 in
-    λ i. Some (record { side = a i; kind = b i })
-
-is_that-here : (side : Side) (k : Kind) → is_that side k (Some (record { side = side; kind = k })) ≡ true
-is_that-here White Man = refl
-is_that-here White King = refl
-is_that-here Black Man = refl
-is_that-here Black King = refl
-
--- ---- the members
-contains-below : (cells : Cells) (side : Side) (k : Kind) (n q : ℕ)
-    → set.contains (standing_below cells side k n) q ≡ ((leb 1 q && leb q n) && is_that side k (get_or cells (q - 1) None))
-unfolding standing_below
-contains-below cells side k zero q = set.contains-empty nat_cmp q ∙ sym (ap (λ b. b && is_that side k (get_or cells (q - 1) None)) (none_in_empty q))
-contains-below cells side k (suc n) q =
-    member_more (is_that side k (get_or cells n None)) (is_that side k (get_or cells (q - 1) None)) (standing_below cells side k n) q n
-    (contains-below cells side k n q)
-    (λ e. let here : q - 1 ≡ n = omega arith in ap (λ x. is_that side k (get_or cells x None)) here)
-
-contains-standing : (cells : Cells) (side : Side) (k : Kind) (q : ℕ)
-    → set.contains (standing cells side k) q ≡ ((leb 1 q && leb q 50) && is_that side k (get_or cells (q - 1) None))
-unfolding standing
-contains-standing cells side k q = contains-below cells side k 50 q
-
-pub standing-members : (g : Geometry) → IsBoard g → (cells : Cells) → IsPosition g cells → (side : Side) (k : Kind) (s : ℕ)
-    → (set.contains (standing cells side k) s ≡ true) ↔ (OnBoard g s × (get_or cells (s - 1) None ≡ Some (record { side = side; kind = k })))
-standing-members g b cells pos side k s = (
-  (λ e.
-      let h = and_parts _ _ (sym (contains-standing cells side k s) ∙ e) in
-      let is = is_that-some side k _ h.1 in (
-        (
-          leb-true _ _ (and_parts _ _ h.0).0,
-          elim (cases_lt (squares g) s) [
-            | inl past ↦ let none = pos.on_board s past in absurd (let clash = sym none ∙ is in cc)
-            | inr on ↦ on
-          ],
-        ),
-        is,
-      )),
-  (λ h. contains-standing cells side k s ∙ and_from _ _
-      (and_from _ _ (le-leb _ _ h.0.0) (le-leb _ _ (let low = h.0.1 in let few = b.squares_high in omega arith)))
-      (ap (is_that side k) h.1 ∙ is_that-here side k)),
-)
 
 -- ---- a cell that changes
 in_fifty : (s : ℕ) → 1 ≤ s → s ≤ 50 → (leb 1 s && leb s 50) ≡ true

@@ -1,5 +1,5 @@
 -- What the reader of a FEN text holds: the tokens still to be read.
-use Rattle.std.specs.Prelude.{ℕ, ◌+◌, ◌||◌, Bool, true, false, if◌then◌else◌, Option, Some, None, is_some, List, [], ◌∷◌, length, drop}
+use Rattle.std.specs.Prelude.{ℕ, ◌+◌, ◌||◌, Bool, true, false, Option, None, List, [], ◌∷◌, length, drop}
 use Rattle.dw_board.specs.FenTokens.{Token, tokens_from, is_sign}
 use Rattle.dw_board.specs.declared.fen.tokens.Tokens.{Tokens}
 

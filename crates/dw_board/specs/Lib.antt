@@ -7,6 +7,7 @@ pub mod BoardLaws
 pub mod Placement
 pub mod PlacementLaws
 pub mod Standing
+pub mod StandingLaws
 pub mod FenTokens
 pub mod FenBlanks
 pub mod FenReader

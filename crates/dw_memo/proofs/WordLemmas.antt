@@ -10,7 +10,7 @@ use Rattle.dw_board.specs.SquareSet.{Squares, is_set, squares_of, word_of, OnlyS
 use Rattle.dw_board.specs.SquareSetLaws.{contains-squares_of, is_square-true, word_of-squares_of}
 use Rattle.dw_board.specs.Placement.{Placement, at, IsPosition}
 use Rattle.dw_board.specs.Standing.{standing}
-use Rattle.dw_board.proofs.Standing.{standing-members}
+use Rattle.dw_board.specs.StandingLaws.{standing-members}
 use Rattle.dw_memo.specs.Slots.{word}
 
 same_tests : (a b : Bool) → (a ≡ true → b ≡ true) → (b ≡ true → a ≡ true) → a ≡ b

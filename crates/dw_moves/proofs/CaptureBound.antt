@@ -9,7 +9,7 @@ use Rattle.dw_board.specs.Geometry.{Geometry}
 use Rattle.dw_board.specs.Placement.{Placement, at, placed, is_of, same_side, count}
 use Rattle.dw_moves.specs.Moves.{Member, Jumps, other}
 use Rattle.dw_moves.specs.Laws.{PathIsShort}
-use Rattle.dw_moves.proofs.Members.{no_more}
+use Rattle.dw_moves.specs.MemberLaws.{no_more}
 use Rattle.dw_moves.proofs.Exact.{same_side_refl}
 use Rattle.dw_moves.proofs.Rays.{jump_low}
 use Rattle.dw_moves.proofs.StepLaws.{none_some}

@@ -7,7 +7,7 @@ use Rattle.dw_board.specs.Placement.{Placement}
 use Rattle.dw_moves.specs.Moves.{Member, NoRepeat, Jumps}
 use Rattle.dw_moves.proofs.Plain.{captures, is_in}
 use Rattle.dw_moves.specs.Plain.{jump_list}
-use Rattle.dw_moves.proofs.Members.{mem_map, mem_map_back, mem_flat, mem_flat_back}
+use Rattle.dw_moves.specs.MemberLaws.{mem_map, mem_map_back, mem_flat, mem_flat_back}
 use Rattle.dw_moves.proofs.Exact.{jump_from, jump_in}
 
 pub in_member : (xs : List ℕ) (s : ℕ) → is_in xs s ≡ true → Member s xs

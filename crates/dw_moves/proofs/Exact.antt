@@ -11,7 +11,7 @@ use Rattle.dw_board.specs.Geometry.{Geometry}
 use Rattle.dw_board.specs.Placement.{Placement, at, same_side}
 use Rattle.dw_moves.specs.Moves.{Member, AllEmpty, Jump, other, ray}
 use Rattle.dw_moves.specs.Plain.{dirs, free_front, free_next, landings_for, over_enemy, man_takes, king_takes, takes_for, jump_list}
-use Rattle.dw_moves.proofs.Members.{mem_map, mem_map_back, mem_flat, mem_flat_back}
+use Rattle.dw_moves.specs.MemberLaws.{mem_map, mem_map_back, mem_flat, mem_flat_back}
 
 pub option_cases : {A : Type 0} → (o : Option A) → (o ≡ None) ⊎ ((x : A) × (o ≡ Some x))
 option_cases None = inl refl

@@ -10,7 +10,7 @@ use Rattle.dw_board.specs.Placement.{Placement, at, placed}
 use Rattle.dw_board.specs.SquareSet.{Squares}
 use Rattle.dw_moves.specs.Moves.{Member, AllEmpty, Stands, Jump, Jumps, Path, CanCapture, other, ray}
 use Rattle.dw_moves.specs.Kernel.{In, AreSets, RunsTo, MeetsBehind, Takes}
-use Rattle.dw_moves.proofs.Members.{mem_left, mem_right, mem_at}
+use Rattle.dw_moves.specs.MemberLaws.{mem_left, mem_right, mem_at}
 use Rattle.dw_moves.proofs.StepLaws.{none_some, step_is}
 use Rattle.dw_moves.proofs.Exact.{option_cases}
 use Rattle.dw_moves.proofs.Rays.{Toward, ray_some, ray_none, ray_of_length, ray_of_low, ray_toward}

@@ -3,7 +3,6 @@ use Rattle.std.proofs.Common.{◌≡◌, ℕ, ◌+◌, ◌<◌, ◌≤◌, zero,
 use Rattle.std.specs.Prelude.{◌↔◌}
 use Rattle.std.proofs.lemmas.Bool.{true≢false}
 use Rattle.std.specs.Ordering.{nat_cmp}
-use Rattle.dw_board.proofs.Sets.{some_injective}
 use Rattle.std.proofs.lemmas.List.{drop_more, drop_all}
 use Rattle.std.specs.FinSet as fin
 use Rattle.dw_board.specs.declared.piece.Piece.{Piece}
@@ -23,6 +22,9 @@ use Rattle.dw_moves.proofs.PathTells.{one_taken}
 use Rattle.dw_moves.proofs.TakesThese.{len_list}
 use Rattle.dw_moves.proofs.Taking.{start}
 use Rattle.dw_moves.proofs.Walked.{further, union_more, union_none, union_of_none}
+
+some_injective : {x y : ℕ} → Some x ≡ Some y → x ≡ y
+some_injective e = cc
 
 one_move : (m n : Move) → Some m ≡ Some n → m ≡ n
 one_move m n e = cc

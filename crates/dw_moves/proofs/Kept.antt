@@ -5,7 +5,7 @@ use Rattle.std.proofs.lemmas.Bool.{true≢false, or_cases, or_left, or_right}
 use Rattle.dw_moves.specs.Moves.{Member, NoRepeat, Move}
 use Rattle.dw_moves.specs.MoveLaws.{same_moves, same_moves-is}
 use Rattle.dw_moves.specs.Chains.{Is, Longest}
-use Rattle.dw_moves.proofs.Members.{mem_left, mem_right, mem_cases}
+use Rattle.dw_moves.specs.MemberLaws.{mem_left, mem_right, mem_cases}
 use Rattle.dw_moves.proofs.QuietOnce.{once_append}
 
 -- no capture was met

@@ -18,7 +18,7 @@ use Rattle.dw_moves.proofs.Rays.{jump_low}
 use Rattle.dw_moves.proofs.StepLaws.{none_some}
 use Rattle.dw_moves.specs.Plain.{numbers_to, dirs, is_forward, may_go, goes, quiet_for, targets_of, targets, quiet_pairs}
 use Rattle.dw_moves.proofs.Plain.{Capture, captures, captures_of, path_list, longest, best, quiet_move, quiet_list, move_of, legal_at, legal_list}
-use Rattle.dw_moves.proofs.Members.{mem_map, mem_map_back, mem_flat, mem_flat_back, mem_left, mem_right, mem_cases, no_more, mem_filter, mem_filter_back}
+use Rattle.dw_moves.specs.MemberLaws.{mem_map, mem_map_back, mem_flat, mem_flat_back, mem_left, mem_right, mem_cases, no_more, mem_filter, mem_filter_back}
 use Rattle.dw_moves.proofs.Exact.{option_cases, same_side_true, same_side_refl, Lands, lands_from, lands_in, all_dirs}
 use Rattle.dw_moves.proofs.Captures.{captures_from, captures_in}
 

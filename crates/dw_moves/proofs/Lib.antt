@@ -1,10 +1,10 @@
-pub mod Members
 pub mod Plain
 pub mod Exact
 pub mod Captures
 pub mod StepLaws
 pub mod Rays
 pub mod LegalMoves
+pub mod LegalTakes
 pub mod PathTells
 pub mod PlayStays
 pub mod CaptureBound

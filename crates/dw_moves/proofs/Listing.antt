@@ -11,7 +11,7 @@ use Rattle.dw_moves.specs.Listing.{IsPlace, sorted_by}
 use Rattle.dw_moves.proofs.Ascending.{ByKey}
 use Rattle.dw_moves.proofs.LegalMoves.{best_only}
 use Rattle.dw_moves.proofs.Lex.{lex_trans, lex_cases}
-use Rattle.dw_moves.proofs.Members.{mem_left, mem_right, mem_cases, mem_map, mem_map_back, mem_at}
+use Rattle.dw_moves.specs.MemberLaws.{mem_left, mem_right, mem_cases, mem_map, mem_map_back, mem_at}
 use Rattle.dw_moves.proofs.MoveKeys.{jumps_long, keys_differ}
 
 -- all moves at indices below i come before the item

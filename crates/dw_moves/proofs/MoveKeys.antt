@@ -11,7 +11,7 @@ use Rattle.dw_moves.specs.Moves.{Member, Move, Jumps, Path, Legal, LegalAt, last
 use Rattle.dw_moves.specs.MoveLaws.{same_items, same_move}
 use Rattle.dw_moves.specs.Order.{LexLess, LandsAt, front, IsKey, IsLeastPath, Precedes, IsListOf, Listed, HasLeastPath, AreListed}
 use Rattle.dw_moves.proofs.Plain.{Capture, path_list, best, legal_list}
-use Rattle.dw_moves.proofs.Members.{mem_map, mem_map_back, mem_filter, mem_filter_back}
+use Rattle.dw_moves.specs.MemberLaws.{mem_map, mem_map_back, mem_filter, mem_filter_back}
 use Rattle.dw_moves.proofs.LegalMoves.{path_from, path_in, is_best, best_only, legal_from, legal_in}
 use Rattle.dw_moves.proofs.PathTells.{path_tells}
 use Rattle.dw_moves.proofs.Lex.{lex_irrefl, lex_trans, lex_asym, lex_cases}

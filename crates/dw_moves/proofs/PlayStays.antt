@@ -15,7 +15,7 @@ use Rattle.dw_board.specs.Geometry.{Geometry, IsBoard, OnBoard, squares}
 use Rattle.dw_board.specs.Placement.{Placement, at, placed, is_of, is_man, is_stuck, on_last_row}
 use Rattle.dw_moves.specs.Moves.{Member, Move, Jumps, Stands, Legal, LegalAt, crowned, landed, left, without, play, last_of}
 use Rattle.dw_moves.specs.Laws.{PlayStays}
-use Rattle.dw_moves.proofs.Members.{mem_at}
+use Rattle.dw_moves.specs.MemberLaws.{mem_at}
 use Rattle.dw_moves.proofs.Rays.{ray_of_on, landing_on_ray}
 
 one_less : (f : Option Piece → Bool) → f None ≡ false → (x y : Option Piece) → (x ≡ None) ⊎ (x ≡ y) → cond (f x) 1 0 ≤ cond (f y) 1 0

@@ -12,7 +12,7 @@ use Rattle.dw_board.specs.Geometry.{Geometry, IsBoard, OnBoard, squares, step}
 use Rattle.dw_board.specs.Placement.{Placement, at, same_side}
 use Rattle.dw_moves.specs.Moves.{Member, NoRepeat, IsQuietCount, ray_of, ray}
 use Rattle.dw_moves.specs.Plain.{numbers_to, dirs, free_front, free_next, landings_for, may_go, goes, quiet_for, targets_of, targets, quiet_pairs}
-use Rattle.dw_moves.proofs.Members.{mem_cases, mem_map_back, mem_at}
+use Rattle.dw_moves.specs.MemberLaws.{mem_cases, mem_map_back, mem_at}
 use Rattle.dw_moves.proofs.Exact.{option_cases}
 use Rattle.dw_moves.proofs.StepLaws.{step_is}
 use Rattle.dw_moves.proofs.Rays.{Toward, ray_of_toward, ray_of_none, ray_toward, one_dir}

@@ -17,7 +17,7 @@ use Rattle.dw_board.specs.Placement.{Placement, at, same_side}
 use Rattle.dw_moves.specs.Moves.{Member, NoRepeat, Move, Quiet, ray}
 use Rattle.dw_moves.specs.MoveLaws.{same_move}
 use Rattle.dw_moves.specs.Plain.{numbers_to, dirs, landings_for, goes, quiet_for, targets_of, targets, quiet_to, quiet_all, quiet_moves, free_step}
-use Rattle.dw_moves.proofs.Members.{mem_map, mem_map_back, mem_flat, mem_flat_back}
+use Rattle.dw_moves.specs.MemberLaws.{mem_map, mem_map_back, mem_flat, mem_flat_back}
 use Rattle.dw_moves.proofs.LegalMoves.{target_from, target_in, number_in, from_number}
 use Rattle.dw_moves.proofs.Exact.{all_dirs, same_side_refl}
 use Rattle.dw_moves.proofs.StepLaws.{none_some}

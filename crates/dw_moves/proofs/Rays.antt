@@ -6,7 +6,7 @@ use Rattle.dw_board.specs.declared.piece.Piece.{Piece}
 use Rattle.dw_board.specs.Geometry.{Geometry, IsBoard, OnBoard, row, column, step, and_then, moved, is_down, is_right}
 use Rattle.dw_board.specs.Placement.{Placement}
 use Rattle.dw_moves.specs.Moves.{Member, Jump, ray_of, ray}
-use Rattle.dw_moves.proofs.Members.{mem_at, mem_right}
+use Rattle.dw_moves.specs.MemberLaws.{mem_at, mem_right}
 use Rattle.dw_moves.proofs.StepLaws.{IsNext, step_is, row_low, none_some}
 use Rattle.dw_moves.proofs.Exact.{option_cases}
 

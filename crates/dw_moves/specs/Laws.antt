@@ -1,8 +1,9 @@
 -- Laws of moves, for every board.
 use Rattle.std.specs.Prelude.{◌≡◌, ℕ, ◌≤◌, ◌↔◌, List, length}
-use Rattle.dw_board.specs.Geometry.{Geometry, IsBoard}
+use Rattle.std.specs.FinSet as set
+use Rattle.dw_board.specs.Geometry.{Geometry, IsBoard, OnBoard}
 use Rattle.dw_board.specs.Placement.{Placement, IsPosition, count}
-use Rattle.dw_moves.specs.Moves.{Member, Path, IsBest, Move, Legal, other, play}
+use Rattle.dw_moves.specs.Moves.{Member, Path, IsBest, Move, Quiet, IsPathOf, Legal, other, play}
 use Rattle.dw_moves.specs.Order.{IsKey, Precedes, IsListOf, Listed, AreListed}
 
 -- a path tells what it takes: two paths over the same landings from the same square take the same pieces in the same order
@@ -23,6 +24,14 @@ MovesListed = (g : Geometry) (p : Placement) → (moves : List Move) × ((m : Mo
 pub record OneBest : Type 0 where
   pub some : (g : Geometry) (p : Placement) → (k : ℕ) × IsBest g p k
   pub only : (g : Geometry) (p : Placement) (j k : ℕ) → IsBest g p j → IsBest g p k → j ≡ k
+
+-- a legal move takes the greatest number of pieces, twenty at most; a path lands once for each, and on squares of the board
+pub record LegalMovesTake : Type 0 where
+  pub taken : (g : Geometry) (p : Placement) (k : ℕ) (m : Move) → IsBest g p k → Legal g p m → set.len m.taken ≡ k
+  pub few : (g : Geometry) → IsBoard g → (p : Placement) (m : Move) → IsPosition g p.cells → Legal g p m → set.len m.taken ≤ 20
+  pub long : (g : Geometry) (p : Placement) (m : Move) (k : ℕ) (landings : List ℕ) → IsPathOf g p m k landings → length landings ≡ k
+  pub lands : (g : Geometry) → IsBoard g → (p : Placement) (m : Move) (k : ℕ) (landings : List ℕ) → IsPathOf g p m k landings → (s : ℕ) → Member s landings → OnBoard g s
+  pub goes : (g : Geometry) → IsBoard g → (p : Placement) (from to : ℕ) → Quiet g p from to → OnBoard g to
 
 -- a legal move leads from a position to a position
 abbrev pub PlayStays : Type 0

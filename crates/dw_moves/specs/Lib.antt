@@ -1,4 +1,5 @@
 pub mod Moves
+pub mod MemberLaws
 pub mod MoveLaws
 pub mod Order
 pub mod Laws

@@ -1,7 +1,7 @@
 //! Laws of the definitions, each the contract of a function that does nothing, and what `==` means.
 ghost use Rattle.std.specs.Prelude.{◌≡◌, ◌↔◌, IsTrue};
 ghost use Rattle.dw_moves.specs.WorkedPositions.{WorkedPositions};
-ghost use Rattle.dw_moves.specs.Laws.{PathTells, PathIsShort, MovesListed, OneBest, PlayStays, MovesHaveKeys, MovesInOrder};
+ghost use Rattle.dw_moves.specs.Laws.{PathTells, PathIsShort, MovesListed, OneBest, LegalMovesTake, PlayStays, MovesHaveKeys, MovesInOrder};
 
 use crate::moves::Move;
 use dw_board::board::Board;
@@ -24,6 +24,11 @@ pub fn moves_listed()
 /// There is a greatest number of pieces that can be taken, and only one.
 pub fn one_best()
     ensures { OneBest }
+{}
+
+/// A legal move takes the greatest number of pieces. Its paths land once for each of them, on squares of the board.
+pub fn legal_moves_take()
+    ensures { LegalMovesTake }
 {}
 
 /// A legal move leads from a position to a position.

@@ -5,7 +5,7 @@ use Rattle.std.proofs.lemmas.List.{take_more}
 use Rattle.dw_board.specs.Geometry.{Geometry}
 use Rattle.dw_board.specs.Placement.{Placement}
 use Rattle.dw_moves.specs.Moves.{Member, NoRepeat, Move, AreLegal}
-use Rattle.dw_moves.proofs.Members.{mem_left, mem_right, mem_cases}
+use Rattle.dw_moves.specs.MemberLaws.{mem_left, mem_right, mem_cases}
 use Rattle.dw_notation.specs.MoveReading.{Named, Capture, IsAnswer, Names, IsAnswered, IsRead}
 use Rattle.dw_notation.proofs.MoveNames.{names_one}
 use Rattle.dw_notation.specs.MoveReader.{Takes, IsOneOf, IsOnlyOne, AreTwo, IsOnly}

@@ -7,19 +7,13 @@ use Rattle.std.proofs.lemmas.Bool.Decides.{nat_tests}
 use Rattle.std.proofs.lemmas.Fmt.{decimal_digit, decimal_step}
 use Rattle.std.proofs.lemmas.List.Sums.{sum_by-cons}
 use Rattle.dw_board.specs.Geometry.{Geometry, IsBoard, OnBoard, squares}
-use Rattle.dw_board.specs.Placement.{Placement, IsPosition, placed}
+use Rattle.dw_board.specs.Placement.{Placement, IsPosition}
 use Rattle.dw_board.specs.FenTokens.{is_digit}
-use Rattle.dw_board.specs.declared.piece.Piece.{Piece}
-use Rattle.dw_moves.specs.Moves.{Member, Move, Quiet, Jumps, Path, IsBest, IsPathOf, Legal, LegalAt, last_of}
+use Rattle.dw_moves.specs.Moves.{Member, Move, Quiet, Path, IsBest, IsPathOf, Legal, LegalAt, last_of}
 use Rattle.dw_moves.specs.MoveLaws.{same_move}
-use Rattle.dw_moves.specs.Order.{Precedes, IsAscending, IsPathFor, LandsAt, Listed, AreListed}
-use Rattle.dw_moves.proofs.Members.{mem_map, mem_map_back, mem_at}
-use Rattle.dw_moves.proofs.Rays.{ray_of_on, landing_on_ray}
-use Rattle.dw_moves.proofs.PathTells.{path_tells}
-use Rattle.dw_moves.proofs.LegalMoves.{best_only}
-use Rattle.dw_moves.proofs.Filled.{legal_count}
-use Rattle.dw_moves.proofs.LeastLandings.{legal_small}
-use Rattle.dw_moves.proofs.MoveKeys.{jumps_long, precedes_asym}
+use Rattle.dw_moves.specs.Order.{LexLess, Precedes, IsAscending, IsPathFor, LandsAt, Listed, AreListed}
+use Rattle.dw_moves.specs.MemberLaws.{mem_map, mem_map_back}
+use Rattle.dw_moves.specs.Laws.{PathTells, OneBest, MovesHaveKeys, LegalMovesTake}
 use Rattle.dw_notation.specs.Text.{squares_text, has_ends, shares_ends, text_among, IsMoveText}
 use Rattle.dw_notation.specs.MoveReading.{IsNumber, AreCrossed, single, more, QuietMove, Capture, by_dash, by_crosses, IsAnswered, IsRead}
 use Rattle.dw_notation.specs.declared.read_move.MoveFault.{MoveFault}
@@ -57,42 +51,49 @@ crossed_written : (g : Geometry) → IsBoard g → (s : ℕ) (ss : List ℕ) →
 crossed_written g b s [] on all = single (decimal_number g b s on)
 crossed_written g b s (t ∷ ss) on all = more (decimal s) 120 (squares_text 120 (t ∷ ss)) (decimal_number g b s on) refl (crossed_written g b t ss all.0 all.1)
 
--- ---- squares of moves
-quiet_on : (g : Geometry) → IsBoard g → (p : Placement) (from to : ℕ) → Quiet g p from to → OnBoard g to
-quiet_on g b p from to q = ray_of_on g b g.rows from q.dir to q.stands.on_board (subst (Member to) (sym q.on_ray) (mem_at to q.between q.beyond))
+-- ---- what the rules say of moves
+pub record Rules : Type 0 where
+  pub paths : PathTells
+  pub best : OneBest
+  pub keys : MovesHaveKeys
+  pub take : LegalMovesTake
 
-jumps_on : (g : Geometry) → IsBoard g → (p : Placement) (piece : Piece) (s : ℕ) (ts cs : List ℕ) → OnBoard g s → Jumps g p piece s ts cs → AllOn g ts
-jumps_on g b p piece s [] cs on jumps = tt
-jumps_on g b p piece s (t ∷ ts) [] on jumps = absurd jumps
-jumps_on g b p piece s (t ∷ ts) (c ∷ cs) on jumps =
-    let next : OnBoard g t = ray_of_on g b g.rows s jumps.0.dir t on (landing_on_ray g p piece s c t jumps.0) in
-    (next, jumps_on g b p piece t ts cs next jumps.1)
+not_less : (xs : List ℕ) → LexLess xs xs → ⊥
+not_less [] h = h
+not_less (x ∷ xs) (inl less) = omega (arith, less)
+not_less (x ∷ xs) (inr rest) = not_less xs rest.1
+
+-- a move does not come before itself
+pub not_before_itself : MovesHaveKeys → (g : Geometry) (p : Placement) (m : Move) → Precedes g p m m → ⊥
+not_before_itself keys g p m h = not_less h.1 (subst (λ z. LexLess z h.1) (keys.one g p m h.0 h.1 h.2 h.3) h.4)
+
+-- ---- squares of moves
+all_on : (g : Geometry) (ts : List ℕ) → ((s : ℕ) → Member s ts → OnBoard g s) → AllOn g ts
+all_on g [] h = tt
+all_on g (t ∷ ts) h = (h t (inl refl), all_on g ts (λ s m. h s (inr m)))
 
 last_on : (g : Geometry) (s : ℕ) (ts : List ℕ) → OnBoard g s → AllOn g ts → OnBoard g (last_of s ts)
 last_on g s [] on all = on
 last_on g s (t ∷ ts) on all = last_on g t ts all.0 all.1
 
-path_on : (g : Geometry) → IsBoard g → (p : Placement) (m : Move) (k : ℕ) (landings : List ℕ) → IsPathOf g p m k landings → AllOn g landings
-path_on g b p m k landings h = jumps_on g b (placed p m.from None) h.path.piece m.from landings h.over h.path.stands.on_board h.path.jumps
-
-path_long : (g : Geometry) (p : Placement) (m : Move) (k : ℕ) (landings : List ℕ) → IsPathOf g p m k landings → length landings ≡ k
-path_long g p m k landings h = jumps_long g (placed p m.from None) h.path.piece m.from landings h.over h.path.jumps ∙ h.count
+path_on : Rules → (g : Geometry) → IsBoard g → (p : Placement) (m : Move) (k : ℕ) (landings : List ℕ) → IsPathOf g p m k landings → AllOn g landings
+path_on rules g b p m k landings h = all_on g landings (rules.take.lands g b p m k landings h)
 
 -- a path from a square belongs to one move
-one_path : (g : Geometry) → IsBoard g → (p : Placement) (m n : Move) (j k : ℕ) (landings : List ℕ) → IsPathOf g p m j landings → IsPathOf g p n k landings → m.from ≡ n.from → m ≡ n
-one_path g b p m n j k landings h i same =
-    let overs : h.over ≡ i.over = path_tells g b p n.from landings h.over i.over (subst (λ z. Path g p z landings h.over) same h.path) i.path in
+one_path : Rules → (g : Geometry) → IsBoard g → (p : Placement) (m n : Move) (j k : ℕ) (landings : List ℕ) → IsPathOf g p m j landings → IsPathOf g p n k landings → m.from ≡ n.from → m ≡ n
+one_path rules g b p m n j k landings h i same =
+    let overs : h.over ≡ i.over = rules.paths g b p n.from landings h.over i.over (subst (λ z. Path g p z landings h.over) same h.path) i.path in
     same_move m n same (sym h.ends ∙ (ap (λ z. last_of z landings) same ∙ i.ends)) (h.takes ∙ (ap set.from_list overs ∙ sym i.takes))
 
 -- two captures of one piece between the same squares are one
-one_short : (g : Geometry) → IsBoard g → (p : Placement) (m n : Move) (j k : ℕ) (landings others : List ℕ) → IsPathOf g p m j landings → IsPathOf g p n k others → m.from ≡ n.from → m.to ≡ n.to → length landings ≡ 1 → length others ≡ 1 → m ≡ n
-one_short g b p m n j k [] others h i from to one too = absurd (omega arith)
-one_short g b p m n j k (t ∷ u ∷ landings) others h i from to one too = absurd (omega arith)
-one_short g b p m n j k (t ∷ []) [] h i from to one too = absurd (omega arith)
-one_short g b p m n j k (t ∷ []) (u ∷ v ∷ others) h i from to one too = absurd (omega arith)
-one_short g b p m n j k (t ∷ []) (u ∷ []) h i from to one too =
+one_short : Rules → (g : Geometry) → IsBoard g → (p : Placement) (m n : Move) (j k : ℕ) (landings others : List ℕ) → IsPathOf g p m j landings → IsPathOf g p n k others → m.from ≡ n.from → m.to ≡ n.to → length landings ≡ 1 → length others ≡ 1 → m ≡ n
+one_short rules g b p m n j k [] others h i from to one too = absurd (omega arith)
+one_short rules g b p m n j k (t ∷ u ∷ landings) others h i from to one too = absurd (omega arith)
+one_short rules g b p m n j k (t ∷ []) [] h i from to one too = absurd (omega arith)
+one_short rules g b p m n j k (t ∷ []) (u ∷ v ∷ others) h i from to one too = absurd (omega arith)
+one_short rules g b p m n j k (t ∷ []) (u ∷ []) h i from to one too =
     let same : t ≡ u = h.ends ∙ (to ∙ sym i.ends) in
-    one_path g b p m n j k (t ∷ []) h (subst (λ z. IsPathOf g p n k (z ∷ [])) (sym same) i) from
+    one_path rules g b p m n j k (t ∷ []) h (subst (λ z. IsPathOf g p n k (z ∷ [])) (sym same) i) from
 
 -- ---- how many pass a test
 abbrev one_of : {X : Type 0} → (X → Bool) → X → ℕ
@@ -161,7 +162,7 @@ two_pass R f test (x ∷ xs) up h = elim (cases_Bool (test x)) [
 ]
 
 -- ---- the text of one of the legal moves
-module _ (g : Geometry) (b : IsBoard g) (p : Placement) (pos : IsPosition g p.cells) (list : List Listed) (all : AreListed g p list) where
+module _ (rules : Rules) (g : Geometry) (b : IsBoard g) (p : Placement) (pos : IsPosition g p.cells) (list : List Listed) (all : AreListed g p list) where
   legal_here : (l : Listed) → Member l list → Legal g p l.step
   legal_here l here = (all.in_order.exactly l.step).0 (mem_map (λ l. l.step) l list here)
 
@@ -175,7 +176,7 @@ module _ (g : Geometry) (b : IsBoard g) (p : Placement) (pos : IsPosition g p.ce
   quiet_written : (m : Move) → Legal g p m → Quiet g p m.from m.to → m.taken ≡ set.empty → IsAnswered g p (squares_text 45 (m.from ∷ m.to ∷ [])) (Ok m)
   quiet_written m legal quiet none = record {
     named = QuietMove m.from m.to;
-    names = by_dash (decimal m.from) (decimal m.to) (decimal_number g b m.from quiet.stands.on_board) (decimal_number g b m.to (quiet_on g b p m.from m.to quiet));
+    names = by_dash (decimal m.from) (decimal m.to) (decimal_number g b m.from quiet.stands.on_board) (decimal_number g b m.to (rules.take.goes g b p m.from m.to quiet));
     answers = record {
       fits = (legal, (refl, refl), none);
       alone = λ other h. same_move other m h.1.0 h.1.1 (h.2 ∙ sym none);
@@ -186,7 +187,7 @@ module _ (g : Geometry) (b : IsBoard g) (p : Placement) (pos : IsPosition g p.ce
   short_written : (l : Listed) → Member l list → (k : ℕ) (landings : List ℕ) → IsPathOf g p l.step k landings → 0 < set.len l.step.taken → shares_ends list l.step ≡ false → IsAnswered g p (squares_text 120 (l.step.from ∷ l.step.to ∷ [])) (Ok l.step)
   short_written l here k landings path some apart =
       let few : count_by (has_ends l.step) list ≤ 1 = grind (arith, nat_tests) in
-      let on = path_on g b p l.step k landings path in
+      let on = path_on rules g b p l.step k landings path in
       let to_on : OnBoard g l.step.to = subst (OnBoard g) path.ends (last_on g l.step.from landings path.path.stands.on_board on) in
       record {
         named = Capture (l.step.from ∷ l.step.to ∷ []);
@@ -212,30 +213,30 @@ module _ (g : Geometry) (b : IsBoard g) (p : Placement) (pos : IsPosition g p.ce
       let first = alike two.first two.here two.passes in
       let second = alike two.second two.there two.passes_too in
       let self : Precedes g p l.step l.step = subst (λ z. Precedes g p z l.step) first (subst (Precedes g p two.first.step) second two.before) in
-      precedes_asym g p l.step l.step self self
+      not_before_itself rules.keys g p l.step self
     where
       is_same : (z : Listed) → Member z list → (z.step.from ≡ l.step.from) × (z.step.to ≡ l.step.to) → z.step ≡ l.step
-      is_same z m e = at_most (legal_here z m).0 (best_only g p (legal_here z m).0 (suc k) (legal_here z m).1 best) (legal_here z m).2 where
+      is_same z m e = at_most (legal_here z m).0 (rules.best.only g p (legal_here z m).0 (suc k) (legal_here z m).1 best) (legal_here z m).2 where
         at_most : (j : ℕ) → j ≡ suc k → LegalAt g p j z.step → z.step ≡ l.step
         at_most zero same at = absurd (omega arith)
-        at_most (suc j) same at = one_short g b p z.step l.step (suc j) (suc k) at.0 landings at.1 path e.0 e.1 (omega (arith, path_long g p z.step (suc j) at.0 at.1, path_long g p l.step (suc k) landings path)) one
+        at_most (suc j) same at = one_short rules g b p z.step l.step (suc j) (suc k) at.0 landings at.1 path e.0 e.1 (omega (arith, rules.take.long g p z.step (suc j) at.0 at.1, rules.take.long g p l.step (suc k) landings path)) one
 
   -- its path tells it
   path_written : (m : Move) (k : ℕ) → IsBest g p (suc k) → Legal g p m → (landings : List ℕ) → IsPathOf g p m (suc k) landings → (length landings ≡ 1 → ⊥) → IsAnswered g p (squares_text 120 (m.from ∷ landings)) (Ok m)
-  path_written m k best legal [] path long = absurd (omega (arith, path_long g p m (suc k) [] path))
+  path_written m k best legal [] path long = absurd (omega (arith, rules.take.long g p m (suc k) [] path))
   path_written m k best legal (t ∷ []) path long = absurd (long refl)
   path_written m k best legal (t ∷ u ∷ landings) path long =
-      let few : suc k ≤ 20 = omega (arith, legal_small g b p m pos legal, legal_count g p (suc k) m best legal) in
+      let few : suc k ≤ 20 = omega (arith, rules.take.few g b p m pos legal, rules.take.taken g p (suc k) m best legal) in
       record {
         named = Capture (m.from ∷ t ∷ u ∷ landings);
-        names = by_crosses (crossed_written g b m.from (t ∷ u ∷ landings) path.path.stands.on_board (path_on g b p m (suc k) (t ∷ u ∷ landings) path)) (omega arith) (omega (arith, path_long g p m (suc k) (t ∷ u ∷ landings) path));
+        names = by_crosses (crossed_written g b m.from (t ∷ u ∷ landings) path.path.stands.on_board (path_on rules g b p m (suc k) (t ∷ u ∷ landings) path)) (omega arith) (omega (arith, rules.take.long g p m (suc k) (t ∷ u ∷ landings) path));
         answers = record {
           fits = path_at m k best (t ∷ u ∷ landings) path;
           alone = λ other h.
               let are : m.from ∷ t ∷ u ∷ landings ≡ other.from ∷ h.landings = h.are in
               let from : other.from ≡ m.from = cc in
               let lands : h.landings ≡ t ∷ u ∷ landings = cc in
-              one_path g b p other m h.most (suc k) (t ∷ u ∷ landings) (subst (IsPathOf g p other h.most) lands h.leads) path from;
+              one_path rules g b p other m h.most (suc k) (t ∷ u ∷ landings) (subst (IsPathOf g p other h.most) lands h.leads) path from;
         };
       }
 
@@ -247,7 +248,7 @@ module _ (g : Geometry) (b : IsBoard g) (p : Placement) (pos : IsPosition g p.ce
         let text : text_among list l ≡ squares_text 45 (l.step.from ∷ l.step.to ∷ []) = rw none refl in
         subst (λ z. IsAnswered g p z (Ok l.step)) (sym text) (quiet_written l.step (legal_here l here) lands.0 lands.1)
     by_most landings is (suc k) best lands =
-        let count : set.len l.step.taken ≡ suc k = legal_count g p (suc k) l.step best (legal_here l here) in
+        let count : set.len l.step.taken ≡ suc k = rules.take.taken g p (suc k) l.step best (legal_here l here) in
         let some : eqb (set.len l.step.taken) 0 ≡ false = ne_eqb (set.len l.step.taken) 0 (λ e. omega arith) in
         elim (cases_Bool (shares_ends list l.step)) [
           | inl shared ↦
@@ -259,12 +260,12 @@ module _ (g : Geometry) (b : IsBoard g) (p : Placement) (pos : IsPosition g p.ce
         ]
 
 -- the written text is read as its move
-pub written_named : (g : Geometry) → IsBoard g → (p : Placement) → IsPosition g p.cells → (m : Move) (text : List ℕ) → IsMoveText g p m text → IsRead g p text (Ok m)
-written_named g b p pos m text w =
-    subst (λ z. IsAnswered g p text (Ok z)) w.same (subst (λ z. IsAnswered g p z (Ok w.item.step)) (sym w.is) (written_here g b p pos w.list w.all w.item w.here))
+pub written_named : Rules → (g : Geometry) → IsBoard g → (p : Placement) → IsPosition g p.cells → (m : Move) (text : List ℕ) → IsMoveText g p m text → IsRead g p text (Ok m)
+written_named rules g b p pos m text w =
+    subst (λ z. IsAnswered g p text (Ok z)) w.same (subst (λ z. IsAnswered g p z (Ok w.item.step)) (sym w.is) (written_here rules g b p pos w.list w.all w.item w.here))
 
-pub written_read : (g : Geometry) → IsBoard g → (p : Placement) → IsPosition g p.cells → (m : Move) (text : List ℕ) (answer : Result Move MoveFault) → IsMoveText g p m text → IsRead g p text answer → (answer ≡ Ok m) ⊎ (answer ≡ Err Memory)
-written_read g b p pos m text answer w h = elim (one_answer g p text answer (Ok m) h (written_named g b p pos m text w)) [
+pub written_read : Rules → (g : Geometry) → IsBoard g → (p : Placement) → IsPosition g p.cells → (m : Move) (text : List ℕ) (answer : Result Move MoveFault) → IsMoveText g p m text → IsRead g p text answer → (answer ≡ Ok m) ⊎ (answer ≡ Err Memory)
+written_read rules g b p pos m text answer w h = elim (one_answer g p text answer (Ok m) h (written_named rules g b p pos m text w)) [
   | inl same ↦ inl same
   | inr (inl memory) ↦ inr memory
   | inr (inr other) ↦ absurd (is_no_fault other)

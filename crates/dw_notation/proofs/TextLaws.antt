@@ -1,24 +1,16 @@
 -- Each legal move has one text, and different ones have different texts.
-use Rattle.std.proofs.Common.{◌≡◌, ℕ, List, [], ◌∷◌, map, refl, sym, ap, ◌∙◌, subst, inl, inr, arith}
+use Rattle.std.proofs.Common.{◌≡◌, List, [], ◌∷◌, map, refl, sym, ap, ◌∙◌, subst, inl, inr}
 use Rattle.dw_board.specs.Geometry.{Geometry}
 use Rattle.dw_board.specs.Placement.{Placement}
 use Rattle.dw_moves.specs.Laws.{MovesInOrder, MovesHaveKeys}
-use Rattle.dw_moves.specs.Moves.{Member, Move}
-use Rattle.dw_moves.specs.Order.{LexLess, Precedes, IsAscending, Listed}
+use Rattle.dw_moves.specs.Moves.{Member}
+use Rattle.dw_moves.specs.Order.{Precedes, IsAscending, Listed}
 use Rattle.dw_notation.specs.MoveReading.{Fits}
 use Rattle.dw_notation.specs.Text.{text_among}
 use Rattle.dw_notation.specs.TextLaws.{MovesHaveTexts}
 use Rattle.dw_notation.proofs.LineTexts.{legal_has_step}
 use Rattle.dw_notation.proofs.MoveNames.{names_one}
-use Rattle.dw_notation.proofs.MoveWritten.{written_named}
-
-not_less : (xs : List ℕ) → LexLess xs xs → ⊥
-not_less [] h = h
-not_less (x ∷ xs) (inl less) = omega (arith, less)
-not_less (x ∷ xs) (inr rest) = not_less xs rest.1
-
-not_before_itself : MovesHaveKeys → (g : Geometry) (p : Placement) (m : Move) → Precedes g p m m → ⊥
-not_before_itself keys g p m h = not_less h.1 (subst (λ z. LexLess z h.1) (keys.one g p m h.0 h.1 h.2 h.3) h.4)
+use Rattle.dw_notation.proofs.MoveWritten.{Rules, not_before_itself, written_named}
 
 step_in : (l : Listed) (list : List Listed) → Member l list → Member l.step (map (λ (l : Listed). l.step) list)
 step_in l [] m = absurd m
@@ -37,19 +29,19 @@ stands_once keys g p (x ∷ list) l k a (inr m) (inl n) e =
     absurd (not_before_itself keys g p l.step (subst (λ z. Precedes g p z l.step) same (a.0 l.step (step_in l list m))))
 stands_once keys g p (x ∷ list) l k a (inr m) (inr n) e = stands_once keys g p list l k a.1 m n e
 
-pub moves_have_texts : MovesInOrder → MovesHaveKeys → MovesHaveTexts
-moves_have_texts order keys = record {
+pub moves_have_texts : MovesInOrder → Rules → MovesHaveTexts
+moves_have_texts order rules = record {
   some = λ g b p m legal.
       let all = order.listed g b p in
       let item = legal_has_step g p m all.0 all.1 legal in
       (text_among all.0 item.0, record { list = all.0; all = all.1; item = item.0; here = item.1; same = item.2; is = refl });
   one = λ g p m text other h k.
       let lists = order.same g p h.list k.list h.all k.all in
-      let items = stands_once keys g p k.list h.item k.item k.all.in_order.ascending (subst (Member h.item) lists h.here) k.here (h.same ∙ sym k.same) in
+      let items = stands_once rules.keys g p k.list h.item k.item k.all.in_order.ascending (subst (Member h.item) lists h.here) k.here (h.same ∙ sym k.same) in
       h.is ∙ (ap (λ z. text_among z h.item) lists ∙ (ap (text_among k.list) items ∙ sym k.is));
   differ = λ g b p position m n text h k.
-      let one = written_named g b p position m text h in
-      let two = written_named g b p position n text k in
+      let one = written_named rules g b p position m text h in
+      let two = written_named rules g b p position n text k in
       let same = names_one g text one.named two.named one.names two.names in
       two.answers.alone m (subst (λ z. Fits g p z m) same one.answers.fits);
 }

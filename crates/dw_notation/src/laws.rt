@@ -3,7 +3,7 @@ ghost use Rattle.dw_notation.specs.Tags.{SectionsAreFound, LastSectionIsFound, C
 ghost use Rattle.dw_notation.specs.TextLaws.{MovesHaveTexts};
 ghost use Rattle.dw_notation.specs.MoveReadingLaws.{NamesOneThing, HasOneAnswer, WrittenMoveIsNamed, WrittenMoveIsRead};
 
-use dw_moves::laws::{moves_have_keys, moves_in_order};
+use dw_moves::laws::{legal_moves_take, moves_have_keys, moves_in_order, one_best, path_tells};
 
 /// A row of tags, whole or unclosed, is one problem, which says what its tags say, and the byte that ends it
 /// is outside. At the end of the text it needs no byte behind it.
@@ -28,7 +28,10 @@ pub fn moves_have_texts()
     ensures { MovesHaveTexts }
 {
     moves_in_order();
+    path_tells();
+    one_best();
     moves_have_keys();
+    legal_moves_take();
 }
 
 /// The text of a move names one thing at most, and so it is read in one way, where memory is not refused.
@@ -41,4 +44,9 @@ pub fn texts_have_one_answer()
 pub fn written_moves_are_read()
     ensures named { WrittenMoveIsNamed }
     ensures read { WrittenMoveIsRead }
-{}
+{
+    path_tells();
+    one_best();
+    moves_have_keys();
+    legal_moves_take();
+}

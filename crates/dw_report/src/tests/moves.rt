@@ -76,21 +76,28 @@ fn lists_moves_of_the_small_board(rt: HostRuntime) {
     assert_eq!(rt; written.as_slice(), wanted.as_bytes());
 }
 
+const ONE_SECTION: &str = "problem 1: W:W32:B28\n32x23 B:W23:B\nmoves 1 taking 1\n";
+
 #[test]
 fn lists_moves_of_sections(rt: HostRuntime) {
-    let text = "[FEN \"W:W32:B28\"] {x";
-    let wanted =
-        "problem 1: W:W32:B28\n32x23 B:W23:B\nmoves 1 taking 1\nproblem 2: refused: 8 unclosed comment\n";
-    let (answer, written) = ran::<Ten>(rt.alloc(), Form::Pdn, text);
-    assert_eq!(rt; written.as_slice(), wanted.as_bytes());
-    assert_eq!(rt;
-        answer,
-        Ok(Summary {
-            problems: 2,
-            shown: 2,
-            refused: 1
-        })
-    );
+    let rows = [
+        (
+            "[GameType \"20,W,10\"]\n[FEN \"W:W27,45:B16\"]\n\n1. 45-40 {[a wait]} *\n[GameType \"21\"]\n[FEN \"W:W32:B28\"]\n*\n",
+            "problem 1: W:W27,45:B16\n27-21 B:W21,45:B16\n27-22 B:W22,45:B16\n45-40 B:W27,40:B16\nmoves 3 taking 0\n\
+                problem 2: refused: 4 wrong game\n",
+        ),
+        (
+            "[FEN \"W:W32:B28\"] {x",
+            "problem 1: W:W32:B28\n32x23 B:W23:B\nmoves 1 taking 1\nproblem 2: refused: 8 unclosed comment\n",
+        ),
+        ("[GameType \"?\"][FEN \"W:W32:B28:H0:F1\"]", ONE_SECTION),
+        ("[GameType \" 20 ,W\"][FEN \"W:W32:B28\"]", ONE_SECTION),
+    ];
+    for (text, wanted) in rows {
+        let (answer, written) = ran::<Ten>(rt.alloc(), Form::Pdn, text);
+        assert_eq!(rt; written.as_slice(), wanted.as_bytes());
+        assert!(rt; answer.is_ok(), "{text}");
+    }
 }
 
 const TWO: &str = "W:W7:B\nW:W:B20\n";

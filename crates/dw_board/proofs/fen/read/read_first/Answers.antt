@@ -1,8 +1,8 @@
-use Rattle.std.proofs.Common.{◌≡◌, Bool, true, false, Ok, Err, Some, None, is_some, refl, sym, ◌∙◌, ap, cond}
+use Rattle.std.proofs.Common.{◌≡◌, false, Err, Some, None, is_some, refl, sym, ◌∙◌, ap}
 use Rattle.std.proofs.lemmas.Result.{err_from_is_err_and}
-use Rattle.dw_board.specs.FenTokens.{Token, side_named, is_sign}
-use Rattle.dw_board.specs.FenReader.{tokens_of, end_of, place_of, behind, left_of, first_named, first_is}
-use Rattle.dw_board.specs.Fen.{fault, read_from, listing, Listing, AfterColon, AfterColour, AfterItem, AfterLists}
+use Rattle.dw_board.specs.FenTokens.{side_named, is_sign}
+use Rattle.dw_board.specs.FenReader.{tokens_of, end_of, behind, left_of, first_named, first_is}
+use Rattle.dw_board.specs.Fen.{read_from, listing, AfterColon, AfterColour, AfterItem}
 use Rattle.dw_board.specs.declared.fen.fault.FenFaultKind.TheVariants.{Colour}
 use Rattle.dw_board.proofs.FenStages.{colour_fault, colour_read, list_colon, same_read, fault_here}
 use Rattle.dw_board.proofs.fen.read.read_first.Goals as goal

@@ -1,8 +1,8 @@
-use Rattle.std.proofs.Common.{◌≡◌, ◌<◌, ◌≤◌, ℕ, Bool, Ok, Err, Some, None, is_some, length, refl, sym, ◌∙◌, ap, arith, Result, MatchResult, OnOk}
-use Rattle.std.proofs.lemmas.Result.{err_from_is_err_and, MatchResult-at_err, MatchResult-at_ok}
+use Rattle.std.proofs.Common.{◌≡◌, Ok, Err, Some, None, is_some, refl, sym, ◌∙◌, ap, arith, Result, OnOk}
+use Rattle.std.proofs.lemmas.Result.{err_from_is_err_and}
 use Rattle.dw_board.specs.FenTokens.{number_named}
 use Rattle.dw_board.specs.FenReader.{tokens_of, end_of, place_of, behind, left_of, first_named}
-use Rattle.dw_board.specs.Fen.{fault, read_from, read_behind, listing, Listing, Item, AfterComma, AfterNumber, AfterItem}
+use Rattle.dw_board.specs.Fen.{fault, read_behind, listing, Item, AfterNumber}
 use Rattle.dw_board.specs.declared.fen.fault.FenFaultKind.TheVariants.{Number}
 use Rattle.dw_board.proofs.FenStages.{item_number, item_fault, item_set, length-left, length-named, same_read}
 use Rattle.dw_board.proofs.fen.read.read_item.Goals as goal

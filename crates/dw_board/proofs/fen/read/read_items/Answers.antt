@@ -1,5 +1,4 @@
-use Rattle.std.proofs.Common.{◌≡◌, ◌<◌, Bool, Ok, Err, Result, MatchResult, sym, ◌∙◌, ap, arith, length}
-use Rattle.std.proofs.lemmas.Result.{MatchResult-at_ok}
+use Rattle.std.proofs.Common.{sym, ◌∙◌, ap}
 use Rattle.dw_board.specs.FenReader.{tokens_of, end_of, left_of}
 use Rattle.dw_board.specs.Fen.{read_from, listing, AfterComma, AfterItem}
 use Rattle.dw_board.proofs.FenStages.{comma_read}

@@ -1,4 +1,4 @@
-use Rattle.std.proofs.Common.{sym, ◌∙◌, Ok, Err}
+use Rattle.std.proofs.Common.{sym, ◌∙◌, Err}
 use Rattle.dw_board.specs.FenReader.{tokens_of, end_of}
 use Rattle.dw_board.specs.Fen.{listing, read_from, AfterItem}
 use Rattle.dw_board.proofs.FenStages.{list_nothing, list_something, nothing-no_comma, step_before}

@@ -1,7 +1,7 @@
-use Rattle.std.proofs.Common.{◌≡◌, ◌<◌, ◌≤◌, ℕ, Err, Some, None, is_some, true, false, length, sym, ◌∙◌, ap, arith, subst}
-use Rattle.dw_board.specs.FenTokens.{number_named, is_sign}
-use Rattle.dw_board.specs.FenReader.{tokens_of, end_of, place_of, behind, left_of, first_is, first_named}
-use Rattle.dw_board.specs.Fen.{fault, read_from, read_behind, Listing, Item, AfterNumber, AfterDash}
+use Rattle.std.proofs.Common.{◌≡◌, ◌<◌, ◌≤◌, Err, Some, None, is_some, sym, ◌∙◌, ap, arith}
+use Rattle.dw_board.specs.FenTokens.{number_named}
+use Rattle.dw_board.specs.FenReader.{tokens_of, end_of, place_of, behind, left_of, first_named}
+use Rattle.dw_board.specs.Fen.{fault, read_behind}
 use Rattle.dw_board.specs.declared.fen.fault.FenFaultKind.TheVariants.{Number, RangeBackwards}
 use Rattle.dw_board.proofs.FenStages.{dash_read, dash_fault, range_backwards, range_read, number_read, length-left}
 use Rattle.dw_board.proofs.fen.read.read_range_end.Goals as goal

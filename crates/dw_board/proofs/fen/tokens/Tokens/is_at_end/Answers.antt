@@ -1,4 +1,4 @@
-use Rattle.std.proofs.Common.{◌≡◌, ◌+◌, ◌-◌, ℕ, eqb, length, drop, length-drop, arith, sym, ◌∙◌}
+use Rattle.std.proofs.Common.{◌≡◌, ◌+◌, length, drop, length-drop, arith, sym, ◌∙◌}
 use Rattle.dw_board.proofs.FenTokenLemmas.{is_empty-here, same_test}
 use Rattle.dw_board.proofs.fen.tokens.Tokens.is_at_end.Goals as goal
 

@@ -1,4 +1,4 @@
-use Rattle.std.proofs.Common.{◌≡◌, ◌+◌, Some, eqb, drop, sym, ◌∙◌, ap}
+use Rattle.std.proofs.Common.{◌+◌, Some, eqb, sym, ◌∙◌, ap}
 use Rattle.std.specs.Option.{option_eq}
 use Rattle.dw_board.proofs.FenTokenLemmas.{first_is-sign, slice_get-begins}
 use Rattle.dw_board.proofs.fen.tokens.Tokens.stands.Goals as goal

@@ -1,0 +1,5 @@
+use Rattle.dw_moves.proofs.LegalTakes.{legal_moves_take}
+use Rattle.dw_moves.proofs.laws.legal_moves_take.Goals as goal
+
+pub returns : goal.returns
+returns c = legal_moves_take
