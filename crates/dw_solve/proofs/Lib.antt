@@ -1,2 +1,5 @@
 mod WinLemmas
 mod FactLemmas
+mod MemoLemmas
+pub mod RankLemmas
+pub mod SearchLemmas

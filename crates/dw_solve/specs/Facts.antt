@@ -1,9 +1,11 @@
 -- What the bounds in a memo say, and when they are right.
 use Rattle.std.specs.Prelude.{◌≡◌, ℕ, ◌-◌, ◌<◌, ◌≤◌, ◌⊎◌, Some}
+use Rattle.dw_memo.specs.declared.bounds.Bounds.{Bounds}
+use Rattle.dw_memo.specs.Bounding.{nothing}
 use Rattle.dw_board.specs.Geometry.{Geometry}
 use Rattle.dw_board.specs.Placement.{Placement}
 use Rattle.dw_moves.specs.Moves.{Move, Legal, play}
-use Rattle.dw_memo.specs.Content.{Entry, Content, Member}
+use Rattle.dw_memo.specs.Content.{Entry, entry, Content, Member, positions}
 use Rattle.dw_solve.specs.Wins.{Win}
 
 -- the memo says that the position has no win within f moves
@@ -27,6 +29,10 @@ pub record KnownWin (c : Content) (p : Placement) (w : ℕ) : Type 0 where
 -- whether there is a win within n moves can be read off the memo
 abbrev pub IsDecided : Content → Placement → ℕ → Type 0
 IsDecided c p n = KnownWin c p n ⊎ KnownFail c p n
+
+-- the bounds of a position: those that it has in the memo, or none
+abbrev pub HasBounds : Content → Placement → Bounds → Type 0
+HasBounds c p b = Member (entry p b) c ⊎ ((b ≡ nothing) × (Member p (positions c) → ⊥))
 
 -- what the memo says is so
 pub record AreTrue (g : Geometry) (c : Content) : Type 0 where

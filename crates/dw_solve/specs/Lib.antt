@@ -2,3 +2,6 @@ pub mod Wins
 pub mod Facts
 pub mod Laws
 pub mod Trial
+pub mod Ranking
+pub mod Searching
+pub mod Solving

@@ -1,0 +1,49 @@
+-- Steps of a search.
+use Rattle.std.proofs.Common.{◌≡◌, ℕ, ◌+◌, ◌≤◌, ◌<◌, ◌⊎◌, inl, inr, Bool, true, false, refl, sym, ◌∙◌, subst, ◌↔◌, arith, IsTrue}
+use Rattle.std.proofs.lemmas.Bool.{true≢false}
+use Rattle.dw_board.specs.Geometry.{Geometry}
+use Rattle.dw_board.specs.Placement.{Placement}
+use Rattle.dw_memo.specs.Content.{Content, SameEntries}
+use Rattle.dw_solve.specs.Wins.{Win}
+use Rattle.dw_solve.specs.Facts.{IsDecided}
+use Rattle.dw_solve.specs.Searching.{IsCounted}
+use Rattle.dw_solve.proofs.MemoLemmas.{same_win, same_fail}
+
+pub counted_none : (a l : ℕ) → a ≤ l → IsCounted a l a l
+counted_none a l h = record { rises = omega arith; within = h; same = refl }
+
+pub counted_then : (a l b l' c l'' : ℕ) → IsCounted a l b l' → IsCounted b l' c l'' → IsCounted a l c l''
+counted_then a l b l' c l'' h k = record { rises = omega (arith, h.rises, k.rises); within = omega (arith, k.within, h.same); same = k.same ∙ h.same }
+
+pub is_so : (b : Bool) (P : Type 0) → (IsTrue b ↔ P) → b ≡ true → P
+is_so b P h e = h.0 e
+
+pub is_not : (b : Bool) (P : Type 0) → (IsTrue b ↔ P) → b ≡ false → P → ⊥
+is_not b P h e p = true≢false (sym (h.1 p) ∙ e)
+
+pub answer_no : (P : Type 0) → (P → ⊥) → IsTrue false ↔ P
+answer_no P no_win = ((λ e. absurd (true≢false (sym e))), (λ p. absurd (no_win p)))
+
+pub answer_yes : (P : Type 0) → P → IsTrue true ↔ P
+answer_yes P p = ((λ _. p), (λ _. refl))
+
+-- what isn't known in a memo isn't in one with the same entries, so an answer has counted one
+pub spent_later : (c d : Content) (p : Placement) (n a b e : ℕ) → SameEntries c d → b ≡ a → (1 ≤ n → (IsDecided d p n → ⊥) → b < e) → 1 ≤ n → (IsDecided c p n → ⊥) → a < e
+spent_later c d p n a b e same is h some none =
+    let less = h some (λ k. none (elim k [ inl w ↦ inl (same_win c d same p n w) | inr f ↦ inr (same_fail c d same p n f) ])) in
+    omega (arith, less, is)
+
+-- no win within any number below i
+abbrev pub NoneBelow : Geometry → Placement → ℕ → Type 0
+NoneBelow g p i = (j : ℕ) → j < i → Win g p j → ⊥
+
+pub none_below_one : (g : Geometry) (p : Placement) → NoneBelow g p 1
+none_below_one g p j low w = let e : j ≡ 0 = omega (arith, low) in subst (Win g p) e w
+
+pub none_below_more : (g : Geometry) (p : Placement) (i : ℕ) → NoneBelow g p i → (Win g p i → ⊥) → NoneBelow g p (i + 1)
+none_below_more g p i h none j low w = elim (split j i low) [
+  | inl e ↦ none (subst (Win g p) e w)
+  | inr l ↦ h j l w
+] where
+  split : (j i : ℕ) → j < i + 1 → (j ≡ i) ⊎ (j < i)
+  split j i low = grind arith

@@ -1,0 +1,26 @@
+use Rattle.std.proofs.Common.{◌+◌, ◌*◌}
+use Rattle.dw_solve.specs.Facts.{AreTrue}
+use Rattle.dw_solve.specs.Searching.{IsCounted}
+use Rattle.dw_solve.proofs.RankLemmas.{NoneLost, AllWon}
+use Rattle.dw_solve.proofs.search.+search.Given as goal
+
+abbrev pub decreases-wins : goal.decreases-wins
+decreases-wins g l = 3 * l.moves + 2
+
+abbrev pub decreases-some_move_wins : goal.decreases-some_move_wins
+decreases-some_move_wins g l = 3 * l.moves + 4
+
+abbrev pub decreases-loses : goal.decreases-loses
+decreases-loses g l = 3 * l.moves + 3
+
+abbrev pub invariant-some_move_wins-moves : goal.invariant-some_move_wins-moves
+invariant-some_move_wins-moves g l =
+    AreTrue g.B.Board.geometry (g.M.Memo.content l.search.memo)
+    × (IsCounted l.initial.search.expanded l.initial.search.limit l.search.expanded l.search.limit
+    × NoneLost g.B.Board.geometry l.position l.moves l.ranked l.candidate-index)
+
+abbrev pub invariant-loses-replies : goal.invariant-loses-replies
+invariant-loses-replies g l =
+    AreTrue g.B.Board.geometry (g.M.Memo.content l.search.memo)
+    × (IsCounted l.initial.search.expanded l.initial.search.limit l.search.expanded l.search.limit
+    × AllWon g.B.Board.geometry l.position l.moves l.candidate-items l.candidate-index)

@@ -1,0 +1,9 @@
+-- Legal moves with their ranks.
+use Rattle.std.specs.Prelude.{ℕ, ◌↔◌, List, Contains}
+use Rattle.dw_board.specs.Geometry.{Geometry}
+use Rattle.dw_board.specs.Placement.{Placement}
+use Rattle.dw_moves.specs.Moves.{Move, Legal}
+
+-- these are the legal moves, each with some rank, in some order
+abbrev pub AreRanked : Geometry → Placement → List (ℕ × Move) → Type 0
+AreRanked g p ranked = (m : Move) → Legal g p m ↔ ((rank : ℕ) × Contains ranked (rank, m))

@@ -1,0 +1,41 @@
+//! In which order a search goes through moves.
+ghost use Rattle.std.specs.Prelude.{◌≡◌};
+ghost use Rattle.dw_moves.specs.Moves.{Legal, play};
+ghost use Rattle.dw_solve.specs.Trial.{IsTrial};
+
+use crate::trial::trial;
+use dw_board::board::Board;
+use dw_board::position::Position;
+use dw_moves::moves::Move;
+
+/// Ranks moves: those of a lower rank are tried first. No answer of a search depends on it.
+pub trait Guide<B: Board> {
+    /// The rank of a legal move.
+    fn rank(&self, position: &Position<B>, step: &Move<B>) -> u32
+        requires { Legal B.geometry position.now step.now };
+}
+
+/// Moves come in any order.
+#[derive(Clone, Copy, Debug, Default)]
+pub struct AnyOrder;
+
+impl<B: Board> Guide<B> for AnyOrder {
+    fn rank(&self, _position: &Position<B>, _step: &Move<B>) -> u32
+        ensures { result ≡ 0 }
+    {
+        0
+    }
+}
+
+/// Moves that leave the other side less freedom come first.
+#[derive(Clone, Copy, Debug, Default)]
+pub struct ByTrial;
+
+impl<B: Board> Guide<B> for ByTrial {
+    fn rank(&self, position: &Position<B>, step: &Move<B>) -> u32
+        requires { Legal B.geometry position.now step.now }
+        ensures { IsTrial B.geometry (play B.geometry position.now step.now) result }
+    {
+        trial(position, step)
+    }
+}

@@ -1,0 +1,61 @@
+//! The moves of one position, in the order in which a search goes through them.
+ghost use Rattle.std.specs.Prelude.{◌≡◌, [], OnOk};
+ghost use Rattle.dw_moves.specs.Moves.{AreLegal};
+ghost use Rattle.dw_solve.specs.Ranking.{AreRanked};
+
+use crate::guide::Guide;
+use dw_board::board::Board;
+use dw_board::position::Position;
+use dw_moves::legal::legal_into;
+use dw_moves::moves::Move;
+use std::alloc::{AllocError, Global};
+
+/// The lists that a search needs for one move of a line. Their memory is used again at the next position.
+#[derive(Drop)]
+pub(crate) struct Ply<B: Board> {
+    moves: Vec<Move<B>>,
+    /// Legal moves with their ranks, the lowest first.
+    pub(crate) ranked: Vec<(u32, Move<B>)>,
+}
+
+impl<B: Board> Ply<B> {
+    /// Empty lists.
+    pub(crate) fn new(alloc: Global) -> Self {
+        Ply {
+            moves: Vec::new(alloc),
+            ranked: Vec::new(alloc),
+        }
+    }
+
+    /// Takes up the legal moves of a position, in the guide's order.
+    pub(crate) fn fill<G: Guide<B>>(
+        &mut self,
+        position: &Position<B>,
+        guide: &G,
+    ) -> Result<(), AllocError>
+        ensures { OnOk result (AreRanked B.geometry position.now self.new.ranked.items) }
+    {
+        legal_into(position, &mut self.moves)?;
+        self.ranked.clear();
+        rank_all(position, guide, self.moves.as_slice(), &mut self.ranked)?;
+        self.ranked.sort_unstable_by_key(|ranked| ranked.0);
+        Ok(())
+    }
+}
+
+/// Adds the legal moves with their ranks to an empty list.
+fn rank_all<B: Board, G: Guide<B>>(
+    position: &Position<B>,
+    guide: &G,
+    moves: &[Move<B>],
+    ranked: &mut Vec<(u32, Move<B>)>,
+) -> Result<(), AllocError>
+    requires legal { AreLegal B.geometry position.now moves.now }
+    requires empty { ranked.old.items ≡ [] }
+    ensures { OnOk result (AreRanked B.geometry position.now ranked.new.items) }
+{
+    'moves: for step in moves {
+        ranked.push((guide.rank(position, step), *step))?;
+    }
+    Ok(())
+}

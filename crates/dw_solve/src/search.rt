@@ -1,0 +1,196 @@
+//! The search: attacker and defender in turn.
+ghost use Rattle.std.specs.Prelude.{◌≡◌, ◌≢◌, ℕ, ◌+◌, ◌*◌, ◌≤◌, ◌<◌, ◌↔◌, length, IfOk, OnOk, IfSome, IsSome, IsNone, ◌⊎◌, IsErrOf, IsTrue, Contains, cond};
+ghost use Rattle.dw_memo.specs.Bounding.{with_win, with_fail};
+ghost use Rattle.dw_memo.specs.Content.{SameEntries};
+ghost use Rattle.dw_moves.specs.Moves.{Move, Legal, play};
+ghost use Rattle.dw_solve.specs.declared.stop.Stop.TheVariants.{Limit};
+ghost use Rattle.dw_solve.specs.Wins.{Win, Lost};
+ghost use Rattle.dw_solve.specs.Facts.{AreTrue, IsDecided, HasBounds};
+ghost use Rattle.dw_solve.specs.Searching.{IsCounted};
+ghost use Rattle.dw_solve.specs.Ranking.{AreRanked};
+
+use crate::guide::Guide;
+use crate::ply::Ply;
+use crate::stop::Stop;
+use dw_board::board::Board;
+use dw_board::position::Position;
+use dw_memo::bounds::Bounds;
+use dw_memo::memo::Memo;
+use dw_moves::moves::Move;
+use dw_moves::play::play as played;
+
+/// What a search works on: a cache, an order of moves, and how many positions it has expanded and may expand.
+#[derive(Drop)]
+pub(crate) struct Search<M, G> {
+    pub(crate) memo: M,
+    pub(crate) guide: G,
+    pub(crate) expanded: u64,
+    pub(crate) limit: u64,
+}
+
+/// Whether the side to move wins within so many of its moves.
+#[cycle(search)]
+pub(crate) fn wins<B: Board, M: Memo<B>, G: Guide<B>>(
+    search: &mut Search<M, G>,
+    plies: &mut [Ply<B>],
+    position: &Position<B>,
+    moves: u8,
+) -> Result<bool, Stop>
+    requires right { AreTrue B.geometry (M.content search.old.memo) }
+    requires within { search.old.expanded ≤ search.old.limit }
+    requires room { 2 * moves ≤ length plies.old }
+    ensures answer { IfOk result (λ yes. IsTrue yes ↔ Win B.geometry position.now moves) }
+    ensures right { AreTrue B.geometry (M.content search.new.memo) }
+    ensures count { IsCounted search.old.expanded search.old.limit search.new.expanded search.new.limit }
+    ensures stop { IsErrOf result Limit → search.new.expanded ≡ search.new.limit }
+    ensures spent { OnOk result (1 ≤ moves → (IsDecided (M.content search.old.memo) position.now moves → ⊥) → search.old.expanded < search.new.expanded) }
+{
+    if let Some(answer) = known(search, position, moves) {
+        return Ok(answer);
+    }
+    count(search)?;
+    let (ply, rest) = plies.split_first_mut().unwrap();
+    ply.fill(position, &search.guide)?;
+    let won = some_move_wins(search, rest, position, ply.ranked.as_slice(), moves - 1)?;
+    note(search, position, moves, won);
+    Ok(won)
+}
+
+/// Whether some move of the attacker leaves a position that is lost within so many further moves.
+#[cycle(search)]
+fn some_move_wins<B: Board, M: Memo<B>, G: Guide<B>>(
+    search: &mut Search<M, G>,
+    plies: &mut [Ply<B>],
+    position: &Position<B>,
+    ranked: &[(u32, Move<B>)],
+    moves: u8,
+) -> Result<bool, Stop>
+    requires ranked { AreRanked B.geometry position.now ranked.now }
+    requires right { AreTrue B.geometry (M.content search.old.memo) }
+    requires within { search.old.expanded ≤ search.old.limit }
+    requires room { 2 * moves + 1 ≤ length plies.old }
+    ensures answer { IfOk result (λ yes. IsTrue yes ↔ Win B.geometry position.now (moves + 1)) }
+    ensures right { AreTrue B.geometry (M.content search.new.memo) }
+    ensures count { IsCounted search.old.expanded search.old.limit search.new.expanded search.new.limit }
+    ensures stop { IsErrOf result Limit → search.new.expanded ≡ search.new.limit }
+{
+    'moves: for candidate in ranked {
+        let step = &candidate.1;
+        if loses(search, plies, &played(position, step), moves)? {
+            return Ok(true);
+        }
+    }
+    Ok(false)
+}
+
+/// Whether the side to move has lost: the other wins within so many of its moves after every reply.
+#[cycle(search)]
+pub(crate) fn loses<B: Board, M: Memo<B>, G: Guide<B>>(
+    search: &mut Search<M, G>,
+    plies: &mut [Ply<B>],
+    position: &Position<B>,
+    moves: u8,
+) -> Result<bool, Stop>
+    requires right { AreTrue B.geometry (M.content search.old.memo) }
+    requires within { search.old.expanded ≤ search.old.limit }
+    requires room { 2 * moves + 1 ≤ length plies.old }
+    ensures answer { IfOk result (λ yes. IsTrue yes ↔ Lost B.geometry position.now moves) }
+    ensures right { AreTrue B.geometry (M.content search.new.memo) }
+    ensures count { IsCounted search.old.expanded search.old.limit search.new.expanded search.new.limit }
+    ensures stop { IsErrOf result Limit → search.new.expanded ≡ search.new.limit }
+{
+    let (ply, rest) = plies.split_first_mut().unwrap();
+    ply.fill(position, &search.guide)?;
+    'replies: for candidate in ply.ranked.as_slice() {
+        let reply = &candidate.1;
+        if !wins(search, rest, &played(position, reply), moves)? {
+            return Ok(false);
+        }
+    }
+    Ok(true)
+}
+
+/// Whether there is a win within so many moves, where that is known without a search.
+pub(crate) fn known<B: Board, M: Memo<B>, G>(
+    search: &mut Search<M, G>,
+    position: &Position<B>,
+    moves: u8,
+) -> Option<bool>
+    requires { AreTrue B.geometry (M.content search.old.memo) }
+    ensures answer { IfSome result (λ yes. IsTrue yes ↔ Win B.geometry position.now moves) }
+    ensures right { AreTrue B.geometry (M.content search.new.memo) }
+    ensures count { search.new.expanded ≡ search.old.expanded }
+    ensures limit { search.new.limit ≡ search.old.limit }
+    ensures same { SameEntries (M.content search.old.memo) (M.content search.new.memo) }
+    ensures sure { IsSome result → (moves ≡ 0) ⊎ IsDecided (M.content search.old.memo) position.now moves }
+    ensures some { IsNone result → 1 ≤ moves }
+    ensures open { IsNone result → IsDecided (M.content search.old.memo) position.now moves → ⊥ }
+{
+    if moves == 0 {
+        return Some(false);
+    }
+    match search.memo.look(position) {
+        Some(bounds) => bounds.decide(moves),
+        None => None,
+    }
+}
+
+/// Counts one more expanded position, or answers that the limit is reached.
+fn count<M, G>(search: &mut Search<M, G>) -> Result<(), Stop>
+    requires { search.old.expanded ≤ search.old.limit }
+    ensures memo { search.new.memo ≡ search.old.memo }
+    ensures limit { search.new.limit ≡ search.old.limit }
+    ensures within { search.new.expanded ≤ search.new.limit }
+    ensures more { OnOk result (search.new.expanded ≡ search.old.expanded + 1) }
+    ensures rises { search.old.expanded ≤ search.new.expanded }
+    ensures stop { IsErrOf result Limit → search.new.expanded ≡ search.new.limit }
+{
+    if search.expanded == search.limit {
+        return Err(Stop::Limit);
+    }
+    search.expanded += 1;
+    Ok(())
+}
+
+/// Notes whether there is a win within so many moves, beside what the cache says of the position by now.
+fn note<B: Board, M: Memo<B>, G>(
+    search: &mut Search<M, G>,
+    position: &Position<B>,
+    moves: u8,
+    won: bool,
+)
+    requires right { AreTrue B.geometry (M.content search.old.memo) }
+    requires answer { IsTrue won ↔ Win B.geometry position.now moves }
+    ensures right { AreTrue B.geometry (M.content search.new.memo) }
+    ensures count { search.new.expanded ≡ search.old.expanded }
+    ensures limit { search.new.limit ≡ search.old.limit }
+{
+    let bounds = bounds_now(&mut search.memo, position);
+    search.memo.note(*position, joined(bounds, moves, won));
+}
+
+/// The bounds of a position, which say nothing where it is not held.
+fn bounds_now<B: Board, M: Memo<B>>(memo: &mut M, position: &Position<B>) -> Bounds
+    ensures bounds { HasBounds (M.content memo.old) position.now result }
+    ensures same { SameEntries (M.content memo.old) (M.content memo.new) }
+    ensures dropped { M.dropped memo.new ≡ M.dropped memo.old }
+{
+    match memo.look(position) {
+        Some(bounds) => bounds,
+        None => Bounds {
+            fails: None,
+            wins: None,
+        },
+    }
+}
+
+/// The bounds, and whether there is a win within so many moves.
+fn joined(bounds: Bounds, moves: u8, won: bool) -> Bounds
+    ensures { result ≡ cond won (with_win bounds moves) (with_fail bounds moves) }
+{
+    if won {
+        bounds.with_win(moves)
+    } else {
+        bounds.with_fail(moves)
+    }
+}

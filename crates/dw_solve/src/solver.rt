@@ -1,0 +1,173 @@
+//! The solver: forced wins of any position, over one cache.
+ghost use Rattle.std.specs.Prelude.{◌≡◌, ℕ, ◌≤◌, ◌<◌, ◌↔◌, ◌⊎◌, length, IfOk, OnOk, IsOk, IsErrOf, IsTrue};
+ghost use Rattle.dw_solve.specs.declared.stop.Stop.TheVariants.{Limit};
+ghost use Rattle.dw_solve.specs.Wins.{Win, Lost};
+ghost use Rattle.dw_solve.specs.Facts.{AreTrue, IsDecided};
+ghost use Rattle.dw_solve.specs.Searching.{IsCounted};
+ghost use Rattle.dw_solve.specs.Solving.{IsLeast};
+
+use crate::guide::Guide;
+use crate::ply::Ply;
+use crate::search::{Search, known, loses, wins};
+use crate::stop::Stop;
+use dw_board::board::Board;
+use dw_board::position::Position;
+use dw_memo::memo::Memo;
+use std::alloc::{AllocError, Global};
+use std::marker::Model;
+
+/// Moves of both sides in the longest line: 20 of the attacker with a reply to each, and one before them.
+const PLIES: usize = 41;
+
+/// Answers in how many moves a side wins. What it finds out it notes in a cache, and it counts each position that it
+/// expands, that is whose moves it goes through, up to a limit.
+#[derive(Drop)]
+pub struct Solver<B: Board, M: Memo<B>, G: Guide<B>> {
+    search: Search<M, G>,
+    plies: Option<Vec<Ply<B>>>,
+}
+
+impl<B: Board, M: Memo<B>, G: Guide<B>> Model for Solver<B, M, G> {
+    ghost use Rattle.std.specs.Prelude.{◌≤◌};
+    ghost use Rattle.dw_solve.specs.Solving.{Solving};
+    ghost use Rattle.dw_solve.specs.Facts.{AreTrue};
+
+    ghost Value = { Solving M };
+
+    ghost view = { λ s. record { memo = s.search.memo; expanded = s.search.expanded; limit = s.search.limit } };
+
+    ghost invariant = { λ s. AreTrue B.geometry (M.content s.search.memo) × (s.search.expanded ≤ s.search.limit) };
+}
+
+impl<B: Board, M: Memo<B>, G: Guide<B>> Solver<B, M, G> {
+    /// A solver over a cache, all of whose bounds are right, as those of an empty one are. It may expand as many
+    /// positions as the limit says, at least 1.
+    pub fn new(memo: M, guide: G, limit: u64) -> Self
+        requires right { AreTrue B.geometry (M.content memo) }
+        requires some { 1 ≤ limit }
+        ensures { result ≡ record { memo = memo; expanded = 0; limit = limit } }
+    {
+        Solver {
+            search: Search {
+                memo,
+                guide,
+                expanded: 0,
+                limit,
+            },
+            plies: None,
+        }
+    }
+
+    /// How many positions were expanded so far.
+    pub fn expanded(&self) -> u64
+        ensures { result ≡ self.now.expanded }
+    {
+        self.search.expanded
+    }
+
+    /// How many positions may be expanded in all.
+    pub fn limit(&self) -> u64
+        ensures limit { result ≡ self.now.limit }
+        ensures within { self.now.expanded ≤ self.now.limit }
+    {
+        self.search.limit
+    }
+
+    /// How many entries the cache has lost so far.
+    pub fn dropped(&self) -> u64
+        ensures { result ≡ M.dropped self.now.memo }
+    {
+        self.search.memo.dropped()
+    }
+
+    /// Changes the limit. It is at least 1, and not below what was expanded.
+    pub fn set_limit(&mut self, limit: u64)
+        requires some { 1 ≤ limit }
+        requires enough { self.old.expanded ≤ limit }
+        ensures { self.new ≡ record self.old { limit = limit } }
+    {
+        self.search.limit = limit;
+    }
+
+    /// Whether the side to move wins within so many of its moves, 0 to 20. It is answered without a search, without
+    /// memory and without an expansion where the cache decides it or the number is 0. After a stop all bounds in the
+    /// cache are right, and it can be asked again.
+    pub fn wins(&mut self, alloc: Global, position: &Position<B>, moves: u8) -> Result<bool, Stop>
+        requires { moves ≤ 20 }
+        ensures answer { IfOk result (λ yes. IsTrue yes ↔ Win B.geometry position.now moves) }
+        ensures right { AreTrue B.geometry (M.content self.new.memo) }
+        ensures count { IsCounted self.old.expanded self.old.limit self.new.expanded self.new.limit }
+        ensures stop { IsErrOf result Limit → self.new.expanded ≡ self.new.limit }
+        ensures known { (moves ≡ 0) ⊎ IsDecided (M.content self.old.memo) position.now moves → IsOk result × (self.new.expanded ≡ self.old.expanded) }
+        ensures spent { OnOk result (1 ≤ moves → (IsDecided (M.content self.old.memo) position.now moves → ⊥) → self.old.expanded < self.new.expanded) }
+    {
+        if let Some(answer) = known(&mut self.search, position, moves) {
+            return Ok(answer);
+        }
+        let mut plies = prepared(alloc, self.plies.take())?;
+        let answer = wins(&mut self.search, plies.as_mut_slice(), position, moves);
+        self.plies = Some(plies);
+        answer
+    }
+
+    /// Whether the side to move has lost: whatever it plays, the other wins within so many of its moves, 0 to 20.
+    pub fn loses(&mut self, alloc: Global, position: &Position<B>, moves: u8) -> Result<bool, Stop>
+        requires { moves ≤ 20 }
+        ensures answer { IfOk result (λ yes. IsTrue yes ↔ Lost B.geometry position.now moves) }
+        ensures right { AreTrue B.geometry (M.content self.new.memo) }
+        ensures count { IsCounted self.old.expanded self.old.limit self.new.expanded self.new.limit }
+        ensures stop { IsErrOf result Limit → self.new.expanded ≡ self.new.limit }
+    {
+        let mut plies = prepared(alloc, self.plies.take())?;
+        let answer = loses(&mut self.search, plies.as_mut_slice(), position, moves);
+        self.plies = Some(plies);
+        answer
+    }
+
+    /// The least number of moves, from 1 to the given one, within which the side to move wins, or `None` where it has
+    /// no win within that number, which is at most 20.
+    pub fn least(
+        &mut self,
+        alloc: Global,
+        position: &Position<B>,
+        most: u8,
+    ) -> Result<Option<u8>, Stop>
+        requires { most ≤ 20 }
+        ensures answer { IfOk result (IsLeast B.geometry position.now most) }
+        ensures right { AreTrue B.geometry (M.content self.new.memo) }
+        ensures count { IsCounted self.old.expanded self.old.limit self.new.expanded self.new.limit }
+        ensures stop { IsErrOf result Limit → self.new.expanded ≡ self.new.limit }
+    {
+        let _ = &self.search;
+        'moves: for moves in 1..most + 1 {
+            if self.wins(alloc, position, moves)? {
+                return Ok(Some(moves));
+            }
+        }
+        Ok(None)
+    }
+
+    /// The cache. All its bounds are right.
+    pub fn into_memo(self) -> M
+    where
+        G: Drop,
+        ensures memo { result ≡ self.memo }
+        ensures right { AreTrue B.geometry (M.content result) }
+    {
+        self.search.memo
+    }
+}
+
+/// The lists for the longest line, those that were kept where there are some.
+fn prepared<B: Board>(alloc: Global, kept: Option<Vec<Ply<B>>>) -> Result<Vec<Ply<B>>, AllocError>
+    ensures { IfOk result (λ plies. 41 ≤ length plies.items) }
+{
+    let mut plies = match kept {
+        Some(plies) => plies,
+        None => Vec::new(alloc),
+    };
+    'plies: while plies.len() < PLIES {
+        plies.push(Ply::new(alloc))?;
+    }
+    Ok(plies)
+}
