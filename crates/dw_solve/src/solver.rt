@@ -138,6 +138,7 @@ impl<B: Board, M: Memo<B>, G: Guide<B>> Solver<B, M, G> {
         ensures count { IsCounted self.old.expanded self.old.limit self.new.expanded self.new.limit }
         ensures stop { IsErrOf result Limit → self.new.expanded ≡ self.new.limit }
     {
+        // The check learns here what every solver keeps to, for the loop below.
         let _ = &self.search;
         'moves: for moves in 1..most + 1 {
             if self.wins(alloc, position, moves)? {
