@@ -7,6 +7,7 @@ use dw_board::board::{Board, Eight, Ten};
 use dw_notation::problems::Form;
 use dw_notation::streams::{Reading, Writing};
 use std::alloc::Global;
+use std::test::Fail;
 
 fn moves(form: Form) -> Settings {
     Settings {
@@ -52,19 +53,14 @@ const ROWS: [(&str, &str); 11] = [
 ];
 
 #[test]
-fn lists_moves(rt: HostRuntime) {
+fn lists_moves(rt: HostRuntime) -> Result<(), Fail> {
     for (fen, wanted) in ROWS {
         let (answer, written) = ran::<Ten>(rt.alloc(), Form::Fens, fen);
+        let whole = format!(in rt.alloc(); "problem 1: {fen}\n{wanted}")?;
         assert!(rt; answer.is_ok(), "{fen}");
-        let first = "problem 1: ".len() + fen.len() + 1;
-        assert_eq!(rt;
-            &written[..first - 1],
-            format!(in rt.alloc(); "problem 1: {fen}")
-                .expect(&rt, "room")
-                .as_bytes()
-        );
-        assert_eq!(rt; &written[first..], wanted.as_bytes(), "{fen}");
+        assert_eq!(rt; written.as_slice(), whole.as_bytes(), "{fen}");
     }
+    Ok(())
 }
 
 #[test]
