@@ -7,4 +7,4 @@ pub mod run;
 pub mod settings;
 #[cfg(test)]
 mod tests;
-pub mod text;
+mod text;
