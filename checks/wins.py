@@ -103,10 +103,10 @@ def table(rows, each):
     while any(len(positions) < each for positions in found.values()):
         cells, turn = drawn(source, board), source.choice(TURNS)
         kind = kind_of(board, cells, turn)
-        wanted = [number for number in range(MOST + 1) if len(found[number, *kind]) < each]
+        wanted = [number for number in range(MOST + 1) if len(found[(number, *kind)]) < each]
         least = found_in(board, cells, turn, wanted) if wanted else None
         if least is not None:
-            found[least, *kind][fen(cells, turn)] = least
+            found[(least, *kind)][fen(cells, turn)] = least
     return [row for positions in found.values() for row in positions.items()]
 
 
