@@ -11,6 +11,7 @@ use Rattle.dw_memo.specs.Content.{Entry, entry, Content, Member, positions, IsMa
 use Rattle.dw_memo.specs.Noting.{IsNote}
 use Rattle.dw_solve.specs.Wins.{Win}
 use Rattle.dw_solve.specs.Facts.{KnownWin, KnownFail, IsDecided, HasBounds, AreTrue}
+use Rattle.dw_solve.specs.Work.{SaysWin}
 use Rattle.dw_solve.proofs.WinLemmas.{Win-le}
 
 pub option_cases : {A : Type 0} → (o : Option A) → (o ≡ None) ⊎ ((x : A) × (o ≡ Some x))
@@ -33,13 +34,13 @@ pub same_true : (g : Geometry) (c d : Content) → AreTrue g c → SameEntries c
 same_true g c d right same = record { fails = λ p f h. right.fails p f (same_fail c d same p f h); wins = λ p w h. right.wins p w (same_win c d same p w h) }
 
 -- bounds that decide
-wins_known : (c : Content) (p : Placement) (b : Bounds) (n : ℕ) → Member (entry p b) c → wins_decide b.wins n ≡ true → KnownWin c p n
+pub wins_known : (c : Content) (p : Placement) (b : Bounds) (n : ℕ) → Member (entry p b) c → wins_decide b.wins n ≡ true → KnownWin c p n
 wins_known c p b n m e = elim (option_cases b.wins) [
   | inl none ↦ absurd (let q = rw none at e in cc)
   | inr some ↦ record { entry = entry p b; held = m; about = refl; bound = some.0; is = some.1; enough = leb-true some.0 n (rw (some.1) at e) }
 ]
 
-fails_known : (c : Content) (p : Placement) (b : Bounds) (n : ℕ) → Member (entry p b) c → fails_decide b.fails n ≡ true → KnownFail c p n
+pub fails_known : (c : Content) (p : Placement) (b : Bounds) (n : ℕ) → Member (entry p b) c → fails_decide b.fails n ≡ true → KnownFail c p n
 fails_known c p b n m e = elim (option_cases b.fails) [
   | inl none ↦ absurd (let q = rw none at e in cc)
   | inr some ↦ record { entry = entry p b; held = m; about = refl; bound = some.0; is = some.1; enough = leb-true n some.0 (rw (some.1) at e) }
@@ -61,6 +62,16 @@ decided_right g c p b n r right m e = subst (λ o. IfSome o (λ yes. IsTrue yes 
   | inl w ↦ rw (w) ((λ _. right.wins p n (wins_known c p b n m w)), (λ _. refl))
   | inr w ↦ elim (cases_Bool (fails_decide b.fails n)) [
     | inl f ↦ rw (w, f) ((λ q. absurd (cc)), (λ win. absurd (right.fails p n (fails_known c p b n m f) win)))
+    | inr f ↦ rw (w, f) tt
+  ]
+])
+
+-- they say the answer themselves
+pub decided_says : (c : Content) (p : Placement) (b : Bounds) (n : ℕ) (r : Option Bool) → Member (entry p b) c → r ≡ decided b n → IfSome r (SaysWin c p n)
+decided_says c p b n r m e = subst (λ o. IfSome o (SaysWin c p n)) (sym e) (elim (cases_Bool (wins_decide b.wins n)) [
+  | inl w ↦ rw (w) (record { when = λ _. wins_known c p b n m w; unless = λ q. absurd (q refl) })
+  | inr w ↦ elim (cases_Bool (fails_decide b.fails n)) [
+    | inl f ↦ rw (w, f) (record { when = λ q. absurd (cc); unless = λ _. inr (fails_known c p b n m f) })
     | inr f ↦ rw (w, f) tt
   ]
 ])

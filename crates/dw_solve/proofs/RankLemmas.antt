@@ -74,30 +74,34 @@ ranked_anyhow g p ranked sorted all moved m = (
 pub ranked_legal : (g : Geometry) (p : Placement) (ranked : List (ℕ × Move)) (i : ℕ) (x : ℕ × Move) → AreRanked g p ranked → i < length ranked → x ≡ get_or ranked i x → Legal g p x.1
 ranked_legal g p ranked i x all low is = (all x.1).1 (x.0, (i, low, sym is))
 
--- no move at an index below i leaves a lost position; each leaves a win for the other side
-abbrev pub NoneLost : Geometry → Placement → ℕ → List (ℕ × Move) → ℕ → Type 0
-NoneLost g p n ranked i = (k : ℕ) (x : ℕ × Move) → k < i → x ≡ get_or ranked k x → Lost g (play g p x.1) n → ⊥
+-- so it is of each move at an index below i
+abbrev pub Below : (Move → Type 0) → List (ℕ × Move) → ℕ → Type 0
+Below P ranked i = (k : ℕ) (x : ℕ × Move) → k < i → x ≡ get_or ranked k x → P x.1
 
-abbrev pub AllWon : Geometry → Placement → ℕ → List (ℕ × Move) → ℕ → Type 0
-AllWon g q n ranked i = (k : ℕ) (x : ℕ × Move) → k < i → x ≡ get_or ranked k x → Win g (play g q x.1) n
+pub below_none : (P : Move → Type 0) (ranked : List (ℕ × Move)) → Below P ranked 0
+below_none P ranked k x low e = absurd (omega (arith, low))
 
-pub none_lost_more : (g : Geometry) (p : Placement) (n : ℕ) (ranked : List (ℕ × Move)) (i : ℕ) (x : ℕ × Move) → NoneLost g p n ranked i → i < length ranked → x ≡ get_or ranked i x → (Lost g (play g p x.1) n → ⊥) → NoneLost g p n ranked (i + 1)
-none_lost_more g p n ranked i x h low is none k y under e = elim (split k i under) [
+pub below_more : (P : Move → Type 0) (ranked : List (ℕ × Move)) (i : ℕ) (x : ℕ × Move) → Below P ranked i → i < length ranked → x ≡ get_or ranked i x → P x.1 → Below P ranked (i + 1)
+below_more P ranked i x h low is here k y under e = elim (split k i under) [
   | inl q ↦
       let at_i : y ≡ get_or ranked i y = subst (λ z. y ≡ get_or ranked z y) q e in
       let same : x ≡ y = is ∙ (get_same ranked i x y low ∙ sym at_i) in
-      subst (λ (z : ℕ × Move). Lost g (play g p z.1) n → ⊥) same none
+      subst (λ (z : ℕ × Move). P z.1) same here
   | inr less ↦ h k y less e
 ]
 
-pub all_won_more : (g : Geometry) (q : Placement) (n : ℕ) (ranked : List (ℕ × Move)) (i : ℕ) (x : ℕ × Move) → AllWon g q n ranked i → i < length ranked → x ≡ get_or ranked i x → Win g (play g q x.1) n → AllWon g q n ranked (i + 1)
-all_won_more g q n ranked i x h low is won k y under e = elim (split k i under) [
-  | inl s ↦
-      let at_i : y ≡ get_or ranked i y = subst (λ z. y ≡ get_or ranked z y) s e in
-      let same : x ≡ y = is ∙ (get_same ranked i x y low ∙ sym at_i) in
-      subst (λ (z : ℕ × Move). Win g (play g q z.1) n) same won
-  | inr less ↦ h k y less e
-]
+-- and so of each legal move
+pub below_all : (g : Geometry) (p : Placement) (P : Move → Type 0) (ranked : List (ℕ × Move)) (i : ℕ) → AreRanked g p ranked → length ranked ≤ i → Below P ranked i → (m : Move) → Legal g p m → P m
+below_all g p P ranked i all end h m legal =
+    let c = (all m).0 legal in
+    h c.1.0 (c.0, m) (omega (arith, c.1.1, end)) (sym c.1.2)
+
+-- no move at an index below i leaves a lost position; each leaves a win for the other side
+abbrev pub NoneLost : Geometry → Placement → ℕ → List (ℕ × Move) → ℕ → Type 0
+NoneLost g p n ranked i = Below (λ m. Lost g (play g p m) n → ⊥) ranked i
+
+abbrev pub AllWon : Geometry → Placement → ℕ → List (ℕ × Move) → ℕ → Type 0
+AllWon g q n ranked i = Below (λ r. Win g (play g q r) n) ranked i
 
 pub win_by : (g : Geometry) (p : Placement) (n : ℕ) (m : Move) → Legal g p m → Lost g (play g p m) n → Win g p (n + 1)
 win_by g p n m legal lost = rw add-one (m, legal, lost)
@@ -105,10 +109,4 @@ win_by g p n m legal lost = rw add-one (m, legal, lost)
 pub never_won : (g : Geometry) (p : Placement) (n : ℕ) (ranked : List (ℕ × Move)) (i : ℕ) → AreRanked g p ranked → length ranked ≤ i → NoneLost g p n ranked i → Win g p (n + 1) → ⊥
 never_won g p n ranked i all end none w =
     let w' : Win g p (suc n) = rw add-one at w in
-    let c = (all w'.0).0 w'.1 in
-    none c.1.0 (c.0, w'.0) (omega (arith, c.1.1, end)) (sym c.1.2) w'.2
-
-pub always_won : (g : Geometry) (q : Placement) (n : ℕ) (ranked : List (ℕ × Move)) (i : ℕ) → AreRanked g q ranked → length ranked ≤ i → AllWon g q n ranked i → Lost g q n
-always_won g q n ranked i all end won r legal =
-    let c = (all r).0 legal in
-    won c.1.0 (c.0, r) (omega (arith, c.1.1, end)) (sym c.1.2)
+    below_all g p (λ m. Lost g (play g p m) n → ⊥) ranked i all end none w'.0 w'.1 w'.2

@@ -1,12 +1,13 @@
 //! The search: attacker and defender in turn.
-ghost use Rattle.std.specs.Prelude.{◌≡◌, ◌≢◌, ℕ, ◌+◌, ◌*◌, ◌≤◌, ◌<◌, ◌↔◌, length, IfOk, OnOk, IfSome, IsSome, IsNone, ◌⊎◌, IsErrOf, IsTrue, Contains, cond};
+ghost use Rattle.std.specs.Prelude.{◌≡◌, ◌≢◌, ℕ, ◌+◌, ◌*◌, ◌≤◌, ◌<◌, ◌↔◌, length, IfOk, OnOk, IfSome, IsSome, IsNone, ◌⊎◌, IsErr, IsErrOf, IsTrue, Contains, cond};
 ghost use Rattle.dw_memo.specs.Bounding.{with_win, with_fail};
-ghost use Rattle.dw_memo.specs.Content.{SameEntries};
+ghost use Rattle.dw_memo.specs.Content.{IsMap, SameEntries};
 ghost use Rattle.dw_moves.specs.Moves.{Move, Legal, play};
 ghost use Rattle.dw_solve.specs.declared.stop.Stop.TheVariants.{Limit};
 ghost use Rattle.dw_solve.specs.Wins.{Win, Lost};
 ghost use Rattle.dw_solve.specs.Facts.{AreTrue, IsDecided, HasBounds};
 ghost use Rattle.dw_solve.specs.Searching.{IsCounted};
+ghost use Rattle.dw_solve.specs.Work.{moment, NothingLost, Searched, cut_off, SaysWin, SaysMove, SaysLost, IsNoted};
 ghost use Rattle.dw_solve.specs.Ranking.{AreRanked};
 
 use crate::guide::Guide;
@@ -44,6 +45,8 @@ pub(crate) fn wins<B: Board, M: Memo<B>, G: Guide<B>>(
     ensures count { IsCounted search.old.expanded search.old.limit search.new.expanded search.new.limit }
     ensures stop { IsErrOf result Limit → search.new.expanded ≡ search.new.limit }
     ensures spent { OnOk result (1 ≤ moves → (IsDecided (M.content search.old.memo) position.now moves → ⊥) → search.old.expanded < search.new.expanded) }
+    ensures searched { Searched B.geometry moves (cut_off result moves) (moment M.content M.dropped search.old.memo search.old.expanded) (moment M.content M.dropped search.new.memo search.new.expanded) }
+    ensures says { NothingLost (moment M.content M.dropped search.old.memo search.old.expanded) (moment M.content M.dropped search.new.memo search.new.expanded) → IfOk result (SaysWin (M.content search.new.memo) position.now moves) }
 {
     if let Some(answer) = known(search, position, moves) {
         return Ok(answer);
@@ -73,6 +76,8 @@ fn some_move_wins<B: Board, M: Memo<B>, G: Guide<B>>(
     ensures right { AreTrue B.geometry (M.content search.new.memo) }
     ensures count { IsCounted search.old.expanded search.old.limit search.new.expanded search.new.limit }
     ensures stop { IsErrOf result Limit → search.new.expanded ≡ search.new.limit }
+    ensures searched { Searched B.geometry moves (cut_off result moves) (moment M.content M.dropped search.old.memo search.old.expanded) (moment M.content M.dropped search.new.memo search.new.expanded) }
+    ensures says { NothingLost (moment M.content M.dropped search.old.memo search.old.expanded) (moment M.content M.dropped search.new.memo search.new.expanded) → IfOk result (SaysMove B.geometry (M.content search.new.memo) position.now moves) }
 {
     'moves: for candidate in ranked {
         let step = &candidate.1;
@@ -98,6 +103,8 @@ pub(crate) fn loses<B: Board, M: Memo<B>, G: Guide<B>>(
     ensures right { AreTrue B.geometry (M.content search.new.memo) }
     ensures count { IsCounted search.old.expanded search.old.limit search.new.expanded search.new.limit }
     ensures stop { IsErrOf result Limit → search.new.expanded ≡ search.new.limit }
+    ensures searched { Searched B.geometry moves (cut_off result moves) (moment M.content M.dropped search.old.memo search.old.expanded) (moment M.content M.dropped search.new.memo search.new.expanded) }
+    ensures says { NothingLost (moment M.content M.dropped search.old.memo search.old.expanded) (moment M.content M.dropped search.new.memo search.new.expanded) → IfOk result (SaysLost B.geometry (M.content search.new.memo) position.now moves) }
 {
     let (ply, rest) = plies.split_first_mut().unwrap();
     ply.fill(position, &search.guide)?;
@@ -125,6 +132,9 @@ pub(crate) fn known<B: Board, M: Memo<B>, G>(
     ensures sure { IsSome result → (moves ≡ 0) ⊎ IsDecided (M.content search.old.memo) position.now moves }
     ensures some { IsNone result → 1 ≤ moves }
     ensures open { IsNone result → IsDecided (M.content search.old.memo) position.now moves → ⊥ }
+    ensures map { IsNone result → IsMap (M.content search.old.memo) }
+    ensures searched { Searched B.geometry 0 0 (moment M.content M.dropped search.old.memo search.old.expanded) (moment M.content M.dropped search.new.memo search.new.expanded) }
+    ensures says { IfSome result (SaysWin (M.content search.new.memo) position.now moves) }
 {
     if moves == 0 {
         return Some(false);
@@ -142,6 +152,7 @@ fn count<M, G>(search: &mut Search<M, G>) -> Result<(), Stop>
     ensures limit { search.new.limit ≡ search.old.limit }
     ensures within { search.new.expanded ≤ search.new.limit }
     ensures more { OnOk result (search.new.expanded ≡ search.old.expanded + 1) }
+    ensures same { IsErr result → search.new.expanded ≡ search.old.expanded }
     ensures rises { search.old.expanded ≤ search.new.expanded }
     ensures stop { IsErrOf result Limit → search.new.expanded ≡ search.new.limit }
 {
@@ -164,6 +175,7 @@ fn note<B: Board, M: Memo<B>, G>(
     ensures right { AreTrue B.geometry (M.content search.new.memo) }
     ensures count { search.new.expanded ≡ search.old.expanded }
     ensures limit { search.new.limit ≡ search.old.limit }
+    ensures noted { IsNoted position.now moves won (moment M.content M.dropped search.old.memo search.old.expanded) (moment M.content M.dropped search.new.memo search.new.expanded) }
 {
     let bounds = bounds_now(&mut search.memo, position);
     search.memo.note(*position, joined(bounds, moves, won));
@@ -171,6 +183,7 @@ fn note<B: Board, M: Memo<B>, G>(
 
 /// The bounds of a position, which say nothing where it is not held.
 fn bounds_now<B: Board, M: Memo<B>>(memo: &mut M, position: &Position<B>) -> Bounds
+    ensures map { IsMap (M.content memo.old) }
     ensures bounds { HasBounds (M.content memo.old) position.now result }
     ensures same { SameEntries (M.content memo.old) (M.content memo.new) }
     ensures dropped { M.dropped memo.new ≡ M.dropped memo.old }

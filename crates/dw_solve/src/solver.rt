@@ -5,6 +5,7 @@ ghost use Rattle.dw_solve.specs.Wins.{Win, Lost};
 ghost use Rattle.dw_solve.specs.Facts.{AreTrue, IsDecided};
 ghost use Rattle.dw_solve.specs.Searching.{IsCounted};
 ghost use Rattle.dw_solve.specs.Solving.{IsLeast};
+ghost use Rattle.dw_solve.specs.Work.{moment, NothingLost, Searched, cut_off, SaysWin, SaysLost, SaysLeast};
 
 use crate::guide::Guide;
 use crate::ply::Ply;
@@ -100,6 +101,8 @@ impl<B: Board, M: Memo<B>, G: Guide<B>> Solver<B, M, G> {
         ensures stop { IsErrOf result Limit → self.new.expanded ≡ self.new.limit }
         ensures known { (moves ≡ 0) ⊎ IsDecided (M.content self.old.memo) position.now moves → IsOk result × (self.new.expanded ≡ self.old.expanded) }
         ensures spent { OnOk result (1 ≤ moves → (IsDecided (M.content self.old.memo) position.now moves → ⊥) → self.old.expanded < self.new.expanded) }
+        ensures searched { Searched B.geometry moves (cut_off result moves) (moment M.content M.dropped self.old.memo self.old.expanded) (moment M.content M.dropped self.new.memo self.new.expanded) }
+        ensures says { NothingLost (moment M.content M.dropped self.old.memo self.old.expanded) (moment M.content M.dropped self.new.memo self.new.expanded) → IfOk result (SaysWin (M.content self.new.memo) position.now moves) }
     {
         if let Some(answer) = known(&mut self.search, position, moves) {
             return Ok(answer);
@@ -117,6 +120,8 @@ impl<B: Board, M: Memo<B>, G: Guide<B>> Solver<B, M, G> {
         ensures right { AreTrue B.geometry (M.content self.new.memo) }
         ensures count { IsCounted self.old.expanded self.old.limit self.new.expanded self.new.limit }
         ensures stop { IsErrOf result Limit → self.new.expanded ≡ self.new.limit }
+        ensures searched { Searched B.geometry moves (cut_off result moves) (moment M.content M.dropped self.old.memo self.old.expanded) (moment M.content M.dropped self.new.memo self.new.expanded) }
+        ensures says { NothingLost (moment M.content M.dropped self.old.memo self.old.expanded) (moment M.content M.dropped self.new.memo self.new.expanded) → IfOk result (SaysLost B.geometry (M.content self.new.memo) position.now moves) }
     {
         let mut plies = prepared(alloc, self.plies.take())?;
         let answer = loses(&mut self.search, plies.as_mut_slice(), position, moves);
@@ -137,6 +142,8 @@ impl<B: Board, M: Memo<B>, G: Guide<B>> Solver<B, M, G> {
         ensures right { AreTrue B.geometry (M.content self.new.memo) }
         ensures count { IsCounted self.old.expanded self.old.limit self.new.expanded self.new.limit }
         ensures stop { IsErrOf result Limit → self.new.expanded ≡ self.new.limit }
+        ensures searched { Searched B.geometry most (cut_off result most) (moment M.content M.dropped self.old.memo self.old.expanded) (moment M.content M.dropped self.new.memo self.new.expanded) }
+        ensures says { NothingLost (moment M.content M.dropped self.old.memo self.old.expanded) (moment M.content M.dropped self.new.memo self.new.expanded) → IfOk result (λ _. SaysLeast (M.content self.new.memo) position.now most) }
     {
         // The check learns here what every solver keeps to, for the loop below.
         let _ = &self.search;

@@ -1,10 +1,14 @@
-use Rattle.std.proofs.Common.{◌≡◌, ◌+◌, length, refl, sym, subst, arith, inl, inr}
+use Rattle.std.proofs.Common.{◌≡◌, ◌+◌, ◌-◌, length, refl, sym, subst, arith, inl, inr}
 use Rattle.std.specs.List.{IsFirstAndRest}
 use Rattle.std.proofs.lemmas.Option.{MatchOption-at_some}
 use Rattle.dw_solve.specs.Wins.{Win, Lost}
 use Rattle.dw_solve.specs.Facts.{AreTrue}
 use Rattle.dw_solve.specs.Ranking.{AreRanked}
-use Rattle.dw_solve.proofs.RankLemmas.{ranked_legal, none_lost_more, all_won_more, win_by, never_won, always_won}
+use Rattle.dw_solve.specs.Work.{moment}
+use Rattle.dw_moves.specs.Moves.{play}
+use Rattle.dw_solve.proofs.RankLemmas.{ranked_legal, below_more, below_all, win_by, never_won}
+use Rattle.dw_solve.proofs.WorkLemmas.{searched_none, searched_wider, searched_stop, begun_is, wins_stopped, wins_ended}
+use Rattle.dw_solve.proofs.TriedLemmas.{Refuted, Answered, tried_none, refuted_more, answered_more, searched_after, says_winning, says_none, says_refuted, says_all}
 use Rattle.dw_solve.proofs.SearchLemmas.{counted_none, counted_then, is_so, is_not, answer_no, answer_yes}
 use Rattle.dw_solve.proofs.search.+search.Goals as goal
 
@@ -24,7 +28,10 @@ loses-wins-requires g t c κs within =
 pub loses-replies-init : goal.loses-replies-init
 loses-replies-init g t c = (
   c.requires.right,
-  (counted_none c.args.search.now.expanded c.args.search.now.limit c.requires.within, λ k x low e. absurd (omega (arith, low))),
+  (
+    counted_none c.args.search.now.expanded c.args.search.now.limit c.requires.within,
+    ((λ k x low e. absurd (omega (arith, low))), tried_none _ _ (Answered g.B.Board.geometry c.args.position.now c.args.moves) _ _),
+  ),
 )
 
 pub loses-replies-preserved : goal.loses-replies-preserved
@@ -34,7 +41,11 @@ loses-replies-preserved g t c =
       c.in_ok-wins.ensures.right,
       (
         counted_then _ _ _ _ _ _ c.replies.invariant.1.0 c.in_ok-wins.ensures.count,
-        all_won_more geo c.args.position.now c.args.moves c.as_slice-candidate-items.result.now c.replies.candidate-index c.candidate-item.result c.replies.invariant.1.1 c.replies-test.true c.candidate-item.is won,
+        (
+          below_more (λ r. Win geo (play geo c.args.position.now r) c.args.moves) c.as_slice-candidate-items.result.now c.replies.candidate-index c.candidate-item.result c.replies.invariant.1.1.0 c.replies-test.true c.candidate-item.is won,
+          answered_more geo c.args.moves c.args.position.now c.as_slice-candidate-items.result.now c.replies.candidate-index c.candidate-item.result c.play.result c.in_ok-wins.field-0 _ _ _
+              c.replies.invariant.1.1.1 c.replies-test.true c.candidate-item.is c.play.ensures c.if-not-branch.false c.in_ok-wins.ensures.searched c.in_ok-wins.ensures.says,
+        ),
       ),
     )
 
@@ -57,8 +68,8 @@ pub loses-returns-clause-answer : goal.loses-returns-clause-answer
 loses-returns-clause-answer g t c =
     let geo = g.B.Board.geometry in
     answer_yes (Lost geo c.args.position.now c.args.moves)
-    (always_won geo c.args.position.now c.args.moves c.as_slice-candidate-items.result.now c.replies.candidate-index
-    (subst (AreRanked geo c.args.position.now) (sym c.as_slice-candidate-items.ensures.value) c.in_ok-fill.ensures) c.replies-test.false c.replies.invariant.1.1)
+    (below_all geo c.args.position.now (λ r. Win geo (play geo c.args.position.now r) c.args.moves) c.as_slice-candidate-items.result.now c.replies.candidate-index
+    (subst (AreRanked geo c.args.position.now) (sym c.as_slice-candidate-items.ensures.value) c.in_ok-fill.ensures) c.replies-test.false c.replies.invariant.1.1.0)
 
 pub loses-returns-clause-right : goal.loses-returns-clause-right
 loses-returns-clause-right g t c = c.replies.invariant.0
@@ -79,7 +90,10 @@ some_move_wins-loses-requires g t c κs within =
 pub some_move_wins-moves-init : goal.some_move_wins-moves-init
 some_move_wins-moves-init g t c = (
   c.requires.right,
-  (counted_none c.args.search.now.expanded c.args.search.now.limit c.requires.within, λ k x low e lost. absurd (omega (arith, low))),
+  (
+    counted_none c.args.search.now.expanded c.args.search.now.limit c.requires.within,
+    ((λ k x low e lost. absurd (omega (arith, low))), tried_none _ _ (Refuted g.B.Board.geometry c.args.position.now c.args.moves) _ _),
+  ),
 )
 
 pub some_move_wins-moves-preserved : goal.some_move_wins-moves-preserved
@@ -88,8 +102,12 @@ some_move_wins-moves-preserved g t c =
       c.in_ok-loses.ensures.right,
       (
         counted_then _ _ _ _ _ _ c.moves.invariant.1.0 c.in_ok-loses.ensures.count,
-        none_lost_more geo c.args.position.now c.args.moves c.args.ranked.now c.moves.candidate-index c.candidate-item.result c.moves.invariant.1.1 c.moves-test.true c.candidate-item.is
-            (λ lost. is_not c.in_ok-loses.field-0 _ c.in_ok-loses.ensures.answer c.if-branch.false (subst (λ q. Lost geo q c.args.moves) (sym c.play.ensures) lost)),
+        (
+          below_more (λ m. Lost geo (play geo c.args.position.now m) c.args.moves → ⊥) c.args.ranked.now c.moves.candidate-index c.candidate-item.result c.moves.invariant.1.1.0 c.moves-test.true c.candidate-item.is
+              (λ lost. is_not c.in_ok-loses.field-0 _ c.in_ok-loses.ensures.answer c.if-branch.false (subst (λ q. Lost geo q c.args.moves) (sym c.play.ensures) lost)),
+          refuted_more geo c.args.moves c.args.position.now c.args.ranked.now c.moves.candidate-index c.candidate-item.result c.play.result c.in_ok-loses.field-0 _ _ _
+              c.moves.invariant.1.1.1 c.moves-test.true c.candidate-item.is c.play.ensures c.if-branch.false c.in_ok-loses.ensures.searched c.in_ok-loses.ensures.says,
+        ),
       ),
     )
 
@@ -110,7 +128,7 @@ some_move_wins-returns-then-branch-clause-count g t c = counted_then _ _ _ _ _ _
 pub some_move_wins-returns-clause-answer : goal.some_move_wins-returns-clause-answer
 some_move_wins-returns-clause-answer g t c =
     answer_no (Win g.B.Board.geometry c.args.position.now (c.args.moves + 1))
-    (never_won g.B.Board.geometry c.args.position.now c.args.moves c.args.ranked.now c.moves.candidate-index c.requires.ranked c.moves-test.false c.moves.invariant.1.1)
+    (never_won g.B.Board.geometry c.args.position.now c.args.moves c.args.ranked.now c.moves.candidate-index c.requires.ranked c.moves-test.false c.moves.invariant.1.1.0)
 
 pub some_move_wins-returns-clause-right : goal.some_move_wins-returns-clause-right
 some_move_wins-returns-clause-right g t c = c.moves.invariant.0
@@ -149,3 +167,85 @@ wins-some_move_wins-requires g t c κs within =
         ),
       ),
     )
+
+pub loses-returns-in_err-fill-clause-searched : goal.loses-returns-in_err-fill-clause-searched
+loses-returns-in_err-fill-clause-searched g t c = searched_none _ _ _ _
+
+pub loses-returns-in_err-wins-clause-searched : goal.loses-returns-in_err-wins-clause-searched
+loses-returns-in_err-wins-clause-searched g t c =
+    searched_stop g.B.Board.geometry c.args.moves c.from_residual-in_err-wins.result _ _ c.from_residual-in_err-wins.ensures.0
+    (searched_after _ _ c.args.moves _ _ _ c.replies.invariant.1.1.1.0 c.in_err-wins.ensures.searched)
+
+pub loses-returns-then-not-branch-clause-searched : goal.loses-returns-then-not-branch-clause-searched
+loses-returns-then-not-branch-clause-searched g t c = searched_after _ _ _ _ _ _ c.replies.invariant.1.1.1.0 c.in_ok-wins.ensures.searched
+
+pub loses-returns-then-not-branch-clause-says : goal.loses-returns-then-not-branch-clause-says
+loses-returns-then-not-branch-clause-says g t c =
+    let geo = g.B.Board.geometry in
+    let legal = ranked_legal geo c.args.position.now c.as_slice-candidate-items.result.now c.replies.candidate-index c.candidate-item.result
+    (subst (AreRanked geo c.args.position.now) (sym c.as_slice-candidate-items.ensures.value) c.in_ok-fill.ensures) c.replies-test.true c.candidate-item.is in
+    says_refuted geo c.args.moves c.args.position.now c.candidate-item.result.1 c.play.result c.in_ok-wins.field-0 _ _ _ c.replies.invariant.1.1.1.0 c.in_ok-wins.ensures.searched legal c.play.ensures c.if-not-branch.true c.in_ok-wins.ensures.says
+
+pub loses-returns-clause-searched : goal.loses-returns-clause-searched
+loses-returns-clause-searched g t c = c.replies.invariant.1.1.1.0
+
+pub loses-returns-clause-says : goal.loses-returns-clause-says
+loses-returns-clause-says g t c =
+    let geo = g.B.Board.geometry in
+    says_all geo c.args.moves c.args.position.now c.as_slice-candidate-items.result.now c.replies.candidate-index _ _
+    (subst (AreRanked geo c.args.position.now) (sym c.as_slice-candidate-items.ensures.value) c.in_ok-fill.ensures) c.replies-test.false c.replies.invariant.1.1.1
+
+pub some_move_wins-returns-in_err-loses-clause-searched : goal.some_move_wins-returns-in_err-loses-clause-searched
+some_move_wins-returns-in_err-loses-clause-searched g t c =
+    searched_stop g.B.Board.geometry c.args.moves c.from_residual.result _ _ c.from_residual.ensures.0
+    (searched_after _ _ c.args.moves _ _ _ c.moves.invariant.1.1.1.0 c.in_err-loses.ensures.searched)
+
+pub some_move_wins-returns-then-branch-clause-searched : goal.some_move_wins-returns-then-branch-clause-searched
+some_move_wins-returns-then-branch-clause-searched g t c = searched_after _ _ _ _ _ _ c.moves.invariant.1.1.1.0 c.in_ok-loses.ensures.searched
+
+pub some_move_wins-returns-then-branch-clause-says : goal.some_move_wins-returns-then-branch-clause-says
+some_move_wins-returns-then-branch-clause-says g t c =
+    let geo = g.B.Board.geometry in
+    let legal = ranked_legal geo c.args.position.now c.args.ranked.now c.moves.candidate-index c.candidate-item.result c.requires.ranked c.moves-test.true c.candidate-item.is in
+    says_winning geo c.args.moves c.args.position.now c.candidate-item.result.1 c.play.result c.in_ok-loses.field-0 _ _ _ c.moves.invariant.1.1.1.0 c.in_ok-loses.ensures.searched legal c.play.ensures c.if-branch.true c.in_ok-loses.ensures.says
+
+pub some_move_wins-returns-clause-searched : goal.some_move_wins-returns-clause-searched
+some_move_wins-returns-clause-searched g t c = c.moves.invariant.1.1.1.0
+
+pub some_move_wins-returns-clause-says : goal.some_move_wins-returns-clause-says
+some_move_wins-returns-clause-says g t c =
+    says_none g.B.Board.geometry c.args.moves c.args.position.now c.args.ranked.now c.moves.candidate-index _ _ c.requires.ranked c.moves-test.false c.moves.invariant.1.1.1
+
+pub wins-returns-in-Some-clause-searched : goal.wins-returns-in-Some-clause-searched
+wins-returns-in-Some-clause-searched g t c = searched_wider _ 0 c.args.moves 0 _ _ (omega arith) c.known.ensures.searched
+
+pub wins-returns-in_err-fill-clause-searched : goal.wins-returns-in_err-fill-clause-searched
+wins-returns-in_err-fill-clause-searched g t c =
+    let geo = g.B.Board.geometry in
+    searched_stop geo c.args.moves c.from_residual-in_err-fill.result _ _ c.from_residual-in_err-fill.ensures.0
+    (wins_stopped geo c.args.moves 0 _ (moment g.M.Memo.content g.M.Memo.dropped c.known.new.search.memo c.known.new.search.expanded) _ _ (c.in_default.ensures.some refl) (omega arith)
+    (begun_is g.M.Memo.content g.M.Memo.dropped _ _ _ _ c.count.ensures.memo c.in_ok-count.ensures.more) c.known.ensures.searched (searched_none _ _ _ _))
+
+pub wins-returns-in_err-won-clause-searched : goal.wins-returns-in_err-won-clause-searched
+wins-returns-in_err-won-clause-searched g t c =
+    let geo = g.B.Board.geometry in
+    let some = c.in_default.ensures.some refl in
+    searched_stop geo c.args.moves c.from_residual-in_err-won.result _ _ c.from_residual-in_err-won.ensures.0
+    (wins_stopped geo c.args.moves (c.args.moves - 1) _ (moment g.M.Memo.content g.M.Memo.dropped c.known.new.search.memo c.known.new.search.expanded) _ _ some (omega arith)
+    (begun_is g.M.Memo.content g.M.Memo.dropped _ _ _ _ c.count.ensures.memo c.in_ok-count.ensures.more) c.known.ensures.searched c.in_err-won.ensures.searched)
+
+pub wins-returns-clause-searched : goal.wins-returns-clause-searched
+wins-returns-clause-searched g t c =
+    let geo = g.B.Board.geometry in
+    let some = c.in_default.ensures.some refl in
+    (wins_ended geo c.args.moves c.args.position.now c.in_ok-won.won _ (moment g.M.Memo.content g.M.Memo.dropped c.known.new.search.memo c.known.new.search.expanded) _ (moment g.M.Memo.content g.M.Memo.dropped c.some_move_wins.new.search.memo c.some_move_wins.new.search.expanded) _ some
+    (begun_is g.M.Memo.content g.M.Memo.dropped _ _ _ _ c.count.ensures.memo c.in_ok-count.ensures.more) (c.in_default.ensures.open refl) (c.in_default.ensures.map refl)
+    c.known.ensures.searched c.in_ok-won.ensures.searched c.in_ok-won.ensures.says c.note.ensures.noted).searched
+
+pub wins-returns-clause-says : goal.wins-returns-clause-says
+wins-returns-clause-says g t c =
+    let geo = g.B.Board.geometry in
+    let some = c.in_default.ensures.some refl in
+    (wins_ended geo c.args.moves c.args.position.now c.in_ok-won.won _ (moment g.M.Memo.content g.M.Memo.dropped c.known.new.search.memo c.known.new.search.expanded) _ (moment g.M.Memo.content g.M.Memo.dropped c.some_move_wins.new.search.memo c.some_move_wins.new.search.expanded) _ some
+    (begun_is g.M.Memo.content g.M.Memo.dropped _ _ _ _ c.count.ensures.memo c.in_ok-count.ensures.more) (c.in_default.ensures.open refl) (c.in_default.ensures.map refl)
+    c.known.ensures.searched c.in_ok-won.ensures.searched c.in_ok-won.ensures.says c.note.ensures.noted).says

@@ -1,7 +1,9 @@
 use Rattle.std.proofs.Common.{◌+◌, ◌*◌}
 use Rattle.dw_solve.specs.Facts.{AreTrue}
 use Rattle.dw_solve.specs.Searching.{IsCounted}
+use Rattle.dw_solve.specs.Work.{moment}
 use Rattle.dw_solve.proofs.RankLemmas.{NoneLost, AllWon}
+use Rattle.dw_solve.proofs.TriedLemmas.{Tried, Refuted, Answered}
 use Rattle.dw_solve.proofs.search.+search.Given as goal
 
 abbrev pub decreases-wins : goal.decreases-wins
@@ -17,10 +19,16 @@ abbrev pub invariant-some_move_wins-moves : goal.invariant-some_move_wins-moves
 invariant-some_move_wins-moves g l =
     AreTrue g.B.Board.geometry (g.M.Memo.content l.search.memo)
     × (IsCounted l.initial.search.expanded l.initial.search.limit l.search.expanded l.search.limit
-    × NoneLost g.B.Board.geometry l.position l.moves l.ranked l.candidate-index)
+    × (NoneLost g.B.Board.geometry l.position l.moves l.ranked l.candidate-index
+    × Tried g.B.Board.geometry l.moves (Refuted g.B.Board.geometry l.position l.moves) l.ranked l.candidate-index
+    (moment g.M.Memo.content g.M.Memo.dropped l.initial.search.memo l.initial.search.expanded)
+    (moment g.M.Memo.content g.M.Memo.dropped l.search.memo l.search.expanded)))
 
 abbrev pub invariant-loses-replies : goal.invariant-loses-replies
 invariant-loses-replies g l =
     AreTrue g.B.Board.geometry (g.M.Memo.content l.search.memo)
     × (IsCounted l.initial.search.expanded l.initial.search.limit l.search.expanded l.search.limit
-    × AllWon g.B.Board.geometry l.position l.moves l.candidate-items l.candidate-index)
+    × (AllWon g.B.Board.geometry l.position l.moves l.candidate-items l.candidate-index
+    × Tried g.B.Board.geometry l.moves (Answered g.B.Board.geometry l.position l.moves) l.candidate-items l.candidate-index
+    (moment g.M.Memo.content g.M.Memo.dropped l.initial.search.memo l.initial.search.expanded)
+    (moment g.M.Memo.content g.M.Memo.dropped l.search.memo l.search.expanded)))

@@ -1,5 +1,7 @@
-use Rattle.std.proofs.Common.{inr}
-use Rattle.dw_solve.proofs.MemoLemmas.{decided_known, decided_right, same_true, undecided_open, unheld_open}
+use Rattle.std.proofs.Common.{inr, refl, sym}
+use Rattle.dw_memo.specs.Content.{entry}
+use Rattle.dw_solve.proofs.MemoLemmas.{decided_known, decided_right, decided_says, same_true, undecided_open, unheld_open}
+use Rattle.dw_solve.proofs.WorkLemmas.{searched_same}
 use Rattle.dw_solve.proofs.search.known.Goals as goal
 
 pub returns-in-Some-clause-answer : goal.returns-in-Some-clause-answer
@@ -19,3 +21,14 @@ returns-in-None-clause-open g c none = unheld_open (g.M.Memo.content c.args.sear
 
 pub returns-in-Some-clause-sure : goal.returns-in-Some-clause-sure
 returns-in-Some-clause-sure g c some = inr (decided_known (g.M.Memo.content c.args.search.now.memo) c.args.position.now c.in-Some.bounds c.args.moves c.decide.result c.in-Some.ensures.found c.decide.ensures.value some)
+
+pub returns-in-Some-clause-searched : goal.returns-in-Some-clause-searched
+returns-in-Some-clause-searched g c = searched_same g.B.Board.geometry 0 0 _ _ c.look.ensures.map c.look.ensures.same (sym c.look.ensures.dropped) refl
+
+pub returns-in-Some-clause-says : goal.returns-in-Some-clause-says
+returns-in-Some-clause-says g c =
+    let now = g.M.Memo.content c.look.new.self in
+    decided_says now c.args.position.now c.in-Some.bounds c.args.moves c.decide.result ((c.look.ensures.same (entry c.args.position.now c.in-Some.bounds)).0 c.in-Some.ensures.found) c.decide.ensures.value
+
+pub returns-in-None-clause-searched : goal.returns-in-None-clause-searched
+returns-in-None-clause-searched g c = searched_same g.B.Board.geometry 0 0 _ _ c.look.ensures.map c.look.ensures.same (sym c.look.ensures.dropped) refl

@@ -1,6 +1,8 @@
 use Rattle.std.proofs.Common.{◌≤◌, subst, arith}
 use Rattle.dw_solve.specs.Facts.{AreTrue}
 use Rattle.dw_solve.specs.Solving.{Solving}
+use Rattle.dw_solve.proofs.WorkLemmas.{searched_stop, searched_wider, searched_looser}
+use Rattle.dw_solve.proofs.TriedLemmas.{decided_none, decided_more, decided_by_win, decided_all, searched_after}
 use Rattle.dw_solve.proofs.SearchLemmas.{counted_none, counted_then, none_below_one, none_below_more, is_so, is_not}
 use Rattle.dw_solve.proofs.solver.Solver.least.Goals as goal
 
@@ -10,7 +12,7 @@ moves-init g c =
       subst (λ (s : Solving g.row.M.Denot). AreTrue geo (g.M.Memo.content s.memo)) c.self.view_is c.self.invariant.0,
       (
         counted_none c.args.self.now.expanded c.args.self.now.limit (subst (λ (s : Solving g.row.M.Denot). s.expanded ≤ s.limit) c.self.view_is c.self.invariant.1),
-        none_below_one geo c.args.position.now,
+        (none_below_one geo c.args.position.now, decided_none geo c.args.most c.args.position.now _),
       ),
     )
 
@@ -19,7 +21,11 @@ moves-preserved g c = (
   c.in_ok-wins.ensures.right,
   (
     counted_then _ _ _ _ _ _ c.moves.invariant.1.0 c.in_ok-wins.ensures.count,
-    none_below_more g.B.Board.geometry c.args.position.now c.moves.moves c.moves.invariant.1.1 (is_not c.in_ok-wins.field-0 _ c.in_ok-wins.ensures.answer c.if-branch.false),
+    (
+      none_below_more g.B.Board.geometry c.args.position.now c.moves.moves c.moves.invariant.1.1.0 (is_not c.in_ok-wins.field-0 _ c.in_ok-wins.ensures.answer c.if-branch.false),
+      decided_more g.B.Board.geometry c.args.most c.args.position.now c.moves.moves c.in_ok-wins.field-0 _ _ _ c.moves.auto.moves (omega (arith, c.moves-test.true)) c.if-branch.false
+          c.moves.invariant.1.1.1 c.in_ok-wins.ensures.searched c.in_ok-wins.ensures.says,
+    ),
   ),
 )
 
@@ -28,14 +34,14 @@ returns-then-branch-clause-answer g c = (
   c.moves.auto.moves,
   omega (arith, c.moves-test.true),
   is_so c.in_ok-wins.field-0 _ c.in_ok-wins.ensures.answer c.if-branch.true,
-  c.moves.invariant.1.1,
+  c.moves.invariant.1.1.0,
 )
 
 pub returns-then-branch-clause-count : goal.returns-then-branch-clause-count
 returns-then-branch-clause-count g c = counted_then _ _ _ _ _ _ c.moves.invariant.1.0 c.in_ok-wins.ensures.count
 
 pub returns-clause-answer : goal.returns-clause-answer
-returns-clause-answer g c = c.moves.invariant.1.1 c.args.most (omega (arith, c.moves-test.false))
+returns-clause-answer g c = c.moves.invariant.1.1.0 c.args.most (omega (arith, c.moves-test.false))
 
 pub returns-clause-right : goal.returns-clause-right
 returns-clause-right g c = c.moves.invariant.0
@@ -45,3 +51,24 @@ returns-clause-count g c = c.moves.invariant.1.0
 
 pub returns-in_err-wins-clause-count : goal.returns-in_err-wins-clause-count
 returns-in_err-wins-clause-count g c = counted_then _ _ _ _ _ _ c.moves.invariant.1.0 c.in_err-wins.ensures.count
+
+pub returns-then-branch-clause-searched : goal.returns-then-branch-clause-searched
+returns-then-branch-clause-searched g c =
+    searched_after _ c.args.most 0 _ _ _ c.moves.invariant.1.1.1.0 (searched_wider _ c.moves.moves c.args.most 0 _ _ (omega (arith, c.moves-test.true)) c.in_ok-wins.ensures.searched)
+
+pub returns-then-branch-clause-says : goal.returns-then-branch-clause-says
+returns-then-branch-clause-says g c =
+    decided_by_win g.B.Board.geometry c.args.most c.args.position.now c.moves.moves c.in_ok-wins.field-0 _ _ _ c.if-branch.true c.moves.invariant.1.1.1 c.in_ok-wins.ensures.searched c.in_ok-wins.ensures.says
+
+pub returns-clause-searched : goal.returns-clause-searched
+returns-clause-searched g c = c.moves.invariant.1.1.1.0
+
+pub returns-clause-says : goal.returns-clause-says
+returns-clause-says g c = decided_all g.B.Board.geometry c.args.most c.args.position.now c.moves.moves _ _ (omega (arith, c.moves-test.false)) c.moves.invariant.1.1.1
+
+pub returns-in_err-wins-clause-searched : goal.returns-in_err-wins-clause-searched
+returns-in_err-wins-clause-searched g c =
+    let within : c.moves.moves ≤ c.args.most = omega (arith, c.moves-test.true) in
+    searched_stop _ c.args.most c.from_residual.result _ _ c.from_residual.ensures.0
+    (searched_after _ c.args.most c.args.most _ _ _ c.moves.invariant.1.1.1.0
+    (searched_looser _ c.args.most c.moves.moves c.args.most _ _ within (searched_wider _ c.moves.moves c.args.most c.moves.moves _ _ within c.in_err-wins.ensures.searched)))
