@@ -1,17 +1,18 @@
 //! A plain solver on the generator of `bitboards.rs`, with no contracts: the yardstick for `dw_bench solve`.
 //!
-//!     rustc -O checks/solving.rs -o /tmp/solving && /tmp/solving < crates/dw_bench/data/problems
+//!     rustc -O checks/solving.rs -o /tmp/solving && /tmp/solving < crates/dw_bench/src/problems.rt
 //!
-//! It reads lines of a position and a number of moves, finds the least number of moves up to that one within which the
-//! side to move wins, and prints it behind the line with the positions expanded and the time. The table of what is known
-//! is empty at each problem; with the word `bare` there is none, and no order of moves.
+//! It reads positions in quotes, each behind the least number of moves within which the side to move is said to win, and
+//! prints the position, that number, the one that it finds up to it (0 for none), the positions expanded and the
+//! microseconds. It begins each problem with an empty table of what is known. With the word `bare` there is no table and no
+//! order of moves.
 
 #[path = "bitboards.rs"]
 #[allow(dead_code)]
 mod bitboards;
 
 use bitboards::{BOARD, Move, Position, legal_into, play, shifted, squares};
-use std::io::BufRead;
+use std::io::Read;
 use std::time::Instant;
 
 const SLOTS: usize = 1 << 20;
@@ -156,16 +157,25 @@ fn position_of(text: &str) -> Position {
     Position { men: [white.0, black.0], kings: [white.1, black.1], turn: usize::from(parts[0] == "B") }
 }
 
+/// The last number in a text, or the given one where there is none.
+fn last_number(text: &str, otherwise: u8) -> u8 {
+    let words = text.split(|c: char| !c.is_ascii_digit());
+    words.filter_map(|word| word.parse().ok()).last().unwrap_or(otherwise)
+}
+
 fn main() {
     let has_table = std::env::args().nth(1).is_none_or(|word| word != "bare");
-    for line in std::io::stdin().lock().lines() {
-        let line = line.unwrap();
-        let (text, most) = line.split_once(' ').unwrap();
-        let position = position_of(text);
+    let mut input = String::new();
+    std::io::stdin().read_to_string(&mut input).unwrap();
+    let parts: Vec<&str> = input.split('"').collect();
+    let mut most = 0;
+    for pair in parts.chunks_exact(2) {
+        most = last_number(pair[0], most);
+        let position = position_of(pair[1]);
         let mut solver = Solver::new(has_table);
         let start = Instant::now();
-        let least = (1..=most.parse().unwrap()).find(|moves| solver.wins(&position, *moves));
+        let least = (1..=most).find(|moves| solver.wins(&position, *moves)).unwrap_or(0);
         let micros = start.elapsed().as_micros();
-        println!("{line} {} {} {micros}", least.map_or(0, u64::from), solver.expanded);
+        println!("{} {most} {least} {} {micros}", pair[1], solver.expanded);
     }
 }

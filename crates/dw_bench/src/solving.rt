@@ -24,7 +24,7 @@ const MOST_MOVES: u8 = 6;
 const HELD: usize = 100_000;
 
 /// How many positions are expanded for one problem.
-const LIMIT: u64 = 5_000_000;
+const LIMIT: u64 = 500_000;
 
 /// Solves the problems whose least number of moves is not over the given one, with each memo.
 pub(crate) fn solve_problems(rt: &HostRuntime, moves: u8) -> anyhow::Result<()> {
