@@ -1,11 +1,9 @@
 //! Problems, solved and timed.
-ghost use Rattle.std.specs.Prelude.{◌≤◌};
-ghost use Rattle.dw_board.specs.declared.board.Ten.{Ten};
 ghost use Rattle.dw_solve.specs.Facts.{AreTrue};
 
 use crate::problems::PROBLEMS;
 use anyhow::Context;
-use dw_board::board::Ten;
+use dw_board::board::{Board, Ten};
 use dw_board::fen::read::read_fen;
 use dw_board::position::Position;
 use dw_memo::lru_memo::LruMemo;
@@ -50,13 +48,13 @@ fn solve_problem(rt: &HostRuntime, text: &str) -> anyhow::Result<()> {
 }
 
 /// Writes the least number of moves within which the side to move wins, and how fast that was found.
-fn solve_with<M: Memo<Ten> + Drop>(
+fn solve_with<B: Board, M: Memo<B> + Drop>(
     rt: &HostRuntime,
     name: &str,
     memo: M,
-    position: &Position<Ten>,
+    position: &Position<B>,
 ) -> anyhow::Result<()>
-    requires { AreTrue Ten.geometry (M.content memo) }
+    requires { AreTrue B.geometry (M.content memo) }
 {
     let start = Instant::now(rt)?;
     let mut solver = Solver::new(memo, ByTrial, LIMIT);
