@@ -7,21 +7,21 @@
 
 use std::time::Instant;
 
-const BOARD: u64 = 0x3ff7feffdffbff;
+pub const BOARD: u64 = 0x3ff7feffdffbff;
 const LAST_ROWS: [u64; 2] = [0x1f, 0x1f << 49];
 
-#[derive(Clone, Copy)]
-struct Position {
-    men: [u64; 2],
-    kings: [u64; 2],
-    turn: usize,
+#[derive(Clone, Copy, PartialEq)]
+pub struct Position {
+    pub men: [u64; 2],
+    pub kings: [u64; 2],
+    pub turn: usize,
 }
 
 #[derive(Clone, Copy, PartialEq)]
-struct Move {
-    from: u64,
-    to: u64,
-    taken: u64,
+pub struct Move {
+    pub from: u64,
+    pub to: u64,
+    pub taken: u64,
 }
 
 struct Found<'a> {
@@ -37,7 +37,7 @@ struct Taker {
 }
 
 /// The squares one step away; direction 3 - d leads back.
-fn shifted(squares: u64, direction: usize) -> u64 {
+pub fn shifted(squares: u64, direction: usize) -> u64 {
     let word = match direction {
         0 => squares >> 6,
         1 => squares >> 5,
@@ -87,7 +87,7 @@ fn walk(taker: &Taker, begun: Move, count: u32, found: &mut Found) {
     }
 }
 
-fn legal_into(position: &Position, moves: &mut Vec<Move>) {
+pub fn legal_into(position: &Position, moves: &mut Vec<Move>) {
     moves.clear();
     let (men, kings) = (position.men[position.turn], position.kings[position.turn]);
     let enemies = position.men[1 - position.turn] | position.kings[1 - position.turn];
@@ -121,7 +121,7 @@ fn legal_into(position: &Position, moves: &mut Vec<Move>) {
     });
 }
 
-fn play(position: &Position, step: &Move) -> Position {
+pub fn play(position: &Position, step: &Move) -> Position {
     let mut after = *position;
     let side = position.turn;
     after.men[1 - side] &= !step.taken;
@@ -152,7 +152,7 @@ fn moves_made(position: &Position, lists: &mut [Vec<Move>]) -> u64 {
     count
 }
 
-fn squares(numbers: impl IntoIterator<Item = u64>) -> u64 {
+pub fn squares(numbers: impl IntoIterator<Item = u64>) -> u64 {
     numbers.into_iter().fold(0, |set, s| set | 1 << (s - 1 + (s - 1) / 10))
 }
 

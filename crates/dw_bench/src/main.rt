@@ -1,14 +1,19 @@
-//! Counts the lines of play from some positions, ply by ply, and says how many moves a second are made.
-//! The counts go to standard output, the speeds to standard error. A word gives plies to add to each depth.
+//! Counts the lines of play from some positions, ply by ply, and solves problems; it says how many moves are made, and how many
+//! positions are expanded, a second. Counts and answers go to standard output, speeds to standard error.
+//!
+//! Without a word it does some of both. A number gives plies to add to the lines, `solve` asks for all problems.
 #![tactic(auto)]
 
 mod perft;
+mod problems;
+mod solving;
 
 use anyhow::Context;
 use dw_board::board::Ten;
 use dw_board::fen::read::read_fen;
 use dw_moves::moves::Move;
 use perft::{moves_made, perft};
+use solving::solve_problems;
 use std::env;
 use std::time::Instant;
 
@@ -31,24 +36,38 @@ const CASES: [Case; 3] = [
 /// The most plies that are added.
 const MOST_ADDED: usize = 4;
 
+/// Without a word, problems of so many moves are solved.
+const FEW_MOVES: u8 = 3;
+
+/// All problems have at most so many moves.
+const ALL_MOVES: u8 = 6;
+
 fn main(rt: HostRuntime) -> anyhow::Result<()> {
-    let added = plies_added(&rt)?;
-    for (text, plies) in CASES {
-        count_lines(&rt, text, plies.saturating_add(added))?;
+    let words = env::args(&rt)?.collect::<Vec<String>>(rt.alloc())?;
+    match words.get(1).map(String::as_str) {
+        None => {
+            count_all(&rt, 0)?;
+            solve_problems(&rt, FEW_MOVES)
+        }
+        Some("solve") => solve_problems(&rt, ALL_MOVES),
+        Some(word) => count_all(&rt, plies_added(word)?),
     }
-    Ok(())
 }
 
-/// The plies to add, by the first word.
-fn plies_added(rt: &HostRuntime) -> anyhow::Result<usize> {
-    let words = env::args(rt)?.collect::<Vec<String>>(rt.alloc())?;
-    let Some(word) = words.get(1) else {
-        return Ok(0);
-    };
+/// The plies to add that a word tells.
+fn plies_added(word: &str) -> anyhow::Result<usize> {
     let added = word
         .parse::<usize>()
         .context("the word is no number of plies")?;
     Ok(added.min(MOST_ADDED))
+}
+
+/// Counts the lines of all cases, with so many plies added.
+fn count_all(rt: &HostRuntime, added: usize) -> anyhow::Result<()> {
+    for (text, plies) in CASES {
+        count_lines(rt, text, plies.saturating_add(added))?;
+    }
+    Ok(())
 }
 
 /// Writes the number of lines of each length, and how fast all moves of the longest ones are made.

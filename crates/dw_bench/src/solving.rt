@@ -1,0 +1,73 @@
+//! Problems, solved and timed.
+ghost use Rattle.dw_solve.specs.Facts.{AreTrue};
+
+use crate::problems::PROBLEMS;
+use anyhow::Context;
+use dw_board::board::{Board, Ten};
+use dw_board::fen::read::read_fen;
+use dw_board::position::Position;
+use dw_memo::lru_memo::LruMemo;
+use dw_memo::memo::Memo;
+use dw_memo::no_memo::NoMemo;
+use dw_memo::slot_memo::SlotMemo;
+use dw_solve::guide::ByTrial;
+use dw_solve::solver::Solver;
+use dw_solve::stop::Stop;
+use std::time::Instant;
+
+/// Within how many moves wins are looked for.
+const MOST_MOVES: u8 = 6;
+
+/// How many positions a memo holds.
+const HELD: usize = 100_000;
+
+/// How many positions are expanded for one problem.
+const LIMIT: u64 = 500_000;
+
+/// Solves the problems whose least number of moves is not over the given one, with each memo.
+pub(crate) fn solve_problems(rt: &HostRuntime, moves: u8) -> anyhow::Result<()> {
+    for (least, texts) in PROBLEMS {
+        if least <= moves {
+            for text in texts {
+                solve_problem(rt, text)?;
+            }
+        }
+    }
+    Ok(())
+}
+
+/// Writes a problem, and what is found with each memo.
+fn solve_problem(rt: &HostRuntime, text: &str) -> anyhow::Result<()> {
+    let position = read_fen::<Ten>(text.as_bytes()).context("no FEN text")?;
+    println!(rt; "{text}")?;
+    solve_with(rt, "NoMemo", NoMemo::new(), &position)?;
+    let recent = LruMemo::new(rt.alloc(), HELD)?;
+    solve_with(rt, "LruMemo", recent, &position)?;
+    let slots = SlotMemo::new(rt.alloc(), HELD)?;
+    solve_with(rt, "SlotMemo", slots, &position)
+}
+
+/// Writes the least number of moves within which the side to move wins, and how fast that was found.
+fn solve_with<B: Board, M: Memo<B> + Drop>(
+    rt: &HostRuntime,
+    name: &str,
+    memo: M,
+    position: &Position<B>,
+) -> anyhow::Result<()>
+    requires { AreTrue B.geometry (M.content memo) }
+{
+    let start = Instant::now(rt)?;
+    let mut solver = Solver::new(memo, ByTrial, LIMIT);
+    let answer = solver.least(rt.alloc(), position, MOST_MOVES);
+    let micros = start.elapsed(rt)?.as_micros().max(1);
+    match answer {
+        Ok(Some(least)) => println!(rt; "{name} {least}")?,
+        Ok(None) => println!(rt; "{name} none")?,
+        Err(Stop::Limit) => println!(rt; "{name} limit")?,
+        Err(stop) => return Err(stop.into()),
+    }
+    let expanded = solver.expanded();
+    let speed = u128::from(expanded) * 1_000_000 / micros;
+    eprintln!(rt; "{name}: {expanded} expanded in {micros} microseconds: {speed} a second")?;
+    Ok(())
+}
