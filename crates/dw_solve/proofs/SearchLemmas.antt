@@ -1,10 +1,13 @@
 -- Steps of a search.
 use Rattle.std.proofs.Common.{◌≡◌, ℕ, ◌+◌, ◌≤◌, ◌<◌, ◌⊎◌, inl, inr, Bool, true, false, refl, sym, ◌∙◌, subst, ◌↔◌, arith, IsTrue}
+use Rattle.std.specs.Prelude.{not}
 use Rattle.std.proofs.lemmas.Bool.{true≢false}
 use Rattle.dw_board.specs.Geometry.{Geometry}
 use Rattle.dw_board.specs.Placement.{Placement}
 use Rattle.dw_memo.specs.Content.{Content, SameEntries}
-use Rattle.dw_solve.specs.Wins.{Win}
+use Rattle.dw_moves.specs.Moves.{Move, Legal}
+use Rattle.dw_solve.specs.Wins.{Win, Lost}
+use Rattle.dw_solve.specs.Work.{SaysLost}
 use Rattle.dw_solve.specs.Facts.{IsDecided}
 use Rattle.dw_solve.specs.Searching.{IsCounted}
 use Rattle.dw_solve.proofs.MemoLemmas.{same_win, same_fail}
@@ -47,3 +50,18 @@ none_below_more g p i h none j low w = elim (split j i low) [
 ] where
   split : (j i : ℕ) → j < i + 1 → (j ≡ i) ⊎ (j < i)
   split j i low = grind arith
+
+-- where no move of the attacker is left, a side has lost if it has no move
+pub lost_at_none : (g : Geometry) (q : Placement) (n : ℕ) (has : Bool) → n ≡ 0 → (IsTrue has ↔ ((m : Move) × Legal g q m)) → IsTrue (not has) ↔ Lost g q n
+lost_at_none g q n true none h = ((λ e. absurd (true≢false (sym e))), (λ lost. let m = h.0 refl in absurd (subst (λ k. Lost g q k) none lost m.0 m.1)))
+lost_at_none g q n false none h = ((λ e r legal. absurd (true≢false (sym (h.1 (r, legal))))), (λ lost. refl))
+
+pub says_at_none : (g : Geometry) (c : Content) (q : Placement) (n : ℕ) (has : Bool) → n ≡ 0 → (IsTrue has ↔ ((m : Move) × Legal g q m)) → SaysLost g c q n (not has)
+says_at_none g c q n true none h = record {
+  when = λ e. absurd (true≢false (sym e));
+  unless = λ e. let m = h.0 refl in (m.0, m.1, inl none);
+}
+says_at_none g c q n false none h = record {
+  when = λ e r legal. absurd (true≢false (sym (h.1 (r, legal))));
+  unless = λ e. absurd (e refl);
+}

@@ -10,15 +10,17 @@ ghost use Rattle.dw_solve.specs.Searching.{IsCounted};
 ghost use Rattle.dw_solve.specs.Work.{moment, NothingLost, Searched, cut_off, SaysWin, SaysMove, SaysLost, IsNoted};
 ghost use Rattle.dw_solve.specs.Ranking.{AreRanked};
 
-use crate::guide::Guide;
+use crate::guide::{AnyOrder, Guide};
 use crate::ply::Ply;
 use crate::stop::Stop;
 use dw_board::board::Board;
 use dw_board::position::Position;
 use dw_memo::bounds::Bounds;
 use dw_memo::memo::Memo;
+use dw_moves::best::has_move;
 use dw_moves::moves::Move;
 use dw_moves::play::play as played;
+use std::alloc::AllocError;
 
 /// What a search works on: a cache, an order of moves, and how many positions it has expanded and may expand.
 #[derive(Drop)]
@@ -53,7 +55,7 @@ pub(crate) fn wins<B: Board, M: Memo<B>, G: Guide<B>>(
     }
     count(search)?;
     let (ply, rest) = plies.split_first_mut().unwrap();
-    ply.fill(position, &search.guide)?;
+    line_up(ply, position, &search.guide, moves)?;
     let won = some_move_wins(search, rest, position, ply.ranked.as_slice(), moves - 1)?;
     note(search, position, moves, won);
     Ok(won)
@@ -106,6 +108,9 @@ pub(crate) fn loses<B: Board, M: Memo<B>, G: Guide<B>>(
     ensures searched { Searched B.geometry moves (cut_off result moves) (moment M.content M.dropped search.old.memo search.old.expanded) (moment M.content M.dropped search.new.memo search.new.expanded) }
     ensures says { NothingLost (moment M.content M.dropped search.old.memo search.old.expanded) (moment M.content M.dropped search.new.memo search.new.expanded) → IfOk result (SaysLost B.geometry (M.content search.new.memo) position.now moves) }
 {
+    if moves == 0 {
+        return Ok(!has_move(position));
+    }
     let (ply, rest) = plies.split_first_mut().unwrap();
     ply.fill(position, &search.guide)?;
     'replies: for candidate in ply.ranked.as_slice() {
@@ -115,6 +120,23 @@ pub(crate) fn loses<B: Board, M: Memo<B>, G: Guide<B>>(
         }
     }
     Ok(true)
+}
+
+/// Takes up the moves of the attacker. Where it is his last one, each is tried by a look for a reply, which costs less than
+/// the guide, so that their order saves nothing.
+fn line_up<B: Board, G: Guide<B>>(
+    ply: &mut Ply<B>,
+    position: &Position<B>,
+    guide: &G,
+    moves: u8,
+) -> Result<(), AllocError>
+    ensures { OnOk result (AreRanked B.geometry position.now ply.new.ranked.items) }
+{
+    if moves == 1 {
+        ply.fill(position, &AnyOrder)
+    } else {
+        ply.fill(position, guide)
+    }
 }
 
 /// Whether there is a win within so many moves, where that is known without a search.

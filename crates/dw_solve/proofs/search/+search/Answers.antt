@@ -9,7 +9,7 @@ use Rattle.dw_moves.specs.Moves.{play}
 use Rattle.dw_solve.proofs.RankLemmas.{ranked_legal, below_more, below_all, win_by, never_won}
 use Rattle.dw_solve.proofs.WorkLemmas.{searched_none, searched_wider, searched_stop, begun_is, wins_stopped, wins_ended}
 use Rattle.dw_solve.proofs.TriedLemmas.{Refuted, Answered, tried_none, refuted_more, answered_more, searched_after, says_winning, says_none, says_refuted, says_all}
-use Rattle.dw_solve.proofs.SearchLemmas.{counted_none, counted_then, is_so, is_not, answer_no, answer_yes}
+use Rattle.dw_solve.proofs.SearchLemmas.{lost_at_none, says_at_none, counted_none, counted_then, is_so, is_not, answer_no, answer_yes}
 use Rattle.dw_solve.proofs.search.+search.Goals as goal
 
 pub loses-play-requires : goal.loses-play-requires
@@ -157,7 +157,7 @@ wins-some_move_wins-requires g t c κs within =
           (
             within.1.1,
             (
-              subst (AreRanked geo c.args.position.now) (sym c.as_slice.ensures.value) c.in_ok-fill.ensures,
+              subst (AreRanked geo c.args.position.now) (sym c.as_slice.ensures.value) c.in_ok-line_up.ensures,
               (
                 subst (λ m. AreTrue geo (g.M.Memo.content m)) (sym c.count.ensures.memo) c.known.ensures.right,
                 (c.count.ensures.within, omega (arith, some, rest, c.requires.room)),
@@ -167,6 +167,16 @@ wins-some_move_wins-requires g t c κs within =
         ),
       ),
     )
+
+pub loses-returns-then-moves-eq0-clause-answer : goal.loses-returns-then-moves-eq0-clause-answer
+loses-returns-then-moves-eq0-clause-answer g t c = lost_at_none g.B.Board.geometry c.args.position.now c.args.moves c.has_move.result c.if-moves-eq0.true c.has_move.ensures
+
+pub loses-returns-then-moves-eq0-clause-searched : goal.loses-returns-then-moves-eq0-clause-searched
+loses-returns-then-moves-eq0-clause-searched g t c = searched_none g.B.Board.geometry c.args.moves 0 _
+
+pub loses-returns-then-moves-eq0-clause-says : goal.loses-returns-then-moves-eq0-clause-says
+loses-returns-then-moves-eq0-clause-says g t c kept =
+    says_at_none g.B.Board.geometry (g.M.Memo.content c.args.search.now.memo) c.args.position.now c.args.moves c.has_move.result c.if-moves-eq0.true c.has_move.ensures
 
 pub loses-returns-in_err-fill-clause-searched : goal.loses-returns-in_err-fill-clause-searched
 loses-returns-in_err-fill-clause-searched g t c = searched_none _ _ _ _
@@ -219,10 +229,10 @@ some_move_wins-returns-clause-says g t c =
 pub wins-returns-in-Some-clause-searched : goal.wins-returns-in-Some-clause-searched
 wins-returns-in-Some-clause-searched g t c = searched_wider _ 0 c.args.moves 0 _ _ (omega arith) c.known.ensures.searched
 
-pub wins-returns-in_err-fill-clause-searched : goal.wins-returns-in_err-fill-clause-searched
-wins-returns-in_err-fill-clause-searched g t c =
+pub wins-returns-in_err-line_up-clause-searched : goal.wins-returns-in_err-line_up-clause-searched
+wins-returns-in_err-line_up-clause-searched g t c =
     let geo = g.B.Board.geometry in
-    searched_stop geo c.args.moves c.from_residual-in_err-fill.result _ _ c.from_residual-in_err-fill.ensures.0
+    searched_stop geo c.args.moves c.from_residual-in_err-line_up.result _ _ c.from_residual-in_err-line_up.ensures.0
     (wins_stopped geo c.args.moves 0 _ (moment g.M.Memo.content g.M.Memo.dropped c.known.new.search.memo c.known.new.search.expanded) _ _ (c.in_default.ensures.some refl) (omega arith)
     (begun_is g.M.Memo.content g.M.Memo.dropped _ _ _ _ c.count.ensures.memo c.in_ok-count.ensures.more) c.known.ensures.searched (searched_none _ _ _ _))
 
