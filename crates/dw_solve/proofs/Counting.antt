@@ -1,17 +1,17 @@
 -- How many positions a content decides.
-use Rattle.std.proofs.Common.{◌≡◌, ℕ, ◌+◌, ◌≤◌, zero, suc, List, [], ◌∷◌, length, map, refl, sym, ◌∙◌, subst, ◌⊎◌, inl, inr, arith, true, Bool}
-use Rattle.std.specs.Prelude.{filter, ◌||◌}
-use Rattle.std.proofs.lemmas.Bool.{cases_Bool, leb-true, le-leb, or_cases, or_left, or_right}
+use Rattle.std.proofs.Common.{◌≡◌, ℕ, ◌+◌, ◌≤◌, zero, suc, List, [], ◌∷◌, length, map, refl, sym, subst, inl, inr, arith, true, ◌↔◌}
+use Rattle.std.specs.Prelude.{filter}
+use Rattle.std.proofs.lemmas.Bool.{cases_Bool, le-leb, or_cases, or_left, or_right}
 use Rattle.dw_board.specs.Placement.{Placement}
 use Rattle.dw_memo.specs.Bounding.{decides, fails_decide, wins_decide}
 use Rattle.dw_memo.specs.Content.{Entry, entry, Content, positions, IsMap, SameEntries}
 use Rattle.dw_memo.specs.Content as memo
 use Rattle.dw_moves.specs.Moves.{Member, NoRepeat}
 use Rattle.dw_moves.specs.MemberLaws.{mem_map, mem_map_back, mem_filter, mem_filter_back, no_more}
-use Rattle.dw_solve.specs.Facts.{KnownWin, KnownFail, IsDecided}
+use Rattle.dw_solve.specs.Facts.{IsDecided}
 use Rattle.dw_solve.specs.Work.{Stronger, decided_at, decided_to}
-use Rattle.dw_solve.proofs.MemberLemmas.{to, from, once}
-use Rattle.dw_solve.proofs.MemoLemmas.{option_cases, wins_known, fails_known, same_win, same_fail}
+use Rattle.dw_solve.proofs.MemberLemmas.{to, from, once, apart}
+use Rattle.dw_solve.proofs.MemoLemmas.{wins_known, fails_known}
 
 -- the entries that decide n, and their positions
 abbrev deciding : Content → ℕ → List Entry
@@ -64,6 +64,15 @@ decided_in c p n (inr h) =
     let e : Entry = h.entry in
     let t : fails_decide e.bounds.fails n ≡ true = rw h.is (le-leb n h.bound h.enough) in
     held_decides c e p n h.held h.about (or_right (wins_decide e.bounds.wins n) (fails_decide e.bounds.fails n) t)
+
+pub decided_counted : (c : Content) (n : ℕ) → IsMap c → (ps : List Placement) × memo.NoRepeat ps × ((p : Placement) → memo.Member p ps ↔ IsDecided c p n) × (length ps ≡ decided_at c n)
+decided_counted c n u =
+    let ps = decided_list c n in (
+      ps,
+      apart ps (decided_once c n (once (positions c) u)),
+      (λ p. ((λ m. decided_from c p n (to p ps m)), (λ h. from p ps (decided_in c p n h)))),
+      decided_length c n,
+    )
 
 stays_decided : (old new : Content) (p : Placement) (n : ℕ) → Stronger old new → IsDecided old p n → IsDecided new p n
 stays_decided old new p n s (inl h) = inl (s.wins p n h)

@@ -1,5 +1,5 @@
 -- Members of a cache's content, as members of a list of moves are: the laws of the one serve the other.
-use Rattle.std.proofs.Common.{◌≡◌, List, [], ◌∷◌, ◌⊎◌, inl, inr}
+use Rattle.std.proofs.Common.{List, [], ◌∷◌, inl, inr}
 use Rattle.dw_moves.specs.Moves.{Member, NoRepeat}
 use Rattle.dw_memo.specs.Content as memo
 
@@ -16,3 +16,7 @@ from x (y ∷ xs) (inr m) = inr (from x xs m)
 pub once : {X : Type 0} (xs : List X) → memo.NoRepeat xs → NoRepeat xs
 once [] u = tt
 once (x ∷ xs) u = ((λ m. u.0 (from x xs m)), once xs u.1)
+
+pub apart : {X : Type 0} (xs : List X) → NoRepeat xs → memo.NoRepeat xs
+apart [] u = tt
+apart (x ∷ xs) u = ((λ m. u.0 (to x xs m)), apart xs u.1)

@@ -11,7 +11,7 @@ use Rattle.dw_memo.specs.Content.{Entry, entry, Content, Member, positions, IsMa
 use Rattle.dw_memo.specs.Noting.{IsNote}
 use Rattle.dw_solve.specs.Wins.{Win}
 use Rattle.dw_solve.specs.Facts.{KnownWin, KnownFail, IsDecided, HasBounds, AreTrue}
-use Rattle.dw_solve.specs.Work.{SaysWin}
+use Rattle.dw_solve.specs.Saying.{SaysWin}
 use Rattle.dw_solve.proofs.WinLemmas.{Win-le}
 
 pub option_cases : {A : Type 0} → (o : Option A) → (o ≡ None) ⊎ ((x : A) × (o ≡ Some x))

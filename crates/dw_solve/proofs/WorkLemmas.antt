@@ -1,5 +1,5 @@
 -- The steps of a search: nothing, one after another, a note, and one expansion that ends or is cut off.
-use Rattle.std.proofs.Common.{◌≡◌, ℕ, ◌+◌, ◌-◌, ◌^◌, ◌<◌, ◌≤◌, zero, suc, List, [], ◌∷◌, ◌++◌, length, refl, sym, ap, ◌∙◌, subst, ◌⊎◌, inl, inr, arith, Some, Bool, true, false, IsTrue, length-append, Result, Ok, Err, IsErr}
+use Rattle.std.proofs.Common.{◌≡◌, ℕ, ◌+◌, ◌-◌, ◌^◌, ◌<◌, ◌≤◌, zero, suc, List, [], ◌∷◌, ◌++◌, length, refl, sym, ap, ◌∙◌, subst, ◌⊎◌, inl, inr, arith, Some, Bool, true, false, length-append, Result, Ok, Err, IsErr}
 use Rattle.std.specs.Prelude.{max, min, cond}
 use Rattle.std.proofs.lemmas.Bool.{cases_lt, true≢false}
 use Rattle.dw_board.specs.Geometry.{Geometry}
@@ -12,7 +12,9 @@ use Rattle.dw_memo.specs.Content.{Entry, entry, Content, Member, positions, IsMa
 use Rattle.dw_memo.specs.Noting.{IsPutIn, IsNote}
 use Rattle.dw_moves.specs.MemberLaws as laws
 use Rattle.dw_solve.specs.Facts.{KnownWin, KnownFail, IsDecided, HasBounds, IsClosed}
-use Rattle.dw_solve.specs.Work.{Moment, Stronger, decided_to, FewNew, LossIsCounted, NothingLost, Worked, Searched, cut_off, moment, SaysWin, SaysMove, IsNoted}
+use Rattle.dw_solve.specs.Work.{Moment, Stronger, decided_to, FewNew, LossIsCounted, NothingLost, Worked, Searched, cut_off, moment}
+use Rattle.dw_solve.specs.Saying.{SaysWin, SaysMove}
+use Rattle.dw_solve.specs.Searching.{IsNoted}
 use Rattle.dw_solve.proofs.MemberLemmas.{to, from}
 use Rattle.dw_solve.proofs.MemoLemmas.{option_cases, mem_map, same_entry, same_win, same_fail}
 use Rattle.dw_solve.proofs.Counting.{decided_grows, decided_rises, decided_to_grows}
@@ -123,11 +125,11 @@ searched_same g n cut a c u same lost expanded =
         growth = λ k h. let grows = decided_to_grows a.content c.content k u s in omega (arith, grows, expanded);
       };
     } where
-  same_closed : (g : Geometry) (c d : Content) → Stronger c d → ((e : Entry) → Member e d → Member e c) → IsClosed g c → IsClosed g d
-  same_closed g c d s back h = record {
-    wins = λ e m w is. let k = h.wins e (back e m) w is in (k.0, k.1, k.2, λ r l. s.wins _ _ (k.3 r l));
-    fails = λ e m f is some n l. let k = h.fails e (back e m) f is some n l in (k.0, k.1, elim k.2 [ inl e ↦ inl e | inr b ↦ inr (s.fails _ _ b) ]);
-  }
+      same_closed : (g : Geometry) (c d : Content) → Stronger c d → ((e : Entry) → Member e d → Member e c) → IsClosed g c → IsClosed g d
+      same_closed g c d s back h = record {
+        wins = λ e m w is. let k = h.wins e (back e m) w is in (k.0, k.1, k.2, λ r l. s.wins _ _ (k.3 r l));
+        fails = λ e m f is some n l. let k = h.fails e (back e m) f is some n l in (k.0, k.1, elim k.2 [ inl e ↦ inl e | inr b ↦ inr (s.fails _ _ b) ]);
+      }
 
 -- A NOTE, BY A MEMO THAT LOSES NOTHING
 

@@ -1,10 +1,11 @@
 -- Laws of forced wins, for every board.
-use Rattle.std.specs.Prelude.{ℕ, ◌≤◌, ◌⊎◌}
+use Rattle.std.specs.Prelude.{◌≡◌, ℕ, ◌+◌, ◌≤◌, ◌⊎◌, ◌↔◌, List, length}
 use Rattle.dw_board.specs.Geometry.{Geometry}
 use Rattle.dw_board.specs.Placement.{Placement}
-use Rattle.dw_memo.specs.Content.{Content}
+use Rattle.dw_memo.specs.Content.{Content, Member, NoRepeat, IsMap}
 use Rattle.dw_solve.specs.Wins.{Win, Lost}
-use Rattle.dw_solve.specs.Facts.{IsClosed, AreTrue}
+use Rattle.dw_solve.specs.Facts.{IsClosed, AreTrue, IsDecided}
+use Rattle.dw_solve.specs.Work.{Moment, decided_at, LossIsCounted, NothingLost, Searched}
 
 -- a win within m moves is one within any n that is no smaller, and so is a loss
 pub record WinsStay : Type 0 where
@@ -18,3 +19,15 @@ WinsAreDecided = (g : Geometry) (p : Placement) (n : ℕ) → Win g p n ⊎ (Win
 -- a closed content is true
 abbrev pub ClosedIsTrue : Type 0
 ClosedIsTrue = (g : Geometry) (c : Content) → IsClosed g c → AreTrue g c
+
+-- of a content that is a map, each position that is decided at n is counted, once
+abbrev pub DecidedAreCounted : Type 0
+DecidedAreCounted = (c : Content) (n : ℕ) → IsMap c →
+    (ps : List Placement) × NoRepeat ps × ((p : Placement) → Member p ps ↔ IsDecided c p n) × (length ps ≡ decided_at c n)
+
+-- searches one after another are one search, which lost nothing where none of them did
+pub record SearchesAddUp : Type 0 where
+  pub none : (g : Geometry) (n : ℕ) (a : Moment) → Searched g n 0 a a
+  pub next : (g : Geometry) (n s t : ℕ) (a b c : Moment) → Searched g n s a b → Searched g n t b c → Searched g n (s + t) a c
+  pub wider : (g : Geometry) (n k s : ℕ) (a b : Moment) → n ≤ k → Searched g n s a b → Searched g k s a b
+  pub parts : (a b c : Moment) → LossIsCounted a.lost b.lost → LossIsCounted b.lost c.lost → NothingLost a c → NothingLost a b × NothingLost b c

@@ -4,5 +4,6 @@ pub mod Laws
 pub mod Trial
 pub mod Ranking
 pub mod Work
+pub mod Saying
 pub mod Searching
 pub mod Solving

@@ -1,5 +1,5 @@
 //! Laws of the definitions, each the contract of a function that does nothing.
-ghost use Rattle.dw_solve.specs.Laws.{WinsStay, WinsAreDecided, ClosedIsTrue};
+ghost use Rattle.dw_solve.specs.Laws.{WinsStay, WinsAreDecided, ClosedIsTrue, DecidedAreCounted, SearchesAddUp};
 
 use dw_moves::laws::moves_listed;
 
@@ -18,4 +18,14 @@ pub fn wins_are_decided()
 /// Where each bound of a memo follows from others in one move and its replies, all of them are right.
 pub fn closed_is_true()
     ensures { ClosedIsTrue }
+{}
+
+/// What a memo is said to decide at some number of moves is the number of the positions that it decides.
+pub fn decided_are_counted()
+    ensures { DecidedAreCounted }
+{}
+
+/// Searches one after another are one search.
+pub fn searches_add_up()
+    ensures { SearchesAddUp }
 {}

@@ -6,8 +6,9 @@ ghost use Rattle.dw_moves.specs.Moves.{Move, Legal, play};
 ghost use Rattle.dw_solve.specs.declared.stop.Stop.TheVariants.{Limit};
 ghost use Rattle.dw_solve.specs.Wins.{Win, Lost};
 ghost use Rattle.dw_solve.specs.Facts.{AreTrue, IsDecided, HasBounds};
-ghost use Rattle.dw_solve.specs.Searching.{IsCounted};
-ghost use Rattle.dw_solve.specs.Work.{moment, NothingLost, Searched, cut_off, SaysWin, SaysMove, SaysLost, IsNoted};
+ghost use Rattle.dw_solve.specs.Searching.{IsCounted, IsNoted};
+ghost use Rattle.dw_solve.specs.Work.{moment, NothingLost, Searched, cut_off};
+ghost use Rattle.dw_solve.specs.Saying.{SaysWin, SaysMove, SaysLost};
 ghost use Rattle.dw_solve.specs.Ranking.{AreRanked};
 
 use crate::guide::{AnyOrder, Guide};

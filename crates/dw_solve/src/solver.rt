@@ -5,7 +5,8 @@ ghost use Rattle.dw_solve.specs.Wins.{Win, Lost};
 ghost use Rattle.dw_solve.specs.Facts.{AreTrue, IsDecided};
 ghost use Rattle.dw_solve.specs.Searching.{IsCounted};
 ghost use Rattle.dw_solve.specs.Solving.{IsLeast};
-ghost use Rattle.dw_solve.specs.Work.{moment, NothingLost, Searched, cut_off, SaysWin, SaysLost, SaysLeast};
+ghost use Rattle.dw_solve.specs.Work.{moment, NothingLost, Searched, cut_off};
+ghost use Rattle.dw_solve.specs.Saying.{SaysWin, SaysLost, SaysLeast};
 
 use crate::guide::Guide;
 use crate::ply::Ply;

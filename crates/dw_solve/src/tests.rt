@@ -70,4 +70,6 @@ fn laws_do_nothing(_rt: HostRuntime) {
     laws::wins_stay();
     laws::wins_are_decided();
     laws::closed_is_true();
+    laws::decided_are_counted();
+    laws::searches_add_up();
 }
