@@ -3,10 +3,11 @@
 
     python3 checks/edits.py [CRATE ..]      without a name: each crate that has a folder in checks/edits
 
-`rt ci` tries those in crates/CRATE/must-fail; more of them would take it too long. Those in checks/edits/CRATE are of the
-same form. This program copies the tracked files, as they are now, to a temporary folder, puts these edits in the place of the gate's, and
-runs `rt must-fail` there. Its exit status is this program's. What was built of the crates, crates/*/out, is copied too, so
-that the crates below are not built anew: run `rt all` first, or let it build them. An edit takes 15 to 40 s, the first of a crate some minutes.
+`rt ci` tries those in crates/CRATE/must-fail; more of them would take it too long. Those in checks/edits/CRATE have the
+same form. This program copies the tracked files, as they are now, to a temporary folder, puts these edits in the place of
+the gate's, and runs `rt must-fail` there. It ends with the status of that run: 0 where the prover refused each. What is built,
+crates/*/out, is copied too, so that the crates below are not proved again (`./dw` builds them). The first edit of a
+crate takes minutes, a further one 15 to 40 s.
 """
 import pathlib
 import shutil
