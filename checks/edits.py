@@ -1,0 +1,60 @@
+#!/usr/bin/env python3
+"""edits.py: tries the edits that the gate leaves out. The prover has to refuse each.
+
+    python3 checks/edits.py [CRATE ..]      without a name: each crate that has a folder in checks/edits
+
+`rt ci` tries those in crates/CRATE/must-fail; more of them would take it too long. Those in checks/edits/CRATE have the
+same form. This program copies the tracked files, as they are now, to a temporary folder, puts these edits in the place of
+the gate's, and runs `rt must-fail` there. It ends with the status of that run: 0 where the prover refused each. What is built,
+crates/*/out, is copied too, so that the crates below are not proved again (`./dw` builds them). The first edit of a
+crate takes minutes, a further one 15 to 40 s.
+"""
+import pathlib
+import shutil
+import subprocess
+import sys
+import tempfile
+
+TOP = pathlib.Path(__file__).resolve().parent.parent
+EDITS = TOP / "checks" / "edits"
+
+
+def copy_tracked(room):
+    listed = subprocess.run(["git", "ls-files", "-z"], cwd=TOP, stdout=subprocess.PIPE, text=True, check=True).stdout
+    for name in filter(None, listed.split("\0")):
+        if (TOP / name).is_file():
+            (room / name).parent.mkdir(parents=True, exist_ok=True)
+            shutil.copy2(TOP / name, room / name)
+
+
+def copy_built(room):
+    for built in TOP.glob("crates/*/out"):
+        shutil.copytree(built, room / built.relative_to(TOP), symlinks=True)
+
+
+def put_edits(room, crate):
+    folder = room / "crates" / crate / "must-fail"
+    shutil.rmtree(folder, ignore_errors=True)
+    folder.mkdir()
+    for edit in sorted((EDITS / crate).glob("*.edit")):
+        shutil.copy2(edit, folder)
+
+
+def main(words):
+    known = sorted(folder.name for folder in EDITS.iterdir() if folder.is_dir())
+    unknown = [word for word in words if word not in known]
+    if unknown:
+        print(f"edits.py: no edits of {' '.join(unknown)}; there are some of {' '.join(known)}", file=sys.stderr)
+        return 2
+    crates = words or known
+    with tempfile.TemporaryDirectory(prefix="dw-edits-") as name:
+        room = pathlib.Path(name)
+        copy_tracked(room)
+        copy_built(room)
+        for crate in crates:
+            put_edits(room, crate)
+        return subprocess.run(["rt", "must-fail", *crates], cwd=room, check=False).returncode
+
+
+if __name__ == "__main__":
+    sys.exit(main(sys.argv[1:]))
