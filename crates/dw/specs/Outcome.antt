@@ -2,7 +2,7 @@
 use Rattle.std.specs.Prelude.{ℕ, ◌==◌, nat_lt, if◌then◌else◌, Option, Some, None, Ok, Err}
 use Rattle.dw_report.specs.declared.settings.Summary.{Summary}
 use Rattle.dw_report.specs.declared.settings.RunFault.TheVariants.{Stopped, Read, Write}
-use Rattle.dw_report.specs.declared.settings.Stop.TheVariants.{Memory}
+use Rattle.dw_solve.specs.declared.stop.Stop.TheVariants.{Memory}
 use Rattle.dw.specs.declared.outcome.Ending.{Ending}
 use Rattle.dw.specs.declared.outcome.Ending.TheVariants as end
 use Rattle.dw.specs.declared.outcome.Message.{Message}

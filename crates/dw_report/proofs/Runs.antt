@@ -15,8 +15,8 @@ use Rattle.dw_report.specs.Report.{AreTexts, IsReportOn, chosen}
 use Rattle.dw_report.specs.Running.{RunEnds, TextEnds, IsPartOn, ended_by, is_asked, is_refused, up_to_asked}
 use Rattle.dw_report.specs.Writing.{Writes, WritesShort}
 use Rattle.dw_report.specs.declared.problem.TextFault.{TextFault}
-use Rattle.dw_report.specs.declared.settings.Stop.{Stop}
-use Rattle.dw_report.specs.declared.settings.Stop.TheVariants.{Memory}
+use Rattle.dw_solve.specs.declared.stop.Stop.{Stop}
+use Rattle.dw_solve.specs.declared.stop.Stop.TheVariants.{Memory}
 use Rattle.dw_report.specs.declared.settings.Settings.{Settings}
 use Rattle.dw_report.specs.declared.settings.Summary.{Summary}
 use Rattle.dw_report.specs.declared.settings.RunFault.TheVariants.{Stopped, Read, Write}

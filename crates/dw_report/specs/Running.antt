@@ -17,8 +17,8 @@ use Rattle.dw_report.specs.declared.settings.Command.{Command}
 use Rattle.dw_report.specs.declared.settings.Command.TheVariants.{Moves}
 use Rattle.dw_report.specs.declared.problem.TextFault.{TextFault}
 use Rattle.dw_report.specs.declared.problem.TextFault.TheVariants.{Sink}
-use Rattle.dw_report.specs.declared.settings.Stop.{Stop}
-use Rattle.dw_report.specs.declared.settings.Stop.TheVariants.{Memory}
+use Rattle.dw_solve.specs.declared.stop.Stop.{Stop}
+use Rattle.dw_solve.specs.declared.stop.Stop.TheVariants.{Memory}
 
 -- the problem that was asked for by its number
 abbrev pub is_asked : Option ℕ → Numbered → Bool

@@ -3,6 +3,7 @@ ghost use Rattle.std.specs.Prelude.{◌≡◌};
 ghost use Rattle.dw_report.specs.Chosen.{number_is_chosen, number_is_asked};
 
 use dw_notation::problems::Form;
+pub use dw_solve::stop::Stop;
 use thiserror::Error;
 
 /// What is reported of each problem.
@@ -56,17 +57,6 @@ pub struct Summary {
     pub shown: u32,
     /// Problems refused among those reported.
     pub refused: u32,
-}
-
-/// Why a run was stopped.
-#[derive(Clone, Copy, Debug, PartialEq, Eq, Error)]
-pub enum Stop {
-    /// Memory was refused.
-    #[error("1 memory")]
-    Memory,
-    /// The limit on the positions to expand was reached. No command meets it yet.
-    #[error("2 limit")]
-    Limit,
 }
 
 /// Why a run ended before its report was whole.
