@@ -1,14 +1,14 @@
 -- Steps of a search.
-use Rattle.std.proofs.Common.{◌≡◌, ℕ, ◌+◌, ◌≤◌, ◌<◌, ◌⊎◌, inl, inr, Bool, true, false, refl, sym, ◌∙◌, subst, ◌↔◌, arith, IsTrue}
+use Rattle.std.proofs.Common.{◌≡◌, ℕ, ◌+◌, ◌≤◌, ◌<◌, ◌⊎◌, inl, inr, Bool, true, false, refl, sym, ◌∙◌, subst, ◌↔◌, arith, IsTrue, Ok, Err}
 use Rattle.std.specs.Prelude.{not}
 use Rattle.std.proofs.lemmas.Bool.{true≢false}
 use Rattle.dw_board.specs.Geometry.{Geometry}
 use Rattle.dw_board.specs.Placement.{Placement}
 use Rattle.dw_memo.specs.Content.{Content, SameEntries}
-use Rattle.dw_moves.specs.Moves.{Move, Legal}
+use Rattle.dw_moves.specs.Moves.{Move, Legal, play}
 use Rattle.dw_solve.specs.Wins.{Win, Lost}
 use Rattle.dw_solve.specs.Saying.{SaysLost}
-use Rattle.dw_solve.specs.Facts.{IsDecided}
+use Rattle.dw_solve.specs.Facts.{IsDecided, RepliesAreDecided}
 use Rattle.dw_solve.specs.Searching.{IsCounted}
 use Rattle.dw_solve.proofs.MemoLemmas.{same_win, same_fail}
 
@@ -65,3 +65,33 @@ says_at_none g c q n false none h = record {
   when = λ e r legal. absurd (true≢false (sym (h.1 (r, legal))));
   unless = λ e. absurd (e refl);
 }
+
+-- what is decided is so in a memo with the same entries
+pub decided_same : (c d : Content) (p : Placement) (n : ℕ) → SameEntries c d → IsDecided c p n → IsDecided d p n
+decided_same c d p n same (inl w) = inl (same_win d c (λ e. ((same e).1, (same e).0)) p n w)
+decided_same c d p n same (inr f) = inr (same_fail d c (λ e. ((same e).1, (same e).0)) p n f)
+
+-- nothing is counted, and no entry changes
+abbrev pub Unchanged : Content → ℕ → Content → ℕ → Type 0
+Unchanged c e d f = (f ≡ e) × SameEntries c d
+
+pub unchanged_none : (c : Content) (e : ℕ) → Unchanged c e c e
+unchanged_none c e = (refl, λ x. ((λ m. m), (λ m. m)))
+
+pub unchanged_then : (a b c : Content) (e f h : ℕ) → Unchanged a e b f → Unchanged b f c h → Unchanged a e c h
+unchanged_then a b c e f h u v = (v.0 ∙ u.0, λ x. ((λ m. (v.1 x).0 ((u.1 x).0 m)), (λ m. (u.1 x).1 ((v.1 x).1 m))))
+
+-- a reply is asked about that is decided
+pub reply_decided : (g : Geometry) (c d : Content) (q p : Placement) (r : Move) (n e f : ℕ) → RepliesAreDecided g c q n → Unchanged c e d f → Legal g q r → p ≡ play g q r → (n ≡ 0) ⊎ IsDecided d p n
+reply_decided g c d q p r n e f all u legal at = elim (all r legal) [
+  | inl none ↦ inl none
+  | inr k ↦ inr (subst (λ z. IsDecided d z n) (sym at) (decided_same c d (play g q r) n u.1 k))
+]
+
+pub answered : {A E : Type 0} (x : A) (e : E) → Ok x ≡ Err e → ⊥
+answered x e q = cc
+
+-- what is searched is not decided
+pub never_known : (Q : Type 0) (n : ℕ) (P : Type 0) → 1 ≤ n → (P → ⊥) → (n ≡ 0) ⊎ P → Q
+never_known Q n P some unknown (inl none) = absurd (omega (arith, some, none))
+never_known Q n P some unknown (inr known) = absurd (unknown known)

@@ -30,6 +30,10 @@ pub record KnownWin (c : Content) (p : Placement) (w : ℕ) : Type 0 where
 abbrev pub IsDecided : Content → Placement → ℕ → Type 0
 IsDecided c p n = KnownWin c p n ⊎ KnownFail c p n
 
+-- and so it can after each reply, where there is a move left to win within
+abbrev pub RepliesAreDecided : Geometry → Content → Placement → ℕ → Type 0
+RepliesAreDecided g c q n = (r : Move) → Legal g q r → (n ≡ 0) ⊎ IsDecided c (play g q r) n
+
 -- the bounds of a position: those that it has in the memo, or none
 abbrev pub HasBounds : Content → Placement → Bounds → Type 0
 HasBounds c p b = Member (entry p b) c ⊎ ((b ≡ nothing) × (Member p (positions c) → ⊥))

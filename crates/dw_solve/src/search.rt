@@ -1,11 +1,11 @@
 //! The search: attacker and defender in turn.
-ghost use Rattle.std.specs.Prelude.{◌≡◌, ◌≢◌, ℕ, ◌+◌, ◌*◌, ◌≤◌, ◌<◌, ◌↔◌, length, IfOk, OnOk, IfSome, IsSome, IsNone, ◌⊎◌, IsErr, IsErrOf, IsTrue, Contains, cond};
+ghost use Rattle.std.specs.Prelude.{◌≡◌, ◌≢◌, ℕ, ◌+◌, ◌*◌, ◌≤◌, ◌<◌, ◌↔◌, length, IfOk, OnOk, IfSome, IsSome, IsNone, ◌⊎◌, IsOk, IsErr, IsErrOf, IsTrue, Contains, cond};
 ghost use Rattle.dw_memo.specs.Bounding.{with_win, with_fail};
 ghost use Rattle.dw_memo.specs.Content.{IsMap, SameEntries};
 ghost use Rattle.dw_moves.specs.Moves.{Move, Legal, play};
 ghost use Rattle.dw_solve.specs.declared.stop.Stop.TheVariants.{Limit};
 ghost use Rattle.dw_solve.specs.Wins.{Win, Lost};
-ghost use Rattle.dw_solve.specs.Facts.{AreTrue, IsDecided, HasBounds};
+ghost use Rattle.dw_solve.specs.Facts.{AreTrue, IsDecided, RepliesAreDecided, HasBounds};
 ghost use Rattle.dw_solve.specs.Searching.{IsCounted, IsNoted};
 ghost use Rattle.dw_solve.specs.Work.{moment, NothingLost, Searched, cut_off};
 ghost use Rattle.dw_solve.specs.Saying.{SaysWin, SaysMove, SaysLost};
@@ -50,6 +50,7 @@ pub(crate) fn wins<B: Board, M: Memo<B>, G: Guide<B>>(
     ensures spent { OnOk result (1 ≤ moves → (IsDecided (M.content search.old.memo) position.now moves → ⊥) → search.old.expanded < search.new.expanded) }
     ensures searched { Searched B.geometry moves (cut_off result moves) (moment M.content M.dropped search.old.memo search.old.expanded) (moment M.content M.dropped search.new.memo search.new.expanded) }
     ensures says { NothingLost (moment M.content M.dropped search.old.memo search.old.expanded) (moment M.content M.dropped search.new.memo search.new.expanded) → IfOk result (SaysWin (M.content search.new.memo) position.now moves) }
+    ensures known { (moves ≡ 0) ⊎ IsDecided (M.content search.old.memo) position.now moves → IsOk result × (search.new.expanded ≡ search.old.expanded) × SameEntries (M.content search.old.memo) (M.content search.new.memo) }
 {
     if let Some(answer) = known(search, position, moves) {
         return Ok(answer);
@@ -108,6 +109,7 @@ pub(crate) fn loses<B: Board, M: Memo<B>, G: Guide<B>>(
     ensures stop { IsErrOf result Limit → search.new.expanded ≡ search.new.limit }
     ensures searched { Searched B.geometry moves (cut_off result moves) (moment M.content M.dropped search.old.memo search.old.expanded) (moment M.content M.dropped search.new.memo search.new.expanded) }
     ensures says { NothingLost (moment M.content M.dropped search.old.memo search.old.expanded) (moment M.content M.dropped search.new.memo search.new.expanded) → IfOk result (SaysLost B.geometry (M.content search.new.memo) position.now moves) }
+    ensures known { RepliesAreDecided B.geometry (M.content search.old.memo) position.now moves → (IsErrOf result Limit → ⊥) × (search.new.expanded ≡ search.old.expanded) × SameEntries (M.content search.old.memo) (M.content search.new.memo) }
 {
     if moves == 0 {
         return Ok(!has_move(position));

@@ -2,7 +2,8 @@
 ghost use Rattle.std.specs.Prelude.{◌≡◌, ℕ, ◌≤◌, ◌<◌, ◌↔◌, ◌⊎◌, length, IfOk, OnOk, IsOk, IsErrOf, IsTrue};
 ghost use Rattle.dw_solve.specs.declared.stop.Stop.TheVariants.{Limit};
 ghost use Rattle.dw_solve.specs.Wins.{Win, Lost};
-ghost use Rattle.dw_solve.specs.Facts.{AreTrue, IsDecided};
+ghost use Rattle.dw_memo.specs.Content.{SameEntries};
+ghost use Rattle.dw_solve.specs.Facts.{AreTrue, IsDecided, RepliesAreDecided};
 ghost use Rattle.dw_solve.specs.Searching.{IsCounted};
 ghost use Rattle.dw_solve.specs.Solving.{IsLeast};
 ghost use Rattle.dw_solve.specs.Work.{moment, NothingLost, Searched, cut_off};
@@ -100,7 +101,7 @@ impl<B: Board, M: Memo<B>, G: Guide<B>> Solver<B, M, G> {
         ensures right { AreTrue B.geometry (M.content self.new.memo) }
         ensures count { IsCounted self.old.expanded self.old.limit self.new.expanded self.new.limit }
         ensures stop { IsErrOf result Limit → self.new.expanded ≡ self.new.limit }
-        ensures known { (moves ≡ 0) ⊎ IsDecided (M.content self.old.memo) position.now moves → IsOk result × (self.new.expanded ≡ self.old.expanded) }
+        ensures known { (moves ≡ 0) ⊎ IsDecided (M.content self.old.memo) position.now moves → IsOk result × (self.new.expanded ≡ self.old.expanded) × SameEntries (M.content self.old.memo) (M.content self.new.memo) }
         ensures spent { OnOk result (1 ≤ moves → (IsDecided (M.content self.old.memo) position.now moves → ⊥) → self.old.expanded < self.new.expanded) }
         ensures searched { Searched B.geometry moves (cut_off result moves) (moment M.content M.dropped self.old.memo self.old.expanded) (moment M.content M.dropped self.new.memo self.new.expanded) }
         ensures says { NothingLost (moment M.content M.dropped self.old.memo self.old.expanded) (moment M.content M.dropped self.new.memo self.new.expanded) → IfOk result (SaysWin (M.content self.new.memo) position.now moves) }
@@ -114,7 +115,8 @@ impl<B: Board, M: Memo<B>, G: Guide<B>> Solver<B, M, G> {
         answer
     }
 
-    /// Whether the side to move has lost: whatever it plays, the other wins within so many of its moves, 0 to 20.
+    /// Whether the side to move has lost: whatever it plays, the other wins within so many of its moves, 0 to 20. Where the
+    /// cache decides each reply, nothing is counted, and the limit is no hindrance.
     pub fn loses(&mut self, alloc: Global, position: &Position<B>, moves: u8) -> Result<bool, Stop>
         requires { moves ≤ 20 }
         ensures answer { IfOk result (λ yes. IsTrue yes ↔ Lost B.geometry position.now moves) }
@@ -123,6 +125,7 @@ impl<B: Board, M: Memo<B>, G: Guide<B>> Solver<B, M, G> {
         ensures stop { IsErrOf result Limit → self.new.expanded ≡ self.new.limit }
         ensures searched { Searched B.geometry moves (cut_off result moves) (moment M.content M.dropped self.old.memo self.old.expanded) (moment M.content M.dropped self.new.memo self.new.expanded) }
         ensures says { NothingLost (moment M.content M.dropped self.old.memo self.old.expanded) (moment M.content M.dropped self.new.memo self.new.expanded) → IfOk result (SaysLost B.geometry (M.content self.new.memo) position.now moves) }
+        ensures known { RepliesAreDecided B.geometry (M.content self.old.memo) position.now moves → (IsErrOf result Limit → ⊥) × (self.new.expanded ≡ self.old.expanded) × SameEntries (M.content self.old.memo) (M.content self.new.memo) }
     {
         let mut plies = prepared(alloc, self.plies.take())?;
         let answer = loses(&mut self.search, plies.as_mut_slice(), position, moves);
@@ -131,7 +134,8 @@ impl<B: Board, M: Memo<B>, G: Guide<B>> Solver<B, M, G> {
     }
 
     /// The least number of moves, from 1 to the given one, within which the side to move wins, or `None` where it has
-    /// no win within that number, which is at most 20.
+    /// no win within that number, which is at most 20. It is answered without memory and without an expansion where the
+    /// cache decides each of these numbers.
     pub fn least(
         &mut self,
         alloc: Global,
@@ -145,6 +149,7 @@ impl<B: Board, M: Memo<B>, G: Guide<B>> Solver<B, M, G> {
         ensures stop { IsErrOf result Limit → self.new.expanded ≡ self.new.limit }
         ensures searched { Searched B.geometry most (cut_off result most) (moment M.content M.dropped self.old.memo self.old.expanded) (moment M.content M.dropped self.new.memo self.new.expanded) }
         ensures says { NothingLost (moment M.content M.dropped self.old.memo self.old.expanded) (moment M.content M.dropped self.new.memo self.new.expanded) → IfOk result (λ _. SaysLeast (M.content self.new.memo) position.now most) }
+        ensures known { SaysLeast (M.content self.old.memo) position.now most → IsOk result × (self.new.expanded ≡ self.old.expanded) × SameEntries (M.content self.old.memo) (M.content self.new.memo) }
     {
         // The check learns here what every solver keeps to, for the loop below.
         let _ = &self.search;

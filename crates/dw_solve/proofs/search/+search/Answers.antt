@@ -1,4 +1,5 @@
 use Rattle.std.proofs.Common.{◌≡◌, ◌+◌, ◌-◌, length, refl, sym, subst, arith, inl, inr}
+use Rattle.std.proofs.lemmas.Bool.{true≢false}
 use Rattle.std.specs.List.{IsFirstAndRest}
 use Rattle.std.proofs.lemmas.Option.{MatchOption-at_some}
 use Rattle.dw_solve.specs.Wins.{Win, Lost}
@@ -9,7 +10,7 @@ use Rattle.dw_moves.specs.Moves.{play}
 use Rattle.dw_solve.proofs.RankLemmas.{ranked_legal, below_more, below_all, win_by, never_won}
 use Rattle.dw_solve.proofs.WorkLemmas.{searched_none, searched_wider, searched_stop, begun_is, wins_stopped, wins_ended}
 use Rattle.dw_solve.proofs.TriedLemmas.{Refuted, Answered, tried_none, refuted_more, answered_more, searched_after, says_winning, says_none, says_refuted, says_all}
-use Rattle.dw_solve.proofs.SearchLemmas.{lost_at_none, says_at_none, counted_none, counted_then, is_so, is_not, answer_no, answer_yes}
+use Rattle.dw_solve.proofs.SearchLemmas.{answered, never_known, unchanged_none, unchanged_then, reply_decided, lost_at_none, says_at_none, counted_none, counted_then, is_so, is_not, answer_no, answer_yes}
 use Rattle.dw_solve.proofs.search.+search.Goals as goal
 
 pub loses-play-requires : goal.loses-play-requires
@@ -30,13 +31,15 @@ loses-replies-init g t c = (
   c.requires.right,
   (
     counted_none c.args.search.now.expanded c.args.search.now.limit c.requires.within,
-    ((λ k x low e. absurd (omega (arith, low))), tried_none _ _ (Answered g.B.Board.geometry c.args.position.now c.args.moves) _ _),
+    ((λ k x low e. absurd (omega (arith, low))), tried_none _ _ (Answered g.B.Board.geometry c.args.position.now c.args.moves) _ _, λ all. unchanged_none _ _),
   ),
 )
 
 pub loses-replies-preserved : goal.loses-replies-preserved
 loses-replies-preserved g t c =
     let geo = g.B.Board.geometry in
+    let legal = ranked_legal geo c.args.position.now c.as_slice-candidate-items.result.now c.replies.candidate-index c.candidate-item.result
+    (subst (AreRanked geo c.args.position.now) (sym c.as_slice-candidate-items.ensures.value) c.in_ok-fill.ensures) c.replies-test.true c.candidate-item.is in
     let won = subst (λ q. Win geo q c.args.moves) c.play.ensures (is_so c.in_ok-wins.field-0 _ c.in_ok-wins.ensures.answer c.if-not-branch.false) in (
       c.in_ok-wins.ensures.right,
       (
@@ -45,6 +48,10 @@ loses-replies-preserved g t c =
           below_more (λ r. Win geo (play geo c.args.position.now r) c.args.moves) c.as_slice-candidate-items.result.now c.replies.candidate-index c.candidate-item.result c.replies.invariant.1.1.0 c.replies-test.true c.candidate-item.is won,
           answered_more geo c.args.moves c.args.position.now c.as_slice-candidate-items.result.now c.replies.candidate-index c.candidate-item.result c.play.result c.in_ok-wins.field-0 _ _ _
               c.replies.invariant.1.1.1 c.replies-test.true c.candidate-item.is c.play.ensures c.if-not-branch.false c.in_ok-wins.ensures.searched c.in_ok-wins.ensures.says,
+          λ all.
+              let before = c.replies.invariant.1.1.2 all in
+              let here = c.in_ok-wins.ensures.known (reply_decided geo _ _ c.args.position.now c.play.result c.candidate-item.result.1 c.args.moves _ _ all before legal c.play.ensures) in
+              unchanged_then _ _ _ _ _ _ before (here.1, here.2),
         ),
       ),
     )
@@ -259,3 +266,31 @@ wins-returns-clause-says g t c =
     (wins_ended geo c.args.moves c.args.position.now c.in_ok-won.won _ (moment g.M.Memo.content g.M.Memo.dropped c.known.new.search.memo c.known.new.search.expanded) _ (moment g.M.Memo.content g.M.Memo.dropped c.some_move_wins.new.search.memo c.some_move_wins.new.search.expanded) _ some
     (begun_is g.M.Memo.content g.M.Memo.dropped _ _ _ _ c.count.ensures.memo c.in_ok-count.ensures.more) (c.in_default.ensures.open refl) (c.in_default.ensures.map refl)
     c.known.ensures.searched c.in_ok-won.ensures.searched c.in_ok-won.ensures.says c.note.ensures.noted).says
+
+pub loses-returns-in_err-wins-clause-known : goal.loses-returns-in_err-wins-clause-known
+loses-returns-in_err-wins-clause-known g t c all =
+    let geo = g.B.Board.geometry in
+    let legal = ranked_legal geo c.args.position.now c.as_slice-candidate-items.result.now c.replies.candidate-index c.candidate-item.result
+    (subst (AreRanked geo c.args.position.now) (sym c.as_slice-candidate-items.ensures.value) c.in_ok-fill.ensures) c.replies-test.true c.candidate-item.is in
+    let before = c.replies.invariant.1.1.2 all in
+    let here = c.in_err-wins.ensures.known (reply_decided geo _ _ c.args.position.now c.play.result c.candidate-item.result.1 c.args.moves _ _ all before legal c.play.ensures) in
+    absurd (true≢false (sym here.0))
+
+pub loses-returns-then-not-branch-clause-known : goal.loses-returns-then-not-branch-clause-known
+loses-returns-then-not-branch-clause-known g t c all =
+    let geo = g.B.Board.geometry in
+    let legal = ranked_legal geo c.args.position.now c.as_slice-candidate-items.result.now c.replies.candidate-index c.candidate-item.result
+    (subst (AreRanked geo c.args.position.now) (sym c.as_slice-candidate-items.ensures.value) c.in_ok-fill.ensures) c.replies-test.true c.candidate-item.is in
+    let before = c.replies.invariant.1.1.2 all in
+    let here = c.in_ok-wins.ensures.known (reply_decided geo _ _ c.args.position.now c.play.result c.candidate-item.result.1 c.args.moves _ _ all before legal c.play.ensures) in
+    let after = unchanged_then _ _ _ _ _ _ before (here.1, here.2) in
+    ((λ none. answered _ _ none), after.0, after.1)
+
+pub loses-returns-clause-known : goal.loses-returns-clause-known
+loses-returns-clause-known g t c all = let u = c.replies.invariant.1.1.2 all in ((λ none. answered _ _ none), u.0, u.1)
+
+pub wins-returns-in_err-won-clause-known : goal.wins-returns-in_err-won-clause-known
+wins-returns-in_err-won-clause-known g t c = never_known _ c.args.moves _ (c.in_default.ensures.some refl) (c.in_default.ensures.open refl)
+
+pub wins-returns-clause-known : goal.wins-returns-clause-known
+wins-returns-clause-known g t c = never_known _ c.args.moves _ (c.in_default.ensures.some refl) (c.in_default.ensures.open refl)

@@ -1,7 +1,8 @@
 use Rattle.std.proofs.Common.{◌+◌, ◌*◌}
-use Rattle.dw_solve.specs.Facts.{AreTrue}
+use Rattle.dw_solve.specs.Facts.{AreTrue, RepliesAreDecided}
 use Rattle.dw_solve.specs.Searching.{IsCounted}
 use Rattle.dw_solve.specs.Work.{moment}
+use Rattle.dw_solve.proofs.SearchLemmas.{Unchanged}
 use Rattle.dw_solve.proofs.RankLemmas.{NoneLost, AllWon}
 use Rattle.dw_solve.proofs.TriedLemmas.{Tried, Refuted, Answered}
 use Rattle.dw_solve.proofs.search.+search.Given as goal
@@ -31,4 +32,6 @@ invariant-loses-replies g l =
     × (AllWon g.B.Board.geometry l.position l.moves l.candidate-items l.candidate-index
     × Tried g.B.Board.geometry l.moves (Answered g.B.Board.geometry l.position l.moves) l.candidate-items l.candidate-index
     (moment g.M.Memo.content g.M.Memo.dropped l.initial.search.memo l.initial.search.expanded)
-    (moment g.M.Memo.content g.M.Memo.dropped l.search.memo l.search.expanded)))
+    (moment g.M.Memo.content g.M.Memo.dropped l.search.memo l.search.expanded)
+    × (RepliesAreDecided g.B.Board.geometry (g.M.Memo.content l.initial.search.memo) l.position l.moves
+    → Unchanged (g.M.Memo.content l.initial.search.memo) l.initial.search.expanded (g.M.Memo.content l.search.memo) l.search.expanded)))

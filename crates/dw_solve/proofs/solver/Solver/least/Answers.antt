@@ -1,9 +1,10 @@
-use Rattle.std.proofs.Common.{◌≤◌, subst, arith}
+use Rattle.std.proofs.Common.{◌≤◌, subst, arith, refl, sym, inr}
+use Rattle.std.proofs.lemmas.Bool.{true≢false}
 use Rattle.dw_solve.specs.Facts.{AreTrue}
 use Rattle.dw_solve.specs.Solving.{Solving}
 use Rattle.dw_solve.proofs.WorkLemmas.{searched_stop, searched_wider, searched_looser}
 use Rattle.dw_solve.proofs.TriedLemmas.{decided_none, decided_more, decided_by_win, decided_all, searched_after}
-use Rattle.dw_solve.proofs.SearchLemmas.{counted_none, counted_then, none_below_one, none_below_more, is_so, is_not}
+use Rattle.dw_solve.proofs.SearchLemmas.{unchanged_none, unchanged_then, decided_same, counted_none, counted_then, none_below_one, none_below_more, is_so, is_not}
 use Rattle.dw_solve.proofs.solver.Solver.least.Goals as goal
 
 pub moves-init : goal.moves-init
@@ -12,7 +13,7 @@ moves-init g c =
       subst (λ (s : Solving g.row.M.Denot). AreTrue geo (g.M.Memo.content s.memo)) c.self.view_is c.self.invariant.0,
       (
         counted_none c.args.self.now.expanded c.args.self.now.limit (subst (λ (s : Solving g.row.M.Denot). s.expanded ≤ s.limit) c.self.view_is c.self.invariant.1),
-        (none_below_one geo c.args.position.now, decided_none geo c.args.most c.args.position.now _),
+        (none_below_one geo c.args.position.now, decided_none geo c.args.most c.args.position.now _, λ all. unchanged_none _ _),
       ),
     )
 
@@ -25,6 +26,10 @@ moves-preserved g c = (
       none_below_more g.B.Board.geometry c.args.position.now c.moves.moves c.moves.invariant.1.1.0 (is_not c.in_ok-wins.field-0 _ c.in_ok-wins.ensures.answer c.if-branch.false),
       decided_more g.B.Board.geometry c.args.most c.args.position.now c.moves.moves c.in_ok-wins.field-0 _ _ _ c.moves.auto.moves (omega (arith, c.moves-test.true)) c.if-branch.false
           c.moves.invariant.1.1.1 c.in_ok-wins.ensures.searched c.in_ok-wins.ensures.says,
+      λ all.
+          let before = c.moves.invariant.1.1.2 all in
+          let here = c.in_ok-wins.ensures.known (inr (decided_same _ _ c.args.position.now c.moves.moves before.1 (all c.moves.moves c.moves.auto.moves (omega (arith, c.moves-test.true))))) in
+          unchanged_then _ _ _ _ _ _ before (here.1, here.2),
     ),
   ),
 )
@@ -72,3 +77,19 @@ returns-in_err-wins-clause-searched g c =
     searched_stop _ c.args.most c.from_residual.result _ _ c.from_residual.ensures.0
     (searched_after _ c.args.most c.args.most _ _ _ c.moves.invariant.1.1.1.0
     (searched_looser _ c.args.most c.moves.moves c.args.most _ _ within (searched_wider _ c.moves.moves c.args.most c.moves.moves _ _ within c.in_err-wins.ensures.searched)))
+
+pub returns-then-branch-clause-known : goal.returns-then-branch-clause-known
+returns-then-branch-clause-known g c all =
+    let before = c.moves.invariant.1.1.2 all in
+    let here = c.in_ok-wins.ensures.known (inr (decided_same _ _ c.args.position.now c.moves.moves before.1 (all c.moves.moves c.moves.auto.moves (omega (arith, c.moves-test.true))))) in
+    let after = unchanged_then _ _ _ _ _ _ before (here.1, here.2) in
+    (refl, after.0, after.1)
+
+pub returns-clause-known : goal.returns-clause-known
+returns-clause-known g c all = let u = c.moves.invariant.1.1.2 all in (refl, u.0, u.1)
+
+pub returns-in_err-wins-clause-known : goal.returns-in_err-wins-clause-known
+returns-in_err-wins-clause-known g c all =
+    let before = c.moves.invariant.1.1.2 all in
+    let here = c.in_err-wins.ensures.known (inr (decided_same _ _ c.args.position.now c.moves.moves before.1 (all c.moves.moves c.moves.auto.moves (omega (arith, c.moves-test.true))))) in
+    absurd (true≢false (sym here.0))

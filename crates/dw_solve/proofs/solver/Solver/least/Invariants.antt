@@ -1,7 +1,8 @@
 use Rattle.dw_solve.specs.Facts.{AreTrue}
 use Rattle.dw_solve.specs.Searching.{IsCounted}
 use Rattle.dw_solve.specs.Work.{moment}
-use Rattle.dw_solve.proofs.SearchLemmas.{NoneBelow}
+use Rattle.dw_solve.specs.Saying.{SaysLeast}
+use Rattle.dw_solve.proofs.SearchLemmas.{NoneBelow, Unchanged}
 use Rattle.dw_solve.proofs.TriedLemmas.{AllDecided}
 use Rattle.dw_solve.proofs.solver.Solver.least.Given as goal
 
@@ -12,4 +13,6 @@ invariant-moves g l =
     × (NoneBelow g.B.Board.geometry l.position l.moves
     × AllDecided g.B.Board.geometry l.most l.position l.moves
     (moment g.M.Memo.content g.M.Memo.dropped l.initial.self.memo l.initial.self.expanded)
-    (moment g.M.Memo.content g.M.Memo.dropped l.self.memo l.self.expanded)))
+    (moment g.M.Memo.content g.M.Memo.dropped l.self.memo l.self.expanded)
+    × (SaysLeast (g.M.Memo.content l.initial.self.memo) l.position l.most
+    → Unchanged (g.M.Memo.content l.initial.self.memo) l.initial.self.expanded (g.M.Memo.content l.self.memo) l.self.expanded)))

@@ -1,4 +1,4 @@
-use Rattle.std.proofs.Common.{◌≡◌, ◌∙◌, ap, subst, arith}
+use Rattle.std.proofs.Common.{◌≡◌, ◌∙◌, ap, refl, subst, arith}
 use Rattle.std.proofs.lemmas.Result.{on_ok_weaker}
 use Rattle.dw_memo.specs.Content.{SameEntries}
 use Rattle.dw_solve.specs.Solving.{Solving}
@@ -23,3 +23,8 @@ returns-clause-searched g c =
     let looked = moment g.M.Memo.content g.M.Memo.dropped c.known.new.search.memo c.known.new.search.expanded in
     let first = subst (λ (s : Solving g.row.M.Denot). Searched geo 0 0 (moment g.M.Memo.content g.M.Memo.dropped s.memo s.expanded) looked) c.self.view_is c.known.ensures.searched in
     searched_after geo c.args.moves (cut_off c.wins-answer.result c.args.moves) _ looked _ (searched_wider geo 0 c.args.moves 0 _ looked (omega arith) first) c.wins-answer.ensures.searched
+
+pub returns-in-Some-clause-known : goal.returns-in-Some-clause-known
+returns-in-Some-clause-known g c decided =
+    let same = subst (λ (s : Solving g.row.M.Denot). SameEntries (g.M.Memo.content s.memo) (g.M.Memo.content c.known.new.search.memo)) c.self.view_is c.known.ensures.same in
+    (refl, c.known.ensures.count ∙ ap (λ (s : Solving g.row.M.Denot). s.expanded) c.self.view_is, same)

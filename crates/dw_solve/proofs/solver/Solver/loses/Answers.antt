@@ -1,0 +1,16 @@
+use Rattle.std.proofs.Common.{◌≡◌, IsErrOf, subst}
+use Rattle.dw_memo.specs.Content.{SameEntries}
+use Rattle.dw_solve.specs.declared.stop.Stop.TheVariants.{Limit}
+use Rattle.dw_solve.specs.Facts.{RepliesAreDecided}
+use Rattle.dw_solve.specs.Solving.{Solving}
+use Rattle.dw_solve.proofs.solver.Solver.loses.Goals as goal
+
+pub returns-clause-known : goal.returns-clause-known
+returns-clause-known g c =
+    let content = g.M.Memo.content in
+    let after = c.loses-answer.new.search in
+    subst
+    (λ (s : Solving g.row.M.Denot).
+    RepliesAreDecided g.B.Board.geometry (content s.memo) c.args.position.now c.args.moves →
+    (IsErrOf c.loses-answer.result Limit → ⊥) × (after.expanded ≡ s.expanded) × SameEntries (content s.memo) (content after.memo))
+    c.self.view_is c.loses-answer.ensures.known
