@@ -1,6 +1,6 @@
 //! Texts of draughts: where bytes come from and go, and the problems of a byte text.
 //!
-//! Everything is generic over the board. No call but `read_move` takes memory.
+//! Everything is generic over the board. Only `line_text` takes memory, and `read_move` at two squares joined by `x`.
 #![tactic(auto)]
 
 pub mod laws;

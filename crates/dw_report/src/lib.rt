@@ -1,4 +1,6 @@
 //! The report on the problems of a source.
+//!
+//! The sources, sinks and problems that a run works on are those of `dw_notation`, and stand here under the same names.
 #![tactic(auto)]
 
 pub mod laws;
@@ -8,3 +10,5 @@ pub mod settings;
 #[cfg(test)]
 mod tests;
 mod text;
+
+pub use dw_notation::{problems, streams};

@@ -8,8 +8,8 @@ use dw_board::board::Board;
 use dw_board::position::Position;
 use dw_moves::moves::Move;
 
-/// Ranks moves: those of a lower rank are tried first, but for the last ones of the attacker, which take less time than their
-/// ranks. No answer of a search depends on it.
+/// Ranks moves: those of a lower rank are tried first, if they leave the attacker two further moves or more. With fewer,
+/// going through them costs less than their ranks. No answer of a search depends on it.
 pub trait Guide<B: Board> {
     /// The rank of a legal move.
     fn rank(&self, position: &Position<B>, step: &Move<B>) -> u32

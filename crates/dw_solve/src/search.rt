@@ -57,7 +57,7 @@ pub(crate) fn wins<B: Board, M: Memo<B>, G: Guide<B>>(
     }
     count(search)?;
     let (ply, rest) = plies.split_first_mut().unwrap();
-    line_up(ply, position, &search.guide, moves)?;
+    line_up(ply, position, &search.guide, moves - 1)?;
     let won = some_move_wins(search, rest, position, ply.ranked.as_slice(), moves - 1)?;
     note(search, position, moves, won);
     Ok(won)
@@ -102,7 +102,7 @@ pub(crate) fn loses<B: Board, M: Memo<B>, G: Guide<B>>(
 ) -> Result<bool, Stop>
     requires right { AreTrue B.geometry (M.content search.old.memo) }
     requires within { search.old.expanded ≤ search.old.limit }
-    requires room { 2 * moves + 1 ≤ length plies.old }
+    requires room { 0 < moves → 2 * moves + 1 ≤ length plies.old }
     ensures answer { IfOk result (λ yes. IsTrue yes ↔ Lost B.geometry position.now moves) }
     ensures right { AreTrue B.geometry (M.content search.new.memo) }
     ensures count { IsCounted search.old.expanded search.old.limit search.new.expanded search.new.limit }
@@ -115,7 +115,7 @@ pub(crate) fn loses<B: Board, M: Memo<B>, G: Guide<B>>(
         return Ok(!has_move(position));
     }
     let (ply, rest) = plies.split_first_mut().unwrap();
-    ply.fill(position, &search.guide)?;
+    line_up(ply, position, &search.guide, moves)?;
     'replies: for candidate in ply.ranked.as_slice() {
         let reply = &candidate.1;
         if !wins(search, rest, &played(position, reply), moves)? {
@@ -125,8 +125,8 @@ pub(crate) fn loses<B: Board, M: Memo<B>, G: Guide<B>>(
     Ok(true)
 }
 
-/// Takes up the moves of the attacker. Where it is his last one, each is tried by a look for a reply, which costs less than
-/// the guide, so that their order saves nothing.
+/// Takes up the moves of a side that leave the attacker so many further ones: in the guide's order if there are two or more.
+/// With one or none left, going through them costs less than their ranks.
 fn line_up<B: Board, G: Guide<B>>(
     ply: &mut Ply<B>,
     position: &Position<B>,
@@ -135,7 +135,7 @@ fn line_up<B: Board, G: Guide<B>>(
 ) -> Result<(), AllocError>
     ensures { OnOk result (AreRanked B.geometry position.now ply.new.ranked.items) }
 {
-    if moves == 1 {
+    if moves <= 1 {
         ply.fill(position, &AnyOrder)
     } else {
         ply.fill(position, guide)
