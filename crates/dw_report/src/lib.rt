@@ -5,6 +5,4 @@ pub mod laws;
 pub mod problem;
 pub mod run;
 pub mod settings;
-#[cfg(test)]
-mod tests;
 mod text;
