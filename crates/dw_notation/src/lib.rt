@@ -9,6 +9,4 @@ pub mod move_text;
 pub mod problems;
 pub mod read_move;
 pub mod streams;
-#[cfg(test)]
-mod tests;
 pub mod writes;

@@ -7,8 +7,6 @@ pub mod laws;
 pub mod problem;
 pub mod run;
 pub mod settings;
-#[cfg(test)]
-mod tests;
 mod text;
 
 pub use dw_notation::{problems, streams};

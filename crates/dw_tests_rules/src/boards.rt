@@ -13,7 +13,6 @@ use dw_board::square::{Square, step};
 use dw_board::squares::Squares;
 use std::fmt::Write;
 use std::process::Abort;
-use std::test::Fail;
 
 pub(crate) fn square_of<B: Board>(rt: &impl Abort, number: u8) -> Square<B> {
     Square::new(number).expect(rt, "a square")
@@ -419,16 +418,14 @@ const LONG_READ: [(&str, u16, &str); 3] = [
 ];
 
 #[test]
-fn long_texts(rt: HostRuntime) -> Result<(), Fail> {
+fn long_texts(rt: HostRuntime) {
     for (front, blanks, wanted) in &LONG_READ {
-        let mut text = Vec::from_slice(rt.alloc(), front.as_bytes())?;
+        let mut text = ArrayString::<1025>::new();
+        assert!(rt; text.try_push_str(front).is_ok());
         for _ in 0..*blanks {
-            text.push(b' ')?;
+            assert!(rt; text.try_push_str(" ").is_ok());
         }
-        assert!(rt;
-            read::<Ten>(text.as_slice()).as_str() == *wanted,
-            "{blanks} blanks"
-        );
+        let found = read::<Ten>(text.as_str().as_bytes());
+        assert!(rt; found.as_str() == *wanted, "{blanks} blanks");
     }
-    Ok(())
 }

@@ -1,6 +1,6 @@
 use Rattle.std.proofs.Common.{ap, ◌∙◌, subst}
 use Rattle.dw_moves.specs.Moves.{Legal, play}
-use Rattle.dw_notation.proofs.tests.texts.line_of.Goals as goal
+use Rattle.dw_tests.proofs.notation.line_of.Goals as goal
 
 pub line_text-requires-clause-legal : goal.line_text-requires-clause-legal
 line_text-requires-clause-legal g c =
@@ -9,6 +9,11 @@ line_text-requires-clause-legal g c =
       c.move_of-first.ensures,
       (
         subst (λ z. Legal geo z reply) c.play-after.ensures c.move_of-reply.ensures,
-        (subst (λ z. Legal geo z c.move_of-last.result) (c.play-next.ensures ∙ ap (λ z. play geo z reply) c.play-after.ensures) c.move_of-last.ensures, tt),
+        (
+          subst (λ z. Legal geo z c.move_of-last.result)
+              (c.play-next.ensures ∙ ap (λ z. play geo z reply) c.play-after.ensures)
+              c.move_of-last.ensures,
+          tt,
+        ),
       ),
     )
