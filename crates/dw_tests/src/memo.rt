@@ -91,18 +91,22 @@ fn check_notes<B: Board, M: Memo<B>>(rt: &impl Abort, memo: &mut M, answer: Note
     }
 }
 
+/// A size, and what such a cache of each kind does.
+const SIZES: [(usize, &[Note], &[Note]); 5] = [
+    (1, &AGAIN, &AGAIN),
+    (2, &AGAIN, &AGAIN),
+    (1_000, &AGAIN, &AGAIN),
+    (1, &ONE, &ONE),
+    (2, &TWO, &[]),
+];
+
 fn check_memos<B: Board>(rt: &impl Abort, alloc: Global) {
     check_notes::<B, NoMemo>(rt, &mut NoMemo::new(), Noted::NotKept, &NONE);
-    for (size, recent, slots) in [
-        (1, &AGAIN as &[Note], &AGAIN as &[Note]),
-        (2, &AGAIN, &AGAIN),
-        (1000, &AGAIN, &AGAIN),
-        (1, &ONE, &ONE),
-        (2, &TWO, &[]),
-    ] {
-        let mut memo = LruMemo::<B>::new(alloc, size).expect(rt, "memory");
+    for (size, recent, slots) in &SIZES {
+        assert!(rt; 1 <= *size && *size <= 1_000);
+        let mut memo = LruMemo::<B>::new(alloc, *size).expect(rt, "memory");
         check_notes(rt, &mut memo, Noted::Kept, recent);
-        let mut memo = SlotMemo::<B>::new(alloc, size).expect(rt, "memory");
+        let mut memo = SlotMemo::<B>::new(alloc, *size).expect(rt, "memory");
         check_notes(rt, &mut memo, Noted::Kept, slots);
     }
 }
@@ -152,14 +156,13 @@ fn check_slots<B: Board>(rt: &impl Abort, alloc: Global) {
         for ((other, fails), was_held) in KINGS.iter().zip(held.iter_mut()) {
             let found = memo.look(&position_of(rt, other));
             let is_held = found == Some(Bounds::default().with_fail(*fails));
-            assert!(rt;
-                is_held || found.is_none() && fails != number,
-                "{other} after {text}"
-            );
-            assert!(rt;
-                !is_held || *was_held || fails == number,
-                "{other} after {text}"
-            );
+            let was_there = *was_held || fails == number;
+            let is_right = if is_held {
+                was_there
+            } else {
+                found.is_none() && fails != number
+            };
+            assert!(rt; is_right, "{other} after {text}");
             lost = lost.wrapping_add(u64::from(*was_held && !is_held));
             *was_held = is_held;
         }

@@ -308,13 +308,14 @@ fn known_wins_cost_nothing(rt: HostRuntime) {
     let position = position_of::<Ten>(&rt, "W:W27,32,38:B18");
     let memo = LruMemo::<Ten>::new(alloc, 1_000).expect(&rt, "memory");
     let mut solver = Solver::<Ten, LruMemo<Ten>, ByTrial>::new(memo, ByTrial, 1_000);
-    assert!(rt; solver.wins(alloc, &position, 2) == Ok(true));
+    let first = solver.wins(alloc, &position, 2);
     let expanded = solver.expanded();
-    assert!(rt; expanded > 0);
-    assert!(rt; solver.wins(alloc, &position, 2) == Ok(true) && solver.expanded() == expanded);
+    let again = solver.wins(alloc, &position, 2);
+    assert!(rt; first == Ok(true) && again == first && expanded > 0);
+    assert!(rt; solver.expanded() == expanded);
     solver.set_limit(expanded);
-    assert!(rt; solver.limit() == expanded && solver.wins(alloc, &position, 2) == Ok(true));
-    assert!(rt; solver.dropped() == 0);
+    let last = solver.wins(alloc, &position, 2);
+    assert!(rt; last == Ok(true) && solver.limit() == expanded && solver.dropped() == 0);
     let memo = solver.into_memo();
     assert!(rt; Memo::<Ten>::dropped(&memo) == 0);
 }
