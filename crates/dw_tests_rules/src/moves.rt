@@ -11,7 +11,7 @@ use dw_board::position::Position;
 use dw_board::square::Square;
 use dw_moves::best::{best, has_move};
 use dw_moves::follow::follow;
-use dw_moves::kernel::can_capture;
+use dw_moves::kernel::{can_capture, is_loose, other_steps};
 use dw_moves::laws;
 use dw_moves::legal::{is_legal, legal, legal_into};
 use dw_moves::listed::listed;
@@ -31,6 +31,36 @@ fn move_of<B: Board>(rt: &impl Abort, from: u8, to: u8, taken: &[u8]) -> Move<B>
         to: square_of(rt, to),
         taken: set_of(rt, taken),
     }
+}
+
+/// A position, the squares to which pieces of the other side could go one square, and whether it is seen at a glance that
+/// it has a reply to every move.
+type Glance = (&'static str, &'static [u8], bool);
+
+const TEN_GLANCES: [Glance; 5] = [
+    ("W:W27,45:B16", &[21], false),
+    ("W:W28:B1,2", &[6, 7, 8], true),
+    ("W:W32:B28", &[33], false),
+    ("W:W33:BK1", &[6, 7], true),
+    ("B:W7,44:B20", &[1, 2, 39, 40], true),
+];
+
+const EIGHT_GLANCES: [Glance; 1] = [("W:W22:B1,2", &[5, 6, 7], true)];
+
+fn check_glances<B: Board>(rt: &impl Abort, rows: &[Glance]) {
+    for (text, squares, loose) in rows {
+        let position = position_of::<B>(rt, text);
+        assert!(rt;
+            other_steps(&position) == set_of(rt, squares) && is_loose(&position) == *loose,
+            "{text}"
+        );
+    }
+}
+
+#[test]
+fn replies_seen_at_a_glance(rt: HostRuntime) {
+    check_glances::<Ten>(&rt, &TEN_GLANCES);
+    check_glances::<Eight>(&rt, &EIGHT_GLANCES);
 }
 
 /// A position, how many pieces each move takes, how many quiet moves there are, also where one must capture, and how
