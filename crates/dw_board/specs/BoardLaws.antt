@@ -1,7 +1,7 @@
 -- The boards meet the laws.
 use Rattle.std.proofs.Common.{refl, lit≤, lit<}
 use Rattle.dw_board.specs.Geometry.{IsBoard, ShiftsAreSteps}
-use Rattle.dw_board.specs.Boards.{ten, eight, six}
+use Rattle.dw_board.specs.Boards.{ten, eight}
 use Rattle.dw_board.specs.GeometryLaws.{shifts_are_steps}
 use Rattle.dw_board.specs.SquareSet.{WholeBoard}
 use Rattle.dw_board.specs.SquareSetLaws.{whole_board}
@@ -23,12 +23,3 @@ ten_word = whole_board ten ten_is_board 0x3ff7feffdffbff (lit< tt) refl
 
 pub eight_word : WholeBoard eight 0x7fbfdfeff
 eight_word = whole_board eight eight_is_board 0x7fbfdfeff (lit< tt) refl
-
-pub six_is_board : IsBoard six
-six_is_board = record { even = refl; low = lit≤ tt; high = lit≤ tt; side_low = lit≤ tt; side_high = lit≤ tt; side_fits = lit≤ tt; squares_high = lit≤ tt }
-
-pub six_shifts : ShiftsAreSteps six
-six_shifts = shifts_are_steps six six_is_board
-
-pub six_word : WholeBoard six 0xfdfbf
-six_word = whole_board six six_is_board 0xfdfbf (lit< tt) refl
