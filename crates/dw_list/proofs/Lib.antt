@@ -1,0 +1,6 @@
+mod Lex
+pub mod Orders
+pub mod Listings
+pub mod Ways
+pub mod Deciding
+pub mod Places

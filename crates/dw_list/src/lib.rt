@@ -1,0 +1,4 @@
+//! The lines of a forced win, each once and in order.
+#![tactic(auto)]
+
+pub mod laws;
