@@ -4,3 +4,5 @@ pub mod Listings
 pub mod Ways
 pub mod Deciding
 pub mod Places
+pub mod AskingLemmas
+pub mod Gathering

@@ -1,5 +1,5 @@
 -- How lines go on from a position on their way, where the attacker (true) or the defender (false) is to move.
-use Rattle.std.specs.Prelude.{◌≡◌, ℕ, Bool, true, false, List, [], ◌∷◌}
+use Rattle.std.specs.Prelude.{◌≡◌, ℕ, Bool, true, false, not, List, [], ◌∷◌, ◌++◌}
 use Rattle.std.proofs.Common.{zero, suc}
 use Rattle.dw_board.specs.Geometry.{Geometry}
 use Rattle.dw_board.specs.Placement.{Placement}
@@ -38,3 +38,21 @@ AreWays g attacks p n lists = IsListOf (Before g p) (GoesOn g attacks p n) lists
 -- those that go on with one of these moves
 abbrev pub AreWaysAmong : Geometry → Bool → Placement → ℕ → List Move → List (List Move) → Type 0
 AreWaysAmong g attacks p n moves lists = IsListOf (Before g p) (λ l. GoesOn g attacks p n l × BeginsAmong moves l) lists
+
+-- after a move, with n moves left for the attacker: if it was his, the defender has lost
+abbrev pub Keeps : Geometry → Bool → Placement → ℕ → Type 0
+Keeps g true q n = Lost g q n
+Keeps g false p n = Unit {0}
+
+-- the ways through one move of the side to move, with n moves left for the attacker after it
+abbrev pub IsThrough : Geometry → Bool → Placement → ℕ → Move → List Move → Type 0
+IsThrough g attacks p n m l = (rest : List Move) × (l ≡ m ∷ rest) × Keeps g attacks (play g p m) n × GoesOn g (not attacks) (play g p m) n rest
+
+abbrev pub AreWaysThrough : Geometry → Bool → Placement → ℕ → Move → List (List Move) → Type 0
+AreWaysThrough g attacks p n m lists = IsListOf (Before g p) (IsThrough g attacks p n m) lists
+
+-- to these lists the ways through one move were added
+pub record AreAdded (g : Geometry) (attacks : Bool) (p : Placement) (n : ℕ) (m : Move) (old new : List (List Move)) : Type 0 where
+  pub added : List (List Move)
+  pub ways : AreWaysThrough g attacks p n m added
+  pub are : new ≡ old ++ added

@@ -1,3 +1,4 @@
 pub mod Lines
 pub mod Going
 pub mod Laws
+pub mod Asking

@@ -1,4 +1,6 @@
 //! The lines of a forced win, each once and in order.
 #![tactic(auto)]
 
+pub mod all_lines;
+mod going;
 pub mod laws;
