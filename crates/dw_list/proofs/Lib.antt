@@ -6,3 +6,6 @@ pub mod Deciding
 pub mod Places
 pub mod AskingLemmas
 pub mod Gathering
+pub mod Passing
+pub mod StackLemmas
+pub mod StackViews

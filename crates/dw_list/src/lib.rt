@@ -2,5 +2,7 @@
 #![tactic(auto)]
 
 pub mod all_lines;
+mod frame;
 mod going;
 pub mod laws;
+mod stack;
