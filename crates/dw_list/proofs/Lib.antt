@@ -9,3 +9,5 @@ pub mod Gathering
 pub mod Passing
 pub mod StackLemmas
 pub mod StackViews
+pub mod Remaining
+pub mod StepLemmas
