@@ -80,3 +80,6 @@ module _ {M : Type 0} (g : Geometry) (content : M → Content) (lost : M → ℕ
     stop = λ same. absurd (memory_apart (sym is ∙ err_is d same));
     searched = searched_looser g n 0 n (moment_of content lost a) (moment_of content lost b) (omega arith) h.searched;
   }
+
+  pub asked_for : {A : Type 0} (m n : ℕ) (a b : Solving M) (r : Result A Stop) → m ≡ n → Asked g content lost m a b r → Asked g content lost n a b r
+  asked_for m n a b r e h = subst (λ z. Asked g content lost z a b r) e h

@@ -1,6 +1,6 @@
 -- The steps of a stack, and the line that it gives.
 use Rattle.std.proofs.Common.{◌≡◌, ℕ, ◌+◌, ◌-◌, ◌*◌, ◌^◌, ◌≤◌, ◌<◌, ◌↔◌, zero, suc, Bool, true, false, Some, None, Option, List, [], ◌∷◌, ◌++◌, length, drop, reverse, refl, sym, ap, ◌∙◌, subst, ◌⊎◌, inl, inr, arith, IsTrue}
-use Rattle.std.specs.Prelude.{not, option_map}
+use Rattle.std.specs.Prelude.{not, option_map, if◌then◌else◌}
 use Rattle.std.proofs.lemmas.Bool.{true≢false}
 use Rattle.dw_board.specs.Geometry.{Geometry}
 use Rattle.dw_board.specs.Placement.{Placement}
@@ -11,6 +11,13 @@ use Rattle.dw_list.specs.Lines.{Line, Before}
 use Rattle.dw_list.specs.Going.{GoesOn, IsNext, left_after, BeginsAmong, Keeps}
 use Rattle.dw_list.specs.Standing.{Level, Standing, IsAhead, IsBehind, Remains, IsStillAhead, AreToCome, AreBehind, Leads, AreLevels}
 use Rattle.dw_list.specs.Steps.{begun, first_ahead, passed, passed_last, with_ahead, IsListing, cost_of_all, cost_of, cost, IsStep, IsGiven}
+use Rattle.dw_list.specs.declared.stack.Trial.{Trial}
+use Rattle.dw_list.specs.Tasks.{IsTrial, IsListed}
+use Rattle.dw_list.specs.declared.walk.Step.{Step}
+use Rattle.dw_list.specs.declared.walk.Step.TheVariants.{Given, On}
+use Rattle.dw_list.specs.Walking.{HasStepped, SameToCome, GivesFirst, GivesNone}
+use Rattle.dw_list.proofs.StackLemmas.{leads_count}
+use Rattle.dw_list.proofs.Gathering.{left_within}
 use Rattle.dw_list.proofs.Ways.{goes_from, next_legal, next_keeps}
 use Rattle.dw_list.proofs.Listings.{first_listed}
 use Rattle.dw_list.proofs.Orders.{before_asym}
@@ -158,3 +165,147 @@ step_back g p n line f outer levels is = record {
   same = λ l here. step_back_to g p n line f outer levels is l here;
   fewer = rw is (omega arith);
 }
+
+-- ONE STEP AFTER ANOTHER
+
+-- the same lines are still ahead
+pub record SameLines (g : Geometry) (old new : Standing) : Type 0 where
+  pub position : new.position ≡ old.position
+  pub moves : new.moves ≡ old.moves
+  pub same : (l : List Move) → Line g old.position old.moves l → IsStillAhead old.levels old.line l ↔ IsStillAhead new.levels new.line l
+
+pub same_none : (g : Geometry) (s : Standing) → SameLines g s s
+same_none g s = record { position = refl; moves = refl; same = λ l here. ((λ h. h), (λ h. h)) }
+
+line_at : (g : Geometry) (old new : Standing) → new.position ≡ old.position → new.moves ≡ old.moves → (l : List Move) → Line g old.position old.moves l → Line g new.position new.moves l
+line_at g old new e f l h = subst (λ z. Line g new.position z l) (sym f) (subst (λ z. Line g z old.moves l) (sym e) h)
+
+pub same_then : (g : Geometry) (a b c : Standing) → SameLines g a b → IsStep g b c → SameLines g a c
+same_then g a b c h s = record {
+  position = s.position ∙ h.position;
+  moves = s.moves ∙ h.moves;
+  same = λ l here.
+      let there = line_at g a b h.position h.moves l here in
+      ((λ k. (s.same l there).0 ((h.same l here).0 k)), (λ k. (h.same l here).1 ((s.same l there).1 k)));
+}
+
+-- the lines still to come of one are those of the other
+same_listed : (g : Geometry) (a b : Standing) → SameLines g a b → (lines : List (List Move)) → AreToCome g a lines → AreToCome g b lines
+same_listed g a b h lines all =
+    let moved = subst (λ z. IsListOf (Before g z) (λ l. Line g a.position a.moves l × IsStillAhead a.levels a.line l) lines) (sym h.position) all in
+    record {
+      ascending = moved.ascending;
+      exactly = λ l. (
+        (λ m. let k = (all.exactly l).0 m in (line_at g a b h.position h.moves l k.0, (h.same l k.0).0 k.1)),
+        (λ k. let here = line_at g b a (sym h.position) (sym h.moves) l k.0 in (all.exactly l).1 (here, (h.same l here).1 k.1)),
+      );
+    }
+
+pub same_to_come : (g : Geometry) (a b : Standing) → SameLines g a b → SameToCome g a b
+same_to_come g a b h = record { position = h.position; moves = h.moves; same = same_listed g a b h }
+
+pub gives_none : (g : Geometry) (a b c : Standing) → SameLines g a b → b.levels ≡ [] → c ≡ b → GivesNone g a c
+gives_none g a b c h none is = record {
+  same = subst (SameToCome g a) (sym is) (same_to_come g a b h);
+  none = λ lines all. empty lines all;
+} where
+  empty : (lines : List (List Move)) → AreToCome g a lines → lines ≡ []
+  empty [] all = refl
+  empty (l ∷ lines) all =
+      let k = (all.exactly l).0 (inl refl) in
+      absurd (subst (λ z. IsStillAhead z b.line l) none ((h.same l k.0).0 k.1))
+
+given_first : MovesHaveKeys → (g : Geometry) (b c : Standing) → IsGiven g b c → (lines : List (List Move)) → AreToCome g b lines → (rest : List (List Move)) × (lines ≡ reverse c.line ∷ rest) × AreToCome g c rest
+given_first keys g b c s lines all =
+    let line = reverse c.line in
+    let first = first_listed (Before g b.position) (λ l. Line g b.position b.moves l × IsStillAhead b.levels b.line l) (λ l. Line g b.position b.moves l × IsStillAhead c.levels c.line l)
+    (before_asym keys g b.position) line lines (s.line, s.here) (λ l h. (h.0, (s.later l h.0 h.1).0)) (λ l h. elim (s.either l h.0 h.1) [ inl e ↦ inl e | inr k ↦ inr (h.0, k) ])
+    (λ l h. (s.later l h.0 h.1).1) all in
+    let moved = subst (λ z. IsListOf (Before g z) (λ l. Line g b.position b.moves l × IsStillAhead c.levels c.line l) first.0) (sym s.position) first.2 in (
+      first.0,
+      first.1,
+      record {
+        ascending = moved.ascending;
+        exactly = λ l. (
+          (λ m. let k = (moved.exactly l).0 m in (line_at g b c s.position s.moves l k.0, k.1)),
+          (λ k. (moved.exactly l).1 (line_at g c b (sym s.position) (sym s.moves) l k.0, k.1)),
+        );
+      },
+    )
+
+pub gives_first : MovesHaveKeys → (g : Geometry) (a b c : Standing) → SameLines g a b → IsGiven g b c → GivesFirst g a c
+gives_first keys g a b c h s = record {
+  position = s.position ∙ h.position;
+  moves = s.moves ∙ h.moves;
+  first = λ lines all. given_first keys g b c s lines (same_listed g a b h lines all);
+}
+
+-- STEPS OF THE STACK ITSELF
+
+module _ (g : Geometry) (s : Standing) (levels : AreLevels g s.position s.moves s.levels s.line) (fits : length s.levels ≤ 2 * s.moves) where
+  -- a fact of a stack with these levels
+  opened : (f : Level) (outer : List Level) → s.levels ≡ f ∷ outer → AreLevels g s.position s.moves (f ∷ outer) s.line × (length outer + 1 ≤ 2 * s.moves)
+  opened f outer e = (subst (λ z. AreLevels g s.position s.moves z s.line) e levels, omega (arith, fits, ap length e))
+
+  as_step : (f : Level) (outer : List Level) (new : Standing) → s.levels ≡ f ∷ outer → IsStep g (standing s.position s.moves s.line (f ∷ outer)) new → IsStep g s new
+  as_step f outer new e h = subst (λ z. IsStep g (standing s.position s.moves s.line z) new) (sym e) h
+
+  pub walk_listed : (new : Standing) (end : Bool) → IsListed g s new end → (q : Level) (others : List Level) → s.levels ≡ q ∷ others → q.ahead ≡ None → end ≡ false → IsStep g s new
+  walk_listed new end h q others is none no_end =
+      let same = heads q h.last others h.outer (sym is ∙ h.are) in
+      let ahead : h.last.ahead ≡ None = subst (λ (z : Level). z.ahead ≡ None) same none in
+      let facts = opened h.last h.outer h.are in
+      let new_is : new ≡ standing s.position s.moves s.line (with_ahead h.last h.listing.moves ∷ h.outer) = h.is ∙ ap (λ z. standing s.position s.moves s.line (z ∷ h.outer)) h.listing.is in
+      subst (IsStep g s) (sym new_is) (as_step h.last h.outer _ h.are (step_listed g s.position s.moves s.line h.last h.outer facts.0 facts.1 h.listing.moves ahead h.listing.all h.listing.few
+      (λ a b. let t = h.end.1 (a, b) in true≢false (sym t ∙ no_end)))) where
+    heads : (x y : Level) (xs ys : List Level) → x ∷ xs ≡ y ∷ ys → x ≡ y
+    heads x y xs ys e = cc
+
+  pub walk_given : (new : Standing) (end : Bool) → IsListed g s new end → (q : Level) (others : List Level) → s.levels ≡ q ∷ others → q.ahead ≡ None → end ≡ true → IsGiven g s new
+  walk_given new end h q others is none ends_here =
+      let same = heads q h.last others h.outer (sym is ∙ h.are) in
+      let ahead : h.last.ahead ≡ None = subst (λ (z : Level). z.ahead ≡ None) same none in
+      let facts = opened h.last h.outer h.are in
+      let ends = h.end.0 ends_here in
+      let new_is : new ≡ standing s.position s.moves s.line (with_ahead h.last [] ∷ h.outer) =
+      h.is ∙ ap (λ z. standing s.position s.moves s.line (z ∷ h.outer)) h.listing.is ∙ ap (λ z. standing s.position s.moves s.line (with_ahead h.last z ∷ h.outer)) ends.1 in
+      let all = subst (IsListOf (Precedes g h.last.position) (Legal g h.last.position)) ends.1 h.listing.all in
+      subst (IsGiven g s) (sym new_is) (subst (λ z. IsGiven g (standing s.position s.moves s.line z) (standing s.position s.moves s.line (with_ahead h.last [] ∷ h.outer))) (sym h.are)
+      (step_given g s.position s.moves s.line h.last h.outer facts.0 facts.1 ahead ends.0 all)) where
+    heads : (x y : Level) (xs ys : List Level) → x ∷ xs ≡ y ∷ ys → x ≡ y
+    heads x y xs ys e = cc
+
+  pub walk_back : (new : Standing) (q : Level) (others : List Level) → s.levels ≡ q ∷ others → q.ahead ≡ Some [] → new ≡ record s { line = drop 1 s.line; levels = drop 1 s.levels } → IsStep g s new
+  walk_back new q others e ahead is =
+      let facts = opened q others e in
+      let new_is : new ≡ standing s.position s.moves (drop 1 s.line) (drop 1 (q ∷ others)) = is ∙ ap (λ z. standing s.position s.moves (drop 1 s.line) (drop 1 z)) e in
+      subst (IsStep g s) (sym new_is) (as_step q others _ e (step_back g s.position s.moves s.line q others facts.0 ahead))
+
+  pub walk_passed : {B : Type 0} (new : Standing) (t : Trial B) → IsTrial g s.levels t → (Keeps g t.attacks t.after t.left → ⊥) → new ≡ record s { levels = passed_last s.levels } → IsStep g s new
+  walk_passed new t h none is =
+      let facts = opened h.last h.outer h.are in
+      let ms = first_is h.last.ahead t.step h.first in
+      let new_is : new ≡ standing s.position s.moves s.line (passed h.last ∷ h.outer) = is ∙ ap (λ z. standing s.position s.moves s.line (passed_last z)) h.are in
+      let none' : Keeps g h.last.attacks (play g h.last.position t.step) (left_after h.last.attacks h.last.left) → ⊥ =
+      λ k. none (subst (λ z. Keeps g t.attacks t.after z) (sym h.left) (subst (λ z. Keeps g t.attacks z (left_after h.last.attacks h.last.left)) (sym h.after) (subst (λ z. Keeps g z (play g h.last.position t.step) (left_after h.last.attacks h.last.left)) (sym h.attacks) k))) in
+      subst (IsStep g s) (sym new_is) (as_step h.last h.outer _ h.are (step_passed g s.position s.moves s.line h.last h.outer facts.0 facts.1 t.step ms.0 ms.1 none'))
+
+  pub walk_entered : {B : Type 0} (new : Standing) (t : Trial B) → IsTrial g s.levels t → new ≡ record s { line = t.step ∷ s.line; levels = begun t.after (not t.attacks) t.left ∷ passed_last s.levels } → IsStep g s new
+  walk_entered new t h is =
+      let facts = opened h.last h.outer h.are in
+      let ms = first_is h.last.ahead t.step h.first in
+      let new_is : new ≡ standing s.position s.moves (t.step ∷ s.line) (begun t.after (not t.attacks) t.left ∷ passed h.last ∷ h.outer) = is ∙ ap (λ z. standing s.position s.moves (t.step ∷ s.line) (begun t.after (not t.attacks) t.left ∷ passed_last z)) h.are in
+      subst (IsStep g s) (sym new_is) (as_step h.last h.outer _ h.are (step_entered g s.position s.moves s.line h.last h.outer facts.0 facts.1 t.step ms.0 t.after (not t.attacks) t.left ms.1))
+
+  -- a trial leaves no more moves than there are
+  pub trial_few : {B : Type 0} (t : Trial B) → IsTrial g s.levels t → t.left ≤ s.moves
+  trial_few t h =
+      let facts = opened h.last h.outer h.are in
+      let count = leads_count g s.position s.moves h.outer s.line h.last.attacks h.last.position h.last.left facts.0.0 in
+      let less = left_within h.last.attacks h.last.left t.left h.left in
+      omega (arith, count, less)
+
+-- what is met where the moves of a level were listed
+pub walk_met : (g : Geometry) (old new : Standing) (end : Bool) (met : Step) → met ≡ (if end then Given else On) → (end ≡ true → IsGiven g old new) → (end ≡ false → IsStep g old new) → HasStepped g met old new
+walk_met g old new true met e given on = subst (λ z. HasStepped g z old new) (sym e) (given refl)
+walk_met g old new false met e given on = subst (λ z. HasStepped g z old new) (sym e) (on refl)

@@ -5,3 +5,4 @@ pub mod Asking
 pub mod Standing
 pub mod Steps
 pub mod Tasks
+pub mod Walking
