@@ -6,3 +6,4 @@ pub mod Standing
 pub mod Steps
 pub mod Tasks
 pub mod Walking
+pub mod Listing

@@ -5,5 +5,6 @@ pub mod all_lines;
 mod frame;
 mod going;
 pub mod laws;
+pub mod lister;
 mod stack;
 mod walk;
