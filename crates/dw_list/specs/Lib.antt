@@ -7,3 +7,4 @@ pub mod Steps
 pub mod Tasks
 pub mod Walking
 pub mod Listing
+pub mod Lending

@@ -30,6 +30,12 @@ impl<'a, B: Board, M: Memo<B>, G: Guide<B>> Lister<'a, B, M, G> {
     ghost use Rattle.dw_list.specs.Standing.{AreToCome};
     ghost use Rattle.dw_list.specs.Walking.{SameToCome, GivesNext};
     ghost use Rattle.dw_list.specs.Listing.{lender, solver_of, stack_of};
+    ghost use Rattle.std.specs.Prelude.{⊤, []};
+    ghost use Rattle.std.specs.Borrow.{sem, follows_so};
+    ghost use mathlib.Core.Option.{none};
+    ghost use mir.Syntax.{named};
+    ghost use Rattle.dw_list.specs.contracts.lister.Lister.{the_row};
+    ghost use Rattle.dw_list.specs.Lending.{LendsNext};
 
     /// A lister of all lines in which the side to move wins within so many of its moves, 1 to 20. It searches nothing yet,
     /// and takes no memory.
@@ -63,6 +69,17 @@ impl<'a, B: Board, M: Memo<B>, G: Guide<B>> Lister<'a, B, M, G> {
         ensures searched { Searched B.geometry (stack_of self.old).moves (cut_off result (stack_of self.old).moves) (moment_of M.content M.dropped (solver_of self.old)) (moment_of M.content M.dropped (solver_of self.new)) }
     {
         walk(alloc, self.solver, &mut self.stack)
+    }
+
+    /// The next line, lent as it stands in the lister's own array, or `None` if no line is still to come.
+    pub fn next(&mut self, alloc: Global) -> Result<Option<&[Move<B>]>, Stop>
+        ensures* after { sem 𝓛 (follows_so (the_row (record { mir = named 1; lft = [] }) B.row M.row G.row B.Board M.Memo) (the_row (record { mir = named 1; lft = [] }) B.row M.row G.row B.Board M.Memo) self.entry.ghost_name none (λ _ _. ⊤) (λ left. LendsNext B.geometry M.content M.dropped self.old left result)) }
+    {
+        if self.advance(alloc)? {
+            Ok(Some(self.stack.line()))
+        } else {
+            Ok(None)
+        }
     }
 
     /// The line at which the lister stands: the one that was given last, until it is asked for the next.
