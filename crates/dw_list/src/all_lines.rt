@@ -1,0 +1,137 @@
+//! All lines of a position at once.
+ghost use Rattle.std.specs.Prelude.{◌≡◌, ◌≤◌, ◌++◌, ◌∷◌, [], true, false, map, length, ◌<◌, ◌⊎◌, IfOk, OnOk, IsErrOf};
+ghost use Rattle.dw_moves.specs.Moves.{Legal};
+ghost use Rattle.dw_solve.specs.declared.stop.Stop.TheVariants.{Limit};
+ghost use Rattle.dw_solve.specs.Searching.{IsCounted};
+ghost use Rattle.dw_solve.specs.Work.{moment, Searched, cut_off};
+ghost use Rattle.dw_list.specs.Lines.{Lines};
+ghost use Rattle.dw_list.specs.Going.{AreWays, AreAdded};
+ghost use Rattle.dw_list.specs.Asking.{Asked};
+
+use crate::going::{keeps, left_behind, may_move};
+use dw_board::board::Board;
+use dw_board::position::Position;
+use dw_memo::memo::Memo;
+use dw_moves::listed::listed;
+use dw_moves::moves::{Listed, Move};
+use dw_moves::play::play as played;
+use dw_solve::guide::Guide;
+use dw_solve::laws::searches_add_up;
+use dw_solve::solver::Solver;
+use dw_solve::stop::Stop;
+use std::alloc::{AllocError, Global};
+
+/// All lines in which the side to move wins within so many of its moves, 1 to 20, in ascending order and each once.
+/// After a stop all bounds in the cache are right, and the call can be made again.
+pub fn all_lines<B: Board, M: Memo<B>, G: Guide<B>>(
+    alloc: Global,
+    solver: &mut Solver<B, M, G>,
+    position: &Position<B>,
+    moves: u8,
+) -> Result<Vec<Vec<Move<B>>>, Stop>
+    requires { moves ≤ 20 }
+    ensures lines { IfOk result (λ lines. Lines B.geometry position.now moves (map (λ line. line.items) lines.items)) }
+    ensures count { IsCounted solver.old.expanded solver.old.limit solver.new.expanded solver.new.limit }
+    ensures stop { IsErrOf result Limit → solver.new.expanded ≡ solver.new.limit }
+    ensures searched { Searched B.geometry moves (cut_off result moves) (moment M.content M.dropped solver.old.memo solver.old.expanded) (moment M.content M.dropped solver.new.memo solver.new.expanded) }
+{
+    ways(alloc, solver, position, true, moves)
+}
+
+/// All ways in which a line goes on from a position, where the attacker has so many moves left.
+#[cycle(ways)]
+fn ways<B: Board, M: Memo<B>, G: Guide<B>>(
+    alloc: Global,
+    solver: &mut Solver<B, M, G>,
+    position: &Position<B>,
+    attacks: bool,
+    moves: u8,
+) -> Result<Vec<Vec<Move<B>>>, Stop>
+    requires { moves ≤ 20 }
+    ensures ways { IfOk result (λ lists. AreWays B.geometry attacks position.now moves (map (λ list. list.items) lists.items)) }
+    ensures asked { Asked B.geometry M.content M.dropped moves solver.old solver.new result }
+{
+    searches_add_up();
+    let _ = solver.limit();
+    if !may_move(attacks, moves) {
+        return Ok(Vec::new(alloc));
+    }
+    let list = listed(alloc, position)?;
+    let mut lists = ends(alloc, attacks, list.as_slice())?;
+    let left = left_behind(attacks, moves);
+    'moves: for item in list.as_slice() {
+        push_ways(alloc, solver, position, &item.step, attacks, left, &mut lists)?;
+    }
+    Ok(lists)
+}
+
+/// The ways that go on with no move: one where the line ends, that is where the defender has no move.
+fn ends<B: Board>(
+    alloc: Global,
+    attacks: bool,
+    list: &[Listed<B>],
+) -> Result<Vec<Vec<Move<B>>>, AllocError>
+    ensures some { IfOk result (λ lists. (attacks ≡ true) ⊎ (0 < length list.now) → map (λ list. list.items) lists.items ≡ []) }
+    ensures none { IfOk result (λ lists. attacks ≡ false → length list.now ≡ 0 → map (λ list. list.items) lists.items ≡ [] ∷ []) }
+{
+    let mut lists = Vec::new(alloc);
+    if !attacks && list.is_empty() {
+        lists.push(Vec::new(alloc))?;
+    }
+    Ok(lists)
+}
+
+/// Adds the ways through one move, with so many moves left for the attacker after it.
+#[cycle(ways)]
+fn push_ways<B: Board, M: Memo<B>, G: Guide<B>>(
+    alloc: Global,
+    solver: &mut Solver<B, M, G>,
+    position: &Position<B>,
+    step: &Move<B>,
+    attacks: bool,
+    left: u8,
+    lists: &mut Vec<Vec<Move<B>>>,
+) -> Result<(), Stop>
+    requires legal { Legal B.geometry position.now step.now }
+    requires few { left ≤ 20 }
+    ensures added { OnOk result (AreAdded B.geometry attacks position.now left step.now
+        (map (λ list. list.items) lists.old.items) (map (λ list. list.items) lists.new.items)) }
+    ensures asked { Asked B.geometry M.content M.dropped left solver.old solver.new result }
+{
+    searches_add_up();
+    let after = played(position, step);
+    if keeps(alloc, solver, &after, attacks, left)? {
+        let behind = ways(alloc, solver, &after, !attacks, left)?;
+        push_each(alloc, step, behind.as_slice(), lists)?;
+    }
+    Ok(())
+}
+
+/// Adds each of these lists with one move before it.
+fn push_each<B: Board>(
+    alloc: Global,
+    step: &Move<B>,
+    behind: &[Vec<Move<B>>],
+    lists: &mut Vec<Vec<Move<B>>>,
+) -> Result<(), AllocError>
+    ensures { OnOk result (map (λ list. list.items) lists.new.items ≡ map (λ list. list.items) lists.old.items ++ map (λ list. step.now ∷ list.items) behind.now) }
+{
+    'lists: for rest in behind {
+        lists.push(joined(alloc, step, rest.as_slice())?)?;
+    }
+    Ok(())
+}
+
+/// A move, and others after it.
+fn joined<B: Board>(
+    alloc: Global,
+    step: &Move<B>,
+    rest: &[Move<B>],
+) -> Result<Vec<Move<B>>, AllocError>
+    ensures { IfOk result (λ list. list.items ≡ step.now ∷ rest.now) }
+{
+    let mut list = Vec::new(alloc);
+    list.push(*step)?;
+    list.extend_from_slice(rest)?;
+    Ok(list)
+}

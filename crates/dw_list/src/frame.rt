@@ -1,0 +1,136 @@
+//! One level of a lister's stack.
+ghost use Rattle.std.specs.Prelude.{◌≡◌, ◌↔◌, IsTrue, IsSome, OnOk, OnErr, None, Some, drop, map, false};
+ghost use Rattle.dw_list.specs.Steps.{begun, first_ahead, passed, IsListing};
+
+use dw_board::board::Board;
+use dw_board::piece::Side;
+use dw_board::position::Position;
+use dw_moves::listed::listed;
+use dw_moves::moves::{Listed, Move};
+use std::alloc::{AllocError, Global};
+use std::marker::Model;
+
+/// A position on the way of a line, its moves in order once they are listed, and how many of them were passed.
+#[derive(Drop)]
+pub(crate) struct Frame<B: Board> {
+    position: Position<B>,
+    attacks: bool,
+    left: u8,
+    moves: Option<Vec<Listed<B>>>,
+    passed: usize,
+}
+
+impl<B: Board> Model for Frame<B> {
+    ghost use Rattle.std.specs.Prelude.{option_map, drop, map};
+    ghost use Rattle.dw_list.specs.Standing.{Level, level_code};
+
+    ghost Value = { Level };
+
+    ghost coded = { level_code };
+
+    ghost view = { λ f. record { position = f.position; attacks = f.attacks; left = f.left; ahead = option_map (λ list. drop f.passed (map (λ l. l.step) list.items)) f.moves } };
+}
+
+impl<B: Board> Frame<B> {
+    /// A position whose moves are not listed.
+    pub(crate) fn new(position: Position<B>, attacks: bool, left: u8) -> Self
+        ensures { result ≡ begun position attacks left }
+    {
+        Frame {
+            position,
+            attacks,
+            left,
+            moves: None,
+            passed: 0,
+        }
+    }
+
+    pub(crate) fn position(&self) -> &Position<B>
+        ensures { result.now ≡ self.now.position }
+    {
+        &self.position
+    }
+
+    /// Whether the attacker is to move.
+    pub(crate) fn attacks(&self) -> bool
+        ensures { result ≡ self.now.attacks }
+    {
+        self.attacks
+    }
+
+    /// How many moves the attacker has left.
+    pub(crate) fn left(&self) -> u8
+        ensures { result ≡ self.now.left }
+    {
+        self.left
+    }
+
+    pub(crate) fn is_listed(&self) -> bool
+        ensures { IsTrue result ↔ IsSome self.now.ahead }
+    {
+        self.moves.is_some()
+    }
+
+    /// The next move, if one is listed.
+    pub(crate) fn first(&self) -> Option<Move<B>>
+        ensures { result ≡ first_ahead self.now.ahead }
+    {
+        match &self.moves {
+            None => None,
+            Some(list) => first_at(list.as_slice(), self.passed),
+        }
+    }
+
+    /// Whether a line ends here: the moves are listed, and the defender has none.
+    pub(crate) fn ends_line(&self) -> bool
+        ensures { IsTrue result ↔ ((self.now.attacks ≡ false) × (first_ahead self.now.ahead ≡ None)) }
+    {
+        !self.attacks && self.first().is_none()
+    }
+
+    /// Lists the moves of the position.
+    pub(crate) fn list(&mut self, alloc: Global) -> Result<(), AllocError>
+        ensures ok { OnOk result (IsListing B.geometry self.old self.new) }
+        ensures err { OnErr result (self.new ≡ self.old) }
+    {
+        let list = listed(alloc, &self.position)?;
+        let _count = list.len();
+        self.moves = Some(list);
+        self.passed = 0;
+        Ok(())
+    }
+
+    /// Passes the next move, if one is listed.
+    pub(crate) fn pass(&mut self)
+        ensures { self.new ≡ passed self.old }
+    {
+        let count = match &self.moves {
+            None => 0,
+            Some(list) => list.len(),
+        };
+        if self.passed < count {
+            self.passed += 1;
+        }
+    }
+}
+
+/// The first move after so many.
+fn first_at<B: Board>(list: &[Listed<B>], passed: usize) -> Option<Move<B>>
+    ensures { result ≡ first_ahead (Some (drop passed (map (λ l. l.step) list.now))) }
+{
+    if passed < list.len() {
+        let item = &list[passed];
+        Some(item.step)
+    } else {
+        None
+    }
+}
+
+/// A value to fill an array with.
+impl<B: Board> Default for Frame<B> {
+    ghost is_default = { λ f. f.ahead ≡ None };
+
+    fn default() -> Self {
+        Frame::new(Position::empty(Side::White), false, 0)
+    }
+}

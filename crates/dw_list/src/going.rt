@@ -1,0 +1,50 @@
+//! With which moves lines go on.
+ghost use Rattle.std.specs.Prelude.{◌≡◌, ◌≤◌, ◌↔◌, IfOk, IsTrue};
+ghost use Rattle.dw_list.specs.Going.{Keeps, left_after};
+ghost use Rattle.dw_list.specs.Asking.{Asked};
+
+use dw_board::board::Board;
+use dw_board::position::Position;
+use dw_memo::memo::Memo;
+use dw_solve::guide::Guide;
+use dw_solve::solver::Solver;
+use dw_solve::stop::Stop;
+use std::alloc::Global;
+
+/// Whether lines go on with a legal move that leads to this position: with each of the defender's, and with each of the
+/// attacker's that keeps a win within the moves that he has left.
+pub(crate) fn keeps<B: Board, M: Memo<B>, G: Guide<B>>(
+    alloc: Global,
+    solver: &mut Solver<B, M, G>,
+    after: &Position<B>,
+    attacks: bool,
+    left: u8,
+) -> Result<bool, Stop>
+    requires { left ≤ 20 }
+    ensures answer { IfOk result (λ yes. IsTrue yes ↔ Keeps B.geometry attacks after.now left) }
+    ensures asked { Asked B.geometry M.content M.dropped left solver.old solver.new result }
+{
+    if !attacks {
+        let _ = solver.limit();
+        return Ok(true);
+    }
+    solver.loses(alloc, after, left)
+}
+
+/// How many moves the attacker has left after a move.
+pub(crate) fn left_behind(attacks: bool, moves: u8) -> u8
+    ensures { result ≡ left_after attacks moves }
+{
+    if attacks {
+        moves.saturating_sub(1)
+    } else {
+        moves
+    }
+}
+
+/// Whether a side can have a move in a line: the attacker has none where he has no moves left.
+pub(crate) fn may_move(attacks: bool, moves: u8) -> bool
+    ensures { IsTrue result ↔ (IsTrue attacks → 1 ≤ moves) }
+{
+    !attacks || moves > 0
+}

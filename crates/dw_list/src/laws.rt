@@ -1,0 +1,28 @@
+//! Laws of lines, each the contract of a function that does nothing.
+ghost use Rattle.dw_list.specs.Laws.{NoneBegins, LinesExist, LineOrPlace};
+
+use dw_moves::laws::{moves_have_keys, moves_in_order, moves_listed};
+use dw_solve::laws::wins_are_decided;
+
+/// No line begins another.
+pub fn none_begins()
+    ensures { NoneBegins }
+{}
+
+/// The lines of a position can be listed in ascending order, in one way, and there are none exactly if there is no win.
+pub fn lines_exist()
+    ensures { LinesExist }
+{
+    moves_listed();
+    moves_in_order();
+    moves_have_keys();
+    wins_are_decided();
+}
+
+/// A list of moves is a line or has a place at which it leaves all lines, never both, and it has one place only.
+pub fn line_or_place()
+    ensures { LineOrPlace }
+{
+    moves_listed();
+    wins_are_decided();
+}

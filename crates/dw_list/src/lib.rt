@@ -1,0 +1,10 @@
+//! The lines of a forced win, each once and in order.
+#![tactic(auto)]
+
+pub mod all_lines;
+mod frame;
+mod going;
+pub mod laws;
+pub mod lister;
+mod stack;
+mod walk;

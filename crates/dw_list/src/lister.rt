@@ -1,0 +1,116 @@
+//! The lines of a position one by one.
+ghost use Rattle.std.specs.Prelude.{◌≡◌, ◌≤◌, ◌↔◌, List, IfOk, OnErr, IsErrOf, reverse};
+ghost use Rattle.dw_solve.specs.declared.stop.Stop.TheVariants.{Limit};
+ghost use Rattle.dw_solve.specs.Searching.{IsCounted};
+ghost use Rattle.dw_solve.specs.Work.{Searched, cut_off};
+
+use crate::stack::Stack;
+use crate::walk::walk;
+use dw_board::board::Board;
+use dw_board::position::Position;
+use dw_memo::memo::Memo;
+use dw_moves::moves::Move;
+use dw_solve::guide::Guide;
+use dw_solve::solver::Solver;
+use dw_solve::stop::Stop;
+use std::alloc::Global;
+
+/// The lines of a position in ascending order, each once, without a list of them. It borrows the solver that answers
+/// which moves keep a win.
+#[derive(Drop)]
+pub struct Lister<'a, B: Board, M: Memo<B>, G: Guide<B>> {
+    solver: &'a mut Solver<B, M, G>,
+    stack: Stack<B>,
+}
+
+impl<'a, B: Board, M: Memo<B>, G: Guide<B>> Lister<'a, B, M, G> {
+    ghost use Rattle.dw_moves.specs.Moves as of;
+    ghost use Rattle.dw_list.specs.Lines.{Lines};
+    ghost use Rattle.dw_list.specs.Asking.{moment_of};
+    ghost use Rattle.dw_list.specs.Standing.{AreToCome};
+    ghost use Rattle.dw_list.specs.Walking.{SameToCome, GivesNext};
+    ghost use Rattle.dw_list.specs.Listing.{lender, solver_of, stack_of};
+    ghost use Rattle.std.specs.Prelude.{⊤, []};
+    ghost use Rattle.std.specs.Borrow.{sem, follows_so};
+    ghost use mathlib.Core.Option.{none};
+    ghost use mir.Syntax.{named};
+    ghost use Rattle.dw_list.specs.contracts.lister.Lister.{the_row};
+    ghost use Rattle.dw_list.specs.Lending.{LendsNext};
+
+    /// A lister of all lines in which the side to move wins within so many of its moves, 1 to 20. It searches nothing yet,
+    /// and takes no memory.
+    pub fn start(
+        solver: &'a mut Solver<B, M, G>,
+        position: &Position<B>,
+        moves: u8,
+    ) -> Lister<'a, B, M, G>
+        requires some { 1 ≤ moves }
+        requires few { moves ≤ 20 }
+        ensures lender { lender result ≡ solver.entry.ghost_name }
+        ensures solver { solver_of result ≡ solver.old }
+        ensures position { (stack_of result).position ≡ position.now }
+        ensures moves { (stack_of result).moves ≡ moves }
+        ensures to_come { (lines : List (List of.Move)) → Lines B.geometry position.now moves lines ↔ AreToCome B.geometry (stack_of result) lines }
+    {
+        Lister {
+            solver,
+            stack: Stack::new(position, moves),
+        }
+    }
+
+    /// Walks to the next line, and answers whether there is one. After a stop the lines still to come are what they were,
+    /// and the call can be made again.
+    pub fn advance(&mut self, alloc: Global) -> Result<bool, Stop>
+        ensures lender { lender self.new ≡ lender self.old }
+        ensures next { IfOk result (λ more. GivesNext B.geometry more (stack_of self.old) (stack_of self.new)) }
+        ensures stopped { OnErr result (SameToCome B.geometry (stack_of self.old) (stack_of self.new)) }
+        ensures count { IsCounted (solver_of self.old).expanded (solver_of self.old).limit (solver_of self.new).expanded (solver_of self.new).limit }
+        ensures stop { IsErrOf result Limit → (solver_of self.new).expanded ≡ (solver_of self.new).limit }
+        ensures searched { Searched B.geometry (stack_of self.old).moves (cut_off result (stack_of self.old).moves) (moment_of M.content M.dropped (solver_of self.old)) (moment_of M.content M.dropped (solver_of self.new)) }
+    {
+        walk(alloc, self.solver, &mut self.stack)
+    }
+
+    /// The next line, lent as it stands in the lister's own array, or `None` if no line is still to come.
+    pub fn next(&mut self, alloc: Global) -> Result<Option<&[Move<B>]>, Stop>
+        ensures* after { sem 𝓛 (follows_so (the_row (record { mir = named 1; lft = [] }) B.row M.row G.row B.Board M.Memo) (the_row (record { mir = named 1; lft = [] }) B.row M.row G.row B.Board M.Memo) self.entry.ghost_name none (λ _ _. ⊤) (λ left. LendsNext B.geometry M.content M.dropped self.old left result)) }
+    {
+        if self.advance(alloc)? {
+            Ok(Some(self.stack.line()))
+        } else {
+            Ok(None)
+        }
+    }
+
+    /// The line at which the lister stands: the one that was given last, until it is asked for the next.
+    pub fn line(&self) -> &[Move<B>]
+        ensures { result.now ≡ reverse (stack_of self.now).line }
+    {
+        self.stack.line()
+    }
+
+    /// How many positions the solver has expanded so far.
+    pub fn expanded(&self) -> u64
+        ensures { result ≡ (solver_of self.now).expanded }
+    {
+        self.solver.expanded()
+    }
+
+    /// How many entries the solver's cache has lost so far.
+    pub fn dropped(&self) -> u64
+        ensures { result ≡ M.dropped (solver_of self.now).memo }
+    {
+        self.solver.dropped()
+    }
+
+    /// Changes the solver's limit. It is at least 1, and not below what was expanded.
+    pub fn set_limit(&mut self, limit: u64)
+        requires some { 1 ≤ limit }
+        requires enough { (solver_of self.old).expanded ≤ limit }
+        ensures lender { lender self.new ≡ lender self.old }
+        ensures stack { stack_of self.new ≡ stack_of self.old }
+        ensures solver { solver_of self.new ≡ record (solver_of self.old) { limit = limit } }
+    {
+        self.solver.set_limit(limit);
+    }
+}

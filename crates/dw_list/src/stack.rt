@@ -1,0 +1,183 @@
+//! The stack of a lister: the levels of the line at which it stands.
+ghost use Rattle.std.specs.Prelude.{◌≡◌, ◌≤◌, ◌<◌, ◌*◌, [], ◌∷◌, drop, reverse, length, IfOk, OnErr, not, true};
+ghost use Rattle.dw_moves.specs.Moves.{Legal, play};
+ghost use Rattle.dw_list.specs.Going.{left_after};
+
+use crate::frame::Frame;
+use crate::going::left_behind;
+use arrayvec::ArrayVec;
+use dw_board::board::Board;
+use dw_board::position::Position;
+use dw_moves::moves::Move;
+use dw_moves::play::play as played;
+use std::alloc::{AllocError, Global};
+use std::marker::Model;
+
+/// A move of the last level that may come next: the position after it, and whose it is and how many moves are left for the
+/// attacker after it.
+#[derive(Drop)]
+pub(crate) struct Trial<B: Board> {
+    pub(crate) step: Move<B>,
+    pub(crate) after: Position<B>,
+    pub(crate) attacks: bool,
+    pub(crate) left: u8,
+}
+
+/// What is to be done with a stack.
+#[derive(Drop)]
+pub(crate) enum Task<B: Board> {
+    /// Nothing: all was passed.
+    Over,
+    /// The moves of the last level are to be listed.
+    Unlisted,
+    /// A move of the last level is to be tried.
+    Try(Trial<B>),
+    /// No move of the last level is ahead.
+    Passed,
+}
+
+/// The levels of a line on its way, each with the moves that are still ahead there: at most two for each move of the
+/// attacker.
+#[derive(Drop)]
+pub(crate) struct Stack<B: Board> {
+    position: Position<B>,
+    moves: u8,
+    frames: ArrayVec<Frame<B>, 40>,
+    line: ArrayVec<Move<B>, 39>,
+}
+
+impl<B: Board> Model for Stack<B> {
+    ghost use Rattle.std.specs.Prelude.{reverse, length, ◌≤◌, ◌*◌};
+    ghost use Rattle.dw_list.specs.Standing.{Standing, standing_code, AreLevels};
+
+    ghost Value = { Standing };
+
+    ghost coded = { standing_code };
+
+    ghost view = { λ s. record { position = s.position; moves = s.moves; line = reverse s.line.items; levels = reverse s.frames.items } };
+
+    ghost invariant = { λ s. AreLevels B.geometry s.position s.moves (reverse s.frames.items) (reverse s.line.items) × (length s.frames.items ≤ 2 * s.moves) × (s.moves ≤ 20) };
+}
+
+impl<B: Board> Stack<B> {
+    ghost use Rattle.dw_list.specs.Going.{Keeps};
+    ghost use Rattle.dw_list.specs.Standing.{AreLevels};
+    ghost use Rattle.dw_list.specs.Steps.{begun, passed_last};
+    ghost use Rattle.dw_list.specs.Tasks.{IsTask, IsTrial, IsListed};
+
+    /// The stack of all lines of a position within so many moves.
+    pub(crate) fn new(position: &Position<B>, moves: u8) -> Self
+        requires some { 1 ≤ moves }
+        requires few { moves ≤ 20 }
+        ensures { result ≡ record { position = position.now; moves = moves; line = []; levels = begun position.now true moves ∷ [] } }
+    {
+        let mut frames = ArrayVec::new();
+        frames.push(Frame::new(*position, true, moves));
+        Stack {
+            position: *position,
+            moves,
+            frames,
+            line: ArrayVec::new(),
+        }
+    }
+
+    /// Within how many moves the attacker wins.
+    pub(crate) fn moves(&self) -> u8
+        ensures moves { result ≡ self.now.moves }
+        ensures few { result ≤ 20 }
+    {
+        self.moves
+    }
+
+    /// The line at which the stack stands.
+    pub(crate) fn line(&self) -> &[Move<B>]
+        ensures { result.now ≡ reverse self.now.line }
+    {
+        self.line.as_slice()
+    }
+
+    /// What is to be done next.
+    pub(crate) fn task(&self) -> Task<B>
+        ensures task { IsTask B.geometry self.now.levels result }
+        ensures levels { AreLevels B.geometry self.now.position self.now.moves self.now.levels self.now.line }
+        ensures fits { length self.now.levels ≤ 2 * self.now.moves }
+    {
+        let frames = self.frames.as_slice();
+        if frames.is_empty() {
+            return Task::Over;
+        }
+        let frame = &frames[frames.len() - 1];
+        if !frame.is_listed() {
+            return Task::Unlisted;
+        }
+        match frame.first() {
+            None => Task::Passed,
+            Some(step) => Task::Try(trial_of(frame, step)),
+        }
+    }
+
+    /// Lists the moves of the last level, and answers whether the line ends there: the defender has none.
+    pub(crate) fn list(&mut self, alloc: Global) -> Result<bool, AllocError>
+        requires { 0 < length self.old.levels }
+        ensures listed { IfOk result (λ is_end. IsListed B.geometry self.old self.new is_end) }
+        ensures err { OnErr result (self.new ≡ self.old) }
+    {
+        let mut frame = self.frames.pop().unwrap();
+        let listing = frame.list(alloc);
+        let is_end = frame.ends_line();
+        self.frames.push(frame);
+        listing?;
+        Ok(is_end)
+    }
+
+    /// Passes the first move ahead at the last level.
+    pub(crate) fn pass(&mut self)
+        ensures { self.new ≡ record self.old { levels = passed_last self.old.levels } }
+    {
+        if let Some(mut frame) = self.frames.pop() {
+            frame.pass();
+            self.frames.push(frame);
+        }
+    }
+
+    /// Goes on with the first move ahead at the last level.
+    pub(crate) fn enter(&mut self, trial: &Trial<B>)
+        requires first { IsTrial B.geometry self.old.levels trial.now }
+        requires keeps { Keeps B.geometry trial.now.attacks trial.now.after trial.now.left }
+        ensures { self.new ≡ record self.old { line = trial.now.step ∷ self.old.line; levels = begun trial.now.after (not trial.now.attacks) trial.now.left ∷ passed_last self.old.levels } }
+    {
+        let mut frame = self.frames.pop().unwrap();
+        frame.pass();
+        self.frames.push(frame);
+        self.frames
+            .push(Frame::new(trial.after, !trial.attacks, trial.left));
+        self.line.push(trial.step);
+    }
+
+    /// Goes back from the last level to the one before it.
+    pub(crate) fn back(&mut self)
+        ensures { self.new ≡ record self.old { line = drop 1 self.old.line; levels = drop 1 self.old.levels } }
+    {
+        let count = self.frames.len();
+        self.frames.truncate(count.saturating_sub(1));
+        let played = self.line.len();
+        self.line.truncate(played.saturating_sub(1));
+    }
+}
+
+/// The position after a move of a level, and whose the move is.
+fn trial_of<B: Board>(frame: &Frame<B>, step: Move<B>) -> Trial<B>
+    requires { Legal B.geometry frame.now.position step }
+    ensures step { result.step ≡ step }
+    ensures after { result.after ≡ play B.geometry frame.now.position step }
+    ensures attacks { result.attacks ≡ frame.now.attacks }
+    ensures left { result.left ≡ left_after frame.now.attacks frame.now.left }
+{
+    let attacks = frame.attacks();
+    Trial {
+        step,
+        after: played(frame.position(), &step),
+        attacks,
+        left: left_behind(attacks, frame.left()),
+    }
+}

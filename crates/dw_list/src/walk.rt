@@ -1,0 +1,90 @@
+//! The walk over a stack, from line to line.
+ghost use Rattle.std.specs.Prelude.{◌≡◌, IfOk, OnErr, if◌then◌else◌};
+ghost use Rattle.dw_list.specs.Asking.{Asked};
+ghost use Rattle.dw_list.specs.Walking.{HasStepped, SameToCome, GivesNext};
+
+use crate::going::keeps;
+use crate::stack::{Stack, Task};
+use dw_board::board::Board;
+use dw_memo::memo::Memo;
+use dw_moves::laws::moves_have_keys;
+use dw_solve::guide::Guide;
+use dw_solve::laws::searches_add_up;
+use dw_solve::solver::Solver;
+use dw_solve::stop::Stop;
+use std::alloc::Global;
+
+/// What one step of a walk met.
+#[derive(Clone, Copy)]
+pub(crate) enum Step {
+    /// The end: no line is still to come.
+    Over,
+    /// A line.
+    Given,
+    /// Neither.
+    On,
+}
+
+/// Walks to the next line, and answers whether there is one. After a stop the lines still to come are what they were.
+pub(crate) fn walk<B: Board, M: Memo<B>, G: Guide<B>>(
+    alloc: Global,
+    solver: &mut Solver<B, M, G>,
+    stack: &mut Stack<B>,
+) -> Result<bool, Stop>
+    ensures next { IfOk result (λ more. GivesNext B.geometry more stack.old stack.new) }
+    ensures stopped { OnErr result (SameToCome B.geometry stack.old stack.new) }
+    ensures asked { Asked B.geometry M.content M.dropped stack.old.moves solver.old solver.new result }
+{
+    searches_add_up();
+    moves_have_keys();
+    let _ = solver.limit();
+    'steps: loop {
+        match take_step(alloc, solver, stack)? {
+            Step::Over => return Ok(false),
+            Step::Given => return Ok(true),
+            Step::On => {}
+        }
+    }
+}
+
+/// Takes one step.
+fn take_step<B: Board, M: Memo<B>, G: Guide<B>>(
+    alloc: Global,
+    solver: &mut Solver<B, M, G>,
+    stack: &mut Stack<B>,
+) -> Result<Step, Stop>
+    ensures stepped { IfOk result (λ met. HasStepped B.geometry met stack.old stack.new) }
+    ensures stopped { OnErr result (stack.new ≡ stack.old) }
+    ensures asked { Asked B.geometry M.content M.dropped stack.old.moves solver.old solver.new result }
+{
+    searches_add_up();
+    let _ = solver.limit();
+    let _ = stack.moves();
+    match stack.task() {
+        Task::Over => Ok(Step::Over),
+        Task::Unlisted => {
+            let is_end = stack.list(alloc)?;
+            Ok(listed_step(is_end))
+        }
+        Task::Try(trial) => {
+            let kept = keeps(alloc, solver, &trial.after, trial.attacks, trial.left)?;
+            if kept {
+                stack.enter(&trial);
+            } else {
+                stack.pass();
+            }
+            Ok(Step::On)
+        }
+        Task::Passed => {
+            stack.back();
+            Ok(Step::On)
+        }
+    }
+}
+
+/// What is met where the moves of a level were listed.
+fn listed_step(is_end: bool) -> Step
+    ensures { result ≡ (if is_end then Step.Given else Step.On) }
+{
+    if is_end { Step::Given } else { Step::On }
+}
