@@ -1,10 +1,12 @@
-//! Tests of the caches, of the solver, of the texts and of the reports, over public calls: at the boards of ten and of
+//! Tests of the caches, of the solver, of the lines, of the texts and of the reports, over public calls: at the boards of ten and of
 //! eight rows.
 //!
 //! They hold what no clause says: worked rows, printed texts, a call of each public function, and streams and
 //! allocations that fail.
 #![tactic(auto)]
 
+#[cfg(test)]
+mod list;
 #[cfg(test)]
 mod memo;
 #[cfg(test)]

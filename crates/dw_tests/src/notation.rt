@@ -710,7 +710,12 @@ fn check_texts<B: Board>(rt: &impl Abort, alloc: Global, rows: &[Texts]) {
     }
 }
 
-fn move_of<B: Board>(rt: &impl Abort, alloc: Global, position: &Position<B>, text: &str) -> Move<B>
+pub(crate) fn move_of<B: Board>(
+    rt: &impl Abort,
+    alloc: Global,
+    position: &Position<B>,
+    text: &str,
+) -> Move<B>
     ensures { Legal B.geometry position.now result }
 {
     let step = read_move(alloc, position, text.as_bytes())
@@ -768,6 +773,9 @@ fn moves_and_lines_are_written(rt: HostRuntime) {
     laws::sections_are_found();
     laws::comments_say_nothing();
     laws::others_say_nothing();
+    laws::texts_are_rows();
+    laws::unfinished_give_nothing();
+    laws::lines_have_texts();
     laws::moves_have_texts();
     laws::texts_have_one_answer();
     laws::written_moves_are_read();

@@ -1,6 +1,6 @@
 //! Forced wins: worked answers, with each cache and each order of moves; what is counted, and where a search stops.
 
-mod table;
+pub(crate) mod table;
 
 use crate::memo::position_of;
 use dw_board::board::{Board, Eight, Ten};
@@ -67,6 +67,7 @@ fn moves_are_tried(rt: HostRuntime) {
     laws::closed_is_true();
     laws::decided_are_counted();
     laws::searches_add_up();
+    laws::no_win_in_one();
 }
 
 /// A position, a number of moves, and the answer.
