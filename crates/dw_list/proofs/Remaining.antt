@@ -15,7 +15,7 @@ use Rattle.dw_list.proofs.Ways.{goes_to, goes_from}
 use Rattle.dw_list.proofs.Listings.{ascending_parts}
 
 -- how a line goes on at a level is how it goes on at the next one, behind the move
-goes_next : (g : Geometry) (f : Level) (m : Move) (a : Bool) (q : Placement) (k : ℕ) (t : List Move) → a ≡ not f.attacks → q ≡ play g f.position m → k ≡ left_after f.attacks f.left → GoesOn g f.attacks f.position f.left (m ∷ t) → GoesOn g a q k t
+pub goes_next : (g : Geometry) (f : Level) (m : Move) (a : Bool) (q : Placement) (k : ℕ) (t : List Move) → a ≡ not f.attacks → q ≡ play g f.position m → k ≡ left_after f.attacks f.left → GoesOn g f.attacks f.position f.left (m ∷ t) → GoesOn g a q k t
 goes_next g f m a q k t ea eq ek h =
     subst (λ z. GoesOn g z q k t) (sym ea) (subst (λ z. GoesOn g (not f.attacks) z k t) (sym eq) (subst (λ z. GoesOn g (not f.attacks) (play g f.position m) z t) (sym ek) (goes_from g f.attacks f.position f.left m t h).1))
 

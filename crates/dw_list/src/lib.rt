@@ -2,6 +2,7 @@
 #![tactic(auto)]
 
 pub mod all_lines;
+mod following;
 mod frame;
 mod going;
 pub mod laws;

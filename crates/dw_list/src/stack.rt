@@ -85,6 +85,8 @@ impl<B: Board> Stack<B> {
     pub(crate) fn moves(&self) -> u8
         ensures moves { result ≡ self.now.moves }
         ensures few { result ≤ 20 }
+        ensures levels { AreLevels B.geometry self.now.position self.now.moves self.now.levels self.now.line }
+        ensures fits { length self.now.levels ≤ 2 * self.now.moves }
     {
         self.moves
     }
