@@ -7,7 +7,7 @@ use Rattle.dw_board.specs.Geometry.{Geometry}
 use Rattle.dw_board.specs.Placement.{Placement}
 use Rattle.dw_moves.specs.Moves.{Move, Legal, play}
 use Rattle.dw_list.specs.Going.{left_after, Keeps}
-use Rattle.dw_list.specs.Standing.{Level, Standing, AreLevels}
+use Rattle.dw_list.specs.Standing.{Level, Standing, AreLevels, IsFew}
 use Rattle.dw_list.specs.declared.stack.Trial.{Trial}
 use Rattle.dw_list.specs.Tasks.{IsTrial}
 use Rattle.dw_list.specs.Steps.{begun, first_ahead, passed, passed_last, with_ahead, IsListing}
@@ -51,32 +51,32 @@ pub back_of : {X : Type 0} (xs ys : List X) (n : ℕ) → n ≡ length xs - 1 �
 back_of xs ys n e is = ap reverse (is ∙ ap (λ z. take z xs) e) ∙ end_or_none xs
 
 module _ (g : Geometry) (p : Placement) (n : ℕ) where
-  pub inside_passed : (old popped new : List Level) (f h : Level) (line : List Move) → old ≡ popped ++ f ∷ [] → new ≡ popped ++ h ∷ [] → h ≡ passed f → AreLevels g p n (reverse old) line × (length old ≤ 2 * n) × (n ≤ 20) → AreLevels g p n (reverse new) line × (length new ≤ 2 * n) × (n ≤ 20)
+  pub inside_passed : (old popped new : List Level) (f h : Level) (line : List Move) → old ≡ popped ++ f ∷ [] → new ≡ popped ++ h ∷ [] → h ≡ passed f → AreLevels g p n (reverse old) line × (length old ≤ 2 * n) × IsFew n → AreLevels g p n (reverse new) line × (length new ≤ 2 * n) × IsFew n
   inside_passed old popped new f h line was is passes inv =
       let before = subst (λ z. AreLevels g p n z line) (end_first old popped f was) inv.0 in
       let after = levels_passed g p n (f ∷ reverse popped) line before in
       let same : reverse new ≡ passed f ∷ reverse popped = end_first new popped h is ∙ ap (λ z. z ∷ reverse popped) passes in
       (subst (λ z. AreLevels g p n z line) (sym same) after, omega (arith, inv.1, ap length was, ap length is, length-append popped (f ∷ []), length-append popped (h ∷ [])), inv.2)
 
-  pub inside_listed : (old popped new : List Level) (f h : Level) (line : List Move) → old ≡ popped ++ f ∷ [] → new ≡ popped ++ h ∷ [] → IsListing g f h → AreLevels g p n (reverse old) line × (length old ≤ 2 * n) × (n ≤ 20) → AreLevels g p n (reverse new) line × (length new ≤ 2 * n) × (n ≤ 20)
+  pub inside_listed : (old popped new : List Level) (f h : Level) (line : List Move) → old ≡ popped ++ f ∷ [] → new ≡ popped ++ h ∷ [] → IsListing g f h → AreLevels g p n (reverse old) line × (length old ≤ 2 * n) × IsFew n → AreLevels g p n (reverse new) line × (length new ≤ 2 * n) × IsFew n
   inside_listed old popped new f h line was is listing inv =
       let before = subst (λ z. AreLevels g p n z line) (end_first old popped f was) inv.0 in
       let after = levels_listed g p n f h (reverse popped) line before listing in
       (subst (λ z. AreLevels g p n z line) (sym (end_first new popped h is)) after, omega (arith, inv.1, ap length was, ap length is, length-append popped (f ∷ []), length-append popped (h ∷ [])), inv.2)
 
-  pub inside_back : (old new : List Level) (line line' : List Move) → reverse new ≡ drop 1 (reverse old) → line' ≡ drop 1 line → length new ≤ length old → AreLevels g p n (reverse old) line × (length old ≤ 2 * n) × (n ≤ 20) → AreLevels g p n (reverse new) line' × (length new ≤ 2 * n) × (n ≤ 20)
+  pub inside_back : (old new : List Level) (line line' : List Move) → reverse new ≡ drop 1 (reverse old) → line' ≡ drop 1 line → length new ≤ length old → AreLevels g p n (reverse old) line × (length old ≤ 2 * n) × IsFew n → AreLevels g p n (reverse new) line' × (length new ≤ 2 * n) × IsFew n
   inside_back old new line line' is is' less inv =
       (subst (λ z. AreLevels g p n z line') (sym is) (subst (λ z. AreLevels g p n (drop 1 (reverse old)) z) (sym is') (levels_back g p n (reverse old) line inv.0)), omega (arith, less, inv.1), inv.2)
 
   -- what is known before a move is entered
-  pub inside_first : (old popped : List Level) (f : Level) (line : List Move) (m : Move) → old ≡ popped ++ f ∷ [] → first_ahead f.ahead ≡ Some m → AreLevels g p n (reverse old) line × (length old ≤ 2 * n) × (n ≤ 20) → (length line + 2 ≤ 2 * n) × (length popped + 2 ≤ 2 * n)
+  pub inside_first : (old popped : List Level) (f : Level) (line : List Move) (m : Move) → old ≡ popped ++ f ∷ [] → first_ahead f.ahead ≡ Some m → AreLevels g p n (reverse old) line × (length old ≤ 2 * n) × IsFew n → (length line + 2 ≤ 2 * n) × (length popped + 2 ≤ 2 * n)
   inside_first old popped f line m was first inv =
       let before = subst (λ z. AreLevels g p n z line) (end_first old popped f was) inv.0 in
       let count : length (reverse popped) + 1 ≤ 2 * n = omega (arith, inv.1, ap length was, length-append popped (f ∷ []), length-reverse popped) in
       let room = room_entered g p n f (reverse popped) line m before count first in
       (room.0, omega (arith, room.1, length-reverse popped))
 
-  pub inside_entered : (old popped new : List Level) (f h c : Level) (line line' : List Move) (m : Move) (after : Placement) (attacks : Bool) (left : ℕ) → old ≡ popped ++ f ∷ [] → new ≡ (popped ++ h ∷ []) ++ c ∷ [] → h ≡ passed f → line' ≡ m ∷ line → first_ahead f.ahead ≡ Some m → after ≡ play g f.position m → attacks ≡ f.attacks → left ≡ left_after f.attacks f.left → c ≡ begun after (not attacks) left → Keeps g attacks after left → AreLevels g p n (reverse old) line × (length old ≤ 2 * n) × (n ≤ 20) → AreLevels g p n (reverse new) line' × (length new ≤ 2 * n) × (n ≤ 20)
+  pub inside_entered : (old popped new : List Level) (f h c : Level) (line line' : List Move) (m : Move) (after : Placement) (attacks : Bool) (left : ℕ) → old ≡ popped ++ f ∷ [] → new ≡ (popped ++ h ∷ []) ++ c ∷ [] → h ≡ passed f → line' ≡ m ∷ line → first_ahead f.ahead ≡ Some m → after ≡ play g f.position m → attacks ≡ f.attacks → left ≡ left_after f.attacks f.left → c ≡ begun after (not attacks) left → Keeps g attacks after left → AreLevels g p n (reverse old) line × (length old ≤ 2 * n) × IsFew n → AreLevels g p n (reverse new) line' × (length new ≤ 2 * n) × IsFew n
   inside_entered old popped new f h c line line' m after attacks left was is passes is' first after_is attacks_is left_is begins keeps inv =
       let before = subst (λ z. AreLevels g p n z line) (end_first old popped f was) inv.0 in
       let count : length (reverse popped) + 1 ≤ 2 * n = omega (arith, inv.1, ap length was, length-append popped (f ∷ []), length-reverse popped) in

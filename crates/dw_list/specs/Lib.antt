@@ -9,3 +9,4 @@ pub mod Walking
 pub mod Listing
 pub mod Lending
 pub mod Seeking
+pub mod Faults

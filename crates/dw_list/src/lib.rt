@@ -2,6 +2,7 @@
 #![tactic(auto)]
 
 pub mod all_lines;
+pub mod fault;
 mod following;
 mod frame;
 mod going;
