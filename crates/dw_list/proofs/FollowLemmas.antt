@@ -1,5 +1,5 @@
 -- Following a list of moves, level by level.
-use Rattle.std.proofs.Common.{◌≡◌, ℕ, ◌+◌, ◌≤◌, ◌<◌, zero, suc, Bool, true, false, Some, None, Option, List, [], ◌∷◌, ◌++◌, length, take, drop, get_or, reverse, refl, sym, ap, ◌∙◌, subst, ◌⊎◌, inl, inr, arith}
+use Rattle.std.proofs.Common.{◌≡◌, ℕ, ◌+◌, ◌≤◌, ◌<◌, zero, suc, Bool, true, false, Some, None, Option, List, [], ◌∷◌, ◌++◌, length, take, get_or, reverse, refl, sym, ap, ◌∙◌, subst, inl, inr, arith}
 use mathlib.Core.List.{reverse_aux}
 use Rattle.std.specs.Prelude.{not}
 use Rattle.std.proofs.lemmas.Bool.{true≢false}
@@ -8,14 +8,14 @@ use Rattle.std.proofs.lemmas.List.{reverse-reverse, reverse-append, length-rever
 use Rattle.dw_board.specs.Geometry.{Geometry}
 use Rattle.dw_board.specs.Placement.{Placement}
 use Rattle.dw_moves.specs.Moves.{Member, Move, Legal, play}
-use Rattle.dw_moves.specs.MemberLaws.{mem_cases, mem_split, mem_at, mem_right}
+use Rattle.dw_moves.specs.MemberLaws.{mem_cases, mem_split, mem_right}
 use Rattle.dw_moves.specs.Order.{Precedes, IsListOf}
 use Rattle.dw_moves.specs.Laws.{MovesHaveKeys, MovesListed}
-use Rattle.dw_solve.specs.Wins.{Win, Lost}
+use Rattle.dw_solve.specs.Wins.{Win}
 use Rattle.dw_list.specs.Lines.{Line, Before, Lines, After, Begins, IsPlace}
 use Rattle.dw_list.specs.Going.{GoesOn, IsNext, left_after, BeginsAmong, Keeps}
-use Rattle.dw_list.specs.Standing.{Level, Standing, IsAhead, IsBehind, Remains, IsStillAhead, AreToCome, AreBehind, Leads, AreLevels}
-use Rattle.dw_list.specs.Steps.{begun, with_ahead, IsListing}
+use Rattle.dw_list.specs.Standing.{Level, Standing, IsAhead, IsBehind, Remains, IsStillAhead, AreBehind, Leads, AreLevels}
+use Rattle.dw_list.specs.Steps.{begun, with_ahead}
 use Rattle.dw_list.specs.declared.stack.Trial.{Trial}
 use Rattle.dw_list.specs.Tasks.{IsTrial, IsListed}
 use Rattle.dw_list.specs.Seeking.{SomePassed, IsNotAhead, IsUnlisted, WentOn, GoOnWith, IsAlong}
@@ -25,7 +25,7 @@ use Rattle.dw_list.proofs.Listings.{ascending_parts}
 use Rattle.dw_list.proofs.Orders.{precedes_asym, before_asym}
 use Rattle.dw_list.proofs.Deciding.{win_line, lost_goes_on}
 use Rattle.dw_list.proofs.StackLemmas.{leads_lost}
-use Rattle.dw_list.proofs.Remaining.{goes_next, leads_line, remains_here, remains_later}
+use Rattle.dw_list.proofs.Remaining.{goes_next, leads_line, remains_later}
 
 -- a line along the levels goes on behind them
 pub leads_back : (g : Geometry) (p : Placement) (n : ℕ) (outer : List Level) (line : List Move) (a : Bool) (q : Placement) (k : ℕ) → Leads g p n outer line a q k → (t : List Move) → Line g p n (reverse_aux line t) → GoesOn g a q k t
@@ -43,10 +43,10 @@ leads_goes_on listed g p n (f ∷ outer) [] a q k h some = absurd h
 leads_goes_on listed g p n (f ∷ outer) (m ∷ line) false q k h some = lost_goes_on listed g k q (leads_lost g p n (f ∷ outer) (m ∷ line) q k h)
 leads_goes_on listed g p n (f ∷ outer) (m ∷ line) true q k h some =
     win_line listed g k q (won f.attacks f.left h.0 h.1 h.3 h.5) where
-  won : (b : Bool) (j : ℕ) → Leads g p n outer line b f.position j → IsNext g b f.position j m → true ≡ not b → k ≡ left_after b j → Win g q k
-  won true j leads next e ek = absurd (true≢false e)
-  won false j leads next e ek =
-      subst (λ z. Win g z k) (sym h.4) (subst (λ z. Win g (play g f.position m) z) (sym ek) (leads_lost g p n outer line f.position j leads m next))
+      won : (b : Bool) (j : ℕ) → Leads g p n outer line b f.position j → IsNext g b f.position j m → true ≡ not b → k ≡ left_after b j → Win g q k
+      won true j leads next e ek = absurd (true≢false e)
+      won false j leads next e ek =
+          subst (λ z. Win g z k) (sym h.4) (subst (λ z. Win g (play g f.position m) z) (sym ek) (leads_lost g p n outer line f.position j leads m next))
 
 -- what comes after the line along the levels is still ahead of them
 pub before_remains : MovesHaveKeys → (g : Geometry) (p : Placement) (n : ℕ) (outer : List Level) (line : List Move) (a : Bool) (q : Placement) (k : ℕ) → Leads g p n outer line a q k → (s : List Move) (P : List Move → Type 0) → ((t : List Move) → GoesOn g a q k t → Before g q s t → P t) → (l : List Move) → Line g p n l → Before g p (reverse_aux line s) l → Remains outer line P l
@@ -56,21 +56,21 @@ before_remains keys g p n [] (m ∷ line) a q k h s P to l here less = absurd h
 before_remains keys g p n (f ∷ outer) [] a q k h s P to l here less = absurd h
 before_remains keys g p n (f ∷ outer) (m ∷ line) a q k h s P to l here less =
     before_remains keys g p n outer line f.attacks f.position f.left h.0 (m ∷ s) (IsBehind f.ahead m P) (λ t on lower. ways f.ahead h.2 t on lower) l here less where
-  ways : (o : Option (List Move)) → AreBehind g f.position m o → (t : List Move) → GoesOn g f.attacks f.position f.left t → Before g f.position (m ∷ s) t → IsBehind o m P t
-  ways None behind t on lower = absurd behind
-  ways (Some ms) behind [] on lower = absurd lower
-  ways (Some ms) behind (r ∷ t) on lower = elim lower [
-    | inl first ↦
-        let legal = next_legal g f.attacks f.position f.left r (goes_from g f.attacks f.position f.left r t on).0 in
-        elim (mem_cases r behind.0 (m ∷ ms) ((behind.1.exactly r).1 legal)) [
-          | inl early ↦ absurd (precedes_asym keys g f.position r m ((ascending_parts (Precedes g f.position) behind.0 (m ∷ ms) behind.1.ascending).1 r m early (inl refl)) first)
-          | inr (inl e) ↦ absurd (let twice : Precedes g f.position m m = subst (Precedes g f.position m) e first in precedes_asym keys g f.position m m twice twice)
-          | inr (inr late) ↦ inl late
-        ]
-    | inr rest ↦
-        let same : m ≡ r = rest.0 in
-        inr (t, (λ i. sym same i ∷ t), to t (goes_next g f m a q k t h.3 h.4 h.5 (subst (λ z. GoesOn g f.attacks f.position f.left (z ∷ t)) (sym same) on)) (subst (λ z. Before g z s t) (sym h.4) rest.1))
-  ]
+      ways : (o : Option (List Move)) → AreBehind g f.position m o → (t : List Move) → GoesOn g f.attacks f.position f.left t → Before g f.position (m ∷ s) t → IsBehind o m P t
+      ways None behind t on lower = absurd behind
+      ways (Some ms) behind [] on lower = absurd lower
+      ways (Some ms) behind (r ∷ t) on lower = elim lower [
+        | inl first ↦
+            let legal = next_legal g f.attacks f.position f.left r (goes_from g f.attacks f.position f.left r t on).0 in
+            elim (mem_cases r behind.0 (m ∷ ms) ((behind.1.exactly r).1 legal)) [
+              | inl early ↦ absurd (precedes_asym keys g f.position r m ((ascending_parts (Precedes g f.position) behind.0 (m ∷ ms) behind.1.ascending).1 r m early (inl refl)) first)
+              | inr (inl e) ↦ absurd (let twice : Precedes g f.position m m = subst (Precedes g f.position m) e first in precedes_asym keys g f.position m m twice twice)
+              | inr (inr late) ↦ inl late
+            ]
+        | inr rest ↦
+            let same : m ≡ r = rest.0 in
+            inr (t, (λ i. sym same i ∷ t), to t (goes_next g f m a q k t h.3 h.4 h.5 (subst (λ z. GoesOn g f.attacks f.position f.left (z ∷ t)) (sym same) on)) (subst (λ z. Before g z s t) (sym h.4) rest.1))
+      ]
 
 -- LISTS AND THEIR BEGINNINGS
 
@@ -258,15 +258,15 @@ follows_short listed g p n l s new end h k no_end =
       earlier = λ j some less. begins_so_far listed g p n l (length l) s h (omega arith) j some (omega arith);
       leaves = λ low. absurd (omega arith);
     } where
-  nothing : {X : Type 0} (xs : List X) → xs ≡ xs ++ []
-  nothing [] = refl
-  nothing (x ∷ xs) = ap (λ z. x ∷ z) (nothing xs)
+      nothing : {X : Type 0} (xs : List X) → xs ≡ xs ++ []
+      nothing [] = refl
+      nothing (x ∷ xs) = ap (λ z. x ∷ z) (nothing xs)
 
-  ends : (a : Bool) (q : Placement) (j : ℕ) (ms : List Move) → ((m : Move) → Member m ms → Legal g q m) → GoesOn g a q j [] → (a ≡ false) × (ms ≡ [])
-  ends true q zero ms from on = absurd on
-  ends true q (suc j) ms from on = absurd on
-  ends false q j [] from on = (refl, refl)
-  ends false q j (m ∷ ms) from on = absurd (on m (from m (inl refl)))
+      ends : (a : Bool) (q : Placement) (j : ℕ) (ms : List Move) → ((m : Move) → Member m ms → Legal g q m) → GoesOn g a q j [] → (a ≡ false) × (ms ≡ [])
+      ends true q zero ms from on = absurd on
+      ends true q (suc j) ms from on = absurd on
+      ends false q j [] from on = (refl, refl)
+      ends false q j (m ∷ ms) from on = absurd (on m (from m (inl refl)))
 
 -- the list is a line
 pub follows_line : MovesHaveKeys → (g : Geometry) (p : Placement) (n : ℕ) (l : List Move) (s new : Standing) (end : Bool) → Follows g p n l (length l) s → IsListed g s new end → end ≡ true → IsAlong g p n l new
@@ -297,13 +297,13 @@ follows_line keys g p n l s new end h k ends_here =
           (λ z here less. before_remains keys g p n outer (reverse l) f.attacks f.position f.left leads' [] (IsAhead (Some [])) (λ t goes b. absurd (none_after f.position f.left t (subst (λ w. GoesOn g w f.position f.left t) defends goes) b (λ r legal. (all.exactly r).1 legal))) z here (subst (λ w. Before g p w z) (sym whole) less))
           line;
     }) where
-  levels_rest : (x y : Level) (xs ys : List Level) → x ∷ xs ≡ y ∷ ys → xs ≡ ys
-  levels_rest x y xs ys e = cc
+      levels_rest : (x y : Level) (xs ys : List Level) → x ∷ xs ≡ y ∷ ys → xs ≡ ys
+      levels_rest x y xs ys e = cc
 
-  begins_none : (t : List Move) → BeginsAmong [] t → ⊥
-  begins_none [] b = b
-  begins_none (m ∷ t) b = b
+      begins_none : (t : List Move) → BeginsAmong [] t → ⊥
+      begins_none [] b = b
+      begins_none (m ∷ t) b = b
 
-  none_after : (q : Placement) (j : ℕ) (t : List Move) → GoesOn g false q j t → Before g q [] t → ((r : Move) → Legal g q r → ⊥) → ⊥
-  none_after q j [] goes less none = less
-  none_after q j (r ∷ t) goes less none = none r goes.0
+      none_after : (q : Placement) (j : ℕ) (t : List Move) → GoesOn g false q j t → Before g q [] t → ((r : Move) → Legal g q r → ⊥) → ⊥
+      none_after q j [] goes less none = less
+      none_after q j (r ∷ t) goes less none = none r goes.0

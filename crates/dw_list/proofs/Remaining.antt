@@ -1,15 +1,13 @@
 -- What the steps of a stack do to the lines still to come.
-use Rattle.std.proofs.Common.{◌≡◌, ℕ, ◌+◌, ◌-◌, ◌*◌, ◌^◌, ◌≤◌, ◌<◌, ◌↔◌, zero, suc, Bool, true, false, Some, None, Option, List, [], ◌∷◌, ◌++◌, length, drop, reverse, refl, sym, ap, ◌∙◌, subst, ◌⊎◌, inl, inr, arith, IsTrue}
+use Rattle.std.proofs.Common.{◌≡◌, ℕ, Bool, true, Some, None, Option, List, [], ◌∷◌, refl, sym, ap, ◌∙◌, subst, ◌⊎◌, inl, inr}
 use mathlib.Core.List.{reverse_aux}
-use Rattle.std.specs.Prelude.{not, option_map}
-use Rattle.std.proofs.lemmas.Bool.{true≢false}
+use Rattle.std.specs.Prelude.{not}
 use Rattle.dw_board.specs.Geometry.{Geometry}
 use Rattle.dw_board.specs.Placement.{Placement}
-use Rattle.dw_moves.specs.Moves.{Member, Move, Legal, play}
-use Rattle.dw_moves.specs.MemberLaws.{mem_at}
-use Rattle.dw_moves.specs.Order.{Precedes, IsListOf}
+use Rattle.dw_moves.specs.Moves.{Move, play}
+use Rattle.dw_moves.specs.Order.{Precedes}
 use Rattle.dw_list.specs.Lines.{Line, Before}
-use Rattle.dw_list.specs.Going.{GoesOn, IsNext, left_after, BeginsAmong, Keeps}
+use Rattle.dw_list.specs.Going.{GoesOn, left_after}
 use Rattle.dw_list.specs.Standing.{Level, IsAhead, IsBehind, Remains, AreBehind, Leads}
 use Rattle.dw_list.proofs.Ways.{goes_to, goes_from}
 use Rattle.dw_list.proofs.Listings.{ascending_parts}

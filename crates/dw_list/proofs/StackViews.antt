@@ -1,17 +1,17 @@
 -- The levels of a stack, the last one first, as its frames change.
-use Rattle.std.proofs.Common.{◌≡◌, ℕ, ◌+◌, ◌-◌, ◌*◌, ◌≤◌, ◌<◌, ◌↔◌, zero, suc, Bool, true, false, Some, None, Option, List, [], ◌∷◌, ◌++◌, length, drop, take, get_or, reverse, refl, sym, ap, ◌∙◌, subst, arith, IsTrue, length-append}
+use Rattle.std.proofs.Common.{◌≡◌, ℕ, ◌+◌, ◌-◌, ◌*◌, ◌≤◌, ◌↔◌, zero, suc, Bool, true, false, Some, None, Option, List, [], ◌∷◌, ◌++◌, length, drop, take, get_or, reverse, refl, sym, ap, ◌∙◌, subst, arith, IsTrue, length-append}
 use Rattle.std.specs.Prelude.{not, IsSome, option_to_list, ◌==◌}
 use Rattle.std.proofs.lemmas.List.{reverse-append, length-reverse}
 use Rattle.std.proofs.lemmas.Bool.{true≢false}
 use Rattle.dw_board.specs.Geometry.{Geometry}
 use Rattle.dw_board.specs.Placement.{Placement}
-use Rattle.dw_moves.specs.Moves.{Move, Legal, play}
+use Rattle.dw_moves.specs.Moves.{Move, play}
 use Rattle.dw_list.specs.Going.{left_after, Keeps}
 use Rattle.dw_list.specs.Standing.{Level, Standing, AreLevels, IsFew}
 use Rattle.dw_list.specs.declared.stack.Trial.{Trial}
 use Rattle.dw_list.specs.Tasks.{IsTrial}
-use Rattle.dw_list.specs.Steps.{begun, first_ahead, passed, passed_last, with_ahead, IsListing}
-use Rattle.dw_list.proofs.StackLemmas.{levels_passed, levels_listed, levels_entered, levels_back, room_entered, behind_first}
+use Rattle.dw_list.specs.Steps.{begun, first_ahead, passed, IsListing}
+use Rattle.dw_list.proofs.StackLemmas.{levels_passed, levels_listed, levels_entered, levels_back, room_entered}
 
 abbrev pub standing : Placement → ℕ → List Move → List Level → Standing
 standing p n line levels = record { position = p; moves = n; line = line; levels = levels }
@@ -87,9 +87,11 @@ module _ (g : Geometry) (p : Placement) (n : ℕ) where
       let child : c ≡ begun (play g f.position m) (not f.attacks) (left_after f.attacks f.left) =
       begins ∙ ap (λ z. begun z (not attacks) left) after_is ∙ ap (λ z. begun (play g f.position m) (not z) left) attacks_is ∙ ap (λ z. begun (play g f.position m) (not f.attacks) z) left_is in
       let same : reverse new ≡ begun (play g f.position m) (not f.attacks) (left_after f.attacks f.left) ∷ (passed f ∷ reverse popped) =
-      end_first new (popped ++ h ∷ []) c is ∙ ap (λ z. z ∷ reverse (popped ++ h ∷ [])) child ∙ ap (λ z. begun (play g f.position m) (not f.attacks) (left_after f.attacks f.left) ∷ z) (end_first (popped ++ h ∷ []) popped h refl ∙ ap (λ z. z ∷ reverse popped) passes) in
-      (subst (λ z. AreLevels g p n z line') (sym same) (subst (λ z. AreLevels g p n (begun (play g f.position m) (not f.attacks) (left_after f.attacks f.left) ∷ passed f ∷ reverse popped) z) (sym is') entered),
-      omega (arith, room.1, ap length is, length-append (popped ++ h ∷ []) (c ∷ []), length-append popped (h ∷ [])), inv.2)
+      end_first new (popped ++ h ∷ []) c is ∙ ap (λ z. z ∷ reverse (popped ++ h ∷ [])) child ∙ ap (λ z. begun (play g f.position m) (not f.attacks) (left_after f.attacks f.left) ∷ z) (end_first (popped ++ h ∷ []) popped h refl ∙ ap (λ z. z ∷ reverse popped) passes) in (
+        subst (λ z. AreLevels g p n z line') (sym same) (subst (λ z. AreLevels g p n (begun (play g f.position m) (not f.attacks) (left_after f.attacks f.left) ∷ passed f ∷ reverse popped) z) (sym is') entered),
+        omega (arith, room.1, ap length is, length-append (popped ++ h ∷ []) (c ∷ []), length-append popped (h ∷ [])),
+        inv.2,
+      )
 
 -- what a frame says of its moves
 pub not_listed : (o : Option (List Move)) (b : Bool) → IsTrue b ↔ IsSome o → b ≡ false → o ≡ None
@@ -105,17 +107,17 @@ pub listing_ends : (g : Geometry) (f h : Level) (end : Bool) (listing : IsListin
 listing_ends g f h end listing e =
     let k = subst (λ (z : Level). IsTrue end ↔ ((z.attacks ≡ false) × (first_ahead z.ahead ≡ None))) listing.is e in
     ((λ t. let r = k.0 t in (r.0, none listing.moves r.1)), (λ r. k.1 (r.0, ap (λ z. first_ahead (Some z)) r.1))) where
-  none : (ms : List Move) → first_ahead (Some ms) ≡ None → ms ≡ []
-  none [] e = refl
-  none (m ∷ ms) e = cc
+      none : (ms : List Move) → first_ahead (Some ms) ≡ None → ms ≡ []
+      none [] e = refl
+      none (m ∷ ms) e = cc
 
 pub at_last : (now items xs : List Level) (n : ℕ) (x : Level) (b : Bool) → reverse items ≡ now → xs ≡ items → b ≡ (length xs == 0) → b ≡ false → n ≡ length xs - 1 → x ≡ get_or xs n x → (outer : List Level) × (now ≡ x ∷ outer)
 at_last now items xs n x b is same empty not_so e at =
     let k = last_item xs n x (long xs n b empty not_so e) at in
     (reverse k.0, sym is ∙ ap reverse (sym same) ∙ end_first xs k.0 x k.1) where
-  long : (xs : List Level) (n : ℕ) (b : Bool) → b ≡ (length xs == 0) → b ≡ false → n ≡ length xs - 1 → n + 1 ≡ length xs
-  long [] n b empty not_so e = absurd (true≢false (sym empty ∙ not_so))
-  long (y ∷ xs) n b empty not_so e = omega arith
+      long : (xs : List Level) (n : ℕ) (b : Bool) → b ≡ (length xs == 0) → b ≡ false → n ≡ length xs - 1 → n + 1 ≡ length xs
+      long [] n b empty not_so e = absurd (true≢false (sym empty ∙ not_so))
+      long (y ∷ xs) n b empty not_so e = omega arith
 
 -- the stack with other levels
 pub with_levels : (s : Standing) (p : Placement) (n : ℕ) (line : List Move) (old new wanted : List Level) → standing p n line old ≡ s → new ≡ wanted → standing p n line new ≡ record s { levels = wanted }
@@ -129,5 +131,5 @@ pub same_trial : {B : Type 0} (g : Geometry) (levels outer : List Level) (f : Le
 same_trial g levels outer f t are trial =
     let same : trial.last ≡ f = heads trial.last f trial.outer outer (sym trial.are ∙ are) in
     subst (λ (z : Level). (first_ahead z.ahead ≡ Some t.step) × (t.after ≡ play g z.position t.step) × (t.attacks ≡ z.attacks) × (t.left ≡ left_after z.attacks z.left)) same (trial.first, trial.after, trial.attacks, trial.left) where
-  heads : (x y : Level) (xs ys : List Level) → x ∷ xs ≡ y ∷ ys → x ≡ y
-  heads x y xs ys e = cc
+      heads : (x y : Level) (xs ys : List Level) → x ∷ xs ≡ y ∷ ys → x ≡ y
+      heads x y xs ys e = cc

@@ -1,5 +1,5 @@
 -- Going along given moves.
-use Rattle.std.specs.Prelude.{◌≡◌, ℕ, Option, Some, None, List, [], ◌∷◌, reverse, length}
+use Rattle.std.specs.Prelude.{◌≡◌, ℕ, None, List, ◌∷◌, reverse}
 use Rattle.dw_board.specs.Geometry.{Geometry}
 use Rattle.dw_board.specs.Placement.{Placement}
 use Rattle.dw_moves.specs.Moves.{Member, Move}

@@ -1,5 +1,5 @@
 use Rattle.std.proofs.Common.{◌<◌, ◌+◌, ◌≡◌, [], ◌∷◌, ◌++◌, sym, ap, ◌∙◌, reverse, arith, length, length-append, lit<}
-use Rattle.std.proofs.lemmas.List.{reverse-append, length-reverse}
+use Rattle.std.proofs.lemmas.List.{length-reverse}
 use Rattle.dw_list.specs.Standing.{Standing}
 use Rattle.dw_list.proofs.StackViews.{end_of, end_first, inside_first, inside_entered, same_trial}
 use Rattle.dw_list.proofs.stack.Stack.enter.Goals as goal
