@@ -1,11 +1,10 @@
 -- Questions to a solver one after another.
-use Rattle.std.proofs.Common.{◌≡◌, ℕ, ◌+◌, ◌≤◌, refl, sym, subst, ◌∙◌, ap, arith, Result, Ok, Err, IsErrOf, zero-add}
+use Rattle.std.proofs.Common.{◌≡◌, ℕ, ◌≤◌, refl, sym, subst, ◌∙◌, ap, arith, Result, Ok, Err, IsErrOf, zero-add}
 use Rattle.std.specs.Result.{IsErrAnd}
 use Rattle.dw_board.specs.Geometry.{Geometry}
 use Rattle.dw_memo.specs.Content.{Content}
 use Rattle.dw_solve.specs.declared.stop.Stop.{Stop}
 use Rattle.dw_solve.specs.declared.stop.Stop.TheVariants.{Limit, Memory}
-use Rattle.dw_solve.specs.Searching.{IsCounted}
 use Rattle.dw_solve.specs.Solving.{Solving}
 use Rattle.dw_solve.specs.Work.{Moment, Searched, cut_off}
 use Rattle.dw_solve.specs.Laws.{SearchesAddUp}

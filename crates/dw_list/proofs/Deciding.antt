@@ -10,9 +10,9 @@ use Rattle.dw_moves.specs.Order.{Precedes, IsAscending, IsListOf}
 use Rattle.dw_moves.specs.Laws.{MovesListed, MovesInOrder}
 use Rattle.dw_solve.specs.Wins.{Win, Lost}
 use Rattle.dw_solve.specs.Laws.{WinsAreDecided}
-use Rattle.dw_list.specs.Lines.{Line, Before, Lines}
-use Rattle.dw_list.specs.Going.{GoesOn, IsNext, left_after, BeginsAmong, AreWays, AreWaysAmong}
-use Rattle.dw_list.proofs.Ways.{goes_to, goes_from, next_legal, no_ways, ways_then, ways_through, ways_barred, ways_of_attacker, ways_of_defender, ways_end}
+use Rattle.dw_list.specs.Lines.{Line}
+use Rattle.dw_list.specs.Going.{GoesOn, IsNext, left_after, AreWays, AreWaysAmong}
+use Rattle.dw_list.proofs.Ways.{goes_to, goes_from, no_ways, ways_then, ways_through, ways_barred, ways_of_attacker, ways_of_defender, ways_end}
 
 -- SOME LINE
 

@@ -7,8 +7,7 @@ use Rattle.dw_board.specs.Placement.{Placement}
 use Rattle.dw_moves.specs.Moves.{Move, Legal, play}
 use Rattle.dw_moves.specs.Order.{Precedes, IsListOf}
 use Rattle.dw_moves.specs.MemberLaws.{mem_at}
-use Rattle.dw_list.specs.Lines.{Before}
-use Rattle.dw_list.specs.Going.{GoesOn, left_after, AreWays, AreWaysAmong, Keeps, AreWaysThrough, AreAdded}
+use Rattle.dw_list.specs.Going.{left_after, AreWays, AreWaysAmong, Keeps, AreWaysThrough, AreAdded}
 use Rattle.dw_list.proofs.Ways.{through_kept, through_barred, ways_more, ways_all, ways_none}
 
 -- a list in three parts at one of its elements

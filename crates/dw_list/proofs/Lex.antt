@@ -1,5 +1,5 @@
 -- Lexicographic order.
-use Rattle.std.proofs.Common.{◌≡◌, ℕ, ◌<◌, List, [], ◌∷◌, ◌∙◌, ◌⊎◌, inl, inr, arith}
+use Rattle.std.proofs.Common.{ℕ, List, [], ◌∷◌, ◌∙◌, inl, inr, arith}
 use Rattle.dw_moves.specs.Order.{LexLess}
 
 lex_irrefl : (xs : List ℕ) → LexLess xs xs → ⊥

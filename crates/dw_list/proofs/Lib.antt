@@ -11,3 +11,5 @@ pub mod StackLemmas
 pub mod StackViews
 pub mod Remaining
 pub mod StepLemmas
+pub mod FollowLemmas
+pub mod SeekLemmas

@@ -1,21 +1,19 @@
 -- What the steps of a stack do to the lines still to come.
-use Rattle.std.proofs.Common.{◌≡◌, ℕ, ◌+◌, ◌-◌, ◌*◌, ◌^◌, ◌≤◌, ◌<◌, ◌↔◌, zero, suc, Bool, true, false, Some, None, Option, List, [], ◌∷◌, ◌++◌, length, drop, reverse, refl, sym, ap, ◌∙◌, subst, ◌⊎◌, inl, inr, arith, IsTrue}
+use Rattle.std.proofs.Common.{◌≡◌, ℕ, Bool, true, Some, None, Option, List, [], ◌∷◌, refl, sym, ap, ◌∙◌, subst, ◌⊎◌, inl, inr}
 use mathlib.Core.List.{reverse_aux}
-use Rattle.std.specs.Prelude.{not, option_map}
-use Rattle.std.proofs.lemmas.Bool.{true≢false}
+use Rattle.std.specs.Prelude.{not}
 use Rattle.dw_board.specs.Geometry.{Geometry}
 use Rattle.dw_board.specs.Placement.{Placement}
-use Rattle.dw_moves.specs.Moves.{Member, Move, Legal, play}
-use Rattle.dw_moves.specs.MemberLaws.{mem_at}
-use Rattle.dw_moves.specs.Order.{Precedes, IsListOf}
+use Rattle.dw_moves.specs.Moves.{Move, play}
+use Rattle.dw_moves.specs.Order.{Precedes}
 use Rattle.dw_list.specs.Lines.{Line, Before}
-use Rattle.dw_list.specs.Going.{GoesOn, IsNext, left_after, BeginsAmong, Keeps}
+use Rattle.dw_list.specs.Going.{GoesOn, left_after}
 use Rattle.dw_list.specs.Standing.{Level, IsAhead, IsBehind, Remains, AreBehind, Leads}
 use Rattle.dw_list.proofs.Ways.{goes_to, goes_from}
 use Rattle.dw_list.proofs.Listings.{ascending_parts}
 
 -- how a line goes on at a level is how it goes on at the next one, behind the move
-goes_next : (g : Geometry) (f : Level) (m : Move) (a : Bool) (q : Placement) (k : ℕ) (t : List Move) → a ≡ not f.attacks → q ≡ play g f.position m → k ≡ left_after f.attacks f.left → GoesOn g f.attacks f.position f.left (m ∷ t) → GoesOn g a q k t
+pub goes_next : (g : Geometry) (f : Level) (m : Move) (a : Bool) (q : Placement) (k : ℕ) (t : List Move) → a ≡ not f.attacks → q ≡ play g f.position m → k ≡ left_after f.attacks f.left → GoesOn g f.attacks f.position f.left (m ∷ t) → GoesOn g a q k t
 goes_next g f m a q k t ea eq ek h =
     subst (λ z. GoesOn g z q k t) (sym ea) (subst (λ z. GoesOn g (not f.attacks) z k t) (sym eq) (subst (λ z. GoesOn g (not f.attacks) (play g f.position m) z t) (sym ek) (goes_from g f.attacks f.position f.left m t h).1))
 

@@ -1,5 +1,5 @@
 -- What the steps of a stack keep.
-use Rattle.std.proofs.Common.{◌≡◌, ℕ, ◌+◌, ◌*◌, ◌≤◌, ◌<◌, zero, suc, Bool, true, false, cond, Some, None, Option, List, [], ◌∷◌, ◌++◌, length, drop, refl, sym, ap, ◌∙◌, subst, inl, inr, arith, IsTrue, append_assoc}
+use Rattle.std.proofs.Common.{◌≡◌, ℕ, ◌+◌, ◌*◌, ◌≤◌, zero, suc, Bool, true, false, cond, Some, None, Option, List, [], ◌∷◌, ◌++◌, length, drop, refl, sym, subst, arith, append_assoc}
 use Rattle.std.specs.Prelude.{not, option_map}
 use Rattle.std.proofs.lemmas.Bool.{true≢false}
 use Rattle.dw_board.specs.Geometry.{Geometry}
@@ -10,7 +10,7 @@ use Rattle.dw_moves.specs.Order.{Precedes, IsListOf}
 use Rattle.dw_solve.specs.Wins.{Win, Lost}
 use Rattle.dw_list.specs.Going.{IsNext, left_after, Keeps}
 use Rattle.dw_list.specs.Standing.{Level, AreLast, AreBehind, Leads, AreLevels}
-use Rattle.dw_list.specs.Steps.{begun, first_ahead, passed, with_ahead, IsListing, passed_last}
+use Rattle.dw_list.specs.Steps.{begun, first_ahead, passed, IsListing, passed_last}
 use Rattle.dw_list.proofs.Ways.{next_to}
 
 -- COUNTS

@@ -1,6 +1,6 @@
 -- The steps of a stack, and the line that it gives.
-use Rattle.std.proofs.Common.{◌≡◌, ℕ, ◌+◌, ◌-◌, ◌*◌, ◌^◌, ◌≤◌, ◌<◌, ◌↔◌, zero, suc, Bool, true, false, Some, None, Option, List, [], ◌∷◌, ◌++◌, length, drop, reverse, refl, sym, ap, ◌∙◌, subst, ◌⊎◌, inl, inr, arith, IsTrue}
-use Rattle.std.specs.Prelude.{not, option_map, if◌then◌else◌}
+use Rattle.std.proofs.Common.{◌≡◌, ℕ, ◌+◌, ◌-◌, ◌*◌, ◌^◌, ◌≤◌, ◌<◌, ◌↔◌, zero, suc, Bool, true, false, Some, None, Option, List, [], ◌∷◌, length, drop, reverse, refl, sym, ap, ◌∙◌, subst, inl, inr, arith}
+use Rattle.std.specs.Prelude.{not, if◌then◌else◌}
 use Rattle.std.proofs.lemmas.Bool.{true≢false}
 use Rattle.dw_board.specs.Geometry.{Geometry}
 use Rattle.dw_board.specs.Placement.{Placement}
@@ -8,9 +8,9 @@ use Rattle.dw_moves.specs.Moves.{Member, Move, Legal, play}
 use Rattle.dw_moves.specs.Order.{Precedes, IsListOf}
 use Rattle.dw_moves.specs.Laws.{MovesHaveKeys}
 use Rattle.dw_list.specs.Lines.{Line, Before}
-use Rattle.dw_list.specs.Going.{GoesOn, IsNext, left_after, BeginsAmong, Keeps}
-use Rattle.dw_list.specs.Standing.{Level, Standing, IsAhead, IsBehind, Remains, IsStillAhead, AreToCome, AreBehind, Leads, AreLevels}
-use Rattle.dw_list.specs.Steps.{begun, first_ahead, passed, passed_last, with_ahead, IsListing, cost_of_all, cost_of, cost, IsStep, IsGiven}
+use Rattle.dw_list.specs.Going.{GoesOn, left_after, BeginsAmong, Keeps}
+use Rattle.dw_list.specs.Standing.{Level, Standing, IsAhead, IsBehind, Remains, IsStillAhead, AreToCome, AreLevels}
+use Rattle.dw_list.specs.Steps.{begun, first_ahead, passed, passed_last, with_ahead, cost_of_all, cost_of, IsStep, IsGiven}
 use Rattle.dw_list.specs.declared.stack.Trial.{Trial}
 use Rattle.dw_list.specs.Tasks.{IsTrial, IsListed}
 use Rattle.dw_list.specs.declared.walk.Step.{Step}
@@ -145,9 +145,9 @@ module _ (g : Geometry) (p : Placement) (n : ℕ) (line : List Move) (f : Level)
           remains_later g p n outer line f.attacks f.position f.left levels.0 [] (IsAhead (Some [])) (λ t h. absurd (begins_none t h)) l r,
         );
       } where
-    ended : (t : List Move) → GoesOn g false f.position f.left t → t ≡ []
-    ended [] h = refl
-    ended (r ∷ t) h = absurd ((all.exactly r).1 h.0)
+        ended : (t : List Move) → GoesOn g false f.position f.left t → t ≡ []
+        ended [] h = refl
+        ended (r ∷ t) h = absurd ((all.exactly r).1 h.0)
 
 step_back_to : (g : Geometry) (p : Placement) (n : ℕ) (line : List Move) (f : Level) (outer : List Level) → AreLevels g p n (f ∷ outer) line → f.ahead ≡ Some [] → (l : List Move) → Line g p n l → IsStillAhead (f ∷ outer) line l ↔ IsStillAhead (drop 1 (f ∷ outer)) (drop 1 line) l
 step_back_to g p n [] f [] levels is l here = rw is ((λ h. begins_none l h), (λ h. absurd h))
@@ -258,8 +258,8 @@ module _ (g : Geometry) (s : Standing) (levels : AreLevels g s.position s.moves 
       let new_is : new ≡ standing s.position s.moves s.line (with_ahead h.last h.listing.moves ∷ h.outer) = h.is ∙ ap (λ z. standing s.position s.moves s.line (z ∷ h.outer)) h.listing.is in
       subst (IsStep g s) (sym new_is) (as_step h.last h.outer _ h.are (step_listed g s.position s.moves s.line h.last h.outer facts.0 facts.1 h.listing.moves ahead h.listing.all h.listing.few
       (λ a b. let t = h.end.1 (a, b) in true≢false (sym t ∙ no_end)))) where
-    heads : (x y : Level) (xs ys : List Level) → x ∷ xs ≡ y ∷ ys → x ≡ y
-    heads x y xs ys e = cc
+        heads : (x y : Level) (xs ys : List Level) → x ∷ xs ≡ y ∷ ys → x ≡ y
+        heads x y xs ys e = cc
 
   pub walk_given : (new : Standing) (end : Bool) → IsListed g s new end → (q : Level) (others : List Level) → s.levels ≡ q ∷ others → q.ahead ≡ None → end ≡ true → IsGiven g s new
   walk_given new end h q others is none ends_here =
@@ -272,8 +272,8 @@ module _ (g : Geometry) (s : Standing) (levels : AreLevels g s.position s.moves 
       let all = subst (IsListOf (Precedes g h.last.position) (Legal g h.last.position)) ends.1 h.listing.all in
       subst (IsGiven g s) (sym new_is) (subst (λ z. IsGiven g (standing s.position s.moves s.line z) (standing s.position s.moves s.line (with_ahead h.last [] ∷ h.outer))) (sym h.are)
       (step_given g s.position s.moves s.line h.last h.outer facts.0 facts.1 ahead ends.0 all)) where
-    heads : (x y : Level) (xs ys : List Level) → x ∷ xs ≡ y ∷ ys → x ≡ y
-    heads x y xs ys e = cc
+        heads : (x y : Level) (xs ys : List Level) → x ∷ xs ≡ y ∷ ys → x ≡ y
+        heads x y xs ys e = cc
 
   pub walk_back : (new : Standing) (q : Level) (others : List Level) → s.levels ≡ q ∷ others → q.ahead ≡ Some [] → new ≡ record s { line = drop 1 s.line; levels = drop 1 s.levels } → IsStep g s new
   walk_back new q others e ahead is =

@@ -9,7 +9,7 @@ use Rattle.dw_moves.specs.Order.{Precedes, IsListOf}
 use Rattle.dw_moves.specs.MemberLaws.{mem_left, mem_right, mem_cases, mem_at}
 use Rattle.dw_solve.specs.declared.stop.Stop.{Stop}
 use Rattle.dw_solve.specs.Wins.{Lost}
-use Rattle.dw_list.specs.Lines.{Line, Before}
+use Rattle.dw_list.specs.Lines.{Before}
 use Rattle.dw_list.specs.Going.{GoesOn, IsNext, left_after, BeginsAmong, AreWays, AreWaysAmong, Keeps, IsThrough, AreWaysThrough}
 use Rattle.dw_list.proofs.Listings.{none_listed, one_listed, listed_as, listed_then, listed_map, ascending_parts}
 
@@ -45,34 +45,34 @@ pub ways_then : (g : Geometry) (a : Bool) (p : Placement) (n : ℕ) (ms ns : Lis
 ways_then g a p n ms ns ls ks order =
     listed_then (Before g p) (λ l. GoesOn g a p n l × BeginsAmong ms l) (λ l. GoesOn g a p n l × BeginsAmong ns l) (λ l. GoesOn g a p n l × BeginsAmong (ms ++ ns) l) ls ks
     (λ x y h k. between x y h.1 k.1) (λ l h. (h.0, left l h.1)) (λ l h. (h.0, right l h.1)) (λ l h. either l h) where
-  between : (x y : List Move) → BeginsAmong ms x → BeginsAmong ns y → Before g p x y
-  between [] y h k = absurd h
-  between (m ∷ x) [] h k = absurd k
-  between (m ∷ x) (r ∷ y) h k = inl (order m r h k)
+      between : (x y : List Move) → BeginsAmong ms x → BeginsAmong ns y → Before g p x y
+      between [] y h k = absurd h
+      between (m ∷ x) [] h k = absurd k
+      between (m ∷ x) (r ∷ y) h k = inl (order m r h k)
 
-  left : (l : List Move) → BeginsAmong ms l → BeginsAmong (ms ++ ns) l
-  left [] h = h
-  left (m ∷ l) h = mem_left m ms ns h
+      left : (l : List Move) → BeginsAmong ms l → BeginsAmong (ms ++ ns) l
+      left [] h = h
+      left (m ∷ l) h = mem_left m ms ns h
 
-  right : (l : List Move) → BeginsAmong ns l → BeginsAmong (ms ++ ns) l
-  right [] h = h
-  right (m ∷ l) h = mem_right m ms ns h
+      right : (l : List Move) → BeginsAmong ns l → BeginsAmong (ms ++ ns) l
+      right [] h = h
+      right (m ∷ l) h = mem_right m ms ns h
 
-  either : (l : List Move) → GoesOn g a p n l × BeginsAmong (ms ++ ns) l → (GoesOn g a p n l × BeginsAmong ms l) ⊎ (GoesOn g a p n l × BeginsAmong ns l)
-  either [] h = absurd h.1
-  either (m ∷ l) h = elim (mem_cases m ms ns h.1) [ inl k ↦ inl (h.0, k) | inr k ↦ inr (h.0, k) ]
+      either : (l : List Move) → GoesOn g a p n l × BeginsAmong (ms ++ ns) l → (GoesOn g a p n l × BeginsAmong ms l) ⊎ (GoesOn g a p n l × BeginsAmong ns l)
+      either [] h = absurd h.1
+      either (m ∷ l) h = elim (mem_cases m ms ns h.1) [ inl k ↦ inl (h.0, k) | inr k ↦ inr (h.0, k) ]
 
 -- the ways through one move
 pub ways_through : (g : Geometry) (a : Bool) (p : Placement) (n : ℕ) (m : Move) (ks : List (List Move)) → IsNext g a p n m → AreWays g (not a) (play g p m) (left_after a n) ks → AreWaysAmong g a p n (m ∷ []) (map (λ l. m ∷ l) ks)
 ways_through g a p n m ks next =
     listed_map (Before g (play g p m)) (Before g p) (GoesOn g (not a) (play g p m) (left_after a n)) (λ l. GoesOn g a p n l × BeginsAmong (m ∷ []) l) (λ l. m ∷ l) ks
     (λ x y less. inr (refl, less)) (λ l h. (goes_to g a p n m l next h, inl refl)) back where
-  back : (l : List Move) → GoesOn g a p n l × BeginsAmong (m ∷ []) l → (t : List Move) × GoesOn g (not a) (play g p m) (left_after a n) t × (l ≡ m ∷ t)
-  back [] h = absurd h.1
-  back (r ∷ l) h = elim h.1 [
-    | inl e ↦ (l, (goes_from g a p n m l (subst (λ z. GoesOn g a p n (z ∷ l)) e h.0)).1, λ i. e i ∷ l)
-    | inr none ↦ absurd none
-  ]
+      back : (l : List Move) → GoesOn g a p n l × BeginsAmong (m ∷ []) l → (t : List Move) × GoesOn g (not a) (play g p m) (left_after a n) t × (l ≡ m ∷ t)
+      back [] h = absurd h.1
+      back (r ∷ l) h = elim h.1 [
+        | inl e ↦ (l, (goes_from g a p n m l (subst (λ z. GoesOn g a p n (z ∷ l)) e h.0)).1, λ i. e i ∷ l)
+        | inr none ↦ absurd none
+      ]
 
 pub ways_barred : (g : Geometry) (a : Bool) (p : Placement) (n : ℕ) (m : Move) → (IsNext g a p n m → ⊥) → AreWaysAmong g a p n (m ∷ []) []
 ways_barred g a p n m barred = none_listed (Before g p) (λ l. GoesOn g a p n l × BeginsAmong (m ∷ []) l) none where
@@ -128,17 +128,17 @@ next_keeps g false q n m h = tt
 pub through_among : (g : Geometry) (a : Bool) (p : Placement) (n : ℕ) (m : Move) (ls : List (List Move)) → (IsTrue a → 1 ≤ n) → Legal g p m → AreWaysThrough g a p (left_after a n) m ls → AreWaysAmong g a p n (m ∷ []) ls
 through_among g a p n m ls some legal =
     listed_as (Before g p) (IsThrough g a p (left_after a n) m) (λ l. GoesOn g a p n l × BeginsAmong (m ∷ []) l) ls to back where
-  to : (l : List Move) → IsThrough g a p (left_after a n) m l → GoesOn g a p n l × BeginsAmong (m ∷ []) l
-  to l h = subst (λ z. GoesOn g a p n z × BeginsAmong (m ∷ []) z) (sym h.1) (goes_to g a p n m h.0 (next_to g a p n m some legal h.2) h.3, inl refl)
+      to : (l : List Move) → IsThrough g a p (left_after a n) m l → GoesOn g a p n l × BeginsAmong (m ∷ []) l
+      to l h = subst (λ z. GoesOn g a p n z × BeginsAmong (m ∷ []) z) (sym h.1) (goes_to g a p n m h.0 (next_to g a p n m some legal h.2) h.3, inl refl)
 
-  back : (l : List Move) → GoesOn g a p n l × BeginsAmong (m ∷ []) l → IsThrough g a p (left_after a n) m l
-  back [] h = absurd h.1
-  back (r ∷ l) h = elim h.1 [
-    | inl e ↦
-        let k = goes_from g a p n m l (subst (λ z. GoesOn g a p n (z ∷ l)) e h.0) in
-        (l, (λ i. e i ∷ l), next_keeps g a p n m k.0, k.1)
-    | inr other ↦ absurd other
-  ]
+      back : (l : List Move) → GoesOn g a p n l × BeginsAmong (m ∷ []) l → IsThrough g a p (left_after a n) m l
+      back [] h = absurd h.1
+      back (r ∷ l) h = elim h.1 [
+        | inl e ↦
+            let k = goes_from g a p n m l (subst (λ z. GoesOn g a p n (z ∷ l)) e h.0) in
+            (l, (λ i. e i ∷ l), next_keeps g a p n m k.0, k.1)
+        | inr other ↦ absurd other
+      ]
 
 -- the ways through a move that keeps a win, and through one that doesn't
 pub through_kept : (g : Geometry) (a : Bool) (p : Placement) (n : ℕ) (m : Move) (ks : List (List Move)) → Keeps g a (play g p m) n → AreWays g (not a) (play g p m) n ks → AreWaysThrough g a p n m (map (λ l. m ∷ l) ks)

@@ -8,3 +8,5 @@ pub mod Tasks
 pub mod Walking
 pub mod Listing
 pub mod Lending
+pub mod Seeking
+pub mod Faults

@@ -1,5 +1,5 @@
 -- A lister's stack, and the lines that are still to come of it.
-use Rattle.std.specs.Prelude.{◌≡◌, ℕ, ◌⊎◌, Bool, true, false, not, Option, Some, None, List, [], ◌∷◌, ◌++◌, refl}
+use Rattle.std.specs.Prelude.{◌≡◌, ℕ, ◌≤◌, ◌⊎◌, Bool, true, false, not, Option, Some, None, List, [], ◌∷◌, ◌++◌, refl}
 use Rattle.std.specs.Coded.{Coded, code_by, coded×, coded_ℕ, coded_bool, coded_list, coded_option}
 use Rattle.dw_board.specs.declared.piece.Side.{Side}
 use Rattle.dw_board.specs.declared.piece.Side.TheVariants.{White, Black}
@@ -78,6 +78,10 @@ Leads g p n (f ∷ outer) [] attacks q k = ⊥
 abbrev pub AreLevels : Geometry → Placement → ℕ → List Level → List Move → Type 0
 AreLevels g p n [] line = line ≡ []
 AreLevels g p n (f ∷ outer) line = Leads g p n outer line f.attacks f.position f.left × AreLast g f.position f.ahead
+
+-- 1 to 20 moves
+abbrev pub IsFew : ℕ → Type 0
+IsFew n = (1 ≤ n) × (n ≤ 20)
 
 -- how a level and a stack are stored
 abbrev pub is_white : Side → Bool

@@ -60,7 +60,9 @@ fn ways<B: Board, M: Memo<B>, G: Guide<B>>(
     let mut lists = ends(alloc, attacks, list.as_slice())?;
     let left = left_behind(attacks, moves);
     'moves: for item in list.as_slice() {
-        push_ways(alloc, solver, position, &item.step, attacks, left, &mut lists)?;
+        push_ways(
+            alloc, solver, position, &item.step, attacks, left, &mut lists,
+        )?;
     }
     Ok(lists)
 }

@@ -2,6 +2,8 @@
 #![tactic(auto)]
 
 pub mod all_lines;
+pub mod fault;
+mod following;
 mod frame;
 mod going;
 pub mod laws;

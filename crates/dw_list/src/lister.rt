@@ -1,9 +1,12 @@
 //! The lines of a position one by one.
-ghost use Rattle.std.specs.Prelude.{◌≡◌, ◌≤◌, ◌↔◌, List, IfOk, OnErr, IsErrOf, reverse};
+ghost use Rattle.std.specs.Prelude.{◌≡◌, ◌≤◌, ◌↔◌, List, IfOk, IfErr, OnOk, OnErr, IsErrOf, reverse};
 ghost use Rattle.dw_solve.specs.declared.stop.Stop.TheVariants.{Limit};
+ghost use Rattle.dw_list.specs.declared.fault.AfterFault.TheVariants.{Stopped};
 ghost use Rattle.dw_solve.specs.Searching.{IsCounted};
 ghost use Rattle.dw_solve.specs.Work.{Searched, cut_off};
 
+use crate::fault::AfterFault;
+use crate::following::{Found, followed};
 use crate::stack::Stack;
 use crate::walk::walk;
 use dw_board::board::Board;
@@ -29,6 +32,8 @@ impl<'a, B: Board, M: Memo<B>, G: Guide<B>> Lister<'a, B, M, G> {
     ghost use Rattle.dw_list.specs.Asking.{moment_of};
     ghost use Rattle.dw_list.specs.Standing.{AreToCome};
     ghost use Rattle.dw_list.specs.Walking.{SameToCome, GivesNext};
+    ghost use Rattle.dw_list.specs.Seeking.{IsAlong};
+    ghost use Rattle.dw_list.specs.Faults.{IsRefusal, cut_after};
     ghost use Rattle.dw_list.specs.Listing.{lender, solver_of, stack_of};
     ghost use Rattle.std.specs.Prelude.{⊤, []};
     ghost use Rattle.std.specs.Borrow.{sem, follows_so};
@@ -55,6 +60,29 @@ impl<'a, B: Board, M: Memo<B>, G: Guide<B>> Lister<'a, B, M, G> {
         Lister {
             solver,
             stack: Stack::new(position, moves),
+        }
+    }
+
+    /// Goes on after a line: the lines still to come become those after it, and none of those before it is listed. If the
+    /// list is no line, or the search is stopped, the lines still to come are what they were.
+    pub fn after(&mut self, alloc: Global, line: &[Move<B>]) -> Result<(), AfterFault>
+        ensures lender { lender self.new ≡ lender self.old }
+        ensures after { OnOk result (IsAlong B.geometry (stack_of self.old).position (stack_of self.old).moves line.now (stack_of self.new)) }
+        ensures refused { IfErr result (IsRefusal B.geometry (stack_of self.old).position (stack_of self.old).moves line.now) }
+        ensures same { OnErr result (stack_of self.new ≡ stack_of self.old) }
+        ensures count { IsCounted (solver_of self.old).expanded (solver_of self.old).limit (solver_of self.new).expanded (solver_of self.new).limit }
+        ensures stop { IfErr result (λ fault. fault ≡ Stopped Limit → (solver_of self.new).expanded ≡ (solver_of self.new).limit) }
+        ensures searched { Searched B.geometry (stack_of self.old).moves (cut_after result (stack_of self.old).moves) (moment_of M.content M.dropped (solver_of self.old)) (moment_of M.content M.dropped (solver_of self.new)) }
+    {
+        let position = *self.stack.position();
+        let moves = self.stack.moves();
+        match followed(alloc, self.solver, &position, moves, line) {
+            Err(stop) => Err(AfterFault::Stopped(stop)),
+            Ok(Found::Place(place)) => Err(AfterFault::NotALine(place)),
+            Ok(Found::Along(stack)) => {
+                self.stack = stack;
+                Ok(())
+            }
         }
     }
 

@@ -48,7 +48,7 @@ pub(crate) struct Stack<B: Board> {
 
 impl<B: Board> Model for Stack<B> {
     ghost use Rattle.std.specs.Prelude.{reverse, length, ◌≤◌, ◌*◌};
-    ghost use Rattle.dw_list.specs.Standing.{Standing, standing_code, AreLevels};
+    ghost use Rattle.dw_list.specs.Standing.{Standing, standing_code, AreLevels, IsFew};
 
     ghost Value = { Standing };
 
@@ -56,7 +56,7 @@ impl<B: Board> Model for Stack<B> {
 
     ghost view = { λ s. record { position = s.position; moves = s.moves; line = reverse s.line.items; levels = reverse s.frames.items } };
 
-    ghost invariant = { λ s. AreLevels B.geometry s.position s.moves (reverse s.frames.items) (reverse s.line.items) × (length s.frames.items ≤ 2 * s.moves) × (s.moves ≤ 20) };
+    ghost invariant = { λ s. AreLevels B.geometry s.position s.moves (reverse s.frames.items) (reverse s.line.items) × (length s.frames.items ≤ 2 * s.moves) × IsFew s.moves };
 }
 
 impl<B: Board> Stack<B> {
@@ -84,9 +84,19 @@ impl<B: Board> Stack<B> {
     /// Within how many moves the attacker wins.
     pub(crate) fn moves(&self) -> u8
         ensures moves { result ≡ self.now.moves }
+        ensures some { 1 ≤ result }
         ensures few { result ≤ 20 }
+        ensures levels { AreLevels B.geometry self.now.position self.now.moves self.now.levels self.now.line }
+        ensures fits { length self.now.levels ≤ 2 * self.now.moves }
     {
         self.moves
+    }
+
+    /// The position whose lines these are.
+    pub(crate) fn position(&self) -> &Position<B>
+        ensures { result.now ≡ self.now.position }
+    {
+        &self.position
     }
 
     /// The line at which the stack stands.

@@ -1,6 +1,6 @@
-use Rattle.std.proofs.Common.{◌≡◌, [], refl, sym, ap, ◌∙◌, subst, arith, map, List, true, IsTrue, ◌⊎◌, ◌<◌, length}
-use Rattle.dw_moves.specs.Order.{Precedes, IsListOf, AreListed}
-use Rattle.dw_moves.specs.Moves.{Move, Legal}
+use Rattle.std.proofs.Common.{◌≡◌, refl, sym, ap, ◌∙◌, subst, arith, map, true, ◌⊎◌, ◌<◌, length}
+use Rattle.dw_moves.specs.Order.{Precedes, IsListOf}
+use Rattle.dw_moves.specs.Moves.{Legal}
 use Rattle.dw_list.specs.Going.{AreWays}
 use Rattle.dw_list.proofs.Ways.{no_ways}
 use Rattle.dw_list.proofs.Gathering.{added_kept, added_none, among_none, added_more, ways_over, ways_whole, measure_falls, left_within, legal_at}

@@ -1,5 +1,4 @@
-use Rattle.std.proofs.Common.{◌≡◌, sym, subst}
-use Rattle.dw_list.specs.Asking.{Asked}
+use Rattle.std.proofs.Common.{subst}
 use Rattle.dw_list.specs.Walking.{HasStepped}
 use Rattle.dw_list.proofs.AskingLemmas.{answered, asked_then, asked_ok, asked_stop, asked_for}
 use Rattle.dw_list.proofs.StepLemmas.{same_then, gives_none, gives_first}

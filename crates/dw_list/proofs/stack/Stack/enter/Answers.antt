@@ -1,5 +1,5 @@
 use Rattle.std.proofs.Common.{◌<◌, ◌+◌, ◌≡◌, [], ◌∷◌, ◌++◌, sym, ap, ◌∙◌, reverse, arith, length, length-append, lit<}
-use Rattle.std.proofs.lemmas.List.{reverse-append, length-reverse}
+use Rattle.std.proofs.lemmas.List.{length-reverse}
 use Rattle.dw_list.specs.Standing.{Standing}
 use Rattle.dw_list.proofs.StackViews.{end_of, end_first, inside_first, inside_entered, same_trial}
 use Rattle.dw_list.proofs.stack.Stack.enter.Goals as goal
@@ -10,7 +10,7 @@ push-requires-2 g c =
     let was = end_of _ _ c.pop.result c.unwrap-frame.result c.pop.ensures.items c.unwrap-frame.ensures in
     let trial = same_trial geo c.args.self.now.levels (reverse c.pop.new.self.items) c.unwrap-frame.result c.args.trial.now (ap (λ (s : Standing). s.levels) (sym c.self.view_is) ∙ end_first _ _ _ was) c.requires.first in
     let room = inside_first geo c.self.inside.position c.self.inside.moves _ c.pop.new.self.items c.unwrap-frame.result _ c.args.trial.now.step was trial.0 c.self.invariant in
-    let few = c.self.invariant.2 in
+    let few = c.self.invariant.2.1 in
     let long : length c.push.new.self.items ≡ length c.pop.new.self.items + 1 = ap length c.push.ensures.items ∙ length-append c.pop.new.self.items _ in
     let fits : length c.push.new.self.items < 40 = omega (arith, room.1, few, long) in
     (lit< tt, fits)
@@ -21,7 +21,7 @@ push-requires-3 g c =
     let was = end_of _ _ c.pop.result c.unwrap-frame.result c.pop.ensures.items c.unwrap-frame.ensures in
     let trial = same_trial geo c.args.self.now.levels (reverse c.pop.new.self.items) c.unwrap-frame.result c.args.trial.now (ap (λ (s : Standing). s.levels) (sym c.self.view_is) ∙ end_first _ _ _ was) c.requires.first in
     let room = inside_first geo c.self.inside.position c.self.inside.moves _ c.pop.new.self.items c.unwrap-frame.result (reverse c.self.inside.line.items) c.args.trial.now.step was trial.0 c.self.invariant in
-    let few = c.self.invariant.2 in
+    let few = c.self.invariant.2.1 in
     let fits : length c.self.inside.line.items < 39 = omega (arith, room.0, few, length-reverse c.self.inside.line.items) in
     (lit< tt, fits)
 

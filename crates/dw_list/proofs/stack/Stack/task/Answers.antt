@@ -1,6 +1,6 @@
-use Rattle.std.proofs.Common.{◌≡◌, ◌∷◌, List, Some, refl, sym, ap, ◌∙◌, subst, reverse}
+use Rattle.std.proofs.Common.{Some, refl, sym, ap, ◌∙◌, subst, reverse}
 use Rattle.dw_moves.specs.Moves.{play}
-use Rattle.dw_list.specs.Standing.{Standing, Level, AreLevels}
+use Rattle.dw_list.specs.Standing.{Standing, AreLevels}
 use Rattle.dw_list.proofs.StackLemmas.{behind_first}
 use Rattle.dw_list.proofs.StackViews.{at_last, not_listed, all_passed}
 use Rattle.dw_list.proofs.stack.Stack.task.Goals as goal

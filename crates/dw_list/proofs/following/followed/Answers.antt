@@ -1,0 +1,63 @@
+use Rattle.std.proofs.Common.{◌≡◌, ◌+◌, length, sym, subst, ap, ◌∙◌, arith, lit<}
+use Rattle.dw_list.specs.Lines.{IsPlace}
+use Rattle.dw_list.proofs.AskingLemmas.{answered, asked_then, asked_ok, asked_stop, asked_for}
+use Rattle.dw_list.proofs.FollowLemmas.{Follows, follows_more, follows_place, follows_short, follows_line}
+use Rattle.dw_list.proofs.following.followed.Goals as goal
+
+pub follow-requires : goal.follow-requires
+follow-requires g c = (lit< tt, c.line.invariant.follows.unlisted)
+
+pub returns-in_err-went-clause-asked : goal.returns-in_err-went-clause-asked
+returns-in_err-went-clause-asked g c =
+    let geo = g.B.Board.geometry in
+    let content = g.M.Memo.content in
+    let lost = g.M.Memo.dropped in
+    let n = c.args.moves in
+    asked_then geo content lost c.searches_add_up.ensures n _ _ _ _ c.line.invariant.asked
+    (asked_for geo content lost _ n _ _ _ c.line.invariant.follows.moves
+    (asked_stop geo content lost _ _ _ c.in_err-went.field-0.0 _ c.from_residual.ensures.1 c.in_err-went.ensures.asked))
+
+pub returns-then-not-went-clause-found : goal.returns-then-not-went-clause-found
+returns-then-not-went-clause-found g c =
+    let geo = g.B.Board.geometry in
+    subst (IsPlace geo c.args.position.now c.args.moves c.args.line.now) (sym c.line.invariant.place)
+    (follows_place c.moves_listed.ensures geo c.args.position.now c.args.moves c.args.line.now c.line.step-index c.step-item.result c.line.stack c.line.invariant.follows c.line-test.true c.step-item.is
+    (c.in_ok-went.ensures.barred (λ yes. let not_so = c.if-not-went.true in cc)))
+
+pub returns-then-not-went-clause-asked : goal.returns-then-not-went-clause-asked
+returns-then-not-went-clause-asked g c =
+    let geo = g.B.Board.geometry in
+    let content = g.M.Memo.content in
+    let lost = g.M.Memo.dropped in
+    let n = c.args.moves in
+    asked_then geo content lost c.searches_add_up.ensures n _ _ _ _ c.line.invariant.asked
+    (asked_for geo content lost _ n _ _ _ c.line.invariant.follows.moves (asked_ok geo content lost _ _ _ _ _ c.in_ok-went.ensures.asked))
+
+pub line-preserved : goal.line-preserved
+line-preserved g c =
+    let geo = g.B.Board.geometry in
+    let content = g.M.Memo.content in
+    let lost = g.M.Memo.dropped in
+    let n = c.args.moves in
+    record {
+      follows = follows_more geo c.args.position.now c.args.moves c.args.line.now c.line.step-index c.step-item.result c.line.stack c.follow.new.stack c.line.invariant.follows c.line-test.true c.step-item.is
+          (c.in_ok-went.ensures.went c.if-not-went.false) c.follow.ensures.levels;
+      place = ap (λ z. z + 1) c.line.invariant.place;
+      asked = asked_then geo content lost c.searches_add_up.ensures n _ _ _ answered c.line.invariant.asked
+          (asked_for geo content lost _ n _ _ _ c.line.invariant.follows.moves (asked_ok geo content lost _ _ _ _ 0 c.in_ok-went.ensures.asked));
+    }
+
+pub returns-then-is_end-clause-found : goal.returns-then-is_end-clause-found
+returns-then-is_end-clause-found g c =
+    let geo = g.B.Board.geometry in
+    let at_end : c.line.step-index ≡ length c.args.line.now = omega (arith, c.line-test.false, c.line.auto.step-index-end) in
+    follows_line c.moves_have_keys.ensures geo c.args.position.now c.args.moves c.args.line.now c.line.stack c.list.new.self c.in_ok-is_end.is_end
+    (subst (λ z. Follows geo c.args.position.now c.args.moves c.args.line.now z c.line.stack) at_end c.line.invariant.follows) c.in_ok-is_end.ensures.listed c.if-is_end.true
+
+pub returns-else-is_end-clause-found : goal.returns-else-is_end-clause-found
+returns-else-is_end-clause-found g c =
+    let geo = g.B.Board.geometry in
+    let at_end : c.line.step-index ≡ length c.args.line.now = omega (arith, c.line-test.false, c.line.auto.step-index-end) in
+    subst (IsPlace geo c.args.position.now c.args.moves c.args.line.now) (sym (c.line.invariant.place ∙ ap (λ z. z + 1) at_end))
+    (follows_short c.moves_listed.ensures geo c.args.position.now c.args.moves c.args.line.now c.line.stack c.list.new.self c.in_ok-is_end.is_end
+    (subst (λ z. Follows geo c.args.position.now c.args.moves c.args.line.now z c.line.stack) at_end c.line.invariant.follows) c.in_ok-is_end.ensures.listed c.if-is_end.false)

@@ -1,0 +1,116 @@
+//! Going along a given list of moves.
+ghost use Rattle.std.specs.Prelude.{◌≡◌, ◌≤◌, IfOk, IfSome, IfNone, IsTrue};
+ghost use Rattle.dw_list.specs.Asking.{Asked};
+ghost use Rattle.dw_list.specs.Standing.{AreLevels};
+ghost use Rattle.dw_list.specs.Tasks.{IsTrial};
+ghost use Rattle.dw_list.specs.Seeking.{SomePassed, IsNotAhead, IsUnlisted, WentOn, GoOnWith, IsFound};
+
+use crate::going::keeps;
+use crate::stack::{Stack, Task, Trial};
+use dw_board::board::Board;
+use dw_board::position::Position;
+use dw_memo::memo::Memo;
+use dw_moves::laws::{moves_have_keys, moves_listed, same_move};
+use dw_moves::moves::Move;
+use dw_solve::guide::Guide;
+use dw_solve::laws::searches_add_up;
+use dw_solve::solver::Solver;
+use dw_solve::stop::Stop;
+use std::alloc::Global;
+
+/// What a list of moves is.
+#[derive(Drop)]
+pub(crate) enum Found<B: Board> {
+    /// A line, and the stack of the lines after it.
+    Along(Stack<B>),
+    /// No line: the place at which it leaves all lines.
+    Place(usize),
+}
+
+/// Goes along a list of moves, level by level.
+pub(crate) fn followed<B: Board, M: Memo<B>, G: Guide<B>>(
+    alloc: Global,
+    solver: &mut Solver<B, M, G>,
+    position: &Position<B>,
+    moves: u8,
+    line: &[Move<B>],
+) -> Result<Found<B>, Stop>
+    requires some { 1 ≤ moves }
+    requires few { moves ≤ 20 }
+    ensures found { IfOk result (λ found. IsFound B.geometry position.now moves line.now found) }
+    ensures asked { Asked B.geometry M.content M.dropped moves solver.old solver.new result }
+{
+    searches_add_up();
+    moves_listed();
+    moves_have_keys();
+    let _ = solver.limit();
+    let mut stack = Stack::new(position, moves);
+    let _ = stack.moves();
+    let mut place: usize = 1;
+    'line: for step in line {
+        let went = follow(alloc, solver, &mut stack, step)?;
+        if !went {
+            return Ok(Found::Place(place));
+        }
+        place += 1;
+    }
+    let is_end = stack.list(alloc)?;
+    if is_end {
+        let _ = stack.moves();
+        Ok(Found::Along(stack))
+    } else {
+        Ok(Found::Place(place))
+    }
+}
+
+/// Goes on with a move, if lines do so.
+fn follow<B: Board, M: Memo<B>, G: Guide<B>>(
+    alloc: Global,
+    solver: &mut Solver<B, M, G>,
+    stack: &mut Stack<B>,
+    step: &Move<B>,
+) -> Result<bool, Stop>
+    requires { IsUnlisted stack.old.levels }
+    ensures went { IfOk result (λ yes. IsTrue yes → WentOn stack.old stack.new step.now) }
+    ensures levels { AreLevels B.geometry stack.new.position stack.new.moves stack.new.levels stack.new.line }
+    ensures next { IfOk result (λ yes. IsTrue yes → GoOnWith B.geometry stack.old.levels step.now) }
+    ensures barred { IfOk result (λ yes. (IsTrue yes → ⊥) → GoOnWith B.geometry stack.old.levels step.now → ⊥) }
+    ensures asked { Asked B.geometry M.content M.dropped stack.old.moves solver.old solver.new result }
+{
+    searches_add_up();
+    let _ = solver.limit();
+    let _ = stack.moves();
+    let listing = stack.list(alloc);
+    let _ = stack.moves();
+    let _ = listing?;
+    let Some(trial) = seek(stack, step) else {
+        let _ = stack.moves();
+        return Ok(false);
+    };
+    let _ = stack.moves();
+    let kept = keeps(alloc, solver, &trial.after, trial.attacks, trial.left)?;
+    if kept {
+        stack.enter(&trial);
+        let _ = stack.moves();
+    }
+    Ok(kept)
+}
+
+/// Passes the moves ahead at the last level up to the given one.
+fn seek<B: Board>(stack: &mut Stack<B>, step: &Move<B>) -> Option<Trial<B>>
+    ensures passed { SomePassed stack.old stack.new }
+    ensures found { IfSome result (λ trial. IsTrial B.geometry stack.new.levels trial × (trial.step ≡ step.now)) }
+    ensures none { IfNone result (IsNotAhead stack.old step.now) }
+{
+    'moves: loop {
+        match stack.task() {
+            Task::Try(trial) => {
+                if same_move(&trial.step, step) {
+                    return Some(trial);
+                }
+                stack.pass();
+            }
+            Task::Over | Task::Unlisted | Task::Passed => return None,
+        }
+    }
+}
