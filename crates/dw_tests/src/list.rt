@@ -6,7 +6,10 @@ use crate::solve::table::{EIGHT_WINS, TEN_WINS};
 use arrayvec::ArrayVec;
 use dw_board::board::{Board, Eight, Ten};
 use dw_board::position::Position;
+use dw_board::square::Square;
+use dw_board::squares::Squares;
 use dw_list::all_lines::all_lines;
+use dw_list::fault::AfterFault;
 use dw_list::laws;
 use dw_list::lister::Lister;
 use dw_memo::lru_memo::LruMemo;
@@ -17,6 +20,7 @@ use dw_moves::moves::Move;
 use dw_moves::play::play;
 use dw_solve::guide::ByTrial;
 use dw_solve::solver::Solver;
+use dw_solve::stop::Stop;
 use std::alloc::Global;
 use std::process::Abort;
 
@@ -97,6 +101,20 @@ fn check_rows<B: Board, M: Memo<B>>(
             assert!(rt; *given == *wanted.as_slice(), "{line}");
         }
         assert!(rt; matches!(lister.next(alloc), Ok(None)), "{text}");
+        for (index, line) in lines.iter().enumerate() {
+            let given = line_of(rt, alloc, &position, line);
+            assert!(rt; lister.after(alloc, given.as_slice()).is_ok(), "{line}");
+            let next = lister.next(alloc).ok().expect(rt, "an answer");
+            match (next, lines.get(index + 1)) {
+                (Some(next), Some(wanted)) => {
+                    let wanted = line_of(rt, alloc, &position, wanted);
+                    assert!(rt; *next == *wanted.as_slice(), "after {line}");
+                }
+                (next, wanted) => {
+                    assert!(rt; next.is_none() && wanted.is_none(), "after {line}");
+                }
+            }
+        }
     }
 }
 
@@ -150,4 +168,97 @@ fn lines_come_in_order_from_slots(rt: HostRuntime) {
     let mut solver = Solver::<Ten, SlotMemo<Ten>, ByTrial>::new(memo, ByTrial, 1_000_000_000);
     check_rows(&rt, alloc, &mut solver, &TEN);
     check_small(&rt, alloc, &mut solver, &TEN_WINS[..136]);
+}
+
+/// A move that need not be legal: where it begins and ends, and what it takes.
+type Step = (u8, u8, &'static [u8]);
+
+/// A position, a number of moves, a list of moves that is no line, and the place at which it leaves all lines.
+type Place = (&'static str, u8, &'static [Step], usize);
+
+const PLACES: [Place; 6] = [
+    ("W:W27,32,38:B18", 2, &[(32, 28, &[])], 2),
+    ("W:W27,32,38:B18", 2, &[(38, 33, &[])], 1),
+    ("W:W32:B28", 1, &[(32, 23, &[])], 1),
+    (
+        "W:W32:B28",
+        1,
+        &[(32, 23, &[28]), (28, 33, &[]), (23, 18, &[])],
+        2,
+    ),
+    (
+        "W:W27,45:B16",
+        2,
+        &[(32, 28, &[]), (18, 22, &[]), (27, 18, &[22])],
+        1,
+    ),
+    ("W:W27:B16", 2, &[], 1),
+];
+
+fn step_of(rt: &impl Abort, step: &Step) -> Move<Ten> {
+    let (from, to, taken) = step;
+    let mut squares = Squares::none();
+    for number in *taken {
+        squares = squares.with(Square::new(*number).expect(rt, "a square"));
+    }
+    Move {
+        from: Square::new(*from).expect(rt, "a square"),
+        to: Square::new(*to).expect(rt, "a square"),
+        taken: squares,
+    }
+}
+
+// A list that is no line is refused with its place, and the lines still to come stay.
+#[test]
+fn places_are_found(rt: HostRuntime) {
+    let alloc = rt.alloc();
+    for (text, moves, steps, place) in &PLACES {
+        let position = position_of::<Ten>(&rt, text);
+        assert!(rt; 1 <= *moves && *moves <= 20);
+        let mut line = ArrayVec::<Move<Ten>, 39>::new();
+        for step in *steps {
+            assert!(rt; !line.is_full());
+            line.push(step_of(&rt, step));
+        }
+        let mut solver = Solver::<Ten, NoMemo, ByTrial>::new(NoMemo::new(), ByTrial, 1_000_000);
+        let whole = all_lines(alloc, &mut solver, &position, *moves);
+        let whole = whole.ok().expect(&rt, "all lines");
+        let mut lister = Lister::start(&mut solver, &position, *moves);
+        let answer = lister.after(alloc, line.as_slice());
+        assert!(rt; answer == Err(AfterFault::NotALine(*place)), "{text}");
+        for line in whole.as_slice() {
+            let given = lister.next(alloc).ok().flatten();
+            let given = given.expect(&rt, "a line");
+            assert!(rt; *given == *line.as_slice(), "{text}");
+        }
+    }
+}
+
+// Under limits that rise by one, the lines are the same, though the search is stopped again and again.
+#[test]
+fn stops_lose_no_line(rt: HostRuntime) {
+    let alloc = rt.alloc();
+    for (text, moves, lines) in &TEN {
+        let position = position_of::<Ten>(&rt, text);
+        assert!(rt; 1 <= *moves && *moves <= 20);
+        let memo = LruMemo::new(alloc, 1_000).expect(&rt, "memory");
+        let mut solver = Solver::<Ten, LruMemo<Ten>, ByTrial>::new(memo, ByTrial, 1);
+        let mut lister = Lister::start(&mut solver, &position, *moves);
+        let mut given = 0;
+        for limit in 1..10_000 {
+            let limit = lister.expanded().max(limit);
+            lister.set_limit(limit);
+            match lister.next(alloc) {
+                Err(stop) => assert!(rt; stop == Stop::Limit, "{text}"),
+                Ok(None) => break,
+                Ok(Some(line)) => {
+                    assert!(rt; given < lines.len(), "{text}");
+                    let wanted = line_of(&rt, alloc, &position, lines[given]);
+                    assert!(rt; *line == *wanted.as_slice(), "{text}");
+                    given += 1;
+                }
+            }
+        }
+        assert!(rt; given == lines.len(), "{text}");
+    }
 }
