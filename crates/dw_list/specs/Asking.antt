@@ -12,8 +12,10 @@ use Rattle.dw_solve.specs.Work.{Moment, moment, Searched, cut_off}
 abbrev pub moment_of : {M : Type 0} → (M → Content) → (M → ℕ) → Solving M → Moment
 moment_of content lost s = moment content lost s.memo s.expanded
 
--- questions about wins within n moves: each expansion is counted, up to the limit, and the cache is as searches leave it
-pub record Asked {M A : Type 0} (g : Geometry) (content : M → Content) (lost : M → ℕ) (n : ℕ) (old new : Solving M) (answer : Result A Stop) : Type 0 where
+-- questions about wins within n moves: each expansion is counted, up to the limit, and the cache is as searches
+-- leave it
+pub record Asked {M A : Type 0} (g : Geometry) (content : M → Content) (lost : M → ℕ) (n : ℕ)
+    (old new : Solving M) (answer : Result A Stop) : Type 0 where
   pub count : IsCounted old.expanded old.limit new.expanded new.limit
   pub stop : IsErrOf answer Limit → new.expanded ≡ new.limit
   pub searched : Searched g n (cut_off answer n) (moment_of content lost old) (moment_of content lost new)

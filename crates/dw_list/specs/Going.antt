@@ -46,13 +46,15 @@ Keeps g false p n = Unit {0}
 
 -- the ways through one move of the side to move, with n moves left for the attacker after it
 abbrev pub IsThrough : Geometry → Bool → Placement → ℕ → Move → List Move → Type 0
-IsThrough g attacks p n m l = (rest : List Move) × (l ≡ m ∷ rest) × Keeps g attacks (play g p m) n × GoesOn g (not attacks) (play g p m) n rest
+IsThrough g attacks p n m l =
+    (rest : List Move) × (l ≡ m ∷ rest) × Keeps g attacks (play g p m) n × GoesOn g (not attacks) (play g p m) n rest
 
 abbrev pub AreWaysThrough : Geometry → Bool → Placement → ℕ → Move → List (List Move) → Type 0
 AreWaysThrough g attacks p n m lists = IsListOf (Before g p) (IsThrough g attacks p n m) lists
 
 -- to these lists the ways through one move were added
-pub record AreAdded (g : Geometry) (attacks : Bool) (p : Placement) (n : ℕ) (m : Move) (old new : List (List Move)) : Type 0 where
+pub record AreAdded (g : Geometry) (attacks : Bool) (p : Placement) (n : ℕ) (m : Move)
+    (old new : List (List Move)) : Type 0 where
   pub added : List (List Move)
   pub ways : AreWaysThrough g attacks p n m added
   pub are : new ≡ old ++ added

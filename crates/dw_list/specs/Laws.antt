@@ -14,11 +14,16 @@ NoneBegins = (g : Geometry) (p : Placement) (n : ℕ) (l : List Move) (m : Move)
 -- the lines of a position can be listed, in one way, and there are none exactly if there is no win
 pub record LinesExist : Type 0 where
   pub some : (g : Geometry) → IsBoard g → (p : Placement) (n : ℕ) → (lines : List (List Move)) × Lines g p n lines
-  pub only : (g : Geometry) (p : Placement) (n : ℕ) (lines others : List (List Move)) → Lines g p n lines → Lines g p n others → lines ≡ others
-  pub empty : (g : Geometry) (p : Placement) (n : ℕ) (lines : List (List Move)) → Lines g p n lines → (lines ≡ []) ↔ (Win g p n → ⊥)
+  pub only : (g : Geometry) (p : Placement) (n : ℕ) (lines others : List (List Move)) →
+      Lines g p n lines → Lines g p n others → lines ≡ others
+  pub empty : (g : Geometry) (p : Placement) (n : ℕ) (lines : List (List Move)) →
+      Lines g p n lines → (lines ≡ []) ↔ (Win g p n → ⊥)
 
 -- a list of moves is a line or has a place at which it leaves all lines, never both, and it has one place only
 pub record LineOrPlace : Type 0 where
-  pub some : (g : Geometry) (p : Placement) (n : ℕ) (l : List Move) → Line g p n l ⊎ ((place : ℕ) × IsPlace g p n l place)
-  pub both : (g : Geometry) (p : Placement) (n : ℕ) (l : List Move) (place : ℕ) → Line g p n l → IsPlace g p n l place → ⊥
-  pub only : (g : Geometry) (p : Placement) (n : ℕ) (l : List Move) (j k : ℕ) → IsPlace g p n l j → IsPlace g p n l k → j ≡ k
+  pub some : (g : Geometry) (p : Placement) (n : ℕ) (l : List Move) →
+      Line g p n l ⊎ ((place : ℕ) × IsPlace g p n l place)
+  pub both : (g : Geometry) (p : Placement) (n : ℕ) (l : List Move) (place : ℕ) →
+      Line g p n l → IsPlace g p n l place → ⊥
+  pub only : (g : Geometry) (p : Placement) (n : ℕ) (l : List Move) (j k : ℕ) →
+      IsPlace g p n l j → IsPlace g p n l k → j ≡ k

@@ -13,7 +13,8 @@ abbrev pub Line : Geometry → Placement → ℕ → List Move → Type 0
 Line g p zero l = ⊥
 Line g p (suc n) [] = ⊥
 Line g p (suc n) (m ∷ []) = Legal g p m × Lost g (play g p m) n × NoMove g (play g p m)
-Line g p (suc n) (m ∷ r ∷ l) = Legal g p m × Lost g (play g p m) n × Legal g (play g p m) r × Line g (play g (play g p m) r) n l
+Line g p (suc n) (m ∷ r ∷ l) =
+    Legal g p m × Lost g (play g p m) n × Legal g (play g p m) r × Line g (play g (play g p m) r) n l
 
 -- Lists of moves are in the order of their first differing moves; what begins a list comes before it.
 abbrev pub Before : Geometry → Placement → List Move → List Move → Type 0

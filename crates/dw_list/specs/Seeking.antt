@@ -21,7 +21,8 @@ SomePassed old new = (f : Level) (outer : List Level) (moves : List Move) → ol
 
 -- a move is not ahead at the last level
 abbrev pub IsNotAhead : Standing → Move → Type 0
-IsNotAhead s m = (f : Level) (outer : List Level) (moves : List Move) → s.levels ≡ with_ahead f moves ∷ outer → Member m moves → ⊥
+IsNotAhead s m =
+    (f : Level) (outer : List Level) (moves : List Move) → s.levels ≡ with_ahead f moves ∷ outer → Member m moves → ⊥
 
 -- the moves of the last level are not listed
 pub record IsUnlisted (levels : List Level) : Type 0 where
@@ -50,7 +51,8 @@ pub record IsAlong (g : Geometry) (p : Placement) (n : ℕ) (l : List Move) (s :
   pub moves : s.moves ≡ n
   pub line : Line g p n l
   pub stands : reverse s.line ≡ l
-  pub rest : (lines : List (List Move)) → Lines g p n lines → (rest : List (List Move)) × After lines l rest × AreToCome g s rest
+  pub rest : (lines : List (List Move)) → Lines g p n lines →
+      (rest : List (List Move)) × After lines l rest × AreToCome g s rest
 
 -- what was found of a list of moves
 abbrev pub IsFound : {B : Type 0} → Geometry → Placement → ℕ → List Move → Found B → Type 0

@@ -52,7 +52,8 @@ IsStillAhead (f ∷ outer) line l = Remains outer line (IsAhead f.ahead) l
 
 -- the lines still to come
 abbrev pub AreToCome : Geometry → Standing → List (List Move) → Type 0
-AreToCome g s lines = IsListOf (Before g s.position) (λ l. Line g s.position s.moves l × IsStillAhead s.levels s.line l) lines
+AreToCome g s lines =
+    IsListOf (Before g s.position) (λ l. Line g s.position s.moves l × IsStillAhead s.levels s.line l) lines
 
 -- the moves ahead are the last of all legal moves in order
 abbrev pub AreLast : Geometry → Placement → Option (List Move) → Type 0
@@ -64,12 +65,13 @@ abbrev pub AreBehind : Geometry → Placement → Move → Option (List Move) �
 AreBehind g q m None = ⊥
 AreBehind g q m (Some ahead) = (passed : List Move) × IsListOf (Precedes g q) (Legal g q) (passed ++ m ∷ ahead)
 
--- along these levels and moves, lines of p within n moves lead to a position q, with the attacker or the defender to move
--- and k moves left for the attacker
+-- along these levels and moves, lines of p within n moves lead to a position q, with the attacker or the defender to
+-- move and k moves left for the attacker
 abbrev pub Leads : Geometry → Placement → ℕ → List Level → List Move → Bool → Placement → ℕ → Type 0
 Leads g p n [] [] attacks q k = (attacks ≡ true) × (q ≡ p) × (k ≡ n)
 Leads g p n (f ∷ outer) (m ∷ line) attacks q k =
-    Leads g p n outer line f.attacks f.position f.left × IsNext g f.attacks f.position f.left m × AreBehind g f.position m f.ahead
+    Leads g p n outer line f.attacks f.position f.left
+    × IsNext g f.attacks f.position f.left m × AreBehind g f.position m f.ahead
     × (attacks ≡ not f.attacks) × (q ≡ play g f.position m) × (k ≡ left_after f.attacks f.left)
 Leads g p n [] (m ∷ line) attacks q k = ⊥
 Leads g p n (f ∷ outer) [] attacks q k = ⊥

@@ -56,7 +56,8 @@ cost most plies (f ∷ outer) = cost_of most (plies - length outer) f.ahead + co
 pub record IsStep (g : Geometry) (old new : Standing) : Type 0 where
   pub position : new.position ≡ old.position
   pub moves : new.moves ≡ old.moves
-  pub same : (l : List Move) → Line g old.position old.moves l → IsStillAhead old.levels old.line l ↔ IsStillAhead new.levels new.line l
+  pub same : (l : List Move) → Line g old.position old.moves l →
+      IsStillAhead old.levels old.line l ↔ IsStillAhead new.levels new.line l
   pub fewer : cost (2 ^ 64) (2 * new.moves) new.levels < cost (2 ^ 64) (2 * old.moves) old.levels
 
 -- the line at which the stack stands was the first of those still to come, and is not any more
@@ -65,5 +66,7 @@ pub record IsGiven (g : Geometry) (old new : Standing) : Type 0 where
   pub moves : new.moves ≡ old.moves
   pub line : Line g old.position old.moves (reverse new.line)
   pub here : IsStillAhead old.levels old.line (reverse new.line)
-  pub either : (l : List Move) → Line g old.position old.moves l → IsStillAhead old.levels old.line l → (l ≡ reverse new.line) ⊎ IsStillAhead new.levels new.line l
-  pub later : (l : List Move) → Line g old.position old.moves l → IsStillAhead new.levels new.line l → IsStillAhead old.levels old.line l × Before g old.position (reverse new.line) l
+  pub either : (l : List Move) → Line g old.position old.moves l →
+      IsStillAhead old.levels old.line l → (l ≡ reverse new.line) ⊎ IsStillAhead new.levels new.line l
+  pub later : (l : List Move) → Line g old.position old.moves l →
+      IsStillAhead new.levels new.line l → IsStillAhead old.levels old.line l × Before g old.position (reverse new.line) l

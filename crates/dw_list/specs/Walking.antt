@@ -23,7 +23,8 @@ pub record SameToCome (g : Geometry) (old new : Standing) : Type 0 where
 pub record GivesFirst (g : Geometry) (old new : Standing) : Type 0 where
   pub position : new.position ≡ old.position
   pub moves : new.moves ≡ old.moves
-  pub first : (lines : List (List Move)) → AreToCome g old lines → (rest : List (List Move)) × (lines ≡ reverse new.line ∷ rest) × AreToCome g new rest
+  pub first : (lines : List (List Move)) → AreToCome g old lines →
+      (rest : List (List Move)) × (lines ≡ reverse new.line ∷ rest) × AreToCome g new rest
 
 -- no line is still to come
 pub record GivesNone (g : Geometry) (old new : Standing) : Type 0 where

@@ -5,8 +5,8 @@ use thiserror::Error;
 /// Why the lines after a list of moves were not found.
 #[derive(Clone, Copy, Debug, PartialEq, Eq, Error)]
 pub enum AfterFault {
-    /// The list is no line. The place is that of the first move with which it leaves all lines, counted from 1, or of the
-    /// move that it lacks.
+    /// The list is no line. The place is that of the first move with which it leaves all lines, counted from 1, or
+    /// of the move that it lacks.
     #[error("1 not a line: {0}")]
     NotALine(usize),
     /// The search was stopped.

@@ -42,8 +42,8 @@ impl<'a, B: Board, M: Memo<B>, G: Guide<B>> Lister<'a, B, M, G> {
     ghost use Rattle.dw_list.specs.contracts.lister.Lister.{the_row};
     ghost use Rattle.dw_list.specs.Lending.{LendsNext};
 
-    /// A lister of all lines in which the side to move wins within so many of its moves, 1 to 20. It searches nothing yet,
-    /// and takes no memory.
+    /// A lister of all lines in which the side to move wins within so many of its moves, 1 to 20. It searches nothing
+    /// yet, and takes no memory.
     pub fn start(
         solver: &'a mut Solver<B, M, G>,
         position: &Position<B>,
@@ -63,8 +63,8 @@ impl<'a, B: Board, M: Memo<B>, G: Guide<B>> Lister<'a, B, M, G> {
         }
     }
 
-    /// Goes on after a line: the lines still to come become those after it, and none of those before it is listed. If the
-    /// list is no line, or the search is stopped, the lines still to come are what they were.
+    /// Goes on after a line: the lines still to come become those after it, and none of those before it is listed. If
+    /// the list is no line, or the search is stopped, the lines still to come are what they were.
     pub fn after(&mut self, alloc: Global, line: &[Move<B>]) -> Result<(), AfterFault>
         ensures lender { lender self.new ≡ lender self.old }
         ensures after { OnOk result (IsAlong B.geometry (stack_of self.old).position (stack_of self.old).moves line.now (stack_of self.new)) }
@@ -86,8 +86,8 @@ impl<'a, B: Board, M: Memo<B>, G: Guide<B>> Lister<'a, B, M, G> {
         }
     }
 
-    /// Walks to the next line, and answers whether there is one. After a stop the lines still to come are what they were,
-    /// and the call can be made again.
+    /// Walks to the next line, and answers whether there is one. After a stop the lines still to come are what they
+    /// were, and the call can be made again.
     pub fn advance(&mut self, alloc: Global) -> Result<bool, Stop>
         ensures lender { lender self.new ≡ lender self.old }
         ensures next { IfOk result (λ more. GivesNext B.geometry more (stack_of self.old) (stack_of self.new)) }

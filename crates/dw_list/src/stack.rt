@@ -13,8 +13,8 @@ use dw_moves::play::play as played;
 use std::alloc::{AllocError, Global};
 use std::marker::Model;
 
-/// A move of the last level that may come next: the position after it, and whose it is and how many moves are left for the
-/// attacker after it.
+/// A move of the last level that may come next: the position after it, whose it is, and how many moves are left for
+/// the attacker after it.
 #[derive(Drop)]
 pub(crate) struct Trial<B: Board> {
     pub(crate) step: Move<B>,
