@@ -162,17 +162,17 @@ front_tag line =
     let joined : 91 ∷ line ≡ (91 ∷ c.front) ++ c.back = ap (λ l. 91 ∷ l) c.joined in
     elim (find_tag c.front BeforeName (91 ∷ []) (record bare { read = 1 }) (before [] refl) begins_outside.reads c.all only_bracket) [
       | inl has ↦ record {
-            front = has.front;
-            back = has.back ++ c.back;
-            joined = joined ∙ ap (λ l. l ++ c.back) has.joined ∙ append_assoc has.front has.back c.back;
-            is = inl (has.tag, has.is);
-          }
+        front = has.front;
+        back = has.back ++ c.back;
+        joined = joined ∙ ap (λ l. l ++ c.back) has.joined ∙ append_assoc has.front has.back c.back;
+        is = inl (has.tag, has.is);
+      }
       | inr none ↦ record {
-            front = 91 ∷ c.front;
-            back = c.back;
-            joined = joined;
-            is = inr (record { line = c.front; in_line = c.all; joined = refl; broken = none }, c.stops);
-          }
+        front = 91 ∷ c.front;
+        back = c.back;
+        joined = joined;
+        is = inr (record { line = c.front; in_line = c.all; joined = refl; broken = none }, c.stops);
+      }
     ]
 
 -- ---- a section at the front
@@ -271,9 +271,9 @@ section_row n g over further more size =
     let said = tags_found g (length f.front) f.some f.tags in
     elim f.ends [
       | inl none ↦ (
-            if_over over said,
-            subst (λ l. Says g over l (if_over over said)) (sym (f.joined ∙ ap (λ b. f.front ++ (f.gap ++ b)) none.0 ∙ ap (λ l. f.front ++ l) (append-nil f.gap))) (last_section f.front f.gap f.is none.1),
-          )
+        if_over over said,
+        subst (λ l. Says g over l (if_over over said)) (sym (f.joined ∙ ap (λ b. f.front ++ (f.gap ++ b)) none.0 ∙ ap (λ l. f.front ++ l) (append-nil f.gap))) (last_section f.front f.gap f.is none.1),
+      )
       | inr next ↦
           let joined = f.joined ∙ ap (λ b. f.front ++ (f.gap ++ b)) next.2 in
           let sizes = ap length joined in
