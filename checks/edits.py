@@ -5,11 +5,15 @@
 
 `rt ci` tries those in crates/CRATE/must-fail; more of them would take it too long. Those in checks/edits/CRATE have the
 same form. This program copies the tracked files, as they are now, to a temporary folder, puts these edits in the place of
-the gate's, and runs `rt must-fail` there. It ends with the status of that run: 0 where the prover refused each. What is built,
-crates/*/out, is copied too, so that the crates below are not proved again (`./dw` builds them). The first edit of a
-crate takes minutes, a further one 15 to 40 s.
+the gate's, and runs `rt must-fail` there, as many crates side by side as there are processors and 4 GB of memory for each. It
+prints what each run says as it ends, and ends with 0 if the prover refused every edit. What is built, crates/*/out, is copied
+too, so that the crates below are not proved again (`./dw` builds them). The first edit of a crate takes minutes, a
+further one 15 to 40 s.
 """
+import concurrent.futures
+import os
 import pathlib
+import re
 import shutil
 import subprocess
 import sys
@@ -17,6 +21,7 @@ import tempfile
 
 TOP = pathlib.Path(__file__).resolve().parent.parent
 EDITS = TOP / "checks" / "edits"
+MEMORY_EACH = 4_000_000  # kB
 
 
 def copy_tracked(room):
@@ -40,6 +45,16 @@ def put_edits(room, crate):
         shutil.copy2(edit, folder)
 
 
+def side_by_side():
+    free = int(re.search(r"MemAvailable:\s+(\d+)", pathlib.Path("/proc/meminfo").read_text()).group(1))
+    return max(1, min(len(os.sched_getaffinity(0)), free // MEMORY_EACH))
+
+
+def tried(room, crate):
+    run = subprocess.run(["rt", "must-fail", crate], cwd=room, stdout=subprocess.PIPE, stderr=subprocess.STDOUT, text=True, check=False)
+    return crate, run.returncode, run.stdout
+
+
 def main(words):
     known = sorted(folder.name for folder in EDITS.iterdir() if folder.is_dir())
     unknown = [word for word in words if word not in known]
@@ -47,13 +62,21 @@ def main(words):
         print(f"edits.py: no edits of {' '.join(unknown)}; there are some of {' '.join(known)}", file=sys.stderr)
         return 2
     crates = words or known
+    failed = []
     with tempfile.TemporaryDirectory(prefix="dw-edits-") as name:
         room = pathlib.Path(name)
         copy_tracked(room)
         copy_built(room)
         for crate in crates:
             put_edits(room, crate)
-        return subprocess.run(["rt", "must-fail", *crates], cwd=room, check=False).returncode
+        with concurrent.futures.ThreadPoolExecutor(side_by_side()) as pool:
+            for run in concurrent.futures.as_completed([pool.submit(tried, room, crate) for crate in crates]):
+                crate, status, text = run.result()
+                print(f"== {crate}\n{text}", end="", flush=True)
+                if status != 0:
+                    failed.append(crate)
+    print(f"edits.py: {'each edit was refused' if not failed else 'not all were refused in ' + ' '.join(sorted(failed))}")
+    return 1 if failed else 0
 
 
 if __name__ == "__main__":

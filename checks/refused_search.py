@@ -3,7 +3,7 @@
 
     checks/refused_search.py
 
-It runs the test tests::memory::wants_memory of dw_solve, which `rt test` in crates/dw_solve builds, once for each
+It runs the test solve::wants_memory of dw_tests, which `rt test` in crates/dw_tests builds, once for each
 allocation of it: some positions are searched with each cache, for 1 to 3 moves. Where a growth is refused the search
 answers rightly without it, or it says so, and answers rightly when it is asked again; the test fails where that is not
 so. The last run meets no refusal.
@@ -14,8 +14,8 @@ import subprocess
 import tempfile
 
 HERE = pathlib.Path(__file__).resolve().parent
-PROGRAM = HERE.parent / "crates/dw_solve/out/dw_solve_tests"
-TEST = "tests::memory::wants_memory"
+PROGRAM = HERE.parent / "crates/dw_tests/out/dw_tests_tests"
+TEST = "solve::wants_memory"
 MOST = 100_000
 
 

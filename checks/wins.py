@@ -2,10 +2,10 @@
 """wins.py: small positions with the least number of moves within which the side to move wins, by bare recursion.
 
 It stands on the generator of perft.py alone: no cache, no order of moves, nothing of the solver. The table that the
-tests of dw_solve read is what it prints, made again or compared by
+tests of the solver read is what it prints, made again or compared by
 
-    python3 checks/wins.py > crates/dw_solve/src/tests/table.rt
-    python3 checks/wins.py | cmp - crates/dw_solve/src/tests/table.rt
+    python3 checks/wins.py > crates/dw_tests/src/solve/table.rt
+    python3 checks/wins.py | cmp - crates/dw_tests/src/solve/table.rt
 
 Positions come from a fixed seed, as many of each kind: by the least number of moves (1, 2 or 3, or none up to 3), with
 a king or with men alone, with a capture to begin with or without, and by the side to move.

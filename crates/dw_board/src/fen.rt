@@ -2,7 +2,5 @@
 
 pub mod fault;
 pub mod read;
-#[cfg(test)]
-mod tests;
 mod tokens;
 pub mod write;

@@ -12,5 +12,3 @@ pub mod piece;
 pub mod position;
 pub mod square;
 pub mod squares;
-#[cfg(test)]
-mod tests;

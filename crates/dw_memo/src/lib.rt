@@ -8,5 +8,3 @@ pub mod lru_memo;
 pub mod memo;
 pub mod no_memo;
 pub mod slot_memo;
-#[cfg(test)]
-mod tests;

@@ -10,7 +10,7 @@ use Rattle.dw_board.specs.Geometry.{Geometry, step}
 use Rattle.dw_board.specs.SquareSet.{Squares}
 use Rattle.dw_moves.specs.Moves.{IsForward}
 use Rattle.dw_moves.specs.Plain.{may_go}
-use Rattle.dw_moves.specs.Kernel.{In, RunsTo, MeetsBehind, MenMeet, KingsMeet, Takes, Steps}
+use Rattle.dw_moves.specs.Kernel.{In, RunsTo, MeetsBehind, MenMeet, KingsMeet, Takes, Steps, StepsOn}
 use Rattle.dw_moves.proofs.LegalMoves.{may_from, may_in}
 use Rattle.dw_moves.proofs.SquareSets.{in_none, in_or, in_and, in_minus}
 
@@ -123,13 +123,19 @@ movers_back side men kings d movers e is s = (
   ]),
 )
 
-pub steps_is : (g : Geometry) (side : Side) (men kings occupied : Squares) (d : Dir) (movers next free : Squares) (r : Bool)
-    → AreMovers side men kings d movers → IsShifted g movers d next → free ≡ fin.difference next occupied → IsTrue r ↔ ((s : ℕ) × In s free) → IsTrue r ↔ Steps g side men kings occupied d
-steps_is g side men kings occupied d movers next free r m shifted free_is any = (
-  (λ yes.
-      let t = any.0 yes in
-      let w = (in_minus next occupied free t.0 free_is).0 t.1 in
-      let s = (shifted t.0).0 w.0 in
-      (s.0, t.0, (m s.0).0 s.1.0, s.1.1, w.1)),
-  (λ h. any.1 (h.1, (in_minus next occupied free h.1 free_is).1 ((shifted h.1).1 (h.0, ((m h.0).1 h.2, h.3)), h.4))),
+pub next_free_is : (g : Geometry) (side : Side) (men kings occupied : Squares) (d : Dir) (movers next free : Squares)
+    → AreMovers side men kings d movers → IsShifted g movers d next → free ≡ fin.difference next occupied → (t : ℕ) → In t free ↔ StepsOn g side men kings occupied d t
+next_free_is g side men kings occupied d movers next free m shifted free_is t = (
+  (λ h.
+      let w = (in_minus next occupied free t free_is).0 h in
+      let s = (shifted t).0 w.0 in
+      (s.0, (m s.0).0 s.1.0, s.1.1, w.1)),
+  (λ h. (in_minus next occupied free t free_is).1 ((shifted t).1 (h.0, ((m h.0).1 h.1, h.2)), h.3)),
+)
+
+pub steps_is : (g : Geometry) (side : Side) (men kings occupied : Squares) (d : Dir) (free : Squares) (r : Bool)
+    → ((t : ℕ) → In t free ↔ StepsOn g side men kings occupied d t) → IsTrue r ↔ ((s : ℕ) × In s free) → IsTrue r ↔ Steps g side men kings occupied d
+steps_is g side men kings occupied d free r is any = (
+  (λ yes. let t = any.0 yes in let h = (is t.0).0 t.1 in (h.0, t.0, h.1, h.2, h.3)),
+  (λ h. any.1 (h.1, (is h.1).1 (h.0, h.2, h.3, h.4))),
 )

@@ -37,3 +37,5 @@ pub mod MoveKeys
 pub mod LeastLandings
 pub mod Listing
 pub mod WorkedPositions
+pub mod Replying
+pub mod StepSets

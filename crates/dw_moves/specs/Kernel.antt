@@ -53,6 +53,14 @@ Takes g men kings enemies occupied d = (c : ℕ) × (t : ℕ) × (MenMeet g men 
 abbrev pub Steps : Geometry → Side → Squares → Squares → Squares → Dir → Type 0
 Steps g side men kings occupied d = (s : ℕ) × (t : ℕ) × ((In s men × IsForward side d) ⊎ In s kings) × (step g s d ≡ Some t) × (In t occupied → ⊥)
 
+-- such a step leads to t
+abbrev pub StepsOn : Geometry → Side → Squares → Squares → Squares → Dir → ℕ → Type 0
+StepsOn g side men kings occupied d t = (s : ℕ) × ((In s men × IsForward side d) ⊎ In s kings) × (step g s d ≡ Some t) × (In t occupied → ⊥)
+
+-- a set has two members at least
+abbrev pub HasTwo : Squares → Type 0
+HasTwo v = (s : ℕ) × (t : ℕ) × In s v × In t v × (s ≡ t → ⊥)
+
 -- some quiet move is there
 abbrev pub CanStep : Geometry → Placement → Type 0
 CanStep g p = (from : ℕ) × (to : ℕ) × Quiet g p from to

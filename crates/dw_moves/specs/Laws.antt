@@ -4,6 +4,7 @@ use Rattle.std.specs.FinSet as set
 use Rattle.dw_board.specs.Geometry.{Geometry, IsBoard, OnBoard}
 use Rattle.dw_board.specs.Placement.{Placement, IsPosition, count}
 use Rattle.dw_moves.specs.Moves.{Member, Path, IsBest, Move, Quiet, IsPathOf, Legal, other, play}
+use Rattle.dw_moves.specs.Replies.{OneStep, IsLoose, AlwaysReply}
 use Rattle.dw_moves.specs.Order.{IsKey, Precedes, IsListOf, Listed, AreListed}
 
 -- a path tells what it takes: two paths over the same landings from the same square take the same pieces in the same order
@@ -49,3 +50,11 @@ pub record MovesInOrder : Type 0 where
   pub only : (g : Geometry) (p : Placement) (moves others : List Move) → IsListOf (Precedes g p) (Legal g p) moves → IsListOf (Precedes g p) (Legal g p) others → moves ≡ others
   pub listed : (g : Geometry) → IsBoard g → (p : Placement) → (list : List Listed) × AreListed g p list
   pub same : (g : Geometry) (p : Placement) (list others : List Listed) → AreListed g p list → AreListed g p others → list ≡ others
+
+-- a step of one square is a quiet move
+abbrev pub StepsAreQuiet : Type 0
+StepsAreQuiet = (g : Geometry) → IsBoard g → (p : Placement) (from to : ℕ) → OneStep g p from to → Quiet g p from to
+
+-- where nothing can be taken and the other side has steps to two squares, it has a reply to every move
+abbrev pub LooseReplies : Type 0
+LooseReplies = (g : Geometry) → IsBoard g → (p : Placement) → IsLoose g p → AlwaysReply g p

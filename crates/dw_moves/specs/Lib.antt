@@ -7,4 +7,5 @@ pub mod Plain
 pub mod Chains
 pub mod Listing
 pub mod Kernel
+pub mod Replies
 pub mod WorkedPositions

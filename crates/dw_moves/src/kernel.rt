@@ -2,7 +2,8 @@
 ghost use Rattle.std.specs.Prelude.{◌≡◌, ◌↔◌, ℕ, Some, IsTrue};
 ghost use Rattle.dw_board.specs.Geometry.{OnBoard, step};
 ghost use Rattle.dw_moves.specs.Moves.{CanCapture, Quiet, IsForward};
-ghost use Rattle.dw_moves.specs.Kernel.{In, AreOf, AreSets, MenMeet, KingsMeet, Takes, Steps, CanStep, CanTakeFrom, back};
+ghost use Rattle.dw_moves.specs.Kernel.{In, AreOf, AreSets, MenMeet, KingsMeet, Takes, Steps, StepsOn, HasTwo, CanStep, CanTakeFrom, back};
+ghost use Rattle.dw_moves.specs.Replies.{given, passed, OneStep, IsLoose, AlwaysReply};
 
 use crate::play::other;
 use crate::quiet::may_go;
@@ -35,6 +36,34 @@ pub(crate) fn can_step<B: Board>(position: &Position<B>) -> bool
         || field.steps(side, Dir::UpRight)
         || field.steps(side, Dir::DownLeft)
         || field.steps(side, Dir::DownRight)
+}
+
+/// Whether it is seen at a glance that the other side has a reply to every move: nothing can be taken, and if it were the
+/// other side's turn, pieces of it could go one square to two different squares or more. A quiet move stands in the way of one.
+pub fn is_loose<B: Board>(position: &Position<B>) -> bool
+    ensures exact { IsTrue result ↔ IsLoose B.geometry position.now }
+    ensures replies { IsTrue result → AlwaysReply B.geometry position.now }
+{
+    if can_capture(position) {
+        return false;
+    }
+    has_two(other_steps(position))
+}
+
+/// The squares to which a piece of the other side could go one square, if it were its turn: a man forward, a king in any
+/// direction.
+pub fn other_steps<B: Board>(position: &Position<B>) -> Squares<B>
+    ensures { (t : ℕ) → In t result ↔ ((s : ℕ) × OneStep B.geometry (passed position.now) s t) }
+{
+    let side = other(position.turn());
+    let field = Field::given(position, side);
+    let up = field
+        .next_free(side, Dir::UpLeft)
+        .or(field.next_free(side, Dir::UpRight));
+    let down = field
+        .next_free(side, Dir::DownLeft)
+        .or(field.next_free(side, Dir::DownRight));
+    up.or(down)
 }
 
 /// The squares from which a quiet move may begin: each from which one does is among them.
@@ -80,7 +109,13 @@ impl<B: Board> Field<B> {
     fn of(position: &Position<B>) -> Self
         ensures { AreSets B.geometry position.now result.men result.kings result.enemies result.occupied }
     {
-        let side = position.turn();
+        Field::given(position, position.turn())
+    }
+
+    /// The sets that it would have, if it were this side's turn.
+    fn given(position: &Position<B>, side: Side) -> Self
+        ensures { AreSets B.geometry (given position.now side) result.men result.kings result.enemies result.occupied }
+    {
         let men = position.squares(side, Kind::Man);
         let kings = position.squares(side, Kind::King);
         let enemies = all_of(position, other(side));
@@ -149,12 +184,19 @@ impl<B: Board> Field<B> {
     fn steps(&self, side: Side, direction: Dir) -> bool
         ensures { IsTrue result ↔ Steps B.geometry side self.now.men self.now.kings self.now.occupied direction }
     {
+        any(self.next_free(side, direction))
+    }
+
+    /// The empty squares to which a piece of the side to move can go one square in a direction.
+    fn next_free(&self, side: Side, direction: Dir) -> Squares<B>
+        ensures { (t : ℕ) → In t result ↔ StepsOn B.geometry side self.now.men self.now.kings self.now.occupied direction t }
+    {
         let movers = if may_go(Kind::Man, side, direction) {
             self.kings.or(self.men)
         } else {
             self.kings
         };
-        any(movers.shifted(direction).minus(self.occupied))
+        movers.shifted(direction).minus(self.occupied)
     }
 }
 
@@ -183,4 +225,14 @@ fn any<B: Board>(squares: Squares<B>) -> bool
     ensures { IsTrue result ↔ ((s : ℕ) × In s squares) }
 {
     squares != Squares::none()
+}
+
+/// Whether two squares or more are in the set.
+fn has_two<B: Board>(squares: Squares<B>) -> bool
+    ensures { IsTrue result ↔ HasTwo squares }
+{
+    match squares.first() {
+        Some(one) => any(squares.without(one)),
+        None => false,
+    }
 }

@@ -1,7 +1,7 @@
 //! Laws of the definitions, each the contract of a function that does nothing, and what `==` means.
 ghost use Rattle.std.specs.Prelude.{◌≡◌, ◌↔◌, IsTrue};
 ghost use Rattle.dw_moves.specs.WorkedPositions.{WorkedPositions};
-ghost use Rattle.dw_moves.specs.Laws.{PathTells, PathIsShort, MovesListed, OneBest, LegalMovesTake, PlayStays, MovesHaveKeys, MovesInOrder};
+ghost use Rattle.dw_moves.specs.Laws.{PathTells, PathIsShort, MovesListed, OneBest, LegalMovesTake, PlayStays, MovesHaveKeys, MovesInOrder, StepsAreQuiet, LooseReplies};
 
 use crate::moves::Move;
 use dw_board::board::Board;
@@ -44,6 +44,16 @@ pub fn moves_have_keys()
 /// The legal moves can be listed in ascending order, in one way, and each with its least path.
 pub fn moves_in_order()
     ensures { MovesInOrder }
+{}
+
+/// A step of one square is a quiet move.
+pub fn steps_are_quiet()
+    ensures { StepsAreQuiet }
+{}
+
+/// Where nothing can be taken and the other side has steps to two squares, it has a reply to every move.
+pub fn loose_replies()
+    ensures { LooseReplies }
 {}
 
 /// Worked positions have exactly these legal moves.

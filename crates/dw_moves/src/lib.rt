@@ -12,5 +12,3 @@ pub mod listed;
 pub mod moves;
 pub mod play;
 pub mod quiet;
-#[cfg(test)]
-mod tests;

@@ -14,6 +14,8 @@ pub mod Passing
 pub mod TagReading
 pub mod TagBreaking
 pub mod SectionReading
+pub mod WholeTexts
 pub mod MoveTexts
 pub mod LineTexts
+pub mod WholeLines
 pub mod TextLaws

@@ -6,7 +6,7 @@ use Rattle.dw_board.specs.Geometry.{Geometry}
 use Rattle.dw_notation.specs.Found.{Found}
 use Rattle.dw_notation.specs.Places.{step, at}
 use Rattle.dw_notation.specs.Sections.{Section, bare, kind_of, game_of, with_tag, after, section_found, found_by, sections_found}
-use Rattle.dw_notation.specs.Tags.{Tag, IsTag, IsUnclosed, is_space, IsGap, IsSection, with_fen, with_game, fens_of, games_of, tags_found, closes, SectionsAreFound, LastSectionIsFound, CommentsSayNothing, OpenCommentIsFound, OthersSayNothing}
+use Rattle.dw_notation.specs.Tags.{Tag, IsTag, IsUnclosed, is_space, IsGap, IsSection, with_fen, with_game, fens_of, games_of, tags_found, closes, SectionsAreFound, LastSectionIsFound, CommentsSayNothing, OpenCommentIsFound, OthersSayNothing, OpenCommentGivesNothing, OpenSectionGivesNothing}
 use Rattle.dw_notation.specs.Tags.IsSection.{single, broken, longer, longer_broken}
 use Rattle.dw_notation.specs.declared.problems.place.Place.{Place}
 use Rattle.dw_notation.specs.declared.problems.place.Place.TheVariants.{Outside, Comment, Between, BeforeName}
@@ -18,7 +18,7 @@ use Rattle.dw_notation.proofs.TagReading.{Reads, join_reads, run_reads, between,
 use Rattle.dw_notation.proofs.TagBreaking.{SoFar, unclosed_reads, line_ends, text_ends}
 
 -- where the reading stands behind these tags, which have so many bytes
-record StandsBehind (tags : List Tag) (some last : Bool) (n : ℕ) (place : Place) (s : Section) : Type 0 where
+pub record StandsBehind (tags : List Tag) (some last : Bool) (n : ℕ) (place : Place) (s : Section) : Type 0 where
   pub read : s.read ≡ n
   pub fens : s.fens ≡ fens_of tags
   pub games : s.games ≡ games_of tags
@@ -37,7 +37,7 @@ Holds-found : (g : Geometry) (tags : List Tag) (some : Bool) (size read : ℕ) (
 Holds-found g tags some size read s h = rw (h.size, h.unclosed, h.fens, h.games) refl
 
 -- a bracket is read, with which a tag begins
-record Begins (place : Place) (s : Section) (tags : List Tag) (some : Bool) (n : ℕ) (t : Section) : Type 0 where
+pub record Begins (place : Place) (s : Section) (tags : List Tag) (some : Bool) (n : ℕ) (t : Section) : Type 0 where
   pub reads : Reads place s (91 ∷ []) BeforeName t
   pub name : t.name ≡ []
   pub read : t.read ≡ n + 1
@@ -45,7 +45,7 @@ record Begins (place : Place) (s : Section) (tags : List Tag) (some : Bool) (n :
   pub fens : t.fens ≡ fens_of tags
   pub games : t.games ≡ games_of tags
 
-begins_outside : Begins Outside bare [] false 0 (record bare { read = 1 })
+pub begins_outside : Begins Outside bare [] false 0 (record bare { read = 1 })
 begins_outside = record { reads = λ at_end g more. refl; name = refl; read = refl; unclosed = refl; fens = refl; games = refl }
 
 begins_between : (tags : List Tag) (some : Bool) (size n : ℕ) (s : Section) → Holds tags some size n s → Begins Between s tags some n (record s { read = s.read + 1; name = [] })
@@ -86,14 +86,14 @@ with_tag_stands OtherTag tags some tag n s is unclosed fens games = record {
 }
 
 -- reading on from a place, up to behind these tags
-record ReadsOn (place : Place) (s : Section) (text : List ℕ) (tags : List Tag) (some last : Bool) (n : ℕ) : Type 0 where
+pub record ReadsOn (place : Place) (s : Section) (text : List ℕ) (tags : List Tag) (some last : Bool) (n : ℕ) : Type 0 where
   pub next : Place
   pub behind : Section
   pub reads : Reads place s text next behind
   pub stands : StandsBehind tags some last n next behind
 
 -- a whole tag
-tag_on : (place : Place) (s t : Section) (tags : List Tag) (some : Bool) (text : List ℕ) (tag : Tag) (n m : ℕ) → Begins place s tags some n t → m ≡ n + length text → IsTag text tag
+pub tag_on : (place : Place) (s t : Section) (tags : List Tag) (some : Bool) (text : List ℕ) (tag : Tag) (n m : ℕ) → Begins place s tags some n t → m ≡ n + length text → IsTag text tag
     → ReadsOn place s text (tag ∷ tags) some false m
 tag_on place s t tags some text tag n m begins size is =
     let length_is = tag_length text tag is in
@@ -282,3 +282,13 @@ others_say_nothing at_end g byte more h =
     let parts = or_parts (byte == 91) (byte == 123) h in
     let stays : step Outside byte ≡ at Outside Keep = rw (parts.0, parts.1) refl in
     ap (λ x. found_by x.deed (section_found g bare) ++ sections_found at_end g x.place (after x.deed bare) more) stays
+
+-- ---- what is unfinished has given nothing
+pub open_comment_gives_nothing : OpenCommentGivesNothing
+open_comment_gives_nothing g text all = ap (sections_found false g Comment bare) (sym (append-nil text)) ∙ comment_reads text all bare false g []
+
+pub open_section_gives_nothing : OpenSectionGivesNothing
+open_section_gives_nothing g text gap tags some last is (inl spaces) =
+    ap (sections_found false g Outside bare) (sym (append-nil (text ++ gap))) ∙ (whole_reads text gap tags some last is spaces).1 false g []
+open_section_gives_nothing g text gap tags some last is (inr none) =
+    ap (λ l. sections_found false g Outside bare (text ++ l)) none ∙ (section_reads is).reads false g []

@@ -39,14 +39,14 @@ pub data SoFar : Place → List ℕ → Type 0 where
   rest : (text : List ℕ) → SoFar Rest text
 
 -- a byte in a tag finds nothing and adds no tag
-record IsQuiet (deed : Deed) : Type 0 where
+pub record IsQuiet (deed : Deed) : Type 0 where
   pub found : (f : Found) → found_by deed f ≡ []
   pub read : (s : Section) → (after deed s).read ≡ s.read + 1
   pub fens : (s : Section) → (after deed s).fens ≡ s.fens
   pub games : (s : Section) → (after deed s).games ≡ s.games
 
 -- one more byte of the line: the tag goes on, or it is whole
-abbrev GoesOn : Place → List ℕ → ℕ → Type 0
+abbrev pub GoesOn : Place → List ℕ → ℕ → Type 0
 GoesOn place text byte = (SoFar (step place byte).place (text ++ byte ∷ []) × IsQuiet (step place byte).deed) ⊎ ((tag : Tag) × IsTag (text ++ byte ∷ []) tag)
 
 goes_on : (place next : Place) (deed : Deed) (text other : List ℕ) (byte : ℕ) → step place byte ≡ at next deed → text ++ byte ∷ [] ≡ other → SoFar next other → IsQuiet deed → GoesOn place text byte
@@ -77,7 +77,7 @@ quiet_break = record { found = λ f. refl; read = λ s. refl; fens = λ s. refl;
 breaks : (place : Place) (text : List ℕ) (byte : ℕ) → step place byte ≡ at Rest Break → GoesOn place text byte
 breaks place text byte e = goes_on place Rest Break text (text ++ byte ∷ []) byte e refl (rest (text ++ byte ∷ [])) quiet_break
 
-tag_goes_on : {place : Place} {text : List ℕ} (byte : ℕ) → ends_line byte ≡ false → SoFar place text → GoesOn place text byte
+pub tag_goes_on : {place : Place} {text : List ℕ} (byte : ℕ) → ends_line byte ≡ false → SoFar place text → GoesOn place text byte
 tag_goes_on byte inside (before first b1) = elim (cases_Bool (is_blank byte)) [
   | inl blank ↦ goes_on BeforeName BeforeName Count (91 ∷ first) (91 ∷ (first ++ byte ∷ [])) byte (rw blank refl) refl (before (first ++ byte ∷ []) (all_push is_blank first byte b1 blank)) quiet_count
   | inr none ↦ elim (cases_Bool (is_name_byte byte)) [

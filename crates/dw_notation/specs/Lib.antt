@@ -9,6 +9,7 @@ pub mod Found
 pub mod Places
 pub mod Sections
 pub mod Tags
+pub mod WholeTexts
 pub mod HeldSection
 pub mod Problems
 pub mod Held

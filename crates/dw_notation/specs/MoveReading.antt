@@ -69,13 +69,18 @@ pub record TwoFit (g : Geometry) (p : Placement) (named : Named) : Type 0 where
   pub fits_too : Fits g p named second
   pub differ : first ≡ second → ⊥
 
--- the answer to what was named: the one move that fits, that none does, or that several do; or memory was refused
+-- two squares joined by a cross: any of the legal moves may be the capture between them, and their list takes memory
+abbrev pub NamesTwo : Named → Type 0
+NamesTwo named = (from to : ℕ) × (named ≡ Capture (from ∷ to ∷ []))
+
+-- The answer to what was named: the one move that fits, that none does, or that several do. Memory can be refused only for two
+-- squares joined by a cross.
 abbrev pub IsAnswer : Geometry → Placement → Named → Result Move MoveFault → Type 0
 IsAnswer g p named (Ok m) = FitsAlone g p named m
 IsAnswer g p named (Err Syntax) = ⊥
 IsAnswer g p named (Err NoSuchMove) = (m : Move) → Fits g p named m → ⊥
 IsAnswer g p named (Err Ambiguous) = TwoFit g p named
-IsAnswer g p named (Err Memory) = Unit {0}
+IsAnswer g p named (Err Memory) = NamesTwo named
 
 -- the text names something, and this is the answer to it
 pub record IsAnswered (g : Geometry) (p : Placement) (text : List ℕ) (answer : Result Move MoveFault) : Type 0 where

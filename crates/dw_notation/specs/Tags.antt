@@ -131,3 +131,12 @@ OpenCommentIsFound = (g : Geometry) (text : List ℕ) → list_all (λ byte. not
 -- any other byte outside says nothing
 abbrev pub OthersSayNothing : Type 0
 OthersSayNothing = (at_end : Bool) (g : Geometry) (byte : ℕ) (more : List ℕ) → opens byte ≡ false → outside_found at_end g (byte ∷ more) ≡ outside_found at_end g more
+
+-- while more bytes may come, a comment that is still open has given nothing
+abbrev pub OpenCommentGivesNothing : Type 0
+OpenCommentGivesNothing = (g : Geometry) (text : List ℕ) → list_all (λ byte. not (closes byte)) text ≡ true → outside_found false g (123 ∷ text) ≡ []
+
+-- nor has a section that more tags may follow
+abbrev pub OpenSectionGivesNothing : Type 0
+OpenSectionGivesNothing =
+    (g : Geometry) (text gap : List ℕ) (tags : List Tag) (some last : Bool) → IsSection text tags some last → IsGap last gap ⊎ (gap ≡ []) → outside_found false g (text ++ gap) ≡ []

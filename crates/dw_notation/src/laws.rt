@@ -1,6 +1,7 @@
 //! Laws of the definitions, each the contract of a function that does nothing.
-ghost use Rattle.dw_notation.specs.Tags.{SectionsAreFound, LastSectionIsFound, CommentsSayNothing, OpenCommentIsFound, OthersSayNothing};
-ghost use Rattle.dw_notation.specs.TextLaws.{MovesHaveTexts};
+ghost use Rattle.dw_notation.specs.Tags.{SectionsAreFound, LastSectionIsFound, CommentsSayNothing, OpenCommentIsFound, OthersSayNothing, OpenCommentGivesNothing, OpenSectionGivesNothing};
+ghost use Rattle.dw_notation.specs.WholeTexts.{TextsAreRows};
+ghost use Rattle.dw_notation.specs.TextLaws.{MovesHaveTexts, LinesHaveTexts};
 ghost use Rattle.dw_notation.specs.MoveReadingLaws.{NamesOneThing, HasOneAnswer, WrittenMoveIsNamed, WrittenMoveIsRead};
 
 use dw_moves::laws::{legal_moves_take, moves_have_keys, moves_in_order, one_best, path_tells};
@@ -23,6 +24,17 @@ pub fn others_say_nothing()
     ensures { OthersSayNothing }
 {}
 
+/// Each text of tags is one row of comments, sections and other bytes, and says what these say, in order.
+pub fn texts_are_rows()
+    ensures { TextsAreRows }
+{}
+
+/// While more bytes may come, a comment that is still open has given nothing, nor has a section that more tags may follow.
+pub fn unfinished_give_nothing()
+    ensures comment { OpenCommentGivesNothing }
+    ensures section { OpenSectionGivesNothing }
+{}
+
 /// Each legal move of a position has a text, and only one; different moves have different texts.
 pub fn moves_have_texts()
     ensures { MovesHaveTexts }
@@ -32,6 +44,13 @@ pub fn moves_have_texts()
     one_best();
     moves_have_keys();
     legal_moves_take();
+}
+
+/// Moves that can be played one after another have a text as a line, and only one.
+pub fn lines_have_texts()
+    ensures { LinesHaveTexts }
+{
+    moves_have_texts();
 }
 
 /// The text of a move names one thing at most, and so it is read in one way, where memory is not refused.

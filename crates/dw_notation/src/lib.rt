@@ -1,6 +1,6 @@
 //! Texts of draughts: where bytes come from and go, and the problems of a byte text.
 //!
-//! Everything is generic over the board. No call but `read_move` takes memory.
+//! Everything is generic over the board. Only `line_text` takes memory, and `read_move` at two squares joined by `x`.
 #![tactic(auto)]
 
 pub mod laws;
@@ -9,6 +9,4 @@ pub mod move_text;
 pub mod problems;
 pub mod read_move;
 pub mod streams;
-#[cfg(test)]
-mod tests;
 pub mod writes;

@@ -57,8 +57,8 @@ impl From<AllocError> for MoveFault {
 ///
 /// # Errors
 ///
-/// `Syntax` for any other text, before memory is taken; `NoSuchMove` where no legal move fits, and `Ambiguous` where
-/// several do; `Memory` where memory is refused.
+/// `Syntax` for any other text; `NoSuchMove` if no legal move fits, and `Ambiguous` if several do; `Memory` if memory is
+/// refused, which only two squares joined by `x` ask for.
 pub fn read_move<B: Board>(
     alloc: Global,
     position: &Position<B>,

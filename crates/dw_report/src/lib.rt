@@ -1,10 +1,12 @@
 //! The report on the problems of a source.
+//!
+//! The sources, sinks and problems that a run works on are those of `dw_notation`, and stand here under the same names.
 #![tactic(auto)]
 
 pub mod laws;
 pub mod problem;
 pub mod run;
 pub mod settings;
-#[cfg(test)]
-mod tests;
 mod text;
+
+pub use dw_notation::{problems, streams};

@@ -18,13 +18,16 @@ use dw_notation::problems::Problem;
 use dw_notation::streams::Sink;
 use dw_notation::writes::{WriteFault, write_all};
 use std::alloc::{AllocError, Global};
+use thiserror::Error;
 
 /// Why a text was not written to its end.
-#[derive(Clone, Copy, Debug, PartialEq, Eq)]
+#[derive(Clone, Copy, Debug, PartialEq, Eq, Error)]
 pub enum TextFault {
     /// Memory was refused.
+    #[error("out of memory")]
     Memory,
     /// The sink failed.
+    #[error("write failed")]
     Sink,
 }
 

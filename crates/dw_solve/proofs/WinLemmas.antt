@@ -1,10 +1,14 @@
 -- What follows from the definition of a win alone.
-use Rattle.std.proofs.Common.{◌≡◌, ℕ, ◌≤◌, zero, suc, subst, sym, List, [], ◌∷◌, ◌⊎◌, inl, inr, arith, refl}
+use Rattle.std.proofs.Common.{◌≡◌, ℕ, ◌≤◌, ◌-◌, zero, suc, subst, sym, false, List, [], ◌∷◌, ◌⊎◌, inl, inr, arith, refl}
 use Rattle.dw_board.specs.Geometry.{Geometry}
 use Rattle.dw_board.specs.Placement.{Placement}
 use Rattle.dw_moves.specs.Moves.{Member, Move, Legal, play}
 use Rattle.dw_moves.specs.Laws.{MovesListed}
+use Rattle.dw_moves.specs.Replies.{AlwaysReply}
+use Rattle.std.proofs.lemmas.Bool.{true≢false}
+use Rattle.dw_memo.specs.Content.{Content}
 use Rattle.dw_solve.specs.Wins.{Win}
+use Rattle.dw_solve.specs.Saying.{SaysMove}
 
 Win-suc : (g : Geometry) (p : Placement) (n : ℕ) → Win g p n → Win g p (suc n)
 Win-suc g p zero w = absurd w
@@ -59,3 +63,17 @@ win_or_not listed g p (suc n) =
       | inl s ↦ inl (s.0, (moves.1 s.0).0 s.1, s.2)
       | inr none ↦ inr (λ w. none w.0 ((moves.1 w.0).1 w.1) w.2)
     ]
+
+-- a reply to each move leaves no win in one
+pub replied_no_win : (g : Geometry) (p : Placement) → AlwaysReply g p → Win g p 1 → ⊥
+replied_no_win g p always w = let r = always w.0 w.1 in w.2 r.0 r.1
+
+-- so the attacker's last move does not win
+pub hopeless_is : (g : Geometry) (p : Placement) (n : ℕ) → n ≡ 1 → AlwaysReply g p → Win g p n → ⊥
+hopeless_is g p n one always w = replied_no_win g p always (subst (Win g p) one w)
+
+pub says_hopeless : (g : Geometry) (c : Content) (p : Placement) (n : ℕ) → n ≡ 1 → AlwaysReply g p → SaysMove g c p (n - 1) false
+says_hopeless g c p n one always = record {
+  when = λ t. absurd (true≢false (sym t));
+  unless = λ _ m legal. let r = always m legal in (r.0, r.1, inl (omega arith));
+}

@@ -1,7 +1,8 @@
 -- Laws of forced wins, for every board.
 use Rattle.std.specs.Prelude.{◌≡◌, ℕ, ◌+◌, ◌≤◌, ◌⊎◌, ◌↔◌, List, length}
-use Rattle.dw_board.specs.Geometry.{Geometry}
+use Rattle.dw_board.specs.Geometry.{Geometry, IsBoard}
 use Rattle.dw_board.specs.Placement.{Placement}
+use Rattle.dw_moves.specs.Replies.{IsLoose, AlwaysReply}
 use Rattle.dw_memo.specs.Content.{Content, Member, NoRepeat, IsMap}
 use Rattle.dw_solve.specs.Wins.{Win, Lost}
 use Rattle.dw_solve.specs.Facts.{IsClosed, AreTrue, IsDecided}
@@ -15,6 +16,12 @@ pub record WinsStay : Type 0 where
 -- there is a win or there is none
 abbrev pub WinsAreDecided : Type 0
 WinsAreDecided = (g : Geometry) (p : Placement) (n : ℕ) → Win g p n ⊎ (Win g p n → ⊥)
+
+-- there is no win in one move where the other side always has a reply; so there is none where nothing can be taken and the other
+-- side has steps to two squares
+pub record NoWinInOne : Type 0 where
+  pub replied : (g : Geometry) (p : Placement) → AlwaysReply g p → Win g p 1 → ⊥
+  pub loose : (g : Geometry) → IsBoard g → (p : Placement) → IsLoose g p → Win g p 1 → ⊥
 
 -- a closed content is true
 abbrev pub ClosedIsTrue : Type 0

@@ -1,7 +1,7 @@
 //! Laws of the definitions, each the contract of a function that does nothing.
-ghost use Rattle.dw_solve.specs.Laws.{WinsStay, WinsAreDecided, ClosedIsTrue, DecidedAreCounted, SearchesAddUp};
+ghost use Rattle.dw_solve.specs.Laws.{WinsStay, WinsAreDecided, NoWinInOne, ClosedIsTrue, DecidedAreCounted, SearchesAddUp};
 
-use dw_moves::laws::moves_listed;
+use dw_moves::laws::{loose_replies, moves_listed};
 
 /// A win within some number of moves is one within more, and so is a loss.
 pub fn wins_stay()
@@ -13,6 +13,14 @@ pub fn wins_are_decided()
     ensures { WinsAreDecided }
 {
     moves_listed()
+}
+
+/// There is no win in one move where the other side always has a reply, as it has where nothing can be taken and it has steps to
+/// two squares.
+pub fn no_win_in_one()
+    ensures { NoWinInOne }
+{
+    loose_replies()
 }
 
 /// Where each bound of a memo follows from others in one move and its replies, all of them are right.

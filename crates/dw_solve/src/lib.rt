@@ -7,6 +7,4 @@ mod ply;
 mod search;
 pub mod solver;
 pub mod stop;
-#[cfg(test)]
-mod tests;
 pub mod trial;

@@ -3,6 +3,7 @@ ghost use Rattle.std.specs.Prelude.{◌≡◌, ◌≢◌, ℕ, ◌+◌, ◌*◌,
 ghost use Rattle.dw_memo.specs.Bounding.{with_win, with_fail};
 ghost use Rattle.dw_memo.specs.Content.{IsMap, SameEntries};
 ghost use Rattle.dw_moves.specs.Moves.{Move, Legal, play};
+ghost use Rattle.dw_moves.specs.Replies.{AlwaysReply};
 ghost use Rattle.dw_solve.specs.declared.stop.Stop.TheVariants.{Limit};
 ghost use Rattle.dw_solve.specs.Wins.{Win, Lost};
 ghost use Rattle.dw_solve.specs.Facts.{AreTrue, IsDecided, RepliesAreDecided, HasBounds};
@@ -11,7 +12,7 @@ ghost use Rattle.dw_solve.specs.Work.{moment, NothingLost, Searched, cut_off};
 ghost use Rattle.dw_solve.specs.Saying.{SaysWin, SaysMove, SaysLost};
 ghost use Rattle.dw_solve.specs.Ranking.{AreRanked};
 
-use crate::guide::{AnyOrder, Guide};
+use crate::guide::{AnyOrder, Guide, LooseFirst};
 use crate::ply::Ply;
 use crate::stop::Stop;
 use dw_board::board::Board;
@@ -19,6 +20,7 @@ use dw_board::position::Position;
 use dw_memo::bounds::Bounds;
 use dw_memo::memo::Memo;
 use dw_moves::best::has_move;
+use dw_moves::kernel::is_loose;
 use dw_moves::moves::Move;
 use dw_moves::play::play as played;
 use std::alloc::AllocError;
@@ -56,8 +58,12 @@ pub(crate) fn wins<B: Board, M: Memo<B>, G: Guide<B>>(
         return Ok(answer);
     }
     count(search)?;
+    if is_hopeless(position, moves) {
+        note(search, position, moves, false);
+        return Ok(false);
+    }
     let (ply, rest) = plies.split_first_mut().unwrap();
-    line_up(ply, position, &search.guide, moves)?;
+    line_up(ply, position, &search.guide, moves - 1)?;
     let won = some_move_wins(search, rest, position, ply.ranked.as_slice(), moves - 1)?;
     note(search, position, moves, won);
     Ok(won)
@@ -102,7 +108,7 @@ pub(crate) fn loses<B: Board, M: Memo<B>, G: Guide<B>>(
 ) -> Result<bool, Stop>
     requires right { AreTrue B.geometry (M.content search.old.memo) }
     requires within { search.old.expanded ≤ search.old.limit }
-    requires room { 2 * moves + 1 ≤ length plies.old }
+    requires room { 0 < moves → 2 * moves + 1 ≤ length plies.old }
     ensures answer { IfOk result (λ yes. IsTrue yes ↔ Lost B.geometry position.now moves) }
     ensures right { AreTrue B.geometry (M.content search.new.memo) }
     ensures count { IsCounted search.old.expanded search.old.limit search.new.expanded search.new.limit }
@@ -115,7 +121,7 @@ pub(crate) fn loses<B: Board, M: Memo<B>, G: Guide<B>>(
         return Ok(!has_move(position));
     }
     let (ply, rest) = plies.split_first_mut().unwrap();
-    ply.fill(position, &search.guide)?;
+    line_up_replies(ply, position, &search.guide, moves)?;
     'replies: for candidate in ply.ranked.as_slice() {
         let reply = &candidate.1;
         if !wins(search, rest, &played(position, reply), moves)? {
@@ -125,8 +131,15 @@ pub(crate) fn loses<B: Board, M: Memo<B>, G: Guide<B>>(
     Ok(true)
 }
 
-/// Takes up the moves of the attacker. Where it is his last one, each is tried by a look for a reply, which costs less than
-/// the guide, so that their order saves nothing.
+/// Whether it is seen without a list of moves that the attacker does not win with his last move.
+fn is_hopeless<B: Board>(position: &Position<B>, moves: u8) -> bool
+    ensures { IsTrue result → (moves ≡ 1) × AlwaysReply B.geometry position.now }
+{
+    moves == 1 && is_loose(position)
+}
+
+/// Takes up the moves of the attacker, who has so many left after them: in the guide's order if there are two or more. With
+/// one or none left, going through them costs less than their ranks.
 fn line_up<B: Board, G: Guide<B>>(
     ply: &mut Ply<B>,
     position: &Position<B>,
@@ -135,8 +148,25 @@ fn line_up<B: Board, G: Guide<B>>(
 ) -> Result<(), AllocError>
     ensures { OnOk result (AreRanked B.geometry position.now ply.new.ranked.items) }
 {
-    if moves == 1 {
+    if moves <= 1 {
         ply.fill(position, &AnyOrder)
+    } else {
+        ply.fill(position, guide)
+    }
+}
+
+/// Takes up the replies. If the attacker has one move left after them, those come first after which it is seen at a glance
+/// that he does not win: no other needs to be tried then.
+fn line_up_replies<B: Board, G: Guide<B>>(
+    ply: &mut Ply<B>,
+    position: &Position<B>,
+    guide: &G,
+    moves: u8,
+) -> Result<(), AllocError>
+    ensures { OnOk result (AreRanked B.geometry position.now ply.new.ranked.items) }
+{
+    if moves == 1 {
+        ply.fill(position, &LooseFirst)
     } else {
         ply.fill(position, guide)
     }

@@ -2,7 +2,7 @@
 ghost use Rattle.std.specs.Prelude.{◌≡◌, ℕ, ◌≤◌, ◌<◌, ◌↔◌, ◌⊎◌, length, IfOk, OnOk, IsOk, IsErrOf, IsTrue};
 ghost use Rattle.dw_solve.specs.declared.stop.Stop.TheVariants.{Limit};
 ghost use Rattle.dw_solve.specs.Wins.{Win, Lost};
-ghost use Rattle.dw_memo.specs.Content.{SameEntries};
+ghost use Rattle.dw_memo.specs.Content.{IsMap, SameEntries};
 ghost use Rattle.dw_solve.specs.Facts.{AreTrue, IsDecided, RepliesAreDecided};
 ghost use Rattle.dw_solve.specs.Searching.{IsCounted};
 ghost use Rattle.dw_solve.specs.Solving.{IsLeast};
@@ -78,7 +78,8 @@ impl<B: Board, M: Memo<B>, G: Guide<B>> Solver<B, M, G> {
 
     /// How many entries the cache has lost so far.
     pub fn dropped(&self) -> u64
-        ensures { result ≡ M.dropped self.now.memo }
+        ensures count { result ≡ M.dropped self.now.memo }
+        ensures map { IsMap (M.content self.now.memo) }
     {
         self.search.memo.dropped()
     }
@@ -99,6 +100,7 @@ impl<B: Board, M: Memo<B>, G: Guide<B>> Solver<B, M, G> {
         requires { moves ≤ 20 }
         ensures answer { IfOk result (λ yes. IsTrue yes ↔ Win B.geometry position.now moves) }
         ensures right { AreTrue B.geometry (M.content self.new.memo) }
+        ensures map { IsMap (M.content self.new.memo) }
         ensures count { IsCounted self.old.expanded self.old.limit self.new.expanded self.new.limit }
         ensures stop { IsErrOf result Limit → self.new.expanded ≡ self.new.limit }
         ensures known { (moves ≡ 0) ⊎ IsDecided (M.content self.old.memo) position.now moves → IsOk result × (self.new.expanded ≡ self.old.expanded) × SameEntries (M.content self.old.memo) (M.content self.new.memo) }
@@ -106,30 +108,28 @@ impl<B: Board, M: Memo<B>, G: Guide<B>> Solver<B, M, G> {
         ensures searched { Searched B.geometry moves (cut_off result moves) (moment M.content M.dropped self.old.memo self.old.expanded) (moment M.content M.dropped self.new.memo self.new.expanded) }
         ensures says { NothingLost (moment M.content M.dropped self.old.memo self.old.expanded) (moment M.content M.dropped self.new.memo self.new.expanded) → IfOk result (SaysWin (M.content self.new.memo) position.now moves) }
     {
-        if let Some(answer) = known(&mut self.search, position, moves) {
-            return Ok(answer);
-        }
-        let mut plies = prepared(alloc, self.plies.take())?;
-        let answer = wins(&mut self.search, plies.as_mut_slice(), position, moves);
-        self.plies = Some(plies);
+        let answer = ask_wins(&mut self.search, &mut self.plies, alloc, position, moves);
+        // The check learns here that the content is a map, as every memo's is.
+        let _lost = self.search.memo.dropped();
         answer
     }
 
-    /// Whether the side to move has lost: whatever it plays, the other wins within so many of its moves, 0 to 20. Where the
-    /// cache decides each reply, nothing is counted, and the limit is no hindrance.
+    /// Whether the side to move has lost: whatever it plays, the other wins within so many of its moves, 0 to 20. If the
+    /// cache decides each reply, nothing is counted, and the limit is no hindrance. At 0 it takes no memory.
     pub fn loses(&mut self, alloc: Global, position: &Position<B>, moves: u8) -> Result<bool, Stop>
         requires { moves ≤ 20 }
         ensures answer { IfOk result (λ yes. IsTrue yes ↔ Lost B.geometry position.now moves) }
         ensures right { AreTrue B.geometry (M.content self.new.memo) }
+        ensures map { IsMap (M.content self.new.memo) }
         ensures count { IsCounted self.old.expanded self.old.limit self.new.expanded self.new.limit }
         ensures stop { IsErrOf result Limit → self.new.expanded ≡ self.new.limit }
         ensures searched { Searched B.geometry moves (cut_off result moves) (moment M.content M.dropped self.old.memo self.old.expanded) (moment M.content M.dropped self.new.memo self.new.expanded) }
         ensures says { NothingLost (moment M.content M.dropped self.old.memo self.old.expanded) (moment M.content M.dropped self.new.memo self.new.expanded) → IfOk result (SaysLost B.geometry (M.content self.new.memo) position.now moves) }
         ensures known { RepliesAreDecided B.geometry (M.content self.old.memo) position.now moves → (IsErrOf result Limit → ⊥) × (self.new.expanded ≡ self.old.expanded) × SameEntries (M.content self.old.memo) (M.content self.new.memo) }
     {
-        let mut plies = prepared(alloc, self.plies.take())?;
-        let answer = loses(&mut self.search, plies.as_mut_slice(), position, moves);
-        self.plies = Some(plies);
+        let answer = ask_loses(&mut self.search, &mut self.plies, alloc, position, moves);
+        // The check learns here that the content is a map, as every memo's is.
+        let _lost = self.search.memo.dropped();
         answer
     }
 
@@ -145,6 +145,7 @@ impl<B: Board, M: Memo<B>, G: Guide<B>> Solver<B, M, G> {
         requires { most ≤ 20 }
         ensures answer { IfOk result (IsLeast B.geometry position.now most) }
         ensures right { AreTrue B.geometry (M.content self.new.memo) }
+        ensures map { IsMap (M.content self.new.memo) }
         ensures count { IsCounted self.old.expanded self.old.limit self.new.expanded self.new.limit }
         ensures stop { IsErrOf result Limit → self.new.expanded ≡ self.new.limit }
         ensures searched { Searched B.geometry most (cut_off result most) (moment M.content M.dropped self.old.memo self.old.expanded) (moment M.content M.dropped self.new.memo self.new.expanded) }
@@ -153,6 +154,7 @@ impl<B: Board, M: Memo<B>, G: Guide<B>> Solver<B, M, G> {
     {
         // The check learns here what every solver keeps to, for the loop below.
         let _ = &self.search;
+        let _lost = self.search.memo.dropped();
         'moves: for moves in 1..most + 1 {
             if self.wins(alloc, position, moves)? {
                 return Ok(Some(moves));
@@ -172,15 +174,74 @@ impl<B: Board, M: Memo<B>, G: Guide<B>> Solver<B, M, G> {
     }
 }
 
-/// The lists for the longest line, those that were kept where there are some.
-fn prepared<B: Board>(alloc: Global, kept: Option<Vec<Ply<B>>>) -> Result<Vec<Ply<B>>, AllocError>
-    ensures { IfOk result (λ plies. 41 ≤ length plies.items) }
+/// What `Solver::wins` answers. The lists are made only for a search.
+fn ask_wins<B: Board, M: Memo<B>, G: Guide<B>>(
+    search: &mut Search<M, G>,
+    kept: &mut Option<Vec<Ply<B>>>,
+    alloc: Global,
+    position: &Position<B>,
+    moves: u8,
+) -> Result<bool, Stop>
+    requires few { moves ≤ 20 }
+    requires right { AreTrue B.geometry (M.content search.old.memo) }
+    requires within { search.old.expanded ≤ search.old.limit }
+    ensures answer { IfOk result (λ yes. IsTrue yes ↔ Win B.geometry position.now moves) }
+    ensures right { AreTrue B.geometry (M.content search.new.memo) }
+    ensures count { IsCounted search.old.expanded search.old.limit search.new.expanded search.new.limit }
+    ensures stop { IsErrOf result Limit → search.new.expanded ≡ search.new.limit }
+    ensures known { (moves ≡ 0) ⊎ IsDecided (M.content search.old.memo) position.now moves → IsOk result × (search.new.expanded ≡ search.old.expanded) × SameEntries (M.content search.old.memo) (M.content search.new.memo) }
+    ensures spent { OnOk result (1 ≤ moves → (IsDecided (M.content search.old.memo) position.now moves → ⊥) → search.old.expanded < search.new.expanded) }
+    ensures searched { Searched B.geometry moves (cut_off result moves) (moment M.content M.dropped search.old.memo search.old.expanded) (moment M.content M.dropped search.new.memo search.new.expanded) }
+    ensures says { NothingLost (moment M.content M.dropped search.old.memo search.old.expanded) (moment M.content M.dropped search.new.memo search.new.expanded) → IfOk result (SaysWin (M.content search.new.memo) position.now moves) }
+{
+    if let Some(answer) = known(search, position, moves) {
+        return Ok(answer);
+    }
+    let mut plies = prepared(alloc, kept.take(), PLIES)?;
+    let answer = wins(search, plies.as_mut_slice(), position, moves);
+    *kept = Some(plies);
+    answer
+}
+
+/// What `Solver::loses` answers. If no move of the attacker is left, no list is needed.
+fn ask_loses<B: Board, M: Memo<B>, G: Guide<B>>(
+    search: &mut Search<M, G>,
+    kept: &mut Option<Vec<Ply<B>>>,
+    alloc: Global,
+    position: &Position<B>,
+    moves: u8,
+) -> Result<bool, Stop>
+    requires few { moves ≤ 20 }
+    requires right { AreTrue B.geometry (M.content search.old.memo) }
+    requires within { search.old.expanded ≤ search.old.limit }
+    ensures answer { IfOk result (λ yes. IsTrue yes ↔ Lost B.geometry position.now moves) }
+    ensures right { AreTrue B.geometry (M.content search.new.memo) }
+    ensures count { IsCounted search.old.expanded search.old.limit search.new.expanded search.new.limit }
+    ensures stop { IsErrOf result Limit → search.new.expanded ≡ search.new.limit }
+    ensures searched { Searched B.geometry moves (cut_off result moves) (moment M.content M.dropped search.old.memo search.old.expanded) (moment M.content M.dropped search.new.memo search.new.expanded) }
+    ensures says { NothingLost (moment M.content M.dropped search.old.memo search.old.expanded) (moment M.content M.dropped search.new.memo search.new.expanded) → IfOk result (SaysLost B.geometry (M.content search.new.memo) position.now moves) }
+    ensures known { RepliesAreDecided B.geometry (M.content search.old.memo) position.now moves → (IsErrOf result Limit → ⊥) × (search.new.expanded ≡ search.old.expanded) × SameEntries (M.content search.old.memo) (M.content search.new.memo) }
+{
+    let needed = if moves == 0 { 0 } else { PLIES };
+    let mut plies = prepared(alloc, kept.take(), needed)?;
+    let answer = loses(search, plies.as_mut_slice(), position, moves);
+    *kept = Some(plies);
+    answer
+}
+
+/// At least so many lists, with those that were kept, if there are some.
+fn prepared<B: Board>(
+    alloc: Global,
+    kept: Option<Vec<Ply<B>>>,
+    needed: usize,
+) -> Result<Vec<Ply<B>>, AllocError>
+    ensures { IfOk result (λ plies. needed ≤ length plies.items) }
 {
     let mut plies = match kept {
         Some(plies) => plies,
         None => Vec::new(alloc),
     };
-    'plies: while plies.len() < PLIES {
+    'plies: while plies.len() < needed {
         plies.push(Ply::new(alloc))?;
     }
     Ok(plies)

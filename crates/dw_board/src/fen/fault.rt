@@ -1,32 +1,47 @@
 //! Why a text is no FEN text.
 
+use std::fmt;
 use thiserror::Error;
 
-/// The first fault of a text that is no FEN text. Its number is that of the variant, from 1 on.
-#[derive(Clone, Copy, Debug, PartialEq, Eq, Error)]
+/// What is wrong with a text that is no FEN text. Its number is that of the variant, from 1 on.
+#[derive(Clone, Copy, Debug, PartialEq, Eq)]
 pub enum FenFaultKind {
-    #[error("turn")]
     Turn,
-    #[error("colon")]
     Colon,
-    #[error("colour")]
     Colour,
-    #[error("number")]
     Number,
-    #[error("twice")]
     Twice,
-    #[error("same colour")]
     SameColour,
-    #[error("last row")]
     LastRow,
-    #[error("too many")]
     TooMany,
-    #[error("rest")]
     Rest,
-    #[error("too long")]
     TooLong,
-    #[error("range backwards")]
     RangeBackwards,
+}
+
+impl FenFaultKind {
+    /// Its name in texts.
+    fn name(self) -> &'static str {
+        match self {
+            FenFaultKind::Turn => "turn",
+            FenFaultKind::Colon => "colon",
+            FenFaultKind::Colour => "colour",
+            FenFaultKind::Number => "number",
+            FenFaultKind::Twice => "twice",
+            FenFaultKind::SameColour => "same colour",
+            FenFaultKind::LastRow => "last row",
+            FenFaultKind::TooMany => "too many",
+            FenFaultKind::Rest => "rest",
+            FenFaultKind::TooLong => "too long",
+            FenFaultKind::RangeBackwards => "range backwards",
+        }
+    }
+}
+
+impl fmt::Display for FenFaultKind {
+    fn fmt<W: fmt::Write>(&self, f: &mut fmt::Formatter<W>) -> fmt::Result {
+        f.write_str(self.name())
+    }
 }
 
 /// The earliest fault of a text, and the place of the token where it is found: the number, from 1 on, of

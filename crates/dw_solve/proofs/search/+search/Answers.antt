@@ -1,4 +1,4 @@
-use Rattle.std.proofs.Common.{◌≡◌, ◌+◌, ◌-◌, length, refl, sym, subst, arith, inl, inr}
+use Rattle.std.proofs.Common.{◌≡◌, ◌+◌, ◌-◌, false, length, refl, sym, subst, arith, inl, inr}
 use Rattle.std.proofs.lemmas.Bool.{true≢false}
 use Rattle.std.specs.List.{IsFirstAndRest}
 use Rattle.std.proofs.lemmas.Option.{MatchOption-at_some}
@@ -10,6 +10,7 @@ use Rattle.dw_moves.specs.Moves.{play}
 use Rattle.dw_solve.proofs.RankLemmas.{ranked_legal, below_more, below_all, win_by, never_won}
 use Rattle.dw_solve.proofs.WorkLemmas.{searched_none, searched_wider, searched_stop, begun_is, wins_stopped, wins_ended}
 use Rattle.dw_solve.proofs.TriedLemmas.{Refuted, Answered, tried_none, refuted_more, answered_more, searched_after, says_winning, says_none, says_refuted, says_all}
+use Rattle.dw_solve.proofs.WinLemmas.{hopeless_is, says_hopeless}
 use Rattle.dw_solve.proofs.SearchLemmas.{answered, never_known, unchanged_none, unchanged_then, reply_decided, lost_at_none, says_at_none, counted_none, counted_then, is_so, is_not, answer_no, answer_yes}
 use Rattle.dw_solve.proofs.search.+search.Goals as goal
 
@@ -17,14 +18,14 @@ pub loses-play-requires : goal.loses-play-requires
 loses-play-requires g t c =
     let geo = g.B.Board.geometry in
     ranked_legal geo c.args.position.now c.as_slice-candidate-items.result.now c.replies.candidate-index c.candidate-item.result
-    (subst (AreRanked geo c.args.position.now) (sym c.as_slice-candidate-items.ensures.value) c.in_ok-fill.ensures) c.replies-test.true c.candidate-item.is
+    (subst (AreRanked geo c.args.position.now) (sym c.as_slice-candidate-items.ensures.value) c.in_ok-line_up_replies.ensures) c.replies-test.true c.candidate-item.is
 
 pub loses-wins-requires : goal.loses-wins-requires
 loses-wins-requires g t c κs within =
     let rest = (MatchOption-at_some (length c.args.plies.now ≡ 0) (λ p. IsFirstAndRest c.args.plies.now p.0.now p.1.now) c.unwrap.result c.unwrap.ensures c.split_first_mut.ensures.cases).1 in
     let f = c.decreases in
     let k = c.replies.invariant.1.0 in
-    (omega (arith, f), (within.0, (within.1.0, (within.1.1, (c.replies.invariant.0, (omega (arith, k.within, k.same), omega (arith, rest, c.replies.auto.rest, c.requires.room)))))))
+    (omega (arith, f), (within.0, (within.1.0, (within.1.1, (c.replies.invariant.0, (omega (arith, k.within, k.same), omega (arith, rest, c.replies.auto.rest, c.requires.room (omega (arith, c.if-moves-eq0.false)))))))))
 
 pub loses-replies-init : goal.loses-replies-init
 loses-replies-init g t c = (
@@ -39,7 +40,7 @@ pub loses-replies-preserved : goal.loses-replies-preserved
 loses-replies-preserved g t c =
     let geo = g.B.Board.geometry in
     let legal = ranked_legal geo c.args.position.now c.as_slice-candidate-items.result.now c.replies.candidate-index c.candidate-item.result
-    (subst (AreRanked geo c.args.position.now) (sym c.as_slice-candidate-items.ensures.value) c.in_ok-fill.ensures) c.replies-test.true c.candidate-item.is in
+    (subst (AreRanked geo c.args.position.now) (sym c.as_slice-candidate-items.ensures.value) c.in_ok-line_up_replies.ensures) c.replies-test.true c.candidate-item.is in
     let won = subst (λ q. Win geo q c.args.moves) c.play.ensures (is_so c.in_ok-wins.field-0 _ c.in_ok-wins.ensures.answer c.if-not-branch.false) in (
       c.in_ok-wins.ensures.right,
       (
@@ -63,7 +64,7 @@ pub loses-returns-then-not-branch-clause-answer : goal.loses-returns-then-not-br
 loses-returns-then-not-branch-clause-answer g t c =
     let geo = g.B.Board.geometry in
     let legal = ranked_legal geo c.args.position.now c.as_slice-candidate-items.result.now c.replies.candidate-index c.candidate-item.result
-    (subst (AreRanked geo c.args.position.now) (sym c.as_slice-candidate-items.ensures.value) c.in_ok-fill.ensures) c.replies-test.true c.candidate-item.is in
+    (subst (AreRanked geo c.args.position.now) (sym c.as_slice-candidate-items.ensures.value) c.in_ok-line_up_replies.ensures) c.replies-test.true c.candidate-item.is in
     answer_no (Lost geo c.args.position.now c.args.moves) (λ lost.
     is_not c.in_ok-wins.field-0 _ c.in_ok-wins.ensures.answer c.if-not-branch.true
     (subst (λ q. Win geo q c.args.moves) (sym c.play.ensures) (lost c.candidate-item.result.1 legal)))
@@ -76,7 +77,7 @@ loses-returns-clause-answer g t c =
     let geo = g.B.Board.geometry in
     answer_yes (Lost geo c.args.position.now c.args.moves)
     (below_all geo c.args.position.now (λ r. Win geo (play geo c.args.position.now r) c.args.moves) c.as_slice-candidate-items.result.now c.replies.candidate-index
-    (subst (AreRanked geo c.args.position.now) (sym c.as_slice-candidate-items.ensures.value) c.in_ok-fill.ensures) c.replies-test.false c.replies.invariant.1.1.0)
+    (subst (AreRanked geo c.args.position.now) (sym c.as_slice-candidate-items.ensures.value) c.in_ok-line_up_replies.ensures) c.replies-test.false c.replies.invariant.1.1.0)
 
 pub loses-returns-clause-right : goal.loses-returns-clause-right
 loses-returns-clause-right g t c = c.replies.invariant.0
@@ -92,7 +93,7 @@ pub some_move_wins-loses-requires : goal.some_move_wins-loses-requires
 some_move_wins-loses-requires g t c κs within =
     let f = c.decreases in
     let k = c.moves.invariant.1.0 in
-    (omega (arith, f), (within.0, (within.1.0, (within.1.1, (c.moves.invariant.0, (omega (arith, k.within, k.same), omega (arith, c.moves.auto.plies, c.requires.room)))))))
+    (omega (arith, f), (within.0, (within.1.0, (within.1.1, (c.moves.invariant.0, (omega (arith, k.within, k.same), λ _. omega (arith, c.moves.auto.plies, c.requires.room)))))))
 
 pub some_move_wins-moves-init : goal.some_move_wins-moves-init
 some_move_wins-moves-init g t c = (
@@ -175,6 +176,34 @@ wins-some_move_wins-requires g t c κs within =
       ),
     )
 
+pub wins-note-requires-clause-answer : goal.wins-note-requires-clause-answer
+wins-note-requires-clause-answer g t c =
+    let h = c.is_hopeless.ensures c.if-is_hopeless.true in
+    answer_no (Win g.B.Board.geometry c.args.position.now c.args.moves) (hopeless_is g.B.Board.geometry c.args.position.now c.args.moves h.0 h.1)
+
+pub wins-returns-then-is_hopeless-clause-answer : goal.wins-returns-then-is_hopeless-clause-answer
+wins-returns-then-is_hopeless-clause-answer g t c =
+    let h = c.is_hopeless.ensures c.if-is_hopeless.true in
+    answer_no (Win g.B.Board.geometry c.args.position.now c.args.moves) (hopeless_is g.B.Board.geometry c.args.position.now c.args.moves h.0 h.1)
+
+pub wins-returns-then-is_hopeless-clause-searched : goal.wins-returns-then-is_hopeless-clause-searched
+wins-returns-then-is_hopeless-clause-searched g t c =
+    let geo = g.B.Board.geometry in
+    let h = c.is_hopeless.ensures c.if-is_hopeless.true in
+    let now = moment g.M.Memo.content g.M.Memo.dropped c.count.new.search.memo c.count.new.search.expanded in
+    (wins_ended geo c.args.moves c.args.position.now false _ (moment g.M.Memo.content g.M.Memo.dropped c.known.new.search.memo c.known.new.search.expanded) now now _ (c.in_default.ensures.some refl)
+    (begun_is g.M.Memo.content g.M.Memo.dropped _ _ _ _ c.count.ensures.memo c.in_ok-count.ensures.more) (c.in_default.ensures.open refl) (c.in_default.ensures.map refl)
+    c.known.ensures.searched (searched_none geo (c.args.moves - 1) 0 now) (λ _. says_hopeless geo now.content c.args.position.now c.args.moves h.0 h.1) c.note.ensures.noted).searched
+
+pub wins-returns-then-is_hopeless-clause-says : goal.wins-returns-then-is_hopeless-clause-says
+wins-returns-then-is_hopeless-clause-says g t c =
+    let geo = g.B.Board.geometry in
+    let h = c.is_hopeless.ensures c.if-is_hopeless.true in
+    let now = moment g.M.Memo.content g.M.Memo.dropped c.count.new.search.memo c.count.new.search.expanded in
+    (wins_ended geo c.args.moves c.args.position.now false _ (moment g.M.Memo.content g.M.Memo.dropped c.known.new.search.memo c.known.new.search.expanded) now now _ (c.in_default.ensures.some refl)
+    (begun_is g.M.Memo.content g.M.Memo.dropped _ _ _ _ c.count.ensures.memo c.in_ok-count.ensures.more) (c.in_default.ensures.open refl) (c.in_default.ensures.map refl)
+    c.known.ensures.searched (searched_none geo (c.args.moves - 1) 0 now) (λ _. says_hopeless geo now.content c.args.position.now c.args.moves h.0 h.1) c.note.ensures.noted).says
+
 pub loses-returns-then-moves-eq0-clause-answer : goal.loses-returns-then-moves-eq0-clause-answer
 loses-returns-then-moves-eq0-clause-answer g t c = lost_at_none g.B.Board.geometry c.args.position.now c.args.moves c.has_move.result c.if-moves-eq0.true c.has_move.ensures
 
@@ -185,8 +214,8 @@ pub loses-returns-then-moves-eq0-clause-says : goal.loses-returns-then-moves-eq0
 loses-returns-then-moves-eq0-clause-says g t c kept =
     says_at_none g.B.Board.geometry (g.M.Memo.content c.args.search.now.memo) c.args.position.now c.args.moves c.has_move.result c.if-moves-eq0.true c.has_move.ensures
 
-pub loses-returns-in_err-fill-clause-searched : goal.loses-returns-in_err-fill-clause-searched
-loses-returns-in_err-fill-clause-searched g t c = searched_none _ _ _ _
+pub loses-returns-in_err-line_up_replies-clause-searched : goal.loses-returns-in_err-line_up_replies-clause-searched
+loses-returns-in_err-line_up_replies-clause-searched g t c = searched_none _ _ _ _
 
 pub loses-returns-in_err-wins-clause-searched : goal.loses-returns-in_err-wins-clause-searched
 loses-returns-in_err-wins-clause-searched g t c =
@@ -200,7 +229,7 @@ pub loses-returns-then-not-branch-clause-says : goal.loses-returns-then-not-bran
 loses-returns-then-not-branch-clause-says g t c =
     let geo = g.B.Board.geometry in
     let legal = ranked_legal geo c.args.position.now c.as_slice-candidate-items.result.now c.replies.candidate-index c.candidate-item.result
-    (subst (AreRanked geo c.args.position.now) (sym c.as_slice-candidate-items.ensures.value) c.in_ok-fill.ensures) c.replies-test.true c.candidate-item.is in
+    (subst (AreRanked geo c.args.position.now) (sym c.as_slice-candidate-items.ensures.value) c.in_ok-line_up_replies.ensures) c.replies-test.true c.candidate-item.is in
     says_refuted geo c.args.moves c.args.position.now c.candidate-item.result.1 c.play.result c.in_ok-wins.field-0 _ _ _ c.replies.invariant.1.1.1.0 c.in_ok-wins.ensures.searched legal c.play.ensures c.if-not-branch.true c.in_ok-wins.ensures.says
 
 pub loses-returns-clause-searched : goal.loses-returns-clause-searched
@@ -210,7 +239,7 @@ pub loses-returns-clause-says : goal.loses-returns-clause-says
 loses-returns-clause-says g t c =
     let geo = g.B.Board.geometry in
     says_all geo c.args.moves c.args.position.now c.as_slice-candidate-items.result.now c.replies.candidate-index _ _
-    (subst (AreRanked geo c.args.position.now) (sym c.as_slice-candidate-items.ensures.value) c.in_ok-fill.ensures) c.replies-test.false c.replies.invariant.1.1.1
+    (subst (AreRanked geo c.args.position.now) (sym c.as_slice-candidate-items.ensures.value) c.in_ok-line_up_replies.ensures) c.replies-test.false c.replies.invariant.1.1.1
 
 pub some_move_wins-returns-in_err-loses-clause-searched : goal.some_move_wins-returns-in_err-loses-clause-searched
 some_move_wins-returns-in_err-loses-clause-searched g t c =
@@ -257,7 +286,7 @@ wins-returns-clause-searched g t c =
     let some = c.in_default.ensures.some refl in
     (wins_ended geo c.args.moves c.args.position.now c.in_ok-won.won _ (moment g.M.Memo.content g.M.Memo.dropped c.known.new.search.memo c.known.new.search.expanded) _ (moment g.M.Memo.content g.M.Memo.dropped c.some_move_wins.new.search.memo c.some_move_wins.new.search.expanded) _ some
     (begun_is g.M.Memo.content g.M.Memo.dropped _ _ _ _ c.count.ensures.memo c.in_ok-count.ensures.more) (c.in_default.ensures.open refl) (c.in_default.ensures.map refl)
-    c.known.ensures.searched c.in_ok-won.ensures.searched c.in_ok-won.ensures.says c.note.ensures.noted).searched
+    c.known.ensures.searched c.in_ok-won.ensures.searched c.in_ok-won.ensures.says c.note-2.ensures.noted).searched
 
 pub wins-returns-clause-says : goal.wins-returns-clause-says
 wins-returns-clause-says g t c =
@@ -265,13 +294,13 @@ wins-returns-clause-says g t c =
     let some = c.in_default.ensures.some refl in
     (wins_ended geo c.args.moves c.args.position.now c.in_ok-won.won _ (moment g.M.Memo.content g.M.Memo.dropped c.known.new.search.memo c.known.new.search.expanded) _ (moment g.M.Memo.content g.M.Memo.dropped c.some_move_wins.new.search.memo c.some_move_wins.new.search.expanded) _ some
     (begun_is g.M.Memo.content g.M.Memo.dropped _ _ _ _ c.count.ensures.memo c.in_ok-count.ensures.more) (c.in_default.ensures.open refl) (c.in_default.ensures.map refl)
-    c.known.ensures.searched c.in_ok-won.ensures.searched c.in_ok-won.ensures.says c.note.ensures.noted).says
+    c.known.ensures.searched c.in_ok-won.ensures.searched c.in_ok-won.ensures.says c.note-2.ensures.noted).says
 
 pub loses-returns-in_err-wins-clause-known : goal.loses-returns-in_err-wins-clause-known
 loses-returns-in_err-wins-clause-known g t c all =
     let geo = g.B.Board.geometry in
     let legal = ranked_legal geo c.args.position.now c.as_slice-candidate-items.result.now c.replies.candidate-index c.candidate-item.result
-    (subst (AreRanked geo c.args.position.now) (sym c.as_slice-candidate-items.ensures.value) c.in_ok-fill.ensures) c.replies-test.true c.candidate-item.is in
+    (subst (AreRanked geo c.args.position.now) (sym c.as_slice-candidate-items.ensures.value) c.in_ok-line_up_replies.ensures) c.replies-test.true c.candidate-item.is in
     let before = c.replies.invariant.1.1.2 all in
     let here = c.in_err-wins.ensures.known (reply_decided geo _ _ c.args.position.now c.play.result c.candidate-item.result.1 c.args.moves _ _ all before legal c.play.ensures) in
     absurd (true≢false (sym here.0))
@@ -280,7 +309,7 @@ pub loses-returns-then-not-branch-clause-known : goal.loses-returns-then-not-bra
 loses-returns-then-not-branch-clause-known g t c all =
     let geo = g.B.Board.geometry in
     let legal = ranked_legal geo c.args.position.now c.as_slice-candidate-items.result.now c.replies.candidate-index c.candidate-item.result
-    (subst (AreRanked geo c.args.position.now) (sym c.as_slice-candidate-items.ensures.value) c.in_ok-fill.ensures) c.replies-test.true c.candidate-item.is in
+    (subst (AreRanked geo c.args.position.now) (sym c.as_slice-candidate-items.ensures.value) c.in_ok-line_up_replies.ensures) c.replies-test.true c.candidate-item.is in
     let before = c.replies.invariant.1.1.2 all in
     let here = c.in_ok-wins.ensures.known (reply_decided geo _ _ c.args.position.now c.play.result c.candidate-item.result.1 c.args.moves _ _ all before legal c.play.ensures) in
     let after = unchanged_then _ _ _ _ _ _ before (here.1, here.2) in
@@ -294,3 +323,45 @@ wins-returns-in_err-won-clause-known g t c = never_known _ c.args.moves _ (c.in_
 
 pub wins-returns-clause-known : goal.wins-returns-clause-known
 wins-returns-clause-known g t c = never_known _ c.args.moves _ (c.in_default.ensures.some refl) (c.in_default.ensures.open refl)
+
+pub loses-returns-then-moves-eq0-clause-right : goal.loses-returns-then-moves-eq0-clause-right
+loses-returns-then-moves-eq0-clause-right g t c = c.requires.right
+
+pub loses-returns-then-moves-eq0-clause-count : goal.loses-returns-then-moves-eq0-clause-count
+loses-returns-then-moves-eq0-clause-count g t c = counted_none _ _ c.requires.within
+
+pub loses-returns-in_err-line_up_replies-clause-right : goal.loses-returns-in_err-line_up_replies-clause-right
+loses-returns-in_err-line_up_replies-clause-right g t c = c.requires.right
+
+pub loses-returns-in_err-line_up_replies-clause-count : goal.loses-returns-in_err-line_up_replies-clause-count
+loses-returns-in_err-line_up_replies-clause-count g t c = counted_none _ _ c.requires.within
+
+pub loses-returns-in_err-wins-clause-right : goal.loses-returns-in_err-wins-clause-right
+loses-returns-in_err-wins-clause-right g t c = c.in_err-wins.ensures.right
+
+pub loses-returns-then-not-branch-clause-right : goal.loses-returns-then-not-branch-clause-right
+loses-returns-then-not-branch-clause-right g t c = c.in_ok-wins.ensures.right
+
+pub some_move_wins-returns-in_err-loses-clause-right : goal.some_move_wins-returns-in_err-loses-clause-right
+some_move_wins-returns-in_err-loses-clause-right g t c = c.in_err-loses.ensures.right
+
+pub some_move_wins-returns-then-branch-clause-right : goal.some_move_wins-returns-then-branch-clause-right
+some_move_wins-returns-then-branch-clause-right g t c = c.in_ok-loses.ensures.right
+
+pub wins-returns-in-Some-clause-right : goal.wins-returns-in-Some-clause-right
+wins-returns-in-Some-clause-right g t c = c.known.ensures.right
+
+pub wins-returns-in-Some-clause-answer : goal.wins-returns-in-Some-clause-answer
+wins-returns-in-Some-clause-answer g t c = c.in-Some.ensures.answer
+
+pub wins-returns-in_err-count-clause-right : goal.wins-returns-in_err-count-clause-right
+wins-returns-in_err-count-clause-right g t c = subst (λ m. AreTrue g.B.Board.geometry (g.M.Memo.content m)) (sym c.count.ensures.memo) c.known.ensures.right
+
+pub wins-returns-in_err-line_up-clause-right : goal.wins-returns-in_err-line_up-clause-right
+wins-returns-in_err-line_up-clause-right g t c = subst (λ m. AreTrue g.B.Board.geometry (g.M.Memo.content m)) (sym c.count.ensures.memo) c.known.ensures.right
+
+pub wins-returns-in_err-won-clause-right : goal.wins-returns-in_err-won-clause-right
+wins-returns-in_err-won-clause-right g t c = c.in_err-won.ensures.right
+
+pub wins-returns-clause-right : goal.wins-returns-clause-right
+wins-returns-clause-right g t c = c.note-2.ensures.right

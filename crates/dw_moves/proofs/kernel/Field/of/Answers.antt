@@ -1,7 +1,9 @@
-use Rattle.dw_moves.proofs.KernelSets.{sets_are}
+use Rattle.std.proofs.Common.{subst}
+use Rattle.dw_moves.specs.Kernel.{AreSets}
+use Rattle.dw_moves.specs.Replies.{given}
 use Rattle.dw_moves.proofs.kernel.Field.of.Goals as goal
 
 pub returns : goal.returns
 returns g c =
-    sets_are g.B.Board.geometry c.args.position.now c.turn-side.result c.other.result c.squares-men.result c.squares-kings.result c.or.result c.all_of-enemies.result c.or-2.result
-    c.turn-side.ensures.value c.other.ensures c.squares-men.ensures c.squares-kings.ensures c.all_of-enemies.ensures c.or.ensures c.or-2.ensures
+    let f = c.given.result in
+    subst (λ side. AreSets g.B.Board.geometry (given c.args.position.now side) f.men f.kings f.enemies f.occupied) c.turn.ensures.value c.given.ensures

@@ -1,5 +1,6 @@
 use Rattle.std.proofs.Common.{◌≤◌, subst, arith, refl, sym, inr}
 use Rattle.std.proofs.lemmas.Bool.{true≢false}
+use Rattle.dw_memo.specs.Content.{IsMap}
 use Rattle.dw_solve.specs.Facts.{AreTrue}
 use Rattle.dw_solve.specs.Solving.{Solving}
 use Rattle.dw_solve.proofs.WorkLemmas.{searched_stop, searched_wider, searched_looser}
@@ -10,7 +11,10 @@ use Rattle.dw_solve.proofs.solver.Solver.least.Goals as goal
 pub moves-init : goal.moves-init
 moves-init g c =
     let geo = g.B.Board.geometry in (
-      subst (λ (s : Solving g.row.M.Denot). AreTrue geo (g.M.Memo.content s.memo)) c.self.view_is c.self.invariant.0,
+      (
+        subst (λ (s : Solving g.row.M.Denot). AreTrue geo (g.M.Memo.content s.memo)) c.self.view_is c.self.invariant.0,
+        subst (λ (s : Solving g.row.M.Denot). IsMap (g.M.Memo.content s.memo)) c.self.view_is c.dropped-lost.ensures.map,
+      ),
       (
         counted_none c.args.self.now.expanded c.args.self.now.limit (subst (λ (s : Solving g.row.M.Denot). s.expanded ≤ s.limit) c.self.view_is c.self.invariant.1),
         (none_below_one geo c.args.position.now, decided_none geo c.args.most c.args.position.now _, λ all. unchanged_none _ _),
@@ -19,7 +23,7 @@ moves-init g c =
 
 pub moves-preserved : goal.moves-preserved
 moves-preserved g c = (
-  c.in_ok-wins.ensures.right,
+  (c.in_ok-wins.ensures.right, c.in_ok-wins.ensures.map),
   (
     counted_then _ _ _ _ _ _ c.moves.invariant.1.0 c.in_ok-wins.ensures.count,
     (
@@ -49,7 +53,10 @@ pub returns-clause-answer : goal.returns-clause-answer
 returns-clause-answer g c = c.moves.invariant.1.1.0 c.args.most (omega (arith, c.moves-test.false))
 
 pub returns-clause-right : goal.returns-clause-right
-returns-clause-right g c = c.moves.invariant.0
+returns-clause-right g c = c.moves.invariant.0.0
+
+pub returns-clause-map : goal.returns-clause-map
+returns-clause-map g c = c.moves.invariant.0.1
 
 pub returns-clause-count : goal.returns-clause-count
 returns-clause-count g c = c.moves.invariant.1.0

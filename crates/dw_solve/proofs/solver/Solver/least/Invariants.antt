@@ -1,3 +1,4 @@
+use Rattle.dw_memo.specs.Content.{IsMap}
 use Rattle.dw_solve.specs.Facts.{AreTrue}
 use Rattle.dw_solve.specs.Searching.{IsCounted}
 use Rattle.dw_solve.specs.Work.{moment}
@@ -8,7 +9,7 @@ use Rattle.dw_solve.proofs.solver.Solver.least.Given as goal
 
 abbrev pub invariant-moves : goal.invariant-moves
 invariant-moves g l =
-    AreTrue g.B.Board.geometry (g.M.Memo.content l.self.memo)
+    (AreTrue g.B.Board.geometry (g.M.Memo.content l.self.memo) × IsMap (g.M.Memo.content l.self.memo))
     × (IsCounted l.initial.self.expanded l.initial.self.limit l.self.expanded l.self.limit
     × (NoneBelow g.B.Board.geometry l.position l.moves
     × AllDecided g.B.Board.geometry l.most l.position l.moves

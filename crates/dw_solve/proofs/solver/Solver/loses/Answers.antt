@@ -8,9 +8,9 @@ use Rattle.dw_solve.proofs.solver.Solver.loses.Goals as goal
 pub returns-clause-known : goal.returns-clause-known
 returns-clause-known g c =
     let content = g.M.Memo.content in
-    let after = c.loses-answer.new.search in
+    let after = c.ask_loses-answer.new.search in
     subst
     (λ (s : Solving g.row.M.Denot).
     RepliesAreDecided g.B.Board.geometry (content s.memo) c.args.position.now c.args.moves →
-    (IsErrOf c.loses-answer.result Limit → ⊥) × (after.expanded ≡ s.expanded) × SameEntries (content s.memo) (content after.memo))
-    c.self.view_is c.loses-answer.ensures.known
+    (IsErrOf c.ask_loses-answer.result Limit → ⊥) × (after.expanded ≡ s.expanded) × SameEntries (content s.memo) (content after.memo))
+    c.self.view_is c.ask_loses-answer.ensures.known

@@ -1,0 +1,5 @@
+use Rattle.dw_moves.proofs.Replying.{step_quiet}
+use Rattle.dw_moves.proofs.laws.steps_are_quiet.Goals as goal
+
+pub returns : goal.returns
+returns c = step_quiet

@@ -1,0 +1,628 @@
+//! Whole runs: worked reports, and each read and each write failing in turn.
+
+use crate::memo::position_of;
+use crate::streams::{Chopped, Narrow, Repeated};
+use dw_board::board::{Board, Eight, Ten};
+use dw_notation::problems::{Form, Problem};
+use dw_notation::streams::{Reading, Writing};
+use dw_report::laws;
+use dw_report::problem::write_problem;
+use dw_report::run::run;
+use dw_report::settings::{Command, RunFault, Settings, Summary};
+use std::alloc::Global;
+use std::process::Abort;
+use std::test::Fail;
+
+const SHOW: Settings = Settings {
+    command: Command::Show,
+    form: Form::Fens,
+    only: None,
+};
+
+const SHOW_TAGS: Settings = Settings {
+    command: Command::Show,
+    form: Form::Pdn,
+    only: None,
+};
+
+const MOVES: Settings = Settings {
+    command: Command::Moves,
+    form: Form::Fens,
+    only: None,
+};
+
+const MOVES_TAGS: Settings = Settings {
+    command: Command::Moves,
+    form: Form::Pdn,
+    only: None,
+};
+
+/// A text, the report on it, and how many problems were read, reported and refused.
+type Report = (&'static [u8], &'static str, [u32; 3]);
+
+const ROW: &str = "problem 1: W:W32:B28
+| . . . . .|
+|. . . . . |
+| . . . . .|
+|. . . . . |
+| . . . . .|
+|. . b . . |
+| . w . . .|
+|. . . . . |
+| . . . . .|
+|. . . . . |
+";
+
+const THREE: &[u8] = b"W:W32:B28\n\nx\r\nW:W3:B20";
+
+/// The report on the first two problems of the three.
+const ROW_AND_REFUSED: &str = "problem 1: W:W32:B28
+| . . . . .|
+|. . . . . |
+| . . . . .|
+|. . . . . |
+| . . . . .|
+|. . b . . |
+| . w . . .|
+|. . . . . |
+| . . . . .|
+|. . . . . |
+problem 2: refused: 1 fen: 1 turn at 1
+";
+
+const THREE_SHOWN: &str = "problem 1: W:W32:B28
+| . . . . .|
+|. . . . . |
+| . . . . .|
+|. . . . . |
+| . . . . .|
+|. . b . . |
+| . w . . .|
+|. . . . . |
+| . . . . .|
+|. . . . . |
+problem 2: refused: 1 fen: 1 turn at 1
+problem 3: refused: 1 fen: 7 last row at 4
+";
+
+const TWO: &[u8] = b"W:W7:B\nW:W:B20\n";
+
+const TWO_LISTED: &str = "problem 1: W:W7:B\n7-1 B:WK1:B\n7-2 B:WK2:B\nmoves 2 taking 0\n\
+    problem 2: W:W:B20\nmoves 0 taking 0\n";
+
+const TWO_GAMES: &[u8] = b"[Event \"Test \\\"A\\\"\"]
+[GameType \"20,W,10\"]
+[FEN \"W:W27,45:B16\"]
+
+1. 45-40 {[a wait]} 16-21 2. 27x16 *
+
+[GameType \"21\"]
+[FEN \"W:W32:B28\"]
+*
+";
+
+const TWO_GAMES_SHOWN: &str = "problem 1: W:W27,45:B16
+| . . . . .|
+|. . . . . |
+| . . . . .|
+|b . . . . |
+| . . . . .|
+|. w . . . |
+| . . . . .|
+|. . . . . |
+| . . . . w|
+|. . . . . |
+problem 2: refused: 4 wrong game
+";
+
+/// Positions as diagrams.
+const SHOWN: [Report; 8] = [
+    (b"W:W32:B28\n", ROW, [1, 1, 0]),
+    (THREE, THREE_SHOWN, [3, 3, 2]),
+    (b"", "", [0, 0, 0]),
+    (
+        b"b:b1-20:w31-50.\n",
+        "problem 1: B:W31,32,33,34,35,36,37,38,39,40,41,42,43,44,45,46,47,48,49,50\
+            :B1,2,3,4,5,6,7,8,9,10,11,12,13,14,15,16,17,18,19,20
+| b b b b b|
+|b b b b b |
+| b b b b b|
+|b b b b b |
+| . . . . .|
+|. . . . . |
+| w w w w w|
+|w w w w w |
+| w w w w w|
+|w w w w w |
+",
+        [1, 1, 0],
+    ),
+    (
+        b"B:W18,24,27,28,K10,K15:B12,16,20,K22,K25,K29\n",
+        "problem 1: B:WK10,K15,18,24,27,28:B12,16,20,K22,K25,K29
+| . . . . .|
+|. . . . W |
+| . b . . W|
+|b . w . b |
+| . B . w B|
+|. w w B . |
+| . . . . .|
+|. . . . . |
+| . . . . .|
+|. . . . . |
+",
+        [1, 1, 0],
+    ),
+    (
+        b"W:W3:B20\n\nW:W32:B28\n",
+        "problem 1: refused: 1 fen: 7 last row at 4
+problem 2: W:W32:B28
+| . . . . .|
+|. . . . . |
+| . . . . .|
+|. . . . . |
+| . . . . .|
+|. . b . . |
+| . w . . .|
+|. . . . . |
+| . . . . .|
+|. . . . . |
+",
+        [2, 2, 1],
+    ),
+    (
+        b"W:W32:B28\r\r\n",
+        "problem 1: refused: 1 fen: 9 rest at 10\n",
+        [1, 1, 1],
+    ),
+    (
+        b" w : w k 07 , 31 \n",
+        "problem 1: W:WK7,31:B
+| . . . . .|
+|. W . . . |
+| . . . . .|
+|. . . . . |
+| . . . . .|
+|. . . . . |
+| w . . . .|
+|. . . . . |
+| . . . . .|
+|. . . . . |
+",
+        [1, 1, 0],
+    ),
+];
+
+/// What is said of one of the three problems alone, by its number.
+const ALONE: [(u32, &str, [u32; 3]); 3] = [
+    (1, ROW, [1, 1, 0]),
+    (2, "problem 2: refused: 1 fen: 1 turn at 1\n", [2, 1, 1]),
+    (4, "", [3, 0, 0]),
+];
+
+/// Texts of tags that are shown.
+const TAGS_SHOWN: [Report; 9] = [
+    (b"[FEN \"W:W32:B28\"]", ROW, [1, 1, 0]),
+    (b"\xEF\xBB\xBF[FEN \"W:W32:B28\"]", ROW, [1, 1, 0]),
+    (b"[GameType \"?\"][FEN \"W:W32:B28:H0:F1\"]", ROW, [1, 1, 0]),
+    (b"[GameType \" 20 ,W\"][FEN \"W:W32:B28\"]", ROW, [1, 1, 0]),
+    (
+        b"[gametype \"020\"]\r\n\r\n [fEn\t\"W:W32:B28\" ]",
+        ROW,
+        [1, 1, 0],
+    ),
+    (
+        b"1. 32x23 ; } {[FEN \"B\"]} [ FEN \"W:W32:B28\"] 2-0 ] \"",
+        ROW,
+        [1, 1, 0],
+    ),
+    (b"{}{[}]} [FEN\"W:W32:B28\"]{[FEN \"B\"]}", ROW, [1, 1, 0]),
+    (
+        b"[Event \"[FEN \\\"B\\\"] { \\\\\"][FEN \"w : w 32 : b 28 .\"]",
+        ROW,
+        [1, 1, 0],
+    ),
+    (TWO_GAMES, TWO_GAMES_SHOWN, [2, 2, 1]),
+];
+
+/// Texts of tags that are refused.
+const TAGS_REFUSED: [Report; 16] = [
+    (
+        b"[FEN \"W:W27",
+        "problem 1: refused: 7 unclosed tag\n",
+        [1, 1, 1],
+    ),
+    (
+        b"[Event \"x\"] *",
+        "problem 1: refused: 2 no fen\n",
+        [1, 1, 1],
+    ),
+    (
+        b"[FEN \"W:W32:B28\"][fen \"W:W32:B28\"]",
+        "problem 1: refused: 3 two fens\n",
+        [1, 1, 1],
+    ),
+    (
+        b"[FEN \"\"]",
+        "problem 1: refused: 1 fen: 1 turn at 1\n",
+        [1, 1, 1],
+    ),
+    (
+        b"[FEN \"W:W32\\:B28\"]",
+        "problem 1: refused: 1 fen: 9 rest at 6\n",
+        [1, 1, 1],
+    ),
+    (
+        b"[FEN \"W:W32:B28\\\"x\"]",
+        "problem 1: refused: 1 fen: 9 rest at 10\n",
+        [1, 1, 1],
+    ),
+    (
+        b"[FEN \"W:W32:B28\" x]",
+        "problem 1: refused: 7 unclosed tag\n",
+        [1, 1, 1],
+    ),
+    (
+        b"[FEN W:W32:B28]",
+        "problem 1: refused: 7 unclosed tag\n",
+        [1, 1, 1],
+    ),
+    (
+        b"[\"W:W32:B28\"]",
+        "problem 1: refused: 7 unclosed tag\n",
+        [1, 1, 1],
+    ),
+    (
+        b"[FEN\n\"W:W32:B28\"]",
+        "problem 1: refused: 7 unclosed tag\n",
+        [1, 1, 1],
+    ),
+    (
+        b"[FEN \"W:W32:B28\"] [x] [FEN \"W\"",
+        "problem 1: refused: 7 unclosed tag\n",
+        [1, 1, 1],
+    ),
+    (
+        b"[GameType \"021\"][FEN \"W:W32:B28\"]",
+        "problem 1: refused: 4 wrong game\n",
+        [1, 1, 1],
+    ),
+    (
+        b"[GameType \"18446744073709551636\"][FEN \"W:W32:B28\"]",
+        "problem 1: refused: 4 wrong game\n",
+        [1, 1, 1],
+    ),
+    (
+        b"{ a comment [FEN \"W:W32:B28\"]",
+        "problem 1: refused: 8 unclosed comment\n",
+        [1, 1, 1],
+    ),
+    (
+        b"{{}[FEN \"W\"] }",
+        "problem 1: refused: 1 fen: 2 colon at 2\n",
+        [1, 1, 1],
+    ),
+    (
+        b"[a_1\t\"\"\t]",
+        "problem 1: refused: 2 no fen\n",
+        [1, 1, 1],
+    ),
+];
+
+/// The moves of positions.
+const LISTED: [Report; 11] = [
+    (
+        b"W:W14:B8,9",
+        "problem 1: W:W14:B8,9\n14x12 B:W12:B\nmoves 1 taking 2\n",
+        [1, 1, 0],
+    ),
+    (
+        b"W:WK47:B17,18,24,32,33",
+        "problem 1: W:WK47:B17,18,24,32,33\n\
+            47x38 B:WK38:B24\n47x43 B:WK43:B24\n47x49 B:WK49:B24\nmoves 3 taking 4\n",
+        [1, 1, 0],
+    ),
+    (
+        b"W:W38:B22,23,32,33",
+        "problem 1: W:W38:B22,23,32,33\n38x38 B:W38:B\nmoves 1 taking 4\n",
+        [1, 1, 0],
+    ),
+    (
+        b"W:W47:B13,14,22,31,32,41,42",
+        "problem 1: W:W47:B13,14,22,31,32,41,42\n\
+            47x36x27x18x9x20 B:W20:B32,42\n47x38x27x18x9x20 B:W20:B31,41\nmoves 2 taking 5\n",
+        [1, 1, 0],
+    ),
+    (
+        b"W:WK46:B28",
+        "problem 1: W:WK46:B28\n\
+            46x5 B:WK5:B\n46x10 B:WK10:B\n46x14 B:WK14:B\n46x19 B:WK19:B\n46x23 B:WK23:B\n\
+            moves 5 taking 1\n",
+        [1, 1, 0],
+    ),
+    (
+        b"W:W7:B",
+        "problem 1: W:W7:B\n7-1 B:WK1:B\n7-2 B:WK2:B\nmoves 2 taking 0\n",
+        [1, 1, 0],
+    ),
+    (
+        b"W:W12:B8",
+        "problem 1: W:W12:B8\n12x3 B:WK3:B\nmoves 1 taking 1\n",
+        [1, 1, 0],
+    ),
+    (
+        b"W:W28:B22,K23",
+        "problem 1: W:W28:B22,K23\n\
+            28x17 B:W17:BK23\n28x19 B:W19:B22\nmoves 2 taking 1\n",
+        [1, 1, 0],
+    ),
+    (
+        b"W:W:B20",
+        "problem 1: W:W:B20\nmoves 0 taking 0\n",
+        [1, 1, 0],
+    ),
+    (
+        b"W:W32:B28",
+        "problem 1: W:W32:B28\n32x23 B:W23:B\nmoves 1 taking 1\n",
+        [1, 1, 0],
+    ),
+    (
+        b"B:W23:B19",
+        "problem 1: B:W23:B19\n19x28 W:W:B28\nmoves 1 taking 1\n",
+        [1, 1, 0],
+    ),
+];
+
+const ONE_LISTED: &str = "problem 1: W:W32:B28\n32x23 B:W23:B\nmoves 1 taking 1\n";
+
+const TAGS_LISTED: [Report; 4] = [
+    (
+        b"[GameType \"20,W,10\"]\n[FEN \"W:W27,45:B16\"]\n\n1. 45-40 {[a wait]} *\n\
+            [GameType \"21\"]\n[FEN \"W:W32:B28\"]\n*\n",
+        "problem 1: W:W27,45:B16\n27-21 B:W21,45:B16\n27-22 B:W22,45:B16\n45-40 B:W27,40:B16\n\
+            moves 3 taking 0\nproblem 2: refused: 4 wrong game\n",
+        [2, 2, 1],
+    ),
+    (
+        b"[FEN \"W:W32:B28\"] {x",
+        "problem 1: W:W32:B28\n32x23 B:W23:B\nmoves 1 taking 1\n\
+            problem 2: refused: 8 unclosed comment\n",
+        [2, 2, 1],
+    ),
+    (
+        b"[GameType \"?\"][FEN \"W:W32:B28:H0:F1\"]",
+        ONE_LISTED,
+        [1, 1, 0],
+    ),
+    (
+        b"[GameType \" 20 ,W\"][FEN \"W:W32:B28\"]",
+        ONE_LISTED,
+        [1, 1, 0],
+    ),
+];
+
+const EIGHT_SHOWN: [Report; 1] = [(
+    b"W:W22:B18",
+    "problem 1: W:W22:B18
+| . . . .|
+|. . . . |
+| . . . .|
+|. . . . |
+| . b . .|
+|. w . . |
+| . . . .|
+|. . . . |
+",
+    [1, 1, 0],
+)];
+
+const EIGHT_LISTED: [Report; 1] = [(
+    b"W:W22:B18\nW:W14:B\n",
+    "problem 1: W:W22:B18\n22x15 B:W15:B\nmoves 1 taking 1\n\
+            problem 2: W:W14:B\n14-9 B:W9:B\n14-10 B:W10:B\nmoves 2 taking 0\n",
+    [2, 2, 0],
+)];
+
+const EIGHT_TAGS: [Report; 2] = [
+    (
+        b"[GameType \"20\"][FEN \"W:W22:B18\"]",
+        "problem 1: refused: 4 wrong game\n",
+        [1, 1, 1],
+    ),
+    (
+        b"[FEN \"W:W32:B28\"]",
+        "problem 1: W:W32:B28
+| . . . .|
+|. . . . |
+| . . . .|
+|. . . . |
+| . . . .|
+|. . . . |
+| . . . b|
+|. . . w |
+",
+        [1, 1, 0],
+    ),
+];
+
+// The answer of a run, and what it wrote.
+fn ran<B: Board>(
+    alloc: Global,
+    settings: &Settings,
+    reader: Chopped<'_>,
+    writer: Narrow,
+) -> (Result<Summary, RunFault>, Vec<u8>) {
+    let mut source = Reading::new(reader);
+    let mut sink = Writing::new(writer);
+    let answer = run::<B, _, _>(alloc, &mut source, &mut sink, settings);
+    (answer, sink.into_inner().taken)
+}
+
+// Whatever the pieces in which the texts are read and the reports written, these are the reports.
+fn check_reports<B: Board>(rt: &impl Abort, alloc: Global, settings: &Settings, rows: &[Report]) {
+    for (text, wanted, counts) in rows {
+        let [problems, shown, refused] = *counts;
+        let summary = Summary {
+            problems,
+            shown,
+            refused,
+        };
+        for step in [1, 2, 3, 4096] {
+            let reader = Chopped::new(text, step, 0, 0);
+            let (answer, written) = ran::<B>(alloc, settings, reader, Narrow::new(alloc, step, 0));
+            assert!(rt; written.as_slice() == wanted.as_bytes(), "{wanted}");
+            assert!(rt; answer == Ok(summary), "{wanted}");
+        }
+    }
+}
+
+#[test]
+fn reports(rt: HostRuntime) {
+    check_reports::<Ten>(&rt, rt.alloc(), &SHOW, &SHOWN);
+    check_reports::<Ten>(&rt, rt.alloc(), &SHOW_TAGS, &TAGS_SHOWN);
+    check_reports::<Ten>(&rt, rt.alloc(), &SHOW_TAGS, &TAGS_REFUSED);
+    check_reports::<Ten>(&rt, rt.alloc(), &MOVES, &LISTED);
+    check_reports::<Ten>(&rt, rt.alloc(), &MOVES_TAGS, &TAGS_LISTED);
+    check_reports::<Eight>(&rt, rt.alloc(), &SHOW, &EIGHT_SHOWN);
+    check_reports::<Eight>(&rt, rt.alloc(), &MOVES, &EIGHT_LISTED);
+    check_reports::<Eight>(&rt, rt.alloc(), &SHOW_TAGS, &EIGHT_TAGS);
+    for (number, wanted, counts) in &ALONE {
+        let alone = Settings {
+            only: Some(*number),
+            ..SHOW
+        };
+        check_reports::<Ten>(&rt, rt.alloc(), &alone, &[(THREE, *wanted, *counts)]);
+        let others = number.wrapping_add(1);
+        assert!(rt; alone.chooses(*number) && !alone.chooses(others) && SHOW.chooses(others));
+        assert!(rt; alone.asks_for(*number) && !alone.asks_for(others) && !SHOW.asks_for(others));
+    }
+}
+
+#[test]
+fn writes_a_problem(rt: HostRuntime) {
+    let problem = Problem {
+        number: 1,
+        found: Ok(position_of::<Ten>(&rt, "W:W32:B28")),
+    };
+    let mut sink = Writing::new(Narrow::new(rt.alloc(), 4096, 0));
+    assert!(rt; write_problem(rt.alloc(), &mut sink, Command::Show, &problem) == Ok(()));
+    let Narrow { taken, .. } = sink.into_inner();
+    assert!(rt; taken.as_slice() == ROW.as_bytes());
+    laws::one_report();
+}
+
+// The lines of the three problems end behind 10 and 14 bytes, and at the end.
+#[test]
+fn keeps_what_ended_before_a_failed_read(rt: HostRuntime) {
+    for step in [1, 2, 7] {
+        let mut ended = false;
+        for k in 1..40u64 {
+            let reader = Chopped::new(THREE, step, k, 0);
+            let writer = Narrow::new(rt.alloc(), 4096, 0);
+            let (answer, written) = ran::<Ten>(rt.alloc(), &SHOW, reader, writer);
+            let read = step as u64 * (k - 1);
+            ended = ended || answer.is_ok();
+            let wanted = if ended {
+                THREE_SHOWN
+            } else if read >= 14 {
+                ROW_AND_REFUSED
+            } else if read >= 10 {
+                ROW
+            } else {
+                ""
+            };
+            assert!(rt;
+                ended == (answer != Err(RunFault::Read)),
+                "{step} bytes, read {k}"
+            );
+            assert!(rt;
+                written.as_slice() == wanted.as_bytes(),
+                "{step} bytes, read {k}"
+            );
+        }
+        assert!(rt; ended);
+    }
+    // Nothing is read behind the problem that was asked for.
+    let first = Settings {
+        only: Some(1),
+        ..SHOW
+    };
+    let reader = Chopped::new(THREE, 10, 2, 0);
+    let (answer, written) = ran::<Ten>(rt.alloc(), &first, reader, Narrow::new(rt.alloc(), 9, 0));
+    assert!(rt; answer.is_ok() && written.as_slice() == ROW.as_bytes());
+}
+
+// A sink that takes a few bytes a write and fails at one has a beginning of the report, byte for byte.
+#[test]
+fn keeps_a_beginning_before_a_failed_write(rt: HostRuntime) {
+    for (settings, text, whole) in [(SHOW, THREE, THREE_SHOWN), (MOVES, TWO, TWO_LISTED)] {
+        for step in [1, 5] {
+            let mut ended = false;
+            for k in 1..260 {
+                let reader = Chopped::new(text, 4096, 0, 0);
+                let writer = Narrow::new(rt.alloc(), step, k);
+                let (answer, written) = ran::<Ten>(rt.alloc(), &settings, reader, writer);
+                let taken = written.as_slice();
+                assert!(rt;
+                    whole.as_bytes().starts_with(taken),
+                    "{step} bytes, write {k}"
+                );
+                assert!(rt;
+                    answer.is_ok() == (taken.len() == whole.len()),
+                    "{step}, write {k}"
+                );
+                assert!(rt; answer.is_ok() || answer == Err(RunFault::Write) && !ended);
+                ended = answer.is_ok();
+            }
+            assert!(rt; ended);
+        }
+        let reader = Chopped::new(text, 4096, 0, 0);
+        let (answer, _) = ran::<Ten>(rt.alloc(), &settings, reader, Narrow::new(rt.alloc(), 0, 0));
+        assert!(rt; answer == Err(RunFault::Write));
+    }
+}
+
+#[test]
+fn ends_at_one_problem_too_many(rt: HostRuntime) {
+    let mut source = Reading::new(Repeated::new(b"a\n", 1_000_002));
+    let mut sink = Writing::new(Narrow::new(rt.alloc(), 4096, 0));
+    let last = Settings {
+        only: Some(1_000_001),
+        ..SHOW
+    };
+    let answer = run::<Ten, _, _>(rt.alloc(), &mut source, &mut sink, &last);
+    let summary = Summary {
+        problems: 1_000_001,
+        shown: 1,
+        refused: 1,
+    };
+    let Narrow { taken, .. } = sink.into_inner();
+    let wanted = b"problem 1000001: refused: 9 too many problems\n";
+    assert!(rt; answer == Ok(summary) && taken.as_slice() == wanted.as_slice());
+}
+
+// Each byte of a text of two games, changed in turn to a mark of the form.
+#[test]
+fn reports_whatever_byte_is_changed(rt: HostRuntime) -> Result<(), Fail> {
+    let alloc = rt.alloc();
+    for at in 0..TWO_GAMES.len() {
+        for mark in [b'[', b']', b'{', b'}', b'"', b'\\'] {
+            let mut text = Vec::from_slice(alloc, TWO_GAMES)?;
+            for byte in text.iter_mut().skip(at).take(1) {
+                *byte = mark;
+            }
+            let reader = Chopped::new(text.as_slice(), 4096, 0, 0);
+            let writer = Narrow::new(alloc, 4096, 0);
+            let (answer, written) = ran::<Ten>(alloc, &SHOW_TAGS, reader, writer);
+            let reader = Chopped::new(text.as_slice(), 1, 0, 0);
+            let (again, chopped) = ran::<Ten>(alloc, &SHOW_TAGS, reader, Narrow::new(alloc, 1, 0));
+            assert!(rt; answer.is_ok() && answer == again, "{mark} at {at}");
+            assert!(rt; written.as_slice() == chopped.as_slice(), "{mark} at {at}");
+            assert!(rt;
+                written.as_slice().starts_with(b"problem 1: "),
+                "{mark} at {at}"
+            );
+        }
+    }
+    Ok(())
+}
