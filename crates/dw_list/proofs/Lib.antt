@@ -11,3 +11,8 @@ pub mod StackLemmas
 pub mod StackViews
 pub mod Remaining
 pub mod StepLemmas
+pub mod TokenBits
+pub mod TokenReading
+pub mod TokenWriting
+pub mod TokenTexts
+pub mod TokenLawProofs

@@ -5,3 +5,5 @@ pub mod Asking
 pub mod Standing
 pub mod Steps
 pub mod Tasks
+pub mod Tokens
+pub mod TokenLaws

@@ -6,3 +6,4 @@ mod frame;
 mod going;
 pub mod laws;
 mod stack;
+pub mod tokens;
