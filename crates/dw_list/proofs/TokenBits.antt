@@ -1,16 +1,16 @@
 -- Numbers of sets of squares.
-use Rattle.std.proofs.Common.{◌≡◌, ℕ, suc, zero, ◌+◌, ◌-◌, ◌*◌, ◌/◌, ◌%◌, ◌^◌, ◌≤◌, ◌<◌, Bool, true, false, cond, ◌&&◌, ◌||◌, eqb, leb, refl, sym, ap, ◌∙◌, subst, arith, inl, inr, ◌↔◌, bit_or, add-one, add-zero}
+use Rattle.std.proofs.Common.{◌≡◌, ℕ, suc, zero, ◌+◌, ◌-◌, ◌*◌, ◌/◌, ◌%◌, ◌^◌, ◌≤◌, ◌<◌, Bool, true, false, cond, ◌&&◌, eqb, leb, refl, sym, ap, ◌∙◌, subst, arith, inl, inr, bit_or, add-one}
 use Rattle.std.specs.Int.{bit_at}
 use Rattle.std.specs.Ordering.{nat_cmp}
 use Rattle.std.specs.FinSet as set
 use Rattle.std.specs.Cmp.{nat_cmp_total}
-use Rattle.std.proofs.lemmas.Bool.{cases_Bool, cases_lt, cases_eq, leb-true, le-leb, lt-leb, eq-eqb, eqb-true, and_parts, and_from, true≢false, or_cases, or_left, or_right}
+use Rattle.std.proofs.lemmas.Bool.{cases_lt, leb-true, le-leb, eq-eqb, and_parts, and_from, true≢false, or_cases, or_left, or_right}
 use Rattle.std.proofs.lemmas.Nat.Bits.{bit_at-zero, bit_at-lt, same_from_bits, bit_at_above}
 use Rattle.std.proofs.lemmas.Nat.{shr-shr, shr_split, pow_pos, mod_below, shl_whole}
 use Rattle.std.specs.Int.Bits.{or_zero_r}
-use Rattle.dw_board.specs.Geometry.{Geometry, IsBoard, squares, OnBoard}
+use Rattle.dw_board.specs.Geometry.{Geometry, squares, OnBoard}
 use Rattle.dw_board.specs.SquareSet.{Squares, is_set}
-use Rattle.dw_board.specs.SquareSetLaws.{contains-insert, below_two, is_set-or, one_bit, here_bit, zero_one, member_more, in_range_here, none_in_empty, and-false}
+use Rattle.dw_board.specs.SquareSetLaws.{below_two, is_set-or, one_bit, here_bit, zero_one, member_more, none_in_empty}
 use Rattle.dw_list.specs.Tokens.{IsNumberOf, number_below, number_of}
 
 same_tests : (a b : Bool) → (a ≡ true → b ≡ true) → (b ≡ true → a ≡ true) → a ≡ b

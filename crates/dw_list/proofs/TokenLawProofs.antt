@@ -1,13 +1,12 @@
 -- The laws of tokens.
-use Rattle.std.proofs.Common.{◌≡◌, ℕ, suc, zero, ◌+◌, ◌*◌, ◌/◌, ◌%◌, ◌^◌, ◌≤◌, ◌<◌, true, ◌⊎◌, inl, inr, ◌↔◌, Option, Some, None, Result, Ok, Err, List, [], ◌∷◌, ◌++◌, length, take, drop, slice_index, refl, sym, ap, ◌∙◌, subst, arith}
-use Rattle.std.specs.Int.{w64, to_be_bytes, from_be_bytes, bytes_high_first, byte_at}
-use Rattle.std.specs.FinSet as set
+use Rattle.std.proofs.Common.{◌≡◌, ℕ, suc, zero, ◌/◌, ◌^◌, ◌≤◌, ◌<◌, ◌⊎◌, inl, inr, List, [], ◌∷◌, ◌++◌, length, refl, sym, ap, ◌∙◌, subst, arith}
+use Rattle.std.specs.Int.{w64, to_be_bytes, bytes_high_first, byte_at}
 use Rattle.std.proofs.lemmas.Nat.{from_be_bytes-to_be_bytes_8, pow_below, mod_below}
-use Rattle.hex.specs.Hex.{decode_of, IsBytes}
+use Rattle.hex.specs.Hex.{IsBytes}
 use Rattle.hex.proofs.HexLemmas.{decode_of-encode_lower, decode_of-same}
 use Rattle.dw_board.specs.Geometry.{Geometry, IsBoard, squares, OnBoard}
 use Rattle.dw_moves.specs.Moves.{Move, Member}
-use Rattle.dw_list.specs.Tokens.{number_in, IsMove, AreMoves, IsCounted, IsVersion1, IsVersion2, IsToken, number_of, move_bytes, moves_bytes, line_bytes, token_of, token_fault}
+use Rattle.dw_list.specs.Tokens.{number_in, IsMove, AreMoves, IsCounted, IsVersion1, IsVersion2, number_of, move_bytes, moves_bytes, line_bytes}
 use Rattle.dw_list.specs.TokenLaws.{IsOnBoard, WrittenIsToken, OneLine, TokensHaveNoFault, Version1Keeps}
 use Rattle.dw_list.proofs.TokenBits.{number_of-is, number_of-small}
 use Rattle.dw_list.proofs.TokenTexts.{version_one, version_clean, token_length, bytes_token_fault, same_behind, one_or_two}

@@ -1,15 +1,15 @@
 -- Reading bytes: what was read so far, and the faults.
-use Rattle.std.proofs.Common.{◌≡◌, ℕ, suc, zero, ◌+◌, ◌*◌, ◌^◌, ◌%◌, ◌≤◌, ◌<◌, Bool, true, false, ◌&&◌, ◌||◌, Option, Some, None, List, [], ◌∷◌, ◌++◌, length, take, drop, slice_index, refl, sym, ap, ◌∙◌, subst, arith, inl, inr, ◌⊎◌, append_assoc, append-nil, length-append, length-drop, add-one, eqb, leb, Result, Ok, Err}
+use Rattle.std.proofs.Common.{◌≡◌, ℕ, suc, zero, ◌+◌, ◌*◌, ◌^◌, ◌%◌, ◌≤◌, ◌<◌, true, false, Option, Some, None, List, [], ◌∷◌, ◌++◌, length, take, drop, slice_index, refl, sym, ap, ◌∙◌, subst, arith, inl, inr, ◌⊎◌, append_assoc, append-nil, length-append, length-drop, eqb, Result, Ok, Err}
 use Rattle.std.specs.Prelude.{nat_lt, MatchResult}
 use Rattle.arrayvec.specs.ArrayVec.{ArrayVec}
 use Rattle.std.specs.Int.{w64, from_be_bytes}
-use Rattle.std.proofs.lemmas.Bool.{cases_Bool, leb-true, le-leb, lt-leb, eq-eqb, eqb-true, and_parts, and_from, or_cases, true≢false}
+use Rattle.std.proofs.lemmas.Bool.{cases_Bool, leb-true, le-leb, lt-leb, eqb-true, and_parts, or_cases}
 use Rattle.dw_board.specs.Geometry.{Geometry, squares, OnBoard}
 use Rattle.dw_board.specs.SquareSetLaws.{is_square, is_square-true}
 use Rattle.dw_moves.specs.Moves.{Move}
 use Rattle.dw_list.specs.declared.tokens.TokenFault.{TokenFault}
-use Rattle.dw_list.specs.declared.tokens.TokenFault.TheVariants.{NotHex, Version, Length, Square, Taken, Board}
-use Rattle.dw_list.specs.Tokens.{number_in, IsNumberOf, IsMove, AreMoves, IsCounted, IsVersion1, IsVersion2, first_of, move_fault, moves_fault, counted_fault, board_fault, bytes_fault, are_moves, names_board}
+use Rattle.dw_list.specs.declared.tokens.TokenFault.TheVariants.{Version, Length, Square, Taken, Board}
+use Rattle.dw_list.specs.Tokens.{number_in, IsMove, AreMoves, IsCounted, IsVersion1, IsVersion2, first_of, move_fault, moves_fault, counted_fault, board_fault, bytes_fault, are_moves, names_board}
 use Rattle.dw_list.proofs.TokenBits.{IsNumberOf-small}
 
 -- ---- a move

@@ -1,19 +1,19 @@
 -- A text is a token of one line or has a fault, and never both.
-use Rattle.std.proofs.Common.{◌≡◌, ℕ, suc, zero, ◌+◌, ◌*◌, ◌%◌, ◌/◌, ◌≤◌, ◌<◌, Bool, true, false, ◌⊎◌, inl, inr, ◌↔◌, Option, Some, None, Result, Ok, Err, List, [], ◌∷◌, length, take, drop, min, refl, sym, ap, ◌∙◌, subst, arith, length-drop, eqb}
-use Rattle.std.specs.Prelude.{nat_lt, MatchResult, IfErr, IsOk, IsErr}
-use Rattle.std.proofs.lemmas.Bool.{cases_eq, le-leb, lt-leb, eq-eqb, and_from, or_left, or_right}
+use Rattle.std.proofs.Common.{◌≡◌, ℕ, ◌*◌, ◌%◌, ◌/◌, ◌≤◌, ◌<◌, true, ◌⊎◌, inl, inr, Some, None, Result, Ok, Err, List, [], ◌∷◌, length, take, drop, refl, sym, ap, ◌∙◌, subst, arith, length-drop, eqb}
+use Rattle.std.specs.Prelude.{MatchResult, IfErr, IsOk, IsErr}
+use Rattle.std.proofs.lemmas.Bool.{cases_eq, le-leb, eq-eqb, and_from, or_left, or_right}
 use Rattle.std.proofs.lemmas.List.{length-take}
 use Rattle.arrayvec.specs.ArrayVec.{ArrayVec}
 use Rattle.hex.specs.Hex.{decode_of, decode_sized}
 use Rattle.hex.specs.declared.error.FromHexError.{FromHexError}
 use Rattle.hex.specs.declared.error.FromHexError.TheVariants.{OddLength}
 use Rattle.hex.proofs.HexLemmas.{decode_of-ok, decode_of-same, decode_of-odd, decode_sized-ok, decode_sized-twice}
-use Rattle.dw_board.specs.Geometry.{Geometry, OnBoard}
+use Rattle.dw_board.specs.Geometry.{Geometry}
 use Rattle.dw_board.specs.SquareSet.{Squares}
 use Rattle.dw_moves.specs.Moves.{Move}
 use Rattle.dw_list.specs.declared.tokens.TokenFault.{TokenFault}
 use Rattle.dw_list.specs.declared.tokens.TokenFault.TheVariants.{NotHex, Length}
-use Rattle.dw_list.specs.Tokens.{number_in, IsMove, AreMoves, IsCounted, IsVersion1, IsVersion2, IsToken, move_fault, first_of, moves_fault, counted_fault, board_fault, bytes_fault, decoded_fault, token_fault, are_moves, names_board}
+use Rattle.dw_list.specs.Tokens.{number_in, IsMove, AreMoves, IsCounted, IsVersion1, IsVersion2, IsToken, first_of, moves_fault, counted_fault, bytes_fault, decoded_fault, token_fault, are_moves, names_board}
 use Rattle.dw_list.proofs.TokenBits.{IsNumberOf-one}
 use Rattle.dw_list.proofs.TokenReading.{no_move_fault, counted_moves, board_named, bytes_first, bytes_second, less_is, less_not}
 

@@ -66,7 +66,8 @@ pub fn write_token<B: Board, K: Sink>(line: &[Move<B>], sink: &mut K) -> Result<
     requires rows { (B.geometry.rows ≡ 10) ⊎ (B.geometry.rows ≡ 8) }
     requires works { K.is_failed sink.old ≡ false }
     ensures ok { OnOk result (Appends (K.taken sink.old) (K.taken sink.new) (tokens.token_of B.geometry line.now)) }
-    ensures err { OnErr result (StopsShort (K.taken sink.old) (K.taken sink.new) (tokens.token_of B.geometry line.now)) }
+    ensures err { OnErr result
+        (StopsShort (K.taken sink.old) (K.taken sink.new) (tokens.token_of B.geometry line.now)) }
     ensures failed { IsErr result → K.is_failed sink.new ≡ true }
     ensures kept { OnOk result (K.is_failed sink.new ≡ false) }
 {

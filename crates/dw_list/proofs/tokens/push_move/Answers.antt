@@ -1,4 +1,4 @@
-use Rattle.std.proofs.Common.{◌≡◌, ◌++◌, sym, ap, ◌∙◌, rules}
+use Rattle.std.proofs.Common.{◌≡◌, ◌++◌, rules}
 use Rattle.dw_list.proofs.TokenWriting.{move_pushed}
 use Rattle.dw_list.proofs.tokens.push_move.Goals as goal
 

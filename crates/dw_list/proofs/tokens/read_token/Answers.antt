@@ -1,4 +1,4 @@
-use Rattle.std.proofs.Common.{◌≡◌, length, arith, rules, ◌∙◌, ◌/◌}
+use Rattle.std.proofs.Common.{arith, rules}
 use Rattle.std.specs.Prelude.{IsOk, IsErr}
 use Rattle.std.proofs.lemmas.Grind.{common_steps}
 use Rattle.dw_list.proofs.TokenTexts.{too_long, long_fault, token_read, fault_read, sized_ok, sized_err}
