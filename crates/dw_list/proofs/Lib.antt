@@ -13,3 +13,8 @@ pub mod Remaining
 pub mod StepLemmas
 pub mod FollowLemmas
 pub mod SeekLemmas
+pub mod TokenBits
+pub mod TokenReading
+pub mod TokenWriting
+pub mod TokenTexts
+pub mod TokenLawProofs

@@ -10,3 +10,5 @@ pub mod Listing
 pub mod Lending
 pub mod Seeking
 pub mod Faults
+pub mod Tokens
+pub mod TokenLaws

@@ -1,6 +1,8 @@
 //! Laws of lines, each the contract of a function that does nothing.
 ghost use Rattle.dw_list.specs.Laws.{NoneBegins, LinesExist, LineOrPlace};
 
+pub mod tokens;
+
 use dw_moves::laws::{moves_have_keys, moves_in_order, moves_listed};
 use dw_solve::laws::wins_are_decided;
 

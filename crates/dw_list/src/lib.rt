@@ -9,4 +9,5 @@ mod going;
 pub mod laws;
 pub mod lister;
 mod stack;
+pub mod tokens;
 mod walk;

@@ -1,0 +1,5 @@
+use Rattle.dw_list.proofs.TokenLawProofs as law
+use Rattle.dw_list.proofs.laws.tokens.one_line.Goals as goal
+
+pub returns : goal.returns
+returns c = law.one_line

@@ -1,0 +1,5 @@
+use Rattle.dw_list.proofs.TokenWriting.{IsWrittenTo}
+use Rattle.dw_list.proofs.tokens.bytes_of.Given as goal
+
+abbrev pub invariant-line : goal.invariant-line
+invariant-line g l = IsWrittenTo g.B.Board.geometry l.line l.bytes.items l.step-index

@@ -1,0 +1,5 @@
+use Rattle.dw_list.proofs.TokenBits.{IsGathered}
+use Rattle.dw_list.proofs.tokens.taken_of.Given as goal
+
+abbrev pub invariant-bits : goal.invariant-bits
+invariant-bits g l = IsGathered l.number l.index l.taken
