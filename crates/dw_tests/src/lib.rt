@@ -17,3 +17,5 @@ mod report;
 mod solve;
 #[cfg(test)]
 mod streams;
+#[cfg(test)]
+mod tokens;

@@ -171,7 +171,7 @@ fn lines_come_in_order_from_slots(rt: HostRuntime) {
 }
 
 /// A move that need not be legal: where it begins and ends, and what it takes.
-type Step = (u8, u8, &'static [u8]);
+pub(crate) type Step = (u8, u8, &'static [u8]);
 
 /// A position, a number of moves, a list of moves that is no line, and the place at which it leaves all lines.
 type Place = (&'static str, u8, &'static [Step], usize);
@@ -195,7 +195,7 @@ const PLACES: [Place; 6] = [
     ("W:W27:B16", 2, &[], 1),
 ];
 
-fn step_of(rt: &impl Abort, step: &Step) -> Move<Ten> {
+pub(crate) fn step_of<B: Board>(rt: &impl Abort, step: &Step) -> Move<B> {
     let (from, to, taken) = step;
     let mut squares = Squares::none();
     for number in *taken {
