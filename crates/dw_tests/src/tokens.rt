@@ -5,7 +5,7 @@ use crate::streams::Narrow;
 use dw_board::board::{Board, Eight, Ten};
 use dw_list::laws::tokens as laws;
 use dw_list::tokens::{TokenFault, read_token, write_token};
-use dw_notation::streams::writing::Writing;
+use dw_notation::streams::Writing;
 use std::process::Abort;
 
 /// A text, and the fault that it has.
