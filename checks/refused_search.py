@@ -3,7 +3,7 @@
 
     checks/refused_search.py
 
-It runs the test solve::wants_memory of dw_tests, which `rt test` in crates/dw_tests builds, once for each
+It runs the test solve::wants_memory of dw_tests_search, which `rt test` in that crate builds, once for each
 allocation of it: some positions are searched with each cache, for 1 to 3 moves. Where a growth is refused the search
 answers rightly without it, or it says so, and answers rightly when it is asked again; the test fails where that is not
 so. The last run meets no refusal.
@@ -14,7 +14,7 @@ import subprocess
 import tempfile
 
 HERE = pathlib.Path(__file__).resolve().parent
-PROGRAM = HERE.parent / "crates/dw_tests/out/dw_tests_tests"
+PROGRAM = HERE.parent / "crates/dw_tests_search/out/dw_tests_search_tests"
 TEST = "solve::wants_memory"
 MOST = 100_000
 

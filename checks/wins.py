@@ -4,8 +4,8 @@
 It stands on the generator of perft.py alone: no cache, no order of moves, nothing of the solver. The table that the
 tests of the solver read is what it prints, made again or compared by
 
-    python3 checks/wins.py > crates/dw_tests/src/solve/table.rt
-    python3 checks/wins.py | cmp - crates/dw_tests/src/solve/table.rt
+    python3 checks/wins.py > crates/dw_tests_common/src/small_positions.rt
+    python3 checks/wins.py | cmp - crates/dw_tests_common/src/small_positions.rt
 
 Positions come from a fixed seed, as many of each kind: by the least number of moves (1, 2 or 3, or none up to 3), with
 a king or with men alone, with a capture to begin with or without, and by the side to move.
@@ -111,7 +111,7 @@ def table(rows, each):
 
 
 def printed(name, rows):
-    print(f"pub(super) const {name}: [(&str, u8); {len(rows)}] = [")
+    print(f"pub const {name}: [(&str, u8); {len(rows)}] = [")
     for text, least in rows:
         print(f'    ("{text}", {least}),')
     print("];")

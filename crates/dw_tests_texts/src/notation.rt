@@ -1,8 +1,5 @@
 //! Texts of moves and of lines, and the problems of byte texts.
-ghost use Rattle.dw_moves.specs.Moves.{Legal};
 
-use crate::memo::position_of;
-use crate::streams::{Chopped, Narrow, Repeated};
 use arrayvec::ArrayString;
 use dw_board::board::{Board, Eight, Ten};
 use dw_board::fen::write::{FEN_ROOM, fen_text};
@@ -18,6 +15,8 @@ use dw_notation::problems::{Form, ProblemFault, Problems, ReadFault};
 use dw_notation::read_move::{MoveFault, read_move};
 use dw_notation::streams::{Reading, Sink, Source, Writing};
 use dw_notation::writes::{WriteFault, write_all};
+use dw_tests_common::streams::{Chopped, Narrow, Repeated};
+use dw_tests_common::texts::{move_of, position_of};
 use std::alloc::Global;
 use std::fmt::Write;
 use std::io;
@@ -708,21 +707,6 @@ fn check_texts<B: Board>(rt: &impl Abort, alloc: Global, rows: &[Texts]) {
             );
         }
     }
-}
-
-pub(crate) fn move_of<B: Board>(
-    rt: &impl Abort,
-    alloc: Global,
-    position: &Position<B>,
-    text: &str,
-) -> Move<B>
-    ensures { Legal B.geometry position.now result }
-{
-    let step = read_move(alloc, position, text.as_bytes())
-        .ok()
-        .expect(rt, "a move");
-    assert!(rt; is_legal(position, &step));
-    step
 }
 
 // The text of a line of three moves, each given by its text.

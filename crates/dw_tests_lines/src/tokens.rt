@@ -1,11 +1,11 @@
 //! Tokens of lines: read on the boards of ten and of eight rows, refused, and written.
 
 use crate::list::{Step, step_of};
-use crate::streams::Narrow;
 use dw_board::board::{Board, Eight, Ten};
 use dw_list::laws::tokens as laws;
 use dw_list::tokens::{TokenFault, read_token, write_token};
 use dw_notation::streams::Writing;
+use dw_tests_common::streams::Narrow;
 use std::process::Abort;
 
 /// A text, and the fault that it has.

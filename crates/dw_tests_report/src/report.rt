@@ -1,7 +1,5 @@
 //! Whole runs: worked reports, and each read and each write failing in turn.
 
-use crate::memo::position_of;
-use crate::streams::{Chopped, Narrow, Repeated};
 use dw_board::board::{Board, Eight, Ten};
 use dw_notation::problems::{Form, Problem};
 use dw_notation::streams::{Reading, Writing};
@@ -9,6 +7,8 @@ use dw_report::laws;
 use dw_report::problem::write_problem;
 use dw_report::run::run;
 use dw_report::settings::{Command, RunFault, Settings, Summary};
+use dw_tests_common::streams::{Chopped, Narrow, Repeated};
+use dw_tests_common::texts::position_of;
 use std::alloc::Global;
 use std::process::Abort;
 use std::test::Fail;

@@ -1,6 +1,6 @@
 use Rattle.std.proofs.Common.{ap, ◌∙◌, subst}
 use Rattle.dw_moves.specs.Moves.{Legal, play}
-use Rattle.dw_tests.proofs.notation.line_of.Goals as goal
+use Rattle.dw_tests_texts.proofs.notation.line_of.Goals as goal
 
 pub line_text-requires-clause-legal : goal.line_text-requires-clause-legal
 line_text-requires-clause-legal g c =

@@ -1,8 +1,5 @@
 //! Lines of forced wins: worked lists, one line at a time and all at once; lists that are no line; limits.
 
-use crate::memo::position_of;
-use crate::notation::move_of;
-use crate::solve::table::{EIGHT_WINS, TEN_WINS};
 use arrayvec::ArrayVec;
 use dw_board::board::{Board, Eight, Ten};
 use dw_board::position::Position;
@@ -21,6 +18,8 @@ use dw_moves::play::play;
 use dw_solve::guide::ByTrial;
 use dw_solve::solver::Solver;
 use dw_solve::stop::Stop;
+use dw_tests_common::small_positions::{EIGHT_WINS, TEN_WINS};
+use dw_tests_common::texts::{move_of, position_of};
 use std::alloc::Global;
 use std::process::Abort;
 

@@ -1,8 +1,5 @@
 //! Forced wins: worked answers, with each cache and each order of moves; what is counted, and where a search stops.
 
-pub(crate) mod table;
-
-use crate::memo::position_of;
 use dw_board::board::{Board, Eight, Ten};
 use dw_board::position::Position;
 use dw_board::square::Square;
@@ -17,9 +14,10 @@ use dw_solve::laws;
 use dw_solve::solver::Solver;
 use dw_solve::stop::Stop;
 use dw_solve::trial::trial;
+use dw_tests_common::small_positions::{EIGHT_WINS, TEN_WINS};
+use dw_tests_common::texts::position_of;
 use std::alloc::Global;
 use std::process::Abort;
-use table::{EIGHT_WINS, TEN_WINS};
 
 /// Moves to lower numbers come first.
 #[derive(Clone, Copy)]

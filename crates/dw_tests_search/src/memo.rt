@@ -1,13 +1,13 @@
 //! What is found again in each cache, what is lost, and what is counted.
 
 use dw_board::board::{Board, Eight, Ten};
-use dw_board::fen::read::read_fen;
 use dw_board::position::Position;
 use dw_memo::bounds::Bounds;
 use dw_memo::lru_memo::LruMemo;
 use dw_memo::memo::{Memo, Noted};
 use dw_memo::no_memo::NoMemo;
 use dw_memo::slot_memo::SlotMemo;
+use dw_tests_common::texts::position_of;
 use std::alloc::Global;
 use std::process::Abort;
 
@@ -20,10 +20,6 @@ const SECOND: Bounds = Bounds {
     fails: Some(1),
     wins: Some(3),
 };
-
-pub(crate) fn position_of<B: Board>(rt: &impl Abort, text: &str) -> Position<B> {
-    read_fen::<B>(text.as_bytes()).ok().expect(rt, "a position")
-}
 
 #[test]
 fn bounds_decide(rt: HostRuntime) {

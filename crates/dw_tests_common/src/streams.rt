@@ -6,7 +6,7 @@ use std::io;
 /// Gives its bytes a few at a time. At one of its reads, counted from 1, it fails, at another it gives none; it would
 /// go on behind them.
 #[derive(Drop)]
-pub(crate) struct Chopped<'a> {
+pub struct Chopped<'a> {
     rest: &'a [u8],
     step: usize,
     reads: u64,
@@ -15,7 +15,7 @@ pub(crate) struct Chopped<'a> {
 }
 
 impl<'a> Chopped<'a> {
-    pub(crate) fn new(rest: &'a [u8], step: usize, fails_at: u64, pauses_at: u64) -> Chopped<'a> {
+    pub fn new(rest: &'a [u8], step: usize, fails_at: u64, pauses_at: u64) -> Chopped<'a> {
         Chopped {
             rest,
             step,
@@ -44,14 +44,14 @@ impl io::Read for Chopped<'_> {
 
 /// Gives one line again and again, so many times.
 #[derive(Drop)]
-pub(crate) struct Repeated {
+pub struct Repeated {
     line: &'static [u8],
     at: usize,
     lines: u32,
 }
 
 impl Repeated {
-    pub(crate) fn new(line: &'static [u8], lines: u32) -> Repeated {
+    pub fn new(line: &'static [u8], lines: u32) -> Repeated {
         Repeated { line, at: 0, lines }
     }
 }
@@ -75,15 +75,15 @@ impl io::Read for Repeated {
 
 /// Takes a few bytes a write, and fails at one of its writes, counted from 1; it would go on behind it.
 #[derive(Drop)]
-pub(crate) struct Narrow {
-    pub(crate) taken: Vec<u8>,
+pub struct Narrow {
+    pub taken: Vec<u8>,
     step: usize,
     writes: u64,
     fails_at: u64,
 }
 
 impl Narrow {
-    pub(crate) fn new(alloc: Global, step: usize, fails_at: u64) -> Narrow {
+    pub fn new(alloc: Global, step: usize, fails_at: u64) -> Narrow {
         Narrow {
             taken: Vec::new(alloc),
             step,

@@ -1,7 +1,7 @@
 //! Small positions, and the least number of moves from 1 to 3 within which the side to move wins, or 0 where it has no
 //! win within 3. Made by checks/wins.py.
 
-pub(crate) const TEN_WINS: [(&str, u8); 256] = [
+pub const TEN_WINS: [(&str, u8); 256] = [
     ("W:W34:B33", 0),
     ("W:W11:B16", 0),
     ("W:W10,40:B11,37", 0),
@@ -260,7 +260,7 @@ pub(crate) const TEN_WINS: [(&str, u8); 256] = [
     ("B:W13,K29,31:BK34", 3),
 ];
 
-pub(crate) const EIGHT_WINS: [(&str, u8); 64] = [
+pub const EIGHT_WINS: [(&str, u8); 64] = [
     ("W:W21,28:B22,23", 0),
     ("W:W18:B19,25", 0),
     ("B:W9,18:B10,12,16,17", 0),
