@@ -38,7 +38,7 @@ none_kept g p moves kept e h = empty_list kept (λ m x. elim ((h.exactly m).0 x)
   | inr taking ↦ omega (arith, taking.0)
 ])
 
-quiet_from_legal : (g : Geometry) (p : Placement) (m : Move) → IsBest g p 0 → Legal g p m → Member m (quiet_moves g p)
+pub quiet_from_legal : (g : Geometry) (p : Placement) (m : Move) → IsBest g p 0 → Legal g p m → Member m (quiet_moves g p)
 quiet_from_legal g p m best l = at_k l.0 (best_only g p l.0 0 l.1 best) l.2 where
   at_k : (k : ℕ) → k ≡ 0 → LegalAt g p k m → Member m (quiet_moves g p)
   at_k zero e h = quiet_move_in g p m h.0 h.1
@@ -58,13 +58,13 @@ legal_quietly g b p k moves kept now e none h is =
       once = subst NoRepeat (sym all) (quiet_moves_once g b p);
     }
 
-capture_from_legal : (g : Geometry) (p : Placement) (k : ℕ) (m : Move) → 0 < k → IsBest g p k → Legal g p m → Taking g p k m
+pub capture_from_legal : (g : Geometry) (p : Placement) (k : ℕ) (m : Move) → 0 < k → IsBest g p k → Legal g p m → Taking g p k m
 capture_from_legal g p k m some best l = at_k l.0 (best_only g p l.0 k l.1 best) l.2 where
   at_k : (j : ℕ) → j ≡ k → LegalAt g p j m → Taking g p k m
   at_k zero e h = absurd (omega arith)
   at_k (suc j) e h = subst (λ z. Taking g p z m) e (omega arith, h)
 
-legal_from_capture : (g : Geometry) (p : Placement) (k : ℕ) (m : Move) → IsBest g p k → Taking g p k m → Legal g p m
+pub legal_from_capture : (g : Geometry) (p : Placement) (k : ℕ) (m : Move) → IsBest g p k → Taking g p k m → Legal g p m
 legal_from_capture g p zero m best h = absurd (omega (arith, h.0))
 legal_from_capture g p (suc k) m best h = (suc k, best, h.1)
 

@@ -25,7 +25,7 @@ pub record Added {X : Type 0} (f : ℕ → X) (g : Geometry) (p : Placement) (k 
 pub added_none : {X : Type 0} (f : ℕ → X) (g : Geometry) (p : Placement) (k : Kind) (d : Dir) (from : ℕ) (old : List X) → OnBoard g from → Added f g p k d from from old old
 added_none f g p k d from old on = record { on = on; all = refl }
 
-append_none : {X : Type 0} (xs : List X) → xs ++ [] ≡ xs
+pub append_none : {X : Type 0} (xs : List X) → xs ++ [] ≡ xs
 append_none [] = refl
 append_none (x ∷ xs) = ap (λ z. x ∷ z) (append_none xs)
 

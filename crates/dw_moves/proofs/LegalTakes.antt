@@ -1,13 +1,17 @@
 -- What a legal move takes, and where its paths land.
-use Rattle.std.proofs.Common.{◌≡◌, ℕ, List, [], ◌∷◌, length, sym, ◌∙◌, subst, inl, inr, None}
+use Rattle.std.proofs.Common.{ℕ, ◌≤◌, zero, suc, List, [], ◌∷◌, sym, ap, ◌∙◌, subst, inl, inr, arith, None}
 use Rattle.dw_board.specs.declared.piece.Piece.{Piece}
 use Rattle.dw_board.specs.Geometry.{Geometry, IsBoard, OnBoard}
-use Rattle.dw_board.specs.Placement.{Placement, placed}
+use Rattle.dw_board.specs.Placement.{Placement, IsPosition, placed}
+use Rattle.std.specs.FinSet as fin
+use Rattle.std.specs.Ordering.{nat_cmp}
 use Rattle.dw_moves.specs.Laws.{LegalMovesTake}
 use Rattle.dw_moves.specs.MemberLaws.{mem_at}
-use Rattle.dw_moves.specs.Moves.{Member, Jumps}
+use Rattle.dw_moves.specs.Moves.{Member, Jumps, Move, Legal, LegalAt, other}
+use Rattle.dw_moves.proofs.CaptureBound.{path_bound}
 use Rattle.dw_moves.proofs.Filled.{legal_count}
-use Rattle.dw_moves.proofs.LeastLandings.{legal_small}
+use Rattle.dw_moves.proofs.TakesThese.{len_list}
+use Rattle.dw_moves.proofs.Taking.{side_fits}
 use Rattle.dw_moves.proofs.MoveKeys.{jumps_long}
 use Rattle.dw_moves.proofs.Rays.{ray_of_on, landing_on_ray}
 
@@ -20,6 +24,13 @@ jumps_land g b p piece s (t ∷ ts) (c ∷ cs) on jumps x m =
       | inl e ↦ subst (OnBoard g) (sym e) next
       | inr later ↦ jumps_land g b p piece t ts cs next jumps.1 x later
     ]
+
+-- a legal move takes at most twenty pieces
+legal_small : (g : Geometry) → IsBoard g → (p : Placement) (m : Move) → IsPosition g p.cells → Legal g p m → fin.len m.taken ≤ 20
+legal_small g board p m pos legal = at_k legal.0 legal.2 where
+  at_k : (k : ℕ) → LegalAt g p k m → fin.len m.taken ≤ 20
+  at_k zero h = omega (arith, ap fin.len h.1, fin.len-empty nat_cmp)
+  at_k (suc k) h = omega (arith, ap fin.len h.1.takes, len_list h.1.over h.1.path.once, path_bound g p m.from h.0 h.1.over h.1.path, side_fits g p (other p.turn) pos, board.side_high)
 
 pub legal_moves_take : LegalMovesTake
 legal_moves_take = record {

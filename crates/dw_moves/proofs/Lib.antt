@@ -34,7 +34,11 @@ pub mod KernelMovers
 pub mod Lex
 pub mod Ascending
 pub mod MoveKeys
-pub mod LeastLandings
+pub mod LeastKept
+pub mod LeastEntries
+pub mod LeastWalked
+pub mod LeastTaking
+pub mod LeastPaths
 pub mod Listing
 pub mod WorkedPositions
 pub mod Replying

@@ -1,57 +1,22 @@
--- Legal moves put in ascending order.
-use Rattle.std.proofs.Common.{◌≡◌, ℕ, ◌+◌, ◌<◌, ◌≤◌, zero, suc, List, [], ◌∷◌, ◌++◌, length, take, drop, map, refl, sym, ap, ◌∙◌, subst, ◌⊎◌, inl, inr, arith, get_or, None}
+-- Listed moves put in ascending order.
+use Rattle.std.proofs.Common.{◌≡◌, ℕ, ◌<◌, zero, suc, List, [], ◌∷◌, length, map, refl, sym, ap, ◌∙◌, subst, inl, inr, arith, get_or, None, Bool, true, false}
 use Rattle.std.specs.Prelude.{◌↔◌}
-use Rattle.std.specs.List.{insert}
-use Rattle.std.proofs.lemmas.List.{drop_more, drop_all, take_more, take_all, take-append-drop}
+use Rattle.std.proofs.lemmas.Bool.{true≢false, cases_Bool}
+use Rattle.std.proofs.lemmas.List.Sorted.{sorted_far, Contains-permutation, IsPermutation-sym}
+use Rattle.std.proofs.lemmas.Map.Keys.{IsDistinct-IsPermutation, IsDistinct-from_apart, apart_from_distinct}
+use Rattle.std.specs.Cmp.{IsStrictWeakOrder}
+use Rattle.std.specs.List.Sorted.{IsPermutation, IsSortedBy}
 use Rattle.dw_board.specs.Geometry.{Geometry, IsBoard}
 use Rattle.dw_board.specs.Placement.{Placement, placed}
-use Rattle.dw_moves.specs.Moves.{Member, NoRepeat, Move, AreLegal, last_of}
+use Rattle.dw_moves.specs.Moves.{Member, NoRepeat, Move, Legal, last_of}
+use Rattle.dw_moves.specs.MoveLaws.{same_moves, same_moves-is}
 use Rattle.dw_moves.specs.Order.{LexLess, LandsAt, front, IsKey, Precedes, IsAscending, Listed, HasLeastPath, AreListed}
-use Rattle.dw_moves.specs.Listing.{IsPlace, sorted_by}
+use Rattle.dw_moves.specs.Listing.{sorted_by, steps_of, HasAll}
 use Rattle.dw_moves.proofs.Ascending.{ByKey}
 use Rattle.dw_moves.proofs.LegalMoves.{best_only}
-use Rattle.dw_moves.proofs.Lex.{lex_trans, lex_cases}
-use Rattle.dw_moves.specs.MemberLaws.{mem_left, mem_right, mem_cases, mem_map, mem_map_back, mem_at}
-use Rattle.dw_moves.proofs.MoveKeys.{jumps_long, keys_differ}
-
--- all moves at indices below i come before the item
-pub record PlaceTo (list : List Listed) (item : Listed) (i index : ℕ) : Type 0 where
-  pub same : index ≡ i
-  pub before : (l : Listed) → Member l (take i list) → LexLess (sorted_by l) (sorted_by item)
-
-pub place_none : (list : List Listed) (item : Listed) → PlaceTo list item 0 0
-place_none list item = record { same = refl; before = λ l m. absurd m }
-
-pub place_more : (list : List Listed) (item other : Listed) (i index : ℕ) → PlaceTo list item i index → i < length list → other ≡ get_or list i other → LexLess (sorted_by other) (sorted_by item) → PlaceTo list item (i + 1) (index + 1)
-place_more list item other i index h low is less = record {
-  same = omega (arith, h.same);
-  before = λ l m. elim (mem_cases l (take i list) (get_or list i other ∷ []) (subst (Member l) (take_more list i other low) m)) [
-    | inl old ↦ h.before l old
-    | inr (inl e) ↦ subst (λ (z : Listed). LexLess (sorted_by z) (sorted_by item)) (is ∙ sym e) less
-    | inr (inr none) ↦ absurd none
-  ];
-}
-
-pub place_here : (list : List Listed) (item other : Listed) (i index : ℕ) → PlaceTo list item i index → i < length list → other ≡ get_or list i other → (LexLess (sorted_by other) (sorted_by item) → ⊥) → IsPlace list item index
-place_here list item other i index h low is above = record {
-  within = omega (arith, h.same);
-  before = λ l m. h.before l (subst (λ z. Member l (take z list)) h.same m);
-  behind = λ l rest e less.
-      let there : get_or list i other ∷ drop (i + 1) list ≡ l ∷ rest = sym (drop_more list i other low) ∙ (ap (λ z. drop z list) (sym h.same) ∙ e) in
-      let one : other ≡ l = is ∙ first_of (get_or list i other) l (drop (i + 1) list) rest there in
-      above (subst (λ (z : Listed). LexLess (sorted_by z) (sorted_by item)) (sym one) less);
-} where
-  first_of : (x y : Listed) (xs ys : List Listed) → x ∷ xs ≡ y ∷ ys → x ≡ y
-  first_of x y xs ys e = cc
-
-pub place_end : (list : List Listed) (item : Listed) (i index : ℕ) → PlaceTo list item i index → i ≤ length list → length list ≤ i → IsPlace list item index
-place_end list item i index h low all = record {
-  within = omega (arith, h.same);
-  before = λ l m. h.before l (subst (λ z. Member l (take z list)) h.same m);
-  behind = λ l rest e. absurd (not_none l rest (sym (drop_all i list all) ∙ (ap (λ z. drop z list) (sym h.same) ∙ e)));
-} where
-  not_none : (x : Listed) (xs : List Listed) → [] ≡ x ∷ xs → ⊥
-  not_none x xs e = cc
+use Rattle.dw_moves.proofs.Lex.{lex_asym, lex_cases}
+use Rattle.dw_moves.specs.MemberLaws.{mem_map, mem_map_back}
+use Rattle.dw_moves.proofs.MoveKeys.{not_less, jumps_long, keys_differ}
 
 -- two numbers, and what follows where they are the same
 pub first_less : (x y : ℕ) (xs ys : List ℕ) → (x ≡ y → ⊥) → (x < y) ↔ LexLess (x ∷ xs) (y ∷ ys)
@@ -65,58 +30,6 @@ rest_less x y xs ys same = (
   (λ l. inr (same, l)),
   (λ l. elim l [ inl less ↦ absurd (omega arith) | inr there ↦ there.1 ]),
 )
-
--- an item put between the elements that come before it and those that come after it
-insert_ascending : (xs ys : List Listed) (item : Listed) → IsAscending (ByKey sorted_by) (xs ++ ys) → ((l : Listed) → Member l xs → ByKey sorted_by l item) → ((l : Listed) → Member l ys → ByKey sorted_by item l) → IsAscending (ByKey sorted_by) (xs ++ item ∷ ys)
-insert_ascending [] ys item a before behind = (behind, a)
-insert_ascending (x ∷ xs) ys item a before behind = (
-  (λ l m. elim (mem_cases l xs (item ∷ ys) m) [
-    | inl left ↦ a.0 l (mem_left l xs ys left)
-    | inr (inl e) ↦ subst (ByKey sorted_by x) (sym e) (before x (inl refl))
-    | inr (inr right) ↦ a.0 l (mem_right l xs ys right)
-  ]),
-  insert_ascending xs ys item a.1 (λ l m. before l (inr m)) behind,
-)
-
-right_ascending : (xs ys : List Listed) → IsAscending (ByKey sorted_by) (xs ++ ys) → IsAscending (ByKey sorted_by) ys
-right_ascending [] ys a = a
-right_ascending (x ∷ xs) ys a = right_ascending xs ys a.1
-
--- what stands behind the place comes after the item
-behind_place : (ys : List Listed) (item : Listed) → IsAscending (ByKey sorted_by) ys → ((l : Listed) (rest : List Listed) → ys ≡ l ∷ rest → ByKey sorted_by l item → ⊥) → ((l : Listed) → Member l ys → sorted_by l ≡ sorted_by item → ⊥) → (l : Listed) → Member l ys → ByKey sorted_by item l
-behind_place [] item a first apart l m = absurd m
-behind_place (y ∷ ys) item a first apart l m =
-    let above : ByKey sorted_by item y = elim (lex_cases (sorted_by item) (sorted_by y)) [
-      | inl e ↦ absurd (apart y (inl refl) (sym e))
-      | inr (inl less) ↦ less
-      | inr (inr more) ↦ absurd (first y ys refl more)
-    ] in
-    elim m [
-      | inl e ↦ subst (ByKey sorted_by item) (sym e) above
-      | inr n ↦ lex_trans (sorted_by item) (sorted_by y) (sorted_by l) above (a.0 l n)
-    ]
-
-insert_place : (list : List Listed) (item : Listed) (n : ℕ) → IsPlace list item n → IsAscending (ByKey sorted_by) list → ((l : Listed) → Member l list → sorted_by l ≡ sorted_by item → ⊥) → IsAscending (ByKey sorted_by) (insert list n item)
-insert_place list item n place a apart =
-    let parts : take n list ++ drop n list ≡ list = take-append-drop n list in
-    let whole : IsAscending (ByKey sorted_by) (take n list ++ drop n list) = subst (IsAscending (ByKey sorted_by)) (sym parts) a in
-    insert_ascending (take n list) (drop n list) item whole place.before
-    (behind_place (drop n list) item (right_ascending (take n list) (drop n list) whole) place.behind (λ l m. apart l (subst (Member l) parts (mem_right l (take n list) (drop n list) m))))
-
-inserted_from : (list : List Listed) (item : Listed) (n : ℕ) (l : Listed) → Member l (insert list n item) → (l ≡ item) ⊎ Member l list
-inserted_from list item n l m =
-    let parts : take n list ++ drop n list ≡ list = take-append-drop n list in
-    elim (mem_cases l (take n list) (item ∷ drop n list) m) [
-      | inl left ↦ inr (subst (Member l) parts (mem_left l (take n list) (drop n list) left))
-      | inr (inl e) ↦ inl e
-      | inr (inr right) ↦ inr (subst (Member l) parts (mem_right l (take n list) (drop n list) right))
-    ]
-
-inserted_old : (list : List Listed) (item : Listed) (n : ℕ) (l : Listed) → Member l list → Member l (insert list n item)
-inserted_old list item n l m = elim (mem_cases l (take n list) (drop n list) (subst (Member l) (sym (take-append-drop n list)) m)) [
-  | inl left ↦ mem_left l (take n list) (item ∷ drop n list) left
-  | inr right ↦ mem_right l (take n list) (item ∷ drop n list) (inr right)
-]
 
 -- the shape of landings: they end on the move's last square, and are as many as it takes, one where it takes nothing
 abbrev shape : ℕ → ℕ
@@ -172,48 +85,92 @@ same_listed g b p l k h f e =
     let key : l.step.from ∷ l.step.to ∷ front h.0 ≡ k.step.from ∷ k.step.to ∷ front f.0 = λ i. one.0 i ∷ two.0 i ∷ front (three.1 i) in
     keys_differ g b p l.step k.step (k.step.from ∷ k.step.to ∷ front f.0) (subst (IsKey g p l.step) key (listed_key g p l h)) (listed_key g p k f)
 
--- the moves at indices below i, in ascending order and with their least paths
-pub record Sorted (g : Geometry) (p : Placement) (moves : List Move) (i : ℕ) (list : List Listed) : Type 0 where
-  pub ascending : IsAscending (ByKey sorted_by) list
-  pub from : (l : Listed) → Member l list → Member l.step (take i moves) × HasLeastPath g p l
-  pub has : (m : Move) → Member m (take i moves) → (l : Listed) × Member l list × (l.step ≡ m)
+-- a member has a place, and what stands in a place is a member
+place_of : {X : Type 0} (x d : X) (xs : List X) → Member x xs → (k : ℕ) × (k < length xs) × (get_or xs k d ≡ x)
+place_of x d [] m = absurd m
+place_of x d (y ∷ xs) (inl e) = (0, omega arith, sym e)
+place_of x d (y ∷ xs) (inr m) = let k = place_of x d xs m in (suc k.0, omega (arith, k.1), k.2)
 
-pub sorted_none : (g : Geometry) (p : Placement) (moves : List Move) (list : List Listed) → list ≡ [] → Sorted g p moves 0 list
-sorted_none g p moves list none = subst (Sorted g p moves 0) (sym none) (record { ascending = tt; from = λ l m. absurd m; has = λ m n. absurd n })
+at_place : {X : Type 0} (xs : List X) (k : ℕ) (d : X) → k < length xs → Member (get_or xs k d) xs
+at_place [] k d low = absurd (omega arith)
+at_place (x ∷ xs) zero d low = inl refl
+at_place (x ∷ xs) (suc k) d low = inr (at_place xs k d (omega arith))
 
-taken_once : (moves : List Move) (i : ℕ) (d : Move) → NoRepeat moves → i < length moves → Member (get_or moves i d) (take i moves) → ⊥
-taken_once [] i d once low m = omega (arith, low)
-taken_once (x ∷ moves) zero d once low m = m
-taken_once (x ∷ moves) (suc i) d once low (inl e) = once.0 (subst (λ z. Member z moves) e (at_index moves i d (omega (arith, low)))) where
-  at_index : (xs : List Move) (i : ℕ) (d : Move) → i < length xs → Member (get_or xs i d) xs
-  at_index [] i d low = absurd (omega (arith, low))
-  at_index (x ∷ xs) zero d low = inl refl
-  at_index (x ∷ xs) (suc i) d low = inr (at_index xs i d (omega (arith, low)))
-taken_once (x ∷ moves) (suc i) d once low (inr m) = taken_once moves i d once.1 (omega (arith, low)) m
+-- a permutation has the same members
+permuted : {X : Type 0} (xs ys : List X) → IsPermutation xs ys → (x : X) → Member x xs → Member x ys
+permuted xs ys p x m =
+    let k = Contains-permutation xs ys x p (place_of x x xs m) in
+    subst (λ z. Member z ys) k.2 (at_place ys k.0 x k.1)
 
-pub sorted_more : (g : Geometry) → IsBoard g → (p : Placement) (moves : List Move) (i : ℕ) (list new : List Listed) (step : Move) (item : Listed) → NoRepeat moves → Sorted g p moves i list → i < length moves → step ≡ get_or moves i step → item.step ≡ step → HasLeastPath g p item
-    → (n : ℕ) × (IsPlace list item n × (new ≡ insert list n item)) → Sorted g p moves (i + 1) new
-sorted_more g b p moves i list new step item once h low is item_is path placed_at =
-    let n = placed_at.0 in
-    let more : take (i + 1) moves ≡ take i moves ++ get_or moves i step ∷ [] = take_more moves i step low in
-    let apart : (l : Listed) → Member l list → sorted_by l ≡ sorted_by item → ⊥ = λ l m e.
-    let same : l.step ≡ get_or moves i step = same_listed g b p l item (h.from l m).1 path e ∙ (item_is ∙ is) in
-    taken_once moves i step once low (subst (λ z. Member z (take i moves)) same (h.from l m).0) in
-    subst (Sorted g p moves (i + 1)) (sym placed_at.1.1) (record {
-      ascending = insert_place list item n placed_at.1.0 h.ascending apart;
-      from = λ l m. elim (inserted_from list item n l m) [
-        | inl e ↦
-            let at_i : item.step ≡ get_or moves i step = item_is ∙ is in
-            let there : Member item.step (take (i + 1) moves) = subst (Member item.step) (sym more) (mem_right item.step (take i moves) (get_or moves i step ∷ []) (inl at_i)) in
-            subst (λ (z : Listed). Member z.step (take (i + 1) moves) × HasLeastPath g p z) (sym e) (there, path)
-        | inr old ↦ let f = h.from l old in (subst (Member l.step) (sym more) (mem_left l.step (take i moves) (get_or moves i step ∷ []) f.0), f.1)
-      ];
-      has = λ m k. elim (mem_cases m (take i moves) (get_or moves i step ∷ []) (subst (Member m) more k)) [
-        | inl old ↦ let f = h.has m old in (f.0, inserted_old list item n f.0 f.1, f.2)
-        | inr (inl e) ↦ (item, mem_at item (take n list) (drop n list), item_is ∙ (is ∙ sym e))
-        | inr (inr none) ↦ absurd none
-      ];
-    })
+-- a list ascends where each element comes before those at later places
+by_places : {X : Type 0} (R : X → X → Type 0) (xs : List X) → ((i j : ℕ) (d : X) → i < j → j < length xs → R (get_or xs i d) (get_or xs j d)) → IsAscending R xs
+by_places R [] h = tt
+by_places R (x ∷ xs) h = (
+  (λ y m. let k = place_of y x xs m in subst (R x) k.2 (h 0 (suc k.0) x (omega arith) (omega (arith, k.1)))),
+  by_places R xs (λ i j d low high. h (suc i) (suc j) d (omega (arith, low)) (omega (arith, high))),
+)
+
+-- whether one list of numbers comes before another
+abbrev pub lex_less : List ℕ → List ℕ → Bool
+lex_less xs ys = elim (lex_cases xs ys) [ inl e ↦ false | inr (inl l) ↦ true | inr (inr g) ↦ false ]
+
+lex_less_is : (xs ys : List ℕ) → (lex_less xs ys ≡ true) ↔ LexLess xs ys
+lex_less_is xs ys = elim (lex_cases xs ys) as (λ c. (elim c [ inl e ↦ false | inr (inl l) ↦ true | inr (inr g) ↦ false ] ≡ true) ↔ LexLess xs ys) [
+  | inl e ↦ ((λ f. absurd (true≢false (sym f))), (λ l. absurd (lex_asym xs ys l (subst (LexLess ys) (sym e) (subst (λ z. LexLess z ys) e l)))))
+  | inr (inl l) ↦ ((λ f. l), (λ k. refl))
+  | inr (inr g) ↦ ((λ f. absurd (true≢false (sym f))), (λ l. absurd (lex_asym xs ys l g)))
+]
+
+-- the order of listed moves, as a test
+pub comes_first : Listed → Listed → Bool
+comes_first a b = lex_less (sorted_by a) (sorted_by b)
+
+is_false : (b : Bool) → (b ≡ true → ⊥) → b ≡ false
+is_false b h = elim (cases_Bool b) [ inl e ↦ absurd (h e) | inr e ↦ e ]
+
+not_first : (a b : Listed) → comes_first a b ≡ false → ByKey sorted_by a b → ⊥
+unfolding comes_first
+not_first a b e l = true≢false (sym ((lex_less_is (sorted_by a) (sorted_by b)).1 l) ∙ e)
+
+pub first_order : IsStrictWeakOrder comes_first
+unfolding comes_first
+first_order = record {
+  one_way = λ a b e. is_false (comes_first b a) (λ f. lex_asym (sorted_by a) (sorted_by b) ((lex_less_is (sorted_by a) (sorted_by b)).0 e) ((lex_less_is (sorted_by b) (sorted_by a)).0 f));
+  chain = λ a b c e f. is_false (comes_first a c) (λ g. not_less (sorted_by a) (sorted_by b) (sorted_by c) (not_first a b e) (not_first b c f) ((lex_less_is (sorted_by a) (sorted_by c)).0 g));
+}
+
+-- a test that says when one move comes before another is this one
+pub first_is : (b : Bool) (x y : Listed) → ((b ≡ true) ↔ LexLess (sorted_by x) (sorted_by y)) → b ≡ comes_first x y
+unfolding comes_first
+first_is b x y h = elim (cases_Bool b) [
+  | inl e ↦ e ∙ sym ((lex_less_is (sorted_by x) (sorted_by y)).1 (h.0 e))
+  | inr e ↦ e ∙ sym (is_false (comes_first x y) (λ f. true≢false (sym (h.1 ((lex_less_is (sorted_by x) (sorted_by y)).0 f)) ∙ e)))
+]
+
+-- whether two listed moves are the same move
+abbrev same_steps : Listed → Listed → Bool
+same_steps a b = same_moves a.step b.step
+
+same_steps_flip : (a b : Listed) → same_steps a b ≡ same_steps b a
+same_steps_flip a b = elim (cases_Bool (same_steps b a)) [
+  | inl e ↦ (same_moves-is a.step b.step).1 (sym ((same_moves-is b.step a.step).0 e)) ∙ sym e
+  | inr e ↦ is_false (same_steps a b) (λ f. true≢false (sym ((same_moves-is b.step a.step).1 (sym ((same_moves-is a.step b.step).0 f))) ∙ e)) ∙ sym e
+]
+
+steps_apart : (list : List Listed) → NoRepeat (steps_of list) → (i j : ℕ) (d : Listed) → i < j → j < length list → same_steps (get_or list i d) (get_or list j d) ≡ false
+steps_apart [] once i j d low high = absurd (omega arith)
+steps_apart (l ∷ list) once i zero d low high = absurd (omega arith)
+steps_apart (l ∷ list) once zero (suc j) d low high = is_false (same_steps l (get_or list j d)) (λ e.
+    once.0 (subst (λ z. Member z (steps_of list)) (sym ((same_moves-is l.step (get_or list j d).step).0 e)) (mem_map (λ (l : Listed). l.step) (get_or list j d) list (at_place list j d (omega (arith, high))))))
+steps_apart (l ∷ list) once (suc i) (suc j) d low high = steps_apart list once.1 i j d (omega (arith, low)) (omega (arith, high))
+
+-- moves of which none comes before the other are the same move
+apart_ordered : (g : Geometry) → IsBoard g → (p : Placement) (a b : Listed) → HasLeastPath g p a → HasLeastPath g p b → same_steps a b ≡ false → comes_first b a ≡ false → ByKey sorted_by a b
+apart_ordered g board p a b h f apart behind = elim (lex_cases (sorted_by a) (sorted_by b)) [
+  | inl e ↦ absurd (true≢false (sym ((same_moves-is a.step b.step).1 (same_listed g board p a b h f e)) ∙ apart))
+  | inr (inl l) ↦ l
+  | inr (inr more) ↦ absurd (not_first b a behind more)
+]
 
 steps_ascending : (g : Geometry) (p : Placement) (list : List Listed) → ((l : Listed) → Member l list → HasLeastPath g p l) → IsAscending (ByKey sorted_by) list → IsAscending (Precedes g p) (map (λ (l : Listed). l.step) list)
 steps_ascending g p [] paths a = tt
@@ -222,17 +179,21 @@ steps_ascending g p (l ∷ list) paths a = (
   steps_ascending g p list (λ k m. paths k (inr m)) a.1,
 )
 
--- all legal moves were put into their places
-pub sorted_all : (g : Geometry) (p : Placement) (moves : List Move) (i : ℕ) (list : List Listed) → AreLegal g p moves → length moves ≤ i → Sorted g p moves i list → AreListed g p list
-sorted_all g p moves i list legal all h =
-    let whole : take i moves ≡ moves = take_all i moves all in
+-- all legal moves with their least paths, sorted
+pub sorted_all : (g : Geometry) → IsBoard g → (p : Placement) (list sorted : List Listed) → HasAll g p list → IsPermutation list sorted → IsSortedBy comes_first sorted → AreListed g p sorted
+sorted_all g b p list sorted h moved up =
+    let back : (l : Listed) → Member l sorted → Member l list = permuted sorted list (IsPermutation-sym list sorted moved) in
+    let paths : (l : Listed) → Member l sorted → HasLeastPath g p l = λ l m. h.paths l (back l m) in
+    let apart = IsDistinct-IsPermutation same_steps same_steps_flip list sorted moved (IsDistinct-from_apart same_steps list (steps_apart list h.once)) in
     record {
       in_order = record {
-        ascending = steps_ascending g p list (λ l m. (h.from l m).1) h.ascending;
+        ascending = steps_ascending g p sorted paths (by_places (ByKey sorted_by) sorted (λ i j d low high.
+            apart_ordered g b p (get_or sorted i d) (get_or sorted j d) (paths _ (at_place sorted i d (omega (arith, low, high)))) (paths _ (at_place sorted j d high))
+            (apart_from_distinct same_steps sorted i j d apart low high) (sorted_far comes_first first_order sorted up i j d (omega (arith, low)) high)));
         exactly = λ m. (
-          (λ k. let f = mem_map_back (λ (l : Listed). l.step) m list k in (legal.exactly m).0 (subst (λ z. Member z moves) (sym f.2) (subst (Member f.0.step) whole (h.from f.0 f.1).0))),
-          (λ k. let f = h.has m (subst (Member m) (sym whole) ((legal.exactly m).1 k)) in subst (λ z. Member z (map (λ (l : Listed). l.step) list)) f.2 (mem_map (λ (l : Listed). l.step) f.0 list f.1)),
+          (λ k. let f = mem_map_back (λ (l : Listed). l.step) m sorted k in subst (Legal g p) (sym f.2) (h.legal f.0 (back f.0 f.1))),
+          (λ legal. let f = mem_map_back (λ (l : Listed). l.step) m list (h.all m legal) in subst (λ z. Member z (steps_of sorted)) (sym f.2) (mem_map (λ (l : Listed). l.step) f.0 sorted (permuted list sorted moved f.0 f.1))),
         );
       };
-      paths = λ l m. (h.from l m).1;
+      paths = paths;
     }

@@ -1,5 +1,5 @@
 -- The list of quiet moves, and how it is filled.
-use Rattle.std.proofs.Common.{◌≡◌, ℕ, ◌+◌, suc, List, [], ◌∷◌, ◌++◌, refl, sym, ap, ◌∙◌, subst, ◌↔◌, inl, inr, arith, append_assoc, ◌⊎◌, Bool, true, false, Some, None}
+use Rattle.std.proofs.Common.{◌≡◌, ℕ, ◌+◌, suc, List, [], ◌∷◌, ◌++◌, map, refl, sym, ap, ◌∙◌, subst, ◌↔◌, inl, inr, arith, append_assoc, ◌⊎◌, Bool, true, false, Some, None}
 use Rattle.std.specs.Prelude.{IsTrue}
 use Rattle.std.proofs.lemmas.Bool.{true≢false}
 use Rattle.std.specs.List.{flat_map}
@@ -16,54 +16,55 @@ use Rattle.dw_board.specs.Geometry.{Geometry, IsBoard, OnBoard, squares}
 use Rattle.dw_board.specs.Placement.{Placement, at, same_side}
 use Rattle.dw_moves.specs.Moves.{Member, NoRepeat, Move, Quiet, ray}
 use Rattle.dw_moves.specs.MoveLaws.{same_move}
-use Rattle.dw_moves.specs.Plain.{numbers_to, dirs, landings_for, goes, quiet_for, targets_of, targets, quiet_to, quiet_all, quiet_moves, free_step}
+use Rattle.dw_moves.specs.Plain.{numbers_to, dirs, landings_for, goes, quiet_for, targets_of, targets, quiet_to, quiet_made, quiet_moves, free_step}
 use Rattle.dw_moves.specs.MemberLaws.{mem_map, mem_map_back, mem_flat, mem_flat_back}
 use Rattle.dw_moves.proofs.LegalMoves.{target_from, target_in, number_in, from_number}
 use Rattle.dw_moves.proofs.Exact.{all_dirs, same_side_refl}
 use Rattle.dw_moves.proofs.StepLaws.{none_some}
+use Rattle.dw_moves.proofs.JumpSteps.{append_none}
 use Rattle.dw_moves.proofs.Runs.{Freed, run_man, run_king, run_stop}
 use Rattle.dw_moves.proofs.BestFrom.{some_same}
 use Rattle.dw_moves.proofs.QuietOnce.{once_flat, once_map, numbers_once, targets_once}
 
-append_none : {X : Type 0} (xs : List X) → xs ++ [] ≡ xs
-append_none [] = refl
-append_none (x ∷ xs) = ap (λ z. x ∷ z) (append_none xs)
-
--- all four directions were added
-pub four_added : (k : Kind) (g : Geometry) (p : Placement) (side : Side) (from : ℕ) (old a b c now : List Move)
-    → a ≡ old ++ quiet_all from (goes k g p side from UpLeft) → b ≡ a ++ quiet_all from (goes k g p side from UpRight) → c ≡ b ++ quiet_all from (goes k g p side from DownLeft) → now ≡ c ++ quiet_all from (goes k g p side from DownRight)
-    → now ≡ old ++ quiet_all from (quiet_for k g p side from)
-four_added k g p side from old a b c now a_is b_is c_is now_is =
-    let q : Dir → List Move = λ d. quiet_all from (goes k g p side from d) in
-    let all : quiet_all from (quiet_for k g p side from) ≡ q UpLeft ++ (q UpRight ++ (q DownLeft ++ q DownRight)) =
-    map-append (quiet_to from) (goes k g p side from UpLeft) _ ∙ ap (λ z. q UpLeft ++ z) (map-append (quiet_to from) (goes k g p side from UpRight) _ ∙ ap (λ z. q UpRight ++ z) (map-append (quiet_to from) (goes k g p side from DownLeft) _ ∙ ap (λ z. q DownLeft ++ z) (map-append (quiet_to from) (goes k g p side from DownRight) [] ∙ append_none (q DownRight)))) in
-    now_is ∙ (ap (λ z. z ++ q DownRight) (c_is ∙ ap (λ z. z ++ q DownLeft) (b_is ∙ ap (λ z. z ++ q UpRight) a_is))
-    ∙ (append_assoc ((old ++ q UpLeft) ++ q UpRight) (q DownLeft) (q DownRight)
-    ∙ (append_assoc (old ++ q UpLeft) (q UpRight) (q DownLeft ++ q DownRight)
-    ∙ (append_assoc old (q UpLeft) (q UpRight ++ (q DownLeft ++ q DownRight)) ∙ ap (λ z. old ++ z) (sym all)))))
+-- what is made of the quiet moves from a square
+abbrev pub made_from : {X : Type 0} → (ℕ → ℕ → X) → Geometry → Placement → ℕ → List X
+made_from made g p s = map (made s) (targets g p s)
 
 abbrev pub moves_from : Geometry → Placement → ℕ → List Move
-moves_from g p s = quiet_all s (targets g p s)
+moves_from = made_from quiet_to
 
 -- the squares up to n were added
-abbrev pub AddedTo : Geometry → Placement → ℕ → List Move → List Move → Type 0
-AddedTo g p n old now = now ≡ old ++ flat_map (moves_from g p) (numbers_to n)
+abbrev pub AddedTo : {X : Type 0} → (ℕ → ℕ → X) → Geometry → Placement → ℕ → List X → List X → Type 0
+AddedTo made g p n old now = now ≡ old ++ flat_map (made_from made g p) (numbers_to n)
 
-pub added_to_none : (g : Geometry) (p : Placement) (old : List Move) → AddedTo g p 0 old old
-added_to_none g p old = sym (append_none old)
+pub added_to_none : {X : Type 0} (made : ℕ → ℕ → X) (g : Geometry) (p : Placement) (old : List X) → AddedTo made g p 0 old old
+added_to_none made g p old = sym (append_none old)
 
-pub added_to_more : (g : Geometry) (p : Placement) (n from : ℕ) (old now new : List Move) → from ≡ n + 1 → AddedTo g p n old now → new ≡ now ++ quiet_all from (targets g p from) → AddedTo g p (n + 1) old new
-added_to_more g p n from old now new from_is h e =
+pub added_to_more : {X : Type 0} (made : ℕ → ℕ → X) (g : Geometry) (p : Placement) (n from : ℕ) (old now new : List X) → from ≡ n + 1 → AddedTo made g p n old now → new ≡ now ++ map (made from) (targets g p from) → AddedTo made g p (n + 1) old new
+added_to_more made g p n from old now new from_is h e =
     let next : n + 1 ≡ suc n = omega arith in
     let here : from ≡ suc n = from_is ∙ next in
-    let last : flat_map (moves_from g p) (suc n ∷ []) ≡ moves_from g p from = append_none (moves_from g p (suc n)) ∙ ap (moves_from g p) (sym here) in
-    subst (λ z. AddedTo g p z old new) (sym next)
-    (e ∙ (ap (λ z. z ++ moves_from g p from) h ∙ (append_assoc old (flat_map (moves_from g p) (numbers_to n)) (moves_from g p from)
-    ∙ ap (λ z. old ++ z) (ap (λ z. flat_map (moves_from g p) (numbers_to n) ++ z) (sym last) ∙ sym (flat_map-append (moves_from g p) (numbers_to n) (suc n ∷ []))))))
+    let last : flat_map (made_from made g p) (suc n ∷ []) ≡ made_from made g p from = append_none (made_from made g p (suc n)) ∙ ap (made_from made g p) (sym here) in
+    subst (λ z. AddedTo made g p z old new) (sym next)
+    (e ∙ (ap (λ z. z ++ made_from made g p from) h ∙ (append_assoc old (flat_map (made_from made g p) (numbers_to n)) (made_from made g p from)
+    ∙ ap (λ z. old ++ z) (ap (λ z. flat_map (made_from made g p) (numbers_to n) ++ z) (sym last) ∙ sym (flat_map-append (made_from made g p) (numbers_to n) (suc n ∷ []))))))
 
 -- a square from which no quiet move begins adds nothing
-pub added_to_skip : (g : Geometry) (p : Placement) (old now : List Move) (n : ℕ) → AddedTo g p n old now → targets g p (n + 1) ≡ [] → AddedTo g p (n + 1) old now
-added_to_skip g p old now n h none = added_to_more g p n (n + 1) old now now refl h (sym (append_none now) ∙ ap (λ z. now ++ quiet_all (n + 1) z) (sym none))
+pub added_to_skip : {X : Type 0} (made : ℕ → ℕ → X) (g : Geometry) (p : Placement) (old now : List X) (n : ℕ) → AddedTo made g p n old now → targets g p (n + 1) ≡ [] → AddedTo made g p (n + 1) old now
+added_to_skip made g p old now n h none = added_to_more made g p n (n + 1) old now now refl h (sym (append_none now) ∙ ap (λ z. now ++ map (made (n + 1)) z) (sym none))
+
+-- moves that are made of quiet moves are as many, one for each
+pub made_of_moves : {X : Type 0} (f : Move → X) (g : Geometry) (p : Placement) → quiet_made (λ from to. f (quiet_to from to)) g p ≡ map f (quiet_moves g p)
+made_of_moves f g p = by_squares (numbers_to (squares g)) where
+  by_targets : (s : ℕ) (ts : List ℕ) → map (λ t. f (quiet_to s t)) ts ≡ map f (map (quiet_to s) ts)
+  by_targets s [] = refl
+  by_targets s (t ∷ ts) = ap (λ z. f (quiet_to s t) ∷ z) (by_targets s ts)
+
+  by_squares : (ss : List ℕ) → flat_map (λ s. map (λ t. f (quiet_to s t)) (targets g p s)) ss ≡ map f (flat_map (moves_from g p) ss)
+  by_squares [] = refl
+  by_squares (s ∷ ss) =
+      ap (λ z. z ++ flat_map (λ s. map (λ t. f (quiet_to s t)) (targets g p s)) ss) (by_targets s (targets g p s))
+      ∙ (ap (λ z. map f (moves_from g p s) ++ z) (by_squares ss) ∙ sym (map-append f (moves_from g p s) (flat_map (moves_from g p) ss)))
 
 -- the list holds exactly the quiet moves, each once
 pub quiet_move_from : (g : Geometry) (p : Placement) (m : Move) → Member m (quiet_moves g p) → Quiet g p m.from m.to × (m.taken ≡ fin.empty)

@@ -78,30 +78,39 @@ taking_stands : (g : Geometry) (p : Placement) (from k : ℕ) (m : Move) → Tak
 taking_stands g p from k m h = let path : Path g p m.from h.1.1.0 h.1.1.1.over = h.1.1.1.path in (path.piece, subst (λ z. Stands g p z path.piece) h.0 path.stands)
 
 -- nothing stands there
+pub none_takes : (g : Geometry) (p : Placement) (from : ℕ) → at p from ≡ None → (k : ℕ) (m : Move) → TakingFrom g p from k m → ⊥
+none_takes g p from e k m f = let s = taking_stands g p from k m f in none_some s.0 (sym e ∙ s.1.there)
+
 pub none_there : (g : Geometry) (p : Placement) (from most : ℕ) (moves : List Move) → at p from ≡ None → Longest (TakingFrom g p from) most moves most moves
-none_there g p from most moves e = longest_none (TakingFrom g p from) most moves (λ j m f. let s = taking_stands g p from j m f in none_some s.0 (sym e ∙ s.1.there))
+none_there g p from most moves e = longest_none (TakingFrom g p from) most moves (none_takes g p from e)
 
 -- the other side's piece stands there
-pub enemy_there : (g : Geometry) (p : Placement) (from most : ℕ) (moves : List Move) (piece : Piece) → at p from ≡ Some piece → same_side piece.side p.turn ≡ false → Longest (TakingFrom g p from) most moves most moves
-enemy_there g p from most moves piece e other_is = longest_none (TakingFrom g p from) most moves (λ j m f.
-    let s = taking_stands g p from j m f in
+pub enemy_takes : (g : Geometry) (p : Placement) (from : ℕ) (piece : Piece) → at p from ≡ Some piece → same_side piece.side p.turn ≡ false → (k : ℕ) (m : Move) → TakingFrom g p from k m → ⊥
+enemy_takes g p from piece e other_is k m f =
+    let s = taking_stands g p from k m f in
     let same : s.0 ≡ piece = some_same s.0 piece (sym s.1.there ∙ e) in
     let own : piece.side ≡ p.turn = ap (λ z. z.side) (sym same) ∙ s.1.own in
-    true≢false (sym (same_side_refl p.turn) ∙ (ap (λ z. same_side z p.turn) (sym own) ∙ other_is)))
+    true≢false (sym (same_side_refl p.turn) ∙ (ap (λ z. same_side z p.turn) (sym own) ∙ other_is))
+
+pub enemy_there : (g : Geometry) (p : Placement) (from most : ℕ) (moves : List Move) (piece : Piece) → at p from ≡ Some piece → same_side piece.side p.turn ≡ false → Longest (TakingFrom g p from) most moves most moves
+enemy_there g p from most moves piece e other_is = longest_none (TakingFrom g p from) most moves (enemy_takes g p from piece e other_is)
 
 -- the captures that begin on none of the squares still to come
 abbrev pub TakingPast : Geometry → Placement → Squares → ℕ → Move → Type 0
 TakingPast g p left k m = (fin.contains left m.from ≡ false) × Taking g p k m
 
 -- a capture begins on one of those on which one may begin
-pub past_none : (g : Geometry) (p : Placement) (left : Squares) (moves : List Move) → ((s : ℕ) → CanTakeFrom g p s → In s left) → Longest (TakingPast g p left) 0 moves 0 moves
-past_none g p left moves all = longest_none (TakingPast g p left) 0 moves (λ j m f.
+pub begins_there : (g : Geometry) (p : Placement) (left : Squares) → ((s : ℕ) → CanTakeFrom g p s → In s left) → (k : ℕ) (m : Move) → TakingPast g p left k m → ⊥
+begins_there g p left all k m f =
     let is = f.1.1.1 in
     let path : Path g p m.from f.1.1.0 is.over = is.path in
     let first = first_jump g (placed p m.from None) path.piece m.from f.1.1.0 is.over path.jumps (omega (arith, f.1.0, is.count)) in
-    true≢false (sym (all m.from (first.0, first.1, path.piece, path.stands, first.2)) ∙ f.0))
+    true≢false (sym (all m.from (first.0, first.1, path.piece, path.stands, first.2)) ∙ f.0)
 
-out_of_rest : (left : Squares) (s t : ℕ) → fin.contains left t ≡ false → fin.contains (fin.remove left s) t ≡ false
+pub past_none : (g : Geometry) (p : Placement) (left : Squares) (moves : List Move) → ((s : ℕ) → CanTakeFrom g p s → In s left) → Longest (TakingPast g p left) 0 moves 0 moves
+past_none g p left moves all = longest_none (TakingPast g p left) 0 moves (begins_there g p left all)
+
+pub out_of_rest : (left : Squares) (s t : ℕ) → fin.contains left t ≡ false → fin.contains (fin.remove left s) t ≡ false
 out_of_rest left s t e = contains-remove left s t ∙ (ap (λ b. not (eqb t s) && b) e ∙ none_of (not (eqb t s))) where
   none_of : (b : Bool) → (b && false) ≡ false
   none_of true = refl

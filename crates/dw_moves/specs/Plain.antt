@@ -91,13 +91,13 @@ quiet_pairs g p = flat_map (λ s. map (λ t. (s, t)) (targets g p s)) (numbers_t
 abbrev pub quiet_to : ℕ → ℕ → Move
 quiet_to from to = record { from = from; to = to; taken = set.empty }
 
--- those to each of these squares
-abbrev pub quiet_all : ℕ → List ℕ → List Move
-quiet_all from ts = map (quiet_to from) ts
+-- what is made of all quiet moves, one by one
+abbrev pub quiet_made : {X : Type 0} → (ℕ → ℕ → X) → Geometry → Placement → List X
+quiet_made made g p = flat_map (λ s. map (made s) (targets g p s)) (numbers_to (squares g))
 
 -- all quiet moves, as moves
 abbrev pub quiet_moves : Geometry → Placement → List Move
-quiet_moves g p = flat_map (λ s. quiet_all s (targets g p s)) (numbers_to (squares g))
+quiet_moves g p = quiet_made quiet_to g p
 
 -- the next square, where nothing stands on it
 abbrev pub free_if : Placement → Option ℕ → Option ℕ

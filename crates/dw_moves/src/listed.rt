@@ -1,58 +1,209 @@
 //! The legal moves in order, with their least paths.
-ghost use Rattle.std.specs.Prelude.{◌≡◌, ◌≤◌, ◌↔◌, ℕ, List, [], ◌∷◌, None, length, IfSome, IfOk, OnOk, IsTrue};
-ghost use Rattle.std.specs.List.{insert};
-ghost use Rattle.std.specs.FinSet as set;
+ghost use Rattle.std.specs.Prelude.{◌≡◌, ◌≤◌, ◌+◌, ◌-◌, ◌↔◌, [], ◌∷◌, length, IfOk, OnOk, OnErr, IsTrue};
+ghost use Rattle.std.specs.Ordering.{is_lt};
 ghost use Rattle.dw_board.specs.Geometry.{OnBoard};
-ghost use Rattle.dw_moves.specs.Moves.{Legal};
-ghost use Rattle.dw_moves.specs.Order.{LexLess, IsLeastPath, HasLeastPath, AreListed};
-ghost use Rattle.dw_moves.specs.Listing.{TakesBy, LeastBy, IsLesser, IsPlace, sorted_by};
+ghost use Rattle.dw_moves.specs.Chains.{ChainsFit};
+ghost use Rattle.dw_moves.specs.Order.{LexLess, AreListed};
+ghost use Rattle.dw_moves.specs.Listing.{sorted_by, entries_listed, HasAll, Leading, LeadingFrom, GoesBy, This, LongestLeast, TakenIn};
 
 use crate::best::is_own;
 use crate::jumps::jumps;
-use crate::legal::legal;
+use crate::kernel::may_take;
 use crate::moves::{Listed, Move};
+use crate::quiet::push_quiet;
 use arrayvec::ArrayVec;
 use dw_board::board::Board;
 use dw_board::piece::Piece;
 use dw_board::position::Position;
 use dw_board::square::Square;
-use dw_board::squares::Squares;
+use indexmap::IndexMap;
 use std::alloc::{AllocError, Global};
+use std::cmp::Ordering;
 
 /// All legal moves in ascending order, each once and with its least path; or want of memory.
 pub fn listed<B: Board>(alloc: Global, position: &Position<B>) -> Result<Vec<Listed<B>>, AllocError>
     ensures { IfOk result (λ list. AreListed B.geometry position.now list.items) }
 {
-    let moves = legal(alloc, position)?;
     let mut list = Vec::new(alloc);
-    'moves: for step in moves.as_slice() {
-        let path = least_path(position, step);
-        place(&mut list, Listed { step: *step, path })?;
-    }
+    listed_into(position, &mut list)?;
     Ok(list)
 }
 
-/// Puts a move into its place in an ascending list.
-fn place<B: Board>(list: &mut Vec<Listed<B>>, item: Listed<B>) -> Result<(), AllocError>
-    ensures { OnOk result ((n : ℕ) × (IsPlace list.old.items item n × (list.new.items ≡ insert list.old.items n item))) }
+/// Fills a list with all legal moves in ascending order, each once and with its least path. What it held is dropped,
+/// and its memory used again; only captures take other memory besides. After want of memory it is empty.
+pub fn listed_into<B: Board>(
+    position: &Position<B>,
+    list: &mut Vec<Listed<B>>,
+) -> Result<(), AllocError>
+    ensures all { OnOk result (AreListed B.geometry position.now list.new.items) }
+    ensures none { OnErr result (list.new.items ≡ []) }
 {
-    let index = place_of(list.as_slice(), &item);
-    list.insert(index, item)?;
+    list.clear();
+    let pushed = push_listed(position, list);
+    if pushed.is_err() {
+        list.clear();
+    } else {
+        list.sort_unstable_by(order);
+    }
+    pushed
+}
+
+/// Adds all legal moves to an empty list, in any order, each with its least path.
+fn push_listed<B: Board>(
+    position: &Position<B>,
+    list: &mut Vec<Listed<B>>,
+) -> Result<(), AllocError>
+    requires { list.old.items ≡ [] }
+    ensures { OnOk result (HasAll B.geometry position.now list.new.items) }
+{
+    let mut paths = IndexMap::new(*list.allocator());
+    if keep_captures(position, &mut paths)? == 0 {
+        push_quiet(position, list)?;
+    } else {
+        'paths: for (step, path) in paths {
+            list.push(Listed { step, path })?;
+        }
+    }
     Ok(())
 }
 
-/// The number of moves before a move's place.
-fn place_of<B: Board>(list: &[Listed<B>], item: &Listed<B>) -> usize
-    ensures { IsPlace list.now item.now result }
+/// Keeps the captures of the greatest number with their least paths, and answers that number; none where it is 0.
+fn keep_captures<B: Board>(
+    position: &Position<B>,
+    paths: &mut IndexMap<Move<B>, ArrayVec<Square<B>, 21>>,
+) -> Result<u8, AllocError>
+    ensures { IfOk result (λ k. LongestLeast (Leading B.geometry position.now) 0 (entries_listed paths.old.entries) k (entries_listed paths.new.entries)) }
 {
-    let mut index = 0;
-    'list: for other in list {
-        if !precedes(other, item) {
-            return index;
-        }
-        index += 1;
+    let mut most = 0;
+    let mut left = may_take(position);
+    'squares: while let Some(square) = left.first() {
+        most = keep_from(position, square, most, paths)?;
+        left = left.without(square);
     }
-    index
+    Ok(most)
+}
+
+/// Goes through the captures of what stands on a square.
+fn keep_from<B: Board>(
+    position: &Position<B>,
+    from: Square<B>,
+    most: u8,
+    paths: &mut IndexMap<Move<B>, ArrayVec<Square<B>, 21>>,
+) -> Result<u8, AllocError>
+    requires { OnBoard B.geometry from }
+    ensures { IfOk result (λ k. LongestLeast (LeadingFrom B.geometry position.now from) most (entries_listed paths.old.entries) k (entries_listed paths.new.entries)) }
+{
+    let Some(piece) = position.at(from) else {
+        return Ok(most);
+    };
+    if !is_own(piece, position.turn()) {
+        return Ok(most);
+    }
+    let mut rest = *position;
+    rest.clear(from);
+    let mut path = ArrayVec::new();
+    path.push(from);
+    walk(
+        &rest,
+        piece,
+        Move::quiet(from, from),
+        &mut path,
+        0,
+        most,
+        paths,
+    )
+}
+
+/// Goes through the captures that begin with a move so far, which has taken so many pieces on this path. It keeps those
+/// that take at least `most`, which rises with them, and answers how many the kept ones take. The path stays as it was.
+fn walk<B: Board>(
+    position: &Position<B>,
+    piece: Piece,
+    begun: Move<B>,
+    path: &mut ArrayVec<Square<B>, 21>,
+    count: u8,
+    most: u8,
+    paths: &mut IndexMap<Move<B>, ArrayVec<Square<B>, 21>>,
+) -> Result<u8, AllocError>
+    requires on_board { OnBoard B.geometry begun.to }
+    requires few { count ≤ 20 }
+    requires fits { ChainsFit B.geometry position.now piece begun.to begun.taken (20 - count) }
+    requires long { length path.old.items ≡ count + 1 }
+    ensures kept { IfOk result (λ k. LongestLeast (GoesBy B.geometry position.now piece (record { step = begun; path = path.old.items }) count) most (entries_listed paths.old.entries) k (entries_listed paths.new.entries)) }
+    ensures path { OnOk result (path.new.items ≡ path.old.items) }
+{
+    let mut longest = most;
+    let mut goes_on = false;
+    let found = jumps(position, piece, begun.to);
+    'jumps: for jump in found.as_slice() {
+        if !begun.taken.has(jump.over) {
+            goes_on = true;
+            let further = Move {
+                from: begun.from,
+                to: jump.landing,
+                taken: begun.taken.with(jump.over),
+            };
+            path.push(jump.landing);
+            longest = walk(position, piece, further, path, count + 1, longest, paths)?;
+            path.pop();
+        }
+    }
+    if goes_on {
+        Ok(longest)
+    } else {
+        keep(begun, path, count, longest, paths)
+    }
+}
+
+/// Keeps a capture of so many pieces where none that is kept takes more, and drops those that take fewer.
+fn keep<B: Board>(
+    step: Move<B>,
+    path: &ArrayVec<Square<B>, 21>,
+    count: u8,
+    most: u8,
+    paths: &mut IndexMap<Move<B>, ArrayVec<Square<B>, 21>>,
+) -> Result<u8, AllocError>
+    ensures { IfOk result (λ k. LongestLeast (This (record { step = step; path = path.now.items }) count) most (entries_listed paths.old.entries) k (entries_listed paths.new.entries)) }
+{
+    if count == 0 || count < most {
+        return Ok(most);
+    }
+    if most < count {
+        paths.clear();
+    }
+    keep_least(step, path, paths)?;
+    Ok(count)
+}
+
+/// Keeps a path of a move where it is the first, or less than the one that is kept.
+fn keep_least<B: Board>(
+    step: Move<B>,
+    path: &ArrayVec<Square<B>, 21>,
+    paths: &mut IndexMap<Move<B>, ArrayVec<Square<B>, 21>>,
+) -> Result<(), AllocError>
+    ensures { OnOk result (TakenIn (record { step = step; path = path.now.items }) (entries_listed paths.old.entries) (entries_listed paths.new.entries)) }
+{
+    let is_least = match paths.get(&step) {
+        Some(kept) => is_less(path.as_slice(), kept.as_slice()),
+        None => true,
+    };
+    if is_least {
+        paths.insert(step, path.clone()?)?;
+    }
+    Ok(())
+}
+
+/// The order of moves: by their starts, then by their ends, then by their paths.
+fn order<B: Board>(a: &Listed<B>, b: &Listed<B>) -> Ordering
+    ensures { IsTrue (is_lt result) ↔ LexLess (sorted_by a.now) (sorted_by b.now) }
+{
+    if precedes(a, b) {
+        Ordering::Less
+    } else if precedes(b, a) {
+        Ordering::Greater
+    } else {
+        Ordering::Equal
+    }
 }
 
 /// Whether a move comes before another: by its start, then by its end, then by its path.
@@ -82,103 +233,5 @@ fn is_less<B: Board>(a: &[Square<B>], b: &[Square<B>]) -> bool
         *first < *other
     } else {
         is_less(rest, others)
-    }
-}
-
-/// The start of a legal move and its least landings.
-fn least_path<B: Board>(position: &Position<B>, step: &Move<B>) -> ArrayVec<Square<B>, 21>
-    requires { Legal B.geometry position.now step.now }
-    ensures { HasLeastPath B.geometry position.now (record { step = step.now; path = result.items }) }
-{
-    match capture_landings(position, step) {
-        Some(landings) => {
-            let mut path = landings;
-            path.insert(0, step.from);
-            path
-        }
-        None => {
-            let mut path = ArrayVec::new();
-            path.push(step.from);
-            path.push(step.to);
-            path
-        }
-    }
-}
-
-/// The least landings of a legal capture; `None` at a quiet move.
-fn capture_landings<B: Board>(
-    position: &Position<B>,
-    step: &Move<B>,
-) -> Option<ArrayVec<Square<B>, 21>>
-    requires { Legal B.geometry position.now step.now }
-    ensures none { result ≡ None → IsLeastPath B.geometry position.now step.now (step.now.to ∷ []) }
-    ensures some { IfSome result (λ v. IsLeastPath B.geometry position.now step.now v.items) }
-    ensures room { IfSome result (λ v. length v.items ≤ 20) }
-{
-    if step.taken.count() == 0 {
-        return None;
-    }
-    let piece = position.at(step.from)?;
-    if !is_own(piece, position.turn()) {
-        return None;
-    }
-    let mut rest = *position;
-    rest.clear(step.from);
-    least_landings(&rest, piece, step.from, step.to, step.taken)
-}
-
-/// The least landings of jumps from one square to another that take exactly these pieces; `None` where there are none.
-fn least_landings<B: Board>(
-    position: &Position<B>,
-    piece: Piece,
-    from: Square<B>,
-    to: Square<B>,
-    left: Squares<B>,
-) -> Option<ArrayVec<Square<B>, 21>>
-    requires on_board { OnBoard B.geometry from }
-    requires few { set.len left ≤ 20 }
-    ensures none { result ≡ None → (landings : List ℕ) → TakesBy B.geometry position.now piece from to left landings → ⊥ }
-    ensures some { IfSome result (λ v. LeastBy B.geometry position.now piece from to left v.items) }
-{
-    if left.count() == 0 {
-        return if from == to {
-            Some(ArrayVec::new())
-        } else {
-            None
-        };
-    }
-    let mut least = None;
-    let found = jumps(position, piece, from);
-    'jumps: for jump in found.as_slice() {
-        if left.has(jump.over) {
-            let rest = left.without(jump.over);
-            if let Some(behind) = least_landings(position, piece, jump.landing, to, rest) {
-                let mut landings = behind;
-                landings.insert(0, jump.landing);
-                least = Some(lesser(least, landings));
-            }
-        }
-    }
-    least
-}
-
-/// The lesser of the landings kept so far, if any, and of others.
-fn lesser<B: Board>(
-    kept: Option<ArrayVec<Square<B>, 21>>,
-    others: ArrayVec<Square<B>, 21>,
-) -> ArrayVec<Square<B>, 21>
-    ensures { IsLesser kept others result }
-{
-    match kept {
-        Some(landings) => {
-            let first = landings.as_slice();
-            let second = others.as_slice();
-            if is_less(first, second) {
-                landings
-            } else {
-                others
-            }
-        }
-        None => others,
     }
 }

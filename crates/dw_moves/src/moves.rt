@@ -6,7 +6,10 @@ ghost use Rattle.std.specs.Cmp.Lexicographic.{pointwise};
 ghost use Rattle.std.specs.Ordering.{on, eq_of_both};
 ghost use Rattle.std.proofs.Common.{rules};
 ghost use Rattle.dw_moves.specs.MoveLaws.{same_moves-is, move_bytes};
+ghost use Rattle.dw_moves.specs.Plain.{quiet_to};
+ghost use Rattle.dw_moves.specs.Listing.{quietly_listed};
 
+use crate::quiet::FromQuiet;
 use arrayvec::ArrayVec;
 use dw_board::board::Board;
 use dw_board::square::Square;
@@ -45,6 +48,14 @@ impl<B: Board> Move<B> {
             to,
             taken: Squares::none(),
         }
+    }
+}
+
+impl<B: Board> FromQuiet<B> for Move<B> {
+    ghost made = { quiet_to };
+
+    fn from_quiet(from: &Square<B>, to: &Square<B>) -> Self {
+        Move::quiet(*from, *to)
     }
 }
 
@@ -108,4 +119,19 @@ impl<B: Board> Model for Listed<B> {
     ghost coded = { listed_code };
 
     ghost view = { λ l. record { step = l.step; path = l.path.items } };
+}
+
+/// The path of a quiet move is its start and its end.
+impl<B: Board> FromQuiet<B> for Listed<B> {
+    ghost made = { quietly_listed };
+
+    fn from_quiet(from: &Square<B>, to: &Square<B>) -> Self {
+        let mut path = ArrayVec::new();
+        path.push(*from);
+        path.push(*to);
+        Listed {
+            step: Move::quiet(*from, *to),
+            path,
+        }
+    }
 }

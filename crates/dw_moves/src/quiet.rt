@@ -1,12 +1,11 @@
 //! Quiet moves.
-ghost use Rattle.std.specs.Prelude.{◌≡◌, ◌≤◌, ◌↔◌, ◌++◌, length, IsTrue, OnOk};
+ghost use Rattle.std.specs.Prelude.{◌≡◌, ◌≤◌, ◌↔◌, ◌++◌, ℕ, length, map, IsTrue, OnOk};
 ghost use Rattle.dw_board.specs.Geometry.{OnBoard};
 ghost use Rattle.dw_moves.specs.Moves.{IsQuietCount, Quiet, Member, ray};
 ghost use Rattle.dw_moves.specs.Plain as plain;
 
 use crate::best::is_own;
 use crate::kernel::may_step;
-use crate::moves::Move;
 use dw_board::board::{Board, Dir};
 use dw_board::piece::{Kind, Side};
 use dw_board::position::Position;
@@ -107,12 +106,21 @@ pub(crate) fn free_step<B: Board>(
     }
 }
 
+/// What a list of quiet moves is made of.
+pub(crate) trait FromQuiet<B: Board> {
+    ghost made: { ℕ → ℕ → Self };
+
+    /// A quiet move from one square to another.
+    fn from_quiet(from: &Square<B>, to: &Square<B>) -> Self
+        ensures { result ≡ made from.now to.now };
+}
+
 /// Adds the quiet moves of the side to move, whether or not it must capture.
-pub(crate) fn push_quiet<B: Board>(
+pub(crate) fn push_quiet<B: Board, T: FromQuiet<B> + Drop>(
     position: &Position<B>,
-    moves: &mut Vec<Move<B>>,
+    moves: &mut Vec<T>,
 ) -> Result<(), AllocError>
-    ensures { OnOk result (moves.new.items ≡ moves.old.items ++ plain.quiet_moves B.geometry position.now) }
+    ensures { OnOk result (moves.new.items ≡ moves.old.items ++ plain.quiet_made T.made B.geometry position.now) }
 {
     let mut left = may_step(position);
     'squares: while let Some(square) = left.first() {
@@ -123,13 +131,13 @@ pub(crate) fn push_quiet<B: Board>(
 }
 
 /// Adds the quiet moves from a square.
-fn push_quiet_from<B: Board>(
+fn push_quiet_from<B: Board, T: FromQuiet<B> + Drop>(
     position: &Position<B>,
     from: Square<B>,
-    moves: &mut Vec<Move<B>>,
+    moves: &mut Vec<T>,
 ) -> Result<(), AllocError>
     requires { OnBoard B.geometry from }
-    ensures { OnOk result (moves.new.items ≡ moves.old.items ++ plain.quiet_all from (plain.targets B.geometry position.now from)) }
+    ensures { OnOk result (moves.new.items ≡ moves.old.items ++ map (T.made from) (plain.targets B.geometry position.now from)) }
 {
     match position.at(from) {
         Some(stands) if stands.side == position.turn() => {
@@ -143,15 +151,15 @@ fn push_quiet_from<B: Board>(
 }
 
 /// Adds the quiet moves of the mover's piece in one direction.
-fn push_towards<B: Board>(
+fn push_towards<B: Board, T: FromQuiet<B> + Drop>(
     position: &Position<B>,
     kind: Kind,
     from: Square<B>,
     direction: Dir,
-    moves: &mut Vec<Move<B>>,
+    moves: &mut Vec<T>,
 ) -> Result<(), AllocError>
     requires { OnBoard B.geometry from }
-    ensures { OnOk result (moves.new.items ≡ moves.old.items ++ plain.quiet_all from (plain.goes kind B.geometry position.now position.now.turn from direction)) }
+    ensures { OnOk result (moves.new.items ≡ moves.old.items ++ map (T.made from) (plain.goes kind B.geometry position.now position.now.turn from direction)) }
 {
     if may_go(kind, position.turn(), direction) {
         push_run(position, kind, from, direction, moves)
@@ -161,19 +169,19 @@ fn push_towards<B: Board>(
 }
 
 /// Adds a move to each square that a piece can reach in one direction over empty squares.
-fn push_run<B: Board>(
+fn push_run<B: Board, T: FromQuiet<B> + Drop>(
     position: &Position<B>,
     kind: Kind,
     from: Square<B>,
     direction: Dir,
-    moves: &mut Vec<Move<B>>,
+    moves: &mut Vec<T>,
 ) -> Result<(), AllocError>
     requires { OnBoard B.geometry from }
-    ensures { OnOk result (moves.new.items ≡ moves.old.items ++ plain.quiet_all from (plain.landings_for kind position.now (ray B.geometry from direction))) }
+    ensures { OnOk result (moves.new.items ≡ moves.old.items ++ map (T.made from) (plain.landings_for kind position.now (ray B.geometry from direction))) }
 {
     let mut at = from;
     'run: while let Some(landing) = free_step(position, at, direction) {
-        moves.push(Move::quiet(from, landing))?;
+        moves.push(T::from_quiet(&from, &landing))?;
         match kind {
             Kind::Man => break,
             Kind::King => at = landing,

@@ -14,7 +14,7 @@ use dw_moves::follow::follow;
 use dw_moves::kernel::{can_capture, is_loose, other_steps};
 use dw_moves::laws;
 use dw_moves::legal::{is_legal, legal, legal_into};
-use dw_moves::listed::listed;
+use dw_moves::listed::{listed, listed_into};
 use dw_moves::moves::Move;
 use dw_moves::play::{other, play};
 use dw_moves::quiet::quiet_count;
@@ -302,6 +302,20 @@ fn fills_a_list_again(rt: HostRuntime) {
     let room = moves.capacity();
     legal_into(&second, &mut moves).expect(&rt, "memory");
     assert!(rt; moves.len() == 2 && moves.capacity() == room);
+}
+
+#[test]
+fn lists_again_in_the_same_memory(rt: HostRuntime) {
+    let capturing = position_of::<Ten>(&rt, "W:WK46:B28");
+    let quiet = position_of::<Ten>(&rt, "W:W28:B1");
+    let mut list = Vec::new(rt.alloc());
+    listed_into(&capturing, &mut list).expect(&rt, "memory");
+    assert!(rt; list.len() == 5);
+    let room = list.capacity();
+    listed_into(&quiet, &mut list).expect(&rt, "memory");
+    assert!(rt; list.len() == 2 && list.capacity() == room);
+    assert!(rt; list[0].path.as_slice() == [square_of(&rt, 28), square_of(&rt, 22)].as_slice());
+    assert!(rt; list[1].path.as_slice() == [square_of(&rt, 28), square_of(&rt, 23)].as_slice());
 }
 
 #[test]

@@ -7,8 +7,8 @@ use Rattle.dw_moves.proofs.quiet.push_quiet.Goals as goal
 
 pub squares-init : goal.squares-init
 squares-init g c =
-    sweep_none g.B.Board.geometry c.args.position.now (λ n. AddedTo g.B.Board.geometry c.args.position.now n c.args.moves.now.items c.args.moves.now.items) c.may_step-left.result
-    (added_to_none g.B.Board.geometry c.args.position.now c.args.moves.now.items) c.may_step-left.ensures
+    sweep_none g.B.Board.geometry c.args.position.now (λ n. AddedTo g.T.FromQuiet.made g.B.Board.geometry c.args.position.now n c.args.moves.now.items c.args.moves.now.items) c.may_step-left.result
+    (added_to_none g.T.FromQuiet.made g.B.Board.geometry c.args.position.now c.args.moves.now.items) c.may_step-left.ensures
 
 pub squares-smaller : goal.squares-smaller
 squares-smaller g c = subst (λ v. fin.len v < fin.len c.squares.left) (sym c.without-left.ensures) (fewer_left c.squares.left c.in-Some.square c.in-Some.ensures.member)
@@ -16,12 +16,12 @@ squares-smaller g c = subst (λ v. fin.len v < fin.len c.squares.left) (sym c.wi
 pub squares-preserved : goal.squares-preserved
 squares-preserved g c =
     let old = c.args.moves.now.items in
-    sweep_more g.B.Board.geometry c.args.position.now (λ n. AddedTo g.B.Board.geometry c.args.position.now n old c.squares.moves.items) (λ n. AddedTo g.B.Board.geometry c.args.position.now n old c.push_quiet_from.new.moves.items)
-    c.squares.left c.without-left.result c.in-Some.square (added_to_skip g.B.Board.geometry c.args.position.now old c.squares.moves.items) c.squares.invariant c.in-Some.ensures.on_board c.in-Some.ensures.member c.in-Some.ensures.least c.without-left.ensures
-    (λ n is before. subst (λ z. AddedTo g.B.Board.geometry c.args.position.now z old c.push_quiet_from.new.moves.items) (sym is)
-    (added_to_more g.B.Board.geometry c.args.position.now n c.in-Some.square old c.squares.moves.items c.push_quiet_from.new.moves.items is before c.in_ok-push_quiet_from.ensures))
+    sweep_more g.B.Board.geometry c.args.position.now (λ n. AddedTo g.T.FromQuiet.made g.B.Board.geometry c.args.position.now n old c.squares.moves.items) (λ n. AddedTo g.T.FromQuiet.made g.B.Board.geometry c.args.position.now n old c.push_quiet_from.new.moves.items)
+    c.squares.left c.without-left.result c.in-Some.square (added_to_skip g.T.FromQuiet.made g.B.Board.geometry c.args.position.now old c.squares.moves.items) c.squares.invariant c.in-Some.ensures.on_board c.in-Some.ensures.member c.in-Some.ensures.least c.without-left.ensures
+    (λ n is before. subst (λ z. AddedTo g.T.FromQuiet.made g.B.Board.geometry c.args.position.now z old c.push_quiet_from.new.moves.items) (sym is)
+    (added_to_more g.T.FromQuiet.made g.B.Board.geometry c.args.position.now n c.in-Some.square old c.squares.moves.items c.push_quiet_from.new.moves.items is before c.in_ok-push_quiet_from.ensures))
 
 pub returns : goal.returns
 returns g c =
-    sweep_all g.B.Board.geometry c.args.position.now (λ n. AddedTo g.B.Board.geometry c.args.position.now n c.args.moves.now.items c.squares.moves.items) c.squares.left
-    (added_to_skip g.B.Board.geometry c.args.position.now c.args.moves.now.items c.squares.moves.items) (c.in_default.ensures.none.0 refl) c.squares.invariant
+    sweep_all g.B.Board.geometry c.args.position.now (λ n. AddedTo g.T.FromQuiet.made g.B.Board.geometry c.args.position.now n c.args.moves.now.items c.squares.moves.items) c.squares.left
+    (added_to_skip g.T.FromQuiet.made g.B.Board.geometry c.args.position.now c.args.moves.now.items c.squares.moves.items) (c.in_default.ensures.none.0 refl) c.squares.invariant

@@ -4,7 +4,7 @@ use Rattle.dw_moves.proofs.Sweeps.{Sweep}
 use Rattle.dw_moves.proofs.quiet.push_quiet.Given as goal
 
 abbrev pub invariant-squares : goal.invariant-squares
-invariant-squares g l = Sweep g.B.Board.geometry l.position (λ n. AddedTo g.B.Board.geometry l.position n l.initial.moves.items l.moves.items) l.left
+invariant-squares g l = Sweep g.B.Board.geometry l.position (λ n. AddedTo g.T.FromQuiet.made g.B.Board.geometry l.position n l.initial.moves.items l.moves.items) l.left
 
 abbrev pub decreases-squares : goal.decreases-squares
 decreases-squares g l = fin.len l.left
