@@ -7,3 +7,5 @@ pub mod Choices
 pub mod Verdicts
 pub mod Gathered
 pub mod KeyLists
+pub mod Refuting
+pub mod TryLists

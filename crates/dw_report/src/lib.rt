@@ -9,6 +9,7 @@ pub mod problem;
 pub mod run;
 pub mod settings;
 mod text;
+mod tries;
 pub mod verdict;
 
 pub use dw_notation::{problems, streams};
