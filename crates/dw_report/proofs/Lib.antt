@@ -9,3 +9,4 @@ pub mod Gathered
 pub mod KeyLists
 pub mod Refuting
 pub mod TryLists
+pub mod ChoiceLoops

@@ -6,6 +6,7 @@ use Rattle.dw_board.specs.Placement.{Placement}
 use Rattle.dw_moves.specs.Moves.{Move, Legal, play}
 use Rattle.dw_solve.specs.Wins.{Lost}
 use Rattle.dw_report.specs.Verdict.{Keys, IsRefutation, Refutes}
+use Rattle.dw_report.specs.declared.dual.Dual.{Dual}
 
 -- moves lead from p to choices of the attacker, who has n moves left at p
 abbrev pub LeadsToChoices : Geometry → ℕ → Placement → List Move → List Move → Type 0
@@ -45,3 +46,7 @@ FindsLeast Less P (Some d) = IsLeast Less P d.0 d.1
 abbrev pub FindsRefutation : Geometry → Placement → ℕ → Option Move → Type 0
 FindsRefutation g q n None = (r : Move) → IsRefutation g q n r → ⊥
 FindsRefutation g q n (Some r) = IsRefutation g q n r
+
+-- the moves that lead to a choice, and the choices
+abbrev pub parts_of : {B : Type 0} → Dual B → List Move × List Move
+parts_of d = (d.at.items, d.choices.items)

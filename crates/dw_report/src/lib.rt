@@ -3,6 +3,7 @@
 //! The sources, sinks and problems that a run works on are those of `dw_notation`, and stand here under the same names.
 #![tactic(auto)]
 
+mod dual;
 mod keys;
 pub mod laws;
 pub mod problem;
