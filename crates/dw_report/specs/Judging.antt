@@ -5,8 +5,10 @@ use Rattle.dw_board.specs.Geometry.{Geometry}
 use Rattle.dw_board.specs.Placement.{Placement}
 use Rattle.dw_moves.specs.Moves.{Move, Legal, play}
 use Rattle.dw_solve.specs.Wins.{Lost}
-use Rattle.dw_report.specs.Verdict.{Keys, IsRefutation, Refutes}
-use Rattle.dw_report.specs.declared.dual.Dual.{Dual}
+use Rattle.dw_report.specs.Verdict.{Keys, IsRefutation, Refutes, Verdict, unsolvable, cooked, dual, sound}
+use Rattle.dw_report.specs.declared.dual.Dual as found
+use Rattle.dw_report.specs.declared.verdict.Verdict as verdicts
+use Rattle.dw_report.specs.declared.verdict.Verdict.TheVariants.{Unsolvable, Cooked, Dual, Sound}
 
 -- moves lead from p to choices of the attacker, who has n moves left at p
 abbrev pub LeadsToChoices : Geometry → ℕ → Placement → List Move → List Move → Type 0
@@ -48,5 +50,12 @@ FindsRefutation g q n None = (r : Move) → IsRefutation g q n r → ⊥
 FindsRefutation g q n (Some r) = IsRefutation g q n r
 
 -- the moves that lead to a choice, and the choices
-abbrev pub parts_of : {B : Type 0} → Dual B → List Move × List Move
+abbrev pub parts_of : {B : Type 0} → found.Dual B → List Move × List Move
 parts_of d = (d.at.items, d.choices.items)
+
+-- what a verdict says
+abbrev pub said_by : {B : Type 0} → verdicts.Verdict B → Verdict
+said_by Unsolvable = unsolvable
+said_by (Cooked shortest keys) = cooked shortest keys.items
+said_by (Dual at choices) = dual at.items choices.items
+said_by (Sound key) = sound key

@@ -4,6 +4,7 @@
 #![tactic(auto)]
 
 mod dual;
+pub mod judge;
 mod keys;
 pub mod laws;
 pub mod problem;
