@@ -21,8 +21,8 @@ use Rattle.dw_list.specs.Tasks.{IsTrial, IsListed}
 use Rattle.dw_list.specs.Seeking.{SomePassed, IsNotAhead, IsUnlisted, WentOn, GoOnWith, IsAlong}
 use Rattle.dw_list.proofs.StackViews.{standing}
 use Rattle.dw_list.proofs.Ways.{goes_from, next_legal, next_keeps}
-use Rattle.dw_list.proofs.Listings.{ascending_parts}
-use Rattle.dw_list.proofs.Orders.{precedes_asym, before_asym}
+use Rattle.dw_list.specs.ListingLaws.{ascending_parts}
+use Rattle.dw_list.specs.LineOrderLaws.{precedes_asym, before_asym}
 use Rattle.dw_list.proofs.Deciding.{win_line, lost_goes_on}
 use Rattle.dw_list.proofs.StackLemmas.{leads_lost}
 use Rattle.dw_list.proofs.Remaining.{goes_next, leads_line, remains_later}

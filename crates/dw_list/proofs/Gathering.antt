@@ -7,14 +7,9 @@ use Rattle.dw_board.specs.Placement.{Placement}
 use Rattle.dw_moves.specs.Moves.{Move, Legal, play}
 use Rattle.dw_moves.specs.Order.{Precedes, IsListOf}
 use Rattle.dw_moves.specs.MemberLaws.{mem_at}
+use Rattle.dw_list.specs.ListingLaws.{at_item}
 use Rattle.dw_list.specs.Going.{left_after, AreWays, AreWaysAmong, Keeps, AreWaysThrough, AreAdded}
 use Rattle.dw_list.proofs.Ways.{through_kept, through_barred, ways_more, ways_all, ways_none}
-
--- a list in three parts at one of its elements
-at_item : {V : Type 0} (f : V → Move) (xs : List V) (i : ℕ) (x : V) → i < length xs → x ≡ get_or xs i x → (map f xs ≡ map f (take i xs) ++ f x ∷ map f (drop (suc i) xs)) × (map f (take (suc i) xs) ≡ map f (take i xs) ++ f x ∷ [])
-at_item f [] i x low e = absurd (omega arith)
-at_item f (y ∷ xs) zero x low e = (ap (λ z. f z ∷ map f xs) (sym e), ap (λ z. f z ∷ []) (sym e))
-at_item f (y ∷ xs) (suc i) x low e = let h = at_item f xs i x (omega arith) e in (ap (λ z. f y ∷ z) h.0, ap (λ z. f y ∷ z) h.1)
 
 pub ways_over : (g : Geometry) (a : Bool) (p : Placement) (n : ℕ) → ((IsTrue a → 1 ≤ n) → ⊥) → AreWays g a p n []
 ways_over g true p zero h = record { ascending = tt; exactly = λ l. ((λ m. absurd m), (λ k. absurd k)) }

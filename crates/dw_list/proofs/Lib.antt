@@ -1,10 +1,6 @@
-mod Lex
-pub mod Orders
-pub mod Listings
 pub mod Ways
 pub mod Deciding
 pub mod Places
-pub mod AskingLemmas
 pub mod Gathering
 pub mod Passing
 pub mod StackLemmas

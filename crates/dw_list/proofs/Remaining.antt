@@ -10,7 +10,7 @@ use Rattle.dw_list.specs.Lines.{Line, Before}
 use Rattle.dw_list.specs.Going.{GoesOn, left_after}
 use Rattle.dw_list.specs.Standing.{Level, IsAhead, IsBehind, Remains, AreBehind, Leads}
 use Rattle.dw_list.proofs.Ways.{goes_to, goes_from}
-use Rattle.dw_list.proofs.Listings.{ascending_parts}
+use Rattle.dw_list.specs.ListingLaws.{ascending_parts}
 
 -- how a line goes on at a level is how it goes on at the next one, behind the move
 pub goes_next : (g : Geometry) (f : Level) (m : Move) (a : Bool) (q : Placement) (k : ℕ) (t : List Move) → a ≡ not f.attacks → q ≡ play g f.position m → k ≡ left_after f.attacks f.left → GoesOn g f.attacks f.position f.left (m ∷ t) → GoesOn g a q k t

@@ -19,8 +19,8 @@ use Rattle.dw_list.specs.Walking.{HasStepped, SameToCome, GivesFirst, GivesNone}
 use Rattle.dw_list.proofs.StackLemmas.{leads_count}
 use Rattle.dw_list.proofs.Gathering.{left_within}
 use Rattle.dw_list.proofs.Ways.{goes_from, next_legal, next_keeps}
-use Rattle.dw_list.proofs.Listings.{first_listed}
-use Rattle.dw_list.proofs.Orders.{before_asym}
+use Rattle.dw_list.specs.ListingLaws.{first_listed}
+use Rattle.dw_list.specs.LineOrderLaws.{before_asym}
 use Rattle.dw_list.proofs.StackViews.{standing}
 use Rattle.dw_list.proofs.Remaining.{remains_as, remains_or, remains_here, leads_line, remains_later}
 

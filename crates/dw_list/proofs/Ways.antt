@@ -11,7 +11,7 @@ use Rattle.dw_solve.specs.declared.stop.Stop.{Stop}
 use Rattle.dw_solve.specs.Wins.{Lost}
 use Rattle.dw_list.specs.Lines.{Before}
 use Rattle.dw_list.specs.Going.{GoesOn, IsNext, left_after, BeginsAmong, AreWays, AreWaysAmong, Keeps, IsThrough, AreWaysThrough}
-use Rattle.dw_list.proofs.Listings.{none_listed, one_listed, listed_as, listed_then, listed_map, ascending_parts}
+use Rattle.dw_list.specs.ListingLaws.{none_listed, one_listed, listed_as, listed_then, listed_map, ascending_parts}
 
 pub goes_to : (g : Geometry) (a : Bool) (p : Placement) (n : ℕ) (m : Move) (l : List Move) → IsNext g a p n m → GoesOn g (not a) (play g p m) (left_after a n) l → GoesOn g a p n (m ∷ l)
 goes_to g true p zero m l h k = absurd h

@@ -12,3 +12,7 @@ pub mod Seeking
 pub mod Faults
 pub mod Tokens
 pub mod TokenLaws
+mod LexLaws
+pub mod LineOrderLaws
+pub mod ListingLaws
+pub mod AskingLaws

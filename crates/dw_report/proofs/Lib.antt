@@ -3,3 +3,10 @@ pub mod MoveLines
 pub mod Runs
 pub mod Texts
 pub mod Writings
+pub mod Choices
+pub mod Verdicts
+pub mod Gathered
+pub mod KeyLists
+pub mod Refuting
+pub mod TryLists
+pub mod ChoiceLoops

@@ -1,7 +1,10 @@
 //! Laws of the report, each the contract of a function that does nothing.
 ghost use Rattle.dw_report.specs.Laws.{OneReport};
+ghost use Rattle.dw_report.specs.VerdictLaws.{OneVerdict, TriesAreListed};
 
-use dw_moves::laws::{moves_in_order, one_best};
+use dw_list::laws::lines_exist;
+use dw_moves::laws::{moves_have_keys, moves_in_order, moves_listed, one_best};
+use dw_solve::laws::{wins_are_decided, wins_stay};
 
 /// Each byte text has a report, and only one.
 pub fn one_report()
@@ -9,4 +12,25 @@ pub fn one_report()
 {
     moves_in_order();
     one_best();
+}
+
+/// Each problem has a verdict, and only one.
+pub fn one_verdict()
+    ensures { OneVerdict }
+{
+    moves_listed();
+    moves_in_order();
+    moves_have_keys();
+    wins_are_decided();
+    wins_stay();
+    lines_exist();
+}
+
+/// Each problem has a list of its tries, and only one.
+pub fn tries_are_listed()
+    ensures { TriesAreListed }
+{
+    moves_in_order();
+    moves_have_keys();
+    wins_are_decided();
 }

@@ -3,10 +3,15 @@
 //! The sources, sinks and problems that a run works on are those of `dw_notation`, and stand here under the same names.
 #![tactic(auto)]
 
+mod dual;
+pub mod judge;
+mod keys;
 pub mod laws;
 pub mod problem;
 pub mod run;
 pub mod settings;
 mod text;
+mod tries;
+pub mod verdict;
 
 pub use dw_notation::{problems, streams};

@@ -4,7 +4,7 @@ use Rattle.dw_moves.specs.Moves.{Legal}
 use Rattle.dw_list.specs.Going.{AreWays}
 use Rattle.dw_list.proofs.Ways.{no_ways}
 use Rattle.dw_list.proofs.Gathering.{added_kept, added_none, among_none, added_more, ways_over, ways_whole, measure_falls, left_within, legal_at}
-use Rattle.dw_list.proofs.AskingLemmas.{answered, asked_none, asked_then, asked_wider, asked_ok, asked_stop, asked_memory}
+use Rattle.dw_list.specs.AskingLaws.{answered, asked_none, asked_then, asked_wider, asked_ok, asked_stop, asked_memory}
 use Rattle.dw_list.proofs.all_lines.+ways.Goals as goal
 
 pub push_ways-returns-in_err-behind-clause-asked : goal.push_ways-returns-in_err-behind-clause-asked

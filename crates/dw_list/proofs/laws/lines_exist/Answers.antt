@@ -4,8 +4,8 @@ use Rattle.dw_board.specs.Placement.{Placement}
 use Rattle.dw_moves.specs.Moves.{Member, Move}
 use Rattle.dw_solve.specs.Wins.{Win}
 use Rattle.dw_list.specs.Lines.{Line, Before, Lines}
-use Rattle.dw_list.proofs.Listings.{list_only}
-use Rattle.dw_list.proofs.Orders.{before_asym}
+use Rattle.dw_list.specs.ListingLaws.{list_only}
+use Rattle.dw_list.specs.LineOrderLaws.{before_asym}
 use Rattle.dw_list.proofs.Deciding.{ways_exist, win_line, line_wins}
 use Rattle.dw_list.proofs.laws.lines_exist.Goals as goal
 

@@ -1,6 +1,6 @@
 use Rattle.std.proofs.Common.{subst}
 use Rattle.dw_list.specs.Walking.{HasStepped}
-use Rattle.dw_list.proofs.AskingLemmas.{answered, asked_then, asked_ok, asked_stop, asked_for}
+use Rattle.dw_list.specs.AskingLaws.{answered, asked_then, asked_ok, asked_stop, asked_for}
 use Rattle.dw_list.proofs.StepLemmas.{same_then, gives_none, gives_first}
 use Rattle.dw_list.proofs.walk.walk.Goals as goal
 

@@ -1,7 +1,7 @@
 use Rattle.std.proofs.Common.{◌*◌, ◌^◌}
 use Rattle.dw_list.specs.Asking.{Asked}
 use Rattle.dw_list.specs.Steps.{cost}
-use Rattle.dw_list.proofs.AskingLemmas.{answered}
+use Rattle.dw_list.specs.AskingLaws.{answered}
 use Rattle.dw_list.proofs.StepLemmas.{SameLines}
 use Rattle.dw_list.proofs.walk.walk.Given as goal
 

@@ -1,5 +1,5 @@
 -- Ascending lists of exactly what something holds of.
-use Rattle.std.proofs.Common.{◌≡◌, List, [], ◌∷◌, ◌++◌, map, refl, sym, ◌∙◌, subst, ◌⊎◌, inl, inr}
+use Rattle.std.proofs.Common.{◌≡◌, ℕ, ◌<◌, zero, suc, List, [], ◌∷◌, ◌++◌, length, map, take, drop, get_or, refl, sym, ap, ◌∙◌, subst, ◌⊎◌, inl, inr, arith}
 use Rattle.dw_moves.specs.Moves.{Member}
 use Rattle.dw_moves.specs.Order.{IsAscending, IsListOf}
 use Rattle.dw_moves.specs.MemberLaws.{mem_left, mem_right, mem_cases, mem_map, mem_map_back}
@@ -107,3 +107,9 @@ first_listed {X} R P Q asym x (y ∷ ys) here to either least h =
         );
       },
     )
+
+-- a list in three parts at one of its elements
+pub at_item : {V X : Type 0} (f : V → X) (xs : List V) (i : ℕ) (x : V) → i < length xs → x ≡ get_or xs i x → (map f xs ≡ map f (take i xs) ++ f x ∷ map f (drop (suc i) xs)) × (map f (take (suc i) xs) ≡ map f (take i xs) ++ f x ∷ [])
+at_item f [] i x low e = absurd (omega arith)
+at_item f (y ∷ xs) zero x low e = (ap (λ z. f z ∷ map f xs) (sym e), ap (λ z. f z ∷ []) (sym e))
+at_item f (y ∷ xs) (suc i) x low e = let h = at_item f xs i x (omega arith) e in (ap (λ z. f y ∷ z) h.0, ap (λ z. f y ∷ z) h.1)

@@ -1,0 +1,10 @@
+use Rattle.dw_list.specs.Asking.{Asked}
+use Rattle.dw_list.specs.AskingLaws.{answered}
+use Rattle.dw_report.proofs.TryLists.{TriesTo}
+use Rattle.dw_report.proofs.tries.tries.Given as goal
+
+abbrev pub invariant-moves : goal.invariant-moves
+invariant-moves g l = record {
+  tries : TriesTo (λ item. item.step) g.B.Board.geometry l.position l.moves l.item-items l.item-index l.tries.items;
+  asked : Asked g.B.Board.geometry g.M.Memo.content g.M.Memo.dropped l.moves l.initial.solver l.solver answered;
+}

@@ -1,0 +1,73 @@
+//! Tries: moves that fail to one reply only.
+ghost use Rattle.std.specs.Prelude.{◌≡◌, ◌≤◌, ◌-◌, IfOk};
+ghost use Rattle.dw_list.specs.Asking.{Asked};
+ghost use Rattle.dw_report.specs.Verdict.{Tries};
+ghost use Rattle.dw_report.specs.Judging.{FindsRefutation};
+
+use crate::keys::push;
+use dw_board::board::Board;
+use dw_board::position::Position;
+use dw_memo::memo::Memo;
+use dw_moves::laws::moves_have_keys;
+use dw_moves::listed::listed;
+use dw_moves::moves::Move;
+use dw_moves::play::play;
+use dw_solve::guide::Guide;
+use dw_solve::laws::searches_add_up;
+use dw_solve::solver::Solver;
+use dw_solve::stop::Stop;
+use std::alloc::Global;
+
+/// The tries of a position within so many moves, 1 to 20, in order: each legal move that fails to one reply only, and
+/// that reply.
+pub(crate) fn tries<B: Board, M: Memo<B>, G: Guide<B>>(
+    alloc: Global,
+    solver: &mut Solver<B, M, G>,
+    position: &Position<B>,
+    moves: u8,
+) -> Result<Vec<(Move<B>, Move<B>)>, Stop>
+    requires some { 1 ≤ moves }
+    requires few { moves ≤ 20 }
+    ensures tries { IfOk result (λ tries. Tries B.geometry position.now moves tries.items) }
+    ensures asked { Asked B.geometry M.content M.dropped moves solver.old solver.new result }
+{
+    searches_add_up();
+    let _ = solver.limit();
+    let mut tries = Vec::new(alloc);
+    let list = listed(alloc, position)?;
+    'moves: for item in list.as_slice() {
+        let after = play(position, &item.step);
+        if let Some(reply) = refutation(alloc, solver, &after, moves - 1)? {
+            push(&mut tries, (item.step, reply))?;
+        }
+    }
+    Ok(tries)
+}
+
+/// The only reply after which the attacker has no win within so many moves, if there is just one.
+fn refutation<B: Board, M: Memo<B>, G: Guide<B>>(
+    alloc: Global,
+    solver: &mut Solver<B, M, G>,
+    position: &Position<B>,
+    left: u8,
+) -> Result<Option<Move<B>>, Stop>
+    requires { left ≤ 20 }
+    ensures found { IfOk result (FindsRefutation B.geometry position.now left) }
+    ensures asked { Asked B.geometry M.content M.dropped left solver.old solver.new result }
+{
+    searches_add_up();
+    moves_have_keys();
+    let _ = solver.limit();
+    let list = listed(alloc, position)?;
+    let mut found = None;
+    'replies: for item in list.as_slice() {
+        let after = play(position, &item.step);
+        if !solver.wins(alloc, &after, left)? {
+            match found {
+                Some(_) => return Ok(None),
+                None => found = Some(item.step),
+            }
+        }
+    }
+    Ok(found)
+}
