@@ -1,5 +1,5 @@
 //! The lines of a position one by one.
-ghost use Rattle.std.specs.Prelude.{◌≡◌, ◌≤◌, ◌↔◌, List, IfOk, IfErr, OnOk, OnErr, IsErrOf, reverse};
+ghost use Rattle.std.specs.Prelude.{◌≡◌, ◌≤◌, ◌↔◌, List, IfOk, IfErr, OnOk, OnErr, IsErrOf, length, reverse};
 ghost use Rattle.dw_solve.specs.declared.stop.Stop.TheVariants.{Limit};
 ghost use Rattle.dw_list.specs.declared.fault.AfterFault.TheVariants.{Stopped};
 ghost use Rattle.dw_solve.specs.Searching.{IsCounted};
@@ -112,7 +112,8 @@ impl<'a, B: Board, M: Memo<B>, G: Guide<B>> Lister<'a, B, M, G> {
 
     /// The line at which the lister stands: the one that was given last, until it is asked for the next.
     pub fn line(&self) -> &[Move<B>]
-        ensures { result.now ≡ reverse (stack_of self.now).line }
+        ensures line { result.now ≡ reverse (stack_of self.now).line }
+        ensures few { length result.now ≤ 39 }
     {
         self.stack.line()
     }
