@@ -1,5 +1,5 @@
 -- What a walk over a stack does.
-use Rattle.std.specs.Prelude.{◌≡◌, ◌↔◌, Bool, true, false, List, [], ◌∷◌, ◌++◌, reverse}
+use Rattle.std.specs.Prelude.{◌≡◌, ℕ, ◌≤◌, ◌⊎◌, ◌↔◌, Bool, true, false, List, [], ◌∷◌, ◌++◌, length, drop, reverse, take}
 use Rattle.dw_board.specs.Geometry.{Geometry}
 use Rattle.dw_moves.specs.Moves.{Move}
 use Rattle.dw_list.specs.declared.walk.Step.{Step}
@@ -38,3 +38,19 @@ pub record GivesNone (g : Geometry) (old new : Standing) : Type 0 where
 abbrev pub GivesNext : Geometry → Bool → Standing → Standing → Type 0
 GivesNext g true old new = GivesFirst g old new
 GivesNext g false old new = GivesNone g old new
+
+-- as far as a list of moves goes, and for so many moves at most, it is as the other
+abbrev pub BeginsAs : ℕ → List Move → List Move → Type 0
+BeginsAs kept line given = (j : ℕ) → j ≤ kept → j ≤ length line → take j line ≡ take j given
+
+-- The moves of the line at which a stack stands, the last one first: a step adds a move, takes one off, or leaves them.
+abbrev pub IsNear : Step → List Move → List Move → Type 0
+IsNear Over old new = new ≡ old
+IsNear Given old new = new ≡ old
+IsNear On old new = (new ≡ old) ⊎ ((new ≡ drop 1 old) ⊎ ((m : Move) × (new ≡ m ∷ old)))
+
+-- of the line from which the stack comes, at most as many moves are kept, and those are still its first ones
+pub record KeepsFirst (old new : Standing) (kept kept' : ℕ) : Type 0 where
+  pub few : kept' ≤ kept
+  pub first : (given : List Move) →
+      BeginsAs kept (reverse old.line) given → BeginsAs kept' (reverse new.line) given
