@@ -31,7 +31,8 @@ kept_of lister = lister.kept
 abbrev pub ComesFrom : {B M G : Type 0} → Lister B M G → List Move → Type 0
 ComesFrom lister given = BeginsAs (kept_of lister) (reverse (stack_of lister).line) given
 
--- another line is given, its first moves are those of the line from which the lister comes, and now it comes from this one
+-- Another line is given: its first moves are those of the line from which the lister comes, and from now on it comes
+-- from this one.
 pub record IsShared {B M G : Type 0} (old new : Lister B M G) : Type 0 where
   pub first : (given : List Move) → ComesFrom old given →
       take (shared_of new) (reverse (stack_of new).line) ≡ take (shared_of new) given
