@@ -9,6 +9,9 @@ the gate's, and runs `rt must-fail` there, as many crates side by side as there 
 prints what each run says as it ends, and ends with 0 if the prover refused every edit. What is built, crates/*/out, is copied
 too, so that the crates below are not proved again (`./dw` builds them). The first edit of a crate takes minutes, a
 further one 15 to 40 s.
+
+Files that end in .borrow hold uses that must not compile, in the form of an edit. The borrow check has to refuse
+each, before any proof; `rt must-fail` does not take such edits, so this program tries them itself.
 """
 import concurrent.futures
 import os
@@ -50,9 +53,35 @@ def side_by_side():
     return max(1, min(len(os.sched_getaffinity(0)), free // MEMORY_EACH))
 
 
+def with_edit(edit, folder):
+    """The file that an edit changes, and its text with the edit."""
+    lines = edit.read_text(encoding="utf-8").splitlines()
+    file, old, new = (next(line[len(word) :] for line in lines if line.startswith(word)) for word in ("file: ", "old: ", "new: "))
+    text = (folder / file).read_text(encoding="utf-8")
+    if text.count(old) != 1:
+        raise ValueError(f"{edit.name}: its old text is in {file} {text.count(old)} times")
+    return folder / file, text.replace(old, new)
+
+
+def compiles(room, crate, edit):
+    """Whether the borrow check lets the crate pass with this edit."""
+    folder = room / "crates" / crate
+    file, text = with_edit(edit, folder)
+    kept = file.read_text(encoding="utf-8")
+    file.write_text(text, encoding="utf-8")
+    run = subprocess.run(["rt", "check", "--only="], cwd=folder, stdout=subprocess.PIPE, stderr=subprocess.STDOUT, text=True, check=False)
+    file.write_text(kept, encoding="utf-8")
+    return "error[borrow-" not in run.stdout
+
+
 def tried(room, crate):
     run = subprocess.run(["rt", "must-fail", crate], cwd=room, stdout=subprocess.PIPE, stderr=subprocess.STDOUT, text=True, check=False)
-    return crate, run.returncode, run.stdout
+    status, text = run.returncode, run.stdout
+    for edit in sorted((EDITS / crate).glob("*.borrow")):
+        passes = compiles(room, crate, edit)
+        status = 1 if passes else status
+        text += f"{crate}/{edit.name}: {'NOT REFUSED' if passes else 'refused, as it must be'} by the borrow check\n"
+    return crate, status, text
 
 
 def main(words):

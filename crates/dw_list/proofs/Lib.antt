@@ -7,6 +7,8 @@ pub mod StackLemmas
 pub mod StackViews
 pub mod Remaining
 pub mod StepLemmas
+pub mod Keeping
+pub mod Portioning
 pub mod FollowLemmas
 pub mod SeekLemmas
 pub mod TokenBits

@@ -1,11 +1,12 @@
 -- The steps of a stack, and the line that it gives.
-use Rattle.std.proofs.Common.{◌≡◌, ℕ, ◌+◌, ◌-◌, ◌*◌, ◌^◌, ◌≤◌, ◌<◌, ◌↔◌, zero, suc, Bool, true, false, Some, None, Option, List, [], ◌∷◌, length, drop, reverse, refl, sym, ap, ◌∙◌, subst, inl, inr, arith}
+use Rattle.std.proofs.Common.{◌≡◌, ℕ, ◌+◌, ◌-◌, ◌*◌, ◌^◌, ◌≤◌, ◌<◌, ◌↔◌, zero, suc, Bool, true, false, Some, None, Option, List, [], ◌∷◌, ◌++◌, length, drop, reverse, refl, sym, ap, ◌∙◌, subst, inl, inr, append_assoc, arith}
 use Rattle.std.specs.Prelude.{not, if◌then◌else◌}
 use Rattle.std.proofs.lemmas.Bool.{true≢false}
+use Rattle.std.proofs.lemmas.List.{append-nil}
 use Rattle.dw_board.specs.Geometry.{Geometry}
 use Rattle.dw_board.specs.Placement.{Placement}
 use Rattle.dw_moves.specs.Moves.{Member, Move, Legal, play}
-use Rattle.dw_moves.specs.Order.{Precedes, IsListOf}
+use Rattle.dw_moves.specs.Order.{Precedes, IsAscending, IsListOf}
 use Rattle.dw_moves.specs.Laws.{MovesHaveKeys}
 use Rattle.dw_list.specs.Lines.{Line, Before}
 use Rattle.dw_list.specs.Going.{GoesOn, left_after, BeginsAmong, Keeps}
@@ -15,11 +16,11 @@ use Rattle.dw_list.specs.declared.stack.Trial.{Trial}
 use Rattle.dw_list.specs.Tasks.{IsTrial, IsListed}
 use Rattle.dw_list.specs.declared.walk.Step.{Step}
 use Rattle.dw_list.specs.declared.walk.Step.TheVariants.{Given, On}
-use Rattle.dw_list.specs.Walking.{HasStepped, SameToCome, GivesFirst, GivesNone}
+use Rattle.dw_list.specs.Walking.{HasStepped, Gives, SameToCome, GivesFirst, GivesNone}
 use Rattle.dw_list.proofs.StackLemmas.{leads_count}
 use Rattle.dw_list.proofs.Gathering.{left_within}
 use Rattle.dw_list.proofs.Ways.{goes_from, next_legal, next_keeps}
-use Rattle.dw_list.specs.ListingLaws.{first_listed}
+use Rattle.dw_list.specs.ListingLaws.{first_listed, none_listed}
 use Rattle.dw_list.specs.LineOrderLaws.{before_asym}
 use Rattle.dw_list.proofs.StackViews.{standing}
 use Rattle.dw_list.proofs.Remaining.{remains_as, remains_or, remains_here, leads_line, remains_later}
@@ -201,19 +202,29 @@ same_listed g a b h lines all =
       );
     }
 
+same_back : (g : Geometry) (a b : Standing) → SameLines g a b → SameLines g b a
+same_back g a b h = record {
+  position = sym h.position;
+  moves = sym h.moves;
+  same = λ l here.
+      let there = line_at g b a (sym h.position) (sym h.moves) l here in
+      ((λ k. (h.same l there).1 k), (λ k. (h.same l there).0 k));
+}
+
 pub same_to_come : (g : Geometry) (a b : Standing) → SameLines g a b → SameToCome g a b
-same_to_come g a b h = record { position = h.position; moves = h.moves; same = same_listed g a b h }
+same_to_come g a b h = record {
+  position = h.position;
+  moves = h.moves;
+  first = λ lines all. (lines, refl);
+  rest = λ rest. ((λ all. same_listed g a b h rest all), (λ all. same_listed g b a (same_back g a b h) rest all));
+}
 
 pub gives_none : (g : Geometry) (a b c : Standing) → SameLines g a b → b.levels ≡ [] → c ≡ b → GivesNone g a c
 gives_none g a b c h none is = record {
   same = subst (SameToCome g a) (sym is) (same_to_come g a b h);
-  none = λ lines all. empty lines all;
-} where
-  empty : (lines : List (List Move)) → AreToCome g a lines → lines ≡ []
-  empty [] all = refl
-  empty (l ∷ lines) all =
-      let k = (all.exactly l).0 (inl refl) in
-      absurd (subst (λ z. IsStillAhead z b.line l) none ((h.same l k.0).0 k.1))
+  none = none_listed (Before g a.position) (λ l. Line g a.position a.moves l × IsStillAhead a.levels a.line l)
+      (λ l k. subst (λ z. IsStillAhead z b.line l) none ((h.same l k.0).0 k.1));
+}
 
 given_first : MovesHaveKeys → (g : Geometry) (b c : Standing) → IsGiven g b c → (lines : List (List Move)) → AreToCome g b lines → (rest : List (List Move)) × (lines ≡ reverse c.line ∷ rest) × AreToCome g c rest
 given_first keys g b c s lines all =
@@ -233,12 +244,68 @@ given_first keys g b c s lines all =
       },
     )
 
+-- and back: what is still to come after the line that was given came after it before
+given_back : MovesHaveKeys → (g : Geometry) (b c : Standing) → IsGiven g b c → (rest : List (List Move)) → AreToCome g c rest → AreToCome g b (reverse c.line ∷ rest)
+given_back keys g b c s rest all = record {
+  ascending = (
+    (λ l m. let k = (all.exactly l).0 m in (s.later l (line_at g c b (sym s.position) (sym s.moves) l k.0) k.1).1),
+    subst (λ z. IsAscending (Before g z) rest) s.position all.ascending,
+  );
+  exactly = λ l. (
+    (λ m. elim m [
+      | inl e ↦ subst (λ z. Line g b.position b.moves z × IsStillAhead b.levels b.line z) (sym e) (s.line, s.here)
+      | inr n ↦ let k = (all.exactly l).0 n in let here = line_at g c b (sym s.position) (sym s.moves) l k.0 in (here, (s.later l here k.1).0)
+    ]),
+    (λ h. elim (s.either l h.0 h.1) [
+      | inl e ↦ inl e
+      | inr k ↦ inr ((all.exactly l).1 (line_at g b c s.position s.moves l h.0, k))
+    ]),
+  );
+}
+
 pub gives_first : MovesHaveKeys → (g : Geometry) (a b c : Standing) → SameLines g a b → IsGiven g b c → GivesFirst g a c
 gives_first keys g a b c h s = record {
   position = s.position ∙ h.position;
   moves = s.moves ∙ h.moves;
-  first = λ lines all. given_first keys g b c s lines (same_listed g a b h lines all);
+  first = λ lines all. let parts = given_first keys g b c s lines (same_listed g a b h lines all) in (parts.0, parts.1);
+  rest = λ rest. (
+    (λ all.
+        let parts = given_first keys g b c s (reverse c.line ∷ rest) (same_listed g a b h (reverse c.line ∷ rest) all) in
+        subst (AreToCome g c) (tails (reverse c.line) rest parts.0 parts.1) parts.2),
+    (λ all. same_listed g b a (same_back g a b h) (reverse c.line ∷ rest) (given_back keys g b c s rest all)),
+  );
+} where
+  tails : (l : List Move) (xs ys : List (List Move)) → l ∷ xs ≡ l ∷ ys → ys ≡ xs
+  tails l xs ys e = cc
+
+-- WHAT ONE WALK GAVE, AND THEN ANOTHER
+
+pub gives_nothing : (g : Geometry) (s : Standing) → SameToCome g s s
+gives_nothing g s = same_to_come g s s (same_none g s)
+
+pub gives_then : (g : Geometry) (a b c : Standing) (xs ys : List (List Move)) → Gives g a b xs → Gives g b c ys → Gives g a c (xs ++ ys)
+gives_then g a b c xs ys h k = record {
+  position = k.position ∙ h.position;
+  moves = k.moves ∙ h.moves;
+  first = λ lines all.
+      let left = h.first lines all in
+      let more = k.first left.0 ((h.rest left.0).0 (subst (AreToCome g a) left.1 all)) in
+      (more.0, left.1 ∙ ap (λ z. xs ++ z) more.1 ∙ sym (append_assoc xs ys more.0));
+  rest = λ rest. (
+    (λ all. (k.rest rest).0 ((h.rest (ys ++ rest)).0 (subst (AreToCome g a) (append_assoc xs ys rest) all))),
+    (λ all. subst (AreToCome g a) (sym (append_assoc xs ys rest)) ((h.rest (ys ++ rest)).1 ((k.rest rest).1 all))),
+  );
 }
+
+pub gives_same : (g : Geometry) (a b c : Standing) (xs : List (List Move)) → Gives g a b xs → SameToCome g b c → Gives g a c xs
+gives_same g a b c xs h k = subst (Gives g a c) (append-nil xs) (gives_then g a b c xs [] h k)
+
+-- after the end nothing is given
+pub none_stays : (g : Geometry) (a b : Standing) → AreToCome g a [] → SameToCome g a b → AreToCome g b []
+none_stays g a b none h = (h.rest []).0 none
+
+pub none_first : (g : Geometry) (a b : Standing) → AreToCome g a [] → GivesFirst g a b → ⊥
+none_first g a b none h = let first = h.first [] none in let e = first.1 in cc
 
 -- STEPS OF THE STACK ITSELF
 

@@ -1,5 +1,5 @@
 -- What a walk over a stack does.
-use Rattle.std.specs.Prelude.{◌≡◌, Bool, true, false, List, [], ◌∷◌, reverse}
+use Rattle.std.specs.Prelude.{◌≡◌, ℕ, ◌≤◌, ◌⊎◌, ◌↔◌, Bool, true, false, List, [], ◌∷◌, ◌++◌, length, drop, reverse, take}
 use Rattle.dw_board.specs.Geometry.{Geometry}
 use Rattle.dw_moves.specs.Moves.{Move}
 use Rattle.dw_list.specs.declared.walk.Step.{Step}
@@ -13,25 +13,44 @@ HasStepped g Over old new = (old.levels ≡ []) × (new ≡ old)
 HasStepped g Given old new = IsGiven g old new
 HasStepped g On old new = IsStep g old new
 
--- the lines still to come stay
-pub record SameToCome (g : Geometry) (old new : Standing) : Type 0 where
-  pub position : new.position ≡ old.position
-  pub moves : new.moves ≡ old.moves
-  pub same : (lines : List (List Move)) → AreToCome g old lines → AreToCome g new lines
-
--- the first of the lines still to come is given, and the others are still to come
-pub record GivesFirst (g : Geometry) (old new : Standing) : Type 0 where
+-- these lines were the first of those still to come, and the others still are
+pub record Gives (g : Geometry) (old new : Standing) (given : List (List Move)) : Type 0 where
   pub position : new.position ≡ old.position
   pub moves : new.moves ≡ old.moves
   pub first : (lines : List (List Move)) → AreToCome g old lines →
-      (rest : List (List Move)) × (lines ≡ reverse new.line ∷ rest) × AreToCome g new rest
+      (rest : List (List Move)) × (lines ≡ given ++ rest)
+  pub rest : (rest : List (List Move)) → AreToCome g old (given ++ rest) ↔ AreToCome g new rest
+
+-- the lines still to come stay
+abbrev pub SameToCome : Geometry → Standing → Standing → Type 0
+SameToCome g old new = Gives g old new []
+
+-- the line at which the stack stands was the first of those still to come, and the others still are
+abbrev pub GivesFirst : Geometry → Standing → Standing → Type 0
+GivesFirst g old new = Gives g old new (reverse new.line ∷ [])
 
 -- no line is still to come
 pub record GivesNone (g : Geometry) (old new : Standing) : Type 0 where
   pub same : SameToCome g old new
-  pub none : (lines : List (List Move)) → AreToCome g old lines → lines ≡ []
+  pub none : AreToCome g old []
 
 -- a line is given if there is one
 abbrev pub GivesNext : Geometry → Bool → Standing → Standing → Type 0
 GivesNext g true old new = GivesFirst g old new
 GivesNext g false old new = GivesNone g old new
+
+-- as far as a list of moves goes, and for so many moves at most, it is as the other
+abbrev pub BeginsAs : ℕ → List Move → List Move → Type 0
+BeginsAs kept line given = (j : ℕ) → j ≤ kept → j ≤ length line → take j line ≡ take j given
+
+-- The moves of the line at which a stack stands, the last one first: a step adds a move, takes one off, or leaves them.
+abbrev pub IsNear : Step → List Move → List Move → Type 0
+IsNear Over old new = new ≡ old
+IsNear Given old new = new ≡ old
+IsNear On old new = (new ≡ old) ⊎ ((new ≡ drop 1 old) ⊎ ((m : Move) × (new ≡ m ∷ old)))
+
+-- of the line from which the stack comes, at most as many moves are kept, and those are still its first ones
+pub record KeepsFirst (old new : Standing) (kept kept' : ℕ) : Type 0 where
+  pub few : kept' ≤ kept
+  pub first : (given : List Move) →
+      BeginsAs kept (reverse old.line) given → BeginsAs kept' (reverse new.line) given

@@ -8,6 +8,7 @@ mod frame;
 mod going;
 pub mod laws;
 pub mod lister;
+pub mod portions;
 mod stack;
 pub mod tokens;
 mod walk;

@@ -101,7 +101,8 @@ impl<B: Board> Stack<B> {
 
     /// The line at which the stack stands.
     pub(crate) fn line(&self) -> &[Move<B>]
-        ensures { result.now ≡ reverse self.now.line }
+        ensures line { result.now ≡ reverse self.now.line }
+        ensures few { length result.now ≤ 39 }
     {
         self.line.as_slice()
     }

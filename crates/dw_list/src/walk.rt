@@ -1,7 +1,7 @@
 //! The walk over a stack, from line to line.
-ghost use Rattle.std.specs.Prelude.{◌≡◌, IfOk, OnErr, if◌then◌else◌};
+ghost use Rattle.std.specs.Prelude.{◌≡◌, ◌≤◌, length, IfOk, OnOk, OnErr, if◌then◌else◌};
 ghost use Rattle.dw_list.specs.Asking.{Asked};
-ghost use Rattle.dw_list.specs.Walking.{HasStepped, SameToCome, GivesNext};
+ghost use Rattle.dw_list.specs.Walking.{HasStepped, SameToCome, GivesNext, IsNear, KeepsFirst};
 
 use crate::going::keeps;
 use crate::stack::{Stack, Task};
@@ -26,19 +26,24 @@ pub(crate) enum Step {
 }
 
 /// Walks to the next line, and answers whether there is one. After a stop the lines still to come are what they were.
+/// The walk lowers `kept`, the number of first moves that it never leaves.
 pub(crate) fn walk<B: Board, M: Memo<B>, G: Guide<B>>(
     alloc: Global,
     solver: &mut Solver<B, M, G>,
     stack: &mut Stack<B>,
+    kept: &mut usize,
 ) -> Result<bool, Stop>
     ensures next { IfOk result (λ more. GivesNext B.geometry more stack.old stack.new) }
     ensures stopped { OnErr result (SameToCome B.geometry stack.old stack.new) }
+    ensures kept { KeepsFirst stack.old stack.new kept.old kept.new }
+    ensures fits { OnOk result (kept.new ≤ length stack.new.line) }
     ensures asked { Asked B.geometry M.content M.dropped stack.old.moves solver.old solver.new result }
 {
     searches_add_up();
     moves_have_keys();
     let _ = solver.limit();
     'steps: loop {
+        *kept = (*kept).min(stack.line().len());
         match take_step(alloc, solver, stack)? {
             Step::Over => return Ok(false),
             Step::Given => return Ok(true),
@@ -54,6 +59,7 @@ fn take_step<B: Board, M: Memo<B>, G: Guide<B>>(
     stack: &mut Stack<B>,
 ) -> Result<Step, Stop>
     ensures stepped { IfOk result (λ met. HasStepped B.geometry met stack.old stack.new) }
+    ensures line { IfOk result (λ met. IsNear met stack.old.line stack.new.line) }
     ensures stopped { OnErr result (stack.new ≡ stack.old) }
     ensures asked { Asked B.geometry M.content M.dropped stack.old.moves solver.old solver.new result }
 {

@@ -9,6 +9,7 @@ use dw_list::all_lines::all_lines;
 use dw_list::fault::AfterFault;
 use dw_list::laws;
 use dw_list::lister::Lister;
+use dw_list::portions::in_portions;
 use dw_memo::lru_memo::LruMemo;
 use dw_memo::memo::Memo;
 use dw_memo::no_memo::NoMemo;
@@ -117,7 +118,40 @@ fn check_rows<B: Board, M: Memo<B>>(
     }
 }
 
-// The lister gives the lines that stand in the list of all.
+// How many first moves two lines have in common.
+fn common<B: Board>(line: &[Move<B>], other: &[Move<B>]) -> usize {
+    let mut count = 0_usize;
+    for (step, there) in line.iter().zip(other) {
+        if *step != *there {
+            return count;
+        }
+        count = count.saturating_add(1);
+    }
+    count
+}
+
+// The lister gives these lines and no other, and says what each has in common with the one before it.
+fn check_rest<B: Board, M: Memo<B>>(
+    rt: &impl Abort,
+    alloc: Global,
+    lister: &mut Lister<'_, B, M, ByTrial>,
+    rest: &[Vec<Move<B>>],
+) {
+    for (index, line) in rest.iter().enumerate() {
+        let given = lister.next(alloc).ok().flatten();
+        let given = given.expect(rt, "a line");
+        assert!(rt; *given == *line.as_slice());
+        let shared = if index > 0 {
+            common(rest[index - 1].as_slice(), line.as_slice())
+        } else {
+            0
+        };
+        assert!(rt; lister.shared() == shared);
+    }
+    assert!(rt; matches!(lister.next(alloc), Ok(None)));
+}
+
+// The lister gives the lines that stand in the list of all, and after each of them the next one.
 fn check_small<B: Board, M: Memo<B>>(
     rt: &impl Abort,
     alloc: Global,
@@ -130,34 +164,71 @@ fn check_small<B: Board, M: Memo<B>>(
             let whole = all_lines(alloc, solver, &position, moves);
             let whole = whole.ok().expect(rt, "all lines");
             let mut lister = Lister::start(solver, &position, moves);
-            for line in whole.as_slice() {
-                let given = lister.next(alloc).ok().flatten();
-                let given = given.expect(rt, "a line");
-                assert!(rt; *given == *line.as_slice(), "{text} within {moves}");
+            check_rest(rt, alloc, &mut lister, whole.as_slice());
+            for (index, line) in whole.iter().enumerate() {
+                assert!(rt; lister.after(alloc, line.as_slice()).is_ok(), "{text}");
+                let next = lister.next(alloc).ok().expect(rt, "an answer");
+                match (next, whole.as_slice().get(index + 1)) {
+                    (Some(next), Some(wanted)) => assert!(rt; *next == *wanted.as_slice()),
+                    (next, wanted) => assert!(rt; next.is_none() && wanted.is_none()),
+                }
             }
-            assert!(rt; matches!(lister.next(alloc), Ok(None)), "{text}");
         }
     }
 }
 
+// The lists of worked rows and of small positions, with no cache.
+fn check_bare<B: Board>(rt: &impl Abort, alloc: Global, rows: &[Row], positions: &[(&str, u8)]) {
+    let mut solver = Solver::<B, NoMemo, ByTrial>::new(NoMemo::new(), ByTrial, 1_000_000_000);
+    check_rows(rt, alloc, &mut solver, rows);
+    check_small(rt, alloc, &mut solver, positions);
+}
+
 #[test]
 fn lines_come_in_order(rt: HostRuntime) {
-    let alloc = rt.alloc();
-    let mut solver = Solver::<Ten, NoMemo, ByTrial>::new(NoMemo::new(), ByTrial, 1_000_000_000);
-    check_rows(&rt, alloc, &mut solver, &TEN);
-    check_small(&rt, alloc, &mut solver, &TEN_WINS[..136]);
+    check_bare::<Ten>(&rt, rt.alloc(), &TEN, &TEN_WINS[..100]);
     laws::none_begins();
     laws::lines_exist();
     laws::line_or_place();
 }
 
 #[test]
+fn lines_come_in_order_at_more_positions(rt: HostRuntime) {
+    check_bare::<Ten>(&rt, rt.alloc(), &[], &TEN_WINS[100..180]);
+}
+
+#[test]
+fn lines_come_in_order_at_all_positions(rt: HostRuntime) {
+    check_bare::<Ten>(&rt, rt.alloc(), &[], &TEN_WINS[180..]);
+}
+
+#[test]
 fn lines_come_in_order_on_eight_rows(rt: HostRuntime) {
-    let alloc = rt.alloc();
-    let memo = LruMemo::new(alloc, 1_000).expect(&rt, "memory");
-    let mut solver = Solver::<Eight, LruMemo<Eight>, ByTrial>::new(memo, ByTrial, 1_000_000_000);
-    check_rows(&rt, alloc, &mut solver, &EIGHT);
-    check_small(&rt, alloc, &mut solver, &EIGHT_WINS);
+    check_bare::<Eight>(&rt, rt.alloc(), &EIGHT, &EIGHT_WINS);
+}
+
+// The same, with a cache of the positions used latest.
+fn check_latest<B: Board>(rt: &impl Abort, alloc: Global, rows: &[Row], positions: &[(&str, u8)]) {
+    let memo = LruMemo::new(alloc, 1_000).expect(rt, "memory");
+    let mut solver = Solver::<B, LruMemo<B>, ByTrial>::new(memo, ByTrial, 1_000_000_000);
+    check_rows(rt, alloc, &mut solver, rows);
+    check_small(rt, alloc, &mut solver, positions);
+}
+
+#[test]
+fn lines_come_in_order_from_the_latest(rt: HostRuntime) {
+    check_latest::<Ten>(&rt, rt.alloc(), &TEN, &TEN_WINS[..100]);
+    check_latest::<Eight>(&rt, rt.alloc(), &EIGHT, &EIGHT_WINS);
+}
+
+#[test]
+fn lines_come_in_order_from_the_latest_at_more_positions(rt: HostRuntime) {
+    check_latest::<Ten>(&rt, rt.alloc(), &[], &TEN_WINS[100..180]);
+}
+
+#[test]
+fn lines_come_in_order_from_the_latest_at_all_positions(rt: HostRuntime) {
+    check_latest::<Ten>(&rt, rt.alloc(), &[], &TEN_WINS[180..]);
 }
 
 #[test]
@@ -166,7 +237,49 @@ fn lines_come_in_order_from_slots(rt: HostRuntime) {
     let memo = SlotMemo::new(alloc, 1_000).expect(&rt, "memory");
     let mut solver = Solver::<Ten, SlotMemo<Ten>, ByTrial>::new(memo, ByTrial, 1_000_000_000);
     check_rows(&rt, alloc, &mut solver, &TEN);
-    check_small(&rt, alloc, &mut solver, &TEN_WINS[..136]);
+    check_small(&rt, alloc, &mut solver, &TEN_WINS);
+    let memo = SlotMemo::new(alloc, 1_000).expect(&rt, "memory");
+    let mut solver = Solver::<Eight, SlotMemo<Eight>, ByTrial>::new(memo, ByTrial, 1_000_000_000);
+    check_rows(&rt, alloc, &mut solver, &EIGHT);
+    check_small(&rt, alloc, &mut solver, &EIGHT_WINS);
+}
+
+// Under limits of 1 the search is stopped; under great ones the lines come in order, and then the end.
+#[test]
+fn lines_come_in_portions(rt: HostRuntime) {
+    let alloc = rt.alloc();
+    let (text, moves, lines) = TEN[5];
+    let position = position_of::<Ten>(&rt, text);
+    assert!(rt; 1 <= moves && moves <= 20);
+    let mut solver = Solver::<Ten, NoMemo, ByTrial>::new(NoMemo::new(), ByTrial, 1);
+    let mut lister = Lister::start(&mut solver, &position, moves);
+    let most = 1_000_000_000_000;
+    let limits = [1, 1, most, most, most, most, most];
+    let portions = in_portions(alloc, &mut lister, &limits);
+    let (stops, ends) = (portions.stops, portions.ends);
+    assert!(rt; (stops == 1 || stops == 2) && (ends == 1 || ends == 2) && stops + ends == 3);
+    assert!(rt; portions.lines.len() == lines.len());
+    for (line, wanted) in portions.lines.iter().zip(lines) {
+        let wanted = line_of(&rt, alloc, &position, wanted);
+        assert!(rt; *line.as_slice() == *wanted.as_slice());
+    }
+}
+
+// To go on after the last but one of 23,026 lines takes few expansions, and to list all of them takes over 10,000: the
+// lines before it are not listed.
+#[test]
+fn lines_before_are_left_out(rt: HostRuntime) {
+    let alloc = rt.alloc();
+    let position = position_of::<Ten>(&rt, "W:WK46,K47,K48,K49:B1");
+    let text = "49-44 1-7 48-43 7-12 47-36 12-18 36x9";
+    let line = line_of(&rt, alloc, &position, text);
+    let mut solver = Solver::<Ten, NoMemo, ByTrial>::new(NoMemo::new(), ByTrial, 50);
+    let mut lister = Lister::start(&mut solver, &position, 4);
+    assert!(rt; lister.after(alloc, line.as_slice()).is_ok());
+    let limit = lister.expanded().max(1_000_000);
+    lister.set_limit(limit);
+    assert!(rt; matches!(lister.next(alloc), Ok(Some(_))));
+    assert!(rt; matches!(lister.next(alloc), Ok(None)));
 }
 
 /// A move that need not be legal: where it begins and ends, and what it takes.

@@ -1,4 +1,5 @@
-use Rattle.std.proofs.Common.{arith}
+use Rattle.std.proofs.Common.{ap, inr, arith}
+use Rattle.dw_list.specs.Standing.{Standing}
 use Rattle.dw_list.specs.AskingLaws.{asked_wider, asked_ok, asked_stop}
 use Rattle.dw_list.proofs.StepLemmas.{trial_few, walk_met, walk_listed, walk_given, walk_back, walk_passed, walk_entered}
 use Rattle.dw_list.proofs.walk.take_step.Goals as goal
@@ -27,6 +28,9 @@ returns-in_ok-is_end-in-Unlisted-clause-stepped g c =
 pub returns-then-kept-clause-stepped : goal.returns-then-kept-clause-stepped
 returns-then-kept-clause-stepped g c =
     walk_entered g.B.Board.geometry c.args.stack.now c.in-Try.ensures.levels c.in-Try.ensures.fits c.enter.new.self c.in-Try.trial c.in-Try.ensures.task c.enter.ensures
+
+pub returns-then-kept-clause-line : goal.returns-then-kept-clause-line
+returns-then-kept-clause-line g c = inr (inr (c.in-Try.trial.step, ap (λ (s : Standing). s.line) c.enter.ensures))
 
 pub returns-then-kept-clause-asked : goal.returns-then-kept-clause-asked
 returns-then-kept-clause-asked g c =

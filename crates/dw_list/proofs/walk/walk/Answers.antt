@@ -2,6 +2,7 @@ use Rattle.std.proofs.Common.{subst}
 use Rattle.dw_list.specs.Walking.{HasStepped}
 use Rattle.dw_list.specs.AskingLaws.{answered, asked_then, asked_ok, asked_stop, asked_for}
 use Rattle.dw_list.proofs.StepLemmas.{same_then, gives_none, gives_first}
+use Rattle.dw_list.proofs.Keeping.{keeps_step}
 use Rattle.dw_list.proofs.walk.walk.Goals as goal
 
 pub returns-in_err-take_step-clause-asked : goal.returns-in_err-take_step-clause-asked
@@ -55,6 +56,7 @@ steps-preserved g c =
     let met = subst (λ z. HasStepped geo z c.steps.stack c.take_step.new.stack) c.in-On.is c.in_ok-take_step.ensures.stepped in
     record {
       same = same_then geo c.args.stack.now c.steps.stack c.take_step.new.stack c.steps.invariant.same met;
+      keeps = keeps_step c.args.stack.now c.steps.stack c.take_step.new.stack c.args.kept.now c.steps.kept c.min.result c.line.result.now c.steps.invariant.keeps c.line.ensures.line c.min.ensures c.in_ok-take_step.field-0 c.in_ok-take_step.ensures.line;
       asked = asked_then geo content lost c.searches_add_up.ensures n _ _ _ answered c.steps.invariant.asked
           (asked_ok geo content lost n _ _ c.in_ok-take_step.field-0 0
           (asked_for geo content lost _ n _ _ _ c.steps.invariant.same.moves c.in_ok-take_step.ensures.asked));

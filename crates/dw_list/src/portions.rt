@@ -1,0 +1,84 @@
+//! Lines of a lister taken in portions, under one limit after another.
+ghost use Rattle.std.specs.Prelude.{◌≡◌, ◌+◌, ◌^◌, ◌<◌, ◌≤◌, [], length, map};
+ghost use Rattle.dw_list.specs.Listing.{lender, solver_of, stack_of};
+ghost use Rattle.dw_list.specs.Standing.{Standing, AreToCome};
+ghost use Rattle.dw_list.specs.Walking.{Gives};
+
+use crate::lister::Lister;
+use arrayvec::ArrayVec;
+use dw_board::board::Board;
+use dw_memo::memo::Memo;
+use dw_moves::moves::Move;
+use dw_solve::guide::Guide;
+use std::alloc::Global;
+
+/// What a lister gave under a list of limits.
+#[derive(Drop)]
+pub struct Portions<B: Board> {
+    /// The lines, in order.
+    pub lines: Vec<ArrayVec<Move<B>, 39>>,
+    /// How often the search was stopped, or there was no memory for one more line.
+    pub stops: usize,
+    /// How often no line was still to come.
+    pub ends: usize,
+}
+
+/// Asks a lister for the next line once under each of these limits. A limit below 1 or below what was expanded is
+/// raised to that. Where there is no memory for one more line, the lister is not asked, and that counts as a stop.
+pub fn in_portions<B: Board, M: Memo<B>, G: Guide<B>>(
+    alloc: Global,
+    lister: &mut Lister<'_, B, M, G>,
+    limits: &[u64],
+) -> Portions<B>
+    ensures lender { lender lister.new ≡ lender lister.old }
+    ensures lines { Gives B.geometry (stack_of lister.old) (stack_of lister.new) (map (λ line. line.items) result.lines.items) }
+    ensures turns { length result.lines.items + result.stops + result.ends ≡ length limits.now }
+    ensures end { 0 < result.ends → AreToCome B.geometry (stack_of lister.new) [] }
+    ensures count { (solver_of lister.old).expanded ≤ (solver_of lister.new).expanded }
+{
+    let mut portions = Portions {
+        lines: Vec::new(alloc),
+        stops: 0,
+        ends: 0,
+    };
+    'limits: for limit in limits {
+        take_turn(alloc, lister, *limit, &mut portions);
+    }
+    portions
+}
+
+/// Asks for the next line once.
+fn take_turn<B: Board, M: Memo<B>, G: Guide<B>>(
+    alloc: Global,
+    lister: &mut Lister<'_, B, M, G>,
+    limit: u64,
+    portions: &mut Portions<B>,
+)
+    requires { length portions.old.lines.items + portions.old.stops + portions.old.ends + 1 < 2 ^ 64 }
+    ensures lender { lender lister.new ≡ lender lister.old }
+    ensures lines { (start : Standing) → Gives B.geometry start (stack_of lister.old) (map (λ line. line.items) portions.old.lines.items) → Gives B.geometry start (stack_of lister.new) (map (λ line. line.items) portions.new.lines.items) }
+    ensures turns { length portions.new.lines.items + portions.new.stops + portions.new.ends ≡ length portions.old.lines.items + portions.old.stops + portions.old.ends + 1 }
+    ensures end { (0 < portions.old.ends → AreToCome B.geometry (stack_of lister.old) []) → 0 < portions.new.ends → AreToCome B.geometry (stack_of lister.new) [] }
+    ensures count { (solver_of lister.old).expanded ≤ (solver_of lister.new).expanded }
+{
+    if portions.lines.reserve(1).is_err() {
+        portions.stops += 1;
+        return;
+    }
+    lister.set_limit(limit.max(1).max(lister.expanded()));
+    match lister.advance(alloc) {
+        Err(_) => portions.stops += 1,
+        Ok(false) => portions.ends += 1,
+        Ok(true) => portions.lines.push_reserved(kept(lister.line())),
+    }
+}
+
+/// A line in an array of its own.
+fn kept<B: Board>(line: &[Move<B>]) -> ArrayVec<Move<B>, 39>
+    requires { length line.now ≤ 39 }
+    ensures { result.items ≡ line.now }
+{
+    let mut kept = ArrayVec::new();
+    let _ = kept.try_extend_from_slice(line);
+    kept
+}
