@@ -167,6 +167,7 @@ comes_later law g n x ks d keys few h = finds_as (Before g x) (LeadsToChoices g 
   to : (l cs : List Move) → LeadsToChoices g n x l cs → ComesToChoices g n x l cs
   to [] cs k = absurd (leads_never_empty g n x cs k)
   to (m ∷ l) cs k = k
+
   back : (l cs : List Move) → ComesToChoices g n x l cs → LeadsToChoices g n x l cs
   back [] cs k = absurd (few (subst (λ z. 2 ≤ length z) (keys_only law g x n cs ks k.0 keys) k.1))
   back (m ∷ l) cs k = k
@@ -193,7 +194,7 @@ key_found : MovesHaveKeys → (g : Geometry) (n : ℕ) (p : Placement) (m : Move
 key_found law g n p m rs key all comes =
     let q = play g p m in
     let found = searched law g q (RepliesToChoices g n q) [] rs (replies_begin g n q rs all) all.ascending (λ r h. absurd h)
-        (λ r h. let c = comes (play g q r) in (c.0, replies_as g n q r c.0 ((all.exactly r).0 h) c.1)) in
+    (λ r h. let c = comes (play g q r) in (c.0, replies_as g n q r c.0 ((all.exactly r).0 h) c.1)) in
     (found.0, leads_as g n p m found.0 key found.1)
 
 -- there is a least beginning, or there is none

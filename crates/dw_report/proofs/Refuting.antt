@@ -42,21 +42,21 @@ found_same step g q n xs i x found low at not_so h =
     let parts = at_item step xs i x low at in
     let one : i + 1 ≡ suc i = omega arith in
     subst (λ z. FoundTo step g q n xs z found) (sym one) (subst (λ z. FoundAmong g q n z found) (sym parts.1) (still found h)) where
-  still : (o : Option Move) → FoundTo step g q n xs i o → FoundAmong g q n (map step (take i xs) ++ step x ∷ []) o
-  still None none = λ r m k. elim (mem_cases r (map step (take i xs)) (step x ∷ []) m) [
-    | inl early ↦ none r early k
-    | inr (inl e) ↦ not_so (subst (Refutes g q n) e k)
-    | inr (inr over) ↦ over
-  ]
-  still (Some r) one = (
-    one.0,
-    mem_left r (map step (take i xs)) (step x ∷ []) one.1,
-    λ s m k. elim (mem_cases s (map step (take i xs)) (step x ∷ []) m) [
-      | inl early ↦ one.2 s early k
-      | inr (inl e) ↦ absurd (not_so (subst (Refutes g q n) e k))
-      | inr (inr over) ↦ absurd over
-    ],
-  )
+      still : (o : Option Move) → FoundTo step g q n xs i o → FoundAmong g q n (map step (take i xs) ++ step x ∷ []) o
+      still None none = λ r m k. elim (mem_cases r (map step (take i xs)) (step x ∷ []) m) [
+        | inl early ↦ none r early k
+        | inr (inl e) ↦ not_so (subst (Refutes g q n) e k)
+        | inr (inr over) ↦ over
+      ]
+      still (Some r) one = (
+        one.0,
+        mem_left r (map step (take i xs)) (step x ∷ []) one.1,
+        λ s m k. elim (mem_cases s (map step (take i xs)) (step x ∷ []) m) [
+          | inl early ↦ one.2 s early k
+          | inr (inl e) ↦ absurd (not_so (subst (Refutes g q n) e k))
+          | inr (inr over) ↦ absurd over
+        ],
+      )
 
 -- a second one: then none is the only one
 pub found_second : MovesHaveKeys → {V : Type 0} (step : V → Move) (g : Geometry) (q : Placement) (n : ℕ) (xs : List V) (i : ℕ) (x : V) (r m : Move) → IsAscending (Precedes g q) (map step xs) → i < length xs → x ≡ get_or xs i x → m ≡ step x → Refutes g q n m → FoundTo step g q n xs i (Some r) → FindsRefutation g q n None

@@ -168,12 +168,15 @@ verdict_only law g board p n (sound m) (sound o) h k = let e : m ∷ [] ≡ o �
 refutation_among : (g : Geometry) (q : Placement) (n : ℕ) (rs : List Move) → ((r : Move) → Member r rs → Refutes g q n r) → ((r : Move) → Refutes g q n r → Member r rs) → IsAscending (Precedes g q) rs → MovesHaveKeys → (o : Option Move) × FindsRefutation g q n o
 refutation_among g q n [] to back order law = (None, λ r h. back r h.refutes)
 refutation_among g q n (r ∷ []) to back order law = (Some r, record { refutes = to r (inl refl); only = λ other h. elim (back other h) [ inl e ↦ e | inr none ↦ absurd none ] })
-refutation_among g q n (r ∷ s ∷ rs) to back order law = (None, λ x h.
-    let e : r ≡ x = h.only r (to r (inl refl)) in
-    let f : s ≡ x = h.only s (to s (inr (inl refl))) in
-    let less : Precedes g q r s = order.0 s (inl refl) in
-    let loop : Precedes g q r r = subst (Precedes g q r) (f ∙ sym e) less in
-    precedes_asym law g q r r loop loop)
+refutation_among g q n (r ∷ s ∷ rs) to back order law = (
+  None,
+  λ x h.
+      let e : r ≡ x = h.only r (to r (inl refl)) in
+      let f : s ≡ x = h.only s (to s (inr (inl refl))) in
+      let less : Precedes g q r s = order.0 s (inl refl) in
+      let loop : Precedes g q r r = subst (Precedes g q r) (f ∙ sym e) less in
+      precedes_asym law g q r r loop loop,
+)
 
 win_or_not : {A : Type 0} → A ⊎ (A → ⊥) → (A → ⊥) ⊎ ((A → ⊥) → ⊥)
 win_or_not (inl w) = inr (λ none. none w)
@@ -197,26 +200,41 @@ tries_of : (g : Geometry) (p : Placement) (n : ℕ) → ((m : Move) → (o : Opt
 tries_of g p n each [] a = ([], record { ascending = tt; exactly = λ t. ((λ m. absurd m), (λ h. absurd h.0)) })
 tries_of g p n each (m ∷ ms) a = with_first (each m) (tries_of g p n each ms a.1) where
   with_first : (o : Option Move) × FindsRefutation g (play g p m) (n - 1) o → (ts : List (Move × Move)) × IsListOf (λ (s t : Move × Move). Precedes g p s.0 t.0) (λ (t : Move × Move). Member t.0 ms × IsRefutation g (play g p t.0) (n - 1) t.1) ts → (ts : List (Move × Move)) × IsListOf (λ (s t : Move × Move). Precedes g p s.0 t.0) (λ (t : Move × Move). Member t.0 (m ∷ ms) × IsRefutation g (play g p t.0) (n - 1) t.1) ts
-  with_first (None, none) (ts, all) = (ts, record { ascending = all.ascending; exactly = λ t. (
-    (λ k. let h = (all.exactly t).0 k in (inr h.0, h.1)),
-    (λ h. elim h.0 [ inl e ↦ absurd (none t.1 (subst (λ z. IsRefutation g (play g p z) (n - 1) t.1) e h.1)) | inr k ↦ (all.exactly t).1 (k, h.1) ]),
-  ) })
-  with_first (Some r, found) (ts, all) = ((m, r) ∷ ts, record { ascending = ((λ t k. a.0 t.0 ((all.exactly t).0 k).0), all.ascending); exactly = λ t. (
-    (λ k. elim k [ inl e ↦ (inl (ap (λ (z : Move × Move). z.0) e), subst (λ (z : Move × Move). IsRefutation g (play g p z.0) (n - 1) z.1) (sym e) found) | inr l ↦ let h = (all.exactly t).0 l in (inr h.0, h.1) ]),
-    (λ h. elim h.0 [
-      | inl e ↦
-          let here = subst (λ z. IsRefutation g (play g p z) (n - 1) t.1) e h.1 in
-          let same : t.1 ≡ r = found.only t.1 here.refutes in
-          inl (λ i. (e i, same i))
-      | inr k ↦ inr ((all.exactly t).1 (k, h.1))
-    ]),
-  ) })
+  with_first (None, none) (ts, all) = (
+    ts,
+    record {
+      ascending = all.ascending;
+      exactly = λ t. (
+        (λ k. let h = (all.exactly t).0 k in (inr h.0, h.1)),
+        (λ h. elim h.0 [ inl e ↦ absurd (none t.1 (subst (λ z. IsRefutation g (play g p z) (n - 1) t.1) e h.1)) | inr k ↦ (all.exactly t).1 (k, h.1) ]),
+      );
+    },
+  )
+  with_first (Some r, found) (ts, all) = (
+    (m, r) ∷ ts,
+    record {
+      ascending = ((λ t k. a.0 t.0 ((all.exactly t).0 k).0), all.ascending);
+      exactly = λ t. (
+        (λ k. elim k [ inl e ↦ (inl (ap (λ (z : Move × Move). z.0) e), subst (λ (z : Move × Move). IsRefutation g (play g p z.0) (n - 1) z.1) (sym e) found) | inr l ↦ let h = (all.exactly t).0 l in (inr h.0, h.1) ]),
+        (λ h. elim h.0 [
+          | inl e ↦
+              let here = subst (λ z. IsRefutation g (play g p z) (n - 1) t.1) e h.1 in
+              let same : t.1 ≡ r = found.only t.1 here.refutes in
+              inl (λ i. (e i, same i))
+          | inr k ↦ inr ((all.exactly t).1 (k, h.1))
+        ]),
+      );
+    },
+  )
 
 pub tries_listed : (g : Geometry) (p : Placement) (n : ℕ) (ms : List Move) (ts : List (Move × Move)) → IsListOf (Precedes g p) (Legal g p) ms → IsListOf (λ (s t : Move × Move). Precedes g p s.0 t.0) (λ (t : Move × Move). Member t.0 ms × IsRefutation g (play g p t.0) (n - 1) t.1) ts → Tries g p n ts
-tries_listed g p n ms ts legal all = record { ascending = all.ascending; exactly = λ t. (
+tries_listed g p n ms ts legal all = record {
+  ascending = all.ascending;
+  exactly = λ t. (
     (λ k. let h = (all.exactly t).0 k in ((legal.exactly t.0).0 h.0, refuted_fails g p n t.0 t.1 h.1.refutes, h.1)),
     (λ h. (all.exactly t).1 ((legal.exactly t.0).1 h.0, h.2)),
-  ) }
+  );
+}
 
 pub tries_some : WinsAreDecided → MovesInOrder → MovesHaveKeys → (g : Geometry) → IsBoard g → (p : Placement) (n : ℕ) → (ts : List (Move × Move)) × Tries g p n ts
 tries_some decided order law g board p n =
