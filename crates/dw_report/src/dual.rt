@@ -74,9 +74,6 @@ fn choice_after_reply<B: Board, M: Memo<B>, G: Guide<B>>(
     'replies: for item in list.as_slice() {
         let after = play(position, &item.step);
         let found = choice_from(alloc, solver, &after, left)?;
-        if found.is_some() && list.len() > 1 {
-            continue;
-        }
         if let Some(dual) = found {
             return Ok(Some(with_first(item.step, dual)));
         }
