@@ -1,14 +1,14 @@
 -- The first choice, looked for move by move.
-use Rattle.std.proofs.Common.{◌≡◌, ℕ, ◌+◌, ◌-◌, ◌*◌, ◌<◌, ◌≤◌, zero, suc, List, [], ◌∷◌, ◌++◌, length, map, take, drop, get_or, refl, sym, ap, ◌∙◌, subst, inl, inr, arith, Option, Some, None, Result, Ok, Err, IfOk}
+use Rattle.std.proofs.Common.{◌≡◌, ℕ, ◌+◌, ◌-◌, ◌<◌, ◌≤◌, zero, suc, List, [], ◌∷◌, length, map, take, drop, get_or, refl, sym, ap, subst, arith, Option, Result, Ok, Err, IfOk}
 use Rattle.std.proofs.lemmas.List.{take_all}
 use Rattle.dw_board.specs.Geometry.{Geometry}
 use Rattle.dw_board.specs.Placement.{Placement}
-use Rattle.dw_moves.specs.Moves.{Member, Move, Legal, play}
-use Rattle.dw_moves.specs.Order.{Precedes, IsAscending, IsListOf}
+use Rattle.dw_moves.specs.Moves.{Move, Legal, play}
+use Rattle.dw_moves.specs.Order.{Precedes, IsAscending}
 use Rattle.dw_moves.specs.Laws.{MovesHaveKeys}
 use Rattle.dw_list.specs.Lines.{Before}
 use Rattle.dw_list.specs.ListingLaws.{at_item}
-use Rattle.dw_report.specs.Verdict.{IsWinning, Keys}
+use Rattle.dw_report.specs.Verdict.{IsWinning}
 use Rattle.dw_report.specs.Judging.{LeadsToChoices, ComesToChoices, RepliesToChoices, IsLeast, FindsLeast}
 use Rattle.dw_report.proofs.Choices.{NoneThrough, BeginWith, found_through, none_more, none_at_all, leads_as, replies_as, leads_short, replies_short}
 

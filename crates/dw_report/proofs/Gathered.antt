@@ -1,10 +1,8 @@
 -- What is gathered from a list of moves in order, move by move.
-use Rattle.std.proofs.Common.{◌≡◌, ℕ, ◌+◌, ◌-◌, ◌<◌, ◌≤◌, zero, suc, List, [], ◌∷◌, ◌++◌, length, map, take, drop, get_or, refl, sym, ap, ◌∙◌, subst, ◌⊎◌, inl, inr, arith}
+use Rattle.std.proofs.Common.{◌≡◌, ℕ, ◌+◌, ◌<◌, ◌≤◌, suc, List, [], ◌∷◌, ◌++◌, length, map, take, drop, get_or, refl, sym, subst, inl, inr, arith}
 use Rattle.std.proofs.lemmas.List.{take_all}
-use Rattle.dw_board.specs.Geometry.{Geometry}
-use Rattle.dw_board.specs.Placement.{Placement}
-use Rattle.dw_moves.specs.Moves.{Member, Move, Legal, play}
-use Rattle.dw_moves.specs.Order.{Precedes, IsAscending, IsListOf}
+use Rattle.dw_moves.specs.Moves.{Member, Move}
+use Rattle.dw_moves.specs.Order.{IsAscending, IsListOf}
 use Rattle.dw_moves.specs.MemberLaws.{mem_left, mem_right, mem_cases}
 use Rattle.dw_list.specs.ListingLaws.{at_item, ascending_parts, one_listed, none_listed, listed_as, listed_then}
 

@@ -1,16 +1,15 @@
 -- The only reply that refutes, looked for reply by reply.
-use Rattle.std.proofs.Common.{◌≡◌, ℕ, ◌+◌, ◌<◌, ◌≤◌, suc, List, [], ◌∷◌, ◌++◌, length, map, take, drop, get_or, refl, sym, ap, ◌∙◌, subst, inl, inr, arith, Option, Some, None}
+use Rattle.std.proofs.Common.{◌≡◌, ℕ, ◌+◌, ◌<◌, ◌≤◌, suc, List, [], ◌∷◌, ◌++◌, length, map, take, drop, get_or, refl, sym, ◌∙◌, subst, inl, inr, arith, Option, Some, None}
 use Rattle.std.proofs.lemmas.List.{take_all}
 use Rattle.dw_board.specs.Geometry.{Geometry}
 use Rattle.dw_board.specs.Placement.{Placement}
-use Rattle.dw_moves.specs.Moves.{Member, Move, Legal, play}
+use Rattle.dw_moves.specs.Moves.{Member, Move, Legal}
 use Rattle.dw_moves.specs.Order.{Precedes, IsAscending, IsListOf}
 use Rattle.dw_moves.specs.MemberLaws.{mem_left, mem_right, mem_cases}
 use Rattle.dw_moves.specs.Laws.{MovesHaveKeys}
-use Rattle.dw_solve.specs.Wins.{Win}
 use Rattle.dw_list.specs.LineOrderLaws.{precedes_asym}
 use Rattle.dw_list.specs.ListingLaws.{at_item, ascending_parts}
-use Rattle.dw_report.specs.Verdict.{Refutes, IsRefutation}
+use Rattle.dw_report.specs.Verdict.{Refutes}
 use Rattle.dw_report.specs.Judging.{FindsRefutation}
 
 -- what was found among some replies: none, or the only one

@@ -1,5 +1,5 @@
 -- The tries gathered from all legal moves.
-use Rattle.std.proofs.Common.{◌≡◌, ℕ, ◌-◌, ◌≤◌, List, length, map}
+use Rattle.std.proofs.Common.{ℕ, ◌-◌, ◌≤◌, List, length, map}
 use Rattle.dw_board.specs.Geometry.{Geometry}
 use Rattle.dw_board.specs.Placement.{Placement}
 use Rattle.dw_moves.specs.Moves.{Move, Legal, play}

@@ -5,15 +5,14 @@ use Rattle.dw_board.specs.Geometry.{Geometry, IsBoard}
 use Rattle.dw_board.specs.Placement.{Placement}
 use Rattle.dw_moves.specs.Moves.{Member, Move, Legal, play}
 use Rattle.dw_moves.specs.Order.{LexLess, IsKey, Precedes, IsAscending, IsListOf}
-use Rattle.dw_moves.specs.MemberLaws.{mem_map, mem_map_back}
 use Rattle.dw_moves.specs.Laws.{MovesListed, MovesInOrder, MovesHaveKeys}
-use Rattle.dw_solve.specs.Wins.{Win, Lost}
+use Rattle.dw_solve.specs.Wins.{Win}
 use Rattle.dw_solve.specs.Laws.{WinsAreDecided, WinsStay}
 use Rattle.dw_list.specs.Lines.{Before}
 use Rattle.dw_list.specs.Laws.{LinesExist}
 use Rattle.dw_list.specs.LineOrderLaws.{precedes_asym}
 use Rattle.dw_list.specs.ListingLaws.{list_only}
-use Rattle.dw_report.specs.Verdict.{IsWinning, Keys, reach, IsDual, IsShortest, Verdict, unsolvable, cooked, dual, sound, HasOneKey, IsVerdict, Refutes, IsRefutation, IsTry, Tries}
+use Rattle.dw_report.specs.Verdict.{IsWinning, Keys, reach, IsShortest, Verdict, unsolvable, cooked, dual, sound, HasOneKey, IsVerdict, Refutes, IsRefutation, IsTry, Tries}
 use Rattle.dw_report.specs.Judging.{LeadsToChoices, IsLeast, FindsLeast, FindsRefutation}
 use Rattle.dw_report.proofs.Choices.{keys_only, keys_exist, listed_where, dual_leads, leads_dual, choices_found}
 

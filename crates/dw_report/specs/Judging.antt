@@ -1,11 +1,11 @@
 -- How keys, duals and tries are looked for.
-use Rattle.std.specs.Prelude.{◌≡◌, ℕ, ◌≤◌, List, [], ◌∷◌, length, map, Option, Some, None}
+use Rattle.std.specs.Prelude.{ℕ, ◌≤◌, List, [], ◌∷◌, length, Option, Some, None}
 use Rattle.std.proofs.Common.{zero, suc}
 use Rattle.dw_board.specs.Geometry.{Geometry}
 use Rattle.dw_board.specs.Placement.{Placement}
 use Rattle.dw_moves.specs.Moves.{Move, Legal, play}
 use Rattle.dw_solve.specs.Wins.{Lost}
-use Rattle.dw_report.specs.Verdict.{Keys, IsRefutation, Refutes, Verdict, unsolvable, cooked, dual, sound}
+use Rattle.dw_report.specs.Verdict.{Keys, IsRefutation, Verdict, unsolvable, cooked, dual, sound}
 use Rattle.dw_report.specs.declared.dual.Dual as found
 use Rattle.dw_report.specs.declared.verdict.Verdict as verdicts
 use Rattle.dw_report.specs.declared.verdict.Verdict.TheVariants.{Unsolvable, Cooked, Dual, Sound}

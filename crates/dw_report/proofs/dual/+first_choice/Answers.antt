@@ -1,10 +1,10 @@
-use Rattle.std.proofs.Common.{◌≡◌, ◌+◌, ◌-◌, ◌*◌, ◌<◌, ◌≤◌, [], ◌∷◌, length, map, refl, sym, ap, ◌∙◌, subst, arith, Some, None, Option, List}
+use Rattle.std.proofs.Common.{◌≡◌, ◌-◌, ◌≤◌, ◌∷◌, map, sym, ap, ◌∙◌, subst, arith, Some, None}
 use Rattle.std.specs.Prelude.{option_map}
-use Rattle.dw_moves.specs.Moves.{Move, Legal, play}
+use Rattle.dw_moves.specs.Moves.{Legal, play}
 use Rattle.dw_moves.specs.Order.{Precedes, IsListOf}
 use Rattle.dw_list.specs.Lines.{Before}
 use Rattle.dw_list.specs.AskingLaws.{answered, asked_none, asked_then, asked_wider, asked_ok, asked_stop, asked_memory}
-use Rattle.dw_report.specs.Verdict.{IsWinning, Keys}
+use Rattle.dw_report.specs.Verdict.{IsWinning}
 use Rattle.dw_report.specs.Judging.{LeadsToChoices, ComesToChoices, RepliesToChoices, FindsLeast, parts_of}
 use Rattle.dw_report.proofs.Gathered.{item_among}
 use Rattle.dw_report.proofs.Choices.{leads_begin, replies_begin, comes_later}

@@ -1,9 +1,9 @@
-use Rattle.std.proofs.Common.{◌≡◌, ◌+◌, ◌-◌, ◌≤◌, [], ◌∷◌, ◌++◌, map, refl, sym, ap, ◌∙◌, subst, arith, Some, None}
+use Rattle.std.proofs.Common.{◌+◌, map, sym, ap, ◌∙◌, subst, arith}
 use Rattle.dw_moves.specs.Moves.{Legal, play}
 use Rattle.dw_moves.specs.Order.{Precedes, IsListOf}
 use Rattle.dw_solve.specs.Wins.{Win}
-use Rattle.dw_list.specs.AskingLaws.{answered, asked_then, asked_wider, asked_ok, asked_stop, asked_memory}
-use Rattle.dw_report.proofs.Gathered.{item_among, to_more, to_same}
+use Rattle.dw_list.specs.AskingLaws.{answered, asked_then, asked_ok, asked_stop}
+use Rattle.dw_report.proofs.Gathered.{item_among}
 use Rattle.dw_report.specs.Verdict.{Refutes}
 use Rattle.dw_report.proofs.Refuting.{FoundTo, found_first, found_same, found_second, found_all}
 use Rattle.dw_report.proofs.tries.refutation.Goals.{then-not-branch+in-None, else-not-branch}
