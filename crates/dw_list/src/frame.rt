@@ -5,7 +5,7 @@ ghost use Rattle.dw_list.specs.Steps.{begun, first_ahead, passed, IsListing};
 use dw_board::board::Board;
 use dw_board::piece::Side;
 use dw_board::position::Position;
-use dw_moves::listed::listed;
+use dw_moves::listed::listed_into;
 use dw_moves::moves::{Listed, Move};
 use std::alloc::{AllocError, Global};
 use std::marker::Model;
@@ -18,6 +18,8 @@ pub(crate) struct Frame<B: Board> {
     left: u8,
     moves: Option<Vec<Listed<B>>>,
     passed: usize,
+    /// The list of a position where the frame stood before, kept for its memory alone.
+    spare: Option<Vec<Listed<B>>>,
 }
 
 impl<B: Board> Model for Frame<B> {
@@ -42,7 +44,21 @@ impl<B: Board> Frame<B> {
             left,
             moves: None,
             passed: 0,
+            spare: None,
         }
+    }
+
+    /// Begins anew at a position whose moves are not listed. The memory of the last list serves for the next one.
+    pub(crate) fn begin(&mut self, position: Position<B>, attacks: bool, left: u8)
+        ensures { self.new ≡ begun position attacks left }
+    {
+        if self.moves.is_some() {
+            self.spare = self.moves.take();
+        }
+        self.position = position;
+        self.attacks = attacks;
+        self.left = left;
+        self.passed = 0;
     }
 
     pub(crate) fn position(&self) -> &Position<B>
@@ -93,7 +109,11 @@ impl<B: Board> Frame<B> {
         ensures ok { OnOk result (IsListing B.geometry self.old self.new) }
         ensures err { OnErr result (self.new ≡ self.old) }
     {
-        let list = listed(alloc, &self.position)?;
+        let mut list = match self.spare.take() {
+            Some(list) => list,
+            None => Vec::new(alloc),
+        };
+        listed_into(&self.position, &mut list)?;
         let _count = list.len();
         self.moves = Some(list);
         self.passed = 0;

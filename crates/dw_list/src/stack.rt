@@ -1,7 +1,8 @@
 //! The stack of a lister: the levels of the line at which it stands.
-ghost use Rattle.std.specs.Prelude.{◌≡◌, ◌≤◌, ◌<◌, ◌*◌, [], ◌∷◌, drop, reverse, length, IfOk, OnErr, not, true};
+ghost use Rattle.std.specs.Prelude.{◌≡◌, ◌≤◌, ◌<◌, ◌*◌, ◌-◌, [], ◌∷◌, drop, take, reverse, length, IfOk, OnErr, not, true};
 ghost use Rattle.dw_moves.specs.Moves.{Legal, play};
 ghost use Rattle.dw_list.specs.Going.{left_after};
+ghost use Rattle.dw_list.specs.Steps.{begun};
 
 use crate::frame::Frame;
 use crate::going::left_behind;
@@ -44,6 +45,8 @@ pub(crate) struct Stack<B: Board> {
     moves: u8,
     frames: ArrayVec<Frame<B>, 40>,
     line: ArrayVec<Move<B>, 39>,
+    /// Frames that were left, kept for the memory of their lists.
+    spare: ArrayVec<Frame<B>, 40>,
 }
 
 impl<B: Board> Model for Stack<B> {
@@ -78,6 +81,7 @@ impl<B: Board> Stack<B> {
             moves,
             frames,
             line: ArrayVec::new(),
+            spare: ArrayVec::new(),
         }
     }
 
@@ -160,8 +164,8 @@ impl<B: Board> Stack<B> {
         let mut frame = self.frames.pop().unwrap();
         frame.pass();
         self.frames.push(frame);
-        self.frames
-            .push(Frame::new(trial.after, !trial.attacks, trial.left));
+        let next = frame_at(&mut self.spare, trial.after, !trial.attacks, trial.left);
+        self.frames.push(next);
         self.line.push(trial.step);
     }
 
@@ -169,10 +173,38 @@ impl<B: Board> Stack<B> {
     pub(crate) fn back(&mut self)
         ensures { self.new ≡ record self.old { line = drop 1 self.old.line; levels = drop 1 self.old.levels } }
     {
-        let count = self.frames.len();
-        self.frames.truncate(count.saturating_sub(1));
+        leave_last(&mut self.frames, &mut self.spare);
         let played = self.line.len();
         self.line.truncate(played.saturating_sub(1));
+    }
+}
+
+/// A frame whose moves are not listed: one of the spare frames, or else a new one.
+fn frame_at<B: Board>(
+    spare: &mut ArrayVec<Frame<B>, 40>,
+    position: Position<B>,
+    attacks: bool,
+    left: u8,
+) -> Frame<B>
+    ensures { result ≡ begun position attacks left }
+{
+    match spare.pop() {
+        Some(mut frame) => {
+            frame.begin(position, attacks, left);
+            frame
+        }
+        None => Frame::new(position, attacks, left),
+    }
+}
+
+/// Takes the last frame off, and keeps it if there is room.
+fn leave_last<B: Board>(frames: &mut ArrayVec<Frame<B>, 40>, spare: &mut ArrayVec<Frame<B>, 40>)
+    ensures { frames.new.items ≡ take (length frames.old.items - 1) frames.old.items }
+{
+    if let Some(frame) = frames.pop() {
+        if !spare.is_full() {
+            spare.push(frame);
+        }
     }
 }
 

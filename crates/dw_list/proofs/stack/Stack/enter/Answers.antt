@@ -30,6 +30,6 @@ invariant_of-self g c =
     let geo = g.B.Board.geometry in
     let was = end_of _ _ c.pop.result c.unwrap-frame.result c.pop.ensures.items c.unwrap-frame.ensures in
     let trial = same_trial geo c.args.self.now.levels (reverse c.pop.new.self.items) c.unwrap-frame.result c.args.trial.now (ap (λ (s : Standing). s.levels) (sym c.self.view_is) ∙ end_first _ _ _ was) c.requires.first in
-    inside_entered geo c.self.inside.position c.self.inside.moves _ c.pop.new.self.items c.push-2.new.self.items c.unwrap-frame.result c.pass.new.self c.new.result (reverse c.self.inside.line.items) _
-    c.args.trial.now.step c.args.trial.now.after c.args.trial.now.attacks c.args.trial.now.left was (c.push-2.ensures.items ∙ ap (λ z. z ++ c.new.result ∷ []) c.push.ensures.items) c.pass.ensures
-    (end_first _ _ _ c.push-3.ensures.items) trial.0 trial.1 trial.2 trial.3 c.new.ensures c.requires.keeps c.self.invariant
+    inside_entered geo c.self.inside.position c.self.inside.moves _ c.pop.new.self.items c.push-2.new.self.items c.unwrap-frame.result c.pass.new.self c.frame_at-next.result (reverse c.self.inside.line.items) _
+    c.args.trial.now.step c.args.trial.now.after c.args.trial.now.attacks c.args.trial.now.left was (c.push-2.ensures.items ∙ ap (λ z. z ++ c.frame_at-next.result ∷ []) c.push.ensures.items) c.pass.ensures
+    (end_first _ _ _ c.push-3.ensures.items) trial.0 trial.1 trial.2 trial.3 c.frame_at-next.ensures c.requires.keeps c.self.invariant
