@@ -19,6 +19,7 @@ use dw_moves::play::play;
 use dw_solve::guide::ByTrial;
 use dw_solve::solver::Solver;
 use dw_solve::stop::Stop;
+use dw_tests_common::six::Six;
 use dw_tests_common::small_positions::{EIGHT_WINS, TEN_WINS};
 use dw_tests_common::texts::{move_of, position_of};
 use std::alloc::Global;
@@ -60,6 +61,22 @@ const TEN: [Row; 10] = [
 const EIGHT: [Row; 2] = [
     ("W:W22:B18", 1, &["22x15"]),
     ("W:W14:B", 1, &["14-9", "14-10"]),
+];
+
+const SIX: [Row; 4] = [
+    ("W:W11:B8", 1, &["11x6"]),
+    ("W:WK16:B11", 1, &["16x3", "16x6", "16x8"]),
+    ("W:W11,18:B4", 1, &[]),
+    ("W:W11,18:B4", 2, &["18-14 4-7 11x4", "18-15 4-7 11x4"]),
+];
+
+/// Positions on six rows, and the least number of moves up to 3 within which the side to move wins, or 0.
+const SIX_WINS: [(&str, u8); 5] = [
+    ("W:W11:B8", 1),
+    ("W:W11,18:B4", 2),
+    ("W:WK5:B4", 2),
+    ("B:W11:B3,K6", 1),
+    ("B:WK15:B3,7", 0),
 ];
 
 // A line, of which each move is given by its text.
@@ -205,6 +222,11 @@ fn lines_come_in_order_at_all_positions(rt: HostRuntime) {
 #[test]
 fn lines_come_in_order_on_eight_rows(rt: HostRuntime) {
     check_bare::<Eight>(&rt, rt.alloc(), &EIGHT, &EIGHT_WINS);
+}
+
+#[test]
+fn lines_come_in_order_on_six_rows(rt: HostRuntime) {
+    check_bare::<Six>(&rt, rt.alloc(), &SIX, &SIX_WINS);
 }
 
 // The same, with a cache of the positions used latest.
