@@ -396,3 +396,102 @@ fn stops_lose_no_line(rt: HostRuntime) {
         assert!(rt; given == lines.len(), "{text}");
     }
 }
+
+/// Positions, and all their lines, each with its moves.
+const REFUSED: [(&str, u8, &[&[Step]]); 3] = [
+    (
+        "W:W27,45:B16",
+        2,
+        &[&[(45, 40, &[]), (16, 21, &[]), (27, 16, &[21])]],
+    ),
+    (
+        "W:W27,32:B18",
+        2,
+        &[
+            &[(32, 28, &[]), (18, 22, &[]), (27, 18, &[22])],
+            &[(32, 28, &[]), (18, 22, &[]), (28, 17, &[22])],
+            &[(32, 28, &[]), (18, 23, &[]), (28, 19, &[23])],
+        ],
+    ),
+    ("W:W28:B", 1, &[&[(28, 22, &[])], &[(28, 23, &[])]]),
+];
+
+// A line, of which each move is given by its squares: it takes no memory.
+fn moves_of<B: Board>(rt: &impl Abort, steps: &[Step]) -> ArrayVec<Move<B>, 39> {
+    let mut line = ArrayVec::new();
+    for step in steps {
+        assert!(rt; !line.is_full());
+        line.push(step_of(rt, step));
+    }
+    line
+}
+
+// Whether the next line is this one, or there is none where none is wanted.
+fn is_next<B: Board, M: Memo<B>>(
+    rt: &impl Abort,
+    alloc: Global,
+    lister: &mut Lister<'_, B, M, ByTrial>,
+    wanted: Option<&&[Step]>,
+) -> Result<bool, Stop> {
+    match (lister.next(alloc)?, wanted) {
+        (Some(line), Some(steps)) => Ok(*line == *moves_of(rt, steps).as_slice()),
+        (next, wanted) => Ok(next.is_none() && wanted.is_none()),
+    }
+}
+
+// The next line is this one. Where the lister is refused memory it says so, and then it can be asked again.
+fn check_next<B: Board, M: Memo<B>>(
+    rt: &impl Abort,
+    alloc: Global,
+    lister: &mut Lister<'_, B, M, ByTrial>,
+    wanted: Option<&&[Step]>,
+) {
+    let mut answer = is_next(rt, alloc, lister, wanted);
+    if answer == Err(Stop::Memory) {
+        answer = is_next(rt, alloc, lister, wanted);
+    }
+    assert!(rt; answer == Ok(true));
+}
+
+// Asks a new solver's lister for all lines, and then for what follows each of them.
+fn check_refused<B: Board, M: Memo<B>>(
+    rt: &impl Abort,
+    alloc: Global,
+    solver: &mut Solver<B, M, ByTrial>,
+    row: &(&str, u8, &[&[Step]]),
+) {
+    let (text, moves, lines) = row;
+    assert!(rt; 1 <= *moves && *moves <= 20);
+    let mut lister = Lister::start(solver, &position_of(rt, text), *moves);
+    for steps in *lines {
+        check_next(rt, alloc, &mut lister, Some(steps));
+    }
+    check_next(rt, alloc, &mut lister, None);
+    for (index, steps) in lines.iter().enumerate() {
+        let line = moves_of(rt, steps);
+        let mut answer = lister.after(alloc, line.as_slice());
+        if answer == Err(AfterFault::Stopped(Stop::Memory)) {
+            answer = lister.after(alloc, line.as_slice());
+        }
+        assert!(rt; answer.is_ok(), "{text}");
+        check_next(rt, alloc, &mut lister, lines.get(index + 1));
+    }
+}
+
+// All lines are given with ample memory, and where any one growth is refused: checks/refused_search.py runs it so.
+#[test]
+fn wants_memory(rt: HostRuntime) {
+    let alloc = rt.alloc();
+    for row in &REFUSED {
+        let mut solver = Solver::<Ten, NoMemo, ByTrial>::new(NoMemo::new(), ByTrial, 1_000_000);
+        check_refused(&rt, alloc, &mut solver, row);
+        if let Ok(recent) = LruMemo::new(alloc, 1_000) {
+            let mut solver = Solver::<Ten, LruMemo<Ten>, ByTrial>::new(recent, ByTrial, 1_000_000);
+            check_refused(&rt, alloc, &mut solver, row);
+        }
+        if let Ok(slots) = SlotMemo::new(alloc, 1_000) {
+            let mut solver = Solver::<Ten, SlotMemo<Ten>, ByTrial>::new(slots, ByTrial, 1_000_000);
+            check_refused(&rt, alloc, &mut solver, row);
+        }
+    }
+}
