@@ -1,12 +1,13 @@
 #!/usr/bin/env python3
-"""Refuses each allocation of the solver's searches in turn.
+"""Refuses each allocation of the solver's searches and of the lister in turn.
 
     checks/refused_search.py
 
-It runs the test solve::wants_memory of dw_tests_search, which `rt test` in that crate builds, once for each
-allocation of it: some positions are searched with each cache, for 1 to 3 moves. Where a growth is refused the search
-answers rightly without it, or it says so, and answers rightly when it is asked again; the test fails where that is not
-so. The last run meets no refusal.
+It runs the tests wants_memory of dw_tests_search and of dw_tests_lines, which `rt test` in those crates builds, once
+for each allocation. The first searches some positions with each cache, for 1 to 3 moves; the second asks for the lines
+of some positions with each cache, one by one, and for what follows each of them. Where a growth is refused the right
+answer comes without it, or want of memory is said, and the right answer comes when it is asked again; the test fails
+where that is not so. The last run of each meets no refusal.
 """
 import os
 import pathlib
@@ -14,18 +15,19 @@ import subprocess
 import tempfile
 
 HERE = pathlib.Path(__file__).resolve().parent
-PROGRAM = HERE.parent / "crates/dw_tests_search/out/dw_tests_search_tests"
-TEST = "solve::wants_memory"
+# A crate of tests, and the test of it that is run.
+TESTS = [("dw_tests_search", "solve::wants_memory"), ("dw_tests_lines", "list::wants_memory")]
 MOST = 100_000
 
 
-def was_refused(folder, number):
+def was_refused(folder, crate, test, number):
     """Runs the test with that allocation refused, and tells whether there was one of that number."""
     mark = folder / "mark"
     mark.unlink(missing_ok=True)
     changes = {"LD_PRELOAD": str(folder / "refuse.so"), "REFUSED_ALLOCATION": str(number), "REFUSED_MARK": str(mark)}
-    ran = subprocess.run([PROGRAM, TEST], capture_output=True, timeout=60, check=False, env=os.environ | changes)
-    assert ran.returncode == 0, (number, ran)
+    program = HERE.parent / "crates" / crate / "out" / f"{crate}_tests"
+    ran = subprocess.run([program, test], capture_output=True, timeout=60, check=False, env=os.environ | changes)
+    assert ran.returncode == 0, (test, number, ran)
     return mark.exists()
 
 
@@ -34,9 +36,10 @@ def main():
         folder = pathlib.Path(name)
         library = folder / "refuse.so"
         subprocess.run(["cc", "-O1", "-shared", "-fPIC", "-o", library, HERE / "refuse_allocation.c", "-ldl"], check=True)
-        last = next(number for number in range(1, MOST) if not was_refused(folder, number))
-        assert last > 1, "no allocation was refused"
-        print(f"{TEST}: {last - 1} allocations, each refused in turn")
+        for crate, test in TESTS:
+            last = next(number for number in range(1, MOST) if not was_refused(folder, crate, test, number))
+            assert last > 1, "no allocation was refused"
+            print(f"{crate} {test}: {last - 1} allocations, each refused in turn")
 
 
 main()

@@ -1,4 +1,4 @@
-//! Tests of lines and of their tokens, over public calls: at the boards of ten and of eight rows.
+//! Tests of lines and of their tokens, over public calls: at the boards of ten, of eight and of six rows.
 //!
 //! They hold what no clause says: worked rows, a call of each public function, and limits that stop a listing.
 #![tactic(auto)]

@@ -19,6 +19,7 @@ use dw_moves::play::play;
 use dw_solve::guide::ByTrial;
 use dw_solve::solver::Solver;
 use dw_solve::stop::Stop;
+use dw_tests_common::six::Six;
 use dw_tests_common::small_positions::{EIGHT_WINS, TEN_WINS};
 use dw_tests_common::texts::{move_of, position_of};
 use std::alloc::Global;
@@ -60,6 +61,22 @@ const TEN: [Row; 10] = [
 const EIGHT: [Row; 2] = [
     ("W:W22:B18", 1, &["22x15"]),
     ("W:W14:B", 1, &["14-9", "14-10"]),
+];
+
+const SIX: [Row; 4] = [
+    ("W:W11:B8", 1, &["11x6"]),
+    ("W:WK16:B11", 1, &["16x3", "16x6", "16x8"]),
+    ("W:W11,18:B4", 1, &[]),
+    ("W:W11,18:B4", 2, &["18-14 4-7 11x4", "18-15 4-7 11x4"]),
+];
+
+/// Positions on six rows, and the least number of moves up to 3 within which the side to move wins, or 0.
+const SIX_WINS: [(&str, u8); 5] = [
+    ("W:W11:B8", 1),
+    ("W:W11,18:B4", 2),
+    ("W:WK5:B4", 2),
+    ("B:W11:B3,K6", 1),
+    ("B:WK15:B3,7", 0),
 ];
 
 // A line, of which each move is given by its text.
@@ -205,6 +222,11 @@ fn lines_come_in_order_at_all_positions(rt: HostRuntime) {
 #[test]
 fn lines_come_in_order_on_eight_rows(rt: HostRuntime) {
     check_bare::<Eight>(&rt, rt.alloc(), &EIGHT, &EIGHT_WINS);
+}
+
+#[test]
+fn lines_come_in_order_on_six_rows(rt: HostRuntime) {
+    check_bare::<Six>(&rt, rt.alloc(), &SIX, &SIX_WINS);
 }
 
 // The same, with a cache of the positions used latest.
@@ -372,5 +394,104 @@ fn stops_lose_no_line(rt: HostRuntime) {
             }
         }
         assert!(rt; given == lines.len(), "{text}");
+    }
+}
+
+/// Positions, and all their lines, each with its moves.
+const REFUSED: [(&str, u8, &[&[Step]]); 3] = [
+    (
+        "W:W27,45:B16",
+        2,
+        &[&[(45, 40, &[]), (16, 21, &[]), (27, 16, &[21])]],
+    ),
+    (
+        "W:W27,32:B18",
+        2,
+        &[
+            &[(32, 28, &[]), (18, 22, &[]), (27, 18, &[22])],
+            &[(32, 28, &[]), (18, 22, &[]), (28, 17, &[22])],
+            &[(32, 28, &[]), (18, 23, &[]), (28, 19, &[23])],
+        ],
+    ),
+    ("W:W28:B", 1, &[&[(28, 22, &[])], &[(28, 23, &[])]]),
+];
+
+// A line, of which each move is given by its squares: it takes no memory.
+fn moves_of<B: Board>(rt: &impl Abort, steps: &[Step]) -> ArrayVec<Move<B>, 39> {
+    let mut line = ArrayVec::new();
+    for step in steps {
+        assert!(rt; !line.is_full());
+        line.push(step_of(rt, step));
+    }
+    line
+}
+
+// Whether the next line is this one, or there is none where none is wanted.
+fn is_next<B: Board, M: Memo<B>>(
+    rt: &impl Abort,
+    alloc: Global,
+    lister: &mut Lister<'_, B, M, ByTrial>,
+    wanted: Option<&&[Step]>,
+) -> Result<bool, Stop> {
+    match (lister.next(alloc)?, wanted) {
+        (Some(line), Some(steps)) => Ok(*line == *moves_of(rt, steps).as_slice()),
+        (next, wanted) => Ok(next.is_none() && wanted.is_none()),
+    }
+}
+
+// The next line is this one. Where the lister is refused memory it says so, and then it can be asked again.
+fn check_next<B: Board, M: Memo<B>>(
+    rt: &impl Abort,
+    alloc: Global,
+    lister: &mut Lister<'_, B, M, ByTrial>,
+    wanted: Option<&&[Step]>,
+) {
+    let mut answer = is_next(rt, alloc, lister, wanted);
+    if answer == Err(Stop::Memory) {
+        answer = is_next(rt, alloc, lister, wanted);
+    }
+    assert!(rt; answer == Ok(true));
+}
+
+// Asks a new solver's lister for all lines, and then for what follows each of them.
+fn check_refused<B: Board, M: Memo<B>>(
+    rt: &impl Abort,
+    alloc: Global,
+    solver: &mut Solver<B, M, ByTrial>,
+    row: &(&str, u8, &[&[Step]]),
+) {
+    let (text, moves, lines) = row;
+    assert!(rt; 1 <= *moves && *moves <= 20);
+    let mut lister = Lister::start(solver, &position_of(rt, text), *moves);
+    for steps in *lines {
+        check_next(rt, alloc, &mut lister, Some(steps));
+    }
+    check_next(rt, alloc, &mut lister, None);
+    for (index, steps) in lines.iter().enumerate() {
+        let line = moves_of(rt, steps);
+        let mut answer = lister.after(alloc, line.as_slice());
+        if answer == Err(AfterFault::Stopped(Stop::Memory)) {
+            answer = lister.after(alloc, line.as_slice());
+        }
+        assert!(rt; answer.is_ok(), "{text}");
+        check_next(rt, alloc, &mut lister, lines.get(index + 1));
+    }
+}
+
+// All lines are given with ample memory, and where any one growth is refused: checks/refused_search.py runs it so.
+#[test]
+fn wants_memory(rt: HostRuntime) {
+    let alloc = rt.alloc();
+    for row in &REFUSED {
+        let mut solver = Solver::<Ten, NoMemo, ByTrial>::new(NoMemo::new(), ByTrial, 1_000_000);
+        check_refused(&rt, alloc, &mut solver, row);
+        if let Ok(recent) = LruMemo::new(alloc, 1_000) {
+            let mut solver = Solver::<Ten, LruMemo<Ten>, ByTrial>::new(recent, ByTrial, 1_000_000);
+            check_refused(&rt, alloc, &mut solver, row);
+        }
+        if let Ok(slots) = SlotMemo::new(alloc, 1_000) {
+            let mut solver = Solver::<Ten, SlotMemo<Ten>, ByTrial>::new(slots, ByTrial, 1_000_000);
+            check_refused(&rt, alloc, &mut solver, row);
+        }
     }
 }

@@ -1,6 +1,5 @@
 //! Squares, sets of squares, positions and their texts.
 
-use crate::six::Six;
 use arrayvec::ArrayString;
 use dw_board::board::{Board, Dir, Eight, Ten};
 use dw_board::diagram::diagram;
@@ -11,6 +10,7 @@ use dw_board::piece::{Kind, Piece, Side};
 use dw_board::position::Position;
 use dw_board::square::{Square, step};
 use dw_board::squares::Squares;
+use dw_tests_common::six::Six;
 use std::fmt::Write;
 use std::process::Abort;
 

@@ -7,5 +7,3 @@
 mod boards;
 #[cfg(test)]
 mod moves;
-#[cfg(test)]
-mod six;

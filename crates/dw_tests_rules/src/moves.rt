@@ -1,7 +1,6 @@
 //! Moves of worked positions.
 
 use crate::boards::{set_of, square_of};
-use crate::six::Six;
 use arrayvec::ArrayString;
 use dw_board::board::{Board, Eight, Ten};
 use dw_board::fen::read::read_fen;
@@ -18,6 +17,7 @@ use dw_moves::listed::{listed, listed_into};
 use dw_moves::moves::Move;
 use dw_moves::play::{other, play};
 use dw_moves::quiet::quiet_count;
+use dw_tests_common::six::Six;
 use std::alloc::Global;
 use std::process::Abort;
 
@@ -234,6 +234,11 @@ const TEN_PATHS: [Path; 10] = [
 
 const EIGHT_PATHS: [Path; 1] = [("W:W22:B18", &[22, 15], Some(&[18]))];
 
+const SIX_PATHS: [Path; 2] = [
+    ("W:W17:B7,13", &[17, 10, 5], Some(&[7, 13])),
+    ("W:W17:B7,13", &[17, 10], None),
+];
+
 fn check_paths<B: Board>(rt: &impl Abort, alloc: Global, rows: &[Path]) {
     for (text, path, wanted) in rows {
         let squares = squares_of(rt, alloc, path);
@@ -269,6 +274,15 @@ const TEN_LISTS: [List; 5] = [
 
 const EIGHT_LISTS: [List; 1] = [("W:W22:B18", &[(&[22, 15], &[18])])];
 
+const SIX_LISTS: [List; 3] = [
+    (
+        "W:WK16:B11",
+        &[(&[16, 3], &[11]), (&[16, 6], &[11]), (&[16, 8], &[11])],
+    ),
+    ("W:W17:B7,13", &[(&[17, 10, 5], &[7, 13])]),
+    ("W:W11:B3", &[(&[11, 7], &[]), (&[11, 8], &[])]),
+];
+
 fn check_lists<B: Board>(rt: &impl Abort, alloc: Global, rows: &[List]) {
     for (text, wanted) in rows {
         let list = listed(alloc, &position_of::<B>(rt, text)).expect(rt, "memory");
@@ -288,8 +302,10 @@ fn check_lists<B: Board>(rt: &impl Abort, alloc: Global, rows: &[List]) {
 fn paths_and_lists(rt: HostRuntime) {
     check_paths::<Ten>(&rt, rt.alloc(), &TEN_PATHS);
     check_paths::<Eight>(&rt, rt.alloc(), &EIGHT_PATHS);
+    check_paths::<Six>(&rt, rt.alloc(), &SIX_PATHS);
     check_lists::<Ten>(&rt, rt.alloc(), &TEN_LISTS);
     check_lists::<Eight>(&rt, rt.alloc(), &EIGHT_LISTS);
+    check_lists::<Six>(&rt, rt.alloc(), &SIX_LISTS);
 }
 
 #[test]

@@ -1,6 +1,6 @@
 //! A small board for tests: six rows of three squares, six pieces a side.
 ghost use Rattle.std.specs.Prelude.{refl};
-ghost use Rattle.dw_tests_rules.specs.Six.{six, six_is_board, six_shifts, six_word};
+ghost use Rattle.dw_tests_common.specs.Six.{six, six_is_board, six_shifts, six_word};
 
 use dw_board::board::Board;
 
