@@ -1,4 +1,5 @@
 //! Positions and moves by their texts.
+ghost use Rattle.std.specs.Prelude.{IfSome};
 ghost use Rattle.dw_moves.specs.Moves.{Legal};
 
 use dw_board::board::Board;
@@ -8,25 +9,20 @@ use dw_moves::legal::is_legal;
 use dw_moves::moves::Move;
 use dw_notation::read_move::read_move;
 use std::alloc::Global;
-use std::process::Abort;
 
-/// The position that a FEN text names.
-pub fn position_of<B: Board>(rt: &impl Abort, text: &str) -> Position<B> {
-    read_fen::<B>(text.as_bytes()).ok().expect(rt, "a position")
+/// The position that a FEN text names, if it names one.
+pub fn read_position<B: Board>(text: &str) -> Option<Position<B>> {
+    read_fen::<B>(text.as_bytes()).ok()
 }
 
-/// The legal move that a text names.
-pub fn move_of<B: Board>(
-    rt: &impl Abort,
-    alloc: Global,
-    position: &Position<B>,
-    text: &str,
-) -> Move<B>
-    ensures { Legal B.geometry position.now result }
+/// The legal move that a text names, if it names one.
+pub fn read_legal<B: Board>(alloc: Global, position: &Position<B>, text: &str) -> Option<Move<B>>
+    ensures { IfSome result (λ step. Legal B.geometry position.now step) }
 {
-    let step = read_move(alloc, position, text.as_bytes())
-        .ok()
-        .expect(rt, "a move");
-    assert!(rt; is_legal(position, &step));
-    step
+    let step = read_move(alloc, position, text.as_bytes()).ok()?;
+    if is_legal(position, &step) {
+        Some(step)
+    } else {
+        None
+    }
 }

@@ -6,4 +6,6 @@
 #[cfg(test)]
 mod list;
 #[cfg(test)]
+mod named;
+#[cfg(test)]
 mod tokens;

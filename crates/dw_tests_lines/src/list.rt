@@ -1,5 +1,6 @@
 //! Lines of forced wins: worked lists, one line at a time and all at once; lists that are no line; limits.
 
+use crate::named::{move_of, position_of};
 use arrayvec::ArrayVec;
 use dw_board::board::{Board, Eight, Ten};
 use dw_board::position::Position;
@@ -21,7 +22,6 @@ use dw_solve::solver::Solver;
 use dw_solve::stop::Stop;
 use dw_tests_common::six::Six;
 use dw_tests_common::small_positions::{EIGHT_WINS, TEN_WINS};
-use dw_tests_common::texts::{move_of, position_of};
 use std::alloc::Global;
 use std::process::Abort;
 

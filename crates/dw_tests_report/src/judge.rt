@@ -1,5 +1,6 @@
 //! Verdicts and tries of worked problems.
 
+use crate::named::{move_of, position_of};
 use arrayvec::ArrayVec;
 use dw_board::board::{Board, Eight, Ten};
 use dw_board::position::Position;
@@ -14,7 +15,6 @@ use dw_report::verdict::Verdict;
 use dw_solve::guide::ByTrial;
 use dw_solve::solver::Solver;
 use dw_solve::stop::Stop;
-use dw_tests_common::texts::{move_of, position_of};
 use std::alloc::Global;
 use std::process::Abort;
 

@@ -6,4 +6,6 @@
 #[cfg(test)]
 mod judge;
 #[cfg(test)]
+mod named;
+#[cfg(test)]
 mod report;

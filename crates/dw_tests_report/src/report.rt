@@ -1,5 +1,6 @@
 //! Whole runs: worked reports, and each read and each write failing in turn.
 
+use crate::named::position_of;
 use dw_board::board::{Board, Eight, Ten};
 use dw_notation::problems::{Form, Problem};
 use dw_notation::streams::{Reading, Writing};
@@ -8,7 +9,6 @@ use dw_report::problem::write_problem;
 use dw_report::run::run;
 use dw_report::settings::{Command, RunFault, Settings, Summary};
 use dw_tests_common::streams::{Chopped, Narrow, Repeated};
-use dw_tests_common::texts::position_of;
 use std::alloc::Global;
 use std::process::Abort;
 use std::test::Fail;

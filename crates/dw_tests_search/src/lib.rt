@@ -6,4 +6,6 @@
 #[cfg(test)]
 mod memo;
 #[cfg(test)]
+mod named;
+#[cfg(test)]
 mod solve;

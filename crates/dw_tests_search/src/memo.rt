@@ -1,5 +1,6 @@
 //! What is found again in each cache, what is lost, and what is counted.
 
+use crate::named::position_of;
 use dw_board::board::{Board, Eight, Ten};
 use dw_board::position::Position;
 use dw_memo::bounds::Bounds;
@@ -7,7 +8,6 @@ use dw_memo::lru_memo::LruMemo;
 use dw_memo::memo::{Memo, Noted};
 use dw_memo::no_memo::NoMemo;
 use dw_memo::slot_memo::SlotMemo;
-use dw_tests_common::texts::position_of;
 use std::alloc::Global;
 use std::process::Abort;
 

@@ -1,5 +1,6 @@
 //! Forced wins: worked answers, with each cache and each order of moves; what is counted, and where a search stops.
 
+use crate::named::position_of;
 use dw_board::board::{Board, Eight, Ten};
 use dw_board::position::Position;
 use dw_board::square::Square;
@@ -15,7 +16,6 @@ use dw_solve::solver::Solver;
 use dw_solve::stop::Stop;
 use dw_solve::trial::trial;
 use dw_tests_common::small_positions::{EIGHT_WINS, TEN_WINS};
-use dw_tests_common::texts::position_of;
 use std::alloc::Global;
 use std::process::Abort;
 

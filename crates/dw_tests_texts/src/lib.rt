@@ -5,4 +5,6 @@
 #![tactic(auto)]
 
 #[cfg(test)]
+mod named;
+#[cfg(test)]
 mod notation;

@@ -1,5 +1,6 @@
 //! Texts of moves and of lines, and the problems of byte texts.
 
+use crate::named::{move_of, position_of};
 use arrayvec::ArrayString;
 use dw_board::board::{Board, Eight, Ten};
 use dw_board::fen::write::{FEN_ROOM, fen_text};
@@ -16,7 +17,6 @@ use dw_notation::read_move::{MoveFault, read_move};
 use dw_notation::streams::{Reading, Sink, Source, Writing};
 use dw_notation::writes::{WriteFault, write_all};
 use dw_tests_common::streams::{Chopped, Narrow, Repeated};
-use dw_tests_common::texts::{move_of, position_of};
 use std::alloc::Global;
 use std::fmt::Write;
 use std::io;
