@@ -1,16 +1,14 @@
 //! The texts of lines.
-ghost use Rattle.std.specs.Prelude.{◌≡◌, ◌≤◌, ◌<◌, ◌+◌, ◌++◌, [], ◌∷◌, length, HoldsAt, IfOk, ◌%◌, ◌*◌};
+ghost use Rattle.std.specs.Prelude.{◌≡◌, ◌≤◌, ◌<◌, ◌+◌, ◌++◌, [], ◌∷◌, length, IfOk, ◌%◌, ◌*◌};
 ghost use Rattle.arrayvec.specs.ArrayString.{array_string_len};
-ghost use Rattle.dw_moves.specs.Moves.{Legal};
-ghost use Rattle.dw_notation.specs.Text.{IsMoveText, IsLineText, ArePlayable, numbered};
-ghost use Rattle.dw_notation.specs.LineWords.{HasStep, onto};
+ghost use Rattle.dw_notation.specs.Text.{IsLineText, ArePlayable, numbered};
+ghost use Rattle.dw_notation.specs.LineWords.{onto};
 
-use crate::move_text::{MOVE_ROOM, move_text};
+use crate::move_text::{MOVE_ROOM, text_in};
 use arrayvec::ArrayString;
 use dw_board::board::Board;
 use dw_board::position::Position;
-use dw_moves::listed::listed;
-use dw_moves::moves::{Listed, Move};
+use dw_moves::moves::Move;
 use dw_moves::play::play;
 use itoa::Buffer;
 use std::alloc::{AllocError, Global};
@@ -35,43 +33,12 @@ pub fn line_text<B: Board>(
     let mut current = *position;
     let mut ply: usize = 0;
     'moves: for step in moves {
-        let word = text_of(alloc, &current, step)?;
+        let word = text_in(alloc, &current, step)?;
         push_words(&mut text, ply, &word);
         current = play(&current, step);
         ply += 1;
     }
     Ok(text)
-}
-
-/// The text of a legal move.
-fn text_of<B: Board>(
-    alloc: Global,
-    position: &Position<B>,
-    step: &Move<B>,
-) -> Result<ArrayString<MOVE_ROOM>, AllocError>
-    requires { Legal B.geometry position.now step.now }
-    ensures text { IfOk result (λ text. IsMoveText B.geometry position.now step.now text.bytes) }
-    ensures short { IfOk result (λ text. length text.bytes ≤ 62) }
-{
-    let list = listed(alloc, position)?;
-    let place = place_of(list.as_slice(), step);
-    Ok(move_text(list.as_slice(), place))
-}
-
-/// The place of a move in a list that has it.
-fn place_of<B: Board>(list: &[Listed<B>], step: &Move<B>) -> usize
-    requires { HasStep list.now step.now }
-    ensures within { result < length list.now }
-    ensures there { HoldsAt (λ l. l.step ≡ step.now) list.now result }
-{
-    let mut place = 0;
-    'places: loop {
-        let item = &list[place];
-        if item.step == *step {
-            return place;
-        }
-        place += 1;
-    }
 }
 
 /// Appends the text of the move at a ply, with its number before it if it is the attacker's.

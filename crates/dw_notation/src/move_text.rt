@@ -1,13 +1,18 @@
 //! The texts of moves.
-ghost use Rattle.std.specs.Prelude.{◌≡◌, ◌≤◌, ◌<◌, ◌+◌, ◌++◌, [], ◌∷◌, length, decimal, HoldsAt};
+ghost use Rattle.std.specs.Prelude.{◌≡◌, ◌≤◌, ◌<◌, ◌+◌, ◌++◌, [], ◌∷◌, length, decimal, HoldsAt, IfOk};
 ghost use Rattle.arrayvec.specs.ArrayString.{array_string_len};
-ghost use Rattle.dw_notation.specs.Text.{squares_text, text_among, shares_ends as are_shared};
+ghost use Rattle.dw_moves.specs.Moves.{Legal};
+ghost use Rattle.dw_notation.specs.Text.{IsMoveText, squares_text, text_among, shares_ends as are_shared};
+ghost use Rattle.dw_notation.specs.LineWords.{HasStep};
 
 use arrayvec::ArrayString;
 use dw_board::board::Board;
+use dw_board::position::Position;
 use dw_board::square::Square;
+use dw_moves::listed::listed;
 use dw_moves::moves::{Listed, Move};
 use itoa::Buffer;
+use std::alloc::{AllocError, Global};
 
 /// The bytes that suffice for each move's text; it has at most 62.
 pub const MOVE_ROOM: usize = 64;
@@ -29,6 +34,37 @@ pub fn move_text<B: Board>(list: &[Listed<B>], place: usize) -> ArrayString<MOVE
         squares_text(item.path.as_slice(), 'x')
     } else {
         squares_text(&ends, 'x')
+    }
+}
+
+/// The text of a legal move of a position, or want of memory.
+pub fn text_in<B: Board>(
+    alloc: Global,
+    position: &Position<B>,
+    step: &Move<B>,
+) -> Result<ArrayString<MOVE_ROOM>, AllocError>
+    requires { Legal B.geometry position.now step.now }
+    ensures text { IfOk result (λ text. IsMoveText B.geometry position.now step.now text.bytes) }
+    ensures short { IfOk result (λ text. length text.bytes ≤ 62) }
+{
+    let list = listed(alloc, position)?;
+    let place = place_of(list.as_slice(), step);
+    Ok(move_text(list.as_slice(), place))
+}
+
+/// The place of a move in a list that has it.
+fn place_of<B: Board>(list: &[Listed<B>], step: &Move<B>) -> usize
+    requires { HasStep list.now step.now }
+    ensures within { result < length list.now }
+    ensures there { HoldsAt (λ l. l.step ≡ step.now) list.now result }
+{
+    let mut place = 0;
+    'places: loop {
+        let item = &list[place];
+        if item.step == *step {
+            return place;
+        }
+        place += 1;
     }
 }
 

@@ -16,8 +16,10 @@ use Rattle.dw_notation.specs.declared.problems.ProblemFault.{ProblemFault}
 use Rattle.dw_notation.specs.declared.problems.ProblemFault.TheVariants.{Fen, NoFen, TwoFens, WrongGame, LineTooLong, SectionTooLong, UnclosedTag, UnclosedComment, TooManyProblems}
 use Rattle.dw_report.specs.Chosen.{number_is_chosen}
 use Rattle.dw_report.specs.declared.settings.Command.{Command}
-use Rattle.dw_report.specs.declared.settings.Command.TheVariants.{Show, Moves}
-use Rattle.dw_report.specs.declared.settings.Settings.{Settings}
+use Rattle.dw_report.specs.declared.settings.Command.TheVariants.{Show, Moves, Judge, List as Lists}
+use Rattle.dw_report.specs.Request.{Request}
+use Rattle.dw_report.specs.JudgedText.{IsJudgedText}
+use Rattle.dw_report.specs.ListedText.{IsListedText}
 
 -- the number and the name of a fault of a FEN text
 abbrev pub fen_fault_text : FenFaultKind → List ℕ
@@ -69,34 +71,40 @@ pub record IsMovesText (g : Geometry) (p : Placement) (text : List ℕ) : Type 0
   pub best : IsBest g p most
   pub is : text ≡ flat_map (move_line g p list) list ++ count_line (length list) most
 
+-- what is said of a position
+abbrev pub IsSaid : Geometry → Command → Request → Placement → List ℕ → Type 0
+IsSaid g Show request p text = text ≡ diagram_text g p
+IsSaid g Moves request p text = IsMovesText g p text
+IsSaid g Judge request p text = IsJudgedText g p request.moves text
+IsSaid g Lists request p text = IsListedText g p request.moves request.lines request.after text
+
 -- what the command says of a position
-abbrev pub IsAnswer : Geometry → Command → Placement → List ℕ → Type 0
-IsAnswer g Show p text = text ≡ diagram_text g p
-IsAnswer g Moves p text = IsMovesText g p text
+abbrev pub IsAnswer : Geometry → Request → Placement → List ℕ → Type 0
+IsAnswer g request p text = IsSaid g request.command request p text
 
 -- what follows a first line: the answer, and nothing behind a refusal
-abbrev pub IsFurther : Geometry → Command → Found → List ℕ → Type 0
-IsFurther g command (Ok p) text = IsAnswer g command p text
-IsFurther g command (Err fault) text = text ≡ []
+abbrev pub IsFurther : Geometry → Request → Found → List ℕ → Type 0
+IsFurther g request (Ok p) text = IsAnswer g request p text
+IsFurther g request (Err fault) text = text ≡ []
 
 -- the text of a problem: its first line, and what follows it
-pub record IsProblemText (g : Geometry) (command : Command) (problem : Numbered) (text : List ℕ) : Type 0 where
+pub record IsProblemText (g : Geometry) (request : Request) (problem : Numbered) (text : List ℕ) : Type 0 where
   pub further : List ℕ
-  pub follows : IsFurther g command problem.found further
+  pub follows : IsFurther g request problem.found further
   pub is : text ≡ first_line g problem ++ further
 
 -- the texts of problems, one behind another
-abbrev pub AreTexts : Geometry → Command → List Numbered → List ℕ → Type 0
-AreTexts g command [] text = text ≡ []
-AreTexts g command (problem ∷ problems) text = (one : List ℕ) × (rest : List ℕ) × IsProblemText g command problem one × AreTexts g command problems rest × (text ≡ one ++ rest)
+abbrev pub AreTexts : Geometry → Request → List Numbered → List ℕ → Type 0
+AreTexts g request [] text = text ≡ []
+AreTexts g request (problem ∷ problems) text = (one : List ℕ) × (rest : List ℕ) × IsProblemText g request problem one × AreTexts g request problems rest × (text ≡ one ++ rest)
 
 abbrev pub chosen : Option ℕ → List Numbered → List Numbered
 chosen only problems = filter (λ problem. number_is_chosen only problem.number) problems
 
 -- the texts of the chosen ones among some problems
-abbrev pub IsReportOn : Geometry → Settings → List Numbered → List ℕ → Type 0
-IsReportOn g settings problems text = AreTexts g settings.command (chosen settings.only problems) text
+abbrev pub IsReportOn : Geometry → Request → List Numbered → List ℕ → Type 0
+IsReportOn g request problems text = AreTexts g request (chosen request.only problems) text
 
 -- the report on a byte text
-abbrev pub IsReport : Geometry → Settings → List ℕ → List ℕ → Type 0
-IsReport g settings bytes text = IsReportOn g settings (problems_of g settings.form bytes) text
+abbrev pub IsReport : Geometry → Request → List ℕ → List ℕ → Type 0
+IsReport g request bytes text = IsReportOn g request (problems_of g request.form bytes) text

@@ -1,24 +1,30 @@
--- What a run writes, and what stands where a stream failed.
-use Rattle.std.specs.Prelude.{◌≡◌, ℕ, ◌<◌, ◌⊎◌, if◌then◌else◌, List, [], ◌∷◌, ◌++◌, length, Bool, true, IsTrue, Option, Some, None, Result, Ok, Err, is_err, count_by}
+-- What a run writes, what it counts, and what stands where a stream failed or the run was stopped.
+use Rattle.std.specs.Prelude.{◌≡◌, ℕ, ◌+◌, ◌≤◌, ◌<◌, ◌⊎◌, if◌then◌else◌, List, [], ◌∷◌, ◌++◌, length, Bool, true, false, IsTrue, Option, Some, None, Result, Ok, Err}
 use Rattle.std.specs.List.{list_any}
 use Rattle.std.specs.Io.KnownBytes.{Consumes, Appends, IsAtEnd}
 use Rattle.dw_board.specs.Geometry.{Geometry}
+use Rattle.dw_board.specs.Placement.{Placement}
+use Rattle.dw_moves.specs.Moves.{Move}
+use Rattle.dw_notation.specs.Found.{Found}
 use Rattle.dw_notation.specs.Problems.{Numbered, problems_of, ended_problems_of}
 use Rattle.dw_notation.specs.Writes.{IsBeginning}
 use Rattle.dw_notation.specs.declared.problems.TheConstants.{MAX_PROBLEMS}
+use Rattle.dw_solve.specs.Searching.{IsCounted}
+use Rattle.dw_solve.specs.Solving.{Solving}
+use Rattle.dw_solve.specs.declared.stop.Stop.{Stop}
+use Rattle.dw_solve.specs.declared.stop.Stop.TheVariants.{Memory, Limit}
+use Rattle.dw_list.specs.Lines.{Line}
 use Rattle.dw_report.specs.Chosen.{number_is_asked}
+use Rattle.dw_report.specs.Request.{Request}
 use Rattle.dw_report.specs.Report.{IsReport, IsReportOn, IsFurther, AreTexts, first_line, chosen}
 use Rattle.dw_report.specs.Writing.{Writes, WritesShort}
-use Rattle.dw_report.specs.declared.settings.Settings.{Settings}
 use Rattle.dw_report.specs.declared.settings.Summary.{Summary}
 use Rattle.dw_report.specs.declared.settings.RunFault.{RunFault}
-use Rattle.dw_report.specs.declared.settings.RunFault.TheVariants.{Stopped, Read, Write}
+use Rattle.dw_report.specs.declared.settings.RunFault.TheVariants as ends
 use Rattle.dw_report.specs.declared.settings.Command.{Command}
-use Rattle.dw_report.specs.declared.settings.Command.TheVariants.{Moves}
+use Rattle.dw_report.specs.declared.settings.Command.TheVariants as asked
 use Rattle.dw_report.specs.declared.problem.TextFault.{TextFault}
-use Rattle.dw_report.specs.declared.problem.TextFault.TheVariants.{Sink}
-use Rattle.dw_solve.specs.declared.stop.Stop.{Stop}
-use Rattle.dw_solve.specs.declared.stop.Stop.TheVariants.{Memory}
+use Rattle.dw_report.specs.declared.problem.TextFault.TheVariants.{Stopped, Sink}
 
 -- the problem that was asked for by its number
 abbrev pub is_asked : Option ℕ → Numbered → Bool
@@ -29,30 +35,52 @@ abbrev pub up_to_asked : Option ℕ → List Numbered → List Numbered
 up_to_asked only [] = []
 up_to_asked only (problem ∷ problems) = problem ∷ (if is_asked only problem then [] else up_to_asked only problems)
 
-abbrev pub is_refused : Numbered → Bool
-is_refused problem = is_err problem.found
+-- a list of moves is given, and it is no line of the position
+abbrev pub IsNoLine : Geometry → Placement → ℕ → Option (List Move) → Type 0
+IsNoLine g p n None = ⊥
+IsNoLine g p n (Some l) = Line g p n l → ⊥
 
--- the summary counts the problems read, those reported, and those refused among them
-pub record Counts (settings : Settings) (summary : Summary) (problems : List Numbered) : Type 0 where
-  pub read : summary.problems ≡ length (up_to_asked settings.only problems)
-  pub shown : summary.shown ≡ length (chosen settings.only problems)
-  pub refusals : summary.refused ≡ count_by is_refused (chosen settings.only problems)
+-- the problem is refused, or the line after which its lines are asked for
+abbrev pub IsRefused : Geometry → Request → Found → Type 0
+IsRefused g request (Ok p) = (request.command ≡ asked.List) × IsNoLine g p request.moves request.after
+IsRefused g request (Err fault) = Unit {0}
+
+-- so many of these problems are
+abbrev pub AreRefused : Geometry → Request → List Numbered → ℕ → Type 0
+AreRefused g request [] count = count ≡ 0
+AreRefused g request (problem ∷ problems) count =
+    (IsRefused g request problem.found × ((rest : ℕ) × AreRefused g request problems rest × (count ≡ rest + 1)))
+    ⊎ ((IsRefused g request problem.found → ⊥) × AreRefused g request problems count)
+
+-- the summary counts the problems read, those reported, and the refusals among them
+pub record Counts (g : Geometry) (request : Request) (summary : Summary) (problems : List Numbered) : Type 0 where
+  pub read : summary.problems ≡ length (up_to_asked request.only problems)
+  pub shown : summary.shown ≡ length (chosen request.only problems)
+  pub refusals : AreRefused g request (chosen request.only problems) summary.refused
+
+-- the counts with one more problem read, which is chosen or not
+pub record CountsOne (g : Geometry) (request : Request) (old new : Summary) (problem : Numbered) : Type 0 where
+  pub read : new.problems ≡ old.problems + 1
+  pub shown : new.shown ≡ old.shown + length (chosen request.only (problem ∷ []))
+  pub refused : (count : ℕ) × AreRefused g request (chosen request.only (problem ∷ [])) count × (new.refused ≡ old.refused + count)
 
 -- the source was read to its end, unless the problem asked for or one too many came first
-abbrev pub IsReadThrough : Settings → List Numbered → Option (List ℕ) → Type 0
-IsReadThrough settings problems left = IsAtEnd left ⊎ (IsTrue (list_any (is_asked settings.only) problems) ⊎ (MAX_PROBLEMS < length problems))
+abbrev pub IsReadThrough : Request → List Numbered → Option (List ℕ) → Type 0
+IsReadThrough request problems left = IsAtEnd left ⊎ (IsTrue (list_any (is_asked request.only) problems) ⊎ (MAX_PROBLEMS < length problems))
 
 -- the whole report on these bytes was written, and nothing else
-pub record Finishes (g : Geometry) (settings : Settings) (bytes : List ℕ) (left taken after : Option (List ℕ)) (summary : Summary) : Type 0 where
-  pub wrote : Writes (IsReport g settings bytes) taken after
-  pub counts : Counts settings summary (problems_of g settings.form bytes)
-  pub through : IsReadThrough settings (problems_of g settings.form bytes) left
+pub record Finishes (g : Geometry) (request : Request) (bytes : List ℕ) (left taken after : Option (List ℕ)) (summary : Summary) : Type 0 where
+  pub wrote : Writes (IsReport g request bytes) taken after
+  pub counts : Counts g request summary (problems_of g request.form bytes)
+  pub through : IsReadThrough request (problems_of g request.form bytes) left
 
--- after a failed read the sink has taken the whole texts of just the chosen problems that end in the bytes read
-pub record StopsReading (g : Geometry) (settings : Settings) (bytes : List ℕ) (left taken after : Option (List ℕ)) : Type 0 where
+-- After a failed read the sink has taken the whole texts of just the chosen problems that end in the bytes read. The
+-- problem that was asked for is none of those: reading ends behind it.
+pub record StopsReading (g : Geometry) (request : Request) (bytes : List ℕ) (left taken after : Option (List ℕ)) : Type 0 where
   pub read : List ℕ
   pub took : Consumes (Some bytes) left read
-  pub wrote : Writes (IsReportOn g settings (ended_problems_of g settings.form read)) taken after
+  pub wrote : Writes (IsReportOn g request (ended_problems_of g request.form read)) taken after
+  pub unasked : list_any (is_asked request.only) (ended_problems_of g request.form read) ≡ false
 
 -- the sink has taken a beginning of some kind, whatever bytes follow those read; none do where the end was met
 pub record StopsAhead (P : List ℕ → List ℕ → Type 0) (bytes : List ℕ) (left taken after : Option (List ℕ)) : Type 0 where
@@ -65,9 +93,9 @@ pub record StopsAhead (P : List ℕ → List ℕ → Type 0) (bytes : List ℕ) 
   pub front : (more : List ℕ) → (met_end ≡ true → more ≡ []) → P (read ++ more) out
 
 -- some beginning of the report, byte for byte
-pub record BeginsReport (g : Geometry) (settings : Settings) (bytes out : List ℕ) : Type 0 where
+pub record BeginsReport (g : Geometry) (request : Request) (bytes out : List ℕ) : Type 0 where
   pub whole : List ℕ
-  pub is : IsReport g settings bytes whole
+  pub is : IsReport g request bytes whole
   pub front : IsBeginning out whole
 
 -- each line is whole: nothing, or something that ends with a line feed
@@ -82,51 +110,76 @@ pub record AreLinesOf (P : List ℕ → Type 0) (lines : List ℕ) : Type 0 wher
   pub whole : AreWholeLines lines
 
 -- the first line of a problem, and whole lines of what follows it
-pub record IsProblemPart (g : Geometry) (command : Command) (problem : Numbered) (out : List ℕ) : Type 0 where
+pub record IsProblemPart (g : Geometry) (request : Request) (problem : Numbered) (out : List ℕ) : Type 0 where
   pub lines : List ℕ
-  pub are : AreLinesOf (IsFurther g command problem.found) lines
+  pub are : AreLinesOf (IsFurther g request problem.found) lines
   pub is : out ≡ first_line g problem ++ lines
 
 -- the whole texts of the chosen problems before one of them, and a part of that one's text
-pub record IsPartOn (g : Geometry) (settings : Settings) (problems : List Numbered) (out : List ℕ) : Type 0 where
+pub record IsPartOn (g : Geometry) (request : Request) (problems : List Numbered) (out : List ℕ) : Type 0 where
   pub before : List Numbered
   pub problem : Numbered
   pub behind : List Numbered
-  pub are : chosen settings.only problems ≡ before ++ problem ∷ behind
+  pub are : chosen request.only problems ≡ before ++ problem ∷ behind
   pub texts : List ℕ
-  pub whole : AreTexts g settings.command before texts
+  pub whole : AreTexts g request before texts
   pub last : List ℕ
-  pub part : IsProblemPart g settings.command problem last
+  pub part : IsProblemPart g request problem last
   pub is : out ≡ texts ++ last
 
-abbrev pub IsPart : Geometry → Settings → List ℕ → List ℕ → Type 0
-IsPart g settings bytes out = IsPartOn g settings (problems_of g settings.form bytes) out
+abbrev pub IsPart : Geometry → Request → List ℕ → List ℕ → Type 0
+IsPart g request bytes out = IsPartOn g request (problems_of g request.form bytes) out
 
 -- what a run did, where the source tells its bytes
-abbrev pub RunEnds : Geometry → Settings → Option (List ℕ) → Option (List ℕ) → Option (List ℕ) → Option (List ℕ) → Result Summary RunFault → Type 0
-RunEnds g settings None left taken after result = Unit {0}
-RunEnds g settings (Some bytes) left taken after (Ok summary) = Finishes g settings bytes left taken after summary
-RunEnds g settings (Some bytes) left taken after (Err (Stopped why expanded)) = StopsAhead (IsPart g settings) bytes left taken after
-RunEnds g settings (Some bytes) left taken after (Err Read) = StopsReading g settings bytes left taken after
-RunEnds g settings (Some bytes) left taken after (Err Write) = StopsAhead (BeginsReport g settings) bytes left taken after
+abbrev pub RunEnds : Geometry → Request → Option (List ℕ) → Option (List ℕ) → Option (List ℕ) → Option (List ℕ) → Result Summary RunFault → Type 0
+RunEnds g request None left taken after result = Unit {0}
+RunEnds g request (Some bytes) left taken after (Ok summary) = Finishes g request bytes left taken after summary
+RunEnds g request (Some bytes) left taken after (Err (ends.Stopped why expanded)) = StopsAhead (IsPart g request) bytes left taken after
+RunEnds g request (Some bytes) left taken after (Err ends.Read) = StopsReading g request bytes left taken after
+RunEnds g request (Some bytes) left taken after (Err ends.Write) = StopsAhead (BeginsReport g request) bytes left taken after
 
--- a run is stopped only by want of memory, and only where moves are listed
-abbrev pub StopsForMemory : Command → Result Summary RunFault → Type 0
-StopsForMemory command result = (why : Stop) (expanded : ℕ) → result ≡ Err (Stopped why expanded) → (command ≡ Moves) × (why ≡ Memory) × (expanded ≡ 0)
+-- a search is stopped at the limit, or by want of memory before it
+abbrev pub StopsSearch : ℕ → Stop → ℕ → Type 0
+StopsSearch limit Limit expanded = expanded ≡ limit
+StopsSearch limit Memory expanded = expanded ≤ limit
 
--- what writing a text did: it was written; after want of memory a part of it; after a fault of the sink some beginning
+-- where positions are shown nothing stops, where moves are listed only want of memory, and else a search
+abbrev pub MayStop : Command → ℕ → Stop → ℕ → Type 0
+MayStop asked.Show limit why expanded = ⊥
+MayStop asked.Moves limit why expanded = (why ≡ Memory) × (expanded ≡ 0)
+MayStop asked.Judge limit why expanded = StopsSearch limit why expanded
+MayStop asked.List limit why expanded = StopsSearch limit why expanded
+
+-- how a run is stopped, if it is
+abbrev pub StopsRightly : Command → ℕ → Result Summary RunFault → Type 0
+StopsRightly command limit result =
+    (why : Stop) (expanded : ℕ) → result ≡ Err (ends.Stopped why expanded) → MayStop command limit why expanded
+
+-- what writing a text did: it was written; after a stop a part of it; after a fault of the sink some beginning
 abbrev pub TextEnds : {X : Type 0} → (List ℕ → Type 0) → (List ℕ → Type 0) → Option (List ℕ) → Option (List ℕ) → Result X TextFault → Type 0
 TextEnds P Part old new (Ok x) = Writes P old new
-TextEnds P Part old new (Err TextFault.Memory) = Writes Part old new
+TextEnds P Part old new (Err (Stopped why)) = Writes Part old new
 TextEnds P Part old new (Err Sink) = WritesShort P old new
 
 -- the sink has failed exactly where it is the fault
 abbrev pub SinkEnds : {X : Type 0} → Bool → Bool → Result X TextFault → Type 0
 SinkEnds old new (Ok x) = new ≡ old
-SinkEnds old new (Err TextFault.Memory) = new ≡ old
+SinkEnds old new (Err (Stopped why)) = new ≡ old
 SinkEnds old new (Err Sink) = new ≡ true
 
+-- expansions are counted, up to the limit, and it is the limit that stops a search there
+pub record Spends {M X : Type 0} (old new : Solving M) (result : Result X TextFault) : Type 0 where
+  pub count : IsCounted old.expanded old.limit new.expanded new.limit
+  pub limit : result ≡ Err (Stopped Limit) → new.expanded ≡ new.limit
+
+-- nothing is searched where positions are shown or moves are listed, and only want of memory stops that
+abbrev pub SearchesFor : {M X : Type 0} → Command → Solving M → Solving M → Result X TextFault → Type 0
+SearchesFor asked.Show old new result = (new ≡ old) × ((why : Stop) → result ≡ Err (Stopped why) → ⊥)
+SearchesFor asked.Moves old new result = (new ≡ old) × ((why : Stop) → result ≡ Err (Stopped why) → why ≡ Memory)
+SearchesFor asked.Judge old new result = Spends old new result
+SearchesFor asked.List old new result = Spends old new result
+
 -- how a run ends where a text was not written to its end
-abbrev pub ended_by : TextFault → RunFault
-ended_by TextFault.Memory = Stopped Memory 0
-ended_by Sink = Write
+abbrev pub ended_by : TextFault → ℕ → RunFault
+ended_by (Stopped why) expanded = ends.Stopped why expanded
+ended_by Sink expanded = ends.Write

@@ -5,8 +5,10 @@
 
 mod dual;
 pub mod judge;
+mod judged;
 mod keys;
 pub mod laws;
+mod listing;
 pub mod problem;
 pub mod run;
 pub mod settings;

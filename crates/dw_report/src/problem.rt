@@ -1,41 +1,56 @@
 //! The text of a problem, written line by line.
-ghost use Rattle.std.specs.Prelude.{◌≡◌, ◌≢◌, Ok, Err};
+ghost use Rattle.std.specs.Prelude.{◌≡◌, ◌≤◌, ◌⊎◌, ◌↔◌, ◌≢◌, false, Ok, Err, IfOk, IsTrue, Option, Some};
 ghost use Rattle.dw_notation.specs.Problems.{numbered};
+ghost use Rattle.dw_report.specs.Request.{request_of};
 ghost use Rattle.dw_report.specs.Report.{IsProblemText, IsAnswer, IsMovesText};
 ghost use Rattle.dw_report.specs.declared.problem.TextFault.TheVariants as because;
-ghost use Rattle.dw_report.specs.Running.{TextEnds, SinkEnds, IsProblemPart, AreLinesOf};
+ghost use Rattle.dw_report.specs.Running.{TextEnds, SinkEnds, SearchesFor, IsProblemPart, AreLinesOf, IsRefused, IsNoLine};
 
+use crate::judged::write_judged;
 use crate::laws::one_report;
-use crate::settings::Command;
+use crate::listing::write_lines;
+use crate::settings::{Command, Settings};
 use crate::text::{count_line, first_line, move_line};
 use dw_board::board::Board;
 use dw_board::diagram::diagram;
 use dw_board::position::Position;
+use dw_memo::memo::Memo;
 use dw_moves::best::best;
 use dw_moves::laws::moves_in_order;
 use dw_moves::listed::listed;
 use dw_notation::problems::Problem;
 use dw_notation::streams::Sink;
 use dw_notation::writes::{WriteFault, write_all};
+use dw_solve::guide::Guide;
+use dw_solve::solver::Solver;
+use dw_solve::stop::Stop;
 use std::alloc::{AllocError, Global};
 use thiserror::Error;
 
 /// Why a text was not written to its end.
 #[derive(Clone, Copy, Debug, PartialEq, Eq, Error)]
 pub enum TextFault {
-    /// Memory was refused.
-    #[error("out of memory")]
-    Memory,
+    /// Memory was refused, or the search was stopped.
+    #[error("stopped: {0}")]
+    Stopped(Stop),
     /// The sink failed.
     #[error("write failed")]
     Sink,
 }
 
 impl From<AllocError> for TextFault {
-    ghost from_gives = { λ _ fault. fault ≡ because.Memory };
+    ghost from_gives = { λ _ fault. fault ≡ because.Stopped Stop.Memory };
 
     fn from(_refused: AllocError) -> TextFault {
-        TextFault::Memory
+        TextFault::Stopped(Stop::Memory)
+    }
+}
+
+impl From<Stop> for TextFault {
+    ghost from_gives = { λ stop fault. fault ≡ because.Stopped stop };
+
+    fn from(stop: Stop) -> TextFault {
+        TextFault::Stopped(stop)
     }
 }
 
@@ -48,47 +63,70 @@ impl From<WriteFault> for TextFault {
 }
 
 /// Writes the text of a problem: its first line at once, then what the command adds, each line as soon as it is known.
+/// Answers whether the problem was refused, or the line after which its lines are asked for.
 ///
-/// After want of memory the sink has its first line and whole lines of the rest. That comes only where moves are listed.
-pub fn write_problem<B: Board, K: Sink>(
+/// After a stop the sink has its first line and whole lines of the rest.
+pub fn write_problem<B: Board, K: Sink, M: Memo<B>, G: Guide<B>>(
     alloc: Global,
     sink: &mut K,
-    command: Command,
+    solver: &mut Solver<B, M, G>,
+    settings: &Settings<B>,
     problem: &Problem<B>,
-) -> Result<(), TextFault>
-    ensures text { TextEnds (IsProblemText B.geometry command (numbered problem.now)) (IsProblemPart B.geometry command (numbered problem.now)) (K.taken sink.old) (K.taken sink.new) result }
+) -> Result<bool, TextFault>
+    requires works { K.is_failed sink.old ≡ false }
+    requires some { 1 ≤ settings.now.n }
+    requires few { settings.now.n ≤ 20 }
+    requires lines { 1 ≤ settings.now.lines }
+    requires rows { settings.now.command ≡ Command.List → (B.geometry.rows ≡ 10) ⊎ (B.geometry.rows ≡ 8) }
+    ensures text { TextEnds (IsProblemText B.geometry (request_of settings.now) (numbered problem.now)) (IsProblemPart B.geometry (request_of settings.now) (numbered problem.now)) (K.taken sink.old) (K.taken sink.new) result }
     ensures sink { SinkEnds (K.is_failed sink.old) (K.is_failed sink.new) result }
-    ensures memory { result ≡ Err TextFault.Memory → command ≡ Command.Moves }
+    ensures searches { SearchesFor settings.now.command solver.old solver.new result }
+    ensures refused { IfOk result (λ refused. IsTrue refused ↔ IsRefused B.geometry (request_of settings.now) (numbered problem.now).found) }
 {
     one_report();
     write_all(sink, first_line(problem).as_str().as_bytes())?;
     match &problem.found {
-        Ok(position) => write_answer(alloc, sink, command, position),
-        Err(_) => Ok(()),
+        Ok(position) => write_answer(alloc, sink, solver, settings, position),
+        Err(_) => Ok(true),
     }
 }
 
-/// Writes what the command says of a position.
-fn write_answer<B: Board, K: Sink>(
+/// Writes what the command says of a position. Answers whether the line after which lines are asked for was refused.
+fn write_answer<B: Board, K: Sink, M: Memo<B>, G: Guide<B>>(
     alloc: Global,
     sink: &mut K,
-    command: Command,
+    solver: &mut Solver<B, M, G>,
+    settings: &Settings<B>,
     position: &Position<B>,
-) -> Result<(), TextFault>
-    ensures text { TextEnds (IsAnswer B.geometry command position.now) (AreLinesOf (IsAnswer B.geometry command position.now)) (K.taken sink.old) (K.taken sink.new) result }
+) -> Result<bool, TextFault>
+    requires works { K.is_failed sink.old ≡ false }
+    requires some { 1 ≤ settings.now.n }
+    requires few { settings.now.n ≤ 20 }
+    requires lines { 1 ≤ settings.now.lines }
+    requires rows { settings.now.command ≡ Command.List → (B.geometry.rows ≡ 10) ⊎ (B.geometry.rows ≡ 8) }
+    ensures text { TextEnds (IsAnswer B.geometry (request_of settings.now) position.now) (AreLinesOf (IsAnswer B.geometry (request_of settings.now) position.now)) (K.taken sink.old) (K.taken sink.new) result }
     ensures sink { SinkEnds (K.is_failed sink.old) (K.is_failed sink.new) result }
-    ensures memory { result ≡ Err TextFault.Memory → command ≡ Command.Moves }
+    ensures searches { SearchesFor settings.now.command solver.old solver.new result }
+    ensures refused { IfOk result (λ refused. IsTrue refused ↔ (settings.now.command ≡ Command.List) × IsNoLine B.geometry position.now settings.now.n (request_of settings.now).after) }
 {
-    match command {
+    match settings.command {
         Command::Show => {
             write_all(sink, diagram(position).as_str().as_bytes())?;
-            Ok(())
+            Ok(false)
         }
-        Command::Moves => write_moves(alloc, sink, position),
+        Command::Moves => {
+            write_moves(alloc, sink, position)?;
+            Ok(false)
+        }
+        Command::Judge => {
+            write_judged(alloc, sink, solver, position, settings.n)?;
+            Ok(false)
+        }
+        Command::List => write_lines(alloc, sink, solver, settings, position),
     }
 }
 
-/// Writes the lines of all legal moves in order, and their count.
+/// Writes the lines of all legal moves in order, and their count. Only want of memory stops it.
 fn write_moves<B: Board, K: Sink>(
     alloc: Global,
     sink: &mut K,
@@ -96,6 +134,7 @@ fn write_moves<B: Board, K: Sink>(
 ) -> Result<(), TextFault>
     ensures text { TextEnds (IsMovesText B.geometry position.now) (AreLinesOf (IsMovesText B.geometry position.now)) (K.taken sink.old) (K.taken sink.new) result }
     ensures sink { SinkEnds (K.is_failed sink.old) (K.is_failed sink.new) result }
+    ensures memory { (why : Stop) → result ≡ Err (because.Stopped why) → why ≡ Stop.Memory }
 {
     moves_in_order();
     let taken = best(position);

@@ -1,38 +1,57 @@
 //! A run: bytes in, the report out.
-ghost use Rattle.std.specs.Prelude.{◌≡◌, ◌+◌, ◌<◌, ◌≤◌, true, false, Err, [], ◌∷◌, length, count_by, IfOk, if◌then◌else◌};
+ghost use Rattle.std.specs.Prelude.{◌≡◌, ◌+◌, ◌<◌, ◌≤◌, ◌⊎◌, true, false, Err, [], ◌∷◌, length, IfOk, if◌then◌else◌};
 ghost use Rattle.dw_notation.specs.Problems.{numbered};
+ghost use Rattle.dw_solve.specs.Facts.{AreTrue};
+ghost use Rattle.dw_report.specs.Request.{request_of};
 ghost use Rattle.dw_report.specs.Report.{chosen, IsReportOn};
-ghost use Rattle.dw_report.specs.Running.{RunEnds, StopsForMemory, TextEnds, SinkEnds, IsPartOn, ended_by, is_refused};
+ghost use Rattle.dw_report.specs.Running.{RunEnds, StopsRightly, TextEnds, SinkEnds, SearchesFor, IsPartOn, CountsOne, ended_by};
 
 use crate::laws::one_report;
 use crate::problem::{TextFault, write_problem};
-use crate::settings::{Command, RunFault, Settings, Stop, Summary};
+use crate::settings::{Command, RunFault, Settings, Summary};
 use dw_board::board::Board;
+use dw_memo::memo::Memo;
 use dw_notation::problems::{Problem, Problems};
 use dw_notation::streams::{Sink, Source};
+use dw_solve::guide::Guide;
+use dw_solve::solver::Solver;
 use std::alloc::Global;
 
-/// Writes the report on the problems of the source: of each chosen problem its whole text, in order.
+/// Writes the report on the problems of the source: of each chosen problem its whole text, in order. One solver over
+/// the memo, all of whose bounds are right, serves the whole run; the report depends neither on the memo nor on the
+/// guide.
+///
+/// Lines are listed on boards of 10 and 8 rows, which have tokens.
 ///
 /// Reading ends at the end of the source, or behind the problem that was asked for. `Read` and `Write` come only
 /// where that stream failed: after `Read` the sink has the whole texts of the chosen problems that end in
-/// the bytes read, after `Write` some beginning of the report. `Stopped` comes only where moves are listed and memory
-/// is refused; the sink has then the whole texts of some chosen problems, the first line of the next, and whole lines
-/// of the rest of its text.
-pub fn run<B: Board, S: Source, K: Sink>(
+/// the bytes read, and the problem asked for is none of these; after `Write` some beginning of the report. After
+/// `Stopped` the sink has the whole texts of some chosen problems, the first line of the next, and whole lines of the
+/// rest of its text. Positions are shown without a stop, and moves listed with none but want of memory; `Limit` comes
+/// only where as many positions were expanded as the settings allow.
+pub fn run<B: Board, S: Source, K: Sink, M: Memo<B>, G: Guide<B>>(
     alloc: Global,
     source: &mut S,
     sink: &mut K,
-    settings: &Settings,
+    settings: &Settings<B>,
+    memo: M,
+    guide: G,
 ) -> Result<Summary, RunFault>
     requires source { S.is_failed source.old ≡ false }
     requires sink { K.is_failed sink.old ≡ false }
-    ensures report { RunEnds B.geometry settings.now (S.coming source.old) (S.coming source.new) (K.taken sink.old) (K.taken sink.new) result }
+    requires right { AreTrue B.geometry (M.content memo) }
+    requires some { 1 ≤ settings.now.n }
+    requires few { settings.now.n ≤ 20 }
+    requires lines { 1 ≤ settings.now.lines }
+    requires limit { 1 ≤ settings.now.limit }
+    requires rows { settings.now.command ≡ Command.List → (B.geometry.rows ≡ 10) ⊎ (B.geometry.rows ≡ 8) }
+    ensures report { RunEnds B.geometry (request_of settings.now) (S.coming source.old) (S.coming source.new) (K.taken sink.old) (K.taken sink.new) result }
     ensures read { result ≡ Err RunFault.Read → S.is_failed source.new ≡ true }
     ensures write { result ≡ Err RunFault.Write → K.is_failed sink.new ≡ true }
-    ensures stopped { StopsForMemory settings.now.command result }
+    ensures stopped { StopsRightly settings.now.command settings.now.limit result }
 {
     one_report();
+    let mut solver = Solver::new(memo, guide, settings.limit);
     let mut problems = Problems::<B, S>::new(source, settings.form);
     let mut summary = Summary::default();
     'problems: loop {
@@ -40,7 +59,10 @@ pub fn run<B: Board, S: Source, K: Sink>(
             Err(_) => return Err(RunFault::Read),
             Ok(None) => return Ok(summary),
             Ok(Some(problem)) => {
-                summary = report_problem(alloc, sink, settings, &problem, summary)?;
+                match report_problem(alloc, sink, &mut solver, settings, &problem, summary) {
+                    Err(fault) => return Err(ended(fault, solver.expanded())),
+                    Ok(counted) => summary = counted,
+                }
                 if settings.asks_for(problem.number) {
                     return Ok(summary);
                 }
@@ -49,37 +71,37 @@ pub fn run<B: Board, S: Source, K: Sink>(
     }
 }
 
-impl From<TextFault> for RunFault {
-    ghost from_gives = { λ fault ended. ended ≡ ended_by fault };
-
-    fn from(fault: TextFault) -> RunFault {
-        match fault {
-            TextFault::Memory => RunFault::Stopped {
-                why: Stop::Memory,
-                expanded: 0,
-            },
-            TextFault::Sink => RunFault::Write,
-        }
+/// How a run ends where a text was not written to its end, after so many expansions.
+fn ended(fault: TextFault, expanded: u64) -> RunFault
+    ensures { result ≡ ended_by fault expanded }
+{
+    match fault {
+        TextFault::Stopped(why) => RunFault::Stopped { why, expanded },
+        TextFault::Sink => RunFault::Write,
     }
 }
 
 /// Writes the text of a problem, if it is chosen, and counts the problem.
-fn report_problem<B: Board, K: Sink>(
+fn report_problem<B: Board, K: Sink, M: Memo<B>, G: Guide<B>>(
     alloc: Global,
     sink: &mut K,
-    settings: &Settings,
+    solver: &mut Solver<B, M, G>,
+    settings: &Settings<B>,
     problem: &Problem<B>,
     summary: Summary,
 ) -> Result<Summary, TextFault>
+    requires works { K.is_failed sink.old ≡ false }
+    requires some { 1 ≤ settings.now.n }
+    requires few { settings.now.n ≤ 20 }
+    requires lines { 1 ≤ settings.now.lines }
+    requires rows { settings.now.command ≡ Command.List → (B.geometry.rows ≡ 10) ⊎ (B.geometry.rows ≡ 8) }
     requires room { summary.problems < 4000000 }
     requires shown { summary.shown ≤ summary.problems }
     requires refused { summary.refused ≤ summary.shown }
-    ensures text { TextEnds (IsReportOn B.geometry settings.now (numbered problem.now ∷ [])) (IsPartOn B.geometry settings.now (numbered problem.now ∷ [])) (K.taken sink.old) (K.taken sink.new) result }
+    ensures text { TextEnds (IsReportOn B.geometry (request_of settings.now) (numbered problem.now ∷ [])) (IsPartOn B.geometry (request_of settings.now) (numbered problem.now ∷ [])) (K.taken sink.old) (K.taken sink.new) result }
     ensures sink { SinkEnds (K.is_failed sink.old) (K.is_failed sink.new) result }
-    ensures memory { result ≡ Err TextFault.Memory → settings.now.command ≡ Command.Moves }
-    ensures read { IfOk result (λ counted. counted.problems ≡ summary.problems + 1) }
-    ensures shown { IfOk result (λ counted. counted.shown ≡ summary.shown + length (chosen settings.now.only (numbered problem.now ∷ []))) }
-    ensures refused { IfOk result (λ counted. counted.refused ≡ summary.refused + count_by is_refused (chosen settings.now.only (numbered problem.now ∷ []))) }
+    ensures searches { SearchesFor settings.now.command solver.old solver.new result }
+    ensures counts { IfOk result (λ counted. CountsOne B.geometry (request_of settings.now) summary counted (numbered problem.now)) }
 {
     let read = Summary {
         problems: summary.problems + 1,
@@ -88,8 +110,8 @@ fn report_problem<B: Board, K: Sink>(
     if !settings.chooses(problem.number) {
         return Ok(read);
     }
-    write_problem(alloc, sink, settings.command, problem)?;
-    Ok(with_shown(read, problem.found.is_err()))
+    let refused = write_problem(alloc, sink, solver, settings, problem)?;
+    Ok(with_shown(read, refused))
 }
 
 /// The summary with one more problem reported.

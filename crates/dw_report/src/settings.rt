@@ -2,6 +2,9 @@
 ghost use Rattle.std.specs.Prelude.{◌≡◌};
 ghost use Rattle.dw_report.specs.Chosen.{number_is_chosen, number_is_asked};
 
+use arrayvec::ArrayVec;
+use dw_board::board::Board;
+use dw_moves::moves::Move;
 use dw_notation::problems::Form;
 pub use dw_solve::stop::Stop;
 use thiserror::Error;
@@ -14,19 +17,31 @@ pub enum Command {
     /// All legal moves in order, each with the position after it; then how many they are, and how many pieces each
     /// of them takes.
     Moves,
+    /// The verdict: whether there is a forced win, and how well; then the tries.
+    Judge,
+    /// The lines of the forced win in order, and whether there are more.
+    List,
 }
 
 /// What a run is asked to do.
-#[derive(Clone, Copy, Debug, PartialEq, Eq)]
-pub struct Settings {
+#[derive(Drop)]
+pub struct Settings<B: Board> {
     pub command: Command,
     /// How the text holds its problems.
     pub form: Form,
+    /// Within how many moves of the side to move a win is looked for, 1 to 20.
+    pub n: u8,
     /// The number of the one problem to report, or all. Reading ends behind that problem.
     pub only: Option<u32>,
+    /// The most lines to list, at least 1.
+    pub lines: u64,
+    /// The line after which the list begins, or none: then it begins with the first line.
+    pub after: Option<ArrayVec<Move<B>, 39>>,
+    /// How many positions may be expanded in the whole run, at least 1.
+    pub limit: u64,
 }
 
-impl Settings {
+impl<B: Board> Settings<B> {
     /// Whether the problem of this number is reported.
     pub fn chooses(&self, number: u32) -> bool
         ensures { result ≡ number_is_chosen self.now.only number }
@@ -55,14 +70,14 @@ pub struct Summary {
     pub problems: u32,
     /// Problems reported.
     pub shown: u32,
-    /// Problems refused among those reported.
+    /// Refusals among those reported: of the problem, or of the line after which its lines were asked for.
     pub refused: u32,
 }
 
 /// Why a run ended before its report was whole.
 #[derive(Clone, Copy, Debug, PartialEq, Eq, Error)]
 pub enum RunFault {
-    /// It was stopped, after this many positions were expanded: none, since nothing is searched yet.
+    /// It was stopped, after this many positions were expanded.
     #[error("stopped: {why}, {expanded} expanded")]
     Stopped { why: Stop, expanded: u64 },
     /// The source failed.

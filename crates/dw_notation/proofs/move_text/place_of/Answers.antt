@@ -4,7 +4,7 @@ use Rattle.std.proofs.lemmas.List.{get_or_default}
 use Rattle.dw_moves.specs.MoveLaws.{same_moves, same_moves-is}
 use Rattle.dw_moves.specs.Order.{Listed}
 use Rattle.dw_notation.proofs.LineTexts.{others_within, others_more}
-use Rattle.dw_notation.proofs.line_text.place_of.Goals as goal
+use Rattle.dw_notation.proofs.move_text.place_of.Goals as goal
 
 pub returns-then-eq-clause-there : goal.returns-then-eq-clause-there
 returns-then-eq-clause-there g c =

@@ -1,6 +1,6 @@
 use Rattle.std.proofs.Common.{◌-◌, length}
 use Rattle.dw_notation.proofs.LineTexts.{OthersTo}
-use Rattle.dw_notation.proofs.line_text.place_of.Given as goal
+use Rattle.dw_notation.proofs.move_text.place_of.Given as goal
 
 abbrev pub invariant-places : goal.invariant-places
 invariant-places g l = OthersTo l.list l.step l.place

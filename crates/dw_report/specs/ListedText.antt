@@ -1,0 +1,48 @@
+-- What is written of the lines of a position.
+use Rattle.std.specs.Prelude.{◌≡◌, ℕ, ◌+◌, ◌≤◌, ◌⊎◌, Option, Some, None, List, [], ◌∷◌, ◌++◌, length, codes, decimal}
+use Rattle.dw_board.specs.Geometry.{Geometry}
+use Rattle.dw_board.specs.Placement.{Placement}
+use Rattle.dw_moves.specs.Moves.{Move}
+use Rattle.dw_notation.specs.Text.{IsLineText}
+use Rattle.dw_list.specs.Lines.{Lines, After, IsPlace}
+use Rattle.dw_list.specs.Tokens.{token_of}
+
+-- the text of each line of play, on a line of its own
+abbrev pub AreLineTexts : Geometry → Placement → List (List Move) → List ℕ → Type 0
+AreLineTexts g p [] text = text ≡ []
+AreLineTexts g p (l ∷ lines) text = (line : List ℕ) × (rest : List ℕ) × IsLineText g p l line × AreLineTexts g p lines rest
+    × (text ≡ line ++ codes "\n" ++ rest)
+
+-- all of them, if they are at most so many, and their number
+pub record IsComplete (g : Geometry) (p : Placement) (most : ℕ) (lines : List (List Move)) (text : List ℕ) : Type 0 where
+  pub few : length lines ≤ most
+  pub texts : List ℕ
+  pub are : AreLineTexts g p lines texts
+  pub is : text ≡ texts ++ codes "complete " ++ decimal (length lines) ++ codes "\n"
+
+-- so many of them, the first ones, and the token of the last that is written, if more are left
+pub record IsCut (g : Geometry) (p : Placement) (most : ℕ) (lines : List (List Move)) (text : List ℕ) : Type 0 where
+  pub earlier : List (List Move)
+  pub last : List Move
+  pub left : List (List Move)
+  pub split : lines ≡ (earlier ++ last ∷ []) ++ left
+  pub many : length (earlier ++ last ∷ []) ≡ most
+  pub more : 1 ≤ length left
+  pub texts : List ℕ
+  pub are : AreLineTexts g p (earlier ++ last ∷ []) texts
+  pub is : text ≡ texts ++ codes "more after " ++ token_of g last ++ codes "\n"
+
+-- these lines, or so many of them
+abbrev pub IsListing : Geometry → Placement → ℕ → List (List Move) → List ℕ → Type 0
+IsListing g p most lines text = IsComplete g p most lines text ⊎ IsCut g p most lines text
+
+-- that a list of moves is no line, with the place at which it leaves all lines
+abbrev pub refused_line : ℕ → List ℕ
+refused_line place = codes "refused token: 1 not a line at " ++ decimal place ++ codes "\n"
+
+-- the lines of a position: all of them, or those after a given one
+abbrev pub IsListedText : Geometry → Placement → ℕ → ℕ → Option (List Move) → List ℕ → Type 0
+IsListedText g p n most None text = (lines : List (List Move)) × Lines g p n lines × IsListing g p most lines text
+IsListedText g p n most (Some l) text =
+    ((lines : List (List Move)) × (rest : List (List Move)) × Lines g p n lines × After lines l rest × IsListing g p most rest text)
+    ⊎ ((place : ℕ) × IsPlace g p n l place × (text ≡ refused_line place))

@@ -1,0 +1,27 @@
+-- What a report is asked for. No limit, no cache and no order of moves is among it.
+use Rattle.std.specs.Prelude.{ℕ, Option, option_map, List}
+use Rattle.dw_moves.specs.Moves.{Move}
+use Rattle.dw_notation.specs.declared.problems.Form.{Form}
+use Rattle.dw_report.specs.declared.settings.Command.{Command}
+use Rattle.dw_report.specs.declared.settings.Settings.{Settings}
+
+-- the command; how the text holds its problems; within how many moves a win is looked for; the number of the one
+-- problem to report, or all; the most lines to list; the line after which they begin, or from the first line on
+pub record Request : Type 0 where
+  pub command : Command
+  pub form : Form
+  pub moves : ℕ
+  pub only : Option ℕ
+  pub lines : ℕ
+  pub after : Option (List Move)
+
+-- what the settings of a run ask for
+abbrev pub request_of : {B : Type 0} → Settings B → Request
+request_of settings = record {
+  command = settings.command;
+  form = settings.form;
+  moves = settings.n;
+  only = settings.only;
+  lines = settings.lines;
+  after = option_map (λ line. line.items) settings.after;
+}
