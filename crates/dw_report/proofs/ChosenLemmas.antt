@@ -1,9 +1,8 @@
 -- Lemmas on the problems that are chosen.
-use Rattle.std.proofs.Common.{◌≡◌, ℕ, suc, ◌+◌, ◌≤◌, inl, inr, List, [], ◌∷◌, ◌++◌, length, Bool, true, false, Option, Some, None, Err, refl, sym, ap, ◌∙◌, append_assoc, append-nil, arith, subst, count_by, cond, eqb, ltb, length-append}
+use Rattle.std.proofs.Common.{◌≡◌, ℕ, suc, ◌+◌, ◌≤◌, inl, inr, List, [], ◌∷◌, ◌++◌, length, Bool, true, false, Option, Some, None, Err, refl, sym, ap, ◌∙◌, append_assoc, append-nil, arith, subst, cond, eqb, ltb, length-append}
 use Rattle.std.specs.List.{list_any}
 use Rattle.std.proofs.lemmas.List.Elements.{filter-append}
 use Rattle.std.proofs.lemmas.List.Folds.{list_any-append}
-use Rattle.std.proofs.lemmas.List.Sums.{sum_by-append}
 use Rattle.std.proofs.lemmas.Bool.{cases_Bool, eqb-true, ne_eqb, true≢false, or_left, or_right}
 use Rattle.dw_board.specs.Geometry.{Geometry}
 use Rattle.dw_notation.specs.Found.{Found}
@@ -13,9 +12,8 @@ use Rattle.dw_notation.specs.declared.problems.ProblemFault.TheVariants.{TooMany
 use Rattle.dw_notation.specs.declared.problems.Form.{Form}
 use Rattle.dw_report.specs.Chosen.{number_is_chosen}
 use Rattle.dw_report.specs.Report.{chosen, AreTexts, IsReportOn}
-use Rattle.dw_report.specs.Running.{is_asked, up_to_asked, is_refused, IsPartOn}
-use Rattle.dw_report.specs.declared.settings.Command.{Command}
-use Rattle.dw_report.specs.declared.settings.Settings.{Settings}
+use Rattle.dw_report.specs.Running.{is_asked, up_to_asked, AreRefused, IsPartOn}
+use Rattle.dw_report.specs.Request.{Request}
 
 -- problems are numbered one by one, behind so many
 abbrev pub AreNumbered : ℕ → List Numbered → Type 0
@@ -84,16 +82,16 @@ any-here only front back p hit = list_any-append (is_asked only) front (p ∷ ba
 pub chosen-append : (only : Option ℕ) (front back : List Numbered) → chosen only (front ++ back) ≡ chosen only front ++ chosen only back
 chosen-append only front back = filter-append (λ q. number_is_chosen only q.number) front back
 
-texts-append : (g : Geometry) (command : Command) (front back : List Numbered) (text behind : List ℕ) → AreTexts g command front text → AreTexts g command back behind → AreTexts g command (front ++ back) (text ++ behind)
-texts-append g command [] back text behind h k = subst (AreTexts g command back) (ap (λ z. z ++ behind) (sym h)) k
-texts-append g command (p ∷ front) back text behind h k = (h.0, h.1 ++ behind, h.2, texts-append g command front back h.1 behind h.3 k, ap (λ z. z ++ behind) h.4 ∙ append_assoc h.0 h.1 behind)
+texts-append : (g : Geometry) (request : Request) (front back : List Numbered) (text behind : List ℕ) → AreTexts g request front text → AreTexts g request back behind → AreTexts g request (front ++ back) (text ++ behind)
+texts-append g request [] back text behind h k = subst (AreTexts g request back) (ap (λ z. z ++ behind) (sym h)) k
+texts-append g request (p ∷ front) back text behind h k = (h.0, h.1 ++ behind, h.2, texts-append g request front back h.1 behind h.3 k, ap (λ z. z ++ behind) h.4 ∙ append_assoc h.0 h.1 behind)
 
 -- the report on some problems and on those behind them
-pub report_on-append : (g : Geometry) (s : Settings) (front back : List Numbered) (text behind : List ℕ) → IsReportOn g s front text → IsReportOn g s back behind → IsReportOn g s (front ++ back) (text ++ behind)
-report_on-append g s front back text behind h k = subst (λ l. AreTexts g s.command l (text ++ behind)) (sym (chosen-append s.only front back)) (texts-append g s.command (chosen s.only front) (chosen s.only back) text behind h k)
+pub report_on-append : (g : Geometry) (s : Request) (front back : List Numbered) (text behind : List ℕ) → IsReportOn g s front text → IsReportOn g s back behind → IsReportOn g s (front ++ back) (text ++ behind)
+report_on-append g s front back text behind h k = subst (λ l. AreTexts g s l (text ++ behind)) (sym (chosen-append s.only front back)) (texts-append g s (chosen s.only front) (chosen s.only back) text behind h k)
 
 -- a part of the text of one of some problems, behind the texts of those before them
-pub part_on-behind : (g : Geometry) (s : Settings) (front mid back all : List Numbered) (text out : List ℕ) → all ≡ (front ++ mid) ++ back → IsReportOn g s front text → IsPartOn g s mid out → IsPartOn g s all (text ++ out)
+pub part_on-behind : (g : Geometry) (s : Request) (front mid back all : List Numbered) (text out : List ℕ) → all ≡ (front ++ mid) ++ back → IsReportOn g s front text → IsPartOn g s mid out → IsPartOn g s all (text ++ out)
 part_on-behind g s front mid back all text out split h part = record {
   before = chosen s.only front ++ part.before;
   problem = part.problem;
@@ -103,7 +101,7 @@ part_on-behind g s front mid back all text out split h part = record {
       ∙ (ap (λ l. l ++ chosen s.only back) (chosen-append s.only front mid ∙ (ap (λ l. chosen s.only front ++ l) part.are ∙ sym (append_assoc (chosen s.only front) part.before (part.problem ∷ part.behind))))
       ∙ append_assoc (chosen s.only front ++ part.before) (part.problem ∷ part.behind) (chosen s.only back)));
   texts = text ++ part.texts;
-  whole = texts-append g s.command (chosen s.only front) part.before text part.texts h part.whole;
+  whole = texts-append g s (chosen s.only front) part.before text part.texts h part.whole;
   last = part.last;
   part = part.part;
   is = ap (λ z. text ++ z) part.is ∙ sym (append_assoc text part.texts part.last);
@@ -123,15 +121,16 @@ chosen-through only front back p are hit =
     ∙ (filter-append (λ q. number_is_chosen only q.number) (front ++ p ∷ []) back
     ∙ (ap (λ l. chosen only (front ++ p ∷ []) ++ l) (chosen-asked only front back p are hit) ∙ append-nil (chosen only (front ++ p ∷ []))))
 
-count_by-append : (xs ys : List Numbered) → count_by is_refused (xs ++ ys) ≡ count_by is_refused xs + count_by is_refused ys
-count_by-append xs ys = sum_by-append (λ x. cond (is_refused x) 1 0) xs ys
+-- so many and so many more are refused
+pub refused-append : (g : Geometry) (r : Request) (xs ys : List Numbered) (m n : ℕ) → AreRefused g r xs m → AreRefused g r ys n → AreRefused g r (xs ++ ys) (m + n)
+refused-append g r [] ys m n h k = let e : n ≡ m + n = omega (arith, h) in subst (AreRefused g r ys) e k
+refused-append g r (x ∷ xs) ys m n (inl (is, rest, are, e)) k =
+    let count : m + n ≡ (rest + n) + 1 = omega (arith, e) in
+    inl (is, rest + n, refused-append g r xs ys rest n are k, count)
+refused-append g r (x ∷ xs) ys m n (inr (none, are)) k = inr (none, refused-append g r xs ys m n are k)
 
-pub count_by-one : (p : Numbered) (n : ℕ) → n + count_by is_refused (p ∷ []) ≡ cond (is_refused p) (n + 1) n
-count_by-one p n = elim (is_refused p) as (λ v. n + (0 + cond v 1 0) ≡ cond v (n + 1) n) [ true ↦ omega arith | false ↦ omega arith ]
-
-pub count_by-push : (only : Option ℕ) (front : List Numbered) (p : Numbered)
-    → count_by is_refused (chosen only (front ++ p ∷ [])) ≡ count_by is_refused (chosen only front) + count_by is_refused (chosen only (p ∷ []))
-count_by-push only front p = ap (count_by is_refused) (chosen-push only front p) ∙ count_by-append (chosen only front) (chosen only (p ∷ []))
+pub refused-push : (g : Geometry) (r : Request) (front : List Numbered) (p : Numbered) (m n : ℕ) → AreRefused g r (chosen r.only front) m → AreRefused g r (chosen r.only (p ∷ [])) n → AreRefused g r (chosen r.only (front ++ p ∷ [])) (m + n)
+refused-push g r front p m n h k = subst (λ z. AreRefused g r z (m + n)) (sym (chosen-push r.only front p)) (refused-append g r (chosen r.only front) (chosen r.only (p ∷ [])) m n h k)
 
 pub length-chosen-push : (only : Option ℕ) (front : List Numbered) (p : Numbered) → length (chosen only (front ++ p ∷ [])) ≡ length (chosen only front) + length (chosen only (p ∷ []))
 length-chosen-push only front p = ap length (chosen-push only front p) ∙ length-append (chosen only front) (chosen only (p ∷ []))

@@ -1,5 +1,6 @@
 pub mod ChosenLemmas
 pub mod MoveLines
+pub mod Searches
 pub mod Runs
 pub mod JudgedTexts
 pub mod ListedTexts

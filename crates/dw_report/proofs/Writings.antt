@@ -9,14 +9,14 @@ use Rattle.dw_notation.specs.Writes.{IsBeginning, StopsShort}
 use Rattle.dw_report.specs.Chosen.{number_is_chosen}
 use Rattle.dw_report.specs.Report.{IsAnswer, IsFurther, IsProblemText, AreTexts, IsReportOn, chosen, first_line}
 use Rattle.dw_report.specs.Running.{TextEnds, AreLinesOf, IsProblemPart, IsPartOn}
-use Rattle.dw_report.specs.declared.settings.Settings.{Settings}
+use Rattle.dw_report.specs.Request.{Request}
+use Rattle.dw_solve.specs.declared.stop.Stop.{Stop}
 use Rattle.dw_report.specs.Writing.{Writes, WritesShort}
 use Rattle.dw_report.specs.declared.problem.TextFault.{TextFault}
-use Rattle.dw_report.specs.declared.problem.TextFault.TheVariants.{Memory, Sink}
-use Rattle.dw_report.specs.declared.settings.Command.{Command}
+use Rattle.dw_report.specs.declared.problem.TextFault.TheVariants.{Stopped, Sink}
 
-pub at_memory : {X : Type 0} (P Part : List ℕ → Type 0) (old new : Option (List ℕ)) (result : Result X TextFault) → result ≡ Err Memory → Writes Part old new → TextEnds P Part old new result
-at_memory P Part old new result e h = subst (TextEnds P Part old new) (sym e) h
+pub at_stop : {X : Type 0} (P Part : List ℕ → Type 0) (old new : Option (List ℕ)) (result : Result X TextFault) (why : Stop) → result ≡ Err (Stopped why) → Writes Part old new → TextEnds P Part old new result
+at_stop P Part old new result why e h = subst (TextEnds P Part old new) (sym e) h
 
 pub at_sink : {X : Type 0} (P Part : List ℕ → Type 0) (old new : Option (List ℕ)) (result : Result X TextFault) → result ≡ Err Sink → WritesShort P old new → TextEnds P Part old new result
 at_sink P Part old new result e h = subst (TextEnds P Part old new) (sym e) h
@@ -48,8 +48,8 @@ stops_within old mid new before piece after whole split wrote stop = record {
 }
 
 -- a problem's first line was cut short
-pub first_line_short : (g : Geometry) (command : Command) (problem : Numbered) (old new : Option (List ℕ)) → (text : List ℕ) × AreTexts g command (problem ∷ []) text → StopsShort old new (first_line g problem) → WritesShort (IsProblemText g command problem) old new
-first_line_short g command problem old new some stop =
+pub first_line_short : (g : Geometry) (request : Request) (problem : Numbered) (old new : Option (List ℕ)) → (text : List ℕ) × AreTexts g request (problem ∷ []) text → StopsShort old new (first_line g problem) → WritesShort (IsProblemText g request problem) old new
+first_line_short g request problem old new some stop =
     let one = some.1.0 in
     let is = some.1.2 in
     record {
@@ -58,36 +58,36 @@ first_line_short g command problem old new some stop =
       stops = stops_within old old new [] (first_line g problem) is.further one is.is (Appends-nil old) stop;
     }
 
-answer_behind : {X : Type 0} (g : Geometry) (command : Command) (problem : Numbered) (old mid new : Option (List ℕ)) (result : Result X TextFault) → Appends old mid (first_line g problem)
-    → TextEnds (IsFurther g command problem.found) (AreLinesOf (IsFurther g command problem.found)) mid new result → TextEnds (IsProblemText g command problem) (IsProblemPart g command problem) old new result
-answer_behind g command problem old mid new (Ok x) first h = record {
+answer_behind : {X : Type 0} (g : Geometry) (request : Request) (problem : Numbered) (old mid new : Option (List ℕ)) (result : Result X TextFault) → Appends old mid (first_line g problem)
+    → TextEnds (IsFurther g request problem.found) (AreLinesOf (IsFurther g request problem.found)) mid new result → TextEnds (IsProblemText g request problem) (IsProblemPart g request problem) old new result
+answer_behind g request problem old mid new (Ok x) first h = record {
   text = first_line g problem ++ h.text;
   is = record { further = h.text; follows = h.is; is = refl };
   wrote = Appends-trans old mid new (first_line g problem) h.text first h.wrote;
 }
-answer_behind g command problem old mid new (Err Memory) first h = record {
+answer_behind g request problem old mid new (Err (Stopped why)) first h = record {
   text = first_line g problem ++ h.text;
   is = record { lines = h.text; are = h.is; is = refl };
   wrote = Appends-trans old mid new (first_line g problem) h.text first h.wrote;
 }
-answer_behind g command problem old mid new (Err Sink) first h = record {
+answer_behind g request problem old mid new (Err Sink) first h = record {
   text = first_line g problem ++ h.text;
   is = record { further = h.text; follows = h.is; is = refl };
   stops = stops_within old mid new (first_line g problem) h.text [] (first_line g problem ++ h.text) (sym (append-nil (first_line g problem ++ h.text))) first h.stops;
 }
 
 -- behind a first line the answer on the position that was found
-pub problem_ends : {X : Type 0} (g : Geometry) (command : Command) (problem : Numbered) (p : Placement) (old mid new : Option (List ℕ)) (result : Result X TextFault) → problem.found ≡ Ok p → Appends old mid (first_line g problem)
-    → TextEnds (IsAnswer g command p) (AreLinesOf (IsAnswer g command p)) mid new result → TextEnds (IsProblemText g command problem) (IsProblemPart g command problem) old new result
-problem_ends g command problem p old mid new result found first h =
-    answer_behind g command problem old mid new result first (subst (λ f. TextEnds (IsFurther g command f) (AreLinesOf (IsFurther g command f)) mid new result) (sym found) h)
+pub problem_ends : {X : Type 0} (g : Geometry) (request : Request) (problem : Numbered) (p : Placement) (old mid new : Option (List ℕ)) (result : Result X TextFault) → problem.found ≡ Ok p → Appends old mid (first_line g problem)
+    → TextEnds (IsAnswer g request p) (AreLinesOf (IsAnswer g request p)) mid new result → TextEnds (IsProblemText g request problem) (IsProblemPart g request problem) old new result
+problem_ends g request problem p old mid new result found first h =
+    answer_behind g request problem old mid new result first (subst (λ f. TextEnds (IsFurther g request f) (AreLinesOf (IsFurther g request f)) mid new result) (sym found) h)
 
 -- a fault handed on says the same of a text that this one makes up
 pub fault_stays : {X Y : Type 0} (P Q Part Piece : List ℕ → Type 0) (old new : Option (List ℕ)) (r : Result X TextFault) (s : Result Y TextFault) (fault other : TextFault) → r ≡ Err fault → s ≡ Err other → fault ≡ other
     → ((text : List ℕ) → P text → Q text) → ((text : List ℕ) → Part text → Piece text) → TextEnds P Part old new r → TextEnds Q Piece old new s
 fault_stays {X = X} P Q Part Piece old new r s fault other was is same to part h = at_fault fault (is ∙ ap Err (sym same)) (subst (TextEnds P Part old new) was h) where
   at_fault : (fault : TextFault) → s ≡ Err fault → TextEnds {X = X} P Part old new (Err fault) → TextEnds Q Piece old new s
-  at_fault Memory e h = at_memory Q Piece old new s e (record { text = h.text; is = part h.text h.is; wrote = h.wrote })
+  at_fault (Stopped why) e h = at_stop Q Piece old new s why e (record { text = h.text; is = part h.text h.is; wrote = h.wrote })
   at_fault Sink e h = at_sink Q Piece old new s e (record { text = h.text; is = to h.text h.is; stops = h.stops })
 
 -- the problem is chosen
@@ -97,14 +97,14 @@ chosen_one only problem e = rw e refl
 pub chosen_none : (only : Option ℕ) (problem : Numbered) → number_is_chosen only problem.number ≡ false → chosen only (problem ∷ []) ≡ []
 chosen_none only problem e = rw e refl
 
-pub one_report_on : (g : Geometry) (settings : Settings) (problem : Numbered) → number_is_chosen settings.only problem.number ≡ true → (text : List ℕ) → IsProblemText g settings.command problem text → IsReportOn g settings (problem ∷ []) text
-one_report_on g settings problem e text h = subst (λ l. AreTexts g settings.command l text) (sym (chosen_one settings.only problem e)) (text, [], h, refl, sym (append-nil text))
+pub one_report_on : (g : Geometry) (request : Request) (problem : Numbered) → number_is_chosen request.only problem.number ≡ true → (text : List ℕ) → IsProblemText g request problem text → IsReportOn g request (problem ∷ []) text
+one_report_on g request problem e text h = subst (λ l. AreTexts g request l text) (sym (chosen_one request.only problem e)) (text, [], h, refl, sym (append-nil text))
 
-pub one_part_on : (g : Geometry) (settings : Settings) (problem : Numbered) → number_is_chosen settings.only problem.number ≡ true → (text : List ℕ) → IsProblemPart g settings.command problem text → IsPartOn g settings (problem ∷ []) text
-one_part_on g settings problem e text h = record { before = []; problem = problem; behind = []; are = chosen_one settings.only problem e; texts = []; whole = refl; last = text; part = h; is = refl }
+pub one_part_on : (g : Geometry) (request : Request) (problem : Numbered) → number_is_chosen request.only problem.number ≡ true → (text : List ℕ) → IsProblemPart g request problem text → IsPartOn g request (problem ∷ []) text
+one_part_on g request problem e text h = record { before = []; problem = problem; behind = []; are = chosen_one request.only problem e; texts = []; whole = refl; last = text; part = h; is = refl }
 
-pub no_report_on : (g : Geometry) (settings : Settings) (problem : Numbered) (old : Option (List ℕ)) → number_is_chosen settings.only problem.number ≡ false → Writes (IsReportOn g settings (problem ∷ [])) old old
-no_report_on g settings problem old e = record { text = []; is = subst (λ l. AreTexts g settings.command l []) (sym (chosen_none settings.only problem e)) refl; wrote = Appends-nil old }
+pub no_report_on : (g : Geometry) (request : Request) (problem : Numbered) (old : Option (List ℕ)) → number_is_chosen request.only problem.number ≡ false → Writes (IsReportOn g request (problem ∷ [])) old old
+no_report_on g request problem old e = record { text = []; is = subst (λ l. AreTexts g request l []) (sym (chosen_none request.only problem e)) refl; wrote = Appends-nil old }
 
-pub chosen_report_on : (g : Geometry) (settings : Settings) (problem : Numbered) (old new : Option (List ℕ)) → number_is_chosen settings.only problem.number ≡ true → Writes (IsProblemText g settings.command problem) old new → Writes (IsReportOn g settings (problem ∷ [])) old new
-chosen_report_on g settings problem old new e h = record { text = h.text; is = one_report_on g settings problem e h.text h.is; wrote = h.wrote }
+pub chosen_report_on : (g : Geometry) (request : Request) (problem : Numbered) (old new : Option (List ℕ)) → number_is_chosen request.only problem.number ≡ true → Writes (IsProblemText g request problem) old new → Writes (IsReportOn g request (problem ∷ [])) old new
+chosen_report_on g request problem old new e h = record { text = h.text; is = one_report_on g request problem e h.text h.is; wrote = h.wrote }

@@ -49,7 +49,7 @@ IsRefused g request (Err fault) = Unit {0}
 abbrev pub AreRefused : Geometry → Request → List Numbered → ℕ → Type 0
 AreRefused g request [] count = count ≡ 0
 AreRefused g request (problem ∷ problems) count =
-    (IsRefused g request problem.found × ((rest : ℕ) × AreRefused g request problems rest × (count ≡ rest + 1)))
+    (IsRefused g request problem.found × (rest : ℕ) × AreRefused g request problems rest × (count ≡ rest + 1))
     ⊎ ((IsRefused g request problem.found → ⊥) × AreRefused g request problems count)
 
 -- the summary counts the problems read, those reported, and the refusals among them

@@ -50,8 +50,31 @@ pub fn run<B: Board, S: Source, K: Sink, M: Memo<B> + Drop, G: Guide<B> + Drop>(
     ensures write { result ≡ Err RunFault.Write → K.is_failed sink.new ≡ true }
     ensures stopped { StopsRightly settings.now.command settings.now.limit result }
 {
-    one_report();
     let mut solver = Solver::new(memo, guide, settings.limit);
+    write_report(alloc, source, sink, settings, &mut solver)
+}
+
+/// Writes the report on the problems of the source, with a solver that has expanded nothing yet.
+fn write_report<B: Board, S: Source, K: Sink, M: Memo<B>, G: Guide<B>>(
+    alloc: Global,
+    source: &mut S,
+    sink: &mut K,
+    settings: &Settings<B>,
+    solver: &mut Solver<B, M, G>,
+) -> Result<Summary, RunFault>
+    requires source { S.is_failed source.old ≡ false }
+    requires sink { K.is_failed sink.old ≡ false }
+    requires some { 1 ≤ settings.now.n }
+    requires few { settings.now.n ≤ 20 }
+    requires lines { 1 ≤ settings.now.lines }
+    requires rows { settings.now.command ≡ Command.List → (B.geometry.rows ≡ 10) ⊎ (B.geometry.rows ≡ 8) }
+    requires fresh { solver.old.expanded ≡ 0 }
+    ensures report { RunEnds B.geometry (request_of settings.now) (S.coming source.old) (S.coming source.new) (K.taken sink.old) (K.taken sink.new) result }
+    ensures read { result ≡ Err RunFault.Read → S.is_failed source.new ≡ true }
+    ensures write { result ≡ Err RunFault.Write → K.is_failed sink.new ≡ true }
+    ensures stopped { StopsRightly settings.now.command solver.old.limit result }
+{
+    one_report();
     let mut problems = Problems::<B, S>::new(source, settings.form);
     let mut summary = Summary::default();
     'problems: loop {
@@ -59,7 +82,7 @@ pub fn run<B: Board, S: Source, K: Sink, M: Memo<B> + Drop, G: Guide<B> + Drop>(
             Err(_) => return Err(RunFault::Read),
             Ok(None) => return Ok(summary),
             Ok(Some(problem)) => {
-                match report_problem(alloc, sink, &mut solver, settings, &problem, summary) {
+                match report_problem(alloc, sink, solver, settings, &problem, summary) {
                     Err(fault) => return Err(ended(fault, solver.expanded())),
                     Ok(counted) => summary = counted,
                 }
@@ -103,6 +126,7 @@ fn report_problem<B: Board, K: Sink, M: Memo<B>, G: Guide<B>>(
     ensures searches { SearchesFor settings.now.command solver.old solver.new result }
     ensures counts { IfOk result (λ counted. CountsOne B.geometry (request_of settings.now) summary counted (numbered problem.now)) }
 {
+    let _ = solver.limit();
     let read = Summary {
         problems: summary.problems + 1,
         ..summary

@@ -1,10 +1,11 @@
 use Rattle.std.proofs.Common.{sym, ap, ◌∙◌, subst, Err}
 use Rattle.std.proofs.lemmas.Result.{err_from_is_err_and}
 use Rattle.dw_moves.specs.Order.{AreListed}
+use Rattle.dw_solve.specs.declared.stop.Stop.TheVariants as stops
 use Rattle.dw_report.specs.Report.{IsMovesText}
 use Rattle.dw_report.specs.Running.{AreLinesOf}
 use Rattle.dw_report.proofs.MoveLines.{no_move, moves_some, lines_more, lines_all, line_short, count_short}
-use Rattle.dw_report.proofs.Writings.{at_memory, at_sink, no_lines}
+use Rattle.dw_report.proofs.Writings.{at_stop, at_sink, no_lines}
 use Rattle.dw_report.proofs.problem.write_moves.Goals as goal
 
 pub returns-in_err-list-clause-text : goal.returns-in_err-list-clause-text
@@ -12,7 +13,7 @@ returns-in_err-list-clause-text g c =
     let geo = g.B.Board.geometry in
     let p = c.args.position.now in
     let why = err_from_is_err_and c.from_residual.result c.from_residual.ensures.1 in
-    at_memory (IsMovesText geo p) (AreLinesOf (IsMovesText geo p)) _ _ c.from_residual.result (why.1 ∙ ap Err why.2)
+    at_stop (IsMovesText geo p) (AreLinesOf (IsMovesText geo p)) _ _ c.from_residual.result stops.Memory (why.1 ∙ ap Err why.2)
     (no_lines (IsMovesText geo p) (moves_some geo p c.best-taken.result (c.moves_in_order.ensures.listed geo g.met.B.Board.numbers p) c.best-taken.ensures.value) (g.K.Sink.taken c.args.sink.now))
 
 pub returns-in_err-write_all-clause-text : goal.returns-in_err-write_all-clause-text

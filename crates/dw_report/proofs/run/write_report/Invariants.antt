@@ -1,8 +1,10 @@
 use Rattle.std.proofs.Common.{◌≡◌, ◌≤◌, ◌-◌, false}
 use Rattle.dw_notation.specs.Cutting.{EndIsTrue, handed_count}
 use Rattle.dw_notation.specs.Reading.{lender, source_of, cutter_of}
+use Rattle.dw_report.specs.Request.{request_of}
+use Rattle.dw_report.specs.declared.settings.Command.TheVariants.{Moves}
 use Rattle.dw_report.proofs.Runs.{SoFar}
-use Rattle.dw_report.proofs.run.run.Given as goal
+use Rattle.dw_report.proofs.run.write_report.Given as goal
 
 abbrev pub invariant-problems : goal.invariant-problems
 invariant-problems g l =
@@ -10,11 +12,13 @@ invariant-problems g l =
     let sink = g.K.Sink in
     record {
       lender : lender l.problems ≡ lender l.initial.problems;
-      so_far : SoFar g.B.Board.geometry l.settings (source.coming (source_of l.initial.problems)) (source.coming (source_of l.problems))
+      so_far : SoFar g.B.Board.geometry (request_of l.settings) (source.coming (source_of l.initial.problems)) (source.coming (source_of l.problems))
           (sink.taken l.initial.sink) (sink.taken l.sink) (cutter_of l.problems) l.summary;
       end : EndIsTrue (source.coming (source_of l.problems)) (cutter_of l.problems);
       source : source.is_failed (source_of l.problems) ≡ false;
       sink : sink.is_failed l.sink ≡ false;
+      limit : l.solver.limit ≡ l.initial.solver.limit;
+      still : l.settings.command ≡ Moves → l.solver.expanded ≡ 0;
       read : l.summary.problems ≡ handed_count (cutter_of l.problems);
       shown : l.summary.shown ≤ l.summary.problems;
       refused : l.summary.refused ≤ l.summary.shown;
