@@ -28,6 +28,7 @@ abbrev pub outcome_of : {T : Type 0} → Ending T → Option ℕ → Exit T
 outcome_of end.Help only = quiet 0
 outcome_of end.HelpNotWritten only = told 3 say.WriteFailed
 outcome_of (end.Words text) only = told 2 (say.Words text)
+outcome_of (end.TokenRefused fault) only = told 1 (say.TokenRefused fault)
 outcome_of end.Memory only = told 3 (say.Stopped Memory 0)
 outcome_of (end.NotOpened file) only = told 3 (say.NotOpened file)
 outcome_of (end.Ran (Err (Stopped why expanded))) only = told 3 (say.Stopped why expanded)

@@ -1,23 +1,31 @@
 //! `dw`: problems of international draughts.
 #![tactic(auto)]
 
-ghost use Rattle.std.specs.Prelude.{◌≡◌, false};
+ghost use Rattle.std.specs.Prelude.{◌≡◌, ◌≤◌, ◌⊎◌};
+ghost use Rattle.dw_solve.specs.Facts.{AreTrue};
 
 mod outcome;
 mod words;
 
+use arrayvec::ArrayVec;
 use clap::error::ErrorKind;
 use clap::{ArgMatches, Error};
-use dw_board::board::{Eight, Ten};
-use dw_notation::streams::{Reading, Sink, Source, Writing};
+use dw_board::board::{Board, Eight, Ten};
+use dw_list::tokens::{MAX_MOVES, read_token};
+use dw_memo::lru_memo::LruMemo;
+use dw_memo::memo::Memo;
+use dw_memo::no_memo::NoMemo;
+use dw_memo::slot_memo::SlotMemo;
+use dw_moves::moves::Move;
 use dw_report::run::run;
-use dw_report::settings::{RunFault, Summary};
+use dw_report::settings::Settings;
+use dw_report::streams::{Reading, Writing};
+use dw_solve::guide::ByTrial;
 use outcome::{Ending, outcome};
-use std::alloc::Global;
 use std::env;
 use std::fs::File;
 use std::process::ExitCode;
-use words::{BoardSize, Request, command, requested};
+use words::{BoardSize, MemoKind, Request, command, requested};
 
 fn main(rt: HostRuntime) -> ExitCode {
     let alloc = rt.alloc();
@@ -58,42 +66,85 @@ fn obey(rt: &HostRuntime, matches: &ArgMatches<'_>) -> ExitCode {
     let Some(request) = requested(matches) else {
         return end_with(rt, Ending::Words("dw: no command\n"), None);
     };
-    let only = request.settings.only;
-    let mut sink = Writing::new(rt.stdout());
-    match request.file {
-        None => {
-            let ran = report(
-                rt.alloc(),
-                &request,
-                &mut Reading::new(rt.stdin()),
-                &mut sink,
-            );
-            end_with(rt, Ending::Ran(ran), only)
-        }
-        Some(path) => match File::open(rt, path) {
-            Err(_) => end_with(rt, Ending::NotOpened(path), only),
-            Ok(file) => {
-                let ran = report(rt.alloc(), &request, &mut Reading::new(file), &mut sink);
-                end_with(rt, Ending::Ran(ran), only)
-            }
+    match request.board {
+        BoardSize::Ten => obey_on::<Ten>(rt, &request),
+        BoardSize::Eight => obey_on::<Eight>(rt, &request),
+    }
+}
+
+/// Reads the token, if there is one, and then makes the memo.
+fn obey_on<B: Board>(rt: &HostRuntime, request: &Request<'_>) -> ExitCode
+    requires { (B.geometry.rows ≡ 10) ⊎ (B.geometry.rows ≡ 8) }
+{
+    let after = match request.after.map(|token| read_token::<B>(token.as_bytes())) {
+        None => None,
+        Some(Ok(line)) => Some(line),
+        Some(Err(fault)) => return end_with(rt, Ending::TokenRefused(fault), None),
+    };
+    let settings = settings_of(request, after);
+    match request.memo {
+        MemoKind::None => report_with(rt, request, &settings, NoMemo::new()),
+        MemoKind::Lru => match LruMemo::new(rt.alloc(), request.kept()) {
+            Ok(memo) => report_with(rt, request, &settings, memo),
+            Err(_) => end_with(rt, Ending::Memory, None),
+        },
+        MemoKind::Slots => match SlotMemo::new(rt.alloc(), request.kept()) {
+            Ok(memo) => report_with(rt, request, &settings, memo),
+            Err(_) => end_with(rt, Ending::Memory, None),
         },
     }
 }
 
-/// Writes the report on the board that was asked for.
-fn report<S: Source, K: Sink>(
-    alloc: Global,
+/// What is asked of the run, with the line after which lines are listed.
+fn settings_of<B: Board>(
     request: &Request<'_>,
-    source: &mut S,
-    sink: &mut K,
-) -> Result<Summary, RunFault>
-    requires source { S.is_failed source.old ≡ false }
-    requires sink { K.is_failed sink.old ≡ false }
+    after: Option<ArrayVec<Move<B>, MAX_MOVES>>,
+) -> Settings<B>
+    ensures some { 1 ≤ result.n }
+    ensures few { result.n ≤ 20 }
+    ensures lines { 1 ≤ result.lines }
+    ensures limit { 1 ≤ result.limit }
 {
-    match request.board {
-        BoardSize::Ten => run::<Ten, S, K>(alloc, source, sink, &request.settings),
-        BoardSize::Eight => run::<Eight, S, K>(alloc, source, sink, &request.settings),
+    Settings {
+        command: request.command,
+        form: request.form,
+        n: request.n.clamp(1, 20),
+        only: request.only,
+        lines: request.lines.max(1),
+        after,
+        limit: request.positions.max(1),
     }
+}
+
+/// Opens the file and writes the report.
+fn report_with<B: Board, M: Memo<B> + Drop>(
+    rt: &HostRuntime,
+    request: &Request<'_>,
+    settings: &Settings<B>,
+    memo: M,
+) -> ExitCode
+    requires rows { (B.geometry.rows ≡ 10) ⊎ (B.geometry.rows ≡ 8) }
+    requires right { AreTrue B.geometry (M.content memo) }
+    requires some { 1 ≤ settings.now.n }
+    requires few { settings.now.n ≤ 20 }
+    requires lines { 1 ≤ settings.now.lines }
+    requires limit { 1 ≤ settings.now.limit }
+{
+    let mut sink = Writing::new(rt.stdout());
+    let ran = match request.file {
+        None => {
+            let mut source = Reading::new(rt.stdin());
+            run(rt.alloc(), &mut source, &mut sink, settings, memo, ByTrial)
+        }
+        Some(path) => {
+            let Ok(file) = File::open(rt, path) else {
+                return end_with(rt, Ending::NotOpened(path), settings.only);
+            };
+            let mut source = Reading::new(file);
+            run(rt.alloc(), &mut source, &mut sink, settings, memo, ByTrial)
+        }
+    };
+    end_with(rt, Ending::Ran(ran), settings.only)
 }
 
 /// Says on standard error how the program ended, and gives its exit status.

@@ -2,6 +2,7 @@
 ghost use Rattle.std.specs.Prelude.{◌≡◌};
 ghost use Rattle.dw.specs.Outcome.{outcome_of, done_of};
 
+use dw_list::tokens::TokenFault;
 use dw_report::settings::{RunFault, Stop, Summary};
 use std::fmt;
 use std::fmt::{Display, Formatter};
@@ -15,6 +16,8 @@ pub enum Ending<T> {
     HelpNotWritten,
     /// The words are no command; the text says why.
     Words(T),
+    /// The token of the line to begin after can not be read.
+    TokenRefused(TokenFault),
     /// Memory was refused before the run.
     Memory,
     /// This FILE could not be opened.
@@ -28,6 +31,8 @@ pub enum Ending<T> {
 pub enum Message<T> {
     /// Why the words are no command, with its own line ends.
     Words(T),
+    /// Why the token is none.
+    TokenRefused(TokenFault),
     /// Why the program was stopped, and how many positions it had expanded.
     Stopped(Stop, u64),
     NotOpened(T),
@@ -40,6 +45,9 @@ impl<T: Display> Display for Message<T> {
     fn fmt<W: fmt::Write>(&self, f: &mut Formatter<W>) -> fmt::Result {
         match self {
             Message::Words(text) => write!(f, "{text}"),
+            Message::TokenRefused(fault) => {
+                write!(f, "dw: token refused: {} {fault}\n", number_of(*fault))
+            }
             Message::Stopped(why, expanded) => {
                 write!(f, "dw: stopped: {why}, {expanded} expanded\n")
             }
@@ -48,6 +56,18 @@ impl<T: Display> Display for Message<T> {
             Message::ReadFailed => write!(f, "dw: read failed\n"),
             Message::WriteFailed => write!(f, "dw: write failed\n"),
         }
+    }
+}
+
+/// The number of a fault of a token, as the report and the program name it.
+fn number_of(fault: TokenFault) -> u8 {
+    match fault {
+        TokenFault::NotHex => 1,
+        TokenFault::Version => 2,
+        TokenFault::Length => 3,
+        TokenFault::Square => 4,
+        TokenFault::Taken => 5,
+        TokenFault::Board => 6,
     }
 }
 
@@ -69,6 +89,7 @@ pub fn outcome<T: Copy>(ending: Ending<T>, only: Option<u32>) -> Exit<T>
         Ending::Help => ends(0, None),
         Ending::HelpNotWritten => ends(3, Some(Message::WriteFailed)),
         Ending::Words(text) => ends(2, Some(Message::Words(text))),
+        Ending::TokenRefused(fault) => ends(1, Some(Message::TokenRefused(fault))),
         Ending::Memory => ends(3, Some(Message::Stopped(Stop::Memory, 0))),
         Ending::NotOpened(file) => ends(3, Some(Message::NotOpened(file))),
         Ending::Ran(Err(RunFault::Stopped { why, expanded })) => {
@@ -129,6 +150,42 @@ mod tests {
             (Ending::Help, None, 0, ""),
             (Ending::HelpNotWritten, None, 3, "dw: write failed\n"),
             (Ending::Words("why\n"), None, 2, "why\n"),
+            (
+                Ending::TokenRefused(TokenFault::NotHex),
+                Some(1),
+                1,
+                "dw: token refused: 1 not hex\n",
+            ),
+            (
+                Ending::TokenRefused(TokenFault::Version),
+                Some(1),
+                1,
+                "dw: token refused: 2 version\n",
+            ),
+            (
+                Ending::TokenRefused(TokenFault::Length),
+                Some(1),
+                1,
+                "dw: token refused: 3 length\n",
+            ),
+            (
+                Ending::TokenRefused(TokenFault::Square),
+                Some(1),
+                1,
+                "dw: token refused: 4 square\n",
+            ),
+            (
+                Ending::TokenRefused(TokenFault::Taken),
+                Some(1),
+                1,
+                "dw: token refused: 5 taken\n",
+            ),
+            (
+                Ending::TokenRefused(TokenFault::Board),
+                Some(1),
+                1,
+                "dw: token refused: 6 board\n",
+            ),
             (
                 Ending::Memory,
                 None,

@@ -1,7 +1,9 @@
 //! The words of the command line.
+ghost use Rattle.std.specs.Prelude.{◌≤◌};
+
 use clap::{Arg, ArgAction, ArgMatches, Command as Words, value_parser};
 use dw_notation::problems::Form;
-use dw_report::settings::{Command, Settings};
+use dw_report::settings::Command;
 use std::alloc::{AllocError, Global};
 
 /// The boards that the program plays on.
@@ -13,27 +15,65 @@ pub enum BoardSize {
     Eight,
 }
 
+/// What keeps the bounds that a search has found.
+#[derive(Clone, Copy, Debug, PartialEq, Eq)]
+pub enum MemoKind {
+    /// Nothing.
+    None,
+    /// A cache that loses the position used longest ago.
+    Lru,
+    /// A table in which each position has its one place.
+    Slots,
+}
+
 /// What the words ask for.
 #[derive(Clone, Copy)]
 pub struct Request<'a> {
-    pub settings: Settings,
+    pub command: Command,
+    pub form: Form,
+    /// The number of the one problem to report, or all.
+    pub only: Option<u32>,
     pub board: BoardSize,
+    /// Within how many moves a win is looked for.
+    pub n: u8,
+    /// The most positions to expand.
+    pub positions: u64,
+    pub memo: MemoKind,
+    /// The most positions that the memo keeps.
+    pub cache: usize,
+    /// The most lines to list.
+    pub lines: u64,
+    /// The token of the line after which the list begins.
+    pub after: Option<&'a str>,
     /// The file to read, or standard input.
     pub file: Option<&'a str>,
 }
 
-const ABOUT: &str = "Reads problems of international draughts and reports on them.";
+/// The most positions that a run may expand, and what it may where the words say nothing.
+const MOST_POSITIONS: u64 = 1_000_000_000_000;
+
+/// The most lines that a run may list, and what it may where the words say nothing.
+const MOST_LINES: u64 = 1_000_000_000;
+
+/// The most positions that a memo may keep.
+const MOST_KEPT: usize = 4_000_000;
+
+/// How many positions a memo keeps where the words say nothing.
+const USUALLY_KEPT: usize = 100_000;
+
+const ABOUT: &str = "Solves problems of international draughts: verdicts, and every line of a forced win.";
 
 const EXAMPLES: &str = "\
 Problems are read from FILE, or from standard input: one FEN text a line, as W:W27,45:B16,
 or with --pdn out of the tags of a PDN file, as [FEN \"W:W27,45:B16\"].
 `dw COMMAND --help` says what a command does, with an example.
 
-Example:
-  dw show examples/problems.fen
+Examples:
+  dw judge -n 2 examples/problems.fen
+  dw list -n 2 --problem 1 examples/problems.fen
 
-Exit status: 0 done, 1 a problem was refused or is not there, 2 the words are no command,
-3 the program was stopped or a file could not be read or written.";
+Exit status: 0 done, 1 a problem or a token was refused or is not there, 2 the words are no
+command, 3 the program was stopped or a file could not be read or written.";
 
 const SHOW_ABOUT: &str = "Shows each problem's position as a diagram.";
 
@@ -54,6 +94,35 @@ Examples:
   echo W:WK46:B28 | dw moves
   dw moves --problem 2 examples/problems.fen";
 
+const JUDGE_ABOUT: &str = "Judges each problem: can the side to move force a win, and is the problem sound?";
+
+const JUDGE_EXAMPLES: &str = "\
+The side to move wins if the other has no legal move left. The verdict is one of these:
+  unsolvable  there is no forced win in N moves
+  cooked      two or more first moves win, or there is a win in fewer moves
+  dual        one first move wins, and later there is a choice; the first such place is told
+  sound       one first move wins, and so does one move at each later turn
+After the verdict stands each try: a first move that only one reply refutes.
+
+Examples:
+  echo W:W27,45:B16 | dw judge -n 2
+  dw judge -n 2 examples/problems.fen
+
+The answer does not depend on --memo and --cache, only the time does. A run that reaches
+--positions ends with status 3, and what it wrote before is right.";
+
+const LIST_ABOUT: &str = "Lists every line of each problem's forced win, in order.";
+
+const LIST_EXAMPLES: &str = "\
+A line is a way in which each move of the side to move keeps a forced win in N moves and the
+other side plays anything legal, up to its last move: 1. 45-40 16-21 2. 27x16.
+Behind the lines stands `complete` with their number, or `more after` with a token: with
+--after the list goes on behind that line.
+
+Examples:
+  echo W:W27,32,38:B18 | dw list -n 2
+  echo W:W27,32,38:B18 | dw list -n 2 --lines 2";
+
 /// The commands that the program knows.
 pub fn command<'a>(alloc: Global) -> Result<Words<'a>, AllocError> {
     Words::new(alloc, "dw")
@@ -62,7 +131,9 @@ pub fn command<'a>(alloc: Global) -> Result<Words<'a>, AllocError> {
         .subcommand_required(true)
         .arg_required_else_help(true)
         .subcommand(reading(alloc, "show", SHOW_ABOUT, SHOW_EXAMPLES)?)?
-        .subcommand(reading(alloc, "moves", MOVES_ABOUT, MOVES_EXAMPLES)?)
+        .subcommand(reading(alloc, "moves", MOVES_ABOUT, MOVES_EXAMPLES)?)?
+        .subcommand(searching(alloc, "judge", JUDGE_ABOUT, JUDGE_EXAMPLES)?)?
+        .subcommand(listing(alloc)?)
 }
 
 /// A command that reads problems.
@@ -79,6 +150,27 @@ fn reading<'a>(
         .arg(pdn(alloc))?
         .arg(problem(alloc))?
         .arg(file(alloc))
+}
+
+/// A command that searches for wins.
+fn searching<'a>(
+    alloc: Global,
+    name: &'static str,
+    about: &'static str,
+    examples: &'static str,
+) -> Result<Words<'a>, AllocError> {
+    reading(alloc, name, about, examples)?
+        .arg(moves(alloc))?
+        .arg(positions(alloc))?
+        .arg(memo(alloc))?
+        .arg(cache(alloc))
+}
+
+/// The command that lists lines.
+fn listing<'a>(alloc: Global) -> Result<Words<'a>, AllocError> {
+    searching(alloc, "list", LIST_ABOUT, LIST_EXAMPLES)?
+        .arg(lines(alloc))?
+        .arg(after(alloc))
 }
 
 fn board<'a>(alloc: Global) -> Arg<'a> {
@@ -109,24 +201,107 @@ fn file<'a>(alloc: Global) -> Arg<'a> {
     Arg::new(alloc, "FILE").help("The problems [default: standard input]")
 }
 
+fn moves<'a>(alloc: Global) -> Arg<'a> {
+    Arg::new(alloc, "n")
+        .short('n')
+        .value_name("N")
+        .required(true)
+        .value_parser(value_parser!(u8).range(1..=20))
+        .help("Look for a win in N moves of the side to move, 1 to 20")
+}
+
+fn positions<'a>(alloc: Global) -> Arg<'a> {
+    Arg::new(alloc, "positions")
+        .long("positions")
+        .value_name("L")
+        .value_parser(value_parser!(u64).range(1..=1_000_000_000_000))
+        .help("Stop after L positions, 1 to 1000000000000 [default: 1000000000000]")
+}
+
+fn memo<'a>(alloc: Global) -> Arg<'a> {
+    Arg::new(alloc, "memo")
+        .long("memo")
+        .value_name("KIND")
+        .value_parser(["none", "lru", "slots"].as_slice())
+        .default_value("lru")
+        .help("What is kept of the search: nothing, the positions used last, or a fixed table")
+}
+
+fn cache<'a>(alloc: Global) -> Arg<'a> {
+    Arg::new(alloc, "cache")
+        .long("cache")
+        .value_name("C")
+        .value_parser(value_parser!(u32).range(1..=4_000_000))
+        .help("Keep at most C positions, 1 to 4000000 [default: 100000]")
+}
+
+fn lines<'a>(alloc: Global) -> Arg<'a> {
+    Arg::new(alloc, "lines")
+        .long("lines")
+        .value_name("K")
+        .value_parser(value_parser!(u64).range(1..=1_000_000_000))
+        .help("List at most K lines, 1 to 1000000000 [default: 1000000000]")
+}
+
+fn after<'a>(alloc: Global) -> Arg<'a> {
+    Arg::new(alloc, "after")
+        .long("after")
+        .value_name("TOKEN")
+        .help("Begin behind the line of this token, of problem 1 or that of --problem")
+}
+
 /// What parsed words ask for.
 pub fn requested<'a>(matches: &ArgMatches<'a>) -> Option<Request<'a>> {
     if let Some(words) = matches.subcommand_matches("show") {
-        return Some(request_of(words, Command::Show));
+        return Some(read_by(words, Command::Show));
     }
-    let words = matches.subcommand_matches("moves")?;
-    Some(request_of(words, Command::Moves))
+    if let Some(words) = matches.subcommand_matches("moves") {
+        return Some(read_by(words, Command::Moves));
+    }
+    if let Some(words) = matches.subcommand_matches("judge") {
+        return Some(searched_by(words, Command::Judge));
+    }
+    let words = matches.subcommand_matches("list")?;
+    Some(listed_by(words))
 }
 
-fn request_of<'a>(words: &ArgMatches<'a>, command: Command) -> Request<'a> {
+/// What a command that reads problems asks for. It searches nothing and lists no lines.
+fn read_by<'a>(words: &ArgMatches<'a>, command: Command) -> Request<'a> {
     Request {
-        settings: Settings {
-            command,
-            form: form(words.get_flag("pdn")),
-            only: words.get_one::<u32>("problem"),
-        },
+        command,
+        form: form(words.get_flag("pdn")),
+        only: words.get_one::<u32>("problem"),
         board: board_size(words.get_str("board")),
+        n: 1,
+        positions: MOST_POSITIONS,
+        memo: MemoKind::None,
+        cache: 1,
+        lines: 1,
+        after: None,
         file: words.get_str("FILE"),
+    }
+}
+
+/// What a command that searches for wins asks for.
+fn searched_by<'a>(words: &ArgMatches<'a>, command: Command) -> Request<'a> {
+    Request {
+        n: words.get_one::<u8>("n").unwrap_or(1),
+        positions: words.get_one::<u64>("positions").unwrap_or(MOST_POSITIONS),
+        memo: memo_kind(words.get_str("memo")),
+        cache: words.get_one::<usize>("cache").unwrap_or(USUALLY_KEPT),
+        ..read_by(words, command)
+    }
+}
+
+/// What the command that lists lines asks for. A token without the number of a problem is one of problem 1.
+fn listed_by<'a>(words: &ArgMatches<'a>) -> Request<'a> {
+    let request = searched_by(words, Command::List);
+    let after = words.get_str("after");
+    Request {
+        lines: words.get_one::<u64>("lines").unwrap_or(MOST_LINES),
+        after,
+        only: request.only.or(if after.is_some() { Some(1) } else { None }),
+        ..request
     }
 }
 
@@ -138,6 +313,24 @@ fn board_size(rows: Option<&str>) -> BoardSize {
     match rows {
         Some("8") => BoardSize::Eight,
         _ => BoardSize::Ten,
+    }
+}
+
+fn memo_kind(kind: Option<&str>) -> MemoKind {
+    match kind {
+        Some("none") => MemoKind::None,
+        Some("slots") => MemoKind::Slots,
+        _ => MemoKind::Lru,
+    }
+}
+
+impl Request<'_> {
+    /// The most positions that the memo keeps, 1 to 4,000,000.
+    pub fn kept(&self) -> usize
+        ensures some { 1 ≤ result }
+        ensures most { result ≤ 4_000_000 }
+    {
+        self.cache.clamp(1, MOST_KEPT)
     }
 }
 
@@ -155,8 +348,8 @@ mod tests {
                 .ok()
                 .expect(&rt, "matches");
             let request = requested(&matches).expect(&rt, "a command");
-            assert_eq!(rt; request.settings.command, wanted);
-            assert_eq!(rt; request.settings.only, Some(3));
+            assert_eq!(rt; request.command, wanted);
+            assert_eq!(rt; request.only, Some(3));
             assert_eq!(rt; request.file, Some("a.fen"));
         }
         Ok(())
@@ -209,17 +402,98 @@ mod tests {
                 .ok()
                 .expect(&rt, "matches");
             let request = requested(&matches).expect(&rt, "a command");
-            assert_eq!(rt; request.settings.form, form);
-            assert_eq!(rt; request.settings.only, only);
+            assert_eq!(rt; request.form, form);
+            assert_eq!(rt; request.only, only);
             assert_eq!(rt; request.board, board);
             assert_eq!(rt; request.file, file);
         }
         Ok(())
     }
 
+    // Words of a search, and the moves, the positions, the memo, what it keeps, the lines, the token and the problem.
+    #[test]
+    fn words_that_search(rt: HostRuntime) -> Result<(), Fail> {
+        let rows: [(
+            &[&str],
+            u8,
+            u64,
+            MemoKind,
+            usize,
+            u64,
+            Option<&str>,
+            Option<u32>,
+        ); 5] = [
+            (
+                &["dw", "judge", "-n", "2"],
+                2,
+                1_000_000_000_000,
+                MemoKind::Lru,
+                100_000,
+                1,
+                None,
+                None,
+            ),
+            (
+                &["dw", "judge", "-n20", "--positions", "7", "--memo=none"],
+                20,
+                7,
+                MemoKind::None,
+                100_000,
+                1,
+                None,
+                None,
+            ),
+            (
+                &["dw", "list", "-n", "1", "--memo", "slots", "--cache", "4000000"],
+                1,
+                1_000_000_000_000,
+                MemoKind::Slots,
+                4_000_000,
+                1_000_000_000,
+                None,
+                None,
+            ),
+            (
+                &["dw", "list", "-n", "3", "--lines", "5", "--after", "01"],
+                3,
+                1_000_000_000_000,
+                MemoKind::Lru,
+                100_000,
+                5,
+                Some("01"),
+                Some(1),
+            ),
+            (
+                &["dw", "list", "-n", "3", "--problem", "4", "--after", ""],
+                3,
+                1_000_000_000_000,
+                MemoKind::Lru,
+                100_000,
+                1_000_000_000,
+                Some(""),
+                Some(4),
+            ),
+        ];
+        for (words, n, positions, memo, cache, lines, after, only) in rows {
+            let matches = command(rt.alloc())?
+                .try_get_matches_from(words)
+                .ok()
+                .expect(&rt, "matches");
+            let request = requested(&matches).expect(&rt, "a command");
+            assert_eq!(rt; request.n, n);
+            assert_eq!(rt; request.positions, positions);
+            assert_eq!(rt; request.memo, memo);
+            assert_eq!(rt; request.kept(), cache);
+            assert_eq!(rt; request.lines, lines);
+            assert_eq!(rt; request.after, after);
+            assert_eq!(rt; request.only, only);
+        }
+        Ok(())
+    }
+
     #[test]
     fn words_that_are_no_command(rt: HostRuntime) -> Result<(), Fail> {
-        let rows: [&[&str]; 8] = [
+        let rows: [&[&str]; 16] = [
             &["dw"],
             &["dw", "solve"],
             &["dw", "show", "--board", "9"],
@@ -228,6 +502,14 @@ mod tests {
             &["dw", "show", "--problem", "x"],
             &["dw", "show", "a", "b"],
             &["dw", "show", "--fen"],
+            &["dw", "show", "-n", "1"],
+            &["dw", "judge"],
+            &["dw", "judge", "-n", "0"],
+            &["dw", "judge", "-n", "21"],
+            &["dw", "judge", "-n", "2", "--lines", "1"],
+            &["dw", "list", "-n", "2", "--memo", "big"],
+            &["dw", "list", "-n", "2", "--cache", "4000001"],
+            &["dw", "list", "-n", "2", "--positions", "1000000000001"],
         ];
         for words in rows {
             let matches = command(rt.alloc())?.try_get_matches_from(words);

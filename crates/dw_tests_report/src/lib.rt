@@ -8,4 +8,8 @@ mod judge;
 #[cfg(test)]
 mod named;
 #[cfg(test)]
+mod ran;
+#[cfg(test)]
 mod report;
+#[cfg(test)]
+mod solved;

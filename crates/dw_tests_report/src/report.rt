@@ -1,41 +1,19 @@
 //! Whole runs: worked reports, and each read and each write failing in turn.
 
-use crate::named::position_of;
+ghost use Rattle.std.specs.Prelude.{◌≡◌, ◌⊎◌};
+
+use crate::ran::{Asked, MOVES, SHOW, judge_in, list_in, ran, settings_of, tags_of};
 use dw_board::board::{Board, Eight, Ten};
-use dw_notation::problems::{Form, Problem};
-use dw_notation::streams::{Reading, Writing};
+use dw_memo::no_memo::NoMemo;
 use dw_report::laws;
-use dw_report::problem::write_problem;
 use dw_report::run::run;
-use dw_report::settings::{Command, RunFault, Settings, Summary};
+use dw_report::settings::{RunFault, Summary};
+use dw_report::streams::{Reading, Writing};
+use dw_solve::guide::AnyOrder;
 use dw_tests_common::streams::{Chopped, Narrow, Repeated};
 use std::alloc::Global;
 use std::process::Abort;
 use std::test::Fail;
-
-const SHOW: Settings = Settings {
-    command: Command::Show,
-    form: Form::Fens,
-    only: None,
-};
-
-const SHOW_TAGS: Settings = Settings {
-    command: Command::Show,
-    form: Form::Pdn,
-    only: None,
-};
-
-const MOVES: Settings = Settings {
-    command: Command::Moves,
-    form: Form::Fens,
-    only: None,
-};
-
-const MOVES_TAGS: Settings = Settings {
-    command: Command::Moves,
-    form: Form::Pdn,
-    only: None,
-};
 
 /// A text, the report on it, and how many problems were read, reported and refused.
 type Report = (&'static [u8], &'static str, [u32; 3]);
@@ -54,21 +32,6 @@ const ROW: &str = "problem 1: W:W32:B28
 ";
 
 const THREE: &[u8] = b"W:W32:B28\n\nx\r\nW:W3:B20";
-
-/// The report on the first two problems of the three.
-const ROW_AND_REFUSED: &str = "problem 1: W:W32:B28
-| . . . . .|
-|. . . . . |
-| . . . . .|
-|. . . . . |
-| . . . . .|
-|. . b . . |
-| . w . . .|
-|. . . . . |
-| . . . . .|
-|. . . . . |
-problem 2: refused: 1 fen: 1 turn at 1
-";
 
 const THREE_SHOWN: &str = "problem 1: W:W32:B28
 | . . . . .|
@@ -445,21 +408,10 @@ const EIGHT_TAGS: [Report; 2] = [
     ),
 ];
 
-// The answer of a run, and what it wrote.
-fn ran<B: Board>(
-    alloc: Global,
-    settings: &Settings,
-    reader: Chopped<'_>,
-    writer: Narrow,
-) -> (Result<Summary, RunFault>, Vec<u8>) {
-    let mut source = Reading::new(reader);
-    let mut sink = Writing::new(writer);
-    let answer = run::<B, _, _>(alloc, &mut source, &mut sink, settings);
-    (answer, sink.into_inner().taken)
-}
-
 // Whatever the pieces in which the texts are read and the reports written, these are the reports.
-fn check_reports<B: Board>(rt: &impl Abort, alloc: Global, settings: &Settings, rows: &[Report]) {
+fn check_reports<B: Board>(rt: &impl Abort, alloc: Global, asked: &Asked, rows: &[Report])
+    requires { (B.geometry.rows ≡ 10) ⊎ (B.geometry.rows ≡ 8) }
+{
     for (text, wanted, counts) in rows {
         let [problems, shown, refused] = *counts;
         let summary = Summary {
@@ -469,7 +421,9 @@ fn check_reports<B: Board>(rt: &impl Abort, alloc: Global, settings: &Settings, 
         };
         for step in [1, 2, 3, 4096] {
             let reader = Chopped::new(text, step, 0, 0);
-            let (answer, written) = ran::<B>(alloc, settings, reader, Narrow::new(alloc, step, 0));
+            let writer = Narrow::new(alloc, step, 0);
+            let settings = settings_of::<B>(asked, None);
+            let (answer, written) = ran(alloc, &settings, NoMemo::new(), reader, writer);
             assert!(rt; written.as_slice() == wanted.as_bytes(), "{wanted}");
             assert!(rt; answer == Ok(summary), "{wanted}");
         }
@@ -478,95 +432,125 @@ fn check_reports<B: Board>(rt: &impl Abort, alloc: Global, settings: &Settings, 
 
 #[test]
 fn reports(rt: HostRuntime) {
+    laws::one_report();
     check_reports::<Ten>(&rt, rt.alloc(), &SHOW, &SHOWN);
-    check_reports::<Ten>(&rt, rt.alloc(), &SHOW_TAGS, &TAGS_SHOWN);
-    check_reports::<Ten>(&rt, rt.alloc(), &SHOW_TAGS, &TAGS_REFUSED);
+    check_reports::<Ten>(&rt, rt.alloc(), &tags_of(SHOW), &TAGS_SHOWN);
+    check_reports::<Ten>(&rt, rt.alloc(), &tags_of(SHOW), &TAGS_REFUSED);
     check_reports::<Ten>(&rt, rt.alloc(), &MOVES, &LISTED);
-    check_reports::<Ten>(&rt, rt.alloc(), &MOVES_TAGS, &TAGS_LISTED);
+    check_reports::<Ten>(&rt, rt.alloc(), &tags_of(MOVES), &TAGS_LISTED);
     check_reports::<Eight>(&rt, rt.alloc(), &SHOW, &EIGHT_SHOWN);
     check_reports::<Eight>(&rt, rt.alloc(), &MOVES, &EIGHT_LISTED);
-    check_reports::<Eight>(&rt, rt.alloc(), &SHOW_TAGS, &EIGHT_TAGS);
+    check_reports::<Eight>(&rt, rt.alloc(), &tags_of(SHOW), &EIGHT_TAGS);
     for (number, wanted, counts) in &ALONE {
-        let alone = Settings {
+        let alone = Asked {
             only: Some(*number),
             ..SHOW
         };
         check_reports::<Ten>(&rt, rt.alloc(), &alone, &[(THREE, *wanted, *counts)]);
+        let (one, all) = (settings_of::<Ten>(&alone, None), settings_of::<Ten>(&SHOW, None));
         let others = number.wrapping_add(1);
-        assert!(rt; alone.chooses(*number) && !alone.chooses(others) && SHOW.chooses(others));
-        assert!(rt; alone.asks_for(*number) && !alone.asks_for(others) && !SHOW.asks_for(others));
+        assert!(rt; one.chooses(*number) && !one.chooses(others) && all.chooses(others));
+        assert!(rt; one.asks_for(*number) && !one.asks_for(others) && !all.asks_for(others));
     }
 }
 
-#[test]
-fn writes_a_problem(rt: HostRuntime) {
-    let problem = Problem {
-        number: 1,
-        found: Ok(position_of::<Ten>(&rt, "W:W32:B28")),
-    };
-    let mut sink = Writing::new(Narrow::new(rt.alloc(), 4096, 0));
-    assert!(rt; write_problem(rt.alloc(), &mut sink, Command::Show, &problem) == Ok(()));
-    let Narrow { taken, .. } = sink.into_inner();
-    assert!(rt; taken.as_slice() == ROW.as_bytes());
-    laws::one_report();
+const LISTED_IN_2: &str = "problem 1: W:W27,32,38:B18
+1. 27-22 18x27 2. 32x21
+1. 32-28 18-22 2. 27x18
+1. 32-28 18-22 2. 28x17
+1. 32-28 18-23 2. 28x19
+complete 4
+";
+
+const GAMES_JUDGED: &str = "problem 1: W:W27,45:B16
+sound in 2: 45-40
+try 27-21 refuted by 16x27
+try 27-22 refuted by 16-21
+problem 2: refused: 4 wrong game
+";
+
+/// Problems of which the first ends behind so many bytes, and what is written of it; and the whole report.
+type Ending = (Asked, &'static [u8], u64, &'static str, &'static str);
+
+fn endings() -> [Ending; 4] {
+    [
+        (SHOW, THREE, 10, ROW, THREE_SHOWN),
+        (
+            list_in(2),
+            b"W:W27,32,38:B18\n",
+            16,
+            LISTED_IN_2,
+            LISTED_IN_2,
+        ),
+        (
+            judge_in(1),
+            b"W:W3:B20\n\nW:W32:B28",
+            9,
+            "problem 1: refused: 1 fen: 7 last row at 4\n",
+            "problem 1: refused: 1 fen: 7 last row at 4\nproblem 2: W:W32:B28\nsound in 1: 32x23\n",
+        ),
+        (
+            tags_of(judge_in(2)),
+            TWO_GAMES,
+            65,
+            "problem 1: W:W27,45:B16\nsound in 2: 45-40\n\
+                try 27-21 refuted by 16x27\ntry 27-22 refuted by 16-21\n",
+            GAMES_JUDGED,
+        ),
+    ]
 }
 
-// The lines of the three problems end behind 10 and 14 bytes, and at the end.
+// A source that gives a few bytes a read and fails at one: the sink has the whole texts of the problems that ended
+// before, and the first one as soon as its end was read.
 #[test]
 fn keeps_what_ended_before_a_failed_read(rt: HostRuntime) {
-    for step in [1, 2, 7] {
-        let mut ended = false;
-        for k in 1..40u64 {
-            let reader = Chopped::new(THREE, step, k, 0);
-            let writer = Narrow::new(rt.alloc(), 4096, 0);
-            let (answer, written) = ran::<Ten>(rt.alloc(), &SHOW, reader, writer);
-            let read = step as u64 * (k - 1);
-            ended = ended || answer.is_ok();
-            let wanted = if ended {
-                THREE_SHOWN
-            } else if read >= 14 {
-                ROW_AND_REFUSED
-            } else if read >= 10 {
-                ROW
-            } else {
-                ""
-            };
-            assert!(rt;
-                ended == (answer != Err(RunFault::Read)),
-                "{step} bytes, read {k}"
-            );
-            assert!(rt;
-                written.as_slice() == wanted.as_bytes(),
-                "{step} bytes, read {k}"
-            );
+    for (asked, text, first_ends, first, whole) in &endings() {
+        for step in [1, 2, 7] {
+            let mut ended = false;
+            for k in 1..200u64 {
+                let reader = Chopped::new(text, step, k, 0);
+                let writer = Narrow::new(rt.alloc(), 4096, 0);
+                let settings = settings_of::<Ten>(asked, None);
+                let (answer, written) = ran(rt.alloc(), &settings, NoMemo::new(), reader, writer);
+                let read = step as u64 * (k - 1);
+                ended = ended || answer.is_ok();
+                let taken = written.as_slice();
+                assert!(rt; ended == (answer != Err(RunFault::Read)), "{step} bytes, read {k}");
+                assert!(rt; whole.as_bytes().starts_with(taken), "{step} bytes, read {k}");
+                assert!(rt; !ended || taken.len() == whole.len(), "{step} bytes, read {k}");
+                assert!(rt;
+                    taken.starts_with(first.as_bytes()) == (read >= *first_ends || ended),
+                    "{step} bytes, read {k}: {first}"
+                );
+            }
+            assert!(rt; ended);
         }
-        assert!(rt; ended);
     }
     // Nothing is read behind the problem that was asked for.
-    let first = Settings {
+    let first = Asked {
         only: Some(1),
         ..SHOW
     };
     let reader = Chopped::new(THREE, 10, 2, 0);
-    let (answer, written) = ran::<Ten>(rt.alloc(), &first, reader, Narrow::new(rt.alloc(), 9, 0));
+    let writer = Narrow::new(rt.alloc(), 9, 0);
+    let settings = settings_of::<Ten>(&first, None);
+    let (answer, written) = ran(rt.alloc(), &settings, NoMemo::new(), reader, writer);
     assert!(rt; answer.is_ok() && written.as_slice() == ROW.as_bytes());
 }
 
 // A sink that takes a few bytes a write and fails at one has a beginning of the report, byte for byte.
 #[test]
 fn keeps_a_beginning_before_a_failed_write(rt: HostRuntime) {
-    for (settings, text, whole) in [(SHOW, THREE, THREE_SHOWN), (MOVES, TWO, TWO_LISTED)] {
+    for (asked, text, _, _, whole) in &endings() {
         for step in [1, 5] {
             let mut ended = false;
-            for k in 1..260 {
+            for k in 1..400 {
                 let reader = Chopped::new(text, 4096, 0, 0);
                 let writer = Narrow::new(rt.alloc(), step, k);
-                let (answer, written) = ran::<Ten>(rt.alloc(), &settings, reader, writer);
+                let settings = settings_of::<Ten>(asked, None);
+                let (answer, written) = ran(rt.alloc(), &settings, NoMemo::new(), reader, writer);
                 let taken = written.as_slice();
-                assert!(rt;
-                    whole.as_bytes().starts_with(taken),
-                    "{step} bytes, write {k}"
-                );
+                assert!(rt; whole.as_bytes().starts_with(taken), "{step} bytes, write {k}");
                 assert!(rt;
                     answer.is_ok() == (taken.len() == whole.len()),
                     "{step}, write {k}"
@@ -577,7 +561,9 @@ fn keeps_a_beginning_before_a_failed_write(rt: HostRuntime) {
             assert!(rt; ended);
         }
         let reader = Chopped::new(text, 4096, 0, 0);
-        let (answer, _) = ran::<Ten>(rt.alloc(), &settings, reader, Narrow::new(rt.alloc(), 0, 0));
+        let settings = settings_of::<Ten>(asked, None);
+        let writer = Narrow::new(rt.alloc(), 0, 0);
+        let (answer, _) = ran(rt.alloc(), &settings, NoMemo::new(), reader, writer);
         assert!(rt; answer == Err(RunFault::Write));
     }
 }
@@ -586,11 +572,19 @@ fn keeps_a_beginning_before_a_failed_write(rt: HostRuntime) {
 fn ends_at_one_problem_too_many(rt: HostRuntime) {
     let mut source = Reading::new(Repeated::new(b"a\n", 1_000_002));
     let mut sink = Writing::new(Narrow::new(rt.alloc(), 4096, 0));
-    let last = Settings {
+    let last = Asked {
         only: Some(1_000_001),
         ..SHOW
     };
-    let answer = run::<Ten, _, _>(rt.alloc(), &mut source, &mut sink, &last);
+    let settings = settings_of::<Ten>(&last, None);
+    let answer = run(
+        rt.alloc(),
+        &mut source,
+        &mut sink,
+        &settings,
+        NoMemo::new(),
+        AnyOrder,
+    );
     let summary = Summary {
         problems: 1_000_001,
         shown: 1,
@@ -613,9 +607,11 @@ fn reports_whatever_byte_is_changed(rt: HostRuntime) -> Result<(), Fail> {
             }
             let reader = Chopped::new(text.as_slice(), 4096, 0, 0);
             let writer = Narrow::new(alloc, 4096, 0);
-            let (answer, written) = ran::<Ten>(alloc, &SHOW_TAGS, reader, writer);
+            let settings = settings_of::<Ten>(&tags_of(SHOW), None);
+            let (answer, written) = ran(alloc, &settings, NoMemo::new(), reader, writer);
             let reader = Chopped::new(text.as_slice(), 1, 0, 0);
-            let (again, chopped) = ran::<Ten>(alloc, &SHOW_TAGS, reader, Narrow::new(alloc, 1, 0));
+            let writer = Narrow::new(alloc, 1, 0);
+            let (again, chopped) = ran(alloc, &settings, NoMemo::new(), reader, writer);
             assert!(rt; answer.is_ok() && answer == again, "{mark} at {at}");
             assert!(rt; written.as_slice() == chopped.as_slice(), "{mark} at {at}");
             assert!(rt;
