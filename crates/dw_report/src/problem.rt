@@ -4,6 +4,7 @@ ghost use Rattle.dw_notation.specs.Problems.{numbered};
 ghost use Rattle.dw_report.specs.Request.{request_of};
 ghost use Rattle.dw_report.specs.Report.{IsProblemText, IsAnswer, IsMovesText};
 ghost use Rattle.dw_report.specs.declared.problem.TextFault.TheVariants as because;
+ghost use Rattle.dw_solve.specs.declared.stop.Stop.TheVariants as stops;
 ghost use Rattle.dw_report.specs.Running.{TextEnds, SinkEnds, SearchesFor, IsProblemPart, AreLinesOf, IsRefused, IsNoLine};
 
 use crate::judged::write_judged;
@@ -39,7 +40,7 @@ pub enum TextFault {
 }
 
 impl From<AllocError> for TextFault {
-    ghost from_gives = { λ _ fault. fault ≡ because.Stopped Stop.Memory };
+    ghost from_gives = { λ _ fault. fault ≡ because.Stopped stops.Memory };
 
     fn from(_refused: AllocError) -> TextFault {
         TextFault::Stopped(Stop::Memory)
@@ -134,7 +135,7 @@ fn write_moves<B: Board, K: Sink>(
 ) -> Result<(), TextFault>
     ensures text { TextEnds (IsMovesText B.geometry position.now) (AreLinesOf (IsMovesText B.geometry position.now)) (K.taken sink.old) (K.taken sink.new) result }
     ensures sink { SinkEnds (K.is_failed sink.old) (K.is_failed sink.new) result }
-    ensures memory { (why : Stop) → result ≡ Err (because.Stopped why) → why ≡ Stop.Memory }
+    ensures memory { (why : Stop) → result ≡ Err (because.Stopped why) → why ≡ stops.Memory }
 {
     moves_in_order();
     let taken = best(position);
