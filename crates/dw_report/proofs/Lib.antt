@@ -1,6 +1,8 @@
 pub mod ChosenLemmas
 pub mod MoveLines
 pub mod Runs
+pub mod JudgedTexts
+pub mod ListedTexts
 pub mod Texts
 pub mod Writings
 pub mod Choices

@@ -2,16 +2,24 @@
 ghost use Rattle.dw_report.specs.Laws.{OneReport};
 ghost use Rattle.dw_report.specs.VerdictLaws.{OneVerdict, TriesAreListed};
 
-use dw_list::laws::lines_exist;
+use dw_list::laws::{line_or_place, lines_exist};
 use dw_moves::laws::{moves_have_keys, moves_in_order, moves_listed, one_best};
+use dw_notation::laws::{lines_have_texts, moves_have_texts};
 use dw_solve::laws::{wins_are_decided, wins_stay};
 
-/// Each byte text has a report, and only one.
+/// If a line at least is asked for, each byte text has a report, and only one.
 pub fn one_report()
     ensures { OneReport }
 {
     moves_in_order();
+    moves_have_keys();
     one_best();
+    one_verdict();
+    tries_are_listed();
+    lines_exist();
+    line_or_place();
+    moves_have_texts();
+    lines_have_texts();
 }
 
 /// Each problem has a verdict, and only one.
