@@ -12,3 +12,5 @@ pub mod KeyLists
 pub mod Refuting
 pub mod TryLists
 pub mod ChoiceLoops
+pub mod Joining
+pub mod VerdictTexts
