@@ -14,3 +14,6 @@ pub mod TryLists
 pub mod ChoiceLoops
 pub mod Joining
 pub mod VerdictTexts
+pub mod TryTexts
+pub mod Spending
+pub mod JudgedWrites
