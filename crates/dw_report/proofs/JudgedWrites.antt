@@ -1,5 +1,5 @@
 -- A verdict and then its tries are written.
-use Rattle.std.proofs.Common.{◌≡◌, ℕ, List, [], ◌∷◌, ◌++◌, refl, sym, ap, ◌∙◌, subst, inl, inr, append_assoc, append-nil, codes, decimal, Option, Result, Ok, Err}
+use Rattle.std.proofs.Common.{◌≡◌, ℕ, List, [], ◌∷◌, ◌++◌, refl, sym, ap, ◌∙◌, subst, inl, append_assoc, append-nil, codes, decimal, Option, Result, Ok, Err}
 use Rattle.std.specs.Io.KnownBytes.{Appends}
 use Rattle.std.proofs.KnownBytes.{Appends-trans, Appends-nil}
 use Rattle.dw_board.specs.Geometry.{Geometry, IsBoard}
@@ -8,7 +8,7 @@ use Rattle.dw_notation.specs.TextLaws.{MovesHaveTexts, LinesHaveTexts}
 use Rattle.dw_report.specs.Verdict.{Verdict, unsolvable, cooked, dual, sound}
 use Rattle.dw_report.specs.VerdictLaws.{OneVerdict, TriesAreListed}
 use Rattle.dw_report.specs.JudgedText.{next_number, IsVerdictText, IsVerdictLine, AreTriesListed, IsJudgedText}
-use Rattle.dw_report.specs.Writing.{Writes, WritesShort}
+use Rattle.dw_report.specs.Writing.{Writes}
 use Rattle.dw_report.specs.Running.{AreLinesOf, TextEnds}
 use Rattle.dw_report.specs.declared.problem.TextFault.{TextFault}
 use Rattle.dw_report.specs.declared.problem.TextFault.TheVariants.{Stopped, Sink}

@@ -1,11 +1,11 @@
 -- The lines of tries, written move by move.
-use Rattle.std.proofs.Common.{◌≡◌, ℕ, ◌+◌, ◌-◌, ◌<◌, ◌≤◌, zero, suc, List, [], ◌∷◌, ◌++◌, length, map, take, drop, get_or, refl, sym, ap, ◌∙◌, subst, inl, inr, arith, append_assoc, append-nil, codes, Option, Some, None, Result, Ok, Err}
+use Rattle.std.proofs.Common.{◌≡◌, ℕ, ◌+◌, ◌-◌, ◌<◌, ◌≤◌, suc, List, [], ◌∷◌, ◌++◌, length, map, take, drop, get_or, refl, sym, ap, ◌∙◌, subst, inl, inr, arith, append_assoc, append-nil, codes, Option, Some, None, Result, Err}
 use Rattle.std.specs.Io.KnownBytes.{Appends}
 use Rattle.std.proofs.KnownBytes.{Appends-trans, Appends-nil}
 use Rattle.std.proofs.lemmas.List.{take_all}
 use Rattle.dw_board.specs.Geometry.{Geometry, IsBoard}
 use Rattle.dw_board.specs.Placement.{Placement}
-use Rattle.dw_moves.specs.Moves.{Member, Move, Legal, play}
+use Rattle.dw_moves.specs.Moves.{Move, Legal, play}
 use Rattle.dw_moves.specs.Order.{Precedes, IsAscending, IsListOf}
 use Rattle.dw_moves.specs.MemberLaws.{mem_right}
 use Rattle.dw_moves.specs.Laws.{MovesInOrder, MovesHaveKeys}
@@ -152,6 +152,13 @@ module _ (decided : WinsAreDecided) (order : MovesInOrder) (keys : MovesHaveKeys
       → TextEnds {X = X} (IsTryText g p n m) (λ out. out ≡ []) mid new (Err fault) → TextEnds {X = Y} (AreTriesListed g p n) (AreLinesOf (AreTriesListed g p n)) old new (Err fault)
   fault_at X Y before after m old mid new (Stopped why) all h one = still_wrote before (m ∷ after) old mid new all h one
   fault_at X Y before after m old mid new Sink all h one = cut_short before after m old mid new all h one
+
+  -- a stop before anything was written
+  pub none_written : {X : Type 0} (old : Option (List ℕ)) (r : Result X TextFault) (fault : TextFault) (why : Stop) → r ≡ Err fault → fault ≡ Stopped why → TextEnds (AreTriesListed g p n) (AreLinesOf (AreTriesListed g p n)) old old r
+  none_written {X} old r fault why is same =
+      let all = order.some g board p in
+      subst (TextEnds {X = X} (AreTriesListed g p n) (AreLinesOf (AreTriesListed g p n)) old old) (sym (is ∙ ap Err same))
+      (wrote_lines [] all.0 old old all.1 (record { text = []; tried = tried_none g p n; wrote = Appends-nil old }))
 
   -- BY PLACES IN THE LIST
 

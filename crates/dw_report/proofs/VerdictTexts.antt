@@ -53,9 +53,9 @@ cooked_made g p n shortest keys moves digits number all text are d k a e = (
   moves,
   are,
   e ∙ (joined_7 (codes "cooked in ") digits (codes ", shortest ") number (codes ": ") all (codes "\n")
-  ∙ (ap (λ z. codes "cooked in " ++ z ++ codes ", shortest " ++ number ++ codes ": " ++ all ++ codes "\n") d
-  ∙ (ap (λ z. codes "cooked in " ++ decimal n ++ codes ", shortest " ++ z ++ codes ": " ++ all ++ codes "\n") k
-  ∙ ap (λ z. codes "cooked in " ++ decimal n ++ codes ", shortest " ++ decimal shortest ++ codes ": " ++ z ++ codes "\n") a))),
+      ∙ (ap (λ z. codes "cooked in " ++ z ++ codes ", shortest " ++ number ++ codes ": " ++ all ++ codes "\n") d
+      ∙ (ap (λ z. codes "cooked in " ++ decimal n ++ codes ", shortest " ++ z ++ codes ": " ++ all ++ codes "\n") k
+      ∙ ap (λ z. codes "cooked in " ++ decimal n ++ codes ", shortest " ++ decimal shortest ++ codes ": " ++ z ++ codes "\n") a))),
 )
 
 pub dual_made : (g : Geometry) (p q : Placement) (n : ℕ) (beginning choices : List Move) (line moves digits first number all text : List ℕ) → q ≡ reach g p beginning → IsLineText g p beginning line → AreJoined g q (codes " / ") choices moves
@@ -67,10 +67,10 @@ dual_made g p q n beginning choices line moves digits first number all text ther
   is,
   subst (λ z. AreJoined g z (codes " / ") choices moves) there are,
   e ∙ (joined_9 (codes "dual in ") digits (codes ": ") first (codes " ") number (codes ". ") all (codes "\n")
-  ∙ (ap (λ z. codes "dual in " ++ z ++ codes ": " ++ first ++ codes " " ++ number ++ codes ". " ++ all ++ codes "\n") d
-  ∙ (ap (λ z. codes "dual in " ++ decimal n ++ codes ": " ++ z ++ codes " " ++ number ++ codes ". " ++ all ++ codes "\n") f
-  ∙ (ap (λ z. codes "dual in " ++ decimal n ++ codes ": " ++ line ++ codes " " ++ z ++ codes ". " ++ all ++ codes "\n") k
-  ∙ ap (λ z. codes "dual in " ++ decimal n ++ codes ": " ++ line ++ codes " " ++ decimal (next_number beginning) ++ codes ". " ++ z ++ codes "\n") a)))),
+      ∙ (ap (λ z. codes "dual in " ++ z ++ codes ": " ++ first ++ codes " " ++ number ++ codes ". " ++ all ++ codes "\n") d
+      ∙ (ap (λ z. codes "dual in " ++ decimal n ++ codes ": " ++ z ++ codes " " ++ number ++ codes ". " ++ all ++ codes "\n") f
+      ∙ (ap (λ z. codes "dual in " ++ decimal n ++ codes ": " ++ line ++ codes " " ++ z ++ codes ". " ++ all ++ codes "\n") k
+      ∙ ap (λ z. codes "dual in " ++ decimal n ++ codes ": " ++ line ++ codes " " ++ decimal (next_number beginning) ++ codes ". " ++ z ++ codes "\n") a)))),
 )
 
 pub try_made : (g : Geometry) (p q : Placement) (m r : Move) (move reply one two text : List ℕ) → q ≡ play g p m → IsMoveText g p m move → IsMoveText g q r reply → one ≡ move → two ≡ reply

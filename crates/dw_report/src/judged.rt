@@ -148,7 +148,14 @@ fn verdict_line<B: Board>(
         }
         Verdict::Sound { key } => {
             let key = text_in(alloc, position, key)?;
-            ["sound in ", Buffer::new().format(moves), ": ", key.as_str(), "\n"].concat(alloc)
+            [
+                "sound in ",
+                Buffer::new().format(moves),
+                ": ",
+                key.as_str(),
+                "\n",
+            ]
+            .concat(alloc)
         }
     }
 }
@@ -218,7 +225,14 @@ fn try_line<B: Board>(
 {
     let first = text_in(alloc, position, step)?;
     let second = text_in(alloc, &play(position, step), reply)?;
-    ["try ", first.as_str(), " refuted by ", second.as_str(), "\n"].concat(alloc)
+    [
+        "try ",
+        first.as_str(),
+        " refuted by ",
+        second.as_str(),
+        "\n",
+    ]
+    .concat(alloc)
 }
 
 /// The position after moves, each legal after those before it.

@@ -1,4 +1,3 @@
-use Rattle.std.proofs.Common.{◌∙◌, ap, decimal}
 use Rattle.std.specs.String.{string_bytes}
 use Rattle.dw_report.proofs.ChoiceLoops.{ok_map}
 use Rattle.dw_report.proofs.VerdictTexts.{dual_playable, choices_legal, dual_made}

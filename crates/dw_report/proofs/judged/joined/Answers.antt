@@ -1,4 +1,4 @@
-use Rattle.std.proofs.Common.{◌∷◌, ◌++◌, sym, ap, ◌∙◌, subst, inr}
+use Rattle.std.proofs.Common.{◌++◌, sym, ap, ◌∙◌, subst, inr}
 use Rattle.std.specs.String.{string_bytes}
 use Rattle.dw_moves.specs.Moves.{Member}
 use Rattle.dw_report.proofs.Joining.{one_of_them, joined_one, joined_more, joined_all}
