@@ -13,3 +13,8 @@ pub mod KeyLists
 pub mod Refuting
 pub mod TryLists
 pub mod ChoiceLoops
+pub mod Joining
+pub mod VerdictTexts
+pub mod TryTexts
+pub mod Spending
+pub mod JudgedWrites

@@ -181,7 +181,7 @@ win_or_not : {A : Type 0} → A ⊎ (A → ⊥) → (A → ⊥) ⊎ ((A → ⊥)
 win_or_not (inl w) = inr (λ none. none w)
 win_or_not (inr none) = inl none
 
-refutation_some : WinsAreDecided → MovesInOrder → MovesHaveKeys → (g : Geometry) → IsBoard g → (q : Placement) (n : ℕ) → (o : Option Move) × FindsRefutation g q n o
+pub refutation_some : WinsAreDecided → MovesInOrder → MovesHaveKeys → (g : Geometry) → IsBoard g → (q : Placement) (n : ℕ) → (o : Option Move) × FindsRefutation g q n o
 refutation_some decided order law g board q n =
     let all = order.some g board q in
     let f = listed_where (Precedes g q) (Legal g q) (λ r. Win g (play g q r) n → ⊥) (λ r. win_or_not (decided g (play g q r) n)) all.0 all.1 in

@@ -1,19 +1,37 @@
 //! The texts of verdicts and tries.
-ghost use Rattle.std.specs.Prelude.{◌≡◌, ◌≤◌, false, IfOk};
-ghost use Rattle.dw_report.specs.Verdict.{IsVerdict};
+ghost use Rattle.std.specs.Prelude.{◌≡◌, ◌≤◌, [], length, IfOk};
+ghost use Rattle.std.specs.String.{string_bytes};
+ghost use Rattle.dw_moves.specs.Moves.{Member, Legal};
+ghost use Rattle.dw_moves.specs.Moves as of;
+ghost use Rattle.dw_notation.specs.Text.{ArePlayable};
+ghost use Rattle.dw_report.specs.Verdict.{IsVerdict, reach, cooked, dual};
 ghost use Rattle.dw_report.specs.Judging.{said_by};
-ghost use Rattle.dw_report.specs.JudgedText.{IsVerdictText, IsTryLine, AreTriesListed, IsJudgedText};
+ghost use Rattle.dw_report.specs.MoveTexts.{AreJoined};
+ghost use Rattle.dw_report.specs.JudgedText.{IsVerdictText, IsVerdictLine, IsTryLine, IsTryText, AreTriesListed, IsJudgedText};
 ghost use Rattle.dw_report.specs.Running.{TextEnds, SinkEnds, Spends, AreLinesOf};
 
 use crate::judge::verdict;
+use crate::laws::{one_verdict, tries_are_listed};
 use crate::problem::TextFault;
+use crate::tries::refutation;
+use crate::verdict::Verdict;
 use dw_board::board::Board;
 use dw_board::position::Position;
 use dw_memo::memo::Memo;
+use dw_moves::laws::{moves_have_keys, moves_in_order};
+use dw_moves::listed::listed;
+use dw_moves::moves::Move;
+use dw_moves::play::play;
+use dw_notation::laws::{lines_have_texts, moves_have_texts};
+use dw_notation::line_text::line_text;
+use dw_notation::move_text::text_in;
 use dw_notation::streams::Sink;
+use dw_notation::writes::write_all;
 use dw_solve::guide::Guide;
+use dw_solve::laws::wins_are_decided;
 use dw_solve::solver::Solver;
-use std::alloc::Global;
+use itoa::Buffer;
+use std::alloc::{AllocError, Global};
 
 /// Writes the verdict on a position, for a win within so many moves of the side to move, and then its tries, each as
 /// soon as it is known.
@@ -30,5 +48,223 @@ pub(crate) fn write_judged<B: Board, K: Sink, M: Memo<B>, G: Guide<B>>(
     ensures sink { SinkEnds (K.is_failed sink.old) (K.is_failed sink.new) result }
     ensures spends { Spends solver.old solver.new result }
 {
-    unreachable!()
+    one_verdict();
+    tries_are_listed();
+    moves_have_texts();
+    lines_have_texts();
+    write_verdict(alloc, sink, solver, position, moves)?;
+    write_tries(alloc, sink, solver, position, moves)
+}
+
+/// Writes the line of the verdict. A stop comes before anything is written.
+fn write_verdict<B: Board, K: Sink, M: Memo<B>, G: Guide<B>>(
+    alloc: Global,
+    sink: &mut K,
+    solver: &mut Solver<B, M, G>,
+    position: &Position<B>,
+    moves: u8,
+) -> Result<(), TextFault>
+    requires some { 1 ≤ moves }
+    requires few { moves ≤ 20 }
+    ensures text { TextEnds (IsVerdictLine B.geometry position.now moves) (λ out. out ≡ []) (K.taken sink.old) (K.taken sink.new) result }
+    ensures sink { SinkEnds (K.is_failed sink.old) (K.is_failed sink.new) result }
+    ensures spends { Spends solver.old solver.new result }
+{
+    let verdict = verdict(alloc, solver, position, moves)?;
+    let line = verdict_line(alloc, position, moves, &verdict)?;
+    write_all(sink, line.as_str().as_bytes())?;
+    Ok(())
+}
+
+/// Writes the lines of the tries in order, each as soon as it is known.
+fn write_tries<B: Board, K: Sink, M: Memo<B>, G: Guide<B>>(
+    alloc: Global,
+    sink: &mut K,
+    solver: &mut Solver<B, M, G>,
+    position: &Position<B>,
+    moves: u8,
+) -> Result<(), TextFault>
+    requires some { 1 ≤ moves }
+    requires few { moves ≤ 20 }
+    ensures text { TextEnds (AreTriesListed B.geometry position.now moves) (AreLinesOf (AreTriesListed B.geometry position.now moves)) (K.taken sink.old) (K.taken sink.new) result }
+    ensures sink { SinkEnds (K.is_failed sink.old) (K.is_failed sink.new) result }
+    ensures spends { Spends solver.old solver.new result }
+{
+    wins_are_decided();
+    moves_in_order();
+    moves_have_keys();
+    moves_have_texts();
+    let _ = solver.limit();
+    let list = listed(alloc, position)?;
+    'moves: for item in list.as_slice() {
+        write_try(alloc, sink, solver, position, &item.step, moves)?;
+    }
+    Ok(())
+}
+
+/// Writes the line of a move if it is a try. A stop comes before anything is written.
+fn write_try<B: Board, K: Sink, M: Memo<B>, G: Guide<B>>(
+    alloc: Global,
+    sink: &mut K,
+    solver: &mut Solver<B, M, G>,
+    position: &Position<B>,
+    step: &Move<B>,
+    moves: u8,
+) -> Result<(), TextFault>
+    requires some { 1 ≤ moves }
+    requires few { moves ≤ 20 }
+    requires legal { Legal B.geometry position.now step.now }
+    ensures text { TextEnds (IsTryText B.geometry position.now moves step.now) (λ out. out ≡ []) (K.taken sink.old) (K.taken sink.new) result }
+    ensures sink { SinkEnds (K.is_failed sink.old) (K.is_failed sink.new) result }
+    ensures spends { Spends solver.old solver.new result }
+{
+    let after = play(position, step);
+    if let Some(reply) = refutation(alloc, solver, &after, moves - 1)? {
+        let line = try_line(alloc, position, step, &reply)?;
+        write_all(sink, line.as_str().as_bytes())?;
+    }
+    Ok(())
+}
+
+/// The line of a verdict.
+fn verdict_line<B: Board>(
+    alloc: Global,
+    position: &Position<B>,
+    moves: u8,
+    verdict: &Verdict<B>,
+) -> Result<String, AllocError>
+    requires { IsVerdict B.geometry position.now moves (said_by verdict.now) }
+    ensures { IfOk result (λ line. IsVerdictText B.geometry position.now moves (said_by verdict.now) (string_bytes line)) }
+{
+    match verdict {
+        Verdict::Unsolvable => {
+            ["unsolvable in ", Buffer::new().format(moves), "\n"].concat(alloc)
+        }
+        Verdict::Cooked { shortest, keys } => {
+            cooked_line(alloc, position, moves, *shortest, keys.as_slice())
+        }
+        Verdict::Dual { at, choices } => {
+            dual_line(alloc, position, moves, at.as_slice(), choices.as_slice())
+        }
+        Verdict::Sound { key } => {
+            let key = text_in(alloc, position, key)?;
+            [
+                "sound in ",
+                Buffer::new().format(moves),
+                ": ",
+                key.as_str(),
+                "\n",
+            ]
+            .concat(alloc)
+        }
+    }
+}
+
+/// The line of the verdict that several first moves win, or that there is a win in fewer moves.
+fn cooked_line<B: Board>(
+    alloc: Global,
+    position: &Position<B>,
+    moves: u8,
+    shortest: u8,
+    keys: &[Move<B>],
+) -> Result<String, AllocError>
+    requires { IsVerdict B.geometry position.now moves (cooked shortest keys.now) }
+    ensures { IfOk result (λ line. IsVerdictText B.geometry position.now moves (cooked shortest keys.now) (string_bytes line)) }
+{
+    let keys = joined(alloc, position, keys, ", ")?;
+    [
+        "cooked in ",
+        Buffer::new().format(moves),
+        ", shortest ",
+        Buffer::new().format(shortest),
+        ": ",
+        keys.as_str(),
+        "\n",
+    ]
+    .concat(alloc)
+}
+
+/// The line of the verdict that there is a choice after the first move.
+fn dual_line<B: Board>(
+    alloc: Global,
+    position: &Position<B>,
+    moves: u8,
+    at: &[Move<B>],
+    choices: &[Move<B>],
+) -> Result<String, AllocError>
+    requires few { length at.now ≤ 38 }
+    requires verdict { IsVerdict B.geometry position.now moves (dual at.now choices.now) }
+    ensures { IfOk result (λ line. IsVerdictText B.geometry position.now moves (dual at.now choices.now) (string_bytes line)) }
+{
+    let line = line_text(alloc, position, at)?;
+    let choices = joined(alloc, &reached(position, at), choices, " / ")?;
+    [
+        "dual in ",
+        Buffer::new().format(moves),
+        ": ",
+        line.as_str(),
+        " ",
+        Buffer::new().format(at.len() / 2 + 1),
+        ". ",
+        choices.as_str(),
+        "\n",
+    ]
+    .concat(alloc)
+}
+
+/// The line of a try: its move, and the reply that refutes it.
+fn try_line<B: Board>(
+    alloc: Global,
+    position: &Position<B>,
+    step: &Move<B>,
+    reply: &Move<B>,
+) -> Result<String, AllocError>
+    requires step { Legal B.geometry position.now step.now }
+    requires reply { Legal B.geometry (of.play B.geometry position.now step.now) reply.now }
+    ensures { IfOk result (λ line. IsTryLine B.geometry position.now (step.now, reply.now) (string_bytes line)) }
+{
+    let first = text_in(alloc, position, step)?;
+    let second = text_in(alloc, &play(position, step), reply)?;
+    [
+        "try ",
+        first.as_str(),
+        " refuted by ",
+        second.as_str(),
+        "\n",
+    ]
+    .concat(alloc)
+}
+
+/// The position after moves, each legal after those before it.
+fn reached<B: Board>(position: &Position<B>, moves: &[Move<B>]) -> Position<B>
+    requires { ArePlayable B.geometry position.now moves.now }
+    ensures { result ≡ reach B.geometry position.now moves.now }
+{
+    let mut current = *position;
+    'moves: for step in moves {
+        current = play(&current, step);
+    }
+    current
+}
+
+/// The texts of legal moves of a position, with a mark between them.
+fn joined<B: Board>(
+    alloc: Global,
+    position: &Position<B>,
+    moves: &[Move<B>],
+    mark: &str,
+) -> Result<String, AllocError>
+    requires { (m : of.Move) → Member m moves.now → Legal B.geometry position.now m }
+    ensures { IfOk result (λ text. AreJoined B.geometry position.now mark.now moves.now (string_bytes text)) }
+{
+    let mut text = String::new(alloc);
+    let Some((first, rest)) = moves.split_first() else {
+        return Ok(text);
+    };
+    text.push_str(text_in(alloc, position, first)?.as_str())?;
+    'rest: for step in rest {
+        text.push_str(mark)?;
+        text.push_str(text_in(alloc, position, step)?.as_str())?;
+    }
+    Ok(text)
 }

@@ -45,7 +45,7 @@ pub(crate) fn tries<B: Board, M: Memo<B>, G: Guide<B>>(
 }
 
 /// The only reply after which the attacker has no win within so many moves, if there is just one.
-fn refutation<B: Board, M: Memo<B>, G: Guide<B>>(
+pub(crate) fn refutation<B: Board, M: Memo<B>, G: Guide<B>>(
     alloc: Global,
     solver: &mut Solver<B, M, G>,
     position: &Position<B>,

@@ -1,0 +1,14 @@
+use Rattle.std.specs.String.{string_bytes}
+use Rattle.dw_report.proofs.ChoiceLoops.{ok_map}
+use Rattle.dw_report.proofs.JudgedTexts.{keys_legal}
+use Rattle.dw_report.proofs.VerdictTexts.{cooked_made}
+use Rattle.dw_report.proofs.judged.cooked_line.Goals as goal
+
+pub joined-requires : goal.joined-requires
+joined-requires g c = keys_legal g.B.Board.geometry c.args.position.now c.args.moves c.args.keys.now c.requires.0
+
+pub returns : goal.returns
+returns g c =
+    ok_map _ _ c.concat.result
+    (λ line e. cooked_made g.B.Board.geometry c.args.position.now c.args.moves c.args.shortest c.args.keys.now (string_bytes c.in_ok-keys.keys) c.format.result.now c.format-2.result.now c.as_str.result.now (string_bytes line)
+    c.in_ok-keys.ensures c.format.ensures.text c.format-2.ensures.text c.as_str.ensures.value e) c.concat.ensures.ok
