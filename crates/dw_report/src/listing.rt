@@ -60,7 +60,9 @@ pub(crate) fn write_lines<B: Board, K: Sink, M: Memo<B>, G: Guide<B>>(
     ensures refused { IfOk result (λ refused. IsTrue refused ↔ IsNoLine B.geometry position.now settings.now.n (request_of settings.now).after) }
 {
     let mut lister = Lister::start(solver, position, settings.n);
-    write_asked(alloc, sink, &mut lister, settings, position)
+    let result = write_asked(alloc, sink, &mut lister, settings, position);
+    let _ = lister.into_solver();
+    result
 }
 
 /// Writes the lines that the settings ask for, with a lister that has given none yet.
