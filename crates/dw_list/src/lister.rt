@@ -160,6 +160,15 @@ impl<'a, B: Board, M: Memo<B>, G: Guide<B>> Lister<'a, B, M, G> {
         self.solver.dropped()
     }
 
+    /// Ends the listing, and gives the solver back.
+    pub fn into_solver(self) -> &'a mut Solver<B, M, G>
+        ensures lender { result.ghost_name ≡ lender self.entry }
+        ensures solver { result.now ≡ solver_of self.entry }
+    {
+        let Lister { solver, .. } = self;
+        solver
+    }
+
     /// Changes the solver's limit. It is at least 1, and not below what was expanded.
     pub fn set_limit(&mut self, limit: u64)
         requires some { 1 ≤ limit }

@@ -1,4 +1,5 @@
 pub mod ChosenLemmas
+pub mod LineRows
 pub mod MoveLines
 pub mod Searches
 pub mod Runs

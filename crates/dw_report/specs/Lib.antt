@@ -6,6 +6,7 @@ pub mod Judging
 pub mod MoveTexts
 pub mod JudgedText
 pub mod ListedText
+pub mod Rows
 pub mod Report
 pub mod Writing
 pub mod Running

@@ -1,18 +1,43 @@
 //! The text of a list of lines.
-ghost use Rattle.std.specs.Prelude.{◌≡◌, ◌≤◌, ◌⊎◌, ◌↔◌, false, IfOk, IsTrue};
+ghost use Rattle.std.specs.Prelude.{◌≡◌, ◌≤◌, ◌<◌, ◌%◌, ◌⊎◌, ◌↔◌, ◌++◌, true, false, Err, List, length, codes, decimal};
+ghost use Rattle.std.specs.Prelude.{IfOk, IsErr, IsTrue, OnOk, OnErr, Some};
+ghost use Rattle.std.specs.Io.KnownBytes.{Appends};
+ghost use Rattle.dw_moves.specs.Moves.{Move as AnyMove};
+ghost use Rattle.dw_notation.specs.Text.{ArePlayable};
+ghost use Rattle.dw_notation.specs.Writes.{StopsShort};
+ghost use Rattle.dw_list.specs.Listing.{lender, solver_of, stack_of};
+ghost use Rattle.dw_list.specs.Lines.{Lines};
+ghost use Rattle.dw_list.specs.Standing.{AreToCome};
+ghost use Rattle.dw_list.specs.Tokens as tokens;
 ghost use Rattle.dw_report.specs.Request.{request_of};
-ghost use Rattle.dw_report.specs.ListedText.{IsListing, IsListedText};
+ghost use Rattle.dw_report.specs.ListedText.{IsListing, IsListedText, refused_line};
+ghost use Rattle.dw_report.specs.Rows.{IsRow, IsNothing};
 ghost use Rattle.dw_report.specs.Running.{TextEnds, SinkEnds, Spends, AreLinesOf, IsNoLine};
+ghost use Rattle.dw_report.specs.declared.problem.TextFault.TheVariants as because;
 
 use crate::problem::TextFault;
 use crate::settings::Settings;
+use arrayvec::{ArrayString, ArrayVec};
 use dw_board::board::Board;
 use dw_board::position::Position;
+use dw_list::fault::AfterFault;
+use dw_list::laws::{line_or_place, lines_exist};
+use dw_list::lister::Lister;
+use dw_list::tokens::{MAX_MOVES, write_token};
 use dw_memo::memo::Memo;
+use dw_moves::moves::Move;
+use dw_notation::laws::lines_have_texts;
+use dw_notation::line_text::line_text;
 use dw_notation::streams::Sink;
+use dw_notation::writes::{WriteFault, write_all};
 use dw_solve::guide::Guide;
 use dw_solve::solver::Solver;
-use std::alloc::Global;
+use dw_solve::stop::Stop;
+use itoa::Buffer;
+use std::alloc::{AllocError, Global};
+
+/// The bytes that suffice for each line's text and a line feed.
+const ROW_ROOM: usize = 2561;
 
 /// Writes the lines of a position, all or those after the line that the settings name, as many as they ask for, each
 /// as soon as it is known; and then that the list is complete, or after which line it goes on. Answers whether the
@@ -34,5 +59,196 @@ pub(crate) fn write_lines<B: Board, K: Sink, M: Memo<B>, G: Guide<B>>(
     ensures spends { Spends solver.old solver.new result }
     ensures refused { IfOk result (λ refused. IsTrue refused ↔ IsNoLine B.geometry position.now settings.now.n (request_of settings.now).after) }
 {
-    unreachable!()
+    let mut lister = Lister::start(solver, position, settings.n);
+    let result = write_asked(alloc, sink, &mut lister, settings, position);
+    let _ = lister.into_solver();
+    result
+}
+
+/// Writes the lines that the settings ask for, with a lister that has given none yet.
+fn write_asked<B: Board, K: Sink, M: Memo<B>, G: Guide<B>>(
+    alloc: Global,
+    sink: &mut K,
+    lister: &mut Lister<'_, B, M, G>,
+    settings: &Settings<B>,
+    position: &Position<B>,
+) -> Result<bool, TextFault>
+    requires works { K.is_failed sink.old ≡ false }
+    requires most { 1 ≤ settings.now.lines }
+    requires rows { (B.geometry.rows ≡ 10) ⊎ (B.geometry.rows ≡ 8) }
+    requires position { (stack_of lister.old).position ≡ position.now }
+    requires moves { (stack_of lister.old).moves ≡ settings.now.n }
+    requires to_come { (lines : List (List AnyMove)) → Lines B.geometry position.now settings.now.n lines ↔ AreToCome B.geometry (stack_of lister.old) lines }
+    ensures lender { lender lister.new ≡ lender lister.old }
+    ensures text { TextEnds (IsListedText B.geometry position.now settings.now.n settings.now.lines (request_of settings.now).after) (AreLinesOf (IsListedText B.geometry position.now settings.now.n settings.now.lines (request_of settings.now).after)) (K.taken sink.old) (K.taken sink.new) result }
+    ensures sink { SinkEnds (K.is_failed sink.old) (K.is_failed sink.new) result }
+    ensures spends { Spends (solver_of lister.old) (solver_of lister.new) result }
+    ensures refused { IfOk result (λ refused. IsTrue refused ↔ IsNoLine B.geometry position.now settings.now.n (request_of settings.now).after) }
+{
+    lines_exist();
+    match &settings.after {
+        None => {
+            write_listing(alloc, sink, lister, position, settings.lines)?;
+            Ok(false)
+        }
+        Some(line) => write_after(
+            alloc, sink, lister, position, line.as_slice(), settings.lines,
+        ),
+    }
+}
+
+/// Writes the lines of a lister's position after a given one, so many at most. Answers whether that is refused.
+fn write_after<B: Board, K: Sink, M: Memo<B>, G: Guide<B>>(
+    alloc: Global,
+    sink: &mut K,
+    lister: &mut Lister<'_, B, M, G>,
+    position: &Position<B>,
+    line: &[Move<B>],
+    most: u64,
+) -> Result<bool, TextFault>
+    requires works { K.is_failed sink.old ≡ false }
+    requires some { 1 ≤ most }
+    requires rows { (B.geometry.rows ≡ 10) ⊎ (B.geometry.rows ≡ 8) }
+    requires position { (stack_of lister.old).position ≡ position.now }
+    ensures lender { lender lister.new ≡ lender lister.old }
+    ensures text { TextEnds (IsListedText B.geometry position.now (stack_of lister.old).moves most (Some line.now)) (AreLinesOf (IsListedText B.geometry position.now (stack_of lister.old).moves most (Some line.now))) (K.taken sink.old) (K.taken sink.new) result }
+    ensures sink { SinkEnds (K.is_failed sink.old) (K.is_failed sink.new) result }
+    ensures spends { Spends (solver_of lister.old) (solver_of lister.new) result }
+    ensures refused { IfOk result (λ refused. IsTrue refused ↔ IsNoLine B.geometry position.now (stack_of lister.old).moves (Some line.now)) }
+{
+    lines_exist();
+    line_or_place();
+    lines_have_texts();
+    match lister.after(alloc, line) {
+        Err(AfterFault::Stopped(stop)) => Err(TextFault::Stopped(stop)),
+        Err(AfterFault::NotALine(place)) => {
+            write_all(sink, refused_row(place).as_str().as_bytes())?;
+            Ok(true)
+        }
+        Ok(()) => {
+            write_listing(alloc, sink, lister, position, most)?;
+            Ok(false)
+        }
+    }
+}
+
+/// Writes the lines that are still to come of a lister, so many at most, and how the list ends.
+fn write_listing<B: Board, K: Sink, M: Memo<B>, G: Guide<B>>(
+    alloc: Global,
+    sink: &mut K,
+    lister: &mut Lister<'_, B, M, G>,
+    position: &Position<B>,
+    most: u64,
+) -> Result<(), TextFault>
+    requires works { K.is_failed sink.old ≡ false }
+    requires some { 1 ≤ most }
+    requires rows { (B.geometry.rows ≡ 10) ⊎ (B.geometry.rows ≡ 8) }
+    requires position { (stack_of lister.old).position ≡ position.now }
+    requires to_come { (lines : List (List AnyMove)) × AreToCome B.geometry (stack_of lister.old) lines }
+    ensures lender { lender lister.new ≡ lender lister.old }
+    ensures text { (lines : List (List AnyMove)) → AreToCome B.geometry (stack_of lister.old) lines → TextEnds (IsListing B.geometry position.now most lines) (AreLinesOf (IsListing B.geometry position.now most lines)) (K.taken sink.old) (K.taken sink.new) result }
+    ensures sink { SinkEnds (K.is_failed sink.old) (K.is_failed sink.new) result }
+    ensures spends { Spends (solver_of lister.old) (solver_of lister.new) result }
+{
+    lines_have_texts();
+    let mut written: u64 = 0;
+    'lines: while written < most {
+        if !lister.advance(alloc)? {
+            write_all(sink, complete_row(written).as_str().as_bytes())?;
+            return Ok(());
+        }
+        write_row(alloc, sink, position, lister.line())?;
+        written += 1;
+    }
+    let last = kept(lister.line());
+    if lister.advance(alloc)? {
+        write_more(sink, last.as_slice())?;
+    } else {
+        write_all(sink, complete_row(written).as_str().as_bytes())?;
+    }
+    Ok(())
+}
+
+/// Writes the text of a line and a line feed. Memory is taken before.
+fn write_row<B: Board, K: Sink>(
+    alloc: Global,
+    sink: &mut K,
+    position: &Position<B>,
+    line: &[Move<B>],
+) -> Result<(), TextFault>
+    requires few { length line.now ≤ 39 }
+    requires legal { ArePlayable B.geometry position.now line.now }
+    ensures text { TextEnds (IsRow B.geometry position.now line.now) IsNothing (K.taken sink.old) (K.taken sink.new) result }
+    ensures sink { SinkEnds (K.is_failed sink.old) (K.is_failed sink.new) result }
+    ensures memory { (why : Stop) → result ≡ Err (because.Stopped why) → why ≡ Stop.Memory }
+{
+    lines_have_texts();
+    let row = row_of(alloc, position, line)?;
+    write_all(sink, row.as_str().as_bytes())?;
+    Ok(())
+}
+
+/// The text of a line and a line feed.
+fn row_of<B: Board>(
+    alloc: Global,
+    position: &Position<B>,
+    line: &[Move<B>],
+) -> Result<ArrayString<ROW_ROOM>, AllocError>
+    requires few { length line.now ≤ 39 }
+    requires legal { ArePlayable B.geometry position.now line.now }
+    ensures { IfOk result (λ row. IsRow B.geometry position.now line.now row.bytes) }
+{
+    let text = line_text(alloc, position, line)?;
+    let mut row = ArrayString::new();
+    row.push_str(text.as_str());
+    row.push('\n');
+    Ok(row)
+}
+
+/// That so many lines are all of them.
+fn complete_row(count: u64) -> ArrayString<32>
+    ensures { result.bytes ≡ codes "complete " ++ decimal count ++ codes "\n" }
+{
+    let mut row = ArrayString::new();
+    row.push_str("complete ");
+    row.push_str(Buffer::new().format(count));
+    row.push_str("\n");
+    row
+}
+
+/// Writes that more lines come after this one, which is told by its token.
+fn write_more<B: Board, K: Sink>(sink: &mut K, last: &[Move<B>]) -> Result<(), WriteFault>
+    requires odd { length last.now % 2 ≡ 1 }
+    requires most { length last.now ≤ 39 }
+    requires rows { (B.geometry.rows ≡ 10) ⊎ (B.geometry.rows ≡ 8) }
+    requires works { K.is_failed sink.old ≡ false }
+    ensures ok { OnOk result (Appends (K.taken sink.old) (K.taken sink.new) (codes "more after " ++ tokens.token_of B.geometry last.now ++ codes "\n")) }
+    ensures err { OnErr result (StopsShort (K.taken sink.old) (K.taken sink.new) (codes "more after " ++ tokens.token_of B.geometry last.now ++ codes "\n")) }
+    ensures failed { IsErr result → K.is_failed sink.new ≡ true }
+    ensures kept { OnOk result (K.is_failed sink.new ≡ K.is_failed sink.old) }
+{
+    write_all(sink, "more after ".as_bytes())?;
+    write_token(last, sink)?;
+    write_all(sink, "\n".as_bytes())
+}
+
+/// That a list of moves is no line, and the place at which it leaves all lines.
+fn refused_row(place: usize) -> ArrayString<64>
+    ensures { result.bytes ≡ refused_line place }
+{
+    let mut row = ArrayString::new();
+    row.push_str("refused token: 1 not a line at ");
+    row.push_str(Buffer::new().format(place));
+    row.push_str("\n");
+    row
+}
+
+/// A line in an array of its own.
+fn kept<B: Board>(line: &[Move<B>]) -> ArrayVec<Move<B>, MAX_MOVES>
+    requires { length line.now ≤ 39 }
+    ensures { result.items ≡ line.now }
+{
+    let mut kept = ArrayVec::new();
+    let _ = kept.try_extend_from_slice(line);
+    kept
 }
