@@ -21,6 +21,11 @@ pub some_win : (g : Geometry) (p : Placement) (n : ℕ) (ks : List Move) → 0 <
 some_win g p n [] some keys = absurd (omega (arith, some))
 some_win g p n (k ∷ ks) some keys = key_wins g p n k ((keys.exactly k).0 (inl refl))
 
+-- none in a list of none
+pub no_keys : (g : Geometry) (p : Placement) (n : ℕ) (ks : List Move) → length ks ≡ 0 → Keys g p n ks → Keys g p n []
+no_keys g p n [] none keys = keys
+no_keys g p n (k ∷ ks) none keys = absurd (omega (arith, none))
+
 -- the one key of a list of one
 pub only_key : (g : Geometry) (p : Placement) (n : ℕ) (ks : List Move) (d : Move) → length ks ≡ 1 → Keys g p n ks → Keys g p n (get_or ks 0 d ∷ [])
 only_key g p n [] d one keys = absurd (omega (arith, one))

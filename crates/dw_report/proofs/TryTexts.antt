@@ -25,6 +25,10 @@ use Rattle.dw_report.proofs.Gathered.{AreGathered, gathered_none, gathered_more,
 use Rattle.dw_report.proofs.Verdicts.{refutation_some, tries_listed}
 use Rattle.dw_report.proofs.Writings.{stops_within}
 
+-- a stop before anything was written
+pub nothing_written : {X : Type 0} (P : List ℕ → Type 0) (old : Option (List ℕ)) (r : Result X TextFault) (fault : TextFault) (why : Stop) → r ≡ Err fault → fault ≡ Stopped why → TextEnds P (λ out. out ≡ []) old old r
+nothing_written {X} P old r fault why is same = subst (TextEnds {X = X} P (λ out. out ≡ []) old old) (sym (is ∙ ap Err same)) (record { text = []; is = refl; wrote = Appends-nil old })
+
 -- ONE MOVE
 
 pub try_written : (g : Geometry) (p : Placement) (n : ℕ) (m r : Move) (line : List ℕ) (old new : Option (List ℕ)) → IsRefutation g (play g p m) (n - 1) r → IsTryLine g p (m, r) line → Appends old new line → Writes (IsTryText g p n m) old new

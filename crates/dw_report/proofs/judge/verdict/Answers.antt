@@ -1,5 +1,14 @@
+use Rattle.std.proofs.Common.{◌≡◌, rules, length, sym, ◌∙◌, vec_len}
+use Rattle.std.proofs.lemmas.Bool.{eqb-true}
 use Rattle.dw_list.specs.AskingLaws.{asked_then, asked_ok}
+use Rattle.dw_report.proofs.KeyLists.{no_keys}
 use Rattle.dw_report.proofs.judge.verdict.Goals as goal
+
+pub returns-then-is_empty-clause-verdict : goal.returns-then-is_empty-clause-verdict
+returns-then-is_empty-clause-verdict g c =
+    let none : vec_len c.in_ok-keys.keys ≡ 0 = eqb-true (vec_len c.in_ok-keys.keys) 0 (sym c.is_empty.ensures ∙ c.if-is_empty.true) in
+    let empty : length c.in_ok-keys.keys.items ≡ 0 = search (rules, none) in
+    no_keys g.B.Board.geometry c.args.position.now c.args.moves c.in_ok-keys.keys.items empty c.in_ok-keys.ensures.keys
 
 pub returns-then-len-eq1-clause-asked : goal.returns-then-len-eq1-clause-asked
 returns-then-len-eq1-clause-asked g c =

@@ -7,8 +7,18 @@ use Rattle.dw_report.specs.Verdict.{IsRefutation}
 use Rattle.dw_report.specs.Judging.{FindsRefutation}
 use Rattle.dw_report.specs.JudgedText.{IsTryText}
 use Rattle.dw_report.proofs.Writings.{at_sink}
-use Rattle.dw_report.proofs.TryTexts.{try_written, try_short, no_try_written}
+use Rattle.dw_report.proofs.TryTexts.{nothing_written, try_written, try_short, no_try_written}
 use Rattle.dw_report.proofs.judged.write_try.Goals as goal
+
+pub returns-in_err-reply-clause-text : goal.returns-in_err-reply-clause-text
+returns-in_err-reply-clause-text g c =
+    let why = err_from_is_err_and c.from_residual.result c.from_residual.ensures.1 in
+    nothing_written (IsTryText g.B.Board.geometry c.args.position.now c.args.moves c.args.step.now) (g.K.Sink.taken c.args.sink.now) c.from_residual.result _ _ why.1 why.2
+
+pub returns-in_err-line-clause-text : goal.returns-in_err-line-clause-text
+returns-in_err-line-clause-text g c =
+    let why = err_from_is_err_and c.from_residual-in_err-line.result c.from_residual-in_err-line.ensures.1 in
+    nothing_written (IsTryText g.B.Board.geometry c.args.position.now c.args.moves c.args.step.now) (g.K.Sink.taken c.args.sink.now) c.from_residual-in_err-line.result _ _ why.1 why.2
 
 pub returns-in_err-write_all-clause-text : goal.returns-in_err-write_all-clause-text
 returns-in_err-write_all-clause-text g c =
