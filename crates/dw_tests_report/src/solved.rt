@@ -1,8 +1,9 @@
 //! Worked problems judged and listed: with each memo, under each limit, and in parts.
+ghost use Rattle.std.specs.Prelude.{◌≡◌, ◌⊎◌};
 ghost use Rattle.dw_solve.specs.Facts.{AreTrue};
 
 use crate::ran::{Asked, judge_in, list_in, ran, settings_of};
-use dw_board::board::Ten;
+use dw_board::board::{Board, Ten};
 use dw_list::tokens::read_token;
 use dw_memo::lru_memo::LruMemo;
 use dw_memo::memo::Memo;
@@ -12,6 +13,7 @@ use dw_report::settings::{RunFault, Stop, Summary};
 use dw_tests_common::streams::{Chopped, Narrow};
 use std::alloc::Global;
 use std::process::Abort;
+use std::test::Fail;
 
 /// A position, a number of moves, and the reports that judge it and list its lines.
 type Solved = (&'static str, u8, &'static str, &'static str);
@@ -94,20 +96,21 @@ const SOLVED: [Solved; 12] = [
 ];
 
 /// What a run over this text wrote, and its answer.
-fn report_on<M: Memo<Ten> + Drop>(
+fn report_on<B: Board, M: Memo<B> + Drop>(
     alloc: Global,
     asked: &Asked,
     memo: M,
     text: &str,
 ) -> (Result<Summary, RunFault>, Vec<u8>)
-    requires { AreTrue Ten.geometry (M.content memo) }
+    requires rows { (B.geometry.rows ≡ 10) ⊎ (B.geometry.rows ≡ 8) }
+    requires right { AreTrue B.geometry (M.content memo) }
 {
     let reader = Chopped::new(text.as_bytes(), 4096, 0, 0);
-    let settings = settings_of::<Ten>(asked, None);
+    let settings = settings_of::<B>(asked, None);
     ran(alloc, &settings, memo, reader, Narrow::new(alloc, 4096, 0))
 }
 
-fn check<M: Memo<Ten> + Drop>(
+fn check<B: Board, M: Memo<B> + Drop>(
     rt: &impl Abort,
     alloc: Global,
     asked: &Asked,
@@ -115,9 +118,10 @@ fn check<M: Memo<Ten> + Drop>(
     text: &str,
     wanted: &str,
 )
-    requires { AreTrue Ten.geometry (M.content memo) }
+    requires rows { (B.geometry.rows ≡ 10) ⊎ (B.geometry.rows ≡ 8) }
+    requires right { AreTrue B.geometry (M.content memo) }
 {
-    let (answer, written) = report_on(alloc, asked, memo, text);
+    let (answer, written) = report_on::<B, M>(alloc, asked, memo, text);
     assert!(rt; answer.is_ok(), "{text}");
     assert!(rt; written.as_slice() == wanted.as_bytes(), "{text}");
 }
@@ -128,12 +132,12 @@ fn judges_and_lists(rt: HostRuntime) {
     let alloc = rt.alloc();
     for (text, n, judged, listed) in &SOLVED {
         for (asked, wanted) in [(judge_in(*n), judged), (list_in(*n), listed)] {
-            check(&rt, alloc, &asked, NoMemo::new(), text, wanted);
+            check::<Ten, NoMemo>(&rt, alloc, &asked, NoMemo::new(), text, wanted);
             for kept in [1, 2, 100_000usize] {
                 let kept = kept.clamp(1, 4_000_000);
-                let recent = LruMemo::new(alloc, kept).expect(&rt, "memory");
+                let recent = LruMemo::<Ten>::new(alloc, kept).expect(&rt, "memory");
                 check(&rt, alloc, &asked, recent, text, wanted);
-                let slots = SlotMemo::new(alloc, kept).expect(&rt, "memory");
+                let slots = SlotMemo::<Ten>::new(alloc, kept).expect(&rt, "memory");
                 check(&rt, alloc, &asked, slots, text, wanted);
             }
         }
@@ -151,7 +155,7 @@ fn stops_at_each_limit(rt: HostRuntime) {
             let mut most = 0;
             for limit in 1..200 {
                 let asked = Asked { limit, ..asked };
-                let (answer, written) = report_on(alloc, &asked, NoMemo::new(), text);
+                let (answer, written) = report_on::<Ten, NoMemo>(alloc, &asked, NoMemo::new(), text);
                 let taken = written.as_slice();
                 assert!(rt; wanted.as_bytes().starts_with(taken), "{text} {limit}");
                 assert!(rt; taken.is_empty() || taken.ends_with(b"\n"), "{text} {limit}");
@@ -241,7 +245,7 @@ const PARTS: [Part; 9] = [
 ];
 
 #[test]
-fn lists_in_parts(rt: HostRuntime) {
+fn lists_in_parts(rt: HostRuntime) -> Result<(), Fail> {
     let alloc = rt.alloc();
     for (text, token, lines, wanted, is_refused) in &PARTS {
         let asked = Asked {
@@ -249,10 +253,7 @@ fn lists_in_parts(rt: HostRuntime) {
             lines: *lines,
             ..list_in(if *text == "W:W32:B28" { 1 } else { 2 })
         };
-        let after = match token {
-            None => None,
-            Some(token) => read_token::<Ten>(token.as_bytes()).ok(),
-        };
+        let after = token.and_then(|token| read_token::<Ten>(token.as_bytes()).ok());
         let settings = settings_of(&asked, after);
         let reader = Chopped::new(text.as_bytes(), 4096, 0, 0);
         let writer = Narrow::new(alloc, 4096, 0);
@@ -263,13 +264,11 @@ fn lists_in_parts(rt: HostRuntime) {
             refused: u32::from(*is_refused),
         };
         assert!(rt; answer == Ok(summary), "{text}");
-        let mut rest = written.as_slice();
-        for piece in [&["problem 1: ", *text, "\n"], *wanted].iter().copied() {
-            for word in piece {
-                assert!(rt; rest.starts_with(word.as_bytes()), "{text}: {word}");
-                rest = rest.get(word.len()..).unwrap_or(&[]);
-            }
+        let mut joined = Vec::new(alloc);
+        for word in ["problem 1: ", *text, "\n"].iter().chain(wanted.iter()) {
+            joined.extend_from_slice(word.as_bytes())?;
         }
-        assert!(rt; rest.is_empty(), "{text}");
+        assert!(rt; written.as_slice() == joined.as_slice(), "{text}");
     }
+    Ok(())
 }
