@@ -8,7 +8,7 @@ use Rattle.dw_moves.specs.Moves.{Member, Move, play}
 use Rattle.dw_moves.specs.MemberLaws.{mem_left, mem_right}
 use Rattle.dw_notation.specs.Text.{IsLineText, ArePlayable}
 use Rattle.dw_notation.specs.TextLaws.{LinesHaveTexts}
-use Rattle.dw_notation.specs.Writes.{IsBeginning, StopsShort}
+use Rattle.dw_notation.specs.Writes.{StopsShort}
 use Rattle.dw_list.specs.Lines.{Line, Lines, After}
 use Rattle.dw_list.specs.Standing.{Standing, AreToCome}
 use Rattle.dw_list.specs.Walking.{Gives, GivesFirst, GivesNone, GivesNext}
@@ -81,7 +81,14 @@ is_complete g p most lines texts are few = inl (record { few = few; texts = text
 
 pub is_cut : (g : Geometry) (p : Placement) (most : ℕ) (earlier left : List (List Move)) (last : List Move) (texts : List ℕ) → AreLineTexts g p (earlier ++ last ∷ []) texts → length (earlier ++ last ∷ []) ≡ most → 1 ≤ length left → IsListing g p most ((earlier ++ last ∷ []) ++ left) (texts ++ more_line g last)
 is_cut g p most earlier left last texts are many more = inr (record {
-  earlier = earlier; last = last; left = left; split = refl; many = many; more = more; texts = texts; are = are;
+  earlier = earlier;
+  last = last;
+  left = left;
+  split = refl;
+  many = many;
+  more = more;
+  texts = texts;
+  are = are;
   is = piece texts (codes "more after ") (token_of g last) (codes "\n");
 })
 
@@ -91,11 +98,10 @@ listing_from g p most room some lines [] texts are have few =
     (complete_line (length lines), subst (λ z. IsListing g p most z (texts ++ complete_line (length lines))) (sym (append-nil lines)) (is_complete g p most lines texts are (omega (arith, few))))
 listing_from g p most zero some lines (l ∷ left) texts are have few =
     let all : length lines ≡ most = omega (arith, few) in
-    let s = last_of lines (omega (arith, all, some)) in
-    (
+    let s = last_of lines (omega (arith, all, some)) in (
       more_line g s.1,
       subst (λ z. IsListing g p most (z ++ l ∷ left) (texts ++ more_line g s.1)) (sym s.2)
-      (is_cut g p most s.0 (l ∷ left) s.1 texts (subst (λ z. AreLineTexts g p z texts) s.2 are) (ap length (sym s.2) ∙ all) (omega arith)),
+          (is_cut g p most s.0 (l ∷ left) s.1 texts (subst (λ z. AreLineTexts g p z texts) s.2 are) (ap length (sym s.2) ∙ all) (omega arith)),
     )
 listing_from g p most (suc room) some lines (l ∷ left) texts are have few =
     let one = have l (inl refl) in

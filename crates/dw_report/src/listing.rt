@@ -92,7 +92,12 @@ fn write_asked<B: Board, K: Sink, M: Memo<B>, G: Guide<B>>(
             Ok(false)
         }
         Some(line) => write_after(
-            alloc, sink, lister, position, line.as_slice(), settings.lines,
+            alloc,
+            sink,
+            lister,
+            position,
+            line.as_slice(),
+            settings.lines,
         ),
     }
 }

@@ -1,4 +1,4 @@
-use Rattle.std.proofs.Common.{◌≡◌, ◌∙◌, refl, sym, ap, subst, length, reverse, ◌%◌, ◌≤◌, ◌<◌, arith, Err, List}
+use Rattle.std.proofs.Common.{◌≡◌, ◌∙◌, refl, sym, ap, subst, length, reverse, ◌%◌, ◌≤◌, arith, Err, List}
 use Rattle.std.specs.Io.KnownBytes.{Appends}
 use Rattle.std.proofs.lemmas.Result.{err_from_is_err_and}
 use Rattle.dw_moves.specs.Moves.{Move}
@@ -10,7 +10,7 @@ use Rattle.dw_report.specs.Rows.{IsRow, IsNothing}
 use Rattle.dw_report.specs.Running.{AreLinesOf, TextEnds}
 use Rattle.dw_report.specs.Writing.{Writes}
 use Rattle.dw_report.proofs.JudgedTexts.{line_playable}
-use Rattle.dw_report.proofs.LineRows.{line_odd, lines_text, no_rows, row_written, given_line, last_line, line_next, none_next, rows_stop, row_ends, complete_line, more_line, complete_written, complete_short, more_written, more_short}
+use Rattle.dw_report.proofs.LineRows.{line_odd, lines_text, no_rows, row_written, given_line, last_line, line_next, none_next, rows_stop, row_ends, more_line, complete_written, complete_short, more_written, more_short}
 use Rattle.dw_report.proofs.Writings.{at_stop, at_sink}
 use Rattle.dw_report.proofs.listing.write_listing.Goals as goal
 
