@@ -1,5 +1,5 @@
 -- Lemmas on lists of lines that are written row by row.
-use Rattle.std.proofs.Common.{◌≡◌, ℕ, zero, suc, ◌+◌, ◌<◌, ◌≤◌, ◌-◌, ◌%◌, List, [], ◌∷◌, ◌++◌, length, reverse, refl, sym, ap, ◌∙◌, subst, inl, inr, arith, append_assoc, append-nil, length-append, Option, Some, None, codes, decimal, Result, Ok, Err, OnOk, OnErr, IfOk, IsTrue, ◌↔◌, Bool, true, false}
+use Rattle.std.proofs.Common.{◌≡◌, ℕ, zero, suc, ◌+◌, ◌<◌, ◌≤◌, ◌-◌, ◌%◌, List, [], ◌∷◌, ◌++◌, length, reverse, take, refl, sym, ap, ◌∙◌, subst, inl, inr, arith, append_assoc, append-nil, length-append, Option, Some, None, codes, decimal, Result, Ok, Err, OnOk, OnErr, IfOk, IsTrue, ◌↔◌, Bool, true, false}
 use Rattle.std.specs.Io.KnownBytes.{Appends}
 use Rattle.std.proofs.KnownBytes.{Appends-trans, Appends-nil}
 use Rattle.dw_board.specs.Geometry.{Geometry, IsBoard}
@@ -11,7 +11,7 @@ use Rattle.dw_notation.specs.TextLaws.{LinesHaveTexts}
 use Rattle.dw_notation.specs.Writes.{StopsShort}
 use Rattle.dw_list.specs.Lines.{Line, Lines, After}
 use Rattle.dw_list.specs.Standing.{Standing, AreToCome}
-use Rattle.dw_list.specs.Walking.{Gives, GivesFirst, GivesNone, GivesNext}
+use Rattle.dw_list.specs.Walking.{Gives, GivesFirst, GivesNone, GivesNext, BeginsAs}
 use Rattle.dw_list.proofs.StepLemmas.{gives_nothing, gives_then}
 use Rattle.dw_list.specs.Tokens.{token_of}
 use Rattle.dw_report.specs.ListedText.{AreLineTexts, IsListing, IsListedText}
@@ -295,3 +295,13 @@ listed_after g p n most l lines rest h after text k = inl (lines, rest, h, after
 -- the same, asked for otherwise
 pub refused_as : {E : Type 0} (g : Geometry) (p : Placement) (n k : ℕ) (after other : Option (List Move)) (r : Result Bool E) → k ≡ n → other ≡ after → IfOk r (λ refused. IsTrue refused ↔ IsNoLine g p k other) → IfOk r (λ refused. IsTrue refused ↔ IsNoLine g p n after)
 refused_as g p n k after other r e f h = subst (λ z. IfOk r (λ refused. IsTrue refused ↔ IsNoLine g p n z)) f (subst (λ z. IfOk r (λ refused. IsTrue refused ↔ IsNoLine g p z other)) e h)
+
+-- a lister that keeps no move comes from no move
+no_first : (l : List Move) → take 0 l ≡ take 0 []
+no_first [] = refl
+no_first (m ∷ l) = refl
+
+pub comes_first : (kept : ℕ) (line given : List Move) → kept ≡ 0 → given ≡ [] → BeginsAs kept line given
+comes_first kept line given none e j few low =
+    let here : j ≡ 0 = omega (arith, none, few) in
+    subst (λ z. take j line ≡ take j z) (sym e) (subst (λ z. take z line ≡ take z []) (sym here) (no_first line))
