@@ -17,5 +17,6 @@ pub mod SectionReading
 pub mod WholeTexts
 pub mod MoveTexts
 pub mod LineTexts
+pub mod LineWritten
 pub mod WholeLines
 pub mod TextLaws

@@ -2,13 +2,13 @@
 use Rattle.std.proofs.Common.{◌≡◌, ◌≤◌, ◌<◌, ◌+◌, ◌%◌, ◌/◌, ◌*◌, ◌==◌, ℕ, zero, suc, List, [], ◌∷◌, ◌++◌, length, length-append, append_assoc, append-nil, get_or, drop, map, refl, sym, ap, ◌∙◌, subst, arith, inl, inr, decimal, codes, cond, Bool, true, false}
 use Rattle.std.proofs.lemmas.Bool.{eqb-true, eq-eqb, true≢false}
 use Rattle.std.proofs.lemmas.Fmt.{length-decimal-le}
-use Rattle.std.proofs.lemmas.List.{drop_more, drop_all}
+use Rattle.std.proofs.lemmas.List.{drop_more}
 use Rattle.std.specs.List.{join_with_byte}
 use Rattle.dw_board.specs.Geometry.{Geometry}
 use Rattle.dw_board.specs.Placement.{Placement}
-use Rattle.dw_moves.specs.Moves.{Member, Move, Legal, play}
+use Rattle.dw_moves.specs.Moves.{Member, Move, Legal}
 use Rattle.dw_moves.specs.Order.{Listed, AreListed}
-use Rattle.dw_notation.specs.Text.{IsMoveText, IsLineText, AreWords, ArePlayable, numbered, text_among}
+use Rattle.dw_notation.specs.Text.{IsMoveText, numbered, text_among}
 use Rattle.dw_notation.specs.LineWords.{HasStep, spaced, onto}
 
 pub joined : (w : List ℕ) (words : List (List ℕ)) → join_with_byte 32 (w ∷ words) ≡ w ++ spaced words
@@ -23,11 +23,11 @@ pub onto_more : (ply : ℕ) (x : List ℕ) (xs rest : List (List ℕ)) → onto 
 onto_more zero x xs rest = joined x (xs ++ rest) ∙ (ap (λ l. x ++ l) (spaced_more xs rest) ∙ (sym (append_assoc x (spaced xs) (spaced rest)) ∙ ap (λ l. l ++ spaced rest) (sym (joined x xs))))
 onto_more (suc ply) x xs rest = spaced_more (x ∷ xs) rest
 
-onto_later : (ply : ℕ) (words : List (List ℕ)) → 0 < ply → onto ply words ≡ spaced words
+pub onto_later : (ply : ℕ) (words : List (List ℕ)) → 0 < ply → onto ply words ≡ spaced words
 onto_later zero words some = absurd (omega (arith, some))
 onto_later (suc ply) words some = refl
 
-onto_none : (ply : ℕ) → onto ply [] ≡ []
+pub onto_none : (ply : ℕ) → onto ply [] ≡ []
 onto_none zero = refl
 onto_none (suc ply) = refl
 
@@ -61,51 +61,8 @@ onto_short (suc ply) k number word true even same a c = let e = eqb-true (k % 2)
 onto_short (suc ply) k number word false odd same a c = let e : (k % 2 ≡ 0) → ⊥ = λ z. true≢false (sym (eq-eqb (k % 2) 0 z) ∙ odd) in omega (arith, e, (spaced_short number word a c).1)
 
 -- what a ply adds fits
-numbered_short : (ply : ℕ) (word : List ℕ) → ply < 39 → length word ≤ 62 → length (onto ply (numbered ply (word ∷ []))) + (65 * ply + 2 * (ply % 2)) ≤ 65 * (ply + 1) + 2 * ((ply + 1) % 2)
+pub numbered_short : (ply : ℕ) (word : List ℕ) → ply < 39 → length word ≤ 62 → length (onto ply (numbered ply (word ∷ []))) + (65 * ply + 2 * (ply % 2)) ≤ 65 * (ply + 1) + 2 * ((ply + 1) % 2)
 numbered_short ply word few low = onto_short ply ply (decimal (ply / 2 + 1) ++ codes ".") word (ply % 2 == 0) refl refl (number_short ply few) low
-
--- a line so far: with the words of the moves from a ply on it is the text of the whole line
-pub record LineTo (g : Geometry) (p : Placement) (moves : List Move) (i ply : ℕ) (current : Placement) (text : List ℕ) : Type 0 where
-  pub same : ply ≡ i
-  pub playable : ArePlayable g current (drop i moves)
-  pub whole : (rest : List (List ℕ)) → AreWords g current ply (drop i moves) rest → IsLineText g p moves (text ++ onto ply rest)
-  pub room : length text ≤ 65 * ply + 2 * (ply % 2)
-
-pub line_start : (g : Geometry) (p : Placement) (moves : List Move) (text : List ℕ) → text ≡ [] → ArePlayable g p moves → LineTo g p moves 0 0 p text
-line_start g p moves text none playable = record {
-  same = refl;
-  playable = playable;
-  whole = λ rest words. (rest, words, ap (λ t. t ++ onto 0 rest) none);
-  room = omega (arith, ap length none);
-}
-
--- what can be played from index i on begins with the move at i
-pub next_playable : (g : Geometry) (p : Placement) (moves : List Move) (i ply : ℕ) (current : Placement) (text : List ℕ) (m : Move) → LineTo g p moves i ply current text → i < length moves → m ≡ get_or moves i m → Legal g current m × ArePlayable g (play g current m) (drop (i + 1) moves)
-next_playable g p moves i ply current text m h low is = subst (ArePlayable g current) (drop_more moves i m low ∙ ap (λ z. z ∷ drop (i + 1) moves) (sym is)) h.playable
-
-pub line_more : (g : Geometry) (p : Placement) (moves : List Move) (i ply : ℕ) (current after : Placement) (text new word : List ℕ) (m : Move) → LineTo g p moves i ply current text → i < length moves → m ≡ get_or moves i m
-    → IsMoveText g current m word → after ≡ play g current m → new ≡ text ++ onto ply (numbered ply (word ∷ [])) → length moves ≤ 39 → length word ≤ 62
-    → LineTo g p moves (i + 1) (ply + 1) after new
-line_more g p moves i ply current after text new word m h low is written played e few short =
-    let split : drop i moves ≡ m ∷ drop (i + 1) moves = drop_more moves i m low ∙ ap (λ z. z ∷ drop (i + 1) moves) (sym is) in
-    let next = next_playable g p moves i ply current text m h low is in
-    record {
-      same = omega (arith, h.same);
-      playable = subst (λ z. ArePlayable g z (drop (i + 1) moves)) (sym played) next.1;
-      whole = λ rest words.
-          let those : AreWords g (play g current m) (ply + 1) (drop (i + 1) moves) rest = subst (λ z. AreWords g z (ply + 1) (drop (i + 1) moves) rest) played words in
-          let all : AreWords g current ply (drop i moves) (numbered ply (word ∷ rest)) = subst (λ z. AreWords g current ply z (numbered ply (word ∷ rest))) (sym split) (word, rest, written, those, refl) in
-          let joins : text ++ onto ply (numbered ply (word ∷ rest)) ≡ new ++ onto (ply + 1) rest =
-          ap (λ l. text ++ l) (numbered_onto ply word rest) ∙ (sym (append_assoc text (onto ply (numbered ply (word ∷ []))) (spaced rest)) ∙ (ap (λ l. l ++ spaced rest) (sym e) ∙ later ply rest new)) in
-          subst (IsLineText g p moves) joins (h.whole (numbered ply (word ∷ rest)) all);
-      room = omega (arith, ap length e, length-append text (onto ply (numbered ply (word ∷ []))), numbered_short ply word (omega (arith, h.same)) short, h.room);
-    } where
-      later : (ply : ℕ) (rest : List (List ℕ)) (new : List ℕ) → new ++ spaced rest ≡ new ++ onto (ply + 1) rest
-      later ply rest new = ap (λ l. new ++ l) (sym (onto_later (ply + 1) rest (omega arith)))
-
-pub line_all : (g : Geometry) (p : Placement) (moves : List Move) (i ply : ℕ) (current : Placement) (text : List ℕ) → LineTo g p moves i ply current text → length moves ≤ i → IsLineText g p moves text
-line_all g p moves i ply current text h all =
-    subst (IsLineText g p moves) (ap (λ l. text ++ l) (onto_none ply) ∙ append-nil text) (h.whole [] (subst (λ z. AreWords g current ply z []) (sym (drop_all i moves all)) refl))
 
 -- the places before one whose moves are others
 pub record OthersTo (list : List Listed) (m : Move) (place : ℕ) : Type 0 where

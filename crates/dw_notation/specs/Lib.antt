@@ -4,6 +4,7 @@ pub mod Writes
 pub mod Text
 pub mod TextLaws
 pub mod LineWords
+pub mod LineTexts
 pub mod Lines
 pub mod Found
 pub mod Places

@@ -1,20 +1,162 @@
 //! The texts of lines.
-ghost use Rattle.std.specs.Prelude.{◌≡◌, ◌≤◌, ◌<◌, ◌+◌, ◌++◌, [], ◌∷◌, length, IfOk, ◌%◌, ◌*◌};
+ghost use Rattle.std.specs.Prelude.{◌≡◌, ◌≤◌, ◌<◌, ◌+◌, ◌++◌, [], ◌∷◌, length, take, IfOk, OnOk, OnErr, ◌%◌, ◌*◌};
 ghost use Rattle.arrayvec.specs.ArrayString.{array_string_len};
+ghost use Rattle.dw_moves.specs.Moves.{Legal, play};
 ghost use Rattle.dw_notation.specs.Text.{IsLineText, ArePlayable, numbered};
 ghost use Rattle.dw_notation.specs.LineWords.{onto};
 
 use crate::move_text::{MOVE_ROOM, text_in};
-use arrayvec::ArrayString;
+use arrayvec::{ArrayString, ArrayVec};
 use dw_board::board::Board;
+use dw_board::piece::Side;
 use dw_board::position::Position;
 use dw_moves::moves::Move;
-use dw_moves::play::play;
+use dw_moves::play::play as played;
 use itoa::Buffer;
 use std::alloc::{AllocError, Global};
 
 /// The bytes that suffice for the text of each line.
 pub const LINE_ROOM: usize = 2560;
+
+/// A move of a line: the position after it, and how long the text is up to its end.
+#[derive(Drop)]
+pub struct Ply<B: Board> {
+    step: Move<B>,
+    after: Position<B>,
+    len: usize,
+}
+
+/// A value to fill an array with.
+impl<B: Board> Default for Ply<B> {
+    ghost is_default = { λ ply. ply.len ≡ 0 };
+
+    fn default() -> Self {
+        Ply {
+            step: Move::default(),
+            after: Position::empty(Side::White),
+            len: 0,
+        }
+    }
+}
+
+/// The text of a line, which goes on move by move, and back.
+#[derive(Drop)]
+pub struct LineText<B: Board> {
+    start: Position<B>,
+    plies: ArrayVec<Ply<B>, 39>,
+    text: ArrayString<LINE_ROOM>,
+}
+
+impl<B: Board> LineText<B> {
+    ghost use Rattle.dw_notation.specs.LineTexts.{IsTextOf, moves_of, start_of, end_of, len_to};
+
+    /// The text of no move.
+    pub fn new(start: &Position<B>) -> Self
+        ensures text { IsTextOf B.geometry result }
+        ensures start { start_of result ≡ start.now }
+        ensures moves { moves_of result ≡ [] }
+    {
+        LineText {
+            start: *start,
+            plies: ArrayVec::new(),
+            text: ArrayString::new(),
+        }
+    }
+
+    /// The position after the moves.
+    fn position(&self) -> Position<B>
+        ensures { result ≡ end_of self.now }
+    {
+        let count = self.plies.len();
+        if count == 0 {
+            self.start
+        } else {
+            let ply = &self.plies.as_slice()[count - 1];
+            ply.after
+        }
+    }
+
+    /// How long the text of so many first moves is.
+    fn len_to(&self, moves: usize) -> usize
+        ensures { result ≡ len_to 0 moves self.now.plies.items }
+    {
+        let count = moves.min(self.plies.len());
+        if count == 0 {
+            0
+        } else {
+            let ply = &self.plies.as_slice()[count - 1];
+            ply.len
+        }
+    }
+
+    /// Takes back all moves but so many of the first ones.
+    pub fn keep(&mut self, moves: usize)
+        requires { IsTextOf B.geometry self.old }
+        ensures text { IsTextOf B.geometry self.new }
+        ensures start { start_of self.new ≡ start_of self.old }
+        ensures moves { moves_of self.new ≡ take moves (moves_of self.old) }
+    {
+        let len = self.len_to(moves);
+        self.plies.truncate(moves);
+        self.text.truncate(len);
+    }
+
+    /// Goes on with a legal move; or nothing is changed, for want of memory.
+    pub fn push(&mut self, alloc: Global, step: &Move<B>) -> Result<(), AllocError>
+        requires text { IsTextOf B.geometry self.old }
+        requires few { length (moves_of self.old) < 39 }
+        requires legal { Legal B.geometry (end_of self.old) step.now }
+        ensures text { IsTextOf B.geometry self.new }
+        ensures start { start_of self.new ≡ start_of self.old }
+        ensures end { OnOk result (end_of self.new ≡ play B.geometry (end_of self.old) step.now) }
+        ensures moves { OnOk result (moves_of self.new ≡ moves_of self.old ++ step.now ∷ []) }
+        ensures same { OnErr result (moves_of self.new ≡ moves_of self.old) }
+    {
+        let current = self.position();
+        let word = text_in(alloc, &current, step)?;
+        push_words(&mut self.text, self.plies.len(), &word);
+        self.plies.push(Ply {
+            step: *step,
+            after: played(&current, step),
+            len: self.text.len(),
+        });
+        Ok(())
+    }
+
+    /// Goes over to another line of at most 39 moves, each legal after those before it, of which so many first ones
+    /// are the same; or, for want of memory, to some of them.
+    pub fn follow(
+        &mut self,
+        alloc: Global,
+        shared: usize,
+        line: &[Move<B>],
+    ) -> Result<(), AllocError>
+        requires text { IsTextOf B.geometry self.old }
+        requires few { length line.now ≤ 39 }
+        requires legal { ArePlayable B.geometry (start_of self.old) line.now }
+        requires fits { shared ≤ length line.now }
+        requires shared { take shared line.now ≡ take shared (moves_of self.old) }
+        ensures text { IsTextOf B.geometry self.new }
+        ensures start { start_of self.new ≡ start_of self.old }
+        ensures moves { OnOk result (moves_of self.new ≡ line.now) }
+    {
+        self.keep(shared);
+        let rest = &line[shared..];
+        'moves: for step in rest {
+            self.push(alloc, step)?;
+        }
+        Ok(())
+    }
+
+    /// The text.
+    pub fn as_str(&self) -> &str
+        requires { IsTextOf B.geometry self.now }
+        ensures text { IsLineText B.geometry (start_of self.now) (moves_of self.now) result.now }
+        ensures fits { length result.now ≤ 2560 }
+    {
+        self.text.as_str()
+    }
+}
 
 /// The text of a line of at most 39 moves, each legal after those before it; or want of memory.
 ///
@@ -29,16 +171,9 @@ pub fn line_text<B: Board>(
     requires legal { ArePlayable B.geometry position.now moves.now }
     ensures { IfOk result (λ text. IsLineText B.geometry position.now moves.now text.bytes) }
 {
-    let mut text = ArrayString::new();
-    let mut current = *position;
-    let mut ply: usize = 0;
-    'moves: for step in moves {
-        let word = text_in(alloc, &current, step)?;
-        push_words(&mut text, ply, &word);
-        current = play(&current, step);
-        ply += 1;
-    }
-    Ok(text)
+    let mut text = LineText::new(position);
+    text.follow(alloc, 0, moves)?;
+    Ok(text.text)
 }
 
 /// Appends the text of the move at a ply, with its number before it if it is the attacker's.

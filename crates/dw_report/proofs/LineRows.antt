@@ -1,5 +1,5 @@
 -- Lemmas on lists of lines that are written row by row.
-use Rattle.std.proofs.Common.{◌≡◌, ℕ, zero, suc, ◌+◌, ◌<◌, ◌≤◌, ◌-◌, ◌%◌, List, [], ◌∷◌, ◌++◌, length, reverse, refl, sym, ap, ◌∙◌, subst, inl, inr, arith, append_assoc, append-nil, length-append, Option, Some, None, codes, decimal, Result, Ok, Err, OnOk, OnErr, IfOk, IsTrue, ◌↔◌, Bool, true, false}
+use Rattle.std.proofs.Common.{◌≡◌, ℕ, zero, suc, ◌+◌, ◌<◌, ◌≤◌, ◌-◌, ◌%◌, List, [], ◌∷◌, ◌++◌, length, reverse, take, refl, sym, ap, ◌∙◌, subst, inl, inr, arith, append_assoc, append-nil, length-append, Option, Some, None, codes, decimal, Result, Ok, Err, OnOk, OnErr, IfOk, IsTrue, ◌↔◌, Bool, true, false}
 use Rattle.std.specs.Io.KnownBytes.{Appends}
 use Rattle.std.proofs.KnownBytes.{Appends-trans, Appends-nil}
 use Rattle.dw_board.specs.Geometry.{Geometry, IsBoard}
@@ -8,10 +8,10 @@ use Rattle.dw_moves.specs.Moves.{Member, Move, play}
 use Rattle.dw_moves.specs.MemberLaws.{mem_left, mem_right}
 use Rattle.dw_notation.specs.Text.{IsLineText, ArePlayable}
 use Rattle.dw_notation.specs.TextLaws.{LinesHaveTexts}
-use Rattle.dw_notation.specs.Writes.{IsBeginning, StopsShort}
+use Rattle.dw_notation.specs.Writes.{StopsShort}
 use Rattle.dw_list.specs.Lines.{Line, Lines, After}
 use Rattle.dw_list.specs.Standing.{Standing, AreToCome}
-use Rattle.dw_list.specs.Walking.{Gives, GivesFirst, GivesNone, GivesNext}
+use Rattle.dw_list.specs.Walking.{Gives, GivesFirst, GivesNone, GivesNext, BeginsAs}
 use Rattle.dw_list.proofs.StepLemmas.{gives_nothing, gives_then}
 use Rattle.dw_list.specs.Tokens.{token_of}
 use Rattle.dw_report.specs.ListedText.{AreLineTexts, IsListing, IsListedText}
@@ -81,7 +81,14 @@ is_complete g p most lines texts are few = inl (record { few = few; texts = text
 
 pub is_cut : (g : Geometry) (p : Placement) (most : ℕ) (earlier left : List (List Move)) (last : List Move) (texts : List ℕ) → AreLineTexts g p (earlier ++ last ∷ []) texts → length (earlier ++ last ∷ []) ≡ most → 1 ≤ length left → IsListing g p most ((earlier ++ last ∷ []) ++ left) (texts ++ more_line g last)
 is_cut g p most earlier left last texts are many more = inr (record {
-  earlier = earlier; last = last; left = left; split = refl; many = many; more = more; texts = texts; are = are;
+  earlier = earlier;
+  last = last;
+  left = left;
+  split = refl;
+  many = many;
+  more = more;
+  texts = texts;
+  are = are;
   is = piece texts (codes "more after ") (token_of g last) (codes "\n");
 })
 
@@ -91,11 +98,10 @@ listing_from g p most room some lines [] texts are have few =
     (complete_line (length lines), subst (λ z. IsListing g p most z (texts ++ complete_line (length lines))) (sym (append-nil lines)) (is_complete g p most lines texts are (omega (arith, few))))
 listing_from g p most zero some lines (l ∷ left) texts are have few =
     let all : length lines ≡ most = omega (arith, few) in
-    let s = last_of lines (omega (arith, all, some)) in
-    (
+    let s = last_of lines (omega (arith, all, some)) in (
       more_line g s.1,
       subst (λ z. IsListing g p most (z ++ l ∷ left) (texts ++ more_line g s.1)) (sym s.2)
-      (is_cut g p most s.0 (l ∷ left) s.1 texts (subst (λ z. AreLineTexts g p z texts) s.2 are) (ap length (sym s.2) ∙ all) (omega arith)),
+          (is_cut g p most s.0 (l ∷ left) s.1 texts (subst (λ z. AreLineTexts g p z texts) s.2 are) (ap length (sym s.2) ∙ all) (omega arith)),
     )
 listing_from g p most (suc room) some lines (l ∷ left) texts are have few =
     let one = have l (inl refl) in
@@ -289,3 +295,13 @@ listed_after g p n most l lines rest h after text k = inl (lines, rest, h, after
 -- the same, asked for otherwise
 pub refused_as : {E : Type 0} (g : Geometry) (p : Placement) (n k : ℕ) (after other : Option (List Move)) (r : Result Bool E) → k ≡ n → other ≡ after → IfOk r (λ refused. IsTrue refused ↔ IsNoLine g p k other) → IfOk r (λ refused. IsTrue refused ↔ IsNoLine g p n after)
 refused_as g p n k after other r e f h = subst (λ z. IfOk r (λ refused. IsTrue refused ↔ IsNoLine g p n z)) f (subst (λ z. IfOk r (λ refused. IsTrue refused ↔ IsNoLine g p z other)) e h)
+
+-- a lister that keeps no move comes from no move
+no_first : (l : List Move) → take 0 l ≡ take 0 []
+no_first [] = refl
+no_first (m ∷ l) = refl
+
+pub comes_first : (kept : ℕ) (line given : List Move) → kept ≡ 0 → given ≡ [] → BeginsAs kept line given
+comes_first kept line given none e j few low =
+    let here : j ≡ 0 = omega (arith, none, few) in
+    subst (λ z. take j line ≡ take j z) (sym e) (subst (λ z. take z line ≡ take z []) (sym here) (no_first line))

@@ -1,11 +1,12 @@
 //! The text of a list of lines.
-ghost use Rattle.std.specs.Prelude.{◌≡◌, ◌≤◌, ◌<◌, ◌%◌, ◌⊎◌, ◌↔◌, ◌++◌, true, false, Err, List, length, codes, decimal};
+ghost use Rattle.std.specs.Prelude.{◌≡◌, ◌≤◌, ◌<◌, ◌%◌, ◌⊎◌, ◌↔◌, ◌++◌, true, false, Err, List, length, take, codes, decimal};
 ghost use Rattle.std.specs.Prelude.{IfOk, IsErr, IsTrue, OnOk, OnErr, Some};
 ghost use Rattle.std.specs.Io.KnownBytes.{Appends};
 ghost use Rattle.dw_moves.specs.Moves.{Move as AnyMove};
+ghost use Rattle.dw_notation.specs.LineTexts.{IsTextOf, start_of, moves_of};
 ghost use Rattle.dw_notation.specs.Text.{ArePlayable};
 ghost use Rattle.dw_notation.specs.Writes.{StopsShort};
-ghost use Rattle.dw_list.specs.Listing.{lender, solver_of, stack_of};
+ghost use Rattle.dw_list.specs.Listing.{lender, solver_of, stack_of, kept_of};
 ghost use Rattle.dw_list.specs.Lines.{Lines};
 ghost use Rattle.dw_list.specs.Standing.{AreToCome};
 ghost use Rattle.dw_list.specs.Tokens as tokens;
@@ -27,14 +28,14 @@ use dw_list::tokens::{MAX_MOVES, write_token};
 use dw_memo::memo::Memo;
 use dw_moves::moves::Move;
 use dw_notation::laws::lines_have_texts;
-use dw_notation::line_text::line_text;
+use dw_notation::line_text::LineText;
 use dw_notation::streams::Sink;
 use dw_notation::writes::{WriteFault, write_all};
 use dw_solve::guide::Guide;
 use dw_solve::solver::Solver;
 use dw_solve::stop::Stop;
 use itoa::Buffer;
-use std::alloc::{AllocError, Global};
+use std::alloc::Global;
 
 /// The bytes that suffice for each line's text and a line feed.
 const ROW_ROOM: usize = 2561;
@@ -78,6 +79,7 @@ fn write_asked<B: Board, K: Sink, M: Memo<B>, G: Guide<B>>(
     requires rows { (B.geometry.rows ≡ 10) ⊎ (B.geometry.rows ≡ 8) }
     requires position { (stack_of lister.old).position ≡ position.now }
     requires moves { (stack_of lister.old).moves ≡ settings.now.n }
+    requires kept { kept_of lister.old ≡ 0 }
     requires to_come { (lines : List (List AnyMove)) → Lines B.geometry position.now settings.now.n lines ↔ AreToCome B.geometry (stack_of lister.old) lines }
     ensures lender { lender lister.new ≡ lender lister.old }
     ensures text { TextEnds (IsListedText B.geometry position.now settings.now.n settings.now.lines (request_of settings.now).after) (AreLinesOf (IsListedText B.geometry position.now settings.now.n settings.now.lines (request_of settings.now).after)) (K.taken sink.old) (K.taken sink.new) result }
@@ -92,7 +94,12 @@ fn write_asked<B: Board, K: Sink, M: Memo<B>, G: Guide<B>>(
             Ok(false)
         }
         Some(line) => write_after(
-            alloc, sink, lister, position, line.as_slice(), settings.lines,
+            alloc,
+            sink,
+            lister,
+            position,
+            line.as_slice(),
+            settings.lines,
         ),
     }
 }
@@ -144,6 +151,7 @@ fn write_listing<B: Board, K: Sink, M: Memo<B>, G: Guide<B>>(
     requires some { 1 ≤ most }
     requires rows { (B.geometry.rows ≡ 10) ⊎ (B.geometry.rows ≡ 8) }
     requires position { (stack_of lister.old).position ≡ position.now }
+    requires kept { kept_of lister.old ≡ 0 }
     requires to_come { (lines : List (List AnyMove)) × AreToCome B.geometry (stack_of lister.old) lines }
     ensures lender { lender lister.new ≡ lender lister.old }
     ensures text { (lines : List (List AnyMove)) → AreToCome B.geometry (stack_of lister.old) lines → TextEnds (IsListing B.geometry position.now most lines) (AreLinesOf (IsListing B.geometry position.now most lines)) (K.taken sink.old) (K.taken sink.new) result }
@@ -151,13 +159,14 @@ fn write_listing<B: Board, K: Sink, M: Memo<B>, G: Guide<B>>(
     ensures spends { Spends (solver_of lister.old) (solver_of lister.new) result }
 {
     lines_have_texts();
+    let mut text = LineText::new(position);
     let mut written: u64 = 0;
     'lines: while written < most {
         if !lister.advance(alloc)? {
             write_all(sink, complete_row(written).as_str().as_bytes())?;
             return Ok(());
         }
-        write_row(alloc, sink, position, lister.line())?;
+        write_row(alloc, sink, &mut text, lister.shared(), lister.line())?;
         written += 1;
     }
     let last = kept(lister.line());
@@ -169,40 +178,42 @@ fn write_listing<B: Board, K: Sink, M: Memo<B>, G: Guide<B>>(
     Ok(())
 }
 
-/// Writes the text of a line and a line feed. Memory is taken before.
+/// Writes the text of a line and a line feed. It is made of the text of another line, of which so many first moves are
+/// the same. All memory is taken before a byte is written.
 fn write_row<B: Board, K: Sink>(
     alloc: Global,
     sink: &mut K,
-    position: &Position<B>,
+    text: &mut LineText<B>,
+    shared: usize,
     line: &[Move<B>],
 ) -> Result<(), TextFault>
+    requires of { IsTextOf B.geometry text.old }
     requires few { length line.now ≤ 39 }
-    requires legal { ArePlayable B.geometry position.now line.now }
-    ensures text { TextEnds (IsRow B.geometry position.now line.now) IsNothing (K.taken sink.old) (K.taken sink.new) result }
+    requires legal { ArePlayable B.geometry (start_of text.old) line.now }
+    requires fits { shared ≤ length line.now }
+    requires shared { take shared line.now ≡ take shared (moves_of text.old) }
+    ensures of { IsTextOf B.geometry text.new }
+    ensures start { start_of text.new ≡ start_of text.old }
+    ensures moves { OnOk result (moves_of text.new ≡ line.now) }
+    ensures text { TextEnds (IsRow B.geometry (start_of text.old) line.now) IsNothing (K.taken sink.old) (K.taken sink.new) result }
     ensures sink { SinkEnds (K.is_failed sink.old) (K.is_failed sink.new) result }
     ensures memory { (why : Stop) → result ≡ Err (because.Stopped why) → why ≡ Stop.Memory }
 {
     lines_have_texts();
-    let row = row_of(alloc, position, line)?;
-    write_all(sink, row.as_str().as_bytes())?;
+    text.follow(alloc, shared, line)?;
+    write_all(sink, row_of(text).as_str().as_bytes())?;
     Ok(())
 }
 
 /// The text of a line and a line feed.
-fn row_of<B: Board>(
-    alloc: Global,
-    position: &Position<B>,
-    line: &[Move<B>],
-) -> Result<ArrayString<ROW_ROOM>, AllocError>
-    requires few { length line.now ≤ 39 }
-    requires legal { ArePlayable B.geometry position.now line.now }
-    ensures { IfOk result (λ row. IsRow B.geometry position.now line.now row.bytes) }
+fn row_of<B: Board>(text: &LineText<B>) -> ArrayString<ROW_ROOM>
+    requires { IsTextOf B.geometry text.now }
+    ensures { IsRow B.geometry (start_of text.now) (moves_of text.now) result.bytes }
 {
-    let text = line_text(alloc, position, line)?;
     let mut row = ArrayString::new();
     row.push_str(text.as_str());
     row.push('\n');
-    Ok(row)
+    row
 }
 
 /// That so many lines are all of them.

@@ -13,7 +13,7 @@ write_listing-requires g c =
     let old = stack_of c.args.lister.now in
     let all = c.lines_exist.ensures.some g.B.Board.geometry g.met.B.Board.numbers old.position old.moves in
     let rest = c.in-Ok.ensures.after.rest all.0 all.1 in
-    (omega arith, (c.requires.works, (c.requires.some, (c.requires.rows, (c.in-Ok.ensures.after.position ∙ c.requires.position, (rest.0, rest.2))))))
+    (omega arith, (c.requires.works, (c.requires.some, (c.requires.rows, (c.in-Ok.ensures.after.position ∙ c.requires.position, (c.in-Ok.ensures.none_kept, (rest.0, rest.2)))))))
 
 pub returns-in_err-write_listing-in-Ok-clause-text : goal.returns-in_err-write_listing-in-Ok-clause-text
 returns-in_err-write_listing-in-Ok-clause-text g c =

@@ -1,7 +1,6 @@
-use Rattle.std.proofs.Common.{◌≡◌, ◌∙◌, sym, ap, subst, arith, Option, Some, None, List}
+use Rattle.std.proofs.Common.{◌≡◌, ◌∙◌, sym, ap, subst, arith, Some, None}
 use Rattle.std.specs.Prelude.{option_map}
 use Rattle.std.proofs.lemmas.Result.{err_from_is_err_and}
-use Rattle.dw_moves.specs.Moves.{Move}
 use Rattle.dw_list.specs.Listing.{stack_of}
 use Rattle.dw_report.specs.ListedText.{IsListedText}
 use Rattle.dw_report.specs.Request.{request_of}
@@ -12,7 +11,7 @@ use Rattle.dw_report.proofs.listing.write_asked.Goals as goal
 pub write_listing-requires : goal.write_listing-requires
 write_listing-requires g c =
     let all = c.lines_exist.ensures.some g.B.Board.geometry g.met.B.Board.numbers c.args.position.now c.args.settings.now.n in
-    (omega arith, (c.requires.works, (c.requires.most, (c.requires.rows, (c.requires.position, (all.0, (c.requires.to_come all.0).0 all.1))))))
+    (omega arith, (c.requires.works, (c.requires.most, (c.requires.rows, (c.requires.position, (c.requires.kept, (all.0, (c.requires.to_come all.0).0 all.1)))))))
 
 pub returns-in_err-write_listing-in-None-clause-text : goal.returns-in_err-write_listing-in-None-clause-text
 returns-in_err-write_listing-in-None-clause-text g c =

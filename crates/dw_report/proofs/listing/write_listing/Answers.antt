@@ -1,16 +1,17 @@
-use Rattle.std.proofs.Common.{◌≡◌, ◌∙◌, refl, sym, ap, subst, length, reverse, ◌%◌, ◌≤◌, ◌<◌, arith, Err, List}
+use Rattle.std.proofs.Common.{◌≡◌, ◌∙◌, refl, sym, ap, subst, length, reverse, take, ◌%◌, ◌≤◌, arith, Err, List}
 use Rattle.std.specs.Io.KnownBytes.{Appends}
 use Rattle.std.proofs.lemmas.Result.{err_from_is_err_and}
 use Rattle.dw_moves.specs.Moves.{Move}
+use Rattle.dw_notation.specs.LineTexts.{moves_of}
 use Rattle.dw_notation.specs.Text.{ArePlayable}
 use Rattle.dw_notation.specs.Writes.{StopsShort}
-use Rattle.dw_list.specs.Listing.{stack_of}
+use Rattle.dw_list.specs.Listing.{stack_of, kept_of, shared_of, ComesFrom}
 use Rattle.dw_report.specs.ListedText.{IsListing}
 use Rattle.dw_report.specs.Rows.{IsRow, IsNothing}
 use Rattle.dw_report.specs.Running.{AreLinesOf, TextEnds}
 use Rattle.dw_report.specs.Writing.{Writes}
 use Rattle.dw_report.proofs.JudgedTexts.{line_playable}
-use Rattle.dw_report.proofs.LineRows.{line_odd, lines_text, no_rows, row_written, given_line, last_line, line_next, none_next, rows_stop, row_ends, complete_line, more_line, complete_written, complete_short, more_written, more_short}
+use Rattle.dw_report.proofs.LineRows.{line_odd, comes_first, lines_text, no_rows, row_written, given_line, last_line, line_next, none_next, rows_stop, row_ends, more_line, complete_written, complete_short, more_written, more_short}
 use Rattle.dw_report.proofs.Writings.{at_stop, at_sink}
 use Rattle.dw_report.proofs.listing.write_listing.Goals as goal
 
@@ -18,6 +19,9 @@ pub lines-init : goal.lines-init
 lines-init g c = record {
   lender = refl;
   rows = no_rows g.B.Board.geometry c.args.position.now (stack_of c.args.lister.now) (g.K.Sink.taken c.args.sink.now);
+  text = c.new-text.ensures.text;
+  start = c.new-text.ensures.start;
+  comes = comes_first (kept_of c.args.lister.now) (reverse (stack_of c.args.lister.now).line) (moves_of c.new-text.result) c.requires.kept c.new-text.ensures.moves;
   few = omega arith;
   sink = refl;
   rises = omega arith;
@@ -58,15 +62,21 @@ returns-then-not-branch-clause-text g c =
     λ lines all. complete_written geo p most c.requires.some start lines all (lines_text c.lines_have_texts.ensures geo g.met.B.Board.numbers start p lines c.requires.position all) (stack_of c.lines.lister) (stack_of c.advance.new.self) c.lines.written _ _ _ c.lines.invariant.rows none c.lines.invariant.few
     (subst (Appends _ _) row c.in_ok-write_all.ensures.ok)
 
-pub write_row-requires-clause-legal : goal.write_row-requires-clause-legal
-write_row-requires-clause-legal g c =
+pub write_row-requires : goal.write_row-requires
+write_row-requires g c =
     let geo = g.B.Board.geometry in
     let p = c.args.position.now in
-    let most = c.args.most in
     let start = stack_of c.args.lister.now in
     let first = line_next geo c.in_ok-advance.field-0 (stack_of c.lines.lister) (stack_of c.advance.new.self) c.in_ok-advance.ensures.next c.if-not-branch.false in
     let line = given_line geo p start (stack_of c.lines.lister) (stack_of c.advance.new.self) c.lines.written c.lines.invariant.rows.texts c.lines.invariant.rows.rows first c.requires.to_come.0 c.requires.to_come.1 in
-    subst (ArePlayable geo p) (sym c.line.ensures.line) (subst (λ z. ArePlayable geo z (reverse (stack_of c.advance.new.self).line)) c.requires.position (line_playable geo start.position start.moves (reverse (stack_of c.advance.new.self).line) line))
+    let playable = subst (λ z. ArePlayable geo z (reverse (stack_of c.advance.new.self).line)) c.requires.position (line_playable geo start.position start.moves (reverse (stack_of c.advance.new.self).line) line) in
+    let legal = subst (λ z. ArePlayable geo z c.line.result.now) (sym c.lines.invariant.start) (subst (ArePlayable geo p) (sym c.line.ensures.line) playable) in
+    let shared = c.in_ok-advance.ensures.shared c.if-not-branch.false in
+    let moves = moves_of c.lines.text in
+    let most = shared_of c.advance.new.self in
+    let fits : c.shared.result ≤ length c.line.result.now = omega (arith, c.shared.ensures, ap length c.line.ensures.line, shared.fits) in
+    let same = subst (λ z. take most z ≡ take most moves) (sym c.line.ensures.line) (shared.first moves c.lines.invariant.comes) in
+    (omega arith, (c.lines.invariant.text, (c.line.ensures.few, (legal, (fits, subst (λ k. take k c.line.result.now ≡ take k moves) (sym c.shared.ensures) same)))))
 
 pub returns-in_err-write_row-clause-text : goal.returns-in_err-write_row-clause-text
 returns-in_err-write_row-clause-text g c =
@@ -78,7 +88,8 @@ returns-in_err-write_row-clause-text g c =
     let first = line_next geo c.in_ok-advance.field-0 (stack_of c.lines.lister) (stack_of c.advance.new.self) c.in_ok-advance.ensures.next c.if-not-branch.false in
     λ lines all. row_ends geo p most c.requires.some start lines all (lines_text c.lines_have_texts.ensures geo g.met.B.Board.numbers start p lines c.requires.position all) (stack_of c.lines.lister) (stack_of c.advance.new.self) c.lines.written _ _ _ c.write_row.result c.from_residual-in_err-write_row.result c.in_err-write_row.field-0.0 why.0
     c.lines.invariant.rows first c.lines-test.true c.in_err-write_row.was why.1 (sym why.2)
-    (subst (λ z. TextEnds (IsRow geo p z) IsNothing (g.K.Sink.taken c.lines.sink) (g.K.Sink.taken c.write_row.new.sink) c.write_row.result) c.line.ensures.line c.write_row.ensures.text)
+    (subst (λ z. TextEnds (IsRow geo p z) IsNothing (g.K.Sink.taken c.lines.sink) (g.K.Sink.taken c.write_row.new.sink) c.write_row.result) c.line.ensures.line
+    (subst (λ z. TextEnds (IsRow geo z c.line.result.now) IsNothing (g.K.Sink.taken c.lines.sink) (g.K.Sink.taken c.write_row.new.sink) c.write_row.result) c.lines.invariant.start c.write_row.ensures.text))
 
 pub lines-preserved : goal.lines-preserved
 lines-preserved g c =
@@ -87,10 +98,16 @@ lines-preserved g c =
     let most = c.args.most in
     let start = stack_of c.args.lister.now in
     let first = line_next geo c.in_ok-advance.field-0 (stack_of c.lines.lister) (stack_of c.advance.new.self) c.in_ok-advance.ensures.next c.if-not-branch.false in
-    let row = subst (λ z. Writes (IsRow geo p z) (g.K.Sink.taken c.lines.sink) (g.K.Sink.taken c.write_row.new.sink)) c.line.ensures.line c.in_ok-write_row.ensures.text in
+    let here = subst (λ z. Writes (IsRow geo z c.line.result.now) (g.K.Sink.taken c.lines.sink) (g.K.Sink.taken c.write_row.new.sink)) c.lines.invariant.start c.in_ok-write_row.ensures.text in
+    let row = subst (λ z. Writes (IsRow geo p z) (g.K.Sink.taken c.lines.sink) (g.K.Sink.taken c.write_row.new.sink)) c.line.ensures.line here in
+    let shared = c.in_ok-advance.ensures.shared c.if-not-branch.false in
+    let moves = c.in_ok-write_row.ensures.moves ∙ c.line.ensures.line in
     record {
       lender = c.advance.ensures.lender ∙ c.lines.invariant.lender;
       rows = row_written geo p start (stack_of c.lines.lister) (stack_of c.advance.new.self) c.lines.written _ _ _ c.lines.invariant.rows first row;
+      text = c.write_row.ensures.of;
+      start = c.write_row.ensures.start ∙ c.lines.invariant.start;
+      comes = subst (ComesFrom c.advance.new.self) (sym moves) shared.next;
       few = omega (arith, c.lines-test.true);
       sink = c.in_ok-write_row.ensures.sink ∙ c.lines.invariant.sink;
       rises = omega (arith, c.advance.ensures.count.rises, c.lines.invariant.rises);

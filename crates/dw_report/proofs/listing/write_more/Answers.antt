@@ -1,4 +1,4 @@
-use Rattle.std.proofs.Common.{◌++◌, codes, ◌∙◌, subst, OnOk, OnErr, Ok, Err, Result}
+use Rattle.std.proofs.Common.{codes, subst, OnOk, OnErr}
 use Rattle.std.specs.Io.KnownBytes.{Appends}
 use Rattle.std.proofs.lemmas.Result.{err_from_is_err_and}
 use Rattle.dw_list.specs.Tokens.{token_of}

@@ -1,0 +1,22 @@
+use Rattle.std.proofs.Common.{◌∙◌, ap, sym, refl, subst, map, take, arith, []}
+use Rattle.std.specs.String.Boundary.{IsSplitPoint}
+use Rattle.std.proofs.lemmas.List.{take-map}
+use Rattle.dw_notation.specs.LineTexts.{AreWritten}
+use Rattle.dw_notation.proofs.LineWritten.{written_keep, written_split}
+use Rattle.dw_notation.proofs.line_text.LineText.keep.Goals as goal
+
+pub truncate-requires-2 : goal.truncate-requires-2
+truncate-requires-2 g c =
+    let t = c.args.self.now in
+    (omega arith, λ low. subst (IsSplitPoint t.text.bytes) (sym c.len_to-len.ensures) (written_split g.B.Board.geometry t.start 0 0 c.args.moves [] t.plies.items t.text.bytes refl (λ some. some) c.requires))
+
+pub returns-clause-text : goal.returns-clause-text
+returns-clause-text g c =
+    let geo = g.B.Board.geometry in
+    let t = c.args.self.now in
+    let bytes = c.truncate-2.ensures ∙ ap (λ k. take k t.text.bytes) c.len_to-len.ensures in
+    subst (λ z. AreWritten geo t.start 0 [] z c.truncate-2.new.self.bytes) (sym c.truncate.ensures.items)
+    (subst (λ z. AreWritten geo t.start 0 [] (take c.args.moves t.plies.items) z) (sym bytes) (written_keep geo t.start 0 0 c.args.moves [] t.plies.items t.text.bytes refl c.requires))
+
+pub returns-clause-moves : goal.returns-clause-moves
+returns-clause-moves g c = ap (map (λ x. x.step)) c.truncate.ensures.items ∙ sym (take-map (λ x. x.step) c.args.moves c.args.self.now.plies.items)
