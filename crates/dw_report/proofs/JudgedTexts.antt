@@ -1,13 +1,13 @@
 -- Each verdict and each list of tries has a text, and only one.
-use Rattle.std.proofs.Common.{◌≡◌, ℕ, ◌-◌, zero, suc, List, [], ◌∷◌, ◌++◌, length, refl, sym, ap, ◌∙◌, subst, inl, inr, codes, decimal}
+use Rattle.std.proofs.Common.{◌≡◌, ℕ, ◌-◌, zero, suc, List, [], ◌∷◌, ◌++◌, refl, sym, ap, ◌∙◌, subst, inl, inr, codes, decimal}
 use Rattle.std.specs.List.{join_by}
 use Rattle.dw_board.specs.Geometry.{Geometry, IsBoard}
 use Rattle.dw_board.specs.Placement.{Placement}
 use Rattle.dw_moves.specs.Moves.{Member, Move, Legal, play}
-use Rattle.dw_notation.specs.Text.{IsMoveText, IsLineText, ArePlayable}
+use Rattle.dw_notation.specs.Text.{ArePlayable}
 use Rattle.dw_notation.specs.TextLaws.{MovesHaveTexts, LinesHaveTexts}
 use Rattle.dw_list.specs.Lines.{Line}
-use Rattle.dw_report.specs.Verdict.{IsWinning, Keys, reach, Verdict, unsolvable, cooked, dual, sound, IsVerdict, IsTry, Tries}
+use Rattle.dw_report.specs.Verdict.{IsWinning, Keys, reach, Verdict, unsolvable, cooked, dual, sound, IsVerdict, IsTry}
 use Rattle.dw_report.specs.VerdictLaws.{OneVerdict, TriesAreListed}
 use Rattle.dw_report.specs.MoveTexts.{AreMoveTexts, AreJoined}
 use Rattle.dw_report.specs.JudgedText.{next_number, IsVerdictText, IsVerdictLine, IsTryLine, AreTryLines, AreTriesListed, IsJudgedText}

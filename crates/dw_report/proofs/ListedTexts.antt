@@ -7,9 +7,8 @@ use Rattle.dw_moves.specs.Moves.{Member, Move}
 use Rattle.dw_moves.specs.MemberLaws.{mem_left, mem_right}
 use Rattle.dw_moves.specs.Order.{IsAscending}
 use Rattle.dw_moves.specs.Laws.{MovesHaveKeys}
-use Rattle.dw_notation.specs.Text.{IsLineText}
 use Rattle.dw_notation.specs.TextLaws.{LinesHaveTexts}
-use Rattle.dw_list.specs.Lines.{Line, Lines, Before, After, IsPlace}
+use Rattle.dw_list.specs.Lines.{Line, Lines, Before, After}
 use Rattle.dw_list.specs.Laws.{LinesExist, LineOrPlace}
 use Rattle.dw_list.specs.LineOrderLaws.{before_asym}
 use Rattle.dw_list.specs.ListingLaws.{ascending_parts}
@@ -92,24 +91,28 @@ listing_some law g b p n most lines some are = by_order (cases_order (length lin
   complete few =
       let texts = line_texts_some law g b p n lines are in
       (texts.0 ++ codes "complete " ++ decimal (length lines) ++ codes "\n", inl (record { few = few; texts = texts.0; are = texts.1; is = refl }))
+
   cut : most < length lines → (text : List ℕ) × IsListing g p most lines text
   cut long =
       let parts = split_at (most - 1) lines (omega (arith, long, some)) in
       let split : lines ≡ (parts.0 ++ parts.1 ∷ []) ++ parts.2 = parts.3 ∙ sym (append_assoc parts.0 (parts.1 ∷ []) parts.2) in
       let count : length (parts.0 ++ parts.1 ∷ []) ≡ length parts.0 + 1 = length-append parts.0 (parts.1 ∷ []) in
       let all : length lines ≡ length (parts.0 ++ parts.1 ∷ []) + length parts.2 = ap length split ∙ length-append (parts.0 ++ parts.1 ∷ []) parts.2 in
-      let texts = line_texts_some law g b p n (parts.0 ++ parts.1 ∷ []) (λ l h. are l (subst (Member l) (sym split) (mem_left l (parts.0 ++ parts.1 ∷ []) parts.2 h))) in
-      (texts.0 ++ codes "more after " ++ token_of g parts.1 ++ codes "\n", inr (record {
-        earlier = parts.0;
-        last = parts.1;
-        left = parts.2;
-        split = split;
-        many = omega (arith, count, parts.4, some);
-        more = omega (arith, all, count, parts.4, long, some);
-        texts = texts.0;
-        are = texts.1;
-        is = refl;
-      }))
+      let texts = line_texts_some law g b p n (parts.0 ++ parts.1 ∷ []) (λ l h. are l (subst (Member l) (sym split) (mem_left l (parts.0 ++ parts.1 ∷ []) parts.2 h))) in (
+        texts.0 ++ codes "more after " ++ token_of g parts.1 ++ codes "\n",
+        inr (record {
+          earlier = parts.0;
+          last = parts.1;
+          left = parts.2;
+          split = split;
+          many = omega (arith, count, parts.4, some);
+          more = omega (arith, all, count, parts.4, long, some);
+          texts = texts.0;
+          are = texts.1;
+          is = refl;
+        }),
+      )
+
   by_order : (length lines ≡ most) ⊎ ((length lines < most) ⊎ (most < length lines)) → (text : List ℕ) × IsListing g p most lines text
   by_order (inl e) = complete (omega (arith, e))
   by_order (inr (inl l)) = complete (omega (arith, l))

@@ -385,8 +385,9 @@ counts_chosen g r old new p refused hit tells read shown count =
       shown = shown ∙ sym (ap (λ (z : List Numbered). old.shown + length z) one);
       refused = by_case (cases_Bool refused);
     } where
-  of : (n : ℕ) → AreRefused g r (p ∷ []) n → AreRefused g r (chosen r.only (p ∷ [])) n
-  of n h = subst (λ z. AreRefused g r z n) (sym (chosen_one r.only p hit)) h
-  by_case : (refused ≡ true) ⊎ (refused ≡ false) → (n : ℕ) × AreRefused g r (chosen r.only (p ∷ [])) n × (new.refused ≡ old.refused + n)
-  by_case (inl e) = (1, of 1 (inl (tells.0 e, 0, refl, refl)), count ∙ rw e refl)
-  by_case (inr e) = (0, of 0 (inr ((λ is. true-not-false (sym (tells.1 is) ∙ e)), refl)), count ∙ (rw e refl ∙ sym (add-zero old.refused)))
+      of : (n : ℕ) → AreRefused g r (p ∷ []) n → AreRefused g r (chosen r.only (p ∷ [])) n
+      of n h = subst (λ z. AreRefused g r z n) (sym (chosen_one r.only p hit)) h
+
+      by_case : (refused ≡ true) ⊎ (refused ≡ false) → (n : ℕ) × AreRefused g r (chosen r.only (p ∷ [])) n × (new.refused ≡ old.refused + n)
+      by_case (inl e) = (1, of 1 (inl (tells.0 e, 0, refl, refl)), count ∙ rw e refl)
+      by_case (inr e) = (0, of 0 (inr ((λ is. true-not-false (sym (tells.1 is) ∙ e)), refl)), count ∙ (rw e refl ∙ sym (add-zero old.refused)))

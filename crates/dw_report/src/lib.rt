@@ -9,7 +9,7 @@ mod judged;
 mod keys;
 pub mod laws;
 mod listing;
-pub mod problem;
+mod problem;
 pub mod run;
 pub mod settings;
 mod text;

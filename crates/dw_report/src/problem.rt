@@ -30,7 +30,7 @@ use thiserror::Error;
 
 /// Why a text was not written to its end.
 #[derive(Clone, Copy, Debug, PartialEq, Eq, Error)]
-pub enum TextFault {
+pub(crate) enum TextFault {
     /// Memory was refused, or the search was stopped.
     #[error("stopped: {0}")]
     Stopped(Stop),
@@ -67,7 +67,7 @@ impl From<WriteFault> for TextFault {
 /// Answers whether the problem was refused, or the line after which its lines are asked for.
 ///
 /// After a stop the sink has its first line and whole lines of the rest.
-pub fn write_problem<B: Board, K: Sink, M: Memo<B>, G: Guide<B>>(
+pub(crate) fn write_problem<B: Board, K: Sink, M: Memo<B>, G: Guide<B>>(
     alloc: Global,
     sink: &mut K,
     solver: &mut Solver<B, M, G>,

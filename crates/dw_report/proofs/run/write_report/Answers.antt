@@ -1,5 +1,4 @@
-use Rattle.std.proofs.Common.{◌≡◌, refl, true, false, rules, arith, sym, ap, subst, [], ◌∷◌, Err, ◌∙◌, add-zero}
-use Rattle.std.proofs.lemmas.Result.{err_from_is_err_and}
+use Rattle.std.proofs.Common.{◌≡◌, refl, true, false, rules, arith, sym, subst, [], ◌∷◌, ◌∙◌, add-zero}
 use Rattle.dw_notation.specs.Problems.{Numbered, numbered}
 use Rattle.dw_notation.specs.Reading.{cutter_of}
 use Rattle.dw_report.specs.Request.{request_of}
