@@ -4,9 +4,9 @@
     checks/judging.py [POSITIONS]
 
 It stands on the generator of perft.py and on the rules as docs/RULES.md and docs/REPORT.md tell them, and on nothing
-of the solver: no order of moves, no cut. For so many random small positions (500 if not said) on the boards of 10 and
-of 8 rows, and for wins in 1 to 3 moves, it makes the whole report of each command, with all lines and with the first
-one or two, and the rest behind a token; each has to be the same bytes as the program's.
+of the solver: no order of moves, no cut. For so many random small positions (500 if not said; two thirds of them with a
+win) on the boards of 10 and of 8 rows, and for wins in 1 to 3 moves, it makes the whole report of each command, with
+all lines and with the first one or two, and the rest behind a token; each has to be the same bytes as the program's.
 """
 import itertools
 import pathlib
@@ -160,8 +160,9 @@ class Problems:
         yield f"complete {len(lines)}" if len(lines) <= most else f"more after {self.token(lines[most - 1])}"
 
 
-def position(source, board):
-    """A random small position for which the recursion has room, with its problems and its lines by their number of moves."""
+def position(source, board, wins):
+    """A random small position for which the recursion has room, with a win if one is asked for: with its problems, and its
+    lines and its judgement by the number of moves."""
     while True:
         cells, turn, problems = drawn(source, board), source.choice("WB"), Problems(board)
         try:
@@ -169,7 +170,7 @@ def position(source, board):
             reports = [list(problems.judged(cells, turn, n)) for n in range(1, MOST + 1)]
         except TooMany:
             continue
-        if len(lines[-1]) <= MOST_LINES:
+        if len(lines[-1]) <= MOST_LINES and (lines[-1] or not wins):
             return cells, turn, problems, lines, reports
 
 
@@ -187,7 +188,7 @@ def compare(name, words, wanted):
 
 def check(rows, count, source, folder):
     board = Board(rows)
-    found = [position(source, board) for _ in range(count)]
+    found = [position(source, board, number % 3 > 0) for number in range(count)]
     firsts = [fen(cells, turn) for cells, turn, *_ in found]
     file = folder / "positions.fen"
     file.write_text("".join(first + "\n" for first in firsts))

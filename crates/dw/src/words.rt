@@ -61,7 +61,8 @@ const MOST_KEPT: usize = 4_000_000;
 /// How many positions a memo keeps where the words say nothing.
 const USUALLY_KEPT: usize = 100_000;
 
-const ABOUT: &str = "Solves problems of international draughts: verdicts, and every line of a forced win.";
+const ABOUT: &str =
+    "Solves problems of international draughts: verdicts, and every line of a forced win.";
 
 const EXAMPLES: &str = "\
 Problems are read from FILE, or from standard input: one FEN text a line, as W:W27,45:B16,
@@ -94,7 +95,8 @@ Examples:
   echo W:WK46:B28 | dw moves
   dw moves --problem 2 examples/problems.fen";
 
-const JUDGE_ABOUT: &str = "Judges each problem: can the side to move force a win, and is the problem sound?";
+const JUDGE_ABOUT: &str =
+    "Judges each problem: can the side to move force a win, and is the problem sound?";
 
 const JUDGE_EXAMPLES: &str = "\
 The side to move wins if the other has no legal move left. The verdict is one of these:
@@ -300,7 +302,9 @@ fn listed_by<'a>(words: &ArgMatches<'a>) -> Request<'a> {
     Request {
         lines: words.get_one::<u64>("lines").unwrap_or(MOST_LINES),
         after,
-        only: request.only.or(if after.is_some() { Some(1) } else { None }),
+        only: request
+            .only
+            .or(if after.is_some() { Some(1) } else { None }),
         ..request
     }
 }
@@ -444,7 +448,9 @@ mod tests {
                 None,
             ),
             (
-                &["dw", "list", "-n", "1", "--memo", "slots", "--cache", "4000000"],
+                &[
+                    "dw", "list", "-n", "1", "--memo", "slots", "--cache", "4000000",
+                ],
                 1,
                 1_000_000_000_000,
                 MemoKind::Slots,
