@@ -1,67 +1,134 @@
 #!/usr/bin/env python3
-"""Refuses each allocation of `dw moves` in turn, and compares what is written then with the whole report.
+"""Refuses each allocation of `dw moves`, `judge` and `list` in turn, and compares what is written with the report.
 
     checks/refused_memory.py
 
-A run that was refused memory ends with status 3 and the line `dw: stopped: 1 memory, 0 expanded`, behind the whole
-texts of some problems, the first line of the next, and whole lines of its text; or with nothing written, where the
-words of the command line could not be read. The last run of each input meets no refusal and is whole. `dw show`
-takes no memory once its words are read, however many problems there are.
+A run that was refused memory writes the whole report, or it ends with status 3 and the line `dw: stopped: 1 memory, E
+expanded`, behind the whole texts of some problems, the first line of the next, and whole lines of its text; or with
+nothing written and E 0, where the words of the command line could not be read or the memo not be made. For some words
+that comes at the same allocations whatever the problems are, so that a problem's first line is never left out. E is at
+most what a run without a memo expands, and 0 for `moves`. The last run of each input meets no refusal and is whole.
+`judge` and `list` run with each memo. `dw show` takes no memory once its words are read, however many problems there
+are.
 """
 import os
 import pathlib
+import re
 import subprocess
 import tempfile
 
 HERE = pathlib.Path(__file__).resolve().parent
 DW = HERE.parent / "dw"
+PROGRAM = HERE.parent / "crates/dw/out/dw"
 POSITIONS = """W:W32:B28 W:W41,45,47:B36 W:W27,45:B16 W:W27:B16 W:W14:B8,9 W:WK47:B17,18,24,32,33 W:W38:B22,23,32,33
 W:W47:B13,14,22,31,32,41,42 W:W27,32,38:B18 W:W27,32:B18 W:W28:B W:WK46:B28 W:W:B20 W:W3:B20""".split()
+TOGETHER = "\n".join(POSITIONS).encode()
+# Of these the wins in one move are looked for too.
+IN_ONE = POSITIONS[:2] + POSITIONS[10:12]
+MEMOS = ["none", "lru", "slots"]
+STOPPED = re.compile(rb"dw: stopped: 1 memory, (\d+) expanded\n")
+# What the last line of a problem's text has, of a command that marks it. A verdict may have tries behind it.
+LAST_LINE = {"moves": b" taking ", "list": b"\ncomplete "}
 
 
 def refused(folder, number, words, given):
     mark = folder / "mark"
     mark.unlink(missing_ok=True)
     changes = {"LD_PRELOAD": str(folder / "refuse.so"), "REFUSED_ALLOCATION": str(number), "REFUSED_MARK": str(mark)}
-    program = DW.parent / "crates/dw/out/dw"
-    ran = subprocess.run([program, *words], input=given, capture_output=True, timeout=60, check=False, env=os.environ | changes)
+    environment = os.environ | changes
+    ran = subprocess.run([PROGRAM, *words], input=given, capture_output=True, timeout=60, check=False, env=environment)
     return ran, mark.exists()
 
 
-def is_part(written, whole):
-    """Whether these are whole lines at the front, of the command's words alone or up to a problem's first line and beyond."""
-    return whole.startswith(written) and (written == b"" or written.endswith(b"\n"))
+def whole(words, given):
+    ran = subprocess.run([DW, *words], input=given, capture_output=True, timeout=900, check=False)
+    assert ran.stderr == b"" and ran.returncode in (0, 1), (words, ran)
+    return ran
 
 
-def each_in_turn(folder, command, given):
-    whole = subprocess.run([DW, command], input=given, capture_output=True, timeout=900, check=False)
-    assert whole.stderr == b"", whole
+def most_expanded(words, given):
+    """How many positions a run expands that keeps nothing: the least limit that does not stop it, or 0."""
+
+    def is_stopped(limit):
+        limited = [DW, *words, "--memo", "none", "--positions", str(limit)]
+        return subprocess.run(limited, input=given, capture_output=True, timeout=60, check=False).returncode == 3
+
+    low, high = 0, 1
+    while is_stopped(high):
+        low, high = high, 2 * high
+    while low + 1 < high:
+        middle = (low + high) // 2
+        low, high = (middle, high) if is_stopped(middle) else (low, middle)
+    return high
+
+
+def is_part(written, report, command):
+    """Whether these are whole texts of problems, the first line of the next, and whole lines of its text."""
+    if not (report.startswith(written) and written.startswith(b"problem 1: ") and written.endswith(b"\n")):
+        return False
+    last = written[written.rindex(b"problem ") :]
+    return ": refused: " not in last.decode() and LAST_LINE.get(command, b"problem problem") not in last
+
+
+def each_in_turn(folder, words, given, most):
+    """The number of allocations, at how many the run stopped with nothing written, and at how many behind something."""
+    report = whole(words, given)
+    silent = stopped = 0
     for number in range(1, 10000):
-        ran, was_refused = refused(folder, number, [command], given)
-        if not was_refused:
-            assert (ran.returncode, ran.stdout, ran.stderr) == (whole.returncode, whole.stdout, b""), (number, ran)
-            return number - 1
-        if ran.returncode == 3:
-            assert ran.stderr == b"dw: stopped: 1 memory, 0 expanded\n", (number, ran)
-            assert is_part(ran.stdout, whole.stdout), (number, ran)
-            last = ran.stdout.split(b"problem ")[-1]
-            assert b"taking" not in last, (number, ran)
+        ran, was_refused = refused(folder, number, words, given)
+        found = STOPPED.fullmatch(ran.stderr)
+        if found and was_refused:
+            assert ran.returncode == 3, (words, number, ran)
+            expanded = int(found[1])
+            if ran.stdout == b"":
+                assert expanded == 0 and stopped == 0, (words, number, ran)
+                silent += 1
+            else:
+                assert expanded <= most and is_part(ran.stdout, report.stdout, words[0]), (words, number, ran)
+                stopped += 1
         else:
-            assert (ran.returncode, ran.stdout, ran.stderr) == (whole.returncode, whole.stdout, b""), (number, ran)
+            ended, wanted = (ran.returncode, ran.stdout, ran.stderr), (report.returncode, report.stdout, b"")
+            assert ended == wanted, (words, number, ran)
+        if not was_refused:
+            return number - 1, silent, stopped
     raise AssertionError("no run without a refusal")
+
+
+def show_takes_none(folder):
+    one, many = (each_in_turn(folder, ["show"], given, 0) for given in (POSITIONS[0].encode(), TOGETHER))
+    assert one == many, (one, many)
+    print(f"show: {one[0]} allocations, as many for one problem as for {len(POSITIONS)}")
+
+
+def command_on(folder, words, inputs, memo=()):
+    """Each input with these words, the memo's among them."""
+    allocations = stops = 0
+    silences = set()
+    for given in inputs:
+        most = 0 if words[0] == "moves" else most_expanded(words, given)
+        number, silent, stopped = each_in_turn(folder, [*words, *memo], given, most)
+        silences.add(silent)
+        allocations, stops = allocations + number, stops + stopped
+    assert len(silences) == 1, f"a first line was left out: {silences}"
+    print(f"{' '.join([*words, *memo])}: {len(inputs)} inputs, {allocations} allocations, each refused in turn; "
+          f"{silences.pop()} of each stopped with nothing written, {stops} behind whole lines", flush=True)
 
 
 def main():
     with tempfile.TemporaryDirectory() as name:
         folder = pathlib.Path(name)
-        subprocess.run(["cc", "-O1", "-shared", "-fPIC", "-o", folder / "refuse.so", HERE / "refuse_allocation.c", "-ldl"], check=True)
-        for position in POSITIONS:
-            print(f"moves of {position}: {each_in_turn(folder, 'moves', position.encode())} allocations, each refused in turn")
-        together = "\n".join(POSITIONS).encode()
-        print(f"moves of all of them: {each_in_turn(folder, 'moves', together)} allocations, each refused in turn")
-        one, many = (each_in_turn(folder, "show", given) for given in (POSITIONS[0].encode(), together))
-        assert one == many, (one, many)
-        print(f"show: {one} allocations, as many for one problem as for {len(POSITIONS)}")
+        library, source = folder / "refuse.so", HERE / "refuse_allocation.c"
+        subprocess.run(["cc", "-O1", "-shared", "-fPIC", "-o", library, source, "-ldl"], check=True)
+        whole(["show"], b"")  # so that it is built
+        show_takes_none(folder)
+        each = [position.encode() for position in POSITIONS]
+        command_on(folder, ["moves"], [*each, TOGETHER])
+        for command in ("judge", "list"):
+            for memo in MEMOS:
+                chosen = ["--memo", memo, "--cache", "1000"]
+                command_on(folder, [command, "-n", "2"], [*each, TOGETHER], chosen)
+                command_on(folder, [command, "-n", "1"], [position.encode() for position in IN_ONE], chosen)
 
 
-main()
+if __name__ == "__main__":
+    main()
