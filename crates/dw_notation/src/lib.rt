@@ -1,6 +1,7 @@
 //! Texts of draughts: where bytes come from and go, and the problems of a byte text.
 //!
-//! Everything is generic over the board. Only `line_text` takes memory, and `read_move` at two squares joined by `x`.
+//! Everything is generic over the board. Memory is taken by `text_in`, `line_text` and `LineText`, which list legal
+//! moves, and by `read_move` at two squares joined by `x`.
 #![tactic(auto)]
 
 pub mod laws;
