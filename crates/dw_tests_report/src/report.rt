@@ -33,6 +33,21 @@ const ROW: &str = "problem 1: W:W32:B28
 
 const THREE: &[u8] = b"W:W32:B28\n\nx\r\nW:W3:B20";
 
+/// The report on the first two problems of the three.
+const ROW_AND_REFUSED: &str = "problem 1: W:W32:B28
+| . . . . .|
+|. . . . . |
+| . . . . .|
+|. . . . . |
+| . . . . .|
+|. . b . . |
+| . w . . .|
+|. . . . . |
+| . . . . .|
+|. . . . . |
+problem 2: refused: 1 fen: 1 turn at 1
+";
+
 const THREE_SHOWN: &str = "problem 1: W:W32:B28
 | . . . . .|
 |. . . . . |
@@ -447,7 +462,10 @@ fn reports(rt: HostRuntime) {
             ..SHOW
         };
         check_reports::<Ten>(&rt, rt.alloc(), &alone, &[(THREE, *wanted, *counts)]);
-        let (one, all) = (settings_of::<Ten>(&alone, None), settings_of::<Ten>(&SHOW, None));
+        let (one, all) = (
+            settings_of::<Ten>(&alone, None),
+            settings_of::<Ten>(&SHOW, None),
+        );
         let others = number.wrapping_add(1);
         assert!(rt; one.chooses(*number) && !one.chooses(others) && all.chooses(others));
         assert!(rt; one.asks_for(*number) && !one.asks_for(others) && !all.asks_for(others));
@@ -469,42 +487,72 @@ try 27-22 refuted by 16-21
 problem 2: refused: 4 wrong game
 ";
 
-/// Problems of which the first ends behind so many bytes, and what is written of it; and the whole report.
-type Ending = (Asked, &'static [u8], u64, &'static str, &'static str);
+/// What is written of the problems that end in so many bytes.
+type Ended = (u64, &'static str);
 
-fn endings() -> [Ending; 4] {
+/// A text, what is written of the problems that have ended behind some of its bytes, and the whole report.
+type Ending = (Asked, &'static [u8], &'static [Ended], &'static str);
+
+const REFUSED: &str = "problem 1: refused: 1 fen: 7 last row at 4\n";
+
+const REFUSED_AND_SOUND: &str =
+    "problem 1: refused: 1 fen: 7 last row at 4\nproblem 2: W:W32:B28\nsound in 1: 32x23\n";
+
+const GAME_JUDGED: &str = "problem 1: W:W27,45:B16\nsound in 2: 45-40\n\
+    try 27-21 refuted by 16x27\ntry 27-22 refuted by 16-21\n";
+
+fn endings() -> [Ending; 6] {
     [
-        (SHOW, THREE, 10, ROW, THREE_SHOWN),
+        (
+            SHOW,
+            THREE,
+            &[(10, ROW), (14, ROW_AND_REFUSED)],
+            THREE_SHOWN,
+        ),
+        (list_in(2), b"W:W27,32,38:B18", &[], LISTED_IN_2),
         (
             list_in(2),
             b"W:W27,32,38:B18\n",
-            16,
-            LISTED_IN_2,
+            &[(16, LISTED_IN_2)],
             LISTED_IN_2,
         ),
         (
             judge_in(1),
             b"W:W3:B20\n\nW:W32:B28",
-            9,
-            "problem 1: refused: 1 fen: 7 last row at 4\n",
-            "problem 1: refused: 1 fen: 7 last row at 4\nproblem 2: W:W32:B28\nsound in 1: 32x23\n",
+            &[(9, REFUSED)],
+            REFUSED_AND_SOUND,
+        ),
+        (
+            judge_in(1),
+            b"W:W3:B20\n\nW:W32:B28\n",
+            &[(9, REFUSED), (20, REFUSED_AND_SOUND)],
+            REFUSED_AND_SOUND,
         ),
         (
             tags_of(judge_in(2)),
             TWO_GAMES,
-            65,
-            "problem 1: W:W27,45:B16\nsound in 2: 45-40\n\
-                try 27-21 refuted by 16x27\ntry 27-22 refuted by 16-21\n",
+            &[(65, GAME_JUDGED), (137, GAMES_JUDGED)],
             GAMES_JUDGED,
         ),
     ]
 }
 
-// A source that gives a few bytes a read and fails at one: the sink has the whole texts of the problems that ended
-// before, and the first one as soon as its end was read.
+/// What is written of the problems that end in so many bytes.
+fn ended_in(read: u64, ended: &[Ended]) -> &'static str {
+    let mut text = "";
+    for (end, there) in ended {
+        if read >= *end {
+            text = *there;
+        }
+    }
+    text
+}
+
+// A source that gives a few bytes a read and fails at one: the sink has just the whole texts of the problems that ended
+// before.
 #[test]
 fn keeps_what_ended_before_a_failed_read(rt: HostRuntime) {
-    for (asked, text, first_ends, first, whole) in &endings() {
+    for (asked, text, problems, whole) in &endings() {
         for step in [1, 2, 7] {
             let mut ended = false;
             for k in 1..200u64 {
@@ -512,15 +560,19 @@ fn keeps_what_ended_before_a_failed_read(rt: HostRuntime) {
                 let writer = Narrow::new(rt.alloc(), 4096, 0);
                 let settings = settings_of::<Ten>(asked, None);
                 let (answer, written) = ran(rt.alloc(), &settings, NoMemo::new(), reader, writer);
-                let read = step as u64 * (k - 1);
                 ended = ended || answer.is_ok();
-                let taken = written.as_slice();
-                assert!(rt; ended == (answer != Err(RunFault::Read)), "{step} bytes, read {k}");
-                assert!(rt; whole.as_bytes().starts_with(taken), "{step} bytes, read {k}");
-                assert!(rt; !ended || taken.len() == whole.len(), "{step} bytes, read {k}");
+                let wanted = if ended {
+                    *whole
+                } else {
+                    ended_in(step as u64 * (k - 1), *problems)
+                };
                 assert!(rt;
-                    taken.starts_with(first.as_bytes()) == (read >= *first_ends || ended),
-                    "{step} bytes, read {k}: {first}"
+                    ended == (answer != Err(RunFault::Read)),
+                    "{step} bytes, read {k}"
+                );
+                assert!(rt;
+                    written.as_slice() == wanted.as_bytes(),
+                    "{step} bytes, read {k}"
                 );
             }
             assert!(rt; ended);
@@ -541,7 +593,7 @@ fn keeps_what_ended_before_a_failed_read(rt: HostRuntime) {
 // A sink that takes a few bytes a write and fails at one has a beginning of the report, byte for byte.
 #[test]
 fn keeps_a_beginning_before_a_failed_write(rt: HostRuntime) {
-    for (asked, text, _, _, whole) in &endings() {
+    for (asked, text, _, whole) in &endings() {
         for step in [1, 5] {
             let mut ended = false;
             for k in 1..400 {
@@ -550,7 +602,10 @@ fn keeps_a_beginning_before_a_failed_write(rt: HostRuntime) {
                 let settings = settings_of::<Ten>(asked, None);
                 let (answer, written) = ran(rt.alloc(), &settings, NoMemo::new(), reader, writer);
                 let taken = written.as_slice();
-                assert!(rt; whole.as_bytes().starts_with(taken), "{step} bytes, write {k}");
+                assert!(rt;
+                    whole.as_bytes().starts_with(taken),
+                    "{step} bytes, write {k}"
+                );
                 assert!(rt;
                     answer.is_ok() == (taken.len() == whole.len()),
                     "{step}, write {k}"

@@ -155,15 +155,26 @@ fn stops_at_each_limit(rt: HostRuntime) {
             let mut most = 0;
             for limit in 1..200 {
                 let asked = Asked { limit, ..asked };
-                let (answer, written) = report_on::<Ten, NoMemo>(alloc, &asked, NoMemo::new(), text);
+                let (answer, written) = report_on::<Ten, NoMemo>(
+                    alloc,
+                    &asked,
+                    NoMemo::new(),
+                    text,
+                );
                 let taken = written.as_slice();
                 assert!(rt; wanted.as_bytes().starts_with(taken), "{text} {limit}");
-                assert!(rt; taken.is_empty() || taken.ends_with(b"\n"), "{text} {limit}");
+                assert!(rt;
+                    taken.is_empty() || taken.ends_with(b"\n"),
+                    "{text} {limit}"
+                );
                 assert!(rt; taken.len() >= most, "{text} {limit}");
                 most = taken.len();
                 if ended || answer.is_ok() {
                     ended = true;
-                    assert!(rt; answer.is_ok() && taken.len() == wanted.len(), "{text} {limit}");
+                    assert!(rt;
+                        answer.is_ok() && taken.len() == wanted.len(),
+                        "{text} {limit}"
+                    );
                 } else {
                     let stopped = RunFault::Stopped {
                         why: Stop::Limit,
@@ -179,9 +190,13 @@ fn stops_at_each_limit(rt: HostRuntime) {
 }
 
 const FIRST: &str = "1. 27-22 18x27 2. 32x21\n";
+
 const SECOND: &str = "1. 32-28 18-22 2. 27x18\n";
+
 const LAST: &str = "1. 32-28 18-22 2. 28x17\n1. 32-28 18-23 2. 28x19\n";
+
 const FOUR: &str = "W:W27,32,38:B18";
+
 const TOKEN: &str = "020a03201c0000000000000000121600000000000000001b120000000000200000";
 
 /// A position, the token of a line or none, the most lines to list, and what is listed; whether the line is refused.
