@@ -1,0 +1,73 @@
+#!/usr/bin/env python3
+"""settings.py: the reports of worked positions do not depend on the memo, and a limit that is just enough is enough.
+
+    checks/settings.py
+
+The positions and their reports are those of crates/dw_tests_report/src/solved.rt. Each is judged and listed with each
+memo and with --cache 1, 2 and 100000; that has to write the stated bytes. Then the limit of --positions rises by one
+from 1 until the run is whole. Each smaller limit E has to stop the run with status 3 and `dw: stopped: 2 limit, E
+expanded`, behind the problem's first line and whole lines of the rest, and never with less than a smaller one wrote.
+"""
+import pathlib
+import re
+import subprocess
+
+TOP = pathlib.Path(__file__).resolve().parent.parent
+DW = TOP / "dw"
+SOLVED = TOP / "crates/dw_tests_report/src/solved.rt"
+MEMOS = [("none", "100000"), *((memo, cache) for memo in ("lru", "slots") for cache in ("1", "2", "100000"))]
+MOST = 1000
+STRING = r'"((?:[^"\\]|\\[\s\S])*)"'
+
+
+def solved():
+    """The rows of the table: a position, a number of moves, the report that judges it and the one that lists it."""
+    text = SOLVED.read_text()
+    table = text[text.index("const SOLVED") : text.index("];", text.index("const SOLVED"))]
+    rows = re.findall(rf"\(\s*{STRING},\s*(\d+),\s*{STRING},\s*{STRING},?\s*\)", table)
+    assert len(rows) == int(re.search(r"\[Solved; (\d+)\]", table)[1]), len(rows)
+    return [(fen, n, read(judged), read(listed)) for fen, n, judged, listed in rows]
+
+
+def read(literal):
+    """The bytes of a string literal: a backslash at a line's end passes over the line feed and the blanks behind it."""
+    return re.sub(r"\\\n\s*", "", literal).replace(r"\n", "\n").encode()
+
+
+def run(words, fen):
+    return subprocess.run([DW, *words], input=fen.encode(), capture_output=True, timeout=60, check=False)
+
+
+def needed(words, fen, wanted):
+    """The least limit that does not stop the run."""
+    written = b""
+    for limit in range(1, MOST):
+        ran = run([*words, "--positions", str(limit)], fen)
+        assert ran.stdout.startswith(written) and wanted.startswith(ran.stdout), (words, limit, ran)
+        written = ran.stdout
+        if ran.returncode != 3:
+            assert (ran.returncode, ran.stdout, ran.stderr) == (0, wanted, b""), (words, limit, ran)
+            return limit
+        assert ran.stderr == b"dw: stopped: 2 limit, %d expanded\n" % limit, (words, limit, ran)
+        assert written.startswith(f"problem 1: {fen}\n".encode()) and written.endswith(b"\n"), (words, limit, ran)
+    raise AssertionError(f"{words} {fen}: {MOST} positions are not enough")
+
+
+def main():
+    run(["--help"], "")  # so that it is built
+    for fen, n, judged, listed in solved():
+        found = []
+        for command, wanted in (("judge", judged), ("list", listed)):
+            limits = []
+            for memo, cache in MEMOS:
+                words = [command, "-n", n, "--memo", memo, "--cache", cache]
+                ran = run(words, fen)
+                assert (ran.returncode, ran.stdout, ran.stderr) == (0, wanted, b""), (words, fen, ran)
+                limits.append(needed(words, fen, wanted))
+            found.append(f"{command} {' '.join(map(str, limits))}")
+        print(f"{fen or 'nothing'} in {n}: the same bytes; positions needed: {', '.join(found)}")
+    print(f"with the memos {', '.join(f'{memo} {cache}' for memo, cache in MEMOS)}, in this order")
+
+
+if __name__ == "__main__":
+    main()
