@@ -137,6 +137,29 @@ def tokens():
            b"dw: cannot open /no/such/file\n", b"")
 
 
+# What each command says of FEN.
+ANSWERS = [
+    (["show"], DIAGRAM),
+    (["moves"], b"32x23 B:W23:B\nmoves 1 taking 1\n"),
+    (["judge", "-n", "1"], b"sound in 1: 32x23\n"),
+    (["list", "-n", "1"], b"1. 32x23\ncomplete 1\n"),
+]
+
+
+def lengths():
+    """Lines and sections of just the length that is read, and of one byte more, with each command."""
+    shown = b"problem 1: W:W32:B28\n"
+    tag, last = b'[FEN "W:W32:B28"]', b'[A ""]'
+    for words, answer in ANSWERS:
+        for count, refusal in [(4096, b"1 fen: 10 too long at 1025"), (4097, b"5 line too long")]:
+            expect(f"{words[0]}: {count} digits in a line", run(words, b"1" * count + b"\n" + FEN), 1, b"",
+                   b"problem 1: refused: " + refusal + b"\nproblem 2: W:W32:B28\n" + answer)
+        expect(f"{words[0]}: 4,096 blanks in a line", run(words, b" " * 4096 + b"\n" + FEN), 0, b"", shown + answer)
+        for count, status, wanted in [(65536, 0, shown + answer), (65537, 1, b"problem 1: refused: 6 section too long\n")]:
+            section = tag + b" " * (count - len(tag) - len(last)) + last
+            expect(f"{words[0]}: {count} bytes in a section", run([*words, "--pdn"], section), status, b"", wanted)
+
+
 def many(folder):
     file = folder / "many"
     file.write_bytes(FEN * 1_000_001)
@@ -286,6 +309,7 @@ def main():
     with tempfile.TemporaryDirectory() as name:
         folder = pathlib.Path(name)
         texts()
+        lengths()
         refusals()
         limits()
         tokens()
