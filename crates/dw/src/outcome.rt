@@ -151,42 +151,6 @@ mod tests {
             (Ending::HelpNotWritten, None, 3, "dw: write failed\n"),
             (Ending::Words("why\n"), None, 2, "why\n"),
             (
-                Ending::TokenRefused(TokenFault::NotHex),
-                Some(1),
-                1,
-                "dw: token refused: 1 not hex\n",
-            ),
-            (
-                Ending::TokenRefused(TokenFault::Version),
-                Some(1),
-                1,
-                "dw: token refused: 2 version\n",
-            ),
-            (
-                Ending::TokenRefused(TokenFault::Length),
-                Some(1),
-                1,
-                "dw: token refused: 3 length\n",
-            ),
-            (
-                Ending::TokenRefused(TokenFault::Square),
-                Some(1),
-                1,
-                "dw: token refused: 4 square\n",
-            ),
-            (
-                Ending::TokenRefused(TokenFault::Taken),
-                Some(1),
-                1,
-                "dw: token refused: 5 taken\n",
-            ),
-            (
-                Ending::TokenRefused(TokenFault::Board),
-                Some(1),
-                1,
-                "dw: token refused: 6 board\n",
-            ),
-            (
                 Ending::Memory,
                 None,
                 3,
@@ -243,6 +207,27 @@ mod tests {
             };
             assert_eq!(rt; written.as_str(), line);
         }
+        Ok(())
+    }
+
+    // Each fault of a token, and the line on standard error.
+    #[test]
+    fn refused_tokens(rt: HostRuntime) -> Result<(), Fail> {
+        let rows = [
+            (TokenFault::NotHex, "dw: token refused: 1 not hex\n"),
+            (TokenFault::Version, "dw: token refused: 2 version\n"),
+            (TokenFault::Length, "dw: token refused: 3 length\n"),
+            (TokenFault::Square, "dw: token refused: 4 square\n"),
+            (TokenFault::Taken, "dw: token refused: 5 taken\n"),
+            (TokenFault::Board, "dw: token refused: 6 board\n"),
+        ];
+        for (fault, line) in rows {
+            let message = Message::<&str>::TokenRefused(fault);
+            let written = format!(in rt.alloc(); "{message}")?;
+            assert_eq!(rt; written.as_str(), line);
+        }
+        let exit = outcome(Ending::<&str>::TokenRefused(TokenFault::Length), Some(1));
+        assert_eq!(rt; exit.status, 1);
         Ok(())
     }
 }
