@@ -1,8 +1,8 @@
-//! Counts the lines of play from some positions, ply by ply, and solves problems; it says how many moves are made, and how many
-//! positions are expanded, a second. Counts and answers go to standard output, speeds to standard error.
+//! Counts the lines of play from some positions, ply by ply, and solves problems; it says how many moves are made, and
+//! how many positions are expanded, a second. Counts and answers go to standard output, speeds to standard error.
 //!
 //! Without a word it does some of both. A number gives plies to add to the lines, `solve` asks for all problems, and
-//! `lines` for the lines of some forced wins, listed.
+//! `lines` lists the lines of some forced wins.
 #![tactic(auto)]
 
 mod lines;
