@@ -1,9 +1,11 @@
-//! Counts the lines of play from some positions, ply by ply, and solves problems; it says how many moves are made, and how many
-//! positions are expanded, a second. Counts and answers go to standard output, speeds to standard error.
+//! Counts the lines of play from some positions, ply by ply, and solves problems; it says how many moves are made, and
+//! how many positions are expanded, a second. Counts and answers go to standard output, speeds to standard error.
 //!
-//! Without a word it does some of both. A number gives plies to add to the lines, `solve` asks for all problems.
+//! Without a word it does some of both. A number gives plies to add to the lines, `solve` asks for all problems, and
+//! `lines` lists the lines of some forced wins.
 #![tactic(auto)]
 
+mod lines;
 mod perft;
 mod problems;
 mod solving;
@@ -12,6 +14,7 @@ use anyhow::Context;
 use dw_board::board::Ten;
 use dw_board::fen::read::read_fen;
 use dw_moves::moves::Move;
+use lines::list_lines;
 use perft::{moves_made, perft};
 use solving::solve_problems;
 use std::env;
@@ -50,6 +53,7 @@ fn main(rt: HostRuntime) -> anyhow::Result<()> {
             solve_problems(&rt, FEW_MOVES)
         }
         Some("solve") => solve_problems(&rt, ALL_MOVES),
+        Some("lines") => list_lines(&rt),
         Some(word) => count_all(&rt, plies_added(word)?),
     }
 }

@@ -168,7 +168,31 @@ fn check_rest<B: Board, M: Memo<B>>(
     assert!(rt; matches!(lister.next(alloc), Ok(None)));
 }
 
-// The lister gives the lines that stand in the list of all, and after each of them the next one.
+/// Of lists of so many lines the whole rest is compared after each line, and of longer ones the next line.
+const COMPARED: usize = 200;
+
+// After each of these lines, which are all of a position, the lister gives those behind it, and no other.
+fn check_after<B: Board, M: Memo<B>>(
+    rt: &impl Abort,
+    alloc: Global,
+    lister: &mut Lister<'_, B, M, ByTrial>,
+    whole: &[Vec<Move<B>>],
+) {
+    for (index, line) in whole.iter().enumerate() {
+        assert!(rt; lister.after(alloc, line.as_slice()).is_ok());
+        if whole.len() <= COMPARED {
+            check_rest(rt, alloc, lister, &whole[index + 1..]);
+        } else {
+            let next = lister.next(alloc).ok().expect(rt, "an answer");
+            match (next, whole.get(index + 1)) {
+                (Some(next), Some(wanted)) => assert!(rt; *next == *wanted.as_slice()),
+                (next, wanted) => assert!(rt; next.is_none() && wanted.is_none()),
+            }
+        }
+    }
+}
+
+// The lister gives the lines that stand in the list of all, and after each of them those behind it.
 fn check_small<B: Board, M: Memo<B>>(
     rt: &impl Abort,
     alloc: Global,
@@ -182,14 +206,7 @@ fn check_small<B: Board, M: Memo<B>>(
             let whole = whole.ok().expect(rt, "all lines");
             let mut lister = Lister::start(solver, &position, moves);
             check_rest(rt, alloc, &mut lister, whole.as_slice());
-            for (index, line) in whole.iter().enumerate() {
-                assert!(rt; lister.after(alloc, line.as_slice()).is_ok(), "{text}");
-                let next = lister.next(alloc).ok().expect(rt, "an answer");
-                match (next, whole.as_slice().get(index + 1)) {
-                    (Some(next), Some(wanted)) => assert!(rt; *next == *wanted.as_slice()),
-                    (next, wanted) => assert!(rt; next.is_none() && wanted.is_none()),
-                }
-            }
+            check_after(rt, alloc, &mut lister, whole.as_slice());
         }
     }
 }
@@ -302,6 +319,49 @@ fn lines_before_are_left_out(rt: HostRuntime) {
     lister.set_limit(limit);
     assert!(rt; matches!(lister.next(alloc), Ok(Some(_))));
     assert!(rt; matches!(lister.next(alloc), Ok(None)));
+}
+
+// The last line but one, and the last, of the lines still to come, which are so many.
+fn last_two<B: Board, M: Memo<B>>(
+    rt: &impl Abort,
+    alloc: Global,
+    lister: &mut Lister<'_, B, M, ByTrial>,
+    count: usize,
+) -> (Vec<Move<B>>, Vec<Move<B>>) {
+    for _ in 2..count {
+        assert!(rt; matches!(lister.advance(alloc), Ok(true)));
+    }
+    let (last_but_one, last) = (line_given(rt, alloc, lister), line_given(rt, alloc, lister));
+    assert!(rt; matches!(lister.advance(alloc), Ok(false)));
+    (last_but_one, last)
+}
+
+// The next line, in a list of its own.
+fn line_given<B: Board, M: Memo<B>>(
+    rt: &impl Abort,
+    alloc: Global,
+    lister: &mut Lister<'_, B, M, ByTrial>,
+) -> Vec<Move<B>> {
+    assert!(rt; matches!(lister.advance(alloc), Ok(true)));
+    lister.line().to_vec(alloc).expect(rt, "memory")
+}
+
+// A list of 374,951 lines is walked to its end. A new lister that goes on after the last but one gives the last, and
+// expands few positions for that.
+#[test]
+fn a_long_list_goes_on_at_its_end(rt: HostRuntime) {
+    let alloc = rt.alloc();
+    let position = position_of::<Ten>(&rt, "W:WK46,K47,48:B1");
+    let memo = SlotMemo::new(alloc, 10_000).expect(&rt, "memory");
+    let mut solver = Solver::<Ten, SlotMemo<Ten>, ByTrial>::new(memo, ByTrial, 1_000_000);
+    let mut lister = Lister::start(&mut solver, &position, 5);
+    let (last_but_one, last) = last_two(&rt, alloc, &mut lister, 374_951);
+    let mut solver = Solver::<Ten, NoMemo, ByTrial>::new(NoMemo::new(), ByTrial, 100);
+    let mut lister = Lister::start(&mut solver, &position, 5);
+    assert!(rt; lister.after(alloc, last_but_one.as_slice()).is_ok());
+    let limit = lister.expanded().saturating_add(1_999);
+    lister.set_limit(limit);
+    check_rest(&rt, alloc, &mut lister, &[last]);
 }
 
 /// A move that need not be legal: where it begins and ends, and what it takes.
