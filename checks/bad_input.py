@@ -155,7 +155,8 @@ def lengths():
             expect(f"{words[0]}: {count} digits in a line", run(words, b"1" * count + b"\n" + FEN), 1, b"",
                    b"problem 1: refused: " + refusal + b"\nproblem 2: W:W32:B28\n" + answer)
         expect(f"{words[0]}: 4,096 blanks in a line", run(words, b" " * 4096 + b"\n" + FEN), 0, b"", shown + answer)
-        for count, status, wanted in [(65536, 0, shown + answer), (65537, 1, b"problem 1: refused: 6 section too long\n")]:
+        too_long = b"problem 1: refused: 6 section too long\n"
+        for count, status, wanted in [(65536, 0, shown + answer), (65537, 1, too_long)]:
             section = tag + b" " * (count - len(tag) - len(last)) + last
             expect(f"{words[0]}: {count} bytes in a section", run([*words, "--pdn"], section), status, b"", wanted)
 

@@ -4,11 +4,11 @@
     python3 checks/edits.py [CRATE ..]      without a name: each crate that has a folder in checks/edits
 
 `rt ci` tries those in crates/CRATE/must-fail; more of them would take it too long. Those in checks/edits/CRATE have the
-same form. This program copies the tracked files, as they are now, to a temporary folder, puts these edits in the place of
-the gate's, and runs `rt must-fail` there, as many crates side by side as there are processors and 4 GB of memory for each. It
-prints what each run says as it ends, and ends with 0 if the prover refused every edit. What is built, crates/*/out, is copied
-too, so that the crates below are not proved again (`./dw` builds them). The first edit of a crate takes minutes, a
-further one 15 to 40 s.
+same form. This program copies the tracked files, as they are now, to a temporary folder, puts these edits in the place
+of the gate's, and runs `rt must-fail` there, as many crates side by side as there are processors and 4 GB of memory for
+each. It prints what each run says as it ends, and ends with 0 if the prover refused every edit. What is built,
+crates/*/out, is copied too, so that the crates below are not proved again (`./dw` builds them). The first edit of a crate
+takes minutes, a further one 15 to 40 s.
 
 Files that end in .borrow hold uses that must not compile, in the form of an edit. The borrow check has to refuse
 each, before any proof; `rt must-fail` does not take such edits, so this program tries them itself.
@@ -56,7 +56,8 @@ def side_by_side():
 def with_edit(edit, folder):
     """The file that an edit changes, and its text with the edit."""
     lines = edit.read_text(encoding="utf-8").splitlines()
-    file, old, new = (next(line[len(word) :] for line in lines if line.startswith(word)) for word in ("file: ", "old: ", "new: "))
+    words = ("file: ", "old: ", "new: ")
+    file, old, new = (next(line[len(word) :] for line in lines if line.startswith(word)) for word in words)
     text = (folder / file).read_text(encoding="utf-8")
     if text.count(old) != 1:
         raise ValueError(f"{edit.name}: its old text is in {file} {text.count(old)} times")
@@ -69,13 +70,15 @@ def compiles(room, crate, edit):
     file, text = with_edit(edit, folder)
     kept = file.read_text(encoding="utf-8")
     file.write_text(text, encoding="utf-8")
-    run = subprocess.run(["rt", "check", "--only="], cwd=folder, stdout=subprocess.PIPE, stderr=subprocess.STDOUT, text=True, check=False)
+    run = subprocess.run(["rt", "check", "--only="], cwd=folder, stdout=subprocess.PIPE, stderr=subprocess.STDOUT,
+                         text=True, check=False)
     file.write_text(kept, encoding="utf-8")
     return "error[borrow-" not in run.stdout
 
 
 def tried(room, crate):
-    run = subprocess.run(["rt", "must-fail", crate], cwd=room, stdout=subprocess.PIPE, stderr=subprocess.STDOUT, text=True, check=False)
+    run = subprocess.run(["rt", "must-fail", crate], cwd=room, stdout=subprocess.PIPE, stderr=subprocess.STDOUT,
+                         text=True, check=False)
     status, text = run.returncode, run.stdout
     for edit in sorted((EDITS / crate).glob("*.borrow")):
         passes = compiles(room, crate, edit)
@@ -104,7 +107,8 @@ def main(words):
                 print(f"== {crate}\n{text}", end="", flush=True)
                 if status != 0:
                     failed.append(crate)
-    print(f"edits.py: {'each edit was refused' if not failed else 'not all were refused in ' + ' '.join(sorted(failed))}")
+    said = "not all were refused in " + " ".join(sorted(failed)) if failed else "each edit was refused"
+    print(f"edits.py: {said}")
     return 1 if failed else 0
 
 

@@ -83,7 +83,8 @@ class Problems:
     def wins(self, cells, turn, n):
         place = (frozenset(cells.items()), turn, n)
         if place not in self.answers:
-            self.answers[place] = n > 0 and any(self.loses(then, other(turn), n - 1) for _, then in self.after(cells, turn))
+            moves = self.after(cells, turn) if n > 0 else []
+            self.answers[place] = any(self.loses(then, other(turn), n - 1) for _, then in moves)
         return self.answers[place]
 
     def loses(self, cells, turn, n):
@@ -161,8 +162,9 @@ class Problems:
 
 
 def position(source, board, wins):
-    """A random small position for which the recursion has room, with a win if one is asked for: with its problems, and its
-    lines and its judgement by the number of moves."""
+    """A random small position for which the recursion has room, with a win if one is asked for.
+
+    Beside it stand what holds of it, and its lines and its judgement by the number of moves."""
     while True:
         cells, turn, problems = drawn(source, board), source.choice("WB"), Problems(board)
         try:
@@ -182,8 +184,9 @@ def report(texts):
 def compare(name, words, wanted):
     ran = subprocess.run([DW, *words], capture_output=True, text=True, timeout=3600, check=False)
     if (ran.returncode, ran.stdout, ran.stderr) != (0, wanted, ""):
-        differing = [pair for pair in itertools.zip_longest(ran.stdout.splitlines(), wanted.splitlines()) if pair[0] != pair[1]]
-        sys.exit(f"{name}: status {ran.returncode}, {ran.stderr!r}; written and wanted: {differing[:1]}")
+        lines = itertools.zip_longest(ran.stdout.splitlines(), wanted.splitlines())
+        first = next(((here, there) for here, there in lines if here != there), None)
+        sys.exit(f"{name}: status {ran.returncode}, {ran.stderr!r}; written and wanted: {first}")
 
 
 def check(rows, count, source, folder):
@@ -214,8 +217,10 @@ def check(rows, count, source, folder):
                 place = source.randrange(len(lines))
                 rest = problems.listing(cells, turn, lines[place + 1 :], MOST_LINES)
                 wanted = f"problem {number}: {firsts[number - 1]}\n" + "".join(line + "\n" for line in rest)
-                compare(f"list behind a token on {rows} rows", ["list", "--problem", str(number), "--after", problems.token(lines[place]), *common], wanted)
-    print(f"{rows} rows: {count} positions, {verdicts}, {written} lines, {resumed} lists behind a token: the same bytes")
+                words = ["list", "--problem", str(number), "--after", problems.token(lines[place]), *common]
+                compare(f"list behind a token on {rows} rows", words, wanted)
+    print(f"{rows} rows: {count} positions, {verdicts}, {written} lines, {resumed} lists behind a token:",
+          "the same bytes")
 
 
 def main():
