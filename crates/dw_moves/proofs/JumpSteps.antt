@@ -1,5 +1,5 @@
 -- How the jumps of a piece are found square by square.
-use Rattle.std.proofs.Common.{◌≡◌, ℕ, ◌+◌, ◌≤◌, suc, List, [], ◌∷◌, ◌++◌, length, map, refl, sym, ap, ◌∙◌, subst, arith, true, false, Some, None, length-append, append_assoc}
+use Rattle.std.proofs.Common.{◌≡◌, ℕ, ◌+◌, ◌≤◌, suc, List, [], ◌∷◌, ◌++◌, length, map, refl, sym, ap, ◌∙◌, subst, inl, inr, arith, Bool, true, false, Some, None, length-append, append_assoc}
 use Rattle.std.proofs.lemmas.List.{length-map}
 use Rattle.dw_board.specs.declared.piece.Kind.{Kind}
 use Rattle.dw_board.specs.declared.piece.Kind.TheVariants.{Man, King}
@@ -10,6 +10,11 @@ use Rattle.dw_board.specs.Geometry.{Geometry, IsBoard, OnBoard, step}
 use Rattle.dw_board.specs.Placement.{Placement, at, same_side}
 use Rattle.dw_moves.specs.Moves.{ray, other}
 use Rattle.dw_moves.specs.Plain.{landings_for, king_takes, takes_for, over_enemy, free_if, free_step}
+use Rattle.std.proofs.lemmas.Bool.{true≢false}
+use Rattle.std.specs.FinSet as fin
+use Rattle.dw_board.specs.SquareSet.{Squares}
+use Rattle.dw_moves.specs.Kernel.{In, AreOf}
+use Rattle.dw_moves.proofs.Exact.{option_cases, same_side_true, same_side_refl}
 use Rattle.dw_moves.proofs.StepLaws.{none_some, step_is}
 use Rattle.dw_moves.proofs.Rays.{ray_some, ray_none}
 use Rattle.dw_moves.proofs.Runs.{Freed, run_man, run_king, run_stop, run_short}
@@ -108,16 +113,39 @@ met_space King g p side d before c cs s blocked e =
     let is : free_step g p before d ≡ Some c = ap (free_if p) s ∙ rw (e, free_if) refl in
     absurd (none_some c (sym (blocked refl) ∙ is))
 
-pub met_empty : (g : Geometry) → IsBoard g → (p : Placement) (k : Kind) (side : Side) (d : Dir) (from before c : ℕ) → Before g p k side d from before → step g before d ≡ Some c → at p c ≡ None → takes_for k p side (ray g from d) ≡ []
+met_empty : (g : Geometry) → IsBoard g → (p : Placement) (k : Kind) (side : Side) (d : Dir) (from before c : ℕ) → Before g p k side d from before → step g before d ≡ Some c → at p c ≡ None → takes_for k p side (ray g from d) ≡ []
 met_empty g b p k side d from before c h s e = h.takes ∙ (ap (takes_for k p side) (ray_some g b before c d h.on s) ∙ met_space k g p side d before c (ray g c d) s h.blocked e)
-
-pub met_friend : (g : Geometry) → IsBoard g → (p : Placement) (k : Kind) (side : Side) (d : Dir) (from before c : ℕ) (q : Piece) → Before g p k side d from before → step g before d ≡ Some c → at p c ≡ Some q → same_side q.side (other side) ≡ false → takes_for k p side (ray g from d) ≡ []
-met_friend g b p k side d from before c q h s e f =
-    h.takes ∙ (ap (takes_for k p side) (ray_some g b before c d h.on s) ∙ (met_piece k p side c (ray g c d) q e ∙ rw (f, over_enemy) refl))
-
-pub met_enemy : (g : Geometry) → IsBoard g → (p : Placement) (k : Kind) (side : Side) (d : Dir) (from before c : ℕ) (q : Piece) → Before g p k side d from before → step g before d ≡ Some c → at p c ≡ Some q → same_side q.side (other side) ≡ true → takes_for k p side (ray g from d) ≡ map (λ t. (c, t)) (landings_for k p (ray g c d))
-met_enemy g b p k side d from before c q h s e f =
-    h.takes ∙ (ap (takes_for k p side) (ray_some g b before c d h.on s) ∙ (met_piece k p side c (ray g c d) q e ∙ rw (f, over_enemy) refl))
 
 pub met_on : (g : Geometry) → IsBoard g → (p : Placement) (k : Kind) (side : Side) (d : Dir) (from before c : ℕ) → Before g p k side d from before → step g before d ≡ Some c → OnBoard g c
 met_on g b p k side d from before c h s = (step_is g b before c d h.on s).on
+
+met_friend : (g : Geometry) → IsBoard g → (p : Placement) (k : Kind) (side : Side) (d : Dir) (from before c : ℕ) (q : Piece) → Before g p k side d from before → step g before d ≡ Some c → at p c ≡ Some q → same_side q.side (other side) ≡ false → takes_for k p side (ray g from d) ≡ []
+met_friend g b p k side d from before c q h s e f =
+    h.takes ∙ (ap (takes_for k p side) (ray_some g b before c d h.on s) ∙ (met_piece k p side c (ray g c d) q e ∙ rw (f, over_enemy) refl))
+
+piece_of : (q : Piece) (side : Side) → q.side ≡ side → q ≡ record { side = side; kind = q.kind }
+piece_of q side e = λ i. record { side = e i; kind = q.kind }
+
+not_both : (b : Bool) → (b ≡ true → ⊥) → b ≡ false
+not_both true h = absurd (h refl)
+not_both false h = refl
+
+-- no enemy stands there
+pub met_other : (g : Geometry) → IsBoard g → (p : Placement) (k : Kind) (side : Side) (d : Dir) (from before c : ℕ) (against : Side) (enemies : Squares) (there : Bool) → Before g p k side d from before → step g before d ≡ Some c
+    → against ≡ other side → AreOf g p against enemies → there ≡ fin.contains enemies c → there ≡ false → takes_for k p side (ray g from d) ≡ []
+met_other g b p k side d from before c against enemies there h s against_is are there_is no_enemy = elim (option_cases (at p c)) [
+  | inl none ↦ met_empty g b p k side d from before c h s none
+  | inr q ↦
+      let enemy_in : same_side q.0.side (other side) ≡ true → In c enemies = λ e.
+      let own : q.0.side ≡ against = same_side_true q.0.side (other side) e ∙ sym against_is in
+      (are c).1 (met_on g b p k side d from before c h s, (q.0.kind, q.1 ∙ ap Some (piece_of q.0 against own))) in
+      met_friend g b p k side d from before c q.0 h s q.1 (not_both (same_side q.0.side (other side)) (λ e. true≢false (sym (enemy_in e) ∙ (sym there_is ∙ no_enemy))))
+]
+
+-- an enemy stands there
+pub met_enemy : (g : Geometry) → IsBoard g → (p : Placement) (k : Kind) (side : Side) (d : Dir) (from before c : ℕ) (against : Side) (enemies : Squares) (there : Bool) → Before g p k side d from before → step g before d ≡ Some c
+    → against ≡ other side → AreOf g p against enemies → there ≡ fin.contains enemies c → there ≡ true → takes_for k p side (ray g from d) ≡ map (λ t. (c, t)) (landings_for k p (ray g c d))
+met_enemy g b p k side d from before c against enemies there h s against_is are there_is enemy =
+    let e = (are c).0 (sym there_is ∙ enemy) in
+    let f : same_side against (other side) ≡ true = ap (λ z. same_side z (other side)) against_is ∙ same_side_refl (other side) in
+    h.takes ∙ (ap (takes_for k p side) (ray_some g b before c d h.on s) ∙ (met_piece k p side c (ray g c d) (record { side = against; kind = e.1.0 }) e.1.1 ∙ rw (f, over_enemy) refl))

@@ -8,7 +8,6 @@ pub mod LegalTakes
 pub mod PathTells
 pub mod PlayStays
 pub mod CaptureBound
-pub mod Cleared
 pub mod Runs
 pub mod QuietOnce
 pub mod Played

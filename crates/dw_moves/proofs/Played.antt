@@ -9,8 +9,8 @@ use Rattle.dw_board.specs.declared.piece.Side.TheVariants.{White, Black}
 use Rattle.dw_board.specs.declared.piece.Piece.{Piece}
 use Rattle.dw_board.specs.declared.piece.PutFault.{PutFault}
 use Rattle.dw_board.specs.Geometry.{Geometry, IsBoard, OnBoard, squares}
-use Rattle.dw_board.specs.Placement.{Placement, IsPosition, at, placed, is_of, put_fault, count}
-use Rattle.dw_moves.specs.Moves.{Move, Jumps, Legal, LegalAt, crowned, landed, left, without, play, other, last_of}
+use Rattle.dw_board.specs.Placement.{Placement, IsPosition, at, placed, is_of, put_fault, count, left, without}
+use Rattle.dw_moves.specs.Moves.{Move, Jumps, Legal, LegalAt, crowned, landed, play, other, last_of}
 use Rattle.dw_moves.proofs.Exact.{same_side_refl}
 use Rattle.dw_moves.proofs.StepLaws.{none_some}
 use Rattle.dw_moves.proofs.PlayStays.{emptied, left_origin, past_none, without_at, without_count, crowned_fits, legal_ends, legal_stands, one_of}

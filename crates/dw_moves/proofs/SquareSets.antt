@@ -7,7 +7,6 @@ use Rattle.std.specs.FinSet as fin
 use Rattle.std.specs.Cmp.{nat_cmp_total, unsigned_tied}
 use Rattle.std.specs.Ordering.{nat_cmp, eq_by_cmp}
 use Rattle.dw_board.specs.SquareSet.{Squares}
-use Rattle.dw_board.specs.SquareSetLaws.{same_members, same_members-is}
 use Rattle.dw_moves.specs.Kernel.{In}
 
 pub in_none : (v : Squares) (s : ℕ) → v ≡ fin.empty → In s v → ⊥
@@ -52,11 +51,11 @@ some_in v not_empty = first (fin.items v) refl where
       (x, fin.contains-items v x ∙ (ap (list_any (eq_by_cmp nat_cmp x)) e ∙ or_left (eq_by_cmp nat_cmp x x) (list_any (eq_by_cmp nat_cmp x) xs) same))
 
 -- it is not the empty set
-pub any_is : (v none : Squares) (r : Bool) → r ≡ not (same_members v none) → none ≡ fin.empty → IsTrue r ↔ ((s : ℕ) × In s v)
-any_is v none r is none_is = (
-  (λ yes. some_in v (λ e. true≢false (sym yes ∙ (is ∙ not_from_true (same_members v none) ((same_members-is v none).1 (e ∙ sym none_is)))))),
-  (λ h. elim (cases_Bool (same_members v none)) [
-    | inl t ↦ absurd (in_none v h.0 ((same_members-is v none).0 t ∙ none_is) h.1)
-    | inr f ↦ is ∙ not_from_false (same_members v none) f
+pub any_is : (v : Squares) (r e : Bool) → r ≡ not e → IsTrue e ↔ (v ≡ fin.empty) → IsTrue r ↔ ((s : ℕ) × In s v)
+any_is v r e is none = (
+  (λ yes. some_in v (λ h. true≢false (sym yes ∙ (is ∙ not_from_true e (none.1 h))))),
+  (λ h. elim (cases_Bool e) [
+    | inl t ↦ absurd (in_none v h.0 (none.0 t) h.1)
+    | inr f ↦ is ∙ not_from_false e f
   ]),
 )

@@ -1,8 +1,7 @@
 -- Moves: what a position allows, and what a move leaves.
-use Rattle.std.specs.Prelude.{◌≡◌, ℕ, ◌≤◌, ◌<◌, ◌⊎◌, ◌↔◌, true, false, Option, Some, None, List, [], ◌∷◌, ◌++◌, length, cond, map, refl}
+use Rattle.std.specs.Prelude.{◌≡◌, ℕ, ◌≤◌, ◌<◌, ◌⊎◌, ◌↔◌, true, false, Option, Some, None, List, [], ◌∷◌, ◌++◌, length, cond, refl}
 use Rattle.std.specs.Coded.{Coded, code_by, coded×, coded_ℕ}
 use Rattle.std.proofs.Common.{zero, suc}
-use Rattle.std.specs.List.{range_with_len}
 use Rattle.std.specs.FinSet as set
 use Rattle.dw_board.specs.declared.board.Dir.{Dir}
 use Rattle.dw_board.specs.declared.piece.Side.{Side}
@@ -11,7 +10,7 @@ use Rattle.dw_board.specs.declared.piece.Kind.{Kind}
 use Rattle.dw_board.specs.declared.piece.Kind.TheVariants.{Man, King}
 use Rattle.dw_board.specs.declared.piece.Piece.{Piece}
 use Rattle.dw_board.specs.Geometry.{Geometry, step, OnBoard, is_down}
-use Rattle.dw_board.specs.Placement.{Placement, at, placed, on_last_row}
+use Rattle.dw_board.specs.Placement.{Placement, at, placed, on_last_row, without}
 use Rattle.dw_board.specs.SquareSet.{Squares}
 
 -- x is an element of a list
@@ -156,14 +155,6 @@ crowned g to piece = record { side = piece.side; kind = cond (on_last_row g piec
 abbrev pub landed : Geometry → ℕ → Option Piece → Option Piece
 landed g to None = None
 landed g to (Some piece) = Some (crowned g to piece)
-
--- what is left on a square where these squares are emptied
-abbrev pub left : Placement → Squares → ℕ → Option Piece
-left p emptied s = cond (set.contains emptied s) None (at p s)
-
--- the placement without what stands on these squares
-abbrev pub without : Placement → Squares → Placement
-without p emptied = record { cells = map (left p emptied) (range_with_len 1 50); turn = p.turn }
 
 -- the position after a move: the origin and the squares of what was taken are emptied, the piece stands on the last square, and it is the other player's turn
 abbrev pub play : Geometry → Placement → Move → Placement

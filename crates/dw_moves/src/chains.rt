@@ -23,9 +23,9 @@ pub(crate) fn push_captures<B: Board>(
 {
     let mut most = 0;
     let mut left = may_take(position);
-    'squares: while let Some(square) = left.first() {
+    'squares: while let Some((square, rest)) = left.split() {
         most = push_from(position, square, most, moves)?;
-        left = left.without(square);
+        left = rest;
     }
     Ok(most)
 }

@@ -1,15 +1,15 @@
 //! The jumps that a piece has from one square.
 ghost use Rattle.std.specs.Prelude.{◌≡◌, ◌≤◌, ◌+◌, ◌++◌, map, None, IfSome, Ok, length};
 ghost use Rattle.dw_board.specs.Geometry.{OnBoard};
-ghost use Rattle.dw_board.specs.Placement.{same_side};
 ghost use Rattle.dw_board.specs.declared.piece.Side as sides;
-ghost use Rattle.dw_moves.specs.Moves.{ray, other};
+ghost use Rattle.dw_moves.specs.Moves.{ray};
 ghost use Rattle.dw_moves.specs.Plain as plain;
 
+use crate::play::other;
 use crate::quiet::free_step;
 use arrayvec::ArrayVec;
 use dw_board::board::{Board, Dir};
-use dw_board::piece::{Kind, Piece, Side};
+use dw_board::piece::{Kind, Piece};
 use dw_board::position::Position;
 use dw_board::square::{Square, step};
 use std::alloc::AllocError;
@@ -128,19 +128,11 @@ fn first_met<B: Board>(
         Kind::King => last_free(position, from, direction),
     };
     let met = step(before, direction)?;
-    let stands = position.at(met)?;
-    if is_enemy(stands, piece.side) {
+    if position.all_of(other(piece.side)).has(met) {
         Some(met)
     } else {
         None
     }
-}
-
-/// Whether a piece is one of the other side.
-fn is_enemy(piece: Piece, side: Side) -> bool
-    ensures { result ≡ same_side piece.side (other side) }
-{
-    piece.side != side
 }
 
 /// The last square before the next piece or the edge.

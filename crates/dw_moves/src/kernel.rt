@@ -2,7 +2,7 @@
 ghost use Rattle.std.specs.Prelude.{◌≡◌, ◌↔◌, ℕ, Some, IsTrue};
 ghost use Rattle.dw_board.specs.Geometry.{OnBoard, step};
 ghost use Rattle.dw_moves.specs.Moves.{CanCapture, Quiet, IsForward};
-ghost use Rattle.dw_moves.specs.Kernel.{In, AreOf, AreSets, MenMeet, KingsMeet, Takes, Steps, StepsOn, HasTwo, CanStep, CanTakeFrom, back};
+ghost use Rattle.dw_moves.specs.Kernel.{In, AreSets, MenMeet, KingsMeet, Takes, Steps, StepsOn, HasTwo, CanStep, CanTakeFrom, back};
 ghost use Rattle.dw_moves.specs.Replies.{given, passed, OneStep, IsLoose, AlwaysReply};
 
 use crate::play::other;
@@ -118,7 +118,7 @@ impl<B: Board> Field<B> {
     {
         let men = position.squares(side, Kind::Man);
         let kings = position.squares(side, Kind::King);
-        let enemies = all_of(position, other(side));
+        let enemies = position.all_of(other(side));
         Field {
             men,
             kings,
@@ -212,27 +212,19 @@ fn opposite(direction: Dir) -> Dir
     }
 }
 
-/// The squares on which this side's pieces stand.
-fn all_of<B: Board>(position: &Position<B>, side: Side) -> Squares<B>
-    ensures { AreOf B.geometry position.now side result }
-{
-    let men = position.squares(side, Kind::Man);
-    men.or(position.squares(side, Kind::King))
-}
-
 /// Whether a square is in the set.
 fn any<B: Board>(squares: Squares<B>) -> bool
     ensures { IsTrue result ↔ ((s : ℕ) × In s squares) }
 {
-    squares != Squares::none()
+    !squares.is_empty()
 }
 
 /// Whether two squares or more are in the set.
 fn has_two<B: Board>(squares: Squares<B>) -> bool
     ensures { IsTrue result ↔ HasTwo squares }
 {
-    match squares.first() {
-        Some(one) => any(squares.without(one)),
+    match squares.split() {
+        Some((_, others)) => any(others),
         None => false,
     }
 }

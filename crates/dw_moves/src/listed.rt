@@ -76,9 +76,9 @@ fn keep_captures<B: Board>(
 {
     let mut most = 0;
     let mut left = may_take(position);
-    'squares: while let Some(square) = left.first() {
+    'squares: while let Some((square, rest)) = left.split() {
         most = keep_from(position, square, most, paths)?;
-        left = left.without(square);
+        left = rest;
     }
     Ok(most)
 }

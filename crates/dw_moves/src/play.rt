@@ -1,8 +1,7 @@
 //! Playing a move.
 ghost use Rattle.std.specs.Prelude.{◌≡◌};
-ghost use Rattle.dw_board.specs.Placement.{IsPosition};
 ghost use Rattle.dw_board.specs.Placement as board;
-ghost use Rattle.dw_moves.specs.Moves.{Legal, without};
+ghost use Rattle.dw_moves.specs.Moves.{Legal};
 ghost use Rattle.dw_moves.specs.Moves as of;
 
 use crate::moves::Move;
@@ -10,7 +9,6 @@ use dw_board::board::Board;
 use dw_board::piece::{Kind, Piece, Side};
 use dw_board::position::Position;
 use dw_board::square::Square;
-use dw_board::squares::Squares;
 
 /// The position after a legal move. The piece leaves its square, all that it took leaves the board at once, and it
 /// stands on its last square: as a king, if it was a man and that is its last row. A man that passes its last row
@@ -22,24 +20,12 @@ pub fn play<B: Board>(position: &Position<B>, step: &Move<B>) -> Position<B>
     let turn = position.turn();
     let stood = position.at(step.from);
     let mut after = *position;
-    clear_all(&mut after, step.taken.with(step.from));
+    after.clear_all(step.taken.with(step.from));
     if let Some(piece) = stood {
         let _ = after.put(step.to, crowned(step.to, piece));
     }
     after.set_turn(other(turn));
     after
-}
-
-/// Empties these squares.
-fn clear_all<B: Board>(position: &mut Position<B>, squares: Squares<B>)
-    requires { IsPosition B.geometry position.old.cells }
-    ensures { position.new ≡ without position.old squares }
-{
-    let mut left = squares;
-    'squares: while let Some(square) = left.first() {
-        position.clear(square);
-        left = left.without(square);
-    }
 }
 
 /// The piece as it ends a move on this square.

@@ -19,9 +19,9 @@ pub fn quiet_count<B: Board>(position: &Position<B>) -> u32
 {
     let mut count = 0;
     let mut left = may_step(position);
-    'squares: while let Some(square) = left.first() {
+    'squares: while let Some((square, rest)) = left.split() {
         count += quiet_from(position, square);
-        left = left.without(square);
+        left = rest;
     }
     count
 }
@@ -97,12 +97,14 @@ pub(crate) fn free_step<B: Board>(
     from: Square<B>,
     direction: Dir,
 ) -> Option<Square<B>>
+    requires { OnBoard B.geometry from }
     ensures { result ≡ plain.free_step B.geometry position.now from direction }
 {
     let next = step(from, direction)?;
-    match position.at(next) {
-        None => Some(next),
-        Some(_) => None,
+    if position.occupied().has(next) {
+        None
+    } else {
+        Some(next)
     }
 }
 
@@ -123,9 +125,9 @@ pub(crate) fn push_quiet<B: Board, T: FromQuiet<B> + Drop>(
     ensures { OnOk result (moves.new.items ≡ moves.old.items ++ plain.quiet_made T.made B.geometry position.now) }
 {
     let mut left = may_step(position);
-    'squares: while let Some(square) = left.first() {
+    'squares: while let Some((square, rest)) = left.split() {
         push_quiet_from(position, square, moves)?;
-        left = left.without(square);
+        left = rest;
     }
     Ok(())
 }

@@ -8,12 +8,12 @@ pub squares-init : goal.squares-init
 squares-init g c = past_none g.B.Board.geometry c.args.position.now c.may_take-left.result c.args.moves.now.items c.may_take-left.ensures
 
 pub squares-smaller : goal.squares-smaller
-squares-smaller g c = subst (λ v. fin.len v < fin.len c.squares.left) (sym c.without-left.ensures) (fewer_left c.squares.left c.in-Some.square c.in-Some.ensures.member)
+squares-smaller g c = subst (λ v. fin.len v < fin.len c.squares.left) (sym c.in-Some.ensures.rest) (fewer_left c.squares.left _ c.in-Some.ensures.member)
 
 pub squares-preserved : goal.squares-preserved
 squares-preserved g c =
-    past_more g.B.Board.geometry c.args.position.now c.squares.left c.without-left.result c.in-Some.square c.squares.most c.in_ok-most.most c.args.moves.now.items c.squares.moves.items c.push_from.new.moves.items
-    c.without-left.ensures c.squares.invariant c.in_ok-most.ensures
+    past_more g.B.Board.geometry c.args.position.now c.squares.left _ _ c.squares.most c.in_ok-most.most c.args.moves.now.items c.squares.moves.items c.push_from.new.moves.items
+    c.in-Some.ensures.rest c.squares.invariant c.in_ok-most.ensures
 
 pub returns : goal.returns
 returns g c = past_all g.B.Board.geometry c.args.position.now c.squares.left c.squares.most c.args.moves.now.items c.squares.moves.items (c.in_default.ensures.none.0 refl) c.squares.invariant

@@ -1,22 +1,22 @@
 use Rattle.std.proofs.Common.{sym, ◌∙◌, subst}
-use Rattle.dw_moves.proofs.JumpSteps.{Before, before_man, before_king, met_friend, met_enemy}
+use Rattle.dw_moves.proofs.JumpSteps.{Before, before_man, before_king, met_other, met_enemy}
 use Rattle.dw_moves.proofs.jumps.first_met.Goals as goal
 use Rattle.dw_moves.proofs.jumps.first_met.Goals.{in-Man, in-King}
 
-pub returns-else-is_enemy-clause-none : goal.returns-else-is_enemy-clause-none
-returns-else-is_enemy-clause-none g c =
+pub returns-else-has-clause-none : goal.returns-else-has-clause-none
+returns-else-has-clause-none g c =
     let before : Before g.B.Board.geometry c.args.position.now c.args.piece.kind c.args.piece.side c.args.direction c.args.from c.match-piece.before = elim c.match-piece.branch [
       | in-Man w ↦ before_man g.B.Board.geometry c.args.position.now c.args.piece.kind c.args.piece.side c.args.direction c.args.from c.match-piece.before c.requires w.in-Man.is w.before-is
       | in-King w ↦ subst (Before g.B.Board.geometry c.args.position.now c.args.piece.kind c.args.piece.side c.args.direction c.args.from) (sym w.before-is)
           (before_king g.B.Board.geometry c.args.position.now c.args.piece.kind c.args.piece.side c.args.direction c.args.from w.last_free-before.result w.last_free-before.ensures.on_board w.in-King.is (w.last_free-before.ensures.takes c.args.piece.side) w.last_free-before.ensures.blocked)
     ] in
-    λ _. met_friend g.B.Board.geometry g.met.B.Board.numbers c.args.position.now c.args.piece.kind c.args.piece.side c.args.direction c.args.from c.match-piece.before c.in_ok-met.met c.in_ok-stands.stands before (sym c.step.ensures ∙ c.in_ok-met.was) (sym c.at.ensures.value ∙ c.in_ok-stands.was) (sym c.is_enemy.ensures ∙ c.if-is_enemy.false)
+    λ _. met_other g.B.Board.geometry g.met.B.Board.numbers c.args.position.now c.args.piece.kind c.args.piece.side c.args.direction c.args.from c.match-piece.before c.in_ok-met.met c.other.result c.all_of.result c.has.result before (sym c.step.ensures ∙ c.in_ok-met.was) c.other.ensures c.all_of.ensures c.has.ensures c.if-has.false
 
-pub returns-then-is_enemy-clause-some : goal.returns-then-is_enemy-clause-some
-returns-then-is_enemy-clause-some g c =
+pub returns-then-has-clause-some : goal.returns-then-has-clause-some
+returns-then-has-clause-some g c =
     let before : Before g.B.Board.geometry c.args.position.now c.args.piece.kind c.args.piece.side c.args.direction c.args.from c.match-piece.before = elim c.match-piece.branch [
       | in-Man w ↦ before_man g.B.Board.geometry c.args.position.now c.args.piece.kind c.args.piece.side c.args.direction c.args.from c.match-piece.before c.requires w.in-Man.is w.before-is
       | in-King w ↦ subst (Before g.B.Board.geometry c.args.position.now c.args.piece.kind c.args.piece.side c.args.direction c.args.from) (sym w.before-is)
           (before_king g.B.Board.geometry c.args.position.now c.args.piece.kind c.args.piece.side c.args.direction c.args.from w.last_free-before.result w.last_free-before.ensures.on_board w.in-King.is (w.last_free-before.ensures.takes c.args.piece.side) w.last_free-before.ensures.blocked)
     ] in
-    met_enemy g.B.Board.geometry g.met.B.Board.numbers c.args.position.now c.args.piece.kind c.args.piece.side c.args.direction c.args.from c.match-piece.before c.in_ok-met.met c.in_ok-stands.stands before (sym c.step.ensures ∙ c.in_ok-met.was) (sym c.at.ensures.value ∙ c.in_ok-stands.was) (sym c.is_enemy.ensures ∙ c.if-is_enemy.true)
+    met_enemy g.B.Board.geometry g.met.B.Board.numbers c.args.position.now c.args.piece.kind c.args.piece.side c.args.direction c.args.from c.match-piece.before c.in_ok-met.met c.other.result c.all_of.result c.has.result before (sym c.step.ensures ∙ c.in_ok-met.was) c.other.ensures c.all_of.ensures c.has.ensures c.if-has.true

@@ -11,15 +11,15 @@ squares-init g c =
     (added_to_none g.T.FromQuiet.made g.B.Board.geometry c.args.position.now c.args.moves.now.items) c.may_step-left.ensures
 
 pub squares-smaller : goal.squares-smaller
-squares-smaller g c = subst (λ v. fin.len v < fin.len c.squares.left) (sym c.without-left.ensures) (fewer_left c.squares.left c.in-Some.square c.in-Some.ensures.member)
+squares-smaller g c = subst (λ v. fin.len v < fin.len c.squares.left) (sym c.in-Some.ensures.rest) (fewer_left c.squares.left _ c.in-Some.ensures.member)
 
 pub squares-preserved : goal.squares-preserved
 squares-preserved g c =
     let old = c.args.moves.now.items in
     sweep_more g.B.Board.geometry c.args.position.now (λ n. AddedTo g.T.FromQuiet.made g.B.Board.geometry c.args.position.now n old c.squares.moves.items) (λ n. AddedTo g.T.FromQuiet.made g.B.Board.geometry c.args.position.now n old c.push_quiet_from.new.moves.items)
-    c.squares.left c.without-left.result c.in-Some.square (added_to_skip g.T.FromQuiet.made g.B.Board.geometry c.args.position.now old c.squares.moves.items) c.squares.invariant c.in-Some.ensures.on_board c.in-Some.ensures.member c.in-Some.ensures.least c.without-left.ensures
+    c.squares.left _ _ (added_to_skip g.T.FromQuiet.made g.B.Board.geometry c.args.position.now old c.squares.moves.items) c.squares.invariant c.in-Some.ensures.on_board c.in-Some.ensures.member c.in-Some.ensures.least c.in-Some.ensures.rest
     (λ n is before. subst (λ z. AddedTo g.T.FromQuiet.made g.B.Board.geometry c.args.position.now z old c.push_quiet_from.new.moves.items) (sym is)
-    (added_to_more g.T.FromQuiet.made g.B.Board.geometry c.args.position.now n c.in-Some.square old c.squares.moves.items c.push_quiet_from.new.moves.items is before c.in_ok-push_quiet_from.ensures))
+    (added_to_more g.T.FromQuiet.made g.B.Board.geometry c.args.position.now n _ old c.squares.moves.items c.push_quiet_from.new.moves.items is before c.in_ok-push_quiet_from.ensures))
 
 pub returns : goal.returns
 returns g c =

@@ -1,6 +1,6 @@
 use Rattle.std.proofs.Common.{◌<◌, ◌+◌, ℕ, length, sym, ap, ◌∙◌, subst, refl}
-use Rattle.std.specs.FinSet as fin
 use Rattle.dw_moves.specs.Plain.{targets}
+use Rattle.std.specs.FinSet as fin
 use Rattle.dw_moves.proofs.TakesThese.{fewer_left}
 use Rattle.dw_moves.proofs.QuietOnce.{Tallied, tally_none, tally_more, tally_skip, tally_all}
 use Rattle.dw_moves.proofs.Sweeps.{sweep_none, sweep_more, sweep_all}
@@ -12,15 +12,15 @@ squares-init g c =
     (tally_none g.B.Board.geometry c.args.position.now) c.may_step-left.ensures
 
 pub squares-smaller : goal.squares-smaller
-squares-smaller g c = subst (λ v. fin.len v < fin.len c.squares.left) (sym c.without-left.ensures) (fewer_left c.squares.left c.in-Some.square c.in-Some.ensures.member)
+squares-smaller g c = subst (λ v. fin.len v < fin.len c.squares.left) (sym c.in-Some.ensures.rest) (fewer_left c.squares.left _ c.in-Some.ensures.member)
 
 pub squares-preserved : goal.squares-preserved
 squares-preserved g c =
     let geo = g.B.Board.geometry in
     let p = c.args.position.now in
     let m : ℕ = c.quiet_from-count.result in
-    sweep_more geo p (λ n. Tallied geo p n c.squares.count) (λ n. Tallied geo p n (c.squares.count + m)) c.squares.left c.without-left.result c.in-Some.square (tally_skip geo p c.squares.count)
-    c.squares.invariant c.in-Some.ensures.on_board c.in-Some.ensures.member c.in-Some.ensures.least c.without-left.ensures
+    sweep_more geo p (λ n. Tallied geo p n c.squares.count) (λ n. Tallied geo p n (c.squares.count + m)) c.squares.left _ _ (tally_skip geo p c.squares.count)
+    c.squares.invariant c.in-Some.ensures.on_board c.in-Some.ensures.member c.in-Some.ensures.least c.in-Some.ensures.rest
     (λ n is before. subst (λ z. Tallied geo p z (c.squares.count + m)) (sym is)
     (tally_more geo p n c.squares.count m before (c.quiet_from-count.ensures.value ∙ ap (λ z. length (targets geo p z)) is) c.quiet_from-count.ensures.small))
 

@@ -1,15 +1,46 @@
 -- Squares that are emptied one after another.
-use Rattle.std.proofs.Common.{◌≡◌, ◌≢◌, ℕ, ◌+◌, ◌-◌, ◌≤◌, ◌<◌, ◌&&◌, not, length, refl, sym, ap, ◌∙◌, subst, inl, inr, arith, true, false, None, cond, get_or, length-set, get_or-set_same, get_or-set_other}
+use Rattle.std.proofs.Common.{◌≡◌, ◌≢◌, ℕ, ◌+◌, ◌-◌, ◌≤◌, ◌<◌, ◌&&◌, ◌||◌, Bool, not, length, refl, sym, ap, ◌∙◌, subst, inl, inr, arith, true, false, None, cond, eqb, get_or, length-set, get_or-set_same, get_or-set_other}
 use Rattle.std.proofs.lemmas.List.{ext_get_or}
-use Rattle.std.proofs.lemmas.Bool.{cases_eq}
+use Rattle.std.proofs.lemmas.List.FromFn.{get_or-map-range_with_len}
+use Rattle.std.proofs.lemmas.Bool.{cases_eq, cases_Bool, eqb-true, eq-eqb}
 use Rattle.std.specs.FinSet as fin
+use Rattle.std.specs.Cmp.{nat_cmp_total, unsigned_tied}
 use Rattle.std.specs.Ordering.{nat_cmp}
 use Rattle.dw_board.specs.Geometry.{Geometry, IsBoard, OnBoard}
-use Rattle.dw_board.specs.Placement.{Placement, at, placed}
+use Rattle.dw_board.specs.Placement.{Placement, at, placed, left, without}
 use Rattle.dw_board.specs.SquareSet.{Squares}
-use Rattle.dw_moves.specs.Moves.{left, without}
-use Rattle.dw_moves.proofs.PlayStays.{without_at, without_length}
-use Rattle.dw_moves.proofs.TakesThese.{contains-remove, not_removed, apart_false}
+use Rattle.dw_board.specs.SquareSetLaws.{contains-insert}
+
+-- what is left on a square when some are emptied
+without_at : (p : Placement) (ss : Squares) (i : ℕ) → i < 50 → get_or (without p ss).cells i None ≡ left p ss (i + 1)
+without_at p ss i low = get_or-map-range_with_len (left p ss) 1 50 i (i + 1) None low (omega arith)
+
+without_length : (p : Placement) (ss : Squares) → length (without p ss).cells ≡ 50
+without_length p ss = refl
+
+contains-remove : (v : Squares) (k q : ℕ) → fin.contains (fin.remove v k) q ≡ (not (eqb q k) && fin.contains v q)
+contains-remove v k q = fin.contains-remove nat_cmp_total v k q ∙ ap (λ b. not b && fin.contains v q) (unsigned_tied q k)
+
+apart_false : (s t : ℕ) → (s ≢ t) → eqb s t ≡ false
+apart_false s t ne = elim (cases_Bool (eqb s t)) [ inl e ↦ absurd (ne (eqb-true s t e)) | inr e ↦ e ]
+
+-- a set without a member, and with it again
+put_back : (v : Squares) (c : ℕ) → fin.contains v c ≡ true → fin.insert (fin.remove v c) c ≡ v
+put_back v c there = fin.same_set nat_cmp_total fin.nat_cmp-IsAntisymmetric _ _ (λ q.
+    contains-insert (fin.remove v c) c q ∙ (ap (λ b. eqb q c || b) (contains-remove v c q) ∙ elim (cases_Bool (eqb q c)) [
+      | inl same ↦ let at : fin.contains v q ≡ true = ap (fin.contains v) (eqb-true q c same) ∙ there in ap (λ b. b || (not b && fin.contains v q)) same ∙ sym at
+      | inr apart ↦ ap (λ b. b || (not b && fin.contains v q)) apart
+    ]))
+
+-- what is in a set without c is not c
+not_removed : (v : Squares) (c : ℕ) → fin.contains (fin.remove v c) c ≡ false
+not_removed v c = contains-remove v c c ∙ ap (λ b. not b && fin.contains v c) (eq-eqb c c refl)
+
+pub fewer_left : (v : Squares) (c : ℕ) → fin.contains v c ≡ true → fin.len (fin.remove v c) < fin.len v
+fewer_left v c there =
+    let back : fin.len v ≡ fin.len (fin.insert (fin.remove v c) c) = ap fin.len (sym (put_back v c there)) in
+    let more : fin.len (fin.insert (fin.remove v c) c) ≡ fin.len (fin.remove v c) + 1 = fin.len-insert nat_cmp_total (fin.remove v c) c ∙ ap (λ b. cond b (fin.len (fin.remove v c)) (fin.len (fin.remove v c) + 1)) (not_removed v c) in
+    omega arith
 
 -- what is left to empty, and what stands on the other squares, come to what all of it leaves
 pub record Clearing (p : Placement) (ss : Squares) (q : Placement) (rest : Squares) : Type 0 where
