@@ -11,7 +11,7 @@ use Rattle.dw_board.specs.Placement.{Placement, placed}
 use Rattle.dw_moves.specs.Moves.{Member, Move, Jump, Jumps, Path, Stands, IsBest, IsPathOf, Legal, LegalAt, last_of}
 use Rattle.dw_moves.specs.MoveLaws.{same_move}
 use Rattle.dw_moves.specs.Plain.{jump_list}
-use Rattle.dw_moves.specs.Chains.{Chain, GoesOn, LandsOnEach}
+use Rattle.dw_moves.specs.Chains.{Chain, GoesOn, LandsOnEach, further}
 use Rattle.dw_moves.specs.Order.{IsPathFor}
 use Rattle.dw_moves.proofs.Exact.{jump_in}
 use Rattle.dw_moves.proofs.StepLaws.{none_some}
@@ -21,7 +21,7 @@ use Rattle.dw_moves.proofs.Longest.{chain_none, chain_more, chain_tail, index_of
 use Rattle.dw_moves.proofs.PathTells.{one_taken}
 use Rattle.dw_moves.proofs.TakesThese.{len_list}
 use Rattle.dw_moves.proofs.Taking.{start}
-use Rattle.dw_moves.proofs.Walked.{further, union_more, union_none, union_of_none}
+use Rattle.dw_moves.proofs.Walked.{union_more, union_none, union_of_none}
 
 some_injective : {x y : ℕ} → Some x ≡ Some y → x ≡ y
 some_injective e = cc

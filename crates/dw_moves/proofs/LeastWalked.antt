@@ -9,14 +9,14 @@ use Rattle.dw_board.specs.Placement.{Placement}
 use Rattle.dw_moves.specs.Moves.{Member, Jump, last_of}
 use Rattle.dw_moves.specs.MoveLaws.{same_move}
 use Rattle.dw_moves.specs.Plain.{jump_list}
-use Rattle.dw_moves.specs.Chains.{Chain}
+use Rattle.dw_moves.specs.Chains.{Chain, further}
 use Rattle.dw_moves.specs.Order.{Listed}
 use Rattle.dw_moves.specs.Listing.{GoesBy, This, LongestLeast}
 use Rattle.dw_moves.proofs.Exact.{jump_in}
 use Rattle.dw_moves.proofs.JumpSteps.{append_none}
 use Rattle.dw_moves.proofs.Longest.{chain_none, chain_more, chain_tail, index_of, here, over_of, landing_of, jump_at}
 use Rattle.dw_moves.proofs.LeastKept.{least_none, least_then, least_wider}
-use Rattle.dw_moves.proofs.Walked.{further, union_more, union_none}
+use Rattle.dw_moves.proofs.Walked.{union_more, union_none}
 
 -- a move so far on its path, with one more jump
 abbrev pub onward : Listed → ℕ → ℕ → Listed

@@ -1,11 +1,13 @@
 -- Captures that go on from a square with a piece that has taken some already, and the longest of them.
 use Rattle.std.specs.Prelude.{◌≡◌, ℕ, ◌+◌, ◌<◌, ◌≤◌, ◌⊎◌, ◌↔◌, false, List, length}
 use Rattle.std.specs.FinSet as set
+use Rattle.dw_board.specs.declared.board.Dir.{Dir}
 use Rattle.dw_board.specs.declared.piece.Piece.{Piece}
 use Rattle.dw_board.specs.Geometry.{Geometry}
 use Rattle.dw_board.specs.Placement.{Placement}
 use Rattle.dw_board.specs.SquareSet.{Squares}
-use Rattle.dw_moves.specs.Moves.{Member, NoRepeat, Jumps, Path, Move, IsPathOf, last_of}
+use Rattle.dw_moves.specs.Moves.{Member, NoRepeat, Jumps, Path, Move, IsPathOf, last_of, ray}
+use Rattle.dw_moves.specs.Plain.{takes_for}
 
 -- jumps from s that take nothing twice and nothing that was taken before
 pub record Chain (g : Geometry) (p : Placement) (piece : Piece) (s : ℕ) (taken : Squares) (landings over : List ℕ) : Type 0 where
@@ -45,6 +47,18 @@ pub record EndsAs (g : Geometry) (p : Placement) (piece : Piece) (begun : Move) 
   pub from : m.from ≡ begun.from
   pub to : m.to ≡ last_of begun.to landings
   pub taken : m.taken ≡ set.union begun.taken (set.from_list over)
+
+-- a move so far, with one more jump
+abbrev pub further : Move → ℕ → ℕ → Move
+further begun c t = record { from = begun.from; to = t; taken = set.insert begun.taken c }
+
+-- and its next jump goes in this direction
+pub record EndsTowards (g : Geometry) (p : Placement) (piece : Piece) (begun : Move) (n : ℕ) (d : Dir) (k : ℕ) (m : Move) : Type 0 where
+  pub c : ℕ
+  pub t : ℕ
+  pub jump : Member (c, t) (takes_for piece.kind p piece.side (ray g begun.to d))
+  pub fresh : set.contains begun.taken c ≡ false
+  pub rest : EndsAs g p piece (further begun c t) (n + 1) k m
 
 -- m is this move, and it takes k pieces, k above 0
 abbrev pub Is : Move → ℕ → ℕ → Move → Type 0

@@ -1,14 +1,15 @@
 //! Captures: whole chains of jumps, the longest of them kept.
 ghost use Rattle.std.specs.Prelude.{◌≡◌, ◌≤◌, ◌-◌, ◌↔◌, IfOk, IsTrue};
 ghost use Rattle.dw_board.specs.Geometry.{OnBoard};
-ghost use Rattle.dw_moves.specs.Chains.{ChainsFit, Taking, TakingFrom, EndsAs, Is, Longest, Takes, IsCapture};
+ghost use Rattle.dw_moves.specs.Chains.{ChainsFit, Taking, TakingFrom, EndsAs, EndsTowards, Is, Longest, Takes, IsCapture};
 
 use crate::best::is_own;
-use crate::jumps::jumps;
+use crate::jumps::{first_met, jumps};
 use crate::kernel::may_take;
 use crate::moves::Move;
-use dw_board::board::Board;
-use dw_board::piece::Piece;
+use crate::quiet::free_step;
+use dw_board::board::{Board, Dir};
+use dw_board::piece::{Kind, Piece};
 use dw_board::position::Position;
 use dw_board::square::Square;
 use dw_board::squares::Squares;
@@ -53,6 +54,7 @@ fn push_from<B: Board>(
 
 /// Goes through the captures that begin with a move so far, which has taken so many pieces. It keeps those that take
 /// at least `most`, which rises with them, and answers how many the kept ones take.
+#[cycle(walk)]
 fn walk<B: Board>(
     position: &Position<B>,
     piece: Piece,
@@ -66,25 +68,51 @@ fn walk<B: Board>(
     requires fits { ChainsFit B.geometry position.now piece begun.to begun.taken (20 - count) }
     ensures { IfOk result (λ k. Longest (EndsAs B.geometry position.now piece begun count) most moves.old.items k moves.new.items) }
 {
+    let one = walk_towards(position, piece, begun, count, Dir::UpLeft, most, moves)?;
+    let two = walk_towards(position, piece, begun, count, Dir::UpRight, one, moves)?;
+    let three = walk_towards(position, piece, begun, count, Dir::DownLeft, two, moves)?;
+    let four = walk_towards(position, piece, begun, count, Dir::DownRight, three, moves)?;
+    offer(begun, count, four, moves)
+}
+
+/// Goes through those of them that go on in one direction: over the enemy that is met there, onto each square behind it.
+#[cycle(walk)]
+fn walk_towards<B: Board>(
+    position: &Position<B>,
+    piece: Piece,
+    begun: Move<B>,
+    count: u8,
+    direction: Dir,
+    most: u8,
+    moves: &mut Vec<Move<B>>,
+) -> Result<u8, AllocError>
+    requires on_board { OnBoard B.geometry begun.to }
+    requires few { count ≤ 20 }
+    requires fits { ChainsFit B.geometry position.now piece begun.to begun.taken (20 - count) }
+    ensures { IfOk result (λ k. Longest (EndsTowards B.geometry position.now piece begun count direction) most moves.old.items k moves.new.items) }
+{
+    let Some(over) = first_met(position, piece, begun.to, direction) else {
+        return Ok(most);
+    };
+    if begun.taken.has(over) {
+        return Ok(most);
+    }
+    let taken = begun.taken.with(over);
     let mut longest = most;
-    let mut goes_on = false;
-    let found = jumps(position, piece, begun.to);
-    'jumps: for jump in found.as_slice() {
-        if !begun.taken.has(jump.over) {
-            goes_on = true;
-            let further = Move {
-                from: begun.from,
-                to: jump.landing,
-                taken: begun.taken.with(jump.over),
-            };
-            longest = walk(position, piece, further, count + 1, longest, moves)?;
+    let mut at = over;
+    'landings: while let Some(landing) = free_step(position, at, direction) {
+        let further = Move {
+            from: begun.from,
+            to: landing,
+            taken,
+        };
+        longest = walk(position, piece, further, count + 1, longest, moves)?;
+        match piece.kind {
+            Kind::Man => break,
+            Kind::King => at = landing,
         }
     }
-    if goes_on {
-        Ok(longest)
-    } else {
-        offer(begun, count, longest, moves)
-    }
+    Ok(longest)
 }
 
 /// Keeps a capture of so many pieces where none that is kept takes more, once, and drops those that take fewer.

@@ -112,7 +112,7 @@ fn add_landings<B: Board>(
 }
 
 /// The enemy that the piece meets first: on the next square, for a king on the first square that is not empty.
-fn first_met<B: Board>(
+pub(crate) fn first_met<B: Board>(
     position: &Position<B>,
     piece: Piece,
     from: Square<B>,

@@ -1,67 +1,90 @@
-use Rattle.std.proofs.Common.{◌≡◌, ◌≤◌, ◌+◌, ◌-◌, true, false, sym, ap, ◌∙◌, subst, arith, refl}
+use Rattle.std.proofs.Common.{◌≡◌, ◌≤◌, ◌+◌, ◌-◌, false, sym, ap, ◌∙◌, subst, arith, refl}
 use Rattle.std.specs.FinSet as fin
 use Rattle.std.proofs.lemmas.Result.{IfOk-weaker}
 use Rattle.dw_moves.specs.Moves.{Move}
 use Rattle.dw_moves.specs.MoveLaws.{same_move}
-use Rattle.dw_moves.specs.Plain.{jump_list}
-use Rattle.dw_moves.specs.Chains.{ChainsFit, Is, Longest}
-use Rattle.dw_moves.proofs.Longest.{item_of, landing_on}
-use Rattle.dw_moves.proofs.Walked.{further, gone_past, gone_more, gone_on, gone_here, gone_as, count_fits, chains_fit_behind}
+use Rattle.dw_moves.specs.Chains.{ChainsFit, Is, Longest, further}
+use Rattle.dw_moves.proofs.Runs.{freed, ray_falls}
+use Rattle.dw_moves.proofs.Walked.{TakesOver, landed_none, landed_more, landed_last, landed_stop, jump_onto, onto_towards, towards_taken, walked_all, count_fits, chains_fit_behind}
 use Rattle.dw_moves.proofs.chains.+walk.Goals as goal
-use Rattle.dw_moves.proofs.chains.+walk.Goals.{then-not-has+in_ok-longest, else-not-has}
 
-pub walk-requires : goal.walk-requires
-walk-requires g t c κs within =
+pub walk-returns : goal.walk-returns
+walk-returns g t c =
+    IfOk-weaker c.offer.result (λ k. Longest (Is c.args.begun c.args.count) c.in_ok-four.four c.walk_towards-4.new.moves.items k c.offer.new.moves.items) _ (λ k h.
+    walked_all g.B.Board.geometry c.args.position.now c.args.piece c.args.begun c.args.count c.args.most c.in_ok-one.one c.in_ok-two.two c.in_ok-three.three c.in_ok-four.four k
+    c.args.moves.now.items c.walk_towards.new.moves.items c.walk_towards-2.new.moves.items c.walk_towards-3.new.moves.items c.walk_towards-4.new.moves.items c.offer.new.moves.items
+    c.in_ok-one.ensures c.in_ok-two.ensures c.in_ok-three.ensures c.in_ok-four.ensures h) c.offer.ensures
+
+pub walk_towards-returns-then-has : goal.walk_towards-returns-then-has
+walk_towards-returns-then-has g t c =
+    let takes : TakesOver g.B.Board.geometry c.args.position.now c.args.piece c.args.begun.to c.args.direction c.in-Some.over = subst (λ (m : Move). TakesOver g.B.Board.geometry c.args.position.now c.args.piece m.to c.args.direction c.in-Some.over) c.begun.view_is c.in-Some.ensures.some in
+    towards_taken g.B.Board.geometry c.args.position.now c.args.piece c.args.begun c.args.count c.in-Some.over c.args.direction c.args.most c.args.moves.now.items takes
+    (ap (λ (m : Move). fin.contains m.taken c.in-Some.over) (sym c.begun.view_is) ∙ (sym c.has.ensures ∙ c.if-has.true))
+
+pub walk_towards-landings-init : goal.walk_towards-landings-init
+walk_towards-landings-init g t c = landed_none g.B.Board.geometry c.args.position.now c.args.piece c.args.begun c.args.count c.in-Some.over c.args.piece.kind c.args.direction c.args.most c.args.moves.now.items c.in-Some.ensures.on_board
+
+pub walk_towards-free_step-requires : goal.walk_towards-free_step-requires
+walk_towards-free_step-requires g t c = c.landings.invariant.on
+
+pub walk_towards-walk-requires : goal.walk_towards-walk-requires
+walk_towards-walk-requires g t c κs within =
     let geo = g.B.Board.geometry in
-    let items_are : c.as_slice-jump-items.result.now ≡ jump_list geo c.args.position.now c.args.piece c.args.begun.to = c.as_slice-jump-items.ensures.value ∙ (c.jumps-found.ensures ∙ ap (λ (m : Move). jump_list geo c.args.position.now c.args.piece m.to) c.begun.view_is) in
-    let item = item_of geo c.args.position.now c.args.piece c.args.begun.to c.as_slice-jump-items.result.now c.jumps.jump-index c.jump.inside.over c.jump.inside.landing c.jump-item.result items_are c.jumps-test.true c.jump.view_is c.jump-item.is in
-    let fresh : fin.contains c.args.begun.taken c.jump.inside.over ≡ false = ap (λ (m : Move). fin.contains m.taken c.jump.inside.over) (sym c.begun.view_is) ∙ (sym c.has.ensures ∙ c.if-not-has.true) in
-    let small : c.args.count + 1 ≤ 20 = count_fits geo c.args.position.now c.args.piece c.args.begun.to c.jump.inside.over c.jump.inside.landing c.args.begun.taken c.args.count c.requires.few c.requires.fits item.jump fresh in
-    let taken_is : c.with.result ≡ fin.insert c.args.begun.taken c.jump.inside.over = c.with.ensures ∙ ap (λ (m : Move). fin.insert m.taken c.jump.inside.over) c.begun.view_is in
-    let f = c.decreases in (
-      omega (arith, f, small),
+    let f = freed geo g.met.B.Board.numbers c.args.position.now c.landings.at c.args.direction c.in-Some-free_step.landing c.landings.invariant.on (sym c.free_step.ensures ∙ c.in-Some-free_step.is) in
+    let takes : TakesOver geo c.args.position.now c.args.piece c.args.begun.to c.args.direction c.in-Some.over = subst (λ (m : Move). TakesOver geo c.args.position.now c.args.piece m.to c.args.direction c.in-Some.over) c.begun.view_is c.in-Some.ensures.some in
+    let fresh : fin.contains c.args.begun.taken c.in-Some.over ≡ false = ap (λ (m : Move). fin.contains m.taken c.in-Some.over) (sym c.begun.view_is) ∙ (sym c.has.ensures ∙ c.if-has.false) in
+    let jump = jump_onto geo c.args.position.now c.args.piece c.args.begun c.args.count c.in-Some.over c.args.direction c.landings.at c.in-Some-free_step.landing c.args.most c.args.moves.now.items c.landings.longest c.landings.moves.items takes c.landings.invariant f in
+    let small : c.args.count + 1 ≤ 20 = count_fits geo c.args.position.now c.args.piece c.args.begun.to c.in-Some.over c.in-Some-free_step.landing c.args.begun.taken c.args.count c.requires.few c.requires.fits jump fresh in
+    let taken_is : c.with-taken.result ≡ fin.insert c.args.begun.taken c.in-Some.over = c.with-taken.ensures ∙ ap (λ (m : Move). fin.insert m.taken c.in-Some.over) c.begun.view_is in
+    let falls = c.decreases in (
+      omega (arith, falls, small),
       (
         within,
         (
-          landing_on geo g.met.B.Board.numbers c.args.position.now c.args.piece c.args.begun.to c.jump.inside.over c.jump.inside.landing c.requires.on_board item.jump,
+          f.on,
           (
             small,
-            subst (λ v. ChainsFit geo c.args.position.now c.args.piece c.jump.inside.landing v (20 - (c.args.count + 1))) (sym taken_is)
-                (chains_fit_behind geo c.args.position.now c.args.piece c.args.begun.to c.jump.inside.over c.jump.inside.landing c.args.begun.taken c.args.count c.requires.fits item.jump fresh),
+            subst (λ v. ChainsFit geo c.args.position.now c.args.piece c.in-Some-free_step.landing v (20 - (c.args.count + 1))) (sym taken_is)
+                (chains_fit_behind geo c.args.position.now c.args.piece c.args.begun.to c.in-Some.over c.in-Some-free_step.landing c.args.begun.taken c.args.count c.requires.fits jump fresh),
           ),
         ),
       ),
     )
 
-pub jumps-preserved : goal.jumps-preserved
-jumps-preserved g t c =
+pub walk_towards-landings-smaller : goal.walk_towards-landings-smaller
+walk_towards-landings-smaller g t c =
     let geo = g.B.Board.geometry in
-    let items_are : c.as_slice-jump-items.result.now ≡ jump_list geo c.args.position.now c.args.piece c.args.begun.to = c.as_slice-jump-items.ensures.value ∙ (c.jumps-found.ensures ∙ ap (λ (m : Move). jump_list geo c.args.position.now c.args.piece m.to) c.begun.view_is) in
-    let item = item_of geo c.args.position.now c.args.piece c.args.begun.to c.as_slice-jump-items.result.now c.jumps.jump-index c.jump.inside.over c.jump.inside.landing c.jump-item.result items_are c.jumps-test.true c.jump.view_is c.jump-item.is in
-    let has_is : c.has.result ≡ fin.contains c.args.begun.taken c.jump.inside.over = c.has.ensures ∙ ap (λ (m : Move). fin.contains m.taken c.jump.inside.over) c.begun.view_is in
-    elim c.if-not-has.branch [
-      | then-not-has+in_ok-longest w ↦
-          let next : Move = record { from = c.begun.inside.from; to = c.jump.inside.landing; taken = w.with.result } in
-          let taken_is : w.with.result ≡ fin.insert c.args.begun.taken c.jump.inside.over = w.with.ensures ∙ ap (λ (m : Move). fin.insert m.taken c.jump.inside.over) c.begun.view_is in
-          let next_is : next ≡ further c.args.begun c.jump.inside.over c.jump.inside.landing = same_move next (further c.args.begun c.jump.inside.over c.jump.inside.landing) (ap (λ (m : Move). m.from) c.begun.view_is) refl taken_is in
-          let walked = gone_more geo c.args.position.now c.args.piece c.args.begun c.args.count c.as_slice-jump-items.result.now c.jumps.jump-index c.args.most c.args.moves.now.items c.jumps.longest c.jumps.moves.items c.jumps.goes_on
-          c.jump.inside.over c.jump.inside.landing next w.in_ok-longest.longest w.walk.new.moves.items c.jumps.invariant item.is (sym has_is ∙ w.if-not-has.true) next_is w.in_ok-longest.ensures in
-          gone_as geo c.args.position.now c.args.piece c.args.begun c.args.count c.as_slice-jump-items.result.now (c.jumps.jump-index + 1) c.args.most c.args.moves.now.items w.in_ok-longest.longest c.if-not-has.longest w.walk.new.moves.items c.if-not-has.moves.items true c.if-not-has.goes_on
-          (sym w.longest-is) (ap (λ v. v.items) (sym w.moves-is)) (sym w.goes_on-is) walked
-      | else-not-has w ↦
-          gone_as geo c.args.position.now c.args.piece c.args.begun c.args.count c.as_slice-jump-items.result.now (c.jumps.jump-index + 1) c.args.most c.args.moves.now.items c.jumps.longest c.if-not-has.longest c.jumps.moves.items c.if-not-has.moves.items c.jumps.goes_on c.if-not-has.goes_on
-          (sym w.longest-is) (ap (λ v. v.items) (sym w.moves-is)) (sym w.goes_on-is)
-          (gone_past geo c.args.position.now c.args.piece c.args.begun c.args.count c.as_slice-jump-items.result.now c.jumps.jump-index c.args.most c.args.moves.now.items c.jumps.longest c.jumps.moves.items c.jumps.goes_on
-          c.jump.inside.over c.jump.inside.landing c.jumps.invariant item.is (sym has_is ∙ w.if-not-has.false))
-    ]
+    let f = freed geo g.met.B.Board.numbers c.args.position.now c.landings.at c.args.direction c.in-Some-free_step.landing c.landings.invariant.on (sym c.free_step.ensures ∙ c.in-Some-free_step.is) in
+    ray_falls geo c.args.position.now c.landings.at c.args.direction c.in-Some-free_step.landing f
 
-pub returns-then-goes_on : goal.returns-then-goes_on
-returns-then-goes_on g t c =
-    gone_on g.B.Board.geometry c.args.position.now c.args.piece c.args.begun c.args.count c.as_slice-jump-items.result.now c.jumps.jump-index c.args.most c.args.moves.now.items c.jumps.longest c.jumps.moves.items c.jumps.goes_on
-    (c.as_slice-jump-items.ensures.value ∙ (c.jumps-found.ensures ∙ ap (λ (m : Move). jump_list g.B.Board.geometry c.args.position.now c.args.piece m.to) c.begun.view_is)) c.jumps.auto.jump-index-end c.jumps-test.false c.if-goes_on.true c.jumps.invariant
+pub walk_towards-landings-preserved : goal.walk_towards-landings-preserved
+walk_towards-landings-preserved g t c =
+    let geo = g.B.Board.geometry in
+    let f = freed geo g.met.B.Board.numbers c.args.position.now c.landings.at c.args.direction c.in-Some-free_step.landing c.landings.invariant.on (sym c.free_step.ensures ∙ c.in-Some-free_step.is) in
+    let taken_is : c.with-taken.result ≡ fin.insert c.args.begun.taken c.in-Some.over = c.with-taken.ensures ∙ ap (λ (m : Move). fin.insert m.taken c.in-Some.over) c.begun.view_is in
+    let next : Move = record { from = c.begun.inside.from; to = c.in-Some-free_step.landing; taken = c.with-taken.result } in
+    let next_is : next ≡ further c.args.begun c.in-Some.over c.in-Some-free_step.landing = same_move next (further c.args.begun c.in-Some.over c.in-Some-free_step.landing) (ap (λ (m : Move). m.from) c.begun.view_is) refl taken_is in
+    landed_more geo c.args.position.now c.args.piece c.args.begun c.args.count c.in-Some.over c.args.piece.kind c.args.direction c.landings.at c.in-Some-free_step.landing c.args.most c.args.moves.now.items c.landings.longest c.landings.moves.items next c.in_ok-longest.longest c.walk.new.moves.items
+    c.in-King.is c.landings.invariant f next_is c.in_ok-longest.ensures
 
-pub returns-else-goes_on : goal.returns-else-goes_on
-returns-else-goes_on g t c =
-    IfOk-weaker c.offer.result (λ k. Longest (Is c.args.begun c.args.count) c.jumps.longest c.jumps.moves.items k c.offer.new.moves.items) _ (λ k h.
-    gone_here g.B.Board.geometry c.args.position.now c.args.piece c.args.begun c.args.count c.as_slice-jump-items.result.now c.jumps.jump-index c.args.most c.args.moves.now.items c.jumps.longest c.jumps.moves.items c.jumps.goes_on k c.offer.new.moves.items
-    (c.as_slice-jump-items.ensures.value ∙ (c.jumps-found.ensures ∙ ap (λ (m : Move). jump_list g.B.Board.geometry c.args.position.now c.args.piece m.to) c.begun.view_is)) c.jumps.auto.jump-index-end c.jumps-test.false c.jumps.invariant h) c.offer.ensures
+pub walk_towards-returns-in-Man : goal.walk_towards-returns-in-Man
+walk_towards-returns-in-Man g t c =
+    let geo = g.B.Board.geometry in
+    let f = freed geo g.met.B.Board.numbers c.args.position.now c.landings.at c.args.direction c.in-Some-free_step.landing c.landings.invariant.on (sym c.free_step.ensures ∙ c.in-Some-free_step.is) in
+    let takes : TakesOver geo c.args.position.now c.args.piece c.args.begun.to c.args.direction c.in-Some.over = subst (λ (m : Move). TakesOver geo c.args.position.now c.args.piece m.to c.args.direction c.in-Some.over) c.begun.view_is c.in-Some.ensures.some in
+    let fresh : fin.contains c.args.begun.taken c.in-Some.over ≡ false = ap (λ (m : Move). fin.contains m.taken c.in-Some.over) (sym c.begun.view_is) ∙ (sym c.has.ensures ∙ c.if-has.false) in
+    let taken_is : c.with-taken.result ≡ fin.insert c.args.begun.taken c.in-Some.over = c.with-taken.ensures ∙ ap (λ (m : Move). fin.insert m.taken c.in-Some.over) c.begun.view_is in
+    let next : Move = record { from = c.begun.inside.from; to = c.in-Some-free_step.landing; taken = c.with-taken.result } in
+    let next_is : next ≡ further c.args.begun c.in-Some.over c.in-Some-free_step.landing = same_move next (further c.args.begun c.in-Some.over c.in-Some-free_step.landing) (ap (λ (m : Move). m.from) c.begun.view_is) refl taken_is in
+    onto_towards geo c.args.position.now c.args.piece c.args.begun c.args.count c.in-Some.over c.args.direction c.args.most c.in_ok-longest.longest c.args.moves.now.items c.walk.new.moves.items takes fresh
+    (landed_last geo c.args.position.now c.args.piece c.args.begun c.args.count c.in-Some.over c.args.piece.kind c.args.direction c.landings.at c.in-Some-free_step.landing c.args.most c.args.moves.now.items c.landings.longest c.landings.moves.items next c.in_ok-longest.longest c.walk.new.moves.items
+    c.in-Man.is c.landings.invariant f next_is c.in_ok-longest.ensures)
+
+pub walk_towards-returns-in_default-free_step : goal.walk_towards-returns-in_default-free_step
+walk_towards-returns-in_default-free_step g t c =
+    let geo = g.B.Board.geometry in
+    let takes : TakesOver geo c.args.position.now c.args.piece c.args.begun.to c.args.direction c.in-Some.over = subst (λ (m : Move). TakesOver geo c.args.position.now c.args.piece m.to c.args.direction c.in-Some.over) c.begun.view_is c.in-Some.ensures.some in
+    let fresh : fin.contains c.args.begun.taken c.in-Some.over ≡ false = ap (λ (m : Move). fin.contains m.taken c.in-Some.over) (sym c.begun.view_is) ∙ (sym c.has.ensures ∙ c.if-has.false) in
+    onto_towards geo c.args.position.now c.args.piece c.args.begun c.args.count c.in-Some.over c.args.direction c.args.most c.landings.longest c.args.moves.now.items c.landings.moves.items takes fresh
+    (landed_stop geo g.met.B.Board.numbers c.args.position.now c.args.piece c.args.begun c.args.count c.in-Some.over c.args.piece.kind c.args.direction c.landings.at c.args.most c.args.moves.now.items c.landings.longest c.landings.moves.items
+    c.landings.invariant (sym c.free_step.ensures ∙ c.in_default-free_step.is))
