@@ -1,16 +1,16 @@
 -- What the walks found is the list of legal moves.
-use Rattle.std.proofs.Common.{◌≡◌, ℕ, ◌<◌, zero, suc, List, [], ◌∷◌, ◌++◌, length, refl, sym, ap, ◌∙◌, subst, inl, inr, arith, ◌↔◌}
+use Rattle.std.proofs.Common.{◌≡◌, ℕ, ◌<◌, zero, suc, List, [], ◌∷◌, ◌++◌, length, map, refl, sym, ap, ◌∙◌, subst, inl, inr, arith, ◌↔◌}
 use Rattle.std.proofs.lemmas.Bool.{cases_lt}
 use Rattle.std.specs.FinSet as fin
 use Rattle.std.specs.Ordering.{nat_cmp}
-use Rattle.dw_board.specs.Geometry.{Geometry, IsBoard}
+use Rattle.dw_board.specs.Geometry.{Geometry}
 use Rattle.dw_board.specs.Placement.{Placement}
 use Rattle.dw_moves.specs.Moves.{Member, NoRepeat, IsBest, Move, Quiet, IsPathOf, Legal, LegalAt, AreLegal, last_of}
-use Rattle.dw_moves.specs.Plain.{quiet_moves}
+use Rattle.dw_moves.specs.Plain.{quiet_to, Adds}
 use Rattle.dw_moves.specs.Chains.{Taking, Longest, IsCapture}
 use Rattle.dw_moves.proofs.LegalMoves.{best_only}
 use Rattle.dw_moves.proofs.TakesThese.{len_list}
-use Rattle.dw_moves.proofs.Quietly.{quiet_move_from, quiet_move_in, quiet_moves_once}
+use Rattle.dw_moves.proofs.Adding.{AreQuiet, are_quiet, move_to}
 
 no_member : (ms : List Move) → ms ≡ [] → (m : Move) → Member m ms → ⊥
 no_member ms e m h = rw e at h
@@ -38,24 +38,22 @@ none_kept g p moves kept e h = empty_list kept (λ m x. elim ((h.exactly m).0 x)
   | inr taking ↦ omega (arith, taking.0)
 ])
 
-pub quiet_from_legal : (g : Geometry) (p : Placement) (m : Move) → IsBest g p 0 → Legal g p m → Member m (quiet_moves g p)
+pub quiet_from_legal : (g : Geometry) (p : Placement) (m : Move) → IsBest g p 0 → Legal g p m → Quiet g p m.from m.to × (m.taken ≡ fin.empty)
 quiet_from_legal g p m best l = at_k l.0 (best_only g p l.0 0 l.1 best) l.2 where
-  at_k : (k : ℕ) → k ≡ 0 → LegalAt g p k m → Member m (quiet_moves g p)
-  at_k zero e h = quiet_move_in g p m h.0 h.1
+  at_k : (k : ℕ) → k ≡ 0 → LegalAt g p k m → Quiet g p m.from m.to × (m.taken ≡ fin.empty)
+  at_k zero e h = h
   at_k (suc k) e h = absurd (omega arith)
 
 -- nothing can be taken, and the quiet moves were added
-pub legal_quietly : (g : Geometry) → IsBoard g → (p : Placement) (k : ℕ) (moves kept now : List Move) → moves ≡ [] → k ≡ 0 → Longest (Taking g p) 0 moves k kept → now ≡ kept ++ quiet_moves g p → AreLegal g p now
-legal_quietly g b p k moves kept now e none h is =
+pub legal_quietly : (g : Geometry) (p : Placement) (k : ℕ) (moves kept now : List Move) → moves ≡ [] → k ≡ 0 → Longest (Taking g p) 0 moves k kept → Adds quiet_to (Quiet g p) kept now → AreLegal g p now
+legal_quietly g p k moves kept now e none h added =
     let zero_kept : Longest (Taking g p) 0 moves 0 kept = subst (λ z. Longest (Taking g p) 0 moves z kept) none h in
     let best : IsBest g p 0 = best_of g p 0 moves kept zero_kept in
-    let all : now ≡ quiet_moves g p = is ∙ ap (λ z. z ++ quiet_moves g p) (none_kept g p moves kept e zero_kept) in
+    let all : now ≡ map move_to added.pairs = added.are ∙ ap (λ z. z ++ map move_to added.pairs) (none_kept g p moves kept e zero_kept) in
+    let quiet : AreQuiet g p now = subst (AreQuiet g p) (sym all) (are_quiet g p added.pairs added.exactly added.once) in
     record {
-      exactly = λ m. (
-        (λ x. (0, best, quiet_move_from g p m (subst (Member m) all x))),
-        (λ l. subst (Member m) (sym all) (quiet_from_legal g p m best l)),
-      );
-      once = subst NoRepeat (sym all) (quiet_moves_once g b p);
+      exactly = λ m. ((λ x. (0, best, (quiet.exactly m).0 x)), (λ l. (quiet.exactly m).1 (quiet_from_legal g p m best l)));
+      once = quiet.once;
     }
 
 pub capture_from_legal : (g : Geometry) (p : Placement) (k : ℕ) (m : Move) → 0 < k → IsBest g p k → Legal g p m → Taking g p k m

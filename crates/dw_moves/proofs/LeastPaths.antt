@@ -3,18 +3,18 @@ use Rattle.std.proofs.Common.{◌≡◌, ℕ, ◌<◌, zero, suc, List, [], ◌�
 use Rattle.std.proofs.lemmas.Bool.{cases_lt}
 use Rattle.std.specs.FinSet as fin
 use Rattle.std.specs.Ordering.{nat_cmp}
-use Rattle.dw_board.specs.Geometry.{Geometry, IsBoard}
+use Rattle.dw_board.specs.Geometry.{Geometry}
 use Rattle.dw_board.specs.Placement.{Placement}
-use Rattle.dw_moves.specs.Moves.{Member, NoRepeat, IsBest, Move, IsPathOf, Legal, LegalAt, last_of}
+use Rattle.dw_moves.specs.Moves.{Member, NoRepeat, IsBest, Move, Quiet, IsPathOf, Legal, LegalAt, last_of}
 use Rattle.dw_moves.specs.MemberLaws.{mem_map, mem_map_back}
 use Rattle.dw_moves.specs.Order.{LexLess, LandsAt, IsLeastPath, Listed, HasLeastPath}
-use Rattle.dw_moves.specs.Plain.{quiet_made, quiet_moves}
+use Rattle.dw_moves.specs.Plain.{Adds}
 use Rattle.dw_moves.specs.Listing.{quietly_listed, steps_of, HasAll, Leading, LongestLeast}
 use Rattle.dw_moves.proofs.Filled.{quiet_from_legal, capture_from_legal, legal_from_capture, legal_count}
 use Rattle.dw_moves.proofs.LeastTaking.{leading_takes}
 use Rattle.dw_moves.proofs.LegalMoves.{best_only}
 use Rattle.dw_moves.proofs.Lex.{lex_irrefl}
-use Rattle.dw_moves.proofs.Quietly.{made_of_moves, quiet_move_from, quiet_moves_once}
+use Rattle.dw_moves.proofs.Adding.{AreQuiet, are_quiet, move_to}
 
 -- the number reached is the greatest
 best_led : (g : Geometry) (p : Placement) (k : ℕ) (list kept : List Listed) → LongestLeast (Leading g p) 0 list k kept → IsBest g p k
@@ -103,23 +103,27 @@ steps_with_ends : (ms : List Move) → steps_of (map with_ends ms) ≡ ms
 steps_with_ends [] = refl
 steps_with_ends (m ∷ ms) = ap (λ z. m ∷ z) (steps_with_ends ms)
 
-quiet_listing : (g : Geometry) → IsBoard g → (p : Placement) → IsBest g p 0 → HasAll g p (map with_ends (quiet_moves g p))
-quiet_listing g b p best =
-    let steps = steps_with_ends (quiet_moves g p) in
-    let legal : (m : Move) → Member m (quiet_moves g p) → Legal g p m = λ m h. (0, best, quiet_move_from g p m h) in
+quiet_listing : (g : Geometry) (p : Placement) (moves : List Move) → AreQuiet g p moves → IsBest g p 0 → HasAll g p (map with_ends moves)
+quiet_listing g p moves quiet best =
+    let steps = steps_with_ends moves in
+    let legal : (m : Move) → Member m moves → Legal g p m = λ m h. (0, best, (quiet.exactly m).0 h) in
     record {
-      legal = λ l m. let f = mem_map_back with_ends l (quiet_moves g p) m in subst (λ (z : Listed). Legal g p z.step) (sym f.2) (legal f.0 f.1);
+      legal = λ l m. let f = mem_map_back with_ends l moves m in subst (λ (z : Listed). Legal g p z.step) (sym f.2) (legal f.0 f.1);
       paths = λ l m.
-          let f = mem_map_back with_ends l (quiet_moves g p) m in
-          let none : fin.len f.0.taken ≡ 0 = ap fin.len (quiet_move_from g p f.0 f.1).1 ∙ fin.len-empty nat_cmp in
+          let f = mem_map_back with_ends l moves m in
+          let none : fin.len f.0.taken ≡ 0 = ap fin.len ((quiet.exactly f.0).0 f.1).1 ∙ fin.len-empty nat_cmp in
           subst (HasLeastPath g p) (sym f.2) (f.0.to ∷ [], quiet_least g p f.0 (legal f.0 f.1) none, refl);
-      all = λ m l. subst (Member m) (sym steps) (quiet_from_legal g p m best l);
-      once = subst NoRepeat (sym steps) (quiet_moves_once g b p);
+      all = λ m l. subst (Member m) (sym steps) ((quiet.exactly m).1 (quiet_from_legal g p m best l));
+      once = subst NoRepeat (sym steps) quiet.once;
     }
 
+made_of_moves : (pairs : List (ℕ × ℕ)) → map (λ (q : ℕ × ℕ). quietly_listed q.0 q.1) pairs ≡ map with_ends (map move_to pairs)
+made_of_moves [] = refl
+made_of_moves (q ∷ pairs) = ap (λ z. quietly_listed q.0 q.1 ∷ z) (made_of_moves pairs)
+
 -- nothing can be taken, and the quiet moves were added
-pub quiet_all_listed : (g : Geometry) → IsBoard g → (p : Placement) (k : ℕ) (list kept old now : List Listed) → k ≡ 0 → LongestLeast (Leading g p) 0 list k kept → old ≡ [] → now ≡ old ++ quiet_made quietly_listed g p → HasAll g p now
-quiet_all_listed g b p k list kept old now none h e is =
+pub quiet_all_listed : (g : Geometry) (p : Placement) (k : ℕ) (list kept old now : List Listed) → k ≡ 0 → LongestLeast (Leading g p) 0 list k kept → old ≡ [] → Adds quietly_listed (Quiet g p) old now → HasAll g p now
+quiet_all_listed g p k list kept old now none h e added =
     let best : IsBest g p 0 = subst (IsBest g p) none (best_led g p k list kept h) in
-    let whole : now ≡ map with_ends (quiet_moves g p) = is ∙ (ap (λ z. z ++ quiet_made quietly_listed g p) e ∙ made_of_moves with_ends g p) in
-    subst (HasAll g p) (sym whole) (quiet_listing g b p best)
+    let whole : now ≡ map with_ends (map move_to added.pairs) = added.are ∙ (ap (λ z. z ++ map (λ (q : ℕ × ℕ). quietly_listed q.0 q.1) added.pairs) e ∙ made_of_moves added.pairs) in
+    subst (HasAll g p) (sym whole) (quiet_listing g p (map move_to added.pairs) (are_quiet g p added.pairs added.exactly added.once) best)

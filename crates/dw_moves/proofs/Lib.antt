@@ -19,6 +19,7 @@ pub mod Walked
 pub mod Taking
 pub mod Quietly
 pub mod Sweeps
+pub mod Adding
 pub mod Filled
 pub mod TakesThese
 pub mod Followed

@@ -114,7 +114,7 @@ goes_toward k g b p side s t d on m =
     let h = (goes_from k g p side s t d m).lands in
     ray_toward g b d s t on (subst (Member t) (sym h.is) (mem_at t h.before h.beyond))
 
-quiet_for_once : (k : Kind) (g : Geometry) → IsBoard g → (p : Placement) (side : Side) (s : ℕ) → OnBoard g s → NoRepeat (quiet_for k g p side s)
+pub quiet_for_once : (k : Kind) (g : Geometry) → IsBoard g → (p : Placement) (side : Side) (s : ℕ) → OnBoard g s → NoRepeat (quiet_for k g p side s)
 quiet_for_once k g b p side s on = once_flat (goes k g p side s) dirs dirs_once (λ d m. goes_once k g b p side s d on)
     (λ d e t md me hd he. one_dir g s t d e (goes_toward k g b p side s t d on hd) (goes_toward k g b p side s t e on he))
 

@@ -1,91 +1,23 @@
 -- The list of quiet moves, and how it is filled.
-use Rattle.std.proofs.Common.{◌≡◌, ℕ, ◌+◌, suc, List, [], ◌∷◌, ◌++◌, map, refl, sym, ap, ◌∙◌, subst, ◌↔◌, inl, inr, arith, append_assoc, ◌⊎◌, Bool, true, false, Some, None}
+use Rattle.std.proofs.Common.{◌≡◌, ℕ, [], ◌∷◌, refl, sym, ap, ◌∙◌, subst, ◌↔◌, inl, inr, ◌⊎◌, Bool, true, false, Some, None}
 use Rattle.std.specs.Prelude.{IsTrue}
 use Rattle.std.proofs.lemmas.Bool.{true≢false}
-use Rattle.std.specs.List.{flat_map}
-use Rattle.std.proofs.lemmas.List.{map-append}
-use Rattle.std.proofs.lemmas.Grind.{flat_map-append}
-use Rattle.std.specs.FinSet as fin
 use Rattle.dw_board.specs.declared.board.Dir.{Dir}
 use Rattle.dw_board.specs.declared.board.Dir.TheVariants.{UpLeft, UpRight, DownLeft, DownRight}
 use Rattle.dw_board.specs.declared.piece.Kind.{Kind}
 use Rattle.dw_board.specs.declared.piece.Kind.TheVariants.{Man, King}
 use Rattle.dw_board.specs.declared.piece.Piece.{Piece}
 use Rattle.dw_board.specs.declared.piece.Side.{Side}
-use Rattle.dw_board.specs.Geometry.{Geometry, IsBoard, OnBoard, squares}
+use Rattle.dw_board.specs.Geometry.{Geometry, IsBoard, OnBoard}
 use Rattle.dw_board.specs.Placement.{Placement, at, same_side}
-use Rattle.dw_moves.specs.Moves.{Member, NoRepeat, Move, Quiet, ray}
-use Rattle.dw_moves.specs.MoveLaws.{same_move}
-use Rattle.dw_moves.specs.Plain.{numbers_to, dirs, landings_for, goes, quiet_for, targets_of, targets, quiet_to, quiet_made, quiet_moves, free_step}
-use Rattle.dw_moves.specs.MemberLaws.{mem_map, mem_map_back, mem_flat, mem_flat_back}
-use Rattle.dw_moves.proofs.LegalMoves.{target_from, target_in, number_in, from_number}
+use Rattle.dw_moves.specs.Moves.{Member, Quiet, ray}
+use Rattle.dw_moves.specs.Plain.{dirs, landings_for, goes, quiet_for, targets_of, targets, free_step}
+use Rattle.dw_moves.specs.MemberLaws.{mem_flat, mem_flat_back}
+use Rattle.dw_moves.proofs.LegalMoves.{target_from, target_in}
 use Rattle.dw_moves.proofs.Exact.{all_dirs, same_side_refl}
 use Rattle.dw_moves.proofs.StepLaws.{none_some}
-use Rattle.dw_moves.proofs.JumpSteps.{append_none}
 use Rattle.dw_moves.proofs.Runs.{Freed, run_man, run_king, run_stop}
 use Rattle.dw_moves.proofs.BestFrom.{some_same}
-use Rattle.dw_moves.proofs.QuietOnce.{once_flat, once_map, numbers_once, targets_once}
-
--- what is made of the quiet moves from a square
-abbrev pub made_from : {X : Type 0} → (ℕ → ℕ → X) → Geometry → Placement → ℕ → List X
-made_from made g p s = map (made s) (targets g p s)
-
-abbrev pub moves_from : Geometry → Placement → ℕ → List Move
-moves_from = made_from quiet_to
-
--- the squares up to n were added
-abbrev pub AddedTo : {X : Type 0} → (ℕ → ℕ → X) → Geometry → Placement → ℕ → List X → List X → Type 0
-AddedTo made g p n old now = now ≡ old ++ flat_map (made_from made g p) (numbers_to n)
-
-pub added_to_none : {X : Type 0} (made : ℕ → ℕ → X) (g : Geometry) (p : Placement) (old : List X) → AddedTo made g p 0 old old
-added_to_none made g p old = sym (append_none old)
-
-pub added_to_more : {X : Type 0} (made : ℕ → ℕ → X) (g : Geometry) (p : Placement) (n from : ℕ) (old now new : List X) → from ≡ n + 1 → AddedTo made g p n old now → new ≡ now ++ map (made from) (targets g p from) → AddedTo made g p (n + 1) old new
-added_to_more made g p n from old now new from_is h e =
-    let next : n + 1 ≡ suc n = omega arith in
-    let here : from ≡ suc n = from_is ∙ next in
-    let last : flat_map (made_from made g p) (suc n ∷ []) ≡ made_from made g p from = append_none (made_from made g p (suc n)) ∙ ap (made_from made g p) (sym here) in
-    subst (λ z. AddedTo made g p z old new) (sym next)
-    (e ∙ (ap (λ z. z ++ made_from made g p from) h ∙ (append_assoc old (flat_map (made_from made g p) (numbers_to n)) (made_from made g p from)
-    ∙ ap (λ z. old ++ z) (ap (λ z. flat_map (made_from made g p) (numbers_to n) ++ z) (sym last) ∙ sym (flat_map-append (made_from made g p) (numbers_to n) (suc n ∷ []))))))
-
--- a square from which no quiet move begins adds nothing
-pub added_to_skip : {X : Type 0} (made : ℕ → ℕ → X) (g : Geometry) (p : Placement) (old now : List X) (n : ℕ) → AddedTo made g p n old now → targets g p (n + 1) ≡ [] → AddedTo made g p (n + 1) old now
-added_to_skip made g p old now n h none = added_to_more made g p n (n + 1) old now now refl h (sym (append_none now) ∙ ap (λ z. now ++ map (made (n + 1)) z) (sym none))
-
--- moves that are made of quiet moves are as many, one for each
-pub made_of_moves : {X : Type 0} (f : Move → X) (g : Geometry) (p : Placement) → quiet_made (λ from to. f (quiet_to from to)) g p ≡ map f (quiet_moves g p)
-made_of_moves f g p = by_squares (numbers_to (squares g)) where
-  by_targets : (s : ℕ) (ts : List ℕ) → map (λ t. f (quiet_to s t)) ts ≡ map f (map (quiet_to s) ts)
-  by_targets s [] = refl
-  by_targets s (t ∷ ts) = ap (λ z. f (quiet_to s t) ∷ z) (by_targets s ts)
-
-  by_squares : (ss : List ℕ) → flat_map (λ s. map (λ t. f (quiet_to s t)) (targets g p s)) ss ≡ map f (flat_map (moves_from g p) ss)
-  by_squares [] = refl
-  by_squares (s ∷ ss) =
-      ap (λ z. z ++ flat_map (λ s. map (λ t. f (quiet_to s t)) (targets g p s)) ss) (by_targets s (targets g p s))
-      ∙ (ap (λ z. map f (moves_from g p s) ++ z) (by_squares ss) ∙ sym (map-append f (moves_from g p s) (flat_map (moves_from g p) ss)))
-
--- the list holds exactly the quiet moves, each once
-pub quiet_move_from : (g : Geometry) (p : Placement) (m : Move) → Member m (quiet_moves g p) → Quiet g p m.from m.to × (m.taken ≡ fin.empty)
-quiet_move_from g p m h =
-    let s = mem_flat_back (moves_from g p) m (numbers_to (squares g)) h in
-    let t = mem_map_back (quiet_to s.0) m (targets g p s.0) s.2 in
-    subst (λ (z : Move). Quiet g p z.from z.to × (z.taken ≡ fin.empty)) (sym t.2) (target_from g p s.0 t.0 (from_number (squares g) s.0 s.1) t.1, refl)
-
-pub quiet_move_in : (g : Geometry) (p : Placement) (m : Move) → Quiet g p m.from m.to → m.taken ≡ fin.empty → Member m (quiet_moves g p)
-quiet_move_in g p m h e =
-    let here : Member (quiet_to m.from m.to) (moves_from g p m.from) = mem_map (quiet_to m.from) m.to (targets g p m.from) (target_in g p m.from m.to h) in
-    let there : Member (quiet_to m.from m.to) (quiet_moves g p) = mem_flat (moves_from g p) m.from (quiet_to m.from m.to) (numbers_to (squares g)) (number_in (squares g) m.from h.stands.on_board.0 h.stands.on_board.1) here in
-    subst (λ (z : Move). Member z (quiet_moves g p)) (same_move (quiet_to m.from m.to) m refl refl (sym e)) there
-
-pub quiet_moves_once : (g : Geometry) → IsBoard g → (p : Placement) → NoRepeat (quiet_moves g p)
-quiet_moves_once g b p = once_flat (moves_from g p) (numbers_to (squares g)) (numbers_once (squares g))
-    (λ s m. once_map (quiet_to s) (λ x y e. ap (λ (z : Move). z.to) e) (targets g p s) (targets_once g b p s (from_number (squares g) s m)))
-    (λ s z m ms mz hs hz.
-    let x = mem_map_back (quiet_to s) m (targets g p s) hs in
-    let y = mem_map_back (quiet_to z) m (targets g p z) hz in
-    ap (λ (q : Move). q.from) (sym x.2 ∙ y.2))
 
 -- the square is none of those that were passed
 pub record Passed (g : Geometry) (p : Placement) (k : Kind) (d : Dir) (from to at : ℕ) : Type 0 where

@@ -1,5 +1,5 @@
 -- Plain lists of the squares that a piece reaches, and of the jumps that it has: what the code makes.
-use Rattle.std.specs.Prelude.{ℕ, Option, Some, None, List, [], ◌∷◌, ◌++◌, Bool, true, false, map, not, cond}
+use Rattle.std.specs.Prelude.{◌≡◌, ◌↔◌, ℕ, Option, Some, None, List, [], ◌∷◌, ◌++◌, Bool, true, false, map, not, cond}
 use Rattle.std.specs.List.{flat_map}
 use Rattle.std.proofs.Common.{zero, suc}
 use Rattle.dw_board.specs.declared.piece.Side.{Side}
@@ -9,10 +9,10 @@ use Rattle.dw_board.specs.declared.piece.Kind.TheVariants.{Man, King}
 use Rattle.dw_board.specs.declared.board.Dir.{Dir}
 use Rattle.dw_board.specs.declared.board.Dir.TheVariants.{UpLeft, UpRight, DownLeft, DownRight}
 use Rattle.dw_board.specs.declared.piece.Piece.{Piece}
-use Rattle.dw_board.specs.Geometry.{Geometry, squares, is_down, step}
+use Rattle.dw_board.specs.Geometry.{Geometry, OnBoard, squares, is_down, step}
 use Rattle.dw_board.specs.Placement.{Placement, at, same_side}
 use Rattle.std.specs.FinSet as set
-use Rattle.dw_moves.specs.Moves.{Move, other, ray}
+use Rattle.dw_moves.specs.Moves.{Member, NoRepeat, IsForward, Move, other, ray}
 
 -- the numbers from 1 to n
 abbrev pub numbers_to : ℕ → List ℕ
@@ -91,13 +91,26 @@ quiet_pairs g p = flat_map (λ s. map (λ t. (s, t)) (targets g p s)) (numbers_t
 abbrev pub quiet_to : ℕ → ℕ → Move
 quiet_to from to = record { from = from; to = to; taken = set.empty }
 
--- what is made of all quiet moves, one by one
-abbrev pub quiet_made : {X : Type 0} → (ℕ → ℕ → X) → Geometry → Placement → List X
-quiet_made made g p = flat_map (λ s. map (made s) (targets g p s)) (numbers_to (squares g))
+-- a list, and behind it what is made of the pairs that P holds of, each once
+pub record Adds {X : Type 0} (made : ℕ → ℕ → X) (P : ℕ → ℕ → Type 0) (old new : List X) : Type 0 where
+  pub pairs : List (ℕ × ℕ)
+  pub exactly : (s t : ℕ) → Member (s, t) pairs ↔ P s t
+  pub once : NoRepeat pairs
+  pub are : new ≡ old ++ map (λ q. made q.0 q.1) pairs
 
--- all quiet moves, as moves
-abbrev pub quiet_moves : Geometry → Placement → List Move
-quiet_moves g p = quiet_made quiet_to g p
+-- a man of the side to move goes from s to t
+pub record ManSteps (g : Geometry) (p : Placement) (d : Dir) (s t : ℕ) : Type 0 where
+  pub on : OnBoard g s
+  pub there : at p s ≡ Some (record { side = p.turn; kind = Man })
+  pub ahead : IsForward p.turn d
+  pub steps : step g s d ≡ Some t
+  pub free : at p t ≡ None
+
+-- a king of the side to move goes from s to t
+pub record KingGoes (g : Geometry) (p : Placement) (s t : ℕ) : Type 0 where
+  pub on : OnBoard g s
+  pub there : at p s ≡ Some (record { side = p.turn; kind = King })
+  pub goes : Member t (quiet_for King g p p.turn s)
 
 -- the next square, where nothing stands on it
 abbrev pub free_if : Placement → Option ℕ → Option ℕ

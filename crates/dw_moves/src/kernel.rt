@@ -201,7 +201,7 @@ impl<B: Board> Field<B> {
 }
 
 /// The direction that leads back.
-fn opposite(direction: Dir) -> Dir
+pub(crate) fn opposite(direction: Dir) -> Dir
     ensures { result ≡ back direction }
 {
     match direction {

@@ -2,14 +2,18 @@
 ghost use Rattle.std.specs.Prelude.{◌≡◌, ◌≤◌, ◌↔◌, ◌++◌, ℕ, length, map, IsTrue, OnOk};
 ghost use Rattle.dw_board.specs.Geometry.{OnBoard};
 ghost use Rattle.dw_moves.specs.Moves.{IsQuietCount, Quiet, Member, ray};
+ghost use Rattle.dw_board.specs.declared.piece.Kind.TheVariants.{King};
+ghost use Rattle.dw_moves.specs.Kernel.{In};
 ghost use Rattle.dw_moves.specs.Plain as plain;
+ghost use Rattle.dw_moves.specs.Plain.{Adds, ManSteps, KingGoes};
 
 use crate::best::is_own;
-use crate::kernel::may_step;
+use crate::kernel::{may_step, opposite};
 use dw_board::board::{Board, Dir};
 use dw_board::piece::{Kind, Side};
 use dw_board::position::Position;
 use dw_board::square::{Square, step};
+use dw_board::squares::Squares;
 use std::alloc::AllocError;
 
 /// The number of quiet moves of the side to move, whether or not it must capture. A man moves one square diagonally
@@ -122,52 +126,74 @@ pub(crate) fn push_quiet<B: Board, T: FromQuiet<B> + Drop>(
     position: &Position<B>,
     moves: &mut Vec<T>,
 ) -> Result<(), AllocError>
-    ensures { OnOk result (moves.new.items ≡ moves.old.items ++ plain.quiet_made T.made B.geometry position.now) }
+    ensures { OnOk result (Adds T.made (Quiet B.geometry position.now) moves.old.items moves.new.items) }
 {
-    let mut left = may_step(position);
-    'squares: while let Some((square, rest)) = left.split() {
-        push_quiet_from(position, square, moves)?;
+    push_steps(position, Dir::UpLeft, moves)?;
+    push_steps(position, Dir::UpRight, moves)?;
+    push_steps(position, Dir::DownLeft, moves)?;
+    push_steps(position, Dir::DownRight, moves)?;
+    push_kings(position, moves)
+}
+
+/// Adds the quiet moves of men in one direction: each is found from the square that it reaches.
+fn push_steps<B: Board, T: FromQuiet<B> + Drop>(
+    position: &Position<B>,
+    direction: Dir,
+    moves: &mut Vec<T>,
+) -> Result<(), AllocError>
+    ensures { OnOk result (Adds T.made (ManSteps B.geometry position.now direction) moves.old.items moves.new.items) }
+{
+    let mut left = men_reach(position, direction);
+    'squares: while let Some((to, rest)) = left.split() {
+        if let Some(from) = step(to, opposite(direction)) {
+            moves.push(T::from_quiet(&from, &to))?;
+        }
         left = rest;
     }
     Ok(())
 }
 
-/// Adds the quiet moves from a square.
-fn push_quiet_from<B: Board, T: FromQuiet<B> + Drop>(
-    position: &Position<B>,
-    from: Square<B>,
-    moves: &mut Vec<T>,
-) -> Result<(), AllocError>
-    requires { OnBoard B.geometry from }
-    ensures { OnOk result (moves.new.items ≡ moves.old.items ++ map (T.made from) (plain.targets B.geometry position.now from)) }
+/// The squares that men of the side to move reach in one direction, none where it is backward.
+fn men_reach<B: Board>(position: &Position<B>, direction: Dir) -> Squares<B>
+    ensures { (t : ℕ) → In t result ↔ ((s : ℕ) × ManSteps B.geometry position.now direction s t) }
 {
-    match position.at(from) {
-        Some(stands) if stands.side == position.turn() => {
-            push_towards(position, stands.kind, from, Dir::UpLeft, moves)?;
-            push_towards(position, stands.kind, from, Dir::UpRight, moves)?;
-            push_towards(position, stands.kind, from, Dir::DownLeft, moves)?;
-            push_towards(position, stands.kind, from, Dir::DownRight, moves)
-        }
-        _ => Ok(()),
+    let side = position.turn();
+    if may_go(Kind::Man, side, direction) {
+        let next = position.squares(side, Kind::Man).shifted(direction);
+        next.minus(position.occupied())
+    } else {
+        Squares::none()
     }
 }
 
-/// Adds the quiet moves of the mover's piece in one direction.
-fn push_towards<B: Board, T: FromQuiet<B> + Drop>(
+/// Adds the quiet moves of kings.
+fn push_kings<B: Board, T: FromQuiet<B> + Drop>(
     position: &Position<B>,
-    kind: Kind,
+    moves: &mut Vec<T>,
+) -> Result<(), AllocError>
+    ensures { OnOk result (Adds T.made (KingGoes B.geometry position.now) moves.old.items moves.new.items) }
+{
+    let mut left = position.squares(position.turn(), Kind::King);
+    'squares: while let Some((square, rest)) = left.split() {
+        push_king(position, square, moves)?;
+        left = rest;
+    }
+    Ok(())
+}
+
+/// Adds the quiet moves of a king from a square.
+fn push_king<B: Board, T: FromQuiet<B> + Drop>(
+    position: &Position<B>,
     from: Square<B>,
-    direction: Dir,
     moves: &mut Vec<T>,
 ) -> Result<(), AllocError>
     requires { OnBoard B.geometry from }
-    ensures { OnOk result (moves.new.items ≡ moves.old.items ++ map (T.made from) (plain.goes kind B.geometry position.now position.now.turn from direction)) }
+    ensures { OnOk result (moves.new.items ≡ moves.old.items ++ map (T.made from) (plain.quiet_for King B.geometry position.now position.now.turn from)) }
 {
-    if may_go(kind, position.turn(), direction) {
-        push_run(position, kind, from, direction, moves)
-    } else {
-        Ok(())
-    }
+    push_run(position, Kind::King, from, Dir::UpLeft, moves)?;
+    push_run(position, Kind::King, from, Dir::UpRight, moves)?;
+    push_run(position, Kind::King, from, Dir::DownLeft, moves)?;
+    push_run(position, Kind::King, from, Dir::DownRight, moves)
 }
 
 /// Adds a move to each square that a piece can reach in one direction over empty squares.

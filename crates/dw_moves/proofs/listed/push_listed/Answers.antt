@@ -13,5 +13,5 @@ paths-init g c =
 
 pub returns-in_ok-push_quiet : goal.returns-in_ok-push_quiet
 returns-in_ok-push_quiet g c =
-    quiet_all_listed g.B.Board.geometry g.met.B.Board.numbers c.args.position.now c.in_ok-keep_captures.field-0 (entries_listed c.new-paths.result.entries) (entries_listed c.keep_captures.new.paths.entries) c.args.list.now.items c.push_quiet.new.moves.items
+    quiet_all_listed g.B.Board.geometry c.args.position.now c.in_ok-keep_captures.field-0 (entries_listed c.new-paths.result.entries) (entries_listed c.keep_captures.new.paths.entries) c.args.list.now.items c.push_quiet.new.moves.items
     c.if-branch-eq0.true c.in_ok-keep_captures.ensures c.requires c.in_ok-push_quiet.ensures
