@@ -1,7 +1,8 @@
 //! The squares of each side's men and of its kings.
 ghost use Rattle.std.specs.Prelude.{◌≡◌, ⊤};
+ghost use Rattle.dw_board.specs.StandingLaws.{same_sets};
 ghost use Rattle.std.specs.FinSet as set;
-ghost use Rattle.dw_board.specs.Standing.{set_of, entered};
+ghost use Rattle.dw_board.specs.Standing.{set_of, held_at, entered};
 
 use crate::board::Board;
 use crate::piece::{Kind, Piece, Side};
@@ -41,6 +42,43 @@ impl<B: Board> Held<B> {
             (Side::Black, Kind::Man) => self.black_men,
             (Side::Black, Kind::King) => self.black_kings,
         }
+    }
+
+    /// All squares on which a piece stands.
+    fn occupied(&self) -> Squares<B>
+        ensures { result ≡ set.union (set.union self.now.white_men self.now.white_kings) (set.union self.now.black_men self.now.black_kings) }
+    {
+        let white = self.white_men.or(self.white_kings);
+        white.or(self.black_men.or(self.black_kings))
+    }
+
+    /// What stands on a square.
+    pub(crate) fn at(&self, square: Square<B>) -> Option<Piece>
+        ensures { result ≡ held_at (set_of self.now) square }
+    {
+        if !self.occupied().has(square) {
+            return None;
+        }
+        let (side, kind) = if self.white_men.has(square) {
+            (Side::White, Kind::Man)
+        } else if self.black_men.has(square) {
+            (Side::Black, Kind::Man)
+        } else if self.white_kings.has(square) {
+            (Side::White, Kind::King)
+        } else {
+            (Side::Black, Kind::King)
+        };
+        Some(Piece { side, kind })
+    }
+
+    /// Whether each set is the same.
+    pub(crate) fn is_same(&self, other: &Self) -> bool
+        ensures { result ≡ same_sets self.now other.now }
+    {
+        self.white_men == other.white_men
+            && self.white_kings == other.white_kings
+            && self.black_men == other.black_men
+            && self.black_kings == other.black_kings
     }
 
     /// The same, and the piece on the square.
