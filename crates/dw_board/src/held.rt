@@ -3,6 +3,8 @@ ghost use Rattle.std.specs.Prelude.{◌≡◌, ⊤};
 ghost use Rattle.dw_board.specs.StandingLaws.{same_sets};
 ghost use Rattle.std.specs.FinSet as set;
 ghost use Rattle.dw_board.specs.Standing.{set_of, held_at, entered};
+ghost use Rattle.dw_board.specs.declared.piece.Side.TheVariants.{White, Black};
+ghost use Rattle.dw_board.specs.declared.piece.Kind.TheVariants.{Man, King};
 
 use crate::board::Board;
 use crate::piece::{Kind, Piece, Side};
@@ -44,12 +46,18 @@ impl<B: Board> Held<B> {
         }
     }
 
-    /// All squares on which a piece stands.
-    fn occupied(&self) -> Squares<B>
-        ensures { result ≡ set.union (set.union self.now.white_men self.now.white_kings) (set.union self.now.black_men self.now.black_kings) }
+    /// The squares of this side's pieces.
+    pub(crate) fn all_of(&self, side: Side) -> Squares<B>
+        ensures { result ≡ set.union (set_of self.now side Man) (set_of self.now side King) }
     {
-        let white = self.white_men.or(self.white_kings);
-        white.or(self.black_men.or(self.black_kings))
+        self.of(side, Kind::Man).or(self.of(side, Kind::King))
+    }
+
+    /// All squares on which a piece stands.
+    pub(crate) fn occupied(&self) -> Squares<B>
+        ensures { result ≡ set.union (set.union (set_of self.now White Man) (set_of self.now White King)) (set.union (set_of self.now Black Man) (set_of self.now Black King)) }
+    {
+        self.all_of(Side::White).or(self.all_of(Side::Black))
     }
 
     /// What stands on a square.
@@ -104,6 +112,18 @@ impl<B: Board> Held<B> {
             white_kings: self.white_kings.without(square),
             black_men: self.black_men.without(square),
             black_kings: self.black_kings.without(square),
+        }
+    }
+
+    /// The same, and nothing on these squares.
+    pub(crate) fn minus(self, squares: Squares<B>) -> Self
+        ensures { (side : Side) (kind : Kind) → set_of result side kind ≡ set.difference (set_of self side kind) squares }
+    {
+        Held {
+            white_men: self.white_men.minus(squares),
+            white_kings: self.white_kings.minus(squares),
+            black_men: self.black_men.minus(squares),
+            black_kings: self.black_kings.minus(squares),
         }
     }
 }

@@ -1,6 +1,6 @@
 //! Positions: what stands on a board, and whose turn it is.
-ghost use Rattle.std.specs.Prelude.{◌≡◌, ◌≤◌, ◌<◌, ◌↔◌, ℕ, Some, None, Ok, Err, IsTrue, is_ok, if◌then◌else◌, MatchResult, Result};
-ghost use Rattle.dw_board.specs.Placement.{Placement, IsPosition, placed, put_fault};
+ghost use Rattle.std.specs.Prelude.{◌≡◌, ◌≤◌, ◌<◌, ◌↔◌, ℕ, Some, None, Ok, Err, IsTrue, is_ok, is_some, if◌then◌else◌, MatchResult, Result};
+ghost use Rattle.dw_board.specs.Placement.{Placement, IsPosition, placed, without, put_fault};
 ghost use Rattle.dw_board.specs.Placement as of;
 ghost use Rattle.dw_board.specs.Geometry as Geo;
 ghost use Rattle.std.specs.FinSet as set;
@@ -90,6 +90,13 @@ impl<B: Board> Position<B> {
         stood
     }
 
+    /// Empties these squares.
+    pub fn clear_all(&mut self, squares: Squares<B>)
+        ensures { self.new ≡ without self.old squares }
+    {
+        self.held = self.held.minus(squares);
+    }
+
     /// What stands on a square.
     pub fn at(&self, square: Square<B>) -> Option<Piece>
         ensures value { result ≡ of.at self.now square }
@@ -128,6 +135,20 @@ impl<B: Board> Position<B> {
         ensures { (s : ℕ) → IsTrue (set.contains result s) ↔ (Geo.OnBoard B.geometry s × (of.at self.now s ≡ Some (record { side = side; kind = kind }))) }
     {
         self.held.of(side, kind)
+    }
+
+    /// All squares on which a piece of this side stands.
+    pub fn all_of(&self, side: Side) -> Squares<B>
+        ensures { (s : ℕ) → IsTrue (set.contains result s) ↔ (Geo.OnBoard B.geometry s × IsTrue (of.is_of side (of.at self.now s))) }
+    {
+        self.held.all_of(side)
+    }
+
+    /// All squares on which a piece stands.
+    pub fn occupied(&self) -> Squares<B>
+        ensures { (s : ℕ) → IsTrue (set.contains result s) ↔ (Geo.OnBoard B.geometry s × IsTrue (is_some (of.at self.now s))) }
+    {
+        self.held.occupied()
     }
 }
 

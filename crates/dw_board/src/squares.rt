@@ -65,6 +65,20 @@ impl<B: Board> Squares<B> {
         }
     }
 
+    /// The set of one square.
+    pub fn one(square: Square<B>) -> Self
+        ensures { result ≡ set.insert set.empty square }
+    {
+        Self::none().with(square)
+    }
+
+    /// Whether no square is in the set.
+    pub fn is_empty(self) -> bool
+        ensures { IsTrue result ↔ (self ≡ set.empty) }
+    {
+        self.word == 0
+    }
+
     /// Whether the square is in the set.
     pub fn has(self, square: Square<B>) -> bool
         ensures { result ≡ set.contains self square }
@@ -142,6 +156,18 @@ impl<B: Board> Squares<B> {
         }
         let place = self.word.trailing_zeros() as u8;
         Square::new(place - place / (B::ROWS + 1) + 1)
+    }
+
+    /// The least square and the others, or `None` in the empty set.
+    pub fn split(self) -> Option<(Square<B>, Self)>
+        ensures none { IsNone result ↔ (self ≡ set.empty) }
+        ensures member { IfSome result (λ parts. IsTrue (set.contains self parts.0)) }
+        ensures least { IfSome result (λ parts. (t : ℕ) → IsTrue (set.contains self t) → parts.0 ≤ t) }
+        ensures on_board { IfSome result (λ parts. Geo.OnBoard B.geometry parts.0) }
+        ensures rest { IfSome result (λ parts. parts.1 ≡ set.remove self parts.0) }
+    {
+        let square = self.first()?;
+        Some((square, self.without(square)))
     }
 
     /// The padded word: the bit `s - 1 + (s - 1) / ROWS` for each square s of the set, and no other.
