@@ -1,5 +1,5 @@
 -- The squares on which a side's pieces stand, and those on which any stands.
-use Rattle.std.proofs.Common.{◌≡◌, ◌∙◌, ℕ, ◌-◌, ◌↔◌, true, ◌||◌, List, Option, Some, None, is_some, get_or, refl, sym, ap, ◌⊎◌, inl, inr}
+use Rattle.std.proofs.Common.{◌≡◌, ◌∙◌, ℕ, ◌-◌, ◌↔◌, true, List, Option, Some, None, is_some, get_or, refl, sym, ap, ◌⊎◌, inl, inr}
 use Rattle.std.specs.FinSet as set
 use Rattle.std.specs.Cmp.{nat_cmp_total}
 use Rattle.std.proofs.lemmas.Bool.{or_cases, or_left, or_right}
@@ -11,7 +11,7 @@ use Rattle.dw_board.specs.declared.piece.Piece.{Piece}
 use Rattle.dw_board.specs.Geometry.{Geometry, IsBoard, OnBoard}
 use Rattle.dw_board.specs.SquareSet.{Squares}
 use Rattle.dw_board.specs.Placement.{is_of, same_side}
-use Rattle.dw_board.specs.Standing.{standing, IsKept}
+use Rattle.dw_board.specs.Standing.{IsKept}
 use Rattle.dw_board.specs.StandingLaws.{standing-members}
 use Rattle.dw_board.proofs.Placed.{same_side-true}
 

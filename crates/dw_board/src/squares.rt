@@ -44,16 +44,6 @@ impl<B: Board> Model for Squares<B> {
     ghost inverse_ok = { λ a h i. record { word = word_of-squares_of B.geometry h.board a.word h.only i; board = a.board } };
 }
 
-/// The place of a square's bit.
-fn place<B: Board>(square: Square<B>) -> u8
-    ensures value { result ≡ Geo.bit B.geometry square }
-    ensures small { result < 64 }
-    ensures on_board { Geo.OnBoard B.geometry square }
-{
-    let index = square.number() - 1;
-    index + index / B::ROWS
-}
-
 impl<B: Board> Squares<B> {
     /// The empty set.
     pub fn none() -> Self
@@ -83,7 +73,7 @@ impl<B: Board> Squares<B> {
     pub fn has(self, square: Square<B>) -> bool
         ensures { result ≡ set.contains self square }
     {
-        (self.word >> place(square)) & 1 == 1
+        (self.word >> square.place()) & 1 == 1
     }
 
     /// This set and the square.
@@ -91,7 +81,7 @@ impl<B: Board> Squares<B> {
         ensures { result ≡ set.insert self square }
     {
         Squares {
-            word: self.word | (1 << place(square)),
+            word: self.word | (1 << square.place()),
             board: PhantomData,
         }
     }
@@ -111,7 +101,7 @@ impl<B: Board> Squares<B> {
         ensures { result ≡ set.remove self square }
     {
         Squares {
-            word: self.word & !(1 << place(square)),
+            word: self.word & !(1 << square.place()),
             board: PhantomData,
         }
     }
@@ -154,8 +144,7 @@ impl<B: Board> Squares<B> {
         if self.word == 0 {
             return None;
         }
-        let place = self.word.trailing_zeros() as u8;
-        Square::new(place - place / (B::ROWS + 1) + 1)
+        Some(Square::of_bit(self.word.trailing_zeros() as u8))
     }
 
     /// The least square and the others, or `None` in the empty set.
