@@ -1,82 +1,94 @@
--- Squares that are emptied one after another.
-use Rattle.std.proofs.Common.{◌≡◌, ◌≢◌, ℕ, ◌+◌, ◌-◌, ◌≤◌, ◌<◌, ◌&&◌, ◌||◌, Bool, not, length, refl, sym, ap, ◌∙◌, subst, inl, inr, arith, true, false, None, cond, eqb, get_or, length-set, get_or-set_same, get_or-set_other}
-use Rattle.std.proofs.lemmas.List.{ext_get_or}
-use Rattle.std.proofs.lemmas.List.FromFn.{get_or-map-range_with_len}
-use Rattle.std.proofs.lemmas.Bool.{cases_eq, cases_Bool, eqb-true, eq-eqb}
-use Rattle.std.specs.FinSet as fin
-use Rattle.std.specs.Cmp.{nat_cmp_total, unsigned_tied}
-use Rattle.std.specs.Ordering.{nat_cmp}
-use Rattle.dw_board.specs.Geometry.{Geometry, IsBoard, OnBoard}
-use Rattle.dw_board.specs.Placement.{Placement, at, placed, left, without}
+-- A position stays one where some squares are emptied, and its sets lose these squares.
+use Rattle.std.proofs.Common.{◌≡◌, ◌∙◌, ℕ, ◌+◌, ◌-◌, ◌≤◌, ◌<◌, Bool, true, false, cond, not, ◌&&◌, leb, List, [], ◌∷◌, Option, None, length, get_or, map, count_by, refl, sym, ap, subst, arith, inl, inr}
+use Rattle.std.specs.List.{range_with_len}
+use Rattle.std.specs.FinSet as set
+use Rattle.std.specs.Cmp.{nat_cmp_total}
+use Rattle.std.proofs.lemmas.Bool.{cases_Bool, cases_lt, and_parts, leb-true}
+use Rattle.std.proofs.lemmas.List.{ext_get_or, get_or_past}
+use Rattle.std.proofs.lemmas.List.Sums.{sum_by-cons}
+use Rattle.std.proofs.lemmas.List.FromFn.{length-map-range_with_len, get_or-map-range_with_len}
+use Rattle.dw_board.specs.declared.piece.Side.{Side}
+use Rattle.dw_board.specs.declared.piece.Side.TheVariants.{White, Black}
+use Rattle.dw_board.specs.declared.piece.Kind.{Kind}
+use Rattle.dw_board.specs.declared.piece.Piece.{Piece}
+use Rattle.dw_board.specs.Geometry.{Geometry}
 use Rattle.dw_board.specs.SquareSet.{Squares}
-use Rattle.dw_board.specs.SquareSetLaws.{contains-insert}
+use Rattle.dw_board.specs.SquareSetLaws.{and-false, and-true}
+use Rattle.dw_board.specs.Placement.{Placement, IsPosition, is_of, is_stuck, at, left, without}
+use Rattle.dw_board.specs.Standing.{is_that, standing, IsKept}
+use Rattle.dw_board.specs.StandingLaws.{contains-standing}
 
--- what is left on a square when some are emptied
-without_at : (p : Placement) (ss : Squares) (i : ℕ) → i < 50 → get_or (without p ss).cells i None ≡ left p ss (i + 1)
-without_at p ss i low = get_or-map-range_with_len (left p ss) 1 50 i (i + 1) None low (omega arith)
+-- ---- each square
+here : (p : Placement) (emptied : Squares) (s : ℕ) → 1 ≤ s → s ≤ 50 → get_or (without p emptied).cells (s - 1) None ≡ left p emptied s
+here p emptied s low high = get_or-map-range_with_len (left p emptied) 1 50 (s - 1) s None (omega arith) (omega arith)
 
-without_length : (p : Placement) (ss : Squares) → length (without p ss).cells ≡ 50
-without_length p ss = refl
+past : (p : Placement) (emptied : Squares) (s : ℕ) → 50 < s → get_or (without p emptied).cells (s - 1) None ≡ None
+past p emptied s high = get_or_past (without p emptied).cells (s - 1) None (omega (arith, length-map-range_with_len (left p emptied) 1 50))
 
-contains-remove : (v : Squares) (k q : ℕ) → fin.contains (fin.remove v k) q ≡ (not (eqb q k) && fin.contains v q)
-contains-remove v k q = fin.contains-remove nat_cmp_total v k q ∙ ap (λ b. not b && fin.contains v q) (unsigned_tied q k)
+either : (P : Option Piece → Type 0) (b : Bool) (o : Option Piece) → P None → P o → P (cond b None o)
+either P true o none some = none
+either P false o none some = some
 
-apart_false : (s t : ℕ) → (s ≢ t) → eqb s t ≡ false
-apart_false s t ne = elim (cases_Bool (eqb s t)) [ inl e ↦ absurd (ne (eqb-true s t e)) | inr e ↦ e ]
+-- what holds of an empty square and of the square before, holds of the square after
+holds : (P : Option Piece → Type 0) (p : Placement) (emptied : Squares) (s : ℕ) → 1 ≤ s → P None → P (at p s) → P (get_or (without p emptied).cells (s - 1) None)
+holds P p emptied s low none before = elim (cases_lt 50 s) [
+  | inl high ↦ subst P (sym (past p emptied s high)) none
+  | inr fits ↦ subst P (sym (here p emptied s low fits)) (either P (set.contains emptied s) (at p s) none before)
+]
 
--- a set without a member, and with it again
-put_back : (v : Squares) (c : ℕ) → fin.contains v c ≡ true → fin.insert (fin.remove v c) c ≡ v
-put_back v c there = fin.same_set nat_cmp_total fin.nat_cmp-IsAntisymmetric _ _ (λ q.
-    contains-insert (fin.remove v c) c q ∙ (ap (λ b. eqb q c || b) (contains-remove v c q) ∙ elim (cases_Bool (eqb q c)) [
-      | inl same ↦ let at : fin.contains v q ≡ true = ap (fin.contains v) (eqb-true q c same) ∙ there in ap (λ b. b || (not b && fin.contains v q)) same ∙ sym at
-      | inr apart ↦ ap (λ b. b || (not b && fin.contains v q)) apart
-    ]))
+-- ---- the number of pieces
+fewer_here : (side : Side) (b : Bool) (o : Option Piece) → cond (is_of side (cond b None o)) 1 0 ≤ cond (is_of side o) 1 0
+fewer_here side true o = omega arith
+fewer_here side false o = omega arith
 
--- what is in a set without c is not c
-not_removed : (v : Squares) (c : ℕ) → fin.contains (fin.remove v c) c ≡ false
-not_removed v c = contains-remove v c c ∙ ap (λ b. not b && fin.contains v c) (eq-eqb c c refl)
-
-pub fewer_left : (v : Squares) (c : ℕ) → fin.contains v c ≡ true → fin.len (fin.remove v c) < fin.len v
-fewer_left v c there =
-    let back : fin.len v ≡ fin.len (fin.insert (fin.remove v c) c) = ap fin.len (sym (put_back v c there)) in
-    let more : fin.len (fin.insert (fin.remove v c) c) ≡ fin.len (fin.remove v c) + 1 = fin.len-insert nat_cmp_total (fin.remove v c) c ∙ ap (λ b. cond b (fin.len (fin.remove v c)) (fin.len (fin.remove v c) + 1)) (not_removed v c) in
+fewer : (side : Side) (p : Placement) (emptied : Squares) (xs : List ℕ) → count_by (is_of side) (map (left p emptied) xs) ≤ count_by (is_of side) (map (at p) xs)
+fewer side p emptied [] = omega arith
+fewer side p emptied (x ∷ xs) =
+    let a = fewer_here side (set.contains emptied x) (at p x) in
+    let b = fewer side p emptied xs in
+    let after = sum_by-cons (λ o. cond (is_of side o) 1 0) (left p emptied x) (map (left p emptied) xs) in
+    let before = sum_by-cons (λ o. cond (is_of side o) 1 0) (at p x) (map (at p) xs) in
     omega arith
 
--- what is left to empty, and what stands on the other squares, come to what all of it leaves
-pub record Clearing (p : Placement) (ss : Squares) (q : Placement) (rest : Squares) : Type 0 where
-  pub fifty : length q.cells ≡ 50
-  pub turn : q.turn ≡ p.turn
-  pub comes_to : (s : ℕ) → 1 ≤ s → s ≤ 50 → left q rest s ≡ left p ss s
+all_cells : (p : Placement) → length p.cells ≡ 50 → map (at p) (range_with_len 1 50) ≡ p.cells
+all_cells p fifty = ext_get_or None _ _ (length-map-range_with_len (at p) 1 50 ∙ sym fifty) (λ i low.
+    let few : i < 50 = omega (arith, length-map-range_with_len (at p) 1 50) in
+    let behind : i + 1 - 1 ≡ i = omega arith in
+    get_or-map-range_with_len (at p) 1 50 i (i + 1) None few (omega arith) ∙ ap (λ k. get_or p.cells k None) behind)
 
-pub clearing_none : (p : Placement) (ss : Squares) → length p.cells ≡ 50 → Clearing p ss p ss
-clearing_none p ss len = record { fifty = len; turn = refl; comes_to = λ s low high. refl }
+few_left : (side : Side) (p : Placement) (emptied : Squares) (limit : ℕ) → length p.cells ≡ 50 → count_by (is_of side) p.cells ≤ limit → count_by (is_of side) (without p emptied).cells ≤ limit
+few_left side p emptied limit fifty fits =
+    let a = fewer side p emptied (range_with_len 1 50) in
+    let b = ap (count_by (is_of side)) (all_cells p fifty) in
+    omega arith
 
-pub clearing_more : (g : Geometry) → IsBoard g → (p : Placement) (ss : Squares) (q : Placement) (rest : Squares) (s : ℕ) → Clearing p ss q rest → OnBoard g s → fin.contains rest s ≡ true → Clearing p ss (placed q s None) (fin.remove rest s)
-clearing_more g b p ss q rest s h on there = record {
-  fifty = length-set q.cells (s - 1) None ∙ h.fifty;
-  turn = h.turn;
-  comes_to = λ t low high. elim (cases_eq t s) [
-    | inl same ↦
-        let gone : at (placed q s None) s ≡ None = get_or-set_same q.cells (s - 1) None None (omega (arith, h.fifty, on.0, on.1, b.squares_high)) in
-        let now : left (placed q s None) (fin.remove rest s) s ≡ None = ap (λ z. cond z None (at (placed q s None) s)) (not_removed rest s) ∙ gone in
-        let before : left q rest s ≡ None = ap (λ z. cond z None (at q s)) there in
-        let at_s : left (placed q s None) (fin.remove rest s) s ≡ left p ss s = now ∙ (sym before ∙ h.comes_to s (omega (arith, on.0)) (omega (arith, on.1, b.squares_high))) in
-        subst (λ z. left (placed q s None) (fin.remove rest s) z ≡ left p ss z) (sym same) at_s
-    | inr apart ↦
-        let other : t - 1 ≢ s - 1 = omega (arith, on.0) in
-        let stays : at (placed q s None) t ≡ at q t = get_or-set_other q.cells (s - 1) (t - 1) None None other in
-        let kept : fin.contains (fin.remove rest s) t ≡ fin.contains rest t = contains-remove rest s t ∙ ap (λ z. not z && fin.contains rest t) (apart_false t s apart) in
-        ap (λ z. cond z None (at (placed q s None) t)) kept ∙ (ap (λ z. cond (fin.contains rest t) None z) stays ∙ h.comes_to t low high)
-  ];
+IsPosition-without : (g : Geometry) (p : Placement) (emptied : Squares) → IsPosition g p.cells → IsPosition g (without p emptied).cells
+IsPosition-without g p emptied is = record {
+  fifty = length-map-range_with_len (left p emptied) 1 50;
+  on_board = λ s high. holds (λ o. o ≡ None) p emptied s (omega arith) refl (is.on_board s high);
+  white_fits = few_left White p emptied g.side is.fifty is.white_fits;
+  black_fits = few_left Black p emptied g.side is.fifty is.black_fits;
+  no_stuck_man = λ s low. holds (λ o. is_stuck g s o ≡ false) p emptied s low refl (is.no_stuck_man s low);
 }
 
-same_placement : (p q : Placement) → p.cells ≡ q.cells → p.turn ≡ q.turn → p ≡ q
-same_placement p q c t = λ i. record { cells = c i; turn = t i }
+-- ---- the sets
+that_left : (side : Side) (k : Kind) (b : Bool) (o : Option Piece) → is_that side k (cond b None o) ≡ (is_that side k o && not b)
+that_left side k true o = sym (and-false _)
+that_left side k false o = sym (and-true _)
 
-pub clearing_all : (p : Placement) (ss : Squares) (q : Placement) (rest : Squares) → Clearing p ss q rest → rest ≡ fin.empty → q ≡ without p ss
-clearing_all p ss q rest h none = same_placement q (without p ss) (ext_get_or None q.cells (without p ss).cells (h.fifty ∙ sym (without_length p ss)) (λ k low.
-    let within : k < 50 = omega (arith, h.fifty) in
-    let i : k + 1 - 1 ≡ k = omega arith in
-    let nothing : fin.contains rest (k + 1) ≡ false = ap (λ z. fin.contains z (k + 1)) none ∙ fin.contains-empty nat_cmp (k + 1) in
-    let here : left q rest (k + 1) ≡ get_or q.cells k None = ap (λ z. cond z None (at q (k + 1))) nothing ∙ ap (λ z. get_or q.cells z None) i in
-    sym here ∙ (h.comes_to (k + 1) (omega arith) (omega arith) ∙ sym (without_at p ss k within)))) h.turn
+standing-without : (p : Placement) (emptied : Squares) (side : Side) (k : Kind) → standing (without p emptied).cells side k ≡ set.difference (standing p.cells side k) emptied
+standing-without p emptied side k = set.same_set nat_cmp_total set.nat_cmp-IsAntisymmetric _ _ (λ q.
+    contains-standing (without p emptied).cells side k q
+    ∙ (elim (cases_Bool (leb 1 q && leb q 50)) [
+      | inl e ↦
+          let r = and_parts _ _ e in
+          rw e (ap (is_that side k) (here p emptied q (leb-true _ _ r.0) (leb-true _ _ r.1)) ∙ that_left side k (set.contains emptied q) (at p q))
+      | inr e ↦ rw e refl
+    ] ∙ sym (set.contains-difference nat_cmp_total (standing p.cells side k) emptied q ∙ ap (λ b. b && not (set.contains emptied q)) (contains-standing p.cells side k q))))
+
+pub kept-without : (g : Geometry) (p : Placement) (sets now : Side → Kind → Squares) (emptied : Squares) → IsKept g p.cells sets
+    → ((side : Side) (k : Kind) → now side k ≡ set.difference (sets side k) emptied) → IsKept g (without p emptied).cells now
+kept-without g p sets now emptied is goes = record {
+  position = IsPosition-without g p emptied is.position;
+  standing_is = λ side k. standing-without p emptied side k ∙ (ap (λ v. set.difference v emptied) (is.standing_is side k) ∙ sym (goes side k));
+}

@@ -1,5 +1,5 @@
 -- A word has as many ones as its set has squares.
-use Rattle.std.proofs.Common.{◌≡◌, ℕ, suc, zero, ◌+◌, ◌-◌, ◌*◌, ◌/◌, ◌%◌, ◌^◌, ◌≤◌, ◌<◌, Bool, true, false, cond, not, ◌&&◌, ◌||◌, eqb, is_some, refl, sym, ap, ◌∙◌, subst, arith, inl, inr, count_ones, add_comm, zero-add, w64}
+use Rattle.std.proofs.Common.{◌≡◌, ℕ, suc, zero, ◌+◌, ◌*◌, ◌/◌, ◌%◌, ◌^◌, ◌≤◌, ◌<◌, Bool, true, false, cond, not, ◌&&◌, ◌||◌, eqb, is_some, refl, sym, ap, ◌∙◌, subst, arith, inl, inr, count_ones, add_comm, zero-add, w64}
 use Rattle.std.specs.Int.{bit_at, trailing_zeros}
 use Rattle.std.specs.FinSet as set
 use Rattle.std.specs.Ordering.{nat_cmp}
@@ -8,11 +8,11 @@ use Rattle.std.specs.Int.Count.{ones, ones_in}
 use Rattle.std.proofs.lemmas.Bool.{agree_below, agree_below_at, eqb-true, cases_Bool, cases_lt, or_cases, and_parts, true≢false, eq-eqb}
 use Rattle.std.proofs.lemmas.Nat.{mod-pow-add, ones_cat, pow_pos, shr_split}
 use Rattle.std.proofs.lemmas.Nat.Bits.{bit_at-trailing_zeros, bit_at-lt, bit_at_above, bit_at_cat_low, same_from_bits}
-use Rattle.dw_board.specs.Geometry.{Geometry, IsBoard, squares, OnBoard, bit}
+use Rattle.dw_board.specs.Geometry.{Geometry, IsBoard, squares, OnBoard, bit, square_of, IsPlace}
 use Rattle.dw_board.specs.GeometryLaws.{at_boards, bit-square_at}
 use Rattle.dw_board.specs.SquareSet.{Squares, is_set, square_at, members_below, squares_of, OnlySquares}
 use Rattle.dw_board.specs.SquareSetLaws.{contains-members_below, below_two, some_square, bit-small, contains-here}
-use Rattle.dw_board.proofs.Sets.{past_range, bit-below, square_there, square_there-is, least_member}
+use Rattle.dw_board.proofs.Sets.{past_range, bit-below, place-is, least_member}
 
 -- ---- the ones of the low bits
 ones_of_bit : (n : ℕ) → n < 2 → ones n ≡ n
@@ -140,21 +140,25 @@ pub record IsLeast (g : Geometry) (v : Squares) (n : ℕ) : Type 0 where
   pub has : set.contains v n ≡ true
   pub least : (t : ℕ) → set.contains v t ≡ true → n ≤ t
 
-least_here : (g : Geometry) → IsBoard g → (w x : ℕ) → OnlySquares g w → bit_at w x ≡ 1 → ((i : ℕ) → i < x → bit_at w i ≡ 0) → IsLeast g (squares_of g w) (square_there g x)
+least_here : (g : Geometry) → IsBoard g → (w x : ℕ) → OnlySquares g w → bit_at w x ≡ 1 → ((i : ℕ) → i < x → bit_at w i ≡ 0) → IsLeast g (squares_of g w) (square_of g x)
 least_here g b w x only e below =
-    let is = square_there-is g b w x only e in
+    let is = place-is g b w x only e in
     record {
       on = is.0;
-      has = contains-here g w (square_there g x) is.0 ∙ (ap (is_set w) is.1 ∙ eq-eqb _ _ e);
+      has = contains-here g w (square_of g x) is.0 ∙ (ap (is_set w) is.1 ∙ eq-eqb _ _ e);
       least = least_member g b w x only e below;
     }
 
-pub least-is : (g : Geometry) → IsBoard g → (w rows : ℕ) (v : Squares) → squares_of g w ≡ v → OnlySquares g w → (w ≡ 0 → ⊥) → rows ≡ g.rows
-    → IsLeast g v (trailing_zeros w64 w - trailing_zeros w64 w / (rows + 1) + 1)
-least-is g b w rows v e only some is =
+pub least-is : (g : Geometry) → IsBoard g → (w : ℕ) (v : Squares) → squares_of g w ≡ v → OnlySquares g w → (w ≡ 0 → ⊥) → IsLeast g v (square_of g (trailing_zeros w64 w))
+least-is g b w v e only some =
     let t = bit_at-trailing_zeros w64 w (omega arith) (word-fits g b w only) in
-    subst (λ r. IsLeast g v (trailing_zeros w64 w - trailing_zeros w64 w / (r + 1) + 1)) (sym is)
-    (subst (λ u. IsLeast g u (square_there g (trailing_zeros w64 w))) e (least_here g b w (trailing_zeros w64 w) only t.1 t.2))
+    subst (λ u. IsLeast g u (square_of g (trailing_zeros w64 w))) e (least_here g b w (trailing_zeros w64 w) only t.1 t.2)
+
+pub least-place : (g : Geometry) → IsBoard g → (w : ℕ) → OnlySquares g w → (w ≡ 0 → ⊥) → IsPlace g (trailing_zeros w64 w)
+least-place g b w only some =
+    let t = bit_at-trailing_zeros w64 w (omega arith) (word-fits g b w only) in
+    let is = place-is g b w (trailing_zeros w64 w) only t.1 in
+    record { on = is.0; back = is.1; small = t.0 }
 
 pub least-some : (g : Geometry) (v : Squares) (n : ℕ) → IsLeast g v n → v ≡ set.empty → ⊥
 least-some g v n is e = true≢false (sym is.has ∙ (ap (λ u. set.contains u n) e ∙ set.contains-empty nat_cmp n))

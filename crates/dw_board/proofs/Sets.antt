@@ -1,5 +1,5 @@
 -- Words and sets: what each operation on words does to the set.
-use Rattle.std.proofs.Common.{◌≡◌, ℕ, suc, ◌+◌, ◌-◌, ◌*◌, ◌/◌, ◌%◌, ◌^◌, ◌≤◌, ◌<◌, Bool, true, false, cond, not, ◌&&◌, ◌||◌, eqb, leb, Some, None, is_some, refl, sym, ap, ◌∙◌, subst, arith, inl, inr, ◌↔◌, bit_or, bit_and, min}
+use Rattle.std.proofs.Common.{◌≡◌, ℕ, suc, ◌+◌, ◌-◌, ◌*◌, ◌/◌, ◌%◌, ◌^◌, ◌≤◌, ◌<◌, Bool, true, false, cond, not, ◌&&◌, ◌||◌, eqb, leb, Option, Some, None, IsNone, IfSome, is_some, refl, sym, ap, ◌∙◌, subst, arith, inl, inr, ◌↔◌, bit_or, bit_and, min}
 use Rattle.std.specs.Int.{bit_at}
 use Rattle.std.specs.Ordering.{nat_cmp}
 use Rattle.std.specs.FinSet as set
@@ -12,7 +12,7 @@ use Rattle.std.proofs.Common.{w64, add-zero}
 use Rattle.std.specs.Int.{bit_not}
 use Rattle.dw_board.specs.declared.board.Dir.{Dir}
 use Rattle.dw_board.specs.declared.board.Dir.TheVariants.{UpLeft, UpRight, DownLeft, DownRight}
-use Rattle.dw_board.specs.Geometry.{Geometry, IsBoard, step, OnBoard, bit, IsShift, ShiftsAreSteps, shifted_word}
+use Rattle.dw_board.specs.Geometry.{Geometry, IsBoard, step, OnBoard, bit, square_of, IsPlace, IsShift, ShiftsAreSteps, shifted_word}
 use Rattle.dw_board.specs.SquareSet.{Squares, is_set, square_at, squares_of, word_of, OnlySquares, WholeBoard, IsWord}
 use Rattle.dw_board.specs.GeometryLaws.{square_at-bit, bit-square_at, step-OnBoard}
 use Rattle.dw_board.specs.SquareSetLaws.{is_square, contains-insert, and-false, contains-squares_of, is_square-true, below_two, is_set-or, bit-small, square_of_bit, contains-here, zero_one, word_of-squares_of, same_members, same_members-is}
@@ -208,15 +208,12 @@ members-are g w v e s =
     )
 
 -- ---- the least member
-abbrev pub square_there : Geometry → ℕ → ℕ
-square_there g x = x - x / (g.rows + 1) + 1
-
 the_square : (c : Bool) (n : ℕ) → is_some (cond c (Some n) None) ≡ true → cond c (Some n) None ≡ Some n
 the_square true n e = refl
 the_square false n e = absurd (true≢false (sym e))
 
-pub square_there-is : (g : Geometry) → IsBoard g → (w x : ℕ) → OnlySquares g w → bit_at w x ≡ 1 → OnBoard g (square_there g x) × (bit g (square_there g x) ≡ x)
-square_there-is g b w x only e = bit-square_at g b x (square_there g x) (the_square _ _ (only x e))
+pub place-is : (g : Geometry) → IsBoard g → (w x : ℕ) → OnlySquares g w → bit_at w x ≡ 1 → OnBoard g (square_of g x) × (bit g (square_of g x) ≡ x)
+place-is g b w x only e = bit-square_at g b x (square_of g x) (the_square _ _ (only x e))
 
 quotients : (a b k : ℕ) → 0 < k → a ≤ b → a / k ≤ b / k
 quotients a b k pos h = le-div (a / k) b k pos (omega (arith, div-mul-le_self a k))
@@ -230,11 +227,11 @@ bit-ascends g b s t to h = elim (cases_lt t s) [
   | inr done ↦ done
 ]
 
-pub least_member : (g : Geometry) → IsBoard g → (w x : ℕ) → OnlySquares g w → bit_at w x ≡ 1 → ((i : ℕ) → i < x → bit_at w i ≡ 0) → (t : ℕ) → set.contains (squares_of g w) t ≡ true → square_there g x ≤ t
+pub least_member : (g : Geometry) → IsBoard g → (w x : ℕ) → OnlySquares g w → bit_at w x ≡ 1 → ((i : ℕ) → i < x → bit_at w i ≡ 0) → (t : ℕ) → set.contains (squares_of g w) t ≡ true → square_of g x ≤ t
 least_member g b w x only e below t has =
     let to = squares_of-within g w t has in
-    let is = square_there-is g b w x only e in
-    bit-ascends g b (square_there g x) t to (elim (cases_lt (bit g t) x) [
+    let is = place-is g b w x only e in
+    bit-ascends g b (square_of g x) t to (elim (cases_lt (bit g t) x) [
       | inl less ↦ absurd (zero_one (ap (λ n. eqb n 1) (sym (below (bit g t) less)) ∙ (sym (contains-here g w t to) ∙ has)))
       | inr high ↦ omega (arith, is.1)
     ])
@@ -242,3 +239,46 @@ least_member g b w x only e below t has =
 -- a word without a member is 0
 pub word-zero : (g : Geometry) → IsBoard g → (w : ℕ) → OnlySquares g w → squares_of g w ≡ set.empty → w ≡ 0
 word-zero g b w only e = sym (word_of-squares_of g b w only) ∙ (ap (word_of g) (e ∙ sym (squares_of-empty g)) ∙ word_of-squares_of g b 0 (IsWord-empty g b).only)
+
+-- ---- the place of a square's bit
+some_is : (c : Bool) (n s : ℕ) → cond c (Some n) None ≡ Some s → n ≡ s
+some_is true n s e = some_injective e
+some_is false n s e = cc
+
+square_of-bit : (g : Geometry) → IsBoard g → (s : ℕ) → OnBoard g s → square_of g (bit g s) ≡ s
+square_of-bit g b s on = some_is _ _ s (square_at-bit g b s on)
+
+pub IsPlace-bit : (g : Geometry) → IsBoard g → (s x : ℕ) → OnBoard g s → x ≡ bit g s → IsPlace g x
+IsPlace-bit g b s x on e =
+    let same = square_of-bit g b s on in
+    subst (IsPlace g) (sym e) (record { on = subst (OnBoard g) (sym same) on; back = ap (bit g) same; small = bit-small g b s on })
+
+pub square_behind : (g : Geometry) → IsBoard g → (s x : ℕ) → OnBoard g s → x ≡ bit g s → square_of g x ≡ s
+square_behind g b s x on e = ap (square_of g) e ∙ square_of-bit g b s on
+
+pub same_places : (g : Geometry) (p q n m : ℕ) → IsPlace g p → IsPlace g q → square_of g p ≡ n → square_of g q ≡ m → eqb p q ≡ eqb n m
+same_places g p q n m h k i j = same_tests (eqb p q) (eqb n m)
+    (λ e. eq-eqb n m (sym i ∙ (ap (square_of g) (eqb-true p q e) ∙ j)))
+    (λ e. eq-eqb p q (sym h.back ∙ (ap (bit g) (i ∙ (eqb-true n m e ∙ sym j)) ∙ k.back)))
+
+-- ---- a step is the first square of a shifted set of one
+step_none : (g : Geometry) (s : ℕ) (d : Dir) (o : Option ℕ) → step g s d ≡ o → ((t : ℕ) → step g s d ≡ Some t → ⊥) → o ≡ None
+step_none g s d None e off = refl
+step_none g s d (Some t) e off = absurd (off t e)
+
+abbrev one_square : ℕ → Squares
+one_square s = set.insert set.empty s
+
+pub step-first : (g : Geometry) (s : ℕ) (d : Dir) (v : Squares) (o : Option ℕ)
+    → ((t : ℕ) → (set.contains v t ≡ true) ↔ ((q : ℕ) × ((set.contains (one_square s) q ≡ true) × (step g q d ≡ Some t))))
+    → IsNone o ↔ (v ≡ set.empty) → IfSome o (λ t. set.contains v t ≡ true) → o ≡ step g s d
+step-first g s d v None steps none member = sym (step_none g s d (step g s d) refl (λ t e.
+    true≢false (sym ((steps t).1 (s, (contains-insert set.empty s s ∙ rw (eq-eqb s s refl) refl, e)))
+    ∙ (ap (λ u. set.contains u t) (none.0 refl) ∙ set.contains-empty nat_cmp t))))
+step-first g s d v (Some t) steps none member =
+    let q = (steps t).0 member in
+    let same : q.0 ≡ s = elim (or_cases _ _ (sym (contains-insert set.empty s q.0) ∙ q.1.0)) [
+      | inl e ↦ eqb-true q.0 s e
+      | inr e ↦ absurd (true≢false (sym e ∙ set.contains-empty nat_cmp q.0))
+    ] in
+    sym (ap (λ x. step g x d) (sym same) ∙ q.1.1)

@@ -1,25 +1,29 @@
 -- The sets of the squares on which pieces stand: what a piece that comes or goes does to them.
-use Rattle.std.proofs.Common.{◌≡◌, ◌∙◌, ℕ, suc, zero, ◌+◌, ◌-◌, ◌≤◌, ◌<◌, ◌≢◌, Bool, true, false, cond, ◌&&◌, leb, List, Option, Some, None, length, get_or, set as put_at, take, replicate, count_by, refl, sym, ap, arith, get_or-set_other, get_or-set_same, inl, inr}
+use Rattle.std.proofs.Common.{◌≡◌, ◌∙◌, ℕ, suc, zero, ◌+◌, ◌-◌, ◌≤◌, ◌<◌, ◌≢◌, Bool, true, false, cond, ◌&&◌, ◌||◌, eqb, leb, List, Option, Some, None, length, get_or, set as put_at, take, replicate, count_by, refl, sym, ap, subst, arith, get_or-set_other, get_or-set_same, inl, inr}
 use Rattle.std.specs.Ordering.{nat_cmp}
 use Rattle.std.specs.FinSet as set
 use Rattle.std.specs.Cmp.{nat_cmp_total}
 use Rattle.std.proofs.Math.Seq.{take-length}
-use Rattle.std.proofs.lemmas.Bool.{cases_Bool, cases_eq, cases_lt, and_from, le-leb, lt-leb, eq-eqb, ne_eqb}
+use Rattle.std.proofs.lemmas.Bool.{cases_Bool, cases_eq, cases_lt, and_from, and_parts, le-leb, lt-leb, eq-eqb, eqb-true, ne_eqb, true≢false}
+use Rattle.std.proofs.lemmas.List.{ext_get_or}
+use Rattle.std.proofs.lemmas.List.FromFn.{length-map-range_with_len, get_or-map-range_with_len}
 use Rattle.std.proofs.lemmas.List.Sums.{count_by_more_yes, count_by_more_no}
 use Rattle.dw_board.specs.declared.piece.Side.{Side}
 use Rattle.dw_board.specs.declared.piece.Side.TheVariants.{White, Black}
 use Rattle.dw_board.specs.declared.piece.Kind.{Kind}
 use Rattle.dw_board.specs.declared.piece.Kind.TheVariants.{Man, King}
 use Rattle.dw_board.specs.declared.piece.Piece.{Piece}
-use Rattle.dw_board.specs.Geometry.{Geometry}
+use Rattle.dw_board.specs.declared.held.Held.{Held}
+use Rattle.dw_board.specs.Geometry.{Geometry, IsBoard, OnBoard}
 use Rattle.dw_board.specs.SquareSet.{Squares}
 use Rattle.dw_board.specs.SquareSetLaws.{contains-insert, and-false}
-use Rattle.dw_board.specs.Placement.{IsPosition, is_of, same_side}
-use Rattle.dw_board.specs.Standing.{same_kind, is_that, standing_below, standing, entered, IsKept}
-use Rattle.dw_board.specs.StandingLaws.{contains-below, contains-standing}
-use Rattle.dw_board.proofs.Sets.{contains-remove, past_range}
+use Rattle.dw_board.specs.Placement.{Placement, IsPosition, is_of, is_stuck, same_side, side_code}
+use Rattle.dw_board.specs.PlacementLaws.{same, same-is, side_back}
+use Rattle.dw_board.specs.Standing.{same_kind, is_that, standing_below, standing, set_of, entered, held_at, cells_of, IsKept}
+use Rattle.dw_board.specs.StandingLaws.{contains-below, contains-standing, same_sets, same_sets-is}
+use Rattle.dw_board.proofs.Sets.{contains-remove, past_range, same_tests}
 use Rattle.dw_board.proofs.Counting.{len_more}
-use Rattle.dw_board.proofs.Placed.{empty_cell}
+use Rattle.dw_board.proofs.Placed.{empty_cell, IsPosition-empty, IsPosition-put, IsPosition-clear}
 
 abbrev Cells : Type 0
 Cells = List (Option Piece)
@@ -133,3 +137,125 @@ count-kept g cells sets is side m k men kings =
 pub count-fits : (g : Geometry) (cells : Cells) → IsPosition g cells → (side : Side) → count_by (is_of side) cells ≤ g.side
 count-fits g cells pos White = pos.white_fits
 count-fits g cells pos Black = pos.black_fits
+
+-- ---- the cells that the sets tell of
+abbrev told : Bool → Bool → Bool → Bool → Option Piece
+told white_man black_man white_king black_king =
+    cond white_man (Some (record { side = White; kind = Man }))
+    (cond black_man (Some (record { side = Black; kind = Man }))
+    (cond white_king (Some (record { side = White; kind = King }))
+    (cond black_king (Some (record { side = Black; kind = King })) None)))
+
+piece_again : (side : Side) (k : Kind) → (let o : Option Piece = Some (record { side = side; kind = k }) in told (is_that White Man o) (is_that Black Man o) (is_that White King o) (is_that Black King o) ≡ o)
+piece_again White Man = refl
+piece_again White King = refl
+piece_again Black Man = refl
+piece_again Black King = refl
+
+cell_again : (sets : Side → Kind → Squares) (s : ℕ) (o : Option Piece) → ((side : Side) (k : Kind) → set.contains (sets side k) s ≡ is_that side k o) → held_at sets s ≡ o
+cell_again sets s None is = rw (is White Man, is Black Man, is White King, is Black King) refl
+cell_again sets s (Some p) is = rw (is White Man, is Black Man, is White King, is Black King) (piece_again p.side p.kind)
+
+pub cells_again : (g : Geometry) (cells : Cells) (sets : Side → Kind → Squares) → IsKept g cells sets → cells_of sets ≡ cells
+unfolding cells_of
+cells_again g cells sets is = ext_get_or None _ _
+    (length-map-range_with_len (held_at sets) 1 50 ∙ sym is.position.fifty)
+    (λ i low. let few : i < 50 = omega (arith, length-map-range_with_len (held_at sets) 1 50) in
+    get_or-map-range_with_len (held_at sets) 1 50 i (suc i) None few (omega arith)
+    ∙ cell_again sets (suc i) (get_or cells i None) (λ side k.
+    ap (λ v. set.contains v (suc i)) (sym (is.standing_is side k))
+    ∙ (contains-standing cells side k (suc i) ∙ (let at : suc i - 1 ≡ i = omega arith in rw (at, in_fifty (suc i) (omega arith) (omega arith)) refl))))
+
+pub kept-again : (g : Geometry) (cells : Cells) (sets : Side → Kind → Squares) → IsKept g cells sets → IsKept g (cells_of sets) sets
+kept-again g cells sets is = subst (λ c. IsKept g c sets) (sym (cells_again g cells sets is)) is
+
+pub cell_of : (sets : Side → Kind → Squares) (s : ℕ) → 1 ≤ s → s ≤ 50 → get_or (cells_of sets) (s - 1) None ≡ held_at sets s
+unfolding cells_of
+cell_of sets s low high = get_or-map-range_with_len (held_at sets) 1 50 (s - 1) s None (omega arith) (omega arith)
+
+-- ---- what a piece that comes or goes does to kept cells
+pub kept-empty : (g : Geometry) (sets : Side → Kind → Squares) → ((side : Side) (k : Kind) → sets side k ≡ set.empty) → IsKept g (replicate 50 None) sets
+kept-empty g sets none = record {
+  position = IsPosition-empty g;
+  standing_is = λ side k. standing-empty side k ∙ sym (none side k);
+}
+
+pub kept-entered : (g : Geometry) → IsBoard g → (cells : Cells) (sets now : Side → Kind → Squares) (s : ℕ) (p : Piece) → IsKept g cells sets → OnBoard g s
+    → get_or cells (s - 1) None ≡ None → is_stuck g s (Some p) ≡ false → count_by (is_of p.side) cells < g.side
+    → ((side : Side) (k : Kind) → now side k ≡ entered side k (sets side k) s p) → IsKept g (put_at cells (s - 1) (Some p)) now
+kept-entered g b cells sets now s p is on free stuck few comes =
+    let fifty = is.position.fifty in
+    let few_squares = b.squares_high in
+    let low = on.0 in
+    let high = on.1 in
+    record {
+      position = IsPosition-put g cells s p is.position low high (omega arith) free stuck few;
+      standing_is = λ side k. standing-entered cells s p side k fifty low (omega arith) free
+          ∙ (ap (λ v. entered side k v s p) (is.standing_is side k) ∙ sym (comes side k));
+    }
+
+pub kept-left : (g : Geometry) → IsBoard g → (cells : Cells) (sets now : Side → Kind → Squares) (s : ℕ) → IsKept g cells sets → OnBoard g s
+    → ((side : Side) (k : Kind) → now side k ≡ set.remove (sets side k) s) → IsKept g (put_at cells (s - 1) None) now
+kept-left g b cells sets now s is on goes =
+    let fifty = is.position.fifty in
+    let few_squares = b.squares_high in
+    let low = on.0 in
+    let high = on.1 in
+    record {
+      position = IsPosition-clear g cells s is.position (omega arith) low;
+      standing_is = λ side k. standing-left cells s side k fifty low (omega arith)
+          ∙ (ap (λ v. set.remove v s) (is.standing_is side k) ∙ sym (goes side k));
+    }
+
+-- ---- what the sets say of a square
+union_of_four : (a b c d : Squares) (s : ℕ)
+    → set.contains (set.union (set.union a b) (set.union c d)) s ≡ ((set.contains a s || set.contains b s) || (set.contains c s || set.contains d s))
+union_of_four a b c d s =
+    set.contains-union nat_cmp_total (set.union a b) (set.union c d) s
+    ∙ rw (set.contains-union nat_cmp_total a b s, set.contains-union nat_cmp_total c d s) refl
+
+none_of_four : (a b c d : Bool) → ((a || b) || (c || d)) ≡ false → told a c b d ≡ None
+none_of_four true b c d e = absurd (true≢false e)
+none_of_four false true c d e = absurd (true≢false e)
+none_of_four false false true d e = absurd (true≢false e)
+none_of_four false false false true e = absurd (true≢false e)
+none_of_four false false false false e = refl
+
+last_of_four : (a b c d : Bool) → ((a || b) || (c || d)) ≡ true → a ≡ false → c ≡ false → b ≡ false → d ≡ true
+last_of_four true b c d e h k l = absurd (true≢false h)
+last_of_four false true c d e h k l = absurd (true≢false l)
+last_of_four false false true d e h k l = absurd (true≢false k)
+last_of_four false false false d e h k l = e
+
+pub held_at-none : (sets : Side → Kind → Squares) (s : ℕ) (found : Bool) → found ≡ set.contains (set.union (set.union (sets White Man) (sets White King)) (set.union (sets Black Man) (sets Black King))) s
+    → found ≡ false → None ≡ held_at sets s
+held_at-none sets s found is e = sym (none_of_four _ _ _ _ (sym (union_of_four _ _ _ _ s) ∙ (sym is ∙ e)))
+
+pub held_at-last : (sets : Side → Kind → Squares) (s : ℕ) (found : Bool) → found ≡ set.contains (set.union (set.union (sets White Man) (sets White King)) (set.union (sets Black Man) (sets Black King))) s
+    → found ≡ true → set.contains (sets White Man) s ≡ false → set.contains (sets Black Man) s ≡ false → set.contains (sets White King) s ≡ false
+    → Some (record { side = Black; kind = King }) ≡ held_at sets s
+held_at-last sets s found is e a b c =
+    let last = last_of_four _ _ _ _ (sym (union_of_four (sets White Man) (sets White King) (sets Black Man) (sets Black King) s) ∙ (sym is ∙ e)) a b c in
+    rw (a, b, c, last) refl
+
+-- ---- the same sets are the same position
+abbrev pub kept_placement : {B : Type 0} → Held B → Side → Placement
+kept_placement h turn = record { cells = cells_of (set_of h); turn = turn }
+
+same_set : {g : Geometry} (B : Type 0) {h k : Held B} {t u : Side} → IsKept g (cells_of (set_of h)) (set_of h) → IsKept g (cells_of (set_of k)) (set_of k)
+    → kept_placement h t ≡ kept_placement k u → (side : Side) (kind : Kind) → set_of h side kind ≡ set_of k side kind
+same_set B is js p side kind = sym (is.standing_is side kind) ∙ (ap (λ v. standing v.cells side kind) p ∙ js.standing_is side kind)
+
+pub same_kept : (g : Geometry) (B : Type 0) (h k : Held B) (t u : Side) → IsKept g (cells_of (set_of h)) (set_of h) → IsKept g (cells_of (set_of k)) (set_of k)
+    → (eqb (side_code t) (side_code u) && same_sets h k) ≡ same (kept_placement h t) (kept_placement k u)
+same_kept g B h k t u is js = same_tests _ _
+    (λ e. let p = and_parts _ _ e in
+    let turn = side_back t u (eqb-true _ _ p.0) in
+    let sets = (same_sets-is h k).0 p.1 in
+    (same-is _ _).1 (λ i. kept_placement (sets i) (turn i)))
+    (λ e. let p = (same-is (kept_placement h t) (kept_placement k u)).0 e in
+    let a = same_set B is js p White Man in
+    let b = same_set B is js p White King in
+    let c = same_set B is js p Black Man in
+    let d = same_set B is js p Black King in
+    and_from _ _ (eq-eqb _ _ (ap (λ v. side_code v.turn) p)) ((same_sets-is h k).1 (λ i. record { white_men = a i; white_kings = b i; black_men = c i; black_kings = d i })))

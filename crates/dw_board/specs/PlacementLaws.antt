@@ -31,7 +31,7 @@ cells_back : (xs : List (Option Piece)) → map cell_at (map cell_code xs) ≡ x
 cells_back [] = refl
 cells_back (x ∷ xs) = λ i. cell_back x i ∷ cells_back xs i
 
-side_back : (a b : Side) → side_code a ≡ side_code b → a ≡ b
+pub side_back : (a b : Side) → side_code a ≡ side_code b → a ≡ b
 side_back White White e = refl
 side_back White Black e = cc
 side_back Black White e = cc

@@ -1,9 +1,9 @@
 -- Sets of squares, and the padded words that hold them: square s is the bit `bit g s`.
-use Rattle.std.proofs.Common.{◌≡◌, ℕ, suc, zero, ◌+◌, ◌-◌, ◌/◌, ◌%◌, ◌^◌, Bool, true, cond, ◌&&◌, eqb, leb, Option, Some, None, is_some, bit_or}
+use Rattle.std.proofs.Common.{◌≡◌, ℕ, suc, zero, ◌+◌, ◌/◌, ◌%◌, ◌^◌, Bool, true, cond, ◌&&◌, eqb, leb, Option, Some, None, is_some, bit_or}
 use Rattle.std.specs.Int.{bit_at}
 use Rattle.std.specs.Ordering.{nat_cmp}
 use Rattle.std.specs.FinSet as set
-use Rattle.dw_board.specs.Geometry.{Geometry, IsBoard, squares, OnBoard, bit}
+use Rattle.dw_board.specs.Geometry.{Geometry, IsBoard, squares, OnBoard, bit, square_of}
 
 -- a set of squares, by their numbers
 abbrev pub Squares : Type 0
@@ -15,7 +15,7 @@ is_set w x = eqb (bit_at w x) 1
 
 -- the square of a bit; the bit behind each two rows belongs to none
 abbrev pub square_at : Geometry → ℕ → Option ℕ
-square_at g x = cond (leb (x + 1) (squares g + g.rows / 2) && leb (x % (g.rows + 1) + 1) g.rows) (Some (x - x / (g.rows + 1) + 1)) None
+square_at g x = cond (leb (x + 1) (squares g + g.rows / 2) && leb (x % (g.rows + 1) + 1) g.rows) (Some (square_of g x)) None
 
 -- the squares up to n whose bit is set
 unfoldable pub members_below : Geometry → ℕ → ℕ → Squares

@@ -1,6 +1,8 @@
 -- The squares on which each side's men stand and its kings, as four sets.
-use Rattle.std.proofs.Common.{◌≡◌, ℕ, suc, zero, Bool, true, false, cond, ◌&&◌, List, Option, Some, None, get_or}
+use Rattle.std.proofs.Common.{◌≡◌, ℕ, suc, zero, Bool, true, false, cond, ◌&&◌, ◌++◌, List, Option, Some, None, get_or, map}
 use Rattle.std.specs.FinSet as set
+use Rattle.std.specs.Hash as fed
+use Rattle.std.specs.List.{range_with_len}
 use Rattle.dw_board.specs.declared.piece.Side.{Side}
 use Rattle.dw_board.specs.declared.piece.Side.TheVariants.{White, Black}
 use Rattle.dw_board.specs.declared.piece.Kind.{Kind}
@@ -8,8 +10,8 @@ use Rattle.dw_board.specs.declared.piece.Kind.TheVariants.{Man, King}
 use Rattle.dw_board.specs.declared.piece.Piece.{Piece}
 use Rattle.dw_board.specs.declared.held.Held.{Held}
 use Rattle.dw_board.specs.Geometry.{Geometry}
-use Rattle.dw_board.specs.SquareSet.{Squares}
-use Rattle.dw_board.specs.Placement.{IsPosition, same_side}
+use Rattle.dw_board.specs.SquareSet.{Squares, word_of}
+use Rattle.dw_board.specs.Placement.{Placement, IsPosition, same_side, side_code}
 
 -- whether two kinds are the same
 abbrev pub same_kind : Kind → Kind → Bool
@@ -42,6 +44,29 @@ set_of h Black King = h.black_kings
 -- the set of a side and a kind, once a piece has come to a square
 abbrev pub entered : Side → Kind → Squares → ℕ → Piece → Squares
 entered side kind v s p = cond (is_that side kind (Some p)) (set.insert v s) v
+
+-- what the sets say of a square; none has a square of another's
+abbrev pub held_at : (Side → Kind → Squares) → ℕ → Option Piece
+held_at sets s =
+    cond (set.contains (sets White Man) s) (Some (record { side = White; kind = Man }))
+    (cond (set.contains (sets Black Man) s) (Some (record { side = Black; kind = Man }))
+    (cond (set.contains (sets White King) s) (Some (record { side = White; kind = King }))
+    (cond (set.contains (sets Black King) s) (Some (record { side = Black; kind = King })) None)))
+
+-- the fifty cells that the sets tell of
+unfoldable pub cells_of : (Side → Kind → Squares) → List (Option Piece)
+cells_of sets = map (held_at sets) (range_with_len 1 50)
+
+-- the word of the squares on which a piece of this side and kind stands
+abbrev pub standing_word : Geometry → Placement → Side → Kind → ℕ
+standing_word g p side kind = word_of g (standing p.cells side kind)
+
+-- what a position feeds a hash: the side to move, and the four words
+abbrev pub position_bytes : Geometry → Placement → List (List ℕ)
+position_bytes g p =
+    fed.u8 (side_code p.turn)
+    ++ fed.u64 (standing_word g p White Man) ++ fed.u64 (standing_word g p White King)
+    ++ fed.u64 (standing_word g p Black Man) ++ fed.u64 (standing_word g p Black King)
 
 -- the cells are a position's, and each set is that of the squares where its pieces stand
 pub record IsKept (g : Geometry) (cells : List (Option Piece)) (sets : Side → Kind → Squares) : Type 0 where

@@ -1,5 +1,5 @@
 -- Laws of the sets of the squares on which pieces stand.
-use Rattle.std.proofs.Common.{◌≡◌, ◌∙◌, ℕ, suc, zero, ◌-◌, ◌↔◌, true, ◌&&◌, leb, List, Option, Some, None, get_or, refl, sym, ap, arith, inl, inr}
+use Rattle.std.proofs.Common.{◌≡◌, ◌∙◌, ℕ, suc, zero, ◌-◌, ◌↔◌, Bool, true, ◌&&◌, leb, List, Option, Some, None, get_or, refl, sym, ap, arith, inl, inr}
 use Rattle.std.specs.Ordering.{nat_cmp}
 use Rattle.std.specs.FinSet as set
 use Rattle.std.proofs.lemmas.Bool.{cases_lt, and_parts, and_from, leb-true, le-leb}
@@ -8,8 +8,9 @@ use Rattle.dw_board.specs.declared.piece.Side.TheVariants.{White, Black}
 use Rattle.dw_board.specs.declared.piece.Kind.{Kind}
 use Rattle.dw_board.specs.declared.piece.Kind.TheVariants.{Man, King}
 use Rattle.dw_board.specs.declared.piece.Piece.{Piece}
+use Rattle.dw_board.specs.declared.held.Held.{Held}
 use Rattle.dw_board.specs.Geometry.{Geometry, IsBoard, squares, OnBoard}
-use Rattle.dw_board.specs.SquareSetLaws.{none_in_empty, member_more}
+use Rattle.dw_board.specs.SquareSetLaws.{none_in_empty, member_more, same_members, same_members-is}
 use Rattle.dw_board.specs.Placement.{IsPosition, same_side}
 use Rattle.dw_board.specs.Standing.{same_kind, is_that, standing_below, standing}
 
@@ -76,4 +77,26 @@ standing-members g b cells pos side k s = (
   (λ h. contains-standing cells side k s ∙ and_from _ _
       (and_from _ _ (le-leb _ _ h.0.0) (le-leb _ _ (let low = h.0.1 in let few = b.squares_high in omega arith)))
       (ap (is_that side k) h.1 ∙ is_that-here side k)),
+)
+
+-- ---- four sets that are the same
+abbrev pub same_sets : {B : Type 0} → Held B → Held B → Bool
+same_sets h k = same_members h.white_men k.white_men && (same_members h.white_kings k.white_kings && (same_members h.black_men k.black_men && same_members h.black_kings k.black_kings))
+
+pub same_sets-is : {B : Type 0} (h k : Held B) → (same_sets h k ≡ true) ↔ (h ≡ k)
+same_sets-is h k = (
+  (λ e.
+      let p = and_parts _ _ e in
+      let q = and_parts _ _ p.1 in
+      let r = and_parts _ _ q.1 in
+      let a = (same_members-is h.white_men k.white_men).0 p.0 in
+      let b = (same_members-is h.white_kings k.white_kings).0 q.0 in
+      let c = (same_members-is h.black_men k.black_men).0 r.0 in
+      let d = (same_members-is h.black_kings k.black_kings).0 r.1 in
+      λ i. record { white_men = a i; white_kings = b i; black_men = c i; black_kings = d i }),
+  (λ e.
+      and_from _ _ ((same_members-is h.white_men k.white_men).1 (ap (λ x. x.white_men) e))
+      (and_from _ _ ((same_members-is h.white_kings k.white_kings).1 (ap (λ x. x.white_kings) e))
+      (and_from _ _ ((same_members-is h.black_men k.black_men).1 (ap (λ x. x.black_men) e))
+      ((same_members-is h.black_kings k.black_kings).1 (ap (λ x. x.black_kings) e))))),
 )

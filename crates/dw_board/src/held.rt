@@ -1,7 +1,10 @@
 //! The squares of each side's men and of its kings.
 ghost use Rattle.std.specs.Prelude.{◌≡◌, ⊤};
+ghost use Rattle.dw_board.specs.StandingLaws.{same_sets};
 ghost use Rattle.std.specs.FinSet as set;
-ghost use Rattle.dw_board.specs.Standing.{set_of, entered};
+ghost use Rattle.dw_board.specs.Standing.{set_of, held_at, entered};
+ghost use Rattle.dw_board.specs.declared.piece.Side.TheVariants.{White, Black};
+ghost use Rattle.dw_board.specs.declared.piece.Kind.TheVariants.{Man, King};
 
 use crate::board::Board;
 use crate::piece::{Kind, Piece, Side};
@@ -43,6 +46,49 @@ impl<B: Board> Held<B> {
         }
     }
 
+    /// The squares of this side's pieces.
+    pub(crate) fn all_of(&self, side: Side) -> Squares<B>
+        ensures { result ≡ set.union (set_of self.now side Man) (set_of self.now side King) }
+    {
+        self.of(side, Kind::Man).or(self.of(side, Kind::King))
+    }
+
+    /// All squares on which a piece stands.
+    pub(crate) fn occupied(&self) -> Squares<B>
+        ensures { result ≡ set.union (set.union (set_of self.now White Man) (set_of self.now White King)) (set.union (set_of self.now Black Man) (set_of self.now Black King)) }
+    {
+        self.all_of(Side::White).or(self.all_of(Side::Black))
+    }
+
+    /// What stands on a square.
+    pub(crate) fn at(&self, square: Square<B>) -> Option<Piece>
+        ensures { result ≡ held_at (set_of self.now) square }
+    {
+        if !self.occupied().has(square) {
+            return None;
+        }
+        let (side, kind) = if self.white_men.has(square) {
+            (Side::White, Kind::Man)
+        } else if self.black_men.has(square) {
+            (Side::Black, Kind::Man)
+        } else if self.white_kings.has(square) {
+            (Side::White, Kind::King)
+        } else {
+            (Side::Black, Kind::King)
+        };
+        Some(Piece { side, kind })
+    }
+
+    /// Whether each set is the same.
+    pub(crate) fn is_same(&self, other: &Self) -> bool
+        ensures { result ≡ same_sets self.now other.now }
+    {
+        self.white_men == other.white_men
+            && self.white_kings == other.white_kings
+            && self.black_men == other.black_men
+            && self.black_kings == other.black_kings
+    }
+
     /// The same, and the piece on the square.
     pub(crate) fn with(self, square: Square<B>, piece: Piece) -> Self
         ensures { (side : Side) (kind : Kind) → set_of result side kind ≡ entered side kind (set_of self side kind) square piece }
@@ -66,6 +112,18 @@ impl<B: Board> Held<B> {
             white_kings: self.white_kings.without(square),
             black_men: self.black_men.without(square),
             black_kings: self.black_kings.without(square),
+        }
+    }
+
+    /// The same, and nothing on these squares.
+    pub(crate) fn minus(self, squares: Squares<B>) -> Self
+        ensures { (side : Side) (kind : Kind) → set_of result side kind ≡ set.difference (set_of self side kind) squares }
+    {
+        Held {
+            white_men: self.white_men.minus(squares),
+            white_kings: self.white_kings.minus(squares),
+            black_men: self.black_men.minus(squares),
+            black_kings: self.black_kings.minus(squares),
         }
     }
 }

@@ -1,17 +1,16 @@
 //! Positions: what stands on a board, and whose turn it is.
-ghost use Rattle.std.specs.Prelude.{◌≡◌, ◌≤◌, ◌<◌, ◌↔◌, ℕ, Some, None, Ok, Err, IsTrue, is_ok, if◌then◌else◌, MatchResult, Result};
-ghost use Rattle.dw_board.specs.Placement.{Placement, IsPosition, placed, put_fault, without};
-ghost use Rattle.dw_board.specs.declared.piece.Kind as kinds;
-ghost use Rattle.dw_board.specs.declared.piece.Piece as pieces;
+ghost use Rattle.std.specs.Prelude.{◌≡◌, ◌≤◌, ◌<◌, ◌↔◌, ℕ, Some, None, Ok, Err, IsTrue, is_ok, is_some, if◌then◌else◌, MatchResult, Result};
+ghost use Rattle.dw_board.specs.Placement.{Placement, IsPosition, placed, without, put_fault};
 ghost use Rattle.dw_board.specs.Placement as of;
 ghost use Rattle.dw_board.specs.Geometry as Geo;
 ghost use Rattle.std.specs.FinSet as set;
 ghost use Rattle.dw_board.specs.Placement.{side_code, cell_codes};
-ghost use Rattle.std.specs.Prelude.{◌==◌, ◌++◌, List, map};
+ghost use Rattle.std.specs.Prelude.{◌==◌, slice_index_or};
 ghost use Rattle.std.proofs.Common.{rules};
-ghost use Rattle.std.specs.Hash as fed;
+ghost use Rattle.dw_board.specs.Standing.{position_bytes};
+ghost use Rattle.dw_board.specs.PlacementLaws.{same-is};
 ghost use Rattle.std.specs.Cmp.{partial_order_from_own_ties};
-ghost use Rattle.std.specs.Cmp.Rules.{comparing, hashing};
+ghost use Rattle.std.specs.Cmp.Rules.{comparing};
 ghost use Rattle.std.specs.Cmp.Lexicographic.{slice_cmp, pointwise};
 ghost use Rattle.std.specs.Ordering.{nat_cmp, on, then_cmp, as_partial_cmp, eq_of_both};
 ghost use Rattle.std.specs.Result.{result_err};
@@ -23,34 +22,32 @@ use crate::square::Square;
 use crate::squares::Squares;
 use std::cmp::Ordering;
 use std::hash::{Hash, Hasher};
-use std::marker::{Model, PhantomData};
+use std::marker::Model;
 
 /// Pieces on a board, and the side to move. A side has no more pieces than it may, and no man on its last row.
 ///
-/// It keeps both what stands on each square and where each side's men and kings stand, and reads either without a search.
+/// It keeps where each side's men and kings stand, as sets of squares, and nothing else.
 #[derive(Clone, Copy)]
 pub struct Position<B: Board> {
-    cells: [Option<Piece>; 50],
     held: Held<B>,
     turn: Side,
-    board: PhantomData<B>,
 }
 
 impl<B: Board> Model for Position<B> {
     ghost use Rattle.dw_board.specs.Placement.{Placement};
-    ghost use Rattle.dw_board.specs.Standing.{standing, set_of, IsKept};
+    ghost use Rattle.dw_board.specs.Standing.{standing, set_of, cells_of, IsKept};
     ghost use Rattle.dw_board.specs.declared.piece.Side.TheVariants.{White, Black};
     ghost use Rattle.dw_board.specs.declared.piece.Kind.TheVariants.{Man, King};
 
     ghost Value = { Placement };
 
-    ghost view = { λ p. record { cells = p.cells; turn = p.turn } };
+    ghost view = { λ p. record { cells = cells_of (set_of p.held); turn = p.turn } };
 
-    ghost invariant = { λ p. IsKept B.geometry p.cells (set_of p.held) };
+    ghost invariant = { λ p. IsKept B.geometry (cells_of (set_of p.held)) (set_of p.held) };
 
-    ghost inverse = { λ v. record { cells = v.cells; held = record { white_men = standing v.cells White Man; white_kings = standing v.cells White King; black_men = standing v.cells Black Man; black_kings = standing v.cells Black King }; turn = v.turn; board = record {} } };
+    ghost inverse = { λ v. record { held = record { white_men = standing v.cells White Man; white_kings = standing v.cells White King; black_men = standing v.cells Black Man; black_kings = standing v.cells Black King }; turn = v.turn } };
 
-    ghost inverse_ok = { λ a h i. record { cells = a.cells; held = record { white_men = h.standing_is White Man i; white_kings = h.standing_is White King i; black_men = h.standing_is Black Man i; black_kings = h.standing_is Black King i }; turn = a.turn; board = a.board } };
+    ghost inverse_ok = { λ a h i. record { held = record { white_men = h.standing_is White Man i; white_kings = h.standing_is White King i; black_men = h.standing_is Black Man i; black_kings = h.standing_is Black King i }; turn = a.turn } };
 }
 
 impl<B: Board> Position<B> {
@@ -59,10 +56,8 @@ impl<B: Board> Position<B> {
         ensures { result ≡ of.empty turn }
     {
         Position {
-            cells: [None; 50],
             held: Held::none(),
             turn,
-            board: PhantomData,
         }
     }
 
@@ -81,7 +76,6 @@ impl<B: Board> Position<B> {
         if B::SIDE <= self.count(piece.side) {
             return Err(PutFault::TooMany);
         }
-        self.cells[square.number() as usize - 1] = Some(piece);
         self.held = self.held.with(square, piece);
         Ok(())
     }
@@ -92,9 +86,15 @@ impl<B: Board> Position<B> {
         ensures after { self.new ≡ placed self.old square None }
     {
         let stood = self.at(square);
-        self.cells[square.number() as usize - 1] = None;
         self.held = self.held.without(square);
         stood
+    }
+
+    /// Empties these squares.
+    pub fn clear_all(&mut self, squares: Squares<B>)
+        ensures { self.new ≡ without self.old squares }
+    {
+        self.held = self.held.minus(squares);
     }
 
     /// What stands on a square.
@@ -102,7 +102,8 @@ impl<B: Board> Position<B> {
         ensures value { result ≡ of.at self.now square }
         ensures on_board { Geo.OnBoard B.geometry square }
     {
-        self.cells[square.number() as usize - 1]
+        square.is_on_board();
+        self.held.at(square)
     }
 
     /// The side to move.
@@ -162,6 +163,20 @@ impl<B: Board> Position<B> {
     {
         self.held.of(side, kind)
     }
+
+    /// All squares on which a piece of this side stands.
+    pub fn all_of(&self, side: Side) -> Squares<B>
+        ensures { (s : ℕ) → IsTrue (set.contains result s) ↔ (Geo.OnBoard B.geometry s × IsTrue (of.is_of side (of.at self.now s))) }
+    {
+        self.held.all_of(side)
+    }
+
+    /// All squares on which a piece stands.
+    pub fn occupied(&self) -> Squares<B>
+        ensures { (s : ℕ) → IsTrue (set.contains result s) ↔ (Geo.OnBoard B.geometry s × IsTrue (is_some (of.at self.now s))) }
+    {
+        self.held.occupied()
+    }
 }
 
 /// Whether the piece would be a man on its last row.
@@ -205,13 +220,23 @@ fn side_number(side: Side) -> u8
     }
 }
 
-/// The numbers of all cells.
-fn codes_of(cells: &[Option<Piece>; 50]) -> [u8; 50]
-    ensures { result ≡ map of.cell_code cells.now }
+/// What stands on the square behind so many others, and nothing past the board.
+fn cell_behind<B: Board>(position: &Position<B>, index: u8) -> Option<Piece>
+    requires { index < 50 }
+    ensures { result ≡ slice_index_or position.now.cells index None }
 {
+    let held = &position.held;
+    held.at(Square::new(index + 1)?)
+}
+
+/// The numbers of all cells.
+fn codes_of<B: Board>(position: &Position<B>) -> [u8; 50]
+    ensures { result ≡ cell_codes position.now }
+{
+    let _ = &position.held;
     let mut codes = [0; 50];
     for i in 0..50 {
-        codes[i] = cell_code(cells[i]);
+        codes[i] = cell_code(cell_behind(position, i as u8));
     }
     codes
 }
@@ -222,8 +247,7 @@ impl<B: Board> PartialEq for Position<B> {
     ghost laws = { Prim.search (comparing, rules) depth 9 };
 
     fn eq(&self, other: &Self) -> bool {
-        side_number(self.turn) == side_number(other.turn)
-            && codes_of(&self.cells) == codes_of(&other.cells)
+        side_number(self.turn) == side_number(other.turn) && self.held.is_same(&other.held)
     }
 }
 
@@ -243,7 +267,7 @@ impl<B: Board> Ord for Position<B> {
     fn cmp(&self, other: &Self) -> Ordering {
         side_number(self.turn)
             .cmp(&side_number(other.turn))
-            .then(codes_of(&self.cells).cmp(&codes_of(&other.cells)))
+            .then(codes_of(self).cmp(&codes_of(other)))
     }
 }
 
@@ -258,12 +282,15 @@ impl<B: Board> PartialOrd for Position<B> {
 }
 
 impl<B: Board> Hash for Position<B> {
-    ghost hash_input = { λ p. fed.u8 (side_code p.turn) ++ fed.slice fed.u8 (cell_codes p) };
+    ghost hash_input = { position_bytes B.geometry };
 
-    ghost respects_eq = { Prim.search (hashing, rules) };
+    ghost respects_eq = { λ x y h i. position_bytes B.geometry ((same-is x y).0 h i) };
 
     fn hash<H: Hasher>(&self, state: &mut H) {
         state.write_u8(side_number(self.turn));
-        codes_of(&self.cells).hash(state);
+        self.held.of(Side::White, Kind::Man).hash(state);
+        self.held.of(Side::White, Kind::King).hash(state);
+        self.held.of(Side::Black, Kind::Man).hash(state);
+        self.held.of(Side::Black, Kind::King).hash(state);
     }
 }

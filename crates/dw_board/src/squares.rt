@@ -44,16 +44,6 @@ impl<B: Board> Model for Squares<B> {
     ghost inverse_ok = { λ a h i. record { word = word_of-squares_of B.geometry h.board a.word h.only i; board = a.board } };
 }
 
-/// The place of a square's bit.
-fn place<B: Board>(square: Square<B>) -> u8
-    ensures value { result ≡ Geo.bit B.geometry square }
-    ensures small { result < 64 }
-    ensures on_board { Geo.OnBoard B.geometry square }
-{
-    let index = square.number() - 1;
-    index + index / B::ROWS
-}
-
 impl<B: Board> Squares<B> {
     /// The empty set.
     pub fn none() -> Self
@@ -65,11 +55,25 @@ impl<B: Board> Squares<B> {
         }
     }
 
+    /// The set of one square.
+    pub fn one(square: Square<B>) -> Self
+        ensures { result ≡ set.insert set.empty square }
+    {
+        Self::none().with(square)
+    }
+
+    /// Whether no square is in the set.
+    pub fn is_empty(self) -> bool
+        ensures { IsTrue result ↔ (self ≡ set.empty) }
+    {
+        self.word == 0
+    }
+
     /// Whether the square is in the set.
     pub fn has(self, square: Square<B>) -> bool
         ensures { result ≡ set.contains self square }
     {
-        (self.word >> place(square)) & 1 == 1
+        (self.word >> square.place()) & 1 == 1
     }
 
     /// This set and the square.
@@ -77,7 +81,7 @@ impl<B: Board> Squares<B> {
         ensures { result ≡ set.insert self square }
     {
         Squares {
-            word: self.word | (1 << place(square)),
+            word: self.word | (1 << square.place()),
             board: PhantomData,
         }
     }
@@ -97,7 +101,7 @@ impl<B: Board> Squares<B> {
         ensures { result ≡ set.remove self square }
     {
         Squares {
-            word: self.word & !(1 << place(square)),
+            word: self.word & !(1 << square.place()),
             board: PhantomData,
         }
     }
@@ -140,8 +144,19 @@ impl<B: Board> Squares<B> {
         if self.word == 0 {
             return None;
         }
-        let place = self.word.trailing_zeros() as u8;
-        Square::new(place - place / (B::ROWS + 1) + 1)
+        Some(Square::of_bit(self.word.trailing_zeros() as u8))
+    }
+
+    /// The least square and the others, or `None` in the empty set.
+    pub fn split(self) -> Option<(Square<B>, Self)>
+        ensures none { IsNone result ↔ (self ≡ set.empty) }
+        ensures member { IfSome result (λ parts. IsTrue (set.contains self parts.0)) }
+        ensures least { IfSome result (λ parts. (t : ℕ) → IsTrue (set.contains self t) → parts.0 ≤ t) }
+        ensures on_board { IfSome result (λ parts. Geo.OnBoard B.geometry parts.0) }
+        ensures rest { IfSome result (λ parts. parts.1 ≡ set.remove self parts.0) }
+    {
+        let square = self.first()?;
+        Some((square, self.without(square)))
     }
 
     /// Whether there is no square in the set.

@@ -3,7 +3,7 @@ use Rattle.dw_board.specs.Placement as of
 use Rattle.dw_board.proofs.position.codes_of.Given as goal
 
 abbrev pub invariant-loop-i : goal.invariant-loop-i
-invariant-loop-i l = record {
+invariant-loop-i g l = record {
   len : length l.codes ≡ 50;
-  written : (k : ℕ) → k < l.i → get_or l.codes k 0 ≡ of.cell_code (get_or l.cells k None);
+  written : (k : ℕ) → k < l.i → get_or l.codes k 0 ≡ of.cell_code (get_or l.position.cells k None);
 }

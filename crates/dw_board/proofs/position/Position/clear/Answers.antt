@@ -1,16 +1,22 @@
-use Rattle.std.proofs.Common.{arith, ap, sym, ◌∙◌}
-use Rattle.std.specs.FinSet as set
-use Rattle.dw_board.proofs.Placed.{IsPosition-clear}
-use Rattle.dw_board.proofs.Standing.{standing-left}
+use Rattle.std.proofs.Common.{◌∙◌, ap, None, set as put_at, ◌-◌}
+use Rattle.dw_board.specs.Placement as of
+use Rattle.dw_board.specs.Standing.{set_of, cells_of}
+use Rattle.dw_board.proofs.Standing.{kept-left, cells_again, kept-again}
 use Rattle.dw_board.proofs.position.Position.clear.Goals as goal
 
 pub invariant_of-self : goal.invariant_of-self
 invariant_of-self g c =
-    let is = c.self.invariant in
-    let s = c.args.square in
-    let fifty = is.position.fifty in
-    rw c.number.ensures.value (record {
-      position = IsPosition-clear g.B.Board.geometry c.self.inside.cells s is.position (omega arith) (omega arith);
-      standing_is = λ side k. standing-left c.self.inside.cells s side k fifty (omega arith) (omega arith)
-          ∙ (ap (λ v. set.remove v s) (is.standing_is side k) ∙ sym (c.without-self-inside.ensures side k));
-    })
+    let board = g.B.Board.geometry in
+    let cells = cells_of (set_of c.self.inside.held) in
+    let now = set_of c.without-self-inside.result in
+    kept-again board (put_at cells (c.args.square - 1) None) now
+    (kept-left board g.met.B.Board.numbers cells (set_of c.self.inside.held) now c.args.square c.self.invariant c.at-stood.ensures.on_board c.without-self-inside.ensures)
+
+pub returns-clause-after : goal.returns-clause-after
+returns-clause-after g c =
+    let board = g.B.Board.geometry in
+    let cells = cells_of (set_of c.self.inside.held) in
+    let now = set_of c.without-self-inside.result in
+    let again = cells_again board (put_at cells (c.args.square - 1) None) now
+    (kept-left board g.met.B.Board.numbers cells (set_of c.self.inside.held) now c.args.square c.self.invariant c.at-stood.ensures.on_board c.without-self-inside.ensures) in
+    (λ i. record { cells = again i; turn = c.self.inside.turn }) ∙ ap (λ v. of.placed v c.args.square None) c.self.view_is

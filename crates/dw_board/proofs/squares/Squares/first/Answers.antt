@@ -1,29 +1,31 @@
 use Rattle.std.proofs.Common.{◌∙◌, ap, refl, sym}
-use Rattle.dw_board.proofs.Options.{some_where}
 use Rattle.dw_board.specs.SquareSet.{squares_of}
 use Rattle.dw_board.proofs.Sets.{squares_of-empty}
-use Rattle.dw_board.proofs.Counting.{least-is, least-some}
+use Rattle.dw_board.proofs.Counting.{least-is, least-place, least-some}
 use Rattle.dw_board.proofs.squares.Squares.first.Goals as goal
+
+pub of_bit-requires : goal.of_bit-requires
+of_bit-requires g c = least-place g.B.Board.geometry c.self.invariant.board c.self.inside.word c.self.invariant.only c.if-self-eq0.false
 
 pub returns-then-self-eq0-clause-none : goal.returns-then-self-eq0-clause-none
 returns-then-self-eq0-clause-none g c = (λ h. sym c.self.view_is ∙ (ap (squares_of g.B.Board.geometry) c.if-self-eq0.true ∙ squares_of-empty g.B.Board.geometry), λ h. refl)
 
 pub returns-clause-none : goal.returns-clause-none
 returns-clause-none g c =
-    let is = least-is g.B.Board.geometry c.self.invariant.board c.self.inside.word c.ROWS.result c.args.self c.self.view_is c.self.invariant.only c.if-self-eq0.false (c.ROWS.ensures ∙ g.met.B.Board.rows_is) in
-    rw (some_where c.new.result _ c.new.ensures is.on) (λ h. cc, λ h. absurd (least-some g.B.Board.geometry c.args.self _ is h))
+    let is = least-is g.B.Board.geometry c.self.invariant.board c.self.inside.word c.args.self c.self.view_is c.self.invariant.only c.if-self-eq0.false in
+    (λ h. cc, λ h. absurd (least-some g.B.Board.geometry c.args.self _ is h))
 
 pub returns-clause-member : goal.returns-clause-member
 returns-clause-member g c =
-    let is = least-is g.B.Board.geometry c.self.invariant.board c.self.inside.word c.ROWS.result c.args.self c.self.view_is c.self.invariant.only c.if-self-eq0.false (c.ROWS.ensures ∙ g.met.B.Board.rows_is) in
-    rw (some_where c.new.result _ c.new.ensures is.on) is.has
+    let is = least-is g.B.Board.geometry c.self.invariant.board c.self.inside.word c.args.self c.self.view_is c.self.invariant.only c.if-self-eq0.false in
+    rw c.of_bit.ensures is.has
 
 pub returns-clause-least : goal.returns-clause-least
 returns-clause-least g c =
-    let is = least-is g.B.Board.geometry c.self.invariant.board c.self.inside.word c.ROWS.result c.args.self c.self.view_is c.self.invariant.only c.if-self-eq0.false (c.ROWS.ensures ∙ g.met.B.Board.rows_is) in
-    rw (some_where c.new.result _ c.new.ensures is.on) is.least
+    let is = least-is g.B.Board.geometry c.self.invariant.board c.self.inside.word c.args.self c.self.view_is c.self.invariant.only c.if-self-eq0.false in
+    rw c.of_bit.ensures is.least
 
 pub returns-clause-on_board : goal.returns-clause-on_board
 returns-clause-on_board g c =
-    let is = least-is g.B.Board.geometry c.self.invariant.board c.self.inside.word c.ROWS.result c.args.self c.self.view_is c.self.invariant.only c.if-self-eq0.false (c.ROWS.ensures ∙ g.met.B.Board.rows_is) in
-    rw (some_where c.new.result _ c.new.ensures is.on) is.on
+    let is = least-is g.B.Board.geometry c.self.invariant.board c.self.inside.word c.args.self c.self.view_is c.self.invariant.only c.if-self-eq0.false in
+    rw c.of_bit.ensures is.on
