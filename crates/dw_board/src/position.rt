@@ -130,33 +130,6 @@ impl<B: Board> Position<B> {
         self.held.of(side, Kind::Man).count() + self.held.of(side, Kind::King).count()
     }
 
-    /// Empties these squares.
-    pub fn clear_all(&mut self, squares: Squares<B>)
-        ensures { self.new ≡ without self.old squares }
-    {
-        let _turn = self.turn();
-        let mut left = squares;
-        'squares: while let Some(square) = left.first() {
-            self.clear(square);
-            left = left.without(square);
-        }
-    }
-
-    /// The squares on which a piece of this side stands.
-    pub fn all_of(&self, side: Side) -> Squares<B>
-        ensures { (s : ℕ) → IsTrue (set.contains result s) ↔ (Geo.OnBoard B.geometry s × ((kind : kinds.Kind) × (of.at self.now s ≡ Some (record { side = side; kind = kind })))) }
-    {
-        self.squares(side, Kind::Man)
-            .or(self.squares(side, Kind::King))
-    }
-
-    /// The squares on which a piece stands.
-    pub fn occupied(&self) -> Squares<B>
-        ensures { (s : ℕ) → IsTrue (set.contains result s) ↔ (Geo.OnBoard B.geometry s × ((piece : pieces.Piece) × (of.at self.now s ≡ Some piece))) }
-    {
-        self.all_of(Side::White).or(self.all_of(Side::Black))
-    }
-
     /// The squares on which a piece of this side and kind stands.
     pub fn squares(&self, side: Side, kind: Kind) -> Squares<B>
         ensures { (s : ℕ) → IsTrue (set.contains result s) ↔ (Geo.OnBoard B.geometry s × (of.at self.now s ≡ Some (record { side = side; kind = kind }))) }

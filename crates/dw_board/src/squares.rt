@@ -159,32 +159,6 @@ impl<B: Board> Squares<B> {
         Some((square, self.without(square)))
     }
 
-    /// Whether there is no square in the set.
-    pub fn is_empty(self) -> bool
-        ensures { IsTrue result ↔ (self ≡ set.empty) }
-    {
-        self.first().is_none()
-    }
-
-    /// The set of one square.
-    pub fn one(square: Square<B>) -> Self
-        ensures { result ≡ set.insert set.empty square }
-    {
-        Squares::none().with(square)
-    }
-
-    /// The least square and the others, or `None` in the empty set.
-    pub fn split(self) -> Option<(Square<B>, Self)>
-        ensures none { IsNone result ↔ (self ≡ set.empty) }
-        ensures member { IfSome result (λ s. IsTrue (set.contains self s.0)) }
-        ensures least { IfSome result (λ s. (t : ℕ) → IsTrue (set.contains self t) → s.0 ≤ t) }
-        ensures on_board { IfSome result (λ s. Geo.OnBoard B.geometry s.0) }
-        ensures rest { IfSome result (λ s. s.1 ≡ set.remove self s.0) }
-    {
-        let square = self.first()?;
-        Some((square, self.without(square)))
-    }
-
     /// The padded word: the bit `s - 1 + (s - 1) / ROWS` for each square s of the set, and no other.
     pub fn word(self) -> u64
         ensures members { (s : ℕ) → IsTrue (set.contains self s) ↔ (Geo.OnBoard B.geometry s × IsTrue (is_set result (Geo.bit B.geometry s))) }
