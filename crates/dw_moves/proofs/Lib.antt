@@ -43,3 +43,4 @@ pub mod Listing
 pub mod WorkedPositions
 pub mod Replying
 pub mod StepSets
+pub mod LooseSteps

@@ -12,7 +12,7 @@ use Rattle.dw_board.specs.Geometry.{Geometry, IsBoard, OnBoard}
 use Rattle.dw_board.specs.Placement.{Placement, at}
 use Rattle.dw_board.specs.SquareSet.{Squares}
 use Rattle.dw_moves.specs.Moves.{IsForward, CanCapture, other}
-use Rattle.dw_moves.specs.Kernel.{In, AreSets, StepsOn, HasTwo}
+use Rattle.dw_moves.specs.Kernel.{In, AreSets, StepsFrom, StepsOn, HasTwo}
 use Rattle.dw_moves.specs.Replies.{given, passed, OneStep, TwoSteps, IsLoose}
 use Rattle.dw_moves.proofs.StepLaws.{step_is}
 use Rattle.dw_moves.proofs.SquareSets.{in_none, in_or}
@@ -21,29 +21,35 @@ use Rattle.dw_moves.proofs.FirstJump.{piece_is, kind_cases}
 use Rattle.dw_moves.proofs.TakesThese.{contains-remove, not_removed, apart_false}
 
 module _ (g : Geometry) (b : IsBoard g) (p : Placement) (men kings enemies occupied : Squares) (sets : AreSets g p men kings enemies occupied) where
-  step_from : (d : Dir) (t : ℕ) → StepsOn g p.turn men kings occupied d t → (s : ℕ) × OneStep g p s t
-  step_from d t h = elim h.1 [
-    | inl m ↦ let here = (sets.of_men h.0).0 m.0 in (h.0, made Man here.0 here.1 (λ _. m.1))
-    | inr k ↦ let here = (sets.of_kings h.0).0 k in (h.0, made King here.0 here.1 (λ q. cc))
+  pub step_of : (d : Dir) (s t : ℕ) → StepsFrom g p.turn men kings occupied d s t → OneStep g p s t
+  step_of d s t h = elim h.0 [
+    | inl m ↦ let here = (sets.of_men s).0 m.0 in made Man here.0 here.1 (λ _. m.1)
+    | inr k ↦ let here = (sets.of_kings s).0 k in made King here.0 here.1 (λ q. cc)
   ] where
-    made : (kind_of : Kind) → OnBoard g h.0 → at p h.0 ≡ Some (record { side = p.turn; kind = kind_of }) → (kind_of ≡ Man → IsForward p.turn d) → OneStep g p h.0 t
+    made : (kind_of : Kind) → OnBoard g s → at p s ≡ Some (record { side = p.turn; kind = kind_of }) → (kind_of ≡ Man → IsForward p.turn d) → OneStep g p s t
     made kind_of on there ahead = record {
       piece = record { side = p.turn; kind = kind_of };
       stands = record { on_board = on; there = there; own = refl };
       dir = d;
-      leads = h.2;
-      free = free_at g p men kings enemies occupied t sets (step_is g b h.0 t d on h.2).on h.3;
+      leads = h.1;
+      free = free_at g p men kings enemies occupied t sets (step_is g b s t d on h.1).on h.2;
       man = ahead;
     }
 
-  step_in : (s t : ℕ) → OneStep g p s t → (d : Dir) × StepsOn g p.turn men kings occupied d t
-  step_in s t q =
+  step_from : (d : Dir) (t : ℕ) → StepsOn g p.turn men kings occupied d t → (s : ℕ) × OneStep g p s t
+  step_from d t h = (h.0, step_of d h.0 t (h.1, h.2, h.3))
+
+  pub from_step : (s t : ℕ) (q : OneStep g p s t) → StepsFrom g p.turn men kings occupied q.dir s t
+  from_step s t q =
       let there : (kind_of : Kind) → q.piece.kind ≡ kind_of → at p s ≡ Some (record { side = p.turn; kind = kind_of }) = λ kind_of e. q.stands.there ∙ ap Some (piece_is q.piece p.turn kind_of q.stands.own e) in
       let mover : (In s men × IsForward p.turn q.dir) ⊎ In s kings = elim (kind_cases q.piece.kind) [
         | inl man ↦ inl ((sets.of_men s).1 (q.stands.on_board, there Man man), q.man man)
         | inr king ↦ inr ((sets.of_kings s).1 (q.stands.on_board, there King king))
       ] in
-      (q.dir, (s, mover, q.leads, not_taken g p men kings enemies occupied t sets q.free))
+      (mover, q.leads, not_taken g p men kings enemies occupied t sets q.free)
+
+  step_in : (s t : ℕ) → OneStep g p s t → (d : Dir) × StepsOn g p.turn men kings occupied d t
+  step_in s t q = let h = from_step s t q in (q.dir, (s, h.0, h.1, h.2))
 
   -- the steps in the four directions together
   steps_together : (ul ur dl dr up down all : Squares) → ((t : ℕ) → In t ul ↔ StepsOn g p.turn men kings occupied UpLeft t) → ((t : ℕ) → In t ur ↔ StepsOn g p.turn men kings occupied UpRight t)

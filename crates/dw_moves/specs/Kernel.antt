@@ -11,7 +11,9 @@ use Rattle.dw_board.specs.declared.piece.Piece.{Piece}
 use Rattle.dw_board.specs.Geometry.{Geometry, step, OnBoard}
 use Rattle.dw_board.specs.Placement.{Placement, at, placed}
 use Rattle.dw_board.specs.SquareSet.{Squares}
-use Rattle.dw_moves.specs.Moves.{IsForward, Quiet, Stands, Jump, other}
+use Rattle.dw_moves.specs.Moves.{IsForward, Quiet, Stands, Jump, other, play}
+use Rattle.dw_moves.specs.Plain.{quiet_to}
+use Rattle.dw_moves.specs.Replies.{IsLoose}
 
 -- a square is in a set
 abbrev pub In : ℕ → Squares → Type 0
@@ -53,6 +55,10 @@ Takes g men kings enemies occupied d = (c : ℕ) × (t : ℕ) × (MenMeet g men 
 abbrev pub Steps : Geometry → Side → Squares → Squares → Squares → Dir → Type 0
 Steps g side men kings occupied d = (s : ℕ) × (t : ℕ) × ((In s men × IsForward side d) ⊎ In s kings) × (step g s d ≡ Some t) × (In t occupied → ⊥)
 
+-- such a step leads from s to t
+abbrev pub StepsFrom : Geometry → Side → Squares → Squares → Squares → Dir → ℕ → ℕ → Type 0
+StepsFrom g side men kings occupied d s t = ((In s men × IsForward side d) ⊎ In s kings) × (step g s d ≡ Some t) × (In t occupied → ⊥)
+
 -- such a step leads to t
 abbrev pub StepsOn : Geometry → Side → Squares → Squares → Squares → Dir → ℕ → Type 0
 StepsOn g side men kings occupied d t = (s : ℕ) × ((In s men × IsForward side d) ⊎ In s kings) × (step g s d ≡ Some t) × (In t occupied → ⊥)
@@ -75,3 +81,7 @@ back UpLeft = DownRight
 back UpRight = DownLeft
 back DownLeft = UpRight
 back DownRight = UpLeft
+
+-- no step in this direction leaves a loose position, but for those onto these squares
+abbrev pub NoneLoose : Geometry → Placement → Squares → Squares → Squares → Dir → Squares → Type 0
+NoneLoose g p men kings occupied d but = (s t : ℕ) → StepsFrom g p.turn men kings occupied d s t → (In t but → ⊥) → IsLoose g (play g p (quiet_to s t)) → ⊥

@@ -6,6 +6,7 @@ use Rattle.dw_board.specs.declared.piece.Piece.{Piece}
 use Rattle.dw_board.specs.declared.piece.Side.{Side}
 use Rattle.dw_board.specs.Geometry.{Geometry, step}
 use Rattle.dw_board.specs.Placement.{Placement, at}
+use Rattle.std.specs.FinSet as set
 use Rattle.dw_moves.specs.Moves.{IsForward, Stands, CanCapture, Move, Legal, other, play}
 
 -- the same pieces, and it is this side's turn
@@ -42,3 +43,7 @@ IsLoose g p = (CanCapture g p → ⊥) × TwoSteps g (passed p)
 -- whatever is played, the other side has a reply
 abbrev pub AlwaysReply : Geometry → Placement → Type 0
 AlwaysReply g p = (m : Move) → Legal g p m → (r : Move) × Legal g (play g p m) r
+
+-- a quiet move to the next square, after which the position is loose
+abbrev pub IsLooseStep : Geometry → Placement → Move → Type 0
+IsLooseStep g p m = OneStep g p m.from m.to × (m.taken ≡ set.empty) × IsLoose g (play g p m)

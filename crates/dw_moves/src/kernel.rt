@@ -1,15 +1,19 @@
 //! Tests of the whole board at once, by sets of squares: no move is listed.
-ghost use Rattle.std.specs.Prelude.{◌≡◌, ◌↔◌, ℕ, Some, IsTrue};
+ghost use Rattle.std.specs.Prelude.{◌≡◌, ◌↔◌, ◌⊎◌, ℕ, Some, IsTrue, IsNone, IfSome};
+ghost use Rattle.std.specs.FinSet as set;
 ghost use Rattle.dw_board.specs.Geometry.{OnBoard, step};
-ghost use Rattle.dw_moves.specs.Moves.{CanCapture, Quiet, IsForward};
-ghost use Rattle.dw_moves.specs.Kernel.{In, AreSets, MenMeet, KingsMeet, Takes, Steps, StepsOn, HasTwo, CanStep, CanTakeFrom, back};
-ghost use Rattle.dw_moves.specs.Replies.{given, passed, OneStep, IsLoose, AlwaysReply};
+ghost use Rattle.dw_moves.specs.Moves.{CanCapture, Quiet, IsForward, Legal};
+ghost use Rattle.dw_moves.specs.Moves as moved;
+ghost use Rattle.dw_moves.specs.Kernel.{In, AreSets, MenMeet, KingsMeet, Takes, Steps, StepsOn, HasTwo, CanStep, CanTakeFrom, NoneLoose, back};
+ghost use Rattle.dw_moves.specs.Replies.{given, passed, OneStep, IsLoose, IsLooseStep, AlwaysReply};
 
-use crate::play::other;
+use crate::moves::Move;
+use crate::play::{other, play};
 use crate::quiet::may_go;
 use dw_board::board::{Board, Dir};
 use dw_board::piece::{Kind, Side};
 use dw_board::position::Position;
+use dw_board::square::step;
 use dw_board::squares::Squares;
 
 /// Whether the side to move can take something.
@@ -48,6 +52,29 @@ pub fn is_loose<B: Board>(position: &Position<B>) -> bool
         return false;
     }
     has_two(other_steps(position))
+}
+
+/// A legal move of one square after which the position is loose: the other side is seen at a glance to have no win in its
+/// next move. `None` if something can be taken or there is no such move. It lists no moves.
+pub fn loose_step<B: Board>(position: &Position<B>) -> Option<Move<B>>
+    ensures legal { IfSome result (Legal B.geometry position.now) }
+    ensures some { IfSome result (IsLooseStep B.geometry position.now) }
+    ensures none { IsNone result → CanCapture B.geometry position.now ⊎ ((m : moved.Move) → IsLooseStep B.geometry position.now m → ⊥) }
+{
+    if can_capture(position) {
+        return None;
+    }
+    let field = Field::of(position);
+    if let Some(found) = field.loose_towards(position, Dir::UpLeft) {
+        return Some(found);
+    }
+    if let Some(found) = field.loose_towards(position, Dir::UpRight) {
+        return Some(found);
+    }
+    if let Some(found) = field.loose_towards(position, Dir::DownLeft) {
+        return Some(found);
+    }
+    field.loose_towards(position, Dir::DownRight)
 }
 
 /// The squares to which a piece of the other side could go one square, if it were its turn: a man forward, a king in any
@@ -197,6 +224,28 @@ impl<B: Board> Field<B> {
             self.kings
         };
         movers.shifted(direction).minus(self.occupied)
+    }
+
+    /// A step in a direction after which the position is loose.
+    fn loose_towards(&self, position: &Position<B>, direction: Dir) -> Option<Move<B>>
+        requires sets { AreSets B.geometry position.now self.now.men self.now.kings self.now.enemies self.now.occupied }
+        requires quiet { CanCapture B.geometry position.now → ⊥ }
+        ensures legal { IfSome result (Legal B.geometry position.now) }
+        ensures some { IfSome result (IsLooseStep B.geometry position.now) }
+        ensures none { IsNone result → NoneLoose B.geometry position.now self.now.men self.now.kings self.now.occupied direction set.empty }
+    {
+        let back = opposite(direction);
+        let mut left = self.next_free(position.turn(), direction);
+        'goals: while let Some((to, rest)) = left.split() {
+            if let Some(from) = step(to, back) {
+                let found = Move::quiet(from, to);
+                if is_loose(&play(position, &found)) {
+                    return Some(found);
+                }
+            }
+            left = rest;
+        }
+        None
     }
 }
 
