@@ -1,5 +1,5 @@
 -- A table in which each position has one slot.
-use Rattle.std.specs.Prelude.{◌≡◌, ℕ, ◌*◌, ◌/◌, ◌%◌, ◌^◌, ◌≤◌, List, [], ◌∷◌, length, slice_get, Option, Some, None, bit_xor, not, cond}
+use Rattle.std.specs.Prelude.{◌≡◌, ℕ, ◌*◌, ◌/◌, ◌%◌, ◌^◌, ◌≤◌, List, [], ◌∷◌, length, slice_get, Option, Some, None, ◌+◌, not, cond}
 use Rattle.std.specs.Int.{from_bool}
 use Rattle.dw_board.specs.PlacementLaws.{same}
 use Rattle.dw_board.specs.declared.piece.Side.{Side}
@@ -37,17 +37,20 @@ lost (Some e) p = from_bool (not (same e.0 p))
 unfoldable pub word : Geometry → Placement → Side → Kind → ℕ
 word g p side kind = word_of g (standing p.cells side kind)
 
--- a hash, and one word more: a product by an odd constant, whose upper half is then mixed into the lower one
-unfoldable pub mixed : ℕ → ℕ → ℕ
-mixed hash w = let product = (bit_xor hash w * 11400714819323198485) % 2 ^ 64 in bit_xor product (product / 2 ^ 32)
+-- a hash, and one word more, times an odd factor
+unfoldable pub mixed : ℕ → ℕ → ℕ → ℕ
+mixed hash w factor = (hash + w * factor % 2 ^ 64) % 2 ^ 64
 
--- the side to move, and then the four words
+-- the side to move and the four words, each times a factor of its own
 unfoldable pub hash_of : Geometry → Placement → ℕ
-hash_of g p = mixed (mixed (mixed (mixed (side_code p.turn) (word g p White Man)) (word g p White King)) (word g p Black Man)) (word g p Black King)
+hash_of g p =
+    let turn = mixed 0 (side_code p.turn) 16646288086500911323 in
+    let white = mixed (mixed turn (word g p White Man) 11400714819323198485) (word g p White King) 15485907386658061715 in
+    mixed (mixed white (word g p Black Man) 14029467366897019727) (word g p Black King) 11562461410679940143
 
--- the slot of a position, among so many
+-- the slot of a position, among so many: the hash as a part of 2^64, times their number
 abbrev pub slot_of : Geometry → Placement → ℕ → ℕ
-slot_of g p n = hash_of g p % n
+slot_of g p n = hash_of g p * n / 2 ^ 64
 
 -- there is a slot, and each position stands in its own
 pub record IsTable (g : Geometry) (slots : Slots) : Type 0 where

@@ -92,24 +92,30 @@ fn lost<B: Board>(slot: &Option<(Position<B>, Bounds)>, position: &Position<B>) 
     }
 }
 
-/// The slot of a position, among so many.
+/// The slot of a position, among so many: the hash as a part of 2^64, times their number. So no division is needed.
 fn slot_of<B: Board>(position: &Position<B>, slots: usize) -> usize
     requires { 1 ≤ slots }
     ensures slot { result ≡ of.slot_of B.geometry position.now slots }
     ensures within { result < slots }
 {
-    (hash_of(position) % slots as u64) as usize
+    ((u128::from(hash_of(position)) * slots as u128) >> 64) as usize
 }
 
-/// A hash of the side to move and of the squares where each kind of piece stands.
+/// A hash of the side to move and of the squares where each kind of piece stands: each word times a factor of its own.
 fn hash_of<B: Board>(position: &Position<B>) -> u64
     ensures { result ≡ of.hash_of B.geometry position.now }
 {
-    let turn = side_number(position.turn());
-    let hash = mixed(turn, word(position, Side::White, Kind::Man));
-    let hash = mixed(hash, word(position, Side::White, Kind::King));
-    let hash = mixed(hash, word(position, Side::Black, Kind::Man));
-    mixed(hash, word(position, Side::Black, Kind::King))
+    let turn = mixed(0, side_number(position.turn()), 0xE703_7ED1_A0B4_28DB);
+    let white = mixed(
+        mixed(turn, word(position, Side::White, Kind::Man), 0x9E37_79B9_7F4A_7C15),
+        word(position, Side::White, Kind::King),
+        0xD6E8_FEB8_6659_FD93,
+    );
+    mixed(
+        mixed(white, word(position, Side::Black, Kind::Man), 0xC2B2_AE3D_27D4_EB4F),
+        word(position, Side::Black, Kind::King),
+        0xA076_1D64_78BD_642F,
+    )
 }
 
 fn side_number(side: Side) -> u64
@@ -130,9 +136,8 @@ fn word<B: Board>(position: &Position<B>, side: Side, kind: Kind) -> u64
 }
 
 /// A hash, and one word more.
-fn mixed(hash: u64, word: u64) -> u64
-    ensures { result ≡ of.mixed hash word }
+fn mixed(hash: u64, word: u64, factor: u64) -> u64
+    ensures { result ≡ of.mixed hash word factor }
 {
-    let product = (hash ^ word).wrapping_mul(0x9E37_79B9_7F4A_7C15);
-    product ^ (product >> 32)
+    hash.wrapping_add(word.wrapping_mul(factor))
 }

@@ -1,15 +1,12 @@
 //! In which order a search goes through moves.
-ghost use Rattle.std.specs.Prelude.{◌≡◌, ◌↔◌};
+ghost use Rattle.std.specs.Prelude.{◌≡◌};
 ghost use Rattle.dw_moves.specs.Moves.{Legal, play};
-ghost use Rattle.dw_moves.specs.Replies.{IsLoose};
 ghost use Rattle.dw_solve.specs.Trial.{IsTrial};
 
 use crate::trial::trial;
 use dw_board::board::Board;
 use dw_board::position::Position;
-use dw_moves::kernel::is_loose;
 use dw_moves::moves::Move;
-use dw_moves::play::play as played;
 
 /// Ranks moves: those of a lower rank are tried first, if they leave the attacker two further moves or more. With fewer,
 /// a search goes by orders of its own, which cost less than the ranks. No answer depends on it.
@@ -41,18 +38,5 @@ impl<B: Board> Guide<B> for ByTrial {
         ensures { IsTrial B.geometry (play B.geometry position.now step.now) result }
     {
         trial(position, step)
-    }
-}
-
-/// Moves come first after which it is seen at a glance that the other side has no win in one move.
-#[derive(Clone, Copy, Debug, Default)]
-pub(crate) struct LooseFirst;
-
-impl<B: Board> Guide<B> for LooseFirst {
-    fn rank(&self, position: &Position<B>, step: &Move<B>) -> u32
-        requires { Legal B.geometry position.now step.now }
-        ensures { (result ≡ 0) ↔ IsLoose B.geometry (play B.geometry position.now step.now) }
-    {
-        u32::from(!is_loose(&played(position, step)))
     }
 }

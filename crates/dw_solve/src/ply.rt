@@ -1,13 +1,15 @@
 //! The moves of one position, in the order in which a search goes through them.
-ghost use Rattle.std.specs.Prelude.{◌≡◌, [], OnOk};
+ghost use Rattle.std.specs.Prelude.{◌≡◌, ◌<◌, [], length, OnOk, IfSome, IsNone};
 ghost use Rattle.dw_moves.specs.Moves.{AreLegal};
-ghost use Rattle.dw_solve.specs.Ranking.{AreRanked};
+ghost use Rattle.dw_solve.specs.Ranking.{AreRanked, IsLooseAt, NoneLoose};
 
-use crate::guide::Guide;
+use crate::guide::{AnyOrder, Guide};
 use dw_board::board::Board;
 use dw_board::position::Position;
+use dw_moves::kernel::is_loose;
 use dw_moves::legal::legal_into;
 use dw_moves::moves::Move;
+use dw_moves::play::play as played;
 use std::alloc::{AllocError, Global};
 
 /// The lists that a search needs for one move of a line. Their memory is used again at the next position.
@@ -35,12 +37,53 @@ impl<B: Board> Ply<B> {
     ) -> Result<(), AllocError>
         ensures { OnOk result (AreRanked B.geometry position.now self.new.ranked.items) }
     {
-        legal_into(position, &mut self.moves)?;
-        self.ranked.clear();
-        rank_all(position, guide, self.moves.as_slice(), &mut self.ranked)?;
+        self.gather(position, guide)?;
         self.ranked.sort_unstable_by_key(|ranked| ranked.0);
         Ok(())
     }
+
+    /// Takes up the legal moves of a position, in any order.
+    pub(crate) fn fill_anyhow(&mut self, position: &Position<B>) -> Result<(), AllocError>
+        ensures { OnOk result (AreRanked B.geometry position.now self.new.ranked.items) }
+    {
+        self.gather(position, &AnyOrder)
+    }
+
+    /// Takes up the legal moves of a position: first one after which it is seen at a glance that the other side has no
+    /// win in one move, if there is such a move, and the others in any order.
+    pub(crate) fn fill_loose_first(&mut self, position: &Position<B>) -> Result<(), AllocError>
+        ensures { OnOk result (AreRanked B.geometry position.now self.new.ranked.items) }
+    {
+        self.fill_anyhow(position)?;
+        if let Some(index) = first_loose(position, self.ranked.as_slice()) {
+            self.ranked.swap(0, index);
+        }
+        Ok(())
+    }
+
+    /// Takes up the legal moves of a position with their ranks, unsorted.
+    fn gather<G: Guide<B>>(&mut self, position: &Position<B>, guide: &G) -> Result<(), AllocError>
+        ensures { OnOk result (AreRanked B.geometry position.now self.new.ranked.items) }
+    {
+        legal_into(position, &mut self.moves)?;
+        self.ranked.clear();
+        rank_all(position, guide, self.moves.as_slice(), &mut self.ranked)
+    }
+}
+
+/// The index of the first move after which it is seen at a glance that the other side has no win in one move.
+fn first_loose<B: Board>(position: &Position<B>, ranked: &[(u32, Move<B>)]) -> Option<usize>
+    requires { AreRanked B.geometry position.now ranked.now }
+    ensures within { IfSome result (λ i. i < length ranked.now) }
+    ensures loose { IfSome result (λ i. IsLooseAt B.geometry position.now ranked.now i) }
+    ensures none { IsNone result → NoneLoose B.geometry position.now ranked.now (length ranked.now) }
+{
+    'moves: for index in 0..ranked.len() {
+        if is_loose(&played(position, &ranked[index].1)) {
+            return Some(index);
+        }
+    }
+    None
 }
 
 /// Adds the legal moves with their ranks to an empty list.

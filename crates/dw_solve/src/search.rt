@@ -12,7 +12,7 @@ ghost use Rattle.dw_solve.specs.Work.{moment, NothingLost, Searched, cut_off};
 ghost use Rattle.dw_solve.specs.Saying.{SaysWin, SaysMove, SaysLost};
 ghost use Rattle.dw_solve.specs.Ranking.{AreRanked};
 
-use crate::guide::{AnyOrder, Guide, LooseFirst};
+use crate::guide::Guide;
 use crate::ply::Ply;
 use crate::stop::Stop;
 use dw_board::board::Board;
@@ -149,14 +149,14 @@ fn line_up<B: Board, G: Guide<B>>(
     ensures { OnOk result (AreRanked B.geometry position.now ply.new.ranked.items) }
 {
     if moves <= 1 {
-        ply.fill(position, &AnyOrder)
+        ply.fill_anyhow(position)
     } else {
         ply.fill(position, guide)
     }
 }
 
-/// Takes up the replies. If the attacker has one move left after them, those come first after which it is seen at a glance
-/// that he does not win: no other needs to be tried then.
+/// Takes up the replies. If the attacker has one move left after them, one comes first after which it is seen at a glance
+/// that he does not win, if there is one: no other needs to be tried then.
 fn line_up_replies<B: Board, G: Guide<B>>(
     ply: &mut Ply<B>,
     position: &Position<B>,
@@ -166,7 +166,7 @@ fn line_up_replies<B: Board, G: Guide<B>>(
     ensures { OnOk result (AreRanked B.geometry position.now ply.new.ranked.items) }
 {
     if moves == 1 {
-        ply.fill(position, &LooseFirst)
+        ply.fill_loose_first(position)
     } else {
         ply.fill(position, guide)
     }
