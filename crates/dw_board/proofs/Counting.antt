@@ -19,7 +19,7 @@ ones_of_bit : (n : ℕ) → n < 2 → ones n ≡ n
 unfolding ones ones_in
 ones_of_bit n h = elim (below_two n h) [ inl e ↦ rw e refl | inr e ↦ rw e refl ]
 
-low_split : (w k : ℕ) → w % 2 ^ (k + 1) ≡ bit_at w k * 2 ^ k + w % 2 ^ k
+pub low_split : (w k : ℕ) → w % 2 ^ (k + 1) ≡ bit_at w k * 2 ^ k + w % 2 ^ k
 low_split w k = ap (λ n. w % 2 ^ n) (add_comm k 1) ∙ mod-pow-add w 1 k
 
 ones_low : (w k : ℕ) → ones (w % 2 ^ (k + 1)) ≡ bit_at w k + ones (w % 2 ^ k)
@@ -29,7 +29,7 @@ ones_none : (w : ℕ) → ones (w % 2 ^ 0) ≡ 0
 unfolding ones ones_in
 ones_none w = let e : w % 2 ^ 0 ≡ 0 = omega arith in rw e refl
 
-bit_at-low : (w k x : ℕ) → x < k → bit_at (w % 2 ^ k) x ≡ bit_at w x
+pub bit_at-low : (w k x : ℕ) → x < k → bit_at (w % 2 ^ k) x ≡ bit_at w x
 bit_at-low w k x low = sym (bit_at_cat_low (w / 2 ^ k) k (w % 2 ^ k) x low) ∙ ap (λ m. bit_at m x) (shr_split w k)
 
 -- a word with no bit from k on is its low bits

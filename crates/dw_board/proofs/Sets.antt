@@ -1,10 +1,10 @@
 -- Words and sets: what each operation on words does to the set.
-use Rattle.std.proofs.Common.{◌≡◌, ℕ, suc, ◌+◌, ◌-◌, ◌*◌, ◌/◌, ◌%◌, ◌^◌, ◌≤◌, ◌<◌, Bool, true, false, cond, not, ◌&&◌, ◌||◌, eqb, leb, Option, Some, None, IsNone, IfSome, is_some, refl, sym, ap, ◌∙◌, subst, arith, inl, inr, ◌↔◌, bit_or, bit_and, min}
+use Rattle.std.proofs.Common.{◌≡◌, ℕ, suc, ◌+◌, ◌-◌, ◌*◌, ◌/◌, ◌%◌, ◌^◌, ◌≤◌, ◌<◌, Bool, true, false, cond, not, ◌&&◌, ◌||◌, eqb, leb, ltb, Option, Some, None, IsNone, IfSome, is_some, refl, sym, ap, ◌∙◌, subst, arith, inl, inr, ◌↔◌, bit_or, bit_and, min}
 use Rattle.std.specs.Int.{bit_at}
 use Rattle.std.specs.Ordering.{nat_cmp}
 use Rattle.std.specs.FinSet as set
 use Rattle.std.specs.Cmp.{nat_cmp_total, unsigned_tied}
-use Rattle.std.proofs.lemmas.Bool.{cases_Bool, cases_lt, cases_eq, leb-true, eqb-true, eq-eqb, ne_eqb, and_parts, lt-leb, true≢false, or_cases, and_from}
+use Rattle.std.proofs.lemmas.Bool.{cases_Bool, cases_lt, cases_eq, leb-true, eqb-true, eq-eqb, ne_eqb, and_parts, lt-leb, lt-ltb, ltb-true, true≢false, or_cases, and_from}
 use Rattle.std.proofs.lemmas.Nat.Bits.{bit_at_and, bit_at-zero, bit_at-lt, bit_at_cat_low, bit_at_cat_high, bit_at_set_same, bit_at_set_other, bit_at_clear_same, bit_at_clear_other, bit_at_not}
 use Rattle.std.proofs.lemmas.Nat.{shr-shr, shr_split, pow_pos, le-div}
 use Rattle.std.proofs.Math.Nat.{div-mul-le_self}
@@ -260,6 +260,22 @@ pub same_places : (g : Geometry) (p q n m : ℕ) → IsPlace g p → IsPlace g q
 same_places g p q n m h k i j = same_tests (eqb p q) (eqb n m)
     (λ e. eq-eqb n m (sym i ∙ (ap (square_of g) (eqb-true p q e) ∙ j)))
     (λ e. eq-eqb p q (sym h.back ∙ (ap (bit g) (i ∙ (eqb-true n m e ∙ sym j)) ∙ k.back)))
+
+-- the places of squares stand in the order of the squares
+pub same_order : (g : Geometry) → IsBoard g → (p q n m : ℕ) → IsPlace g p → IsPlace g q → square_of g p ≡ n → square_of g q ≡ m → nat_cmp p q ≡ nat_cmp n m
+same_order g b p q n m h k i j =
+    let first = ap (bit g) (sym i) ∙ h.back in
+    let second = ap (bit g) (sym j) ∙ k.back in
+    let less : ltb p q ≡ ltb n m = same_tests (ltb p q) (ltb n m)
+    (λ e. lt-ltb n m (elim (cases_lt n m) [
+      | inl low ↦ low
+      | inr high ↦ absurd (omega (arith, ltb-true p q e, bit-below g b m n high))
+    ]))
+    (λ e. lt-ltb p q (elim (cases_lt p q) [
+      | inl low ↦ low
+      | inr high ↦ absurd (omega (arith, ltb-true n m e, bit-ascends g b m n (subst (OnBoard g) i h.on) (omega arith)))
+    ])) in
+    rw (less, same_places g p q n m h k i j) refl
 
 -- ---- a step is the first square of a shifted set of one
 step_none : (g : Geometry) (s : ℕ) (d : Dir) (o : Option ℕ) → step g s d ≡ o → ((t : ℕ) → step g s d ≡ Some t → ⊥) → o ≡ None

@@ -23,6 +23,7 @@ pub(crate) struct Held<B: Board> {
 
 impl<B: Board> Held<B> {
     /// No piece at all.
+    #[inline]
     pub(crate) fn none() -> Self
         ensures { (side : Side) (kind : Kind) → set_of result side kind ≡ set.empty }
     {
@@ -35,6 +36,7 @@ impl<B: Board> Held<B> {
     }
 
     /// The squares of this side's pieces of this kind.
+    #[inline]
     pub(crate) fn of(&self, side: Side, kind: Kind) -> Squares<B>
         ensures { result ≡ set_of self.now side kind }
     {
@@ -47,6 +49,7 @@ impl<B: Board> Held<B> {
     }
 
     /// The squares of this side's pieces.
+    #[inline]
     pub(crate) fn all_of(&self, side: Side) -> Squares<B>
         ensures { result ≡ set.union (set_of self.now side Man) (set_of self.now side King) }
     {
@@ -54,6 +57,7 @@ impl<B: Board> Held<B> {
     }
 
     /// All squares on which a piece stands.
+    #[inline]
     pub(crate) fn occupied(&self) -> Squares<B>
         ensures { result ≡ set.union (set.union (set_of self.now White Man) (set_of self.now White King)) (set.union (set_of self.now Black Man) (set_of self.now Black King)) }
     {
@@ -61,6 +65,7 @@ impl<B: Board> Held<B> {
     }
 
     /// What stands on a square.
+    #[inline]
     pub(crate) fn at(&self, square: Square<B>) -> Option<Piece>
         ensures { result ≡ held_at (set_of self.now) square }
     {
@@ -80,6 +85,7 @@ impl<B: Board> Held<B> {
     }
 
     /// Whether each set is the same.
+    #[inline]
     pub(crate) fn is_same(&self, other: &Self) -> bool
         ensures { result ≡ same_sets self.now other.now }
     {
@@ -90,6 +96,7 @@ impl<B: Board> Held<B> {
     }
 
     /// The same, and the piece on the square.
+    #[inline]
     pub(crate) fn with(self, square: Square<B>, piece: Piece) -> Self
         ensures { (side : Side) (kind : Kind) → set_of result side kind ≡ entered side kind (set_of self side kind) square piece }
     {
@@ -104,6 +111,7 @@ impl<B: Board> Held<B> {
     }
 
     /// The same, and nothing on the square. It leaves each set without asking which one it is in.
+    #[inline]
     pub(crate) fn without(self, square: Square<B>) -> Self
         ensures { (side : Side) (kind : Kind) → set_of result side kind ≡ set.remove (set_of self side kind) square }
     {
@@ -116,6 +124,7 @@ impl<B: Board> Held<B> {
     }
 
     /// The same, and nothing on these squares.
+    #[inline]
     pub(crate) fn minus(self, squares: Squares<B>) -> Self
         ensures { (side : Side) (kind : Kind) → set_of result side kind ≡ set.difference (set_of self side kind) squares }
     {
@@ -134,6 +143,7 @@ impl<B: Board> Clone for Held<B> {
 
     ghost is_infallible = { λ _. ⊤ };
 
+    #[inline]
     fn clone(&self) -> Result<Self, AllocError> {
         Ok(*self)
     }

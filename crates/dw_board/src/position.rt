@@ -52,6 +52,7 @@ impl<B: Board> Model for Position<B> {
 
 impl<B: Board> Position<B> {
     /// The board without a piece.
+    #[inline]
     pub fn empty(turn: Side) -> Self
         ensures { result ≡ of.empty turn }
     {
@@ -81,6 +82,7 @@ impl<B: Board> Position<B> {
     }
 
     /// Empties a square, and tells what stood there.
+    #[inline]
     pub fn clear(&mut self, square: Square<B>) -> Option<Piece>
         ensures stood { result ≡ of.at self.old square }
         ensures after { self.new ≡ placed self.old square None }
@@ -91,6 +93,7 @@ impl<B: Board> Position<B> {
     }
 
     /// Empties these squares.
+    #[inline]
     pub fn clear_all(&mut self, squares: Squares<B>)
         ensures { self.new ≡ without self.old squares }
     {
@@ -98,6 +101,7 @@ impl<B: Board> Position<B> {
     }
 
     /// What stands on a square.
+    #[inline]
     pub fn at(&self, square: Square<B>) -> Option<Piece>
         ensures value { result ≡ of.at self.now square }
         ensures on_board { Geo.OnBoard B.geometry square }
@@ -107,6 +111,7 @@ impl<B: Board> Position<B> {
     }
 
     /// The side to move.
+    #[inline]
     pub fn turn(&self) -> Side
         ensures value { result ≡ self.now.turn }
         ensures position { IsPosition B.geometry self.now.cells }
@@ -115,6 +120,7 @@ impl<B: Board> Position<B> {
     }
 
     /// Gives the move to a side.
+    #[inline]
     pub fn set_turn(&mut self, side: Side)
         ensures { self.new ≡ record self.old { turn = side } }
     {
@@ -122,6 +128,7 @@ impl<B: Board> Position<B> {
     }
 
     /// The number of a side's pieces, at most 20.
+    #[inline]
     pub fn count(&self, side: Side) -> u8
         ensures value { result ≡ of.count self.now side }
         ensures fits { result ≤ B.geometry.side }
@@ -131,6 +138,7 @@ impl<B: Board> Position<B> {
     }
 
     /// The squares on which a piece of this side and kind stands.
+    #[inline]
     pub fn squares(&self, side: Side, kind: Kind) -> Squares<B>
         ensures { (s : ℕ) → IsTrue (set.contains result s) ↔ (Geo.OnBoard B.geometry s × (of.at self.now s ≡ Some (record { side = side; kind = kind }))) }
     {
@@ -138,6 +146,7 @@ impl<B: Board> Position<B> {
     }
 
     /// All squares on which a piece of this side stands.
+    #[inline]
     pub fn all_of(&self, side: Side) -> Squares<B>
         ensures { (s : ℕ) → IsTrue (set.contains result s) ↔ (Geo.OnBoard B.geometry s × IsTrue (of.is_of side (of.at self.now s))) }
     {
@@ -145,6 +154,7 @@ impl<B: Board> Position<B> {
     }
 
     /// All squares on which a piece stands.
+    #[inline]
     pub fn occupied(&self) -> Squares<B>
         ensures { (s : ℕ) → IsTrue (set.contains result s) ↔ (Geo.OnBoard B.geometry s × IsTrue (is_some (of.at self.now s))) }
     {
@@ -184,6 +194,7 @@ fn cell_code(cell: Option<Piece>) -> u8
     }
 }
 
+#[inline]
 fn side_number(side: Side) -> u8
     ensures { result ≡ side_code side }
 {
@@ -219,6 +230,7 @@ impl<B: Board> PartialEq for Position<B> {
 
     ghost laws = { Prim.search (comparing, rules) depth 9 };
 
+    #[inline]
     fn eq(&self, other: &Self) -> bool {
         side_number(self.turn) == side_number(other.turn) && self.held.is_same(&other.held)
     }
@@ -259,6 +271,7 @@ impl<B: Board> Hash for Position<B> {
 
     ghost respects_eq = { λ x y h i. position_bytes B.geometry ((same-is x y).0 h i) };
 
+    #[inline]
     fn hash<H: Hasher>(&self, state: &mut H) {
         state.write_u8(side_number(self.turn));
         self.held.of(Side::White, Kind::Man).hash(state);

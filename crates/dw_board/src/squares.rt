@@ -46,6 +46,7 @@ impl<B: Board> Model for Squares<B> {
 
 impl<B: Board> Squares<B> {
     /// The empty set.
+    #[inline]
     pub fn none() -> Self
         ensures { result ≡ set.empty }
     {
@@ -56,13 +57,15 @@ impl<B: Board> Squares<B> {
     }
 
     /// The set of one square.
+    #[inline]
     pub fn one(square: Square<B>) -> Self
         ensures { result ≡ set.insert set.empty square }
     {
-        Self::none().with(square)
+        Squares::none().with(square)
     }
 
     /// Whether no square is in the set.
+    #[inline]
     pub fn is_empty(self) -> bool
         ensures { IsTrue result ↔ (self ≡ set.empty) }
     {
@@ -70,6 +73,7 @@ impl<B: Board> Squares<B> {
     }
 
     /// Whether the square is in the set.
+    #[inline]
     pub fn has(self, square: Square<B>) -> bool
         ensures { result ≡ set.contains self square }
     {
@@ -77,6 +81,7 @@ impl<B: Board> Squares<B> {
     }
 
     /// This set and the square.
+    #[inline]
     pub fn with(self, square: Square<B>) -> Self
         ensures { result ≡ set.insert self square }
     {
@@ -87,6 +92,7 @@ impl<B: Board> Squares<B> {
     }
 
     /// The squares in either set.
+    #[inline]
     pub fn or(self, other: Self) -> Self
         ensures { result ≡ set.union self other }
     {
@@ -97,6 +103,7 @@ impl<B: Board> Squares<B> {
     }
 
     /// This set without the square.
+    #[inline]
     pub fn without(self, square: Square<B>) -> Self
         ensures { result ≡ set.remove self square }
     {
@@ -107,6 +114,7 @@ impl<B: Board> Squares<B> {
     }
 
     /// The squares in both sets.
+    #[inline]
     pub fn and(self, other: Self) -> Self
         ensures { result ≡ set.intersection self other }
     {
@@ -117,6 +125,7 @@ impl<B: Board> Squares<B> {
     }
 
     /// The squares of this set that are not in the other.
+    #[inline]
     pub fn minus(self, other: Self) -> Self
         ensures { result ≡ set.difference self other }
     {
@@ -127,6 +136,7 @@ impl<B: Board> Squares<B> {
     }
 
     /// The number of squares, at most 50.
+    #[inline]
     pub fn count(self) -> u8
         ensures value { result ≡ set.len self }
         ensures small { result ≤ 50 }
@@ -135,19 +145,19 @@ impl<B: Board> Squares<B> {
     }
 
     /// The least square, or `None` in the empty set.
+    #[inline]
     pub fn first(self) -> Option<Square<B>>
         ensures none { IsNone result ↔ (self ≡ set.empty) }
         ensures member { IfSome result (λ s. IsTrue (set.contains self s)) }
         ensures least { IfSome result (λ s. (t : ℕ) → IsTrue (set.contains self t) → s ≤ t) }
         ensures on_board { IfSome result (Geo.OnBoard B.geometry) }
     {
-        if self.word == 0 {
-            return None;
-        }
-        Some(Square::of_bit(self.word.trailing_zeros() as u8))
+        let (square, _) = self.split()?;
+        Some(square)
     }
 
     /// The least square and the others, or `None` in the empty set.
+    #[inline]
     pub fn split(self) -> Option<(Square<B>, Self)>
         ensures none { IsNone result ↔ (self ≡ set.empty) }
         ensures member { IfSome result (λ parts. IsTrue (set.contains self parts.0)) }
@@ -155,11 +165,19 @@ impl<B: Board> Squares<B> {
         ensures on_board { IfSome result (λ parts. Geo.OnBoard B.geometry parts.0) }
         ensures rest { IfSome result (λ parts. parts.1 ≡ set.remove self parts.0) }
     {
-        let square = self.first()?;
-        Some((square, self.without(square)))
+        if self.word == 0 {
+            return None;
+        }
+        let square = Square::of_bit(self.word.trailing_zeros() as u8);
+        let rest = Squares {
+            word: self.word & (self.word - 1),
+            board: PhantomData,
+        };
+        Some((square, rest))
     }
 
     /// The padded word: the bit `s - 1 + (s - 1) / ROWS` for each square s of the set, and no other.
+    #[inline]
     pub fn word(self) -> u64
         ensures members { (s : ℕ) → IsTrue (set.contains self s) ↔ (Geo.OnBoard B.geometry s × IsTrue (is_set result (Geo.bit B.geometry s))) }
         ensures only { OnlySquares B.geometry result }
@@ -168,6 +186,7 @@ impl<B: Board> Squares<B> {
     }
 
     /// The squares that a step leads to from these.
+    #[inline]
     pub fn shifted(self, direction: Dir) -> Self
         ensures { (t : ℕ) → IsTrue (set.contains result t) ↔ ((s : ℕ) × (IsTrue (set.contains self s) × (Geo.step B.geometry s direction ≡ Some t))) }
     {
@@ -179,6 +198,7 @@ impl<B: Board> Squares<B> {
 }
 
 /// The word, each bit moved by as much as a step moves a square's bit.
+#[inline]
 fn shifted_word<B: Board>(word: u64, direction: Dir) -> u64
     ensures { result ≡ Geo.shifted_word B.geometry direction word }
 {
@@ -194,6 +214,7 @@ fn shifted_word<B: Board>(word: u64, direction: Dir) -> u64
 impl<B: Board> Default for Squares<B> {
     ghost is_default = { λ v. v ≡ set.empty };
 
+    #[inline]
     fn default() -> Self {
         Self::none()
     }
@@ -212,6 +233,7 @@ impl<B: Board> PartialEq for Squares<B> {
     ghost laws = { Prim.search (comparing, rules) depth 9 };
 
     #[tactic(auto, using(crate::proofs::Sets::same_words))]
+    #[inline]
     fn eq(&self, other: &Self) -> bool {
         self.word == other.word
     }
@@ -227,6 +249,7 @@ impl<B: Board> Hash for Squares<B> {
     ghost respects_eq = { λ x y h i. fed.u64 (word_of B.geometry ((same_members-is x y).0 h i)) };
 
     #[tactic(auto, using(crate::proofs::Sets::word_behind))]
+    #[inline]
     fn hash<H: Hasher>(&self, state: &mut H) {
         state.write_u64(self.word);
     }
