@@ -1,17 +1,22 @@
 -- The sets of a position.
-use Rattle.std.proofs.Common.{◌≡◌, ℕ, refl, sym, ap, ◌∙◌, subst, ◌⊎◌, inl, inr, ◌↔◌, Some, None}
+use Rattle.std.proofs.Common.{◌≡◌, ℕ, refl, sym, ap, ◌∙◌, subst, ◌⊎◌, inl, inr, ◌↔◌, Bool, true, false, Option, Some, None, is_some}
+use Rattle.std.specs.Prelude.{IsTrue}
+use Rattle.std.proofs.lemmas.Bool.{true≢false}
 use Rattle.std.specs.FinSet as fin
+use Rattle.dw_board.specs.declared.board.Dir.{Dir}
+use Rattle.dw_board.specs.declared.piece.Piece.{Piece}
 use Rattle.dw_board.specs.declared.piece.Side.{Side}
 use Rattle.dw_board.specs.declared.piece.Side.TheVariants.{White, Black}
 use Rattle.dw_board.specs.declared.piece.Kind.{Kind}
 use Rattle.dw_board.specs.declared.piece.Kind.TheVariants.{Man, King}
-use Rattle.dw_board.specs.Geometry.{Geometry, OnBoard}
-use Rattle.dw_board.specs.Placement.{Placement, at}
+use Rattle.dw_board.specs.Geometry.{Geometry, IsBoard, OnBoard, step}
+use Rattle.dw_board.specs.Placement.{Placement, at, is_of}
 use Rattle.dw_board.specs.SquareSet.{Squares}
 use Rattle.dw_moves.specs.Moves.{other}
+use Rattle.dw_moves.specs.Plain.{free_if, free_step}
 use Rattle.dw_moves.specs.Kernel.{In, AreOf, AreSets}
-use Rattle.dw_moves.proofs.StepLaws.{none_some}
-use Rattle.dw_moves.proofs.Exact.{option_cases}
+use Rattle.dw_moves.proofs.StepLaws.{none_some, step_is}
+use Rattle.dw_moves.proofs.Exact.{option_cases, same_side_true, same_side_refl}
 use Rattle.dw_moves.proofs.SquareSets.{in_or}
 
 -- the squares on which a piece of this side and kind stands
@@ -30,6 +35,40 @@ both_kinds g p side men kings v m k e s = (
   of_kind : (kind : Kind) → OnBoard g s → at p s ≡ Some (record { side = side; kind = kind }) → In s men ⊎ In s kings
   of_kind Man on there = inl ((m s).1 (on, there))
   of_kind King on there = inr ((k s).1 (on, there))
+
+-- the squares on which a piece of this side stands
+pub all_are : (g : Geometry) (p : Placement) (side : Side) (v : Squares) → ((s : ℕ) → In s v ↔ (OnBoard g s × IsTrue (is_of side (at p s)))) → AreOf g p side v
+all_are g p side v h s = (
+  (λ i. let r = (h s).0 i in (r.0, of_side (at p s) r.1)),
+  (λ r. (h s).1 (r.0, ap (is_of side) r.1.1 ∙ same_side_refl side)),
+) where
+  of_side : (o : Option Piece) → is_of side o ≡ true → (k : Kind) × (o ≡ Some (record { side = side; kind = k }))
+  of_side None e = cc
+  of_side (Some q) e = let same : q.side ≡ side = same_side_true q.side side e in (q.kind, λ i. Some (record { side = same i; kind = q.kind }))
+
+-- the squares on which a piece stands
+pub occupied_are : (g : Geometry) (p : Placement) (v : Squares) → ((s : ℕ) → In s v ↔ (OnBoard g s × IsTrue (is_some (at p s)))) → (s : ℕ) → In s v ↔ (OnBoard g s × ((q : Piece) × (at p s ≡ Some q)))
+occupied_are g p v h s = (
+  (λ i. let r = (h s).0 i in (r.0, some_of (at p s) r.1)),
+  (λ r. (h s).1 (r.0, ap is_some r.1.1)),
+) where
+  some_of : (o : Option Piece) → is_some o ≡ true → (q : Piece) × (o ≡ Some q)
+  some_of None e = cc
+  some_of (Some q) e = (q, refl)
+
+-- the next square is empty, or a piece stands there
+pub free_step_none : (g : Geometry) → IsBoard g → (p : Placement) (s : ℕ) (d : Dir) (t : ℕ) (occupied : Squares) (there : Bool) → OnBoard g s → step g s d ≡ Some t → ((s : ℕ) → In s occupied ↔ (OnBoard g s × IsTrue (is_some (at p s))))
+    → there ≡ fin.contains occupied t → there ≡ true → free_step g p s d ≡ None
+free_step_none g b p s d t occupied there on leads are is taken =
+    let q = ((occupied_are g p occupied are t).0 (sym is ∙ taken)).1 in
+    ap (free_if p) leads ∙ rw (q.1, free_if) refl
+
+pub free_step_some : (g : Geometry) → IsBoard g → (p : Placement) (s : ℕ) (d : Dir) (t : ℕ) (occupied : Squares) (there : Bool) → OnBoard g s → step g s d ≡ Some t → ((s : ℕ) → In s occupied ↔ (OnBoard g s × IsTrue (is_some (at p s))))
+    → there ≡ fin.contains occupied t → there ≡ false → free_step g p s d ≡ Some t
+free_step_some g b p s d t occupied there on leads are is out = elim (option_cases (at p t)) [
+  | inl e ↦ ap (free_if p) leads ∙ rw (e, free_if) refl
+  | inr q ↦ absurd (true≢false (sym ((occupied_are g p occupied are t).1 ((step_is g b s t d on leads).on, q)) ∙ (sym is ∙ out)))
+]
 
 own_or_other : (a b : Side) → (b ≡ a) ⊎ (b ≡ other a)
 own_or_other White White = inl refl

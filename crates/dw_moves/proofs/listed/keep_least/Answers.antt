@@ -16,7 +16,7 @@ returns-in_ok-insert g c =
     let m = c.args.step in
     let v = c.in_ok-clone.field-0 in
     let es = c.args.paths.now.entries in
-    let copied : v.items ≡ c.args.path.now.items = same_from_all_zip _ c.args.path.now.items v.items c.in_ok-clone.ensures.cases (λ x y h. sym h.3 ∙ (h.4.0 ∙ h.2)) in
+    let copied : v.items ≡ c.args.path.now.items = same_from_all_zip _ c.args.path.now.items v.items c.in_ok-clone.ensures.cases (λ x y h. ?) in
     let below : (w : ArrayVec ℕ) → lookup (same_moves m) es ≡ Some w → LexLess v.items w.items = elim c.match-get.branch [
       | in-Some s ↦ below_found m v s.in-Some.kept.now es (sym c.get.ensures.value ∙ ap option_copied s.in-Some.is)
           (subst (λ z. LexLess z s.in-Some.kept.now.items) (s.as_slice.ensures.value ∙ sym copied)
