@@ -4,6 +4,7 @@ use Rattle.std.proofs.lemmas.Bool.{true≢false}
 use Rattle.std.proofs.lemmas.List.Elements.{same_from_all_zip}
 use Rattle.std.specs.Map.{lookup}
 use Rattle.arrayvec.specs.ArrayVec.{ArrayVec}
+use Rattle.dw_board.specs.Geometry.{square_of}
 use Rattle.dw_moves.specs.MoveLaws.{same_moves}
 use Rattle.dw_moves.specs.Order.{LexLess}
 use Rattle.dw_moves.specs.Listing.{entries_listed, TakenIn}
@@ -16,7 +17,7 @@ returns-in_ok-insert g c =
     let m = c.args.step in
     let v = c.in_ok-clone.field-0 in
     let es = c.args.paths.now.entries in
-    let copied : v.items ≡ c.args.path.now.items = same_from_all_zip _ c.args.path.now.items v.items c.in_ok-clone.ensures.cases (λ x y h. ?) in
+    let copied : v.items ≡ c.args.path.now.items = same_from_all_zip _ c.args.path.now.items v.items c.in_ok-clone.ensures.cases (λ x y h. sym h.3 ∙ (ap (square_of g.B.Board.geometry) h.4.0 ∙ h.2)) in
     let below : (w : ArrayVec ℕ) → lookup (same_moves m) es ≡ Some w → LexLess v.items w.items = elim c.match-get.branch [
       | in-Some s ↦ below_found m v s.in-Some.kept.now es (sym c.get.ensures.value ∙ ap option_copied s.in-Some.is)
           (subst (λ z. LexLess z s.in-Some.kept.now.items) (s.as_slice.ensures.value ∙ sym copied)
