@@ -10,7 +10,7 @@ ghost use Rattle.dw_solve.specs.Facts.{AreTrue, IsDecided, RepliesAreDecided, Ha
 ghost use Rattle.dw_solve.specs.Searching.{IsCounted, IsNoted};
 ghost use Rattle.dw_solve.specs.Work.{moment, NothingLost, Searched, cut_off};
 ghost use Rattle.dw_solve.specs.Saying.{SaysWin, SaysMove, SaysLost};
-ghost use Rattle.dw_solve.specs.Ranking.{AreRanked};
+ghost use Rattle.dw_solve.specs.Ranking.{AreRanked, AreEnough};
 
 use crate::guide::Guide;
 use crate::ply::Ply;
@@ -20,7 +20,8 @@ use dw_board::position::Position;
 use dw_memo::bounds::Bounds;
 use dw_memo::memo::Memo;
 use dw_moves::best::has_move;
-use dw_moves::kernel::is_loose;
+use dw_moves::kernel::{is_loose, loose_step};
+use dw_moves::laws::loose_replies;
 use dw_moves::moves::Move;
 use dw_moves::play::play as played;
 use std::alloc::AllocError;
@@ -155,20 +156,23 @@ fn line_up<B: Board, G: Guide<B>>(
     }
 }
 
-/// Takes up the replies. If the attacker has one move left after them, one comes first after which it is seen at a glance
-/// that he does not win, if there is one: no other needs to be tried then.
+/// Takes up replies that are enough to try. At the attacker's last move one alone is, after which it is seen at a glance
+/// that he does not win; mostly such a reply is found without a list of all.
 fn line_up_replies<B: Board, G: Guide<B>>(
     ply: &mut Ply<B>,
     position: &Position<B>,
     guide: &G,
     moves: u8,
 ) -> Result<(), AllocError>
-    ensures { OnOk result (AreRanked B.geometry position.now ply.new.ranked.items) }
+    ensures { OnOk result (AreEnough B.geometry position.now moves ply.new.ranked.items) }
 {
-    if moves == 1 {
-        ply.fill_loose_first(position)
-    } else {
-        ply.fill(position, guide)
+    loose_replies();
+    if moves != 1 {
+        return ply.fill(position, guide);
+    }
+    match loose_step(position) {
+        Some(step) => ply.fill_with(step),
+        None => ply.fill_loose_first(position),
     }
 }
 
