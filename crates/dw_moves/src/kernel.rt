@@ -1,7 +1,7 @@
 //! Tests of the whole board at once, by sets of squares: no move is listed.
 ghost use Rattle.std.specs.Prelude.{◌≡◌, ◌↔◌, ℕ, Some, IsTrue};
 ghost use Rattle.dw_board.specs.Geometry.{OnBoard, step};
-ghost use Rattle.dw_moves.specs.Moves.{CanCapture, Quiet, IsForward};
+ghost use Rattle.dw_moves.specs.Moves.{CanCapture};
 ghost use Rattle.dw_moves.specs.Kernel.{In, AreSets, MenMeet, KingsMeet, Takes, Steps, StepsOn, HasTwo, CanStep, CanTakeFrom, back};
 ghost use Rattle.dw_moves.specs.Replies.{given, passed, OneStep, IsLoose, AlwaysReply};
 
@@ -38,8 +38,9 @@ pub(crate) fn can_step<B: Board>(position: &Position<B>) -> bool
         || field.steps(side, Dir::DownRight)
 }
 
-/// Whether it is seen at a glance that the other side has a reply to every move: nothing can be taken, and if it were the
-/// other side's turn, pieces of it could go one square to two different squares or more. A quiet move stands in the way of one.
+/// Whether it is seen at a glance that the other side has a reply to every move: nothing can be taken, and if it were
+/// the other side's turn, pieces of it could go one square to two different squares or more. A quiet move stands in the
+/// way of one.
 pub fn is_loose<B: Board>(position: &Position<B>) -> bool
     ensures exact { IsTrue result ↔ IsLoose B.geometry position.now }
     ensures replies { IsTrue result → AlwaysReply B.geometry position.now }
@@ -50,8 +51,8 @@ pub fn is_loose<B: Board>(position: &Position<B>) -> bool
     has_two(other_steps(position))
 }
 
-/// The squares to which a piece of the other side could go one square, if it were its turn: a man forward, a king in any
-/// direction.
+/// The squares to which a piece of the other side could go one square, if it were its turn: a man forward, a king in
+/// any direction.
 pub fn other_steps<B: Board>(position: &Position<B>) -> Squares<B>
     ensures { (t : ℕ) → In t result ↔ ((s : ℕ) × OneStep B.geometry (passed position.now) s t) }
 {
@@ -64,21 +65,6 @@ pub fn other_steps<B: Board>(position: &Position<B>) -> Squares<B>
         .next_free(side, Dir::DownLeft)
         .or(field.next_free(side, Dir::DownRight));
     up.or(down)
-}
-
-/// The squares from which a quiet move may begin: each from which one does is among them.
-pub(crate) fn may_step<B: Board>(position: &Position<B>) -> Squares<B>
-    ensures { (s t : ℕ) → Quiet B.geometry position.now s t → In s result }
-{
-    let field = Field::of(position);
-    let side = position.turn();
-    let up = field
-        .before_empty(side, Dir::UpLeft)
-        .or(field.before_empty(side, Dir::UpRight));
-    let down = field
-        .before_empty(side, Dir::DownLeft)
-        .or(field.before_empty(side, Dir::DownRight));
-    field.kings.or(up).or(down)
 }
 
 /// The squares from which a capture may begin: each from which one does is among them.
@@ -157,18 +143,6 @@ impl<B: Board> Field<B> {
             reached = next.minus(self.occupied);
         }
         met
-    }
-
-    /// The squares from which a man can go one square in a direction, none where that is backward.
-    fn before_empty(&self, side: Side, direction: Dir) -> Squares<B>
-        ensures { (s t : ℕ) → OnBoard B.geometry s → In s self.now.men → IsForward side direction → step B.geometry s direction ≡ Some t → (In t self.now.occupied → ⊥) → In s result }
-    {
-        if may_go(Kind::Man, side, direction) {
-            let free = self.men.shifted(direction).minus(self.occupied);
-            free.shifted(opposite(direction))
-        } else {
-            Squares::none()
-        }
     }
 
     /// The squares from which a man can take in a direction.
