@@ -73,7 +73,7 @@ adds_from made from ts old new once is = record {
 }
 
 -- what is in a set without a square is in the set
-in_rest : (v : Squares) (c t : ℕ) → In t (fin.remove v c) → In t v
+pub in_rest : (v : Squares) (c t : ℕ) → In t (fin.remove v c) → In t v
 in_rest v c t m = (and_parts _ _ (sym (contains-remove v c t) ∙ m)).1
 
 some_inj : (x y : ℕ) → Some x ≡ Some y → x ≡ y

@@ -3,29 +3,20 @@ use Rattle.std.proofs.Common.{◌≡◌, ℕ, ◌∷◌, ◌++◌, refl, sym, ap
 use Rattle.std.specs.FinSet as fin
 use Rattle.dw_board.specs.declared.board.Dir.{Dir}
 use Rattle.dw_board.specs.declared.board.Dir.TheVariants.{UpLeft, UpRight, DownLeft, DownRight}
-use Rattle.dw_board.specs.declared.piece.Side.{Side}
 use Rattle.dw_board.specs.declared.piece.Kind.{Kind}
 use Rattle.dw_board.specs.declared.piece.Kind.TheVariants.{Man, King}
 use Rattle.dw_board.specs.declared.piece.Piece.{Piece}
 use Rattle.dw_board.specs.Geometry.{Geometry, IsBoard, OnBoard, step}
 use Rattle.dw_board.specs.Placement.{Placement, at, placed}
 use Rattle.dw_board.specs.SquareSet.{Squares}
-use Rattle.dw_moves.specs.Moves.{Member, IsForward, Quiet, Stands, Jump, other, ray}
+use Rattle.dw_moves.specs.Moves.{Member, Stands, Jump, other, ray}
 use Rattle.dw_moves.specs.Kernel.{In, AreSets, MenMeet, CanTakeFrom, back}
 use Rattle.dw_moves.proofs.StepLaws.{step_is}
 use Rattle.dw_moves.proofs.StepBack.{step_back}
 use Rattle.dw_moves.proofs.SquareSets.{in_or, in_minus}
 use Rattle.dw_moves.proofs.KernelSets.{not_taken}
 use Rattle.dw_moves.proofs.KernelRuns.{IsShifted}
-use Rattle.dw_moves.proofs.FirstJump.{ray_head, head_free, piece_is, kind_cases, same_on_ray}
-
--- a man that can go one square is found from that square
-pub stepper_in : (g : Geometry) → IsBoard g → (men occupied next free behind : Squares) (d e : Dir) → e ≡ back d → IsShifted g men d next → free ≡ fin.difference next occupied → IsShifted g free e behind
-    → (s t : ℕ) → OnBoard g s → In s men → step g s d ≡ Some t → (In t occupied → ⊥) → In s behind
-stepper_in g b men occupied next free behind d e e_is next_is free_is behind_is s t on m to empty =
-    let reached : In t next = (next_is t).1 (s, (m, to)) in
-    let kept : In t free = (in_minus next occupied free t free_is).1 (reached, empty) in
-    (behind_is s).1 (t, (kept, subst (λ z. step g t z ≡ Some s) (sym e_is) (step_back g b s t d on to)))
+use Rattle.dw_moves.proofs.FirstJump.{ray_head, piece_is, kind_cases, same_on_ray}
 
 -- a man that can take is found from the square behind what it takes
 pub taker_in : (g : Geometry) → IsBoard g → (men enemies occupied met next free over behind : Squares) (d e : Dir) → e ≡ back d → ((c : ℕ) → In c met ↔ MenMeet g men enemies occupied d c)
@@ -59,33 +50,11 @@ by_dir P ul ur dl dr f UpRight h = inr (inl (f.1.0 h))
 by_dir P ul ur dl dr f DownLeft h = inr (inr (inl (f.1.1.0 h)))
 by_dir P ul ur dl dr f DownRight h = inr (inr (inr (f.1.1.1 h)))
 
--- a man steps from s in a direction
-abbrev pub StepsFrom : Geometry → Side → Squares → Squares → ℕ → Dir → Type 0
-StepsFrom g side men occupied s d = (t : ℕ) × (OnBoard g s × (In s men × (IsForward side d × ((step g s d ≡ Some t) × (In t occupied → ⊥)))))
-
 -- a man takes from s in a direction
 abbrev pub TakesFrom : Geometry → Squares → Squares → Squares → ℕ → Dir → Type 0
 TakesFrom g men enemies occupied s d = (c : ℕ) × ((t : ℕ) × (OnBoard g s × (In s men × ((step g s d ≡ Some c) × (In c enemies × ((step g c d ≡ Some t) × (In t occupied → ⊥)))))))
 
 module _ (g : Geometry) (b : IsBoard g) (p : Placement) (men kings enemies occupied : Squares) (sets : AreSets g p men kings enemies occupied) where
-  -- a quiet move begins with a king, or with a step of a man
-  quiet_begins : (s t : ℕ) → Quiet g p s t → In s kings ⊎ ((d : Dir) × StepsFrom g p.turn men occupied s d)
-  quiet_begins s t q =
-      let next = head_free p q.between t q.beyond q.clear q.free in
-      let to = (ray_head g b s next.0 next.1 q.dir q.stands.on_board (q.on_ray ∙ next.2)).0 in
-      let there : (kind_of : Kind) → q.piece.kind ≡ kind_of → at p s ≡ Some (record { side = p.turn; kind = kind_of }) = λ kind_of e. q.stands.there ∙ ap Some (piece_is q.piece p.turn kind_of q.stands.own e) in
-      elim (kind_cases q.piece.kind) [
-        | inl man ↦ inr (q.dir, (next.0, (q.stands.on_board, ((sets.of_men s).1 (q.stands.on_board, there Man man), ((q.man man).1, (to, not_taken g p men kings enemies occupied next.0 sets next.3))))))
-        | inr king ↦ inl ((sets.of_kings s).1 (q.stands.on_board, there King king))
-      ]
-
-  pub quiet_within : (side : Side) → side ≡ p.turn → (ul ur dl dr two three four all : Squares) → (s : ℕ) → FourSets (StepsFrom g side men occupied s) (In s ul) (In s ur) (In s dl) (In s dr)
-      → two ≡ fin.union ul ur → three ≡ fin.union dl dr → four ≡ fin.union kings two → all ≡ fin.union four three → (t : ℕ) → Quiet g p s t → In s all
-  quiet_within side e ul ur dl dr two three four all s f two_is three_is four_is all_is t q = in_five kings ul ur dl dr two three four all s two_is three_is four_is all_is (elim (quiet_begins s t q) [
-    | inl k ↦ inl k
-    | inr m ↦ inr (by_dir (StepsFrom g side men occupied s) (In s ul) (In s ur) (In s dl) (In s dr) f m.0 (subst (λ z. StepsFrom g z men occupied s m.0) (sym e) m.1))
-  ])
-
   -- a capture begins with a king, or with a man next to an enemy that has an empty square behind it
   capture_begins : (s : ℕ) → CanTakeFrom g p s → In s kings ⊎ ((d : Dir) × TakesFrom g men enemies occupied s d)
   capture_begins s h =

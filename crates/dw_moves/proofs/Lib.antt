@@ -18,8 +18,8 @@ pub mod Kept
 pub mod Walked
 pub mod Taking
 pub mod Quietly
-pub mod Sweeps
 pub mod Adding
+pub mod Tallying
 pub mod Filled
 pub mod TakesThese
 pub mod Followed

@@ -1,22 +1,21 @@
 -- The plain list of quiet moves has each once, and is counted square by square.
-use Rattle.std.proofs.Common.{◌≡◌, ℕ, ◌+◌, ◌*◌, ◌≤◌, zero, suc, List, [], ◌∷◌, ◌++◌, length, map, refl, sym, ap, ◌∙◌, subst, inl, inr, arith, length-append}
+use Rattle.std.proofs.Common.{◌≡◌, ℕ, zero, suc, List, [], ◌∷◌, ◌++◌, map, refl, sym, subst, inl, inr, arith}
 use Rattle.std.specs.List.{flat_map}
 use Rattle.std.proofs.lemmas.Bool.{cases_Bool}
-use Rattle.std.proofs.lemmas.List.{length-map}
 use Rattle.dw_board.specs.declared.piece.Kind.{Kind}
 use Rattle.dw_board.specs.declared.piece.Kind.TheVariants.{Man, King}
 use Rattle.dw_board.specs.declared.piece.Side.{Side}
 use Rattle.dw_board.specs.declared.board.Dir.{Dir}
 use Rattle.dw_board.specs.declared.board.Dir.TheVariants.{UpLeft, UpRight, DownLeft, DownRight}
-use Rattle.dw_board.specs.Geometry.{Geometry, IsBoard, OnBoard, squares, step}
-use Rattle.dw_board.specs.Placement.{Placement, at, same_side}
-use Rattle.dw_moves.specs.Moves.{Member, NoRepeat, IsQuietCount, ray_of, ray}
-use Rattle.dw_moves.specs.Plain.{numbers_to, dirs, free_front, free_next, landings_for, may_go, goes, quiet_for, targets_of, targets, quiet_pairs}
+use Rattle.dw_board.specs.Geometry.{Geometry, IsBoard, OnBoard, step}
+use Rattle.dw_board.specs.Placement.{Placement, at}
+use Rattle.dw_moves.specs.Moves.{Member, NoRepeat, ray_of, ray}
+use Rattle.dw_moves.specs.Plain.{dirs, free_front, free_next, landings_for, may_go, goes, quiet_for}
 use Rattle.dw_moves.specs.MemberLaws.{mem_cases, mem_map_back, mem_at}
 use Rattle.dw_moves.proofs.Exact.{option_cases}
 use Rattle.dw_moves.proofs.StepLaws.{step_is}
 use Rattle.dw_moves.proofs.Rays.{Toward, ray_of_toward, ray_of_none, ray_toward, one_dir}
-use Rattle.dw_moves.proofs.LegalMoves.{pair_from, pair_in, from_number, goes_from}
+use Rattle.dw_moves.proofs.LegalMoves.{goes_from}
 
 pub once_append : {X : Type 0} → (xs ys : List X) → NoRepeat xs → NoRepeat ys → ((x : X) → Member x xs → Member x ys → ⊥) → NoRepeat (xs ++ ys)
 once_append [] ys n m apart = m
@@ -45,10 +44,6 @@ once_flat f [] n each apart = tt
 once_flat f (x ∷ xs) n each apart =
     once_append (f x) (flat_map f xs) (each x (inl refl)) (once_flat f xs n.1 (λ z m. each z (inr m)) (λ a b y m k. apart a b y (inr m) (inr k)))
     (λ y l r. let k = mem_flat_in f y xs r in n.0 (subst (λ z. Member z xs) (sym (apart x k.0 y (inl refl) (inr k.1) l k.2)) k.1))
-
-pub numbers_once : (n : ℕ) → NoRepeat (numbers_to n)
-numbers_once zero = tt
-numbers_once (suc n) = once_append (numbers_to n) (suc n ∷ []) (numbers_once n) ((λ h. h), tt) (λ x l r. elim r [ inl e ↦ absurd (omega (arith, from_number n x l)) | inr h ↦ h ])
 
 dirs_once : NoRepeat dirs
 dirs_once = (
@@ -117,58 +112,3 @@ goes_toward k g b p side s t d on m =
 pub quiet_for_once : (k : Kind) (g : Geometry) → IsBoard g → (p : Placement) (side : Side) (s : ℕ) → OnBoard g s → NoRepeat (quiet_for k g p side s)
 quiet_for_once k g b p side s on = once_flat (goes k g p side s) dirs dirs_once (λ d m. goes_once k g b p side s d on)
     (λ d e t md me hd he. one_dir g s t d e (goes_toward k g b p side s t d on hd) (goes_toward k g b p side s t e on he))
-
-pub targets_once : (g : Geometry) → IsBoard g → (p : Placement) (s : ℕ) → OnBoard g s → NoRepeat (targets g p s)
-targets_once g b p s on = elim (option_cases (at p s)) [
-  | inl e ↦ rw (e, targets_of) tt
-  | inr e ↦ elim (cases_Bool (same_side e.0.side p.turn)) [
-    | inl own ↦ rw (e.1, targets_of) (rw own (quiet_for_once e.0.kind g b p p.turn s on))
-    | inr other ↦ rw (e.1, targets_of) (rw other tt)
-  ]
-]
-
-abbrev pub pairs_from : Geometry → Placement → ℕ → List (ℕ × ℕ)
-pairs_from g p s = map (λ t. (s, t)) (targets g p s)
-
-pub pairs_once : (g : Geometry) → IsBoard g → (p : Placement) → NoRepeat (quiet_pairs g p)
-pairs_once g b p = once_flat (pairs_from g p) (numbers_to (squares g)) (numbers_once (squares g))
-    (λ s m. once_map (λ t. (s, t)) (λ x y e. ap (λ (q : ℕ × ℕ). q.1) e) (targets g p s) (targets_once g b p s (from_number (squares g) s m)))
-    (λ s z m ms mz hs hz.
-    let x = mem_map_back (λ t. (s, t)) m (targets g p s) hs in
-    let y = mem_map_back (λ t. (z, t)) m (targets g p z) hz in
-    ap (λ (q : ℕ × ℕ). q.0) (sym x.2 ∙ y.2))
-
--- the quiet moves from the squares up to i
-pub record Tallied (g : Geometry) (p : Placement) (i n : ℕ) : Type 0 where
-  pub is : n ≡ length (flat_map (pairs_from g p) (numbers_to i))
-  pub small : n ≤ 40 * i
-
-pub tally_none : (g : Geometry) (p : Placement) → Tallied g p 0 0
-tally_none g p = record { is = refl; small = omega arith }
-
-flat_append : {X Y : Type 0} (f : X → List Y) → (xs ys : List X) → length (flat_map f (xs ++ ys)) ≡ length (flat_map f xs) + length (flat_map f ys)
-flat_append f [] ys = omega arith
-flat_append f (x ∷ xs) ys = omega (arith, length-append (f x) (flat_map f (xs ++ ys)), length-append (f x) (flat_map f xs), flat_append f xs ys)
-
-pub tally_more : (g : Geometry) (p : Placement) (i n m : ℕ) → Tallied g p i n → m ≡ length (targets g p (i + 1)) → m ≤ 40 → Tallied g p (i + 1) (n + m)
-tally_more g p i n m h e small =
-    let next : i + 1 ≡ suc i = omega arith in
-    let e' : m ≡ length (targets g p (suc i)) = e ∙ ap (λ z. length (targets g p z)) next in
-    let whole : length (flat_map (pairs_from g p) (numbers_to (suc i))) ≡ length (flat_map (pairs_from g p) (numbers_to i)) + length (flat_map (pairs_from g p) (suc i ∷ [])) = flat_append (pairs_from g p) (numbers_to i) (suc i ∷ []) in
-    let pair : ℕ → ℕ × ℕ = λ t. (suc i, t) in
-    let one : length (flat_map (pairs_from g p) (suc i ∷ [])) ≡ length (targets g p (suc i)) = omega (arith, length-append (pairs_from g p (suc i)) [], length-map (targets g p (suc i)) pair) in
-    subst (λ z. Tallied g p z (n + m)) (sym next) (record { is = omega (arith, h.is); small = omega (arith, h.small) })
-
--- a square from which no quiet move begins adds nothing
-pub tally_skip : (g : Geometry) (p : Placement) (n i : ℕ) → Tallied g p i n → targets g p (i + 1) ≡ [] → Tallied g p (i + 1) n
-tally_skip g p n i h none =
-    let same : n + 0 ≡ n = omega arith in
-    subst (Tallied g p (i + 1)) same (tally_more g p i n 0 h (sym (ap length none)) (omega arith))
-
-pub tally_all : (g : Geometry) → IsBoard g → (p : Placement) (n : ℕ) → Tallied g p (squares g) n → IsQuietCount g p n
-tally_all g b p n h = record {
-  moves = quiet_pairs g p;
-  exactly = λ s t. (pair_from g p (s, t), pair_in g p s t);
-  once = pairs_once g b p;
-  count = sym h.is;
-}

@@ -62,11 +62,13 @@ taken_out v c fresh = fin.same_set nat_cmp_total fin.nat_cmp-IsAntisymmetric _ _
 pub not_removed : (v : Squares) (c : ℕ) → fin.contains (fin.remove v c) c ≡ false
 not_removed v c = contains-remove v c c ∙ ap (λ b. not b && fin.contains v c) (eq-eqb c c refl)
 
+-- a square less
+pub one_fewer : (v : Squares) (c : ℕ) → fin.contains v c ≡ true → fin.len v ≡ fin.len (fin.remove v c) + 1
+one_fewer v c there =
+    ap fin.len (sym (put_back v c there)) ∙ (fin.len-insert nat_cmp_total (fin.remove v c) c ∙ ap (λ b. cond b (fin.len (fin.remove v c)) (fin.len (fin.remove v c) + 1)) (not_removed v c))
+
 pub fewer_left : (v : Squares) (c : ℕ) → fin.contains v c ≡ true → fin.len (fin.remove v c) < fin.len v
-fewer_left v c there =
-    let back : fin.len v ≡ fin.len (fin.insert (fin.remove v c) c) = ap fin.len (sym (put_back v c there)) in
-    let more : fin.len (fin.insert (fin.remove v c) c) ≡ fin.len (fin.remove v c) + 1 = fin.len-insert nat_cmp_total (fin.remove v c) c ∙ ap (λ b. cond b (fin.len (fin.remove v c)) (fin.len (fin.remove v c) + 1)) (not_removed v c) in
-    omega arith
+fewer_left v c there = omega (arith, one_fewer v c there)
 
 -- as many as the list has, where nothing stands twice in it
 pub len_list : (cs : List ℕ) → NoRepeat cs → fin.len (fin.from_list {R = nat_cmp} cs) ≡ length cs

@@ -1,5 +1,5 @@
 -- Plain lists of the squares that a piece reaches, and of the jumps that it has: what the code makes.
-use Rattle.std.specs.Prelude.{◌≡◌, ◌↔◌, ℕ, Option, Some, None, List, [], ◌∷◌, ◌++◌, Bool, true, false, map, not, cond}
+use Rattle.std.specs.Prelude.{◌≡◌, ◌↔◌, ℕ, Option, Some, None, List, [], ◌∷◌, ◌++◌, Bool, true, false, length, map, not, cond}
 use Rattle.std.specs.List.{flat_map}
 use Rattle.std.proofs.Common.{zero, suc}
 use Rattle.dw_board.specs.declared.piece.Side.{Side}
@@ -97,6 +97,13 @@ pub record Adds {X : Type 0} (made : ℕ → ℕ → X) (P : ℕ → ℕ → Typ
   pub exactly : (s t : ℕ) → Member (s, t) pairs ↔ P s t
   pub once : NoRepeat pairs
   pub are : new ≡ old ++ map (λ q. made q.0 q.1) pairs
+
+-- P holds of n pairs, each counted once
+pub record Counts (P : ℕ → ℕ → Type 0) (n : ℕ) : Type 0 where
+  pub pairs : List (ℕ × ℕ)
+  pub exactly : (s t : ℕ) → Member (s, t) pairs ↔ P s t
+  pub once : NoRepeat pairs
+  pub count : length pairs ≡ n
 
 -- a man of the side to move goes from s to t
 pub record ManSteps (g : Geometry) (p : Placement) (d : Dir) (s t : ℕ) : Type 0 where

@@ -75,7 +75,7 @@ fn walk<B: Board>(
     offer(begun, count, four, moves)
 }
 
-/// Goes through those of them that go on in one direction: over the enemy that is met there, onto each square behind it.
+/// Goes through those of them that go on in one direction: over the enemy that is met, onto each square behind it.
 #[cycle(walk)]
 fn walk_towards<B: Board>(
     position: &Position<B>,

@@ -2,7 +2,7 @@
 ghost use Rattle.std.specs.Prelude.{◌≡◌, ◌↔◌, ◌⊎◌, ℕ, Some, IsTrue, IsNone, IfSome};
 ghost use Rattle.std.specs.FinSet as set;
 ghost use Rattle.dw_board.specs.Geometry.{OnBoard, step};
-ghost use Rattle.dw_moves.specs.Moves.{CanCapture, Quiet, IsForward, Legal};
+ghost use Rattle.dw_moves.specs.Moves.{CanCapture, Legal};
 ghost use Rattle.dw_moves.specs.Moves as moved;
 ghost use Rattle.dw_moves.specs.Kernel.{In, AreSets, MenMeet, KingsMeet, Takes, Steps, StepsOn, HasTwo, CanStep, CanTakeFrom, NoneLoose, back};
 ghost use Rattle.dw_moves.specs.Replies.{given, passed, OneStep, IsLoose, IsLooseStep, AlwaysReply};
@@ -42,8 +42,9 @@ pub(crate) fn can_step<B: Board>(position: &Position<B>) -> bool
         || field.steps(side, Dir::DownRight)
 }
 
-/// Whether it is seen at a glance that the other side has a reply to every move: nothing can be taken, and if it were the
-/// other side's turn, pieces of it could go one square to two different squares or more. A quiet move stands in the way of one.
+/// Whether it is seen at a glance that the other side has a reply to every move: nothing can be taken, and if it were
+/// the other side's turn, pieces of it could go one square to two different squares or more. A quiet move stands in the
+/// way of one.
 pub fn is_loose<B: Board>(position: &Position<B>) -> bool
     ensures exact { IsTrue result ↔ IsLoose B.geometry position.now }
     ensures replies { IsTrue result → AlwaysReply B.geometry position.now }
@@ -54,8 +55,8 @@ pub fn is_loose<B: Board>(position: &Position<B>) -> bool
     has_two(other_steps(position))
 }
 
-/// A legal move of one square after which the position is loose: the other side is seen at a glance to have no win in its
-/// next move. `None` if something can be taken or there is no such move. It lists no moves.
+/// A legal move of one square after which the position is loose: it is seen at a glance that the other side has no win
+/// in its next move. `None` if something can be taken, or if there is no such move. It lists no moves.
 pub fn loose_step<B: Board>(position: &Position<B>) -> Option<Move<B>>
     ensures legal { IfSome result (Legal B.geometry position.now) }
     ensures some { IfSome result (IsLooseStep B.geometry position.now) }
@@ -77,8 +78,8 @@ pub fn loose_step<B: Board>(position: &Position<B>) -> Option<Move<B>>
     field.loose_towards(position, Dir::DownRight)
 }
 
-/// The squares to which a piece of the other side could go one square, if it were its turn: a man forward, a king in any
-/// direction.
+/// The squares to which a piece of the other side could go one square, if it were its turn: a man forward, a king in
+/// any direction.
 pub fn other_steps<B: Board>(position: &Position<B>) -> Squares<B>
     ensures { (t : ℕ) → In t result ↔ ((s : ℕ) × OneStep B.geometry (passed position.now) s t) }
 {
@@ -91,21 +92,6 @@ pub fn other_steps<B: Board>(position: &Position<B>) -> Squares<B>
         .next_free(side, Dir::DownLeft)
         .or(field.next_free(side, Dir::DownRight));
     up.or(down)
-}
-
-/// The squares from which a quiet move may begin: each from which one does is among them.
-pub(crate) fn may_step<B: Board>(position: &Position<B>) -> Squares<B>
-    ensures { (s t : ℕ) → Quiet B.geometry position.now s t → In s result }
-{
-    let field = Field::of(position);
-    let side = position.turn();
-    let up = field
-        .before_empty(side, Dir::UpLeft)
-        .or(field.before_empty(side, Dir::UpRight));
-    let down = field
-        .before_empty(side, Dir::DownLeft)
-        .or(field.before_empty(side, Dir::DownRight));
-    field.kings.or(up).or(down)
 }
 
 /// The squares from which a capture may begin: each from which one does is among them.
@@ -184,18 +170,6 @@ impl<B: Board> Field<B> {
             reached = next.minus(self.occupied);
         }
         met
-    }
-
-    /// The squares from which a man can go one square in a direction, none where that is backward.
-    fn before_empty(&self, side: Side, direction: Dir) -> Squares<B>
-        ensures { (s t : ℕ) → OnBoard B.geometry s → In s self.now.men → IsForward side direction → step B.geometry s direction ≡ Some t → (In t self.now.occupied → ⊥) → In s result }
-    {
-        if may_go(Kind::Man, side, direction) {
-            let free = self.men.shifted(direction).minus(self.occupied);
-            free.shifted(opposite(direction))
-        } else {
-            Squares::none()
-        }
     }
 
     /// The squares from which a man can take in a direction.

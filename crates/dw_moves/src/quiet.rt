@@ -5,10 +5,10 @@ ghost use Rattle.dw_moves.specs.Moves.{IsQuietCount, Quiet, Member, ray};
 ghost use Rattle.dw_board.specs.declared.piece.Kind.TheVariants.{King};
 ghost use Rattle.dw_moves.specs.Kernel.{In};
 ghost use Rattle.dw_moves.specs.Plain as plain;
-ghost use Rattle.dw_moves.specs.Plain.{Adds, ManSteps, KingGoes};
+ghost use Rattle.dw_moves.specs.Plain.{Adds, Counts, ManSteps, KingGoes};
 
 use crate::best::is_own;
-use crate::kernel::{may_step, opposite};
+use crate::kernel::opposite;
 use dw_board::board::{Board, Dir};
 use dw_board::piece::{Kind, Side};
 use dw_board::position::Position;
@@ -21,49 +21,44 @@ use std::alloc::AllocError;
 pub fn quiet_count<B: Board>(position: &Position<B>) -> u32
     ensures { IsQuietCount B.geometry position.now result }
 {
+    let up = men_count(position, Dir::UpLeft) + men_count(position, Dir::UpRight);
+    let down = men_count(position, Dir::DownLeft) + men_count(position, Dir::DownRight);
+    up + down + kings_count(position)
+}
+
+/// The number of quiet moves of men in one direction: each leads to another square.
+fn men_count<B: Board>(position: &Position<B>, direction: Dir) -> u32
+    ensures value { Counts (ManSteps B.geometry position.now direction) result }
+    ensures small { result ≤ 50 }
+{
+    u32::from(men_reach(position, direction).count())
+}
+
+/// The number of quiet moves of kings.
+fn kings_count<B: Board>(position: &Position<B>) -> u32
+    ensures value { Counts (KingGoes B.geometry position.now) result }
+    ensures small { result ≤ 2000 }
+{
     let mut count = 0;
-    let mut left = may_step(position);
+    let mut left = position.squares(position.turn(), Kind::King);
     'squares: while let Some((square, rest)) = left.split() {
-        count += quiet_from(position, square);
+        count += king_count(position, square);
         left = rest;
     }
     count
 }
 
-/// The number of quiet moves from a square.
-fn quiet_from<B: Board>(position: &Position<B>, from: Square<B>) -> u32
+/// The number of quiet moves of a king from a square.
+fn king_count<B: Board>(position: &Position<B>, from: Square<B>) -> u32
     requires { OnBoard B.geometry from }
-    ensures value { result ≡ length (plain.targets B.geometry position.now from) }
+    ensures value { result ≡ length (plain.quiet_for King B.geometry position.now position.now.turn from) }
     ensures small { result ≤ 40 }
 {
-    match position.at(from) {
-        Some(piece) if piece.side == position.turn() => {
-            let up = quiet_towards(position, piece.kind, from, Dir::UpLeft)
-                + quiet_towards(position, piece.kind, from, Dir::UpRight);
-            let down = quiet_towards(position, piece.kind, from, Dir::DownLeft)
-                + quiet_towards(position, piece.kind, from, Dir::DownRight);
-            up + down
-        }
-        _ => 0,
-    }
-}
-
-/// The number of quiet moves of the mover's piece in one direction.
-fn quiet_towards<B: Board>(
-    position: &Position<B>,
-    kind: Kind,
-    from: Square<B>,
-    direction: Dir,
-) -> u32
-    requires { OnBoard B.geometry from }
-    ensures value { result ≡ length (plain.goes kind B.geometry position.now position.now.turn from direction) }
-    ensures small { result ≤ 10 }
-{
-    if may_go(kind, position.turn(), direction) {
-        free_run(position, kind, from, direction)
-    } else {
-        0
-    }
+    let up = free_run(position, Kind::King, from, Dir::UpLeft)
+        + free_run(position, Kind::King, from, Dir::UpRight);
+    let down = free_run(position, Kind::King, from, Dir::DownLeft)
+        + free_run(position, Kind::King, from, Dir::DownRight);
+    up + down
 }
 
 /// Whether a piece may go this way where it takes nothing.
