@@ -140,14 +140,16 @@ reach_is g b p d side may men next occupied v side_is may_is may_true men_are sh
       let out = (in_minus next occupied v t v_is).0 h in
       let from = (shifted t).0 out.0 in
       let stands = (men_are from.0).0 from.1.0 in
-      let on : OnBoard g t = (step_is g b from.0 t d stands.0 from.1.1).on in
-      (from.0, record {
-        on = stands.0;
-        there = stands.1 ∙ ap (λ z. Some (record { side = z; kind = Man })) side_is;
-        ahead = subst (λ z. IsForward z d) side_is (may_from Man side d (sym may_is ∙ may_true) refl);
-        steps = from.1.1;
-        free = elim (option_cases (at p t)) [ inl none ↦ none | inr q ↦ absurd (out.1 ((all t).1 (on, q))) ];
-      })),
+      let on : OnBoard g t = (step_is g b from.0 t d stands.0 from.1.1).on in (
+        from.0,
+        record {
+          on = stands.0;
+          there = stands.1 ∙ ap (λ z. Some (record { side = z; kind = Man })) side_is;
+          ahead = subst (λ z. IsForward z d) side_is (may_from Man side d (sym may_is ∙ may_true) refl);
+          steps = from.1.1;
+          free = elim (option_cases (at p t)) [ inl none ↦ none | inr q ↦ absurd (out.1 ((all t).1 (on, q))) ];
+        },
+      )),
   (λ h.
       let m = h.1 in
       let stands : at p h.0 ≡ Some (record { side = side; kind = Man }) = m.there ∙ ap (λ z. Some (record { side = z; kind = Man })) (sym side_is) in

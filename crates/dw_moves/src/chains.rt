@@ -77,6 +77,7 @@ fn walk<B: Board>(
 
 /// Goes through those of them that go on in one direction: over the enemy that is met, onto each square behind it.
 #[cycle(walk)]
+#[inline(always)]
 fn walk_towards<B: Board>(
     position: &Position<B>,
     piece: Piece,
