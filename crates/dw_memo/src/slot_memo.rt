@@ -107,12 +107,20 @@ fn hash_of<B: Board>(position: &Position<B>) -> u64
 {
     let turn = mixed(0, side_number(position.turn()), 0xE703_7ED1_A0B4_28DB);
     let white = mixed(
-        mixed(turn, word(position, Side::White, Kind::Man), 0x9E37_79B9_7F4A_7C15),
+        mixed(
+            turn,
+            word(position, Side::White, Kind::Man),
+            0x9E37_79B9_7F4A_7C15,
+        ),
         word(position, Side::White, Kind::King),
         0xD6E8_FEB8_6659_FD93,
     );
     mixed(
-        mixed(white, word(position, Side::Black, Kind::Man), 0xC2B2_AE3D_27D4_EB4F),
+        mixed(
+            white,
+            word(position, Side::Black, Kind::Man),
+            0xC2B2_AE3D_27D4_EB4F,
+        ),
         word(position, Side::Black, Kind::King),
         0xA076_1D64_78BD_642F,
     )

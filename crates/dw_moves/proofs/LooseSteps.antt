@@ -92,11 +92,11 @@ pub none_anywhere : (g : Geometry) → IsBoard g → (p : Placement) (men kings 
 none_anywhere g b p men kings enemies occupied sets ul ur dl dr m h =
     let same : m ≡ quiet_to m.from m.to = λ i. record { from = m.from; to = m.to; taken = h.1 i } in
     in_dir h.0.dir (from_step g b p men kings enemies occupied sets m.from m.to h.0) (subst (λ z. IsLoose g (play g p z)) same h.2) where
-  out : (t : ℕ) → In t fin.empty → ⊥
-  out t m = in_none fin.empty t refl m
+      out : (t : ℕ) → In t fin.empty → ⊥
+      out t m = in_none fin.empty t refl m
 
-  in_dir : (d : Dir) → StepsFrom g p.turn men kings occupied d m.from m.to → IsLoose g (play g p (quiet_to m.from m.to)) → ⊥
-  in_dir UpLeft f loose = ul m.from m.to f (out m.to) loose
-  in_dir UpRight f loose = ur m.from m.to f (out m.to) loose
-  in_dir DownLeft f loose = dl m.from m.to f (out m.to) loose
-  in_dir DownRight f loose = dr m.from m.to f (out m.to) loose
+      in_dir : (d : Dir) → StepsFrom g p.turn men kings occupied d m.from m.to → IsLoose g (play g p (quiet_to m.from m.to)) → ⊥
+      in_dir UpLeft f loose = ul m.from m.to f (out m.to) loose
+      in_dir UpRight f loose = ur m.from m.to f (out m.to) loose
+      in_dir DownLeft f loose = dl m.from m.to f (out m.to) loose
+      in_dir DownRight f loose = dr m.from m.to f (out m.to) loose
