@@ -356,7 +356,7 @@ fn a_long_list_goes_on_at_its_end(rt: HostRuntime) {
     let mut solver = Solver::<Ten, SlotMemo<Ten>, ByTrial>::new(memo, ByTrial, 1_000_000);
     let mut lister = Lister::start(&mut solver, &position, 5);
     let (last_but_one, last) = last_two(&rt, alloc, &mut lister, 374_951);
-    let mut solver = Solver::<Ten, NoMemo, ByTrial>::new(NoMemo::new(), ByTrial, 100);
+    let mut solver = Solver::<Ten, NoMemo, ByTrial>::new(NoMemo::new(), ByTrial, 1_000);
     let mut lister = Lister::start(&mut solver, &position, 5);
     assert!(rt; lister.after(alloc, last_but_one.as_slice()).is_ok());
     let limit = lister.expanded().saturating_add(1_999);
