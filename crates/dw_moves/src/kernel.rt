@@ -55,11 +55,13 @@ pub fn is_loose<B: Board>(position: &Position<B>) -> bool
     has_two(other_steps(position))
 }
 
-/// A legal move of one square after which the position is loose: it is seen at a glance that the other side has no win
-/// in its next move. `None` if something can be taken, or if there is no such move. It lists no moves.
-pub fn loose_step<B: Board>(position: &Position<B>) -> Option<Move<B>>
-    ensures legal { IfSome result (Legal B.geometry position.now) }
-    ensures some { IfSome result (IsLooseStep B.geometry position.now) }
+/// A legal move of one square after which the position is loose, and that position: it is seen at a glance that the
+/// other side has no win in its next move. `None` if something can be taken, or if there is no such move. It lists no
+/// moves.
+pub fn loose_step<B: Board>(position: &Position<B>) -> Option<(Move<B>, Position<B>)>
+    ensures legal { IfSome result (λ found. Legal B.geometry position.now found.0) }
+    ensures some { IfSome result (λ found. IsLooseStep B.geometry position.now found.0) }
+    ensures after { IfSome result (λ found. found.1 ≡ moved.play B.geometry position.now found.0) }
     ensures none { IsNone result → CanCapture B.geometry position.now ⊎ ((m : moved.Move) → IsLooseStep B.geometry position.now m → ⊥) }
 {
     if can_capture(position) {
@@ -200,12 +202,17 @@ impl<B: Board> Field<B> {
         movers.shifted(direction).minus(self.occupied)
     }
 
-    /// A step in a direction after which the position is loose.
-    fn loose_towards(&self, position: &Position<B>, direction: Dir) -> Option<Move<B>>
+    /// A step in a direction after which the position is loose, and that position.
+    fn loose_towards(
+        &self,
+        position: &Position<B>,
+        direction: Dir,
+    ) -> Option<(Move<B>, Position<B>)>
         requires sets { AreSets B.geometry position.now self.now.men self.now.kings self.now.enemies self.now.occupied }
         requires quiet { CanCapture B.geometry position.now → ⊥ }
-        ensures legal { IfSome result (Legal B.geometry position.now) }
-        ensures some { IfSome result (IsLooseStep B.geometry position.now) }
+        ensures legal { IfSome result (λ found. Legal B.geometry position.now found.0) }
+        ensures some { IfSome result (λ found. IsLooseStep B.geometry position.now found.0) }
+        ensures after { IfSome result (λ found. found.1 ≡ moved.play B.geometry position.now found.0) }
         ensures none { IsNone result → NoneLoose B.geometry position.now self.now.men self.now.kings self.now.occupied direction set.empty }
     {
         let back = opposite(direction);
@@ -213,8 +220,9 @@ impl<B: Board> Field<B> {
         'goals: while let Some((to, rest)) = left.split() {
             if let Some(from) = step(to, back) {
                 let found = Move::quiet(from, to);
-                if is_loose(&play(position, &found)) {
-                    return Some(found);
+                let after = play(position, &found);
+                if is_loose(&after) {
+                    return Some((found, after));
                 }
             }
             left = rest;

@@ -1,7 +1,7 @@
 -- What a memo says, and notes of right answers.
 use Rattle.std.proofs.Common.{◌≡◌, ℕ, List, [], ◌∷◌, refl, sym, ap, ◌∙◌, subst, ◌⊎◌, inl, inr, arith, Bool, true, false, Option, Some, None, map, ◌↔◌, IfSome, IsNone, IsTrue, is_some}
 use Rattle.std.specs.Prelude.{max, min, cond}
-use Rattle.std.proofs.lemmas.Bool.{cases_Bool, cases_lt, leb-true, le-leb}
+use Rattle.std.proofs.lemmas.Bool.{true≢false, cases_Bool, cases_lt, leb-true, le-leb}
 use Rattle.dw_board.specs.Geometry.{Geometry}
 use Rattle.dw_board.specs.Placement.{Placement}
 use Rattle.dw_memo.specs.declared.bounds.Bounds.{Bounds}
@@ -12,7 +12,8 @@ use Rattle.dw_memo.specs.Noting.{IsNote}
 use Rattle.dw_solve.specs.Wins.{Win}
 use Rattle.dw_solve.specs.Facts.{KnownWin, KnownFail, IsDecided, HasBounds, AreTrue}
 use Rattle.dw_solve.specs.Saying.{SaysWin}
-use Rattle.dw_solve.proofs.WinLemmas.{Win-le}
+use Rattle.dw_moves.specs.Replies.{AlwaysReply}
+use Rattle.dw_solve.proofs.WinLemmas.{Win-le, hopeless_is}
 
 pub option_cases : {A : Type 0} → (o : Option A) → (o ≡ None) ⊎ ((x : A) × (o ≡ Some x))
 option_cases None = inl refl
@@ -107,6 +108,24 @@ pub unheld_open : (c : Content) (p : Placement) (n : ℕ) → (Member p (positio
 unheld_open c p n out (inl h) = out (subst (λ z. Member z (positions c)) h.about (mem_map (λ (e : Entry). e.position) h.entry c h.held))
 unheld_open c p n out (inr h) = out (subst (λ z. Member z (positions c)) h.about (mem_map (λ (e : Entry). e.position) h.entry c h.held))
 
+-- the bounds of a position, held or none, decide what is known of it
+pub bounds_decide : (c : Content) (p : Placement) (b : Bounds) (n : ℕ) (r : Option Bool) → HasBounds c p b → r ≡ decided b n → is_some r ≡ true → IsDecided c p n
+bounds_decide c p b n r (inl held) e some = decided_known c p b n r held e some
+bounds_decide c p b n r (inr none) e some =
+    let d : decided b n ≡ None = subst (λ z. decided z n ≡ None) (sym none.0) refl in
+    absurd (true≢false (sym some ∙ ap is_some (e ∙ d)))
+
+pub bounds_open : (c : Content) (p : Placement) (b : Bounds) (n : ℕ) (r : Option Bool) → IsMap c → HasBounds c p b → r ≡ decided b n → is_some r ≡ false → IsDecided c p n → ⊥
+bounds_open c p b n r u (inl held) e none known = undecided_open c p b n r u held e none known
+bounds_open c p b n r u (inr out) e none known = unheld_open c p n out.1 known
+
+-- where each move has a reply, what is known of one move is that there is no win
+pub says_no : (g : Geometry) (c : Content) (p : Placement) → AreTrue g c → AlwaysReply g p → IsDecided c p 1 → SaysWin c p 1 false
+says_no g c p right always known = record {
+  when = λ t. absurd (true≢false (sym t));
+  unless = λ _. inr (elim known [ inl w ↦ absurd (hopeless_is g p 1 refl always (right.wins p 1 w)) | inr f ↦ f ]);
+}
+
 -- A note of a right answer leaves a true memo, whatever was lost.
 some_is : (x y : ℕ) → Some x ≡ Some y → x ≡ y
 some_is x y e = cc
@@ -165,7 +184,7 @@ note_win_true g old new p had j answer d d' t held n win =
           ]
     ])
 
-same_map : (old mid : Content) (p : Placement) (had : Bounds) → SameEntries old mid → HasBounds old p had → HasBounds mid p had
+pub same_map : (old mid : Content) (p : Placement) (had : Bounds) → SameEntries old mid → HasBounds old p had → HasBounds mid p had
 same_map old mid p had same (inl m) = inl ((same (entry p had)).0 m)
 same_map old mid p had same (inr none) = inr (none.0, λ m. none.1 (back (positions_entry mid p m))) where
   positions_entry : (c : Content) (p : Placement) → Member p (positions c) → (e : Entry) × Member e c × (p ≡ e.position)

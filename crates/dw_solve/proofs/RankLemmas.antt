@@ -9,9 +9,8 @@ use Rattle.dw_board.specs.Geometry.{Geometry}
 use Rattle.dw_board.specs.Placement.{Placement}
 use Rattle.dw_moves.specs.Moves.{Member, Move, Legal, AreLegal, play}
 use Rattle.dw_solve.specs.Wins.{Win, Lost}
-use Rattle.dw_solve.proofs.WinLemmas.{hopeless_is}
-use Rattle.dw_moves.specs.Replies.{IsLoose, AlwaysReply}
-use Rattle.dw_solve.specs.Ranking.{AreRanked, IsLooseAt, NoneLoose, AreEnough}
+use Rattle.dw_moves.specs.Replies.{IsLoose}
+use Rattle.dw_solve.specs.Ranking.{AreRanked, IsLooseAt, NoneLoose}
 
 get_same : {X : Type 0} (xs : List X) (i : ℕ) (a b : X) → i < length xs → get_or xs i a ≡ get_or xs i b
 get_same [] i a b low = absurd (omega arith)
@@ -113,34 +112,6 @@ pub below_all : (g : Geometry) (p : Placement) (P : Move → Type 0) (ranked : L
 below_all g p P ranked i all end h m legal =
     let c = (all m).0 legal in
     h c.1.0 (c.0, m) (omega (arith, c.1.1, end)) (sym c.1.2)
-
--- replies that are enough to try: all of them, or one that refutes the attacker's last move
-pub all_enough : (g : Geometry) (p : Placement) (n : ℕ) (ranked : List (ℕ × Move)) → AreRanked g p ranked → AreEnough g p n ranked
-all_enough g p n ranked all = record { legal = λ rank m c. (all m).1 (rank, c); enough = inl all }
-
-pub one_enough : (g : Geometry) (p : Placement) (n : ℕ) (ranked : List (ℕ × Move)) (m : Move) → ranked ≡ (0, m) ∷ [] → n ≡ 1 → Legal g p m → AlwaysReply g (play g p m) → AreEnough g p n ranked
-one_enough g p n ranked m is one legal always = subst (AreEnough g p n) (sym is) (record {
-  legal = λ rank r c. subst (Legal g p) (only c.0 rank r c.1 c.2) legal;
-  enough = inr (one, 0, m, (0, omega arith, refl), always);
-}) where
-  one_item : List (ℕ × Move)
-  one_item = (0, m) ∷ []
-
-  only : (i rank : ℕ) (r : Move) → i < length one_item → get_or one_item i (rank, r) ≡ (rank, r) → m ≡ r
-  only zero rank r low e = ap (λ (x : ℕ × Move). x.1) e
-  only (suc i) rank r low e = absurd (omega (arith, low))
-
-pub enough_legal : (g : Geometry) (p : Placement) (n : ℕ) (ranked : List (ℕ × Move)) (i : ℕ) (x : ℕ × Move) → AreEnough g p n ranked → i < length ranked → x ≡ get_or ranked i x → Legal g p x.1
-enough_legal g p n ranked i x h low is = h.legal x.0 x.1 (i, low, sym is)
-
--- where the attacker wins after each of them, they are all
-pub enough_all : (g : Geometry) (q : Placement) (n : ℕ) (ranked : List (ℕ × Move)) (i : ℕ) → AreEnough g q n ranked → length ranked ≤ i → Below (λ r. Win g (play g q r) n) ranked i → AreRanked g q ranked
-enough_all g q n ranked i h end won = elim h.enough [
-  | inl all ↦ all
-  | inr one ↦
-      let here : Win g (play g q one.2) n = won one.3.0 (one.1, one.2) (omega (arith, one.3.1, end)) (sym one.3.2) in
-      absurd (hopeless_is g (play g q one.2) n one.0 one.4 here)
-]
 
 -- no move at an index below i leaves a lost position; each leaves a win for the other side
 abbrev pub NoneLost : Geometry → Placement → ℕ → List (ℕ × Move) → ℕ → Type 0

@@ -1,5 +1,5 @@
 -- Legal moves with their ranks.
-use Rattle.std.specs.Prelude.{◌≡◌, ℕ, ◌<◌, ◌⊎◌, ◌↔◌, List, Contains, get_or}
+use Rattle.std.specs.Prelude.{◌≡◌, ℕ, ◌<◌, ◌↔◌, List, Contains, get_or}
 use Rattle.dw_board.specs.Geometry.{Geometry}
 use Rattle.dw_board.specs.Placement.{Placement}
 use Rattle.dw_moves.specs.Moves.{Move, Legal, play}
@@ -17,8 +17,6 @@ IsLooseAt g p ranked i = (x : ℕ × Move) → x ≡ get_or ranked i x → IsLoo
 abbrev pub NoneLoose : Geometry → Placement → List (ℕ × Move) → ℕ → Type 0
 NoneLoose g p ranked n = (i : ℕ) → i < n → IsLooseAt g p ranked i → ⊥
 
--- Replies that are enough to try, where the attacker has n moves left: all legal ones, or at his last move one after
--- which the other side has a reply to whatever he plays.
-pub record AreEnough (g : Geometry) (p : Placement) (n : ℕ) (ranked : List (ℕ × Move)) : Type 0 where
-  pub legal : (rank : ℕ) (m : Move) → Contains ranked (rank, m) → Legal g p m
-  pub enough : AreRanked g p ranked ⊎ ((n ≡ 1) × (rank : ℕ) × (m : Move) × Contains ranked (rank, m) × AlwaysReply g (play g p m))
+-- the position after a reply to which the other side has no winning answer in one move
+abbrev pub IsLooseReply : Geometry → Placement → Placement → Type 0
+IsLooseReply g p after = (m : Move) × Legal g p m × (after ≡ play g p m) × AlwaysReply g after

@@ -1,5 +1,5 @@
 //! The moves of one position, in the order in which a search goes through them.
-ghost use Rattle.std.specs.Prelude.{◌≡◌, ◌<◌, [], ◌∷◌, length, OnOk, IfSome, IsNone};
+ghost use Rattle.std.specs.Prelude.{◌≡◌, ◌<◌, [], length, OnOk, IfSome, IsNone};
 ghost use Rattle.dw_moves.specs.Moves.{AreLegal};
 ghost use Rattle.dw_solve.specs.Ranking.{AreRanked, IsLooseAt, NoneLoose};
 
@@ -58,15 +58,6 @@ impl<B: Board> Ply<B> {
         if let Some(index) = first_loose(position, self.ranked.as_slice()) {
             self.ranked.swap(0, index);
         }
-        Ok(())
-    }
-
-    /// Takes up one legal move.
-    pub(crate) fn fill_with(&mut self, step: Move<B>) -> Result<(), AllocError>
-        ensures { OnOk result (self.new.ranked.items ≡ (0, step) ∷ []) }
-    {
-        self.ranked.clear();
-        self.ranked.push((0, step))?;
         Ok(())
     }
 

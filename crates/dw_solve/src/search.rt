@@ -1,5 +1,5 @@
 //! The search: attacker and defender in turn.
-ghost use Rattle.std.specs.Prelude.{◌≡◌, ◌≢◌, ℕ, ◌+◌, ◌*◌, ◌≤◌, ◌<◌, ◌↔◌, length, IfOk, OnOk, IfSome, IsSome, IsNone, ◌⊎◌, IsOk, IsErr, IsErrOf, IsTrue, Contains, cond};
+ghost use Rattle.std.specs.Prelude.{◌≡◌, false, ◌≢◌, ℕ, ◌+◌, ◌*◌, ◌≤◌, ◌<◌, ◌↔◌, length, IfOk, OnOk, IfSome, IsSome, IsNone, ◌⊎◌, IsOk, IsErr, IsErrOf, IsTrue, Contains, cond};
 ghost use Rattle.dw_memo.specs.Bounding.{with_win, with_fail};
 ghost use Rattle.dw_memo.specs.Content.{IsMap, SameEntries};
 ghost use Rattle.dw_moves.specs.Moves.{Move, Legal, play};
@@ -10,7 +10,7 @@ ghost use Rattle.dw_solve.specs.Facts.{AreTrue, IsDecided, RepliesAreDecided, Ha
 ghost use Rattle.dw_solve.specs.Searching.{IsCounted, IsNoted};
 ghost use Rattle.dw_solve.specs.Work.{moment, NothingLost, Searched, cut_off};
 ghost use Rattle.dw_solve.specs.Saying.{SaysWin, SaysMove, SaysLost};
-ghost use Rattle.dw_solve.specs.Ranking.{AreRanked, AreEnough};
+ghost use Rattle.dw_solve.specs.Ranking.{AreRanked, IsLooseReply};
 
 use crate::guide::Guide;
 use crate::ply::Ply;
@@ -121,6 +121,10 @@ pub(crate) fn loses<B: Board, M: Memo<B>, G: Guide<B>>(
     if moves == 0 {
         return Ok(!has_move(position));
     }
+    if let Some(after) = loose_reply(position, moves) {
+        refute(search, &after)?;
+        return Ok(false);
+    }
     let (ply, rest) = plies.split_first_mut().unwrap();
     line_up_replies(ply, position, &search.guide, moves)?;
     'replies: for candidate in ply.ranked.as_slice() {
@@ -156,23 +160,59 @@ fn line_up<B: Board, G: Guide<B>>(
     }
 }
 
-/// Takes up replies that are enough to try. At the attacker's last move one alone is, after which it is seen at a glance
-/// that he does not win; mostly such a reply is found without a list of all.
+/// The position after a reply to the attacker's last move but one, if it is seen at a glance that he does not win with
+/// his last. One such reply is enough. Mostly a step of one square is one, and it is found without a list of moves.
+fn loose_reply<B: Board>(position: &Position<B>, moves: u8) -> Option<Position<B>>
+    ensures last { IsSome result → moves ≡ 1 }
+    ensures reply { IfSome result (IsLooseReply B.geometry position.now) }
+{
+    loose_replies();
+    if moves != 1 {
+        return None;
+    }
+    let (_, after) = loose_step(position)?;
+    Some(after)
+}
+
+/// Takes it up that the attacker does not win with his last move, where that is seen at a glance: the position is counted
+/// and noted, unless the cache decides it.
+fn refute<B: Board, M: Memo<B>, G>(
+    search: &mut Search<M, G>,
+    position: &Position<B>,
+) -> Result<(), Stop>
+    requires right { AreTrue B.geometry (M.content search.old.memo) }
+    requires within { search.old.expanded ≤ search.old.limit }
+    requires lost { AlwaysReply B.geometry position.now }
+    ensures right { AreTrue B.geometry (M.content search.new.memo) }
+    ensures count { IsCounted search.old.expanded search.old.limit search.new.expanded search.new.limit }
+    ensures stop { IsErrOf result Limit → search.new.expanded ≡ search.new.limit }
+    ensures searched { Searched B.geometry 1 (cut_off result 1) (moment M.content M.dropped search.old.memo search.old.expanded) (moment M.content M.dropped search.new.memo search.new.expanded) }
+    ensures says { NothingLost (moment M.content M.dropped search.old.memo search.old.expanded) (moment M.content M.dropped search.new.memo search.new.expanded) → OnOk result (SaysWin (M.content search.new.memo) position.now 1 false) }
+    ensures known { IsDecided (M.content search.old.memo) position.now 1 → IsOk result × (search.new.expanded ≡ search.old.expanded) × SameEntries (M.content search.old.memo) (M.content search.new.memo) }
+{
+    let bounds = bounds_now(&mut search.memo, position);
+    if bounds.decide(1).is_some() {
+        return Ok(());
+    }
+    count(search)?;
+    search.memo.note(*position, bounds.with_fail(1));
+    Ok(())
+}
+
+/// Takes up the replies, while the attacker has so many moves left. At his last move, first one after which it is seen at a
+/// glance that he does not win.
 fn line_up_replies<B: Board, G: Guide<B>>(
     ply: &mut Ply<B>,
     position: &Position<B>,
     guide: &G,
     moves: u8,
 ) -> Result<(), AllocError>
-    ensures { OnOk result (AreEnough B.geometry position.now moves ply.new.ranked.items) }
+    ensures { OnOk result (AreRanked B.geometry position.now ply.new.ranked.items) }
 {
-    loose_replies();
-    if moves != 1 {
-        return ply.fill(position, guide);
-    }
-    match loose_step(position) {
-        Some(step) => ply.fill_with(step),
-        None => ply.fill_loose_first(position),
+    if moves == 1 {
+        ply.fill_loose_first(position)
+    } else {
+        ply.fill(position, guide)
     }
 }
 

@@ -3,11 +3,12 @@ use Rattle.std.proofs.lemmas.Bool.{true≢false}
 use Rattle.std.specs.List.{IsFirstAndRest}
 use Rattle.std.proofs.lemmas.Option.{MatchOption-at_some}
 use Rattle.dw_solve.specs.Wins.{Win, Lost}
-use Rattle.dw_solve.specs.Facts.{AreTrue}
-use Rattle.dw_solve.specs.Ranking.{AreRanked, AreEnough}
+use Rattle.dw_solve.specs.Facts.{AreTrue, IsDecided}
+use Rattle.dw_solve.specs.Ranking.{AreRanked}
 use Rattle.dw_solve.specs.Work.{moment}
+use Rattle.dw_solve.specs.Saying.{SaysWin}
 use Rattle.dw_moves.specs.Moves.{play}
-use Rattle.dw_solve.proofs.RankLemmas.{ranked_legal, enough_legal, enough_all, below_more, below_all, win_by, never_won}
+use Rattle.dw_solve.proofs.RankLemmas.{ranked_legal, below_more, below_all, win_by, never_won}
 use Rattle.dw_solve.proofs.WorkLemmas.{searched_none, searched_wider, searched_stop, begun_is, wins_stopped, wins_ended}
 use Rattle.dw_solve.proofs.TriedLemmas.{Refuted, Answered, tried_none, refuted_more, answered_more, searched_after, says_winning, says_none, says_refuted, says_all}
 use Rattle.dw_solve.proofs.WinLemmas.{hopeless_is, says_hopeless}
@@ -17,8 +18,8 @@ use Rattle.dw_solve.proofs.search.+search.Goals as goal
 pub loses-play-requires : goal.loses-play-requires
 loses-play-requires g t c =
     let geo = g.B.Board.geometry in
-    enough_legal geo c.args.position.now c.args.moves c.as_slice-candidate-items.result.now c.replies.candidate-index c.candidate-item.result
-    (subst (AreEnough geo c.args.position.now c.args.moves) (sym c.as_slice-candidate-items.ensures.value) c.in_ok-line_up_replies.ensures) c.replies-test.true c.candidate-item.is
+    ranked_legal geo c.args.position.now c.as_slice-candidate-items.result.now c.replies.candidate-index c.candidate-item.result
+    (subst (AreRanked geo c.args.position.now) (sym c.as_slice-candidate-items.ensures.value) c.in_ok-line_up_replies.ensures) c.replies-test.true c.candidate-item.is
 
 pub loses-wins-requires : goal.loses-wins-requires
 loses-wins-requires g t c κs within =
@@ -39,8 +40,8 @@ loses-replies-init g t c = (
 pub loses-replies-preserved : goal.loses-replies-preserved
 loses-replies-preserved g t c =
     let geo = g.B.Board.geometry in
-    let legal = enough_legal geo c.args.position.now c.args.moves c.as_slice-candidate-items.result.now c.replies.candidate-index c.candidate-item.result
-    (subst (AreEnough geo c.args.position.now c.args.moves) (sym c.as_slice-candidate-items.ensures.value) c.in_ok-line_up_replies.ensures) c.replies-test.true c.candidate-item.is in
+    let legal = ranked_legal geo c.args.position.now c.as_slice-candidate-items.result.now c.replies.candidate-index c.candidate-item.result
+    (subst (AreRanked geo c.args.position.now) (sym c.as_slice-candidate-items.ensures.value) c.in_ok-line_up_replies.ensures) c.replies-test.true c.candidate-item.is in
     let won = subst (λ q. Win geo q c.args.moves) c.play.ensures (is_so c.in_ok-wins.field-0 _ c.in_ok-wins.ensures.answer c.if-not-branch.false) in (
       c.in_ok-wins.ensures.right,
       (
@@ -63,8 +64,8 @@ loses-returns-in_err-wins-clause-count g t c = counted_then _ _ _ _ _ _ c.replie
 pub loses-returns-then-not-branch-clause-answer : goal.loses-returns-then-not-branch-clause-answer
 loses-returns-then-not-branch-clause-answer g t c =
     let geo = g.B.Board.geometry in
-    let legal = enough_legal geo c.args.position.now c.args.moves c.as_slice-candidate-items.result.now c.replies.candidate-index c.candidate-item.result
-    (subst (AreEnough geo c.args.position.now c.args.moves) (sym c.as_slice-candidate-items.ensures.value) c.in_ok-line_up_replies.ensures) c.replies-test.true c.candidate-item.is in
+    let legal = ranked_legal geo c.args.position.now c.as_slice-candidate-items.result.now c.replies.candidate-index c.candidate-item.result
+    (subst (AreRanked geo c.args.position.now) (sym c.as_slice-candidate-items.ensures.value) c.in_ok-line_up_replies.ensures) c.replies-test.true c.candidate-item.is in
     answer_no (Lost geo c.args.position.now c.args.moves) (λ lost.
     is_not c.in_ok-wins.field-0 _ c.in_ok-wins.ensures.answer c.if-not-branch.true
     (subst (λ q. Win geo q c.args.moves) (sym c.play.ensures) (lost c.candidate-item.result.1 legal)))
@@ -77,8 +78,7 @@ loses-returns-clause-answer g t c =
     let geo = g.B.Board.geometry in
     answer_yes (Lost geo c.args.position.now c.args.moves)
     (below_all geo c.args.position.now (λ r. Win geo (play geo c.args.position.now r) c.args.moves) c.as_slice-candidate-items.result.now c.replies.candidate-index
-    (enough_all geo c.args.position.now c.args.moves c.as_slice-candidate-items.result.now c.replies.candidate-index
-    (subst (AreEnough geo c.args.position.now c.args.moves) (sym c.as_slice-candidate-items.ensures.value) c.in_ok-line_up_replies.ensures) c.replies-test.false c.replies.invariant.1.1.0) c.replies-test.false c.replies.invariant.1.1.0)
+    (subst (AreRanked geo c.args.position.now) (sym c.as_slice-candidate-items.ensures.value) c.in_ok-line_up_replies.ensures) c.replies-test.false c.replies.invariant.1.1.0)
 
 pub loses-returns-clause-right : goal.loses-returns-clause-right
 loses-returns-clause-right g t c = c.replies.invariant.0
@@ -229,8 +229,8 @@ loses-returns-then-not-branch-clause-searched g t c = searched_after _ _ _ _ _ _
 pub loses-returns-then-not-branch-clause-says : goal.loses-returns-then-not-branch-clause-says
 loses-returns-then-not-branch-clause-says g t c =
     let geo = g.B.Board.geometry in
-    let legal = enough_legal geo c.args.position.now c.args.moves c.as_slice-candidate-items.result.now c.replies.candidate-index c.candidate-item.result
-    (subst (AreEnough geo c.args.position.now c.args.moves) (sym c.as_slice-candidate-items.ensures.value) c.in_ok-line_up_replies.ensures) c.replies-test.true c.candidate-item.is in
+    let legal = ranked_legal geo c.args.position.now c.as_slice-candidate-items.result.now c.replies.candidate-index c.candidate-item.result
+    (subst (AreRanked geo c.args.position.now) (sym c.as_slice-candidate-items.ensures.value) c.in_ok-line_up_replies.ensures) c.replies-test.true c.candidate-item.is in
     says_refuted geo c.args.moves c.args.position.now c.candidate-item.result.1 c.play.result c.in_ok-wins.field-0 _ _ _ c.replies.invariant.1.1.1.0 c.in_ok-wins.ensures.searched legal c.play.ensures c.if-not-branch.true c.in_ok-wins.ensures.says
 
 pub loses-returns-clause-searched : goal.loses-returns-clause-searched
@@ -240,8 +240,7 @@ pub loses-returns-clause-says : goal.loses-returns-clause-says
 loses-returns-clause-says g t c =
     let geo = g.B.Board.geometry in
     says_all geo c.args.moves c.args.position.now c.as_slice-candidate-items.result.now c.replies.candidate-index _ _
-    (enough_all geo c.args.position.now c.args.moves c.as_slice-candidate-items.result.now c.replies.candidate-index
-    (subst (AreEnough geo c.args.position.now c.args.moves) (sym c.as_slice-candidate-items.ensures.value) c.in_ok-line_up_replies.ensures) c.replies-test.false c.replies.invariant.1.1.0) c.replies-test.false c.replies.invariant.1.1.1
+    (subst (AreRanked geo c.args.position.now) (sym c.as_slice-candidate-items.ensures.value) c.in_ok-line_up_replies.ensures) c.replies-test.false c.replies.invariant.1.1.1
 
 pub some_move_wins-returns-in_err-loses-clause-searched : goal.some_move_wins-returns-in_err-loses-clause-searched
 some_move_wins-returns-in_err-loses-clause-searched g t c =
@@ -301,8 +300,8 @@ wins-returns-clause-says g t c =
 pub loses-returns-in_err-wins-clause-known : goal.loses-returns-in_err-wins-clause-known
 loses-returns-in_err-wins-clause-known g t c all =
     let geo = g.B.Board.geometry in
-    let legal = enough_legal geo c.args.position.now c.args.moves c.as_slice-candidate-items.result.now c.replies.candidate-index c.candidate-item.result
-    (subst (AreEnough geo c.args.position.now c.args.moves) (sym c.as_slice-candidate-items.ensures.value) c.in_ok-line_up_replies.ensures) c.replies-test.true c.candidate-item.is in
+    let legal = ranked_legal geo c.args.position.now c.as_slice-candidate-items.result.now c.replies.candidate-index c.candidate-item.result
+    (subst (AreRanked geo c.args.position.now) (sym c.as_slice-candidate-items.ensures.value) c.in_ok-line_up_replies.ensures) c.replies-test.true c.candidate-item.is in
     let before = c.replies.invariant.1.1.2 all in
     let here = c.in_err-wins.ensures.known (reply_decided geo _ _ c.args.position.now c.play.result c.candidate-item.result.1 c.args.moves _ _ all before legal c.play.ensures) in
     absurd (true≢false (sym here.0))
@@ -310,8 +309,8 @@ loses-returns-in_err-wins-clause-known g t c all =
 pub loses-returns-then-not-branch-clause-known : goal.loses-returns-then-not-branch-clause-known
 loses-returns-then-not-branch-clause-known g t c all =
     let geo = g.B.Board.geometry in
-    let legal = enough_legal geo c.args.position.now c.args.moves c.as_slice-candidate-items.result.now c.replies.candidate-index c.candidate-item.result
-    (subst (AreEnough geo c.args.position.now c.args.moves) (sym c.as_slice-candidate-items.ensures.value) c.in_ok-line_up_replies.ensures) c.replies-test.true c.candidate-item.is in
+    let legal = ranked_legal geo c.args.position.now c.as_slice-candidate-items.result.now c.replies.candidate-index c.candidate-item.result
+    (subst (AreRanked geo c.args.position.now) (sym c.as_slice-candidate-items.ensures.value) c.in_ok-line_up_replies.ensures) c.replies-test.true c.candidate-item.is in
     let before = c.replies.invariant.1.1.2 all in
     let here = c.in_ok-wins.ensures.known (reply_decided geo _ _ c.args.position.now c.play.result c.candidate-item.result.1 c.args.moves _ _ all before legal c.play.ensures) in
     let after = unchanged_then _ _ _ _ _ _ before (here.1, here.2) in
@@ -367,3 +366,43 @@ wins-returns-in_err-won-clause-right g t c = c.in_err-won.ensures.right
 
 pub wins-returns-clause-right : goal.wins-returns-clause-right
 wins-returns-clause-right g t c = c.note-2.ensures.right
+
+pub loses-returns-in_err-refute-clause-known : goal.loses-returns-in_err-refute-clause-known
+loses-returns-in_err-refute-clause-known g t c all =
+    let geo = g.B.Board.geometry in
+    let reply = c.in-Some.ensures.reply in
+    let one = c.in-Some.ensures.last refl in
+    let here = c.in_err-refute.ensures.known (elim (all reply.0 reply.1) [
+      | inl none ↦ absurd (omega (arith, none, one))
+      | inr known ↦ subst (λ n. IsDecided (g.M.Memo.content c.args.search.now.memo) c.in-Some.after n) one (subst (λ q. IsDecided (g.M.Memo.content c.args.search.now.memo) q c.args.moves) (sym reply.2) known)
+    ]) in
+    absurd (true≢false (sym here.0))
+
+pub loses-returns-in-Some-clause-answer : goal.loses-returns-in-Some-clause-answer
+loses-returns-in-Some-clause-answer g t c =
+    let geo = g.B.Board.geometry in
+    let reply = c.in-Some.ensures.reply in
+    answer_no (Lost geo c.args.position.now c.args.moves)
+    (λ lost. hopeless_is geo c.in-Some.after c.args.moves (c.in-Some.ensures.last refl) reply.3 (subst (λ q. Win geo q c.args.moves) (sym reply.2) (lost reply.0 reply.1)))
+
+pub loses-returns-in-Some-clause-says : goal.loses-returns-in-Some-clause-says
+loses-returns-in-Some-clause-says g t c kept =
+    let geo = g.B.Board.geometry in
+    let reply = c.in-Some.ensures.reply in
+    let one = c.in-Some.ensures.last refl in
+    let before = moment g.M.Memo.content g.M.Memo.dropped c.args.search.now.memo c.args.search.now.expanded in
+    let after = moment g.M.Memo.content g.M.Memo.dropped c.refute.new.search.memo c.refute.new.search.expanded in
+    says_refuted geo c.args.moves c.args.position.now reply.0 c.in-Some.after false before before after (searched_none geo c.args.moves 0 before)
+    (searched_wider geo 1 c.args.moves 0 before after (omega (arith, one)) c.in_ok-refute.ensures.searched) reply.1 reply.2 refl
+    (λ k. subst (λ n. SaysWin after.content c.in-Some.after n false) (sym one) (c.in_ok-refute.ensures.says k)) kept
+
+pub loses-returns-in-Some-clause-known : goal.loses-returns-in-Some-clause-known
+loses-returns-in-Some-clause-known g t c all =
+    let geo = g.B.Board.geometry in
+    let reply = c.in-Some.ensures.reply in
+    let one = c.in-Some.ensures.last refl in
+    let here = c.in_ok-refute.ensures.known (elim (all reply.0 reply.1) [
+      | inl none ↦ absurd (omega (arith, none, one))
+      | inr known ↦ subst (λ n. IsDecided (g.M.Memo.content c.args.search.now.memo) c.in-Some.after n) one (subst (λ q. IsDecided (g.M.Memo.content c.args.search.now.memo) q c.args.moves) (sym reply.2) known)
+    ]) in
+    ((λ none. answered _ _ none), here.1, here.2)

@@ -15,8 +15,8 @@ goals-init g c =
     (λ t m. subst (λ z. StepsOn g.B.Board.geometry z c.args.self.now.men c.args.self.now.kings c.args.self.now.occupied c.args.direction t) c.turn.ensures.value ((c.next_free-left.ensures t).0 m))
     (λ t h. (c.next_free-left.ensures t).1 (subst (λ z. StepsOn g.B.Board.geometry z c.args.self.now.men c.args.self.now.kings c.args.self.now.occupied c.args.direction t) (sym c.turn.ensures.value) h))
 
-pub play-requires : goal.play-requires
-play-requires g c =
+pub play-after-requires : goal.play-after-requires
+play-after-requires g c =
     let leads = ap (step g.B.Board.geometry _) (sym c.opposite-back.ensures) ∙ (sym c.step.ensures ∙ c.in-Some-step.is) in
     subst (Legal g.B.Board.geometry c.args.position.now) (sym c.quiet-found.ensures)
     (is_legal g.B.Board.geometry g.met.B.Board.numbers c.args.position.now c.args.self.now.men c.args.self.now.kings c.args.self.now.enemies c.args.self.now.occupied c.requires.sets c.args.direction c.requires.quiet c.goals.left c.goals.invariant _ c.in-Some.ensures.member c.in-Some-step.from leads)
@@ -30,7 +30,7 @@ returns-then-is_loose-clause-legal g c =
 pub returns-then-is_loose-clause-some : goal.returns-then-is_loose-clause-some
 returns-then-is_loose-clause-some g c =
     let leads = ap (step g.B.Board.geometry _) (sym c.opposite-back.ensures) ∙ (sym c.step.ensures ∙ c.in-Some-step.is) in
-    let loose = subst (IsLoose g.B.Board.geometry) (c.play.ensures ∙ ap (play g.B.Board.geometry c.args.position.now) c.quiet-found.ensures) (c.is_loose.ensures.exact.0 c.if-is_loose.true) in
+    let loose = subst (IsLoose g.B.Board.geometry) (c.play-after.ensures ∙ ap (play g.B.Board.geometry c.args.position.now) c.quiet-found.ensures) (c.is_loose.ensures.exact.0 c.if-is_loose.true) in
     subst (IsLooseStep g.B.Board.geometry c.args.position.now) (sym c.quiet-found.ensures)
     (is_loose_step g.B.Board.geometry g.met.B.Board.numbers c.args.position.now c.args.self.now.men c.args.self.now.kings c.args.self.now.enemies c.args.self.now.occupied c.requires.sets c.args.direction c.goals.left c.goals.invariant _ c.in-Some.ensures.member c.in-Some-step.from leads loose)
 
@@ -41,7 +41,7 @@ pub goals-preserved-else-is_loose : goal.goals-preserved-else-is_loose
 goals-preserved-else-is_loose g c =
     let leads = ap (step g.B.Board.geometry _) (sym c.opposite-back.ensures) ∙ (sym c.step.ensures ∙ c.in-Some-step.is) in
     one_tried g.B.Board.geometry g.met.B.Board.numbers c.args.position.now c.args.self.now.men c.args.self.now.kings c.args.self.now.enemies c.args.self.now.occupied c.requires.sets c.args.direction c.goals.left _ c.goals.invariant _ c.in-Some.ensures.rest c.in-Some-step.from leads
-    (λ loose. true≢false (sym (c.is_loose.ensures.exact.1 (subst (IsLoose g.B.Board.geometry) (sym (c.play.ensures ∙ ap (play g.B.Board.geometry c.args.position.now) c.quiet-found.ensures)) loose)) ∙ c.if-is_loose.false))
+    (λ loose. true≢false (sym (c.is_loose.ensures.exact.1 (subst (IsLoose g.B.Board.geometry) (sym (c.play-after.ensures ∙ ap (play g.B.Board.geometry c.args.position.now) c.quiet-found.ensures)) loose)) ∙ c.if-is_loose.false))
 
 pub goals-smaller : goal.goals-smaller
 goals-smaller g c = subst (λ v. fin.len v < fin.len c.goals.left) (sym c.in-Some.ensures.rest) (fewer_left c.goals.left _ c.in-Some.ensures.member)
