@@ -9,8 +9,7 @@ use Rattle.dw_board.specs.Geometry.{Geometry}
 use Rattle.dw_board.specs.Placement.{Placement}
 use Rattle.dw_moves.specs.Moves.{Member, Move, Legal, AreLegal, play}
 use Rattle.dw_solve.specs.Wins.{Win, Lost}
-use Rattle.dw_moves.specs.Replies.{IsLoose}
-use Rattle.dw_solve.specs.Ranking.{AreRanked, IsLooseAt, NoneLoose}
+use Rattle.dw_solve.specs.Ranking.{AreRanked}
 
 get_same : {X : Type 0} (xs : List X) (i : ℕ) (a b : X) → i < length xs → get_or xs i a ≡ get_or xs i b
 get_same [] i a b low = absurd (omega arith)
@@ -74,22 +73,6 @@ ranked_anyhow g p ranked sorted all moved m = (
 -- what stands at an index is a legal move
 pub ranked_legal : (g : Geometry) (p : Placement) (ranked : List (ℕ × Move)) (i : ℕ) (x : ℕ × Move) → AreRanked g p ranked → i < length ranked → x ≡ get_or ranked i x → Legal g p x.1
 ranked_legal g p ranked i x all low is = (all x.1).1 (x.0, (i, low, sym is))
-
--- whether a move is loose is asked of what stands at its index
-stands_once : {X : Type 0} (xs : List X) (i : ℕ) (x y : X) → i < length xs → x ≡ get_or xs i x → y ≡ get_or xs i y → x ≡ y
-stands_once xs i x y low is at = is ∙ (get_same xs i x y low ∙ sym at)
-
-pub loose_here : (g : Geometry) (p q : Placement) (ranked : List (ℕ × Move)) (i : ℕ) (x : ℕ × Move) → i < length ranked → x ≡ get_or ranked i x
-    → q ≡ play g p (get_or ranked i x).1 → IsLoose g q → IsLooseAt g p ranked i
-loose_here g p q ranked i x low is e h y at =
-    subst (λ (z : ℕ × Move). IsLoose g (play g p z.1)) (sym is ∙ stands_once ranked i x y low is at) (subst (IsLoose g) e h)
-
-pub none_loose_more : (g : Geometry) (p q : Placement) (ranked : List (ℕ × Move)) (i : ℕ) (x : ℕ × Move) → NoneLoose g p ranked i → x ≡ get_or ranked i x
-    → q ≡ play g p (get_or ranked i x).1 → (IsLoose g q → ⊥) → NoneLoose g p ranked (i + 1)
-none_loose_more g p q ranked i x h is e apart k under loose = elim (split k i under) [
-  | inl same ↦ apart (subst (IsLoose g) (ap (λ (z : ℕ × Move). play g p z.1) is ∙ sym e) (subst (λ z. IsLooseAt g p ranked z) same loose x is))
-  | inr less ↦ h k less loose
-]
 
 -- so it is of each move at an index below i
 abbrev pub Below : (Move → Type 0) → List (ℕ × Move) → ℕ → Type 0

@@ -1,7 +1,7 @@
 //! The moves of one position, in the order in which a search goes through them.
-ghost use Rattle.std.specs.Prelude.{◌≡◌, ◌<◌, [], length, OnOk, IfSome, IsNone};
+ghost use Rattle.std.specs.Prelude.{◌≡◌, [], OnOk, IfSome};
 ghost use Rattle.dw_moves.specs.Moves.{AreLegal};
-ghost use Rattle.dw_solve.specs.Ranking.{AreRanked, IsLooseAt, NoneLoose};
+ghost use Rattle.dw_solve.specs.Ranking.{AreRanked, IsLooseReply};
 
 use crate::guide::{AnyOrder, Guide};
 use dw_board::board::Board;
@@ -49,16 +49,19 @@ impl<B: Board> Ply<B> {
         self.gather(position, &AnyOrder)
     }
 
-    /// Takes up the legal moves of a position: first one after which it is seen at a glance that the other side has no
-    /// win in one move, if there is such a move, and the others in any order.
-    pub(crate) fn fill_loose_first(&mut self, position: &Position<B>) -> Result<(), AllocError>
-        ensures { OnOk result (AreRanked B.geometry position.now self.new.ranked.items) }
+    /// The position after the first move that leaves it loose: it is seen at a glance that the other side has no win in
+    /// one move.
+    pub(crate) fn first_loose(&self, position: &Position<B>) -> Option<Position<B>>
+        requires { AreRanked B.geometry position.now self.now.ranked.items }
+        ensures { IfSome result (IsLooseReply B.geometry position.now) }
     {
-        self.fill_anyhow(position)?;
-        if let Some(index) = first_loose(position, self.ranked.as_slice()) {
-            self.ranked.swap(0, index);
+        'moves: for candidate in self.ranked.as_slice() {
+            let after = played(position, &candidate.1);
+            if is_loose(&after) {
+                return Some(after);
+            }
         }
-        Ok(())
+        None
     }
 
     /// Takes up the legal moves of a position with their ranks, unsorted.
@@ -69,21 +72,6 @@ impl<B: Board> Ply<B> {
         self.ranked.clear();
         rank_all(position, guide, self.moves.as_slice(), &mut self.ranked)
     }
-}
-
-/// The index of the first move after which it is seen at a glance that the other side has no win in one move.
-fn first_loose<B: Board>(position: &Position<B>, ranked: &[(u32, Move<B>)]) -> Option<usize>
-    requires { AreRanked B.geometry position.now ranked.now }
-    ensures within { IfSome result (λ i. i < length ranked.now) }
-    ensures loose { IfSome result (λ i. IsLooseAt B.geometry position.now ranked.now i) }
-    ensures none { IsNone result → NoneLoose B.geometry position.now ranked.now (length ranked.now) }
-{
-    'moves: for index in 0..ranked.len() {
-        if is_loose(&played(position, &ranked[index].1)) {
-            return Some(index);
-        }
-    }
-    None
 }
 
 /// Adds the legal moves with their ranks to an empty list.

@@ -121,12 +121,12 @@ pub(crate) fn loses<B: Board, M: Memo<B>, G: Guide<B>>(
     if moves == 0 {
         return Ok(!has_move(position));
     }
-    if let Some(after) = loose_reply(position, moves) {
+    let (ply, rest) = plies.split_first_mut().unwrap();
+    let found = line_up_replies(ply, position, &search.guide, moves)?;
+    if let Some(after) = found {
         refute(search, &after)?;
         return Ok(false);
     }
-    let (ply, rest) = plies.split_first_mut().unwrap();
-    line_up_replies(ply, position, &search.guide, moves)?;
     'replies: for candidate in ply.ranked.as_slice() {
         let reply = &candidate.1;
         if !wins(search, rest, &played(position, reply), moves)? {
@@ -160,16 +160,35 @@ fn line_up<B: Board, G: Guide<B>>(
     }
 }
 
-/// The position after a reply to the attacker's last move but one, if it is seen at a glance that he does not win with
-/// his last. One such reply is enough. Mostly a step of one square is one, and it is found without a list of moves.
-fn loose_reply<B: Board>(position: &Position<B>, moves: u8) -> Option<Position<B>>
-    ensures last { IsSome result → moves ≡ 1 }
-    ensures reply { IfSome result (IsLooseReply B.geometry position.now) }
+/// Takes up the replies, while the attacker has so many moves left: in the guide's order if there are two or more. At his
+/// last move one reply is enough after which it is seen at a glance that he does not win: then it answers the position
+/// after that one. Mostly it is a step of one square, which is found without a list of moves.
+fn line_up_replies<B: Board, G: Guide<B>>(
+    ply: &mut Ply<B>,
+    position: &Position<B>,
+    guide: &G,
+    moves: u8,
+) -> Result<Option<Position<B>>, AllocError>
+    ensures last { IfOk result (λ found. IsSome found → moves ≡ 1) }
+    ensures reply { IfOk result (λ found. IfSome found (IsLooseReply B.geometry position.now)) }
+    ensures all { IfOk result (λ found. IsNone found → AreRanked B.geometry position.now ply.new.ranked.items) }
+{
+    if moves != 1 {
+        ply.fill(position, guide)?;
+        return Ok(None);
+    }
+    if let Some(after) = loose_reply(position) {
+        return Ok(Some(after));
+    }
+    ply.fill_anyhow(position)?;
+    Ok(ply.first_loose(position))
+}
+
+/// The position after a step of one square, if it is seen at a glance that the other side has no win in one move then.
+fn loose_reply<B: Board>(position: &Position<B>) -> Option<Position<B>>
+    ensures { IfSome result (IsLooseReply B.geometry position.now) }
 {
     loose_replies();
-    if moves != 1 {
-        return None;
-    }
     let (_, after) = loose_step(position)?;
     Some(after)
 }
@@ -197,23 +216,6 @@ fn refute<B: Board, M: Memo<B>, G>(
     count(search)?;
     search.memo.note(*position, bounds.with_fail(1));
     Ok(())
-}
-
-/// Takes up the replies, while the attacker has so many moves left. At his last move, first one after which it is seen at a
-/// glance that he does not win.
-fn line_up_replies<B: Board, G: Guide<B>>(
-    ply: &mut Ply<B>,
-    position: &Position<B>,
-    guide: &G,
-    moves: u8,
-) -> Result<(), AllocError>
-    ensures { OnOk result (AreRanked B.geometry position.now ply.new.ranked.items) }
-{
-    if moves == 1 {
-        ply.fill_loose_first(position)
-    } else {
-        ply.fill(position, guide)
-    }
 }
 
 /// Whether there is a win within so many moves, where that is known without a search.

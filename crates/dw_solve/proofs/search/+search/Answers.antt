@@ -1,10 +1,10 @@
-use Rattle.std.proofs.Common.{◌≡◌, ◌+◌, ◌-◌, false, length, refl, sym, subst, arith, inl, inr}
+use Rattle.std.proofs.Common.{◌≡◌, ◌+◌, ◌-◌, false, length, refl, sym, ap, subst, arith, inl, inr, is_some, IfSome}
 use Rattle.std.proofs.lemmas.Bool.{true≢false}
 use Rattle.std.specs.List.{IsFirstAndRest}
 use Rattle.std.proofs.lemmas.Option.{MatchOption-at_some}
 use Rattle.dw_solve.specs.Wins.{Win, Lost}
 use Rattle.dw_solve.specs.Facts.{AreTrue, IsDecided}
-use Rattle.dw_solve.specs.Ranking.{AreRanked}
+use Rattle.dw_solve.specs.Ranking.{AreRanked, IsLooseReply}
 use Rattle.dw_solve.specs.Work.{moment}
 use Rattle.dw_solve.specs.Saying.{SaysWin}
 use Rattle.dw_moves.specs.Moves.{play}
@@ -19,7 +19,7 @@ pub loses-play-requires : goal.loses-play-requires
 loses-play-requires g t c =
     let geo = g.B.Board.geometry in
     ranked_legal geo c.args.position.now c.as_slice-candidate-items.result.now c.replies.candidate-index c.candidate-item.result
-    (subst (AreRanked geo c.args.position.now) (sym c.as_slice-candidate-items.ensures.value) c.in_ok-line_up_replies.ensures) c.replies-test.true c.candidate-item.is
+    (subst (AreRanked geo c.args.position.now) (sym c.as_slice-candidate-items.ensures.value) (c.in_ok-found.ensures.all (ap is_some c.in_default.is))) c.replies-test.true c.candidate-item.is
 
 pub loses-wins-requires : goal.loses-wins-requires
 loses-wins-requires g t c κs within =
@@ -41,7 +41,7 @@ pub loses-replies-preserved : goal.loses-replies-preserved
 loses-replies-preserved g t c =
     let geo = g.B.Board.geometry in
     let legal = ranked_legal geo c.args.position.now c.as_slice-candidate-items.result.now c.replies.candidate-index c.candidate-item.result
-    (subst (AreRanked geo c.args.position.now) (sym c.as_slice-candidate-items.ensures.value) c.in_ok-line_up_replies.ensures) c.replies-test.true c.candidate-item.is in
+    (subst (AreRanked geo c.args.position.now) (sym c.as_slice-candidate-items.ensures.value) (c.in_ok-found.ensures.all (ap is_some c.in_default.is))) c.replies-test.true c.candidate-item.is in
     let won = subst (λ q. Win geo q c.args.moves) c.play.ensures (is_so c.in_ok-wins.field-0 _ c.in_ok-wins.ensures.answer c.if-not-branch.false) in (
       c.in_ok-wins.ensures.right,
       (
@@ -65,7 +65,7 @@ pub loses-returns-then-not-branch-clause-answer : goal.loses-returns-then-not-br
 loses-returns-then-not-branch-clause-answer g t c =
     let geo = g.B.Board.geometry in
     let legal = ranked_legal geo c.args.position.now c.as_slice-candidate-items.result.now c.replies.candidate-index c.candidate-item.result
-    (subst (AreRanked geo c.args.position.now) (sym c.as_slice-candidate-items.ensures.value) c.in_ok-line_up_replies.ensures) c.replies-test.true c.candidate-item.is in
+    (subst (AreRanked geo c.args.position.now) (sym c.as_slice-candidate-items.ensures.value) (c.in_ok-found.ensures.all (ap is_some c.in_default.is))) c.replies-test.true c.candidate-item.is in
     answer_no (Lost geo c.args.position.now c.args.moves) (λ lost.
     is_not c.in_ok-wins.field-0 _ c.in_ok-wins.ensures.answer c.if-not-branch.true
     (subst (λ q. Win geo q c.args.moves) (sym c.play.ensures) (lost c.candidate-item.result.1 legal)))
@@ -78,7 +78,7 @@ loses-returns-clause-answer g t c =
     let geo = g.B.Board.geometry in
     answer_yes (Lost geo c.args.position.now c.args.moves)
     (below_all geo c.args.position.now (λ r. Win geo (play geo c.args.position.now r) c.args.moves) c.as_slice-candidate-items.result.now c.replies.candidate-index
-    (subst (AreRanked geo c.args.position.now) (sym c.as_slice-candidate-items.ensures.value) c.in_ok-line_up_replies.ensures) c.replies-test.false c.replies.invariant.1.1.0)
+    (subst (AreRanked geo c.args.position.now) (sym c.as_slice-candidate-items.ensures.value) (c.in_ok-found.ensures.all (ap is_some c.in_default.is))) c.replies-test.false c.replies.invariant.1.1.0)
 
 pub loses-returns-clause-right : goal.loses-returns-clause-right
 loses-returns-clause-right g t c = c.replies.invariant.0
@@ -215,8 +215,8 @@ pub loses-returns-then-moves-eq0-clause-says : goal.loses-returns-then-moves-eq0
 loses-returns-then-moves-eq0-clause-says g t c kept =
     says_at_none g.B.Board.geometry (g.M.Memo.content c.args.search.now.memo) c.args.position.now c.args.moves c.has_move.result c.if-moves-eq0.true c.has_move.ensures
 
-pub loses-returns-in_err-line_up_replies-clause-searched : goal.loses-returns-in_err-line_up_replies-clause-searched
-loses-returns-in_err-line_up_replies-clause-searched g t c = searched_none _ _ _ _
+pub loses-returns-in_err-found-clause-searched : goal.loses-returns-in_err-found-clause-searched
+loses-returns-in_err-found-clause-searched g t c = searched_none _ _ _ _
 
 pub loses-returns-in_err-wins-clause-searched : goal.loses-returns-in_err-wins-clause-searched
 loses-returns-in_err-wins-clause-searched g t c =
@@ -230,7 +230,7 @@ pub loses-returns-then-not-branch-clause-says : goal.loses-returns-then-not-bran
 loses-returns-then-not-branch-clause-says g t c =
     let geo = g.B.Board.geometry in
     let legal = ranked_legal geo c.args.position.now c.as_slice-candidate-items.result.now c.replies.candidate-index c.candidate-item.result
-    (subst (AreRanked geo c.args.position.now) (sym c.as_slice-candidate-items.ensures.value) c.in_ok-line_up_replies.ensures) c.replies-test.true c.candidate-item.is in
+    (subst (AreRanked geo c.args.position.now) (sym c.as_slice-candidate-items.ensures.value) (c.in_ok-found.ensures.all (ap is_some c.in_default.is))) c.replies-test.true c.candidate-item.is in
     says_refuted geo c.args.moves c.args.position.now c.candidate-item.result.1 c.play.result c.in_ok-wins.field-0 _ _ _ c.replies.invariant.1.1.1.0 c.in_ok-wins.ensures.searched legal c.play.ensures c.if-not-branch.true c.in_ok-wins.ensures.says
 
 pub loses-returns-clause-searched : goal.loses-returns-clause-searched
@@ -240,7 +240,7 @@ pub loses-returns-clause-says : goal.loses-returns-clause-says
 loses-returns-clause-says g t c =
     let geo = g.B.Board.geometry in
     says_all geo c.args.moves c.args.position.now c.as_slice-candidate-items.result.now c.replies.candidate-index _ _
-    (subst (AreRanked geo c.args.position.now) (sym c.as_slice-candidate-items.ensures.value) c.in_ok-line_up_replies.ensures) c.replies-test.false c.replies.invariant.1.1.1
+    (subst (AreRanked geo c.args.position.now) (sym c.as_slice-candidate-items.ensures.value) (c.in_ok-found.ensures.all (ap is_some c.in_default.is))) c.replies-test.false c.replies.invariant.1.1.1
 
 pub some_move_wins-returns-in_err-loses-clause-searched : goal.some_move_wins-returns-in_err-loses-clause-searched
 some_move_wins-returns-in_err-loses-clause-searched g t c =
@@ -301,7 +301,7 @@ pub loses-returns-in_err-wins-clause-known : goal.loses-returns-in_err-wins-clau
 loses-returns-in_err-wins-clause-known g t c all =
     let geo = g.B.Board.geometry in
     let legal = ranked_legal geo c.args.position.now c.as_slice-candidate-items.result.now c.replies.candidate-index c.candidate-item.result
-    (subst (AreRanked geo c.args.position.now) (sym c.as_slice-candidate-items.ensures.value) c.in_ok-line_up_replies.ensures) c.replies-test.true c.candidate-item.is in
+    (subst (AreRanked geo c.args.position.now) (sym c.as_slice-candidate-items.ensures.value) (c.in_ok-found.ensures.all (ap is_some c.in_default.is))) c.replies-test.true c.candidate-item.is in
     let before = c.replies.invariant.1.1.2 all in
     let here = c.in_err-wins.ensures.known (reply_decided geo _ _ c.args.position.now c.play.result c.candidate-item.result.1 c.args.moves _ _ all before legal c.play.ensures) in
     absurd (true≢false (sym here.0))
@@ -310,7 +310,7 @@ pub loses-returns-then-not-branch-clause-known : goal.loses-returns-then-not-bra
 loses-returns-then-not-branch-clause-known g t c all =
     let geo = g.B.Board.geometry in
     let legal = ranked_legal geo c.args.position.now c.as_slice-candidate-items.result.now c.replies.candidate-index c.candidate-item.result
-    (subst (AreRanked geo c.args.position.now) (sym c.as_slice-candidate-items.ensures.value) c.in_ok-line_up_replies.ensures) c.replies-test.true c.candidate-item.is in
+    (subst (AreRanked geo c.args.position.now) (sym c.as_slice-candidate-items.ensures.value) (c.in_ok-found.ensures.all (ap is_some c.in_default.is))) c.replies-test.true c.candidate-item.is in
     let before = c.replies.invariant.1.1.2 all in
     let here = c.in_ok-wins.ensures.known (reply_decided geo _ _ c.args.position.now c.play.result c.candidate-item.result.1 c.args.moves _ _ all before legal c.play.ensures) in
     let after = unchanged_then _ _ _ _ _ _ before (here.1, here.2) in
@@ -331,11 +331,11 @@ loses-returns-then-moves-eq0-clause-right g t c = c.requires.right
 pub loses-returns-then-moves-eq0-clause-count : goal.loses-returns-then-moves-eq0-clause-count
 loses-returns-then-moves-eq0-clause-count g t c = counted_none _ _ c.requires.within
 
-pub loses-returns-in_err-line_up_replies-clause-right : goal.loses-returns-in_err-line_up_replies-clause-right
-loses-returns-in_err-line_up_replies-clause-right g t c = c.requires.right
+pub loses-returns-in_err-found-clause-right : goal.loses-returns-in_err-found-clause-right
+loses-returns-in_err-found-clause-right g t c = c.requires.right
 
-pub loses-returns-in_err-line_up_replies-clause-count : goal.loses-returns-in_err-line_up_replies-clause-count
-loses-returns-in_err-line_up_replies-clause-count g t c = counted_none _ _ c.requires.within
+pub loses-returns-in_err-found-clause-count : goal.loses-returns-in_err-found-clause-count
+loses-returns-in_err-found-clause-count g t c = counted_none _ _ c.requires.within
 
 pub loses-returns-in_err-wins-clause-right : goal.loses-returns-in_err-wins-clause-right
 loses-returns-in_err-wins-clause-right g t c = c.in_err-wins.ensures.right
@@ -370,8 +370,8 @@ wins-returns-clause-right g t c = c.note-2.ensures.right
 pub loses-returns-in_err-refute-clause-known : goal.loses-returns-in_err-refute-clause-known
 loses-returns-in_err-refute-clause-known g t c all =
     let geo = g.B.Board.geometry in
-    let reply = c.in-Some.ensures.reply in
-    let one = c.in-Some.ensures.last refl in
+    let reply = subst (λ o. IfSome o (IsLooseReply geo c.args.position.now)) c.in-Some.is c.in_ok-found.ensures.reply in
+    let one = c.in_ok-found.ensures.last (ap is_some c.in-Some.is) in
     let here = c.in_err-refute.ensures.known (elim (all reply.0 reply.1) [
       | inl none ↦ absurd (omega (arith, none, one))
       | inr known ↦ subst (λ n. IsDecided (g.M.Memo.content c.args.search.now.memo) c.in-Some.after n) one (subst (λ q. IsDecided (g.M.Memo.content c.args.search.now.memo) q c.args.moves) (sym reply.2) known)
@@ -381,15 +381,15 @@ loses-returns-in_err-refute-clause-known g t c all =
 pub loses-returns-in-Some-clause-answer : goal.loses-returns-in-Some-clause-answer
 loses-returns-in-Some-clause-answer g t c =
     let geo = g.B.Board.geometry in
-    let reply = c.in-Some.ensures.reply in
+    let reply = subst (λ o. IfSome o (IsLooseReply geo c.args.position.now)) c.in-Some.is c.in_ok-found.ensures.reply in
     answer_no (Lost geo c.args.position.now c.args.moves)
-    (λ lost. hopeless_is geo c.in-Some.after c.args.moves (c.in-Some.ensures.last refl) reply.3 (subst (λ q. Win geo q c.args.moves) (sym reply.2) (lost reply.0 reply.1)))
+    (λ lost. hopeless_is geo c.in-Some.after c.args.moves (c.in_ok-found.ensures.last (ap is_some c.in-Some.is)) reply.3 (subst (λ q. Win geo q c.args.moves) (sym reply.2) (lost reply.0 reply.1)))
 
 pub loses-returns-in-Some-clause-says : goal.loses-returns-in-Some-clause-says
 loses-returns-in-Some-clause-says g t c kept =
     let geo = g.B.Board.geometry in
-    let reply = c.in-Some.ensures.reply in
-    let one = c.in-Some.ensures.last refl in
+    let reply = subst (λ o. IfSome o (IsLooseReply geo c.args.position.now)) c.in-Some.is c.in_ok-found.ensures.reply in
+    let one = c.in_ok-found.ensures.last (ap is_some c.in-Some.is) in
     let before = moment g.M.Memo.content g.M.Memo.dropped c.args.search.now.memo c.args.search.now.expanded in
     let after = moment g.M.Memo.content g.M.Memo.dropped c.refute.new.search.memo c.refute.new.search.expanded in
     says_refuted geo c.args.moves c.args.position.now reply.0 c.in-Some.after false before before after (searched_none geo c.args.moves 0 before)
@@ -399,8 +399,8 @@ loses-returns-in-Some-clause-says g t c kept =
 pub loses-returns-in-Some-clause-known : goal.loses-returns-in-Some-clause-known
 loses-returns-in-Some-clause-known g t c all =
     let geo = g.B.Board.geometry in
-    let reply = c.in-Some.ensures.reply in
-    let one = c.in-Some.ensures.last refl in
+    let reply = subst (λ o. IfSome o (IsLooseReply geo c.args.position.now)) c.in-Some.is c.in_ok-found.ensures.reply in
+    let one = c.in_ok-found.ensures.last (ap is_some c.in-Some.is) in
     let here = c.in_ok-refute.ensures.known (elim (all reply.0 reply.1) [
       | inl none ↦ absurd (omega (arith, none, one))
       | inr known ↦ subst (λ n. IsDecided (g.M.Memo.content c.args.search.now.memo) c.in-Some.after n) one (subst (λ q. IsDecided (g.M.Memo.content c.args.search.now.memo) q c.args.moves) (sym reply.2) known)

@@ -1,0 +1,78 @@
+#!/usr/bin/env python3
+"""random_moves.py: compares `dw moves` with a plain generator on random positions.
+
+    checks/random_moves.py [POSITIONS]
+
+It stands on the generator of perft.py and on the rules as docs/RULES.md and docs/REPORT.md tell them. For so many random
+positions (100,000 if not said), half of them on each board, from two pieces to full boards and with few or many kings,
+it makes the whole report of `dw moves`: each legal move in order with the position after it, their number, and how many
+pieces each takes. It has to be the same bytes as the program's.
+"""
+import itertools
+import pathlib
+import random
+import subprocess
+import sys
+
+from judging import Problems
+from perft import Board, play
+from wins import fen, other
+
+DW = pathlib.Path(__file__).resolve().parent.parent / "dw"
+SEED = 16
+AT_ONCE = 2000
+
+
+def drawn(source, board):
+    """A random position: up to as many pieces as a side may have, and no man on its last row."""
+    most = 20 if board.rows == 10 else 12
+    squares = source.sample(board.squares, source.randint(2, min(2 * most, len(board.squares) - 1)))
+    kings = source.choice([0, 0, 0.1, 0.3]) if len(squares) > 12 else source.choice([0, 0.2, 0.6])
+    apart = source.choice([0, 0.9, 1])  # how many stand on their own half, so that less can be taken
+    cells, left = {}, {"W": most, "B": most}
+    for square in squares:
+        side = source.choice("WB") if source.random() >= apart else "BW"[square > len(board.squares) // 2]
+        if left[side]:
+            left[side] -= 1
+            cells[square] = (side, board.is_last(side, square) or source.random() < kings)
+    return cells, source.choice("WB")
+
+
+def report(problems, number, cells, turn):
+    yield f"problem {number}: {fen(cells, turn)}"
+    found = problems.moves(cells, turn)
+    for move, _ in found:
+        yield f"{problems.text(cells, turn, move)} {fen(play(problems.board, cells, move), other(turn))}"
+    yield f"moves {len(found)} taking {len(found[0][0][2]) if found else 0}"
+
+
+def check(rows, count, source):
+    board, moves, captures = Board(rows), 0, 0
+    for start in range(0, count, AT_ONCE):
+        positions = [drawn(source, board) for _ in range(min(AT_ONCE, count - start))]
+        wanted, problems = [], Problems(board)
+        for number, (cells, turn) in enumerate(positions, 1):
+            problems.lists.clear()
+            wanted += report(problems, number, cells, turn)
+            here = problems.moves(cells, turn)
+            moves, captures = moves + len(here), captures + bool(here and here[0][0][2])
+        text = "".join(fen(cells, turn) + "\n" for cells, turn in positions)
+        ran = subprocess.run([DW, "moves", "--board", str(rows)], input=text, capture_output=True, text=True,
+                             timeout=3600, check=False)
+        if (ran.returncode, ran.stderr) != (0, ""):
+            sys.exit(f"random_moves.py: status {ran.returncode}, {ran.stderr!r}")
+        if ran.stdout != "".join(line + "\n" for line in wanted):
+            lines = itertools.zip_longest(ran.stdout.splitlines(), wanted)
+            first = next(((here, there) for here, there in lines if here != there), None)
+            sys.exit(f"random_moves.py: {rows} rows: written and wanted: {first}")
+    print(f"random_moves.py: {rows} rows: {count} positions, {moves} moves, captures in {captures}: the same bytes")
+
+
+def main(words):
+    count, source = int(words[0]) if words else 100_000, random.Random(SEED)
+    check(10, count - count // 2, source)
+    check(8, count // 2, source)
+
+
+if __name__ == "__main__":
+    main(sys.argv[1:])
