@@ -65,7 +65,8 @@ fn push_item<B: Board>(
     is_first: bool,
 )
     requires room { array_string_len text.old + 4 ≤ 192 }
-    ensures bytes { text.new.bytes ≡ text.old.bytes ++ (if is_first then [] else codes ",") ++ (if is_king then codes "K" else []) ++ decimal square }
+    ensures bytes { text.new.bytes ≡ text.old.bytes ++ (if is_first then [] else codes ",")
+        ++ (if is_king then codes "K" else []) ++ decimal square }
     ensures few { array_string_len text.new ≤ array_string_len text.old + 4 }
 {
     if !is_first {
