@@ -23,7 +23,7 @@ own_side White = refl
 own_side Black = refl
 
 -- a side's piece is a man or a king
-piece_of : (side : Side) (o : Option Piece) → is_of side o ≡ true → (k : Kind) × (o ≡ Some (record { side = side; kind = k }))
+pub piece_of : (side : Side) (o : Option Piece) → is_of side o ≡ true → (k : Kind) × (o ≡ Some (record { side = side; kind = k }))
 piece_of side None e = cc
 piece_of side (Some p) e = let a = same_side-true p.side side e in (p.kind, λ i. Some (record { side = a i; kind = p.kind }))
 

@@ -73,16 +73,6 @@ pub record IsWrittenTo (p : Placement) (side : Side) (n : ℕ) (start text : Lis
 pub IsWrittenTo-none : (p : Placement) (side : Side) (start : List ℕ) → IsWrittenTo p side 0 start start true
 IsWrittenTo-none p side start = record { text_is = sym (append-nil start); first_is = refl; few = omega arith }
 
-pub IsWrittenTo-past : (p : Placement) (side : Side) (n : ℕ) (start old text : List ℕ) (was first : Bool) → IsWrittenTo p side n start old was
-    → is_of side (at p (n + 1)) ≡ false → text ≡ old → first ≡ was → IsWrittenTo p side (n + 1) start text first
-IsWrittenTo-past p side n start old text was first h off same now =
-    let e = held-past p side n off in
-    record {
-      text_is = same ∙ (h.text_is ∙ ap (λ t. start ++ join_with_byte 44 (map (item_text p) t)) (sym e));
-      first_is = now ∙ (h.first_is ∙ ap is_nil (sym e));
-      few = let k = ap length e in let l = ap length same in let m = h.few in omega arith;
-    }
-
 pub IsWrittenTo-with : (p : Placement) (side : Side) (n : ℕ) (start old text : List ℕ) (was first : Bool) → IsWrittenTo p side n start old was
     → is_of side (at p (n + 1)) ≡ true → text ≡ old ++ (if was then [] else codes ",") ++ king_mark (at p (n + 1)) ++ decimal (n + 1) → length text ≤ length old + 4 → first ≡ false → IsWrittenTo p side (n + 1) start text first
 IsWrittenTo-with p side n start old text was first h there more small now =

@@ -15,5 +15,6 @@ pub mod Fen
 pub mod FenGrammar
 pub mod FenText
 pub mod Diagram
+pub mod Drawn
 pub mod Laws
 pub mod FenLaws

@@ -1,16 +1,19 @@
 -- A legal move can be played: its last square is free, and the piece may stand there.
-use Rattle.std.proofs.Common.{◌≡◌, ◌≢◌, ℕ, ◌+◌, ◌-◌, ◌*◌, ◌≤◌, ◌<◌, suc, zero, List, [], ◌∷◌, length, refl, sym, ap, ◌∙◌, subst, inl, inr, arith, true, false, Some, None, get_or-set_other, cond, count_by}
+use Rattle.std.proofs.Common.{◌≡◌, ◌≢◌, ℕ, ◌+◌, ◌-◌, ◌*◌, ◌≤◌, ◌<◌, suc, zero, List, [], ◌∷◌, length, refl, sym, ap, ◌∙◌, subst, inl, inr, arith, true, false, ◌↔◌, Some, None, get_or-set_other, cond, count_by}
 use Rattle.std.specs.Prelude.{Result, Ok, Err, is_ok, nat_le}
 use Rattle.std.specs.Result.{result_err}
-use Rattle.std.proofs.lemmas.Bool.{cases_eq, cases_Bool, leb-true}
+use Rattle.std.proofs.lemmas.Bool.{cases_eq, cases_Bool, leb-true, true≢false}
 use Rattle.std.specs.FinSet as fin
 use Rattle.dw_board.specs.declared.piece.Side.{Side}
 use Rattle.dw_board.specs.declared.piece.Side.TheVariants.{White, Black}
+use Rattle.dw_board.specs.declared.piece.Kind.{Kind}
+use Rattle.dw_board.specs.declared.piece.Kind.TheVariants.{Man, King}
 use Rattle.dw_board.specs.declared.piece.Piece.{Piece}
+use Rattle.dw_board.specs.SquareSet.{Squares}
 use Rattle.dw_board.specs.declared.piece.PutFault.{PutFault}
 use Rattle.dw_board.specs.Geometry.{Geometry, IsBoard, OnBoard, squares}
 use Rattle.dw_board.specs.Placement.{Placement, IsPosition, at, placed, is_of, put_fault, count, left, without}
-use Rattle.dw_moves.specs.Moves.{Move, Jumps, Legal, LegalAt, crowned, landed, play, other, last_of}
+use Rattle.dw_moves.specs.Moves.{Move, Jumps, Stands, Legal, LegalAt, crowned, landed, play, other, last_of}
 use Rattle.dw_moves.proofs.Exact.{same_side_refl}
 use Rattle.dw_moves.proofs.StepLaws.{none_some}
 use Rattle.dw_moves.proofs.PlayStays.{emptied, left_origin, past_none, without_at, without_count, crowned_fits, legal_ends, legal_stands, one_of}
@@ -90,11 +93,34 @@ played g b p n m same pos legal piece there cleared c_is crown k_is r after faul
     let cells : final.cells ≡ (play g p n).cells = ap (λ z. z.cells) f ∙ (ap (λ z. z.cells) a ∙ ap (λ z. (placed (without p (emptied n)) n.to z).cells) (sym there')) in
     same_placement final (play g p n) cells (ap (λ z. z.turn) f ∙ s_is)) legal
 
--- a piece stands on the origin
-pub origin_taken : (g : Geometry) (p : Placement) (n m : Move) → n ≡ m → Legal g p m → at p n.from ≡ None → ⊥
-origin_taken g p n m same legal none =
-    let s = legal_stands g p m legal in
-    none_some s.0 (sym none ∙ (ap (λ z. at p z.from) same ∙ s.1.there))
+-- a piece of the side to move stands on the origin
+pub origin_stands : (g : Geometry) (p : Placement) (n m : Move) → n ≡ m → Legal g p m
+    → (piece : Piece) × Stands g p n.from piece
+origin_stands g p n m same legal =
+    subst (λ z. (piece : Piece) × Stands g p z.from piece) (sym same) (legal_stands g p m legal)
+
+-- the squares on which a side's kings stand
+abbrev pub AreKings : Geometry → Placement → Side → Squares → Type 0
+AreKings g p side kings = (s : ℕ)
+    → (fin.contains kings s ≡ true) ↔ (OnBoard g s × (at p s ≡ Some (record { side = side; kind = King })))
+
+no_king : (g : Geometry) (p : Placement) (side : Side) (kings : Squares) → AreKings g p side kings
+    → (s : ℕ) → OnBoard g s → fin.contains kings s ≡ false
+    → (kind : Kind) → at p s ≡ Some (record { side = side; kind = kind })
+    → at p s ≡ Some (record { side = side; kind = Man })
+no_king g p side kings are s on none Man there = there
+no_king g p side kings are s on none King there = absurd (true≢false (sym ((are s).1 (on, there)) ∙ none))
+
+-- a piece of the side to move that is not among its kings is a man
+pub man_there : (g : Geometry) (p : Placement) (side : Side) (kings : Squares) → side ≡ p.turn → AreKings g p side kings
+    → (s : ℕ) → (piece : Piece) × Stands g p s piece → fin.contains kings s ≡ false
+    → at p s ≡ Some (record { side = side; kind = Man })
+man_there g p side kings turn are s stood none =
+    let piece = stood.0 in
+    let own = stood.1.own ∙ sym turn in
+    let there : at p s ≡ Some (record { side = side; kind = piece.kind }) =
+    stood.1.there ∙ (λ i. Some (record { side = own i; kind = piece.kind })) in
+    no_king g p side kings are s stood.1.on_board none piece.kind there
 
 pub board_end : (g : Geometry) (index r k : ℕ) → r ≡ g.rows → k ≡ g.per_row → index ≤ r * k → r * k ≤ index → index ≡ squares g
 board_end g index r k e f h i = let s : r * k ≡ squares g = ap (λ z. z * k) e ∙ ap (λ z. g.rows * z) f in omega arith

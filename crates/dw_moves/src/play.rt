@@ -1,7 +1,7 @@
 //! Playing a move.
-ghost use Rattle.std.specs.Prelude.{◌≡◌};
+ghost use Rattle.std.specs.Prelude.{◌≡◌, Some};
 ghost use Rattle.dw_board.specs.Placement as board;
-ghost use Rattle.dw_moves.specs.Moves.{Legal};
+ghost use Rattle.dw_moves.specs.Moves.{Legal, Stands};
 ghost use Rattle.dw_moves.specs.Moves as of;
 
 use crate::moves::Move;
@@ -18,14 +18,23 @@ pub fn play<B: Board>(position: &Position<B>, step: &Move<B>) -> Position<B>
     ensures { result ≡ of.play B.geometry position.now step.now }
 {
     let turn = position.turn();
-    let stood = position.at(step.from);
+    let piece = mover(position, step.from);
     let mut after = *position;
     after.clear_all(step.taken.with(step.from));
-    if let Some(piece) = stood {
-        let _ = after.put(step.to, crowned(step.to, piece));
-    }
+    let _ = after.put(step.to, crowned(step.to, piece));
     after.set_turn(other(turn));
     after
+}
+
+/// The piece of the side to move on a square where one stands: a man, unless it is one of the kings.
+fn mover<B: Board>(position: &Position<B>, from: Square<B>) -> Piece
+    requires { (piece : Piece) × Stands B.geometry position.now from piece }
+    ensures { board.at position.now from ≡ Some result }
+{
+    let side = position.turn();
+    let is_king = position.squares(side, Kind::King).has(from);
+    let kind = if is_king { Kind::King } else { Kind::Man };
+    Piece { side, kind }
 }
 
 /// The piece as it ends a move on this square.

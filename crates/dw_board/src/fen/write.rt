@@ -1,12 +1,11 @@
 //! Writing FEN texts.
-ghost use Rattle.std.specs.Prelude.{◌≡◌, ◌≤◌, ◌<◌, ◌+◌, ◌++◌, ◌∷◌, [], Some, decimal, codes, if◌then◌else◌};
+ghost use Rattle.std.specs.Prelude.{◌≡◌, ◌≤◌, ◌<◌, ◌+◌, ◌++◌, ◌∷◌, [], decimal, codes, if◌then◌else◌};
 ghost use Rattle.arrayvec.specs.ArrayString.{array_string_len};
-ghost use Rattle.dw_board.specs.Placement as of;
 ghost use Rattle.dw_board.specs.Placement.{IsPosition};
-ghost use Rattle.dw_board.specs.FenText.{written, items_text, king_mark, side_text};
+ghost use Rattle.dw_board.specs.FenText.{written, items_text, side_text};
 
 use crate::board::Board;
-use crate::piece::{Kind, Piece, Side};
+use crate::piece::{Kind, Side};
 use crate::position::Position;
 use crate::square::Square;
 use arrayvec::ArrayString;
@@ -48,44 +47,32 @@ fn push_items<B: Board>(text: &mut ArrayString<FEN_ROOM>, position: &Position<B>
     ensures bytes { text.new.bytes ≡ text.old.bytes ++ items_text B.geometry position.now side }
     ensures few { array_string_len text.new ≤ array_string_len text.old + 80 }
 {
+    let kings = position.squares(side, Kind::King);
+    let mut left = position.all_of(side);
     let mut is_first = true;
-    'squares: for index in 0..B::ROWS * B::PER_ROW {
-        let square = Square::behind(index);
-        let cell = position.at(square);
-        if is_of(cell, side) {
-            push_item(text, square, cell, is_first);
-            is_first = false;
-        }
+    'squares: while let Some((square, rest)) = left.split() {
+        push_item(text, square, kings.has(square), is_first);
+        is_first = false;
+        left = rest;
     }
-}
-
-fn is_of(cell: Option<Piece>, side: Side) -> bool
-    ensures { result ≡ of.is_of side cell }
-{
-    matches!(cell, Some(piece) if piece.side == side)
-}
-
-fn is_king(cell: Option<Piece>) -> bool
-    ensures { (if result then codes "K" else []) ≡ king_mark cell }
-{
-    matches!(cell, Some(piece) if piece.kind == Kind::King)
 }
 
 /// Appends a piece on its square, and a comma before it unless it is the first.
 fn push_item<B: Board>(
     text: &mut ArrayString<FEN_ROOM>,
     square: Square<B>,
-    cell: Option<Piece>,
+    is_king: bool,
     is_first: bool,
 )
     requires room { array_string_len text.old + 4 ≤ 192 }
-    ensures bytes { text.new.bytes ≡ text.old.bytes ++ (if is_first then [] else codes ",") ++ king_mark cell ++ decimal square }
+    ensures bytes { text.new.bytes ≡ text.old.bytes ++ (if is_first then [] else codes ",")
+        ++ (if is_king then codes "K" else []) ++ decimal square }
     ensures few { array_string_len text.new ≤ array_string_len text.old + 4 }
 {
     if !is_first {
         text.push(',');
     }
-    if is_king(cell) {
+    if is_king {
         text.push('K');
     }
     push_number(text, square.number());

@@ -12,7 +12,8 @@ rows_more f n = ap (λ k. flat_map f (range_with_len 0 k)) (add-one n) ∙ (ap (
 
 pub rows-preserved : goal.rows-preserved
 rows-preserved g c = record {
-  text = c.push_row.ensures.bytes ∙ (ap (λ t. t ++ row_text g.B.Board.geometry c.args.position.now c.rows.row) c.rows.invariant.text
+  text = c.push_row.ensures.bytes c.args.position.now c.of-signs.ensures
+      ∙ (ap (λ t. t ++ row_text g.B.Board.geometry c.args.position.now c.rows.row) c.rows.invariant.text
       ∙ sym (rows_more (row_text g.B.Board.geometry c.args.position.now) c.rows.row));
   few = let e = c.push_row.ensures.few in let f = c.rows.invariant.few in omega arith;
 }
