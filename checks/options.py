@@ -5,8 +5,8 @@
 
 The commands and options are read from `dw --help` and `dw COMMAND --help`. Each of them has to stand in docs/dw.1, in
 the synopsis of its command and with a text of its own, and has to be offered by docs/dw.bash; and neither may have one
-that is in no help. So it is with the values that `--board` and `--memo` take, and with FILE, for which the completion has
-to offer files.
+that is in no help. So it is with the values that `--board` and `--memo` take, and with FILE, for which the completion
+has to offer files.
 """
 import pathlib
 import re
