@@ -34,6 +34,7 @@ class Check:
 
 
 QUICK = [
+    Check("docs"),
     Check("options"),
     Check("examples"),
     Check("causes"),
