@@ -3,9 +3,10 @@
 
     checks/docs.py
 
-Each link of README.md and docs/ has to lead to a file, and to a heading of it. No line there has more than 120 columns.
-The contract in docs/PROVED.md has to be that of `run`, word for word, and each definition in its reading order has to
-stand in the file that is named for it. The rows on FEN texts in docs/FORMATS.md have to be what `dw show` answers.
+Each link of README.md and docs/ has to lead to a file, and to a heading of it, and each file named there has to
+exist. No line there has more than 120 columns. The contract in docs/PROVED.md has to be that of `run`, word for word,
+and each definition in its reading order has to stand in the file that is named for it. The rows on FEN texts in
+docs/FORMATS.md have to be what `dw show` answers.
 """
 import pathlib
 import re
@@ -41,6 +42,18 @@ def check_links():
             assert not anchor or anchor in anchors(target.read_text()), f"{path.name}: no heading for {link}"
             count += 1
     print(f"{len(TEXTS)} documents, {count} links: each leads somewhere")
+
+
+def check_paths():
+    """The files that are named without a link, as `dw_board/specs/Fen.antt` and `checks/all.py`."""
+    count = 0
+    for path in TEXTS:
+        for name in re.findall(r"`((?:crates/|dw/|dw_\w+/|checks/|docs/|examples/)[\w./-]*)`", path.read_text()):
+            if re.search(r"[A-Z]{2}|/out/", name):
+                continue  # a pattern, or what a build leaves
+            assert (TOP / name).exists() or (TOP / "crates" / name).exists(), f"{path.name}: there is no {name}"
+            count += 1
+    print(f"{count} files named, each is there")
 
 
 def check_headline():
@@ -105,6 +118,7 @@ def check_fen_texts():
 
 def main():
     check_links()
+    check_paths()
     check_headline()
     check_definitions()
     check_fen_texts()
