@@ -1,10 +1,10 @@
 #!/usr/bin/env python3
-"""Gives `dw` bad words, tokens, input and streams, and compares the report, the line on standard error and the status.
+"""bad_input.py: gives `dw` bad arguments, tokens, input and streams, and compares report, message and status.
 
     checks/bad_input.py
 
-Bad texts and very long ones go to `dw show`; wrong words to each command that has them; tokens, refused problems and
-limits to `dw judge` and `dw list`; and streams that fail to all of them.
+Bad texts and very long ones go to `dw show`; wrong arguments to each command that has them; tokens, refused problems
+and limits to `dw judge` and `dw list`; and streams that fail to all of them.
 """
 import os
 import pathlib

@@ -7,8 +7,8 @@
 same form. This program copies the tracked files, as they are now, to a temporary folder, puts these edits in the place
 of the gate's, and runs `rt must-fail` there, as many crates side by side as there are processors and 4 GB of memory for
 each. It prints what each run says as it ends, and ends with 0 if the prover refused every edit. What is built,
-crates/*/out, is copied too, so that the crates below are not proved again (`./dw` builds them). The first edit of a crate
-takes minutes, a further one 15 to 40 s.
+crates/*/out, is copied too, so that the crates below are not proved again (`./dw` builds them). The first edit of a
+crate takes minutes, a further one 15 to 40 s.
 
 Files that end in .borrow hold uses that must not compile, in the form of an edit. The borrow check has to refuse
 each, before any proof; `rt must-fail` does not take such edits, so this program tries them itself.

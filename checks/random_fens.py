@@ -1,11 +1,12 @@
 #!/usr/bin/env python3
-"""Sends random FEN texts through `dw show`, and reads again what it wrote.
+"""random_fens.py: sends random FEN texts through `dw show`, and reads again what it wrote.
 
     checks/random_fens.py [COUNT] [SEED]
 
-COUNT texts of random bytes and COUNT of random tokens (100,000 of each, where none is given) go through the program, a line
-each, on both boards. Each has to be answered by one problem, in order: a written FEN with its diagram, or a refusal. What was
-written is sent through again and has to come back the same. The exit status has to be that of the report.
+COUNT texts of random bytes and COUNT of random tokens (100,000 of each, if none is given) go through the program, a
+line each, on both boards. Each has to be answered by one problem, in order: a written FEN with its diagram, or a
+refusal. What was written is sent through again and has to come back the same. The exit status has to be that of the
+report.
 """
 import pathlib
 import random
@@ -15,8 +16,8 @@ import sys
 
 TOP = pathlib.Path(__file__).resolve().parent.parent
 FAULT = re.compile(rb"1 fen: (\d+ [a-z ]+) at (\d+)")
-TOKENS = ["W", "B", "w", "b", ":", ":", ":", ",", ",", "-", ".", "K", "k", " ", "\t", "0", "5", "07", "12", "28", "31", "32", "33", "45",
-          "50", "51", "031", "x", "\r"]
+TOKENS = ["W", "B", "w", "b", ":", ":", ":", ",", ",", "-", ".", "K", "k", " ", "\t", "0", "5", "07",
+          "12", "28", "31", "32", "33", "45", "50", "51", "031", "x", "\r"]
 
 
 def random_bytes(rng):
@@ -29,7 +30,8 @@ def random_tokens(rng):
     if rng.random() < 0.5:
         return "".join(rng.choice(TOKENS) for _ in range(rng.randint(1, 16))).encode()
     squares = rng.sample(range(1, 52), rng.randint(0, 12))
-    items = [rng.choice(["", "", "K", "k "]) + str(s) + rng.choice(["", "", "", "", f"-{s + rng.randint(-1, 2)}"]) for s in squares]
+    items = [rng.choice(["", "", "K", "k "]) + str(s) + rng.choice(["", "", "", "", f"-{s + rng.randint(-1, 2)}"])
+             for s in squares]
     cut = rng.randint(0, len(items))
     first, second = rng.choice([("W", "B"), ("W", "B"), ("b", "w"), ("W", "w")])
     lists = f"{first}{','.join(items[:cut])}:{second}{','.join(items[cut:])}"

@@ -1,5 +1,5 @@
 #!/usr/bin/env python3
-"""Refuses each allocation of `dw moves`, `judge` and `list` in turn, and compares what is written with the report.
+"""refused_memory.py: refuses each allocation of `dw moves`, `judge` and `list` in turn, and looks at what is written.
 
     checks/refused_memory.py
 

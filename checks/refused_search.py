@@ -1,5 +1,5 @@
 #!/usr/bin/env python3
-"""Refuses each allocation of the solver's searches and of the lister in turn.
+"""refused_search.py: refuses each allocation of the solver's searches and of the lister in turn.
 
     checks/refused_search.py
 
@@ -35,7 +35,8 @@ def main():
     with tempfile.TemporaryDirectory() as name:
         folder = pathlib.Path(name)
         library = folder / "refuse.so"
-        subprocess.run(["cc", "-O1", "-shared", "-fPIC", "-o", library, HERE / "refuse_allocation.c", "-ldl"], check=True)
+        source = HERE / "refuse_allocation.c"
+        subprocess.run(["cc", "-O1", "-shared", "-fPIC", "-o", library, source, "-ldl"], check=True)
         for crate, test in TESTS:
             last = next(number for number in range(1, MOST) if not was_refused(folder, crate, test, number))
             assert last > 1, "no allocation was refused"

@@ -1,8 +1,8 @@
 #!/usr/bin/env python3
-"""wins.py: small positions with the least number of moves within which the side to move wins, by bare recursion.
+"""wins.py: makes the table of small positions and least numbers of moves that the tests of the solver read.
 
-It stands on the generator of perft.py alone: no cache, no order of moves, nothing of the solver. The table that the
-tests of the solver read is what it prints, made again or compared by
+It is made by bare recursion on the generator of perft.py alone: no cache, no order of moves, nothing of the solver. The
+table is what it prints, made again or compared by
 
     python3 checks/wins.py > crates/dw_tests_common/src/small_positions.rt
     python3 checks/wins.py | cmp - crates/dw_tests_common/src/small_positions.rt

@@ -1,0 +1,128 @@
+#!/usr/bin/env python3
+"""docs.py: compares what the documents name with what is there: links, definitions, the headline, FEN texts.
+
+    checks/docs.py
+
+Each link of README.md and docs/ has to lead to a file, and to a heading of it, and each file named there has to
+exist. No line there has more than 120 columns. The contract in docs/PROVED.md has to be that of `run`, word for word,
+and each definition in its reading order has to stand in the file that is named for it. The rows on FEN texts in
+docs/FORMATS.md have to be what `dw show` answers.
+"""
+import pathlib
+import re
+import subprocess
+
+TOP = pathlib.Path(__file__).resolve().parent.parent
+DW = TOP / "dw"
+TEXTS = [TOP / "README.md", *sorted((TOP / "docs").glob("*.md"))]
+PROVED, FORMATS, RUN = TOP / "docs/PROVED.md", TOP / "docs/FORMATS.md", TOP / "crates/dw_report/src/run.rt"
+LINK = re.compile(r"\[[^\]]*\]\(([^)\s]+)\)")
+MOST = 120
+
+
+def anchors(text):
+    """The headings of a text, as links name them."""
+    heads = re.findall(r"^#+ (.*)$", re.sub(r"^```.*?^```", "", text, flags=re.MULTILINE | re.DOTALL), re.MULTILINE)
+    plain = (LINK.sub(lambda link: link[0][1 : link[0].index("]")], head) for head in heads)
+    return {re.sub(r"[^\w\- ]", "", head.lower()).strip().replace(" ", "-") for head in plain}
+
+
+def check_links():
+    count = 0
+    for path in [*TEXTS, TOP / "docs/dw.1", TOP / "docs/dw.bash"]:
+        text = path.read_text()
+        wide = [number for number, line in enumerate(text.splitlines(), 1) if len(line) > MOST]
+        assert not wide, f"{path.name}: over {MOST} columns in line {wide}"
+        for link in LINK.findall(text) if path in TEXTS else []:
+            if "://" in link:
+                continue
+            file, _, anchor = link.partition("#")
+            target = (path.parent / file).resolve() if file else path
+            assert target.exists(), f"{path.name}: there is no {link}"
+            assert not anchor or anchor in anchors(target.read_text()), f"{path.name}: no heading for {link}"
+            count += 1
+    print(f"{len(TEXTS)} documents, {count} links: each leads somewhere")
+
+
+def check_paths():
+    """The files that are named without a link, as `dw_board/specs/Fen.antt` and `checks/all.py`."""
+    count = 0
+    for path in TEXTS:
+        for name in re.findall(r"`((?:crates/|dw/|dw_\w+/|checks/|docs/|examples/)[\w./-]*)`", path.read_text()):
+            if re.search(r"[A-Z]{2}|/out/", name):
+                continue  # a pattern, or what a build leaves
+            assert (TOP / name).exists() or (TOP / "crates" / name).exists(), f"{path.name}: there is no {name}"
+            count += 1
+    print(f"{count} files named, each is there")
+
+
+def check_headline():
+    code = RUN.read_text()
+    start = code.index("pub fn run<")
+    contract = code[start : code.index("\n{\n", start)].split()
+    block = re.search(r"^```\n(.*?)^```", PROVED.read_text(), re.MULTILINE | re.DOTALL)[1].split()
+    differing = [pair for pair in zip(contract, block) if pair[0] != pair[1]]
+    assert contract == block, f"docs/PROVED.md has another contract of run: {differing[:1]}"
+    print(f"the contract of run: {len(block)} words, the same")
+
+
+def blocks(text):
+    """The headings, paragraphs and items of lists, each in one line."""
+    found = []
+    for line in text.splitlines():
+        if not line.strip() or line.startswith(("- ", "#")) or not found:
+            found.append(line)
+        elif found[-1].startswith("#") or not found[-1]:
+            found.append(line)
+        else:
+            found[-1] += " " + line.strip()
+    return found
+
+
+def named(text):
+    """Each definition of the reading order, with the files in which it may stand."""
+    files = []
+    for block in blocks(text):
+        if not block.startswith("- "):
+            files = LINK.findall(block) or files
+            continue
+        # What stands before the colon: names, and maybe a file of their own.
+        before = re.match(r"- (.*?):(?: |$)", block)[1]
+        for name in re.findall(r"`([^`]+)`", re.sub(r"\(.*", "", LINK.sub("", before))):
+            yield name, LINK.findall(before) or files
+
+
+def check_definitions():
+    text = PROVED.read_text()
+    count = 0
+    for name, files in named(text[text.index("### Reading order") : text.index("#### Types of the code")]):
+        word = rf"(?:{re.escape(name)}|◌{re.escape(name)}◌)(?![\w'])"
+        defined = rf"^(?:(?:abbrev|unfoldable) )?pub (?:(?:record|data) )?{word}"
+        stands = [file for file in files if re.search(defined, (TOP / "docs" / file).read_text(), re.MULTILINE)]
+        assert stands, f"docs/PROVED.md: {name} is not in {files}"
+        count += 1
+    print(f"docs/PROVED.md: {count} definitions, each in its file")
+
+
+def check_fen_texts():
+    row = r"^\| `([^`]*)` \| (?:`(\d+ [a-z ]+ at \d+)`|read as `([^`]*)`) \|$"
+    rows = re.findall(row, FORMATS.read_text(), re.MULTILINE)
+    assert len(rows) >= 10, rows
+    for text, fault, written in rows:
+        ran = subprocess.run([DW, "show"], input=text.encode() + b"\n", capture_output=True, timeout=3600, check=False)
+        wanted = f"refused: 1 fen: {fault}" if fault else written
+        first = ran.stdout.decode().splitlines()[0]
+        assert first == f"problem 1: {wanted}" and ran.stderr == b"", (text, first, wanted)
+    print(f"docs/FORMATS.md: {len(rows)} FEN texts, as told")
+
+
+def main():
+    check_links()
+    check_paths()
+    check_headline()
+    check_definitions()
+    check_fen_texts()
+
+
+if __name__ == "__main__":
+    main()

@@ -1,0 +1,169 @@
+#!/usr/bin/env python3
+"""options.py: compares the man page and the bash completion with the options that the program has.
+
+    checks/options.py [PROGRAM]
+
+The commands and options are read from `dw --help` and `dw COMMAND --help`. Each of them has to stand in docs/dw.1, in
+the synopsis of its command and with a text of its own, and has to be offered by docs/dw.bash; and neither may have one
+that is in no help. So it is with the values that `--board` and `--memo` take, and with FILE, for which the completion
+has to offer files.
+"""
+import pathlib
+import re
+import subprocess
+import sys
+import tempfile
+
+TOP = pathlib.Path(__file__).resolve().parent.parent
+DW = pathlib.Path(sys.argv[1]).resolve() if len(sys.argv) > 1 else TOP / "dw"
+MAN, COMPLETION = TOP / "docs" / "dw.1", TOP / "docs" / "dw.bash"
+OPTION = re.compile(r"(?<![\w-])--?[A-Za-z][\w-]*")
+HELPS = {"-h", "--help"}
+
+
+def help_of(*words):
+    ran = subprocess.run([DW, *words, "--help"], capture_output=True, text=True, timeout=3600, check=False)
+    assert (ran.returncode, ran.stderr) == (0, ""), (words, ran)
+    return ran.stdout
+
+
+def section(text, name):
+    """The lines of a section of a help: those that are further in, up to the next empty line."""
+    found = re.search(rf"^{name}:\n((?:[ \t].*\n)+)", text, re.MULTILINE)
+    return found[1].splitlines() if found else []
+
+
+def heads(text, name):
+    """The entries of a section, each without its text: `--memo <KIND>`."""
+    return [re.split(r"  +", line.strip())[0] for line in section(text, name) if re.match(r" {2,6}\S", line)]
+
+
+def options_in(text):
+    return {option for head in heads(text, "Options") for option in OPTION.findall(head)}
+
+
+def values_in(text):
+    """The options with a closed list of values, and these."""
+    rows = " ".join(section(text, "Options"))
+    return {option: re.split(r", *", values) for option, values in
+            re.findall(r"(--[\w-]+) <\w+>(?:(?! --).)*?\[possible values: ([^\]]*)\]", rows)}
+
+
+def asked_by(text):
+    """The arguments without a dash that a help has, as FILE."""
+    return {head.strip("[]<>.") for head in heads(text, "Arguments")}
+
+
+# THE MAN PAGE
+
+def plain(line):
+    """A line of the man page as it is read: without fonts and macros, \\- as a dash."""
+    line = re.sub(r"^\.(?:[BIRTS][BIRHPS]?|PP|nf|fi)(?: |$)", "", line)
+    return re.sub(r"\\f[A-Z]", "", line).replace("\\-", "-").replace('"', "").replace("\\(aq", "'")
+
+
+def man_sections():
+    """The lines of each section."""
+    found, name = {}, None
+    for line in MAN.read_text().splitlines():
+        if line.startswith(".SH "):
+            name = line[4:]
+        elif name:
+            found.setdefault(name, []).append(line)
+    return found
+
+
+def described(lines):
+    """What has a text of its own in a section: the line after each .TP."""
+    return [plain(line) for before, line in zip(lines, lines[1:]) if before == ".TP"]
+
+
+def synopses(lines):
+    """The synopsis of each command, as one line."""
+    text = " ".join(plain(line) for line in lines)
+    return {part.split()[0]: part for part in re.split(r"\bdw ", " ".join(text.split())) if part}
+
+
+def text_of(lines, option):
+    """What the man page says of an option, as one line."""
+    text = "\n".join(lines).split(".TP\n")
+    return next(" ".join(map(plain, part.splitlines())) for part in text if option in OPTION.findall(
+        plain(part.splitlines()[0]) if part else ""))
+
+
+def check_man(top, commands):
+    sections = man_sections()
+    synopsis = synopses(sections["SYNOPSIS"])
+    assert set(synopsis) == set(commands) | {"help"}, sorted(synopsis)
+    assert [head.split()[0] for head in described(sections["COMMANDS"])] == [*commands, "help"]
+    for command, text in commands.items():
+        wanted = options_in(text) - HELPS
+        assert set(OPTION.findall(synopsis[command])) == wanted, (command, synopsis[command], wanted)
+        names = set(re.findall(r"\[([A-Z]+)\]", synopsis[command]))
+        assert names == asked_by(text), (command, names, asked_by(text))
+        for option, values in values_in(text).items():
+            said = text_of(sections["OPTIONS"], option)
+            missing = [value for value in values if not re.search(rf"\b{value}\b", said)]
+            assert not missing, (option, missing)
+    has = {option for head in described(sections["OPTIONS"]) for option in OPTION.findall(head)}
+    wanted = options_in(top).union(*map(options_in, commands.values()))
+    assert has == wanted, f"docs/dw.1: {sorted(has ^ wanted)} in one of the man page and the helps alone"
+    everywhere = set(OPTION.findall("\n".join(map(plain, MAN.read_text().splitlines()))))
+    assert everywhere - wanted <= {"-k"}, sorted(everywhere - wanted)  # parallel's own
+    print(f"docs/dw.1: {len(commands)} commands and {len(wanted)} options, as in the helps")
+
+
+# THE COMPLETION
+
+def completed(words, folder):
+    """What bash offers for the last of these words."""
+    script = f"""source "{COMPLETION}"
+        COMP_WORDS=("$@") COMP_CWORD=$(($# - 1)) && _dw
+        [ ${{#COMPREPLY[@]}} = 0 ] || printf '%s\\n' "${{COMPREPLY[@]}}\""""
+    ran = subprocess.run(["bash", "-c", script, "bash", *words], cwd=folder, capture_output=True, text=True, timeout=60,
+                         check=False)
+    assert (ran.returncode, ran.stderr) == (0, ""), (words, ran)
+    return ran.stdout.splitlines()
+
+
+def check_completion(top, commands, folder):
+    (folder / "a file.fen").touch()
+    named = [*commands, "help"]
+    assert completed(["dw", ""], folder) == named, completed(["dw", ""], folder)
+    assert completed(["dw", "help", ""], folder) == named
+    for begun in ("s", "mo", "j", "l", "h"):
+        assert completed(["dw", begun], folder) == [name for name in named if name.startswith(begun)], begun
+    assert set(completed(["dw", "-"], folder)) == options_in(top), completed(["dw", "-"], folder)
+    count = 0
+    for command, text in commands.items():
+        offered = completed(["dw", command, "-"], folder)
+        assert len(offered) == len(set(offered)) and set(offered) == options_in(text), (command, offered)
+        files = completed(["dw", command, "a"], folder)
+        assert files == ["a file.fen"], (command, files)
+        for option in options_in(text):
+            assert completed(["dw", command, option], folder)[0].startswith(option), (command, option)
+        closed = values_in(text)
+        for head in heads(text, "Options"):
+            if "<" not in head:
+                continue
+            option = OPTION.findall(head)[-1]
+            values = closed.get(option, [])
+            assert completed(["dw", command, option, ""], folder) == values, (command, option, values)
+            assert completed(["dw", command, option, "=", ""], folder) == values, (command, option, values)
+            for value in values:
+                assert completed(["dw", command, option, value[:1]], folder) == [value], (command, option, value)
+            count += len(values)
+    print(f"docs/dw.bash: {len(commands)} commands, their options and {count} values, as in the helps")
+
+
+def main():
+    top = help_of()
+    commands = {name: help_of(name) for name in heads(top, "Commands") if name != "help"}
+    assert len(commands) >= 4, top
+    check_man(top, commands)
+    with tempfile.TemporaryDirectory() as name:
+        check_completion(top, commands, pathlib.Path(name))
+
+
+if __name__ == "__main__":
+    main()
