@@ -46,6 +46,7 @@ QUICK = [
     Check("perft"),
     Check("wins", wanted="crates/dw_tests_common/src/small_positions.rt"),
     Check("judging"),
+    Check("random_moves"),
     Check("long_list"),
 ]
 SLOW = [

@@ -94,7 +94,7 @@ def text_of(lines, option):
 def check_man(top, commands):
     sections = man_sections()
     synopsis = synopses(sections["SYNOPSIS"])
-    assert set(synopsis) == set(commands) | {"help"}, sorted(synopsis)
+    assert set(synopsis) == set(commands) | {"help", "--version"}, sorted(synopsis)
     assert [head.split()[0] for head in described(sections["COMMANDS"])] == [*commands, "help"]
     for command, text in commands.items():
         wanted = options_in(text) - HELPS

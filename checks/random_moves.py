@@ -3,10 +3,10 @@
 
     checks/random_moves.py [POSITIONS]
 
-It stands on the generator of perft.py and on the rules as docs/RULES.md and docs/REPORT.md tell them. For so many random
-positions (100,000 if not said), half of them on each board, from two pieces to full boards and with few or many kings,
-it makes the whole report of `dw moves`: each legal move in order with the position after it, their number, and how many
-pieces each takes. It has to be the same bytes as the program's.
+It stands on the generator of perft.py and on the rules as docs/RULES.md and docs/REPORT.md tell them. For so many
+random positions (100,000 if not said), half of them on each board, from two pieces to full boards and with few or many
+kings, it makes the whole report of `dw moves`: each legal move in order with the position after it, their number, and
+how many pieces each takes. It has to be the same bytes as the program's.
 """
 import itertools
 import pathlib

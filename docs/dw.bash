@@ -24,7 +24,7 @@ _dw() {
         judge) options="-n --board --pdn --problem --positions --memo --cache -h --help" ;;
         list) options="-n --board --pdn --problem --positions --memo --cache --lines --after -h --help" ;;
         help) options="" ;;
-        *) options="-h --help" ;;
+        *) options="-h --help -V --version" ;;
     esac
     COMPREPLY=()
     case $previous in

@@ -1,7 +1,7 @@
 //! `dw`: problems of international draughts.
 #![tactic(auto)]
 
-ghost use Rattle.std.specs.Prelude.{◌≡◌, ◌≤◌, ◌⊎◌};
+ghost use Rattle.std.specs.Prelude.{◌≡◌, ◌≤◌, ◌⊎◌, false};
 ghost use Rattle.dw_solve.specs.Facts.{AreTrue};
 
 mod outcome;
@@ -18,8 +18,8 @@ use dw_memo::no_memo::NoMemo;
 use dw_memo::slot_memo::SlotMemo;
 use dw_moves::moves::Move;
 use dw_report::run::run;
-use dw_report::settings::Settings;
-use dw_report::streams::{Reading, Writing};
+use dw_report::settings::{RunFault, Settings, Summary};
+use dw_report::streams::{Reading, Source, Writing};
 use dw_solve::guide::ByTrial;
 use outcome::{Ending, outcome};
 use std::env;
@@ -130,21 +130,33 @@ fn report_with<B: Board, M: Memo<B> + Drop>(
     requires lines { 1 ≤ settings.now.lines }
     requires limit { 1 ≤ settings.now.limit }
 {
-    let mut sink = Writing::new(rt.stdout());
     let ran = match request.file {
-        None => {
-            let mut source = Reading::new(rt.stdin());
-            run(rt.alloc(), &mut source, &mut sink, settings, memo, ByTrial)
-        }
-        Some(path) => {
-            let Ok(file) = File::open(rt, path) else {
-                return end_with(rt, Ending::NotOpened(path), settings.only);
-            };
-            let mut source = Reading::new(file);
-            run(rt.alloc(), &mut source, &mut sink, settings, memo, ByTrial)
-        }
+        None => report_on(rt, Reading::new(rt.stdin()), settings, memo),
+        Some(path) => match File::open(rt, path) {
+            Ok(file) => report_on(rt, Reading::new(file), settings, memo),
+            Err(_) => return end_with(rt, Ending::NotOpened(path), settings.only),
+        },
     };
     end_with(rt, Ending::Ran(ran), settings.only)
+}
+
+/// Writes the report on the problems of a source to standard output.
+fn report_on<B: Board, S: Source + Drop, M: Memo<B> + Drop>(
+    rt: &HostRuntime,
+    mut source: S,
+    settings: &Settings<B>,
+    memo: M,
+) -> Result<Summary, RunFault>
+    requires source { S.is_failed source ≡ false }
+    requires rows { (B.geometry.rows ≡ 10) ⊎ (B.geometry.rows ≡ 8) }
+    requires right { AreTrue B.geometry (M.content memo) }
+    requires some { 1 ≤ settings.now.n }
+    requires few { settings.now.n ≤ 20 }
+    requires lines { 1 ≤ settings.now.lines }
+    requires limit { 1 ≤ settings.now.limit }
+{
+    let mut sink = Writing::new(rt.stdout());
+    run(rt.alloc(), &mut source, &mut sink, settings, memo, ByTrial)
 }
 
 /// Says on standard error how the program ended, and gives its exit status.

@@ -61,6 +61,8 @@ const MOST_KEPT: usize = 4_000_000;
 /// How many positions a memo keeps where the words say nothing.
 const USUALLY_KEPT: usize = 100_000;
 
+const VERSION: &str = "0.9.0";
+
 const ABOUT: &str =
     "Solves problems of international draughts: verdicts, and every line of a forced win.";
 
@@ -73,7 +75,7 @@ Examples:
   dw judge -n 2 examples/problems.fen
   dw list -n 2 --problem 1 examples/problems.fen
 
-Exit status: 0 done, 1 a problem or a token was refused or is not there, 2 the words are no
+Exit status: 0 done, 1 a problem or a token was refused or is not there, 2 the arguments are no
 command, 3 the program was stopped or a file could not be read or written.";
 
 const SHOW_ABOUT: &str = "Shows each problem's position as a diagram.";
@@ -88,8 +90,8 @@ Examples:
 const MOVES_ABOUT: &str = "Lists each problem's legal moves, each with the position after it.";
 
 const MOVES_EXAMPLES: &str = "\
-A quiet move is written 32-28 and a capture 32x23, or with all its squares where two captures
-have the same start and end. Behind the moves stand their number and how many pieces each takes.
+A quiet move is written 32-28 and a capture 32x23, or with all its squares if two captures
+have the same start and end. After the moves stand their number and how many pieces each takes.
 
 Examples:
   echo W:WK46:B28 | dw moves
@@ -118,8 +120,8 @@ const LIST_ABOUT: &str = "Lists every line of each problem's forced win, in orde
 const LIST_EXAMPLES: &str = "\
 A line is a way in which each move of the side to move keeps a forced win in N moves and the
 other side plays anything legal, up to its last move: 1. 45-40 16-21 2. 27x16.
-Behind the lines stands `complete` with their number, or `more after` with a token: with
---after the list goes on behind that line.
+After the lines stands `complete` with their number, or `more after` with a token: with
+--after the list goes on after that line.
 
 Examples:
   echo W:W27,32,38:B18 | dw list -n 2
@@ -128,6 +130,7 @@ Examples:
 /// The commands that the program knows.
 pub fn command<'a>(alloc: Global) -> Result<Words<'a>, AllocError> {
     Words::new(alloc, "dw")
+        .version(VERSION)
         .about(ABOUT)
         .after_help(EXAMPLES)
         .subcommand_required(true)
@@ -249,7 +252,7 @@ fn after<'a>(alloc: Global) -> Arg<'a> {
     Arg::new(alloc, "after")
         .long("after")
         .value_name("TOKEN")
-        .help("Begin behind the line of this token, of problem 1 or that of --problem")
+        .help("Begin after the line of this token, of problem 1 or that of --problem")
 }
 
 /// What parsed words ask for.

@@ -79,6 +79,23 @@ const SIX_WINS: [(&str, u8); 5] = [
     ("B:WK15:B3,7", 0),
 ];
 
+// The tables as slices: what names a table itself holds all of its rows for the prover.
+fn ten() -> &'static [Row] {
+    &TEN
+}
+
+fn eight() -> &'static [Row] {
+    &EIGHT
+}
+
+fn ten_wins() -> &'static [(&'static str, u8)] {
+    &TEN_WINS
+}
+
+fn eight_wins() -> &'static [(&'static str, u8)] {
+    &EIGHT_WINS
+}
+
 // A line, of which each move is given by its text.
 fn line_of<B: Board>(
     rt: &impl Abort,
@@ -95,44 +112,6 @@ fn line_of<B: Board>(
         line.push(step);
     }
     line
-}
-
-// The lister gives these lines and no other, and so does the list of all.
-fn check_rows<B: Board, M: Memo<B>>(
-    rt: &impl Abort,
-    alloc: Global,
-    solver: &mut Solver<B, M, ByTrial>,
-    rows: &[Row],
-) {
-    for (text, moves, lines) in rows {
-        assert!(rt; 1 <= *moves && *moves <= 20);
-        let position = position_of::<B>(rt, text);
-        let whole = all_lines(alloc, solver, &position, *moves);
-        let whole = whole.ok().expect(rt, "all lines");
-        assert!(rt; whole.len() == lines.len(), "{text}");
-        let mut lister = Lister::start(solver, &position, *moves);
-        for line in *lines {
-            let wanted = line_of(rt, alloc, &position, line);
-            let given = lister.next(alloc).ok().flatten();
-            let given = given.expect(rt, "a line");
-            assert!(rt; *given == *wanted.as_slice(), "{line}");
-        }
-        assert!(rt; matches!(lister.next(alloc), Ok(None)), "{text}");
-        for (index, line) in lines.iter().enumerate() {
-            let given = line_of(rt, alloc, &position, line);
-            assert!(rt; lister.after(alloc, given.as_slice()).is_ok(), "{line}");
-            let next = lister.next(alloc).ok().expect(rt, "an answer");
-            match (next, lines.get(index + 1)) {
-                (Some(next), Some(wanted)) => {
-                    let wanted = line_of(rt, alloc, &position, wanted);
-                    assert!(rt; *next == *wanted.as_slice(), "after {line}");
-                }
-                (next, wanted) => {
-                    assert!(rt; next.is_none() && wanted.is_none(), "after {line}");
-                }
-            }
-        }
-    }
 }
 
 // How many first moves two lines have in common.
@@ -192,6 +171,29 @@ fn check_after<B: Board, M: Memo<B>>(
     }
 }
 
+// The list of all has these lines and no other, and so has the lister; after each of them it gives those behind it.
+fn check_rows<B: Board, M: Memo<B>>(
+    rt: &impl Abort,
+    alloc: Global,
+    solver: &mut Solver<B, M, ByTrial>,
+    rows: &[Row],
+) {
+    for (text, moves, lines) in rows {
+        assert!(rt; 1 <= *moves && *moves <= 20);
+        let position = position_of::<B>(rt, text);
+        let whole = all_lines(alloc, solver, &position, *moves);
+        let whole = whole.ok().expect(rt, "all lines");
+        assert!(rt; whole.len() == lines.len(), "{text}");
+        for (given, line) in whole.iter().zip(*lines) {
+            let wanted = line_of(rt, alloc, &position, line);
+            assert!(rt; *given.as_slice() == *wanted.as_slice(), "{line}");
+        }
+        let mut lister = Lister::start(solver, &position, *moves);
+        check_rest(rt, alloc, &mut lister, whole.as_slice());
+        check_after(rt, alloc, &mut lister, whole.as_slice());
+    }
+}
+
 // The lister gives the lines that stand in the list of all, and after each of them those behind it.
 fn check_small<B: Board, M: Memo<B>>(
     rt: &impl Abort,
@@ -220,25 +222,15 @@ fn check_bare<B: Board>(rt: &impl Abort, alloc: Global, rows: &[Row], positions:
 
 #[test]
 fn lines_come_in_order(rt: HostRuntime) {
-    check_bare::<Ten>(&rt, rt.alloc(), &TEN, &TEN_WINS[..100]);
+    check_bare::<Ten>(&rt, rt.alloc(), ten(), ten_wins());
     laws::none_begins();
     laws::lines_exist();
     laws::line_or_place();
 }
 
 #[test]
-fn lines_come_in_order_at_more_positions(rt: HostRuntime) {
-    check_bare::<Ten>(&rt, rt.alloc(), &[], &TEN_WINS[100..180]);
-}
-
-#[test]
-fn lines_come_in_order_at_all_positions(rt: HostRuntime) {
-    check_bare::<Ten>(&rt, rt.alloc(), &[], &TEN_WINS[180..]);
-}
-
-#[test]
 fn lines_come_in_order_on_eight_rows(rt: HostRuntime) {
-    check_bare::<Eight>(&rt, rt.alloc(), &EIGHT, &EIGHT_WINS);
+    check_bare::<Eight>(&rt, rt.alloc(), eight(), eight_wins());
 }
 
 #[test]
@@ -256,18 +248,8 @@ fn check_latest<B: Board>(rt: &impl Abort, alloc: Global, rows: &[Row], position
 
 #[test]
 fn lines_come_in_order_from_the_latest(rt: HostRuntime) {
-    check_latest::<Ten>(&rt, rt.alloc(), &TEN, &TEN_WINS[..100]);
-    check_latest::<Eight>(&rt, rt.alloc(), &EIGHT, &EIGHT_WINS);
-}
-
-#[test]
-fn lines_come_in_order_from_the_latest_at_more_positions(rt: HostRuntime) {
-    check_latest::<Ten>(&rt, rt.alloc(), &[], &TEN_WINS[100..180]);
-}
-
-#[test]
-fn lines_come_in_order_from_the_latest_at_all_positions(rt: HostRuntime) {
-    check_latest::<Ten>(&rt, rt.alloc(), &[], &TEN_WINS[180..]);
+    check_latest::<Ten>(&rt, rt.alloc(), ten(), ten_wins());
+    check_latest::<Eight>(&rt, rt.alloc(), eight(), eight_wins());
 }
 
 #[test]
@@ -275,19 +257,19 @@ fn lines_come_in_order_from_slots(rt: HostRuntime) {
     let alloc = rt.alloc();
     let memo = SlotMemo::new(alloc, 1_000).expect(&rt, "memory");
     let mut solver = Solver::<Ten, SlotMemo<Ten>, ByTrial>::new(memo, ByTrial, 1_000_000_000);
-    check_rows(&rt, alloc, &mut solver, &TEN);
-    check_small(&rt, alloc, &mut solver, &TEN_WINS);
+    check_rows(&rt, alloc, &mut solver, ten());
+    check_small(&rt, alloc, &mut solver, ten_wins());
     let memo = SlotMemo::new(alloc, 1_000).expect(&rt, "memory");
     let mut solver = Solver::<Eight, SlotMemo<Eight>, ByTrial>::new(memo, ByTrial, 1_000_000_000);
-    check_rows(&rt, alloc, &mut solver, &EIGHT);
-    check_small(&rt, alloc, &mut solver, &EIGHT_WINS);
+    check_rows(&rt, alloc, &mut solver, eight());
+    check_small(&rt, alloc, &mut solver, eight_wins());
 }
 
 // Under limits of 1 the search is stopped; under great ones the lines come in order, and then the end.
 #[test]
 fn lines_come_in_portions(rt: HostRuntime) {
     let alloc = rt.alloc();
-    let (text, moves, lines) = TEN[5];
+    let (text, moves, lines) = *ten().get(5).expect(&rt, "a row");
     let position = position_of::<Ten>(&rt, text);
     assert!(rt; 1 <= moves && moves <= 20);
     let mut solver = Solver::<Ten, NoMemo, ByTrial>::new(NoMemo::new(), ByTrial, 1);
@@ -432,7 +414,7 @@ fn places_are_found(rt: HostRuntime) {
 #[test]
 fn stops_lose_no_line(rt: HostRuntime) {
     let alloc = rt.alloc();
-    for (text, moves, lines) in &TEN {
+    for (text, moves, lines) in ten() {
         let position = position_of::<Ten>(&rt, text);
         assert!(rt; 1 <= *moves && *moves <= 20);
         let memo = LruMemo::new(alloc, 1_000).expect(&rt, "memory");
