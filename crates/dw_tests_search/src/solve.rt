@@ -138,15 +138,6 @@ const EIGHT: Answers = Answers {
     table: &EIGHT_WINS,
 };
 
-// The tables as references: what names a table itself holds all of its rows for the prover.
-fn ten() -> &'static Answers {
-    &TEN
-}
-
-fn eight() -> &'static Answers {
-    &EIGHT
-}
-
 fn check_answers<B: Board, M: Memo<B>, G: Guide<B>>(
     rt: &impl Abort,
     alloc: Global,
@@ -203,20 +194,20 @@ fn check_memos<B: Board, G: Guide<B> + Copy>(
 
 #[test]
 fn answers_in_any_order(rt: HostRuntime) {
-    check_memos::<Ten, AnyOrder>(&rt, rt.alloc(), AnyOrder, ten());
-    check_memos::<Eight, AnyOrder>(&rt, rt.alloc(), AnyOrder, eight());
+    check_memos::<Ten, AnyOrder>(&rt, rt.alloc(), AnyOrder, &TEN);
+    check_memos::<Eight, AnyOrder>(&rt, rt.alloc(), AnyOrder, &EIGHT);
 }
 
 #[test]
 fn answers_by_end(rt: HostRuntime) {
-    check_memos::<Ten, ByEnd>(&rt, rt.alloc(), ByEnd, ten());
-    check_memos::<Eight, ByEnd>(&rt, rt.alloc(), ByEnd, eight());
+    check_memos::<Ten, ByEnd>(&rt, rt.alloc(), ByEnd, &TEN);
+    check_memos::<Eight, ByEnd>(&rt, rt.alloc(), ByEnd, &EIGHT);
 }
 
 #[test]
 fn answers_by_trial(rt: HostRuntime) {
-    check_memos::<Ten, ByTrial>(&rt, rt.alloc(), ByTrial, ten());
-    check_memos::<Eight, ByTrial>(&rt, rt.alloc(), ByTrial, eight());
+    check_memos::<Ten, ByTrial>(&rt, rt.alloc(), ByTrial, &TEN);
+    check_memos::<Eight, ByTrial>(&rt, rt.alloc(), ByTrial, &EIGHT);
 }
 
 /// A position, a number of moves, 1 to 20, and whether the side to move wins within it and within one less.
