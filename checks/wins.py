@@ -21,9 +21,24 @@ MOST = 3
 ROOM = 300
 TURNS = "WB"
 HEAD = """\
-//! Small positions, and the least number of moves from 1 to 3 within which the side to move wins, or 0 where it has no
-//! win within 3. Made by checks/wins.py.
+//! Small positions, and the least number of moves from 1 to 3 within which the side to move wins, or 0 if it has no win
+//! within 3. Made by checks/wins.py.
+//!
+//! They stand in tables of 64 rows, each named by one function alone: what names a table holds all of its rows for the
+//! prover, and that takes time by the square of their number.
 
+/// A position, and its least number of moves.
+pub type Small = (&'static str, u8);
+
+/// Positions on the board of 10 rows.
+pub fn ten_rows() -> [&'static [Small]; 4] {
+    [ten_unwon(), ten_in_one(), ten_in_two(), ten_in_three()]
+}
+
+/// Positions on the board of 8 rows.
+pub fn eight_rows() -> [&'static [Small]; 1] {
+    [eight()]
+}
 """
 
 
@@ -111,17 +126,20 @@ def table(rows, each):
 
 
 def printed(name, rows):
-    print(f"pub const {name}: [(&str, u8); {len(rows)}] = [")
+    print(f"const {name}: [Small; {len(rows)}] = [")
     for text, least in rows:
         print(f'    ("{text}", {least}),')
     print("];")
+    print(f"\nfn {name.lower()}() -> &'static [Small] {{\n    &{name}\n}}\n")
 
 
 def main():
     print(HEAD, end="")
-    printed("TEN_WINS", table(10, 8))
-    print()
-    printed("EIGHT_WINS", table(8, 2))
+    names = ("TEN_UNWON", "TEN_IN_ONE", "TEN_IN_TWO", "TEN_IN_THREE")
+    ten = table(10, 8)
+    for number, name in enumerate(names):
+        printed(name, [(text, least) for text, least in ten if least == number])
+    printed("EIGHT", table(8, 2))
 
 
 if __name__ == "__main__":

@@ -23,6 +23,7 @@ use dw_report::streams::{Reading, Source, Writing};
 use dw_solve::guide::ByTrial;
 use outcome::{Ending, outcome};
 use std::env;
+use std::fmt::Display;
 use std::fs::File;
 use std::process::ExitCode;
 use words::{BoardSize, MemoKind, Request, command, requested};
@@ -163,7 +164,12 @@ fn report_on<B: Board, S: Source + Drop, M: Memo<B> + Drop>(
 fn end_with(rt: &HostRuntime, ending: Ending<&str>, only: Option<u32>) -> ExitCode {
     let exit = outcome(ending, only);
     if let Some(message) = exit.message {
-        let _ = eprint!(rt; "{message}");
+        say(rt, &message);
     }
     ExitCode::from(exit.status)
+}
+
+/// Writes on standard error. If that fails, there is nobody left to tell.
+fn say<T: Display>(rt: &HostRuntime, message: &T) {
+    let _ = eprint!(rt; "{message}");
 }

@@ -129,16 +129,41 @@ Examples:
 
 /// The commands that the program knows.
 pub fn command<'a>(alloc: Global) -> Result<Words<'a>, AllocError> {
-    Words::new(alloc, "dw")
+    let words = Words::new(alloc, "dw")
         .version(VERSION)
         .about(ABOUT)
         .after_help(EXAMPLES)
         .subcommand_required(true)
-        .arg_required_else_help(true)
-        .subcommand(reading(alloc, "show", SHOW_ABOUT, SHOW_EXAMPLES)?)?
-        .subcommand(reading(alloc, "moves", MOVES_ABOUT, MOVES_EXAMPLES)?)?
-        .subcommand(searching(alloc, "judge", JUDGE_ABOUT, JUDGE_EXAMPLES)?)?
-        .subcommand(listing(alloc)?)
+        .arg_required_else_help(true);
+    let words = with_subcommand(words, show(alloc))?;
+    let words = with_subcommand(words, moves(alloc))?;
+    let words = with_subcommand(words, judge(alloc))?;
+    with_subcommand(words, list(alloc))
+}
+
+fn with_subcommand<'a>(
+    words: Words<'a>,
+    made: Result<Words<'a>, AllocError>,
+) -> Result<Words<'a>, AllocError> {
+    words.subcommand(made?)
+}
+
+fn show<'a>(alloc: Global) -> Result<Words<'a>, AllocError> {
+    reading(alloc, "show", SHOW_ABOUT, SHOW_EXAMPLES)
+}
+
+fn moves<'a>(alloc: Global) -> Result<Words<'a>, AllocError> {
+    reading(alloc, "moves", MOVES_ABOUT, MOVES_EXAMPLES)
+}
+
+fn judge<'a>(alloc: Global) -> Result<Words<'a>, AllocError> {
+    searching(alloc, "judge", JUDGE_ABOUT, JUDGE_EXAMPLES)
+}
+
+fn list<'a>(alloc: Global) -> Result<Words<'a>, AllocError> {
+    searching(alloc, "list", LIST_ABOUT, LIST_EXAMPLES)?
+        .arg(lines(alloc))?
+        .arg(after(alloc))
 }
 
 /// A command that reads problems.
@@ -165,17 +190,10 @@ fn searching<'a>(
     examples: &'static str,
 ) -> Result<Words<'a>, AllocError> {
     reading(alloc, name, about, examples)?
-        .arg(moves(alloc))?
+        .arg(within(alloc))?
         .arg(positions(alloc))?
         .arg(memo(alloc))?
         .arg(cache(alloc))
-}
-
-/// The command that lists lines.
-fn listing<'a>(alloc: Global) -> Result<Words<'a>, AllocError> {
-    searching(alloc, "list", LIST_ABOUT, LIST_EXAMPLES)?
-        .arg(lines(alloc))?
-        .arg(after(alloc))
 }
 
 fn board<'a>(alloc: Global) -> Arg<'a> {
@@ -206,7 +224,7 @@ fn file<'a>(alloc: Global) -> Arg<'a> {
     Arg::new(alloc, "FILE").help("The problems [default: standard input]")
 }
 
-fn moves<'a>(alloc: Global) -> Arg<'a> {
+fn within<'a>(alloc: Global) -> Arg<'a> {
     Arg::new(alloc, "n")
         .short('n')
         .value_name("N")

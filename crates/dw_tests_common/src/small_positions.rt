@@ -1,7 +1,23 @@
-//! Small positions, and the least number of moves from 1 to 3 within which the side to move wins, or 0 where it has no
-//! win within 3. Made by checks/wins.py.
+//! Small positions, and the least number of moves from 1 to 3 within which the side to move wins, or 0 if it has no win
+//! within 3. Made by checks/wins.py.
+//!
+//! They stand in tables of 64 rows, each named by one function alone: what names a table holds all of its rows for the
+//! prover, and that takes time by the square of their number.
 
-pub const TEN_WINS: [(&str, u8); 256] = [
+/// A position, and its least number of moves.
+pub type Small = (&'static str, u8);
+
+/// Positions on the board of 10 rows.
+pub fn ten_rows() -> [&'static [Small]; 4] {
+    [ten_unwon(), ten_in_one(), ten_in_two(), ten_in_three()]
+}
+
+/// Positions on the board of 8 rows.
+pub fn eight_rows() -> [&'static [Small]; 1] {
+    [eight()]
+}
+
+const TEN_UNWON: [Small; 64] = [
     ("W:W34:B33", 0),
     ("W:W11:B16", 0),
     ("W:W10,40:B11,37", 0),
@@ -66,6 +82,13 @@ pub const TEN_WINS: [(&str, u8); 256] = [
     ("B:W13,K34:BK7,29,32", 0),
     ("B:W17,K19,21,22,K32:BK18", 0),
     ("B:WK11,K26:B18,23,K31,K33", 0),
+];
+
+fn ten_unwon() -> &'static [Small] {
+    &TEN_UNWON
+}
+
+const TEN_IN_ONE: [Small; 64] = [
     ("W:W20,30:B15", 1),
     ("W:W39,41,44,47:B36", 1),
     ("W:W41,42,47,50:B45", 1),
@@ -130,6 +153,13 @@ pub const TEN_WINS: [(&str, u8); 256] = [
     ("B:W43:B36,K49", 1),
     ("B:WK23:B28", 1),
     ("B:W40:B10,K19,K23,K50", 1),
+];
+
+fn ten_in_one() -> &'static [Small] {
+    &TEN_IN_ONE
+}
+
+const TEN_IN_TWO: [Small; 64] = [
     ("W:W28:B13", 2),
     ("W:W8:B16", 2),
     ("W:W28:B12", 2),
@@ -194,6 +224,13 @@ pub const TEN_WINS: [(&str, u8); 256] = [
     ("B:W31,33:B26,K29,K32", 2),
     ("B:W38,46:BK47,K48,K49", 2),
     ("B:W16,K31,32:BK22,26,K33", 2),
+];
+
+fn ten_in_two() -> &'static [Small] {
+    &TEN_IN_TWO
+}
+
+const TEN_IN_THREE: [Small; 64] = [
     ("W:W29,36,37:B25,27", 3),
     ("W:W9,14:B2", 3),
     ("W:W13:B10", 3),
@@ -260,7 +297,11 @@ pub const TEN_WINS: [(&str, u8); 256] = [
     ("B:W13,K29,31:BK34", 3),
 ];
 
-pub const EIGHT_WINS: [(&str, u8); 64] = [
+fn ten_in_three() -> &'static [Small] {
+    &TEN_IN_THREE
+}
+
+const EIGHT: [Small; 64] = [
     ("W:W21,28:B22,23", 0),
     ("W:W18:B19,25", 0),
     ("B:W9,18:B10,12,16,17", 0),
@@ -326,3 +367,7 @@ pub const EIGHT_WINS: [(&str, u8); 64] = [
     ("B:W11,16:B10,K29", 3),
     ("B:W11,26:BK16,K27", 3),
 ];
+
+fn eight() -> &'static [Small] {
+    &EIGHT
+}

@@ -21,7 +21,7 @@ use dw_solve::guide::ByTrial;
 use dw_solve::solver::Solver;
 use dw_solve::stop::Stop;
 use dw_tests_common::six::Six;
-use dw_tests_common::small_positions::{EIGHT_WINS, TEN_WINS};
+use dw_tests_common::small_positions::{Small, eight_rows, ten_rows};
 use std::alloc::Global;
 use std::process::Abort;
 
@@ -71,7 +71,7 @@ const SIX: [Row; 4] = [
 ];
 
 /// Positions on six rows, and the least number of moves up to 3 within which the side to move wins, or 0.
-const SIX_WINS: [(&str, u8); 5] = [
+const SIX_WINS: [Small; 5] = [
     ("W:W11:B8", 1),
     ("W:W11,18:B4", 2),
     ("W:WK5:B4", 2),
@@ -79,21 +79,13 @@ const SIX_WINS: [(&str, u8); 5] = [
     ("B:WK15:B3,7", 0),
 ];
 
-// The tables as slices: what names a table itself holds all of its rows for the prover.
+// The tables as slices: what names a table itself holds all of its rows for the prover, and that takes time.
 fn ten() -> &'static [Row] {
     &TEN
 }
 
 fn eight() -> &'static [Row] {
     &EIGHT
-}
-
-fn ten_wins() -> &'static [(&'static str, u8)] {
-    &TEN_WINS
-}
-
-fn eight_wins() -> &'static [(&'static str, u8)] {
-    &EIGHT_WINS
 }
 
 // A line, of which each move is given by its text.
@@ -171,7 +163,24 @@ fn check_after<B: Board, M: Memo<B>>(
     }
 }
 
-// The list of all has these lines and no other, and so has the lister; after each of them it gives those behind it.
+// All lines of a position. The lister gives just these, and after each of them those behind it.
+fn check_lines<B: Board, M: Memo<B>>(
+    rt: &impl Abort,
+    alloc: Global,
+    solver: &mut Solver<B, M, ByTrial>,
+    position: &Position<B>,
+    moves: u8,
+) -> Vec<Vec<Move<B>>> {
+    assert!(rt; 1 <= moves && moves <= 20);
+    let whole = all_lines(alloc, solver, position, moves);
+    let whole = whole.ok().expect(rt, "all lines");
+    let mut lister = Lister::start(solver, position, moves);
+    check_rest(rt, alloc, &mut lister, whole.as_slice());
+    check_after(rt, alloc, &mut lister, whole.as_slice());
+    whole
+}
+
+// Positions have these lines and no other.
 fn check_rows<B: Board, M: Memo<B>>(
     rt: &impl Abort,
     alloc: Global,
@@ -179,50 +188,41 @@ fn check_rows<B: Board, M: Memo<B>>(
     rows: &[Row],
 ) {
     for (text, moves, lines) in rows {
-        assert!(rt; 1 <= *moves && *moves <= 20);
         let position = position_of::<B>(rt, text);
-        let whole = all_lines(alloc, solver, &position, *moves);
-        let whole = whole.ok().expect(rt, "all lines");
+        let whole = check_lines(rt, alloc, solver, &position, *moves);
         assert!(rt; whole.len() == lines.len(), "{text}");
         for (given, line) in whole.iter().zip(*lines) {
             let wanted = line_of(rt, alloc, &position, line);
             assert!(rt; *given.as_slice() == *wanted.as_slice(), "{line}");
         }
-        let mut lister = Lister::start(solver, &position, *moves);
-        check_rest(rt, alloc, &mut lister, whole.as_slice());
-        check_after(rt, alloc, &mut lister, whole.as_slice());
     }
 }
 
-// The lister gives the lines that stand in the list of all, and after each of them those behind it.
+// The lister gives the lines that stand in the list of all.
 fn check_small<B: Board, M: Memo<B>>(
     rt: &impl Abort,
     alloc: Global,
     solver: &mut Solver<B, M, ByTrial>,
-    positions: &[(&str, u8)],
+    tables: &[&[Small]],
 ) {
-    for (text, _) in positions {
+    for (text, _) in tables.iter().copied().flatten() {
         let position = position_of::<B>(rt, text);
         for moves in 1..4 {
-            let whole = all_lines(alloc, solver, &position, moves);
-            let whole = whole.ok().expect(rt, "all lines");
-            let mut lister = Lister::start(solver, &position, moves);
-            check_rest(rt, alloc, &mut lister, whole.as_slice());
-            check_after(rt, alloc, &mut lister, whole.as_slice());
+            let _ = check_lines(rt, alloc, solver, &position, moves);
         }
     }
 }
 
 // The lists of worked rows and of small positions, with no cache.
-fn check_bare<B: Board>(rt: &impl Abort, alloc: Global, rows: &[Row], positions: &[(&str, u8)]) {
+fn check_bare<B: Board>(rt: &impl Abort, alloc: Global, rows: &[Row], tables: &[&[Small]]) {
     let mut solver = Solver::<B, NoMemo, ByTrial>::new(NoMemo::new(), ByTrial, 1_000_000_000);
     check_rows(rt, alloc, &mut solver, rows);
-    check_small(rt, alloc, &mut solver, positions);
+    check_small(rt, alloc, &mut solver, tables);
 }
 
 #[test]
 fn lines_come_in_order(rt: HostRuntime) {
-    check_bare::<Ten>(&rt, rt.alloc(), ten(), ten_wins());
+    check_bare::<Ten>(&rt, rt.alloc(), ten(), &ten_rows());
     laws::none_begins();
     laws::lines_exist();
     laws::line_or_place();
@@ -230,26 +230,26 @@ fn lines_come_in_order(rt: HostRuntime) {
 
 #[test]
 fn lines_come_in_order_on_eight_rows(rt: HostRuntime) {
-    check_bare::<Eight>(&rt, rt.alloc(), eight(), eight_wins());
+    check_bare::<Eight>(&rt, rt.alloc(), eight(), &eight_rows());
 }
 
 #[test]
 fn lines_come_in_order_on_six_rows(rt: HostRuntime) {
-    check_bare::<Six>(&rt, rt.alloc(), &SIX, &SIX_WINS);
+    check_bare::<Six>(&rt, rt.alloc(), &SIX, &[&SIX_WINS]);
 }
 
 // The same, with a cache of the positions used latest.
-fn check_latest<B: Board>(rt: &impl Abort, alloc: Global, rows: &[Row], positions: &[(&str, u8)]) {
+fn check_latest<B: Board>(rt: &impl Abort, alloc: Global, rows: &[Row], tables: &[&[Small]]) {
     let memo = LruMemo::new(alloc, 1_000).expect(rt, "memory");
     let mut solver = Solver::<B, LruMemo<B>, ByTrial>::new(memo, ByTrial, 1_000_000_000);
     check_rows(rt, alloc, &mut solver, rows);
-    check_small(rt, alloc, &mut solver, positions);
+    check_small(rt, alloc, &mut solver, tables);
 }
 
 #[test]
 fn lines_come_in_order_from_the_latest(rt: HostRuntime) {
-    check_latest::<Ten>(&rt, rt.alloc(), ten(), ten_wins());
-    check_latest::<Eight>(&rt, rt.alloc(), eight(), eight_wins());
+    check_latest::<Ten>(&rt, rt.alloc(), ten(), &ten_rows());
+    check_latest::<Eight>(&rt, rt.alloc(), eight(), &eight_rows());
 }
 
 #[test]
@@ -258,11 +258,11 @@ fn lines_come_in_order_from_slots(rt: HostRuntime) {
     let memo = SlotMemo::new(alloc, 1_000).expect(&rt, "memory");
     let mut solver = Solver::<Ten, SlotMemo<Ten>, ByTrial>::new(memo, ByTrial, 1_000_000_000);
     check_rows(&rt, alloc, &mut solver, ten());
-    check_small(&rt, alloc, &mut solver, ten_wins());
+    check_small(&rt, alloc, &mut solver, &ten_rows());
     let memo = SlotMemo::new(alloc, 1_000).expect(&rt, "memory");
     let mut solver = Solver::<Eight, SlotMemo<Eight>, ByTrial>::new(memo, ByTrial, 1_000_000_000);
     check_rows(&rt, alloc, &mut solver, eight());
-    check_small(&rt, alloc, &mut solver, eight_wins());
+    check_small(&rt, alloc, &mut solver, &eight_rows());
 }
 
 // Under limits of 1 the search is stopped; under great ones the lines come in order, and then the end.
@@ -495,6 +495,23 @@ fn check_next<B: Board, M: Memo<B>>(
     assert!(rt; answer == Ok(true));
 }
 
+// After this line the lister gives what follows it.
+fn check_going_on<B: Board, M: Memo<B>>(
+    rt: &impl Abort,
+    alloc: Global,
+    lister: &mut Lister<'_, B, M, ByTrial>,
+    steps: &[Step],
+    next: Option<&&[Step]>,
+) {
+    let line = moves_of(rt, steps);
+    let mut answer = lister.after(alloc, line.as_slice());
+    if answer == Err(AfterFault::Stopped(Stop::Memory)) {
+        answer = lister.after(alloc, line.as_slice());
+    }
+    assert!(rt; answer.is_ok());
+    check_next(rt, alloc, lister, next);
+}
+
 // Asks a new solver's lister for all lines, and then for what follows each of them.
 fn check_refused<B: Board, M: Memo<B>>(
     rt: &impl Abort,
@@ -510,13 +527,7 @@ fn check_refused<B: Board, M: Memo<B>>(
     }
     check_next(rt, alloc, &mut lister, None);
     for (index, steps) in lines.iter().enumerate() {
-        let line = moves_of(rt, steps);
-        let mut answer = lister.after(alloc, line.as_slice());
-        if answer == Err(AfterFault::Stopped(Stop::Memory)) {
-            answer = lister.after(alloc, line.as_slice());
-        }
-        assert!(rt; answer.is_ok(), "{text}");
-        check_next(rt, alloc, &mut lister, lines.get(index + 1));
+        check_going_on(rt, alloc, &mut lister, steps, lines.get(index + 1));
     }
 }
 

@@ -115,6 +115,44 @@ fn parts_of<B: Board>(verdict: Verdict<B>, alloc: Global) -> Found<B> {
     found
 }
 
+// The keys or choices are these, at the place to which these moves lead.
+fn check_keys<B: Board>(
+    rt: &impl Abort,
+    alloc: Global,
+    position: &Position<B>,
+    found: &Found<B>,
+    at: &[&str],
+    keys: &[&str],
+) {
+    assert!(rt; found.at.len() == at.len() && found.keys.len() == keys.len());
+    let mut current = *position;
+    for (index, word) in at.iter().enumerate() {
+        let step = move_of(rt, alloc, &current, word);
+        assert!(rt; found.at.get(index) == Some(&step), "{word}");
+        current = play(&current, &step);
+    }
+    for (index, word) in keys.iter().enumerate() {
+        let step = move_of(rt, alloc, &current, word);
+        assert!(rt; found.keys.get(index) == Some(&step), "{word}");
+    }
+}
+
+// The tries are these, each with the reply that refutes it.
+fn check_tries<B: Board>(
+    rt: &impl Abort,
+    alloc: Global,
+    position: &Position<B>,
+    found: &[(Move<B>, Move<B>)],
+    tries: &[[&str; 2]],
+) {
+    assert!(rt; found.len() == tries.len());
+    for (index, [first, reply]) in tries.iter().enumerate() {
+        let first = move_of(rt, alloc, position, first);
+        let reply = move_of(rt, alloc, &play(position, &first), reply);
+        assert!(rt; found.get(index) == Some(&(first, reply)), "{index}");
+    }
+}
+
 fn check_rows<B: Board, M: Memo<B>>(
     rt: &impl Abort,
     alloc: Global,
@@ -128,31 +166,11 @@ fn check_rows<B: Board, M: Memo<B>>(
         let judged = judged.ok().expect(rt, "an answer");
         let found = parts_of(judged.verdict, alloc);
         assert!(rt;
-            found.name == *name && found.shortest == *shortest && found.at.len() == at.len(),
+            found.name == *name && found.shortest == *shortest,
             "{text}"
         );
-        let mut current = position;
-        for (index, word) in at.iter().enumerate() {
-            let step = move_of(rt, alloc, &current, word);
-            assert!(rt; found.at.get(index) == Some(&step), "{text}: {word}");
-            current = play(&current, &step);
-        }
-        assert!(rt;
-            found.keys.len() == keys.len() && judged.tries.len() == tries.len(),
-            "{text}"
-        );
-        for (index, word) in keys.iter().enumerate() {
-            let step = move_of(rt, alloc, &current, word);
-            assert!(rt; found.keys.get(index) == Some(&step), "{text}: {word}");
-        }
-        for (index, words) in tries.iter().enumerate() {
-            let first = move_of(rt, alloc, &position, words[0]);
-            let reply = move_of(rt, alloc, &play(&position, &first), words[1]);
-            assert!(rt;
-                judged.tries.get(index) == Some(&(first, reply)),
-                "{text}: {index}"
-            );
-        }
+        check_keys(rt, alloc, &position, &found, at, keys);
+        check_tries(rt, alloc, &position, judged.tries.as_slice(), tries);
     }
 }
 

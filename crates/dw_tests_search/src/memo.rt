@@ -72,6 +72,19 @@ const TWO: [Note; 4] = [
     ("W:W22:B18", FIRST, [Some(FIRST), None, Some(FIRST)], 2),
 ];
 
+// What is found of each text.
+fn check_found<B: Board, M: Memo<B>>(
+    rt: &impl Abort,
+    memo: &mut M,
+    held: &[Option<Bounds>; 3],
+    after: &str,
+) {
+    for (other, wanted) in TEXTS.iter().zip(held.iter()) {
+        let found = memo.look(&position_of(rt, other));
+        assert!(rt; found == *wanted, "{other} after {after}");
+    }
+}
+
 fn check_notes<B: Board, M: Memo<B>>(rt: &impl Abort, memo: &mut M, answer: Noted, rows: &[Note]) {
     assert!(rt; memo.look(&position_of(rt, "W:W22:B18")).is_none() && memo.dropped() == 0);
     for (text, bounds, held, lost) in rows {
@@ -79,10 +92,7 @@ fn check_notes<B: Board, M: Memo<B>>(rt: &impl Abort, memo: &mut M, answer: Note
             memo.note(position_of(rt, text), *bounds) == answer,
             "{text}"
         );
-        for (other, wanted) in TEXTS.iter().zip(held.iter()) {
-            let found = memo.look(&position_of(rt, other));
-            assert!(rt; found == *wanted, "{other} after {text}");
-        }
+        check_found(rt, memo, held, text);
         assert!(rt; memo.dropped() == *lost, "after {text}");
     }
 }
@@ -137,31 +147,42 @@ const KINGS: [(&str, u8); 20] = [
     ("W:WK20:B", 20),
 ];
 
+// What is held after the position of this number was noted, and how many of those held before are lost.
+fn lost_after<B: Board>(
+    rt: &impl Abort,
+    memo: &mut SlotMemo<B>,
+    kings: &[(&str, u8)],
+    held: &mut [bool; 20],
+    number: u8,
+) -> u64 {
+    let mut lost = 0u64;
+    for ((text, fails), was_held) in kings.iter().zip(held.iter_mut()) {
+        let found = memo.look(&position_of(rt, text));
+        let is_held = found == Some(Bounds::default().with_fail(*fails));
+        let is_own = *fails == number;
+        assert!(rt;
+            is_held || found.is_none() && !is_own,
+            "{text} after {number}"
+        );
+        assert!(rt; !is_held || *was_held || is_own, "{text} after {number}");
+        lost = lost.wrapping_add(u64::from(*was_held && !is_held));
+        *was_held = is_held;
+    }
+    lost
+}
+
 // Twenty positions in seven slots: a note loses at most one of those that were held, and that is counted.
-fn check_slots<B: Board>(rt: &impl Abort, alloc: Global) {
+fn check_slots<B: Board>(rt: &impl Abort, alloc: Global, kings: &[(&str, u8)]) {
     let mut memo = SlotMemo::<B>::new(alloc, 7).expect(rt, "memory");
     let mut held = [false; 20];
-    for (text, number) in &KINGS {
+    for (text, number) in kings {
         let before = memo.dropped();
         let own = Bounds::default().with_fail(*number);
         assert!(rt;
             memo.note(position_of(rt, text), own) == Noted::Kept,
             "{text}"
         );
-        let mut lost = 0u64;
-        for ((other, fails), was_held) in KINGS.iter().zip(held.iter_mut()) {
-            let found = memo.look(&position_of(rt, other));
-            let is_held = found == Some(Bounds::default().with_fail(*fails));
-            let was_there = *was_held || fails == number;
-            let is_right = if is_held {
-                was_there
-            } else {
-                found.is_none() && fails != number
-            };
-            assert!(rt; is_right, "{other} after {text}");
-            lost = lost.wrapping_add(u64::from(*was_held && !is_held));
-            *was_held = is_held;
-        }
+        let lost = lost_after(rt, &mut memo, kings, &mut held, *number);
         assert!(rt;
             lost <= 1 && memo.dropped().wrapping_sub(before) == lost,
             "{text}"
@@ -172,8 +193,8 @@ fn check_slots<B: Board>(rt: &impl Abort, alloc: Global) {
 
 #[test]
 fn slots_lose_one_at_most(rt: HostRuntime) {
-    check_slots::<Ten>(&rt, rt.alloc());
-    check_slots::<Eight>(&rt, rt.alloc());
+    check_slots::<Ten>(&rt, rt.alloc(), &KINGS);
+    check_slots::<Eight>(&rt, rt.alloc(), &KINGS);
 }
 
 // A note that finds no memory answers so, loses its own entry alone, and a later one may be kept. With ample memory

@@ -15,7 +15,7 @@ use dw_solve::laws;
 use dw_solve::solver::Solver;
 use dw_solve::stop::Stop;
 use dw_solve::trial::trial;
-use dw_tests_common::small_positions::{EIGHT_WINS, TEN_WINS};
+use dw_tests_common::small_positions::{Small, eight_rows, ten_rows};
 use std::alloc::Global;
 use std::process::Abort;
 
@@ -71,95 +71,115 @@ fn moves_are_tried(rt: HostRuntime) {
 /// A position, a number of moves, and the answer.
 type Row<T> = (&'static str, u8, T);
 
-/// What is answered to each of the three questions, and for small positions the least number of moves up to 3 within
-/// which the side to move wins, or 0: these stand against bare recursion outside.
+const TEN_WINS: [Row<bool>; 8] = [
+    ("W:W32:B28", 0, false),
+    ("W:W32:B28", 1, true),
+    ("W:W27,45:B16", 1, false),
+    ("W:W27,45:B16", 2, true),
+    ("W:W27:B16", 2, false),
+    ("W:W27,32:B18", 1, false),
+    ("W:W27,32:B18", 2, true),
+    ("W:W:B20", 20, false),
+];
+
+const TEN_LOSES: [Row<bool>; 8] = [
+    ("W:W:B20", 0, true),
+    ("W:W:B20", 20, true),
+    ("W:W32:B28", 0, false),
+    ("W:W32:B28", 1, false),
+    ("B:W27,40:B16", 0, false),
+    ("B:W27,40:B16", 1, true),
+    ("B:W27,40:B16", 2, true),
+    ("B:W21,45:B16", 1, false),
+];
+
+const TEN_LEAST: [Row<Option<u8>>; 6] = [
+    ("W:W32:B28", 0, None),
+    ("W:W32:B28", 20, Some(1)),
+    ("W:W27,45:B16", 1, None),
+    ("W:W27,45:B16", 20, Some(2)),
+    ("W:W27:B16", 2, None),
+    ("W:W:B20", 20, None),
+];
+
+const EIGHT_WINS: [Row<bool>; 7] = [
+    ("W:W18:B14", 0, false),
+    ("W:W18:B14", 1, true),
+    ("W:W21,29:B13", 1, false),
+    ("W:W21,29:B13", 2, true),
+    ("W:W18,29:B9", 2, false),
+    ("W:W18,29:B9", 3, true),
+    ("W:W:B20", 20, false),
+];
+
+const EIGHT_LOSES: [Row<bool>; 3] = [
+    ("W:W:B20", 0, true),
+    ("W:W:B20", 20, true),
+    ("B:W18:B14", 1, false),
+];
+
+const EIGHT_LEAST: [Row<Option<u8>>; 5] = [
+    ("W:W18:B14", 20, Some(1)),
+    ("W:W21,29:B13", 20, Some(2)),
+    ("W:W18,29:B9", 20, Some(3)),
+    ("W:W18:B9", 2, None),
+    ("W:W:B20", 20, None),
+];
+
+/// What is answered to each of the three questions.
 #[derive(Clone, Copy)]
-struct Answers {
-    wins: &'static [Row<bool>],
-    loses: &'static [Row<bool>],
-    least: &'static [Row<Option<u8>>],
-    table: &'static [(&'static str, u8)],
+struct Answers<'a> {
+    wins: &'a [Row<bool>],
+    loses: &'a [Row<bool>],
+    least: &'a [Row<Option<u8>>],
 }
 
-const TEN: Answers = Answers {
-    wins: &[
-        ("W:W32:B28", 0, false),
-        ("W:W32:B28", 1, true),
-        ("W:W27,45:B16", 1, false),
-        ("W:W27,45:B16", 2, true),
-        ("W:W27:B16", 2, false),
-        ("W:W27,32:B18", 1, false),
-        ("W:W27,32:B18", 2, true),
-        ("W:W:B20", 20, false),
-    ],
-    loses: &[
-        ("W:W:B20", 0, true),
-        ("W:W:B20", 20, true),
-        ("W:W32:B28", 0, false),
-        ("W:W32:B28", 1, false),
-        ("B:W27,40:B16", 0, false),
-        ("B:W27,40:B16", 1, true),
-        ("B:W27,40:B16", 2, true),
-        ("B:W21,45:B16", 1, false),
-    ],
-    least: &[
-        ("W:W32:B28", 0, None),
-        ("W:W32:B28", 20, Some(1)),
-        ("W:W27,45:B16", 1, None),
-        ("W:W27,45:B16", 20, Some(2)),
-        ("W:W27:B16", 2, None),
-        ("W:W:B20", 20, None),
-    ],
-    table: &TEN_WINS,
-};
-
-const EIGHT: Answers = Answers {
-    wins: &[
-        ("W:W18:B14", 0, false),
-        ("W:W18:B14", 1, true),
-        ("W:W21,29:B13", 1, false),
-        ("W:W21,29:B13", 2, true),
-        ("W:W18,29:B9", 2, false),
-        ("W:W18,29:B9", 3, true),
-        ("W:W:B20", 20, false),
-    ],
-    loses: &[
-        ("W:W:B20", 0, true),
-        ("W:W:B20", 20, true),
-        ("B:W18:B14", 1, false),
-    ],
-    least: &[
-        ("W:W18:B14", 20, Some(1)),
-        ("W:W21,29:B13", 20, Some(2)),
-        ("W:W18,29:B9", 20, Some(3)),
-        ("W:W18:B9", 2, None),
-        ("W:W:B20", 20, None),
-    ],
-    table: &EIGHT_WINS,
-};
-
-fn check_answers<B: Board, M: Memo<B>, G: Guide<B>>(
+fn check_wins<B: Board, M: Memo<B>, G: Guide<B>>(
     rt: &impl Abort,
     alloc: Global,
     solver: &mut Solver<B, M, G>,
-    answers: &Answers,
+    rows: &[Row<bool>],
 ) {
-    for (text, moves, wanted) in answers.wins {
+    for (text, moves, wanted) in rows {
         assert!(rt; *moves <= 20);
         let answer = solver.wins(alloc, &position_of(rt, text), *moves);
         assert!(rt; answer == Ok(*wanted), "{text} wins within {moves}");
     }
-    for (text, moves, wanted) in answers.loses {
+}
+
+fn check_loses<B: Board, M: Memo<B>, G: Guide<B>>(
+    rt: &impl Abort,
+    alloc: Global,
+    solver: &mut Solver<B, M, G>,
+    rows: &[Row<bool>],
+) {
+    for (text, moves, wanted) in rows {
         assert!(rt; *moves <= 20);
         let answer = solver.loses(alloc, &position_of(rt, text), *moves);
         assert!(rt; answer == Ok(*wanted), "{text} loses within {moves}");
     }
-    for (text, most, wanted) in answers.least {
+}
+
+fn check_least<B: Board, M: Memo<B>, G: Guide<B>>(
+    rt: &impl Abort,
+    alloc: Global,
+    solver: &mut Solver<B, M, G>,
+    rows: &[Row<Option<u8>>],
+) {
+    for (text, most, wanted) in rows {
         assert!(rt; *most <= 20);
         let answer = solver.least(alloc, &position_of(rt, text), *most);
         assert!(rt; answer == Ok(*wanted), "{text} least up to {most}");
     }
-    for (text, least) in answers.table {
+}
+
+fn check_small<B: Board, M: Memo<B>, G: Guide<B>>(
+    rt: &impl Abort,
+    alloc: Global,
+    solver: &mut Solver<B, M, G>,
+    tables: &[&[Small]],
+) {
+    for (text, least) in tables.iter().copied().flatten() {
         for moves in 1..4 {
             let answer = solver.wins(alloc, &position_of(rt, text), moves);
             let wanted = 1 <= *least && *least <= moves;
@@ -168,46 +188,74 @@ fn check_answers<B: Board, M: Memo<B>, G: Guide<B>>(
     }
 }
 
+fn check_answers<B: Board, M: Memo<B>, G: Guide<B>>(
+    rt: &impl Abort,
+    alloc: Global,
+    solver: &mut Solver<B, M, G>,
+    answers: &Answers<'_>,
+    tables: &[&[Small]],
+) {
+    check_wins(rt, alloc, solver, answers.wins);
+    check_loses(rt, alloc, solver, answers.loses);
+    check_least(rt, alloc, solver, answers.least);
+    check_small(rt, alloc, solver, tables);
+}
+
 // The small positions are asked about where a cache holds nothing or much.
 fn check_memos<B: Board, G: Guide<B> + Copy>(
     rt: &impl Abort,
     alloc: Global,
     guide: G,
-    answers: &Answers,
+    answers: &Answers<'_>,
+    tables: &[&[Small]],
 ) {
-    let few = Answers {
-        table: &[],
-        ..*answers
-    };
     let mut solver = Solver::<B, NoMemo, G>::new(NoMemo::new(), guide, 1_000_000_000);
-    check_answers(rt, alloc, &mut solver, answers);
+    check_answers(rt, alloc, &mut solver, answers, tables);
     for size in [1, 2, 1_000] {
-        let asked = if size < 1_000 { &few } else { answers };
+        let asked = if size < 1_000 { &tables[..0] } else { tables };
         let recent = LruMemo::new(alloc, size).expect(rt, "memory");
         let mut solver = Solver::<B, LruMemo<B>, G>::new(recent, guide, 1_000_000_000);
-        check_answers(rt, alloc, &mut solver, asked);
+        check_answers(rt, alloc, &mut solver, answers, asked);
         let slots = SlotMemo::new(alloc, size).expect(rt, "memory");
         let mut solver = Solver::<B, SlotMemo<B>, G>::new(slots, guide, 1_000_000_000);
-        check_answers(rt, alloc, &mut solver, asked);
+        check_answers(rt, alloc, &mut solver, answers, asked);
     }
+}
+
+fn check_ten<G: Guide<Ten> + Copy>(rt: &impl Abort, alloc: Global, guide: G) {
+    let answers = Answers {
+        wins: &TEN_WINS,
+        loses: &TEN_LOSES,
+        least: &TEN_LEAST,
+    };
+    check_memos::<Ten, G>(rt, alloc, guide, &answers, &ten_rows());
+}
+
+fn check_eight<G: Guide<Eight> + Copy>(rt: &impl Abort, alloc: Global, guide: G) {
+    let answers = Answers {
+        wins: &EIGHT_WINS,
+        loses: &EIGHT_LOSES,
+        least: &EIGHT_LEAST,
+    };
+    check_memos::<Eight, G>(rt, alloc, guide, &answers, &eight_rows());
 }
 
 #[test]
 fn answers_in_any_order(rt: HostRuntime) {
-    check_memos::<Ten, AnyOrder>(&rt, rt.alloc(), AnyOrder, &TEN);
-    check_memos::<Eight, AnyOrder>(&rt, rt.alloc(), AnyOrder, &EIGHT);
+    check_ten(&rt, rt.alloc(), AnyOrder);
+    check_eight(&rt, rt.alloc(), AnyOrder);
 }
 
 #[test]
 fn answers_by_end(rt: HostRuntime) {
-    check_memos::<Ten, ByEnd>(&rt, rt.alloc(), ByEnd, &TEN);
-    check_memos::<Eight, ByEnd>(&rt, rt.alloc(), ByEnd, &EIGHT);
+    check_ten(&rt, rt.alloc(), ByEnd);
+    check_eight(&rt, rt.alloc(), ByEnd);
 }
 
 #[test]
 fn answers_by_trial(rt: HostRuntime) {
-    check_memos::<Ten, ByTrial>(&rt, rt.alloc(), ByTrial, &TEN);
-    check_memos::<Eight, ByTrial>(&rt, rt.alloc(), ByTrial, &EIGHT);
+    check_ten(&rt, rt.alloc(), ByTrial);
+    check_eight(&rt, rt.alloc(), ByTrial);
 }
 
 /// A position, a number of moves, 1 to 20, and whether the side to move wins within it and within one less.
