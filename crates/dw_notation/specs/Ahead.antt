@@ -1,8 +1,7 @@
 -- What is ahead in a text that is read piece by piece.
 use Rattle.std.specs.Prelude.{ℕ, ◌==◌, if◌then◌else◌, List, [], ◌∷◌, ◌++◌, Bool, true, false, option_to_list}
 use Rattle.dw_board.specs.Geometry.{Geometry}
-use Rattle.dw_notation.specs.Lines.{without_mark}
-use Rattle.dw_notation.specs.Found.{Found, line_found}
+use Rattle.dw_notation.specs.Lines.{without_mark, Found, line_found}
 use Rattle.dw_notation.specs.declared.problems.mark.Front.{Front}
 use Rattle.dw_notation.specs.declared.problems.mark.Front.TheVariants.{Bare, One, Two, Behind}
 

@@ -1,6 +1,7 @@
 -- The texts of moves and of lines.
-use Rattle.std.specs.Prelude.{◌≡◌, ℕ, ◌+◌, ◌/◌, ◌%◌, ◌==◌, ◌&&◌, nat_lt, if◌then◌else◌, Bool, List, [], ◌∷◌, ◌++◌, map, count_by, codes, decimal}
-use Rattle.std.specs.List.{join_with_byte}
+use Rattle.std.specs.Prelude.{◌≡◌, ℕ, ◌+◌, ◌/◌, ◌%◌, ◌==◌, ◌&&◌, nat_lt, if◌then◌else◌, Bool, List, [], ◌∷◌, ◌++◌, map}
+use Rattle.std.specs.Prelude.{count_by, codes, decimal}
+use Rattle.std.specs.List.{join_with_byte, join_by}
 use Rattle.std.specs.FinSet as set
 use Rattle.dw_board.specs.Geometry.{Geometry}
 use Rattle.dw_board.specs.Placement.{Placement}
@@ -58,3 +59,14 @@ AreWords g p ply (m ∷ moves) words = (text : List ℕ) × (rest : List (List �
 -- the text of a line: its words with blanks between them, as in 1. 45-40 16-21 2. 27x16
 abbrev pub IsLineText : Geometry → Placement → List Move → List ℕ → Type 0
 IsLineText g p moves text = (words : List (List ℕ)) × AreWords g p 0 moves words × (text ≡ join_with_byte 32 words)
+
+-- the text of each move
+abbrev pub AreMoveTexts : Geometry → Placement → List Move → List (List ℕ) → Type 0
+AreMoveTexts g p [] texts = texts ≡ []
+AreMoveTexts g p (m ∷ moves) texts = (text : List ℕ) × (rest : List (List ℕ)) × IsMoveText g p m text
+    × AreMoveTexts g p moves rest × (texts ≡ text ∷ rest)
+
+-- the texts of moves with a mark between them
+abbrev pub AreJoined : Geometry → Placement → List ℕ → List Move → List ℕ → Type 0
+AreJoined g p mark moves joined =
+    (texts : List (List ℕ)) × AreMoveTexts g p moves texts × (joined ≡ join_by (λ text. text) mark texts)

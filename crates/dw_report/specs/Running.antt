@@ -5,19 +5,17 @@ use Rattle.std.specs.Io.KnownBytes.{Consumes, Appends, IsAtEnd}
 use Rattle.dw_board.specs.Geometry.{Geometry}
 use Rattle.dw_board.specs.Placement.{Placement}
 use Rattle.dw_moves.specs.Moves.{Move}
-use Rattle.dw_notation.specs.Found.{Found}
+use Rattle.dw_notation.specs.Lines.{Found}
 use Rattle.dw_notation.specs.Problems.{Numbered, problems_of, ended_problems_of}
-use Rattle.dw_notation.specs.Writes.{IsBeginning}
+use Rattle.dw_notation.specs.Writes.{IsBeginning, Writes, WritesShort}
 use Rattle.dw_notation.specs.declared.problems.TheConstants.{MAX_PROBLEMS}
 use Rattle.dw_solve.specs.Searching.{IsCounted}
 use Rattle.dw_solve.specs.Solving.{Solving}
 use Rattle.dw_solve.specs.declared.stop.Stop.{Stop}
 use Rattle.dw_solve.specs.declared.stop.Stop.TheVariants.{Memory, Limit}
 use Rattle.dw_list.specs.Lines.{Line}
-use Rattle.dw_report.specs.Chosen.{number_is_asked}
-use Rattle.dw_report.specs.Request.{Request}
+use Rattle.dw_report.specs.Request.{number_is_asked, Request}
 use Rattle.dw_report.specs.Report.{IsReport, IsReportOn, IsFurther, AreTexts, first_line, chosen}
-use Rattle.dw_report.specs.Writing.{Writes, WritesShort}
 use Rattle.dw_report.specs.declared.settings.Summary.{Summary}
 use Rattle.dw_report.specs.declared.settings.RunFault.{RunFault}
 use Rattle.dw_report.specs.declared.settings.RunFault.TheVariants as ends
