@@ -18,6 +18,12 @@ without_mark (a ∷ []) = a ∷ []
 without_mark (a ∷ b ∷ []) = a ∷ b ∷ []
 without_mark (a ∷ b ∷ c ∷ bytes) = if (a == 0xEF) && (b == 0xBB) && (c == 0xBF) then bytes else a ∷ b ∷ c ∷ bytes
 
+abbrev pub line_feed : ℕ
+line_feed = 10
+
+abbrev pub carriage_return : ℕ
+carriage_return = 13
+
 -- a byte goes onto the front of the first line
 abbrev pub onto_line : ℕ → List (List ℕ) → List (List ℕ)
 onto_line byte [] = (byte ∷ []) ∷ []
@@ -31,21 +37,23 @@ onto_whole_line byte (line ∷ lines) = (byte ∷ line) ∷ lines
 -- the text cut at line feeds: the last line needs none, and nothing behind the last line feed is no line
 abbrev pub lines_of : List ℕ → List (List ℕ)
 lines_of [] = []
-lines_of (byte ∷ bytes) = if byte == 10 then [] ∷ lines_of bytes else onto_line byte (lines_of bytes)
+lines_of (byte ∷ bytes) = if byte == line_feed then [] ∷ lines_of bytes else onto_line byte (lines_of bytes)
 
 -- the lines that a line feed ends
 abbrev pub whole_lines_of : List ℕ → List (List ℕ)
 whole_lines_of [] = []
-whole_lines_of (byte ∷ bytes) = if byte == 10 then [] ∷ whole_lines_of bytes else onto_whole_line byte (whole_lines_of bytes)
+whole_lines_of (byte ∷ bytes) =
+    if byte == line_feed then [] ∷ whole_lines_of bytes else onto_whole_line byte (whole_lines_of bytes)
 
 -- the line without one carriage return at its end
 abbrev pub without_return : List ℕ → List ℕ
-without_return line = if slice_index line (length line - 1) == 13 then take (length line - 1) line else line
+without_return line =
+    if slice_index line (length line - 1) == carriage_return then take (length line - 1) line else line
 
 -- no line feed is among them
 abbrev pub NoLineFeed : List ℕ → Type 0
 NoLineFeed [] = Unit {0}
-NoLineFeed (byte ∷ bytes) = ((byte == 10) ≡ false) × NoLineFeed bytes
+NoLineFeed (byte ∷ bytes) = ((byte == line_feed) ≡ false) × NoLineFeed bytes
 
 -- a position, or why there is none
 abbrev pub Found : Type 0

@@ -6,7 +6,7 @@ use Rattle.std.specs.Char.{to_ascii_lowercase, is_ascii_digit, is_ascii_alphanum
 use Rattle.dw_board.specs.Geometry.{Geometry}
 use Rattle.dw_board.specs.Fen.{fen}
 use Rattle.dw_board.specs.FenTokens.{is_blank}
-use Rattle.dw_notation.specs.Lines.{Found, fen_found}
+use Rattle.dw_notation.specs.Lines.{line_feed, carriage_return, Found, fen_found}
 use Rattle.dw_notation.specs.declared.problems.TheConstants.{MAX_SECTION}
 use Rattle.dw_notation.specs.declared.problems.ProblemFault.TheVariants.{NoFen, TwoFens, WrongGame, SectionTooLong}
 use Rattle.dw_notation.specs.declared.problems.ProblemFault.TheVariants.{UnclosedTag, UnclosedComment}
@@ -20,13 +20,35 @@ use Rattle.dw_notation.specs.declared.problems.section.Kind.{Kind}
 use Rattle.dw_notation.specs.declared.problems.section.Kind.TheVariants.{FenTag, GameTag, OtherTag}
 use Rattle.dw_notation.specs.declared.problems.place.Step.{Step}
 
+-- the bytes with a meaning in such a text
+abbrev pub open_bracket : ℕ
+open_bracket = 91
+
+abbrev pub close_bracket : ℕ
+close_bracket = 93
+
+abbrev pub open_brace : ℕ
+open_brace = 123
+
+abbrev pub close_brace : ℕ
+close_brace = 125
+
+abbrev pub quotation_mark : ℕ
+quotation_mark = 34
+
+abbrev pub back_slash : ℕ
+back_slash = 92
+
+abbrev pub underscore : ℕ
+underscore = 95
+
 -- an ASCII letter, a digit or an underscore
 abbrev pub is_name_byte : ℕ → Bool
-is_name_byte byte = is_ascii_alphanumeric byte || (byte == 95)
+is_name_byte byte = is_ascii_alphanumeric byte || (byte == underscore)
 
 -- a line feed or a carriage return
 abbrev pub ends_line : ℕ → Bool
-ends_line byte = (byte == 10) || (byte == 13)
+ends_line byte = (byte == line_feed) || (byte == carriage_return)
 
 abbrev pub at : Place → Deed → Step
 at place deed = record { place = place; deed = deed }
@@ -37,19 +59,32 @@ broken_by byte = if ends_line byte then at Between EndLine else at Rest Break
 
 -- where a byte leads, and what it does
 abbrev pub step : Place → ℕ → Step
-step Outside byte = if byte == 91 then at BeforeName Open else (if byte == 123 then at Comment Keep else at Outside Keep)
-step Comment byte = if byte == 125 then at Outside Keep else at Comment Keep
+step Outside byte =
+    if byte == open_bracket then at BeforeName Open
+    else (if byte == open_brace then at Comment Keep else at Outside Keep)
+step Comment byte = if byte == close_brace then at Outside Keep else at Comment Keep
 step Between byte =
-    if byte == 91 then at BeforeName NextTag else (if is_blank byte || ends_line byte then at Between Count else (if byte == 123 then at Comment End else at Outside End))
+    if byte == open_bracket then at BeforeName NextTag
+    else (if is_blank byte || ends_line byte then at Between Count
+    else (if byte == open_brace then at Comment End else at Outside End))
 step BeforeName byte = if is_blank byte then at BeforeName Count else (if is_name_byte byte then at InName (AddName byte) else broken_by byte)
 step InName byte =
-    if is_name_byte byte then at InName (AddName byte) else (if is_blank byte then at BehindName Count else (if byte == 34 then at InValue OpenValue else broken_by byte))
-step BehindName byte = if is_blank byte then at BehindName Count else (if byte == 34 then at InValue OpenValue else broken_by byte)
+    if is_name_byte byte then at InName (AddName byte)
+    else (if is_blank byte then at BehindName Count
+    else (if byte == quotation_mark then at InValue OpenValue else broken_by byte))
+step BehindName byte =
+    if is_blank byte then at BehindName Count
+    else (if byte == quotation_mark then at InValue OpenValue else broken_by byte)
 step InValue byte =
-    if byte == 34 then at BehindValue Count else (if byte == 92 then at Escaped Count else (if ends_line byte then at Between EndLine else at InValue (AddValue byte)))
+    if byte == quotation_mark then at BehindValue Count
+    else (if byte == back_slash then at Escaped Count
+    else (if ends_line byte then at Between EndLine else at InValue (AddValue byte)))
 step Escaped byte =
-    if (byte == 34) || (byte == 92) then at InValue (AddValue byte) else (if ends_line byte then at Between EndLine else at InValue (AddBoth byte))
-step BehindValue byte = if is_blank byte then at BehindValue Count else (if byte == 93 then at Between Close else broken_by byte)
+    if (byte == quotation_mark) || (byte == back_slash) then at InValue (AddValue byte)
+    else (if ends_line byte then at Between EndLine else at InValue (AddBoth byte))
+step BehindValue byte =
+    if is_blank byte then at BehindValue Count
+    else (if byte == close_bracket then at Between Close else broken_by byte)
 step Rest byte = if ends_line byte then at Between EndLine else at Rest Count
 
 -- two names, without regard to the case of their letters
@@ -104,7 +139,7 @@ after Count s = record s { read = s.read + 1 }
 after (AddName byte) s = record s { read = s.read + 1; name = s.name ++ byte ∷ [] }
 after OpenValue s = record s { read = s.read + 1; kind = kind_of s.name; value = [] }
 after (AddValue byte) s = record s { read = s.read + 1; value = s.value ++ byte ∷ [] }
-after (AddBoth byte) s = record s { read = s.read + 1; value = (s.value ++ 92 ∷ []) ++ byte ∷ [] }
+after (AddBoth byte) s = record s { read = s.read + 1; value = (s.value ++ back_slash ∷ []) ++ byte ∷ [] }
 after Close s = with_tag s.kind (record s { read = s.read + 1; size = s.read + 1 })
 after Break s = record s { read = s.read + 1; is_unclosed = true }
 after EndLine s = record s { read = s.read + 1; size = s.read; is_unclosed = true }

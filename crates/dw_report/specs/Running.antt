@@ -5,7 +5,7 @@ use Rattle.std.specs.Io.KnownBytes.{Consumes, Appends, IsAtEnd}
 use Rattle.dw_board.specs.Geometry.{Geometry}
 use Rattle.dw_board.specs.Placement.{Placement}
 use Rattle.dw_moves.specs.Moves.{Move}
-use Rattle.dw_notation.specs.Lines.{Found}
+use Rattle.dw_notation.specs.Lines.{line_feed, Found}
 use Rattle.dw_notation.specs.Problems.{Numbered, problems_of, ended_problems_of}
 use Rattle.dw_notation.specs.Writes.{IsBeginning, Writes, WritesShort}
 use Rattle.dw_notation.specs.declared.problems.TheConstants.{MAX_PROBLEMS}
@@ -98,7 +98,7 @@ pub record BeginsReport (g : Geometry) (request : Request) (bytes out : List ℕ
 
 -- each line is whole: nothing, or something that ends with a line feed
 abbrev pub AreWholeLines : List ℕ → Type 0
-AreWholeLines lines = (lines ≡ []) ⊎ ((front : List ℕ) × (lines ≡ front ++ 10 ∷ []))
+AreWholeLines lines = (lines ≡ []) ⊎ ((front : List ℕ) × (lines ≡ front ++ line_feed ∷ []))
 
 -- whole lines at the beginning of such a text
 pub record AreLinesOf (P : List ℕ → Type 0) (lines : List ℕ) : Type 0 where
