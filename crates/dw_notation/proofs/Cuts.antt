@@ -3,8 +3,7 @@ use Rattle.std.proofs.Common.{◌≡◌, ℕ, ◌==◌, ◌+◌, ◌-◌, ◌≤
 use Rattle.std.proofs.lemmas.List.{length-take, take-append-drop, drop-take, drop-drop}
 use Rattle.std.specs.List.{slice_range}
 use Rattle.dw_board.specs.Geometry.{Geometry}
-use Rattle.dw_notation.specs.Lines.{NoLineFeed}
-use Rattle.dw_notation.specs.Found.{line_found}
+use Rattle.dw_notation.specs.Lines.{NoLineFeed, line_found}
 use Rattle.dw_notation.specs.Ahead.{found_from}
 use Rattle.dw_notation.specs.Held.{SaysSame}
 use Rattle.dw_notation.specs.Pieces.{pieces_ahead, pieces_behind, pieces_cut}

@@ -1,11 +1,10 @@
 -- What a reader will hand out that has read nothing is the problems of the text.
 use Rattle.std.proofs.Common.{◌≡◌, ℕ, ◌==◌, List, [], ◌∷◌, ◌++◌, Bool, true, false, cond, option_to_list, ◌&&◌, inl, inr, refl, sym, ap, ◌∙◌, append_assoc, append-nil}
 use Rattle.std.proofs.lemmas.Bool.{and_parts, eqb-true, cases_Bool, cond-true, cond-false}
-use Rattle.dw_notation.specs.Lines.{lines_of, whole_lines_of, onto_line, onto_whole_line}
-use Rattle.dw_board.specs.Geometry.{Geometry}
-use Rattle.dw_notation.specs.Found.{line_found, all_found}
-use Rattle.dw_notation.specs.Ahead.{found_from}
+use Rattle.dw_notation.specs.Lines.{lines_of, whole_lines_of, onto_line, onto_whole_line, line_found, all_found}
 use Rattle.dw_notation.specs.Lines.{without_mark}
+use Rattle.dw_board.specs.Geometry.{Geometry}
+use Rattle.dw_notation.specs.Ahead.{found_from}
 use Rattle.dw_notation.specs.Ahead.{behind_mark}
 use Rattle.dw_notation.specs.Held.{held_line}
 use Rattle.dw_notation.specs.Sections.{bare, sections_found}

@@ -2,7 +2,7 @@
 use Rattle.std.proofs.Common.{◌≡◌, ℕ, ◌<◌, inl, inr, List, [], ◌∷◌, ◌++◌, Bool, true, false, Option, Some, None, Ok, Err, refl, sym, ap, ◌∙◌, append_assoc, append-nil, subst, MatchBool}
 use Rattle.std.proofs.KnownBytes.{Consumes-nil, Consumes-trans}
 use Rattle.dw_board.specs.Geometry.{Geometry}
-use Rattle.dw_notation.specs.Found.{Found}
+use Rattle.dw_notation.specs.Lines.{Found}
 use Rattle.dw_notation.specs.Ahead.{found_from, behind_mark}
 use Rattle.dw_notation.specs.Held.{held_line}
 use Rattle.dw_notation.specs.Pieces.{pieces_ahead, pieces_behind}

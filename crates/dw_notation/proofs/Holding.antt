@@ -6,9 +6,10 @@ use Rattle.std.specs.List.{list_any}
 use Rattle.std.specs.Char.{is_ascii_digit}
 use Rattle.dw_board.specs.Geometry.{Geometry}
 use Rattle.dw_board.specs.Fen.{fen}
-use Rattle.dw_notation.specs.Found.{fen_found, is_blank}
-use Rattle.dw_notation.specs.Places.{step}
-use Rattle.dw_notation.specs.Sections.{Section, bare, kind_of, number_on, game_of, with_tag, after, is_wrong, fens_found, section_found, found_by, found_at_end, sections_found}
+use Rattle.dw_board.specs.FenTokens.{is_blank}
+use Rattle.dw_notation.specs.Lines.{fen_found}
+use Rattle.dw_notation.specs.Sections.{step, Section, bare, kind_of, number_on, game_of, with_tag, after, is_wrong}
+use Rattle.dw_notation.specs.Sections.{fens_found, section_found, found_by, found_at_end, sections_found}
 use Rattle.dw_notation.specs.HeldSection.{Held, held_bare, counted, kept, game_on, number_held, counted_in, value_on, tag_on, held_after, is_wrong_held, fens_held, held_found, held_from}
 use Rattle.dw_notation.specs.declared.problems.place.Place.{Place}
 use Rattle.dw_notation.specs.declared.problems.place.Deed.{Deed}

@@ -5,8 +5,7 @@ use Rattle.std.proofs.lemmas.List.{take-append-drop}
 use Rattle.std.proofs.lemmas.List.Folds.{list_all_more}
 use Rattle.std.specs.List.{list_all}
 use Rattle.dw_board.specs.Geometry.{Geometry}
-use Rattle.dw_notation.specs.Places.{step, at}
-use Rattle.dw_notation.specs.Sections.{found_by}
+use Rattle.dw_notation.specs.Sections.{step, at, found_by}
 use Rattle.dw_notation.specs.HeldSection.{Held, held_after, held_found, held_from}
 use Rattle.dw_notation.specs.Tags.{opens, closes}
 use Rattle.dw_notation.specs.declared.problems.place.Place.{Place}

@@ -3,9 +3,9 @@ use Rattle.std.proofs.Common.{◌≡◌, ℕ, ◌+◌, ◌==◌, inl, inr, List,
 use Rattle.std.proofs.lemmas.Bool.{or_parts, and_parts, not-true}
 use Rattle.std.specs.List.{list_all}
 use Rattle.dw_board.specs.Geometry.{Geometry}
-use Rattle.dw_notation.specs.Found.{Found}
-use Rattle.dw_notation.specs.Places.{step, at}
-use Rattle.dw_notation.specs.Sections.{Section, bare, kind_of, game_of, with_tag, after, section_found, found_by, sections_found}
+use Rattle.dw_notation.specs.Lines.{Found}
+use Rattle.dw_notation.specs.Sections.{step, at, Section, bare, kind_of, game_of, with_tag, after, section_found}
+use Rattle.dw_notation.specs.Sections.{found_by, sections_found}
 use Rattle.dw_notation.specs.Tags.{Tag, IsTag, IsUnclosed, is_space, IsGap, IsSection, with_fen, with_game, fens_of, games_of, tags_found, closes, SectionsAreFound, LastSectionIsFound, CommentsSayNothing, OpenCommentIsFound, OthersSayNothing, OpenCommentGivesNothing, OpenSectionGivesNothing}
 use Rattle.dw_notation.specs.Tags.IsSection.{single, broken, longer, longer_broken}
 use Rattle.dw_notation.specs.declared.problems.place.Place.{Place}

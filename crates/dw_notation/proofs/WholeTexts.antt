@@ -4,9 +4,8 @@ use Rattle.std.proofs.lemmas.Bool.{cases_Bool, and_parts, and_from, not-true, eq
 use Rattle.std.specs.List.{list_all}
 use Rattle.dw_board.specs.Boards.{ten}
 use Rattle.dw_board.specs.Geometry.{Geometry}
-use Rattle.dw_notation.specs.Found.{Found}
-use Rattle.dw_notation.specs.Places.{step, ends_line}
-use Rattle.dw_notation.specs.Sections.{Section, bare, after, section_found, sections_found}
+use Rattle.dw_notation.specs.Lines.{Found}
+use Rattle.dw_notation.specs.Sections.{step, ends_line, Section, bare, after, section_found, sections_found}
 use Rattle.dw_notation.specs.Tags.{Tag, IsTag, IsUnclosed, is_space, IsGap, IsSection, tags_found, outside_found, ends_section, closes}
 use Rattle.dw_notation.specs.Tags.IsSection.{single, broken, longer, longer_broken}
 use Rattle.dw_notation.specs.WholeTexts.{IsOpen, if_over, Says, TextsAreRows}

@@ -1,8 +1,7 @@
 -- What is ahead in a text that is read piece by piece.
 use Rattle.std.specs.Prelude.{ℕ, ◌==◌, if◌then◌else◌, List, [], ◌∷◌, ◌++◌, Bool, true, false, option_to_list}
 use Rattle.dw_board.specs.Geometry.{Geometry}
-use Rattle.dw_notation.specs.Lines.{without_mark}
-use Rattle.dw_notation.specs.Found.{Found, line_found}
+use Rattle.dw_notation.specs.Lines.{line_feed, without_mark, Found, line_found}
 use Rattle.dw_notation.specs.declared.problems.mark.Front.{Front}
 use Rattle.dw_notation.specs.declared.problems.mark.Front.TheVariants.{Bare, One, Two, Behind}
 
@@ -10,7 +9,8 @@ use Rattle.dw_notation.specs.declared.problems.mark.Front.TheVariants.{Bare, One
 abbrev pub found_from : Bool → Geometry → List ℕ → List ℕ → List Found
 found_from at_end g line [] = if at_end then option_to_list (line_found g line) else []
 found_from at_end g line (byte ∷ bytes) =
-    if byte == 10 then option_to_list (line_found g line) ++ found_from at_end g [] bytes else found_from at_end g (line ++ byte ∷ []) bytes
+    if byte == line_feed then option_to_list (line_found g line) ++ found_from at_end g [] bytes
+    else found_from at_end g (line ++ byte ∷ []) bytes
 
 -- the bytes of a byte-order mark that were passed over, where more of it may come
 abbrev pub passed_over : Front → List ℕ

@@ -3,7 +3,7 @@ use Rattle.std.specs.Prelude.{◌≡◌, ℕ, ◌+◌, ◌*◌, ◌<◌, ◌≤�
 use Rattle.std.specs.List.{slice_range}
 use Rattle.std.specs.Io.KnownBytes.{Consumes, IsAtEnd}
 use Rattle.dw_board.specs.Geometry.{Geometry}
-use Rattle.dw_notation.specs.Found.{Found}
+use Rattle.dw_notation.specs.Lines.{Found}
 use Rattle.dw_notation.specs.Pieces.{pieces_ahead, pieces_behind, pieces_cut}
 use Rattle.dw_notation.specs.Problems.{Numbered, numbered, number_from}
 use Rattle.dw_notation.specs.declared.problems.TheConstants.{MAX_PROBLEMS}

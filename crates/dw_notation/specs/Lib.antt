@@ -6,8 +6,6 @@ pub mod TextLaws
 pub mod LineWords
 pub mod LineTexts
 pub mod Lines
-pub mod Found
-pub mod Places
 pub mod Sections
 pub mod Tags
 pub mod WholeTexts

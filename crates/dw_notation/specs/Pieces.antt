@@ -1,7 +1,7 @@
 -- The pieces of a text that are problems, by its form.
 use Rattle.std.specs.Prelude.{ℕ, List, [], Bool, Option}
 use Rattle.dw_board.specs.Geometry.{Geometry}
-use Rattle.dw_notation.specs.Found.{Found, line_found}
+use Rattle.dw_notation.specs.Lines.{Found, line_found}
 use Rattle.dw_notation.specs.Ahead.{found_from, behind_mark}
 use Rattle.dw_notation.specs.Held.{held_line}
 use Rattle.dw_notation.specs.HeldSection.{sections_ahead, sections_cut}

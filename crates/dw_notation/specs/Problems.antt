@@ -1,8 +1,7 @@
 -- The problems of a byte text.
 use Rattle.std.specs.Prelude.{ℕ, ◌==◌, ◌+◌, if◌then◌else◌, List, [], ◌∷◌, true, false, Option, Some, None, Err, nat_lt}
 use Rattle.dw_board.specs.Geometry.{Geometry}
-use Rattle.dw_notation.specs.Lines.{lines_of, whole_lines_of, without_mark}
-use Rattle.dw_notation.specs.Found.{Found, all_found}
+use Rattle.dw_notation.specs.Lines.{lines_of, whole_lines_of, without_mark, Found, all_found}
 use Rattle.dw_notation.specs.Sections.{bare, sections_found}
 use Rattle.dw_notation.specs.declared.problems.place.Place.TheVariants.{Outside}
 use Rattle.dw_notation.specs.declared.problems.TheConstants.{MAX_PROBLEMS}

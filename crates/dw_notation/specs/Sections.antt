@@ -1,19 +1,91 @@
--- The sections of a text of tags, and what they say.
-use Rattle.std.specs.Prelude.{ℕ, ◌==◌, ◌+◌, ◌-◌, ◌*◌, ◌&&◌, if◌then◌else◌, not, List, [], ◌∷◌, ◌++◌, Bool, true, false, Err, nat_lt, codes}
+-- The sections of a text of tags: where such a text stands, what its next byte does, and what sections say.
+use Rattle.std.specs.Prelude.{ℕ, ◌==◌, ◌+◌, ◌-◌, ◌*◌, ◌&&◌, if◌then◌else◌, not, List, [], ◌∷◌, ◌++◌, Bool, true, false}
+use Rattle.std.specs.Prelude.{Err, nat_lt, codes, ◌||◌}
 use Rattle.std.specs.List.{list_any}
-use Rattle.std.specs.Char.{to_ascii_lowercase, is_ascii_digit}
+use Rattle.std.specs.Char.{to_ascii_lowercase, is_ascii_digit, is_ascii_alphanumeric}
 use Rattle.dw_board.specs.Geometry.{Geometry}
 use Rattle.dw_board.specs.Fen.{fen}
-use Rattle.dw_notation.specs.Found.{Found, fen_found, is_blank}
-use Rattle.dw_notation.specs.Places.{step}
+use Rattle.dw_board.specs.FenTokens.{is_blank}
+use Rattle.dw_notation.specs.Lines.{line_feed, carriage_return, Found, fen_found}
 use Rattle.dw_notation.specs.declared.problems.TheConstants.{MAX_SECTION}
-use Rattle.dw_notation.specs.declared.problems.ProblemFault.TheVariants.{NoFen, TwoFens, WrongGame, SectionTooLong, UnclosedTag, UnclosedComment}
+use Rattle.dw_notation.specs.declared.problems.ProblemFault.TheVariants.{NoFen, TwoFens, WrongGame, SectionTooLong}
+use Rattle.dw_notation.specs.declared.problems.ProblemFault.TheVariants.{UnclosedTag, UnclosedComment}
 use Rattle.dw_notation.specs.declared.problems.place.Place.{Place}
-use Rattle.dw_notation.specs.declared.problems.place.Place.TheVariants.{Outside, Comment, Between}
+use Rattle.dw_notation.specs.declared.problems.place.Place.TheVariants.{Outside, Comment, Between, BeforeName, InName}
+use Rattle.dw_notation.specs.declared.problems.place.Place.TheVariants.{BehindName, InValue, Escaped, BehindValue, Rest}
 use Rattle.dw_notation.specs.declared.problems.place.Deed.{Deed}
-use Rattle.dw_notation.specs.declared.problems.place.Deed.TheVariants.{Keep, Open, Count, AddName, OpenValue, AddValue, AddBoth, Close, Break, EndLine, NextTag, End}
+use Rattle.dw_notation.specs.declared.problems.place.Deed.TheVariants.{Keep, Open, Count, AddName, OpenValue, AddValue}
+use Rattle.dw_notation.specs.declared.problems.place.Deed.TheVariants.{AddBoth, Close, Break, EndLine, NextTag, End}
 use Rattle.dw_notation.specs.declared.problems.section.Kind.{Kind}
 use Rattle.dw_notation.specs.declared.problems.section.Kind.TheVariants.{FenTag, GameTag, OtherTag}
+use Rattle.dw_notation.specs.declared.problems.place.Step.{Step}
+
+-- the bytes with a meaning in such a text
+abbrev pub open_bracket : ℕ
+open_bracket = 91
+
+abbrev pub close_bracket : ℕ
+close_bracket = 93
+
+abbrev pub open_brace : ℕ
+open_brace = 123
+
+abbrev pub close_brace : ℕ
+close_brace = 125
+
+abbrev pub quotation_mark : ℕ
+quotation_mark = 34
+
+abbrev pub back_slash : ℕ
+back_slash = 92
+
+abbrev pub underscore : ℕ
+underscore = 95
+
+-- an ASCII letter, a digit or an underscore
+abbrev pub is_name_byte : ℕ → Bool
+is_name_byte byte = is_ascii_alphanumeric byte || (byte == underscore)
+
+-- a line feed or a carriage return
+abbrev pub ends_line : ℕ → Bool
+ends_line byte = (byte == line_feed) || (byte == carriage_return)
+
+abbrev pub at : Place → Deed → Step
+at place deed = record { place = place; deed = deed }
+
+-- a tag that is broken by this byte is unclosed, and reaches to the end of its line
+abbrev pub broken_by : ℕ → Step
+broken_by byte = if ends_line byte then at Between EndLine else at Rest Break
+
+-- where a byte leads, and what it does
+abbrev pub step : Place → ℕ → Step
+step Outside byte =
+    if byte == open_bracket then at BeforeName Open
+    else (if byte == open_brace then at Comment Keep else at Outside Keep)
+step Comment byte = if byte == close_brace then at Outside Keep else at Comment Keep
+step Between byte =
+    if byte == open_bracket then at BeforeName NextTag
+    else (if is_blank byte || ends_line byte then at Between Count
+    else (if byte == open_brace then at Comment End else at Outside End))
+step BeforeName byte = if is_blank byte then at BeforeName Count else (if is_name_byte byte then at InName (AddName byte) else broken_by byte)
+step InName byte =
+    if is_name_byte byte then at InName (AddName byte)
+    else (if is_blank byte then at BehindName Count
+    else (if byte == quotation_mark then at InValue OpenValue else broken_by byte))
+step BehindName byte =
+    if is_blank byte then at BehindName Count
+    else (if byte == quotation_mark then at InValue OpenValue else broken_by byte)
+step InValue byte =
+    if byte == quotation_mark then at BehindValue Count
+    else (if byte == back_slash then at Escaped Count
+    else (if ends_line byte then at Between EndLine else at InValue (AddValue byte)))
+step Escaped byte =
+    if (byte == quotation_mark) || (byte == back_slash) then at InValue (AddValue byte)
+    else (if ends_line byte then at Between EndLine else at InValue (AddBoth byte))
+step BehindValue byte =
+    if is_blank byte then at BehindValue Count
+    else (if byte == close_bracket then at Between Close else broken_by byte)
+step Rest byte = if ends_line byte then at Between EndLine else at Rest Count
 
 -- two names, without regard to the case of their letters
 abbrev pub same_name : List ℕ → List ℕ → Bool
@@ -67,7 +139,7 @@ after Count s = record s { read = s.read + 1 }
 after (AddName byte) s = record s { read = s.read + 1; name = s.name ++ byte ∷ [] }
 after OpenValue s = record s { read = s.read + 1; kind = kind_of s.name; value = [] }
 after (AddValue byte) s = record s { read = s.read + 1; value = s.value ++ byte ∷ [] }
-after (AddBoth byte) s = record s { read = s.read + 1; value = (s.value ++ 92 ∷ []) ++ byte ∷ [] }
+after (AddBoth byte) s = record s { read = s.read + 1; value = (s.value ++ back_slash ∷ []) ++ byte ∷ [] }
 after Close s = with_tag s.kind (record s { read = s.read + 1; size = s.read + 1 })
 after Break s = record s { read = s.read + 1; is_unclosed = true }
 after EndLine s = record s { read = s.read + 1; size = s.read; is_unclosed = true }

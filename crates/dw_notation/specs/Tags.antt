@@ -2,9 +2,10 @@
 use Rattle.std.specs.Prelude.{◌≡◌, ◌⊎◌, ℕ, ◌==◌, ◌<◌, ◌||◌, if◌then◌else◌, not, List, [], ◌∷◌, ◌++◌, length, Bool, true, false, Err, nat_lt}
 use Rattle.std.specs.List.{list_all}
 use Rattle.dw_board.specs.Geometry.{Geometry}
-use Rattle.dw_notation.specs.Found.{Found, is_blank}
-use Rattle.dw_notation.specs.Places.{is_name_byte, ends_line}
-use Rattle.dw_notation.specs.Sections.{kind_of, game_of, is_wrong, fens_found, bare, sections_found}
+use Rattle.dw_board.specs.FenTokens.{is_blank}
+use Rattle.dw_notation.specs.Lines.{Found}
+use Rattle.dw_notation.specs.Sections.{is_name_byte, ends_line, kind_of, game_of, is_wrong, fens_found, bare}
+use Rattle.dw_notation.specs.Sections.{sections_found}
 use Rattle.dw_notation.specs.declared.problems.TheConstants.{MAX_SECTION}
 use Rattle.dw_notation.specs.declared.problems.ProblemFault.TheVariants.{WrongGame, SectionTooLong, UnclosedTag, UnclosedComment}
 use Rattle.dw_notation.specs.declared.problems.place.Place.TheVariants.{Outside}

@@ -1,11 +1,22 @@
 -- The texts of moves and of lines.
-use Rattle.std.specs.Prelude.{◌≡◌, ℕ, ◌+◌, ◌/◌, ◌%◌, ◌==◌, ◌&&◌, nat_lt, if◌then◌else◌, Bool, List, [], ◌∷◌, ◌++◌, map, count_by, codes, decimal}
-use Rattle.std.specs.List.{join_with_byte}
+use Rattle.std.specs.Prelude.{◌≡◌, ℕ, ◌+◌, ◌/◌, ◌%◌, ◌==◌, ◌&&◌, nat_lt, if◌then◌else◌, Bool, List, [], ◌∷◌, ◌++◌, map}
+use Rattle.std.specs.Prelude.{count_by, codes, decimal}
+use Rattle.std.specs.List.{join_with_byte, join_by}
 use Rattle.std.specs.FinSet as set
 use Rattle.dw_board.specs.Geometry.{Geometry}
 use Rattle.dw_board.specs.Placement.{Placement}
 use Rattle.dw_moves.specs.Moves.{Member, Move, Legal, play}
 use Rattle.dw_moves.specs.Order.{Listed, AreListed}
+
+-- the marks between squares, and that between the words of a line
+abbrev pub dash : ℕ
+dash = 45
+
+abbrev pub cross : ℕ
+cross = 120
+
+abbrev pub blank : ℕ
+blank = 32
 
 -- the numbers of squares with a mark between them
 abbrev pub squares_text : ℕ → List ℕ → List ℕ
@@ -25,11 +36,11 @@ shares_ends list m = nat_lt 1 (count_by (has_ends m) list)
 
 -- a capture is written as 32x23; where another of these moves shares its ends, with all squares of its path
 abbrev pub capture_text : List Listed → Listed → List ℕ
-capture_text list l = if shares_ends list l.step then squares_text 120 l.path else ends_text 120 l.step
+capture_text list l = if shares_ends list l.step then squares_text cross l.path else ends_text cross l.step
 
 -- how one of these moves is written: as 32-28 where it takes nothing
 abbrev pub text_among : List Listed → Listed → List ℕ
-text_among list l = if set.len l.step.taken == 0 then ends_text 45 l.step else capture_text list l
+text_among list l = if set.len l.step.taken == 0 then ends_text dash l.step else capture_text list l
 
 -- the text of a legal move: as it is written among all the legal moves
 pub record IsMoveText (g : Geometry) (p : Placement) (m : Move) (text : List ℕ) : Type 0 where
@@ -57,4 +68,15 @@ AreWords g p ply (m ∷ moves) words = (text : List ℕ) × (rest : List (List �
 
 -- the text of a line: its words with blanks between them, as in 1. 45-40 16-21 2. 27x16
 abbrev pub IsLineText : Geometry → Placement → List Move → List ℕ → Type 0
-IsLineText g p moves text = (words : List (List ℕ)) × AreWords g p 0 moves words × (text ≡ join_with_byte 32 words)
+IsLineText g p moves text = (words : List (List ℕ)) × AreWords g p 0 moves words × (text ≡ join_with_byte blank words)
+
+-- the text of each move
+abbrev pub AreMoveTexts : Geometry → Placement → List Move → List (List ℕ) → Type 0
+AreMoveTexts g p [] texts = texts ≡ []
+AreMoveTexts g p (m ∷ moves) texts = (text : List ℕ) × (rest : List (List ℕ)) × IsMoveText g p m text
+    × AreMoveTexts g p moves rest × (texts ≡ text ∷ rest)
+
+-- the texts of moves with a mark between them
+abbrev pub AreJoined : Geometry → Placement → List ℕ → List Move → List ℕ → Type 0
+AreJoined g p mark moves joined =
+    (texts : List (List ℕ)) × AreMoveTexts g p moves texts × (joined ≡ join_by (λ text. text) mark texts)

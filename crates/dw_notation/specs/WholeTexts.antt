@@ -2,7 +2,7 @@
 use Rattle.std.specs.Prelude.{◌≡◌, ◌↔◌, ◌⊎◌, ℕ, if◌then◌else◌, not, List, [], ◌∷◌, ◌++◌, length, Bool, true, false, Err}
 use Rattle.std.specs.List.{list_all}
 use Rattle.dw_board.specs.Geometry.{Geometry}
-use Rattle.dw_notation.specs.Found.{Found}
+use Rattle.dw_notation.specs.Lines.{Found}
 use Rattle.dw_notation.specs.Tags.{Tag, IsGap, IsSection, tags_found, outside_found, ends_section, opens, closes}
 use Rattle.dw_notation.specs.declared.problems.ProblemFault.TheVariants.{UnclosedComment}
 

@@ -5,15 +5,14 @@ use Rattle.std.proofs.lemmas.List.Elements.{filter-append}
 use Rattle.std.proofs.lemmas.List.Folds.{list_any-append}
 use Rattle.std.proofs.lemmas.Bool.{cases_Bool, eqb-true, ne_eqb, true≢false, or_left, or_right}
 use Rattle.dw_board.specs.Geometry.{Geometry}
-use Rattle.dw_notation.specs.Found.{Found}
+use Rattle.dw_notation.specs.Lines.{Found}
 use Rattle.dw_notation.specs.Problems.{Numbered, number_from, problems_of}
 use Rattle.dw_notation.specs.declared.problems.TheConstants.{MAX_PROBLEMS}
 use Rattle.dw_notation.specs.declared.problems.ProblemFault.TheVariants.{TooManyProblems}
 use Rattle.dw_notation.specs.declared.problems.Form.{Form}
-use Rattle.dw_report.specs.Chosen.{number_is_chosen}
+use Rattle.dw_report.specs.Request.{number_is_chosen, Request}
 use Rattle.dw_report.specs.Report.{chosen, AreTexts, IsReportOn}
 use Rattle.dw_report.specs.Running.{is_asked, up_to_asked, AreRefused, IsPartOn}
-use Rattle.dw_report.specs.Request.{Request}
 
 -- problems are numbered one by one, behind so many
 abbrev pub AreNumbered : ℕ → List Numbered → Type 0

@@ -6,9 +6,8 @@ use Rattle.std.proofs.lemmas.Grind.{flat_map-append}
 use Rattle.dw_board.specs.Geometry.{Geometry}
 use Rattle.dw_board.specs.Placement.{Placement}
 use Rattle.dw_moves.specs.Moves.{Member, Move, Legal, play}
-use Rattle.dw_notation.specs.Text.{IsMoveText, ArePlayable}
+use Rattle.dw_notation.specs.Text.{IsMoveText, ArePlayable, AreMoveTexts, AreJoined}
 use Rattle.dw_report.specs.Verdict.{reach}
-use Rattle.dw_report.specs.MoveTexts.{AreMoveTexts, AreJoined}
 
 -- the position after the first so many of some moves
 pub record Reaches (g : Geometry) (p : Placement) (moves : List Move) (i : ℕ) (current : Placement) : Type 0 where

@@ -4,12 +4,11 @@ use Rattle.std.specs.List.{join_by}
 use Rattle.dw_board.specs.Geometry.{Geometry, IsBoard}
 use Rattle.dw_board.specs.Placement.{Placement}
 use Rattle.dw_moves.specs.Moves.{Member, Move, Legal, play}
-use Rattle.dw_notation.specs.Text.{ArePlayable}
+use Rattle.dw_notation.specs.Text.{ArePlayable, AreMoveTexts, AreJoined}
 use Rattle.dw_notation.specs.TextLaws.{MovesHaveTexts, LinesHaveTexts}
 use Rattle.dw_list.specs.Lines.{Line}
 use Rattle.dw_report.specs.Verdict.{IsWinning, Keys, reach, Verdict, unsolvable, cooked, dual, sound, IsVerdict, IsTry}
 use Rattle.dw_report.specs.VerdictLaws.{OneVerdict, TriesAreListed}
-use Rattle.dw_report.specs.MoveTexts.{AreMoveTexts, AreJoined}
 use Rattle.dw_report.specs.JudgedText.{next_number, IsVerdictText, IsVerdictLine, IsTryLine, AreTryLines, AreTriesListed, IsJudgedText}
 
 -- the texts of legal moves

@@ -5,10 +5,10 @@ use Rattle.std.proofs.KnownBytes.{Appends-trans, Appends-nil}
 use Rattle.dw_board.specs.Geometry.{Geometry, IsBoard}
 use Rattle.dw_board.specs.Placement.{Placement}
 use Rattle.dw_notation.specs.TextLaws.{MovesHaveTexts, LinesHaveTexts}
+use Rattle.dw_notation.specs.Writes.{Writes}
 use Rattle.dw_report.specs.Verdict.{Verdict, unsolvable, cooked, dual, sound}
 use Rattle.dw_report.specs.VerdictLaws.{OneVerdict, TriesAreListed}
 use Rattle.dw_report.specs.JudgedText.{next_number, IsVerdictText, IsVerdictLine, AreTriesListed, IsJudgedText}
-use Rattle.dw_report.specs.Writing.{Writes}
 use Rattle.dw_report.specs.Running.{AreLinesOf, TextEnds}
 use Rattle.dw_report.specs.declared.problem.TextFault.{TextFault}
 use Rattle.dw_report.specs.declared.problem.TextFault.TheVariants.{Stopped, Sink}

@@ -8,7 +8,7 @@ use Rattle.dw_moves.specs.Moves.{Member, Move, play}
 use Rattle.dw_moves.specs.MemberLaws.{mem_left, mem_right}
 use Rattle.dw_notation.specs.Text.{IsLineText, ArePlayable}
 use Rattle.dw_notation.specs.TextLaws.{LinesHaveTexts}
-use Rattle.dw_notation.specs.Writes.{StopsShort}
+use Rattle.dw_notation.specs.Writes.{StopsShort, Writes, WritesShort}
 use Rattle.dw_list.specs.Lines.{Line, Lines, After}
 use Rattle.dw_list.specs.Standing.{Standing, AreToCome}
 use Rattle.dw_list.specs.Walking.{Gives, GivesFirst, GivesNone, GivesNext, BeginsAs}
@@ -19,7 +19,6 @@ use Rattle.dw_report.specs.Rows.{IsRow, IsNothing}
 use Rattle.dw_report.specs.Running.{AreLinesOf, AreWholeLines, TextEnds, IsNoLine}
 use Rattle.dw_report.proofs.JudgedTexts.{line_playable}
 use Rattle.dw_report.proofs.Writings.{stops_within, at_stop, at_sink, fault_stays}
-use Rattle.dw_report.specs.Writing.{Writes, WritesShort}
 use Rattle.dw_report.specs.declared.problem.TextFault.{TextFault}
 use Rattle.dw_report.specs.declared.problem.TextFault.TheVariants.{Stopped, Sink}
 

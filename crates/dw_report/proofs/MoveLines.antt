@@ -12,9 +12,8 @@ use Rattle.dw_moves.specs.Moves.{Member, Legal, IsBest, play}
 use Rattle.dw_moves.specs.Order.{Listed, AreListed}
 use Rattle.dw_board.specs.FenText.{written}
 use Rattle.dw_notation.specs.Text.{text_among}
-use Rattle.dw_notation.specs.Writes.{StopsShort}
+use Rattle.dw_notation.specs.Writes.{StopsShort, Writes, WritesShort}
 use Rattle.dw_report.specs.Report.{move_line, count_line, IsMovesText}
-use Rattle.dw_report.specs.Writing.{Writes, WritesShort}
 use Rattle.dw_report.proofs.Writings.{stops_within}
 
 -- a move that stands for none

@@ -10,13 +10,12 @@ use Rattle.dw_notation.specs.Cutting.{problems_from, to_come, ended, EndIsTrue, 
 use Rattle.dw_notation.specs.declared.problems.Form.{Form}
 use Rattle.dw_notation.specs.declared.problems.cutter.Cutter.{Cutter}
 use Rattle.dw_notation.specs.declared.problems.TheConstants.{MAX_PROBLEMS}
-use Rattle.dw_report.specs.Chosen.{number_is_chosen}
+use Rattle.dw_notation.specs.Writes.{Writes, WritesShort}
+use Rattle.dw_report.specs.Request.{number_is_chosen, Request}
 use Rattle.dw_report.specs.Report.{AreTexts, IsReportOn, chosen}
 use Rattle.dw_report.specs.Running.{RunEnds, TextEnds, IsPartOn, CountsOne, IsRefused, AreRefused, ended_by, is_asked, up_to_asked}
-use Rattle.dw_report.specs.Writing.{Writes, WritesShort}
 use Rattle.dw_report.specs.declared.problem.TextFault.{TextFault}
 use Rattle.dw_solve.specs.declared.stop.Stop.{Stop}
-use Rattle.dw_report.specs.Request.{Request}
 use Rattle.dw_report.specs.declared.settings.Summary.{Summary}
 use Rattle.dw_report.specs.declared.settings.RunFault.TheVariants.{Stopped, Read, Write}
 use Rattle.dw_report.proofs.ChosenLemmas.{AreNumbered, problems_of-AreNumbered, up_to_asked-none, up_to_asked-here, chosen-through, any-push, any-here, report_on-append, part_on-behind, refused-push, length-chosen-push}

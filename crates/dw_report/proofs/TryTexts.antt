@@ -10,14 +10,13 @@ use Rattle.dw_moves.specs.Order.{Precedes, IsAscending, IsListOf}
 use Rattle.dw_moves.specs.MemberLaws.{mem_right}
 use Rattle.dw_moves.specs.Laws.{MovesInOrder, MovesHaveKeys}
 use Rattle.dw_notation.specs.TextLaws.{MovesHaveTexts}
-use Rattle.dw_notation.specs.Writes.{StopsShort}
+use Rattle.dw_notation.specs.Writes.{StopsShort, Writes, WritesShort}
 use Rattle.dw_solve.specs.declared.stop.Stop.{Stop}
 use Rattle.dw_solve.specs.Laws.{WinsAreDecided}
 use Rattle.dw_list.specs.ListingLaws.{at_item}
 use Rattle.dw_report.specs.Verdict.{IsRefutation}
 use Rattle.dw_report.specs.Judging.{FindsRefutation}
 use Rattle.dw_report.specs.JudgedText.{IsTryLine, AreTryLines, AreTriesListed, IsTryText}
-use Rattle.dw_report.specs.Writing.{Writes, WritesShort}
 use Rattle.dw_report.specs.Running.{AreWholeLines, AreLinesOf, TextEnds}
 use Rattle.dw_report.specs.declared.problem.TextFault.{TextFault}
 use Rattle.dw_report.specs.declared.problem.TextFault.TheVariants.{Stopped, Sink}

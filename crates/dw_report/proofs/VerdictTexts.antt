@@ -3,9 +3,8 @@ use Rattle.std.proofs.Common.{◌≡◌, ℕ, ◌+◌, ◌-◌, ◌/◌, List, [
 use Rattle.dw_board.specs.Geometry.{Geometry}
 use Rattle.dw_board.specs.Placement.{Placement}
 use Rattle.dw_moves.specs.Moves.{Member, Move, Legal, play}
-use Rattle.dw_notation.specs.Text.{IsMoveText, IsLineText, ArePlayable}
+use Rattle.dw_notation.specs.Text.{IsMoveText, IsLineText, ArePlayable, AreJoined}
 use Rattle.dw_report.specs.Verdict.{unsolvable, cooked, dual, sound, reach, IsVerdict}
-use Rattle.dw_report.specs.MoveTexts.{AreJoined}
 use Rattle.dw_report.specs.JudgedText.{next_number, IsVerdictText, IsTryLine}
 use Rattle.dw_report.proofs.JudgedTexts.{keys_legal, line_playable, playable_front}
 

@@ -5,13 +5,11 @@ use Rattle.std.proofs.KnownBytes.{Appends-trans, Appends-nil}
 use Rattle.dw_board.specs.Geometry.{Geometry}
 use Rattle.dw_board.specs.Placement.{Placement}
 use Rattle.dw_notation.specs.Problems.{Numbered}
-use Rattle.dw_notation.specs.Writes.{IsBeginning, StopsShort}
-use Rattle.dw_report.specs.Chosen.{number_is_chosen}
+use Rattle.dw_notation.specs.Writes.{IsBeginning, StopsShort, Writes, WritesShort}
+use Rattle.dw_report.specs.Request.{number_is_chosen, Request}
 use Rattle.dw_report.specs.Report.{IsAnswer, IsFurther, IsProblemText, AreTexts, IsReportOn, chosen, first_line}
 use Rattle.dw_report.specs.Running.{TextEnds, AreLinesOf, IsProblemPart, IsPartOn}
-use Rattle.dw_report.specs.Request.{Request}
 use Rattle.dw_solve.specs.declared.stop.Stop.{Stop}
-use Rattle.dw_report.specs.Writing.{Writes, WritesShort}
 use Rattle.dw_report.specs.declared.problem.TextFault.{TextFault}
 use Rattle.dw_report.specs.declared.problem.TextFault.TheVariants.{Stopped, Sink}
 

@@ -3,9 +3,8 @@ use Rattle.std.specs.Prelude.{◌≡◌, ℕ, ◌+◌, ◌-◌, ◌/◌, ◌⊎�
 use Rattle.dw_board.specs.Geometry.{Geometry}
 use Rattle.dw_board.specs.Placement.{Placement}
 use Rattle.dw_moves.specs.Moves.{Move, play}
-use Rattle.dw_notation.specs.Text.{IsMoveText, IsLineText}
+use Rattle.dw_notation.specs.Text.{IsMoveText, IsLineText, AreJoined}
 use Rattle.dw_report.specs.Verdict.{Verdict, unsolvable, cooked, dual, sound, IsVerdict, IsRefutation, Tries, reach}
-use Rattle.dw_report.specs.MoveTexts.{AreJoined}
 
 -- the number of the attacker's next move, behind whole turns
 abbrev pub next_number : List Move → ℕ

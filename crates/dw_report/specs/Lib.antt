@@ -1,13 +1,10 @@
-pub mod Chosen
 pub mod Request
 pub mod Verdict
 pub mod VerdictLaws
 pub mod Judging
-pub mod MoveTexts
 pub mod JudgedText
 pub mod ListedText
 pub mod Rows
 pub mod Report
-pub mod Writing
 pub mod Running
 pub mod Laws

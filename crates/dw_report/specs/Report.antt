@@ -10,14 +10,13 @@ use Rattle.dw_board.specs.declared.fen.fault.FenFaultKind.TheVariants.{Turn, Col
 use Rattle.dw_moves.specs.Moves.{IsBest, play}
 use Rattle.dw_moves.specs.Order.{Listed, AreListed}
 use Rattle.dw_notation.specs.Text.{text_among}
-use Rattle.dw_notation.specs.Found.{Found}
+use Rattle.dw_notation.specs.Lines.{Found}
 use Rattle.dw_notation.specs.Problems.{Numbered, problems_of}
 use Rattle.dw_notation.specs.declared.problems.ProblemFault.{ProblemFault}
 use Rattle.dw_notation.specs.declared.problems.ProblemFault.TheVariants.{Fen, NoFen, TwoFens, WrongGame, LineTooLong, SectionTooLong, UnclosedTag, UnclosedComment, TooManyProblems}
-use Rattle.dw_report.specs.Chosen.{number_is_chosen}
+use Rattle.dw_report.specs.Request.{number_is_chosen, Request}
 use Rattle.dw_report.specs.declared.settings.Command.{Command}
 use Rattle.dw_report.specs.declared.settings.Command.TheVariants.{Show, Moves, Judge, List as Lists}
-use Rattle.dw_report.specs.Request.{Request}
 use Rattle.dw_report.specs.JudgedText.{IsJudgedText}
 use Rattle.dw_report.specs.ListedText.{IsListedText}
 

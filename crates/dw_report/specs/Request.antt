@@ -1,5 +1,5 @@
--- What a report is asked for. No limit, no cache and no order of moves is among it.
-use Rattle.std.specs.Prelude.{ℕ, Option, option_map, List}
+-- What a report is asked for, and so which problems it is on. No limit, no cache and no order of moves is among it.
+use Rattle.std.specs.Prelude.{ℕ, Option, option_map, List, ◌==◌, Bool, true, false, Some, None}
 use Rattle.dw_moves.specs.Moves.{Move}
 use Rattle.dw_notation.specs.declared.problems.Form.{Form}
 use Rattle.dw_report.specs.declared.settings.Command.{Command}
@@ -25,3 +25,13 @@ request_of settings = record {
   lines = settings.lines;
   after = option_map (λ line. line.items) settings.after;
 }
+
+-- all problems are chosen, or the one of a number
+abbrev pub number_is_chosen : Option ℕ → ℕ → Bool
+number_is_chosen None number = true
+number_is_chosen (Some only) number = number == only
+
+-- the one of a number is asked for, or none
+abbrev pub number_is_asked : Option ℕ → ℕ → Bool
+number_is_asked None number = false
+number_is_asked (Some only) number = number == only

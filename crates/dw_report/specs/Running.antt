@@ -5,19 +5,17 @@ use Rattle.std.specs.Io.KnownBytes.{Consumes, Appends, IsAtEnd}
 use Rattle.dw_board.specs.Geometry.{Geometry}
 use Rattle.dw_board.specs.Placement.{Placement}
 use Rattle.dw_moves.specs.Moves.{Move}
-use Rattle.dw_notation.specs.Found.{Found}
+use Rattle.dw_notation.specs.Lines.{line_feed, Found}
 use Rattle.dw_notation.specs.Problems.{Numbered, problems_of, ended_problems_of}
-use Rattle.dw_notation.specs.Writes.{IsBeginning}
+use Rattle.dw_notation.specs.Writes.{IsBeginning, Writes, WritesShort}
 use Rattle.dw_notation.specs.declared.problems.TheConstants.{MAX_PROBLEMS}
 use Rattle.dw_solve.specs.Searching.{IsCounted}
 use Rattle.dw_solve.specs.Solving.{Solving}
 use Rattle.dw_solve.specs.declared.stop.Stop.{Stop}
 use Rattle.dw_solve.specs.declared.stop.Stop.TheVariants.{Memory, Limit}
 use Rattle.dw_list.specs.Lines.{Line}
-use Rattle.dw_report.specs.Chosen.{number_is_asked}
-use Rattle.dw_report.specs.Request.{Request}
+use Rattle.dw_report.specs.Request.{number_is_asked, Request}
 use Rattle.dw_report.specs.Report.{IsReport, IsReportOn, IsFurther, AreTexts, first_line, chosen}
-use Rattle.dw_report.specs.Writing.{Writes, WritesShort}
 use Rattle.dw_report.specs.declared.settings.Summary.{Summary}
 use Rattle.dw_report.specs.declared.settings.RunFault.{RunFault}
 use Rattle.dw_report.specs.declared.settings.RunFault.TheVariants as ends
@@ -100,7 +98,7 @@ pub record BeginsReport (g : Geometry) (request : Request) (bytes out : List ℕ
 
 -- each line is whole: nothing, or something that ends with a line feed
 abbrev pub AreWholeLines : List ℕ → Type 0
-AreWholeLines lines = (lines ≡ []) ⊎ ((front : List ℕ) × (lines ≡ front ++ 10 ∷ []))
+AreWholeLines lines = (lines ≡ []) ⊎ ((front : List ℕ) × (lines ≡ front ++ line_feed ∷ []))
 
 -- whole lines at the beginning of such a text
 pub record AreLinesOf (P : List ℕ → Type 0) (lines : List ℕ) : Type 0 where

@@ -3,10 +3,9 @@ ghost use Rattle.std.specs.Prelude.{◌≡◌, ◌≤◌, [], length, IfOk};
 ghost use Rattle.std.specs.String.{string_bytes};
 ghost use Rattle.dw_moves.specs.Moves.{Member, Legal};
 ghost use Rattle.dw_moves.specs.Moves as of;
-ghost use Rattle.dw_notation.specs.Text.{ArePlayable};
+ghost use Rattle.dw_notation.specs.Text.{ArePlayable, AreJoined};
 ghost use Rattle.dw_report.specs.Verdict.{IsVerdict, reach, cooked, dual};
 ghost use Rattle.dw_report.specs.Judging.{said_by};
-ghost use Rattle.dw_report.specs.MoveTexts.{AreJoined};
 ghost use Rattle.dw_report.specs.JudgedText.{IsVerdictText, IsVerdictLine, IsTryLine, IsTryText, AreTriesListed, IsJudgedText};
 ghost use Rattle.dw_report.specs.Running.{TextEnds, SinkEnds, Spends, AreLinesOf};
 

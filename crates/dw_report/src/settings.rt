@@ -1,6 +1,6 @@
 //! What a run is asked to do, and what it did.
 ghost use Rattle.std.specs.Prelude.{◌≡◌};
-ghost use Rattle.dw_report.specs.Chosen.{number_is_chosen, number_is_asked};
+ghost use Rattle.dw_report.specs.Request.{number_is_chosen, number_is_asked};
 
 use arrayvec::ArrayVec;
 use dw_board::board::Board;

@@ -1,7 +1,8 @@
 //! What is held of a line that was not read to its end.
 ghost use Rattle.std.specs.Prelude.{◌≡◌, ℕ, ◌+◌, ◌<◌, ◌≤◌, List, [], ◌++◌, length};
 ghost use Rattle.std.specs.List.{list_all};
-ghost use Rattle.dw_notation.specs.Found.{line_found, is_blank};
+ghost use Rattle.dw_board.specs.FenTokens.{is_blank};
+ghost use Rattle.dw_notation.specs.Lines.{line_found};
 
 use super::ProblemFault;
 use super::text::{is_blank_byte, is_blank_text, read_line, read_long_text};

@@ -7,7 +7,7 @@
 //! its line. In a value a backslash stands before a quotation mark or a backslash; before any other byte
 //! it stands for itself.
 ghost use Rattle.std.specs.Prelude.{◌≡◌};
-ghost use Rattle.dw_notation.specs.Places.{step, is_name_byte, ends_line, broken_by};
+ghost use Rattle.dw_notation.specs.Sections.{step, is_name_byte, ends_line, broken_by};
 
 use super::text::is_blank_byte;
 

@@ -1,8 +1,7 @@
 //! The search for the end of a line.
 ghost use Rattle.std.specs.Prelude.{◌≡◌, ℕ, ◌+◌, ◌<◌, List, [], ◌∷◌, ◌++◌, Bool, length, take, drop, option_to_list, IfSome, IfNone};
 ghost use Rattle.dw_board.specs.Geometry.{Geometry};
-ghost use Rattle.dw_notation.specs.Lines.{NoLineFeed};
-ghost use Rattle.dw_notation.specs.Found.{line_found};
+ghost use Rattle.dw_notation.specs.Lines.{NoLineFeed, line_found};
 ghost use Rattle.dw_notation.specs.Held.{held_line};
 ghost use Rattle.dw_notation.specs.Ahead.{found_from};
 

@@ -1,8 +1,8 @@
 //! What the text of a line says.
 ghost use Rattle.std.specs.Prelude.{◌≡◌};
 ghost use Rattle.std.specs.List.{list_all};
-ghost use Rattle.dw_notation.specs.Lines.{without_return};
-ghost use Rattle.dw_notation.specs.Found.{line_found, is_blank};
+ghost use Rattle.dw_board.specs.FenTokens.{is_blank};
+ghost use Rattle.dw_notation.specs.Lines.{without_return, line_found};
 ghost use Rattle.dw_notation.specs.Held.{long_text_found};
 
 use super::{MAX_LINE, ProblemFault};
@@ -37,7 +37,7 @@ fn text_of(line: &[u8]) -> &[u8]
 }
 
 /// What a line says, if it is no blank one.
-#[tactic(auto, unfolding(crate::specs::Found::line_found))]
+#[tactic(auto, unfolding(crate::specs::Lines::line_found))]
 pub(super) fn read_line<B: Board>(line: &[u8]) -> Option<Result<Position<B>, ProblemFault>>
     ensures { result ≡ line_found B.geometry line.now }
 {

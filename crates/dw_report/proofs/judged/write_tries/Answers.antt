@@ -2,9 +2,9 @@ use Rattle.std.proofs.Common.{◌≡◌, [], map, refl, sym, ap, ◌∙◌, subs
 use Rattle.std.proofs.lemmas.Result.{err_from_is_err_and}
 use Rattle.dw_moves.specs.Moves.{Legal}
 use Rattle.dw_moves.specs.Order.{Precedes, IsListOf}
+use Rattle.dw_notation.specs.Writes.{Writes}
 use Rattle.dw_report.specs.JudgedText.{IsTryText}
 use Rattle.dw_report.specs.Running.{TextEnds}
-use Rattle.dw_report.specs.Writing.{Writes}
 use Rattle.dw_report.proofs.Gathered.{item_among}
 use Rattle.dw_report.proofs.Spending.{counted_none, counted_then}
 use Rattle.dw_report.proofs.TryTexts.{none_written, at_first, at_next, at_fault, at_end}

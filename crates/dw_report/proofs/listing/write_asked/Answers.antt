@@ -1,10 +1,10 @@
 use Rattle.std.proofs.Common.{◌≡◌, ◌∙◌, sym, ap, subst, arith, Some, None}
 use Rattle.std.specs.Prelude.{option_map}
 use Rattle.std.proofs.lemmas.Result.{err_from_is_err_and}
+use Rattle.dw_notation.specs.Writes.{Writes}
 use Rattle.dw_list.specs.Listing.{stack_of}
 use Rattle.dw_report.specs.ListedText.{IsListedText}
 use Rattle.dw_report.specs.Request.{request_of}
-use Rattle.dw_report.specs.Writing.{Writes}
 use Rattle.dw_report.proofs.LineRows.{EndsListed, listed_all, listed_written, listed_fault, refused_as}
 use Rattle.dw_report.proofs.listing.write_asked.Goals as goal
 

@@ -4,12 +4,11 @@ use Rattle.std.proofs.lemmas.Result.{err_from_is_err_and}
 use Rattle.dw_moves.specs.Moves.{Move}
 use Rattle.dw_notation.specs.LineTexts.{moves_of}
 use Rattle.dw_notation.specs.Text.{ArePlayable}
-use Rattle.dw_notation.specs.Writes.{StopsShort}
+use Rattle.dw_notation.specs.Writes.{StopsShort, Writes}
 use Rattle.dw_list.specs.Listing.{stack_of, kept_of, shared_of, ComesFrom}
 use Rattle.dw_report.specs.ListedText.{IsListing}
 use Rattle.dw_report.specs.Rows.{IsRow, IsNothing}
 use Rattle.dw_report.specs.Running.{AreLinesOf, TextEnds}
-use Rattle.dw_report.specs.Writing.{Writes}
 use Rattle.dw_report.proofs.JudgedTexts.{line_playable}
 use Rattle.dw_report.proofs.LineRows.{line_odd, comes_first, lines_text, no_rows, row_written, given_line, last_line, line_next, none_next, rows_stop, row_ends, more_line, complete_written, complete_short, more_written, more_short}
 use Rattle.dw_report.proofs.Writings.{at_stop, at_sink}

@@ -1,6 +1,6 @@
 use Rattle.std.proofs.Common.{◌≡◌, ◌+◌, ◌&&◌, sym, ap, ◌∙◌, eq-eqb}
 use Rattle.std.proofs.lemmas.Bool.{ne_eqb}
-use Rattle.dw_notation.specs.Found.{is_blank}
+use Rattle.dw_board.specs.FenTokens.{is_blank}
 use Rattle.dw_notation.specs.Held.{long_text_found}
 use Rattle.dw_notation.proofs.Long.{found-return, found-other}
 use Rattle.dw_notation.proofs.problems.line.LongLine.found.Goals as goal
