@@ -1,7 +1,7 @@
 -- How the program ends: the table of its exit statuses.
 use Rattle.std.specs.Prelude.{ℕ, ◌==◌, nat_lt, if◌then◌else◌, Option, Some, None, Ok, Err}
 use Rattle.dw_report.specs.declared.settings.Summary.{Summary}
-use Rattle.dw_report.specs.declared.settings.RunFault.TheVariants.{Stopped, Read, Write}
+use Rattle.dw_report.specs.declared.settings.RunFault.TheVariants.{Stopped, Write}
 use Rattle.dw_solve.specs.declared.stop.Stop.TheVariants.{Memory}
 use Rattle.dw.specs.declared.outcome.Ending.{Ending}
 use Rattle.dw.specs.declared.outcome.Ending.TheVariants as end
@@ -26,12 +26,10 @@ done_of summary only = if nat_lt 0 summary.refused then quiet 1 else asked_outco
 
 abbrev pub outcome_of : {T : Type 0} → Ending T → Option ℕ → Exit T
 outcome_of end.Help only = quiet 0
-outcome_of end.HelpNotWritten only = told 3 say.WriteFailed
+outcome_of end.HelpNotWritten only = told 3 (say.Failed Write)
 outcome_of (end.Words text) only = told 2 (say.Words text)
 outcome_of (end.TokenRefused fault) only = told 1 (say.TokenRefused fault)
-outcome_of end.Memory only = told 3 (say.Stopped Memory 0)
+outcome_of end.Memory only = told 3 (say.Failed (Stopped Memory 0))
 outcome_of (end.NotOpened file) only = told 3 (say.NotOpened file)
-outcome_of (end.Ran (Err (Stopped why expanded))) only = told 3 (say.Stopped why expanded)
-outcome_of (end.Ran (Err Read)) only = told 3 say.ReadFailed
-outcome_of (end.Ran (Err Write)) only = told 3 say.WriteFailed
+outcome_of (end.Ran (Err fault)) only = told 3 (say.Failed fault)
 outcome_of (end.Ran (Ok summary)) only = done_of summary only

@@ -7,6 +7,12 @@ use dw_report::settings::{RunFault, Stop, Summary};
 use std::fmt;
 use std::fmt::{Display, Formatter};
 
+/// The fault if memory was refused before the run.
+const NO_MEMORY: RunFault = RunFault::Stopped {
+    why: Stop::Memory,
+    expanded: 0,
+};
+
 /// How the program ended. `T` is the type of the texts that its line names.
 #[derive(Clone, Copy)]
 pub enum Ending<T> {
@@ -33,12 +39,10 @@ pub enum Message<T> {
     Words(T),
     /// Why the token is none.
     TokenRefused(TokenFault),
-    /// Why the program was stopped, and how many positions it had expanded.
-    Stopped(Stop, u64),
+    /// Why the run ended before its report was whole.
+    Failed(RunFault),
     NotOpened(T),
     NoProblem(u32),
-    ReadFailed,
-    WriteFailed,
 }
 
 impl<T: Display> Display for Message<T> {
@@ -48,13 +52,9 @@ impl<T: Display> Display for Message<T> {
             Message::TokenRefused(fault) => {
                 write!(f, "dw: token refused: {} {fault}\n", number_of(*fault))
             }
-            Message::Stopped(why, expanded) => {
-                write!(f, "dw: stopped: {why}, {expanded} expanded\n")
-            }
+            Message::Failed(fault) => write!(f, "dw: {fault}\n"),
             Message::NotOpened(file) => write!(f, "dw: cannot open {file}\n"),
             Message::NoProblem(number) => write!(f, "dw: no problem {number}\n"),
-            Message::ReadFailed => write!(f, "dw: read failed\n"),
-            Message::WriteFailed => write!(f, "dw: write failed\n"),
         }
     }
 }
@@ -87,16 +87,12 @@ pub fn outcome<T: Copy>(ending: Ending<T>, only: Option<u32>) -> Exit<T>
 {
     match ending {
         Ending::Help => ends(0, None),
-        Ending::HelpNotWritten => ends(3, Some(Message::WriteFailed)),
+        Ending::HelpNotWritten => ends(3, Some(Message::Failed(RunFault::Write))),
         Ending::Words(text) => ends(2, Some(Message::Words(text))),
         Ending::TokenRefused(fault) => ends(1, Some(Message::TokenRefused(fault))),
-        Ending::Memory => ends(3, Some(Message::Stopped(Stop::Memory, 0))),
+        Ending::Memory => ends(3, Some(Message::Failed(NO_MEMORY))),
         Ending::NotOpened(file) => ends(3, Some(Message::NotOpened(file))),
-        Ending::Ran(Err(RunFault::Stopped { why, expanded })) => {
-            ends(3, Some(Message::Stopped(why, expanded)))
-        }
-        Ending::Ran(Err(RunFault::Read)) => ends(3, Some(Message::ReadFailed)),
-        Ending::Ran(Err(RunFault::Write)) => ends(3, Some(Message::WriteFailed)),
+        Ending::Ran(Err(fault)) => ends(3, Some(Message::Failed(fault))),
         Ending::Ran(Ok(summary)) => done(summary, only),
     }
 }

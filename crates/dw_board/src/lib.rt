@@ -1,6 +1,7 @@
 //! Boards, squares and positions of draughts, their FEN texts and their diagrams.
 //!
-//! Everything is generic over the board. No call takes memory.
+//! Everything is generic over the board. No call takes memory. Begin with `Position`, and with `read_fen`, which makes
+//! one from a text.
 #![tactic(auto)]
 
 pub mod board;
@@ -12,3 +13,12 @@ pub mod piece;
 pub mod position;
 pub mod square;
 pub mod squares;
+
+pub use board::{Board, Dir, Eight, Ten};
+pub use fen::fault::{FenFault, FenFaultKind};
+pub use fen::read::{MAX_FEN, read_fen};
+pub use fen::write::{FEN_ROOM, fen_text};
+pub use piece::{Kind, Piece, PutFault, Side};
+pub use position::Position;
+pub use square::{Square, step};
+pub use squares::Squares;

@@ -1,4 +1,6 @@
 //! The lines of a forced win, each once and in order.
+//!
+//! Begin with `Lister`, which gives one line at a time. `all_lines::all_lines` gives all at once; a token names a line.
 #![tactic(auto)]
 
 pub mod all_lines;
@@ -12,3 +14,8 @@ pub mod portions;
 mod stack;
 pub mod tokens;
 mod walk;
+
+pub use fault::AfterFault;
+pub use lister::Lister;
+pub use portions::{Portions, in_portions};
+pub use tokens::{MAX_DIGITS, MAX_MOVES, TokenFault, read_token, write_token};

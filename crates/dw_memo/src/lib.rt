@@ -1,6 +1,7 @@
 //! Caches of what is known of positions: in how many moves the side to move wins, and in how many it doesn't.
 //!
 //! A caller works over the trait `Memo` and uses only its clauses: a cache may lose what was noted, and counts it.
+//! Begin with `Memo` and `Bounds`. `NoMemo`, `LruMemo` and `SlotMemo` are memos.
 #![tactic(auto)]
 
 pub mod bounds;
@@ -8,3 +9,9 @@ pub mod lru_memo;
 pub mod memo;
 pub mod no_memo;
 pub mod slot_memo;
+
+pub use bounds::Bounds;
+pub use lru_memo::LruMemo;
+pub use memo::{Memo, Noted};
+pub use no_memo::NoMemo;
+pub use slot_memo::SlotMemo;

@@ -1,4 +1,6 @@
 //! What a position of international draughts allows: quiet moves, captures, legal moves, and the position after a move.
+//!
+//! Begin with `legal::legal`, which lists the legal moves, and `play::play`. `listed::listed` lists them in order.
 #![tactic(auto)]
 
 pub mod best;
@@ -12,3 +14,11 @@ pub mod listed;
 pub mod moves;
 pub mod play;
 pub mod quiet;
+
+pub use best::has_move;
+pub use kernel::{can_capture, is_loose, loose_step, other_steps};
+pub use legal::{is_legal, legal_into};
+pub use listed::listed_into;
+pub use moves::{Listed, Move};
+pub use play::other;
+pub use quiet::quiet_count;

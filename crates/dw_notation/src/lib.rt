@@ -2,6 +2,9 @@
 //!
 //! Everything is generic over the board. Memory is taken by `text_in`, `line_text` and `LineText`, which list legal
 //! moves, and by `read_move` at two squares joined by `x`.
+//!
+//! Begin with `Problems`, which reads the problems of a `Source`, and with `move_text::move_text`,
+//! `line_text::line_text` and `read_move::read_move`.
 #![tactic(auto)]
 
 pub mod laws;
@@ -11,3 +14,10 @@ pub mod problems;
 pub mod read_move;
 pub mod streams;
 pub mod writes;
+
+pub use line_text::{LINE_ROOM, LineText};
+pub use move_text::{MOVE_ROOM, text_in};
+pub use problems::{Form, Problem, ProblemFault, Problems, ReadFault};
+pub use read_move::MoveFault;
+pub use streams::{Reading, Sink, Source, Writing};
+pub use writes::{WriteFault, write_all};

@@ -1,5 +1,6 @@
 //! The report on the problems of a source.
 //!
+//! Begin with `run::run` and the `Settings` that it is given; `judge::judge` answers the `Verdict` on one position.
 //! The sources, sinks and problems that a run works on are those of `dw_notation`, and stand here under the same names.
 #![tactic(auto)]
 
@@ -17,3 +18,5 @@ mod tries;
 pub mod verdict;
 
 pub use dw_notation::{problems, streams};
+pub use settings::{Command, RunFault, Settings, Stop, Summary};
+pub use verdict::{Judged, Verdict};

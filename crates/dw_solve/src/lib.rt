@@ -1,4 +1,6 @@
 //! Forced wins: in how many moves the side to move wins whatever the other side replies.
+//!
+//! Begin with `Solver`, which is made of a memo and a `Guide`, and with its calls `wins`, `loses` and `least`.
 #![tactic(auto)]
 
 pub mod guide;
@@ -8,3 +10,7 @@ mod search;
 pub mod solver;
 pub mod stop;
 pub mod trial;
+
+pub use guide::{AnyOrder, ByTrial, Guide};
+pub use solver::Solver;
+pub use stop::Stop;
