@@ -445,6 +445,23 @@ fn check_reports<B: Board>(rt: &impl Abort, alloc: Global, asked: &Asked, rows: 
     }
 }
 
+// With one problem chosen of the three.
+fn check_alone(rt: &impl Abort, alloc: Global, row: &(u32, &'static str, [u32; 3])) {
+    let (number, wanted, counts) = row;
+    let alone = Asked {
+        only: Some(*number),
+        ..SHOW
+    };
+    check_reports::<Ten>(rt, alloc, &alone, &[(THREE, *wanted, *counts)]);
+    let (one, all) = (
+        settings_of::<Ten>(&alone, None),
+        settings_of::<Ten>(&SHOW, None),
+    );
+    let others = number.wrapping_add(1);
+    assert!(rt; one.chooses(*number) && !one.chooses(others) && all.chooses(others));
+    assert!(rt; one.asks_for(*number) && !one.asks_for(others) && !all.asks_for(others));
+}
+
 #[test]
 fn reports(rt: HostRuntime) {
     laws::one_report();
@@ -456,19 +473,8 @@ fn reports(rt: HostRuntime) {
     check_reports::<Eight>(&rt, rt.alloc(), &SHOW, &EIGHT_SHOWN);
     check_reports::<Eight>(&rt, rt.alloc(), &MOVES, &EIGHT_LISTED);
     check_reports::<Eight>(&rt, rt.alloc(), &tags_of(SHOW), &EIGHT_TAGS);
-    for (number, wanted, counts) in &ALONE {
-        let alone = Asked {
-            only: Some(*number),
-            ..SHOW
-        };
-        check_reports::<Ten>(&rt, rt.alloc(), &alone, &[(THREE, *wanted, *counts)]);
-        let (one, all) = (
-            settings_of::<Ten>(&alone, None),
-            settings_of::<Ten>(&SHOW, None),
-        );
-        let others = number.wrapping_add(1);
-        assert!(rt; one.chooses(*number) && !one.chooses(others) && all.chooses(others));
-        assert!(rt; one.asks_for(*number) && !one.asks_for(others) && !all.asks_for(others));
+    for row in &ALONE {
+        check_alone(&rt, rt.alloc(), row);
     }
 }
 
@@ -550,35 +556,43 @@ fn ended_in(read: u64, ended: &[Ended]) -> &'static str {
 
 // A source that gives a few bytes a read and fails at one: the sink has just the whole texts of the problems that ended
 // before.
+fn check_failed_reads(rt: &impl Abort, alloc: Global, ending: &Ending, step: usize) {
+    let (asked, text, problems, whole) = ending;
+    let mut ended = false;
+    for k in 1..200u64 {
+        let reader = Chopped::new(text, step, k, 0);
+        let writer = Narrow::new(alloc, 4096, 0);
+        let settings = settings_of::<Ten>(asked, None);
+        let (answer, written) = ran(alloc, &settings, NoMemo::new(), reader, writer);
+        ended = ended || answer.is_ok();
+        let wanted = if ended {
+            *whole
+        } else {
+            ended_in((step as u64).saturating_mul(k - 1), *problems)
+        };
+        assert!(rt;
+            ended == (answer != Err(RunFault::Read)),
+            "{step} bytes, read {k}"
+        );
+        assert!(rt;
+            written.as_slice() == wanted.as_bytes(),
+            "{step} bytes, read {k}"
+        );
+    }
+    assert!(rt; ended);
+}
+
 #[test]
 fn keeps_what_ended_before_a_failed_read(rt: HostRuntime) {
-    for (asked, text, problems, whole) in &endings() {
+    for ending in &endings() {
         for step in [1, 2, 7] {
-            let mut ended = false;
-            for k in 1..200u64 {
-                let reader = Chopped::new(text, step, k, 0);
-                let writer = Narrow::new(rt.alloc(), 4096, 0);
-                let settings = settings_of::<Ten>(asked, None);
-                let (answer, written) = ran(rt.alloc(), &settings, NoMemo::new(), reader, writer);
-                ended = ended || answer.is_ok();
-                let wanted = if ended {
-                    *whole
-                } else {
-                    ended_in(step as u64 * (k - 1), *problems)
-                };
-                assert!(rt;
-                    ended == (answer != Err(RunFault::Read)),
-                    "{step} bytes, read {k}"
-                );
-                assert!(rt;
-                    written.as_slice() == wanted.as_bytes(),
-                    "{step} bytes, read {k}"
-                );
-            }
-            assert!(rt; ended);
+            check_failed_reads(&rt, rt.alloc(), ending, step);
         }
     }
-    // Nothing is read behind the problem that was asked for.
+}
+
+#[test]
+fn reads_nothing_after_the_chosen(rt: HostRuntime) {
     let first = Asked {
         only: Some(1),
         ..SHOW
@@ -591,35 +605,46 @@ fn keeps_what_ended_before_a_failed_read(rt: HostRuntime) {
 }
 
 // A sink that takes a few bytes a write and fails at one has a beginning of the report, byte for byte.
+fn check_failed_writes(rt: &impl Abort, alloc: Global, ending: &Ending, step: usize) {
+    let (asked, text, _, whole) = ending;
+    let mut ended = false;
+    for k in 1..400 {
+        let reader = Chopped::new(text, 4096, 0, 0);
+        let writer = Narrow::new(alloc, step, k);
+        let settings = settings_of::<Ten>(asked, None);
+        let (answer, written) = ran(alloc, &settings, NoMemo::new(), reader, writer);
+        let taken = written.as_slice();
+        assert!(rt;
+            whole.as_bytes().starts_with(taken),
+            "{step} bytes, write {k}"
+        );
+        assert!(rt;
+            answer.is_ok() == (taken.len() == whole.len()),
+            "{step}, write {k}"
+        );
+        assert!(rt; answer.is_ok() || answer == Err(RunFault::Write) && !ended);
+        ended = answer.is_ok();
+    }
+    assert!(rt; ended);
+}
+
+// A sink that takes nothing.
+fn check_no_writes(rt: &impl Abort, alloc: Global, ending: &Ending) {
+    let (asked, text, _, _) = ending;
+    let reader = Chopped::new(text, 4096, 0, 0);
+    let settings = settings_of::<Ten>(asked, None);
+    let writer = Narrow::new(alloc, 0, 0);
+    let (answer, _) = ran(alloc, &settings, NoMemo::new(), reader, writer);
+    assert!(rt; answer == Err(RunFault::Write));
+}
+
 #[test]
 fn keeps_a_beginning_before_a_failed_write(rt: HostRuntime) {
-    for (asked, text, _, whole) in &endings() {
+    for ending in &endings() {
         for step in [1, 5] {
-            let mut ended = false;
-            for k in 1..400 {
-                let reader = Chopped::new(text, 4096, 0, 0);
-                let writer = Narrow::new(rt.alloc(), step, k);
-                let settings = settings_of::<Ten>(asked, None);
-                let (answer, written) = ran(rt.alloc(), &settings, NoMemo::new(), reader, writer);
-                let taken = written.as_slice();
-                assert!(rt;
-                    whole.as_bytes().starts_with(taken),
-                    "{step} bytes, write {k}"
-                );
-                assert!(rt;
-                    answer.is_ok() == (taken.len() == whole.len()),
-                    "{step}, write {k}"
-                );
-                assert!(rt; answer.is_ok() || answer == Err(RunFault::Write) && !ended);
-                ended = answer.is_ok();
-            }
-            assert!(rt; ended);
+            check_failed_writes(&rt, rt.alloc(), ending, step);
         }
-        let reader = Chopped::new(text, 4096, 0, 0);
-        let settings = settings_of::<Ten>(asked, None);
-        let writer = Narrow::new(rt.alloc(), 0, 0);
-        let (answer, _) = ran(rt.alloc(), &settings, NoMemo::new(), reader, writer);
-        assert!(rt; answer == Err(RunFault::Write));
+        check_no_writes(&rt, rt.alloc(), ending);
     }
 }
 
@@ -650,6 +675,20 @@ fn ends_at_one_problem_too_many(rt: HostRuntime) {
     assert!(rt; answer == Ok(summary) && taken.as_slice() == wanted.as_slice());
 }
 
+// A text with one byte changed has one report, in whatever pieces it is read and written.
+fn check_changed(rt: &impl Abort, alloc: Global, text: &[u8]) {
+    let settings = settings_of::<Ten>(&tags_of(SHOW), None);
+    let reader = Chopped::new(text, 4096, 0, 0);
+    let writer = Narrow::new(alloc, 4096, 0);
+    let (answer, written) = ran(alloc, &settings, NoMemo::new(), reader, writer);
+    let reader = Chopped::new(text, 1, 0, 0);
+    let writer = Narrow::new(alloc, 1, 0);
+    let (again, chopped) = ran(alloc, &settings, NoMemo::new(), reader, writer);
+    assert!(rt; answer.is_ok() && answer == again);
+    assert!(rt; written.as_slice() == chopped.as_slice());
+    assert!(rt; written.as_slice().starts_with(b"problem 1: "));
+}
+
 // Each byte of a text of two games, changed in turn to a mark of the form.
 #[test]
 fn reports_whatever_byte_is_changed(rt: HostRuntime) -> Result<(), Fail> {
@@ -660,19 +699,7 @@ fn reports_whatever_byte_is_changed(rt: HostRuntime) -> Result<(), Fail> {
             for byte in text.iter_mut().skip(at).take(1) {
                 *byte = mark;
             }
-            let reader = Chopped::new(text.as_slice(), 4096, 0, 0);
-            let writer = Narrow::new(alloc, 4096, 0);
-            let settings = settings_of::<Ten>(&tags_of(SHOW), None);
-            let (answer, written) = ran(alloc, &settings, NoMemo::new(), reader, writer);
-            let reader = Chopped::new(text.as_slice(), 1, 0, 0);
-            let writer = Narrow::new(alloc, 1, 0);
-            let (again, chopped) = ran(alloc, &settings, NoMemo::new(), reader, writer);
-            assert!(rt; answer.is_ok() && answer == again, "{mark} at {at}");
-            assert!(rt; written.as_slice() == chopped.as_slice(), "{mark} at {at}");
-            assert!(rt;
-                written.as_slice().starts_with(b"problem 1: "),
-                "{mark} at {at}"
-            );
+            check_changed(&rt, alloc, text.as_slice());
         }
     }
     Ok(())
