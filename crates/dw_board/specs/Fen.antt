@@ -2,7 +2,8 @@
 use Rattle.std.specs.Prelude.{ℕ, zero, suc, ◌+◌, ◌-◌, ◌||◌, nat_lt, Bool, true, false, if◌then◌else◌, Option, Some, None, Result, Ok, Err, List, [], ◌∷◌, length}
 use Rattle.dw_board.specs.Geometry.{Geometry}
 use Rattle.dw_board.specs.Placement.{Placement, empty, placed, put_fault, same_side}
-use Rattle.dw_board.specs.FenTokens.{Token, tokens_from, is_sign, side_named, is_king_letter, number_named}
+use Rattle.dw_board.specs.FenTokens.{Token, tokens_from, colon, comma, dash, full_stop, is_sign, side_named}
+use Rattle.dw_board.specs.FenTokens.{is_king_letter, number_named}
 use Rattle.dw_board.specs.declared.piece.Side.{Side}
 use Rattle.dw_board.specs.declared.piece.Kind.TheVariants.{Man, King}
 use Rattle.dw_board.specs.declared.piece.Piece.{Piece}
@@ -93,21 +94,25 @@ item_begun g list t =
 -- behind an item a comma, a colon or a stop may stand
 abbrev pub item_ended : Listing → Token → Result Stage FenFault
 item_ended list t =
-    if is_sign 44 t.text then Ok (AfterComma list)
-    else (if is_sign 58 t.text then Ok (if list.is_second then AfterLists list.placed else AfterColon (Some list.side) list.placed)
-    else (if is_sign 46 t.text then Ok (AfterStop list.placed) else fault Rest t.place))
+    if is_sign comma t.text then Ok (AfterComma list)
+    else (if is_sign colon t.text
+    then Ok (if list.is_second then AfterLists list.placed else AfterColon (Some list.side) list.placed)
+    else (if is_sign full_stop t.text then Ok (AfterStop list.placed) else fault Rest t.place))
 
 -- the stage behind the next token, or what is wrong with that token
 unfoldable pub next_stage : Geometry → Stage → Token → Result Stage FenFault
 next_stage g Start t = if_named (side_named t.text) Turn t.place (λ side. Ok (AfterTurn side))
-next_stage g (AfterTurn turn) t = if is_sign 58 t.text then Ok (AfterColon None (empty turn)) else fault Colon t.place
+next_stage g (AfterTurn turn) t =
+    if is_sign colon t.text then Ok (AfterColon None (empty turn)) else fault Colon t.place
 next_stage g (AfterColon first p) t = if_named (side_named t.text) Colour t.place (list_begun first p t.place)
-next_stage g (AfterColour list) t = if is_sign 58 t.text || is_sign 46 t.text then item_ended list t else item_begun g list t
+next_stage g (AfterColour list) t =
+    if is_sign colon t.text || is_sign full_stop t.text then item_ended list t else item_begun g list t
 next_stage g (AfterComma list) t = item_begun g list t
 next_stage g (AfterKing list) t =
     if_named (number_named g t.text) Number t.place (λ n. Ok (AfterNumber list (record { is_king = true; from = n; place = t.place })))
 next_stage g (AfterNumber list item) t =
-    if is_sign 45 t.text then Ok (AfterDash list item) else with_item g list item item.from >>= λ all. item_ended all t
+    if is_sign dash t.text then Ok (AfterDash list item)
+    else with_item g list item item.from >>= λ all. item_ended all t
 next_stage g (AfterDash list item) t =
     if_named (number_named g t.text) Number t.place (λ to.
     if nat_lt to item.from then fault RangeBackwards t.place else with_item g list item to >>= λ all. Ok (AfterItem all))

@@ -3,6 +3,7 @@ use Rattle.std.specs.Prelude.{ℕ, List, [], ◌++◌, Option, Some, None, if◌
 use Rattle.std.specs.List.{join_with_byte, range_with_len}
 use Rattle.dw_board.specs.Geometry.{Geometry, squares}
 use Rattle.dw_board.specs.Placement.{Placement, at, is_of, is_man}
+use Rattle.dw_board.specs.FenTokens.{comma}
 use Rattle.dw_board.specs.declared.piece.Piece.{Piece}
 use Rattle.dw_board.specs.declared.piece.Side.{Side}
 use Rattle.dw_board.specs.declared.piece.Side.TheVariants.{White, Black}
@@ -22,7 +23,7 @@ item_text p s = king_mark (at p s) ++ decimal s
 
 -- a side's pieces, with commas between them
 abbrev pub items_text : Geometry → Placement → Side → List ℕ
-items_text g p side = join_with_byte 44 (map (item_text p) (squares_held g p side))
+items_text g p side = join_with_byte comma (map (item_text p) (squares_held g p side))
 
 -- a side's letter
 abbrev pub side_text : Side → List ℕ

@@ -9,9 +9,28 @@ pub record Token : Type 0 where
   pub text : List ℕ
   pub place : ℕ
 
+-- the signs of a FEN text, and its blanks
+abbrev pub colon : ℕ
+colon = 58
+
+abbrev pub comma : ℕ
+comma = 44
+
+abbrev pub dash : ℕ
+dash = 45
+
+abbrev pub full_stop : ℕ
+full_stop = 46
+
+abbrev pub blank : ℕ
+blank = 32
+
+abbrev pub tab : ℕ
+tab = 9
+
 -- a space or a tab
 abbrev pub is_blank : ℕ → Bool
-is_blank byte = (byte == 32) || (byte == 9)
+is_blank byte = (byte == blank) || (byte == tab)
 
 abbrev pub is_digit : ℕ → Bool
 is_digit byte = nat_le 48 byte && nat_le byte 57

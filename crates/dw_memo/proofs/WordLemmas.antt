@@ -9,9 +9,8 @@ use Rattle.dw_board.specs.Geometry.{Geometry, IsBoard, OnBoard, bit}
 use Rattle.dw_board.specs.SquareSet.{Squares, is_set, squares_of, word_of, OnlySquares}
 use Rattle.dw_board.specs.SquareSetLaws.{contains-squares_of, is_square-true, word_of-squares_of}
 use Rattle.dw_board.specs.Placement.{Placement, at, IsPosition}
-use Rattle.dw_board.specs.Standing.{standing}
+use Rattle.dw_board.specs.Standing.{standing, standing_word}
 use Rattle.dw_board.specs.StandingLaws.{standing-members}
-use Rattle.dw_memo.specs.Slots.{word}
 
 same_tests : (a b : Bool) → (a ≡ true → b ≡ true) → (b ≡ true → a ≡ true) → a ≡ b
 same_tests true b to from = sym (to refl)
@@ -34,8 +33,7 @@ members g w s = (
 pub word-is : (g : Geometry) → IsBoard g → (p : Placement) → IsPosition g p.cells → (side : Side) (kind : Kind) (v : Squares) (w : ℕ)
     → ((s : ℕ) → (set.contains v s ≡ true) ↔ (OnBoard g s × (at p s ≡ Some (record { side = side; kind = kind }))))
     → ((s : ℕ) → (set.contains v s ≡ true) ↔ (OnBoard g s × (is_set w (bit g s) ≡ true)))
-    → OnlySquares g w → w ≡ word g p side kind
-unfolding word
+    → OnlySquares g w → w ≡ standing_word g p side kind
 word-is g board p position side kind v w stands set only =
     sym (word_of-squares_of g board w only)
     ∙ ap (word_of g) (same_sets (squares_of g w) (standing p.cells side kind) (λ s.

@@ -1,6 +1,7 @@
 //! A memo of fixed size, in which each position has one slot.
 ghost use Rattle.std.specs.Prelude.{◌≡◌, ◌≤◌, ◌<◌, [], length, IfOk};
 ghost use Rattle.dw_board.specs.Placement.{IsPosition, side_code};
+ghost use Rattle.dw_board.specs.Standing.{standing_word};
 ghost use Rattle.dw_memo.specs.Slots as of;
 ghost use Rattle.dw_memo.specs.declared.memo.Noted.TheVariants.{Kept};
 
@@ -138,7 +139,7 @@ fn side_number(side: Side) -> u64
 /// The padded word of the squares on which a side's men or its kings stand.
 fn word<B: Board>(position: &Position<B>, side: Side, kind: Kind) -> u64
     requires { IsPosition B.geometry position.now.cells }
-    ensures { result ≡ of.word B.geometry position.now side kind }
+    ensures { result ≡ standing_word B.geometry position.now side kind }
 {
     position.squares(side, kind).word()
 }

@@ -5,18 +5,13 @@ use Rattle.std.specs.List.{join_with_byte, join_by}
 use Rattle.std.specs.FinSet as set
 use Rattle.dw_board.specs.Geometry.{Geometry}
 use Rattle.dw_board.specs.Placement.{Placement}
+use Rattle.dw_board.specs.FenTokens.{dash, blank}
 use Rattle.dw_moves.specs.Moves.{Member, Move, Legal, play}
 use Rattle.dw_moves.specs.Order.{Listed, AreListed}
 
--- the marks between squares, and that between the words of a line
-abbrev pub dash : ℕ
-dash = 45
-
+-- the mark between the squares of a capture
 abbrev pub cross : ℕ
 cross = 120
-
-abbrev pub blank : ℕ
-blank = 32
 
 -- the numbers of squares with a mark between them
 abbrev pub squares_text : ℕ → List ℕ → List ℕ
