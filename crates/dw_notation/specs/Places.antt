@@ -2,11 +2,11 @@
 use Rattle.std.specs.Prelude.{ℕ, ◌==◌, ◌||◌, if◌then◌else◌, Bool}
 use Rattle.std.specs.Char.{is_ascii_alphanumeric}
 use Rattle.dw_notation.specs.Found.{is_blank}
-use Rattle.dw_notation.specs.declared.problems.place.Place.{Place}
-use Rattle.dw_notation.specs.declared.problems.place.Place.TheVariants.{Outside, Comment, Between, BeforeName, InName, BehindName, InValue, Escaped, BehindValue, Rest}
-use Rattle.dw_notation.specs.declared.problems.place.Deed.{Deed}
-use Rattle.dw_notation.specs.declared.problems.place.Deed.TheVariants.{Keep, Open, Count, AddName, OpenValue, AddValue, AddBoth, Close, Break, EndLine, NextTag, End}
-use Rattle.dw_notation.specs.declared.problems.place.Step.{Step}
+use Rattle.dw_notation.specs.declared.problems.pdn.Place.{Place}
+use Rattle.dw_notation.specs.declared.problems.pdn.Place.TheVariants.{Outside, Comment, Between, BeforeName, InName, BehindName, InValue, Escaped, BehindValue, Rest}
+use Rattle.dw_notation.specs.declared.problems.pdn.Deed.{Deed}
+use Rattle.dw_notation.specs.declared.problems.pdn.Deed.TheVariants.{Keep, Open, Count, AddName, OpenValue, AddValue, AddBoth, Close, Break, EndLine, NextTag, End}
+use Rattle.dw_notation.specs.declared.problems.pdn.Step.{Step}
 
 -- an ASCII letter, a digit or an underscore
 abbrev pub is_name_byte : ℕ → Bool

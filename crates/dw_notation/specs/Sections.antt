@@ -8,12 +8,12 @@ use Rattle.dw_notation.specs.Found.{Found, fen_found, is_blank}
 use Rattle.dw_notation.specs.Places.{step}
 use Rattle.dw_notation.specs.declared.problems.TheConstants.{MAX_SECTION}
 use Rattle.dw_notation.specs.declared.problems.ProblemFault.TheVariants.{NoFen, TwoFens, WrongGame, SectionTooLong, UnclosedTag, UnclosedComment}
-use Rattle.dw_notation.specs.declared.problems.place.Place.{Place}
-use Rattle.dw_notation.specs.declared.problems.place.Place.TheVariants.{Outside, Comment, Between}
-use Rattle.dw_notation.specs.declared.problems.place.Deed.{Deed}
-use Rattle.dw_notation.specs.declared.problems.place.Deed.TheVariants.{Keep, Open, Count, AddName, OpenValue, AddValue, AddBoth, Close, Break, EndLine, NextTag, End}
-use Rattle.dw_notation.specs.declared.problems.section.Kind.{Kind}
-use Rattle.dw_notation.specs.declared.problems.section.Kind.TheVariants.{FenTag, GameTag, OtherTag}
+use Rattle.dw_notation.specs.declared.problems.pdn.Place.{Place}
+use Rattle.dw_notation.specs.declared.problems.pdn.Place.TheVariants.{Outside, Comment, Between}
+use Rattle.dw_notation.specs.declared.problems.pdn.Deed.{Deed}
+use Rattle.dw_notation.specs.declared.problems.pdn.Deed.TheVariants.{Keep, Open, Count, AddName, OpenValue, AddValue, AddBoth, Close, Break, EndLine, NextTag, End}
+use Rattle.dw_notation.specs.declared.problems.pdn.Kind.{Kind}
+use Rattle.dw_notation.specs.declared.problems.pdn.Kind.TheVariants.{FenTag, GameTag, OtherTag}
 
 -- two names, without regard to the case of their letters
 abbrev pub same_name : List ℕ → List ℕ → Bool
