@@ -5,7 +5,7 @@ use Rattle.std.specs.Io.KnownBytes.{Consumes}
 use Rattle.dw_board.specs.Geometry.{Geometry}
 use Rattle.dw_notation.specs.Pieces.{pieces_ahead, pieces_behind}
 use Rattle.dw_notation.specs.Cutting.{CarriesOn, TakesPiece, TakesLast, rest_of, found_ahead, found_behind, found_cut}
-use Rattle.dw_notation.specs.declared.problems.cutter.Cutter.{Cutter}
+use Rattle.dw_notation.specs.declared.problems.reader.Cutter.{Cutter}
 
 pub CarriesOn-refl : (coming : Option (List ℕ)) (cutter : Cutter) → CarriesOn coming coming cutter cutter
 CarriesOn-refl coming cutter = record { read = []; took = Consumes-nil coming; same = λ g at_end more. refl }

@@ -7,7 +7,7 @@ use Rattle.dw_notation.specs.Lines.{NoLineFeed, line_found}
 use Rattle.dw_notation.specs.Ahead.{found_from}
 use Rattle.dw_notation.specs.Held.{SaysSame}
 use Rattle.dw_notation.specs.Pieces.{pieces_ahead, pieces_behind, pieces_cut}
-use Rattle.dw_notation.specs.declared.problems.pieces.Pieces.{Pieces}
+use Rattle.dw_notation.specs.declared.problems.reader.Pieces.{Pieces}
 
 pub NoLineFeed-push : (bytes : List ℕ) (byte : ℕ) → NoLineFeed bytes → (byte == 10) ≡ false → NoLineFeed (bytes ++ byte ∷ [])
 NoLineFeed-push [] byte none h = (h, tt)

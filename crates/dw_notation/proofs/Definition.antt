@@ -12,10 +12,10 @@ use Rattle.dw_notation.specs.HeldSection.{held_of, held_bare, held_from, section
 use Rattle.dw_notation.specs.Pieces.{lines_ahead}
 use Rattle.dw_notation.specs.Problems.{found_of, ended_of}
 use Rattle.dw_notation.specs.declared.problems.Form.TheVariants.{Fens}
-use Rattle.dw_notation.specs.declared.problems.mark.Front.TheVariants.{Bare}
-use Rattle.dw_notation.specs.declared.problems.place.Place.TheVariants.{Outside}
-use Rattle.dw_notation.specs.declared.problems.lines.Lines.{Lines}
-use Rattle.dw_notation.specs.declared.problems.sections.Sections.{Sections}
+use Rattle.dw_notation.specs.declared.problems.fens.Front.TheVariants.{Bare}
+use Rattle.dw_notation.specs.declared.problems.pdn.Place.TheVariants.{Outside}
+use Rattle.dw_notation.specs.declared.problems.fens.Lines.{Lines}
+use Rattle.dw_notation.specs.declared.problems.pdn.Sections.{Sections}
 use Rattle.dw_notation.proofs.Cuts.{line_found-nil}
 use Rattle.dw_notation.proofs.Holding.{held_from-bare}
 

@@ -8,11 +8,11 @@ use Rattle.dw_notation.specs.Held.{held_line}
 use Rattle.dw_notation.specs.Pieces.{pieces_ahead, pieces_behind}
 use Rattle.dw_notation.specs.Problems.{Numbered, numbered, number_from}
 use Rattle.dw_notation.specs.Cutting.{CarriesOn, TakesPiece, TakesLast, HandsOut, NextGives, ReadsPiece, rest_of, found_ahead, found_behind, found_cut, problems_from, to_come, ended}
-use Rattle.dw_notation.specs.declared.problems.mark.Front.{Front}
-use Rattle.dw_notation.specs.declared.problems.mark.Front.TheVariants.{Bare, One, Two, Behind}
-use Rattle.dw_notation.specs.declared.problems.cutter.Cutter.{Cutter}
-use Rattle.dw_notation.specs.declared.problems.pieces.Pieces.{Pieces}
-use Rattle.dw_notation.specs.declared.problems.pieces.Pieces.TheVariants.{InLines, InSections}
+use Rattle.dw_notation.specs.declared.problems.fens.Front.{Front}
+use Rattle.dw_notation.specs.declared.problems.fens.Front.TheVariants.{Bare, One, Two, Behind}
+use Rattle.dw_notation.specs.declared.problems.reader.Cutter.{Cutter}
+use Rattle.dw_notation.specs.declared.problems.reader.Pieces.{Pieces}
+use Rattle.dw_notation.specs.declared.problems.reader.Pieces.TheVariants.{InLines, InSections}
 use Rattle.dw_notation.specs.declared.problems.Problem.{Problem}
 use Rattle.dw_notation.specs.declared.problems.ReadFault.{ReadFault}
 use Rattle.dw_notation.proofs.Numbers.{number_from-over}

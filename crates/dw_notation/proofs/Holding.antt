@@ -11,13 +11,13 @@ use Rattle.dw_notation.specs.Lines.{fen_found}
 use Rattle.dw_notation.specs.Sections.{step, Section, bare, kind_of, number_on, game_of, with_tag, after, is_wrong}
 use Rattle.dw_notation.specs.Sections.{fens_found, section_found, found_by, found_at_end, sections_found}
 use Rattle.dw_notation.specs.HeldSection.{Held, held_bare, counted, kept, game_on, number_held, counted_in, value_on, tag_on, held_after, is_wrong_held, fens_held, held_found, held_from}
-use Rattle.dw_notation.specs.declared.problems.place.Place.{Place}
-use Rattle.dw_notation.specs.declared.problems.place.Deed.{Deed}
-use Rattle.dw_notation.specs.declared.problems.place.Deed.TheVariants.{Keep, Open, Count, AddName, OpenValue, AddValue, AddBoth, Close, Break, EndLine, NextTag, End}
-use Rattle.dw_notation.specs.declared.problems.section.Kind.{Kind}
-use Rattle.dw_notation.specs.declared.problems.section.Kind.TheVariants.{FenTag, GameTag, OtherTag}
-use Rattle.dw_notation.specs.declared.problems.section.Game.{Game}
-use Rattle.dw_notation.specs.declared.problems.section.Game.TheVariants.{Before, Within, Behind}
+use Rattle.dw_notation.specs.declared.problems.pdn.Place.{Place}
+use Rattle.dw_notation.specs.declared.problems.pdn.Deed.{Deed}
+use Rattle.dw_notation.specs.declared.problems.pdn.Deed.TheVariants.{Keep, Open, Count, AddName, OpenValue, AddValue, AddBoth, Close, Break, EndLine, NextTag, End}
+use Rattle.dw_notation.specs.declared.problems.pdn.Kind.{Kind}
+use Rattle.dw_notation.specs.declared.problems.pdn.Kind.TheVariants.{FenTag, GameTag, OtherTag}
+use Rattle.dw_notation.specs.declared.problems.pdn.Game.{Game}
+use Rattle.dw_notation.specs.declared.problems.pdn.Game.TheVariants.{Before, Within, Behind}
 use Rattle.dw_notation.proofs.Names.{kind_of-take}
 
 -- ---- bytes that are counted, and bytes that are kept

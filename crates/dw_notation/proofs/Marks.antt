@@ -5,8 +5,8 @@ use Rattle.dw_board.specs.Geometry.{Geometry}
 use Rattle.dw_notation.specs.Lines.{NoLineFeed}
 use Rattle.dw_notation.specs.Ahead.{found_from, passed_over, behind_mark, is_behind}
 use Rattle.dw_notation.specs.Held.{SaysSame}
-use Rattle.dw_notation.specs.declared.problems.mark.Front.{Front}
-use Rattle.dw_notation.specs.declared.problems.mark.Front.TheVariants.{Bare, One, Two, Behind}
+use Rattle.dw_notation.specs.declared.problems.fens.Front.{Front}
+use Rattle.dw_notation.specs.declared.problems.fens.Front.TheVariants.{Bare, One, Two, Behind}
 use Rattle.dw_notation.proofs.Cuts.{found_from-push}
 
 passed_over-line : (front : Front) → NoLineFeed (passed_over front)

@@ -4,7 +4,7 @@ use Rattle.std.proofs.lemmas.Bool.{eqb-true, eq-eqb, and_parts, and_from, cases_
 use Rattle.std.specs.Char.{to_ascii_lowercase}
 use Rattle.std.specs.Prelude.{codes}
 use Rattle.dw_notation.specs.Sections.{same_name, kind_of}
-use Rattle.dw_notation.specs.declared.problems.section.Kind.TheVariants.{FenTag, GameTag, OtherTag}
+use Rattle.dw_notation.specs.declared.problems.pdn.Kind.TheVariants.{FenTag, GameTag, OtherTag}
 
 same_name-maps : (name other : List ℕ) → same_name name other ≡ true → map to_ascii_lowercase name ≡ map to_ascii_lowercase other
 same_name-maps [] [] h = refl

@@ -8,9 +8,9 @@ use Rattle.dw_board.specs.Geometry.{Geometry}
 use Rattle.dw_notation.specs.Sections.{step, at, found_by}
 use Rattle.dw_notation.specs.HeldSection.{Held, held_after, held_found, held_from}
 use Rattle.dw_notation.specs.Tags.{opens, closes}
-use Rattle.dw_notation.specs.declared.problems.place.Place.{Place}
-use Rattle.dw_notation.specs.declared.problems.place.Place.TheVariants.{Outside, Comment}
-use Rattle.dw_notation.specs.declared.problems.place.Deed.TheVariants.{Keep}
+use Rattle.dw_notation.specs.declared.problems.pdn.Place.{Place}
+use Rattle.dw_notation.specs.declared.problems.pdn.Place.TheVariants.{Outside, Comment}
+use Rattle.dw_notation.specs.declared.problems.pdn.Deed.TheVariants.{Keep}
 
 -- bytes that change nothing
 pass_all : (p : ℕ → Bool) (place : Place) → ((byte : ℕ) → not (p byte) ≡ true → step place byte ≡ at place Keep)

@@ -8,12 +8,12 @@ use Rattle.dw_notation.specs.Sections.{step, at, Section, bare, kind_of, game_of
 use Rattle.dw_notation.specs.Sections.{found_by, sections_found}
 use Rattle.dw_notation.specs.Tags.{Tag, IsTag, IsUnclosed, is_space, IsGap, IsSection, with_fen, with_game, fens_of, games_of, tags_found, closes, SectionsAreFound, LastSectionIsFound, CommentsSayNothing, OpenCommentIsFound, OthersSayNothing, OpenCommentGivesNothing, OpenSectionGivesNothing}
 use Rattle.dw_notation.specs.Tags.IsSection.{single, broken, longer, longer_broken}
-use Rattle.dw_notation.specs.declared.problems.place.Place.{Place}
-use Rattle.dw_notation.specs.declared.problems.place.Place.TheVariants.{Outside, Comment, Between, BeforeName}
-use Rattle.dw_notation.specs.declared.problems.place.Step.{Step}
-use Rattle.dw_notation.specs.declared.problems.place.Deed.TheVariants.{Keep, Open, EndLine, End}
-use Rattle.dw_notation.specs.declared.problems.section.Kind.{Kind}
-use Rattle.dw_notation.specs.declared.problems.section.Kind.TheVariants.{FenTag, GameTag, OtherTag}
+use Rattle.dw_notation.specs.declared.problems.pdn.Place.{Place}
+use Rattle.dw_notation.specs.declared.problems.pdn.Place.TheVariants.{Outside, Comment, Between, BeforeName}
+use Rattle.dw_notation.specs.declared.problems.pdn.Step.{Step}
+use Rattle.dw_notation.specs.declared.problems.pdn.Deed.TheVariants.{Keep, Open, EndLine, End}
+use Rattle.dw_notation.specs.declared.problems.pdn.Kind.{Kind}
+use Rattle.dw_notation.specs.declared.problems.pdn.Kind.TheVariants.{FenTag, GameTag, OtherTag}
 use Rattle.dw_notation.proofs.TagReading.{Reads, join_reads, run_reads, between, tag_reads}
 use Rattle.dw_notation.proofs.TagBreaking.{SoFar, unclosed_reads, line_ends, text_ends}
 

@@ -10,10 +10,10 @@ use Rattle.dw_notation.specs.Sections.{found_at_end, sections_found}
 use Rattle.dw_notation.specs.Tags.{Tag, Spells, IsTag, IsUnclosed}
 use Rattle.dw_notation.specs.Tags.Spells.{nothing, quotation, backslash, lone, plain}
 use Rattle.dw_notation.proofs.TagReading.{Reads}
-use Rattle.dw_notation.specs.declared.problems.place.Place.{Place}
-use Rattle.dw_notation.specs.declared.problems.place.Place.TheVariants.{Between, BeforeName, InName, BehindName, InValue, Escaped, BehindValue, Rest}
-use Rattle.dw_notation.specs.declared.problems.place.Deed.{Deed}
-use Rattle.dw_notation.specs.declared.problems.place.Deed.TheVariants.{Count, AddName, OpenValue, AddValue, AddBoth, Break, EndLine}
+use Rattle.dw_notation.specs.declared.problems.pdn.Place.{Place}
+use Rattle.dw_notation.specs.declared.problems.pdn.Place.TheVariants.{Between, BeforeName, InName, BehindName, InValue, Escaped, BehindValue, Rest}
+use Rattle.dw_notation.specs.declared.problems.pdn.Deed.{Deed}
+use Rattle.dw_notation.specs.declared.problems.pdn.Deed.TheVariants.{Count, AddName, OpenValue, AddValue, AddBoth, Break, EndLine}
 
 all_push : (p : ℕ → Bool) (text : List ℕ) (byte : ℕ) → list_all p text ≡ true → p byte ≡ true → list_all p (text ++ byte ∷ []) ≡ true
 all_push p text byte all here = list_all-append p text (byte ∷ []) ∙ and_from _ _ all (and_from _ _ here refl)

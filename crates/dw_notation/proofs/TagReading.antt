@@ -8,9 +8,9 @@ use Rattle.dw_notation.specs.Sections.{step, at, is_name_byte, ends_line, Sectio
 use Rattle.dw_notation.specs.Sections.{section_found, found_by, sections_found}
 use Rattle.dw_notation.specs.Tags.{Tag, is_plain, Spells, is_space}
 use Rattle.dw_notation.specs.Tags.Spells.{nothing, quotation, backslash, lone, plain}
-use Rattle.dw_notation.specs.declared.problems.place.Place.{Place}
-use Rattle.dw_notation.specs.declared.problems.place.Place.TheVariants.{Between, BeforeName, InName, BehindName, InValue, Escaped, BehindValue}
-use Rattle.dw_notation.specs.declared.problems.place.Deed.TheVariants.{Count, AddName, AddValue, AddBoth}
+use Rattle.dw_notation.specs.declared.problems.pdn.Place.{Place}
+use Rattle.dw_notation.specs.declared.problems.pdn.Place.TheVariants.{Between, BeforeName, InName, BehindName, InValue, Escaped, BehindValue}
+use Rattle.dw_notation.specs.declared.problems.pdn.Deed.TheVariants.{Count, AddName, AddValue, AddBoth}
 
 -- ---- bytes of one kind are none of another
 differs : (p : ℕ → Bool) (byte other : ℕ) → p byte ≡ true → p other ≡ false → (byte == other) ≡ false

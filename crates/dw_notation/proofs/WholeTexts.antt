@@ -11,8 +11,8 @@ use Rattle.dw_notation.specs.Tags.IsSection.{single, broken, longer, longer_brok
 use Rattle.dw_notation.specs.WholeTexts.{IsOpen, if_over, Says, TextsAreRows}
 use Rattle.dw_notation.specs.WholeTexts.Says.{nothing, other, comment, last_comment, section, last_section}
 use Rattle.dw_notation.specs.declared.problems.ProblemFault.TheVariants.{UnclosedComment}
-use Rattle.dw_notation.specs.declared.problems.place.Place.{Place}
-use Rattle.dw_notation.specs.declared.problems.place.Place.TheVariants.{Outside, BeforeName}
+use Rattle.dw_notation.specs.declared.problems.pdn.Place.{Place}
+use Rattle.dw_notation.specs.declared.problems.pdn.Place.TheVariants.{Outside, BeforeName}
 use Rattle.dw_notation.proofs.TagReading.{Reads, join_reads}
 use Rattle.dw_notation.proofs.TagBreaking.{SoFar, tag_goes_on}
 use Rattle.dw_notation.proofs.TagBreaking.SoFar.{before, named, behind, valued, escaped, closing, rest}

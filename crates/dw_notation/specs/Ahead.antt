@@ -2,8 +2,8 @@
 use Rattle.std.specs.Prelude.{ℕ, ◌==◌, if◌then◌else◌, List, [], ◌∷◌, ◌++◌, Bool, true, false, option_to_list}
 use Rattle.dw_board.specs.Geometry.{Geometry}
 use Rattle.dw_notation.specs.Lines.{line_feed, without_mark, Found, line_found}
-use Rattle.dw_notation.specs.declared.problems.mark.Front.{Front}
-use Rattle.dw_notation.specs.declared.problems.mark.Front.TheVariants.{Bare, One, Two, Behind}
+use Rattle.dw_notation.specs.declared.problems.fens.Front.{Front}
+use Rattle.dw_notation.specs.declared.problems.fens.Front.TheVariants.{Bare, One, Two, Behind}
 
 -- what the line begun and then the bytes say; at the end of the text the last line needs no line feed
 abbrev pub found_from : Bool → Geometry → List ℕ → List ℕ → List Found

@@ -9,7 +9,7 @@ use Rattle.dw_notation.specs.Problems.{Numbered, numbered, number_from}
 use Rattle.dw_notation.specs.declared.problems.TheConstants.{MAX_PROBLEMS}
 use Rattle.dw_notation.specs.declared.problems.Problem.{Problem}
 use Rattle.dw_notation.specs.declared.problems.ReadFault.{ReadFault}
-use Rattle.dw_notation.specs.declared.problems.cutter.Cutter.{Cutter}
+use Rattle.dw_notation.specs.declared.problems.reader.Cutter.{Cutter}
 
 -- the bytes read and not yet cut
 abbrev pub rest_of : Cutter → List ℕ

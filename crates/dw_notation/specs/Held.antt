@@ -1,17 +1,9 @@
 -- What is held of a line that was not read to its end.
-use Rattle.std.specs.Prelude.{◌≡◌, ℕ, ◌+◌, if◌then◌else◌, List, [], ◌∷◌, ◌++◌, replicate, Bool, Option, Some, None, Err, nat_lt}
+use Rattle.std.specs.Prelude.{◌≡◌, ℕ, ◌+◌, if◌then◌else◌, List, [], ◌∷◌, ◌++◌, replicate, Bool, Option, Some, None}
 use Rattle.dw_board.specs.Geometry.{Geometry}
-use Rattle.dw_board.specs.declared.fen.fault.FenFaultKind.TheVariants.{TooLong}
-use Rattle.dw_notation.specs.Lines.{Found, line_found}
-use Rattle.dw_notation.specs.declared.problems.TheConstants.{MAX_LINE}
-use Rattle.dw_notation.specs.declared.problems.ProblemFault.TheVariants.{Fen, LineTooLong}
-use Rattle.dw_notation.specs.declared.problems.line.Line.{Line}
-use Rattle.dw_notation.specs.declared.problems.line.LongLine.{LongLine}
-
--- what a text says that is too long for a FEN text, by its length and by whether it is blank
-abbrev pub long_text_found : ℕ → Bool → Option Found
-long_text_found length blank =
-    if nat_lt MAX_LINE length then Some (Err LineTooLong) else (if blank then None else Some (Err (Fen (record { what = TooLong; place = 1025 }))))
+use Rattle.dw_notation.specs.Lines.{line_found}
+use Rattle.dw_notation.specs.declared.problems.fens.Line.{Line}
+use Rattle.dw_notation.specs.declared.problems.fens.LongLine.{LongLine}
 
 -- 1,026 bytes and some more, blank up to the last one or not
 unfoldable pub padded : Bool → ℕ → ℕ → List ℕ

@@ -8,17 +8,17 @@ use Rattle.dw_notation.specs.Lines.{Found, fen_found}
 use Rattle.dw_notation.specs.Sections.{step, kind_of, found_by, found_at_end}
 use Rattle.dw_notation.specs.declared.problems.TheConstants.{MAX_SECTION}
 use Rattle.dw_notation.specs.declared.problems.ProblemFault.TheVariants.{NoFen, TwoFens, WrongGame, SectionTooLong, UnclosedTag, UnclosedComment}
-use Rattle.dw_notation.specs.declared.problems.place.Place.{Place}
-use Rattle.dw_notation.specs.declared.problems.place.Deed.{Deed}
-use Rattle.dw_notation.specs.declared.problems.place.Deed.TheVariants.{Keep, Open, Count, AddName, OpenValue, AddValue, AddBoth, Close, Break, EndLine, NextTag, End}
-use Rattle.dw_notation.specs.declared.problems.section.Kind.{Kind}
-use Rattle.dw_notation.specs.declared.problems.section.Kind.TheVariants.{FenTag, GameTag, OtherTag}
-use Rattle.dw_notation.specs.declared.problems.section.Game.{Game}
-use Rattle.dw_notation.specs.declared.problems.section.Game.TheVariants.{Before, Within, Behind}
-use Rattle.dw_notation.specs.declared.problems.section.HeldSection.{HeldSection}
-use Rattle.dw_notation.specs.declared.problems.sections.Sections.{Sections}
-use Rattle.dw_notation.specs.declared.problems.sections.Cut.{Cut}
-use Rattle.dw_notation.specs.declared.problems.sections.Cut.TheVariants.{Nothing, Section, Comment}
+use Rattle.dw_notation.specs.declared.problems.pdn.Place.{Place}
+use Rattle.dw_notation.specs.declared.problems.pdn.Deed.{Deed}
+use Rattle.dw_notation.specs.declared.problems.pdn.Deed.TheVariants.{Keep, Open, Count, AddName, OpenValue, AddValue, AddBoth, Close, Break, EndLine, NextTag, End}
+use Rattle.dw_notation.specs.declared.problems.pdn.Kind.{Kind}
+use Rattle.dw_notation.specs.declared.problems.pdn.Kind.TheVariants.{FenTag, GameTag, OtherTag}
+use Rattle.dw_notation.specs.declared.problems.pdn.Game.{Game}
+use Rattle.dw_notation.specs.declared.problems.pdn.Game.TheVariants.{Before, Within, Behind}
+use Rattle.dw_notation.specs.declared.problems.pdn.HeldSection.{HeldSection}
+use Rattle.dw_notation.specs.declared.problems.pdn.Sections.{Sections}
+use Rattle.dw_notation.specs.declared.problems.pdn.Cut.{Cut}
+use Rattle.dw_notation.specs.declared.problems.pdn.Cut.TheVariants.{Nothing, Section, Comment}
 
 -- what is held of a section; bytes are counted up to one more than it may have, and the tags of FEN texts up to two
 pub record Held : Type 0 where

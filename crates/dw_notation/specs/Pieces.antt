@@ -5,9 +5,9 @@ use Rattle.dw_notation.specs.Lines.{Found, line_found}
 use Rattle.dw_notation.specs.Ahead.{found_from, behind_mark}
 use Rattle.dw_notation.specs.Held.{held_line}
 use Rattle.dw_notation.specs.HeldSection.{sections_ahead, sections_cut}
-use Rattle.dw_notation.specs.declared.problems.lines.Lines.{Lines}
-use Rattle.dw_notation.specs.declared.problems.pieces.Pieces.{Pieces}
-use Rattle.dw_notation.specs.declared.problems.pieces.Pieces.TheVariants.{InLines, InSections}
+use Rattle.dw_notation.specs.declared.problems.fens.Lines.{Lines}
+use Rattle.dw_notation.specs.declared.problems.reader.Pieces.{Pieces}
+use Rattle.dw_notation.specs.declared.problems.reader.Pieces.TheVariants.{InLines, InSections}
 
 -- what the line begun and then the bytes say
 abbrev pub lines_ahead : Bool → Geometry → Lines → List ℕ → List Found

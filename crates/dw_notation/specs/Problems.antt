@@ -3,7 +3,7 @@ use Rattle.std.specs.Prelude.{ℕ, ◌==◌, ◌+◌, if◌then◌else◌, List,
 use Rattle.dw_board.specs.Geometry.{Geometry}
 use Rattle.dw_notation.specs.Lines.{lines_of, whole_lines_of, without_mark, Found, all_found}
 use Rattle.dw_notation.specs.Sections.{bare, sections_found}
-use Rattle.dw_notation.specs.declared.problems.place.Place.TheVariants.{Outside}
+use Rattle.dw_notation.specs.declared.problems.pdn.Place.TheVariants.{Outside}
 use Rattle.dw_notation.specs.declared.problems.TheConstants.{MAX_PROBLEMS}
 use Rattle.dw_notation.specs.declared.problems.Problem.{Problem}
 use Rattle.dw_notation.specs.declared.problems.Form.{Form}

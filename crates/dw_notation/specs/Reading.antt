@@ -1,7 +1,7 @@
 -- What a reader of problems shows its caller.
 use Rattle.std.specs.Borrow.{GName}
 use Rattle.dw_notation.specs.declared.problems.reader.Problems.{Problems}
-use Rattle.dw_notation.specs.declared.problems.cutter.Cutter.{Cutter}
+use Rattle.dw_notation.specs.declared.problems.reader.Cutter.{Cutter}
 
 -- the name of the reference to the source that the reader holds
 abbrev pub lender : {B S : Type 0} → Problems B S → GName

@@ -10,15 +10,15 @@ use Rattle.dw_notation.specs.Lines.{line_feed, carriage_return, Found, fen_found
 use Rattle.dw_notation.specs.declared.problems.TheConstants.{MAX_SECTION}
 use Rattle.dw_notation.specs.declared.problems.ProblemFault.TheVariants.{NoFen, TwoFens, WrongGame, SectionTooLong}
 use Rattle.dw_notation.specs.declared.problems.ProblemFault.TheVariants.{UnclosedTag, UnclosedComment}
-use Rattle.dw_notation.specs.declared.problems.place.Place.{Place}
-use Rattle.dw_notation.specs.declared.problems.place.Place.TheVariants.{Outside, Comment, Between, BeforeName, InName}
-use Rattle.dw_notation.specs.declared.problems.place.Place.TheVariants.{BehindName, InValue, Escaped, BehindValue, Rest}
-use Rattle.dw_notation.specs.declared.problems.place.Deed.{Deed}
-use Rattle.dw_notation.specs.declared.problems.place.Deed.TheVariants.{Keep, Open, Count, AddName, OpenValue, AddValue}
-use Rattle.dw_notation.specs.declared.problems.place.Deed.TheVariants.{AddBoth, Close, Break, EndLine, NextTag, End}
-use Rattle.dw_notation.specs.declared.problems.section.Kind.{Kind}
-use Rattle.dw_notation.specs.declared.problems.section.Kind.TheVariants.{FenTag, GameTag, OtherTag}
-use Rattle.dw_notation.specs.declared.problems.place.Step.{Step}
+use Rattle.dw_notation.specs.declared.problems.pdn.Place.{Place}
+use Rattle.dw_notation.specs.declared.problems.pdn.Place.TheVariants.{Outside, Comment, Between, BeforeName, InName}
+use Rattle.dw_notation.specs.declared.problems.pdn.Place.TheVariants.{BehindName, InValue, Escaped, BehindValue, Rest}
+use Rattle.dw_notation.specs.declared.problems.pdn.Deed.{Deed}
+use Rattle.dw_notation.specs.declared.problems.pdn.Deed.TheVariants.{Keep, Open, Count, AddName, OpenValue, AddValue}
+use Rattle.dw_notation.specs.declared.problems.pdn.Deed.TheVariants.{AddBoth, Close, Break, EndLine, NextTag, End}
+use Rattle.dw_notation.specs.declared.problems.pdn.Kind.{Kind}
+use Rattle.dw_notation.specs.declared.problems.pdn.Kind.TheVariants.{FenTag, GameTag, OtherTag}
+use Rattle.dw_notation.specs.declared.problems.pdn.Step.{Step}
 
 -- the bytes with a meaning in such a text
 abbrev pub open_bracket : ℕ

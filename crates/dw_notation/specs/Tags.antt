@@ -8,9 +8,9 @@ use Rattle.dw_notation.specs.Sections.{is_name_byte, ends_line, kind_of, game_of
 use Rattle.dw_notation.specs.Sections.{sections_found}
 use Rattle.dw_notation.specs.declared.problems.TheConstants.{MAX_SECTION}
 use Rattle.dw_notation.specs.declared.problems.ProblemFault.TheVariants.{WrongGame, SectionTooLong, UnclosedTag, UnclosedComment}
-use Rattle.dw_notation.specs.declared.problems.place.Place.TheVariants.{Outside}
-use Rattle.dw_notation.specs.declared.problems.section.Kind.{Kind}
-use Rattle.dw_notation.specs.declared.problems.section.Kind.TheVariants.{FenTag, GameTag, OtherTag}
+use Rattle.dw_notation.specs.declared.problems.pdn.Place.TheVariants.{Outside}
+use Rattle.dw_notation.specs.declared.problems.pdn.Kind.{Kind}
+use Rattle.dw_notation.specs.declared.problems.pdn.Kind.TheVariants.{FenTag, GameTag, OtherTag}
 
 pub record Tag : Type 0 where
   pub name : List ℕ

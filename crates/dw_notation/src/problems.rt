@@ -3,17 +3,9 @@
 //! Of its input a reader holds at most 4,096 bytes: 2,048 of its last read, 1,025 of a line or of a FEN tag's
 //! value, and a few more that say what is known of a longer line or hold the name of a tag.
 
-mod cutter;
-mod line;
-mod lines;
-mod mark;
-mod pieces;
-mod place;
+mod fens;
+mod pdn;
 mod reader;
-mod scan;
-mod section;
-mod sections;
-mod text;
 
 use dw_board::board::Board;
 use dw_board::fen::fault::FenFault;

@@ -8,7 +8,7 @@ use Rattle.dw_board.specs.Geometry.{Geometry}
 use Rattle.dw_notation.specs.Problems.{Numbered, problems_of, ended_problems_of}
 use Rattle.dw_notation.specs.Cutting.{problems_from, to_come, ended, EndIsTrue, has_met_end, handed_count}
 use Rattle.dw_notation.specs.declared.problems.Form.{Form}
-use Rattle.dw_notation.specs.declared.problems.cutter.Cutter.{Cutter}
+use Rattle.dw_notation.specs.declared.problems.reader.Cutter.{Cutter}
 use Rattle.dw_notation.specs.declared.problems.TheConstants.{MAX_PROBLEMS}
 use Rattle.dw_notation.specs.Writes.{Writes, WritesShort}
 use Rattle.dw_report.specs.Request.{number_is_chosen, Request}

@@ -1,0 +1,15 @@
+use Rattle.std.proofs.Common.{◌≡◌, ◌&&◌, sym, ap, ◌∙◌}
+use Rattle.dw_board.specs.FenTokens.{is_blank}
+use Rattle.dw_notation.specs.Held.{padded}
+use Rattle.dw_notation.proofs.Long.{length-padded, blank-padded}
+use Rattle.dw_notation.proofs.problems.fens.LongLine.with.Goals as goal
+use Rattle.dw_notation.proofs.problems.fens.LongLine.with.Goals.{then-self, else-self}
+
+pub returns : goal.returns
+returns c =
+    let long = c.args.self in
+    let blank : (long.is_blank && is_blank long.last) ≡ c.if-self.is_blank = elim c.if-self.branch [
+      | then-self w ↦ ap (λ b. b && is_blank long.last) w.if-self.true ∙ sym (w.is_blank-is ∙ w.is_blank_byte-is_blank.ensures)
+      | else-self w ↦ ap (λ b. b && is_blank long.last) w.if-self.false ∙ sym (w.is_blank-is ∙ w.if-self.false)
+    ] in
+    c.new.ensures (padded long.is_blank long.past long.last) (length-padded long.is_blank long.past long.last) (blank-padded long.is_blank long.past long.last ∙ blank)
