@@ -7,10 +7,26 @@ use Rattle.dw_board.specs.SquareSet.{WholeBoard}
 use Rattle.dw_board.specs.SquareSetLaws.{whole_board}
 
 pub ten_is_board : IsBoard ten
-ten_is_board = record { even = refl; low = lit≤ tt; high = lit≤ tt; side_low = lit≤ tt; side_high = lit≤ tt; side_fits = lit≤ tt; squares_high = lit≤ tt }
+ten_is_board = record {
+  even = refl;
+  low = lit≤ tt;
+  high = lit≤ tt;
+  side_low = lit≤ tt;
+  side_high = lit≤ tt;
+  side_fits = lit≤ tt;
+  squares_high = lit≤ tt;
+}
 
 pub eight_is_board : IsBoard eight
-eight_is_board = record { even = refl; low = lit≤ tt; high = lit≤ tt; side_low = lit≤ tt; side_high = lit≤ tt; side_fits = lit≤ tt; squares_high = lit≤ tt }
+eight_is_board = record {
+  even = refl;
+  low = lit≤ tt;
+  high = lit≤ tt;
+  side_low = lit≤ tt;
+  side_high = lit≤ tt;
+  side_fits = lit≤ tt;
+  squares_high = lit≤ tt;
+}
 
 pub ten_shifts : ShiftsAreSteps ten
 ten_shifts = shifts_are_steps ten ten_is_board

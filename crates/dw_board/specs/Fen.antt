@@ -1,5 +1,6 @@
 -- A FEN text, read token by token: the position that it names, or its earliest fault.
-use Rattle.std.specs.Prelude.{ℕ, zero, suc, ◌+◌, ◌-◌, ◌||◌, nat_lt, Bool, true, false, if◌then◌else◌, Option, Some, None, Result, Ok, Err, List, [], ◌∷◌, length}
+use Rattle.std.specs.Prelude.{ℕ, zero, suc, ◌+◌, ◌-◌, ◌||◌, nat_lt, Bool, true, false, if◌then◌else◌, Option, Some}
+use Rattle.std.specs.Prelude.{None, Result, Ok, Err, List, [], ◌∷◌, length}
 use Rattle.dw_board.specs.Geometry.{Geometry}
 use Rattle.dw_board.specs.Placement.{Placement, empty, placed, put_fault, same_side}
 use Rattle.dw_board.specs.FenTokens.{Token, tokens_from, colon, comma, dash, full_stop, is_sign, side_named}
@@ -11,7 +12,8 @@ use Rattle.dw_board.specs.declared.piece.PutFault.{PutFault}
 use Rattle.dw_board.specs.declared.piece.PutFault.TheVariants as put
 use Rattle.dw_board.specs.declared.fen.fault.FenFault.{FenFault}
 use Rattle.dw_board.specs.declared.fen.fault.FenFaultKind.{FenFaultKind}
-use Rattle.dw_board.specs.declared.fen.fault.FenFaultKind.TheVariants.{Turn, Colon, Colour, Number, Twice, SameColour, LastRow, TooMany, Rest, TooLong, RangeBackwards}
+use Rattle.dw_board.specs.declared.fen.fault.FenFaultKind.TheVariants.{Turn, Colon, Colour, Number, Twice, SameColour}
+use Rattle.dw_board.specs.declared.fen.fault.FenFaultKind.TheVariants.{LastRow, TooMany, Rest, TooLong, RangeBackwards}
 
 abbrev pub fault : {A : Type 0} → FenFaultKind → ℕ → Result A FenFault
 fault what place = Err (record { what = what; place = place })
@@ -72,7 +74,8 @@ piece_of list item = record { side = list.side; kind = if item.is_king then King
 -- the item's squares, up to this one, are set; each of their faults has the place of the item's first number
 abbrev pub with_item : Geometry → Listing → Item → ℕ → Result Listing FenFault
 with_item g list item to =
-    set_squares g (piece_of list item) item.place item.from (to + 1 - item.from) list.placed >>= λ p. Ok (record list { placed = p })
+    set_squares g (piece_of list item) item.place item.from (to + 1 - item.from) list.placed >>= λ p.
+    Ok (record list { placed = p })
 
 -- the stage behind a token that may be absent
 abbrev pub if_named : {A : Type 0} → Option A → FenFaultKind → ℕ → (A → Result Stage FenFault) → Result Stage FenFault
@@ -83,13 +86,15 @@ if_named (Some x) what place next = next x
 abbrev pub list_begun : Option Side → Placement → ℕ → Side → Result Stage FenFault
 list_begun None p place side = Ok (AfterColour (record { side = side; is_second = false; placed = p }))
 list_begun (Some first) p place side =
-    if same_side first side then fault SameColour place else Ok (AfterColour (record { side = side; is_second = true; placed = p }))
+    if same_side first side then fault SameColour place
+    else Ok (AfterColour (record { side = side; is_second = true; placed = p }))
 
 -- an item begins with K or a number
 abbrev pub item_begun : Geometry → Listing → Token → Result Stage FenFault
 item_begun g list t =
     if is_king_letter t.text then Ok (AfterKing list)
-    else if_named (number_named g t.text) Number t.place (λ n. Ok (AfterNumber list (record { is_king = false; from = n; place = t.place })))
+    else if_named (number_named g t.text) Number t.place
+    (λ n. Ok (AfterNumber list (record { is_king = false; from = n; place = t.place })))
 
 -- behind an item a comma, a colon or a stop may stand
 abbrev pub item_ended : Listing → Token → Result Stage FenFault
@@ -109,13 +114,15 @@ next_stage g (AfterColour list) t =
     if is_sign colon t.text || is_sign full_stop t.text then item_ended list t else item_begun g list t
 next_stage g (AfterComma list) t = item_begun g list t
 next_stage g (AfterKing list) t =
-    if_named (number_named g t.text) Number t.place (λ n. Ok (AfterNumber list (record { is_king = true; from = n; place = t.place })))
+    if_named (number_named g t.text) Number t.place
+    (λ n. Ok (AfterNumber list (record { is_king = true; from = n; place = t.place })))
 next_stage g (AfterNumber list item) t =
     if is_sign dash t.text then Ok (AfterDash list item)
     else with_item g list item item.from >>= λ all. item_ended all t
 next_stage g (AfterDash list item) t =
     if_named (number_named g t.text) Number t.place (λ to.
-    if nat_lt to item.from then fault RangeBackwards t.place else with_item g list item to >>= λ all. Ok (AfterItem all))
+    if nat_lt to item.from then fault RangeBackwards t.place
+    else with_item g list item to >>= λ all. Ok (AfterItem all))
 next_stage g (AfterItem list) t = item_ended list t
 next_stage g (AfterStop p) t = fault Rest t.place
 next_stage g (AfterLists p) t = Ok (AfterLists p)

@@ -1,5 +1,6 @@
 -- The grammar of FEN texts, on the words of their tokens.
-use Rattle.std.specs.Prelude.{◌≡◌, ℕ, ◌+◌, ◌-◌, ◌≤◌, Bool, true, false, if◌then◌else◌, Some, None, List, [], ◌∷◌, ◌++◌, length, map}
+use Rattle.std.specs.Prelude.{◌≡◌, ℕ, ◌+◌, ◌-◌, ◌≤◌, Bool, true, false, if◌then◌else◌, Some, None, List, [], ◌∷◌, ◌++◌}
+use Rattle.std.specs.Prelude.{length, map}
 use Rattle.std.specs.List.{range_with_len, flat_map}
 use Rattle.dw_board.specs.Geometry.{Geometry}
 use Rattle.dw_board.specs.Placement.{Placement, empty, placed, put_fault, same_side}
@@ -25,22 +26,27 @@ pub record Placing : Type 0 where
 -- a number, or two with a dash between, the second not below the first
 pub data IsRange : Geometry → List Word → ℕ → ℕ → Type 0 where
   number : {g : Geometry} {w : Word} {n : ℕ} → number_named g w ≡ Some n → IsRange g (w ∷ []) n n
-  range : {g : Geometry} {v d w : Word} {m n : ℕ} → number_named g v ≡ Some m → is_sign 45 d ≡ true → number_named g w ≡ Some n → m ≤ n → IsRange g (v ∷ d ∷ w ∷ []) m n
+  range : {g : Geometry} {v d w : Word} {m n : ℕ} → number_named g v ≡ Some m → is_sign 45 d ≡ true
+      → number_named g w ≡ Some n → m ≤ n → IsRange g (v ∷ d ∷ w ∷ []) m n
 
 -- an item is a range of men, or K and a range of kings
 pub data IsItem : Geometry → List Word → Placing → Type 0 where
-  men : {g : Geometry} {ws : List Word} {m n : ℕ} → IsRange g ws m n → IsItem g ws (record { is_king = false; from = m; to = n })
-  kings : {g : Geometry} {k : Word} {ws : List Word} {m n : ℕ} → is_king_letter k ≡ true → IsRange g ws m n → IsItem g (k ∷ ws) (record { is_king = true; from = m; to = n })
+  men : {g : Geometry} {ws : List Word} {m n : ℕ} → IsRange g ws m n
+      → IsItem g ws (record { is_king = false; from = m; to = n })
+  kings : {g : Geometry} {k : Word} {ws : List Word} {m n : ℕ} → is_king_letter k ≡ true → IsRange g ws m n
+      → IsItem g (k ∷ ws) (record { is_king = true; from = m; to = n })
 
 -- items are joined by commas
 pub data IsItems : Geometry → List Word → List Placing → Type 0 where
   single : {g : Geometry} {ws : List Word} {i : Placing} → IsItem g ws i → IsItems g ws (i ∷ [])
-  more : {g : Geometry} {i : Placing} {is : List Placing} (ws : List Word) (comma : Word) (vs : List Word) → IsItem g ws i → is_sign 44 comma ≡ true → IsItems g vs is → IsItems g (ws ++ comma ∷ vs) (i ∷ is)
+  more : {g : Geometry} {i : Placing} {is : List Placing} (ws : List Word) (comma : Word) (vs : List Word)
+      → IsItem g ws i → is_sign 44 comma ≡ true → IsItems g vs is → IsItems g (ws ++ comma ∷ vs) (i ∷ is)
 
 -- a list is a colour, and nothing or items
 pub data IsList : Geometry → List Word → Side → List Placing → Type 0 where
   bare : {g : Geometry} {w : Word} {side : Side} → side_named w ≡ Some side → IsList g (w ∷ []) side []
-  full : {g : Geometry} {w : Word} {ws : List Word} {side : Side} {is : List Placing} → side_named w ≡ Some side → IsItems g ws is → IsList g (w ∷ ws) side is
+  full : {g : Geometry} {w : Word} {ws : List Word} {side : Side} {is : List Placing} → side_named w ≡ Some side
+      → IsItems g ws is → IsList g (w ∷ ws) side is
 
 -- a text ends with nothing or a stop
 pub data IsEnd : List Word → Type 0 where
@@ -54,7 +60,8 @@ pub data IsTail : List Word → Type 0 where
 
 -- the pieces that an item names, each with its square, ascending
 abbrev pub named : Side → Placing → List (ℕ × Piece)
-named side i = map (λ s. (s, record { side = side; kind = if i.is_king then King else Man })) (range_with_len i.from (i.to + 1 - i.from))
+named side i = map (λ s. (s, record { side = side; kind = if i.is_king then King else Man }))
+    (range_with_len i.from (i.to + 1 - i.from))
 
 abbrev pub all_named : Side → List Placing → List (ℕ × Piece)
 all_named side is = flat_map (named side) is
@@ -66,13 +73,16 @@ Sets g p (first ∷ others) q = (put_fault g p first.0 first.1 ≡ None) × Sets
 
 -- the words of a text that names a position: turn, `:`, a list, and nothing or `:` and a list of the other colour
 pub data Names : Geometry → List Word → Placement → Type 0 where
-  one_list : {g : Geometry} {turn colon : Word} {p : Placement} (ws es : List Word) (mover first : Side) (is : List Placing)
+  one_list : {g : Geometry} {turn colon : Word} {p : Placement} (ws es : List Word) (mover first : Side)
+      (is : List Placing)
       → side_named turn ≡ Some mover → is_sign 58 colon ≡ true → IsList g ws first is → IsEnd es
       → Sets g (empty mover) (all_named first is) p → Names g (turn ∷ colon ∷ (ws ++ es)) p
-  two_lists : {g : Geometry} {turn colon : Word} {p : Placement} (ws : List Word) (between : Word) (vs es : List Word) (mover first second : Side) (is js : List Placing)
+  two_lists : {g : Geometry} {turn colon : Word} {p : Placement} (ws : List Word) (between : Word) (vs es : List Word)
+      (mover first second : Side) (is js : List Placing)
       → side_named turn ≡ Some mover → is_sign 58 colon ≡ true → IsList g ws first is
       → is_sign 58 between ≡ true → IsList g vs second js → same_side first second ≡ false → IsTail es
-      → Sets g (empty mover) (all_named first is ++ all_named second js) p → Names g (turn ∷ colon ∷ (ws ++ between ∷ (vs ++ es))) p
+      → Sets g (empty mover) (all_named first is ++ all_named second js) p
+      → Names g (turn ∷ colon ∷ (ws ++ between ∷ (vs ++ es))) p
 
 -- a FEN text of at most 1,024 bytes names a position
 abbrev pub Fen : Geometry → List ℕ → Placement → Type 0

@@ -1,5 +1,6 @@
 -- The tokens of a FEN text: letters, runs of digits and signs, with blanks before, between and behind them.
-use Rattle.std.specs.Prelude.{ℕ, ◌+◌, ◌-◌, ◌*◌, ◌==◌, ◌&&◌, ◌||◌, nat_le, Bool, false, if◌then◌else◌, Option, Some, None, List, [], ◌∷◌}
+use Rattle.std.specs.Prelude.{ℕ, ◌+◌, ◌-◌, ◌*◌, ◌==◌, ◌&&◌, ◌||◌, nat_le, Bool, false, if◌then◌else◌, Option, Some}
+use Rattle.std.specs.Prelude.{None, List, [], ◌∷◌}
 use Rattle.dw_board.specs.Geometry.{Geometry, squares}
 use Rattle.dw_board.specs.declared.piece.Side.{Side}
 use Rattle.dw_board.specs.declared.piece.Side.TheVariants.{White, Black}
@@ -47,7 +48,10 @@ onto_run digit place (run ∷ tokens) = record { text = digit ∷ run.text; plac
 abbrev pub with_byte : ℕ → ℕ → Bool → List Token → List Token
 with_byte byte place joins tokens =
     if is_blank byte then tokens
-    else (if is_digit byte && joins then onto_run byte place tokens else record { text = byte ∷ []; place = place } ∷ tokens)
+    else (if is_digit byte && joins then onto_run byte place tokens else record {
+      text = byte ∷ [];
+      place = place;
+    } ∷ tokens)
 
 -- the tokens of bytes, the first of which stands at this place
 abbrev pub tokens_from : ℕ → List ℕ → List Token

@@ -19,7 +19,8 @@ StepsStay = (g : Geometry) → IsBoard g → (s t : ℕ) (d : Dir) → OnBoard g
 
 -- squares in the same row and the same column are the same
 abbrev pub PlacesDiffer : Type 0
-PlacesDiffer = (g : Geometry) → IsBoard g → (s t : ℕ) → OnBoard g s → OnBoard g t → row g s ≡ row g t → column g s ≡ column g t → s ≡ t
+PlacesDiffer = (g : Geometry) → IsBoard g → (s t : ℕ) → OnBoard g s → OnBoard g t → row g s ≡ row g t
+    → column g s ≡ column g t → s ≡ t
 
 -- on padded words a shift is a step
 abbrev pub ShiftsStep : Type 0

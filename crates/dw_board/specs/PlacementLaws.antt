@@ -1,5 +1,6 @@
 -- Equality of positions is equality of what contracts see.
-use Rattle.std.proofs.Common.{◌≡◌, ℕ, suc, zero, Bool, true, List, [], ◌∷◌, map, Option, Some, None, refl, sym, ap, ◌∙◌, ◌↔◌, eqb}
+use Rattle.std.proofs.Common.{◌≡◌, ℕ, suc, zero, Bool, true, List, [], ◌∷◌, map, Option, Some, None, refl, sym, ap, ◌∙◌}
+use Rattle.std.proofs.Common.{◌↔◌, eqb}
 use Rattle.std.specs.Cmp.Lexicographic.{pointwise, bytes_decides}
 use Rattle.std.specs.Ordering.{on, eq_of_both}
 use Rattle.std.proofs.lemmas.Bool.{and_parts, and_from, eqb-true, eq-eqb}
@@ -17,7 +18,8 @@ cell_at (suc (suc zero)) = Some (record { side = White; kind = King })
 cell_at (suc (suc (suc zero))) = Some (record { side = Black; kind = Man })
 cell_at (suc (suc (suc (suc n)))) = Some (record { side = Black; kind = King })
 
-piece_back : (s : Side) (k : Kind) → cell_at (cell_code (Some (record { side = s; kind = k }))) ≡ Some (record { side = s; kind = k })
+piece_back : (s : Side) (k : Kind) → cell_at (cell_code (Some (record { side = s; kind = k })))
+    ≡ Some (record { side = s; kind = k })
 piece_back White Man = refl
 piece_back White King = refl
 piece_back Black Man = refl
@@ -43,8 +45,10 @@ same = eq_of_both (on (λ p. side_code p.turn) eqb) (on cell_codes (pointwise eq
 pub same-is : (a b : Placement) → (same a b ≡ true) ↔ (a ≡ b)
 same-is a b = (
   (λ e. let h = and_parts _ _ e in
-      let c = sym (cells_back a.cells) ∙ (ap (map cell_at) ((bytes_decides (cell_codes a) (cell_codes b)).0 h.1) ∙ cells_back b.cells) in
+      let c = sym (cells_back a.cells) ∙ (ap (map cell_at) ((bytes_decides (cell_codes a) (cell_codes b)).0 h.1)
+      ∙ cells_back b.cells) in
       let t = side_back a.turn b.turn (eqb-true _ _ h.0) in
       λ i. record { cells = c i; turn = t i }),
-  (λ e. and_from _ _ (eq-eqb _ _ (ap (λ p. side_code p.turn) e)) ((bytes_decides (cell_codes a) (cell_codes b)).1 (ap cell_codes e))),
+  (λ e. and_from _ _ (eq-eqb _ _ (ap (λ p. side_code p.turn) e))
+      ((bytes_decides (cell_codes a) (cell_codes b)).1 (ap cell_codes e))),
 )

@@ -1,5 +1,6 @@
 -- Sets of squares, and the padded words that hold them: square s is the bit `bit g s`.
-use Rattle.std.proofs.Common.{◌≡◌, ℕ, suc, zero, ◌+◌, ◌/◌, ◌%◌, ◌^◌, Bool, true, cond, ◌&&◌, eqb, leb, Option, Some, None, is_some, bit_or}
+use Rattle.std.proofs.Common.{◌≡◌, ℕ, suc, zero, ◌+◌, ◌/◌, ◌%◌, ◌^◌, Bool, true, cond, ◌&&◌, eqb, leb, Option, Some}
+use Rattle.std.proofs.Common.{None, is_some, bit_or}
 use Rattle.std.specs.Int.{bit_at}
 use Rattle.std.specs.Ordering.{nat_cmp}
 use Rattle.std.specs.FinSet as set
@@ -15,12 +16,14 @@ is_set w x = eqb (bit_at w x) 1
 
 -- the square of a bit; the bit behind each two rows belongs to none
 abbrev pub square_at : Geometry → ℕ → Option ℕ
-square_at g x = cond (leb (x + 1) (squares g + g.rows / 2) && leb (x % (g.rows + 1) + 1) g.rows) (Some (square_of g x)) None
+square_at g x = cond (leb (x + 1) (squares g + g.rows / 2) && leb (x % (g.rows + 1) + 1) g.rows)
+    (Some (square_of g x)) None
 
 -- the squares up to n whose bit is set
 unfoldable pub members_below : Geometry → ℕ → ℕ → Squares
 members_below g w zero = set.empty
-members_below g w (suc n) = cond (is_set w (bit g (suc n))) (set.insert (members_below g w n) (suc n)) (members_below g w n)
+members_below g w (suc n) = cond (is_set w (bit g (suc n))) (set.insert (members_below g w n) (suc n))
+    (members_below g w n)
 
 -- the squares of a word
 unfoldable pub squares_of : Geometry → ℕ → Squares

@@ -1,5 +1,6 @@
 -- The squares on which each side's men stand and its kings, as four sets.
-use Rattle.std.proofs.Common.{◌≡◌, ℕ, suc, zero, Bool, true, false, cond, ◌&&◌, ◌++◌, List, Option, Some, None, get_or, map}
+use Rattle.std.proofs.Common.{◌≡◌, ℕ, suc, zero, Bool, true, false, cond, ◌&&◌, ◌++◌, List, Option, Some, None, get_or}
+use Rattle.std.proofs.Common.{map}
 use Rattle.std.specs.FinSet as set
 use Rattle.std.specs.Hash as fed
 use Rattle.std.specs.List.{range_with_len}
@@ -28,7 +29,9 @@ is_that side k (Some p) = same_side p.side side && same_kind p.kind k
 -- the squares up to n on which a piece of this side and kind stands
 unfoldable pub standing_below : List (Option Piece) → Side → Kind → ℕ → Squares
 standing_below cells side k zero = set.empty
-standing_below cells side k (suc n) = cond (is_that side k (get_or cells n None)) (set.insert (standing_below cells side k n) (suc n)) (standing_below cells side k n)
+standing_below cells side k (suc n) =
+    cond (is_that side k (get_or cells n None)) (set.insert (standing_below cells side k n) (suc n))
+    (standing_below cells side k n)
 
 -- the squares on which a piece of this side and kind stands
 unfoldable pub standing : List (Option Piece) → Side → Kind → Squares

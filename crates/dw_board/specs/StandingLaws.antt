@@ -1,5 +1,6 @@
 -- Laws of the sets of the squares on which pieces stand.
-use Rattle.std.proofs.Common.{◌≡◌, ◌∙◌, ℕ, suc, zero, ◌-◌, ◌↔◌, Bool, true, ◌&&◌, leb, List, Option, Some, None, get_or, refl, sym, ap, arith, inl, inr}
+use Rattle.std.proofs.Common.{◌≡◌, ◌∙◌, ℕ, suc, zero, ◌-◌, ◌↔◌, Bool, true, ◌&&◌, leb, List, Option, Some, None, get_or}
+use Rattle.std.proofs.Common.{refl, sym, ap, arith, inl, inr}
 use Rattle.std.specs.Ordering.{nat_cmp}
 use Rattle.std.specs.FinSet as set
 use Rattle.std.proofs.lemmas.Bool.{cases_lt, and_parts, and_from, leb-true, le-leb}
@@ -30,7 +31,8 @@ same_kind-true Man King e = cc
 same_kind-true King Man e = cc
 same_kind-true King King e = refl
 
-is_that-some : (side : Side) (k : Kind) (o : Option Piece) → is_that side k o ≡ true → o ≡ Some (record { side = side; kind = k })
+is_that-some : (side : Side) (k : Kind) (o : Option Piece) → is_that side k o ≡ true
+    → o ≡ Some (record { side = side; kind = k })
 is_that-some side k None e = cc
 is_that-some side k (Some p) e =
     let h = and_parts _ _ e in
@@ -46,11 +48,14 @@ is_that-here Black King = refl
 
 -- ---- the members
 pub contains-below : (cells : Cells) (side : Side) (k : Kind) (n q : ℕ)
-    → set.contains (standing_below cells side k n) q ≡ ((leb 1 q && leb q n) && is_that side k (get_or cells (q - 1) None))
+    → set.contains (standing_below cells side k n) q
+    ≡ ((leb 1 q && leb q n) && is_that side k (get_or cells (q - 1) None))
 unfolding standing_below
-contains-below cells side k zero q = set.contains-empty nat_cmp q ∙ sym (ap (λ b. b && is_that side k (get_or cells (q - 1) None)) (none_in_empty q))
+contains-below cells side k zero q =
+    set.contains-empty nat_cmp q ∙ sym (ap (λ b. b && is_that side k (get_or cells (q - 1) None)) (none_in_empty q))
 contains-below cells side k (suc n) q =
-    member_more (is_that side k (get_or cells n None)) (is_that side k (get_or cells (q - 1) None)) (standing_below cells side k n) q n
+    member_more (is_that side k (get_or cells n None)) (is_that side k (get_or cells (q - 1) None))
+    (standing_below cells side k n) q n
     (contains-below cells side k n q)
     (λ e. let here : q - 1 ≡ n = omega arith in ap (λ x. is_that side k (get_or cells x None)) here)
 
@@ -59,8 +64,10 @@ pub contains-standing : (cells : Cells) (side : Side) (k : Kind) (q : ℕ)
 unfolding standing
 contains-standing cells side k q = contains-below cells side k 50 q
 
-pub standing-members : (g : Geometry) → IsBoard g → (cells : Cells) → IsPosition g cells → (side : Side) (k : Kind) (s : ℕ)
-    → (set.contains (standing cells side k) s ≡ true) ↔ (OnBoard g s × (get_or cells (s - 1) None ≡ Some (record { side = side; kind = k })))
+pub standing-members : (g : Geometry) → IsBoard g → (cells : Cells) → IsPosition g cells
+    → (side : Side) (k : Kind) (s : ℕ)
+    → (set.contains (standing cells side k) s ≡ true)
+    ↔ (OnBoard g s × (get_or cells (s - 1) None ≡ Some (record { side = side; kind = k })))
 standing-members g b cells pos side k s = (
   (λ e.
       let h = and_parts _ _ (sym (contains-standing cells side k s) ∙ e) in
@@ -81,7 +88,9 @@ standing-members g b cells pos side k s = (
 
 -- ---- four sets that are the same
 abbrev pub same_sets : {B : Type 0} → Held B → Held B → Bool
-same_sets h k = same_members h.white_men k.white_men && (same_members h.white_kings k.white_kings && (same_members h.black_men k.black_men && same_members h.black_kings k.black_kings))
+same_sets h k = same_members h.white_men k.white_men
+    && (same_members h.white_kings k.white_kings
+    && (same_members h.black_men k.black_men && same_members h.black_kings k.black_kings))
 
 pub same_sets-is : {B : Type 0} (h k : Held B) → (same_sets h k ≡ true) ↔ (h ≡ k)
 same_sets-is h k = (

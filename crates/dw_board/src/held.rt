@@ -59,7 +59,8 @@ impl<B: Board> Held<B> {
     /// All squares on which a piece stands.
     #[inline]
     pub(crate) fn occupied(&self) -> Squares<B>
-        ensures { result ≡ set.union (set.union (set_of self.now White Man) (set_of self.now White King)) (set.union (set_of self.now Black Man) (set_of self.now Black King)) }
+        ensures { result ≡ set.union (set.union (set_of self.now White Man) (set_of self.now White King))
+            (set.union (set_of self.now Black Man) (set_of self.now Black King)) }
     {
         self.all_of(Side::White).or(self.all_of(Side::Black))
     }
@@ -98,7 +99,8 @@ impl<B: Board> Held<B> {
     /// The same, and the piece on the square.
     #[inline]
     pub(crate) fn with(self, square: Square<B>, piece: Piece) -> Self
-        ensures { (side : Side) (kind : Kind) → set_of result side kind ≡ entered side kind (set_of self side kind) square piece }
+        ensures { (side : Side) (kind : Kind)
+            → set_of result side kind ≡ entered side kind (set_of self side kind) square piece }
     {
         let mut held = self;
         match (piece.side, piece.kind) {
@@ -126,7 +128,8 @@ impl<B: Board> Held<B> {
     /// The same, and nothing on these squares.
     #[inline]
     pub(crate) fn minus(self, squares: Squares<B>) -> Self
-        ensures { (side : Side) (kind : Kind) → set_of result side kind ≡ set.difference (set_of self side kind) squares }
+        ensures { (side : Side) (kind : Kind)
+            → set_of result side kind ≡ set.difference (set_of self side kind) squares }
     {
         Held {
             white_men: self.white_men.minus(squares),

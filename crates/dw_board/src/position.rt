@@ -1,5 +1,6 @@
 //! Positions: what stands on a board, and whose turn it is.
-ghost use Rattle.std.specs.Prelude.{◌≡◌, ◌≤◌, ◌<◌, ◌↔◌, ℕ, Some, None, Ok, Err, IsTrue, is_ok, is_some, if◌then◌else◌, MatchResult, Result};
+ghost use Rattle.std.specs.Prelude.{◌≡◌, ◌≤◌, ◌<◌, ◌↔◌, ℕ, Some, None, Ok, Err, IsTrue, is_ok, is_some, if◌then◌else◌};
+ghost use Rattle.std.specs.Prelude.{MatchResult, Result};
 ghost use Rattle.dw_board.specs.Placement.{Placement, IsPosition, placed, without, put_fault};
 ghost use Rattle.dw_board.specs.Placement as of;
 ghost use Rattle.dw_board.specs.Geometry as Geo;
@@ -45,9 +46,27 @@ impl<B: Board> Model for Position<B> {
 
     ghost invariant = { λ p. IsKept B.geometry (cells_of (set_of p.held)) (set_of p.held) };
 
-    ghost inverse = { λ v. record { held = record { white_men = standing v.cells White Man; white_kings = standing v.cells White King; black_men = standing v.cells Black Man; black_kings = standing v.cells Black King }; turn = v.turn } };
+    ghost inverse = { λ v. record {
+      held =
+          record {
+            white_men = standing v.cells White Man;
+            white_kings = standing v.cells White King;
+            black_men = standing v.cells Black Man;
+            black_kings = standing v.cells Black King;
+          };
+      turn = v.turn;
+    } };
 
-    ghost inverse_ok = { λ a h i. record { held = record { white_men = h.standing_is White Man i; white_kings = h.standing_is White King i; black_men = h.standing_is Black Man i; black_kings = h.standing_is Black King i }; turn = a.turn } };
+    ghost inverse_ok = { λ a h i. record {
+      held =
+          record {
+            white_men = h.standing_is White Man i;
+            white_kings = h.standing_is White King i;
+            black_men = h.standing_is Black Man i;
+            black_kings = h.standing_is Black King i;
+          };
+      turn = a.turn;
+    } };
 }
 
 impl<B: Board> Position<B> {
@@ -140,7 +159,8 @@ impl<B: Board> Position<B> {
     /// The squares on which a piece of this side and kind stands.
     #[inline]
     pub fn squares(&self, side: Side, kind: Kind) -> Squares<B>
-        ensures { (s : ℕ) → IsTrue (set.contains result s) ↔ (Geo.OnBoard B.geometry s × (of.at self.now s ≡ Some (record { side = side; kind = kind }))) }
+        ensures { (s : ℕ) → IsTrue (set.contains result s)
+            ↔ (Geo.OnBoard B.geometry s × (of.at self.now s ≡ Some (record { side = side; kind = kind }))) }
     {
         self.held.of(side, kind)
     }
@@ -148,7 +168,8 @@ impl<B: Board> Position<B> {
     /// All squares on which a piece of this side stands.
     #[inline]
     pub fn all_of(&self, side: Side) -> Squares<B>
-        ensures { (s : ℕ) → IsTrue (set.contains result s) ↔ (Geo.OnBoard B.geometry s × IsTrue (of.is_of side (of.at self.now s))) }
+        ensures { (s : ℕ) → IsTrue (set.contains result s)
+            ↔ (Geo.OnBoard B.geometry s × IsTrue (of.is_of side (of.at self.now s))) }
     {
         self.held.all_of(side)
     }
@@ -156,7 +177,8 @@ impl<B: Board> Position<B> {
     /// All squares on which a piece stands.
     #[inline]
     pub fn occupied(&self) -> Squares<B>
-        ensures { (s : ℕ) → IsTrue (set.contains result s) ↔ (Geo.OnBoard B.geometry s × IsTrue (is_some (of.at self.now s))) }
+        ensures { (s : ℕ) → IsTrue (set.contains result s)
+            ↔ (Geo.OnBoard B.geometry s × IsTrue (is_some (of.at self.now s))) }
     {
         self.held.occupied()
     }
@@ -257,9 +279,13 @@ impl<B: Board> Ord for Position<B> {
 }
 
 impl<B: Board> PartialOrd for Position<B> {
-    ghost partial_cmp = { as_partial_cmp (then_cmp (on (λ p. side_code p.turn) nat_cmp) (on cell_codes (slice_cmp nat_cmp))) };
+    ghost partial_cmp = { as_partial_cmp
+        (then_cmp (on (λ p. side_code p.turn) nat_cmp) (on cell_codes (slice_cmp nat_cmp))) };
 
-    ghost laws = { partial_order_from_own_ties (Prim.search (comparing, rules) depth 9) (Prim.search (comparing, rules) depth 9) };
+    ghost laws = { partial_order_from_own_ties (Prim.search (comparing, rules) depth 9) (Prim.search (
+      comparing,
+      rules,
+    ) depth 9) };
 
     fn partial_cmp(&self, other: &Self) -> Option<Ordering> {
         Some(self.cmp(other))

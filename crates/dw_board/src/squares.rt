@@ -41,7 +41,10 @@ impl<B: Board> Model for Squares<B> {
 
     ghost inverse = { λ v. record { word = word_of B.geometry v; board = record {} } };
 
-    ghost inverse_ok = { λ a h i. record { word = word_of-squares_of B.geometry h.board a.word h.only i; board = a.board } };
+    ghost inverse_ok = { λ a h i. record {
+      word = word_of-squares_of B.geometry h.board a.word h.only i;
+      board = a.board;
+    } };
 }
 
 impl<B: Board> Squares<B> {
@@ -179,7 +182,8 @@ impl<B: Board> Squares<B> {
     /// The padded word: the bit `s - 1 + (s - 1) / ROWS` for each square s of the set, and no other.
     #[inline]
     pub fn word(self) -> u64
-        ensures members { (s : ℕ) → IsTrue (set.contains self s) ↔ (Geo.OnBoard B.geometry s × IsTrue (is_set result (Geo.bit B.geometry s))) }
+        ensures members { (s : ℕ) → IsTrue (set.contains self s)
+            ↔ (Geo.OnBoard B.geometry s × IsTrue (is_set result (Geo.bit B.geometry s))) }
         ensures only { OnlySquares B.geometry result }
     {
         self.word
@@ -188,7 +192,8 @@ impl<B: Board> Squares<B> {
     /// The squares that a step leads to from these.
     #[inline]
     pub fn shifted(self, direction: Dir) -> Self
-        ensures { (t : ℕ) → IsTrue (set.contains result t) ↔ ((s : ℕ) × (IsTrue (set.contains self s) × (Geo.step B.geometry s direction ≡ Some t))) }
+        ensures { (t : ℕ) → IsTrue (set.contains result t)
+            ↔ ((s : ℕ) × (IsTrue (set.contains self s) × (Geo.step B.geometry s direction ≡ Some t))) }
     {
         Squares {
             word: shifted_word::<B>(self.word, direction) & B::WORD,

@@ -16,7 +16,8 @@ pub record LendsNext {B M G : Type 0} (g : Geometry) (content : M → Content) (
     (old new : Lister B M G) (result : Result (Option (Bor (List Move))) Stop) : Type 0 where
   pub lender : lender new ≡ lender old
   pub next : MatchResult result
-      (λ given. MatchOption given (GivesNone g (stack_of old) (stack_of new)) (λ line. GivesFirst g (stack_of old) (stack_of new)))
+      (λ given. MatchOption given (GivesNone g (stack_of old) (stack_of new))
+      (λ line. GivesFirst g (stack_of old) (stack_of new)))
       (λ stop. SameToCome g (stack_of old) (stack_of new))
   pub line : MatchResult result
       (λ given. MatchOption given (Unit {0}) (λ line. line.now ≡ reverse (stack_of new).line)) (λ stop. Unit {0})

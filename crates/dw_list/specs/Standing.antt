@@ -117,17 +117,36 @@ abbrev pub kind_code : Coded Kind
 kind_code = code_by Bool coded_bool is_king kind_by kind_back
 
 abbrev pub piece_code : Coded Piece
-piece_code = code_by (Side × Kind) (coded× side_code kind_code) (λ p. (p.side, p.kind)) (λ c. record { side = c.0; kind = c.1 }) (λ _. refl)
+piece_code = code_by (Side × Kind) (coded× side_code kind_code) (λ p. (p.side, p.kind)) (λ c. record {
+  side = c.0;
+  kind = c.1;
+}) (λ _. refl)
 
 abbrev pub placement_code : Coded Placement
-placement_code = code_by (List (Option Piece) × Side) (coded× (coded_list (coded_option piece_code)) side_code) (λ p. (p.cells, p.turn)) (λ c. record { cells = c.0; turn = c.1 }) (λ _. refl)
+placement_code = code_by (List (Option Piece)
+    × Side) (coded× (coded_list (coded_option piece_code)) side_code) (λ p. (
+      p.cells,
+      p.turn,
+    )) (λ c. record { cells = c.0; turn = c.1 }) (λ _. refl)
 
 abbrev pub level_code : Coded Level
 level_code =
-    code_by (Placement × (Bool × (ℕ × Option (List Move)))) (coded× placement_code (coded× coded_bool (coded× coded_ℕ (coded_option (coded_list move_code)))))
-    (λ f. (f.position, (f.attacks, (f.left, f.ahead)))) (λ c. record { position = c.0; attacks = c.1.0; left = c.1.1.0; ahead = c.1.1.1 }) (λ _. refl)
+    code_by (Placement × (Bool × (ℕ × Option (List Move))))
+    (coded× placement_code (coded× coded_bool (coded× coded_ℕ (coded_option (coded_list move_code)))))
+    (λ f. (f.position, (f.attacks, (f.left, f.ahead)))) (λ c. record {
+      position = c.0;
+      attacks = c.1.0;
+      left = c.1.1.0;
+      ahead = c.1.1.1;
+    }) (λ _. refl)
 
 abbrev pub standing_code : Coded Standing
 standing_code =
-    code_by (Placement × (ℕ × (List Move × List Level))) (coded× placement_code (coded× coded_ℕ (coded× (coded_list move_code) (coded_list level_code))))
-    (λ s. (s.position, (s.moves, (s.line, s.levels)))) (λ c. record { position = c.0; moves = c.1.0; line = c.1.1.0; levels = c.1.1.1 }) (λ _. refl)
+    code_by (Placement × (ℕ × (List Move × List Level)))
+    (coded× placement_code (coded× coded_ℕ (coded× (coded_list move_code) (coded_list level_code))))
+    (λ s. (s.position, (s.moves, (s.line, s.levels)))) (λ c. record {
+      position = c.0;
+      moves = c.1.0;
+      line = c.1.1.0;
+      levels = c.1.1.1;
+    }) (λ _. refl)

@@ -1,5 +1,6 @@
 -- The steps of a stack.
-use Rattle.std.specs.Prelude.{◌≡◌, ℕ, ◌+◌, ◌-◌, ◌*◌, ◌^◌, ◌<◌, ◌⊎◌, ◌↔◌, Bool, Option, Some, None, option_map, List, [], ◌∷◌, length, drop, reverse}
+use Rattle.std.specs.Prelude.{◌≡◌, ℕ, ◌+◌, ◌-◌, ◌*◌, ◌^◌, ◌<◌, ◌⊎◌, ◌↔◌, Bool, Option, Some, None, option_map, List, []}
+use Rattle.std.specs.Prelude.{◌∷◌, length, drop, reverse}
 use Rattle.std.proofs.Common.{zero, suc}
 use Rattle.dw_board.specs.Geometry.{Geometry}
 use Rattle.dw_board.specs.Placement.{Placement}
@@ -69,4 +70,5 @@ pub record IsGiven (g : Geometry) (old new : Standing) : Type 0 where
   pub either : (l : List Move) → Line g old.position old.moves l →
       IsStillAhead old.levels old.line l → (l ≡ reverse new.line) ⊎ IsStillAhead new.levels new.line l
   pub later : (l : List Move) → Line g old.position old.moves l →
-      IsStillAhead new.levels new.line l → IsStillAhead old.levels old.line l × Before g old.position (reverse new.line) l
+      IsStillAhead new.levels new.line l → IsStillAhead old.levels old.line l
+      × Before g old.position (reverse new.line) l

@@ -33,7 +33,9 @@ pub fn all_lines<B: Board, M: Memo<B>, G: Guide<B>>(
     ensures lines { IfOk result (λ lines. Lines B.geometry position.now moves (map (λ line. line.items) lines.items)) }
     ensures count { IsCounted solver.old.expanded solver.old.limit solver.new.expanded solver.new.limit }
     ensures stop { IsErrOf result Limit → solver.new.expanded ≡ solver.new.limit }
-    ensures searched { Searched B.geometry moves (cut_off result moves) (moment M.content M.dropped solver.old.memo solver.old.expanded) (moment M.content M.dropped solver.new.memo solver.new.expanded) }
+    ensures searched { Searched B.geometry moves (cut_off result moves)
+        (moment M.content M.dropped solver.old.memo solver.old.expanded)
+        (moment M.content M.dropped solver.new.memo solver.new.expanded) }
 {
     ways(alloc, solver, position, true, moves)
 }
@@ -48,7 +50,8 @@ fn ways<B: Board, M: Memo<B>, G: Guide<B>>(
     moves: u8,
 ) -> Result<Vec<Vec<Move<B>>>, Stop>
     requires { moves ≤ 20 }
-    ensures ways { IfOk result (λ lists. AreWays B.geometry attacks position.now moves (map (λ list. list.items) lists.items)) }
+    ensures ways { IfOk result (λ lists.
+        AreWays B.geometry attacks position.now moves (map (λ list. list.items) lists.items)) }
     ensures asked { Asked B.geometry M.content M.dropped moves solver.old solver.new result }
 {
     searches_add_up();
@@ -73,8 +76,10 @@ fn ends<B: Board>(
     attacks: bool,
     list: &[Listed<B>],
 ) -> Result<Vec<Vec<Move<B>>>, AllocError>
-    ensures some { IfOk result (λ lists. (attacks ≡ true) ⊎ (0 < length list.now) → map (λ list. list.items) lists.items ≡ []) }
-    ensures none { IfOk result (λ lists. attacks ≡ false → length list.now ≡ 0 → map (λ list. list.items) lists.items ≡ [] ∷ []) }
+    ensures some { IfOk result (λ lists. (attacks ≡ true)
+        ⊎ (0 < length list.now) → map (λ list. list.items) lists.items ≡ []) }
+    ensures none { IfOk result (λ lists. attacks ≡ false → length list.now ≡ 0
+        → map (λ list. list.items) lists.items ≡ [] ∷ []) }
 {
     let mut lists = Vec::new(alloc);
     if !attacks && list.is_empty() {
@@ -116,7 +121,8 @@ fn push_each<B: Board>(
     behind: &[Vec<Move<B>>],
     lists: &mut Vec<Vec<Move<B>>>,
 ) -> Result<(), AllocError>
-    ensures { OnOk result (map (λ list. list.items) lists.new.items ≡ map (λ list. list.items) lists.old.items ++ map (λ list. step.now ∷ list.items) behind.now) }
+    ensures { OnOk result (map (λ list. list.items) lists.new.items
+        ≡ map (λ list. list.items) lists.old.items ++ map (λ list. step.now ∷ list.items) behind.now) }
 {
     'lists: for rest in behind {
         lists.push(joined(alloc, step, rest.as_slice())?)?;

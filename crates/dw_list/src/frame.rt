@@ -30,7 +30,12 @@ impl<B: Board> Model for Frame<B> {
 
     ghost coded = { level_code };
 
-    ghost view = { λ f. record { position = f.position; attacks = f.attacks; left = f.left; ahead = option_map (λ list. drop f.passed (map (λ l. l.step) list.items)) f.moves } };
+    ghost view = { λ f. record {
+      position = f.position;
+      attacks = f.attacks;
+      left = f.left;
+      ahead = option_map (λ list. drop f.passed (map (λ l. l.step) list.items)) f.moves;
+    } };
 }
 
 impl<B: Board> Frame<B> {

@@ -58,7 +58,8 @@ impl<'a, B: Board, M: Memo<B>, G: Guide<B>> Lister<'a, B, M, G> {
         ensures solver { solver_of result ≡ solver.old }
         ensures position { (stack_of result).position ≡ position.now }
         ensures moves { (stack_of result).moves ≡ moves }
-        ensures to_come { (lines : List (List of.Move)) → Lines B.geometry position.now moves lines ↔ AreToCome B.geometry (stack_of result) lines }
+        ensures to_come { (lines : List (List of.Move)) → Lines B.geometry position.now moves lines
+            ↔ AreToCome B.geometry (stack_of result) lines }
         ensures shared { shared_of result ≡ 0 }
         ensures kept { kept_of result ≡ 0 }
     {
@@ -74,16 +75,21 @@ impl<'a, B: Board, M: Memo<B>, G: Guide<B>> Lister<'a, B, M, G> {
     /// the list is no line, or the search is stopped, the lines still to come are what they were.
     pub fn after(&mut self, alloc: Global, line: &[Move<B>]) -> Result<(), AfterFault>
         ensures lender { lender self.new ≡ lender self.old }
-        ensures after { OnOk result (IsAlong B.geometry (stack_of self.old).position (stack_of self.old).moves line.now (stack_of self.new)) }
-        ensures refused { IfErr result (IsRefusal B.geometry (stack_of self.old).position (stack_of self.old).moves line.now) }
+        ensures after { OnOk result (IsAlong B.geometry (stack_of self.old).position (stack_of self.old).moves line.now
+            (stack_of self.new)) }
+        ensures refused { IfErr result (IsRefusal B.geometry (stack_of self.old).position (stack_of self.old).moves
+            line.now) }
         ensures none_shared { OnOk result (shared_of self.new ≡ 0) }
         ensures none_kept { OnOk result (kept_of self.new ≡ 0) }
         ensures same { OnErr result (stack_of self.new ≡ stack_of self.old) }
         ensures same_shared { OnErr result (shared_of self.new ≡ shared_of self.old) }
         ensures same_kept { OnErr result (kept_of self.new ≡ kept_of self.old) }
-        ensures count { IsCounted (solver_of self.old).expanded (solver_of self.old).limit (solver_of self.new).expanded (solver_of self.new).limit }
-        ensures stop { IfErr result (λ fault. fault ≡ Stopped Limit → (solver_of self.new).expanded ≡ (solver_of self.new).limit) }
-        ensures searched { Searched B.geometry (stack_of self.old).moves (cut_after result (stack_of self.old).moves) (moment_of M.content M.dropped (solver_of self.old)) (moment_of M.content M.dropped (solver_of self.new)) }
+        ensures count { IsCounted (solver_of self.old).expanded (solver_of self.old).limit (solver_of self.new).expanded
+            (solver_of self.new).limit }
+        ensures stop { IfErr result (λ fault. fault ≡ Stopped Limit
+            → (solver_of self.new).expanded ≡ (solver_of self.new).limit) }
+        ensures searched { Searched B.geometry (stack_of self.old).moves (cut_after result (stack_of self.old).moves)
+            (moment_of M.content M.dropped (solver_of self.old)) (moment_of M.content M.dropped (solver_of self.new)) }
     {
         let position = *self.stack.position();
         let moves = self.stack.moves();
@@ -107,9 +113,11 @@ impl<'a, B: Board, M: Memo<B>, G: Guide<B>> Lister<'a, B, M, G> {
         ensures stopped { OnErr result (SameToCome B.geometry (stack_of self.old) (stack_of self.new)) }
         ensures shared { IfOk result (λ more. IsTrue more → IsShared self.old self.new) }
         ensures on_the_way { OnErr result (IsOnTheWay self.old self.new) }
-        ensures count { IsCounted (solver_of self.old).expanded (solver_of self.old).limit (solver_of self.new).expanded (solver_of self.new).limit }
+        ensures count { IsCounted (solver_of self.old).expanded (solver_of self.old).limit (solver_of self.new).expanded
+            (solver_of self.new).limit }
         ensures stop { IsErrOf result Limit → (solver_of self.new).expanded ≡ (solver_of self.new).limit }
-        ensures searched { Searched B.geometry (stack_of self.old).moves (cut_off result (stack_of self.old).moves) (moment_of M.content M.dropped (solver_of self.old)) (moment_of M.content M.dropped (solver_of self.new)) }
+        ensures searched { Searched B.geometry (stack_of self.old).moves (cut_off result (stack_of self.old).moves)
+            (moment_of M.content M.dropped (solver_of self.old)) (moment_of M.content M.dropped (solver_of self.new)) }
     {
         let more = walk(alloc, self.solver, &mut self.stack, &mut self.kept)?;
         if more {
@@ -121,7 +129,11 @@ impl<'a, B: Board, M: Memo<B>, G: Guide<B>> Lister<'a, B, M, G> {
 
     /// The next line, lent as it stands in the lister's own array, or `None` if no line is still to come.
     pub fn next(&mut self, alloc: Global) -> Result<Option<&[Move<B>]>, Stop>
-        ensures* after { sem 𝓛 (follows_so (the_row (record { mir = named 1; lft = [] }) B.row M.row G.row B.Board M.Memo) (the_row (record { mir = named 1; lft = [] }) B.row M.row G.row B.Board M.Memo) self.entry.ghost_name none (λ _ _. ⊤) (λ left. LendsNext B.geometry M.content M.dropped self.old left result)) }
+        ensures* after { sem 𝓛 (follows_so
+            (the_row (record { mir = named 1; lft = [] }) B.row M.row G.row B.Board M.Memo)
+            (the_row (record { mir = named 1; lft = [] }) B.row M.row G.row B.Board M.Memo)
+            self.entry.ghost_name none (λ _ _. ⊤)
+            (λ left. LendsNext B.geometry M.content M.dropped self.old left result)) }
     {
         if self.advance(alloc)? {
             Ok(Some(self.stack.line()))

@@ -31,7 +31,8 @@ pub fn in_portions<B: Board, M: Memo<B>, G: Guide<B>>(
     limits: &[u64],
 ) -> Portions<B>
     ensures lender { lender lister.new ≡ lender lister.old }
-    ensures lines { Gives B.geometry (stack_of lister.old) (stack_of lister.new) (map (λ line. line.items) result.lines.items) }
+    ensures lines { Gives B.geometry (stack_of lister.old) (stack_of lister.new)
+        (map (λ line. line.items) result.lines.items) }
     ensures turns { length result.lines.items + result.stops + result.ends ≡ length limits.now }
     ensures end { 0 < result.ends → AreToCome B.geometry (stack_of lister.new) [] }
     ensures count { (solver_of lister.old).expanded ≤ (solver_of lister.new).expanded }
@@ -56,9 +57,13 @@ fn take_turn<B: Board, M: Memo<B>, G: Guide<B>>(
 )
     requires { length portions.old.lines.items + portions.old.stops + portions.old.ends + 1 < 2 ^ 64 }
     ensures lender { lender lister.new ≡ lender lister.old }
-    ensures lines { (start : Standing) → Gives B.geometry start (stack_of lister.old) (map (λ line. line.items) portions.old.lines.items) → Gives B.geometry start (stack_of lister.new) (map (λ line. line.items) portions.new.lines.items) }
-    ensures turns { length portions.new.lines.items + portions.new.stops + portions.new.ends ≡ length portions.old.lines.items + portions.old.stops + portions.old.ends + 1 }
-    ensures end { (0 < portions.old.ends → AreToCome B.geometry (stack_of lister.old) []) → 0 < portions.new.ends → AreToCome B.geometry (stack_of lister.new) [] }
+    ensures lines { (start : Standing) → Gives B.geometry start (stack_of lister.old)
+        (map (λ line. line.items) portions.old.lines.items)
+        → Gives B.geometry start (stack_of lister.new) (map (λ line. line.items) portions.new.lines.items) }
+    ensures turns { length portions.new.lines.items + portions.new.stops + portions.new.ends
+        ≡ length portions.old.lines.items + portions.old.stops + portions.old.ends + 1 }
+    ensures end { (0 < portions.old.ends → AreToCome B.geometry (stack_of lister.old) []) → 0 < portions.new.ends
+        → AreToCome B.geometry (stack_of lister.new) [] }
     ensures count { (solver_of lister.old).expanded ≤ (solver_of lister.new).expanded }
 {
     if portions.lines.reserve(1).is_err() {

@@ -1,5 +1,6 @@
 //! The stack of a lister: the levels of the line at which it stands.
-ghost use Rattle.std.specs.Prelude.{◌≡◌, ◌≤◌, ◌<◌, ◌*◌, ◌-◌, [], ◌∷◌, drop, take, reverse, length, IfOk, OnErr, not, true};
+ghost use Rattle.std.specs.Prelude.{◌≡◌, ◌≤◌, ◌<◌, ◌*◌, ◌-◌, [], ◌∷◌, drop, take, reverse, length, IfOk, OnErr, not};
+ghost use Rattle.std.specs.Prelude.{true};
 ghost use Rattle.dw_moves.specs.Moves.{Legal, play};
 ghost use Rattle.dw_list.specs.Going.{left_after};
 ghost use Rattle.dw_list.specs.Steps.{begun};
@@ -57,9 +58,15 @@ impl<B: Board> Model for Stack<B> {
 
     ghost coded = { standing_code };
 
-    ghost view = { λ s. record { position = s.position; moves = s.moves; line = reverse s.line.items; levels = reverse s.frames.items } };
+    ghost view = { λ s. record {
+      position = s.position;
+      moves = s.moves;
+      line = reverse s.line.items;
+      levels = reverse s.frames.items;
+    } };
 
-    ghost invariant = { λ s. AreLevels B.geometry s.position s.moves (reverse s.frames.items) (reverse s.line.items) × (length s.frames.items ≤ 2 * s.moves) × IsFew s.moves };
+    ghost invariant = { λ s. AreLevels B.geometry s.position s.moves (reverse s.frames.items) (reverse s.line.items)
+        × (length s.frames.items ≤ 2 * s.moves) × IsFew s.moves };
 }
 
 impl<B: Board> Stack<B> {
@@ -72,7 +79,12 @@ impl<B: Board> Stack<B> {
     pub(crate) fn new(position: &Position<B>, moves: u8) -> Self
         requires some { 1 ≤ moves }
         requires few { moves ≤ 20 }
-        ensures { result ≡ record { position = position.now; moves = moves; line = []; levels = begun position.now true moves ∷ [] } }
+        ensures { result ≡ record {
+          position = position.now;
+          moves = moves;
+          line = [];
+          levels = begun position.now true moves ∷ [];
+        } }
     {
         let mut frames = ArrayVec::new();
         frames.push(Frame::new(*position, true, moves));
@@ -159,7 +171,10 @@ impl<B: Board> Stack<B> {
     pub(crate) fn enter(&mut self, trial: &Trial<B>)
         requires first { IsTrial B.geometry self.old.levels trial.now }
         requires keeps { Keeps B.geometry trial.now.attacks trial.now.after trial.now.left }
-        ensures { self.new ≡ record self.old { line = trial.now.step ∷ self.old.line; levels = begun trial.now.after (not trial.now.attacks) trial.now.left ∷ passed_last self.old.levels } }
+        ensures { self.new ≡ record self.old {
+          line = trial.now.step ∷ self.old.line;
+          levels = begun trial.now.after (not trial.now.attacks) trial.now.left ∷ passed_last self.old.levels;
+        } }
     {
         let mut frame = self.frames.pop().unwrap();
         frame.pass();

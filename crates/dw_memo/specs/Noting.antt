@@ -19,7 +19,8 @@ pub record AreMissing (old : Content) (p : Placement) (b : Bounds) (new : Conten
 
 -- Bounds were given for a position. The new content has no other entry than it should, the given one where the answer
 -- is that it was kept, and the count grew by the entries that are missing, up to the greatest 64-bit number.
-pub record IsNote (old : Content) (p : Placement) (b : Bounds) (answer : Noted) (new : Content) (before after : ℕ) : Type 0 where
+pub record IsNote (old : Content) (p : Placement) (b : Bounds) (answer : Noted) (new : Content)
+    (before after : ℕ) : Type 0 where
   pub map_before : IsMap old
   pub map : IsMap new
   pub only : (e : Entry) → Member e new → IsPutIn old p b e

@@ -1,5 +1,6 @@
 -- A table in which each position has one slot.
-use Rattle.std.specs.Prelude.{◌≡◌, ℕ, ◌*◌, ◌/◌, ◌%◌, ◌^◌, ◌≤◌, List, [], ◌∷◌, length, slice_get, Option, Some, None, ◌+◌, not, cond}
+use Rattle.std.specs.Prelude.{◌≡◌, ℕ, ◌*◌, ◌/◌, ◌%◌, ◌^◌, ◌≤◌, List, [], ◌∷◌, length, slice_get, Option, Some, None}
+use Rattle.std.specs.Prelude.{◌+◌, not, cond}
 use Rattle.std.specs.Int.{from_bool}
 use Rattle.dw_board.specs.PlacementLaws.{same}
 use Rattle.dw_board.specs.declared.piece.Side.TheVariants.{White, Black}
@@ -50,4 +51,5 @@ slot_of g p n = hash_of g p * n / 2 ^ 64
 -- there is a slot, and each position stands in its own
 pub record IsTable (g : Geometry) (slots : Slots) : Type 0 where
   pub some_slot : 1 ≤ length slots
-  pub placed : (k : ℕ) (p : Placement) (b : Bounds) → slice_get slots k ≡ Some (Some (p, b)) → k ≡ slot_of g p (length slots)
+  pub placed : (k : ℕ) (p : Placement) (b : Bounds) → slice_get slots k ≡ Some (Some (p, b))
+      → k ≡ slot_of g p (length slots)

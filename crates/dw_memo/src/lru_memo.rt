@@ -75,7 +75,8 @@ fn push<B: Board>(
 ) -> (Noted, u64)
     requires { IsRecent cache.old.entries cache.old.cap }
     ensures recent { IsRecent cache.new.entries cache.new.cap }
-    ensures note { IsNote (content_of cache.old.entries) position bounds result.0 (content_of cache.new.entries) 0 result.1 }
+    ensures note { IsNote (content_of cache.old.entries) position bounds result.0 (content_of cache.new.entries) 0
+        result.1 }
 {
     match cache.push(position, bounds) {
         // Either what this position had comes back, or what was pushed out.

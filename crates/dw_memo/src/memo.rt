@@ -38,7 +38,8 @@ pub trait Memo<B: Board> {
     /// and each of them is counted. This is what a memo has to bring; callers have it as `note`.
     fn put(&mut self, position: &Position<B>, bounds: Bounds) -> Noted
         ensures answer { may_answer result }
-        ensures note { IsNote (content self.old) position.now bounds result (content self.new) (dropped self.old) (dropped self.new) };
+        ensures note { IsNote (content self.old) position.now bounds result (content self.new) (dropped self.old)
+            (dropped self.new) };
 
     /// How many entries were lost or not kept so far; from `u64::MAX` on it stays the same.
     fn dropped(&self) -> u64
@@ -49,7 +50,8 @@ pub trait Memo<B: Board> {
     /// and each of them is counted.
     final fn note(&mut self, position: Position<B>, bounds: Bounds) -> Noted
         ensures answer { may_answer result }
-        ensures note { IsNote (content self.old) position bounds result (content self.new) (dropped self.old) (dropped self.new) }
+        ensures note { IsNote (content self.old) position bounds result (content self.new) (dropped self.old)
+            (dropped self.new) }
     {
         self.put(&position, bounds)
     }

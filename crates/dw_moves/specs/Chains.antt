@@ -10,7 +10,8 @@ use Rattle.dw_moves.specs.Moves.{Member, NoRepeat, Jumps, Path, Move, IsPathOf, 
 use Rattle.dw_moves.specs.Plain.{takes_for}
 
 -- jumps from s that take nothing twice and nothing that was taken before
-pub record Chain (g : Geometry) (p : Placement) (piece : Piece) (s : ℕ) (taken : Squares) (landings over : List ℕ) : Type 0 where
+pub record Chain (g : Geometry) (p : Placement) (piece : Piece) (s : ℕ) (taken : Squares)
+    (landings over : List ℕ) : Type 0 where
   pub jumps : Jumps g p piece s landings over
   pub once : NoRepeat over
   pub fresh : (c : ℕ) → Member c over → set.contains taken c ≡ false
@@ -53,7 +54,8 @@ abbrev pub further : Move → ℕ → ℕ → Move
 further begun c t = record { from = begun.from; to = t; taken = set.insert begun.taken c }
 
 -- and its next jump goes in this direction
-pub record EndsTowards (g : Geometry) (p : Placement) (piece : Piece) (begun : Move) (n : ℕ) (d : Dir) (k : ℕ) (m : Move) : Type 0 where
+pub record EndsTowards (g : Geometry) (p : Placement) (piece : Piece) (begun : Move) (n : ℕ) (d : Dir) (k : ℕ)
+    (m : Move) : Type 0 where
   pub c : ℕ
   pub t : ℕ
   pub jump : Member (c, t) (takes_for piece.kind p piece.side (ray g begun.to d))
@@ -64,8 +66,10 @@ pub record EndsTowards (g : Geometry) (p : Placement) (piece : Piece) (begun : M
 abbrev pub Is : Move → ℕ → ℕ → Move → Type 0
 Is step n k m = (0 < k) × ((k ≡ n) × (m ≡ step))
 
--- a list of moves that take k pieces becomes one of moves that take now pieces: of those that were there and of the captures, the longest
-pub record Longest (captures : ℕ → Move → Type 0) (k : ℕ) (moves : List Move) (now : ℕ) (kept : List Move) : Type 0 where
+-- a list of moves that take k pieces becomes one of moves that take now pieces: of those that were there and of the
+-- captures, the longest
+pub record Longest (captures : ℕ → Move → Type 0) (k : ℕ) (moves : List Move) (now : ℕ)
+    (kept : List Move) : Type 0 where
   pub grown : k ≤ now
   pub reached : (k ≡ now) ⊎ ((m : Move) × captures now m)
   pub most : (j : ℕ) (m : Move) → captures j m → j ≤ now
@@ -86,7 +90,8 @@ abbrev pub IsCapture : Geometry → Placement → Move → Type 0
 IsCapture g p m = (landings : List ℕ) × IsPathOf g p m (set.len m.taken) landings
 
 -- m is a move so far with jumps behind it onto these squares, one after another
-pub record GoesOn (g : Geometry) (p : Placement) (piece : Piece) (begun : Move) (landings : List ℕ) (m : Move) : Type 0 where
+pub record GoesOn (g : Geometry) (p : Placement) (piece : Piece) (begun : Move) (landings : List ℕ)
+    (m : Move) : Type 0 where
   pub over : List ℕ
   pub chain : Chain g p piece begun.to begun.taken landings over
   pub from : m.from ≡ begun.from
@@ -94,7 +99,8 @@ pub record GoesOn (g : Geometry) (p : Placement) (piece : Piece) (begun : Move) 
   pub taken : m.taken ≡ set.union begun.taken (set.from_list over)
 
 -- m begins on s and jumps onto each of these squares in turn, and takes nothing twice
-pub record LandsOnEach (g : Geometry) (p : Placement) (piece : Piece) (s : ℕ) (landings : List ℕ) (m : Move) : Type 0 where
+pub record LandsOnEach (g : Geometry) (p : Placement) (piece : Piece) (s : ℕ) (landings : List ℕ)
+    (m : Move) : Type 0 where
   pub over : List ℕ
   pub jumps : Jumps g p piece s landings over
   pub once : NoRepeat over

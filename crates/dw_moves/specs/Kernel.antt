@@ -33,11 +33,13 @@ pub record AreSets (g : Geometry) (p : Placement) (men kings enemies occupied : 
 -- n steps lead from a square of a set to t, none of them onto a piece
 abbrev pub RunsTo : Geometry → Squares → Squares → Dir → ℕ → ℕ → Type 0
 RunsTo g from occupied d zero t = In t from
-RunsTo g from occupied d (suc n) t = (s : ℕ) × RunsTo g from occupied d n s × (step g s d ≡ Some t) × (In t occupied → ⊥)
+RunsTo g from occupied d (suc n) t =
+    (s : ℕ) × RunsTo g from occupied d n s × (step g s d ≡ Some t) × (In t occupied → ⊥)
 
 -- behind n such steps the next square is c, and an enemy stands there
 abbrev pub MeetsBehind : Geometry → Squares → Squares → Squares → Dir → ℕ → ℕ → Type 0
-MeetsBehind g from enemies occupied d n c = (s : ℕ) × RunsTo g from occupied d n s × (step g s d ≡ Some c) × In c enemies
+MeetsBehind g from enemies occupied d n c =
+    (s : ℕ) × RunsTo g from occupied d n s × (step g s d ≡ Some c) × In c enemies
 
 -- a man meets an enemy on the next square
 abbrev pub MenMeet : Geometry → Squares → Squares → Squares → Dir → ℕ → Type 0
@@ -49,19 +51,24 @@ KingsMeet g kings enemies occupied d c = (n : ℕ) × (n < g.rows) × MeetsBehin
 
 -- in this direction an enemy is met, and the square behind it is empty
 abbrev pub Takes : Geometry → Squares → Squares → Squares → Squares → Dir → Type 0
-Takes g men kings enemies occupied d = (c : ℕ) × (t : ℕ) × (MenMeet g men enemies occupied d c ⊎ KingsMeet g kings enemies occupied d c) × (step g c d ≡ Some t) × (In t occupied → ⊥)
+Takes g men kings enemies occupied d =
+    (c : ℕ) × (t : ℕ) × (MenMeet g men enemies occupied d c ⊎ KingsMeet g kings enemies occupied d c)
+    × (step g c d ≡ Some t) × (In t occupied → ⊥)
 
 -- in this direction the next square of a king is empty, or of a man that goes forward
 abbrev pub Steps : Geometry → Side → Squares → Squares → Squares → Dir → Type 0
-Steps g side men kings occupied d = (s : ℕ) × (t : ℕ) × ((In s men × IsForward side d) ⊎ In s kings) × (step g s d ≡ Some t) × (In t occupied → ⊥)
+Steps g side men kings occupied d = (s : ℕ) × (t : ℕ) × ((In s men × IsForward side d) ⊎ In s kings)
+    × (step g s d ≡ Some t) × (In t occupied → ⊥)
 
 -- such a step leads from s to t
 abbrev pub StepsFrom : Geometry → Side → Squares → Squares → Squares → Dir → ℕ → ℕ → Type 0
-StepsFrom g side men kings occupied d s t = ((In s men × IsForward side d) ⊎ In s kings) × (step g s d ≡ Some t) × (In t occupied → ⊥)
+StepsFrom g side men kings occupied d s t =
+    ((In s men × IsForward side d) ⊎ In s kings) × (step g s d ≡ Some t) × (In t occupied → ⊥)
 
 -- such a step leads to t
 abbrev pub StepsOn : Geometry → Side → Squares → Squares → Squares → Dir → ℕ → Type 0
-StepsOn g side men kings occupied d t = (s : ℕ) × ((In s men × IsForward side d) ⊎ In s kings) × (step g s d ≡ Some t) × (In t occupied → ⊥)
+StepsOn g side men kings occupied d t =
+    (s : ℕ) × ((In s men × IsForward side d) ⊎ In s kings) × (step g s d ≡ Some t) × (In t occupied → ⊥)
 
 -- a set has two members at least
 abbrev pub HasTwo : Squares → Type 0
@@ -84,4 +91,5 @@ back DownRight = UpLeft
 
 -- no step in this direction leaves a loose position, but for those onto these squares
 abbrev pub NoneLoose : Geometry → Placement → Squares → Squares → Squares → Dir → Squares → Type 0
-NoneLoose g p men kings occupied d but = (s t : ℕ) → StepsFrom g p.turn men kings occupied d s t → (In t but → ⊥) → IsLoose g (play g p (quiet_to s t)) → ⊥
+NoneLoose g p men kings occupied d but =
+    (s t : ℕ) → StepsFrom g p.turn men kings occupied d s t → (In t but → ⊥) → IsLoose g (play g p (quiet_to s t)) → ⊥

@@ -7,7 +7,8 @@ use Rattle.dw_moves.specs.Moves.{Member, Path, IsBest, Move, Quiet, IsPathOf, Le
 use Rattle.dw_moves.specs.Replies.{OneStep, IsLoose, AlwaysReply}
 use Rattle.dw_moves.specs.Order.{IsKey, Precedes, IsListOf, Listed, AreListed}
 
--- a path tells what it takes: two paths over the same landings from the same square take the same pieces in the same order
+-- a path tells what it takes: two paths over the same landings from the same square take the same pieces in the same
+-- order
 abbrev pub PathTells : Type 0
 PathTells = (g : Geometry) → IsBoard g → (p : Placement) (from : ℕ) (landings taken others : List ℕ) →
     Path g p from landings taken → Path g p from landings others → taken ≡ others
@@ -26,30 +27,39 @@ pub record OneBest : Type 0 where
   pub some : (g : Geometry) (p : Placement) → (k : ℕ) × IsBest g p k
   pub only : (g : Geometry) (p : Placement) (j k : ℕ) → IsBest g p j → IsBest g p k → j ≡ k
 
--- a legal move takes the greatest number of pieces, twenty at most; a path lands once for each, and on squares of the board
+-- a legal move takes the greatest number of pieces, twenty at most; a path lands once for each, and on squares of the
+-- board
 pub record LegalMovesTake : Type 0 where
   pub taken : (g : Geometry) (p : Placement) (k : ℕ) (m : Move) → IsBest g p k → Legal g p m → set.len m.taken ≡ k
-  pub few : (g : Geometry) → IsBoard g → (p : Placement) (m : Move) → IsPosition g p.cells → Legal g p m → set.len m.taken ≤ 20
-  pub long : (g : Geometry) (p : Placement) (m : Move) (k : ℕ) (landings : List ℕ) → IsPathOf g p m k landings → length landings ≡ k
-  pub lands : (g : Geometry) → IsBoard g → (p : Placement) (m : Move) (k : ℕ) (landings : List ℕ) → IsPathOf g p m k landings → (s : ℕ) → Member s landings → OnBoard g s
+  pub few : (g : Geometry) → IsBoard g → (p : Placement) (m : Move) → IsPosition g p.cells → Legal g p m
+      → set.len m.taken ≤ 20
+  pub long : (g : Geometry) (p : Placement) (m : Move) (k : ℕ) (landings : List ℕ) → IsPathOf g p m k landings
+      → length landings ≡ k
+  pub lands : (g : Geometry) → IsBoard g → (p : Placement) (m : Move) (k : ℕ) (landings : List ℕ)
+      → IsPathOf g p m k landings → (s : ℕ) → Member s landings → OnBoard g s
   pub goes : (g : Geometry) → IsBoard g → (p : Placement) (from to : ℕ) → Quiet g p from to → OnBoard g to
 
 -- a legal move leads from a position to a position
 abbrev pub PlayStays : Type 0
-PlayStays = (g : Geometry) → IsBoard g → (p : Placement) (m : Move) → IsPosition g p.cells → Legal g p m → IsPosition g (play g p m).cells
+PlayStays = (g : Geometry) → IsBoard g → (p : Placement) (m : Move) → IsPosition g p.cells → Legal g p m
+    → IsPosition g (play g p m).cells
 
 -- each legal move has a key, and only one; different moves have different keys
 pub record MovesHaveKeys : Type 0 where
   pub each : (g : Geometry) (p : Placement) (m : Move) → Legal g p m → (key : List ℕ) × IsKey g p m key
   pub one : (g : Geometry) (p : Placement) (m : Move) (k l : List ℕ) → IsKey g p m k → IsKey g p m l → k ≡ l
-  pub differ : (g : Geometry) → IsBoard g → (p : Placement) (m n : Move) (k : List ℕ) → IsKey g p m k → IsKey g p n k → m ≡ n
+  pub differ : (g : Geometry) → IsBoard g → (p : Placement) (m n : Move) (k : List ℕ) → IsKey g p m k → IsKey g p n k
+      → m ≡ n
 
 -- some list has exactly the legal moves in ascending order, and only one does; so has one with their least paths
 pub record MovesInOrder : Type 0 where
-  pub some : (g : Geometry) → IsBoard g → (p : Placement) → (moves : List Move) × IsListOf (Precedes g p) (Legal g p) moves
-  pub only : (g : Geometry) (p : Placement) (moves others : List Move) → IsListOf (Precedes g p) (Legal g p) moves → IsListOf (Precedes g p) (Legal g p) others → moves ≡ others
+  pub some : (g : Geometry) → IsBoard g → (p : Placement)
+      → (moves : List Move) × IsListOf (Precedes g p) (Legal g p) moves
+  pub only : (g : Geometry) (p : Placement) (moves others : List Move) → IsListOf (Precedes g p) (Legal g p) moves
+      → IsListOf (Precedes g p) (Legal g p) others → moves ≡ others
   pub listed : (g : Geometry) → IsBoard g → (p : Placement) → (list : List Listed) × AreListed g p list
-  pub same : (g : Geometry) (p : Placement) (list others : List Listed) → AreListed g p list → AreListed g p others → list ≡ others
+  pub same : (g : Geometry) (p : Placement) (list others : List Listed) → AreListed g p list → AreListed g p others
+      → list ≡ others
 
 -- a step of one square is a quiet move
 abbrev pub StepsAreQuiet : Type 0

@@ -69,7 +69,8 @@ pub record TakenIn (l : Listed) (list kept : List Listed) : Type 0 where
 
 -- a list of captures of k pieces becomes one of captures of now pieces: of those that were there and of the captures,
 -- the longest, each move with the least of its paths
-pub record LongestLeast (captures : ℕ → Listed → Type 0) (k : ℕ) (list : List Listed) (now : ℕ) (kept : List Listed) : Type 0 where
+pub record LongestLeast (captures : ℕ → Listed → Type 0) (k : ℕ) (list : List Listed) (now : ℕ)
+    (kept : List Listed) : Type 0 where
   pub grown : k ≤ now
   pub reached : (k ≡ now) ⊎ ((l : Listed) × captures now l)
   pub most : (j : ℕ) (l : Listed) → captures j l → j ≤ now

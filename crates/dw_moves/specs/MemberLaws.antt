@@ -1,5 +1,6 @@
 -- Laws of membership in lists.
-use Rattle.std.proofs.Common.{◌≡◌, ◌≤◌, List, [], ◌∷◌, ◌++◌, length, map, refl, sym, ap, subst, ◌⊎◌, inl, inr, arith, length-append, Bool, true, false}
+use Rattle.std.proofs.Common.{◌≡◌, ◌≤◌, List, [], ◌∷◌, ◌++◌, length, map, refl, sym, ap, subst, ◌⊎◌, inl, inr, arith}
+use Rattle.std.proofs.Common.{length-append, Bool, true, false}
 use Rattle.std.specs.List.{flat_map}
 use Rattle.std.specs.Prelude.{filter}
 use Rattle.dw_moves.specs.Moves.{Member, NoRepeat}
@@ -23,17 +24,20 @@ mem_map f x [] m = absurd m
 mem_map f x (y ∷ xs) (inl e) = inl (ap f e)
 mem_map f x (y ∷ xs) (inr m) = inr (mem_map f x xs m)
 
-pub mem_map_back : {X Y : Type 0} (f : X → Y) → (y : Y) (xs : List X) → Member y (map f xs) → (x : X) × Member x xs × (y ≡ f x)
+pub mem_map_back : {X Y : Type 0} (f : X → Y) → (y : Y) (xs : List X) → Member y (map f xs)
+    → (x : X) × Member x xs × (y ≡ f x)
 mem_map_back f y [] m = absurd m
 mem_map_back f y (x ∷ xs) (inl e) = (x, inl refl, e)
 mem_map_back f y (x ∷ xs) (inr m) = let r = mem_map_back f y xs m in (r.0, inr r.1, r.2)
 
-pub mem_flat : {X Y : Type 0} (f : X → List Y) → (x : X) (y : Y) (xs : List X) → Member x xs → Member y (f x) → Member y (flat_map f xs)
+pub mem_flat : {X Y : Type 0} (f : X → List Y) → (x : X) (y : Y) (xs : List X) → Member x xs → Member y (f x)
+    → Member y (flat_map f xs)
 mem_flat f x y [] m h = absurd m
 mem_flat f x y (z ∷ xs) (inl e) h = mem_left y (f z) (flat_map f xs) (subst (λ w. Member y (f w)) e h)
 mem_flat f x y (z ∷ xs) (inr m) h = mem_right y (f z) (flat_map f xs) (mem_flat f x y xs m h)
 
-pub mem_flat_back : {X Y : Type 0} (f : X → List Y) → (y : Y) (xs : List X) → Member y (flat_map f xs) → (x : X) × Member x xs × Member y (f x)
+pub mem_flat_back : {X Y : Type 0} (f : X → List Y) → (y : Y) (xs : List X) → Member y (flat_map f xs)
+    → (x : X) × Member x xs × Member y (f x)
 mem_flat_back f y [] m = absurd m
 mem_flat_back f y (z ∷ xs) m = elim (mem_cases y (f z) (flat_map f xs) m) [
   | inl l ↦ (z, inl refl, l)
@@ -49,7 +53,8 @@ mem_filter p x (y ∷ xs) (inr m) h =
     λ b. elim b as P [ true ↦ λ e. rw e (inr (mem_filter p x xs m h)) | false ↦ λ e. rw e (mem_filter p x xs m h) ] in
     go (p y) refl
 
-pub mem_filter_back : {X : Type 0} (p : X → Bool) → (x : X) (xs : List X) → Member x (filter p xs) → Member x xs × (p x ≡ true)
+pub mem_filter_back : {X : Type 0} (p : X → Bool) → (x : X) (xs : List X) → Member x (filter p xs)
+    → Member x xs × (p x ≡ true)
 mem_filter_back p x [] m = absurd m
 mem_filter_back p x (y ∷ xs) m =
     let P : Bool → Type 0 = λ b. (p y ≡ b) → Member x xs × (p x ≡ true) ⊎ ((x ≡ y) × (p x ≡ true)) in
@@ -73,7 +78,8 @@ pub mem_at : {X : Type 0} → (x : X) (l r : List X) → Member x (l ++ x ∷ r)
 mem_at x l r = mem_right x l (x ∷ r) (inl refl)
 
 -- a list with no repeats is no longer than one that has all its members
-pub no_more : {X : Type 0} → (xs ys : List X) → NoRepeat xs → ((x : X) → Member x xs → Member x ys) → length xs ≤ length ys
+pub no_more : {X : Type 0} → (xs ys : List X) → NoRepeat xs → ((x : X) → Member x xs → Member x ys)
+    → length xs ≤ length ys
 no_more [] ys n h = omega arith
 no_more {X} (x ∷ xs) ys n h =
     let s = mem_split x ys (h x (inl refl)) in

@@ -1,5 +1,6 @@
 -- Moves: what a position allows, and what a move leaves.
-use Rattle.std.specs.Prelude.{◌≡◌, ℕ, ◌≤◌, ◌<◌, ◌⊎◌, ◌↔◌, true, false, Option, Some, None, List, [], ◌∷◌, ◌++◌, length, cond, refl}
+use Rattle.std.specs.Prelude.{◌≡◌, ℕ, ◌≤◌, ◌<◌, ◌⊎◌, ◌↔◌, true, false, Option, Some, None, List, [], ◌∷◌, ◌++◌, length}
+use Rattle.std.specs.Prelude.{cond, refl}
 use Rattle.std.specs.Coded.{Coded, code_by, coded×, coded_ℕ}
 use Rattle.std.proofs.Common.{zero, suc}
 use Rattle.std.specs.FinSet as set
@@ -72,7 +73,8 @@ pub record IsQuietCount (g : Geometry) (p : Placement) (n : ℕ) : Type 0 where
   pub once : NoRepeat moves
   pub count : length moves ≡ n
 
--- a jump from s over an enemy on c to t: on one ray nothing stands between s and c, nor behind c up to and with t; for a man c is next to s, and t next to c
+-- a jump from s over an enemy on c to t: on one ray nothing stands between s and c, nor behind c up to and with t; for
+-- a man c is next to s, and t next to c
 pub record Jump (g : Geometry) (p : Placement) (piece : Piece) (s c t : ℕ) : Type 0 where
   pub dir : Dir
   pub before : List ℕ
@@ -85,14 +87,16 @@ pub record Jump (g : Geometry) (p : Placement) (piece : Piece) (s c t : ℕ) : T
   pub free : at p t ≡ None
   pub man : piece.kind ≡ Man → (before ≡ []) × (behind ≡ [])
 
--- jumps one after another with one piece, which begins on s: it lands on each of the first list, over each of the second
+-- jumps one after another with one piece, which begins on s: it lands on each of the first list, over each of the
+-- second
 abbrev pub Jumps : Geometry → Placement → Piece → ℕ → List ℕ → List ℕ → Type 0
 Jumps g p piece s [] [] = Unit {0}
 Jumps g p piece s (t ∷ ts) (c ∷ cs) = Jump g p piece s c t × Jumps g p piece t ts cs
 Jumps g p piece s [] (c ∷ cs) = ⊥
 Jumps g p piece s (t ∷ ts) [] = ⊥
 
--- a capture path: the square that the piece leaves counts as empty, what is jumped stays until the end, and nothing is jumped twice
+-- a capture path: the square that the piece leaves counts as empty, what is jumped stays until the end, and nothing is
+-- jumped twice
 pub record Path (g : Geometry) (p : Placement) (from : ℕ) (landings taken : List ℕ) : Type 0 where
   pub piece : Piece
   pub stands : Stands g p from piece
@@ -101,7 +105,8 @@ pub record Path (g : Geometry) (p : Placement) (from : ℕ) (landings taken : Li
 
 -- k is the greatest number of pieces that a path takes, 0 where nothing can be taken
 pub record IsBest (g : Geometry) (p : Placement) (k : ℕ) : Type 0 where
-  pub reached : 0 < k → (from : ℕ) × (landings : List ℕ) × (taken : List ℕ) × Path g p from landings taken × (length taken ≡ k)
+  pub reached : 0 < k → (from : ℕ) × (landings : List ℕ) × (taken : List ℕ) × Path g p from landings taken
+      × (length taken ≡ k)
   pub most : (from : ℕ) (landings taken : List ℕ) → Path g p from landings taken → length taken ≤ k
 
 -- something can be taken
@@ -156,9 +161,11 @@ abbrev pub landed : Geometry → ℕ → Option Piece → Option Piece
 landed g to None = None
 landed g to (Some piece) = Some (crowned g to piece)
 
--- the position after a move: the origin and the squares of what was taken are emptied, the piece stands on the last square, and it is the other player's turn
+-- the position after a move: the origin and the squares of what was taken are emptied, the piece stands on the last
+-- square, and it is the other player's turn
 abbrev pub play : Geometry → Placement → Move → Placement
-play g p m = record (placed (without p (set.insert m.taken m.from)) m.to (landed g m.to (at p m.from))) { turn = other p.turn }
+play g p m =
+    record (placed (without p (set.insert m.taken m.from)) m.to (landed g m.to (at p m.from))) { turn = other p.turn }
 
 -- the side to move has no legal move
 abbrev pub NoMove : Geometry → Placement → Type 0

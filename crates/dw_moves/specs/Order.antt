@@ -23,7 +23,8 @@ LandsAt g p m (suc k) landings = IsPathOf g p m (suc k) landings
 abbrev pub LandsOn : Geometry → Placement → Move → List ℕ → Type 0
 LandsOn g p m landings = (k : ℕ) × IsBest g p k × LandsAt g p m k landings
 
--- m is a capture of as many pieces as can be taken, and these squares are its start and the landings of one of its paths
+-- m is a capture of as many pieces as can be taken, and these squares are its start and the landings of one of its
+-- paths
 pub record IsPathFor (g : Geometry) (p : Placement) (m : Move) (squares : List ℕ) : Type 0 where
   pub most : ℕ
   pub best : IsBest g p most
@@ -68,7 +69,10 @@ pub record Listed : Type 0 where
 
 -- it is stored as its parts
 abbrev pub listed_code : Coded Listed
-listed_code = code_by (Move × List ℕ) (coded× move_code (coded_list coded_ℕ)) (λ l. (l.step, l.path)) (λ p. record { step = p.0; path = p.1 }) (λ _. refl)
+listed_code = code_by (Move × List ℕ) (coded× move_code (coded_list coded_ℕ)) (λ l. (
+  l.step,
+  l.path,
+)) (λ p. record { step = p.0; path = p.1 }) (λ _. refl)
 
 -- the path is the move's start and its least landings
 abbrev pub HasLeastPath : Geometry → Placement → Listed → Type 0

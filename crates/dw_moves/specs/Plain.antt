@@ -1,5 +1,6 @@
 -- Plain lists of the squares that a piece reaches, and of the jumps that it has: what the code makes.
-use Rattle.std.specs.Prelude.{◌≡◌, ◌↔◌, ℕ, Option, Some, None, List, [], ◌∷◌, ◌++◌, Bool, true, false, length, map, not, cond}
+use Rattle.std.specs.Prelude.{◌≡◌, ◌↔◌, ℕ, Option, Some, None, List, [], ◌∷◌, ◌++◌, Bool, true, false, length, map, not}
+use Rattle.std.specs.Prelude.{cond}
 use Rattle.std.specs.List.{flat_map}
 use Rattle.std.proofs.Common.{zero, suc}
 use Rattle.dw_board.specs.declared.piece.Side.{Side}
@@ -48,7 +49,10 @@ man_takes cells side (c ∷ cs) = over_enemy cells side Man (at cells c) c cs
 
 abbrev pub king_takes : Placement → Side → List ℕ → List (ℕ × ℕ)
 king_takes cells side [] = []
-king_takes cells side (c ∷ cs) = elim (at cells c) [ None ↦ king_takes cells side cs | Some piece ↦ over_enemy cells side King (Some piece) c cs ]
+king_takes cells side (c ∷ cs) = elim (at cells c) [
+  | None ↦ king_takes cells side cs
+  | Some piece ↦ over_enemy cells side King (Some piece) c cs
+]
 
 abbrev pub takes_for : Kind → Placement → Side → List ℕ → List (ℕ × ℕ)
 takes_for Man = man_takes

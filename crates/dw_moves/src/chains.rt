@@ -1,7 +1,8 @@
 //! Captures: whole chains of jumps, the longest of them kept.
 ghost use Rattle.std.specs.Prelude.{◌≡◌, ◌≤◌, ◌-◌, ◌↔◌, IfOk, IsTrue};
 ghost use Rattle.dw_board.specs.Geometry.{OnBoard};
-ghost use Rattle.dw_moves.specs.Chains.{ChainsFit, Taking, TakingFrom, EndsAs, EndsTowards, Is, Longest, Takes, IsCapture};
+ghost use Rattle.dw_moves.specs.Chains.{ChainsFit, Taking, TakingFrom, EndsAs, EndsTowards, Is, Longest, Takes};
+ghost use Rattle.dw_moves.specs.Chains.{IsCapture};
 
 use crate::best::is_own;
 use crate::jumps::{first_met, jumps};
@@ -39,7 +40,8 @@ fn push_from<B: Board>(
     moves: &mut Vec<Move<B>>,
 ) -> Result<u8, AllocError>
     requires { OnBoard B.geometry from }
-    ensures { IfOk result (λ k. Longest (TakingFrom B.geometry position.now from) most moves.old.items k moves.new.items) }
+    ensures { IfOk result (λ k. Longest (TakingFrom B.geometry position.now from) most moves.old.items k
+        moves.new.items) }
 {
     let Some(piece) = position.at(from) else {
         return Ok(most);
@@ -66,7 +68,8 @@ fn walk<B: Board>(
     requires on_board { OnBoard B.geometry begun.to }
     requires few { count ≤ 20 }
     requires fits { ChainsFit B.geometry position.now piece begun.to begun.taken (20 - count) }
-    ensures { IfOk result (λ k. Longest (EndsAs B.geometry position.now piece begun count) most moves.old.items k moves.new.items) }
+    ensures { IfOk result (λ k. Longest (EndsAs B.geometry position.now piece begun count) most moves.old.items k
+        moves.new.items) }
 {
     let one = walk_towards(position, piece, begun, count, Dir::UpLeft, most, moves)?;
     let two = walk_towards(position, piece, begun, count, Dir::UpRight, one, moves)?;
@@ -90,7 +93,8 @@ fn walk_towards<B: Board>(
     requires on_board { OnBoard B.geometry begun.to }
     requires few { count ≤ 20 }
     requires fits { ChainsFit B.geometry position.now piece begun.to begun.taken (20 - count) }
-    ensures { IfOk result (λ k. Longest (EndsTowards B.geometry position.now piece begun count direction) most moves.old.items k moves.new.items) }
+    ensures { IfOk result (λ k. Longest (EndsTowards B.geometry position.now piece begun count direction) most
+        moves.old.items k moves.new.items) }
 {
     let Some(over) = first_met(position, piece, begun.to, direction) else {
         return Ok(most);

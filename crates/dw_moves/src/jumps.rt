@@ -80,7 +80,8 @@ fn add_jumps<B: Board>(
 )
     requires on_board { OnBoard B.geometry from }
     requires room { length found.old.items + 10 ≤ 40 }
-    ensures items { found.new.items ≡ found.old.items ++ plain.takes_for piece.kind position.now piece.side (ray B.geometry from direction) }
+    ensures items { found.new.items ≡ found.old.items
+        ++ plain.takes_for piece.kind position.now piece.side (ray B.geometry from direction) }
     ensures room { length found.new.items ≤ length found.old.items + 10 }
 {
     if let Some(over) = first_met(position, piece, from, direction) {
@@ -98,7 +99,8 @@ fn add_landings<B: Board>(
 )
     requires on_board { OnBoard B.geometry over }
     requires room { length found.old.items + 10 ≤ 40 }
-    ensures items { found.new.items ≡ found.old.items ++ map (λ t. (over, t)) (plain.landings_for kind position.now (ray B.geometry over direction)) }
+    ensures items { found.new.items ≡ found.old.items
+        ++ map (λ t. (over, t)) (plain.landings_for kind position.now (ray B.geometry over direction)) }
     ensures room { length found.new.items ≤ length found.old.items + 10 }
 {
     let mut at = over;
@@ -119,8 +121,13 @@ pub(crate) fn first_met<B: Board>(
     direction: Dir,
 ) -> Option<Square<B>>
     requires { OnBoard B.geometry from }
-    ensures none { result ≡ None → plain.takes_for piece.kind position.now piece.side (ray B.geometry from direction) ≡ plain.no_jumps }
-    ensures some { IfSome result (λ c. plain.takes_for piece.kind position.now piece.side (ray B.geometry from direction) ≡ map (λ t. (c, t)) (plain.landings_for piece.kind position.now (ray B.geometry c direction))) }
+    ensures none { result ≡ None → plain.takes_for piece.kind position.now piece.side (ray B.geometry from direction)
+        ≡ plain.no_jumps }
+    ensures some { IfSome result (λ c. plain.takes_for piece.kind position.now piece.side
+        (ray B.geometry from direction) ≡ map (λ t. (
+          c,
+          t,
+        )) (plain.landings_for piece.kind position.now (ray B.geometry c direction))) }
     ensures on_board { IfSome result (OnBoard B.geometry) }
 {
     let before = match piece.kind {
@@ -138,7 +145,8 @@ pub(crate) fn first_met<B: Board>(
 /// The last square before the next piece or the edge.
 fn last_free<B: Board>(position: &Position<B>, from: Square<B>, direction: Dir) -> Square<B>
     requires { OnBoard B.geometry from }
-    ensures takes { (side : sides.Side) → plain.king_takes position.now side (ray B.geometry from direction) ≡ plain.king_takes position.now side (ray B.geometry result direction) }
+    ensures takes { (side : sides.Side) → plain.king_takes position.now side (ray B.geometry from direction)
+        ≡ plain.king_takes position.now side (ray B.geometry result direction) }
     ensures on_board { OnBoard B.geometry result }
     ensures blocked { plain.free_step B.geometry position.now result direction ≡ None }
 {

@@ -4,7 +4,8 @@ ghost use Rattle.std.specs.FinSet as set;
 ghost use Rattle.dw_board.specs.Geometry.{OnBoard, step};
 ghost use Rattle.dw_moves.specs.Moves.{CanCapture, Legal};
 ghost use Rattle.dw_moves.specs.Moves as moved;
-ghost use Rattle.dw_moves.specs.Kernel.{In, AreSets, MenMeet, KingsMeet, Takes, Steps, StepsOn, HasTwo, CanStep, CanTakeFrom, NoneLoose, back};
+ghost use Rattle.dw_moves.specs.Kernel.{In, AreSets, MenMeet, KingsMeet, Takes, Steps, StepsOn, HasTwo, CanStep};
+ghost use Rattle.dw_moves.specs.Kernel.{CanTakeFrom, NoneLoose, back};
 ghost use Rattle.dw_moves.specs.Replies.{given, passed, OneStep, IsLoose, IsLooseStep, AlwaysReply};
 
 use crate::moves::Move;
@@ -62,7 +63,8 @@ pub fn loose_step<B: Board>(position: &Position<B>) -> Option<(Move<B>, Position
     ensures legal { IfSome result (λ found. Legal B.geometry position.now found.0) }
     ensures some { IfSome result (λ found. IsLooseStep B.geometry position.now found.0) }
     ensures after { IfSome result (λ found. found.1 ≡ moved.play B.geometry position.now found.0) }
-    ensures none { IsNone result → CanCapture B.geometry position.now ⊎ ((m : moved.Move) → IsLooseStep B.geometry position.now m → ⊥) }
+    ensures none { IsNone result → CanCapture B.geometry position.now
+        ⊎ ((m : moved.Move) → IsLooseStep B.geometry position.now m → ⊥) }
 {
     if can_capture(position) {
         return None;
@@ -144,7 +146,8 @@ impl<B: Board> Field<B> {
 
     /// Whether something can be taken in a direction.
     fn takes(&self, direction: Dir) -> bool
-        ensures { IsTrue result ↔ Takes B.geometry self.now.men self.now.kings self.now.enemies self.now.occupied direction }
+        ensures { IsTrue result ↔ Takes B.geometry self.now.men self.now.kings self.now.enemies self.now.occupied
+            direction }
     {
         let met = self.met_by_men(direction).or(self.met_by_kings(direction));
         any(met.shifted(direction).minus(self.occupied))
@@ -152,14 +155,16 @@ impl<B: Board> Field<B> {
 
     /// The enemies next to a man.
     fn met_by_men(&self, direction: Dir) -> Squares<B>
-        ensures { (c : ℕ) → In c result ↔ MenMeet B.geometry self.now.men self.now.enemies self.now.occupied direction c }
+        ensures { (c : ℕ) → In c result ↔ MenMeet B.geometry self.now.men self.now.enemies self.now.occupied
+            direction c }
     {
         self.men.shifted(direction).and(self.enemies)
     }
 
     /// The enemies that a king meets first. All kings go on together, until none has an empty square before it.
     fn met_by_kings(&self, direction: Dir) -> Squares<B>
-        ensures { (c : ℕ) → In c result ↔ KingsMeet B.geometry self.now.kings self.now.enemies self.now.occupied direction c }
+        ensures { (c : ℕ) → In c result ↔ KingsMeet B.geometry self.now.kings self.now.enemies self.now.occupied
+            direction c }
     {
         let mut reached = self.kings;
         let mut met = Squares::none();
@@ -176,7 +181,9 @@ impl<B: Board> Field<B> {
 
     /// The squares from which a man can take in a direction.
     fn before_enemy(&self, direction: Dir) -> Squares<B>
-        ensures { (s c t : ℕ) → OnBoard B.geometry s → In s self.now.men → step B.geometry s direction ≡ Some c → In c self.now.enemies → step B.geometry c direction ≡ Some t → (In t self.now.occupied → ⊥) → In s result }
+        ensures { (s c t : ℕ) → OnBoard B.geometry s → In s self.now.men → step B.geometry s direction ≡ Some c
+            → In c self.now.enemies → step B.geometry c direction ≡ Some t → (In t self.now.occupied → ⊥)
+            → In s result }
     {
         let behind = self.met_by_men(direction).shifted(direction);
         let back = opposite(direction);
@@ -192,7 +199,8 @@ impl<B: Board> Field<B> {
 
     /// The empty squares to which a piece of the side to move can go one square in a direction.
     fn next_free(&self, side: Side, direction: Dir) -> Squares<B>
-        ensures { (t : ℕ) → In t result ↔ StepsOn B.geometry side self.now.men self.now.kings self.now.occupied direction t }
+        ensures { (t : ℕ) → In t result ↔ StepsOn B.geometry side self.now.men self.now.kings self.now.occupied
+            direction t }
     {
         let movers = if may_go(Kind::Man, side, direction) {
             self.kings.or(self.men)
@@ -213,7 +221,8 @@ impl<B: Board> Field<B> {
         ensures legal { IfSome result (λ found. Legal B.geometry position.now found.0) }
         ensures some { IfSome result (λ found. IsLooseStep B.geometry position.now found.0) }
         ensures after { IfSome result (λ found. found.1 ≡ moved.play B.geometry position.now found.0) }
-        ensures none { IsNone result → NoneLoose B.geometry position.now self.now.men self.now.kings self.now.occupied direction set.empty }
+        ensures none { IsNone result → NoneLoose B.geometry position.now self.now.men self.now.kings self.now.occupied
+            direction set.empty }
     {
         let back = opposite(direction);
         let mut left = self.next_free(position.turn(), direction);

@@ -1,7 +1,8 @@
 //! Laws of the definitions, each the contract of a function that does nothing, and what `==` means.
 ghost use Rattle.std.specs.Prelude.{◌≡◌, ◌↔◌, IsTrue};
 ghost use Rattle.dw_moves.specs.WorkedPositions.{WorkedPositions};
-ghost use Rattle.dw_moves.specs.Laws.{PathTells, PathIsShort, MovesListed, OneBest, LegalMovesTake, PlayStays, MovesHaveKeys, MovesInOrder, StepsAreQuiet, LooseReplies};
+ghost use Rattle.dw_moves.specs.Laws.{PathTells, PathIsShort, MovesListed, OneBest, LegalMovesTake, PlayStays};
+ghost use Rattle.dw_moves.specs.Laws.{MovesHaveKeys, MovesInOrder, StepsAreQuiet, LooseReplies};
 
 use crate::moves::Move;
 use dw_board::board::Board;

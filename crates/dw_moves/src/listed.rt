@@ -4,7 +4,8 @@ ghost use Rattle.std.specs.Ordering.{is_lt};
 ghost use Rattle.dw_board.specs.Geometry.{OnBoard};
 ghost use Rattle.dw_moves.specs.Chains.{ChainsFit};
 ghost use Rattle.dw_moves.specs.Order.{LexLess, AreListed};
-ghost use Rattle.dw_moves.specs.Listing.{sorted_by, entries_listed, HasAll, Leading, LeadingFrom, GoesBy, This, LongestLeast, TakenIn};
+ghost use Rattle.dw_moves.specs.Listing.{sorted_by, entries_listed, HasAll, Leading, LeadingFrom, GoesBy, This};
+ghost use Rattle.dw_moves.specs.Listing.{LongestLeast, TakenIn};
 
 use crate::best::is_own;
 use crate::jumps::jumps;
@@ -72,7 +73,8 @@ fn keep_captures<B: Board>(
     position: &Position<B>,
     paths: &mut IndexMap<Move<B>, ArrayVec<Square<B>, 21>>,
 ) -> Result<u8, AllocError>
-    ensures { IfOk result (λ k. LongestLeast (Leading B.geometry position.now) 0 (entries_listed paths.old.entries) k (entries_listed paths.new.entries)) }
+    ensures { IfOk result (λ k. LongestLeast (Leading B.geometry position.now) 0 (entries_listed paths.old.entries) k
+        (entries_listed paths.new.entries)) }
 {
     let mut most = 0;
     let mut left = may_take(position);
@@ -91,7 +93,8 @@ fn keep_from<B: Board>(
     paths: &mut IndexMap<Move<B>, ArrayVec<Square<B>, 21>>,
 ) -> Result<u8, AllocError>
     requires { OnBoard B.geometry from }
-    ensures { IfOk result (λ k. LongestLeast (LeadingFrom B.geometry position.now from) most (entries_listed paths.old.entries) k (entries_listed paths.new.entries)) }
+    ensures { IfOk result (λ k. LongestLeast (LeadingFrom B.geometry position.now from) most
+        (entries_listed paths.old.entries) k (entries_listed paths.new.entries)) }
 {
     let Some(piece) = position.at(from) else {
         return Ok(most);
@@ -129,7 +132,9 @@ fn walk<B: Board>(
     requires few { count ≤ 20 }
     requires fits { ChainsFit B.geometry position.now piece begun.to begun.taken (20 - count) }
     requires long { length path.old.items ≡ count + 1 }
-    ensures kept { IfOk result (λ k. LongestLeast (GoesBy B.geometry position.now piece (record { step = begun; path = path.old.items }) count) most (entries_listed paths.old.entries) k (entries_listed paths.new.entries)) }
+    ensures kept { IfOk result (λ k. LongestLeast
+        (GoesBy B.geometry position.now piece (record { step = begun; path = path.old.items }) count) most
+        (entries_listed paths.old.entries) k (entries_listed paths.new.entries)) }
     ensures path { OnOk result (path.new.items ≡ path.old.items) }
 {
     let mut longest = most;
@@ -163,7 +168,8 @@ fn keep<B: Board>(
     most: u8,
     paths: &mut IndexMap<Move<B>, ArrayVec<Square<B>, 21>>,
 ) -> Result<u8, AllocError>
-    ensures { IfOk result (λ k. LongestLeast (This (record { step = step; path = path.now.items }) count) most (entries_listed paths.old.entries) k (entries_listed paths.new.entries)) }
+    ensures { IfOk result (λ k. LongestLeast (This (record { step = step; path = path.now.items }) count) most
+        (entries_listed paths.old.entries) k (entries_listed paths.new.entries)) }
 {
     if count == 0 || count < most {
         return Ok(most);
@@ -181,7 +187,10 @@ fn keep_least<B: Board>(
     path: &ArrayVec<Square<B>, 21>,
     paths: &mut IndexMap<Move<B>, ArrayVec<Square<B>, 21>>,
 ) -> Result<(), AllocError>
-    ensures { OnOk result (TakenIn (record { step = step; path = path.now.items }) (entries_listed paths.old.entries) (entries_listed paths.new.entries)) }
+    ensures { OnOk result (TakenIn (record {
+      step = step;
+      path = path.now.items;
+    }) (entries_listed paths.old.entries) (entries_listed paths.new.entries)) }
 {
     let is_least = match paths.get(&step) {
         Some(kept) => is_less(path.as_slice(), kept.as_slice()),

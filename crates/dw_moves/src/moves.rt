@@ -79,7 +79,8 @@ impl<B: Board> Default for Move<B> {
 }
 
 impl<B: Board> PartialEq for Move<B> {
-    ghost eq = { eq_of_both (on (λ m. m.from) ◌==◌) (eq_of_both (on (λ m. m.to) ◌==◌) (on (λ m. set.items m.taken) (pointwise ◌==◌))) };
+    ghost eq = { eq_of_both (on (λ m. m.from) ◌==◌)
+        (eq_of_both (on (λ m. m.to) ◌==◌) (on (λ m. set.items m.taken) (pointwise ◌==◌))) };
 
     ghost laws = { Prim.search (comparing, rules) depth 9 };
 

@@ -183,7 +183,8 @@ fn push_king<B: Board, T: FromQuiet<B> + Drop>(
     moves: &mut Vec<T>,
 ) -> Result<(), AllocError>
     requires { OnBoard B.geometry from }
-    ensures { OnOk result (moves.new.items ≡ moves.old.items ++ map (T.made from) (plain.quiet_for King B.geometry position.now position.now.turn from)) }
+    ensures { OnOk result (moves.new.items
+        ≡ moves.old.items ++ map (T.made from) (plain.quiet_for King B.geometry position.now position.now.turn from)) }
 {
     push_run(position, Kind::King, from, Dir::UpLeft, moves)?;
     push_run(position, Kind::King, from, Dir::UpRight, moves)?;
@@ -200,7 +201,8 @@ fn push_run<B: Board, T: FromQuiet<B> + Drop>(
     moves: &mut Vec<T>,
 ) -> Result<(), AllocError>
     requires { OnBoard B.geometry from }
-    ensures { OnOk result (moves.new.items ≡ moves.old.items ++ map (T.made from) (plain.landings_for kind position.now (ray B.geometry from direction))) }
+    ensures { OnOk result (moves.new.items
+        ≡ moves.old.items ++ map (T.made from) (plain.landings_for kind position.now (ray B.geometry from direction))) }
 {
     let mut at = from;
     'run: while let Some(landing) = free_step(position, at, direction) {

@@ -1,5 +1,6 @@
 -- What a reader of problems holds, and what it will hand out.
-use Rattle.std.specs.Prelude.{◌≡◌, ℕ, ◌+◌, ◌*◌, ◌<◌, ◌≤◌, ◌⊎◌, List, [], ◌∷◌, ◌++◌, length, Bool, true, false, Option, Some, None, option_to_list, Result, Ok, Err, MatchBool, IfOk, IfSome}
+use Rattle.std.specs.Prelude.{◌≡◌, ℕ, ◌+◌, ◌*◌, ◌<◌, ◌≤◌, ◌⊎◌, List, [], ◌∷◌, ◌++◌, length, Bool, true, false, Option}
+use Rattle.std.specs.Prelude.{Some, None, option_to_list, Result, Ok, Err, MatchBool, IfOk, IfSome}
 use Rattle.std.specs.List.{slice_range}
 use Rattle.std.specs.Io.KnownBytes.{Consumes, IsAtEnd}
 use Rattle.dw_board.specs.Geometry.{Geometry}
@@ -50,14 +51,19 @@ has_met_end cutter = cutter.met_end
 abbrev pub Gives : {B : Type 0} → Geometry → Cutter → Cutter → List ℕ → Result (Option (Problem B)) ReadFault → Type 0
 Gives g old new read (Ok (Some problem)) =
     MatchBool (has_met_end new) (to_come g old read ≡ numbered problem ∷ to_come g new [])
-    ((at_end : Bool) (bytes : List ℕ) → problems_from at_end g old (read ++ bytes) ≡ numbered problem ∷ problems_from at_end g new bytes)
+    ((at_end : Bool) (bytes : List ℕ) → problems_from at_end g old (read ++ bytes)
+    ≡ numbered problem ∷ problems_from at_end g new bytes)
 Gives g old new read (Ok None) =
-    (to_come g old read ≡ []) × (to_come g new [] ≡ []) × ((has_met_end new ≡ true) ⊎ ((MAX_PROBLEMS < handed_count new) × ((more : List ℕ) → to_come g old (read ++ more) ≡ [])))
+    (to_come g old read ≡ []) × (to_come g new [] ≡ [])
+    × ((has_met_end new ≡ true) ⊎ ((MAX_PROBLEMS < handed_count new)
+    × ((more : List ℕ) → to_come g old (read ++ more) ≡ [])))
 Gives g old new read (Err fault) =
-    (ended g old read ≡ []) × ((at_end : Bool) (bytes : List ℕ) → problems_from at_end g old (read ++ bytes) ≡ problems_from at_end g new bytes)
+    (ended g old read ≡ []) × ((at_end : Bool) (bytes : List ℕ)
+    → problems_from at_end g old (read ++ bytes) ≡ problems_from at_end g new bytes)
 
 -- a call that took these bytes off the source gave this
-pub record NextGives {B : Type 0} (g : Geometry) (coming left : Option (List ℕ)) (old new : Cutter) (result : Result (Option (Problem B)) ReadFault) : Type 0 where
+pub record NextGives {B : Type 0} (g : Geometry) (coming left : Option (List ℕ)) (old new : Cutter)
+    (result : Result (Option (Problem B)) ReadFault) : Type 0 where
   pub read : List ℕ
   pub took : Consumes coming left read
   pub gives : Gives g old new read result
@@ -85,13 +91,15 @@ pub record HasStopped (is_failed : Bool) (cutter : Cutter) : Type 0 where
 pub record CarriesOn (coming left : Option (List ℕ)) (old new : Cutter) : Type 0 where
   pub read : List ℕ
   pub took : Consumes coming left read
-  pub same : (g : Geometry) (at_end : Bool) (more : List ℕ) → found_ahead at_end g old (read ++ more) ≡ found_ahead at_end g new more
+  pub same : (g : Geometry) (at_end : Bool) (more : List ℕ)
+      → found_ahead at_end g old (read ++ more) ≡ found_ahead at_end g new more
 
 -- a piece is cut off
 pub record TakesPiece (coming left : Option (List ℕ)) (old new : Cutter) : Type 0 where
   pub read : List ℕ
   pub took : Consumes coming left read
-  pub same : (g : Geometry) (at_end : Bool) (more : List ℕ) → found_ahead at_end g old (read ++ more) ≡ found_cut g new ++ found_behind at_end g new more
+  pub same : (g : Geometry) (at_end : Bool) (more : List ℕ)
+      → found_ahead at_end g old (read ++ more) ≡ found_cut g new ++ found_behind at_end g new more
 
 -- the last piece of the text is cut off, which its end ends
 pub record TakesLast (coming left : Option (List ℕ)) (old new : Cutter) : Type 0 where
@@ -112,7 +120,9 @@ abbrev pub weight : ℕ → Cutter → ℕ
 weight pulls cutter = pulls * 2049 + length (rest_of cutter)
 
 -- reading on, with these problems handed out
-pub record HandsOut (g : Geometry) (coming left : Option (List ℕ)) (old new : Cutter) (problems : List Numbered) : Type 0 where
+pub record HandsOut (g : Geometry) (coming left : Option (List ℕ)) (old new : Cutter)
+    (problems : List Numbered) : Type 0 where
   pub read : List ℕ
   pub took : Consumes coming left read
-  pub same : (at_end : Bool) (more : List ℕ) → problems_from at_end g old (read ++ more) ≡ problems ++ problems_from at_end g new more
+  pub same : (at_end : Bool) (more : List ℕ)
+      → problems_from at_end g old (read ++ more) ≡ problems ++ problems_from at_end g new more

@@ -1,5 +1,6 @@
 -- What is held of a section, and what decides what it says.
-use Rattle.std.specs.Prelude.{ℕ, ◌==◌, ◌+◌, ◌-◌, ◌*◌, ◌||◌, if◌then◌else◌, not, min, List, [], ◌∷◌, ◌++◌, length, Bool, true, false, Option, Some, None, Err, nat_lt}
+use Rattle.std.specs.Prelude.{ℕ, ◌==◌, ◌+◌, ◌-◌, ◌*◌, ◌||◌, if◌then◌else◌, not, min, List, [], ◌∷◌, ◌++◌, length, Bool}
+use Rattle.std.specs.Prelude.{true, false, Option, Some, None, Err, nat_lt}
 use Rattle.std.specs.Char.{is_ascii_digit}
 use Rattle.dw_board.specs.Geometry.{Geometry}
 use Rattle.dw_board.specs.Fen.{fen}
@@ -7,10 +8,12 @@ use Rattle.dw_board.specs.FenTokens.{is_blank}
 use Rattle.dw_notation.specs.Lines.{Found, fen_found}
 use Rattle.dw_notation.specs.Sections.{step, kind_of, found_by, found_at_end}
 use Rattle.dw_notation.specs.declared.problems.TheConstants.{MAX_SECTION}
-use Rattle.dw_notation.specs.declared.problems.ProblemFault.TheVariants.{NoFen, TwoFens, WrongGame, SectionTooLong, UnclosedTag, UnclosedComment}
+use Rattle.dw_notation.specs.declared.problems.ProblemFault.TheVariants.{NoFen, TwoFens, WrongGame, SectionTooLong}
+use Rattle.dw_notation.specs.declared.problems.ProblemFault.TheVariants.{UnclosedTag, UnclosedComment}
 use Rattle.dw_notation.specs.declared.problems.pdn.Place.{Place}
 use Rattle.dw_notation.specs.declared.problems.pdn.Deed.{Deed}
-use Rattle.dw_notation.specs.declared.problems.pdn.Deed.TheVariants.{Keep, Open, Count, AddName, OpenValue, AddValue, AddBoth, Close, Break, EndLine, NextTag, End}
+use Rattle.dw_notation.specs.declared.problems.pdn.Deed.TheVariants.{Keep, Open, Count, AddName, OpenValue, AddValue}
+use Rattle.dw_notation.specs.declared.problems.pdn.Deed.TheVariants.{AddBoth, Close, Break, EndLine, NextTag, End}
 use Rattle.dw_notation.specs.declared.problems.pdn.Kind.{Kind}
 use Rattle.dw_notation.specs.declared.problems.pdn.Kind.TheVariants.{FenTag, GameTag, OtherTag}
 use Rattle.dw_notation.specs.declared.problems.pdn.Game.{Game}
@@ -48,7 +51,18 @@ held_of s = record {
 }
 
 abbrev pub held_bare : Held
-held_bare = record { read = 0; size = 0; is_unclosed = false; name = []; kind = OtherTag; fens = 0; fen_text = []; game = Before; has_game = false; is_wrong = false }
+held_bare = record {
+  read = 0;
+  size = 0;
+  is_unclosed = false;
+  name = [];
+  kind = OtherTag;
+  fens = 0;
+  fen_text = [];
+  game = Before;
+  has_game = false;
+  is_wrong = false;
+}
 
 -- one more, as far as it is counted
 abbrev pub counted : ℕ → ℕ → ℕ
@@ -89,7 +103,11 @@ held_after Keep h = h
 held_after Open h = record held_bare { read = 1 }
 held_after Count h = counted_in h
 held_after (AddName byte) h = record (counted_in h) { name = kept 9 h.name byte }
-held_after OpenValue h = record (counted_in h) { kind = kind_of h.name; game = Before; fen_text = if h.fens == 0 then [] else h.fen_text }
+held_after OpenValue h = record (counted_in h) {
+  kind = kind_of h.name;
+  game = Before;
+  fen_text = if h.fens == 0 then [] else h.fen_text;
+}
 held_after (AddValue byte) h = value_on h.kind (counted_in h) byte
 held_after (AddBoth byte) h = value_on h.kind (value_on h.kind (counted_in h) 92) byte
 held_after Close h = tag_on h.kind (record (counted_in h) { size = counted (MAX_SECTION + 1) h.read })
@@ -107,13 +125,17 @@ fens_held g fens text = if fens == 0 then Err NoFen else (if fens == 1 then fen_
 -- what is held says
 abbrev pub held_found : Geometry → Held → Found
 held_found g h =
-    if nat_lt MAX_SECTION h.size then Err SectionTooLong else (if h.is_unclosed then Err UnclosedTag else (if is_wrong_held g h then Err WrongGame else fens_held g h.fens h.fen_text))
+    if nat_lt MAX_SECTION h.size then Err SectionTooLong
+    else (if h.is_unclosed then Err UnclosedTag
+    else (if is_wrong_held g h then Err WrongGame else fens_held g h.fens h.fen_text))
 
 -- what is held and then the bytes say
 abbrev pub held_from : Bool → Geometry → Place → Held → List ℕ → List Found
-held_from at_end g place h [] = if at_end then found_at_end place (held_found g h) (held_found g (held_after EndLine h)) else []
+held_from at_end g place h [] = if at_end then found_at_end place (held_found g h) (held_found g (held_after EndLine h))
+    else []
 held_from at_end g place h (byte ∷ bytes) =
-    found_by (step place byte).deed (held_found g h) ++ held_from at_end g (step place byte).place (held_after (step place byte).deed h) bytes
+    found_by (step place byte).deed (held_found g h)
+    ++ held_from at_end g (step place byte).place (held_after (step place byte).deed h) bytes
 
 -- the section begun and then the bytes
 abbrev pub sections_ahead : Bool → Geometry → Sections → List ℕ → List Found

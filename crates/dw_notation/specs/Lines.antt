@@ -1,5 +1,6 @@
 -- The lines of a byte text, and what they say.
-use Rattle.std.specs.Prelude.{◌≡◌, ℕ, ◌==◌, ◌-◌, ◌&&◌, if◌then◌else◌, List, [], ◌∷◌, length, take, slice_index, false, Bool}
+use Rattle.std.specs.Prelude.{◌≡◌, ℕ, ◌==◌, ◌-◌, ◌&&◌, if◌then◌else◌, List, [], ◌∷◌, length, take, slice_index, false}
+use Rattle.std.specs.Prelude.{Bool}
 use Rattle.std.specs.Prelude.{◌++◌, Option, Some, None, option_to_list, Result, Ok, Err, nat_lt}
 use Rattle.std.specs.List.{list_all}
 use Rattle.dw_board.specs.Geometry.{Geometry}
@@ -68,7 +69,8 @@ fen_found (Err fault) = Err (Fen fault)
 -- a line's length is tested before its blankness, and a line of blanks alone says nothing
 abbrev pub text_found : Geometry → List ℕ → Option Found
 text_found g text =
-    if nat_lt MAX_LINE (length text) then Some (Err LineTooLong) else (if list_all is_blank text then None else Some (fen_found (fen g text)))
+    if nat_lt MAX_LINE (length text) then Some (Err LineTooLong)
+    else (if list_all is_blank text then None else Some (fen_found (fen g text)))
 
 -- what a text says that is too long for a FEN text, by its length and by whether it is blank
 abbrev pub long_text_found : ℕ → Bool → Option Found

@@ -1,5 +1,6 @@
 -- The text of a move: what it names, which moves fit that, and the answer to it.
-use Rattle.std.specs.Prelude.{◌≡◌, ◌==◌, ◌||◌, ℕ, ◌<◌, ◌≤◌, Bool, true, Result, Ok, Err, Some, List, [], ◌∷◌, ◌++◌, length}
+use Rattle.std.specs.Prelude.{◌≡◌, ◌==◌, ◌||◌, ℕ, ◌<◌, ◌≤◌, Bool, true, Result, Ok, Err, Some, List, [], ◌∷◌, ◌++◌}
+use Rattle.std.specs.Prelude.{length}
 use Rattle.std.specs.FinSet as set
 use Rattle.dw_board.specs.Geometry.{Geometry}
 use Rattle.dw_board.specs.Placement.{Placement}
@@ -20,7 +21,8 @@ is_cross byte = (byte == 120) || (byte == 88)
 -- numbers joined by crosses
 pub data AreCrossed : Geometry → List ℕ → List ℕ → Type 0 where
   single : {g : Geometry} {text : List ℕ} {s : ℕ} → IsNumber g text s → AreCrossed g text (s ∷ [])
-  more : {g : Geometry} {s : ℕ} {squares : List ℕ} (front : List ℕ) (cross : ℕ) (rest : List ℕ) → IsNumber g front s → is_cross cross ≡ true → AreCrossed g rest squares → AreCrossed g (front ++ cross ∷ rest) (s ∷ squares)
+  more : {g : Geometry} {s : ℕ} {squares : List ℕ} (front : List ℕ) (cross : ℕ) (rest : List ℕ) → IsNumber g front s
+      → is_cross cross ≡ true → AreCrossed g rest squares → AreCrossed g (front ++ cross ∷ rest) (s ∷ squares)
 
 -- what a text names: a quiet move by its two squares, or a capture by its start and squares on which it lands
 pub data Named : Type 0 where
@@ -29,8 +31,10 @@ pub data Named : Type 0 where
 
 -- two numbers joined by a dash name a quiet move, and 2 to 21 joined by crosses a capture
 pub data Names : Geometry → List ℕ → Named → Type 0 where
-  by_dash : {g : Geometry} {from to : ℕ} (front back : List ℕ) → IsNumber g front from → IsNumber g back to → Names g (front ++ 45 ∷ back) (QuietMove from to)
-  by_crosses : {g : Geometry} {text squares : List ℕ} → AreCrossed g text squares → 2 ≤ length squares → length squares ≤ 21 → Names g text (Capture squares)
+  by_dash : {g : Geometry} {from to : ℕ} (front back : List ℕ) → IsNumber g front from → IsNumber g back to
+      → Names g (front ++ 45 ∷ back) (QuietMove from to)
+  by_crosses : {g : Geometry} {text squares : List ℕ} → AreCrossed g text squares → 2 ≤ length squares
+      → length squares ≤ 21 → Names g text (Capture squares)
 
 -- where a move begins and ends
 abbrev pub Between : ℕ → ℕ → Move → Type 0
@@ -73,8 +77,8 @@ pub record TwoFit (g : Geometry) (p : Placement) (named : Named) : Type 0 where
 abbrev pub NamesTwo : Named → Type 0
 NamesTwo named = (from to : ℕ) × (named ≡ Capture (from ∷ to ∷ []))
 
--- The answer to what was named: the one move that fits, that none does, or that several do. Memory can be refused only for two
--- squares joined by a cross.
+-- The answer to what was named: the one move that fits, that none does, or that several do. Memory can be refused only
+-- for two squares joined by a cross.
 abbrev pub IsAnswer : Geometry → Placement → Named → Result Move MoveFault → Type 0
 IsAnswer g p named (Ok m) = FitsAlone g p named m
 IsAnswer g p named (Err Syntax) = ⊥

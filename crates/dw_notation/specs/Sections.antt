@@ -67,7 +67,8 @@ step Between byte =
     if byte == open_bracket then at BeforeName NextTag
     else (if is_blank byte || ends_line byte then at Between Count
     else (if byte == open_brace then at Comment End else at Outside End))
-step BeforeName byte = if is_blank byte then at BeforeName Count else (if is_name_byte byte then at InName (AddName byte) else broken_by byte)
+step BeforeName byte = if is_blank byte then at BeforeName Count
+    else (if is_name_byte byte then at InName (AddName byte) else broken_by byte)
 step InName byte =
     if is_name_byte byte then at InName (AddName byte)
     else (if is_blank byte then at BehindName Count
@@ -95,7 +96,8 @@ same_name (a ∷ name) [] = false
 same_name (a ∷ name) (b ∷ other) = (to_ascii_lowercase a == to_ascii_lowercase b) && same_name name other
 
 abbrev pub kind_of : List ℕ → Kind
-kind_of name = if same_name name (codes "FEN") then FenTag else (if same_name name (codes "GameType") then GameTag else OtherTag)
+kind_of name = if same_name name (codes "FEN") then FenTag
+    else (if same_name name (codes "GameType") then GameTag else OtherTag)
 
 -- a number goes on with the digits in front of the text
 abbrev pub number_on : ℕ → List ℕ → ℕ
@@ -105,7 +107,8 @@ number_on n (byte ∷ text) = if is_ascii_digit byte then number_on (n * 10 + (b
 -- the game that a value names: the number at its front, blanks aside; 20, international draughts, where there is none
 abbrev pub game_of : List ℕ → ℕ
 game_of [] = 20
-game_of (byte ∷ text) = if is_blank byte then game_of text else (if is_ascii_digit byte then number_on (byte - 48) text else 20)
+game_of (byte ∷ text) = if is_blank byte then game_of text
+    else (if is_ascii_digit byte then number_on (byte - 48) text else 20)
 
 -- a section, as far as it was read
 pub record Section : Type 0 where
@@ -159,7 +162,9 @@ fens_found g (text ∷ other ∷ fens) = Err TwoFens
 -- what a section says
 abbrev pub section_found : Geometry → Section → Found
 section_found g s =
-    if nat_lt MAX_SECTION s.size then Err SectionTooLong else (if s.is_unclosed then Err UnclosedTag else (if is_wrong g s.games then Err WrongGame else fens_found g s.fens))
+    if nat_lt MAX_SECTION s.size then Err SectionTooLong
+    else (if s.is_unclosed then Err UnclosedTag
+    else (if is_wrong g s.games then Err WrongGame else fens_found g s.fens))
 
 -- what is found where a byte does this in a section that says so
 abbrev pub found_by : Deed → Found → List Found
@@ -175,6 +180,8 @@ found_at_end _ whole unclosed = unclosed ∷ []
 
 -- what the section begun and then the bytes say; a line ends where the text does
 abbrev pub sections_found : Bool → Geometry → Place → Section → List ℕ → List Found
-sections_found at_end g place s [] = if at_end then found_at_end place (section_found g s) (section_found g (after EndLine s)) else []
+sections_found at_end g place s [] = if at_end
+    then found_at_end place (section_found g s) (section_found g (after EndLine s)) else []
 sections_found at_end g place s (byte ∷ bytes) =
-    found_by (step place byte).deed (section_found g s) ++ sections_found at_end g (step place byte).place (after (step place byte).deed s) bytes
+    found_by (step place byte).deed (section_found g s)
+    ++ sections_found at_end g (step place byte).place (after (step place byte).deed s) bytes

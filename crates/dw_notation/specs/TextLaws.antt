@@ -7,11 +7,16 @@ use Rattle.dw_notation.specs.Text.{IsMoveText, IsLineText, ArePlayable}
 
 -- each legal move of a position has a text, and only one; different moves have different texts
 pub record MovesHaveTexts : Type 0 where
-  pub some : (g : Geometry) → IsBoard g → (p : Placement) (m : Move) → Legal g p m → (text : List ℕ) × IsMoveText g p m text
-  pub one : (g : Geometry) (p : Placement) (m : Move) (text other : List ℕ) → IsMoveText g p m text → IsMoveText g p m other → text ≡ other
-  pub differ : (g : Geometry) → IsBoard g → (p : Placement) → IsPosition g p.cells → (m n : Move) (text : List ℕ) → IsMoveText g p m text → IsMoveText g p n text → m ≡ n
+  pub some : (g : Geometry) → IsBoard g → (p : Placement) (m : Move) → Legal g p m
+      → (text : List ℕ) × IsMoveText g p m text
+  pub one : (g : Geometry) (p : Placement) (m : Move) (text other : List ℕ) → IsMoveText g p m text
+      → IsMoveText g p m other → text ≡ other
+  pub differ : (g : Geometry) → IsBoard g → (p : Placement) → IsPosition g p.cells → (m n : Move) (text : List ℕ)
+      → IsMoveText g p m text → IsMoveText g p n text → m ≡ n
 
 -- moves that can be played one after another have a text as a line, and only one
 pub record LinesHaveTexts : Type 0 where
-  pub some : (g : Geometry) → IsBoard g → (p : Placement) (moves : List Move) → ArePlayable g p moves → (text : List ℕ) × IsLineText g p moves text
-  pub one : (g : Geometry) (p : Placement) (moves : List Move) (text other : List ℕ) → IsLineText g p moves text → IsLineText g p moves other → text ≡ other
+  pub some : (g : Geometry) → IsBoard g → (p : Placement) (moves : List Move) → ArePlayable g p moves
+      → (text : List ℕ) × IsLineText g p moves text
+  pub one : (g : Geometry) (p : Placement) (moves : List Move) (text other : List ℕ) → IsLineText g p moves text
+      → IsLineText g p moves other → text ≡ other

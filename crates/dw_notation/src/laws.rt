@@ -1,5 +1,6 @@
 //! Laws of the definitions, each the contract of a function that does nothing.
-ghost use Rattle.dw_notation.specs.Tags.{SectionsAreFound, LastSectionIsFound, CommentsSayNothing, OpenCommentIsFound, OthersSayNothing, OpenCommentGivesNothing, OpenSectionGivesNothing};
+ghost use Rattle.dw_notation.specs.Tags.{SectionsAreFound, LastSectionIsFound, CommentsSayNothing, OpenCommentIsFound};
+ghost use Rattle.dw_notation.specs.Tags.{OthersSayNothing, OpenCommentGivesNothing, OpenSectionGivesNothing};
 ghost use Rattle.dw_notation.specs.WholeTexts.{TextsAreRows};
 ghost use Rattle.dw_notation.specs.TextLaws.{MovesHaveTexts, LinesHaveTexts};
 ghost use Rattle.dw_notation.specs.MoveReadingLaws.{NamesOneThing, HasOneAnswer, WrittenMoveIsNamed, WrittenMoveIsRead};
@@ -29,7 +30,8 @@ pub fn texts_are_rows()
     ensures { TextsAreRows }
 {}
 
-/// While more bytes may come, a comment that is still open has given nothing, nor has a section that more tags may follow.
+/// While more bytes may come, a comment that is still open has given nothing, nor has a section that more tags may
+/// follow.
 pub fn unfinished_give_nothing()
     ensures comment { OpenCommentGivesNothing }
     ensures section { OpenSectionGivesNothing }

@@ -1,5 +1,6 @@
 //! Reading the text of a move.
-ghost use Rattle.std.specs.Prelude.{◌≡◌, ◌≤◌, ◌<◌, ◌∷◌, [], List, ℕ, length, take, drop, false, MatchOption, IsTrue, ◌↔◌};
+ghost use Rattle.std.specs.Prelude.{◌≡◌, ◌≤◌, ◌<◌, ◌∷◌, [], List, ℕ, length, take, drop, false, MatchOption, IsTrue};
+ghost use Rattle.std.specs.Prelude.{◌↔◌};
 ghost use Rattle.dw_board.specs.FenTokens.{number_named, begins_with_digit};
 ghost use Rattle.dw_board.specs.FenBlanks.{AreDigits};
 ghost use Rattle.dw_moves.specs.Moves.{NoRepeat};
@@ -57,8 +58,8 @@ impl From<AllocError> for MoveFault {
 ///
 /// # Errors
 ///
-/// `Syntax` for any other text; `NoSuchMove` if no legal move fits, and `Ambiguous` if several do; `Memory` if memory is
-/// refused, which only two squares joined by `x` ask for.
+/// `Syntax` for any other text; `NoSuchMove` if no legal move fits, and `Ambiguous` if several do; `Memory` if memory
+/// is refused, which only two squares joined by `x` ask for.
 pub fn read_move<B: Board>(
     alloc: Global,
     position: &Position<B>,
@@ -77,7 +78,8 @@ pub fn read_move<B: Board>(
 
 /// The squares of a quiet move, where a text names one.
 fn quiet_named<B: Board>(text: &[u8]) -> Option<(Square<B>, Square<B>)>
-    ensures { MatchOption result ((from to : ℕ) → Names B.geometry text.now (QuietMove from to) → ⊥) (λ r. Names B.geometry text.now (QuietMove r.0 r.1)) }
+    ensures { MatchOption result ((from to : ℕ) → Names B.geometry text.now (QuietMove from to)
+        → ⊥) (λ r. Names B.geometry text.now (QuietMove r.0 r.1)) }
 {
     let Some((from, behind)) = first_square(text) else {
         return None;

@@ -1,5 +1,6 @@
 //! Where bytes come from and where they go.
-ghost use Rattle.std.specs.Prelude.{◌≡◌, ℕ, ◌<◌, ◌||◌, List, Bool, true, false, length, is_none, IfSome, IsNone, Option};
+ghost use Rattle.std.specs.Prelude.{◌≡◌, ℕ, ◌<◌, ◌||◌, List, Bool, true, false, length, is_none, IfSome, IsNone};
+ghost use Rattle.std.specs.Prelude.{Option};
 ghost use Rattle.dw_notation.specs.Streams.{PullTakes, PullFalls, GiveAdds, GiveFails};
 
 mod reading;

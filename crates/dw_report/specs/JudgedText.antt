@@ -14,10 +14,12 @@ next_number beginning = length beginning / 2 + 1
 abbrev pub IsVerdictText : Geometry → Placement → ℕ → Verdict → List ℕ → Type 0
 IsVerdictText g p n unsolvable text = text ≡ codes "unsolvable in " ++ decimal n ++ codes "\n"
 IsVerdictText g p n (cooked shortest keys) text = (moves : List ℕ) × AreJoined g p (codes ", ") keys moves
-    × (text ≡ codes "cooked in " ++ decimal n ++ codes ", shortest " ++ decimal shortest ++ codes ": " ++ moves ++ codes "\n")
+    × (text ≡ codes "cooked in " ++ decimal n ++ codes ", shortest " ++ decimal shortest ++ codes ": " ++ moves
+    ++ codes "\n")
 IsVerdictText g p n (dual beginning choices) text = (line : List ℕ) × (moves : List ℕ) × IsLineText g p beginning line
     × AreJoined g (reach g p beginning) (codes " / ") choices moves
-    × (text ≡ codes "dual in " ++ decimal n ++ codes ": " ++ line ++ codes " " ++ decimal (next_number beginning) ++ codes ". " ++ moves ++ codes "\n")
+    × (text ≡ codes "dual in " ++ decimal n ++ codes ": " ++ line ++ codes " " ++ decimal (next_number beginning)
+    ++ codes ". " ++ moves ++ codes "\n")
 IsVerdictText g p n (sound key) text = (move : List ℕ) × IsMoveText g p key move
     × (text ≡ codes "sound in " ++ decimal n ++ codes ": " ++ move ++ codes "\n")
 
@@ -27,7 +29,8 @@ IsVerdictLine g p n line = (verdict : Verdict) × IsVerdict g p n verdict × IsV
 
 -- the line of a try: its move, and the reply that refutes it
 abbrev pub IsTryLine : Geometry → Placement → Move × Move → List ℕ → Type 0
-IsTryLine g p t line = (move : List ℕ) × (reply : List ℕ) × IsMoveText g p t.0 move × IsMoveText g (play g p t.0) t.1 reply
+IsTryLine g p t line = (move : List ℕ) × (reply : List ℕ) × IsMoveText g p t.0 move
+    × IsMoveText g (play g p t.0) t.1 reply
     × (line ≡ codes "try " ++ move ++ codes " refuted by " ++ reply ++ codes "\n")
 
 -- tries, each in its line
@@ -42,7 +45,8 @@ AreTriesListed g p n text = (tries : List (Move × Move)) × Tries g p n tries �
 
 -- the verdict on a position, and its tries
 abbrev pub IsJudgedText : Geometry → Placement → ℕ → List ℕ → Type 0
-IsJudgedText g p n text = (verdict : List ℕ) × (tries : List ℕ) × IsVerdictLine g p n verdict × AreTriesListed g p n tries
+IsJudgedText g p n text = (verdict : List ℕ) × (tries : List ℕ) × IsVerdictLine g p n verdict
+    × AreTriesListed g p n tries
     × (text ≡ verdict ++ tries)
 
 -- what is written of one legal move: its line if it is a try, else nothing

@@ -10,11 +10,13 @@ use Rattle.dw_list.specs.Tokens.{token_of}
 -- the text of each line of play, on a line of its own
 abbrev pub AreLineTexts : Geometry → Placement → List (List Move) → List ℕ → Type 0
 AreLineTexts g p [] text = text ≡ []
-AreLineTexts g p (l ∷ lines) text = (line : List ℕ) × (rest : List ℕ) × IsLineText g p l line × AreLineTexts g p lines rest
+AreLineTexts g p (l ∷ lines) text = (line : List ℕ) × (rest : List ℕ) × IsLineText g p l line
+    × AreLineTexts g p lines rest
     × (text ≡ line ++ codes "\n" ++ rest)
 
 -- all of them, if they are at most so many, and their number
-pub record IsComplete (g : Geometry) (p : Placement) (most : ℕ) (lines : List (List Move)) (text : List ℕ) : Type 0 where
+pub record IsComplete (g : Geometry) (p : Placement) (most : ℕ) (lines : List (List Move))
+    (text : List ℕ) : Type 0 where
   pub few : length lines ≤ most
   pub texts : List ℕ
   pub are : AreLineTexts g p lines texts
@@ -44,5 +46,6 @@ refused_line place = codes "refused token: 1 not a line at " ++ decimal place ++
 abbrev pub IsListedText : Geometry → Placement → ℕ → ℕ → Option (List Move) → List ℕ → Type 0
 IsListedText g p n most None text = (lines : List (List Move)) × Lines g p n lines × IsListing g p most lines text
 IsListedText g p n most (Some l) text =
-    ((lines : List (List Move)) × (rest : List (List Move)) × Lines g p n lines × After lines l rest × IsListing g p most rest text)
+    ((lines : List (List Move)) × (rest : List (List Move)) × Lines g p n lines × After lines l rest
+    × IsListing g p most rest text)
     ⊎ ((place : ℕ) × IsPlace g p n l place × (text ≡ refused_line place))

@@ -6,14 +6,17 @@ use Rattle.dw_board.specs.Placement.{Placement}
 use Rattle.dw_board.specs.FenText.{written}
 use Rattle.dw_board.specs.Diagram.{diagram_text}
 use Rattle.dw_board.specs.declared.fen.fault.FenFaultKind.{FenFaultKind}
-use Rattle.dw_board.specs.declared.fen.fault.FenFaultKind.TheVariants.{Turn, Colon, Colour, Number, Twice, SameColour, LastRow, TooMany, Rest, TooLong, RangeBackwards}
+use Rattle.dw_board.specs.declared.fen.fault.FenFaultKind.TheVariants.{Turn, Colon, Colour, Number, Twice, SameColour}
+use Rattle.dw_board.specs.declared.fen.fault.FenFaultKind.TheVariants.{LastRow, TooMany, Rest, TooLong, RangeBackwards}
 use Rattle.dw_moves.specs.Moves.{IsBest, play}
 use Rattle.dw_moves.specs.Order.{Listed, AreListed}
 use Rattle.dw_notation.specs.Text.{text_among}
 use Rattle.dw_notation.specs.Lines.{Found}
 use Rattle.dw_notation.specs.Problems.{Numbered, problems_of}
 use Rattle.dw_notation.specs.declared.problems.ProblemFault.{ProblemFault}
-use Rattle.dw_notation.specs.declared.problems.ProblemFault.TheVariants.{Fen, NoFen, TwoFens, WrongGame, LineTooLong, SectionTooLong, UnclosedTag, UnclosedComment, TooManyProblems}
+use Rattle.dw_notation.specs.declared.problems.ProblemFault.TheVariants.{Fen, NoFen, TwoFens, WrongGame, LineTooLong}
+use Rattle.dw_notation.specs.declared.problems.ProblemFault.TheVariants.{SectionTooLong, UnclosedTag, UnclosedComment}
+use Rattle.dw_notation.specs.declared.problems.ProblemFault.TheVariants.{TooManyProblems}
 use Rattle.dw_report.specs.Request.{number_is_chosen, Request}
 use Rattle.dw_report.specs.declared.settings.Command.{Command}
 use Rattle.dw_report.specs.declared.settings.Command.TheVariants.{Show, Moves, Judge, List as Lists}
@@ -52,7 +55,8 @@ found_text g (Ok position) = written g position
 found_text g (Err fault) = codes "refused: " ++ refusal_text fault
 
 abbrev pub first_line : Geometry → Numbered → List ℕ
-first_line g problem = codes "problem " ++ decimal problem.number ++ codes ": " ++ found_text g problem.found ++ codes "\n"
+first_line g problem = codes "problem " ++ decimal problem.number ++ codes ": " ++ found_text g problem.found
+    ++ codes "\n"
 
 -- what is written of one of the legal moves: its text, and the position after it
 abbrev pub move_line : Geometry → Placement → List Listed → Listed → List ℕ
@@ -95,7 +99,9 @@ pub record IsProblemText (g : Geometry) (request : Request) (problem : Numbered)
 -- the texts of problems, one behind another
 abbrev pub AreTexts : Geometry → Request → List Numbered → List ℕ → Type 0
 AreTexts g request [] text = text ≡ []
-AreTexts g request (problem ∷ problems) text = (one : List ℕ) × (rest : List ℕ) × IsProblemText g request problem one × AreTexts g request problems rest × (text ≡ one ++ rest)
+AreTexts g request (problem ∷ problems) text =
+    (one : List ℕ) × (rest : List ℕ) × IsProblemText g request problem one × AreTexts g request problems rest
+    × (text ≡ one ++ rest)
 
 abbrev pub chosen : Option ℕ → List Numbered → List Numbered
 chosen only problems = filter (λ problem. number_is_chosen only problem.number) problems

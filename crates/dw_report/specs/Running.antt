@@ -1,5 +1,6 @@
 -- What a run writes, what it counts, and what stands where a stream failed or the run was stopped.
-use Rattle.std.specs.Prelude.{◌≡◌, ℕ, ◌+◌, ◌≤◌, ◌<◌, ◌⊎◌, if◌then◌else◌, List, [], ◌∷◌, ◌++◌, length, Bool, true, false, IsTrue, Option, Some, None, Result, Ok, Err}
+use Rattle.std.specs.Prelude.{◌≡◌, ℕ, ◌+◌, ◌≤◌, ◌<◌, ◌⊎◌, if◌then◌else◌, List, [], ◌∷◌, ◌++◌, length, Bool, true, false}
+use Rattle.std.specs.Prelude.{IsTrue, Option, Some, None, Result, Ok, Err}
 use Rattle.std.specs.List.{list_any}
 use Rattle.std.specs.Io.KnownBytes.{Consumes, Appends, IsAtEnd}
 use Rattle.dw_board.specs.Geometry.{Geometry}
@@ -60,28 +61,33 @@ pub record Counts (g : Geometry) (request : Request) (summary : Summary) (proble
 pub record CountsOne (g : Geometry) (request : Request) (old new : Summary) (problem : Numbered) : Type 0 where
   pub read : new.problems ≡ old.problems + 1
   pub shown : new.shown ≡ old.shown + length (chosen request.only (problem ∷ []))
-  pub refused : (count : ℕ) × AreRefused g request (chosen request.only (problem ∷ [])) count × (new.refused ≡ old.refused + count)
+  pub refused : (count : ℕ) × AreRefused g request (chosen request.only (problem ∷ [])) count
+      × (new.refused ≡ old.refused + count)
 
 -- the source was read to its end, unless the problem asked for or one too many came first
 abbrev pub IsReadThrough : Request → List Numbered → Option (List ℕ) → Type 0
-IsReadThrough request problems left = IsAtEnd left ⊎ (IsTrue (list_any (is_asked request.only) problems) ⊎ (MAX_PROBLEMS < length problems))
+IsReadThrough request problems left =
+    IsAtEnd left ⊎ (IsTrue (list_any (is_asked request.only) problems) ⊎ (MAX_PROBLEMS < length problems))
 
 -- the whole report on these bytes was written, and nothing else
-pub record Finishes (g : Geometry) (request : Request) (bytes : List ℕ) (left taken after : Option (List ℕ)) (summary : Summary) : Type 0 where
+pub record Finishes (g : Geometry) (request : Request) (bytes : List ℕ) (left taken after : Option (List ℕ))
+    (summary : Summary) : Type 0 where
   pub wrote : Writes (IsReport g request bytes) taken after
   pub counts : Counts g request summary (problems_of g request.form bytes)
   pub through : IsReadThrough request (problems_of g request.form bytes) left
 
 -- After a failed read the sink has taken the whole texts of just the chosen problems that end in the bytes read. The
 -- problem that was asked for is none of those: reading ends behind it.
-pub record StopsReading (g : Geometry) (request : Request) (bytes : List ℕ) (left taken after : Option (List ℕ)) : Type 0 where
+pub record StopsReading (g : Geometry) (request : Request) (bytes : List ℕ)
+    (left taken after : Option (List ℕ)) : Type 0 where
   pub read : List ℕ
   pub took : Consumes (Some bytes) left read
   pub wrote : Writes (IsReportOn g request (ended_problems_of g request.form read)) taken after
   pub unasked : list_any (is_asked request.only) (ended_problems_of g request.form read) ≡ false
 
 -- the sink has taken a beginning of some kind, whatever bytes follow those read; none do where the end was met
-pub record StopsAhead (P : List ℕ → List ℕ → Type 0) (bytes : List ℕ) (left taken after : Option (List ℕ)) : Type 0 where
+pub record StopsAhead (P : List ℕ → List ℕ → Type 0) (bytes : List ℕ)
+    (left taken after : Option (List ℕ)) : Type 0 where
   pub read : List ℕ
   pub took : Consumes (Some bytes) left read
   pub met_end : Bool
@@ -129,12 +135,15 @@ abbrev pub IsPart : Geometry → Request → List ℕ → List ℕ → Type 0
 IsPart g request bytes out = IsPartOn g request (problems_of g request.form bytes) out
 
 -- what a run did, where the source tells its bytes
-abbrev pub RunEnds : Geometry → Request → Option (List ℕ) → Option (List ℕ) → Option (List ℕ) → Option (List ℕ) → Result Summary RunFault → Type 0
+abbrev pub RunEnds : Geometry → Request → Option (List ℕ) → Option (List ℕ) → Option (List ℕ) → Option (List ℕ)
+    → Result Summary RunFault → Type 0
 RunEnds g request None left taken after result = Unit {0}
 RunEnds g request (Some bytes) left taken after (Ok summary) = Finishes g request bytes left taken after summary
-RunEnds g request (Some bytes) left taken after (Err (ends.Stopped why expanded)) = StopsAhead (IsPart g request) bytes left taken after
+RunEnds g request (Some bytes) left taken after (Err (ends.Stopped why expanded)) =
+    StopsAhead (IsPart g request) bytes left taken after
 RunEnds g request (Some bytes) left taken after (Err ends.Read) = StopsReading g request bytes left taken after
-RunEnds g request (Some bytes) left taken after (Err ends.Write) = StopsAhead (BeginsReport g request) bytes left taken after
+RunEnds g request (Some bytes) left taken after (Err ends.Write) =
+    StopsAhead (BeginsReport g request) bytes left taken after
 
 -- a search is stopped at the limit, or by want of memory before it
 abbrev pub StopsSearch : ℕ → Stop → ℕ → Type 0
@@ -154,7 +163,8 @@ StopsRightly command limit result =
     (why : Stop) (expanded : ℕ) → result ≡ Err (ends.Stopped why expanded) → MayStop command limit why expanded
 
 -- what writing a text did: it was written; after a stop a part of it; after a fault of the sink some beginning
-abbrev pub TextEnds : {X : Type 0} → (List ℕ → Type 0) → (List ℕ → Type 0) → Option (List ℕ) → Option (List ℕ) → Result X TextFault → Type 0
+abbrev pub TextEnds : {X : Type 0} → (List ℕ → Type 0) → (List ℕ → Type 0) → Option (List ℕ) → Option (List ℕ)
+    → Result X TextFault → Type 0
 TextEnds P Part old new (Ok x) = Writes P old new
 TextEnds P Part old new (Err (Stopped why)) = Writes Part old new
 TextEnds P Part old new (Err Sink) = WritesShort P old new

@@ -39,7 +39,9 @@ pub(crate) fn first_choice<B: Board, M: Memo<B>, G: Guide<B>>(
 ) -> Result<Option<Dual<B>>, Stop>
     requires few { moves ≤ 20 }
     requires keys { Keys B.geometry position.now moves keys.now }
-    ensures found { IfOk result (λ found. FindsLeast (Before B.geometry position.now) (LeadsToChoices B.geometry moves position.now) (option_map parts_of found)) }
+    ensures found { IfOk result (λ found.
+        FindsLeast (Before B.geometry position.now) (LeadsToChoices B.geometry moves position.now)
+        (option_map parts_of found)) }
     ensures asked { Asked B.geometry M.content M.dropped moves solver.old solver.new result }
 {
     searches_add_up();
@@ -64,7 +66,9 @@ fn choice_after_reply<B: Board, M: Memo<B>, G: Guide<B>>(
     left: u8,
 ) -> Result<Option<Dual<B>>, Stop>
     requires { left ≤ 19 }
-    ensures found { IfOk result (λ found. FindsLeast (Before B.geometry position.now) (RepliesToChoices B.geometry left position.now) (option_map parts_of found)) }
+    ensures found { IfOk result (λ found.
+        FindsLeast (Before B.geometry position.now) (RepliesToChoices B.geometry left position.now)
+        (option_map parts_of found)) }
     ensures asked { Asked B.geometry M.content M.dropped left solver.old solver.new result }
 {
     searches_add_up();
@@ -90,7 +94,9 @@ fn choice_from<B: Board, M: Memo<B>, G: Guide<B>>(
     left: u8,
 ) -> Result<Option<Dual<B>>, Stop>
     requires { left ≤ 19 }
-    ensures found { IfOk result (λ found. FindsLeast (Before B.geometry position.now) (ComesToChoices B.geometry left position.now) (option_map parts_of found)) }
+    ensures found { IfOk result (λ found.
+        FindsLeast (Before B.geometry position.now) (ComesToChoices B.geometry left position.now)
+        (option_map parts_of found)) }
     ensures asked { Asked B.geometry M.content M.dropped left solver.old solver.new result }
 {
     searches_add_up();

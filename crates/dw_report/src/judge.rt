@@ -38,7 +38,9 @@ pub fn judge<B: Board, M: Memo<B>, G: Guide<B>>(
     ensures tries { IfOk result (λ judged. Tries B.geometry position.now moves judged.tries.items) }
     ensures count { IsCounted solver.old.expanded solver.old.limit solver.new.expanded solver.new.limit }
     ensures stop { IsErrOf result Limit → solver.new.expanded ≡ solver.new.limit }
-    ensures searched { Searched B.geometry moves (cut_off result moves) (moment M.content M.dropped solver.old.memo solver.old.expanded) (moment M.content M.dropped solver.new.memo solver.new.expanded) }
+    ensures searched { Searched B.geometry moves (cut_off result moves)
+        (moment M.content M.dropped solver.old.memo solver.old.expanded)
+        (moment M.content M.dropped solver.new.memo solver.new.expanded) }
 {
     searches_add_up();
     let verdict = verdict(alloc, solver, position, moves)?;

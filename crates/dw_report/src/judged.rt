@@ -6,7 +6,8 @@ ghost use Rattle.dw_moves.specs.Moves as of;
 ghost use Rattle.dw_notation.specs.Text.{ArePlayable, AreJoined};
 ghost use Rattle.dw_report.specs.Verdict.{IsVerdict, reach, cooked, dual};
 ghost use Rattle.dw_report.specs.Judging.{said_by};
-ghost use Rattle.dw_report.specs.JudgedText.{IsVerdictText, IsVerdictLine, IsTryLine, IsTryText, AreTriesListed, IsJudgedText};
+ghost use Rattle.dw_report.specs.JudgedText.{IsVerdictText, IsVerdictLine, IsTryLine, IsTryText, AreTriesListed};
+ghost use Rattle.dw_report.specs.JudgedText.{IsJudgedText};
 ghost use Rattle.dw_report.specs.Running.{TextEnds, SinkEnds, Spends, AreLinesOf};
 
 use crate::judge::verdict;
@@ -43,7 +44,8 @@ pub(crate) fn write_judged<B: Board, K: Sink, M: Memo<B>, G: Guide<B>>(
 ) -> Result<(), TextFault>
     requires some { 1 ≤ moves }
     requires few { moves ≤ 20 }
-    ensures text { TextEnds (IsJudgedText B.geometry position.now moves) (AreLinesOf (IsJudgedText B.geometry position.now moves)) (K.taken sink.old) (K.taken sink.new) result }
+    ensures text { TextEnds (IsJudgedText B.geometry position.now moves)
+        (AreLinesOf (IsJudgedText B.geometry position.now moves)) (K.taken sink.old) (K.taken sink.new) result }
     ensures sink { SinkEnds (K.is_failed sink.old) (K.is_failed sink.new) result }
     ensures spends { Spends solver.old solver.new result }
 {
@@ -65,7 +67,8 @@ fn write_verdict<B: Board, K: Sink, M: Memo<B>, G: Guide<B>>(
 ) -> Result<(), TextFault>
     requires some { 1 ≤ moves }
     requires few { moves ≤ 20 }
-    ensures text { TextEnds (IsVerdictLine B.geometry position.now moves) (λ out. out ≡ []) (K.taken sink.old) (K.taken sink.new) result }
+    ensures text { TextEnds (IsVerdictLine B.geometry position.now moves) (λ out. out ≡ []) (K.taken sink.old)
+        (K.taken sink.new) result }
     ensures sink { SinkEnds (K.is_failed sink.old) (K.is_failed sink.new) result }
     ensures spends { Spends solver.old solver.new result }
 {
@@ -85,7 +88,8 @@ fn write_tries<B: Board, K: Sink, M: Memo<B>, G: Guide<B>>(
 ) -> Result<(), TextFault>
     requires some { 1 ≤ moves }
     requires few { moves ≤ 20 }
-    ensures text { TextEnds (AreTriesListed B.geometry position.now moves) (AreLinesOf (AreTriesListed B.geometry position.now moves)) (K.taken sink.old) (K.taken sink.new) result }
+    ensures text { TextEnds (AreTriesListed B.geometry position.now moves)
+        (AreLinesOf (AreTriesListed B.geometry position.now moves)) (K.taken sink.old) (K.taken sink.new) result }
     ensures sink { SinkEnds (K.is_failed sink.old) (K.is_failed sink.new) result }
     ensures spends { Spends solver.old solver.new result }
 {
@@ -113,7 +117,8 @@ fn write_try<B: Board, K: Sink, M: Memo<B>, G: Guide<B>>(
     requires some { 1 ≤ moves }
     requires few { moves ≤ 20 }
     requires legal { Legal B.geometry position.now step.now }
-    ensures text { TextEnds (IsTryText B.geometry position.now moves step.now) (λ out. out ≡ []) (K.taken sink.old) (K.taken sink.new) result }
+    ensures text { TextEnds (IsTryText B.geometry position.now moves step.now) (λ out. out ≡ []) (K.taken sink.old)
+        (K.taken sink.new) result }
     ensures sink { SinkEnds (K.is_failed sink.old) (K.is_failed sink.new) result }
     ensures spends { Spends solver.old solver.new result }
 {
@@ -133,7 +138,8 @@ fn verdict_line<B: Board>(
     verdict: &Verdict<B>,
 ) -> Result<String, AllocError>
     requires { IsVerdict B.geometry position.now moves (said_by verdict.now) }
-    ensures { IfOk result (λ line. IsVerdictText B.geometry position.now moves (said_by verdict.now) (string_bytes line)) }
+    ensures { IfOk result (λ line. IsVerdictText B.geometry position.now moves (said_by verdict.now)
+        (string_bytes line)) }
 {
     match verdict {
         Verdict::Unsolvable => {
@@ -168,7 +174,8 @@ fn cooked_line<B: Board>(
     keys: &[Move<B>],
 ) -> Result<String, AllocError>
     requires { IsVerdict B.geometry position.now moves (cooked shortest keys.now) }
-    ensures { IfOk result (λ line. IsVerdictText B.geometry position.now moves (cooked shortest keys.now) (string_bytes line)) }
+    ensures { IfOk result (λ line. IsVerdictText B.geometry position.now moves (cooked shortest keys.now)
+        (string_bytes line)) }
 {
     let keys = joined(alloc, position, keys, ", ")?;
     [
@@ -193,7 +200,8 @@ fn dual_line<B: Board>(
 ) -> Result<String, AllocError>
     requires few { length at.now ≤ 38 }
     requires verdict { IsVerdict B.geometry position.now moves (dual at.now choices.now) }
-    ensures { IfOk result (λ line. IsVerdictText B.geometry position.now moves (dual at.now choices.now) (string_bytes line)) }
+    ensures { IfOk result (λ line. IsVerdictText B.geometry position.now moves (dual at.now choices.now)
+        (string_bytes line)) }
 {
     let line = line_text(alloc, position, at)?;
     let choices = joined(alloc, &reached(position, at), choices, " / ")?;

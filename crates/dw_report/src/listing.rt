@@ -1,5 +1,6 @@
 //! The text of a list of lines.
-ghost use Rattle.std.specs.Prelude.{◌≡◌, ◌≤◌, ◌<◌, ◌%◌, ◌⊎◌, ◌↔◌, ◌++◌, true, false, Err, List, length, take, codes, decimal};
+ghost use Rattle.std.specs.Prelude.{◌≡◌, ◌≤◌, ◌<◌, ◌%◌, ◌⊎◌, ◌↔◌, ◌++◌, true, false, Err, List, length, take, codes};
+ghost use Rattle.std.specs.Prelude.{decimal};
 ghost use Rattle.std.specs.Prelude.{IfOk, IsErr, IsTrue, OnOk, OnErr, Some};
 ghost use Rattle.std.specs.Io.KnownBytes.{Appends};
 ghost use Rattle.dw_moves.specs.Moves.{Move as AnyMove};
@@ -55,10 +56,14 @@ pub(crate) fn write_lines<B: Board, K: Sink, M: Memo<B>, G: Guide<B>>(
     requires few { settings.now.n ≤ 20 }
     requires lines { 1 ≤ settings.now.lines }
     requires rows { (B.geometry.rows ≡ 10) ⊎ (B.geometry.rows ≡ 8) }
-    ensures text { TextEnds (IsListedText B.geometry position.now settings.now.n settings.now.lines (request_of settings.now).after) (AreLinesOf (IsListedText B.geometry position.now settings.now.n settings.now.lines (request_of settings.now).after)) (K.taken sink.old) (K.taken sink.new) result }
+    ensures text { TextEnds (IsListedText B.geometry position.now settings.now.n settings.now.lines
+        (request_of settings.now).after) (AreLinesOf
+        (IsListedText B.geometry position.now settings.now.n settings.now.lines (request_of settings.now).after))
+        (K.taken sink.old) (K.taken sink.new) result }
     ensures sink { SinkEnds (K.is_failed sink.old) (K.is_failed sink.new) result }
     ensures spends { Spends solver.old solver.new result }
-    ensures refused { IfOk result (λ refused. IsTrue refused ↔ IsNoLine B.geometry position.now settings.now.n (request_of settings.now).after) }
+    ensures refused { IfOk result (λ refused. IsTrue refused
+        ↔ IsNoLine B.geometry position.now settings.now.n (request_of settings.now).after) }
 {
     let mut lister = Lister::start(solver, position, settings.n);
     let result = write_asked(alloc, sink, &mut lister, settings, position);
@@ -80,12 +85,17 @@ fn write_asked<B: Board, K: Sink, M: Memo<B>, G: Guide<B>>(
     requires position { (stack_of lister.old).position ≡ position.now }
     requires moves { (stack_of lister.old).moves ≡ settings.now.n }
     requires kept { kept_of lister.old ≡ 0 }
-    requires to_come { (lines : List (List AnyMove)) → Lines B.geometry position.now settings.now.n lines ↔ AreToCome B.geometry (stack_of lister.old) lines }
+    requires to_come { (lines : List (List AnyMove)) → Lines B.geometry position.now settings.now.n lines
+        ↔ AreToCome B.geometry (stack_of lister.old) lines }
     ensures lender { lender lister.new ≡ lender lister.old }
-    ensures text { TextEnds (IsListedText B.geometry position.now settings.now.n settings.now.lines (request_of settings.now).after) (AreLinesOf (IsListedText B.geometry position.now settings.now.n settings.now.lines (request_of settings.now).after)) (K.taken sink.old) (K.taken sink.new) result }
+    ensures text { TextEnds (IsListedText B.geometry position.now settings.now.n settings.now.lines
+        (request_of settings.now).after) (AreLinesOf
+        (IsListedText B.geometry position.now settings.now.n settings.now.lines (request_of settings.now).after))
+        (K.taken sink.old) (K.taken sink.new) result }
     ensures sink { SinkEnds (K.is_failed sink.old) (K.is_failed sink.new) result }
     ensures spends { Spends (solver_of lister.old) (solver_of lister.new) result }
-    ensures refused { IfOk result (λ refused. IsTrue refused ↔ IsNoLine B.geometry position.now settings.now.n (request_of settings.now).after) }
+    ensures refused { IfOk result (λ refused. IsTrue refused
+        ↔ IsNoLine B.geometry position.now settings.now.n (request_of settings.now).after) }
 {
     lines_exist();
     match &settings.after {
@@ -118,10 +128,13 @@ fn write_after<B: Board, K: Sink, M: Memo<B>, G: Guide<B>>(
     requires rows { (B.geometry.rows ≡ 10) ⊎ (B.geometry.rows ≡ 8) }
     requires position { (stack_of lister.old).position ≡ position.now }
     ensures lender { lender lister.new ≡ lender lister.old }
-    ensures text { TextEnds (IsListedText B.geometry position.now (stack_of lister.old).moves most (Some line.now)) (AreLinesOf (IsListedText B.geometry position.now (stack_of lister.old).moves most (Some line.now))) (K.taken sink.old) (K.taken sink.new) result }
+    ensures text { TextEnds (IsListedText B.geometry position.now (stack_of lister.old).moves most (Some line.now))
+        (AreLinesOf (IsListedText B.geometry position.now (stack_of lister.old).moves most (Some line.now)))
+        (K.taken sink.old) (K.taken sink.new) result }
     ensures sink { SinkEnds (K.is_failed sink.old) (K.is_failed sink.new) result }
     ensures spends { Spends (solver_of lister.old) (solver_of lister.new) result }
-    ensures refused { IfOk result (λ refused. IsTrue refused ↔ IsNoLine B.geometry position.now (stack_of lister.old).moves (Some line.now)) }
+    ensures refused { IfOk result (λ refused. IsTrue refused
+        ↔ IsNoLine B.geometry position.now (stack_of lister.old).moves (Some line.now)) }
 {
     lines_exist();
     line_or_place();
@@ -154,7 +167,9 @@ fn write_listing<B: Board, K: Sink, M: Memo<B>, G: Guide<B>>(
     requires kept { kept_of lister.old ≡ 0 }
     requires to_come { (lines : List (List AnyMove)) × AreToCome B.geometry (stack_of lister.old) lines }
     ensures lender { lender lister.new ≡ lender lister.old }
-    ensures text { (lines : List (List AnyMove)) → AreToCome B.geometry (stack_of lister.old) lines → TextEnds (IsListing B.geometry position.now most lines) (AreLinesOf (IsListing B.geometry position.now most lines)) (K.taken sink.old) (K.taken sink.new) result }
+    ensures text { (lines : List (List AnyMove)) → AreToCome B.geometry (stack_of lister.old) lines
+        → TextEnds (IsListing B.geometry position.now most lines)
+        (AreLinesOf (IsListing B.geometry position.now most lines)) (K.taken sink.old) (K.taken sink.new) result }
     ensures sink { SinkEnds (K.is_failed sink.old) (K.is_failed sink.new) result }
     ensures spends { Spends (solver_of lister.old) (solver_of lister.new) result }
 {
@@ -195,7 +210,8 @@ fn write_row<B: Board, K: Sink>(
     ensures of { IsTextOf B.geometry text.new }
     ensures start { start_of text.new ≡ start_of text.old }
     ensures moves { OnOk result (moves_of text.new ≡ line.now) }
-    ensures text { TextEnds (IsRow B.geometry (start_of text.old) line.now) IsNothing (K.taken sink.old) (K.taken sink.new) result }
+    ensures text { TextEnds (IsRow B.geometry (start_of text.old) line.now) IsNothing (K.taken sink.old)
+        (K.taken sink.new) result }
     ensures sink { SinkEnds (K.is_failed sink.old) (K.is_failed sink.new) result }
     ensures memory { (why : Stop) → result ≡ Err (because.Stopped why) → why ≡ Stop.Memory }
 {
@@ -233,8 +249,10 @@ fn write_more<B: Board, K: Sink>(sink: &mut K, last: &[Move<B>]) -> Result<(), W
     requires most { length last.now ≤ 39 }
     requires rows { (B.geometry.rows ≡ 10) ⊎ (B.geometry.rows ≡ 8) }
     requires works { K.is_failed sink.old ≡ false }
-    ensures ok { OnOk result (Appends (K.taken sink.old) (K.taken sink.new) (codes "more after " ++ tokens.token_of B.geometry last.now ++ codes "\n")) }
-    ensures err { OnErr result (StopsShort (K.taken sink.old) (K.taken sink.new) (codes "more after " ++ tokens.token_of B.geometry last.now ++ codes "\n")) }
+    ensures ok { OnOk result (Appends (K.taken sink.old) (K.taken sink.new)
+        (codes "more after " ++ tokens.token_of B.geometry last.now ++ codes "\n")) }
+    ensures err { OnErr result (StopsShort (K.taken sink.old) (K.taken sink.new)
+        (codes "more after " ++ tokens.token_of B.geometry last.now ++ codes "\n")) }
     ensures failed { IsErr result → K.is_failed sink.new ≡ true }
     ensures kept { OnOk result (K.is_failed sink.new ≡ K.is_failed sink.old) }
 {

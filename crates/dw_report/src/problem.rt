@@ -5,7 +5,8 @@ ghost use Rattle.dw_report.specs.Request.{request_of};
 ghost use Rattle.dw_report.specs.Report.{IsProblemText, IsAnswer, IsMovesText};
 ghost use Rattle.dw_report.specs.declared.problem.TextFault.TheVariants as because;
 ghost use Rattle.dw_solve.specs.declared.stop.Stop.TheVariants as stops;
-ghost use Rattle.dw_report.specs.Running.{TextEnds, SinkEnds, SearchesFor, IsProblemPart, AreLinesOf, IsRefused, IsNoLine};
+ghost use Rattle.dw_report.specs.Running.{TextEnds, SinkEnds, SearchesFor, IsProblemPart, AreLinesOf, IsRefused};
+ghost use Rattle.dw_report.specs.Running.{IsNoLine};
 
 use crate::judged::write_judged;
 use crate::laws::one_report;
@@ -79,10 +80,13 @@ pub(crate) fn write_problem<B: Board, K: Sink, M: Memo<B>, G: Guide<B>>(
     requires few { settings.now.n ≤ 20 }
     requires lines { 1 ≤ settings.now.lines }
     requires rows { settings.now.command ≡ Command.List → (B.geometry.rows ≡ 10) ⊎ (B.geometry.rows ≡ 8) }
-    ensures text { TextEnds (IsProblemText B.geometry (request_of settings.now) (numbered problem.now)) (IsProblemPart B.geometry (request_of settings.now) (numbered problem.now)) (K.taken sink.old) (K.taken sink.new) result }
+    ensures text { TextEnds (IsProblemText B.geometry (request_of settings.now) (numbered problem.now))
+        (IsProblemPart B.geometry (request_of settings.now) (numbered problem.now)) (K.taken sink.old)
+        (K.taken sink.new) result }
     ensures sink { SinkEnds (K.is_failed sink.old) (K.is_failed sink.new) result }
     ensures searches { SearchesFor settings.now.command solver.old solver.new result }
-    ensures refused { IfOk result (λ refused. IsTrue refused ↔ IsRefused B.geometry (request_of settings.now) (numbered problem.now).found) }
+    ensures refused { IfOk result (λ refused. IsTrue refused
+        ↔ IsRefused B.geometry (request_of settings.now) (numbered problem.now).found) }
 {
     one_report();
     let _ = solver.limit();
@@ -106,10 +110,14 @@ fn write_answer<B: Board, K: Sink, M: Memo<B>, G: Guide<B>>(
     requires few { settings.now.n ≤ 20 }
     requires lines { 1 ≤ settings.now.lines }
     requires rows { settings.now.command ≡ Command.List → (B.geometry.rows ≡ 10) ⊎ (B.geometry.rows ≡ 8) }
-    ensures text { TextEnds (IsAnswer B.geometry (request_of settings.now) position.now) (AreLinesOf (IsAnswer B.geometry (request_of settings.now) position.now)) (K.taken sink.old) (K.taken sink.new) result }
+    ensures text { TextEnds (IsAnswer B.geometry (request_of settings.now) position.now)
+        (AreLinesOf (IsAnswer B.geometry (request_of settings.now) position.now)) (K.taken sink.old) (K.taken sink.new)
+        result }
     ensures sink { SinkEnds (K.is_failed sink.old) (K.is_failed sink.new) result }
     ensures searches { SearchesFor settings.now.command solver.old solver.new result }
-    ensures refused { IfOk result (λ refused. IsTrue refused ↔ (settings.now.command ≡ Command.List) × IsNoLine B.geometry position.now settings.now.n (request_of settings.now).after) }
+    ensures refused { IfOk result (λ refused. IsTrue refused
+        ↔ (settings.now.command ≡ Command.List)
+        × IsNoLine B.geometry position.now settings.now.n (request_of settings.now).after) }
 {
     let _ = solver.limit();
     match settings.command {
@@ -135,7 +143,8 @@ fn write_moves<B: Board, K: Sink>(
     sink: &mut K,
     position: &Position<B>,
 ) -> Result<(), TextFault>
-    ensures text { TextEnds (IsMovesText B.geometry position.now) (AreLinesOf (IsMovesText B.geometry position.now)) (K.taken sink.old) (K.taken sink.new) result }
+    ensures text { TextEnds (IsMovesText B.geometry position.now) (AreLinesOf (IsMovesText B.geometry position.now))
+        (K.taken sink.old) (K.taken sink.new) result }
     ensures sink { SinkEnds (K.is_failed sink.old) (K.is_failed sink.new) result }
     ensures memory { (why : Stop) → result ≡ Err (because.Stopped why) → why ≡ stops.Memory }
 {

@@ -4,7 +4,8 @@ ghost use Rattle.dw_notation.specs.Problems.{numbered};
 ghost use Rattle.dw_solve.specs.Facts.{AreTrue};
 ghost use Rattle.dw_report.specs.Request.{request_of};
 ghost use Rattle.dw_report.specs.Report.{chosen, IsReportOn};
-ghost use Rattle.dw_report.specs.Running.{RunEnds, StopsRightly, TextEnds, SinkEnds, SearchesFor, IsPartOn, CountsOne, ended_by};
+ghost use Rattle.dw_report.specs.Running.{RunEnds, StopsRightly, TextEnds, SinkEnds, SearchesFor, IsPartOn, CountsOne};
+ghost use Rattle.dw_report.specs.Running.{ended_by};
 
 use crate::laws::one_report;
 use crate::problem::{TextFault, write_problem};
@@ -45,7 +46,8 @@ pub fn run<B: Board, S: Source, K: Sink, M: Memo<B> + Drop, G: Guide<B> + Drop>(
     requires lines { 1 ≤ settings.now.lines }
     requires limit { 1 ≤ settings.now.limit }
     requires rows { settings.now.command ≡ Command.List → (B.geometry.rows ≡ 10) ⊎ (B.geometry.rows ≡ 8) }
-    ensures report { RunEnds B.geometry (request_of settings.now) (S.coming source.old) (S.coming source.new) (K.taken sink.old) (K.taken sink.new) result }
+    ensures report { RunEnds B.geometry (request_of settings.now) (S.coming source.old) (S.coming source.new)
+        (K.taken sink.old) (K.taken sink.new) result }
     ensures read { result ≡ Err RunFault.Read → S.is_failed source.new ≡ true }
     ensures write { result ≡ Err RunFault.Write → K.is_failed sink.new ≡ true }
     ensures stopped { StopsRightly settings.now.command settings.now.limit result }
@@ -69,7 +71,8 @@ fn write_report<B: Board, S: Source, K: Sink, M: Memo<B>, G: Guide<B>>(
     requires lines { 1 ≤ settings.now.lines }
     requires rows { settings.now.command ≡ Command.List → (B.geometry.rows ≡ 10) ⊎ (B.geometry.rows ≡ 8) }
     requires fresh { solver.old.expanded ≡ 0 }
-    ensures report { RunEnds B.geometry (request_of settings.now) (S.coming source.old) (S.coming source.new) (K.taken sink.old) (K.taken sink.new) result }
+    ensures report { RunEnds B.geometry (request_of settings.now) (S.coming source.old) (S.coming source.new)
+        (K.taken sink.old) (K.taken sink.new) result }
     ensures read { result ≡ Err RunFault.Read → S.is_failed source.new ≡ true }
     ensures write { result ≡ Err RunFault.Write → K.is_failed sink.new ≡ true }
     ensures stopped { StopsRightly settings.now.command solver.old.limit result }
@@ -121,10 +124,13 @@ fn report_problem<B: Board, K: Sink, M: Memo<B>, G: Guide<B>>(
     requires room { summary.problems < 4000000 }
     requires shown { summary.shown ≤ summary.problems }
     requires refused { summary.refused ≤ summary.shown }
-    ensures text { TextEnds (IsReportOn B.geometry (request_of settings.now) (numbered problem.now ∷ [])) (IsPartOn B.geometry (request_of settings.now) (numbered problem.now ∷ [])) (K.taken sink.old) (K.taken sink.new) result }
+    ensures text { TextEnds (IsReportOn B.geometry (request_of settings.now) (numbered problem.now ∷ []))
+        (IsPartOn B.geometry (request_of settings.now) (numbered problem.now ∷ [])) (K.taken sink.old)
+        (K.taken sink.new) result }
     ensures sink { SinkEnds (K.is_failed sink.old) (K.is_failed sink.new) result }
     ensures searches { SearchesFor settings.now.command solver.old solver.new result }
-    ensures counts { IfOk result (λ counted. CountsOne B.geometry (request_of settings.now) summary counted (numbered problem.now)) }
+    ensures counts { IfOk result (λ counted.
+        CountsOne B.geometry (request_of settings.now) summary counted (numbered problem.now)) }
 {
     let _ = solver.limit();
     let read = Summary {
@@ -143,7 +149,10 @@ fn with_shown(summary: Summary, is_refused: bool) -> Summary
     requires room { summary.problems < 4000001 }
     requires shown { summary.shown < summary.problems }
     requires refused { summary.refused ≤ summary.shown }
-    ensures { result ≡ record summary { shown = summary.shown + 1; refused = if is_refused then summary.refused + 1 else summary.refused } }
+    ensures { result ≡ record summary {
+      shown = summary.shown + 1;
+      refused = if is_refused then summary.refused + 1 else summary.refused;
+    } }
 {
     let refused = if is_refused {
         summary.refused + 1

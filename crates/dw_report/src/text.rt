@@ -1,7 +1,8 @@
 //! The texts of the report.
 ghost use Rattle.std.specs.Prelude.{◌≡◌, ◌<◌, ◌++◌, length, codes, decimal, HoldsAt};
 ghost use Rattle.dw_moves.specs.Order.{AreListed};
-ghost use Rattle.dw_report.specs.Report.{fen_fault_text, refusal_text, found_text, first_line as line_of, move_line as line_of_move, count_line as line_of_count};
+ghost use Rattle.dw_report.specs.Report.{fen_fault_text, refusal_text, found_text, first_line as line_of};
+ghost use Rattle.dw_report.specs.Report.{move_line as line_of_move, count_line as line_of_count};
 ghost use Rattle.dw_notation.specs.Problems.{numbered};
 
 use arrayvec::ArrayString;

@@ -17,8 +17,8 @@ pub record WinsStay : Type 0 where
 abbrev pub WinsAreDecided : Type 0
 WinsAreDecided = (g : Geometry) (p : Placement) (n : ℕ) → Win g p n ⊎ (Win g p n → ⊥)
 
--- there is no win in one move where the other side always has a reply; so there is none where nothing can be taken and the other
--- side has steps to two squares
+-- there is no win in one move where the other side always has a reply; so there is none where nothing can be taken and
+-- the other side has steps to two squares
 pub record NoWinInOne : Type 0 where
   pub replied : (g : Geometry) (p : Placement) → AlwaysReply g p → Win g p 1 → ⊥
   pub loose : (g : Geometry) → IsBoard g → (p : Placement) → IsLoose g p → Win g p 1 → ⊥
@@ -30,11 +30,14 @@ ClosedIsTrue = (g : Geometry) (c : Content) → IsClosed g c → AreTrue g c
 -- of a content that is a map, each position that is decided at n is counted, once
 abbrev pub DecidedAreCounted : Type 0
 DecidedAreCounted = (c : Content) (n : ℕ) → IsMap c →
-    (ps : List Placement) × NoRepeat ps × ((p : Placement) → Member p ps ↔ IsDecided c p n) × (length ps ≡ decided_at c n)
+    (ps : List Placement) × NoRepeat ps × ((p : Placement) → Member p ps ↔ IsDecided c p n)
+    × (length ps ≡ decided_at c n)
 
 -- searches one after another are one search, which lost nothing where none of them did
 pub record SearchesAddUp : Type 0 where
   pub none : (g : Geometry) (n : ℕ) (a : Moment) → Searched g n 0 a a
-  pub next : (g : Geometry) (n s t : ℕ) (a b c : Moment) → Searched g n s a b → Searched g n t b c → Searched g n (s + t) a c
+  pub next : (g : Geometry) (n s t : ℕ) (a b c : Moment) → Searched g n s a b → Searched g n t b c
+      → Searched g n (s + t) a c
   pub wider : (g : Geometry) (n k s : ℕ) (a b : Moment) → n ≤ k → Searched g n s a b → Searched g k s a b
-  pub parts : (a b c : Moment) → LossIsCounted a.lost b.lost → LossIsCounted b.lost c.lost → NothingLost a c → NothingLost a b × NothingLost b c
+  pub parts : (a b c : Moment) → LossIsCounted a.lost b.lost → LossIsCounted b.lost c.lost → NothingLost a c
+      → NothingLost a b × NothingLost b c

@@ -19,5 +19,6 @@ pub record IsNoted (p : Placement) (n : ℕ) (won : Bool) (before after : Moment
   pub had : Bounds
   pub held : HasBounds before.content p had
   pub answer : Noted
-  pub note : IsNote before.content p (cond won (with_win had n) (with_fail had n)) answer after.content before.lost after.lost
+  pub note : IsNote before.content p (cond won (with_win had n) (with_fail had n)) answer after.content before.lost
+      after.lost
   pub expanded : before.expanded ≡ after.expanded

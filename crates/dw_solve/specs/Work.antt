@@ -45,13 +45,14 @@ pub record LossIsCounted (before after : ℕ) : Type 0 where
 abbrev pub NothingLost : Moment → Moment → Type 0
 NothingLost before after = (before.lost ≡ after.lost) × (after.lost < 2 ^ 64 - 1)
 
--- What searches for wins within n moves do to a cache that loses nothing: what is known stays known; if each bound followed from
--- others, each still does; and each expansion added a pair of a position and a number of moves, up to n or any greater one, that
--- is decided, but for so many that were cut off.
+-- What searches for wins within n moves do to a cache that loses nothing: what is known stays known; if each bound
+-- followed from others, each still does; and each expansion added a pair of a position and a number of moves, up to n
+-- or any greater one, that is decided, but for so many that were cut off.
 pub record Worked (g : Geometry) (n cut : ℕ) (before after : Moment) : Type 0 where
   pub stronger : Stronger before.content after.content
   pub closed : IsClosed g before.content → IsClosed g after.content
-  pub growth : (k : ℕ) → n ≤ k → after.expanded + decided_to before.content k ≤ before.expanded + decided_to after.content k + cut
+  pub growth : (k : ℕ) → n ≤ k → after.expanded + decided_to before.content k
+      ≤ before.expanded + decided_to after.content k + cut
 
 -- what searches for wins within n moves do to any cache
 pub record Searched (g : Geometry) (n cut : ℕ) (before after : Moment) : Type 0 where
@@ -59,7 +60,8 @@ pub record Searched (g : Geometry) (n cut : ℕ) (before after : Moment) : Type 
   pub counted : LossIsCounted before.lost after.lost
   pub worked : NothingLost before after → Worked g n cut before after
 
--- how many expansions of a search for a win within n moves are cut off: one for each move at most by a stop, none where there is an answer
+-- how many expansions of a search for a win within n moves are cut off: one for each move at most by a stop, none where
+-- there is an answer
 abbrev pub cut_off : {A E : Type 0} → Result A E → ℕ → ℕ
 cut_off (Ok answer) n = 0
 cut_off (Err stop) n = n

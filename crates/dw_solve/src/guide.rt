@@ -8,8 +8,8 @@ use dw_board::board::Board;
 use dw_board::position::Position;
 use dw_moves::moves::Move;
 
-/// Ranks moves: those of a lower rank are tried first, if they leave the attacker two further moves or more. With fewer,
-/// a search goes by orders of its own, which cost less than the ranks. No answer depends on it.
+/// Ranks moves: those of a lower rank are tried first, if they leave the attacker two further moves or more. With
+/// fewer, a search goes by orders of its own, which cost less than the ranks. No answer depends on it.
 pub trait Guide<B: Board> {
     /// The rank of a legal move.
     fn rank(&self, position: &Position<B>, step: &Move<B>) -> u32

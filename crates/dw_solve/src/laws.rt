@@ -1,5 +1,6 @@
 //! Laws of the definitions, each the contract of a function that does nothing.
-ghost use Rattle.dw_solve.specs.Laws.{WinsStay, WinsAreDecided, NoWinInOne, ClosedIsTrue, DecidedAreCounted, SearchesAddUp};
+ghost use Rattle.dw_solve.specs.Laws.{WinsStay, WinsAreDecided, NoWinInOne, ClosedIsTrue, DecidedAreCounted};
+ghost use Rattle.dw_solve.specs.Laws.{SearchesAddUp};
 
 use dw_moves::laws::{loose_replies, moves_listed};
 
@@ -15,8 +16,8 @@ pub fn wins_are_decided()
     moves_listed()
 }
 
-/// There is no win in one move where the other side always has a reply, as it has where nothing can be taken and it has steps to
-/// two squares.
+/// There is no win in one move where the other side always has a reply, as it has where nothing can be taken and it has
+/// steps to two squares.
 pub fn no_win_in_one()
     ensures { NoWinInOne }
 {

@@ -1,5 +1,6 @@
 //! The search: attacker and defender in turn.
-ghost use Rattle.std.specs.Prelude.{◌≡◌, false, ◌≢◌, ℕ, ◌+◌, ◌*◌, ◌≤◌, ◌<◌, ◌↔◌, length, IfOk, OnOk, IfSome, IsSome, IsNone, ◌⊎◌, IsOk, IsErr, IsErrOf, IsTrue, Contains, cond};
+ghost use Rattle.std.specs.Prelude.{◌≡◌, false, ◌≢◌, ℕ, ◌+◌, ◌*◌, ◌≤◌, ◌<◌, ◌↔◌, length, IfOk, OnOk, IfSome, IsSome};
+ghost use Rattle.std.specs.Prelude.{IsNone, ◌⊎◌, IsOk, IsErr, IsErrOf, IsTrue, Contains, cond};
 ghost use Rattle.dw_memo.specs.Bounding.{with_win, with_fail};
 ghost use Rattle.dw_memo.specs.Content.{IsMap, SameEntries};
 ghost use Rattle.dw_moves.specs.Moves.{Move, Legal, play};
@@ -50,10 +51,17 @@ pub(crate) fn wins<B: Board, M: Memo<B>, G: Guide<B>>(
     ensures right { AreTrue B.geometry (M.content search.new.memo) }
     ensures count { IsCounted search.old.expanded search.old.limit search.new.expanded search.new.limit }
     ensures stop { IsErrOf result Limit → search.new.expanded ≡ search.new.limit }
-    ensures spent { OnOk result (1 ≤ moves → (IsDecided (M.content search.old.memo) position.now moves → ⊥) → search.old.expanded < search.new.expanded) }
-    ensures searched { Searched B.geometry moves (cut_off result moves) (moment M.content M.dropped search.old.memo search.old.expanded) (moment M.content M.dropped search.new.memo search.new.expanded) }
-    ensures says { NothingLost (moment M.content M.dropped search.old.memo search.old.expanded) (moment M.content M.dropped search.new.memo search.new.expanded) → IfOk result (SaysWin (M.content search.new.memo) position.now moves) }
-    ensures known { (moves ≡ 0) ⊎ IsDecided (M.content search.old.memo) position.now moves → IsOk result × (search.new.expanded ≡ search.old.expanded) × SameEntries (M.content search.old.memo) (M.content search.new.memo) }
+    ensures spent { OnOk result (1 ≤ moves → (IsDecided (M.content search.old.memo) position.now moves → ⊥)
+        → search.old.expanded < search.new.expanded) }
+    ensures searched { Searched B.geometry moves (cut_off result moves)
+        (moment M.content M.dropped search.old.memo search.old.expanded)
+        (moment M.content M.dropped search.new.memo search.new.expanded) }
+    ensures says { NothingLost (moment M.content M.dropped search.old.memo search.old.expanded)
+        (moment M.content M.dropped search.new.memo search.new.expanded)
+        → IfOk result (SaysWin (M.content search.new.memo) position.now moves) }
+    ensures known { (moves ≡ 0) ⊎ IsDecided (M.content search.old.memo) position.now moves
+        → IsOk result × (search.new.expanded ≡ search.old.expanded)
+        × SameEntries (M.content search.old.memo) (M.content search.new.memo) }
 {
     if let Some(answer) = known(search, position, moves) {
         return Ok(answer);
@@ -87,8 +95,12 @@ fn some_move_wins<B: Board, M: Memo<B>, G: Guide<B>>(
     ensures right { AreTrue B.geometry (M.content search.new.memo) }
     ensures count { IsCounted search.old.expanded search.old.limit search.new.expanded search.new.limit }
     ensures stop { IsErrOf result Limit → search.new.expanded ≡ search.new.limit }
-    ensures searched { Searched B.geometry moves (cut_off result moves) (moment M.content M.dropped search.old.memo search.old.expanded) (moment M.content M.dropped search.new.memo search.new.expanded) }
-    ensures says { NothingLost (moment M.content M.dropped search.old.memo search.old.expanded) (moment M.content M.dropped search.new.memo search.new.expanded) → IfOk result (SaysMove B.geometry (M.content search.new.memo) position.now moves) }
+    ensures searched { Searched B.geometry moves (cut_off result moves)
+        (moment M.content M.dropped search.old.memo search.old.expanded)
+        (moment M.content M.dropped search.new.memo search.new.expanded) }
+    ensures says { NothingLost (moment M.content M.dropped search.old.memo search.old.expanded)
+        (moment M.content M.dropped search.new.memo search.new.expanded)
+        → IfOk result (SaysMove B.geometry (M.content search.new.memo) position.now moves) }
 {
     'moves: for candidate in ranked {
         let step = &candidate.1;
@@ -114,9 +126,15 @@ pub(crate) fn loses<B: Board, M: Memo<B>, G: Guide<B>>(
     ensures right { AreTrue B.geometry (M.content search.new.memo) }
     ensures count { IsCounted search.old.expanded search.old.limit search.new.expanded search.new.limit }
     ensures stop { IsErrOf result Limit → search.new.expanded ≡ search.new.limit }
-    ensures searched { Searched B.geometry moves (cut_off result moves) (moment M.content M.dropped search.old.memo search.old.expanded) (moment M.content M.dropped search.new.memo search.new.expanded) }
-    ensures says { NothingLost (moment M.content M.dropped search.old.memo search.old.expanded) (moment M.content M.dropped search.new.memo search.new.expanded) → IfOk result (SaysLost B.geometry (M.content search.new.memo) position.now moves) }
-    ensures known { RepliesAreDecided B.geometry (M.content search.old.memo) position.now moves → (IsErrOf result Limit → ⊥) × (search.new.expanded ≡ search.old.expanded) × SameEntries (M.content search.old.memo) (M.content search.new.memo) }
+    ensures searched { Searched B.geometry moves (cut_off result moves)
+        (moment M.content M.dropped search.old.memo search.old.expanded)
+        (moment M.content M.dropped search.new.memo search.new.expanded) }
+    ensures says { NothingLost (moment M.content M.dropped search.old.memo search.old.expanded)
+        (moment M.content M.dropped search.new.memo search.new.expanded)
+        → IfOk result (SaysLost B.geometry (M.content search.new.memo) position.now moves) }
+    ensures known { RepliesAreDecided B.geometry (M.content search.old.memo) position.now moves
+        → (IsErrOf result Limit → ⊥) × (search.new.expanded ≡ search.old.expanded)
+        × SameEntries (M.content search.old.memo) (M.content search.new.memo) }
 {
     if moves == 0 {
         return Ok(!has_move(position));
@@ -143,8 +161,8 @@ fn is_hopeless<B: Board>(position: &Position<B>, moves: u8) -> bool
     moves == 1 && is_loose(position)
 }
 
-/// Takes up the moves of the attacker, who has so many left after them: in the guide's order if there are two or more. With
-/// one or none left, going through them costs less than their ranks.
+/// Takes up the moves of the attacker, who has so many left after them: in the guide's order if there are two or more.
+/// With one or none left, going through them costs less than their ranks.
 fn line_up<B: Board, G: Guide<B>>(
     ply: &mut Ply<B>,
     position: &Position<B>,
@@ -160,9 +178,9 @@ fn line_up<B: Board, G: Guide<B>>(
     }
 }
 
-/// Takes up the replies, while the attacker has so many moves left: in the guide's order if there are two or more. At his
-/// last move one reply is enough after which it is seen at a glance that he does not win: then it answers the position
-/// after that one. Mostly it is a step of one square, which is found without a list of moves.
+/// Takes up the replies, while the attacker has so many moves left: in the guide's order if there are two or more. At
+/// his last move one reply is enough after which it is seen at a glance that he does not win: then it answers the
+/// position after that one. Mostly it is a step of one square, which is found without a list of moves.
 fn line_up_replies<B: Board, G: Guide<B>>(
     ply: &mut Ply<B>,
     position: &Position<B>,
@@ -193,8 +211,8 @@ fn loose_reply<B: Board>(position: &Position<B>) -> Option<Position<B>>
     Some(after)
 }
 
-/// Takes it up that the attacker does not win with his last move, where that is seen at a glance: the position is counted
-/// and noted, unless the cache decides it.
+/// Takes it up that the attacker does not win with his last move, where that is seen at a glance: the position is
+/// counted and noted, unless the cache decides it.
 fn refute<B: Board, M: Memo<B>, G>(
     search: &mut Search<M, G>,
     position: &Position<B>,
@@ -205,9 +223,15 @@ fn refute<B: Board, M: Memo<B>, G>(
     ensures right { AreTrue B.geometry (M.content search.new.memo) }
     ensures count { IsCounted search.old.expanded search.old.limit search.new.expanded search.new.limit }
     ensures stop { IsErrOf result Limit → search.new.expanded ≡ search.new.limit }
-    ensures searched { Searched B.geometry 1 (cut_off result 1) (moment M.content M.dropped search.old.memo search.old.expanded) (moment M.content M.dropped search.new.memo search.new.expanded) }
-    ensures says { NothingLost (moment M.content M.dropped search.old.memo search.old.expanded) (moment M.content M.dropped search.new.memo search.new.expanded) → OnOk result (SaysWin (M.content search.new.memo) position.now 1 false) }
-    ensures known { IsDecided (M.content search.old.memo) position.now 1 → IsOk result × (search.new.expanded ≡ search.old.expanded) × SameEntries (M.content search.old.memo) (M.content search.new.memo) }
+    ensures searched { Searched B.geometry 1 (cut_off result 1)
+        (moment M.content M.dropped search.old.memo search.old.expanded)
+        (moment M.content M.dropped search.new.memo search.new.expanded) }
+    ensures says { NothingLost (moment M.content M.dropped search.old.memo search.old.expanded)
+        (moment M.content M.dropped search.new.memo search.new.expanded)
+        → OnOk result (SaysWin (M.content search.new.memo) position.now 1 false) }
+    ensures known { IsDecided (M.content search.old.memo) position.now 1
+        → IsOk result × (search.new.expanded ≡ search.old.expanded)
+        × SameEntries (M.content search.old.memo) (M.content search.new.memo) }
 {
     let bounds = bounds_now(&mut search.memo, position);
     if bounds.decide(1).is_some() {
@@ -234,7 +258,8 @@ pub(crate) fn known<B: Board, M: Memo<B>, G>(
     ensures some { IsNone result → 1 ≤ moves }
     ensures open { IsNone result → IsDecided (M.content search.old.memo) position.now moves → ⊥ }
     ensures map { IsNone result → IsMap (M.content search.old.memo) }
-    ensures searched { Searched B.geometry 0 0 (moment M.content M.dropped search.old.memo search.old.expanded) (moment M.content M.dropped search.new.memo search.new.expanded) }
+    ensures searched { Searched B.geometry 0 0 (moment M.content M.dropped search.old.memo search.old.expanded)
+        (moment M.content M.dropped search.new.memo search.new.expanded) }
     ensures says { IfSome result (SaysWin (M.content search.new.memo) position.now moves) }
 {
     if moves == 0 {
@@ -276,7 +301,8 @@ fn note<B: Board, M: Memo<B>, G>(
     ensures right { AreTrue B.geometry (M.content search.new.memo) }
     ensures count { search.new.expanded ≡ search.old.expanded }
     ensures limit { search.new.limit ≡ search.old.limit }
-    ensures noted { IsNoted position.now moves won (moment M.content M.dropped search.old.memo search.old.expanded) (moment M.content M.dropped search.new.memo search.new.expanded) }
+    ensures noted { IsNoted position.now moves won (moment M.content M.dropped search.old.memo search.old.expanded)
+        (moment M.content M.dropped search.new.memo search.new.expanded) }
 {
     let bounds = bounds_now(&mut search.memo, position);
     search.memo.note(*position, joined(bounds, moves, won));

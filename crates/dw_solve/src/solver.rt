@@ -103,10 +103,17 @@ impl<B: Board, M: Memo<B>, G: Guide<B>> Solver<B, M, G> {
         ensures map { IsMap (M.content self.new.memo) }
         ensures count { IsCounted self.old.expanded self.old.limit self.new.expanded self.new.limit }
         ensures stop { IsErrOf result Limit → self.new.expanded ≡ self.new.limit }
-        ensures known { (moves ≡ 0) ⊎ IsDecided (M.content self.old.memo) position.now moves → IsOk result × (self.new.expanded ≡ self.old.expanded) × SameEntries (M.content self.old.memo) (M.content self.new.memo) }
-        ensures spent { OnOk result (1 ≤ moves → (IsDecided (M.content self.old.memo) position.now moves → ⊥) → self.old.expanded < self.new.expanded) }
-        ensures searched { Searched B.geometry moves (cut_off result moves) (moment M.content M.dropped self.old.memo self.old.expanded) (moment M.content M.dropped self.new.memo self.new.expanded) }
-        ensures says { NothingLost (moment M.content M.dropped self.old.memo self.old.expanded) (moment M.content M.dropped self.new.memo self.new.expanded) → IfOk result (SaysWin (M.content self.new.memo) position.now moves) }
+        ensures known { (moves ≡ 0) ⊎ IsDecided (M.content self.old.memo) position.now moves
+            → IsOk result × (self.new.expanded ≡ self.old.expanded)
+            × SameEntries (M.content self.old.memo) (M.content self.new.memo) }
+        ensures spent { OnOk result (1 ≤ moves → (IsDecided (M.content self.old.memo) position.now moves → ⊥)
+            → self.old.expanded < self.new.expanded) }
+        ensures searched { Searched B.geometry moves (cut_off result moves)
+            (moment M.content M.dropped self.old.memo self.old.expanded)
+            (moment M.content M.dropped self.new.memo self.new.expanded) }
+        ensures says { NothingLost (moment M.content M.dropped self.old.memo self.old.expanded)
+            (moment M.content M.dropped self.new.memo self.new.expanded)
+            → IfOk result (SaysWin (M.content self.new.memo) position.now moves) }
     {
         let answer = ask_wins(&mut self.search, &mut self.plies, alloc, position, moves);
         // The check learns here that the content is a map, as every memo's is.
@@ -114,8 +121,8 @@ impl<B: Board, M: Memo<B>, G: Guide<B>> Solver<B, M, G> {
         answer
     }
 
-    /// Whether the side to move has lost: whatever it plays, the other wins within so many of its moves, 0 to 20. If the
-    /// cache decides each reply, nothing is counted, and the limit is no hindrance. At 0 it takes no memory.
+    /// Whether the side to move has lost: whatever it plays, the other wins within so many of its moves, 0 to 20. If
+    /// the cache decides each reply, nothing is counted, and the limit is no hindrance. At 0 it takes no memory.
     pub fn loses(&mut self, alloc: Global, position: &Position<B>, moves: u8) -> Result<bool, Stop>
         requires { moves ≤ 20 }
         ensures answer { IfOk result (λ yes. IsTrue yes ↔ Lost B.geometry position.now moves) }
@@ -123,9 +130,15 @@ impl<B: Board, M: Memo<B>, G: Guide<B>> Solver<B, M, G> {
         ensures map { IsMap (M.content self.new.memo) }
         ensures count { IsCounted self.old.expanded self.old.limit self.new.expanded self.new.limit }
         ensures stop { IsErrOf result Limit → self.new.expanded ≡ self.new.limit }
-        ensures searched { Searched B.geometry moves (cut_off result moves) (moment M.content M.dropped self.old.memo self.old.expanded) (moment M.content M.dropped self.new.memo self.new.expanded) }
-        ensures says { NothingLost (moment M.content M.dropped self.old.memo self.old.expanded) (moment M.content M.dropped self.new.memo self.new.expanded) → IfOk result (SaysLost B.geometry (M.content self.new.memo) position.now moves) }
-        ensures known { RepliesAreDecided B.geometry (M.content self.old.memo) position.now moves → (IsErrOf result Limit → ⊥) × (self.new.expanded ≡ self.old.expanded) × SameEntries (M.content self.old.memo) (M.content self.new.memo) }
+        ensures searched { Searched B.geometry moves (cut_off result moves)
+            (moment M.content M.dropped self.old.memo self.old.expanded)
+            (moment M.content M.dropped self.new.memo self.new.expanded) }
+        ensures says { NothingLost (moment M.content M.dropped self.old.memo self.old.expanded)
+            (moment M.content M.dropped self.new.memo self.new.expanded)
+            → IfOk result (SaysLost B.geometry (M.content self.new.memo) position.now moves) }
+        ensures known { RepliesAreDecided B.geometry (M.content self.old.memo) position.now moves
+            → (IsErrOf result Limit → ⊥) × (self.new.expanded ≡ self.old.expanded)
+            × SameEntries (M.content self.old.memo) (M.content self.new.memo) }
     {
         let answer = ask_loses(&mut self.search, &mut self.plies, alloc, position, moves);
         // The check learns here that the content is a map, as every memo's is.
@@ -148,9 +161,15 @@ impl<B: Board, M: Memo<B>, G: Guide<B>> Solver<B, M, G> {
         ensures map { IsMap (M.content self.new.memo) }
         ensures count { IsCounted self.old.expanded self.old.limit self.new.expanded self.new.limit }
         ensures stop { IsErrOf result Limit → self.new.expanded ≡ self.new.limit }
-        ensures searched { Searched B.geometry most (cut_off result most) (moment M.content M.dropped self.old.memo self.old.expanded) (moment M.content M.dropped self.new.memo self.new.expanded) }
-        ensures says { NothingLost (moment M.content M.dropped self.old.memo self.old.expanded) (moment M.content M.dropped self.new.memo self.new.expanded) → IfOk result (λ _. SaysLeast (M.content self.new.memo) position.now most) }
-        ensures known { SaysLeast (M.content self.old.memo) position.now most → IsOk result × (self.new.expanded ≡ self.old.expanded) × SameEntries (M.content self.old.memo) (M.content self.new.memo) }
+        ensures searched { Searched B.geometry most (cut_off result most)
+            (moment M.content M.dropped self.old.memo self.old.expanded)
+            (moment M.content M.dropped self.new.memo self.new.expanded) }
+        ensures says { NothingLost (moment M.content M.dropped self.old.memo self.old.expanded)
+            (moment M.content M.dropped self.new.memo self.new.expanded)
+            → IfOk result (λ _. SaysLeast (M.content self.new.memo) position.now most) }
+        ensures known { SaysLeast (M.content self.old.memo) position.now most
+            → IsOk result × (self.new.expanded ≡ self.old.expanded)
+            × SameEntries (M.content self.old.memo) (M.content self.new.memo) }
     {
         // The check learns here what every solver keeps to, for the loop below.
         let _ = &self.search;
@@ -189,10 +208,17 @@ fn ask_wins<B: Board, M: Memo<B>, G: Guide<B>>(
     ensures right { AreTrue B.geometry (M.content search.new.memo) }
     ensures count { IsCounted search.old.expanded search.old.limit search.new.expanded search.new.limit }
     ensures stop { IsErrOf result Limit → search.new.expanded ≡ search.new.limit }
-    ensures known { (moves ≡ 0) ⊎ IsDecided (M.content search.old.memo) position.now moves → IsOk result × (search.new.expanded ≡ search.old.expanded) × SameEntries (M.content search.old.memo) (M.content search.new.memo) }
-    ensures spent { OnOk result (1 ≤ moves → (IsDecided (M.content search.old.memo) position.now moves → ⊥) → search.old.expanded < search.new.expanded) }
-    ensures searched { Searched B.geometry moves (cut_off result moves) (moment M.content M.dropped search.old.memo search.old.expanded) (moment M.content M.dropped search.new.memo search.new.expanded) }
-    ensures says { NothingLost (moment M.content M.dropped search.old.memo search.old.expanded) (moment M.content M.dropped search.new.memo search.new.expanded) → IfOk result (SaysWin (M.content search.new.memo) position.now moves) }
+    ensures known { (moves ≡ 0) ⊎ IsDecided (M.content search.old.memo) position.now moves
+        → IsOk result × (search.new.expanded ≡ search.old.expanded)
+        × SameEntries (M.content search.old.memo) (M.content search.new.memo) }
+    ensures spent { OnOk result (1 ≤ moves → (IsDecided (M.content search.old.memo) position.now moves → ⊥)
+        → search.old.expanded < search.new.expanded) }
+    ensures searched { Searched B.geometry moves (cut_off result moves)
+        (moment M.content M.dropped search.old.memo search.old.expanded)
+        (moment M.content M.dropped search.new.memo search.new.expanded) }
+    ensures says { NothingLost (moment M.content M.dropped search.old.memo search.old.expanded)
+        (moment M.content M.dropped search.new.memo search.new.expanded)
+        → IfOk result (SaysWin (M.content search.new.memo) position.now moves) }
 {
     if let Some(answer) = known(search, position, moves) {
         return Ok(answer);
@@ -218,9 +244,15 @@ fn ask_loses<B: Board, M: Memo<B>, G: Guide<B>>(
     ensures right { AreTrue B.geometry (M.content search.new.memo) }
     ensures count { IsCounted search.old.expanded search.old.limit search.new.expanded search.new.limit }
     ensures stop { IsErrOf result Limit → search.new.expanded ≡ search.new.limit }
-    ensures searched { Searched B.geometry moves (cut_off result moves) (moment M.content M.dropped search.old.memo search.old.expanded) (moment M.content M.dropped search.new.memo search.new.expanded) }
-    ensures says { NothingLost (moment M.content M.dropped search.old.memo search.old.expanded) (moment M.content M.dropped search.new.memo search.new.expanded) → IfOk result (SaysLost B.geometry (M.content search.new.memo) position.now moves) }
-    ensures known { RepliesAreDecided B.geometry (M.content search.old.memo) position.now moves → (IsErrOf result Limit → ⊥) × (search.new.expanded ≡ search.old.expanded) × SameEntries (M.content search.old.memo) (M.content search.new.memo) }
+    ensures searched { Searched B.geometry moves (cut_off result moves)
+        (moment M.content M.dropped search.old.memo search.old.expanded)
+        (moment M.content M.dropped search.new.memo search.new.expanded) }
+    ensures says { NothingLost (moment M.content M.dropped search.old.memo search.old.expanded)
+        (moment M.content M.dropped search.new.memo search.new.expanded)
+        → IfOk result (SaysLost B.geometry (M.content search.new.memo) position.now moves) }
+    ensures known { RepliesAreDecided B.geometry (M.content search.old.memo) position.now moves
+        → (IsErrOf result Limit → ⊥) × (search.new.expanded ≡ search.old.expanded)
+        × SameEntries (M.content search.old.memo) (M.content search.new.memo) }
 {
     let needed = if moves == 0 { 0 } else { PLIES };
     let mut plies = prepared(alloc, kept.take(), needed)?;

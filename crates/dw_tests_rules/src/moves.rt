@@ -33,8 +33,8 @@ fn move_of<B: Board>(rt: &impl Abort, from: u8, to: u8, taken: &[u8]) -> Move<B>
     }
 }
 
-/// A position, the squares to which pieces of the other side could go one square, and whether it is seen at a glance that
-/// it has a reply to every move.
+/// A position, the squares to which pieces of the other side could go one square, and whether it is seen at a glance
+/// that it has a reply to every move.
 type Glance = (&'static str, &'static [u8], bool);
 
 const TEN_GLANCES: [Glance; 5] = [

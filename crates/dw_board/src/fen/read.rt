@@ -1,10 +1,12 @@
 //! Reading FEN texts.
-ghost use Rattle.std.specs.Prelude.{◌≡◌, ◌+◌, ◌-◌, ◌≤◌, ◌<◌, Bool, false, if◌then◌else◌, Some, None, Ok, Err, ◌↔◌, MatchResult, OnOk, IfOk, length};
+ghost use Rattle.std.specs.Prelude.{◌≡◌, ◌+◌, ◌-◌, ◌≤◌, ◌<◌, Bool, false, if◌then◌else◌, Some, None, Ok, Err, ◌↔◌};
+ghost use Rattle.std.specs.Prelude.{MatchResult, OnOk, IfOk, length};
 ghost use Rattle.dw_board.specs.Placement.{Placement, same_side};
 ghost use Rattle.dw_board.specs.FenGrammar.{Fen};
 ghost use Rattle.dw_board.specs.FenTokens.{is_sign};
 ghost use Rattle.dw_board.specs.FenReader.{tokens_of, end_of, first_is, no_item};
-ghost use Rattle.dw_board.specs.Fen.{fen, short_fen, read_from, listing, Listing, Item, AfterColon, AfterColour, AfterComma, AfterNumber, AfterItem, read_behind};
+ghost use Rattle.dw_board.specs.Fen.{fen, short_fen, read_from, listing, Listing, Item, AfterColon, AfterColour};
+ghost use Rattle.dw_board.specs.Fen.{AfterComma, AfterNumber, AfterItem, read_behind};
 ghost use Rattle.dw_board.specs.Fen.{set_squares as squares_set, put_kind as kind_of_put};
 
 use crate::board::Board;
@@ -69,7 +71,8 @@ fn read_second<B: Board>(
     first: Side,
     mut position: Position<B>,
 ) -> Result<Position<B>, FenFault>
-    ensures { result ≡ read_from B.geometry (end_of tokens.old) (AfterColon (Some first) position) (tokens_of tokens.old) }
+    ensures { result ≡ read_from B.geometry (end_of tokens.old) (AfterColon (Some first) position)
+        (tokens_of tokens.old) }
 {
     let same_colour = tokens.fault(FenFaultKind::SameColour);
     let Some(second) = tokens.take_side() else {
@@ -101,7 +104,8 @@ fn read_end<B: Board>(
 ) -> Result<Position<B>, FenFault>
     requires comma { first_is (is_sign 44) (tokens_of tokens.old) ≡ false }
     requires colon { first_is (is_sign 58) (tokens_of tokens.old) ≡ false }
-    ensures { (list : Listing) → list.placed ≡ position → result ≡ read_from B.geometry (end_of tokens.old) (AfterItem list) (tokens_of tokens.old) }
+    ensures { (list : Listing) → list.placed ≡ position
+        → result ≡ read_from B.geometry (end_of tokens.old) (AfterItem list) (tokens_of tokens.old) }
 {
     let _has_stop = tokens.take(b'.');
     if tokens.is_at_end() {
@@ -118,9 +122,12 @@ fn read_list<B: Board>(
     position: &mut Position<B>,
 ) -> Result<(), FenFault>
     ensures list { (second : Bool) → MatchResult result
-        (λ _. read_from B.geometry (end_of tokens.old) (AfterColour (listing side second position.old)) (tokens_of tokens.old)
-        ≡ read_from B.geometry (end_of tokens.old) (AfterItem (listing side second position.new)) (tokens_of tokens.new))
-        (λ e. read_from B.geometry (end_of tokens.old) (AfterColour (listing side second position.old)) (tokens_of tokens.old) ≡ Err e) }
+        (λ _. read_from B.geometry (end_of tokens.old) (AfterColour (listing side second position.old))
+        (tokens_of tokens.old)
+        ≡ read_from B.geometry (end_of tokens.old) (AfterItem (listing side second position.new))
+        (tokens_of tokens.new))
+        (λ e. read_from B.geometry (end_of tokens.old) (AfterColour (listing side second position.old))
+        (tokens_of tokens.old) ≡ Err e) }
     ensures no_comma { OnOk result (first_is (is_sign 44) (tokens_of tokens.new) ≡ false) }
     ensures end { end_of tokens.new ≡ end_of tokens.old }
 {
@@ -144,9 +151,12 @@ fn read_items<B: Board>(
     position: &mut Position<B>,
 ) -> Result<(), FenFault>
     ensures items { (second : Bool) → MatchResult result
-        (λ _. read_from B.geometry (end_of tokens.old) (AfterComma (listing side second position.old)) (tokens_of tokens.old)
-        ≡ read_from B.geometry (end_of tokens.old) (AfterItem (listing side second position.new)) (tokens_of tokens.new))
-        (λ e. read_from B.geometry (end_of tokens.old) (AfterComma (listing side second position.old)) (tokens_of tokens.old) ≡ Err e) }
+        (λ _. read_from B.geometry (end_of tokens.old) (AfterComma (listing side second position.old))
+        (tokens_of tokens.old)
+        ≡ read_from B.geometry (end_of tokens.old) (AfterItem (listing side second position.new))
+        (tokens_of tokens.new))
+        (λ e. read_from B.geometry (end_of tokens.old) (AfterComma (listing side second position.old))
+        (tokens_of tokens.old) ≡ Err e) }
     ensures no_comma { OnOk result (first_is (is_sign 44) (tokens_of tokens.new) ≡ false) }
     ensures end { end_of tokens.new ≡ end_of tokens.old }
 {
@@ -165,9 +175,12 @@ fn read_item<B: Board>(
     position: &mut Position<B>,
 ) -> Result<(), FenFault>
     ensures item { (second : Bool) → MatchResult result
-        (λ _. read_from B.geometry (end_of tokens.old) (AfterComma (listing side second position.old)) (tokens_of tokens.old)
-        ≡ read_from B.geometry (end_of tokens.old) (AfterItem (listing side second position.new)) (tokens_of tokens.new))
-        (λ e. read_from B.geometry (end_of tokens.old) (AfterComma (listing side second position.old)) (tokens_of tokens.old) ≡ Err e) }
+        (λ _. read_from B.geometry (end_of tokens.old) (AfterComma (listing side second position.old))
+        (tokens_of tokens.old)
+        ≡ read_from B.geometry (end_of tokens.old) (AfterItem (listing side second position.new))
+        (tokens_of tokens.new))
+        (λ e. read_from B.geometry (end_of tokens.old) (AfterComma (listing side second position.old))
+        (tokens_of tokens.old) ≡ Err e) }
     ensures end { end_of tokens.new ≡ end_of tokens.old }
     ensures shorter { OnOk result (length (tokens_of tokens.new) < length (tokens_of tokens.old)) }
 {

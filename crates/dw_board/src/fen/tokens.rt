@@ -1,7 +1,8 @@
 //! The tokens of a FEN text, read from the front.
 ghost use Rattle.std.specs.Prelude.{◌≡◌, ◌+◌, ◌≤◌, ◌<◌, ◌||◌, false, true, length, take, drop, is_some, slice_get};
 ghost use Rattle.dw_board.specs.FenBlanks.{begins_with_blank, AreDigits, IsSignByte};
-ghost use Rattle.dw_board.specs.FenTokens.{is_sign, is_blank, is_digit, begins_with_digit, side_named, is_king_letter, number_named, tokens_from};
+ghost use Rattle.dw_board.specs.FenTokens.{is_sign, is_blank, is_digit, begins_with_digit, side_named, is_king_letter};
+ghost use Rattle.dw_board.specs.FenTokens.{number_named, tokens_from};
 
 use crate::board::Board;
 use crate::fen::fault::{FenFault, FenFaultKind};
@@ -66,7 +67,8 @@ impl<'a> Tokens<'a> {
     /// Goes past so many bytes, and past the blanks behind them.
     fn pass(&mut self, count: usize)
         requires { self.old.at + count ≤ length self.old.text.now }
-        ensures tokens { tokens_of self.new ≡ tokens_from (self.old.at + count + 1) (drop (self.old.at + count) self.old.text.now) }
+        ensures tokens { tokens_of self.new ≡ tokens_from (self.old.at + count + 1)
+            (drop (self.old.at + count) self.old.text.now) }
         ensures end { end_of self.new ≡ end_of self.old }
     {
         self.at = past_blanks(self.text, self.at + count);
@@ -98,7 +100,8 @@ impl<'a> Tokens<'a> {
     fn take_letter(&mut self, upper: u8, lower: u8) -> bool
         requires upper { IsSignByte upper }
         requires lower { IsSignByte lower }
-        ensures taken { result ≡ (first_is (is_sign upper) (tokens_of self.old) || first_is (is_sign lower) (tokens_of self.old)) }
+        ensures taken { result ≡ (first_is (is_sign upper) (tokens_of self.old)
+            || first_is (is_sign lower) (tokens_of self.old)) }
         ensures left { tokens_of self.new ≡ left_of result (tokens_of self.old) }
         ensures end { end_of self.new ≡ end_of self.old }
     {

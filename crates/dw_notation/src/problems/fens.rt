@@ -307,7 +307,8 @@ impl Lines {
     /// Passes over a byte-order mark at the text's front, as far as it was read, and answers how many bytes.
     fn pass_mark(&mut self, bytes: &[u8]) -> usize
         ensures within { result ≤ length bytes.now }
-        ensures same { (g : Geometry) (at_end : Bool) (more : List ℕ) → lines_ahead at_end g self.old (bytes.now ++ more)
+        ensures same { (g : Geometry) (at_end : Bool) (more : List ℕ)
+            → lines_ahead at_end g self.old (bytes.now ++ more)
             ≡ lines_ahead at_end g self.new (drop result bytes.now ++ more) }
         ensures front { (self.new.front ≡ Front.Behind) ⊎ (result ≡ length bytes.now) }
     {
@@ -330,7 +331,8 @@ impl Lines {
     pub(super) fn cut(&mut self, bytes: &[u8]) -> Option<usize>
         ensures some { IfSome result (λ k. (k < length bytes.now) × ((g : Geometry) (at_end : Bool) (more : List ℕ) →
             lines_ahead at_end g self.old (bytes.now ++ more)
-            ≡ option_to_list (lines_cut g self.new) ++ lines_behind at_end g self.new (drop (k + 1) bytes.now ++ more))) }
+            ≡ option_to_list (lines_cut g self.new)
+            ++ lines_behind at_end g self.new (drop (k + 1) bytes.now ++ more))) }
         ensures none { IfNone result ((g : Geometry) (at_end : Bool) (more : List ℕ) →
             lines_ahead at_end g self.old (bytes.now ++ more) ≡ lines_ahead at_end g self.new more) }
     {

@@ -607,7 +607,8 @@ impl Sections {
     /// Reads a byte, and answers whether it ends a section, which is then cut off.
     fn add(&mut self, byte: u8) -> bool
         ensures { (g : Geometry) (at_end : Bool) (more : List ℕ) → sections_ahead at_end g self.old (byte ∷ more)
-            ≡ (if result then option_to_list (sections_cut g self.new) else []) ++ sections_ahead at_end g self.new more }
+            ≡ (if result then option_to_list (sections_cut g self.new) else [])
+            ++ sections_ahead at_end g self.new more }
     {
         let step = self.place.step(byte);
         self.place = step.place;
@@ -622,7 +623,8 @@ impl Sections {
     /// How many bytes say nothing here, and may be passed over at once.
     fn passed(&self, bytes: &[u8]) -> usize
         ensures within { result ≤ length bytes.now }
-        ensures same { (g : Geometry) (at_end : Bool) (more : List ℕ) → sections_ahead at_end g self.now (bytes.now ++ more)
+        ensures same { (g : Geometry) (at_end : Bool) (more : List ℕ)
+            → sections_ahead at_end g self.now (bytes.now ++ more)
             ≡ sections_ahead at_end g self.now (drop result bytes.now ++ more) }
     {
         match self.place {
@@ -636,7 +638,8 @@ impl Sections {
     pub(super) fn cut(&mut self, bytes: &[u8]) -> Option<usize>
         ensures some { IfSome result (λ k. (k < length bytes.now) × ((g : Geometry) (at_end : Bool) (more : List ℕ) →
             sections_ahead at_end g self.old (bytes.now ++ more)
-            ≡ option_to_list (sections_cut g self.new) ++ sections_ahead at_end g self.new (drop (k + 1) bytes.now ++ more))) }
+            ≡ option_to_list (sections_cut g self.new)
+            ++ sections_ahead at_end g self.new (drop (k + 1) bytes.now ++ more))) }
         ensures none { IfNone result ((g : Geometry) (at_end : Bool) (more : List ℕ) →
             sections_ahead at_end g self.old (bytes.now ++ more) ≡ sections_ahead at_end g self.new more) }
     {

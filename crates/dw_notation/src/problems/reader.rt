@@ -39,7 +39,8 @@ impl Pieces {
     fn cut(&mut self, bytes: &[u8]) -> Option<usize>
         ensures some { IfSome result (λ k. (k < length bytes.now) × ((g : Geometry) (at_end : Bool) (more : List ℕ) →
             pieces_ahead at_end g self.old (bytes.now ++ more)
-            ≡ option_to_list (pieces_cut g self.new) ++ pieces_behind at_end g self.new (drop (k + 1) bytes.now ++ more))) }
+            ≡ option_to_list (pieces_cut g self.new)
+            ++ pieces_behind at_end g self.new (drop (k + 1) bytes.now ++ more))) }
         ensures none { IfNone result ((g : Geometry) (at_end : Bool) (more : List ℕ) →
             pieces_ahead at_end g self.old (bytes.now ++ more) ≡ pieces_ahead at_end g self.new more) }
     {
