@@ -35,6 +35,7 @@ class Check:
 
 QUICK = [
     Check("docs"),
+    Check("definitions"),
     Check("options"),
     Check("examples"),
     Check("causes"),

@@ -1,0 +1,161 @@
+#!/usr/bin/env python3
+"""definitions.py: counts the definitions that a reader of the main contracts has to believe, and compares docs/PROVED.md.
+
+    checks/definitions.py [--list]      with --list it prints the names, file by file
+
+A contract names definitions of specs/, these name others, and so on: all of them count, with their comments, without
+imports and blank lines. The table in docs/PROVED.md has to give the same numbers. The files of one contract are told
+by their lines, too. Beside that no line in src and specs of any crate may have more than 120 columns.
+"""
+import dataclasses
+import pathlib
+import re
+import sys
+
+TOP = pathlib.Path(__file__).resolve().parent.parent
+CRATES, PROVED = TOP / "crates", TOP / "docs/PROVED.md"
+MOST = 120
+NAME = r"[\w'◌>=-]+"
+USE = re.compile(r"(?:ghost )?use (Rattle\.[\w.]+)\.\{(.*)\};?$")
+ALIAS = re.compile(r"(?:ghost )?use (Rattle\.[\w.]+) as (\w+);?$")
+STARTS = re.compile(rf"(?:(?:abbrev|unfoldable) )?pub (?:(record|data) )?({NAME})(?: |$)")
+
+
+@dataclasses.dataclass(eq=False)
+class Definition:
+    name: str
+    kind: str  # "record", "data" or ""
+    lines: list  # with the comment above it
+    file: "File"
+
+    def text(self):
+        """Without comments, and without the names of fields, which are no definitions."""
+        text = "\n".join(line for line in self.lines if not line.lstrip().startswith(("--", "infix")))
+        text = re.sub(r"^  pub [\w']+ :", "  :", text, flags=re.MULTILINE)
+        return re.sub(r"([{;]\s*)[\w']+ =", r"\1 =", text)
+
+    def bound(self):
+        """The names that it binds itself: of its arguments, and after a lambda."""
+        text = self.text()
+        names = set(re.findall(r"λ \(?([\w']+)", text))
+        for group in re.findall(r"[({]([\w' ]+) : ", text):
+            names |= set(group.split())
+        for line in text.splitlines():
+            head = re.match(rf"{re.escape(self.name)} (.*?) =(?: |$)", line)
+            names |= set(re.findall(r"[a-z][\w']*", head[1])) if head else set()
+        return names
+
+
+class Imports:
+    """What the names in a file stand for: names of modules, and modules by another name."""
+
+    def __init__(self, text):
+        self.names, self.modules = {}, {}
+        for line in map(str.strip, text.splitlines()):
+            if use := USE.match(line):
+                for word in re.split(r",\s*(?![^(]*\))", use[2]):
+                    old, _, new = word.strip().partition(" as ")
+                    self.names[new or old] = use[1], old
+            elif alias := ALIAS.match(line):
+                self.modules[alias[2]] = alias[1]
+
+
+class File(Imports):
+    """A file of specs/: its definitions, each with the comment above it."""
+
+    def __init__(self, path):
+        super().__init__(path.read_text())
+        self.path, self.definitions, self.cases = path, {}, {}
+        self.module = f"Rattle.{path.parts[-3]}.specs.{path.stem}"
+        for block in re.split(r"\n(?:\s*\n)+", path.read_text()):
+            self.read([line for line in block.splitlines() if not line.startswith("use ")])
+
+    def read(self, block):
+        above, current = [], None
+        for line in block:
+            if start := STARTS.match(line):
+                current = Definition(start[2], start[1] or "", [*above, line], self)
+                self.definitions[current.name], above = current, []
+            elif current is None:
+                above.append(line)
+            else:
+                current.lines.append(line)
+                case = re.match(r"  ([\w']+) :", line)
+                if current.kind == "data" and case:
+                    self.cases[case[1]] = current
+
+    def find(self, name):
+        return self.definitions.get(name) or self.definitions.get(f"◌{name}◌") or self.cases.get(name)
+
+
+FILES = {file.module: file for file in map(File, sorted(CRATES.glob("*/specs/*.antt"))) if file.path.stem != "Lib"}
+
+
+def named(text, imports):
+    """The definitions that a text names, read with these imports."""
+    for word in set(re.findall(r">>=|[\w'][\w'.]*", re.sub(r'"[^"]*"', "", text))):
+        head, _, rest = word.partition(".")
+        own = imports.find(head) if isinstance(imports, File) else None
+        module, name = imports.names.get(head) or imports.names.get(f"◌{head}◌") or ("", "")
+        if rest and head in imports.modules:
+            module, name, own = imports.modules[head], rest.split(".")[0], None
+        found = own or (module in FILES and FILES[module].find(name))
+        if found:
+            yield head, found
+
+
+def reached(texts):
+    """All definitions that texts with their imports lead to."""
+    waiting = [found for text, imports in texts for _, found in named(text, imports)]
+    seen = []
+    while waiting:
+        definition = waiting.pop()
+        if definition not in seen:
+            seen.append(definition)
+            bound = definition.bound()
+            waiting += [found for head, found in named(definition.text(), definition.file) if head not in bound]
+    return seen
+
+
+def contract(file, start, clause=""):
+    """The contract of a function, or one of its clauses, with the imports of its file."""
+    text = (CRATES / file).read_text()
+    whole = re.split(r"\n *\{\n", text[text.index(start) :])[0]
+    if clause:
+        whole = re.search(rf"(?:requires|ensures) {clause} \{{.*?(?=\n\s*(?:requires|ensures)|\Z)", whole, re.DOTALL)[0]
+    return whole, Imports(text)
+
+
+def rows():
+    """The rows of the table: what stands in its first column, and what is reached."""
+    wins, legal, play = "dw_solve/src/solver.rt", "dw_moves/src/legal.rt", "dw_moves/src/play.rt"
+    yield "`run`", [contract("dw_report/src/run.rt", "pub fn run<")]
+    yield "`Solver::wins`, its answer (clause `answer`)", [contract(wins, "pub fn wins", "answer")]
+    yield "`Solver::wins`, all of its clauses", [contract(wins, "pub fn wins")]
+    yield "`legal`, the rules of the game", [contract(legal, "pub fn legal<")]
+    yield "`legal` and `play`", [contract(legal, "pub fn legal<"), contract(play, "pub fn play<")]
+
+
+def main(words):
+    told = PROVED.read_text()
+    for title, texts in rows():
+        seen = reached(texts)
+        files = sorted({definition.file.path for definition in seen})
+        lines = sum(len(definition.lines) for definition in seen)
+        row = f"| {title} | {len(seen)} | {len(files)} | {lines:,} |"
+        print(row)
+        for path in files if "--list" in words else []:
+            names = sorted(definition.name for definition in seen if definition.file.path == path)
+            print(f"    {path.relative_to(CRATES)}: {' '.join(names)}")
+        assert row in told.splitlines(), f"docs/PROVED.md has no line {row}"
+        if title == "`run`":
+            whole = sum(len(path.read_text().splitlines()) for path in files)
+            assert f"those of `run` have {whole:,} lines in all" in " ".join(told.split()), f"{whole:,} lines in all"
+    for path in sorted([*CRATES.glob("*/src/**/*.rt"), *CRATES.glob("*/specs/**/*.antt")]):
+        wide = [number for number, line in enumerate(path.read_text().splitlines(), 1) if len(line) > MOST]
+        assert not wide, f"{path.relative_to(TOP)}: over {MOST} columns in line {wide}"
+    print(f"src and specs: no line of more than {MOST} columns")
+
+
+if __name__ == "__main__":
+    main(sys.argv[1:])
