@@ -126,11 +126,11 @@ def table(rows, each):
 
 
 def printed(name, rows):
-    print(f"const {name}: [Small; {len(rows)}] = [")
+    print(f"\nconst {name}: [Small; {len(rows)}] = [")
     for text, least in rows:
         print(f'    ("{text}", {least}),')
     print("];")
-    print(f"\nfn {name.lower()}() -> &'static [Small] {{\n    &{name}\n}}\n")
+    print(f"\nfn {name.lower()}() -> &'static [Small] {{\n    &{name}\n}}")
 
 
 def main():
