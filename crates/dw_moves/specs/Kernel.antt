@@ -1,5 +1,5 @@
 -- A position as sets of squares, and what its pieces meet and reach there.
-use Rattle.std.specs.Prelude.{◌≡◌, ℕ, ◌<◌, ◌⊎◌, ◌↔◌, Some, None, IsTrue}
+use Rattle.std.specs.Prelude.{◌≡◌, ℕ, ◌<◌, ◌⊎◌, ◌↔◌, Some, None, IsTrue, is_some}
 use Rattle.std.proofs.Common.{zero, suc}
 use Rattle.std.specs.FinSet as set
 use Rattle.dw_board.specs.declared.board.Dir.{Dir}
@@ -29,6 +29,11 @@ pub record AreSets (g : Geometry) (p : Placement) (men kings enemies occupied : 
   pub of_kings : (s : ℕ) → In s kings ↔ (OnBoard g s × (at p s ≡ Some (record { side = p.turn; kind = King })))
   pub of_enemies : AreOf g p (other p.turn) enemies
   pub of_all : (s : ℕ) → In s occupied ↔ (OnBoard g s × ((q : Piece) × (at p s ≡ Some q)))
+
+-- the pieces of the other side than this one, and all pieces
+pub record IsGround (g : Geometry) (p : Placement) (side : Side) (enemies occupied : Squares) : Type 0 where
+  pub of_enemies : AreOf g p (other side) enemies
+  pub of_all : (s : ℕ) → In s occupied ↔ (OnBoard g s × IsTrue (is_some (at p s)))
 
 -- n steps lead from a square of a set to t, none of them onto a piece
 abbrev pub RunsTo : Geometry → Squares → Squares → Dir → ℕ → ℕ → Type 0

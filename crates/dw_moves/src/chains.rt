@@ -3,12 +3,13 @@ ghost use Rattle.std.specs.Prelude.{◌≡◌, ◌≤◌, ◌-◌, ◌↔◌, If
 ghost use Rattle.dw_board.specs.Geometry.{OnBoard};
 ghost use Rattle.dw_moves.specs.Chains.{ChainsFit, Taking, TakingFrom, EndsAs, EndsTowards, Is, Longest, Takes};
 ghost use Rattle.dw_moves.specs.Chains.{IsCapture};
+ghost use Rattle.dw_moves.specs.Kernel.{IsGround};
 
 use crate::best::is_own;
+use crate::ground::Ground;
 use crate::jumps::{first_met, jumps};
 use crate::kernel::may_take;
 use crate::moves::Move;
-use crate::quiet::free_step;
 use dw_board::board::{Board, Dir};
 use dw_board::piece::{Kind, Piece};
 use dw_board::position::Position;
@@ -51,7 +52,16 @@ fn push_from<B: Board>(
     }
     let mut rest = *position;
     rest.clear(from);
-    walk(&rest, piece, Move::quiet(from, from), 0, most, moves)
+    let ground = Ground::of(&rest, piece.side);
+    walk(
+        &rest,
+        &ground,
+        piece,
+        Move::quiet(from, from),
+        0,
+        most,
+        moves,
+    )
 }
 
 /// Goes through the captures that begin with a move so far, which has taken so many pieces. It keeps those that take
@@ -59,6 +69,7 @@ fn push_from<B: Board>(
 #[cycle(walk)]
 fn walk<B: Board>(
     position: &Position<B>,
+    ground: &Ground<B>,
     piece: Piece,
     begun: Move<B>,
     count: u8,
@@ -66,15 +77,52 @@ fn walk<B: Board>(
     moves: &mut Vec<Move<B>>,
 ) -> Result<u8, AllocError>
     requires on_board { OnBoard B.geometry begun.to }
+    requires ground { IsGround B.geometry position.now piece.side ground.now.enemies ground.now.occupied }
     requires few { count ≤ 20 }
     requires fits { ChainsFit B.geometry position.now piece begun.to begun.taken (20 - count) }
     ensures { IfOk result (λ k. Longest (EndsAs B.geometry position.now piece begun count) most moves.old.items k
         moves.new.items) }
 {
-    let one = walk_towards(position, piece, begun, count, Dir::UpLeft, most, moves)?;
-    let two = walk_towards(position, piece, begun, count, Dir::UpRight, one, moves)?;
-    let three = walk_towards(position, piece, begun, count, Dir::DownLeft, two, moves)?;
-    let four = walk_towards(position, piece, begun, count, Dir::DownRight, three, moves)?;
+    let one = walk_towards(
+        position,
+        ground,
+        piece,
+        begun,
+        count,
+        Dir::UpLeft,
+        most,
+        moves,
+    )?;
+    let two = walk_towards(
+        position,
+        ground,
+        piece,
+        begun,
+        count,
+        Dir::UpRight,
+        one,
+        moves,
+    )?;
+    let three = walk_towards(
+        position,
+        ground,
+        piece,
+        begun,
+        count,
+        Dir::DownLeft,
+        two,
+        moves,
+    )?;
+    let four = walk_towards(
+        position,
+        ground,
+        piece,
+        begun,
+        count,
+        Dir::DownRight,
+        three,
+        moves,
+    )?;
     offer(begun, count, four, moves)
 }
 
@@ -83,6 +131,7 @@ fn walk<B: Board>(
 #[inline(always)]
 fn walk_towards<B: Board>(
     position: &Position<B>,
+    ground: &Ground<B>,
     piece: Piece,
     begun: Move<B>,
     count: u8,
@@ -91,12 +140,13 @@ fn walk_towards<B: Board>(
     moves: &mut Vec<Move<B>>,
 ) -> Result<u8, AllocError>
     requires on_board { OnBoard B.geometry begun.to }
+    requires ground { IsGround B.geometry position.now piece.side ground.now.enemies ground.now.occupied }
     requires few { count ≤ 20 }
     requires fits { ChainsFit B.geometry position.now piece begun.to begun.taken (20 - count) }
     ensures { IfOk result (λ k. Longest (EndsTowards B.geometry position.now piece begun count direction) most
         moves.old.items k moves.new.items) }
 {
-    let Some(over) = first_met(position, piece, begun.to, direction) else {
+    let Some(over) = first_met(position, ground, piece, begun.to, direction) else {
         return Ok(most);
     };
     if begun.taken.has(over) {
@@ -105,13 +155,13 @@ fn walk_towards<B: Board>(
     let taken = begun.taken.with(over);
     let mut longest = most;
     let mut at = over;
-    'landings: while let Some(landing) = free_step(position, at, direction) {
+    'landings: while let Some(landing) = ground.free_step(position, piece.side, at, direction) {
         let further = Move {
             from: begun.from,
             to: landing,
             taken,
         };
-        longest = walk(position, piece, further, count + 1, longest, moves)?;
+        longest = walk(position, ground, piece, further, count + 1, longest, moves)?;
         match piece.kind {
             Kind::Man => break,
             Kind::King => at = landing,

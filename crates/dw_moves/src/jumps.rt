@@ -2,14 +2,14 @@
 ghost use Rattle.std.specs.Prelude.{◌≡◌, ◌≤◌, ◌+◌, ◌++◌, map, None, IfSome, Ok, length};
 ghost use Rattle.dw_board.specs.Geometry.{OnBoard};
 ghost use Rattle.dw_board.specs.declared.piece.Side as sides;
+ghost use Rattle.dw_moves.specs.Kernel.{IsGround};
 ghost use Rattle.dw_moves.specs.Moves.{ray};
 ghost use Rattle.dw_moves.specs.Plain as plain;
 
-use crate::play::other;
-use crate::quiet::free_step;
+use crate::ground::Ground;
 use arrayvec::ArrayVec;
 use dw_board::board::{Board, Dir};
-use dw_board::piece::{Kind, Piece};
+use dw_board::piece::{Kind, Piece, Side};
 use dw_board::position::Position;
 use dw_board::square::{Square, step};
 use std::alloc::AllocError;
@@ -62,51 +62,56 @@ pub(crate) fn jumps<B: Board>(
     requires { OnBoard B.geometry from }
     ensures { result.items ≡ plain.jump_list B.geometry position.now piece from }
 {
+    let ground = Ground::of(position, piece.side);
     let mut found = ArrayVec::new();
-    add_jumps(position, piece, from, Dir::UpLeft, &mut found);
-    add_jumps(position, piece, from, Dir::UpRight, &mut found);
-    add_jumps(position, piece, from, Dir::DownLeft, &mut found);
-    add_jumps(position, piece, from, Dir::DownRight, &mut found);
+    add_jumps(position, &ground, piece, from, Dir::UpLeft, &mut found);
+    add_jumps(position, &ground, piece, from, Dir::UpRight, &mut found);
+    add_jumps(position, &ground, piece, from, Dir::DownLeft, &mut found);
+    add_jumps(position, &ground, piece, from, Dir::DownRight, &mut found);
     found
 }
 
 /// Adds the jumps in one direction: over the piece that is met first, to a square behind it.
 fn add_jumps<B: Board>(
     position: &Position<B>,
+    ground: &Ground<B>,
     piece: Piece,
     from: Square<B>,
     direction: Dir,
     found: &mut ArrayVec<Jump<B>, 40>,
 )
     requires on_board { OnBoard B.geometry from }
+    requires ground { IsGround B.geometry position.now piece.side ground.now.enemies ground.now.occupied }
     requires room { length found.old.items + 10 ≤ 40 }
     ensures items { found.new.items ≡ found.old.items
         ++ plain.takes_for piece.kind position.now piece.side (ray B.geometry from direction) }
     ensures room { length found.new.items ≤ length found.old.items + 10 }
 {
-    if let Some(over) = first_met(position, piece, from, direction) {
-        add_landings(position, piece.kind, over, direction, found);
+    if let Some(over) = first_met(position, ground, piece, from, direction) {
+        add_landings(position, ground, piece, over, direction, found);
     }
 }
 
 /// Adds the jumps over a piece: to the next square behind it, for a king to any square up to the next piece.
 fn add_landings<B: Board>(
     position: &Position<B>,
-    kind: Kind,
+    ground: &Ground<B>,
+    piece: Piece,
     over: Square<B>,
     direction: Dir,
     found: &mut ArrayVec<Jump<B>, 40>,
 )
     requires on_board { OnBoard B.geometry over }
+    requires ground { IsGround B.geometry position.now piece.side ground.now.enemies ground.now.occupied }
     requires room { length found.old.items + 10 ≤ 40 }
     ensures items { found.new.items ≡ found.old.items
-        ++ map (λ t. (over, t)) (plain.landings_for kind position.now (ray B.geometry over direction)) }
+        ++ map (λ t. (over, t)) (plain.landings_for piece.kind position.now (ray B.geometry over direction)) }
     ensures room { length found.new.items ≤ length found.old.items + 10 }
 {
     let mut at = over;
-    'landings: while let Some(landing) = free_step(position, at, direction) {
+    'landings: while let Some(landing) = ground.free_step(position, piece.side, at, direction) {
         found.push(Jump { over, landing });
-        match kind {
+        match piece.kind {
             Kind::Man => break,
             Kind::King => at = landing,
         }
@@ -114,13 +119,16 @@ fn add_landings<B: Board>(
 }
 
 /// The enemy that the piece meets first: on the next square, for a king on the first square that is not empty.
+#[inline]
 pub(crate) fn first_met<B: Board>(
     position: &Position<B>,
+    ground: &Ground<B>,
     piece: Piece,
     from: Square<B>,
     direction: Dir,
 ) -> Option<Square<B>>
-    requires { OnBoard B.geometry from }
+    requires on_board { OnBoard B.geometry from }
+    requires ground { IsGround B.geometry position.now piece.side ground.now.enemies ground.now.occupied }
     ensures none { result ≡ None → plain.takes_for piece.kind position.now piece.side (ray B.geometry from direction)
         ≡ plain.no_jumps }
     ensures some { IfSome result (λ c. plain.takes_for piece.kind position.now piece.side
@@ -132,10 +140,10 @@ pub(crate) fn first_met<B: Board>(
 {
     let before = match piece.kind {
         Kind::Man => from,
-        Kind::King => last_free(position, from, direction),
+        Kind::King => last_free(position, ground, piece.side, from, direction),
     };
     let met = step(before, direction)?;
-    if position.all_of(other(piece.side)).has(met) {
+    if ground.enemies.has(met) {
         Some(met)
     } else {
         None
@@ -143,15 +151,22 @@ pub(crate) fn first_met<B: Board>(
 }
 
 /// The last square before the next piece or the edge.
-fn last_free<B: Board>(position: &Position<B>, from: Square<B>, direction: Dir) -> Square<B>
-    requires { OnBoard B.geometry from }
-    ensures takes { (side : sides.Side) → plain.king_takes position.now side (ray B.geometry from direction)
-        ≡ plain.king_takes position.now side (ray B.geometry result direction) }
+fn last_free<B: Board>(
+    position: &Position<B>,
+    ground: &Ground<B>,
+    side: Side,
+    from: Square<B>,
+    direction: Dir,
+) -> Square<B>
+    requires on_board { OnBoard B.geometry from }
+    requires ground { IsGround B.geometry position.now side ground.now.enemies ground.now.occupied }
+    ensures takes { (of : sides.Side) → plain.king_takes position.now of (ray B.geometry from direction)
+        ≡ plain.king_takes position.now of (ray B.geometry result direction) }
     ensures on_board { OnBoard B.geometry result }
     ensures blocked { plain.free_step B.geometry position.now result direction ≡ None }
 {
     let mut at = from;
-    'empty: while let Some(next) = free_step(position, at, direction) {
+    'empty: while let Some(next) = ground.free_step(position, side, at, direction) {
         at = next;
     }
     at

@@ -6,6 +6,7 @@
 pub mod best;
 mod chains;
 pub mod follow;
+mod ground;
 mod jumps;
 pub mod kernel;
 pub mod laws;

@@ -25,7 +25,7 @@ pub walk_towards-landings-init : goal.walk_towards-landings-init
 walk_towards-landings-init g t c = landed_none g.B.Board.geometry c.args.position.now c.args.piece c.args.begun c.args.count c.in-Some.over c.args.piece.kind c.args.direction c.args.most c.args.moves.now.items c.in-Some.ensures.on_board
 
 pub walk_towards-free_step-requires : goal.walk_towards-free_step-requires
-walk_towards-free_step-requires g t c = c.landings.invariant.on
+walk_towards-free_step-requires g t c = record { on_board = c.landings.invariant.on; ground = c.requires.ground }
 
 pub walk_towards-walk-requires : goal.walk_towards-walk-requires
 walk_towards-walk-requires g t c κs within =
@@ -43,9 +43,12 @@ walk_towards-walk-requires g t c κs within =
         (
           f.on,
           (
-            small,
-            subst (λ v. ChainsFit geo c.args.position.now c.args.piece c.in-Some-free_step.landing v (20 - (c.args.count + 1))) (sym taken_is)
-                (chains_fit_behind geo c.args.position.now c.args.piece c.args.begun.to c.in-Some.over c.in-Some-free_step.landing c.args.begun.taken c.args.count c.requires.fits jump fresh),
+            c.requires.ground,
+            (
+              small,
+              subst (λ v. ChainsFit geo c.args.position.now c.args.piece c.in-Some-free_step.landing v (20 - (c.args.count + 1))) (sym taken_is)
+                  (chains_fit_behind geo c.args.position.now c.args.piece c.args.begun.to c.in-Some.over c.in-Some-free_step.landing c.args.begun.taken c.args.count c.requires.fits jump fresh),
+            ),
           ),
         ),
       ),
