@@ -14,6 +14,7 @@ const NO_MEMORY: RunFault = RunFault::Stopped {
 };
 
 /// How the program ended. `T` is the type of the texts that its line names.
+/// See [`outcome`] for an example.
 #[derive(Clone, Copy)]
 pub enum Ending<T> {
     /// Help was asked for, and written.
@@ -33,6 +34,7 @@ pub enum Ending<T> {
 }
 
 /// What is written on standard error.
+/// Example: `Message::NoProblem(7)` is written `dw: no problem 7`, with a line end.
 #[derive(Clone, Copy)]
 pub enum Message<T> {
     /// Why the words are no command, with its own line ends.
@@ -72,6 +74,7 @@ fn number_of(fault: TokenFault) -> u8 {
 }
 
 /// The exit status, 0 to 3, and what is written on standard error.
+/// See [`outcome`] for an example.
 #[derive(Clone, Copy)]
 pub struct Exit<T> {
     pub status: u8,
@@ -82,6 +85,7 @@ pub struct Exit<T> {
 ///
 /// Status 0 is done, 1 that something was refused or is not there, 2 that the words are no command, 3 that
 /// the program was stopped or a stream failed.
+/// Example: for `Ending::Help` the status is 0, and there is no message.
 pub fn outcome<T: Copy>(ending: Ending<T>, only: Option<u32>) -> Exit<T>
     ensures { result ≡ outcome_of ending only }
 {

@@ -7,6 +7,7 @@ use dw_report::settings::Command;
 use std::alloc::{AllocError, Global};
 
 /// The boards that the program plays on.
+/// Example: `--board 8` asks for `BoardSize::Eight`.
 #[derive(Clone, Copy, Debug, PartialEq, Eq)]
 pub enum BoardSize {
     /// 10 by 10, with 50 squares.
@@ -16,6 +17,7 @@ pub enum BoardSize {
 }
 
 /// What keeps the bounds that a search has found.
+/// Example: `--memo slots` asks for `MemoKind::Slots`.
 #[derive(Clone, Copy, Debug, PartialEq, Eq)]
 pub enum MemoKind {
     /// Nothing.
@@ -27,6 +29,7 @@ pub enum MemoKind {
 }
 
 /// What the words ask for.
+/// See [`requested`] for an example.
 #[derive(Clone, Copy)]
 pub struct Request<'a> {
     pub command: Command,
@@ -128,6 +131,7 @@ Examples:
   echo W:W27,32,38:B18 | dw list -n 2 --lines 2";
 
 /// The commands that the program knows.
+/// Example: `dw show a.fen` is one of them, and `dw solve` is none.
 pub fn command<'a>(alloc: Global) -> Result<Words<'a>, AllocError> {
     let words = Words::new(alloc, "dw")
         .version(VERSION)
@@ -274,6 +278,7 @@ fn after<'a>(alloc: Global) -> Arg<'a> {
 }
 
 /// What parsed words ask for.
+/// Example: `dw show --problem 3 a.fen` asks for problem 3 alone, of the file `a.fen`.
 pub fn requested<'a>(matches: &ArgMatches<'a>) -> Option<Request<'a>> {
     if let Some(words) = matches.subcommand_matches("show") {
         return Some(read_by(words, Command::Show));
@@ -351,6 +356,7 @@ fn memo_kind(kind: Option<&str>) -> MemoKind {
 
 impl Request<'_> {
     /// The most positions that the memo keeps, 1 to 4,000,000.
+    /// Example: where `cache` is 0 it is 1.
     pub fn kept(&self) -> usize
         ensures some { 1 ≤ result }
         ensures most { result ≤ 4_000_000 }

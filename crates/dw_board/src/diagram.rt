@@ -16,10 +16,12 @@ use crate::squares::Squares;
 use arrayvec::ArrayString;
 
 /// The bytes that suffice for each diagram.
+/// Example: on the board of ten rows each diagram has just 130 bytes.
 pub const DIAGRAM_ROOM: usize = 130;
 
 /// The diagram of a position: a line for each row from the top, with a blank for a light square, a point for
 /// an empty dark one, `w` and `b` for men, `W` and `B` for kings.
+/// Example: of `W:W32:B28` the seventh line is `| . w . . .|`.
 pub fn diagram<B: Board>(position: &Position<B>) -> ArrayString<DIAGRAM_ROOM>
     ensures { result.bytes ≡ diagram_text B.geometry position.now }
 {

@@ -2,6 +2,8 @@
 //!
 //! Everything is generic over the board. No call takes memory. Begin with `Position`, and with `read_fen`, which makes
 //! one from a text.
+//!
+//! An example tells a position by its FEN text, on the board of ten rows if it names no other.
 #![tactic(auto)]
 
 pub mod board;

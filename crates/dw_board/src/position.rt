@@ -28,6 +28,7 @@ use std::marker::Model;
 /// Pieces on a board, and the side to move. A side has no more pieces than it may, and no man on its last row.
 ///
 /// It keeps where each side's men and kings stand, as sets of squares, and nothing else.
+/// Example: `W:W32:B28` has a white man on 32 and a black one on 28, and White is to move.
 #[derive(Clone, Copy)]
 pub struct Position<B: Board> {
     held: Held<B>,
@@ -71,6 +72,7 @@ impl<B: Board> Model for Position<B> {
 
 impl<B: Board> Position<B> {
     /// The board without a piece.
+    /// Example: `Position::<Ten>::empty(Side::White).count(Side::White)` is 0.
     #[inline]
     pub fn empty(turn: Side) -> Self
         ensures { result ≡ of.empty turn }
@@ -83,6 +85,7 @@ impl<B: Board> Position<B> {
 
     /// Puts a piece on an empty square. It is refused, and nothing changes, for the first of these reasons: the
     /// square is taken, it is a man's last row, the side has all its pieces.
+    /// Example: in `W:W32:B28` a second piece on square 28 is refused with `PutFault::Taken`.
     pub fn put(&mut self, square: Square<B>, piece: Piece) -> Result<(), PutFault>
         ensures fault { result_err result ≡ put_fault B.geometry self.old square piece }
         ensures after { self.new ≡ (if is_ok result then placed self.old square (Some piece) else self.old) }
@@ -101,6 +104,7 @@ impl<B: Board> Position<B> {
     }
 
     /// Empties a square, and tells what stood there.
+    /// Example: of `W:W32:B28` to clear square 28 gives a black man, and leaves `W:W32:B`.
     #[inline]
     pub fn clear(&mut self, square: Square<B>) -> Option<Piece>
         ensures stood { result ≡ of.at self.old square }
@@ -112,6 +116,7 @@ impl<B: Board> Position<B> {
     }
 
     /// Empties these squares.
+    /// Example: of `W:W32:B28` to clear the squares 28 and 29 leaves `W:W32:B`.
     #[inline]
     pub fn clear_all(&mut self, squares: Squares<B>)
         ensures { self.new ≡ without self.old squares }
@@ -120,6 +125,7 @@ impl<B: Board> Position<B> {
     }
 
     /// What stands on a square.
+    /// Example: in `W:W32:B28` a white man stands on square 32, and on square 31 it is `None`.
     #[inline]
     pub fn at(&self, square: Square<B>) -> Option<Piece>
         ensures value { result ≡ of.at self.now square }
@@ -130,6 +136,7 @@ impl<B: Board> Position<B> {
     }
 
     /// The side to move.
+    /// Example: in `W:W32:B28` it is `Side::White`.
     #[inline]
     pub fn turn(&self) -> Side
         ensures value { result ≡ self.now.turn }
@@ -139,6 +146,7 @@ impl<B: Board> Position<B> {
     }
 
     /// Gives the move to a side.
+    /// Example: `set_turn(Side::Black)` makes `B:W32:B28` of `W:W32:B28`.
     #[inline]
     pub fn set_turn(&mut self, side: Side)
         ensures { self.new ≡ record self.old { turn = side } }
@@ -147,6 +155,7 @@ impl<B: Board> Position<B> {
     }
 
     /// The number of a side's pieces, at most 20.
+    /// Example: in `W:WK7,31:B` it is 2 for `Side::White`, and 0 for `Side::Black`.
     #[inline]
     pub fn count(&self, side: Side) -> u8
         ensures value { result ≡ of.count self.now side }
@@ -157,6 +166,7 @@ impl<B: Board> Position<B> {
     }
 
     /// The squares on which a piece of this side and kind stands.
+    /// Example: in `W:WK7,31:B` it is the set of square 7 for `Side::White` and `Kind::King`.
     #[inline]
     pub fn squares(&self, side: Side, kind: Kind) -> Squares<B>
         ensures { (s : ℕ) → IsTrue (set.contains result s)
@@ -166,6 +176,7 @@ impl<B: Board> Position<B> {
     }
 
     /// All squares on which a piece of this side stands.
+    /// Example: in `W:WK7,31:B` it is the set of the squares 7 and 31 for `Side::White`.
     #[inline]
     pub fn all_of(&self, side: Side) -> Squares<B>
         ensures { (s : ℕ) → IsTrue (set.contains result s)
@@ -175,6 +186,7 @@ impl<B: Board> Position<B> {
     }
 
     /// All squares on which a piece stands.
+    /// Example: in `W:W32:B28` it is the set of the squares 28 and 32.
     #[inline]
     pub fn occupied(&self) -> Squares<B>
         ensures { (s : ℕ) → IsTrue (set.contains result s)

@@ -18,6 +18,7 @@ use std::hash::{Hash, Hasher};
 use std::marker::{Model, PhantomData};
 
 /// A set of squares: square s is the bit `s - 1 + (s - 1) / ROWS`.
+/// Example: on ten rows the set of square 11 is the word `1 << 11`.
 #[derive(Clone, Copy)]
 pub struct Squares<B: Board> {
     word: u64,
@@ -49,6 +50,7 @@ impl<B: Board> Model for Squares<B> {
 
 impl<B: Board> Squares<B> {
     /// The empty set.
+    /// Example: `Squares::<Ten>::none().count()` is 0.
     #[inline]
     pub fn none() -> Self
         ensures { result ≡ set.empty }
@@ -60,6 +62,7 @@ impl<B: Board> Squares<B> {
     }
 
     /// The set of one square.
+    /// Example: `Squares::one(square).count()` is 1.
     #[inline]
     pub fn one(square: Square<B>) -> Self
         ensures { result ≡ set.insert set.empty square }
@@ -68,6 +71,7 @@ impl<B: Board> Squares<B> {
     }
 
     /// Whether no square is in the set.
+    /// Example: `Squares::<Ten>::none().is_empty()` is `true`.
     #[inline]
     pub fn is_empty(self) -> bool
         ensures { IsTrue result ↔ (self ≡ set.empty) }
@@ -76,6 +80,7 @@ impl<B: Board> Squares<B> {
     }
 
     /// Whether the square is in the set.
+    /// Example: `Squares::one(square).has(square)` is `true`.
     #[inline]
     pub fn has(self, square: Square<B>) -> bool
         ensures { result ≡ set.contains self square }
@@ -84,6 +89,7 @@ impl<B: Board> Squares<B> {
     }
 
     /// This set and the square.
+    /// Example: the set {2, 5} with 7 is {2, 5, 7}.
     #[inline]
     pub fn with(self, square: Square<B>) -> Self
         ensures { result ≡ set.insert self square }
@@ -95,6 +101,7 @@ impl<B: Board> Squares<B> {
     }
 
     /// The squares in either set.
+    /// Example: of {2, 5, 7} and {7, 16} it is {2, 5, 7, 16}.
     #[inline]
     pub fn or(self, other: Self) -> Self
         ensures { result ≡ set.union self other }
@@ -106,6 +113,7 @@ impl<B: Board> Squares<B> {
     }
 
     /// This set without the square.
+    /// Example: the set {2, 5, 7} without 5 is {2, 7}.
     #[inline]
     pub fn without(self, square: Square<B>) -> Self
         ensures { result ≡ set.remove self square }
@@ -117,6 +125,7 @@ impl<B: Board> Squares<B> {
     }
 
     /// The squares in both sets.
+    /// Example: of {2, 5, 7} and {7, 16} it is {7}.
     #[inline]
     pub fn and(self, other: Self) -> Self
         ensures { result ≡ set.intersection self other }
@@ -128,6 +137,7 @@ impl<B: Board> Squares<B> {
     }
 
     /// The squares of this set that are not in the other.
+    /// Example: the set {2, 5, 7} minus {7, 16} is {2, 5}.
     #[inline]
     pub fn minus(self, other: Self) -> Self
         ensures { result ≡ set.difference self other }
@@ -139,6 +149,7 @@ impl<B: Board> Squares<B> {
     }
 
     /// The number of squares, at most 50.
+    /// Example: of {2, 5, 7} it is 3.
     #[inline]
     pub fn count(self) -> u8
         ensures value { result ≡ set.len self }
@@ -148,6 +159,7 @@ impl<B: Board> Squares<B> {
     }
 
     /// The least square, or `None` in the empty set.
+    /// Example: of {7, 16} it is square 7.
     #[inline]
     pub fn first(self) -> Option<Square<B>>
         ensures none { IsNone result ↔ (self ≡ set.empty) }
@@ -160,6 +172,7 @@ impl<B: Board> Squares<B> {
     }
 
     /// The least square and the others, or `None` in the empty set.
+    /// Example: of {7, 16} it is square 7 and the set {16}.
     #[inline]
     pub fn split(self) -> Option<(Square<B>, Self)>
         ensures none { IsNone result ↔ (self ≡ set.empty) }
@@ -180,6 +193,7 @@ impl<B: Board> Squares<B> {
     }
 
     /// The padded word: the bit `s - 1 + (s - 1) / ROWS` for each square s of the set, and no other.
+    /// Example: on ten rows the word of {11} is `1 << 11`.
     #[inline]
     pub fn word(self) -> u64
         ensures members { (s : ℕ) → IsTrue (set.contains self s)
@@ -190,6 +204,7 @@ impl<B: Board> Squares<B> {
     }
 
     /// The squares that a step leads to from these.
+    /// Example: on ten rows {1, 5, 6} shifted down left is {6, 10}.
     #[inline]
     pub fn shifted(self, direction: Dir) -> Self
         ensures { (t : ℕ) → IsTrue (set.contains result t)

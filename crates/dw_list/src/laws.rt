@@ -7,11 +7,13 @@ use dw_moves::laws::{moves_have_keys, moves_in_order, moves_listed};
 use dw_solve::laws::wins_are_decided;
 
 /// No line begins another.
+/// Example: at `W:W27,45:B16`, within 2 moves, `45-40`, `16-21`, `27x16` is a line, and so `45-40`, `16-21` is none.
 pub fn none_begins()
     ensures { NoneBegins }
 {}
 
 /// The lines of a position can be listed in ascending order, in one way, and there are none exactly if there is no win.
+/// Example: within 2 moves `W:W27,45:B16` has one line, and `W:W27:B16`, which has no win, has none.
 pub fn lines_exist()
     ensures { LinesExist }
 {
@@ -22,6 +24,7 @@ pub fn lines_exist()
 }
 
 /// A list of moves is a line or has a place at which it leaves all lines, never both, and it has one place only.
+/// Example: at `W:W27,32,38:B18`, within 2 moves, the list of `38-33` alone is no line, and has the place 1.
 pub fn line_or_place()
     ensures { LineOrPlace }
 {

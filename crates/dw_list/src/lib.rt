@@ -1,6 +1,8 @@
 //! The lines of a forced win, each once and in order.
 //!
 //! Begin with `Lister`, which gives one line at a time. `all_lines::all_lines` gives all at once; a token names a line.
+//!
+//! An example tells a position by its FEN text, on the board of ten rows if it names no other.
 #![tactic(auto)]
 
 pub mod all_lines;

@@ -20,6 +20,7 @@ use std::alloc::Global;
 
 /// The lines of a position in ascending order, each once, without a list of them. It borrows the solver that answers
 /// which moves keep a win.
+/// See [`Lister::next`] for an example.
 #[derive(Drop)]
 pub struct Lister<'a, B: Board, M: Memo<B>, G: Guide<B>> {
     solver: &'a mut Solver<B, M, G>,
@@ -47,6 +48,7 @@ impl<'a, B: Board, M: Memo<B>, G: Guide<B>> Lister<'a, B, M, G> {
 
     /// A lister of all lines in which the side to move wins within so many of its moves, 1 to 20. It searches nothing
     /// yet, and takes no memory.
+    /// See [`Lister::next`] for an example.
     pub fn start(
         solver: &'a mut Solver<B, M, G>,
         position: &Position<B>,
@@ -73,6 +75,7 @@ impl<'a, B: Board, M: Memo<B>, G: Guide<B>> Lister<'a, B, M, G> {
 
     /// Goes on after a line: the lines still to come become those after it, and none of those before it is listed. If
     /// the list is no line, or the search is stopped, the lines still to come are what they were.
+    /// Example: at `W:W27,32:B18`, within 2 moves, `32-28`, `18-22`, `28x17` comes after `32-28`, `18-22`, `27x18`.
     pub fn after(&mut self, alloc: Global, line: &[Move<B>]) -> Result<(), AfterFault>
         ensures lender { lender self.new ≡ lender self.old }
         ensures after { OnOk result (IsAlong B.geometry (stack_of self.old).position (stack_of self.old).moves line.now
@@ -107,6 +110,7 @@ impl<'a, B: Board, M: Memo<B>, G: Guide<B>> Lister<'a, B, M, G> {
 
     /// Walks to the next line, and answers whether there is one. After a stop the lines still to come are what they
     /// were, and the call can be made again.
+    /// Example: at `W:W27,45:B16`, within 2 moves, it is `Ok(true)` and then `Ok(false)`, since there is one line.
     pub fn advance(&mut self, alloc: Global) -> Result<bool, Stop>
         ensures lender { lender self.new ≡ lender self.old }
         ensures next { IfOk result (λ more. GivesNext B.geometry more (stack_of self.old) (stack_of self.new)) }
@@ -128,6 +132,7 @@ impl<'a, B: Board, M: Memo<B>, G: Guide<B>> Lister<'a, B, M, G> {
     }
 
     /// The next line, lent as it stands in the lister's own array, or `None` if no line is still to come.
+    /// Example: at `W:W28:B`, within 1 move, it gives the line `28-22`, then `28-23`, and then `None`.
     pub fn next(&mut self, alloc: Global) -> Result<Option<&[Move<B>]>, Stop>
         ensures* after { sem 𝓛 (follows_so
             (the_row (record { mir = named 1; lft = [] }) B.row M.row G.row B.Board M.Memo)
@@ -143,6 +148,7 @@ impl<'a, B: Board, M: Memo<B>, G: Guide<B>> Lister<'a, B, M, G> {
     }
 
     /// The line at which the lister stands: the one that was given last, until it is asked for the next.
+    /// Example: after `next` gave the line `28-22` it is that line.
     pub fn line(&self) -> &[Move<B>]
         ensures line { result.now ≡ reverse (stack_of self.now).line }
         ensures few { length result.now ≤ 39 }
@@ -152,6 +158,7 @@ impl<'a, B: Board, M: Memo<B>, G: Guide<B>> Lister<'a, B, M, G> {
 
     /// How many of its first moves the line that was given last has in common with the one given before it: 0 where
     /// that is the first one since the start, or since the lister went on after a line.
+    /// Example: at `W:W27,32:B18`, within 2 moves, it is 0 after the first line, and then 2 and 1.
     pub fn shared(&self) -> usize
         ensures { result ≡ shared_of self.now }
     {
@@ -159,6 +166,7 @@ impl<'a, B: Board, M: Memo<B>, G: Guide<B>> Lister<'a, B, M, G> {
     }
 
     /// How many positions the solver has expanded so far.
+    /// Example: of a lister that borrows a new solver it is 0 at the start.
     pub fn expanded(&self) -> u64
         ensures { result ≡ (solver_of self.now).expanded }
     {
@@ -166,6 +174,7 @@ impl<'a, B: Board, M: Memo<B>, G: Guide<B>> Lister<'a, B, M, G> {
     }
 
     /// How many entries the solver's cache has lost so far.
+    /// Example: over a new memo it is 0 at the start.
     pub fn dropped(&self) -> u64
         ensures { result ≡ M.dropped (solver_of self.now).memo }
     {
@@ -173,6 +182,7 @@ impl<'a, B: Board, M: Memo<B>, G: Guide<B>> Lister<'a, B, M, G> {
     }
 
     /// Ends the listing, and gives the solver back.
+    /// Example: what the solver then says it expanded is what `expanded` said before.
     pub fn into_solver(self) -> &'a mut Solver<B, M, G>
         ensures lender { result.ghost_name ≡ lender self.entry }
         ensures solver { result.now ≡ solver_of self.entry }
@@ -182,6 +192,7 @@ impl<'a, B: Board, M: Memo<B>, G: Guide<B>> Lister<'a, B, M, G> {
     }
 
     /// Changes the solver's limit. It is at least 1, and not below what was expanded.
+    /// Example: after `set_limit(2_000)` the solver may expand 2,000 positions in all.
     pub fn set_limit(&mut self, limit: u64)
         requires some { 1 ≤ limit }
         requires enough { (solver_of self.old).expanded ≤ limit }

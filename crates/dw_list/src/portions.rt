@@ -13,6 +13,7 @@ use dw_solve::guide::Guide;
 use std::alloc::Global;
 
 /// What a lister gave under a list of limits.
+/// See [`in_portions`] for an example.
 #[derive(Drop)]
 pub struct Portions<B: Board> {
     /// The lines, in order.
@@ -25,6 +26,7 @@ pub struct Portions<B: Board> {
 
 /// Asks a lister for the next line once under each of these limits. A limit below 1 or below what was expanded is
 /// raised to that. Where there is no memory for one more line, the lister is not asked, and that counts as a stop.
+/// Example: at `W:W28:B`, within 1 move, three ample limits give the lines `28-22` and `28-23` and one end.
 pub fn in_portions<B: Board, M: Memo<B>, G: Guide<B>>(
     alloc: Global,
     lister: &mut Lister<'_, B, M, G>,

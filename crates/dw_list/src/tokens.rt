@@ -20,6 +20,7 @@ use hex::{decode_to_slice, encode_to_slice};
 use thiserror::Error;
 
 /// The most moves of a line that has a token.
+/// Example: a win in 20 moves may have a line of 20 moves of the attacker and 19 of the defender.
 pub const MAX_MOVES: usize = 39;
 
 /// The bytes of a move.
@@ -29,9 +30,11 @@ const MOVE_BYTES: usize = 10;
 const MAX_BYTES: usize = 393;
 
 /// The most digits of a token.
+/// Example: a token of 39 moves has so many, and one of 1 move has 26.
 pub const MAX_DIGITS: usize = 786;
 
 /// Why a text is no token. Its number is that of the variant, from 1 on.
+/// Example: the fault of `0g` is `TokenFault::NotHex`, whose number is 1.
 #[derive(Clone, Copy, Debug, PartialEq, Eq, Error)]
 pub enum TokenFault {
     /// An odd number of digits, or a byte that is no digit.
@@ -60,6 +63,7 @@ pub enum TokenFault {
 /// # Errors
 ///
 /// The sink failed; it has taken a beginning of the token.
+/// Example: on ten rows it writes `020a0120170000000008000000` of `32x23`, which takes 28.
 pub fn write_token<B: Board, K: Sink>(line: &[Move<B>], sink: &mut K) -> Result<(), WriteFault>
     requires odd { length line.now % 2 ≡ 1 }
     requires most { length line.now ≤ 39 }
@@ -139,6 +143,7 @@ fn number_of<B: Board>(taken: Squares<B>) -> u64
 ///
 /// In this order: too long; no hexadecimal text; no byte; no version; another board; a wrong number of moves or of
 /// bytes; and move by move a start or an end that is no square, and then a taken square that is none.
+/// Example: `read_token::<Eight>(b"020a0120170000000008000000")` is `Err(TokenFault::Board)`.
 pub fn read_token<B: Board>(text: &[u8]) -> Result<ArrayVec<Move<B>, MAX_MOVES>, TokenFault>
     ensures token { (line : List AnyMove) → tokens.IsToken B.geometry text.now line ↔
         MatchResult result (λ read. read.items ≡ line) (λ _. ⊥) }

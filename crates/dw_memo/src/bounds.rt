@@ -3,6 +3,7 @@ ghost use Rattle.std.specs.Prelude.{◌≡◌, is_some};
 ghost use Rattle.dw_memo.specs.Bounding as of;
 
 /// In how many moves of its own the side to move can't force a win, and in how many it can. `None` says nothing.
+/// Example: `Bounds { fails: Some(1), wins: Some(3) }` tells of no win in 1 move and of one in 3, and nothing of 2.
 #[derive(Clone, Copy, Debug, Default, PartialEq, Eq)]
 pub struct Bounds {
     /// There is no win in so many moves, nor in fewer.
@@ -13,6 +14,7 @@ pub struct Bounds {
 
 impl Bounds {
     /// Whether there is a win in so many moves, or `None` where the bounds don't say.
+    /// Example: where `fails` is `Some(1)` and `wins` is `Some(3)`, it is `None` at 2, and `Some(true)` at 3 and at 4.
     pub fn decide(self, moves: u8) -> Option<bool>
         ensures value { result ≡ of.decided self moves }
         ensures decides { is_some result ≡ of.decides self moves }
@@ -27,6 +29,7 @@ impl Bounds {
     }
 
     /// These bounds, and that there is a win in so many moves. A win in fewer moves stays.
+    /// Example: `Bounds::default().with_win(2).with_win(5).wins` is `Some(2)`.
     pub fn with_win(self, moves: u8) -> Self
         ensures { result ≡ of.with_win self moves }
     {
@@ -41,6 +44,7 @@ impl Bounds {
     }
 
     /// These bounds, and that there is no win in so many moves. None in more moves stays.
+    /// Example: `Bounds::default().with_fail(2).with_fail(1).fails` is `Some(2)`.
     pub fn with_fail(self, moves: u8) -> Self
         ensures { result ≡ of.with_fail self moves }
     {

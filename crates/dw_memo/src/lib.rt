@@ -2,6 +2,8 @@
 //!
 //! A caller works over the trait `Memo` and uses only its clauses: a cache may lose what was noted, and counts it.
 //! Begin with `Memo` and `Bounds`. `NoMemo`, `LruMemo` and `SlotMemo` are memos.
+//!
+//! An example tells a position by its FEN text, on the board of ten rows if it names no other.
 #![tactic(auto)]
 
 pub mod bounds;

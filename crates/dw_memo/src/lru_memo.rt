@@ -13,6 +13,7 @@ use std::marker::Model;
 use std::num::NonZeroUsize;
 
 /// Holds at most so many positions. One more pushes out that which was looked up or noted longest ago.
+/// Example: with room for two positions, three that are noted one after another leave the second and the third.
 #[derive(Drop)]
 pub struct LruMemo<B: Board> {
     cache: LruCache<Position<B>, Bounds>,
@@ -32,6 +33,7 @@ impl<B: Board> Model for LruMemo<B> {
 
 impl<B: Board> LruMemo<B> {
     /// An empty memo of so many positions, 1 to 4,000,000, or want of memory.
+    /// Example: `LruMemo::<Ten>::new(alloc, 2)` has room for two positions, and holds none yet.
     pub fn new(alloc: Global, capacity: usize) -> Result<Self, AllocError>
         requires some { 1 ≤ capacity }
         requires most { capacity ≤ 4_000_000 }

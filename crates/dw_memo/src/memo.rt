@@ -8,6 +8,7 @@ use dw_board::board::Board;
 use dw_board::position::Position;
 
 /// Whether a note was kept.
+/// Example: a `NoMemo` answers each note with `Noted::NotKept`, and a `SlotMemo` with `Noted::Kept`.
 #[derive(Clone, Copy, Debug, PartialEq, Eq)]
 pub enum Noted {
     Kept,
@@ -17,6 +18,7 @@ pub enum Noted {
 /// A map from positions to bounds that may forget. It counts what it forgets.
 ///
 /// In contracts `content` is the map, `dropped` the count, and `may_answer` tells which answers a note can give.
+/// See [`NoMemo`] for an example.
 pub trait Memo<B: Board> {
     ghost use Rattle.dw_memo.specs.declared.memo.Noted.{Noted};
 
@@ -27,6 +29,7 @@ pub trait Memo<B: Board> {
     ghost may_answer: { Noted → Type 0 };
 
     /// The bounds of a position, the side to move included, or `None` where it is not held.
+    /// Example: in a new memo it is `None` for each position.
     fn look(&mut self, position: &Position<B>) -> Option<Bounds>
         ensures map { IsMap (content self.old) }
         ensures found { IsFound (content self.old) position.now result }
@@ -36,18 +39,21 @@ pub trait Memo<B: Board> {
 
     /// Holds these bounds for a position, in place of those that it had. Entries may be lost by it, the given one too,
     /// and each of them is counted. This is what a memo has to bring; callers have it as `note`.
+    /// See [`Memo::note`] for an example.
     fn put(&mut self, position: &Position<B>, bounds: Bounds) -> Noted
         ensures answer { may_answer result }
         ensures note { IsNote (content self.old) position.now bounds result (content self.new) (dropped self.old)
             (dropped self.new) };
 
     /// How many entries were lost or not kept so far; from `u64::MAX` on it stays the same.
+    /// Example: of a new memo it is 0.
     fn dropped(&self) -> u64
         ensures map { IsMap (content self.now) }
         ensures count { result ≡ dropped self.now };
 
     /// Holds these bounds for a position, in place of those that it had. Entries may be lost by it, the given one too,
     /// and each of them is counted.
+    /// Example: after the answer `Noted::Kept`, to look up the position gives these bounds.
     final fn note(&mut self, position: Position<B>, bounds: Bounds) -> Noted
         ensures answer { may_answer result }
         ensures note { IsNote (content self.old) position bounds result (content self.new) (dropped self.old)

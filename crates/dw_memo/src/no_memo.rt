@@ -9,6 +9,7 @@ use dw_board::position::Position;
 use std::marker::Model;
 
 /// Keeps nothing, and counts what it was given.
+/// Example: after two notes it has dropped 2, and to look up gives `None` as before.
 #[derive(Drop)]
 pub struct NoMemo {
     dropped: u64,
@@ -24,6 +25,7 @@ impl Model for NoMemo {
 
 impl NoMemo {
     /// A memo that was given nothing yet.
+    /// Example: `Memo::<Ten>::dropped(&NoMemo::new())` is 0.
     pub fn new() -> Self
         ensures { result ≡ 0 }
     {

@@ -14,6 +14,7 @@ use std::alloc::{AllocError, Global};
 use std::marker::Model;
 
 /// A table of slots. A position that is noted takes the place of the one that stood in its slot.
+/// Example: of one slot, it holds the position that was noted last, and no other.
 #[derive(Drop)]
 pub struct SlotMemo<B: Board> {
     slots: Vec<Option<(Position<B>, Bounds)>>,
@@ -33,6 +34,7 @@ impl<B: Board> Model for SlotMemo<B> {
 
 impl<B: Board> SlotMemo<B> {
     /// An empty memo of so many slots, 1 to 4,000,000, or want of memory. No memory is taken later.
+    /// Example: `SlotMemo::<Ten>::new(alloc, 1)` has one slot, in which nothing stands yet.
     pub fn new(alloc: Global, slots: usize) -> Result<Self, AllocError>
         requires some { 1 ≤ slots }
         requires most { slots ≤ 4_000_000 }

@@ -21,6 +21,7 @@ use dw_board::squares::Squares;
 /// king captures the one enemy on a diagonal that has only empty squares before it and an empty square behind it,
 /// and lands on any empty square up to the next piece. The capture goes on with the same piece; the square that it
 /// left counts as empty, what it has jumped stays until the end and is not jumped twice.
+/// Example: at `W:WK47:B17,18,24,32,33` it is 4, and at `W:W7:B` it is 0.
 pub fn best<B: Board>(position: &Position<B>) -> u8
     ensures value { IsBest B.geometry position.now result }
     ensures small { result ≤ 20 }
@@ -88,6 +89,7 @@ fn longest<B: Board>(
 }
 
 /// Whether the side to move has a legal move.
+/// Example: at `W:W7:B` it is `true`, and at `W:W:B20` it is `false`.
 pub fn has_move<B: Board>(position: &Position<B>) -> bool
     ensures { IsTrue result ↔ ((m : Move) × Legal B.geometry position.now m) }
 {

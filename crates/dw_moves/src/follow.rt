@@ -16,6 +16,7 @@ use dw_board::square::Square;
 
 /// The legal capture of which these squares, its start first, are a path, be it the least one or another; `None`
 /// where there is none.
+/// Example: at `W:W38:B22,23,32,33` the squares 38, 27, 18, 29, 38 are a capture of all four men, and 38, 27, 18 none.
 pub fn follow<B: Board>(position: &Position<B>, squares: &[Square<B>]) -> Option<Move<B>>
     ensures path { (m : of.Move) → (result ≡ Some m) ↔ IsPathFor B.geometry position.now m squares.now }
     ensures legal { IfSome result (Legal B.geometry position.now) }

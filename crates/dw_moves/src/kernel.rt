@@ -21,6 +21,7 @@ use dw_board::squares::Squares;
 ///
 /// A man can take an adjacent enemy, forward or backward, where the square behind it is empty. A king can take the
 /// one enemy on a diagonal that has only empty squares before it and an empty square behind it.
+/// Example: at `W:W32:B28` it is `true`, and at `W:W27,45:B16` it is `false`.
 pub fn can_capture<B: Board>(position: &Position<B>) -> bool
     ensures { IsTrue result ↔ CanCapture B.geometry position.now }
 {
@@ -46,6 +47,7 @@ pub(crate) fn can_step<B: Board>(position: &Position<B>) -> bool
 /// Whether it is seen at a glance that the other side has a reply to every move: nothing can be taken, and if it were
 /// the other side's turn, pieces of it could go one square to two different squares or more. A quiet move stands in the
 /// way of one.
+/// Example: at `W:W28:B1,2` it is `true`, and at `W:W27,45:B16` it is `false`.
 pub fn is_loose<B: Board>(position: &Position<B>) -> bool
     ensures exact { IsTrue result ↔ IsLoose B.geometry position.now }
     ensures replies { IsTrue result → AlwaysReply B.geometry position.now }
@@ -59,6 +61,7 @@ pub fn is_loose<B: Board>(position: &Position<B>) -> bool
 /// A legal move of one square after which the position is loose, and that position: it is seen at a glance that the
 /// other side has no win in its next move. `None` if something can be taken, or if there is no such move. It lists no
 /// moves.
+/// Example: at `W:W28:B1,2` it is `28-22` or `28-23`, with the position after it; at `W:W32:B28` it is `None`.
 pub fn loose_step<B: Board>(position: &Position<B>) -> Option<(Move<B>, Position<B>)>
     ensures legal { IfSome result (λ found. Legal B.geometry position.now found.0) }
     ensures some { IfSome result (λ found. IsLooseStep B.geometry position.now found.0) }
@@ -84,6 +87,7 @@ pub fn loose_step<B: Board>(position: &Position<B>) -> Option<(Move<B>, Position
 
 /// The squares to which a piece of the other side could go one square, if it were its turn: a man forward, a king in
 /// any direction.
+/// Example: at `W:W28:B1,2` they are 6, 7 and 8.
 pub fn other_steps<B: Board>(position: &Position<B>) -> Squares<B>
     ensures { (t : ℕ) → In t result ↔ ((s : ℕ) × OneStep B.geometry (passed position.now) s t) }
 {

@@ -11,6 +11,7 @@ use dw_board::position::Position;
 use std::alloc::{AllocError, Global};
 
 /// Whether a move is legal: a quiet one where nothing can be taken, else a capture of the greatest number.
+/// Example: at `W:W32:B28` it is `true` for the capture `32x23`, and `false` for the quiet move `32-27`.
 pub fn is_legal<B: Board>(position: &Position<B>, step: &Move<B>) -> bool
     ensures { IsTrue result ↔ Legal B.geometry position.now step.now }
 {
@@ -25,6 +26,7 @@ pub fn is_legal<B: Board>(position: &Position<B>, step: &Move<B>) -> bool
 }
 
 /// All legal moves of the side to move, each once, in any order; or want of memory.
+/// Example: at `W:WK46:B28` there are 5, each of which takes 28.
 pub fn legal<B: Board>(alloc: Global, position: &Position<B>) -> Result<Vec<Move<B>>, AllocError>
     ensures { IfOk result (λ moves. AreLegal B.geometry position.now moves.items) }
 {
@@ -35,6 +37,7 @@ pub fn legal<B: Board>(alloc: Global, position: &Position<B>) -> Result<Vec<Move
 
 /// Fills a list with all legal moves, each once, in any order. What it held is dropped, and its memory used again, so
 /// a search can keep its lists. After want of memory it is empty.
+/// See [`legal`] for an example.
 pub fn legal_into<B: Board>(
     position: &Position<B>,
     moves: &mut Vec<Move<B>>,

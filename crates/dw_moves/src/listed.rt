@@ -22,6 +22,7 @@ use std::alloc::{AllocError, Global};
 use std::cmp::Ordering;
 
 /// All legal moves in ascending order, each once and with its least path; or want of memory.
+/// Example: at `W:W28:B22,K23` they are `28x17` with the path 28, 17, and then `28x19` with the path 28, 19.
 pub fn listed<B: Board>(alloc: Global, position: &Position<B>) -> Result<Vec<Listed<B>>, AllocError>
     ensures { IfOk result (λ list. AreListed B.geometry position.now list.items) }
 {
@@ -32,6 +33,7 @@ pub fn listed<B: Board>(alloc: Global, position: &Position<B>) -> Result<Vec<Lis
 
 /// Fills a list with all legal moves in ascending order, each once and with its least path. What it held is dropped,
 /// and its memory used again; only captures take other memory besides. After want of memory it is empty.
+/// See [`listed`] for an example.
 pub fn listed_into<B: Board>(
     position: &Position<B>,
     list: &mut Vec<Listed<B>>,

@@ -20,6 +20,7 @@ use std::marker::Model;
 
 /// A move: where it begins and ends, and the squares of the pieces that it takes, all of them in one set. Two ways
 /// to capture the same pieces between the same two squares are one move.
+/// Example: at `W:W32:B28` the capture `32x23` leads from 32 to 23, and `taken` is the set of square 28.
 pub struct Move<B: Board> {
     pub from: Square<B>,
     pub to: Square<B>,
@@ -40,6 +41,7 @@ impl<B: Board> Model for Move<B> {
 
 impl<B: Board> Move<B> {
     /// A move that takes nothing.
+    /// Example: `Move::quiet(from, to).taken.is_empty()` is `true`.
     pub fn quiet(from: Square<B>, to: Square<B>) -> Self
         ensures { result ≡ record { from = from; to = to; taken = set.empty } }
     {
@@ -106,6 +108,7 @@ impl<B: Board> Hash for Move<B> {
 }
 
 /// A move with one of its paths, the start first.
+/// Example: at `W:W38:B22,23,32,33` the capture `38x38` has the path 38, 27, 18, 29, 38.
 #[derive(Drop)]
 pub struct Listed<B: Board> {
     pub step: Move<B>,

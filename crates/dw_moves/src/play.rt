@@ -13,6 +13,7 @@ use dw_board::square::Square;
 /// The position after a legal move. The piece leaves its square, all that it took leaves the board at once, and it
 /// stands on its last square: as a king, if it was a man and that is its last row. A man that passes its last row
 /// during a capture and ends elsewhere stays a man.
+/// Example: `7-1` leads from `W:W7:B` to `B:WK1:B`.
 pub fn play<B: Board>(position: &Position<B>, step: &Move<B>) -> Position<B>
     requires { Legal B.geometry position.now step.now }
     ensures { result ≡ of.play B.geometry position.now step.now }
@@ -62,6 +63,7 @@ fn on_last_row<B: Board>(square: Square<B>, side: Side) -> bool
 }
 
 /// The other player.
+/// Example: `other(Side::White)` is `Side::Black`.
 pub fn other(side: Side) -> Side
     ensures { result ≡ of.other side }
 {

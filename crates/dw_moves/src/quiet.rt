@@ -18,6 +18,7 @@ use std::alloc::AllocError;
 
 /// The number of quiet moves of the side to move, whether or not it must capture. A man moves one square diagonally
 /// forward to an empty square, White up and Black down; a king any number of empty squares along a diagonal.
+/// Example: at `W:WK46:B28` it is 3, though White has to capture.
 pub fn quiet_count<B: Board>(position: &Position<B>) -> u32
     ensures { IsQuietCount B.geometry position.now result }
 {

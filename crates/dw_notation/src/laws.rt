@@ -9,35 +9,41 @@ use dw_moves::laws::{legal_moves_take, moves_have_keys, moves_in_order, one_best
 
 /// A row of tags, whole or unclosed, is one problem, which says what its tags say, and the byte that ends it
 /// is outside. At the end of the text it needs no byte behind it.
+/// Example: `[FEN "W:W32:B28"]*[FEN "W:W27:B28"]` is two problems, and `*` is outside.
 pub fn sections_are_found()
     ensures found { SectionsAreFound }
     ensures last { LastSectionIsFound }
 {}
 
 /// A comment up to its first closing brace says nothing, and one that the text's end leaves open is a fault.
+/// Example: `{ { }` says nothing, and `{x` at the end of a text is refused as `unclosed comment`.
 pub fn comments_say_nothing()
     ensures closed { CommentsSayNothing }
     ensures open { OpenCommentIsFound }
 {}
 
 /// Movetext and whatever else stands outside says nothing.
+/// Example: `1. 32-28 *` has no problem.
 pub fn others_say_nothing()
     ensures { OthersSayNothing }
 {}
 
 /// Each text of tags is one row of comments, sections and other bytes, and says what these say, in order.
+/// Example: `{x}*[FEN "W:W32:B28"]` is a comment, another byte and a section, and has the problem of the section.
 pub fn texts_are_rows()
     ensures { TextsAreRows }
 {}
 
 /// While more bytes may come, a comment that is still open has given nothing, nor has a section that more tags may
 /// follow.
+/// Example: `[FEN "W:W32:B28"]` gives nothing as long as more tags may follow.
 pub fn unfinished_give_nothing()
     ensures comment { OpenCommentGivesNothing }
     ensures section { OpenSectionGivesNothing }
 {}
 
 /// Each legal move of a position has a text, and only one; different moves have different texts.
+/// Example: at `W:W27,45:B16` they are `27-21`, `27-22` and `45-40`.
 pub fn moves_have_texts()
     ensures { MovesHaveTexts }
 {
@@ -49,6 +55,7 @@ pub fn moves_have_texts()
 }
 
 /// Moves that can be played one after another have a text as a line, and only one.
+/// Example: at `W:W27,45:B16` the text of one is `1. 45-40 16-21 2. 27x16`.
 pub fn lines_have_texts()
     ensures { LinesHaveTexts }
 {
@@ -56,12 +63,14 @@ pub fn lines_have_texts()
 }
 
 /// The text of a move names one thing at most, and so it is read in one way, where memory is not refused.
+/// Example: at `W:W32:B28` the text `32x23` names the capture of the man on 28, and nothing else.
 pub fn texts_have_one_answer()
     ensures named { NamesOneThing }
     ensures answer { HasOneAnswer }
 {}
 
 /// The written text of a legal move is read as that move, where memory is not refused.
+/// Example: at `W:W32:B28` the text `32x23` is written of one move, and is read as that move.
 pub fn written_moves_are_read()
     ensures named { WrittenMoveIsNamed }
     ensures read { WrittenMoveIsRead }

@@ -5,6 +5,8 @@
 //!
 //! Begin with `Problems`, which reads the problems of a `Source`, and with `move_text::move_text`,
 //! `line_text::line_text` and `read_move::read_move`.
+//!
+//! An example tells a position by its FEN text, on the board of ten rows if it names no other.
 #![tactic(auto)]
 
 pub mod laws;

@@ -16,9 +16,11 @@ use itoa::Buffer;
 use std::alloc::{AllocError, Global};
 
 /// The bytes that suffice for the text of each line.
+/// Example: `1. 45-40 16-21 2. 27x16` takes 23 of them.
 pub const LINE_ROOM: usize = 2560;
 
 /// A move of a line: the position after it, and how long the text is up to its end.
+/// Example: of `1. 45-40 16-21 2. 27x16` the first ply is `45-40`, at whose end the text has 8 bytes.
 #[derive(Drop)]
 pub struct Ply<B: Board> {
     step: Move<B>,
@@ -40,6 +42,7 @@ impl<B: Board> Default for Ply<B> {
 }
 
 /// The text of a line, which goes on move by move, and back.
+/// See [`LineText::follow`] for an example.
 #[derive(Drop)]
 pub struct LineText<B: Board> {
     start: Position<B>,
@@ -51,6 +54,7 @@ impl<B: Board> LineText<B> {
     ghost use Rattle.dw_notation.specs.LineTexts.{IsTextOf, moves_of, start_of, end_of, len_to};
 
     /// The text of no move.
+    /// Example: `LineText::new(&position).as_str()` is empty.
     pub fn new(start: &Position<B>) -> Self
         ensures text { IsTextOf B.geometry result }
         ensures start { start_of result ≡ start.now }
@@ -90,6 +94,7 @@ impl<B: Board> LineText<B> {
     }
 
     /// Takes back all moves but so many of the first ones.
+    /// Example: `keep(1)` leaves `1. 45-40` of `1. 45-40 16-21 2. 27x16`.
     pub fn keep(&mut self, moves: usize)
         requires { IsTextOf B.geometry self.old }
         ensures text { IsTextOf B.geometry self.new }
@@ -102,6 +107,7 @@ impl<B: Board> LineText<B> {
     }
 
     /// Goes on with a legal move; or nothing is changed, for want of memory.
+    /// Example: at `W:W27,45:B16` the text after the move `45-40` is `1. 45-40`.
     pub fn push(&mut self, alloc: Global, step: &Move<B>) -> Result<(), AllocError>
         requires text { IsTextOf B.geometry self.old }
         requires few { length (moves_of self.old) < 39 }
@@ -125,6 +131,7 @@ impl<B: Board> LineText<B> {
 
     /// Goes over to another line of at most 39 moves, each legal after those before it, of which so many first ones
     /// are the same; or, for want of memory, to some of them.
+    /// Example: from `1. 32-28 18-22 2. 27x18` to `1. 32-28 18-22 2. 28x17` the first 2 moves are the same.
     pub fn follow(
         &mut self,
         alloc: Global,
@@ -149,6 +156,7 @@ impl<B: Board> LineText<B> {
     }
 
     /// The text.
+    /// Example: at `W:W27,45:B16` it is `1. 45-40 16-21` after the moves `45-40` and `16-21`.
     pub fn as_str(&self) -> &str
         requires { IsTextOf B.geometry self.now }
         ensures text { IsLineText B.geometry (start_of self.now) (moves_of self.now) result.now }
@@ -162,6 +170,7 @@ impl<B: Board> LineText<B> {
 ///
 /// The attacker is the side to move in the position. Its moves are numbered, whichever colour it has, and all is joined
 /// by blanks: `1. 45-40 16-21 2. 27x16`. The text of no move is empty.
+/// Example: at `W:W27,45:B16` that of `45-40`, `16-21` and `27x16` is `1. 45-40 16-21 2. 27x16`.
 pub fn line_text<B: Board>(
     alloc: Global,
     position: &Position<B>,

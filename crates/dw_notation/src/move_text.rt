@@ -15,12 +15,14 @@ use itoa::Buffer;
 use std::alloc::{AllocError, Global};
 
 /// The bytes that suffice for each move's text; it has at most 62.
+/// Example: `47x36x27x18x9x20` takes 16 of them.
 pub const MOVE_ROOM: usize = 64;
 
 /// The text of the move at a place, from 0 on, in the list of all legal moves of a position.
 ///
 /// A quiet move is written `32-28`. A capture is written `32x23`, unless another legal move has the same start and end:
 /// then each of these is written with all squares of its path, as `47x36x27x18x9x20`.
+/// Example: at `W:W27,45:B16` it is `27-21` at place 0, and `45-40` at place 2.
 pub fn move_text<B: Board>(list: &[Listed<B>], place: usize) -> ArrayString<MOVE_ROOM>
     requires { place < length list.now }
     ensures text { HoldsAt (λ item. result.bytes ≡ text_among list.now item) list.now place }
@@ -38,6 +40,7 @@ pub fn move_text<B: Board>(list: &[Listed<B>], place: usize) -> ArrayString<MOVE
 }
 
 /// The text of a legal move of a position, or want of memory.
+/// Example: at `W:W32:B28` that of the capture of 28 is `32x23`.
 pub fn text_in<B: Board>(
     alloc: Global,
     position: &Position<B>,

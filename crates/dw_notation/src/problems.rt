@@ -14,15 +14,19 @@ pub use reader::Problems;
 use thiserror::Error;
 
 /// The most problems of one text. Where there are more, the next is `TooManyProblems`, and it is the last.
+/// Example: of 2,000,000 lines the problem of number 1,000,001 is refused as `too many problems`.
 pub const MAX_PROBLEMS: u32 = 1_000_000;
 
 /// The most bytes of a line, without the carriage return at its end.
+/// Example: a line of 4,097 bytes is refused as `line too long`.
 pub const MAX_LINE: usize = 4096;
 
 /// The most bytes of a section, from its first bracket to the end of its last tag.
+/// Example: a section of 65,537 bytes is refused as `section too long`.
 pub const MAX_SECTION: usize = 65536;
 
 /// How a text holds its problems.
+/// Example: the line `W:W32:B28` is a problem by `Form::Fens`, and the section `[FEN "W:W32:B28"]` by `Form::Pdn`.
 #[derive(Clone, Copy, Debug, PartialEq, Eq)]
 pub enum Form {
     /// One FEN text a line. Lines of blanks alone are passed over.
@@ -43,6 +47,7 @@ pub enum Form {
 }
 
 /// Why a problem was refused. Its number is that of the variant, from 1 on.
+/// Example: `ProblemFault::LineTooLong`, whose number is 5, is written `line too long`.
 #[derive(Clone, Copy, Debug, PartialEq, Eq, Error)]
 pub enum ProblemFault {
     #[error("fen: {0}")]
@@ -66,6 +71,7 @@ pub enum ProblemFault {
 }
 
 /// A problem of a text: its number, from 1 on, and its position, or why it was refused.
+/// Example: of the text `x` the problem 1 was refused, with the fault `fen: turn at 1`.
 #[derive(Clone, Copy)]
 pub struct Problem<B: Board> {
     pub number: u32,
@@ -73,6 +79,7 @@ pub struct Problem<B: Board> {
 }
 
 /// Why a problem could not be read. It says nothing of the text.
+/// Example: `ReadFault::Failed` is written `the source failed`.
 #[derive(Clone, Copy, Debug, PartialEq, Eq, Error)]
 pub enum ReadFault {
     #[error("the source failed")]

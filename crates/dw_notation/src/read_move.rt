@@ -22,6 +22,7 @@ use thiserror::Error;
 const MAX_SQUARES: usize = 21;
 
 /// Why no move was read from a text. Its number is that of the variant, from 1 on.
+/// Example: at `W:W32:B28` the text `32-23` gives `MoveFault::NoSuchMove`, and `32x` gives `MoveFault::Syntax`.
 #[derive(Clone, Copy, Debug, PartialEq, Eq, Error)]
 pub enum MoveFault {
     /// The text names no squares as a move does, or none of this board.
@@ -60,6 +61,7 @@ impl From<AllocError> for MoveFault {
 ///
 /// `Syntax` for any other text; `NoSuchMove` if no legal move fits, and `Ambiguous` if several do; `Memory` if memory
 /// is refused, which only two squares joined by `x` ask for.
+/// Example: at `W:W32:B28` the text `32x23` gives the capture of the man on 28.
 pub fn read_move<B: Board>(
     alloc: Global,
     position: &Position<B>,

@@ -10,6 +10,7 @@ pub use reading::{MAX_READS, Reading};
 pub use writing::Writing;
 
 /// Where bytes come from.
+/// See [`Reading`] for an example.
 pub trait Source {
     /// The bytes still to come, where the source tells them.
     ghost coming: { Self → Option (List ℕ) };
@@ -22,6 +23,7 @@ pub trait Source {
 
     /// Puts the next bytes at the front of the buffer, and answers how many: none only at the end.
     /// `None` is a failure, and each later pull fails too.
+    /// Example: where no byte is left it is `Some(0)`, and after a failure it is `None`.
     fn pull(&mut self, buffer: &mut [u8]) -> Option<usize>
         requires { 0 < length buffer.old }
         ensures bytes { PullTakes (coming self.old) (coming self.new) result buffer.new }
@@ -30,11 +32,13 @@ pub trait Source {
         ensures falls { PullFalls (pulls_left self.old) (pulls_left self.new) result };
 
     /// Whether a pull has failed.
+    /// Example: of a new `Reading` it is `false`.
     fn failed(&self) -> bool
         ensures { result ≡ is_failed self.now };
 }
 
 /// Where bytes go.
+/// See [`Writing`] for an example.
 pub trait Sink {
     /// The bytes taken so far, where the sink tells them.
     ghost taken: { Self → Option (List ℕ) };
@@ -44,12 +48,14 @@ pub trait Sink {
 
     /// Takes bytes from the front of the piece, and answers how many. To take none of a piece that is
     /// not empty is a failure. `None` is one too, and each later give fails with it.
+    /// Example: `Some(2)` for `hello` says that `he` was taken and `llo` was not.
     fn give(&mut self, piece: &[u8]) -> Option<usize>
         ensures bytes { GiveAdds (taken self.old) (taken self.new) result piece.now }
         ensures failed { GiveFails (is_failed self.old) (is_failed self.new) result piece.now }
         ensures again { is_failed self.old ≡ true → IsNone result };
 
     /// Whether a give has failed.
+    /// Example: of a new `Writing` it is `false`.
     fn failed(&self) -> bool
         ensures { result ≡ is_failed self.now };
 }

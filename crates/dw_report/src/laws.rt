@@ -8,6 +8,7 @@ use dw_notation::laws::{lines_have_texts, moves_have_texts};
 use dw_solve::laws::{wins_are_decided, wins_stay};
 
 /// If a line at least is asked for, each byte text has a report, and only one.
+/// Example: the report on a text without a byte is empty.
 pub fn one_report()
     ensures { OneReport }
 {
@@ -23,6 +24,7 @@ pub fn one_report()
 }
 
 /// Each problem has a verdict, and only one.
+/// Example: within 2 moves `W:W27,45:B16` is sound, and neither cooked nor a dual.
 pub fn one_verdict()
     ensures { OneVerdict }
 {
@@ -35,6 +37,7 @@ pub fn one_verdict()
 }
 
 /// Each problem has a list of its tries, and only one.
+/// Example: within 2 moves `W:W27,45:B16` has the tries `27-21` and `27-22`.
 pub fn tries_are_listed()
     ensures { TriesAreListed }
 {

@@ -2,6 +2,8 @@
 //!
 //! Begin with `run::run` and the `Settings` that it is given; `judge::judge` answers the `Verdict` on one position.
 //! The sources, sinks and problems that a run works on are those of `dw_notation`, and stand here under the same names.
+//!
+//! An example tells a position by its FEN text, on the board of ten rows if it names no other.
 #![tactic(auto)]
 
 mod dual;

@@ -10,6 +10,7 @@ pub use dw_solve::stop::Stop;
 use thiserror::Error;
 
 /// What is reported of each problem.
+/// Example: `dw judge` asks for `Command::Judge`.
 #[derive(Clone, Copy, Debug, PartialEq, Eq)]
 pub enum Command {
     /// The position, as a diagram.
@@ -24,6 +25,7 @@ pub enum Command {
 }
 
 /// What a run is asked to do.
+/// See [`Settings::chooses`] for an example.
 #[derive(Drop)]
 pub struct Settings<B: Board> {
     pub command: Command,
@@ -43,6 +45,7 @@ pub struct Settings<B: Board> {
 
 impl<B: Board> Settings<B> {
     /// Whether the problem of this number is reported.
+    /// Example: where `only` is `Some(3)`, it is `true` for 3 alone; where it is `None`, for each number.
     pub fn chooses(&self, number: u32) -> bool
         ensures { result ≡ number_is_chosen self.now.only number }
     {
@@ -53,6 +56,7 @@ impl<B: Board> Settings<B> {
     }
 
     /// Whether the problem of this number is the one that was asked for: reading ends behind it.
+    /// Example: where `only` is `Some(3)`, it is `true` for 3 alone; where it is `None`, for no number.
     pub fn asks_for(&self, number: u32) -> bool
         ensures { result ≡ number_is_asked self.now.only number }
     {
@@ -64,6 +68,7 @@ impl<B: Board> Settings<B> {
 }
 
 /// What a run did.
+/// Example: of three problems that are all reported, one of them as refused, it has 3, 3 and 1.
 #[derive(Clone, Copy, Debug, Default, PartialEq, Eq)]
 pub struct Summary {
     /// Problems read, 0 to 1,000,001.
@@ -75,6 +80,7 @@ pub struct Summary {
 }
 
 /// Why a run ended before its report was whole.
+/// Example: `RunFault::Read` is written `read failed`.
 #[derive(Clone, Copy, Debug, PartialEq, Eq, Error)]
 pub enum RunFault {
     /// It was stopped, after this many positions were expanded.

@@ -17,6 +17,7 @@ use dw_notation::problems::{Problem, ProblemFault};
 use itoa::Buffer;
 
 /// A problem's first line: its number, and its position as it is written or why it is refused.
+/// Example: of problem 1, which is `W:W32:B28`, it is `problem 1: W:W32:B28` and a line end.
 pub fn first_line<B: Board>(problem: &Problem<B>) -> ArrayString<254>
     ensures { result.bytes ≡ line_of B.geometry (numbered problem.now) }
 {
@@ -31,6 +32,7 @@ pub fn first_line<B: Board>(problem: &Problem<B>) -> ArrayString<254>
 }
 
 /// The line of a legal move: its text, and the position after it. The place is that of the move in the list of all.
+/// Example: at `W:W32:B28` it is `32x23 B:W23:B` and a line end for place 0.
 pub fn move_line<B: Board>(
     position: &Position<B>,
     list: &[Listed<B>],
@@ -50,6 +52,7 @@ pub fn move_line<B: Board>(
 }
 
 /// The last line of a list of moves: how many they are, and how many pieces each of them takes.
+/// Example: of 5 moves that take one piece each it is `moves 5 taking 1` and a line end.
 pub fn count_line(moves: usize, taken: u8) -> ArrayString<64>
     ensures { result.bytes ≡ line_of_count moves taken }
 {

@@ -4,6 +4,7 @@ use dw_board::board::Board;
 use dw_moves::moves::Move;
 
 /// Whether the side to move wins within a number of its moves, and how well.
+/// Example: within 2 moves `W:W27,45:B16` has the verdict `Sound`, and its key is `45-40`.
 #[derive(Drop)]
 pub enum Verdict<B: Board> {
     /// It does not.
@@ -30,6 +31,7 @@ pub enum Verdict<B: Board> {
 }
 
 /// A verdict, with the tries.
+/// See [`judge`] for an example.
 #[derive(Drop)]
 pub struct Judged<B: Board> {
     pub verdict: Verdict<B>,

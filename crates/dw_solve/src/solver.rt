@@ -24,6 +24,7 @@ const PLIES: usize = 41;
 
 /// Answers in how many moves a side wins. What it finds out it notes in a cache, and it counts each position that it
 /// expands, that is whose moves it goes through, up to a limit.
+/// See [`Solver::wins`] for an example.
 #[derive(Drop)]
 pub struct Solver<B: Board, M: Memo<B>, G: Guide<B>> {
     search: Search<M, G>,
@@ -45,6 +46,7 @@ impl<B: Board, M: Memo<B>, G: Guide<B>> Model for Solver<B, M, G> {
 impl<B: Board, M: Memo<B>, G: Guide<B>> Solver<B, M, G> {
     /// A solver over a cache, all of whose bounds are right, as those of an empty one are. It may expand as many
     /// positions as the limit says, at least 1.
+    /// Example: `Solver::<Ten, NoMemo, AnyOrder>::new(NoMemo::new(), AnyOrder, 1_000)` may expand 1,000 positions.
     pub fn new(memo: M, guide: G, limit: u64) -> Self
         requires right { AreTrue B.geometry (M.content memo) }
         requires some { 1 ≤ limit }
@@ -62,6 +64,7 @@ impl<B: Board, M: Memo<B>, G: Guide<B>> Solver<B, M, G> {
     }
 
     /// How many positions were expanded so far.
+    /// Example: of a new solver it is 0.
     pub fn expanded(&self) -> u64
         ensures { result ≡ self.now.expanded }
     {
@@ -69,6 +72,7 @@ impl<B: Board, M: Memo<B>, G: Guide<B>> Solver<B, M, G> {
     }
 
     /// How many positions may be expanded in all.
+    /// Example: of `Solver::<Ten, NoMemo, AnyOrder>::new(NoMemo::new(), AnyOrder, 1_000)` it is 1,000.
     pub fn limit(&self) -> u64
         ensures limit { result ≡ self.now.limit }
         ensures within { self.now.expanded ≤ self.now.limit }
@@ -77,6 +81,7 @@ impl<B: Board, M: Memo<B>, G: Guide<B>> Solver<B, M, G> {
     }
 
     /// How many entries the cache has lost so far.
+    /// Example: over a new memo it is 0 at the start.
     pub fn dropped(&self) -> u64
         ensures count { result ≡ M.dropped self.now.memo }
         ensures map { IsMap (M.content self.now.memo) }
@@ -85,6 +90,7 @@ impl<B: Board, M: Memo<B>, G: Guide<B>> Solver<B, M, G> {
     }
 
     /// Changes the limit. It is at least 1, and not below what was expanded.
+    /// Example: after `set_limit(2_000)` `limit` answers 2,000.
     pub fn set_limit(&mut self, limit: u64)
         requires some { 1 ≤ limit }
         requires enough { self.old.expanded ≤ limit }
@@ -96,6 +102,7 @@ impl<B: Board, M: Memo<B>, G: Guide<B>> Solver<B, M, G> {
     /// Whether the side to move wins within so many of its moves, 0 to 20. It is answered without a search, without
     /// memory and without an expansion where the cache decides it or the number is 0. After a stop all bounds in the
     /// cache are right, and it can be asked again.
+    /// Example: at `W:W27,45:B16` it is `Ok(false)` within 1 move, and `Ok(true)` within 2.
     pub fn wins(&mut self, alloc: Global, position: &Position<B>, moves: u8) -> Result<bool, Stop>
         requires { moves ≤ 20 }
         ensures answer { IfOk result (λ yes. IsTrue yes ↔ Win B.geometry position.now moves) }
@@ -123,6 +130,7 @@ impl<B: Board, M: Memo<B>, G: Guide<B>> Solver<B, M, G> {
 
     /// Whether the side to move has lost: whatever it plays, the other wins within so many of its moves, 0 to 20. If
     /// the cache decides each reply, nothing is counted, and the limit is no hindrance. At 0 it takes no memory.
+    /// Example: at `B:W27,40:B16` it is `Ok(false)` within 0 moves, and `Ok(true)` within 1.
     pub fn loses(&mut self, alloc: Global, position: &Position<B>, moves: u8) -> Result<bool, Stop>
         requires { moves ≤ 20 }
         ensures answer { IfOk result (λ yes. IsTrue yes ↔ Lost B.geometry position.now moves) }
@@ -149,6 +157,7 @@ impl<B: Board, M: Memo<B>, G: Guide<B>> Solver<B, M, G> {
     /// The least number of moves, from 1 to the given one, within which the side to move wins, or `None` where it has
     /// no win within that number, which is at most 20. It is answered without memory and without an expansion where the
     /// cache decides each of these numbers.
+    /// Example: at `W:W27,45:B16` it is `Ok(None)` up to 1 move, and `Ok(Some(2))` up to 20.
     pub fn least(
         &mut self,
         alloc: Global,
@@ -183,6 +192,7 @@ impl<B: Board, M: Memo<B>, G: Guide<B>> Solver<B, M, G> {
     }
 
     /// The cache. All its bounds are right.
+    /// Example: what the memo then says it dropped is what `dropped` said before.
     pub fn into_memo(self) -> M
     where
         G: Drop,

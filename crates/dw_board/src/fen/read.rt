@@ -17,9 +17,11 @@ use crate::position::Position;
 use crate::square::Square;
 
 /// The most bytes of a FEN text.
+/// Example: 1,025 blanks are refused as `too long at 1025`.
 pub const MAX_FEN: usize = 1024;
 
 /// Reads a position: exactly where the text is a FEN text of one, and else its earliest fault.
+/// Example: `read_fen::<Ten>(b"W:W31.")` is the position `W:W31:B`; `b"W:W27 32:B16"` has the fault `rest at 7`.
 pub fn read_fen<B: Board>(text: &[u8]) -> Result<Position<B>, FenFault>
     ensures exact { result ≡ fen B.geometry text.now }
     ensures grammar { (p : Placement) → (result ≡ Ok p) ↔ Fen B.geometry text.now p }

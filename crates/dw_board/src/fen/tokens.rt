@@ -11,6 +11,7 @@ use crate::piece::Side;
 use crate::square::Square;
 
 /// A text and the place in it up to which it is read. It never stands at a blank.
+/// Example: `W:W27` has the tokens `W`, `:`, `W` and `27`.
 #[derive(Drop)]
 pub struct Tokens<'a> {
     text: &'a [u8],
@@ -23,6 +24,8 @@ pub struct Tokens<'a> {
 impl<'a> Tokens<'a> {
     ghost use Rattle.dw_board.specs.FenReader.{tokens_of, end_of, place_of, first_is, first_named, left_of, is_empty};
 
+    /// The first token of a text of at most `MAX_FEN` bytes.
+    /// Example: of ` W` it is `W`, at place 2.
     pub fn new(text: &'a [u8]) -> Tokens<'a>
         requires { length text.now ≤ MAX_FEN }
         ensures tokens { tokens_of result ≡ tokens_from 1 text.entry.now }
@@ -35,6 +38,7 @@ impl<'a> Tokens<'a> {
     }
 
     /// The place of the next token, or the one behind the text.
+    /// Example: at the start of ` W` it is 2.
     pub fn place(&self) -> u16
         ensures { result ≡ place_of (tokens_of self.now) (end_of self.now) }
     {
@@ -42,6 +46,7 @@ impl<'a> Tokens<'a> {
     }
 
     /// The fault at the place of the next token.
+    /// Example: at the start of `x` that of `FenFaultKind::Turn` is `turn at 1`.
     pub fn fault(&self, what: FenFaultKind) -> FenFault
         ensures { result ≡ (record { what = what; place = place_of (tokens_of self.now) (end_of self.now) }) }
     {
@@ -51,6 +56,8 @@ impl<'a> Tokens<'a> {
         }
     }
 
+    /// Whether no token is left.
+    /// Example: of a text of blanks it is `true` at the start.
     pub fn is_at_end(&self) -> bool
         ensures { result ≡ is_empty (tokens_of self.now) }
     {
@@ -75,6 +82,7 @@ impl<'a> Tokens<'a> {
     }
 
     /// Whether this sign is the next token.
+    /// Example: at the start of `:B` it is `true` for `b':'`.
     pub fn stands(&self, sign: u8) -> bool
         requires { IsSignByte sign }
         ensures { result ≡ first_is (is_sign sign) (tokens_of self.now) }
@@ -83,6 +91,7 @@ impl<'a> Tokens<'a> {
     }
 
     /// Takes the next token if it is this sign.
+    /// Example: at the start of `:B` it takes `b':'`, and `B` is the next token.
     pub fn take(&mut self, sign: u8) -> bool
         requires { IsSignByte sign }
         ensures taken { result ≡ first_is (is_sign sign) (tokens_of self.old) }
@@ -112,6 +121,7 @@ impl<'a> Tokens<'a> {
     }
 
     /// Takes the next token if it is a K.
+    /// Example: at the start of `k7` it is `true`, and `7` is the next token.
     #[tactic(auto, using(crate::proofs::FenTokenLemmas::first_is_king))]
     pub fn take_king(&mut self) -> bool
         ensures taken { result ≡ first_is is_king_letter (tokens_of self.old) }
@@ -122,6 +132,7 @@ impl<'a> Tokens<'a> {
     }
 
     /// Takes the next token if it names a side.
+    /// Example: at the start of `b:` it is `Some(Side::Black)`.
     pub fn take_side(&mut self) -> Option<Side>
         ensures taken { result ≡ first_named side_named (tokens_of self.old) }
         ensures left { tokens_of self.new ≡ left_of (is_some result) (tokens_of self.old) }
@@ -137,6 +148,7 @@ impl<'a> Tokens<'a> {
     }
 
     /// Takes the next token if it gives the number of a square.
+    /// Example: at the start of `07,31` it is square 7, and of `007` it is `None`.
     pub fn take_square<B: Board>(&mut self) -> Option<Square<B>>
         ensures taken { result ≡ first_named (number_named B.geometry) (tokens_of self.old) }
         ensures left { tokens_of self.new ≡ left_of (is_some result) (tokens_of self.old) }

@@ -233,6 +233,7 @@ impl Cutter {
 
 /// The problems of a source, each cut out of the bytes as they are read. It takes no memory, and of its
 /// input it holds at most 4,096 bytes.
+/// See [`Problems::next`] for an example.
 #[derive(Drop)]
 pub struct Problems<'a, B: Board, S> {
     source: &'a mut S,
@@ -248,6 +249,7 @@ impl<'a, B: Board, S: Source> Problems<'a, B, S> {
     ghost use Rattle.dw_notation.specs.Reading.{lender, source_of, cutter_of};
 
     /// A reader of all problems that the source has still to give.
+    /// See [`Problems::next`] for an example.
     pub fn new(source: &'a mut S, form: Form) -> Problems<'a, B, S>
         requires { S.is_failed source.old ≡ false }
         ensures lender { lender result ≡ source.entry.ghost_name }
@@ -299,6 +301,7 @@ impl<'a, B: Board, S: Source> Problems<'a, B, S> {
 
     /// The next problem, or `None` where the text has no more. `Failed` is the source's fault: no problem
     /// that was read whole is lost by it, and each later call answers `Failed` too.
+    /// Example: of the lines `W:W32:B28` and `x` it gives a position, then a problem that was refused, and then `None`.
     pub fn next(&mut self) -> Result<Option<Problem<B>>, ReadFault>
         ensures lender { lender self.new ≡ lender self.old }
         ensures given { NextGives B.geometry

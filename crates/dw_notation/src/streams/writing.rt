@@ -5,6 +5,7 @@ use super::Sink;
 use std::io;
 
 /// A writer of std as a sink. It makes no write after one that failed or took nothing.
+/// Example: `Writing::new(rt.stdout())` writes to standard output.
 #[derive(Drop)]
 pub struct Writing<W> {
     writer: W,
@@ -15,6 +16,7 @@ impl<W> Writing<W> {
     ghost use Rattle.dw_notation.specs.Endpoints.{written_to, has_write_failed};
 
     /// A sink that writes on to what the writer has taken.
+    /// See [`Writing`] for an example.
     pub fn new(writer: W) -> Writing<W>
         ensures writer { written_to result ≡ writer }
         ensures sound { has_write_failed result ≡ false }
@@ -26,6 +28,7 @@ impl<W> Writing<W> {
     }
 
     /// The writer, with what was written.
+    /// Example: `Writing::new(writer).into_inner()` is the writer again.
     pub fn into_inner(self) -> W
         ensures { result ≡ written_to self }
     {
