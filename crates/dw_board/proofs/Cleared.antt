@@ -56,7 +56,7 @@ all_cells p fifty = ext_get_or None _ _ (length-map-range_with_len (at p) 1 50 �
     let behind : i + 1 - 1 ≡ i = omega arith in
     get_or-map-range_with_len (at p) 1 50 i (i + 1) None few (omega arith) ∙ ap (λ k. get_or p.cells k None) behind)
 
-few_left : (side : Side) (p : Placement) (emptied : Squares) (limit : ℕ) → length p.cells ≡ 50 → count_by (is_of side) p.cells ≤ limit → count_by (is_of side) (without p emptied).cells ≤ limit
+pub few_left : (side : Side) (p : Placement) (emptied : Squares) (limit : ℕ) → length p.cells ≡ 50 → count_by (is_of side) p.cells ≤ limit → count_by (is_of side) (without p emptied).cells ≤ limit
 few_left side p emptied limit fifty fits =
     let a = fewer side p emptied (range_with_len 1 50) in
     let b = ap (count_by (is_of side)) (all_cells p fifty) in

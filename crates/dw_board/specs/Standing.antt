@@ -1,6 +1,6 @@
 -- The squares on which each side's men stand and its kings, as four sets.
-use Rattle.std.proofs.Common.{◌≡◌, ℕ, suc, zero, Bool, true, false, cond, ◌&&◌, ◌++◌, List, Option, Some, None, get_or}
-use Rattle.std.proofs.Common.{map}
+use Rattle.std.proofs.Common.{◌≡◌, ℕ, suc, zero, Bool, true, false, cond, ◌&&◌, List, Option, Some, None, get_or, map}
+use Rattle.std.specs.Prelude.{◌+◌, ◌*◌, ◌%◌, ◌^◌}
 use Rattle.std.specs.FinSet as set
 use Rattle.std.specs.Hash as fed
 use Rattle.std.specs.List.{range_with_len}
@@ -64,12 +64,22 @@ cells_of sets = map (held_at sets) (range_with_len 1 50)
 abbrev pub standing_word : Geometry → Placement → Side → Kind → ℕ
 standing_word g p side kind = word_of g (standing p.cells side kind)
 
--- what a position feeds a hash: the side to move, and the four words
+-- a number, and one word more, times an odd factor
+unfoldable pub mixed : ℕ → ℕ → ℕ → ℕ
+mixed number w factor = (number + w * factor % 2 ^ 64) % 2 ^ 64
+
+-- the side to move and the four words, each times a factor of its own
+unfoldable pub mixed_word : Geometry → Placement → ℕ
+mixed_word g p =
+    let turn = mixed 0 (side_code p.turn) 16646288086500911323 in
+    let men = mixed turn (standing_word g p White Man) 11400714819323198485 in
+    let white = mixed men (standing_word g p White King) 15485907386658061715 in
+    let others = mixed white (standing_word g p Black Man) 14029467366897019727 in
+    mixed others (standing_word g p Black King) 11562461410679940143
+
+-- what a position feeds a hash
 abbrev pub position_bytes : Geometry → Placement → List (List ℕ)
-position_bytes g p =
-    fed.u8 (side_code p.turn)
-    ++ fed.u64 (standing_word g p White Man) ++ fed.u64 (standing_word g p White King)
-    ++ fed.u64 (standing_word g p Black Man) ++ fed.u64 (standing_word g p Black King)
+position_bytes g p = fed.u64 (mixed_word g p)
 
 -- the cells are a position's, and each set is that of the squares where its pieces stand
 pub record IsKept (g : Geometry) (cells : List (Option Piece)) (sets : Side → Kind → Squares) : Type 0 where

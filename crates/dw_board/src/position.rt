@@ -8,7 +8,8 @@ ghost use Rattle.std.specs.FinSet as set;
 ghost use Rattle.dw_board.specs.Placement.{side_code, cell_codes};
 ghost use Rattle.std.specs.Prelude.{◌==◌, slice_index_or};
 ghost use Rattle.std.proofs.Common.{rules};
-ghost use Rattle.dw_board.specs.Standing.{position_bytes};
+ghost use Rattle.dw_board.specs.Standing.{position_bytes, mixed_word};
+ghost use Rattle.dw_board.specs.Standing as standing;
 ghost use Rattle.dw_board.specs.PlacementLaws.{same-is};
 ghost use Rattle.std.specs.Cmp.{partial_order_from_own_ties};
 ghost use Rattle.std.specs.Cmp.Rules.{comparing};
@@ -124,6 +125,44 @@ impl<B: Board> Position<B> {
         self.held = self.held.minus(squares);
     }
 
+    /// The position after what stands on one square has gone to another, and what stands on these squares has left the
+    /// board. A man that comes to its last row becomes a king. What stood on the other square is gone.
+    #[inline]
+    pub fn carried(&self, from: Square<B>, to: Square<B>, taken: Squares<B>) -> Self
+        ensures { result ≡ of.carried B.geometry self.now from to taken }
+    {
+        from.is_on_board();
+        to.is_on_board();
+        let left = self.held.minus(taken.with(from)).without(to);
+        let held = match self.held.at(from) {
+            Some(piece) => left.with(to, crowned(to, piece)),
+            None => left,
+        };
+        Position {
+            held,
+            turn: self.turn,
+        }
+    }
+
+    /// A number of the side to move and of where the pieces of each side and kind stand, for hashes: each word times a
+    /// factor of its own.
+    #[inline]
+    pub fn mixed_word(&self) -> u64
+        ensures { result ≡ mixed_word B.geometry self.now }
+    {
+        let held = &self.held;
+        let turn = u64::from(side_number(self.turn));
+        let turned = mixed(0, turn, 0xE703_7ED1_A0B4_28DB);
+        let white_men = held.of(Side::White, Kind::Man).word();
+        let men = mixed(turned, white_men, 0x9E37_79B9_7F4A_7C15);
+        let white_kings = held.of(Side::White, Kind::King).word();
+        let white = mixed(men, white_kings, 0xD6E8_FEB8_6659_FD93);
+        let black_men = held.of(Side::Black, Kind::Man).word();
+        let others = mixed(white, black_men, 0xC2B2_AE3D_27D4_EB4F);
+        let black_kings = held.of(Side::Black, Kind::King).word();
+        mixed(others, black_kings, 0xA076_1D64_78BD_642F)
+    }
+
     /// What stands on a square.
     /// Example: in `W:W32:B28` a white man stands on square 32, and on square 31 it is `None`.
     #[inline]
@@ -203,12 +242,29 @@ fn is_stuck<B: Board>(square: Square<B>, piece: Piece) -> bool
     matches!(piece.kind, Kind::Man) && on_last_row(square, piece.side)
 }
 
+#[inline]
 fn on_last_row<B: Board>(square: Square<B>, side: Side) -> bool
     ensures { result ≡ of.on_last_row B.geometry side square }
 {
     match side {
         Side::White => square.number() <= B::PER_ROW,
         Side::Black => B::ROWS * B::PER_ROW < square.number() + B::PER_ROW,
+    }
+}
+
+/// The piece as it ends a move on this square.
+#[inline]
+fn crowned<B: Board>(to: Square<B>, piece: Piece) -> Piece
+    ensures { result ≡ of.crowned B.geometry to piece }
+{
+    let kind = if on_last_row(to, piece.side) {
+        Kind::King
+    } else {
+        piece.kind
+    };
+    Piece {
+        side: piece.side,
+        kind,
     }
 }
 
@@ -236,6 +292,14 @@ fn side_number(side: Side) -> u8
         Side::White => 0,
         Side::Black => 1,
     }
+}
+
+/// A number, and one word more.
+#[inline]
+fn mixed(number: u64, word: u64, factor: u64) -> u64
+    ensures { result ≡ standing.mixed number word factor }
+{
+    number.wrapping_add(word.wrapping_mul(factor))
 }
 
 /// What stands on the square behind so many others, and nothing past the board.
@@ -311,10 +375,6 @@ impl<B: Board> Hash for Position<B> {
 
     #[inline]
     fn hash<H: Hasher>(&self, state: &mut H) {
-        state.write_u8(side_number(self.turn));
-        self.held.of(Side::White, Kind::Man).hash(state);
-        self.held.of(Side::White, Kind::King).hash(state);
-        self.held.of(Side::Black, Kind::Man).hash(state);
-        self.held.of(Side::Black, Kind::King).hash(state);
+        state.write_u64(self.mixed_word());
     }
 }

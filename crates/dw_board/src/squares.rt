@@ -194,8 +194,10 @@ impl<B: Board> Squares<B> {
 
     /// The padded word: the bit `s - 1 + (s - 1) / ROWS` for each square s of the set, and no other.
     /// Example: on ten rows the word of {11} is `1 << 11`.
+    #[tactic(auto, using(crate::proofs::Sets::word_behind))]
     #[inline]
     pub fn word(self) -> u64
+        ensures value { result ≡ word_of B.geometry self }
         ensures members { (s : ℕ) → IsTrue (set.contains self s)
             ↔ (Geo.OnBoard B.geometry s × IsTrue (is_set result (Geo.bit B.geometry s))) }
         ensures only { OnlySquares B.geometry result }

@@ -2,4 +2,3 @@ pub mod EntryLemmas
 pub mod NoteLemmas
 pub mod RecentLemmas
 pub mod SlotLemmas
-pub mod WordLemmas

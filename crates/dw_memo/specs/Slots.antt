@@ -1,13 +1,11 @@
 -- A table in which each position has one slot.
-use Rattle.std.specs.Prelude.{◌≡◌, ℕ, ◌*◌, ◌/◌, ◌%◌, ◌^◌, ◌≤◌, List, [], ◌∷◌, length, slice_get, Option, Some, None}
-use Rattle.std.specs.Prelude.{◌+◌, not, cond}
+use Rattle.std.specs.Prelude.{◌≡◌, ℕ, ◌*◌, ◌/◌, ◌^◌, ◌≤◌, List, [], ◌∷◌, length, slice_get, Option, Some, None}
+use Rattle.std.specs.Prelude.{not, cond}
 use Rattle.std.specs.Int.{from_bool}
 use Rattle.dw_board.specs.PlacementLaws.{same}
-use Rattle.dw_board.specs.declared.piece.Side.TheVariants.{White, Black}
-use Rattle.dw_board.specs.declared.piece.Kind.TheVariants.{Man, King}
 use Rattle.dw_board.specs.Geometry.{Geometry}
-use Rattle.dw_board.specs.Standing.{standing_word}
-use Rattle.dw_board.specs.Placement.{Placement, side_code}
+use Rattle.dw_board.specs.Standing.{mixed_word}
+use Rattle.dw_board.specs.Placement.{Placement}
 use Rattle.dw_memo.specs.declared.bounds.Bounds.{Bounds}
 use Rattle.dw_memo.specs.Content.{entry, Content}
 
@@ -31,22 +29,9 @@ abbrev pub lost : Option (Placement × Bounds) → Placement → ℕ
 lost None p = 0
 lost (Some e) p = from_bool (not (same e.0 p))
 
--- a hash, and one word more, times an odd factor
-unfoldable pub mixed : ℕ → ℕ → ℕ → ℕ
-mixed hash w factor = (hash + w * factor % 2 ^ 64) % 2 ^ 64
-
--- the side to move and the four words, each times a factor of its own
-unfoldable pub hash_of : Geometry → Placement → ℕ
-hash_of g p =
-    let turn = mixed 0 (side_code p.turn) 16646288086500911323 in
-    let men = mixed turn (standing_word g p White Man) 11400714819323198485 in
-    let white = mixed men (standing_word g p White King) 15485907386658061715 in
-    let others = mixed white (standing_word g p Black Man) 14029467366897019727 in
-    mixed others (standing_word g p Black King) 11562461410679940143
-
--- the slot of a position, among so many: the hash as a part of 2^64, times their number
+-- the slot of a position, among so many: its mixed word as a part of 2^64, times their number
 abbrev pub slot_of : Geometry → Placement → ℕ → ℕ
-slot_of g p n = hash_of g p * n / 2 ^ 64
+slot_of g p n = mixed_word g p * n / 2 ^ 64
 
 -- there is a slot, and each position stands in its own
 pub record IsTable (g : Geometry) (slots : Slots) : Type 0 where

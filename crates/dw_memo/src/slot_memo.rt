@@ -1,14 +1,11 @@
 //! A memo of fixed size, in which each position has one slot.
 ghost use Rattle.std.specs.Prelude.{◌≡◌, ◌≤◌, ◌<◌, [], length, IfOk};
-ghost use Rattle.dw_board.specs.Placement.{IsPosition, side_code};
-ghost use Rattle.dw_board.specs.Standing.{standing_word};
 ghost use Rattle.dw_memo.specs.Slots as of;
 ghost use Rattle.dw_memo.specs.declared.memo.Noted.TheVariants.{Kept};
 
 use crate::bounds::Bounds;
 use crate::memo::{Memo, Noted};
 use dw_board::board::Board;
-use dw_board::piece::{Kind, Side};
 use dw_board::position::Position;
 use std::alloc::{AllocError, Global};
 use std::marker::Model;
@@ -95,60 +92,11 @@ fn lost<B: Board>(slot: &Option<(Position<B>, Bounds)>, position: &Position<B>) 
     }
 }
 
-/// The slot of a position, among so many: the hash as a part of 2^64, times their number. So no division is needed.
+/// The slot of a position, among so many: its mixed word as a part of 2^64, times their number. So no division is needed.
 fn slot_of<B: Board>(position: &Position<B>, slots: usize) -> usize
     requires { 1 ≤ slots }
     ensures slot { result ≡ of.slot_of B.geometry position.now slots }
     ensures within { result < slots }
 {
-    ((u128::from(hash_of(position)) * slots as u128) >> 64) as usize
-}
-
-/// A hash of the side to move and of the squares where each kind of piece stands: each word times a factor of its own.
-fn hash_of<B: Board>(position: &Position<B>) -> u64
-    ensures { result ≡ of.hash_of B.geometry position.now }
-{
-    let turn = mixed(0, side_number(position.turn()), 0xE703_7ED1_A0B4_28DB);
-    let white = mixed(
-        mixed(
-            turn,
-            word(position, Side::White, Kind::Man),
-            0x9E37_79B9_7F4A_7C15,
-        ),
-        word(position, Side::White, Kind::King),
-        0xD6E8_FEB8_6659_FD93,
-    );
-    mixed(
-        mixed(
-            white,
-            word(position, Side::Black, Kind::Man),
-            0xC2B2_AE3D_27D4_EB4F,
-        ),
-        word(position, Side::Black, Kind::King),
-        0xA076_1D64_78BD_642F,
-    )
-}
-
-fn side_number(side: Side) -> u64
-    ensures { result ≡ side_code side }
-{
-    match side {
-        Side::White => 0,
-        Side::Black => 1,
-    }
-}
-
-/// The padded word of the squares on which a side's men or its kings stand.
-fn word<B: Board>(position: &Position<B>, side: Side, kind: Kind) -> u64
-    requires { IsPosition B.geometry position.now.cells }
-    ensures { result ≡ standing_word B.geometry position.now side kind }
-{
-    position.squares(side, kind).word()
-}
-
-/// A hash, and one word more.
-fn mixed(hash: u64, word: u64, factor: u64) -> u64
-    ensures { result ≡ of.mixed hash word factor }
-{
-    hash.wrapping_add(word.wrapping_mul(factor))
+    ((u128::from(position.mixed_word()) * slots as u128) >> 64) as usize
 }

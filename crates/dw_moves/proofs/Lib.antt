@@ -10,6 +10,7 @@ pub mod PlayStays
 pub mod CaptureBound
 pub mod Runs
 pub mod QuietOnce
+pub mod EachSquare
 pub mod Played
 pub mod JumpSteps
 pub mod Longest

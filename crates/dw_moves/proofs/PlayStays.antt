@@ -12,8 +12,8 @@ use Rattle.dw_board.specs.declared.piece.Side.{Side}
 use Rattle.dw_board.specs.declared.piece.Side.TheVariants.{White, Black}
 use Rattle.dw_board.specs.declared.piece.Piece.{Piece}
 use Rattle.dw_board.specs.Geometry.{Geometry, IsBoard, OnBoard, squares}
-use Rattle.dw_board.specs.Placement.{Placement, at, placed, left, without, is_of, is_man, is_stuck, on_last_row}
-use Rattle.dw_moves.specs.Moves.{Member, Move, Jumps, Stands, Legal, LegalAt, crowned, landed, play, last_of}
+use Rattle.dw_board.specs.Placement.{Placement, at, placed, left, without, is_of, is_man, is_stuck, on_last_row, crowned, landed}
+use Rattle.dw_moves.specs.Moves.{Member, Move, Jumps, Stands, Legal, LegalAt, play, last_of}
 use Rattle.dw_moves.specs.Laws.{PlayStays}
 use Rattle.dw_moves.specs.MemberLaws.{mem_at}
 use Rattle.dw_moves.proofs.Rays.{ray_of_on, landing_on_ray}

@@ -1,6 +1,5 @@
 -- Moves: what a position allows, and what a move leaves.
-use Rattle.std.specs.Prelude.{◌≡◌, ℕ, ◌≤◌, ◌<◌, ◌⊎◌, ◌↔◌, true, false, Option, Some, None, List, [], ◌∷◌, ◌++◌, length}
-use Rattle.std.specs.Prelude.{cond, refl}
+use Rattle.std.specs.Prelude.{◌≡◌, ℕ, ◌≤◌, ◌<◌, ◌⊎◌, ◌↔◌, true, false, Some, None, List, [], ◌∷◌, ◌++◌, length, refl}
 use Rattle.std.specs.Coded.{Coded, code_by, coded×, coded_ℕ}
 use Rattle.std.proofs.Common.{zero, suc}
 use Rattle.std.specs.FinSet as set
@@ -8,10 +7,10 @@ use Rattle.dw_board.specs.declared.board.Dir.{Dir}
 use Rattle.dw_board.specs.declared.piece.Side.{Side}
 use Rattle.dw_board.specs.declared.piece.Side.TheVariants.{White, Black}
 use Rattle.dw_board.specs.declared.piece.Kind.{Kind}
-use Rattle.dw_board.specs.declared.piece.Kind.TheVariants.{Man, King}
+use Rattle.dw_board.specs.declared.piece.Kind.TheVariants.{Man}
 use Rattle.dw_board.specs.declared.piece.Piece.{Piece}
 use Rattle.dw_board.specs.Geometry.{Geometry, step, OnBoard, is_down}
-use Rattle.dw_board.specs.Placement.{Placement, at, placed, on_last_row, without}
+use Rattle.dw_board.specs.Placement.{Placement, at, placed, carried}
 use Rattle.dw_board.specs.SquareSet.{Squares}
 
 -- x is an element of a list
@@ -152,20 +151,10 @@ pub record AreLegal (g : Geometry) (p : Placement) (moves : List Move) : Type 0 
   pub exactly : (m : Move) → Member m moves ↔ Legal g p m
   pub once : NoRepeat moves
 
--- a man that ends its move on its last row becomes a king
-abbrev pub crowned : Geometry → ℕ → Piece → Piece
-crowned g to piece = record { side = piece.side; kind = cond (on_last_row g piece.side to) King piece.kind }
-
--- what stands on the last square of a move
-abbrev pub landed : Geometry → ℕ → Option Piece → Option Piece
-landed g to None = None
-landed g to (Some piece) = Some (crowned g to piece)
-
 -- the position after a move: the origin and the squares of what was taken are emptied, the piece stands on the last
 -- square, and it is the other player's turn
 abbrev pub play : Geometry → Placement → Move → Placement
-play g p m =
-    record (placed (without p (set.insert m.taken m.from)) m.to (landed g m.to (at p m.from))) { turn = other p.turn }
+play g p m = record (carried g p m.from m.to m.taken) { turn = other p.turn }
 
 -- the side to move has no legal move
 abbrev pub NoMove : Geometry → Placement → Type 0
