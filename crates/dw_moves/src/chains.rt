@@ -171,6 +171,7 @@ fn walk_towards<B: Board>(
 }
 
 /// Keeps a capture of so many pieces where none that is kept takes more, once, and drops those that take fewer.
+#[inline]
 fn offer<B: Board>(
     step: Move<B>,
     count: u8,
@@ -182,6 +183,21 @@ fn offer<B: Board>(
     if count == 0 || count < most {
         return Ok(most);
     }
+    keep(step, count, most, moves)
+}
+
+/// Keeps a capture that takes at least as many pieces as those that are kept, once, and drops those that take fewer.
+#[inline(never)]
+fn keep<B: Board>(
+    step: Move<B>,
+    count: u8,
+    most: u8,
+    moves: &mut Vec<Move<B>>,
+) -> Result<u8, AllocError>
+    requires some { 1 ≤ count }
+    requires longest { most ≤ count }
+    ensures { IfOk result (λ k. Longest (Is step count) most moves.old.items k moves.new.items) }
+{
     if most < count {
         moves.clear();
     }
