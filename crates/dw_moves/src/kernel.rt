@@ -88,6 +88,7 @@ pub fn loose_step<B: Board>(position: &Position<B>) -> Option<(Move<B>, Position
 /// The squares to which a piece of the other side could go one square, if it were its turn: a man forward, a king in
 /// any direction.
 /// Example: at `W:W28:B1,2` they are 6, 7 and 8.
+#[inline]
 pub fn other_steps<B: Board>(position: &Position<B>) -> Squares<B>
     ensures { (t : ℕ) → In t result ↔ ((s : ℕ) × OneStep B.geometry (passed position.now) s t) }
 {
@@ -127,6 +128,7 @@ struct Field<B: Board> {
 
 impl<B: Board> Field<B> {
     /// The sets of a position.
+    #[inline]
     fn of(position: &Position<B>) -> Self
         ensures { AreSets B.geometry position.now result.men result.kings result.enemies result.occupied }
     {
@@ -134,6 +136,7 @@ impl<B: Board> Field<B> {
     }
 
     /// The sets that it would have, if it were this side's turn.
+    #[inline]
     fn given(position: &Position<B>, side: Side) -> Self
         ensures { AreSets B.geometry (given position.now side) result.men result.kings result.enemies result.occupied }
     {
@@ -149,6 +152,7 @@ impl<B: Board> Field<B> {
     }
 
     /// Whether something can be taken in a direction.
+    #[inline(always)]
     fn takes(&self, direction: Dir) -> bool
         ensures { IsTrue result ↔ Takes B.geometry self.now.men self.now.kings self.now.enemies self.now.occupied
             direction }
@@ -158,6 +162,7 @@ impl<B: Board> Field<B> {
     }
 
     /// The enemies next to a man.
+    #[inline]
     fn met_by_men(&self, direction: Dir) -> Squares<B>
         ensures { (c : ℕ) → In c result ↔ MenMeet B.geometry self.now.men self.now.enemies self.now.occupied
             direction c }
@@ -166,6 +171,7 @@ impl<B: Board> Field<B> {
     }
 
     /// The enemies that a king meets first. All kings go on together, until none has an empty square before it.
+    #[inline(always)]
     fn met_by_kings(&self, direction: Dir) -> Squares<B>
         ensures { (c : ℕ) → In c result ↔ KingsMeet B.geometry self.now.kings self.now.enemies self.now.occupied
             direction c }
@@ -184,6 +190,7 @@ impl<B: Board> Field<B> {
     }
 
     /// The squares from which a man can take in a direction.
+    #[inline]
     fn before_enemy(&self, direction: Dir) -> Squares<B>
         ensures { (s c t : ℕ) → OnBoard B.geometry s → In s self.now.men → step B.geometry s direction ≡ Some c
             → In c self.now.enemies → step B.geometry c direction ≡ Some t → (In t self.now.occupied → ⊥)
@@ -195,6 +202,7 @@ impl<B: Board> Field<B> {
     }
 
     /// Whether a piece of the side to move can go to the next square in a direction.
+    #[inline]
     fn steps(&self, side: Side, direction: Dir) -> bool
         ensures { IsTrue result ↔ Steps B.geometry side self.now.men self.now.kings self.now.occupied direction }
     {
@@ -202,6 +210,7 @@ impl<B: Board> Field<B> {
     }
 
     /// The empty squares to which a piece of the side to move can go one square in a direction.
+    #[inline]
     fn next_free(&self, side: Side, direction: Dir) -> Squares<B>
         ensures { (t : ℕ) → In t result ↔ StepsOn B.geometry side self.now.men self.now.kings self.now.occupied
             direction t }
@@ -245,6 +254,7 @@ impl<B: Board> Field<B> {
 }
 
 /// The direction that leads back.
+#[inline]
 pub(crate) fn opposite(direction: Dir) -> Dir
     ensures { result ≡ back direction }
 {
@@ -257,6 +267,7 @@ pub(crate) fn opposite(direction: Dir) -> Dir
 }
 
 /// Whether a square is in the set.
+#[inline]
 fn any<B: Board>(squares: Squares<B>) -> bool
     ensures { IsTrue result ↔ ((s : ℕ) × In s squares) }
 {
@@ -264,6 +275,7 @@ fn any<B: Board>(squares: Squares<B>) -> bool
 }
 
 /// Whether two squares or more are in the set.
+#[inline]
 fn has_two<B: Board>(squares: Squares<B>) -> bool
     ensures { IsTrue result ↔ HasTwo squares }
 {

@@ -28,6 +28,7 @@ pub fn quiet_count<B: Board>(position: &Position<B>) -> u32
 }
 
 /// The number of quiet moves of men in one direction: each leads to another square.
+#[inline]
 fn men_count<B: Board>(position: &Position<B>, direction: Dir) -> u32
     ensures value { Counts (ManSteps B.geometry position.now direction) result }
     ensures small { result ≤ 50 }
@@ -63,6 +64,7 @@ fn king_count<B: Board>(position: &Position<B>, from: Square<B>) -> u32
 }
 
 /// Whether a piece may go this way where it takes nothing.
+#[inline]
 pub(crate) fn may_go(kind: Kind, side: Side, direction: Dir) -> bool
     ensures { result ≡ plain.may_go kind side direction }
 {
@@ -74,6 +76,7 @@ pub(crate) fn may_go(kind: Kind, side: Side, direction: Dir) -> bool
 }
 
 /// The number of squares that a piece can reach in one direction over empty squares: a man at most one.
+#[inline]
 fn free_run<B: Board>(position: &Position<B>, kind: Kind, from: Square<B>, direction: Dir) -> u32
     requires { OnBoard B.geometry from }
     ensures value { result ≡ length (plain.landings_for kind position.now (ray B.geometry from direction)) }
@@ -92,6 +95,7 @@ fn free_run<B: Board>(position: &Position<B>, kind: Kind, from: Square<B>, direc
 }
 
 /// The next square in a direction, where nothing stands on it.
+#[inline]
 pub(crate) fn free_step<B: Board>(
     position: &Position<B>,
     from: Square<B>,
@@ -150,6 +154,7 @@ fn push_steps<B: Board, T: FromQuiet<B> + Drop>(
 }
 
 /// The squares that men of the side to move reach in one direction, none where it is backward.
+#[inline]
 fn men_reach<B: Board>(position: &Position<B>, direction: Dir) -> Squares<B>
     ensures { (t : ℕ) → In t result ↔ ((s : ℕ) × ManSteps B.geometry position.now direction s t) }
 {
