@@ -7,7 +7,8 @@ use Rattle.std.proofs.lemmas.List.{take-append-drop, length-take-le}
 use Rattle.dw_board.specs.Geometry.{Geometry}
 use Rattle.dw_board.specs.declared.piece.Side.TheVariants.{White, Black}
 use Rattle.dw_board.specs.FenTokens.{Token, tokens_from, with_byte, onto_run, is_blank, is_digit, begins_with_digit, is_sign, side_named, is_king_letter, number_named}
-use Rattle.dw_board.specs.FenBlanks.{begins_with_blank, AreDigits, IsSignByte}
+use Rattle.dw_board.specs.FenBlanks.{begins_with_blank, IsSignByte}
+use Rattle.dw_board.specs.inner.FenBlanks.{AreDigits}
 use Rattle.dw_board.specs.FenReader.{first_is, first_named, behind, place_of, is_empty}
 
 pub tokens_from-blank : (place byte : ℕ) (bytes : List ℕ) → is_blank byte ≡ true → tokens_from place (byte ∷ bytes) ≡ tokens_from (place + 1) bytes

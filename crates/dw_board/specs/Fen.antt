@@ -29,9 +29,6 @@ pub record Listing : Type 0 where
   pub is_second : Bool
   pub placed : Placement
 
-abbrev pub listing : Side → Bool → Placement → Listing
-listing side second p = record { side = side; is_second = second; placed = p }
-
 -- an item as far as it is read: whether K stands before it, its first number, and the place of that
 pub record Item : Type 0 where
   pub is_king : Bool
@@ -145,10 +142,6 @@ at_end g place (AfterLists p) = Ok p
 unfoldable pub read_from : Geometry → ℕ → Stage → List Token → Result Placement FenFault
 read_from g end stage [] = at_end g end stage
 read_from g end stage (t ∷ tokens) = next_stage g stage t >>= λ next. read_from g end next tokens
-
--- what the tokens behind an item that ends with this square say
-abbrev pub read_behind : Geometry → ℕ → Listing → Item → ℕ → List Token → Result Placement FenFault
-read_behind g end list item to tokens = with_item g list item to >>= λ all. read_from g end (AfterItem all) tokens
 
 -- what a text of at most 1,024 bytes says
 unfoldable pub short_fen : Geometry → List ℕ → Result Placement FenFault

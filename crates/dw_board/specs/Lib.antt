@@ -1,13 +1,8 @@
 pub mod Geometry
 pub mod SquareSet
-pub mod GeometryLaws
-pub mod SquareSetLaws
 pub mod Boards
-pub mod BoardLaws
 pub mod Placement
-pub mod PlacementLaws
 pub mod Standing
-pub mod StandingLaws
 pub mod FenTokens
 pub mod FenBlanks
 pub mod FenReader
@@ -15,6 +10,6 @@ pub mod Fen
 pub mod FenGrammar
 pub mod FenText
 pub mod Diagram
-pub mod Drawn
 pub mod Laws
 pub mod FenLaws
+pub mod inner

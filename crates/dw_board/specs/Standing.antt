@@ -44,10 +44,6 @@ set_of h White King = h.white_kings
 set_of h Black Man = h.black_men
 set_of h Black King = h.black_kings
 
--- the set of a side and a kind, once a piece has come to a square
-abbrev pub entered : Side → Kind → Squares → ℕ → Piece → Squares
-entered side kind v s p = cond (is_that side kind (Some p)) (set.insert v s) v
-
 -- what the sets say of a square; none has a square of another's
 abbrev pub held_at : (Side → Kind → Squares) → ℕ → Option Piece
 held_at sets s =

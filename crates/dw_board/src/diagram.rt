@@ -6,7 +6,7 @@ ghost use Rattle.dw_board.specs.Geometry as Geo;
 ghost use Rattle.dw_board.specs.Placement.{Placement};
 ghost use Rattle.dw_board.specs.Diagram as drawn;
 ghost use Rattle.dw_board.specs.Diagram.{diagram_text, row_text};
-ghost use Rattle.dw_board.specs.Drawn.{AreSigns, sign_by};
+ghost use Rattle.dw_board.specs.inner.Drawing.{AreSigns, sign_by};
 
 use crate::board::Board;
 use crate::piece::{Kind, Side};

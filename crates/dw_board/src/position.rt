@@ -10,7 +10,7 @@ ghost use Rattle.std.specs.Prelude.{◌==◌, slice_index_or};
 ghost use Rattle.std.proofs.Common.{rules};
 ghost use Rattle.dw_board.specs.Standing.{position_bytes, mixed_word};
 ghost use Rattle.dw_board.specs.Standing as standing;
-ghost use Rattle.dw_board.specs.PlacementLaws.{same-is};
+ghost use Rattle.dw_board.specs.inner.PlacementLemmas.{same-is};
 ghost use Rattle.std.specs.Cmp.{partial_order_from_own_ties};
 ghost use Rattle.std.specs.Cmp.Rules.{comparing};
 ghost use Rattle.std.specs.Cmp.Lexicographic.{slice_cmp, pointwise};

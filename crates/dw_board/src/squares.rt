@@ -2,6 +2,7 @@
 ghost use Rattle.std.specs.Prelude.{◌≡◌, ◌≤◌, ◌<◌, ◌↔◌, ℕ, Some, IsTrue, IsNone, IfSome};
 ghost use Rattle.std.specs.FinSet as set;
 ghost use Rattle.dw_board.specs.Geometry as Geo;
+ghost use Rattle.dw_board.specs.inner.Shifting.{shifted_word};
 ghost use Rattle.std.specs.Prelude.{◌==◌};
 ghost use Rattle.std.proofs.Common.{rules};
 ghost use Rattle.std.specs.Hash as fed;
@@ -9,7 +10,7 @@ ghost use Rattle.std.specs.Ordering.{on};
 ghost use Rattle.std.specs.Cmp.Rules.{comparing};
 ghost use Rattle.std.specs.Cmp.Lexicographic.{pointwise};
 ghost use Rattle.dw_board.specs.SquareSet.{word_of, is_set, OnlySquares};
-ghost use Rattle.dw_board.specs.SquareSetLaws.{same_members-is};
+ghost use Rattle.dw_board.specs.inner.SquareSetLemmas.{same_members-is};
 
 use crate::board::{Board, Dir};
 use crate::square::Square;
@@ -30,7 +31,7 @@ impl<B: Board> Model for Squares<B> {
     ghost use Rattle.std.specs.Coded.{coded_ℕ};
     ghost use Rattle.std.specs.FinSet as set;
     ghost use Rattle.dw_board.specs.SquareSet.{squares_of, word_of, IsWord};
-    ghost use Rattle.dw_board.specs.SquareSetLaws.{word_of-squares_of};
+    ghost use Rattle.dw_board.specs.inner.SquareSetLemmas.{word_of-squares_of};
 
     ghost Value = { set.FinSet nat_cmp };
 
@@ -194,7 +195,7 @@ impl<B: Board> Squares<B> {
 
     /// The padded word: the bit `s - 1 + (s - 1) / ROWS` for each square s of the set, and no other.
     /// Example: on ten rows the word of {11} is `1 << 11`.
-    #[tactic(auto, using(crate::proofs::Sets::word_behind))]
+    #[tactic(auto, using(crate::proofs::SetLemmas::word_behind))]
     #[inline]
     pub fn word(self) -> u64
         ensures value { result ≡ word_of B.geometry self }
@@ -222,7 +223,7 @@ impl<B: Board> Squares<B> {
 /// The word, each bit moved by as much as a step moves a square's bit.
 #[inline]
 fn shifted_word<B: Board>(word: u64, direction: Dir) -> u64
-    ensures { result ≡ Geo.shifted_word B.geometry direction word }
+    ensures { result ≡ shifted_word B.geometry direction word }
 {
     match direction {
         Dir::UpLeft => word >> (B::PER_ROW + 1),
@@ -254,7 +255,7 @@ impl<B: Board> PartialEq for Squares<B> {
 
     ghost laws = { Prim.search (comparing, rules) depth 9 };
 
-    #[tactic(auto, using(crate::proofs::Sets::same_words))]
+    #[tactic(auto, using(crate::proofs::SetLemmas::same_words))]
     #[inline]
     fn eq(&self, other: &Self) -> bool {
         self.word == other.word
@@ -270,7 +271,7 @@ impl<B: Board> Hash for Squares<B> {
 
     ghost respects_eq = { λ x y h i. fed.u64 (word_of B.geometry ((same_members-is x y).0 h i)) };
 
-    #[tactic(auto, using(crate::proofs::Sets::word_behind))]
+    #[tactic(auto, using(crate::proofs::SetLemmas::word_behind))]
     #[inline]
     fn hash<H: Hasher>(&self, state: &mut H) {
         state.write_u64(self.word);

@@ -8,24 +8,26 @@ use Rattle.std.proofs.lemmas.List.{reverse-reverse, reverse-append, length-rever
 use Rattle.dw_board.specs.Geometry.{Geometry}
 use Rattle.dw_board.specs.Placement.{Placement}
 use Rattle.dw_moves.specs.Moves.{Member, Move, Legal, play}
-use Rattle.dw_moves.specs.MemberLaws.{mem_cases, mem_split, mem_right}
+use Rattle.dw_moves.specs.inner.MemberLemmas.{mem_cases, mem_split, mem_right}
 use Rattle.dw_moves.specs.Order.{Precedes, IsListOf}
 use Rattle.dw_moves.specs.Laws.{MovesHaveKeys, MovesListed}
 use Rattle.dw_solve.specs.Wins.{Win}
 use Rattle.dw_list.specs.Lines.{Line, Before, Lines, After, Begins, IsPlace}
-use Rattle.dw_list.specs.Going.{GoesOn, IsNext, left_after, BeginsAmong, Keeps}
-use Rattle.dw_list.specs.Standing.{Level, Standing, IsAhead, IsBehind, Remains, IsStillAhead, AreBehind, Leads, AreLevels}
-use Rattle.dw_list.specs.Steps.{begun, with_ahead}
+use Rattle.dw_list.specs.Standing.{BeginsAmong, Level, Standing, IsAhead, IsBehind, Remains, IsStillAhead}
+use Rattle.dw_list.specs.inner.Going.{GoesOn, IsNext, left_after, Keeps}
+use Rattle.dw_list.specs.inner.Levels.{AreBehind, Leads, AreLevels}
+use Rattle.dw_list.specs.inner.Steps.{begun, with_ahead}
 use Rattle.dw_list.specs.declared.stack.Trial.{Trial}
-use Rattle.dw_list.specs.Tasks.{IsTrial, IsListed}
-use Rattle.dw_list.specs.Seeking.{SomePassed, IsNotAhead, IsUnlisted, WentOn, GoOnWith, IsAlong}
-use Rattle.dw_list.proofs.StackViews.{standing}
-use Rattle.dw_list.proofs.Ways.{goes_from, next_legal, next_keeps}
-use Rattle.dw_list.specs.ListingLaws.{ascending_parts}
-use Rattle.dw_list.specs.LineOrderLaws.{precedes_asym, before_asym}
-use Rattle.dw_list.proofs.Deciding.{win_line, lost_goes_on}
+use Rattle.dw_list.specs.inner.Tasks.{IsTrial, IsListed}
+use Rattle.dw_list.specs.Seeking.{IsAlong}
+use Rattle.dw_list.specs.inner.Seeking.{SomePassed, IsNotAhead, IsUnlisted, WentOn, GoOnWith}
+use Rattle.dw_list.proofs.StackViewLemmas.{standing}
+use Rattle.dw_list.proofs.WayLemmas.{goes_from, next_legal, next_keeps}
+use Rattle.dw_list.specs.inner.ListLemmas.{ascending_parts}
+use Rattle.dw_list.specs.inner.LineOrderLemmas.{precedes_asym, before_asym}
+use Rattle.dw_list.proofs.DecidingLemmas.{win_line, lost_goes_on}
 use Rattle.dw_list.proofs.StackLemmas.{leads_lost}
-use Rattle.dw_list.proofs.Remaining.{goes_next, leads_line, remains_later}
+use Rattle.dw_list.proofs.RemainingLemmas.{goes_next, leads_line, remains_later}
 
 -- a line along the levels goes on behind them
 pub leads_back : (g : Geometry) (p : Placement) (n : ℕ) (outer : List Level) (line : List Move) (a : Bool) (q : Placement) (k : ℕ) → Leads g p n outer line a q k → (t : List Move) → Line g p n (reverse_aux line t) → GoesOn g a q k t

@@ -3,12 +3,12 @@ use Rattle.std.proofs.Common.{◌≡◌, ℕ, ◌<◌, Some, None, Option, List,
 use Rattle.std.specs.Prelude.{option_map}
 use Rattle.dw_board.specs.Geometry.{Geometry}
 use Rattle.dw_moves.specs.Moves.{Member, Move}
-use Rattle.dw_moves.specs.MemberLaws.{mem_cases}
+use Rattle.dw_moves.specs.inner.MemberLemmas.{mem_cases}
 use Rattle.dw_list.specs.declared.stack.Trial.{Trial}
-use Rattle.dw_list.specs.Tasks.{IsTrial}
+use Rattle.dw_list.specs.inner.Tasks.{IsTrial}
 use Rattle.dw_list.specs.Standing.{Level, Standing}
-use Rattle.dw_list.specs.Steps.{first_ahead, with_ahead, passed_last}
-use Rattle.dw_list.specs.Seeking.{ahead_of, SomePassed, IsNotAhead}
+use Rattle.dw_list.specs.inner.Steps.{first_ahead, with_ahead, passed_last}
+use Rattle.dw_list.specs.inner.Seeking.{ahead_of, SomePassed, IsNotAhead}
 
 abbrev pub count_of : Option (List Move) → ℕ
 count_of None = 0

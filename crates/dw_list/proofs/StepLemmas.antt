@@ -9,21 +9,23 @@ use Rattle.dw_moves.specs.Moves.{Member, Move, Legal, play}
 use Rattle.dw_moves.specs.Order.{Precedes, IsAscending, IsListOf}
 use Rattle.dw_moves.specs.Laws.{MovesHaveKeys}
 use Rattle.dw_list.specs.Lines.{Line, Before}
-use Rattle.dw_list.specs.Going.{GoesOn, left_after, BeginsAmong, Keeps}
-use Rattle.dw_list.specs.Standing.{Level, Standing, IsAhead, IsBehind, Remains, IsStillAhead, AreToCome, AreLevels}
-use Rattle.dw_list.specs.Steps.{begun, first_ahead, passed, passed_last, with_ahead, cost_of_all, cost_of, IsStep, IsGiven}
+use Rattle.dw_list.specs.Standing.{BeginsAmong, Level, Standing, IsAhead, IsBehind, Remains, IsStillAhead, AreToCome}
+use Rattle.dw_list.specs.inner.Going.{GoesOn, left_after, Keeps}
+use Rattle.dw_list.specs.inner.Levels.{AreLevels}
+use Rattle.dw_list.specs.inner.Steps.{begun, first_ahead, passed, passed_last, with_ahead, cost_of_all, cost_of, IsStep, IsGiven}
 use Rattle.dw_list.specs.declared.stack.Trial.{Trial}
-use Rattle.dw_list.specs.Tasks.{IsTrial, IsListed}
+use Rattle.dw_list.specs.inner.Tasks.{IsTrial, IsListed}
 use Rattle.dw_list.specs.declared.walk.Step.{Step}
 use Rattle.dw_list.specs.declared.walk.Step.TheVariants.{Given, On}
-use Rattle.dw_list.specs.Walking.{HasStepped, Gives, SameToCome, GivesFirst, GivesNone}
+use Rattle.dw_list.specs.Walking.{Gives, SameToCome, GivesFirst, GivesNone}
+use Rattle.dw_list.specs.inner.Walking.{HasStepped}
 use Rattle.dw_list.proofs.StackLemmas.{leads_count}
-use Rattle.dw_list.proofs.Gathering.{left_within}
-use Rattle.dw_list.proofs.Ways.{goes_from, next_legal, next_keeps}
-use Rattle.dw_list.specs.ListingLaws.{first_listed, none_listed}
-use Rattle.dw_list.specs.LineOrderLaws.{before_asym}
-use Rattle.dw_list.proofs.StackViews.{standing}
-use Rattle.dw_list.proofs.Remaining.{remains_as, remains_or, remains_here, leads_line, remains_later}
+use Rattle.dw_list.proofs.GatheringLemmas.{left_within}
+use Rattle.dw_list.proofs.WayLemmas.{goes_from, next_legal, next_keeps}
+use Rattle.dw_list.specs.inner.ListLemmas.{first_listed, none_listed}
+use Rattle.dw_list.specs.inner.LineOrderLemmas.{before_asym}
+use Rattle.dw_list.proofs.StackViewLemmas.{standing}
+use Rattle.dw_list.proofs.RemainingLemmas.{remains_as, remains_or, remains_here, leads_line, remains_later}
 
 -- WHAT STEPS COST
 

@@ -1,18 +1,9 @@
 -- What a walk over a stack does.
-use Rattle.std.specs.Prelude.{◌≡◌, ℕ, ◌≤◌, ◌⊎◌, ◌↔◌, Bool, true, false, List, [], ◌∷◌, ◌++◌, length, drop, reverse}
+use Rattle.std.specs.Prelude.{◌≡◌, ℕ, ◌≤◌, ◌↔◌, Bool, true, false, List, [], ◌∷◌, ◌++◌, length, reverse}
 use Rattle.std.specs.Prelude.{take}
 use Rattle.dw_board.specs.Geometry.{Geometry}
 use Rattle.dw_moves.specs.Moves.{Move}
-use Rattle.dw_list.specs.declared.walk.Step.{Step}
-use Rattle.dw_list.specs.declared.walk.Step.TheVariants.{Over, Given, On}
 use Rattle.dw_list.specs.Standing.{Standing, AreToCome}
-use Rattle.dw_list.specs.Steps.{IsStep, IsGiven}
-
--- what one step does
-abbrev pub HasStepped : Geometry → Step → Standing → Standing → Type 0
-HasStepped g Over old new = (old.levels ≡ []) × (new ≡ old)
-HasStepped g Given old new = IsGiven g old new
-HasStepped g On old new = IsStep g old new
 
 -- these lines were the first of those still to come, and the others still are
 pub record Gives (g : Geometry) (old new : Standing) (given : List (List Move)) : Type 0 where
@@ -43,15 +34,3 @@ GivesNext g false old new = GivesNone g old new
 -- as far as a list of moves goes, and for so many moves at most, it is as the other
 abbrev pub BeginsAs : ℕ → List Move → List Move → Type 0
 BeginsAs kept line given = (j : ℕ) → j ≤ kept → j ≤ length line → take j line ≡ take j given
-
--- The moves of the line at which a stack stands, the last one first: a step adds a move, takes one off, or leaves them.
-abbrev pub IsNear : Step → List Move → List Move → Type 0
-IsNear Over old new = new ≡ old
-IsNear Given old new = new ≡ old
-IsNear On old new = (new ≡ old) ⊎ ((new ≡ drop 1 old) ⊎ ((m : Move) × (new ≡ m ∷ old)))
-
--- of the line from which the stack comes, at most as many moves are kept, and those are still its first ones
-pub record KeepsFirst (old new : Standing) (kept kept' : ℕ) : Type 0 where
-  pub few : kept' ≤ kept
-  pub first : (given : List Move) →
-      BeginsAs kept (reverse old.line) given → BeginsAs kept' (reverse new.line) given

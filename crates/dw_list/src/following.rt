@@ -1,9 +1,9 @@
 //! Going along a given list of moves.
 ghost use Rattle.std.specs.Prelude.{◌≡◌, ◌≤◌, IfOk, IfSome, IfNone, IsTrue};
 ghost use Rattle.dw_list.specs.Asking.{Asked};
-ghost use Rattle.dw_list.specs.Standing.{AreLevels};
-ghost use Rattle.dw_list.specs.Tasks.{IsTrial};
-ghost use Rattle.dw_list.specs.Seeking.{SomePassed, IsNotAhead, IsUnlisted, WentOn, GoOnWith, IsFound};
+ghost use Rattle.dw_list.specs.inner.Levels.{AreLevels};
+ghost use Rattle.dw_list.specs.inner.Tasks.{IsTrial};
+ghost use Rattle.dw_list.specs.inner.Seeking.{SomePassed, IsNotAhead, IsUnlisted, WentOn, GoOnWith, IsFound};
 
 use crate::going::keeps;
 use crate::stack::{Stack, Task, Trial};

@@ -1,6 +1,6 @@
 //! One level of a lister's stack.
 ghost use Rattle.std.specs.Prelude.{◌≡◌, ◌↔◌, IsTrue, IsSome, OnOk, OnErr, None, Some, drop, map, false};
-ghost use Rattle.dw_list.specs.Steps.{begun, first_ahead, passed, IsListing};
+ghost use Rattle.dw_list.specs.inner.Steps.{begun, first_ahead, passed, IsListing};
 
 use dw_board::board::Board;
 use dw_board::piece::Side;
@@ -24,7 +24,8 @@ pub(crate) struct Frame<B: Board> {
 
 impl<B: Board> Model for Frame<B> {
     ghost use Rattle.std.specs.Prelude.{option_map, drop, map};
-    ghost use Rattle.dw_list.specs.Standing.{Level, level_code};
+    ghost use Rattle.dw_list.specs.Standing.{Level};
+    ghost use Rattle.dw_list.specs.inner.StandingCodes.{level_code};
 
     ghost Value = { Level };
 

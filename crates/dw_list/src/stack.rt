@@ -2,8 +2,8 @@
 ghost use Rattle.std.specs.Prelude.{◌≡◌, ◌≤◌, ◌<◌, ◌*◌, ◌-◌, [], ◌∷◌, drop, take, reverse, length, IfOk, OnErr, not};
 ghost use Rattle.std.specs.Prelude.{true};
 ghost use Rattle.dw_moves.specs.Moves.{Legal, play};
-ghost use Rattle.dw_list.specs.Going.{left_after};
-ghost use Rattle.dw_list.specs.Steps.{begun};
+ghost use Rattle.dw_list.specs.inner.Going.{left_after};
+ghost use Rattle.dw_list.specs.inner.Steps.{begun};
 
 use crate::frame::Frame;
 use crate::going::left_behind;
@@ -52,7 +52,9 @@ pub(crate) struct Stack<B: Board> {
 
 impl<B: Board> Model for Stack<B> {
     ghost use Rattle.std.specs.Prelude.{reverse, length, ◌≤◌, ◌*◌};
-    ghost use Rattle.dw_list.specs.Standing.{Standing, standing_code, AreLevels, IsFew};
+    ghost use Rattle.dw_list.specs.Standing.{Standing};
+    ghost use Rattle.dw_list.specs.inner.StandingCodes.{standing_code};
+    ghost use Rattle.dw_list.specs.inner.Levels.{AreLevels, IsFew};
 
     ghost Value = { Standing };
 
@@ -70,10 +72,10 @@ impl<B: Board> Model for Stack<B> {
 }
 
 impl<B: Board> Stack<B> {
-    ghost use Rattle.dw_list.specs.Going.{Keeps};
-    ghost use Rattle.dw_list.specs.Standing.{AreLevels};
-    ghost use Rattle.dw_list.specs.Steps.{begun, passed_last};
-    ghost use Rattle.dw_list.specs.Tasks.{IsTask, IsTrial, IsListed};
+    ghost use Rattle.dw_list.specs.inner.Going.{Keeps};
+    ghost use Rattle.dw_list.specs.inner.Levels.{AreLevels};
+    ghost use Rattle.dw_list.specs.inner.Steps.{begun, passed_last};
+    ghost use Rattle.dw_list.specs.inner.Tasks.{IsTask, IsTrial, IsListed};
 
     /// The stack of all lines of a position within so many moves.
     pub(crate) fn new(position: &Position<B>, moves: u8) -> Self

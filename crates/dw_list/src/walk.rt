@@ -1,7 +1,8 @@
 //! The walk over a stack, from line to line.
 ghost use Rattle.std.specs.Prelude.{◌≡◌, ◌≤◌, length, IfOk, OnOk, OnErr, if◌then◌else◌};
 ghost use Rattle.dw_list.specs.Asking.{Asked};
-ghost use Rattle.dw_list.specs.Walking.{HasStepped, SameToCome, GivesNext, IsNear, KeepsFirst};
+ghost use Rattle.dw_list.specs.Walking.{SameToCome, GivesNext};
+ghost use Rattle.dw_list.specs.inner.Walking.{HasStepped, IsNear, KeepsFirst};
 
 use crate::going::keeps;
 use crate::stack::{Stack, Task};

@@ -5,7 +5,7 @@ use Rattle.std.specs.Map.{lookup, lookup_entry, remove_entry}
 use Rattle.std.specs.Option.{option_map, option_map_or, IsSome}
 use Rattle.lru.specs.LruCache.{LruCache, lru_cache, promoted, put_entries, displaced}
 use Rattle.dw_board.specs.Placement.{Placement}
-use Rattle.dw_board.specs.PlacementLaws.{same, same-is}
+use Rattle.dw_board.specs.inner.PlacementLemmas.{same, same-is}
 use Rattle.dw_memo.specs.declared.bounds.Bounds.{Bounds}
 use Rattle.dw_memo.specs.declared.memo.Noted.TheVariants.{Kept, NotKept}
 use Rattle.dw_memo.specs.Content.{Entry, entry, Member, positions, IsMap, SameEntries, IsFound}

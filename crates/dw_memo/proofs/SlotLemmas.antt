@@ -6,12 +6,13 @@ use Rattle.std.proofs.lemmas.Option.{slice_get_read}
 use Rattle.std.proofs.Math.ListN.{set, length-set, replicate}
 use Rattle.dw_board.specs.Geometry.{Geometry}
 use Rattle.dw_board.specs.Placement.{Placement}
-use Rattle.dw_board.specs.PlacementLaws.{same, same-is}
+use Rattle.dw_board.specs.inner.PlacementLemmas.{same, same-is}
 use Rattle.dw_memo.specs.declared.bounds.Bounds.{Bounds}
 use Rattle.dw_memo.specs.declared.memo.Noted.TheVariants.{Kept}
 use Rattle.dw_memo.specs.Content.{Entry, entry, Member, positions, IsMap, IsFound}
 use Rattle.dw_memo.specs.Noting.{IsPutIn, IsNote}
-use Rattle.dw_memo.specs.Slots.{Slots, held, slot_of, bounds_in, lost, IsTable}
+use Rattle.dw_memo.specs.Slots.{Slots, held, slot_of, IsTable}
+use Rattle.dw_memo.specs.inner.Keeping.{bounds_in, lost}
 use Rattle.dw_memo.proofs.EntryLemmas.{bounds_held}
 use Rattle.dw_memo.proofs.NoteLemmas.{none_missing, one_missing}
 

@@ -37,7 +37,3 @@ with_fail b n = record { fails = at_least b.fails n; wins = b.wins }
 -- the bounds, and that there is a win in n moves
 abbrev pub with_win : Bounds → ℕ → Bounds
 with_win b n = record { fails = b.fails; wins = at_most b.wins n }
-
--- nothing is known
-abbrev pub nothing : Bounds
-nothing = record { fails = None; wins = None }

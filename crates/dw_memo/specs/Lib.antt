@@ -4,3 +4,4 @@ pub mod Noting
 pub mod Holding
 pub mod Recent
 pub mod Slots
+pub mod inner

@@ -1,8 +1,5 @@
 -- A table in which each position has one slot.
 use Rattle.std.specs.Prelude.{◌≡◌, ℕ, ◌*◌, ◌/◌, ◌^◌, ◌≤◌, List, [], ◌∷◌, length, slice_get, Option, Some, None}
-use Rattle.std.specs.Prelude.{not, cond}
-use Rattle.std.specs.Int.{from_bool}
-use Rattle.dw_board.specs.PlacementLaws.{same}
 use Rattle.dw_board.specs.Geometry.{Geometry}
 use Rattle.dw_board.specs.Standing.{mixed_word}
 use Rattle.dw_board.specs.Placement.{Placement}
@@ -18,16 +15,6 @@ abbrev pub held : Slots → Content
 held [] = []
 held (None ∷ slots) = held slots
 held (Some e ∷ slots) = entry e.0 e.1 ∷ held slots
-
--- the bounds of a position, if the slot holds it
-abbrev pub bounds_in : Option (Placement × Bounds) → Placement → Option Bounds
-bounds_in None p = None
-bounds_in (Some e) p = cond (same e.0 p) (Some e.1) None
-
--- how many entries are lost when a position comes into a slot: that of another position
-abbrev pub lost : Option (Placement × Bounds) → Placement → ℕ
-lost None p = 0
-lost (Some e) p = from_bool (not (same e.0 p))
 
 -- the slot of a position, among so many: its mixed word as a part of 2^64, times their number
 abbrev pub slot_of : Geometry → Placement → ℕ → ℕ

@@ -1,6 +1,7 @@
 //! A memo of fixed size, in which each position has one slot.
 ghost use Rattle.std.specs.Prelude.{◌≡◌, ◌≤◌, ◌<◌, [], length, IfOk};
 ghost use Rattle.dw_memo.specs.Slots as of;
+ghost use Rattle.dw_memo.specs.inner.Keeping.{bounds_in, lost};
 ghost use Rattle.dw_memo.specs.declared.memo.Noted.TheVariants.{Kept};
 
 use crate::bounds::Bounds;
@@ -74,7 +75,7 @@ fn bounds_in<B: Board>(
     slot: &Option<(Position<B>, Bounds)>,
     position: &Position<B>,
 ) -> Option<Bounds>
-    ensures { result ≡ of.bounds_in slot.now position.now }
+    ensures { result ≡ bounds_in slot.now position.now }
 {
     match slot {
         Some((held, bounds)) if held == position => Some(*bounds),
@@ -84,7 +85,7 @@ fn bounds_in<B: Board>(
 
 /// How many entries are lost when a position comes into a slot.
 fn lost<B: Board>(slot: &Option<(Position<B>, Bounds)>, position: &Position<B>) -> u64
-    ensures { result ≡ of.lost slot.now position.now }
+    ensures { result ≡ lost slot.now position.now }
 {
     match slot {
         Some((other, _)) => u64::from(other != position),

@@ -1,11 +1,6 @@
 pub mod Moves
-pub mod MemberLaws
-pub mod MoveLaws
 pub mod Order
 pub mod Laws
-pub mod Plain
-pub mod Chains
-pub mod Listing
-pub mod Kernel
 pub mod Replies
 pub mod WorkedPositions
+pub mod inner

@@ -11,7 +11,10 @@ use Rattle.dw_board.specs.declared.piece.Kind.TheVariants.{Man}
 use Rattle.dw_board.specs.declared.piece.Piece.{Piece}
 use Rattle.dw_board.specs.Geometry.{Geometry, step, OnBoard, is_down}
 use Rattle.dw_board.specs.Placement.{Placement, at, placed, carried}
-use Rattle.dw_board.specs.SquareSet.{Squares}
+use Rattle.dw_board.specs.SquareSet.{Squares, word_of}
+use Rattle.std.specs.Prelude.{IsTrue}
+use Rattle.std.specs.Ordering.{on}
+use Rattle.std.specs.Hash as fed
 
 -- x is an element of a list
 abbrev pub Member : {X : Type 0} → X → List X → Type 0
@@ -159,3 +162,11 @@ play g p m = record (carried g p m.from m.to m.taken) { turn = other p.turn }
 -- the side to move has no legal move
 abbrev pub NoMove : Geometry → Placement → Type 0
 NoMove g p = (m : Move) → Legal g p m → ⊥
+
+-- a square is in a set
+abbrev pub In : ℕ → Squares → Type 0
+In s v = IsTrue (set.contains v s)
+
+-- what a move feeds a hasher: its squares, and the word of what it takes
+abbrev pub move_bytes : Geometry → Move → List (List ℕ)
+move_bytes g m = fed.u8 m.from ++ (fed.u8 m.to ++ fed.u64 (word_of g m.taken))

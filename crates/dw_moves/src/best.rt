@@ -3,10 +3,10 @@ ghost use Rattle.std.specs.Prelude.{◌≤◌, ◌↔◌, ◌≡◌, IsTrue};
 ghost use Rattle.dw_board.specs.Geometry.{OnBoard};
 ghost use Rattle.dw_board.specs.Placement.{same_side};
 ghost use Rattle.dw_moves.specs.Moves.{IsBest, Move, Legal};
-ghost use Rattle.dw_moves.specs.Chains.{ChainsFit, IsLongest, IsBestFrom};
+ghost use Rattle.dw_moves.specs.inner.Chains.{ChainsFit, IsLongest, IsBestFrom};
 
+use crate::glance::{can_capture, can_step};
 use crate::jumps::jumps;
-use crate::kernel::{can_capture, can_step};
 use crate::play::other;
 use dw_board::board::Board;
 use dw_board::piece::{Piece, Side};

@@ -1,14 +1,14 @@
 //! Captures: whole chains of jumps, the longest of them kept.
 ghost use Rattle.std.specs.Prelude.{◌≡◌, ◌≤◌, ◌-◌, ◌↔◌, IfOk, IsTrue};
 ghost use Rattle.dw_board.specs.Geometry.{OnBoard};
-ghost use Rattle.dw_moves.specs.Chains.{ChainsFit, Taking, TakingFrom, EndsAs, EndsTowards, Is, Longest, Takes};
-ghost use Rattle.dw_moves.specs.Chains.{IsCapture};
-ghost use Rattle.dw_moves.specs.Kernel.{IsGround};
+ghost use Rattle.dw_moves.specs.inner.Chains.{ChainsFit, Taking, TakingFrom, EndsAs, EndsTowards, Is, Longest, Takes};
+ghost use Rattle.dw_moves.specs.inner.Chains.{IsCapture};
+ghost use Rattle.dw_moves.specs.inner.Glance.{IsGround};
 
 use crate::best::is_own;
+use crate::glance::may_take;
 use crate::ground::Ground;
 use crate::jumps::{first_met, jumps};
-use crate::kernel::may_take;
 use crate::moves::Move;
 use dw_board::board::{Board, Dir};
 use dw_board::piece::{Kind, Piece};

@@ -3,7 +3,7 @@ ghost use Rattle.std.specs.Prelude.{◌≡◌, ◌↔◌, ℕ, Some, IfSome};
 ghost use Rattle.dw_board.specs.Geometry.{OnBoard};
 ghost use Rattle.dw_moves.specs.Moves as of;
 ghost use Rattle.dw_moves.specs.Moves.{Jump, Legal};
-ghost use Rattle.dw_moves.specs.Chains.{LandsOnEach};
+ghost use Rattle.dw_moves.specs.inner.Chains.{LandsOnEach};
 ghost use Rattle.dw_moves.specs.Order.{IsPathFor};
 
 use crate::best::{best, is_own};

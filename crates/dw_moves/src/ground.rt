@@ -1,8 +1,8 @@
 //! What a piece meets on its way, by sets of squares that are taken once for the whole way.
 ghost use Rattle.std.specs.Prelude.{◌≡◌};
 ghost use Rattle.dw_board.specs.Geometry.{OnBoard};
-ghost use Rattle.dw_moves.specs.Kernel.{IsGround};
-ghost use Rattle.dw_moves.specs.Plain as plain;
+ghost use Rattle.dw_moves.specs.inner.Glance.{IsGround};
+ghost use Rattle.dw_moves.specs.inner.Plain as plain;
 
 use crate::play::other;
 use dw_board::board::{Board, Dir};

@@ -2,9 +2,9 @@
 ghost use Rattle.std.specs.Prelude.{◌≡◌, ◌≤◌, ◌+◌, ◌++◌, map, None, IfSome, Ok, length};
 ghost use Rattle.dw_board.specs.Geometry.{OnBoard};
 ghost use Rattle.dw_board.specs.declared.piece.Side as sides;
-ghost use Rattle.dw_moves.specs.Kernel.{IsGround};
+ghost use Rattle.dw_moves.specs.inner.Glance.{IsGround};
 ghost use Rattle.dw_moves.specs.Moves.{ray};
-ghost use Rattle.dw_moves.specs.Plain as plain;
+ghost use Rattle.dw_moves.specs.inner.Plain as plain;
 
 use crate::ground::Ground;
 use arrayvec::ArrayVec;

@@ -8,9 +8,9 @@
 pub mod best;
 mod chains;
 pub mod follow;
+pub mod glance;
 mod ground;
 mod jumps;
-pub mod kernel;
 pub mod laws;
 pub mod legal;
 pub mod listed;
@@ -19,7 +19,7 @@ pub mod play;
 pub mod quiet;
 
 pub use best::has_move;
-pub use kernel::{can_capture, is_loose, loose_step, other_steps};
+pub use glance::{can_capture, is_loose, loose_step, other_steps};
 pub use legal::{is_legal, legal_into};
 pub use listed::listed_into;
 pub use moves::{Listed, Move};

@@ -2,14 +2,14 @@
 ghost use Rattle.std.specs.Prelude.{◌≡◌, ◌≤◌, ◌+◌, ◌-◌, ◌↔◌, [], ◌∷◌, length, IfOk, OnOk, OnErr, IsTrue};
 ghost use Rattle.std.specs.Ordering.{is_lt};
 ghost use Rattle.dw_board.specs.Geometry.{OnBoard};
-ghost use Rattle.dw_moves.specs.Chains.{ChainsFit};
+ghost use Rattle.dw_moves.specs.inner.Chains.{ChainsFit};
 ghost use Rattle.dw_moves.specs.Order.{LexLess, AreListed};
-ghost use Rattle.dw_moves.specs.Listing.{sorted_by, entries_listed, HasAll, Leading, LeadingFrom, GoesBy, This};
-ghost use Rattle.dw_moves.specs.Listing.{LongestLeast, TakenIn};
+ghost use Rattle.dw_moves.specs.inner.Listing.{sorted_by, entries_listed, HasAll, Leading, LeadingFrom, GoesBy, This};
+ghost use Rattle.dw_moves.specs.inner.Listing.{LongestLeast, TakenIn};
 
 use crate::best::is_own;
+use crate::glance::may_take;
 use crate::jumps::jumps;
-use crate::kernel::may_take;
 use crate::moves::{Listed, Move};
 use crate::quiet::push_quiet;
 use arrayvec::ArrayVec;

@@ -5,9 +5,10 @@ ghost use Rattle.std.specs.Cmp.Rules.{comparing};
 ghost use Rattle.std.specs.Cmp.Lexicographic.{pointwise};
 ghost use Rattle.std.specs.Ordering.{on, eq_of_both};
 ghost use Rattle.std.proofs.Common.{rules};
-ghost use Rattle.dw_moves.specs.MoveLaws.{same_moves-is, move_bytes};
-ghost use Rattle.dw_moves.specs.Plain.{quiet_to};
-ghost use Rattle.dw_moves.specs.Listing.{quietly_listed};
+ghost use Rattle.dw_moves.specs.inner.MoveLemmas.{same_moves-is};
+ghost use Rattle.dw_moves.specs.Moves.{move_bytes};
+ghost use Rattle.dw_moves.specs.inner.Plain.{quiet_to};
+ghost use Rattle.dw_moves.specs.inner.Listing.{quietly_listed};
 
 use crate::quiet::FromQuiet;
 use arrayvec::ArrayVec;

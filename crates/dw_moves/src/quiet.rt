@@ -3,12 +3,12 @@ ghost use Rattle.std.specs.Prelude.{◌≡◌, ◌≤◌, ◌↔◌, ◌++◌, �
 ghost use Rattle.dw_board.specs.Geometry.{OnBoard};
 ghost use Rattle.dw_moves.specs.Moves.{IsQuietCount, Quiet, Member, ray};
 ghost use Rattle.dw_board.specs.declared.piece.Kind.TheVariants.{King};
-ghost use Rattle.dw_moves.specs.Kernel.{In};
-ghost use Rattle.dw_moves.specs.Plain as plain;
-ghost use Rattle.dw_moves.specs.Plain.{Adds, Counts, ManSteps, KingGoes};
+ghost use Rattle.dw_moves.specs.Moves.{In};
+ghost use Rattle.dw_moves.specs.inner.Plain as plain;
+ghost use Rattle.dw_moves.specs.inner.Plain.{Adds, Counts, ManSteps, KingGoes};
 
 use crate::best::is_own;
-use crate::kernel::opposite;
+use crate::glance::opposite;
 use dw_board::board::{Board, Dir};
 use dw_board::piece::{Kind, Side};
 use dw_board::position::Position;

@@ -1,5 +1,5 @@
 -- What is ahead in a text that is read piece by piece.
-use Rattle.std.specs.Prelude.{ℕ, ◌==◌, if◌then◌else◌, List, [], ◌∷◌, ◌++◌, Bool, true, false, option_to_list}
+use Rattle.std.specs.Prelude.{ℕ, ◌==◌, if◌then◌else◌, List, [], ◌∷◌, ◌++◌, Bool, option_to_list}
 use Rattle.dw_board.specs.Geometry.{Geometry}
 use Rattle.dw_notation.specs.Lines.{line_feed, without_mark, Found, line_found}
 use Rattle.dw_notation.specs.declared.problems.fens.Front.{Front}
@@ -11,19 +11,6 @@ found_from at_end g line [] = if at_end then option_to_list (line_found g line) 
 found_from at_end g line (byte ∷ bytes) =
     if byte == line_feed then option_to_list (line_found g line) ++ found_from at_end g [] bytes
     else found_from at_end g (line ++ byte ∷ []) bytes
-
--- the bytes of a byte-order mark that were passed over, where more of it may come
-abbrev pub passed_over : Front → List ℕ
-passed_over Bare = []
-passed_over One = 0xEF ∷ []
-passed_over Two = 0xEF ∷ 0xBB ∷ []
-passed_over Behind = []
-
-abbrev pub is_behind : Front → Bool
-is_behind Bare = false
-is_behind One = false
-is_behind Two = false
-is_behind Behind = true
 
 -- the text ahead: at its front without a mark
 abbrev pub behind_mark : Front → List ℕ → List ℕ

@@ -1,11 +1,11 @@
 -- What a reader of problems holds, and what it will hand out.
-use Rattle.std.specs.Prelude.{◌≡◌, ℕ, ◌+◌, ◌*◌, ◌<◌, ◌≤◌, ◌⊎◌, List, [], ◌∷◌, ◌++◌, length, Bool, true, false, Option}
+use Rattle.std.specs.Prelude.{◌≡◌, ℕ, ◌+◌, ◌<◌, ◌≤◌, ◌⊎◌, List, [], ◌∷◌, ◌++◌, length, Bool, true, false, Option}
 use Rattle.std.specs.Prelude.{Some, None, option_to_list, Result, Ok, Err, MatchBool, IfOk, IfSome}
 use Rattle.std.specs.List.{slice_range}
 use Rattle.std.specs.Io.KnownBytes.{Consumes, IsAtEnd}
 use Rattle.dw_board.specs.Geometry.{Geometry}
 use Rattle.dw_notation.specs.Lines.{Found}
-use Rattle.dw_notation.specs.Pieces.{pieces_ahead, pieces_behind, pieces_cut}
+use Rattle.dw_notation.specs.Pieces.{pieces_ahead}
 use Rattle.dw_notation.specs.Problems.{Numbered, numbered, number_from}
 use Rattle.dw_notation.specs.declared.problems.TheConstants.{MAX_PROBLEMS}
 use Rattle.dw_notation.specs.declared.problems.Problem.{Problem}
@@ -19,14 +19,6 @@ rest_of cutter = slice_range cutter.buffer cutter.start cutter.end
 -- what the piece begun, the rest and the bytes still to be read say
 abbrev pub found_ahead : Bool → Geometry → Cutter → List ℕ → List Found
 found_ahead at_end g cutter bytes = pieces_ahead at_end g cutter.pieces (rest_of cutter ++ bytes)
-
--- what the rest and the bytes still to be read say behind the piece that was cut off
-abbrev pub found_behind : Bool → Geometry → Cutter → List ℕ → List Found
-found_behind at_end g cutter bytes = pieces_behind at_end g cutter.pieces (rest_of cutter ++ bytes)
-
--- what the piece that was cut off says
-abbrev pub found_cut : Geometry → Cutter → List Found
-found_cut g cutter = option_to_list (pieces_cut g cutter.pieces)
 
 abbrev pub problems_from : Bool → Geometry → Cutter → List ℕ → List Numbered
 problems_from at_end g cutter bytes = number_from cutter.handed (found_ahead at_end g cutter bytes)
@@ -86,43 +78,3 @@ IsStarved cutter = (rest_of cutter ≡ []) × (has_met_end cutter ≡ false) × 
 pub record HasStopped (is_failed : Bool) (cutter : Cutter) : Type 0 where
   pub failed : is_failed ≡ true
   pub starved : IsStarved cutter
-
--- reading on, with nothing cut off
-pub record CarriesOn (coming left : Option (List ℕ)) (old new : Cutter) : Type 0 where
-  pub read : List ℕ
-  pub took : Consumes coming left read
-  pub same : (g : Geometry) (at_end : Bool) (more : List ℕ)
-      → found_ahead at_end g old (read ++ more) ≡ found_ahead at_end g new more
-
--- a piece is cut off
-pub record TakesPiece (coming left : Option (List ℕ)) (old new : Cutter) : Type 0 where
-  pub read : List ℕ
-  pub took : Consumes coming left read
-  pub same : (g : Geometry) (at_end : Bool) (more : List ℕ)
-      → found_ahead at_end g old (read ++ more) ≡ found_cut g new ++ found_behind at_end g new more
-
--- the last piece of the text is cut off, which its end ends
-pub record TakesLast (coming left : Option (List ℕ)) (old new : Cutter) : Type 0 where
-  pub read : List ℕ
-  pub took : Consumes coming left read
-  pub same : (g : Geometry) → found_ahead true g old read ≡ found_cut g new
-  pub none : rest_of new ≡ []
-  pub over : (g : Geometry) → pieces_behind true g new.pieces [] ≡ []
-
--- what reading up to the end of a piece did
-abbrev pub ReadsPiece : Option (List ℕ) → Option (List ℕ) → Cutter → Cutter → Result Bool ReadFault → Type 0
-ReadsPiece coming left old new (Ok true) = TakesPiece coming left old new
-ReadsPiece coming left old new (Ok false) = TakesLast coming left old new × (new.met_end ≡ true)
-ReadsPiece coming left old new (Err fault) = CarriesOn coming left old new × (rest_of new ≡ []) × (new.met_end ≡ false)
-
--- bounds the pieces that can still be cut off
-abbrev pub weight : ℕ → Cutter → ℕ
-weight pulls cutter = pulls * 2049 + length (rest_of cutter)
-
--- reading on, with these problems handed out
-pub record HandsOut (g : Geometry) (coming left : Option (List ℕ)) (old new : Cutter)
-    (problems : List Numbered) : Type 0 where
-  pub read : List ℕ
-  pub took : Consumes coming left read
-  pub same : (at_end : Bool) (more : List ℕ)
-      → problems_from at_end g old (read ++ more) ≡ problems ++ problems_from at_end g new more

@@ -1,7 +1,5 @@
 -- What is held of a line that was not read to its end.
-use Rattle.std.specs.Prelude.{◌≡◌, ℕ, ◌+◌, if◌then◌else◌, List, [], ◌∷◌, ◌++◌, replicate, Bool, Option, Some, None}
-use Rattle.dw_board.specs.Geometry.{Geometry}
-use Rattle.dw_notation.specs.Lines.{line_found}
+use Rattle.std.specs.Prelude.{ℕ, ◌+◌, if◌then◌else◌, List, [], ◌∷◌, ◌++◌, replicate, Bool, Option, Some, None}
 use Rattle.dw_notation.specs.declared.problems.fens.Line.{Line}
 use Rattle.dw_notation.specs.declared.problems.fens.LongLine.{LongLine}
 
@@ -20,7 +18,3 @@ bytes_held front (Some long) = long_bytes long
 -- a line that says what the one read so far says, whatever follows
 abbrev pub held_line : Line → List ℕ
 held_line line = bytes_held line.front.items line.long
-
--- two beginnings of a line say the same, whatever follows
-abbrev pub SaysSame : List ℕ → List ℕ → Type 0
-SaysSame line other = (g : Geometry) (more : List ℕ) → line_found g (line ++ more) ≡ line_found g (other ++ more)

@@ -17,5 +17,5 @@ pub mod Pieces
 pub mod Cutting
 pub mod Reading
 pub mod MoveReading
-pub mod MoveReader
 pub mod MoveReadingLaws
+pub mod inner

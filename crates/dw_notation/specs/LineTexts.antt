@@ -1,5 +1,4 @@
 -- The text of a line that goes on move by move, and back.
-use Rattle.std.proofs.Common.{zero, suc}
 use Rattle.std.specs.Prelude.{◌≡◌, ℕ, ◌+◌, ◌≤◌, List, [], ◌∷◌, ◌++◌, length, map}
 use Rattle.dw_board.specs.Geometry.{Geometry}
 use Rattle.dw_board.specs.Placement.{Placement}
@@ -20,13 +19,6 @@ AreWritten g p ply before (x ∷ plies) text = (word : List ℕ) × IsMoveText g
 abbrev pub end_from : {B : Type 0} → Placement → List (Ply B) → Placement
 end_from p [] = p
 end_from p (x ∷ plies) = end_from x.after plies
-
--- how long the text of so many of them is, behind a text of some length
-abbrev pub len_to : {B : Type 0} → ℕ → ℕ → List (Ply B) → ℕ
-len_to base zero [] = base
-len_to base zero (x ∷ plies) = base
-len_to base (suc k) [] = base
-len_to base (suc k) (x ∷ plies) = len_to x.len k plies
 
 abbrev pub start_of : {B : Type 0} → LineText B → Placement
 start_of t = t.start

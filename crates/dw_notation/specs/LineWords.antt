@@ -1,13 +1,7 @@
 -- How the text of a line is written, word by word.
-use Rattle.std.specs.Prelude.{◌≡◌, ℕ, List, [], ◌∷◌, ◌++◌}
+use Rattle.std.specs.Prelude.{ℕ, List, [], ◌∷◌, ◌++◌}
 use Rattle.std.specs.List.{join_with_byte}
 use Rattle.std.proofs.Common.{zero, suc}
-use Rattle.dw_moves.specs.Moves.{Member, Move}
-use Rattle.dw_moves.specs.Order.{Listed}
-
--- one of these is this move
-abbrev pub HasStep : List Listed → Move → Type 0
-HasStep list m = (l : Listed) × Member l list × (l.step ≡ m)
 
 -- words with a blank before each
 abbrev pub spaced : List (List ℕ) → List ℕ

@@ -1,6 +1,5 @@
 -- The lines of a byte text, and what they say.
-use Rattle.std.specs.Prelude.{◌≡◌, ℕ, ◌==◌, ◌-◌, ◌&&◌, if◌then◌else◌, List, [], ◌∷◌, length, take, slice_index, false}
-use Rattle.std.specs.Prelude.{Bool}
+use Rattle.std.specs.Prelude.{ℕ, ◌==◌, ◌-◌, ◌&&◌, if◌then◌else◌, List, [], ◌∷◌, length, take, slice_index}
 use Rattle.std.specs.Prelude.{◌++◌, Option, Some, None, option_to_list, Result, Ok, Err, nat_lt}
 use Rattle.std.specs.List.{list_all}
 use Rattle.dw_board.specs.Geometry.{Geometry}
@@ -8,7 +7,6 @@ use Rattle.dw_board.specs.Placement.{Placement}
 use Rattle.dw_board.specs.FenTokens.{is_blank}
 use Rattle.dw_board.specs.Fen.{fen}
 use Rattle.dw_board.specs.declared.fen.fault.FenFault.{FenFault}
-use Rattle.dw_board.specs.declared.fen.fault.FenFaultKind.TheVariants.{TooLong}
 use Rattle.dw_notation.specs.declared.problems.TheConstants.{MAX_LINE}
 use Rattle.dw_notation.specs.declared.problems.ProblemFault.{ProblemFault}
 use Rattle.dw_notation.specs.declared.problems.ProblemFault.TheVariants.{Fen, LineTooLong}
@@ -52,11 +50,6 @@ abbrev pub without_return : List ℕ → List ℕ
 without_return line =
     if slice_index line (length line - 1) == carriage_return then take (length line - 1) line else line
 
--- no line feed is among them
-abbrev pub NoLineFeed : List ℕ → Type 0
-NoLineFeed [] = Unit {0}
-NoLineFeed (byte ∷ bytes) = ((byte == line_feed) ≡ false) × NoLineFeed bytes
-
 -- a position, or why there is none
 abbrev pub Found : Type 0
 Found = Result Placement ProblemFault
@@ -71,12 +64,6 @@ abbrev pub text_found : Geometry → List ℕ → Option Found
 text_found g text =
     if nat_lt MAX_LINE (length text) then Some (Err LineTooLong)
     else (if list_all is_blank text then None else Some (fen_found (fen g text)))
-
--- what a text says that is too long for a FEN text, by its length and by whether it is blank
-abbrev pub long_text_found : ℕ → Bool → Option Found
-long_text_found length blank =
-    if nat_lt MAX_LINE length then Some (Err LineTooLong)
-    else (if blank then None else Some (Err (Fen (record { what = TooLong; place = 1025 }))))
 
 -- what a line says
 unfoldable pub line_found : Geometry → List ℕ → Option Found

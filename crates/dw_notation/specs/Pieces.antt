@@ -4,7 +4,7 @@ use Rattle.dw_board.specs.Geometry.{Geometry}
 use Rattle.dw_notation.specs.Lines.{Found, line_found}
 use Rattle.dw_notation.specs.Ahead.{found_from, behind_mark}
 use Rattle.dw_notation.specs.Held.{held_line}
-use Rattle.dw_notation.specs.HeldSection.{sections_ahead, sections_cut}
+use Rattle.dw_notation.specs.HeldSection.{sections_ahead}
 use Rattle.dw_notation.specs.declared.problems.fens.Lines.{Lines}
 use Rattle.dw_notation.specs.declared.problems.reader.Pieces.{Pieces}
 use Rattle.dw_notation.specs.declared.problems.reader.Pieces.TheVariants.{InLines, InSections}
@@ -25,13 +25,3 @@ lines_cut g lines = line_found g (held_line lines.line)
 abbrev pub pieces_ahead : Bool → Geometry → Pieces → List ℕ → List Found
 pieces_ahead at_end g (InLines lines) bytes = lines_ahead at_end g lines bytes
 pieces_ahead at_end g (InSections sections) bytes = sections_ahead at_end g sections bytes
-
--- what the bytes say behind the piece that was cut off
-abbrev pub pieces_behind : Bool → Geometry → Pieces → List ℕ → List Found
-pieces_behind at_end g (InLines lines) bytes = lines_behind at_end g lines bytes
-pieces_behind at_end g (InSections sections) bytes = sections_ahead at_end g sections bytes
-
--- what the piece that was cut off says
-abbrev pub pieces_cut : Geometry → Pieces → Option Found
-pieces_cut g (InLines lines) = lines_cut g lines
-pieces_cut g (InSections sections) = sections_cut g sections

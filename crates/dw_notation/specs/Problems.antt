@@ -1,5 +1,5 @@
 -- The problems of a byte text.
-use Rattle.std.specs.Prelude.{ℕ, ◌==◌, ◌+◌, if◌then◌else◌, List, [], ◌∷◌, true, false, Option, Some, None, Err, nat_lt}
+use Rattle.std.specs.Prelude.{ℕ, ◌==◌, ◌+◌, if◌then◌else◌, List, [], ◌∷◌, true, false, Err, nat_lt}
 use Rattle.dw_board.specs.Geometry.{Geometry}
 use Rattle.dw_notation.specs.Lines.{lines_of, whole_lines_of, without_mark, Found, all_found}
 use Rattle.dw_notation.specs.Sections.{bare, sections_found}
@@ -18,11 +18,6 @@ pub record Numbered : Type 0 where
 -- what a problem handed out says, whatever the type of its board
 abbrev pub numbered : {B : Type 0} → Problem B → Numbered
 numbered problem = record { number = problem.number; found = problem.found }
-
--- the problem handed out, if there is one
-abbrev pub numbered_in : {B : Type 0} → Option (Problem B) → List Numbered
-numbered_in None = []
-numbered_in (Some problem) = numbered problem ∷ []
 
 -- problems are numbered on from those handed out; one more than there may be is a fault, and it is the last
 abbrev pub number_from : ℕ → List Found → List Numbered

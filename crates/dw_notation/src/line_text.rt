@@ -51,7 +51,8 @@ pub struct LineText<B: Board> {
 }
 
 impl<B: Board> LineText<B> {
-    ghost use Rattle.dw_notation.specs.LineTexts.{IsTextOf, moves_of, start_of, end_of, len_to};
+    ghost use Rattle.dw_notation.specs.LineTexts.{IsTextOf, moves_of, start_of, end_of};
+    ghost use Rattle.dw_notation.specs.inner.LineWords.{len_to};
 
     /// The text of no move.
     /// Example: `LineText::new(&position).as_str()` is empty.

@@ -3,7 +3,7 @@ ghost use Rattle.std.specs.Prelude.{◌≡◌, ◌≤◌, ◌<◌, ◌+◌, ◌+
 ghost use Rattle.arrayvec.specs.ArrayString.{array_string_len};
 ghost use Rattle.dw_moves.specs.Moves.{Legal};
 ghost use Rattle.dw_notation.specs.Text.{IsMoveText, squares_text, text_among, shares_ends as are_shared};
-ghost use Rattle.dw_notation.specs.LineWords.{HasStep};
+ghost use Rattle.dw_notation.specs.inner.LineWords.{HasStep};
 
 use arrayvec::ArrayString;
 use dw_board::board::Board;

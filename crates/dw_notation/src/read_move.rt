@@ -2,11 +2,11 @@
 ghost use Rattle.std.specs.Prelude.{◌≡◌, ◌≤◌, ◌<◌, ◌∷◌, [], List, ℕ, length, take, drop, false, MatchOption, IsTrue};
 ghost use Rattle.std.specs.Prelude.{◌↔◌};
 ghost use Rattle.dw_board.specs.FenTokens.{number_named, begins_with_digit};
-ghost use Rattle.dw_board.specs.FenBlanks.{AreDigits};
+ghost use Rattle.dw_board.specs.inner.FenBlanks.{AreDigits};
 ghost use Rattle.dw_moves.specs.Moves.{NoRepeat};
 ghost use Rattle.dw_notation.specs.declared.read_move.MoveFault.TheVariants.{Memory};
 ghost use Rattle.dw_notation.specs.MoveReading.{Names, QuietMove, Capture, IsAnswer, IsRead, is_cross};
-ghost use Rattle.dw_notation.specs.MoveReader.{Begins, BeginsNowhere, IsOnly, Takes};
+ghost use Rattle.dw_notation.specs.inner.MoveReader.{Begins, BeginsNowhere, IsOnly, Takes};
 
 use arrayvec::ArrayVec;
 use dw_board::board::Board;

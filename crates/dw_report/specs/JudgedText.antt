@@ -1,10 +1,10 @@
 -- What is written of a verdict and of tries.
-use Rattle.std.specs.Prelude.{◌≡◌, ℕ, ◌+◌, ◌-◌, ◌/◌, ◌⊎◌, List, [], ◌∷◌, ◌++◌, length, codes, decimal}
+use Rattle.std.specs.Prelude.{◌≡◌, ℕ, ◌+◌, ◌-◌, ◌/◌, List, [], ◌∷◌, ◌++◌, length, codes, decimal}
 use Rattle.dw_board.specs.Geometry.{Geometry}
 use Rattle.dw_board.specs.Placement.{Placement}
 use Rattle.dw_moves.specs.Moves.{Move, play}
 use Rattle.dw_notation.specs.Text.{IsMoveText, IsLineText, AreJoined}
-use Rattle.dw_report.specs.Verdict.{Verdict, unsolvable, cooked, dual, sound, IsVerdict, IsRefutation, Tries, reach}
+use Rattle.dw_report.specs.Verdict.{Verdict, unsolvable, cooked, dual, sound, IsVerdict, Tries, reach}
 
 -- the number of the attacker's next move, behind whole turns
 abbrev pub next_number : List Move → ℕ
@@ -48,8 +48,3 @@ abbrev pub IsJudgedText : Geometry → Placement → ℕ → List ℕ → Type 0
 IsJudgedText g p n text = (verdict : List ℕ) × (tries : List ℕ) × IsVerdictLine g p n verdict
     × AreTriesListed g p n tries
     × (text ≡ verdict ++ tries)
-
--- what is written of one legal move: its line if it is a try, else nothing
-abbrev pub IsTryText : Geometry → Placement → ℕ → Move → List ℕ → Type 0
-IsTryText g p n m text = ((r : Move) × IsRefutation g (play g p m) (n - 1) r × IsTryLine g p (m, r) text)
-    ⊎ (((r : Move) → IsRefutation g (play g p m) (n - 1) r → ⊥) × (text ≡ []))

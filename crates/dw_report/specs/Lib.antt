@@ -4,7 +4,7 @@ pub mod VerdictLaws
 pub mod Judging
 pub mod JudgedText
 pub mod ListedText
-pub mod Rows
 pub mod Report
 pub mod Running
 pub mod Laws
+pub mod inner

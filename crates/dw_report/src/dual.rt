@@ -3,7 +3,7 @@ ghost use Rattle.std.specs.Prelude.{◌≡◌, ◌≤◌, ◌<◌, ◌∷◌, le
 ghost use Rattle.dw_list.specs.Asking.{Asked};
 ghost use Rattle.dw_list.specs.Lines.{Before};
 ghost use Rattle.dw_report.specs.Verdict.{Keys};
-ghost use Rattle.dw_report.specs.Judging.{LeadsToChoices, ComesToChoices, RepliesToChoices, FindsLeast, parts_of};
+ghost use Rattle.dw_report.specs.inner.Judging.{LeadsToChoices, ComesToChoices, RepliesToChoices, FindsLeast, parts_of};
 
 use crate::keys::keys;
 use arrayvec::ArrayVec;

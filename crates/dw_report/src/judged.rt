@@ -6,9 +6,11 @@ ghost use Rattle.dw_moves.specs.Moves as of;
 ghost use Rattle.dw_notation.specs.Text.{ArePlayable, AreJoined};
 ghost use Rattle.dw_report.specs.Verdict.{IsVerdict, reach, cooked, dual};
 ghost use Rattle.dw_report.specs.Judging.{said_by};
-ghost use Rattle.dw_report.specs.JudgedText.{IsVerdictText, IsVerdictLine, IsTryLine, IsTryText, AreTriesListed};
+ghost use Rattle.dw_report.specs.JudgedText.{IsVerdictText, IsVerdictLine, IsTryLine, AreTriesListed};
+ghost use Rattle.dw_report.specs.inner.JudgedText.{IsTryText};
 ghost use Rattle.dw_report.specs.JudgedText.{IsJudgedText};
-ghost use Rattle.dw_report.specs.Running.{TextEnds, SinkEnds, Spends, AreLinesOf};
+ghost use Rattle.dw_report.specs.Running.{AreLinesOf};
+ghost use Rattle.dw_report.specs.inner.Running.{TextEnds, SinkEnds, Spends};
 
 use crate::judge::verdict;
 use crate::laws::{one_verdict, tries_are_listed};

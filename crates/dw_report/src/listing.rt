@@ -13,8 +13,9 @@ ghost use Rattle.dw_list.specs.Standing.{AreToCome};
 ghost use Rattle.dw_list.specs.Tokens as tokens;
 ghost use Rattle.dw_report.specs.Request.{request_of};
 ghost use Rattle.dw_report.specs.ListedText.{IsListing, IsListedText, refused_line};
-ghost use Rattle.dw_report.specs.Rows.{IsRow, IsNothing};
-ghost use Rattle.dw_report.specs.Running.{TextEnds, SinkEnds, Spends, AreLinesOf, IsNoLine};
+ghost use Rattle.dw_report.specs.inner.Rows.{IsRow, IsNothing};
+ghost use Rattle.dw_report.specs.Running.{AreLinesOf, IsNoLine};
+ghost use Rattle.dw_report.specs.inner.Running.{TextEnds, SinkEnds, Spends};
 ghost use Rattle.dw_report.specs.declared.problem.TextFault.TheVariants as because;
 
 use crate::problem::TextFault;

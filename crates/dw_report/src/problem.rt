@@ -5,7 +5,8 @@ ghost use Rattle.dw_report.specs.Request.{request_of};
 ghost use Rattle.dw_report.specs.Report.{IsProblemText, IsAnswer, IsMovesText};
 ghost use Rattle.dw_report.specs.declared.problem.TextFault.TheVariants as because;
 ghost use Rattle.dw_solve.specs.declared.stop.Stop.TheVariants as stops;
-ghost use Rattle.dw_report.specs.Running.{TextEnds, SinkEnds, SearchesFor, IsProblemPart, AreLinesOf, IsRefused};
+ghost use Rattle.dw_report.specs.Running.{IsProblemPart, AreLinesOf, IsRefused};
+ghost use Rattle.dw_report.specs.inner.Running.{TextEnds, SinkEnds, SearchesFor};
 ghost use Rattle.dw_report.specs.Running.{IsNoLine};
 
 use crate::judged::write_judged;

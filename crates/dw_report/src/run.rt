@@ -4,8 +4,9 @@ ghost use Rattle.dw_notation.specs.Problems.{numbered};
 ghost use Rattle.dw_solve.specs.Facts.{AreTrue};
 ghost use Rattle.dw_report.specs.Request.{request_of};
 ghost use Rattle.dw_report.specs.Report.{chosen, IsReportOn};
-ghost use Rattle.dw_report.specs.Running.{RunEnds, StopsRightly, TextEnds, SinkEnds, SearchesFor, IsPartOn, CountsOne};
-ghost use Rattle.dw_report.specs.Running.{ended_by};
+ghost use Rattle.dw_report.specs.Running.{RunEnds, StopsRightly, IsPartOn};
+ghost use Rattle.dw_report.specs.inner.Running.{TextEnds, SinkEnds, SearchesFor, CountsOne};
+ghost use Rattle.dw_report.specs.inner.Running.{ended_by};
 
 use crate::laws::one_report;
 use crate::problem::{TextFault, write_problem};

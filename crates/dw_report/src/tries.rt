@@ -2,7 +2,7 @@
 ghost use Rattle.std.specs.Prelude.{◌≡◌, ◌≤◌, ◌-◌, IfOk};
 ghost use Rattle.dw_list.specs.Asking.{Asked};
 ghost use Rattle.dw_report.specs.Verdict.{Tries};
-ghost use Rattle.dw_report.specs.Judging.{FindsRefutation};
+ghost use Rattle.dw_report.specs.inner.Judging.{FindsRefutation};
 
 use crate::keys::push;
 use dw_board::board::Board;

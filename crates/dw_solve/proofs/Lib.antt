@@ -2,7 +2,7 @@ mod WinLemmas
 mod FactLemmas
 mod MemoLemmas
 mod MemberLemmas
-pub mod Counting
+pub mod CountingLemmas
 pub mod WorkLemmas
 pub mod RankLemmas
 pub mod TriedLemmas

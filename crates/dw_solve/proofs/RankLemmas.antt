@@ -9,7 +9,7 @@ use Rattle.dw_board.specs.Geometry.{Geometry}
 use Rattle.dw_board.specs.Placement.{Placement}
 use Rattle.dw_moves.specs.Moves.{Member, Move, Legal, AreLegal, play}
 use Rattle.dw_solve.specs.Wins.{Win, Lost}
-use Rattle.dw_solve.specs.Ranking.{AreRanked}
+use Rattle.dw_solve.specs.inner.Ranking.{AreRanked}
 
 get_same : {X : Type 0} (xs : List X) (i : ℕ) (a b : X) → i < length xs → get_or xs i a ≡ get_or xs i b
 get_same [] i a b low = absurd (omega arith)

@@ -8,7 +8,7 @@ use Rattle.dw_moves.specs.Replies.{AlwaysReply}
 use Rattle.std.proofs.lemmas.Bool.{true≢false}
 use Rattle.dw_memo.specs.Content.{Content}
 use Rattle.dw_solve.specs.Wins.{Win}
-use Rattle.dw_solve.specs.Saying.{SaysMove}
+use Rattle.dw_solve.specs.inner.Searching.{SaysMove}
 
 Win-suc : (g : Geometry) (p : Placement) (n : ℕ) → Win g p n → Win g p (suc n)
 Win-suc g p zero w = absurd w

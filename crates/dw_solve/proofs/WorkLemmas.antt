@@ -10,14 +10,14 @@ use Rattle.dw_memo.specs.declared.memo.Noted.{Noted}
 use Rattle.dw_memo.specs.Bounding.{at_least, at_most, with_fail, with_win}
 use Rattle.dw_memo.specs.Content.{Entry, entry, Content, Member, positions, IsMap, SameEntries}
 use Rattle.dw_memo.specs.Noting.{IsPutIn, IsNote}
-use Rattle.dw_moves.specs.MemberLaws as laws
-use Rattle.dw_solve.specs.Facts.{KnownWin, KnownFail, IsDecided, HasBounds, IsClosed}
+use Rattle.dw_moves.specs.inner.MemberLemmas as laws
+use Rattle.dw_solve.specs.Facts.{KnownWin, KnownFail, IsDecided, IsClosed}
+use Rattle.dw_solve.specs.inner.Searching.{HasBounds, IsNoted, SaysMove}
 use Rattle.dw_solve.specs.Work.{Moment, Stronger, decided_to, FewNew, LossIsCounted, NothingLost, Worked, Searched, cut_off, moment}
-use Rattle.dw_solve.specs.Saying.{SaysWin, SaysMove}
-use Rattle.dw_solve.specs.Searching.{IsNoted}
+use Rattle.dw_solve.specs.Saying.{SaysWin}
 use Rattle.dw_solve.proofs.MemberLemmas.{to, from}
 use Rattle.dw_solve.proofs.MemoLemmas.{option_cases, mem_map, same_entry, same_win, same_fail}
-use Rattle.dw_solve.proofs.Counting.{decided_grows, decided_rises, decided_to_grows}
+use Rattle.dw_solve.proofs.CountingLemmas.{decided_grows, decided_rises, decided_to_grows}
 
 -- NOTHING, AND ONE AFTER ANOTHER
 

@@ -1,11 +1,9 @@
 -- What the bounds in a memo say, and when they are right.
 use Rattle.std.specs.Prelude.{◌≡◌, ℕ, ◌-◌, ◌<◌, ◌≤◌, ◌⊎◌, Some}
-use Rattle.dw_memo.specs.declared.bounds.Bounds.{Bounds}
-use Rattle.dw_memo.specs.Bounding.{nothing}
 use Rattle.dw_board.specs.Geometry.{Geometry}
 use Rattle.dw_board.specs.Placement.{Placement}
 use Rattle.dw_moves.specs.Moves.{Move, Legal, play}
-use Rattle.dw_memo.specs.Content.{Entry, entry, Content, Member, positions}
+use Rattle.dw_memo.specs.Content.{Entry, entry, Content, Member}
 use Rattle.dw_solve.specs.Wins.{Win}
 
 -- the memo says that the position has no win within f moves
@@ -33,10 +31,6 @@ IsDecided c p n = KnownWin c p n ⊎ KnownFail c p n
 -- and so it can after each reply, where there is a move left to win within
 abbrev pub RepliesAreDecided : Geometry → Content → Placement → ℕ → Type 0
 RepliesAreDecided g c q n = (r : Move) → Legal g q r → (n ≡ 0) ⊎ IsDecided c (play g q r) n
-
--- the bounds of a position: those that it has in the memo, or none
-abbrev pub HasBounds : Content → Placement → Bounds → Type 0
-HasBounds c p b = Member (entry p b) c ⊎ ((b ≡ nothing) × (Member p (positions c) → ⊥))
 
 -- what the memo says is so
 pub record AreTrue (g : Geometry) (c : Content) : Type 0 where

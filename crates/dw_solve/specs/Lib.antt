@@ -2,8 +2,8 @@ pub mod Wins
 pub mod Facts
 pub mod Laws
 pub mod Trial
-pub mod Ranking
 pub mod Work
 pub mod Saying
 pub mod Searching
 pub mod Solving
+pub mod inner

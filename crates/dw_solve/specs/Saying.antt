@@ -15,13 +15,6 @@ pub record SaysWin (c : Content) (p : Placement) (n : ℕ) (answer : Bool) : Typ
 abbrev pub SaysLeast : Content → Placement → ℕ → Type 0
 SaysLeast c p n = (k : ℕ) → 1 ≤ k → k ≤ n → IsDecided c p k
 
--- it says of some move that after every reply there is a win within n, or of each that after some reply there is none
-pub record SaysMove (g : Geometry) (c : Content) (p : Placement) (n : ℕ) (answer : Bool) : Type 0 where
-  pub when : IsTrue answer → (m : Move) × Legal g p m
-      × ((r : Move) → Legal g (play g p m) r → KnownWin c (play g (play g p m) r) n)
-  pub unless : (IsTrue answer → ⊥) → (m : Move) → Legal g p m
-      → (r : Move) × Legal g (play g p m) r × ((n ≡ 0) ⊎ KnownFail c (play g (play g p m) r) n)
-
 -- it says that after every reply there is a win within n, or that after some reply there is none
 pub record SaysLost (g : Geometry) (c : Content) (q : Placement) (n : ℕ) (answer : Bool) : Type 0 where
   pub when : IsTrue answer → (r : Move) → Legal g q r → KnownWin c (play g q r) n

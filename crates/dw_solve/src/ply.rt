@@ -1,12 +1,12 @@
 //! The moves of one position, in the order in which a search goes through them.
 ghost use Rattle.std.specs.Prelude.{◌≡◌, [], OnOk, IfSome};
 ghost use Rattle.dw_moves.specs.Moves.{AreLegal};
-ghost use Rattle.dw_solve.specs.Ranking.{AreRanked, IsLooseReply};
+ghost use Rattle.dw_solve.specs.inner.Ranking.{AreRanked, IsLooseReply};
 
 use crate::guide::{AnyOrder, Guide};
 use dw_board::board::Board;
 use dw_board::position::Position;
-use dw_moves::kernel::is_loose;
+use dw_moves::glance::is_loose;
 use dw_moves::legal::legal_into;
 use dw_moves::moves::Move;
 use dw_moves::play::play as played;

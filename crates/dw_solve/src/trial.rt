@@ -4,7 +4,7 @@ ghost use Rattle.dw_solve.specs.Trial.{IsTrial};
 
 use dw_board::board::Board;
 use dw_board::position::Position;
-use dw_moves::kernel::can_capture;
+use dw_moves::glance::can_capture;
 use dw_moves::moves::Move;
 use dw_moves::play::play as played;
 use dw_moves::quiet::quiet_count;

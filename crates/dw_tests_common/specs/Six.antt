@@ -1,9 +1,9 @@
 -- A small board, and that it meets the laws of boards.
 use Rattle.std.proofs.Common.{refl, lit≤, lit<}
 use Rattle.dw_board.specs.Geometry.{Geometry, IsBoard, ShiftsAreSteps}
-use Rattle.dw_board.specs.GeometryLaws.{shifts_are_steps}
+use Rattle.dw_board.specs.inner.GeometryLemmas.{shifts_are_steps}
 use Rattle.dw_board.specs.SquareSet.{WholeBoard}
-use Rattle.dw_board.specs.SquareSetLaws.{whole_board}
+use Rattle.dw_board.specs.inner.SquareSetLemmas.{whole_board}
 
 -- six rows of three squares, six pieces a side
 abbrev pub six : Geometry

@@ -10,7 +10,7 @@ use dw_board::position::Position;
 use dw_board::square::Square;
 use dw_moves::best::{best, has_move};
 use dw_moves::follow::follow;
-use dw_moves::kernel::{can_capture, is_loose, other_steps};
+use dw_moves::glance::{can_capture, is_loose, other_steps};
 use dw_moves::laws;
 use dw_moves::legal::{is_legal, legal, legal_into};
 use dw_moves::listed::{listed, listed_into};

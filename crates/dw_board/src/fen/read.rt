@@ -4,9 +4,12 @@ ghost use Rattle.std.specs.Prelude.{MatchResult, OnOk, IfOk, length};
 ghost use Rattle.dw_board.specs.Placement.{Placement, same_side};
 ghost use Rattle.dw_board.specs.FenGrammar.{Fen};
 ghost use Rattle.dw_board.specs.FenTokens.{is_sign};
-ghost use Rattle.dw_board.specs.FenReader.{tokens_of, end_of, first_is, no_item};
-ghost use Rattle.dw_board.specs.Fen.{fen, short_fen, read_from, listing, Listing, Item, AfterColon, AfterColour};
-ghost use Rattle.dw_board.specs.Fen.{AfterComma, AfterNumber, AfterItem, read_behind};
+ghost use Rattle.dw_board.specs.FenReader.{tokens_of, end_of, first_is};
+ghost use Rattle.dw_board.specs.inner.FenReading.{no_item};
+ghost use Rattle.dw_board.specs.Fen.{fen, short_fen, read_from, Listing, Item, AfterColon, AfterColour};
+ghost use Rattle.dw_board.specs.inner.FenReading.{listing};
+ghost use Rattle.dw_board.specs.Fen.{AfterComma, AfterNumber, AfterItem};
+ghost use Rattle.dw_board.specs.inner.FenReading.{read_behind};
 ghost use Rattle.dw_board.specs.Fen.{set_squares as squares_set, put_kind as kind_of_put};
 
 use crate::board::Board;

@@ -1,6 +1,7 @@
 //! The tokens of a FEN text, read from the front.
 ghost use Rattle.std.specs.Prelude.{◌≡◌, ◌+◌, ◌≤◌, ◌<◌, ◌||◌, false, true, length, take, drop, is_some, slice_get};
-ghost use Rattle.dw_board.specs.FenBlanks.{begins_with_blank, AreDigits, IsSignByte};
+ghost use Rattle.dw_board.specs.FenBlanks.{begins_with_blank, IsSignByte};
+ghost use Rattle.dw_board.specs.inner.FenBlanks.{AreDigits};
 ghost use Rattle.dw_board.specs.FenTokens.{is_sign, is_blank, is_digit, begins_with_digit, side_named, is_king_letter};
 ghost use Rattle.dw_board.specs.FenTokens.{number_named, tokens_from};
 

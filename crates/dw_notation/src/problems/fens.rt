@@ -4,9 +4,11 @@ ghost use Rattle.std.specs.Prelude.{◌≡◌, ℕ, ◌+◌, ◌<◌, ◌≤◌,
 ghost use Rattle.std.specs.Prelude.{List, [], ◌∷◌, ◌++◌, length, take, drop, option_to_list};
 ghost use Rattle.std.specs.List.{list_all};
 ghost use Rattle.dw_board.specs.FenTokens.{is_blank};
-ghost use Rattle.dw_notation.specs.Lines.{without_return, NoLineFeed, line_found, long_text_found};
+ghost use Rattle.dw_notation.specs.Lines.{without_return, line_found};
+ghost use Rattle.dw_notation.specs.inner.Lines.{NoLineFeed, long_text_found};
 ghost use Rattle.dw_board.specs.Geometry.{Geometry};
-ghost use Rattle.dw_notation.specs.Ahead.{found_from, passed_over, behind_mark, is_behind};
+ghost use Rattle.dw_notation.specs.Ahead.{found_from, behind_mark};
+ghost use Rattle.dw_notation.specs.inner.Ahead.{passed_over, is_behind};
 
 use super::{MAX_LINE, ProblemFault};
 use arrayvec::ArrayVec;
@@ -109,7 +111,8 @@ struct LongLine {
 }
 
 impl LongLine {
-    ghost use Rattle.dw_notation.specs.Held.{long_bytes, SaysSame};
+    ghost use Rattle.dw_notation.specs.Held.{long_bytes};
+    ghost use Rattle.dw_notation.specs.inner.Lines.{SaysSame};
 
     /// A line of so many bytes, all of them blank or not, and then a piece.
     fn new(before: usize, is_blank_before: bool, piece: &[u8]) -> LongLine
@@ -157,7 +160,8 @@ struct Line {
 }
 
 impl Line {
-    ghost use Rattle.dw_notation.specs.Held.{held_line, SaysSame};
+    ghost use Rattle.dw_notation.specs.Held.{held_line};
+    ghost use Rattle.dw_notation.specs.inner.Lines.{SaysSame};
 
     fn new() -> Line
         ensures { held_line result ≡ [] }
@@ -280,7 +284,8 @@ pub(super) struct Lines {
 }
 
 impl Lines {
-    ghost use Rattle.dw_notation.specs.Held.{held_line, SaysSame};
+    ghost use Rattle.dw_notation.specs.Held.{held_line};
+    ghost use Rattle.dw_notation.specs.inner.Lines.{SaysSame};
     ghost use Rattle.dw_notation.specs.Pieces.{lines_ahead, lines_behind, lines_cut};
 
     /// Nothing was read.

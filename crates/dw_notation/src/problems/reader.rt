@@ -22,7 +22,8 @@ enum Pieces {
 
 impl Pieces {
     ghost use Rattle.dw_notation.specs.Problems.{found_of, ended_of};
-    ghost use Rattle.dw_notation.specs.Pieces.{pieces_ahead, pieces_behind, pieces_cut};
+    ghost use Rattle.dw_notation.specs.Pieces.{pieces_ahead};
+    ghost use Rattle.dw_notation.specs.inner.Pieces.{pieces_behind, pieces_cut};
 
     /// Nothing was read.
     fn new(form: Form) -> Pieces
@@ -100,9 +101,12 @@ struct Cutter {
 }
 
 impl Cutter {
-    ghost use Rattle.dw_notation.specs.Problems.{number_from, numbered_in, found_of, ended_of};
-    ghost use Rattle.dw_notation.specs.Pieces.{pieces_ahead, pieces_behind};
-    ghost use Rattle.dw_notation.specs.Cutting.{rest_of, found_ahead, found_behind, found_cut};
+    ghost use Rattle.dw_notation.specs.Problems.{number_from, found_of, ended_of};
+    ghost use Rattle.dw_notation.specs.inner.Problems.{numbered_in};
+    ghost use Rattle.dw_notation.specs.Pieces.{pieces_ahead};
+    ghost use Rattle.dw_notation.specs.inner.Pieces.{pieces_behind};
+    ghost use Rattle.dw_notation.specs.Cutting.{rest_of, found_ahead};
+    ghost use Rattle.dw_notation.specs.inner.Cutting.{found_behind, found_cut};
 
     /// Nothing was read.
     fn new(form: Form) -> Cutter
@@ -245,7 +249,7 @@ impl<'a, B: Board, S: Source> Problems<'a, B, S> {
     ghost use Rattle.dw_notation.specs.Problems.{problems_of, ended_problems_of};
     ghost use Rattle.dw_notation.specs.Cutting.{to_come, ended, has_met_end, handed_count};
     ghost use Rattle.dw_notation.specs.Cutting.{NextGives, EndIsTrue, IsStarved, HasStopped, IsCounted};
-    ghost use Rattle.dw_notation.specs.Cutting.{ReadsPiece, weight};
+    ghost use Rattle.dw_notation.specs.inner.Cutting.{ReadsPiece, weight};
     ghost use Rattle.dw_notation.specs.Reading.{lender, source_of, cutter_of};
 
     /// A reader of all problems that the source has still to give.

@@ -1,6 +1,6 @@
 use Rattle.std.proofs.Common.{sym, subst}
 use Rattle.dw_moves.specs.Moves.{AreLegal}
-use Rattle.dw_moves.specs.MoveLaws.{listed_is_legal}
+use Rattle.dw_moves.specs.inner.MoveLemmas.{listed_is_legal}
 use Rattle.dw_bench.proofs.perft.+perft.Goals as goal
 
 pub play-requires : goal.play-requires

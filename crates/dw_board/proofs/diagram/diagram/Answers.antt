@@ -3,7 +3,7 @@ use Rattle.std.proofs.lemmas.Grind.{flat_map-append}
 use Rattle.std.proofs.lemmas.List.{append-nil}
 use Rattle.std.specs.List.{range_with_len}
 use Rattle.dw_board.specs.Diagram.{row_text, diagram_text}
-use Rattle.dw_board.proofs.Written.{range_more}
+use Rattle.dw_board.proofs.WrittenLemmas.{range_more}
 use Rattle.dw_board.proofs.diagram.diagram.Goals as goal
 
 rows_more : (f : ℕ → List ℕ) (n : ℕ) → flat_map f (range_with_len 0 (n + 1)) ≡ flat_map f (range_with_len 0 n) ++ f n

@@ -2,7 +2,7 @@ use Rattle.std.proofs.Common.{◌≡◌, ◌+◌, ◌++◌, length, map}
 use Rattle.std.specs.List.{range_with_len}
 use Rattle.dw_board.specs.Placement.{Placement}
 use Rattle.dw_board.specs.Diagram.{sign_at}
-use Rattle.dw_board.specs.Drawn.{AreSigns}
+use Rattle.dw_board.specs.inner.Drawing.{AreSigns}
 use Rattle.dw_board.proofs.diagram.push_row.Given as goal
 
 abbrev pub invariant-columns : goal.invariant-columns

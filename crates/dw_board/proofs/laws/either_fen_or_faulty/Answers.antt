@@ -1,4 +1,4 @@
-use Rattle.dw_board.proofs.FenLawProofs as law
+use Rattle.dw_board.proofs.FenLawLemmas as law
 use Rattle.dw_board.proofs.laws.either_fen_or_faulty.Goals as goal
 
 pub returns : goal.returns

@@ -1,4 +1,4 @@
-use Rattle.dw_board.proofs.Steps.{places_differ}
+use Rattle.dw_board.proofs.StepLemmas.{places_differ}
 use Rattle.dw_board.proofs.laws.places_differ.Goals as goal
 
 pub returns : goal.returns

@@ -1,5 +1,5 @@
 use Rattle.std.proofs.Common.{sym, ◌∙◌}
-use Rattle.dw_board.specs.PlacementLaws.{same-is}
+use Rattle.dw_board.specs.inner.PlacementLemmas.{same-is}
 use Rattle.dw_board.proofs.laws.same_position.Goals as goal
 
 pub returns : goal.returns

@@ -1,5 +1,5 @@
 use Rattle.std.proofs.Common.{sym, ◌∙◌}
-use Rattle.dw_board.specs.SquareSetLaws.{same_members-is}
+use Rattle.dw_board.specs.inner.SquareSetLemmas.{same_members-is}
 use Rattle.dw_board.proofs.laws.same_squares.Goals as goal
 
 pub returns : goal.returns

@@ -1,4 +1,4 @@
-use Rattle.dw_board.proofs.Steps.{steps_are_diagonal, steps_stay}
+use Rattle.dw_board.proofs.StepLemmas.{steps_are_diagonal, steps_stay}
 use Rattle.dw_board.proofs.laws.steps_are_diagonal.Goals as goal
 
 pub returns-clause-steps : goal.returns-clause-steps

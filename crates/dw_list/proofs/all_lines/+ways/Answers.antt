@@ -1,10 +1,10 @@
 use Rattle.std.proofs.Common.{◌≡◌, refl, sym, ap, ◌∙◌, subst, arith, map, true, ◌⊎◌, ◌<◌, length}
 use Rattle.dw_moves.specs.Order.{Precedes, IsListOf}
 use Rattle.dw_moves.specs.Moves.{Legal}
-use Rattle.dw_list.specs.Going.{AreWays}
-use Rattle.dw_list.proofs.Ways.{no_ways}
-use Rattle.dw_list.proofs.Gathering.{added_kept, added_none, among_none, added_more, ways_over, ways_whole, measure_falls, left_within, legal_at}
-use Rattle.dw_list.specs.AskingLaws.{answered, asked_none, asked_then, asked_wider, asked_ok, asked_stop, asked_memory}
+use Rattle.dw_list.specs.inner.Going.{AreWays}
+use Rattle.dw_list.proofs.WayLemmas.{no_ways}
+use Rattle.dw_list.proofs.GatheringLemmas.{added_kept, added_none, among_none, added_more, ways_over, ways_whole, measure_falls, left_within, legal_at}
+use Rattle.dw_list.specs.inner.AskingLemmas.{answered, asked_none, asked_then, asked_wider, asked_ok, asked_stop, asked_memory}
 use Rattle.dw_list.proofs.all_lines.+ways.Goals as goal
 
 pub push_ways-returns-in_err-behind-clause-asked : goal.push_ways-returns-in_err-behind-clause-asked

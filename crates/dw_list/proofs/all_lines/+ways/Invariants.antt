@@ -1,7 +1,7 @@
 use Rattle.std.proofs.Common.{◌≡◌, ◌+◌, ◌*◌, ◌<◌, ◌⊎◌, true, cond, map, length, take}
-use Rattle.dw_list.specs.Going.{AreWaysAmong}
+use Rattle.dw_list.specs.inner.Going.{AreWaysAmong}
 use Rattle.dw_list.specs.Asking.{Asked}
-use Rattle.dw_list.specs.AskingLaws.{answered}
+use Rattle.dw_list.specs.inner.AskingLemmas.{answered}
 use Rattle.dw_list.proofs.all_lines.+ways.Given as goal
 
 abbrev pub decreases-push_ways : goal.decreases-push_ways

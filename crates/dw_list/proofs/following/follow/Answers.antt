@@ -1,5 +1,5 @@
 use Rattle.std.proofs.Common.{arith}
-use Rattle.dw_list.specs.AskingLaws.{asked_wider, asked_stop, asked_for}
+use Rattle.dw_list.specs.inner.AskingLemmas.{asked_wider, asked_stop, asked_for}
 use Rattle.dw_list.proofs.StepLemmas.{trial_few}
 use Rattle.dw_list.proofs.FollowLemmas.{follow_barred, follow_moves, follow_lost}
 use Rattle.dw_list.proofs.following.follow.Goals as goal

@@ -1,6 +1,6 @@
 use Rattle.std.proofs.Common.{◌≡◌, ◌+◌, length, sym, subst, ap, ◌∙◌, arith, lit<}
 use Rattle.dw_list.specs.Lines.{IsPlace}
-use Rattle.dw_list.specs.AskingLaws.{answered, asked_then, asked_ok, asked_stop, asked_for}
+use Rattle.dw_list.specs.inner.AskingLemmas.{answered, asked_then, asked_ok, asked_stop, asked_for}
 use Rattle.dw_list.proofs.FollowLemmas.{Follows, follows_more, follows_place, follows_short, follows_line}
 use Rattle.dw_list.proofs.following.followed.Goals as goal
 

@@ -1,5 +1,5 @@
 use Rattle.std.proofs.Common.{Some, sym, ap, ◌∙◌}
-use Rattle.dw_list.proofs.Passing.{first_some}
+use Rattle.dw_list.proofs.PassingLemmas.{first_some}
 use Rattle.dw_list.proofs.frame.first_at.Goals as goal
 
 pub returns-then-passed-list : goal.returns-then-passed-list

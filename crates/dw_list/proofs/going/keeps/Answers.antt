@@ -1,4 +1,4 @@
-use Rattle.dw_list.proofs.Ways.{keeps_lost}
+use Rattle.dw_list.proofs.WayLemmas.{keeps_lost}
 use Rattle.dw_list.proofs.going.keeps.Goals as goal
 
 pub returns-clause-answer : goal.returns-clause-answer

@@ -1,4 +1,4 @@
-use Rattle.dw_list.proofs.Places.{line_or_place, place_only}
+use Rattle.dw_list.proofs.PlaceLemmas.{line_or_place, place_only}
 use Rattle.dw_list.proofs.laws.line_or_place.Goals as goal
 
 pub returns : goal.returns

@@ -1,4 +1,4 @@
-use Rattle.dw_list.proofs.Deciding.{none_begins}
+use Rattle.dw_list.proofs.DecidingLemmas.{none_begins}
 use Rattle.dw_list.proofs.laws.none_begins.Goals as goal
 
 pub returns : goal.returns

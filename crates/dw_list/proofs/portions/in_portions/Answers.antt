@@ -1,6 +1,6 @@
 use Rattle.std.proofs.Common.{◌∙◌, refl, ap, length, arith}
 use Rattle.dw_list.specs.Listing.{stack_of}
-use Rattle.dw_list.proofs.Portioning.{taken_none_yet}
+use Rattle.dw_list.proofs.PortionLemmas.{taken_none_yet}
 use Rattle.dw_list.proofs.portions.in_portions.Goals as goal
 
 pub limits-init : goal.limits-init

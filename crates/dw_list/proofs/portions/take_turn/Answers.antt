@@ -1,7 +1,7 @@
 use Rattle.std.proofs.Common.{subst}
 use Rattle.dw_list.specs.Listing.{stack_of}
 use Rattle.dw_list.specs.Walking.{GivesNext}
-use Rattle.dw_list.proofs.Portioning.{taken_same, taken_more, taken_none, end_same, end_more, end_none}
+use Rattle.dw_list.proofs.PortionLemmas.{taken_same, taken_more, taken_none, end_same, end_more, end_none}
 use Rattle.dw_list.proofs.portions.take_turn.Goals as goal
 
 pub returns-in-Err-clause-lines : goal.returns-in-Err-clause-lines

@@ -1,5 +1,5 @@
 use Rattle.std.proofs.Common.{◌≡◌, length, subst, arith}
-use Rattle.dw_list.proofs.TokenWriting.{IsWrittenTo, written_more, written_end}
+use Rattle.dw_list.proofs.TokenWritingLemmas.{IsWrittenTo, written_more, written_end}
 use Rattle.dw_list.proofs.tokens.bytes_of.Goals as goal
 
 pub line-preserved : goal.line-preserved

@@ -1,4 +1,4 @@
-use Rattle.dw_list.proofs.TokenWriting.{IsWrittenTo}
+use Rattle.dw_list.proofs.TokenWritingLemmas.{IsWrittenTo}
 use Rattle.dw_list.proofs.tokens.bytes_of.Given as goal
 
 abbrev pub invariant-line : goal.invariant-line

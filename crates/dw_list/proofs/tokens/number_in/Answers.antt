@@ -1,5 +1,5 @@
 use Rattle.std.proofs.Common.{◌∙◌}
-use Rattle.dw_list.proofs.TokenReading.{eight_bytes}
+use Rattle.dw_list.proofs.TokenReadingLemmas.{eight_bytes}
 use Rattle.dw_list.proofs.tokens.number_in.Goals as goal
 
 pub returns : goal.returns

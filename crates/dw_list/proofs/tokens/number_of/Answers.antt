@@ -1,6 +1,6 @@
 use Rattle.std.proofs.Common.{◌≡◌, ◌*◌, ◌<◌, sym, ap, ◌∙◌, arith}
 use Rattle.std.specs.FinSet as set
-use Rattle.dw_list.proofs.TokenBits.{number_begin, number_with, number_without, number_end, all_squares}
+use Rattle.dw_list.proofs.TokenBitLemmas.{number_begin, number_with, number_without, number_end, all_squares}
 use Rattle.dw_list.proofs.tokens.number_of.Goals.{then-has, else-has}
 use Rattle.dw_list.proofs.tokens.number_of.Goals as goal
 

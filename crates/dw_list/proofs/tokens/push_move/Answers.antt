@@ -1,5 +1,5 @@
 use Rattle.std.proofs.Common.{◌≡◌, ◌++◌, rules}
-use Rattle.dw_list.proofs.TokenWriting.{move_pushed}
+use Rattle.dw_list.proofs.TokenWritingLemmas.{move_pushed}
 use Rattle.dw_list.proofs.tokens.push_move.Goals as goal
 
 pub returns-clause-items : goal.returns-clause-items

@@ -1,6 +1,6 @@
 use Rattle.std.proofs.Common.{◌≡◌, ◌∷◌, sym, ap, ◌∙◌, length, rules, arith}
 use Rattle.dw_list.specs.Tokens.{bytes_fault}
-use Rattle.dw_list.proofs.TokenReading.{nothing, bytes_none, bytes_read_1, bytes_read_2, bytes_fault_1, bytes_fault_other}
+use Rattle.dw_list.proofs.TokenReadingLemmas.{nothing, bytes_none, bytes_read_1, bytes_read_2, bytes_fault_1, bytes_fault_other}
 use Rattle.dw_list.proofs.tokens.read_bytes.Goals as goal
 
 pub returns-in_default : goal.returns-in_default

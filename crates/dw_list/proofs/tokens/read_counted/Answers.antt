@@ -1,6 +1,6 @@
 use Rattle.std.proofs.Common.{◌≡◌, ◌∷◌, sym, ap, ◌∙◌, length, rules}
 use Rattle.dw_list.specs.Tokens.{counted_fault}
-use Rattle.dw_list.proofs.TokenReading.{nothing, counted_none, counted_wrong, counted_read}
+use Rattle.dw_list.proofs.TokenReadingLemmas.{nothing, counted_none, counted_wrong, counted_read}
 use Rattle.dw_list.proofs.tokens.read_counted.Goals as goal
 
 pub returns-in_default : goal.returns-in_default

@@ -1,6 +1,6 @@
 use Rattle.std.proofs.Common.{◌≡◌, sym, ap, ◌∙◌, subst, arith}
 use Rattle.dw_list.specs.Tokens.{IsMove, move_fault}
-use Rattle.dw_list.proofs.TokenReading.{IsReadTo, read_more, read_fault, read_end}
+use Rattle.dw_list.proofs.TokenReadingLemmas.{IsReadTo, read_more, read_fault, read_end}
 use Rattle.dw_list.proofs.tokens.read_moves.Goals as goal
 
 pub returns-in-Err : goal.returns-in-Err

@@ -1,4 +1,4 @@
-use Rattle.dw_list.proofs.TokenReading.{IsReadTo}
+use Rattle.dw_list.proofs.TokenReadingLemmas.{IsReadTo}
 use Rattle.dw_list.proofs.tokens.read_moves.Given as goal
 
 abbrev pub invariant-moves : goal.invariant-moves

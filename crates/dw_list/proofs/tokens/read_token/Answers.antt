@@ -1,7 +1,7 @@
 use Rattle.std.proofs.Common.{arith, rules}
 use Rattle.std.specs.Prelude.{IsOk, IsErr}
 use Rattle.std.proofs.lemmas.Grind.{common_steps}
-use Rattle.dw_list.proofs.TokenTexts.{too_long, long_fault, token_read, fault_read, sized_ok, sized_err}
+use Rattle.dw_list.proofs.TokenTextLemmas.{too_long, long_fault, token_read, fault_read, sized_ok, sized_err}
 use Rattle.dw_list.proofs.tokens.read_token.Goals as goal
 
 pub returns-then-text-gt-MAX_DIGITS-clause-token : goal.returns-then-text-gt-MAX_DIGITS-clause-token

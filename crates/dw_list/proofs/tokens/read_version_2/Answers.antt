@@ -1,6 +1,6 @@
 use Rattle.std.proofs.Common.{◌≡◌, ◌∷◌, sym, ap, ◌∙◌, length, rules}
 use Rattle.dw_list.specs.Tokens.{board_fault}
-use Rattle.dw_list.proofs.TokenReading.{nothing, board_none, board_other, version_2_read}
+use Rattle.dw_list.proofs.TokenReadingLemmas.{nothing, board_none, board_other, version_2_read}
 use Rattle.dw_list.proofs.tokens.read_version_2.Goals as goal
 
 pub returns-in_default : goal.returns-in_default

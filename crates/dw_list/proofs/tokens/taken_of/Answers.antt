@@ -3,7 +3,7 @@ use Rattle.std.specs.FinSet as set
 use Rattle.std.proofs.lemmas.Bool.{eq-eqb, ne_eqb}
 use Rattle.std.proofs.lemmas.Nat.Bits.{shr_and_one}
 use Rattle.dw_board.specs.Geometry.{squares}
-use Rattle.dw_list.proofs.TokenBits.{IsGathered, gathered_none, gathered_with, gathered_without, gathered_end, shifted_all, all_squares}
+use Rattle.dw_list.proofs.TokenBitLemmas.{IsGathered, gathered_none, gathered_with, gathered_without, gathered_end, shifted_all, all_squares}
 use Rattle.dw_list.proofs.tokens.taken_of.Goals.{then-number-index-eq1, else-number-index-eq1}
 use Rattle.dw_list.proofs.tokens.taken_of.Goals as goal
 

@@ -1,4 +1,4 @@
-use Rattle.dw_list.proofs.TokenBits.{IsGathered}
+use Rattle.dw_list.proofs.TokenBitLemmas.{IsGathered}
 use Rattle.dw_list.proofs.tokens.taken_of.Given as goal
 
 abbrev pub invariant-bits : goal.invariant-bits

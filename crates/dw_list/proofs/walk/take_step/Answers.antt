@@ -1,6 +1,6 @@
 use Rattle.std.proofs.Common.{ap, inr, arith}
 use Rattle.dw_list.specs.Standing.{Standing}
-use Rattle.dw_list.specs.AskingLaws.{asked_wider, asked_ok, asked_stop}
+use Rattle.dw_list.specs.inner.AskingLemmas.{asked_wider, asked_ok, asked_stop}
 use Rattle.dw_list.proofs.StepLemmas.{trial_few, walk_met, walk_listed, walk_given, walk_back, walk_passed, walk_entered}
 use Rattle.dw_list.proofs.walk.take_step.Goals as goal
 

@@ -1,8 +1,8 @@
 use Rattle.std.proofs.Common.{subst}
-use Rattle.dw_list.specs.Walking.{HasStepped}
-use Rattle.dw_list.specs.AskingLaws.{answered, asked_then, asked_ok, asked_stop, asked_for}
+use Rattle.dw_list.specs.inner.Walking.{HasStepped}
+use Rattle.dw_list.specs.inner.AskingLemmas.{answered, asked_then, asked_ok, asked_stop, asked_for}
 use Rattle.dw_list.proofs.StepLemmas.{same_then, gives_none, gives_first}
-use Rattle.dw_list.proofs.Keeping.{keeps_step}
+use Rattle.dw_list.proofs.KeepingLemmas.{keeps_step}
 use Rattle.dw_list.proofs.walk.walk.Goals as goal
 
 pub returns-in_err-take_step-clause-asked : goal.returns-in_err-take_step-clause-asked

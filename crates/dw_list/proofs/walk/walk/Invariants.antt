@@ -1,8 +1,8 @@
 use Rattle.std.proofs.Common.{◌*◌, ◌^◌}
 use Rattle.dw_list.specs.Asking.{Asked}
-use Rattle.dw_list.specs.Steps.{cost}
-use Rattle.dw_list.specs.Walking.{KeepsFirst}
-use Rattle.dw_list.specs.AskingLaws.{answered}
+use Rattle.dw_list.specs.inner.Steps.{cost}
+use Rattle.dw_list.specs.inner.Walking.{KeepsFirst}
+use Rattle.dw_list.specs.inner.AskingLemmas.{answered}
 use Rattle.dw_list.proofs.StepLemmas.{SameLines}
 use Rattle.dw_list.proofs.walk.walk.Given as goal
 

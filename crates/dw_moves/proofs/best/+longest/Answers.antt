@@ -1,6 +1,6 @@
 use Rattle.std.proofs.Common.{◌≤◌, ◌+◌, ◌-◌, sym, ◌∙◌, subst, arith}
-use Rattle.dw_moves.specs.Chains.{ChainsFit, IsLongest}
-use Rattle.dw_moves.proofs.Longest.{Tried, tried_none, tried_all, tried_past, tried_more, item_of, some_left, fits_behind, landing_on, ord_max-is}
+use Rattle.dw_moves.specs.inner.Chains.{ChainsFit, IsLongest}
+use Rattle.dw_moves.proofs.LongestLemmas.{Tried, tried_none, tried_all, tried_past, tried_more, item_of, some_left, fits_behind, landing_on, ord_max-is}
 use Rattle.dw_moves.proofs.best.+longest.Goals as goal
 use Rattle.dw_moves.proofs.best.+longest.Goals.{then-not-has, else-not-has}
 

@@ -1,4 +1,4 @@
-use Rattle.dw_moves.proofs.Longest.{Tried}
+use Rattle.dw_moves.proofs.LongestLemmas.{Tried}
 use Rattle.dw_moves.proofs.best.+longest.Given as goal
 
 abbrev pub decreases-longest : goal.decreases-longest

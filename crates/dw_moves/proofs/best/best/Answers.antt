@@ -1,9 +1,9 @@
 use Rattle.std.proofs.Common.{subst, sym, ◌∙◌}
 use Rattle.std.proofs.lemmas.Bool.{true≢false}
-use Rattle.dw_moves.specs.Chains.{IsBestFrom}
-use Rattle.dw_moves.proofs.Longest.{ord_max-is}
-use Rattle.dw_moves.proofs.EachSquare.{board_end, board_next}
-use Rattle.dw_moves.proofs.BestFrom.{best_none, best_to_none, best_to_more, best_all}
+use Rattle.dw_moves.specs.inner.Chains.{IsBestFrom}
+use Rattle.dw_moves.proofs.LongestLemmas.{ord_max-is}
+use Rattle.dw_moves.proofs.EachSquareLemmas.{board_end, board_next}
+use Rattle.dw_moves.proofs.BestFromLemmas.{best_none, best_to_none, best_to_more, best_all}
 use Rattle.dw_moves.proofs.best.best.Goals as goal
 use Rattle.dw_moves.proofs.best.best.Goals.{in-Some, in_default}
 

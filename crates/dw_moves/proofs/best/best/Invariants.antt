@@ -1,4 +1,4 @@
-use Rattle.dw_moves.proofs.BestFrom.{BestTo}
+use Rattle.dw_moves.proofs.BestFromLemmas.{BestTo}
 use Rattle.dw_moves.proofs.best.best.Given as goal
 
 abbrev pub invariant-squares : goal.invariant-squares

@@ -1,4 +1,4 @@
-use Rattle.dw_moves.proofs.BestFrom.{move_by_capture, move_by_step}
+use Rattle.dw_moves.proofs.BestFromLemmas.{move_by_capture, move_by_step}
 use Rattle.dw_moves.proofs.best.has_move.Goals as goal
 
 pub returns-then-can_capture : goal.returns-then-can_capture

@@ -1,10 +1,10 @@
 use Rattle.std.proofs.Common.{◌≡◌, ◌<◌, sym, ◌∙◌, subst, arith, refl}
 use Rattle.std.proofs.lemmas.Bool.{true≢false}
 use Rattle.std.specs.FinSet as fin
-use Rattle.dw_moves.specs.Plain.{jump_list}
-use Rattle.dw_moves.specs.Chains.{Takes}
-use Rattle.dw_moves.proofs.Longest.{item_of, landing_on}
-use Rattle.dw_moves.proofs.TakesThese.{takes_nothing, takes_first, fewer_left, none_takes_more, none_takes_all}
+use Rattle.dw_moves.specs.inner.Plain.{jump_list}
+use Rattle.dw_moves.specs.inner.Chains.{Takes}
+use Rattle.dw_moves.proofs.LongestLemmas.{item_of, landing_on}
+use Rattle.dw_moves.proofs.TakesTheseLemmas.{takes_nothing, takes_first, fewer_left, none_takes_more, none_takes_all}
 use Rattle.dw_moves.proofs.chains.+takes.Goals as goal
 use Rattle.dw_moves.proofs.chains.+takes.Goals.{else-has-via-then-has+else-takes, else-has-via-else-has}
 

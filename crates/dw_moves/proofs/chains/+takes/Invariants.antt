@@ -1,5 +1,5 @@
 use Rattle.std.specs.FinSet as fin
-use Rattle.dw_moves.proofs.TakesThese.{NoneTakes}
+use Rattle.dw_moves.proofs.TakesTheseLemmas.{NoneTakes}
 use Rattle.dw_moves.proofs.chains.+takes.Given as goal
 
 abbrev pub decreases-takes : goal.decreases-takes

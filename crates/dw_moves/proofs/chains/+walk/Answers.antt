@@ -2,10 +2,10 @@ use Rattle.std.proofs.Common.{◌≡◌, ◌≤◌, ◌+◌, ◌-◌, false, sym
 use Rattle.std.specs.FinSet as fin
 use Rattle.std.proofs.lemmas.Result.{IfOk-weaker}
 use Rattle.dw_moves.specs.Moves.{Move}
-use Rattle.dw_moves.specs.MoveLaws.{same_move}
-use Rattle.dw_moves.specs.Chains.{ChainsFit, Is, Longest, further}
-use Rattle.dw_moves.proofs.Runs.{freed, ray_falls}
-use Rattle.dw_moves.proofs.Walked.{TakesOver, landed_none, landed_more, landed_last, landed_stop, jump_onto, onto_towards, towards_taken, walked_all, count_fits, chains_fit_behind}
+use Rattle.dw_moves.specs.inner.MoveLemmas.{same_move}
+use Rattle.dw_moves.specs.inner.Chains.{ChainsFit, Is, Longest, further}
+use Rattle.dw_moves.proofs.RunLemmas.{freed, ray_falls}
+use Rattle.dw_moves.proofs.WalkedLemmas.{TakesOver, landed_none, landed_more, landed_last, landed_stop, jump_onto, onto_towards, towards_taken, walked_all, count_fits, chains_fit_behind}
 use Rattle.dw_moves.proofs.chains.+walk.Goals as goal
 
 pub walk-returns : goal.walk-returns

@@ -1,6 +1,6 @@
 use Rattle.std.proofs.Common.{◌+◌, ◌-◌, ◌*◌, length}
 use Rattle.dw_moves.specs.Moves.{ray}
-use Rattle.dw_moves.proofs.Walked.{Landed}
+use Rattle.dw_moves.proofs.WalkedLemmas.{Landed}
 use Rattle.dw_moves.proofs.chains.+walk.Given as goal
 
 abbrev pub decreases-walk : goal.decreases-walk

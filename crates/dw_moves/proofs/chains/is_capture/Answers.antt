@@ -1,8 +1,8 @@
 use Rattle.std.proofs.Common.{◌≡◌, true, sym, ap, ◌∙◌}
 use Rattle.dw_board.specs.Placement.{same_side}
 use Rattle.dw_moves.specs.Moves.{Move}
-use Rattle.dw_moves.proofs.BestFrom.{stands_own}
-use Rattle.dw_moves.proofs.TakesThese.{capture_takes}
+use Rattle.dw_moves.proofs.BestFromLemmas.{stands_own}
+use Rattle.dw_moves.proofs.TakesTheseLemmas.{capture_takes}
 use Rattle.dw_moves.proofs.chains.is_capture.Goals as goal
 
 pub takes-requires : goal.takes-requires

@@ -1,7 +1,7 @@
 use Rattle.std.proofs.Common.{◌≤◌, sym, ap, ◌∙◌, inl, inr, arith, refl}
 use Rattle.std.specs.List.{list_any}
-use Rattle.dw_moves.specs.MoveLaws.{same_moves}
-use Rattle.dw_moves.proofs.Kept.{Left, offered_new, offered_old}
+use Rattle.dw_moves.specs.inner.MoveLemmas.{same_moves}
+use Rattle.dw_moves.proofs.KeptLemmas.{Left, offered_new, offered_old}
 use Rattle.dw_moves.proofs.chains.keep.Goals as goal
 use Rattle.dw_moves.proofs.chains.keep.Goals.{then-most-count, else-most-count}
 

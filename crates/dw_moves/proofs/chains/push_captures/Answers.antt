@@ -1,7 +1,7 @@
 use Rattle.std.proofs.Common.{◌<◌, sym, subst, refl}
 use Rattle.std.specs.FinSet as fin
-use Rattle.dw_moves.proofs.TakesThese.{fewer_left}
-use Rattle.dw_moves.proofs.Taking.{past_none, past_more, past_all}
+use Rattle.dw_moves.proofs.TakesTheseLemmas.{fewer_left}
+use Rattle.dw_moves.proofs.TakingLemmas.{past_none, past_more, past_all}
 use Rattle.dw_moves.proofs.chains.push_captures.Goals as goal
 
 pub squares-init : goal.squares-init

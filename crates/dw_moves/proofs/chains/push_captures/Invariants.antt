@@ -1,6 +1,6 @@
 use Rattle.std.specs.FinSet as fin
-use Rattle.dw_moves.specs.Chains.{Longest}
-use Rattle.dw_moves.proofs.Taking.{TakingPast}
+use Rattle.dw_moves.specs.inner.Chains.{Longest}
+use Rattle.dw_moves.proofs.TakingLemmas.{TakingPast}
 use Rattle.dw_moves.proofs.chains.push_captures.Given as goal
 
 abbrev pub invariant-squares : goal.invariant-squares

@@ -1,9 +1,9 @@
 use Rattle.std.proofs.Common.{◌≡◌, true, sym, ap, ◌∙◌}
 use Rattle.std.proofs.lemmas.Result.{IfOk-weaker}
 use Rattle.dw_board.specs.Placement.{same_side}
-use Rattle.dw_moves.specs.Chains.{EndsAs, Longest}
-use Rattle.dw_moves.proofs.BestFrom.{stands_own}
-use Rattle.dw_moves.proofs.Taking.{walk_fits, walked_from}
+use Rattle.dw_moves.specs.inner.Chains.{EndsAs, Longest}
+use Rattle.dw_moves.proofs.BestFromLemmas.{stands_own}
+use Rattle.dw_moves.proofs.TakingLemmas.{walk_fits, walked_from}
 use Rattle.dw_moves.proofs.chains.push_from.Goals as goal
 
 pub walk-requires-clause-fits : goal.walk-requires-clause-fits

@@ -2,8 +2,8 @@ use Rattle.std.proofs.Common.{◌≡◌, true, sym, ap, ◌∙◌, refl, arith}
 use Rattle.std.specs.FinSet as fin
 use Rattle.dw_board.specs.Placement.{same_side}
 use Rattle.dw_moves.specs.Moves.{Move}
-use Rattle.dw_moves.proofs.BestFrom.{stands_own}
-use Rattle.dw_moves.proofs.Followed.{follow_nothing, follow_stuck, follow_most, follow_fewer, path_legal}
+use Rattle.dw_moves.proofs.BestFromLemmas.{stands_own}
+use Rattle.dw_moves.proofs.FollowedLemmas.{follow_nothing, follow_stuck, follow_most, follow_fewer, path_legal}
 use Rattle.dw_moves.proofs.follow.follow.Goals as goal
 
 pub returns-then-most-eq0-clause-path : goal.returns-then-most-eq0-clause-path

@@ -1,6 +1,6 @@
 use Rattle.std.proofs.Common.{sym, ◌∙◌, refl, subst}
 use Rattle.dw_moves.specs.Moves.{Move}
-use Rattle.dw_moves.proofs.Followed.{Followed, followed_none, followed_more, followed_all, followed_stuck, only_taken, none_taken}
+use Rattle.dw_moves.proofs.FollowedLemmas.{Followed, followed_none, followed_more, followed_all, followed_stuck, only_taken, none_taken}
 use Rattle.dw_moves.proofs.follow.jump_along.Goals as goal
 
 pub landings-init : goal.landings-init

@@ -1,4 +1,4 @@
-use Rattle.dw_moves.proofs.Followed.{Followed}
+use Rattle.dw_moves.proofs.FollowedLemmas.{Followed}
 use Rattle.dw_moves.proofs.follow.jump_along.Given as goal
 
 abbrev pub invariant-landings : goal.invariant-landings

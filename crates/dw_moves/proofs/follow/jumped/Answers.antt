@@ -1,8 +1,8 @@
 use Rattle.std.proofs.Common.{◌≡◌, sym, ◌∙◌, refl}
 use Rattle.std.proofs.lemmas.Bool.{true≢false, eqb-true, eq-eqb}
-use Rattle.dw_moves.specs.Plain.{jump_list}
-use Rattle.dw_moves.proofs.Longest.{item_of}
-use Rattle.dw_moves.proofs.Followed.{none_lands_more, lands_here, lands_nowhere}
+use Rattle.dw_moves.specs.inner.Plain.{jump_list}
+use Rattle.dw_moves.proofs.LongestLemmas.{item_of}
+use Rattle.dw_moves.proofs.FollowedLemmas.{none_lands_more, lands_here, lands_nowhere}
 use Rattle.dw_moves.proofs.follow.jumped.Goals as goal
 
 pub returns-then-eq : goal.returns-then-eq

@@ -1,4 +1,4 @@
-use Rattle.dw_moves.proofs.Followed.{NoneLands}
+use Rattle.dw_moves.proofs.FollowedLemmas.{NoneLands}
 use Rattle.dw_moves.proofs.follow.jumped.Given as goal
 
 abbrev pub invariant-jumps : goal.invariant-jumps

@@ -1,6 +1,6 @@
 use Rattle.std.proofs.Common.{◌+◌, ◌≤◌, ◌<◌, length, sym, ◌∙◌, arith, lit<}
-use Rattle.dw_moves.proofs.Runs.{freed, ray_falls}
-use Rattle.dw_moves.proofs.JumpSteps.{added_room, added_fits, added_more, added_last, added_stop, over_to}
+use Rattle.dw_moves.proofs.RunLemmas.{freed, ray_falls}
+use Rattle.dw_moves.proofs.JumpStepLemmas.{added_room, added_fits, added_more, added_last, added_stop, over_to}
 use Rattle.dw_moves.proofs.jumps.add_landings.Goals as goal
 
 pub push-requires : goal.push-requires

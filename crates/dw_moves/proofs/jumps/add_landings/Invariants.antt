@@ -1,6 +1,6 @@
 use Rattle.std.proofs.Common.{length}
 use Rattle.dw_moves.specs.Moves.{ray}
-use Rattle.dw_moves.proofs.JumpSteps.{Added, over_to}
+use Rattle.dw_moves.proofs.JumpStepLemmas.{Added, over_to}
 use Rattle.dw_moves.proofs.jumps.add_landings.Given as goal
 
 abbrev pub invariant-landings : goal.invariant-landings

@@ -1,6 +1,6 @@
 use Rattle.std.proofs.Common.{sym, ◌∙◌}
-use Rattle.dw_moves.proofs.Runs.{freed, ray_falls}
-use Rattle.dw_moves.proofs.JumpSteps.{reached_more}
+use Rattle.dw_moves.proofs.RunLemmas.{freed, ray_falls}
+use Rattle.dw_moves.proofs.JumpStepLemmas.{reached_more}
 use Rattle.dw_moves.proofs.jumps.last_free.Goals as goal
 
 pub empty-smaller : goal.empty-smaller

@@ -1,6 +1,6 @@
 use Rattle.std.proofs.Common.{length}
 use Rattle.dw_moves.specs.Moves.{ray}
-use Rattle.dw_moves.proofs.JumpSteps.{Reached}
+use Rattle.dw_moves.proofs.JumpStepLemmas.{Reached}
 use Rattle.dw_moves.proofs.jumps.last_free.Given as goal
 
 abbrev pub invariant-empty : goal.invariant-empty

@@ -1,4 +1,4 @@
-use Rattle.dw_moves.proofs.LegalTakes.{legal_moves_take}
+use Rattle.dw_moves.proofs.LegalTakeLemmas.{legal_moves_take}
 use Rattle.dw_moves.proofs.laws.legal_moves_take.Goals as goal
 
 pub returns : goal.returns

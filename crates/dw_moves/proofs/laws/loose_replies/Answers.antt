@@ -1,4 +1,4 @@
-use Rattle.dw_moves.proofs.Replying.{loose_replies}
+use Rattle.dw_moves.proofs.ReplyLemmas.{loose_replies}
 use Rattle.dw_moves.proofs.laws.loose_replies.Goals as goal
 
 pub returns : goal.returns

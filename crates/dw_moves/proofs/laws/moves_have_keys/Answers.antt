@@ -1,4 +1,4 @@
-use Rattle.dw_moves.proofs.MoveKeys.{key_of, key_is, one_key, keys_differ}
+use Rattle.dw_moves.proofs.MoveKeyLemmas.{key_of, key_is, one_key, keys_differ}
 use Rattle.dw_moves.proofs.laws.moves_have_keys.Goals as goal
 
 pub returns : goal.returns

@@ -1,4 +1,4 @@
-use Rattle.dw_moves.proofs.MoveKeys.{ordered, in_order, one_order, listing, listed_in_order, one_list}
+use Rattle.dw_moves.proofs.MoveKeyLemmas.{ordered, in_order, one_order, listing, listed_in_order, one_list}
 use Rattle.dw_moves.proofs.laws.moves_in_order.Goals as goal
 
 pub returns : goal.returns

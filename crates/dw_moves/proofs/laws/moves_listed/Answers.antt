@@ -1,5 +1,5 @@
-use Rattle.dw_moves.proofs.Plain.{legal_list}
-use Rattle.dw_moves.proofs.LegalMoves.{legal_from, legal_in}
+use Rattle.dw_moves.proofs.PlainLemmas.{legal_list}
+use Rattle.dw_moves.proofs.LegalMoveLemmas.{legal_from, legal_in}
 use Rattle.dw_moves.proofs.laws.moves_listed.Goals as goal
 
 pub returns : goal.returns

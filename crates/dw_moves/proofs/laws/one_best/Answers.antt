@@ -1,5 +1,5 @@
-use Rattle.dw_moves.proofs.Plain.{best}
-use Rattle.dw_moves.proofs.LegalMoves.{is_best, best_only}
+use Rattle.dw_moves.proofs.PlainLemmas.{best}
+use Rattle.dw_moves.proofs.LegalMoveLemmas.{is_best, best_only}
 use Rattle.dw_moves.proofs.laws.one_best.Goals as goal
 
 pub returns : goal.returns

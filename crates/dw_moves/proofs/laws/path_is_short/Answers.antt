@@ -1,4 +1,4 @@
-use Rattle.dw_moves.proofs.CaptureBound.{path_bound}
+use Rattle.dw_moves.proofs.CaptureBoundLemmas.{path_bound}
 use Rattle.dw_moves.proofs.laws.path_is_short.Goals as goal
 
 pub returns : goal.returns

@@ -1,4 +1,4 @@
-use Rattle.dw_moves.proofs.PathTells.{path_tells}
+use Rattle.dw_moves.proofs.PathTellsLemmas.{path_tells}
 use Rattle.dw_moves.proofs.laws.path_tells.Goals as goal
 
 pub returns : goal.returns

@@ -1,4 +1,4 @@
-use Rattle.dw_moves.proofs.PlayStays.{play_stays}
+use Rattle.dw_moves.proofs.PlayStaysLemmas.{play_stays}
 use Rattle.dw_moves.proofs.laws.play_stays.Goals as goal
 
 pub returns : goal.returns

@@ -1,5 +1,5 @@
 use Rattle.std.proofs.Common.{sym, ◌∙◌}
-use Rattle.dw_moves.specs.MoveLaws.{same_moves-is}
+use Rattle.dw_moves.specs.inner.MoveLemmas.{same_moves-is}
 use Rattle.dw_moves.proofs.laws.same_move.Goals as goal
 
 pub returns : goal.returns

@@ -1,4 +1,4 @@
-use Rattle.dw_moves.proofs.Replying.{step_quiet}
+use Rattle.dw_moves.proofs.ReplyLemmas.{step_quiet}
 use Rattle.dw_moves.proofs.laws.steps_are_quiet.Goals as goal
 
 pub returns : goal.returns

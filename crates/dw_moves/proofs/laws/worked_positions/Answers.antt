@@ -1,4 +1,4 @@
-use Rattle.dw_moves.proofs.WorkedPositions.{worked_positions}
+use Rattle.dw_moves.proofs.WorkedPositionLemmas.{worked_positions}
 use Rattle.dw_moves.proofs.laws.worked_positions.Goals as goal
 
 pub returns : goal.returns

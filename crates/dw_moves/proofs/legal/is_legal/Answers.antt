@@ -2,7 +2,7 @@ use Rattle.std.proofs.Common.{◌≡◌, sym, ap, ◌∙◌, arith}
 use Rattle.std.proofs.lemmas.Bool.{true≢false}
 use Rattle.std.specs.FinSet as fin
 use Rattle.dw_moves.specs.Moves.{Move}
-use Rattle.dw_moves.proofs.Filled.{legal_count, legal_if_quiet, legal_if_capture}
+use Rattle.dw_moves.proofs.FilledLemmas.{legal_count, legal_if_quiet, legal_if_capture}
 use Rattle.dw_moves.proofs.legal.is_legal.Goals as goal
 
 pub returns-then-count-most : goal.returns-then-count-most

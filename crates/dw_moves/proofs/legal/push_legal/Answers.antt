@@ -1,5 +1,5 @@
 use Rattle.std.proofs.Common.{arith}
-use Rattle.dw_moves.proofs.Filled.{legal_quietly, legal_captures}
+use Rattle.dw_moves.proofs.FilledLemmas.{legal_quietly, legal_captures}
 use Rattle.dw_moves.proofs.legal.push_legal.Goals as goal
 
 pub returns-in_ok-push_quiet : goal.returns-in_ok-push_quiet

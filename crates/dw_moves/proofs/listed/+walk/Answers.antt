@@ -2,14 +2,14 @@ use Rattle.std.proofs.Common.{◌≡◌, ◌≤◌, ◌+◌, ◌-◌, [], ◌∷
 use Rattle.std.specs.FinSet as fin
 use Rattle.std.proofs.lemmas.Result.{IfOk-weaker}
 use Rattle.dw_moves.specs.Moves.{Move}
-use Rattle.dw_moves.specs.MoveLaws.{same_move}
-use Rattle.dw_moves.specs.Plain.{jump_list}
-use Rattle.dw_moves.specs.Chains.{ChainsFit}
+use Rattle.dw_moves.specs.inner.MoveLemmas.{same_move}
+use Rattle.dw_moves.specs.inner.Plain.{jump_list}
+use Rattle.dw_moves.specs.inner.Chains.{ChainsFit}
 use Rattle.dw_moves.specs.Order.{Listed}
-use Rattle.dw_moves.specs.Listing.{entries_listed, This, LongestLeast}
-use Rattle.dw_moves.proofs.Longest.{item_of, landing_on}
-use Rattle.dw_moves.proofs.Walked.{count_fits, chains_fit_behind}
-use Rattle.dw_moves.proofs.LeastWalked.{onward, same_listed_parts, gone_none, gone_past, gone_more, gone_on, gone_here, gone_as, popped}
+use Rattle.dw_moves.specs.inner.Listing.{entries_listed, This, LongestLeast}
+use Rattle.dw_moves.proofs.LongestLemmas.{item_of, landing_on}
+use Rattle.dw_moves.proofs.WalkedLemmas.{count_fits, chains_fit_behind}
+use Rattle.dw_moves.proofs.LeastWalkedLemmas.{onward, same_listed_parts, gone_none, gone_past, gone_more, gone_on, gone_here, gone_as, popped}
 use Rattle.dw_moves.proofs.listed.+walk.Goals as goal
 use Rattle.dw_moves.proofs.listed.+walk.Goals.{then-not-has+in_ok-longest, else-not-has}
 

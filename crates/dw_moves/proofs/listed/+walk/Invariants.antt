@@ -1,6 +1,6 @@
 use Rattle.std.proofs.Common.{◌≡◌, ◌-◌}
-use Rattle.dw_moves.specs.Listing.{entries_listed}
-use Rattle.dw_moves.proofs.LeastWalked.{Gone}
+use Rattle.dw_moves.specs.inner.Listing.{entries_listed}
+use Rattle.dw_moves.proofs.LeastWalkedLemmas.{Gone}
 use Rattle.dw_moves.proofs.listed.+walk.Given as goal
 
 abbrev pub decreases-walk : goal.decreases-walk

@@ -1,6 +1,6 @@
 use Rattle.std.proofs.Common.{◌≤◌, ap, ◌∙◌, inl, inr, arith}
-use Rattle.dw_moves.specs.Listing.{entries_listed}
-use Rattle.dw_moves.proofs.LeastKept.{Left, offered, offered_past}
+use Rattle.dw_moves.specs.inner.Listing.{entries_listed}
+use Rattle.dw_moves.proofs.LeastKeptLemmas.{Left, offered, offered_past}
 use Rattle.dw_moves.proofs.listed.keep.Goals as goal
 use Rattle.dw_moves.proofs.listed.keep.Goals.{then-most-count, else-most-count}
 

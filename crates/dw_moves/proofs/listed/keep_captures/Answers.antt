@@ -1,8 +1,8 @@
 use Rattle.std.proofs.Common.{◌<◌, sym, subst, refl}
-use Rattle.dw_moves.specs.Listing.{entries_listed}
+use Rattle.dw_moves.specs.inner.Listing.{entries_listed}
 use Rattle.std.specs.FinSet as fin
-use Rattle.dw_moves.proofs.TakesThese.{fewer_left}
-use Rattle.dw_moves.proofs.LeastTaking.{led_none, led_more, led_all}
+use Rattle.dw_moves.proofs.TakesTheseLemmas.{fewer_left}
+use Rattle.dw_moves.proofs.LeastTakingLemmas.{led_none, led_more, led_all}
 use Rattle.dw_moves.proofs.listed.keep_captures.Goals as goal
 
 pub squares-init : goal.squares-init

@@ -1,6 +1,6 @@
 use Rattle.std.specs.FinSet as fin
-use Rattle.dw_moves.specs.Listing.{entries_listed, LongestLeast}
-use Rattle.dw_moves.proofs.LeastTaking.{LeadingPast}
+use Rattle.dw_moves.specs.inner.Listing.{entries_listed, LongestLeast}
+use Rattle.dw_moves.proofs.LeastTakingLemmas.{LeadingPast}
 use Rattle.dw_moves.proofs.listed.keep_captures.Given as goal
 
 abbrev pub invariant-squares : goal.invariant-squares

@@ -4,11 +4,11 @@ use Rattle.dw_board.specs.Geometry.{OnBoard}
 use Rattle.dw_board.specs.Placement.{same_side}
 use Rattle.dw_moves.specs.Moves.{Move}
 use Rattle.dw_moves.specs.Order.{Listed}
-use Rattle.dw_moves.specs.Listing.{entries_listed, GoesBy, LongestLeast}
-use Rattle.dw_moves.proofs.BestFrom.{stands_own}
-use Rattle.dw_moves.proofs.Taking.{walk_fits}
-use Rattle.dw_moves.proofs.LeastWalked.{same_listed_parts}
-use Rattle.dw_moves.proofs.LeastTaking.{start_on, led_from, none_leads, enemy_leads}
+use Rattle.dw_moves.specs.inner.Listing.{entries_listed, GoesBy, LongestLeast}
+use Rattle.dw_moves.proofs.BestFromLemmas.{stands_own}
+use Rattle.dw_moves.proofs.TakingLemmas.{walk_fits}
+use Rattle.dw_moves.proofs.LeastWalkedLemmas.{same_listed_parts}
+use Rattle.dw_moves.proofs.LeastTakingLemmas.{start_on, led_from, none_leads, enemy_leads}
 use Rattle.dw_moves.proofs.listed.keep_from.Goals as goal
 
 pub returns-in_default : goal.returns-in_default

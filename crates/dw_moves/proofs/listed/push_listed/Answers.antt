@@ -1,6 +1,6 @@
 use Rattle.std.proofs.Common.{◌≡◌, ◌++◌, sym, ap, ◌∙◌, subst, arith}
-use Rattle.dw_moves.specs.Listing.{entries_listed, HasAll}
-use Rattle.dw_moves.proofs.LeastPaths.{captures_all, quiet_all_listed}
+use Rattle.dw_moves.specs.inner.Listing.{entries_listed, HasAll}
+use Rattle.dw_moves.proofs.LeastPathLemmas.{captures_all, quiet_all_listed}
 use Rattle.dw_moves.proofs.listed.push_listed.Goals as goal
 
 pub paths-init : goal.paths-init

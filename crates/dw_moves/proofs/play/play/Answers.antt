@@ -1,6 +1,6 @@
 use Rattle.std.proofs.Common.{ap, ◌∙◌}
 use Rattle.dw_moves.specs.Moves.{other}
-use Rattle.dw_moves.proofs.Played.{played}
+use Rattle.dw_moves.proofs.PlayedLemmas.{played}
 use Rattle.dw_moves.proofs.play.play.Goals as goal
 
 pub returns : goal.returns

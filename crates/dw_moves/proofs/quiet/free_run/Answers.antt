@@ -1,5 +1,5 @@
 use Rattle.std.proofs.Common.{◌+◌, ◌≤◌, arith, sym, ◌∙◌}
-use Rattle.dw_moves.proofs.Runs.{freed, room, goes_on, goes_once, ray_falls, count_stop, run_short}
+use Rattle.dw_moves.proofs.RunLemmas.{freed, room, goes_on, goes_once, ray_falls, count_stop, run_short}
 use Rattle.dw_moves.proofs.quiet.free_run.Goals as goal
 
 pub overflow_add-count : goal.overflow_add-count

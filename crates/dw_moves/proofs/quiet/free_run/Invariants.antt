@@ -4,7 +4,7 @@ use Rattle.dw_board.specs.Placement.{Placement}
 use Rattle.dw_board.specs.declared.piece.Kind.{Kind}
 use Rattle.dw_board.specs.declared.board.Dir.{Dir}
 use Rattle.dw_moves.specs.Moves.{ray}
-use Rattle.dw_moves.specs.Plain.{landings_for}
+use Rattle.dw_moves.specs.inner.Plain.{landings_for}
 use Rattle.dw_moves.proofs.quiet.free_run.Given as goal
 
 -- the squares counted and those still to come

@@ -1,5 +1,5 @@
 use Rattle.std.proofs.Common.{sym, ◌∙◌}
-use Rattle.dw_moves.proofs.KernelSets.{free_step_none, free_step_some}
+use Rattle.dw_moves.proofs.GlanceSetLemmas.{free_step_none, free_step_some}
 use Rattle.dw_moves.proofs.quiet.free_step.Goals as goal
 
 pub returns-then-has : goal.returns-then-has

@@ -4,9 +4,9 @@ use Rattle.dw_board.specs.declared.board.Dir.{Dir}
 use Rattle.dw_board.specs.declared.board.Dir.TheVariants.{UpLeft, UpRight, DownLeft, DownRight}
 use Rattle.dw_board.specs.Placement.{same_side}
 use Rattle.dw_moves.specs.Moves.{Member}
-use Rattle.dw_moves.specs.Plain.{goes}
-use Rattle.dw_moves.proofs.OrChain.{then_or, else_or}
-use Rattle.dw_moves.proofs.Quietly.{Anywhere, own_quiet, both_ways}
+use Rattle.dw_moves.specs.inner.Plain.{goes}
+use Rattle.dw_moves.proofs.OrChainLemmas.{then_or, else_or}
+use Rattle.dw_moves.proofs.QuietLemmas.{Anywhere, own_quiet, both_ways}
 use Rattle.dw_moves.proofs.quiet.is_quiet.Goals as goal
 use Rattle.dw_moves.proofs.quiet.is_quiet.Goals.{then-goes_to, else-goes_to, then-goes_to-2, else-goes_to-2}
 

@@ -1,9 +1,9 @@
 use Rattle.std.proofs.Common.{◌<◌, sym, subst, refl, arith}
 use Rattle.std.specs.FinSet as fin
 use Rattle.dw_board.specs.declared.piece.Kind.TheVariants.{King}
-use Rattle.dw_moves.proofs.KernelSets.{AreKind}
-use Rattle.dw_moves.proofs.TakesThese.{fewer_left}
-use Rattle.dw_moves.proofs.Tallying.{tally_none, tally_more, tally_all}
+use Rattle.dw_moves.proofs.GlanceSetLemmas.{AreKind}
+use Rattle.dw_moves.proofs.TakesTheseLemmas.{fewer_left}
+use Rattle.dw_moves.proofs.TallyLemmas.{tally_none, tally_more, tally_all}
 use Rattle.dw_moves.proofs.quiet.kings_count.Goals as goal
 
 pub squares-init : goal.squares-init

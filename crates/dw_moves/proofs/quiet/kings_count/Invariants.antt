@@ -1,5 +1,5 @@
 use Rattle.std.specs.FinSet as fin
-use Rattle.dw_moves.proofs.Tallying.{Tally}
+use Rattle.dw_moves.proofs.TallyLemmas.{Tally}
 use Rattle.dw_moves.proofs.quiet.kings_count.Given as goal
 
 abbrev pub invariant-squares : goal.invariant-squares

@@ -1,5 +1,5 @@
 use Rattle.std.proofs.Common.{◌∙◌}
-use Rattle.dw_moves.proofs.Tallying.{men_counted}
+use Rattle.dw_moves.proofs.TallyLemmas.{men_counted}
 use Rattle.dw_moves.proofs.quiet.men_count.Goals as goal
 
 pub returns-clause-value : goal.returns-clause-value

@@ -1,5 +1,5 @@
-use Rattle.dw_moves.proofs.KernelSets.{occupied_are}
-use Rattle.dw_moves.proofs.Adding.{reach_is, no_reach}
+use Rattle.dw_moves.proofs.GlanceSetLemmas.{occupied_are}
+use Rattle.dw_moves.proofs.AddingLemmas.{reach_is, no_reach}
 use Rattle.dw_moves.proofs.quiet.men_reach.Goals as goal
 
 pub returns-then-may_go : goal.returns-then-may_go

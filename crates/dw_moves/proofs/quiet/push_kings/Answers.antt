@@ -1,9 +1,9 @@
 use Rattle.std.proofs.Common.{◌<◌, sym, subst, refl}
 use Rattle.std.specs.FinSet as fin
-use Rattle.dw_moves.proofs.TakesThese.{fewer_left}
+use Rattle.dw_moves.proofs.TakesTheseLemmas.{fewer_left}
 use Rattle.dw_board.specs.declared.piece.Kind.TheVariants.{King}
-use Rattle.dw_moves.proofs.KernelSets.{AreKind}
-use Rattle.dw_moves.proofs.Adding.{going_none, going_more, going_all}
+use Rattle.dw_moves.proofs.GlanceSetLemmas.{AreKind}
+use Rattle.dw_moves.proofs.AddingLemmas.{going_none, going_more, going_all}
 use Rattle.dw_moves.proofs.quiet.push_kings.Goals as goal
 
 pub squares-init : goal.squares-init

@@ -1,5 +1,5 @@
 use Rattle.std.specs.FinSet as fin
-use Rattle.dw_moves.proofs.Adding.{Going}
+use Rattle.dw_moves.proofs.AddingLemmas.{Going}
 use Rattle.dw_moves.proofs.quiet.push_kings.Given as goal
 
 abbrev pub invariant-squares : goal.invariant-squares

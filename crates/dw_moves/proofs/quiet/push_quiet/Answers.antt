@@ -1,5 +1,5 @@
 use Rattle.std.proofs.lemmas.Result.{on_ok_weaker}
-use Rattle.dw_moves.proofs.Adding.{all_quiet}
+use Rattle.dw_moves.proofs.AddingLemmas.{all_quiet}
 use Rattle.dw_moves.proofs.quiet.push_quiet.Goals as goal
 
 pub returns : goal.returns

@@ -1,6 +1,6 @@
 use Rattle.std.proofs.Common.{[], ◌∷◌, ◌++◌, sym, ap, ◌∙◌}
-use Rattle.dw_moves.proofs.Runs.{freed, ray_falls}
-use Rattle.dw_moves.proofs.JumpSteps.{added_more, added_last, added_stop}
+use Rattle.dw_moves.proofs.RunLemmas.{freed, ray_falls}
+use Rattle.dw_moves.proofs.JumpStepLemmas.{added_more, added_last, added_stop}
 use Rattle.dw_moves.proofs.quiet.push_run.Goals as goal
 
 pub run-smaller : goal.run-smaller

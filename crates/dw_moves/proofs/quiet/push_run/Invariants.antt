@@ -1,6 +1,6 @@
 use Rattle.std.proofs.Common.{length}
 use Rattle.dw_moves.specs.Moves.{ray}
-use Rattle.dw_moves.proofs.JumpSteps.{Added}
+use Rattle.dw_moves.proofs.JumpStepLemmas.{Added}
 use Rattle.dw_moves.proofs.quiet.push_run.Given as goal
 
 abbrev pub invariant-run : goal.invariant-run

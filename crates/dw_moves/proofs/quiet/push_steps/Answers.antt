@@ -1,7 +1,7 @@
 use Rattle.std.proofs.Common.{◌<◌, [], ◌∷◌, ◌++◌, ap, ◌∙◌, sym, subst, refl}
 use Rattle.std.specs.FinSet as fin
-use Rattle.dw_moves.proofs.TakesThese.{fewer_left}
-use Rattle.dw_moves.proofs.Adding.{stepping_none, stepping_back, stepping_more, stepping_all}
+use Rattle.dw_moves.proofs.TakesTheseLemmas.{fewer_left}
+use Rattle.dw_moves.proofs.AddingLemmas.{stepping_none, stepping_back, stepping_more, stepping_all}
 use Rattle.dw_moves.proofs.quiet.push_steps.Goals as goal
 
 pub squares-init : goal.squares-init

@@ -1,5 +1,5 @@
 use Rattle.std.specs.FinSet as fin
-use Rattle.dw_moves.proofs.Adding.{Stepping}
+use Rattle.dw_moves.proofs.AddingLemmas.{Stepping}
 use Rattle.dw_moves.proofs.quiet.push_steps.Given as goal
 
 abbrev pub invariant-squares : goal.invariant-squares

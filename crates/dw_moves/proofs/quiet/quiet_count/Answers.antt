@@ -1,4 +1,4 @@
-use Rattle.dw_moves.proofs.Tallying.{all_counted}
+use Rattle.dw_moves.proofs.TallyLemmas.{all_counted}
 use Rattle.dw_moves.proofs.quiet.quiet_count.Goals as goal
 
 pub returns : goal.returns

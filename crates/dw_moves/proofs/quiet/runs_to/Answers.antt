@@ -1,7 +1,7 @@
 use Rattle.std.proofs.Common.{sym, ◌∙◌, refl}
 use Rattle.std.proofs.lemmas.Bool.{true≢false, eqb-true, eq-eqb}
-use Rattle.dw_moves.proofs.Runs.{freed, ray_falls}
-use Rattle.dw_moves.proofs.Quietly.{passed_more, reached_it, man_missed, run_missed}
+use Rattle.dw_moves.proofs.RunLemmas.{freed, ray_falls}
+use Rattle.dw_moves.proofs.QuietLemmas.{passed_more, reached_it, man_missed, run_missed}
 use Rattle.dw_moves.proofs.quiet.runs_to.Goals as goal
 
 pub returns-then-eq : goal.returns-then-eq

@@ -1,6 +1,6 @@
 use Rattle.std.proofs.Common.{length}
 use Rattle.dw_moves.specs.Moves.{ray}
-use Rattle.dw_moves.proofs.Quietly.{Passed}
+use Rattle.dw_moves.proofs.QuietLemmas.{Passed}
 use Rattle.dw_moves.proofs.quiet.runs_to.Given as goal
 
 abbrev pub invariant-run : goal.invariant-run

@@ -1,4 +1,4 @@
-use Rattle.dw_notation.proofs.SectionReading.{comments_say_nothing, open_comment_is_found}
+use Rattle.dw_notation.proofs.SectionReadingLemmas.{comments_say_nothing, open_comment_is_found}
 use Rattle.dw_notation.proofs.laws.comments_say_nothing.Goals as goal
 
 pub returns-clause-closed : goal.returns-clause-closed

@@ -1,4 +1,4 @@
-use Rattle.dw_notation.proofs.WholeLines.{lines_have_texts}
+use Rattle.dw_notation.proofs.WholeLineLemmas.{lines_have_texts}
 use Rattle.dw_notation.proofs.laws.lines_have_texts.Goals as goal
 
 pub returns : goal.returns

@@ -1,4 +1,4 @@
-use Rattle.dw_notation.proofs.TextLaws.{moves_have_texts}
+use Rattle.dw_notation.proofs.TextLawLemmas.{moves_have_texts}
 use Rattle.dw_notation.proofs.laws.moves_have_texts.Goals as goal
 
 pub returns : goal.returns

@@ -1,4 +1,4 @@
-use Rattle.dw_notation.proofs.SectionReading.{others_say_nothing}
+use Rattle.dw_notation.proofs.SectionReadingLemmas.{others_say_nothing}
 use Rattle.dw_notation.proofs.laws.others_say_nothing.Goals as goal
 
 pub returns : goal.returns

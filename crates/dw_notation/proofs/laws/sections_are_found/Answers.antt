@@ -1,4 +1,4 @@
-use Rattle.dw_notation.proofs.SectionReading.{sections_are_found, last_section_is_found}
+use Rattle.dw_notation.proofs.SectionReadingLemmas.{sections_are_found, last_section_is_found}
 use Rattle.dw_notation.proofs.laws.sections_are_found.Goals as goal
 
 pub returns-clause-found : goal.returns-clause-found

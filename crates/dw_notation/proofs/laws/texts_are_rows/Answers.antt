@@ -1,4 +1,4 @@
-use Rattle.dw_notation.proofs.WholeTexts.{texts_are_rows}
+use Rattle.dw_notation.proofs.WholeTextLemmas.{texts_are_rows}
 use Rattle.dw_notation.proofs.laws.texts_are_rows.Goals as goal
 
 pub returns : goal.returns

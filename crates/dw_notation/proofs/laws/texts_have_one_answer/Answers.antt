@@ -1,5 +1,5 @@
-use Rattle.dw_notation.proofs.MoveNames.{names_one}
-use Rattle.dw_notation.proofs.MoveAnswers.{one_answer}
+use Rattle.dw_notation.proofs.MoveNameLemmas.{names_one}
+use Rattle.dw_notation.proofs.MoveAnswerLemmas.{one_answer}
 use Rattle.dw_notation.proofs.laws.texts_have_one_answer.Goals as goal
 
 pub returns : goal.returns

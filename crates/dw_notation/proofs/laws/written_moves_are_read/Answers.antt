@@ -1,4 +1,4 @@
-use Rattle.dw_notation.proofs.MoveWritten.{Rules, written_named, written_read}
+use Rattle.dw_notation.proofs.MoveWrittenLemmas.{Rules, written_named, written_read}
 use Rattle.dw_notation.proofs.laws.written_moves_are_read.Goals as goal
 
 pub returns : goal.returns

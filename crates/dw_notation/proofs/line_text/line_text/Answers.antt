@@ -1,6 +1,6 @@
 use Rattle.std.proofs.Common.{◌∙◌, subst}
 use Rattle.dw_notation.specs.Text.{IsLineText}
-use Rattle.dw_notation.proofs.LineWritten.{written_line}
+use Rattle.dw_notation.proofs.LineWrittenLemmas.{written_line}
 use Rattle.dw_notation.proofs.line_text.line_text.Goals as goal
 
 pub returns : goal.returns

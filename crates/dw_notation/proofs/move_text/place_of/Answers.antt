@@ -1,9 +1,9 @@
 use Rattle.std.proofs.Common.{sym, ap, ◌∙◌}
 use Rattle.std.proofs.lemmas.Bool.{true≢false}
 use Rattle.std.proofs.lemmas.List.{get_or_default}
-use Rattle.dw_moves.specs.MoveLaws.{same_moves, same_moves-is}
+use Rattle.dw_moves.specs.inner.MoveLemmas.{same_moves, same_moves-is}
 use Rattle.dw_moves.specs.Order.{Listed}
-use Rattle.dw_notation.proofs.LineTexts.{others_within, others_more}
+use Rattle.dw_notation.proofs.LineTextLemmas.{others_within, others_more}
 use Rattle.dw_notation.proofs.move_text.place_of.Goals as goal
 
 pub returns-then-eq-clause-there : goal.returns-then-eq-clause-there

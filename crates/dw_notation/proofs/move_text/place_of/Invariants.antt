@@ -1,5 +1,5 @@
 use Rattle.std.proofs.Common.{◌-◌, length}
-use Rattle.dw_notation.proofs.LineTexts.{OthersTo}
+use Rattle.dw_notation.proofs.LineTextLemmas.{OthersTo}
 use Rattle.dw_notation.proofs.move_text.place_of.Given as goal
 
 abbrev pub invariant-places : goal.invariant-places

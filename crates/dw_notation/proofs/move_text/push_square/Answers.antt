@@ -1,5 +1,5 @@
 use Rattle.std.proofs.Common.{ap, length, arith}
-use Rattle.dw_notation.proofs.MoveTexts.{two_digits}
+use Rattle.dw_notation.proofs.MoveTextLemmas.{two_digits}
 use Rattle.dw_notation.proofs.move_text.push_square.Goals as goal
 
 pub push_str-requires : goal.push_str-requires

@@ -1,5 +1,5 @@
 use Rattle.std.proofs.Common.{◌≡◌, ◌++◌, ◌∙◌, ap, length, arith, decimal}
-use Rattle.dw_notation.proofs.MoveTexts.{written_first}
+use Rattle.dw_notation.proofs.MoveTextLemmas.{written_first}
 use Rattle.dw_notation.proofs.move_text.squares_text.Goals as goal
 
 pub rest-init : goal.rest-init

@@ -1,4 +1,4 @@
-use Rattle.dw_notation.proofs.MoveTexts.{WrittenTo}
+use Rattle.dw_notation.proofs.MoveTextLemmas.{WrittenTo}
 use Rattle.dw_notation.proofs.move_text.squares_text.Given as goal
 
 abbrev pub invariant-rest : goal.invariant-rest

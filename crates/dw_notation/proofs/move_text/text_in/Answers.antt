@@ -1,6 +1,6 @@
 use Rattle.std.proofs.Common.{◌<◌, sym, ap, ◌∙◌, length, get_or, subst, [], arith}
 use Rattle.dw_moves.specs.Order.{Listed, AreListed}
-use Rattle.dw_notation.proofs.LineTexts.{legal_has_step, text_at}
+use Rattle.dw_notation.proofs.LineTextLemmas.{legal_has_step, text_at}
 use Rattle.dw_notation.proofs.move_text.text_in.Goals as goal
 
 pub place_of-place-requires : goal.place_of-place-requires

@@ -1,6 +1,6 @@
 use Rattle.std.proofs.Common.{subst}
-use Rattle.dw_notation.specs.MoveReader.{IsOnly}
-use Rattle.dw_notation.proofs.MoveAnswers.{only_answers}
+use Rattle.dw_notation.specs.inner.MoveReader.{IsOnly}
+use Rattle.dw_notation.proofs.MoveAnswerLemmas.{only_answers}
 use Rattle.dw_notation.proofs.read_move.capture_between.Goals as goal
 
 pub returns : goal.returns

@@ -1,7 +1,7 @@
 use Rattle.std.proofs.Common.{◌≡◌, ◌∷◌, ◌++◌, [], length, sym, ◌∙◌, arith, rules}
 use Rattle.std.proofs.lemmas.Bool.{eqb-true}
 use Rattle.dw_notation.specs.MoveReading.{AreCrossed, by_crosses}
-use Rattle.dw_notation.proofs.MoveNames.{reading_more, reading_ends, reading_nowhere, reading_breaks, reading_full, empty_text, no_capture, lone_number}
+use Rattle.dw_notation.proofs.MoveNameLemmas.{reading_more, reading_ends, reading_nowhere, reading_breaks, reading_full, empty_text, no_capture, lone_number}
 use Rattle.dw_notation.proofs.read_move.capture_named.Goals as goal
 
 pub returns-in_default : goal.returns-in_default

@@ -1,5 +1,5 @@
 use Rattle.std.proofs.Common.{length}
-use Rattle.dw_notation.proofs.MoveNames.{Reading}
+use Rattle.dw_notation.proofs.MoveNameLemmas.{Reading}
 use Rattle.dw_notation.proofs.read_move.capture_named.Given as goal
 
 abbrev pub invariant-numbers : goal.invariant-numbers

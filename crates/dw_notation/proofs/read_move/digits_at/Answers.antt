@@ -1,6 +1,6 @@
 use Rattle.std.proofs.Common.{◌≡◌, ℕ, List, [], ◌∷◌, ◌++◌, true, arith, subst, sym, ◌∙◌}
 use Rattle.std.proofs.lemmas.List.{take_more}
-use Rattle.dw_board.specs.FenBlanks.{AreDigits}
+use Rattle.dw_board.specs.inner.FenBlanks.{AreDigits}
 use Rattle.dw_board.specs.FenTokens.{is_digit}
 use Rattle.dw_notation.proofs.read_move.digits_at.Goals as goal
 

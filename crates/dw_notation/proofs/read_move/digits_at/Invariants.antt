@@ -1,5 +1,5 @@
 use Rattle.std.proofs.Common.{◌≤◌, ◌-◌, length, take}
-use Rattle.dw_board.specs.FenBlanks.{AreDigits}
+use Rattle.dw_board.specs.inner.FenBlanks.{AreDigits}
 use Rattle.dw_notation.proofs.read_move.digits_at.Given as goal
 
 abbrev pub invariant-digits : goal.invariant-digits

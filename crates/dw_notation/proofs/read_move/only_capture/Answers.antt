@@ -1,6 +1,6 @@
 use Rattle.std.proofs.Common.{sym, ◌∙◌, subst, take, ◌+◌}
 use Rattle.std.proofs.lemmas.Bool.{true≢false}
-use Rattle.dw_notation.proofs.MoveAnswers.{FoundIn, passed, met, met_again}
+use Rattle.dw_notation.proofs.MoveAnswerLemmas.{FoundIn, passed, met, met_again}
 use Rattle.dw_notation.proofs.read_move.only_capture.Goals.{then-is_capture_between+else-is_some, else-is_capture_between}
 use Rattle.dw_notation.proofs.read_move.only_capture.Goals as goal
 

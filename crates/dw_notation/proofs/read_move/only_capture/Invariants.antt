@@ -1,5 +1,5 @@
 use Rattle.std.proofs.Common.{take}
-use Rattle.dw_notation.proofs.MoveAnswers.{FoundIn}
+use Rattle.dw_notation.proofs.MoveAnswerLemmas.{FoundIn}
 use Rattle.dw_notation.proofs.read_move.only_capture.Given as goal
 
 abbrev pub invariant-moves : goal.invariant-moves

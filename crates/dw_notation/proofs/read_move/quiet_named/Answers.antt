@@ -1,7 +1,7 @@
 use Rattle.std.proofs.Common.{◌≡◌, ◌∷◌, ℕ, length, sym, ◌∙◌, ap, arith, rules, None, Some}
 use Rattle.dw_board.specs.FenTokens.{number_named}
 use Rattle.dw_notation.specs.MoveReading.{Names, QuietMove}
-use Rattle.dw_notation.proofs.MoveNames.{dash_names, dash_nowhere, dash_other, dash_alone}
+use Rattle.dw_notation.proofs.MoveNameLemmas.{dash_names, dash_nowhere, dash_other, dash_alone}
 use Rattle.dw_notation.proofs.read_move.quiet_named.Goals as goal
 
 pub returns-in_default : goal.returns-in_default

@@ -3,12 +3,12 @@ use Rattle.std.specs.Prelude.{option_map}
 use Rattle.dw_moves.specs.Moves.{Legal, play}
 use Rattle.dw_moves.specs.Order.{Precedes, IsListOf}
 use Rattle.dw_list.specs.Lines.{Before}
-use Rattle.dw_list.specs.AskingLaws.{answered, asked_none, asked_then, asked_wider, asked_ok, asked_stop, asked_memory}
+use Rattle.dw_list.specs.inner.AskingLemmas.{answered, asked_none, asked_then, asked_wider, asked_ok, asked_stop, asked_memory}
 use Rattle.dw_report.specs.Verdict.{IsWinning}
-use Rattle.dw_report.specs.Judging.{LeadsToChoices, ComesToChoices, RepliesToChoices, FindsLeast, parts_of}
-use Rattle.dw_report.proofs.Gathered.{item_among}
-use Rattle.dw_report.proofs.Choices.{leads_begin, replies_begin, comes_later}
-use Rattle.dw_report.proofs.ChoiceLoops.{none_to_more, none_to_all, found_at, map_same, after_key, some_left, room_for_key, room_for_reply, after_reply, winning_legal, least_is, ok_map}
+use Rattle.dw_report.specs.inner.Judging.{LeadsToChoices, ComesToChoices, RepliesToChoices, FindsLeast, parts_of}
+use Rattle.dw_report.proofs.GatheredLemmas.{item_among}
+use Rattle.dw_report.proofs.ChoiceLemmas.{leads_begin, replies_begin, comes_later}
+use Rattle.dw_report.proofs.ChoiceLoopLemmas.{none_to_more, none_to_all, found_at, map_same, after_key, some_left, room_for_key, room_for_reply, after_reply, winning_legal, least_is, ok_map}
 use Rattle.dw_report.proofs.dual.+first_choice.Goals as goal
 
 pub choice_after_reply-returns-in_err-list-clause-asked : goal.choice_after_reply-returns-in_err-list-clause-asked

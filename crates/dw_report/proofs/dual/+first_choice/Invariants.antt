@@ -1,8 +1,8 @@
 use Rattle.std.proofs.Common.{◌+◌, ◌*◌}
 use Rattle.dw_list.specs.Asking.{Asked}
-use Rattle.dw_list.specs.AskingLaws.{answered}
-use Rattle.dw_report.specs.Judging.{LeadsToChoices, RepliesToChoices}
-use Rattle.dw_report.proofs.ChoiceLoops.{NoneTo}
+use Rattle.dw_list.specs.inner.AskingLemmas.{answered}
+use Rattle.dw_report.specs.inner.Judging.{LeadsToChoices, RepliesToChoices}
+use Rattle.dw_report.proofs.ChoiceLoopLemmas.{NoneTo}
 use Rattle.dw_report.proofs.dual.+first_choice.Given as goal
 
 abbrev pub decreases-first_choice : goal.decreases-first_choice

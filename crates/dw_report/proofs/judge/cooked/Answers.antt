@@ -1,6 +1,6 @@
 use Rattle.std.proofs.Common.{subst}
 use Rattle.dw_solve.specs.Solving.{IsLeast}
-use Rattle.dw_report.proofs.KeyLists.{some_win}
+use Rattle.dw_report.proofs.KeyListLemmas.{some_win}
 use Rattle.dw_report.proofs.judge.cooked.Goals as goal
 
 pub unreachable-requires : goal.unreachable-requires

@@ -1,4 +1,4 @@
-use Rattle.dw_list.specs.AskingLaws.{answered, asked_then, asked_ok, asked_stop}
+use Rattle.dw_list.specs.inner.AskingLemmas.{answered, asked_then, asked_ok, asked_stop}
 use Rattle.dw_report.proofs.judge.judge.Goals as goal
 
 pub returns-in_err-tries-clause-searched : goal.returns-in_err-tries-clause-searched

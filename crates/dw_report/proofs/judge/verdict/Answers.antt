@@ -1,7 +1,7 @@
 use Rattle.std.proofs.Common.{◌≡◌, rules, length, sym, ◌∙◌, vec_len}
 use Rattle.std.proofs.lemmas.Bool.{eqb-true}
-use Rattle.dw_list.specs.AskingLaws.{asked_then, asked_ok}
-use Rattle.dw_report.proofs.KeyLists.{no_keys}
+use Rattle.dw_list.specs.inner.AskingLemmas.{asked_then, asked_ok}
+use Rattle.dw_report.proofs.KeyListLemmas.{no_keys}
 use Rattle.dw_report.proofs.judge.verdict.Goals as goal
 
 pub returns-then-is_empty-clause-verdict : goal.returns-then-is_empty-clause-verdict

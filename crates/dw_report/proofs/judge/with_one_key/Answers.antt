@@ -2,12 +2,12 @@ use Rattle.std.proofs.Common.{◌-◌, ◌≤◌, [], ◌∷◌, get_or, sym, ap
 use Rattle.std.specs.Prelude.{option_map}
 use Rattle.dw_solve.specs.Wins.{Win}
 use Rattle.dw_list.specs.Lines.{Before}
-use Rattle.dw_list.specs.AskingLaws.{answered, asked_then, asked_wider, asked_ok, asked_stop}
+use Rattle.dw_list.specs.inner.AskingLemmas.{answered, asked_then, asked_wider, asked_ok, asked_stop}
 use Rattle.dw_report.specs.Verdict.{Keys}
-use Rattle.dw_report.specs.Judging.{LeadsToChoices, FindsLeast, parts_of}
-use Rattle.dw_report.proofs.KeyLists.{only_key}
-use Rattle.dw_report.proofs.MoveLines.{no_move}
-use Rattle.dw_report.proofs.Verdicts.{dual_found, sound_found}
+use Rattle.dw_report.specs.inner.Judging.{LeadsToChoices, FindsLeast, parts_of}
+use Rattle.dw_report.proofs.KeyListLemmas.{only_key}
+use Rattle.dw_report.proofs.MoveLineLemmas.{no_move}
+use Rattle.dw_report.proofs.VerdictLemmas.{dual_found, sound_found}
 use Rattle.dw_report.proofs.judge.with_one_key.Goals as goal
 
 pub returns-then-branch-clause-asked : goal.returns-then-branch-clause-asked

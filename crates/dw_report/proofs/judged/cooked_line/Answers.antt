@@ -1,7 +1,7 @@
 use Rattle.std.specs.String.{string_bytes}
-use Rattle.dw_report.proofs.ChoiceLoops.{ok_map}
-use Rattle.dw_report.proofs.JudgedTexts.{keys_legal}
-use Rattle.dw_report.proofs.VerdictTexts.{cooked_made}
+use Rattle.dw_report.proofs.ChoiceLoopLemmas.{ok_map}
+use Rattle.dw_report.proofs.JudgedTextLemmas.{keys_legal}
+use Rattle.dw_report.proofs.VerdictTextLemmas.{cooked_made}
 use Rattle.dw_report.proofs.judged.cooked_line.Goals as goal
 
 pub joined-requires : goal.joined-requires

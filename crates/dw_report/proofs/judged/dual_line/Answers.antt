@@ -1,6 +1,6 @@
 use Rattle.std.specs.String.{string_bytes}
-use Rattle.dw_report.proofs.ChoiceLoops.{ok_map}
-use Rattle.dw_report.proofs.VerdictTexts.{dual_playable, choices_legal, dual_made}
+use Rattle.dw_report.proofs.ChoiceLoopLemmas.{ok_map}
+use Rattle.dw_report.proofs.VerdictTextLemmas.{dual_playable, choices_legal, dual_made}
 use Rattle.dw_report.proofs.judged.dual_line.Goals as goal
 
 pub line_text-requires-clause-legal : goal.line_text-requires-clause-legal

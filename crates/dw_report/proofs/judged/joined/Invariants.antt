@@ -1,5 +1,5 @@
 use Rattle.std.specs.String.{string_bytes}
-use Rattle.dw_report.proofs.Joining.{JoinedTo}
+use Rattle.dw_report.proofs.JoiningLemmas.{JoinedTo}
 use Rattle.dw_report.proofs.judged.joined.Given as goal
 
 abbrev pub invariant-rest : goal.invariant-rest

@@ -1,5 +1,5 @@
 use Rattle.std.proofs.Common.{◌+◌, sym, subst}
-use Rattle.dw_report.proofs.Joining.{Reaches, reaches_start, reaches_next, reaches_all}
+use Rattle.dw_report.proofs.JoiningLemmas.{Reaches, reaches_start, reaches_next, reaches_all}
 use Rattle.dw_report.proofs.judged.reached.Goals as goal
 
 pub moves-init : goal.moves-init

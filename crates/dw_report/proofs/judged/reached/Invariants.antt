@@ -1,4 +1,4 @@
-use Rattle.dw_report.proofs.Joining.{Reaches}
+use Rattle.dw_report.proofs.JoiningLemmas.{Reaches}
 use Rattle.dw_report.proofs.judged.reached.Given as goal
 
 abbrev pub invariant-moves : goal.invariant-moves

@@ -1,6 +1,6 @@
 use Rattle.std.specs.String.{string_bytes}
-use Rattle.dw_report.proofs.ChoiceLoops.{ok_map}
-use Rattle.dw_report.proofs.VerdictTexts.{try_made}
+use Rattle.dw_report.proofs.ChoiceLoopLemmas.{ok_map}
+use Rattle.dw_report.proofs.VerdictTextLemmas.{try_made}
 use Rattle.dw_report.proofs.judged.try_line.Goals as goal
 
 pub returns : goal.returns

@@ -3,8 +3,8 @@ use Rattle.std.specs.String.{string_bytes}
 use Rattle.dw_report.specs.Verdict.{IsVerdict}
 use Rattle.dw_report.specs.Judging.{said_by}
 use Rattle.dw_report.specs.JudgedText.{IsVerdictText}
-use Rattle.dw_report.proofs.ChoiceLoops.{ok_map}
-use Rattle.dw_report.proofs.VerdictTexts.{dual_is, key_legal, sound_made}
+use Rattle.dw_report.proofs.ChoiceLoopLemmas.{ok_map}
+use Rattle.dw_report.proofs.VerdictTextLemmas.{dual_is, key_legal, sound_made}
 use Rattle.dw_report.proofs.judged.verdict_line.Goals as goal
 
 pub dual_line-requires-clause-verdict : goal.dual_line-requires-clause-verdict

@@ -1,6 +1,6 @@
 use Rattle.std.proofs.Common.{sym}
 use Rattle.std.proofs.lemmas.Result.{err_from_is_err_and}
-use Rattle.dw_report.proofs.JudgedWrites.{judged_ends, verdict_fault}
+use Rattle.dw_report.proofs.JudgedWriteLemmas.{judged_ends, verdict_fault}
 use Rattle.dw_report.proofs.judged.write_judged.Goals as goal
 
 pub returns-in_err-write_verdict-clause-text : goal.returns-in_err-write_verdict-clause-text

@@ -3,11 +3,11 @@ use Rattle.std.proofs.lemmas.Result.{err_from_is_err_and}
 use Rattle.dw_moves.specs.Moves.{Legal}
 use Rattle.dw_moves.specs.Order.{Precedes, IsListOf}
 use Rattle.dw_notation.specs.Writes.{Writes}
-use Rattle.dw_report.specs.JudgedText.{IsTryText}
-use Rattle.dw_report.specs.Running.{TextEnds}
-use Rattle.dw_report.proofs.Gathered.{item_among}
-use Rattle.dw_report.proofs.Spending.{counted_none, counted_then}
-use Rattle.dw_report.proofs.TryTexts.{none_written, at_first, at_next, at_fault, at_end}
+use Rattle.dw_report.specs.inner.JudgedText.{IsTryText}
+use Rattle.dw_report.specs.inner.Running.{TextEnds}
+use Rattle.dw_report.proofs.GatheredLemmas.{item_among}
+use Rattle.dw_report.proofs.SpendingLemmas.{counted_none, counted_then}
+use Rattle.dw_report.proofs.TryTextLemmas.{none_written, at_first, at_next, at_fault, at_end}
 use Rattle.dw_report.proofs.judged.write_tries.Goals as goal
 
 pub returns-in_err-list-clause-text : goal.returns-in_err-list-clause-text

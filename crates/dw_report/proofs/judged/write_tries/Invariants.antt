@@ -1,6 +1,6 @@
 use Rattle.std.proofs.Common.{◌≡◌, map, take}
-use Rattle.dw_report.proofs.Spending.{Counted}
-use Rattle.dw_report.proofs.TryTexts.{WroteTo}
+use Rattle.dw_report.proofs.SpendingLemmas.{Counted}
+use Rattle.dw_report.proofs.TryTextLemmas.{WroteTo}
 use Rattle.dw_report.proofs.judged.write_tries.Given as goal
 
 abbrev pub invariant-moves : goal.invariant-moves

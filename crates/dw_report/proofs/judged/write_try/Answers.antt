@@ -4,10 +4,10 @@ use Rattle.std.specs.String.{string_bytes}
 use Rattle.std.proofs.lemmas.Result.{err_from_is_err_and}
 use Rattle.dw_notation.specs.Writes.{StopsShort}
 use Rattle.dw_report.specs.Verdict.{IsRefutation}
-use Rattle.dw_report.specs.Judging.{FindsRefutation}
-use Rattle.dw_report.specs.JudgedText.{IsTryText}
-use Rattle.dw_report.proofs.Writings.{at_sink}
-use Rattle.dw_report.proofs.TryTexts.{nothing_written, try_written, try_short, no_try_written}
+use Rattle.dw_report.specs.inner.Judging.{FindsRefutation}
+use Rattle.dw_report.specs.inner.JudgedText.{IsTryText}
+use Rattle.dw_report.proofs.WritingLemmas.{at_sink}
+use Rattle.dw_report.proofs.TryTextLemmas.{nothing_written, try_written, try_short, no_try_written}
 use Rattle.dw_report.proofs.judged.write_try.Goals as goal
 
 pub returns-in_err-reply-clause-text : goal.returns-in_err-reply-clause-text

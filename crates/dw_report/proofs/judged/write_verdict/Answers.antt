@@ -1,6 +1,6 @@
 use Rattle.std.proofs.lemmas.Result.{err_from_is_err_and}
 use Rattle.dw_report.specs.JudgedText.{IsVerdictLine}
-use Rattle.dw_report.proofs.TryTexts.{nothing_written}
+use Rattle.dw_report.proofs.TryTextLemmas.{nothing_written}
 use Rattle.dw_report.proofs.judged.write_verdict.Goals as goal
 
 pub returns-in_err-verdict-clause-text : goal.returns-in_err-verdict-clause-text

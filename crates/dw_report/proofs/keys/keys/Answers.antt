@@ -2,9 +2,9 @@ use Rattle.std.proofs.Common.{◌+◌, ◌-◌, ◌≤◌, map, sym, ap, ◌∙�
 use Rattle.dw_moves.specs.Moves.{Legal, play}
 use Rattle.dw_moves.specs.Order.{Precedes, IsListOf}
 use Rattle.dw_solve.specs.Wins.{Lost}
-use Rattle.dw_list.specs.AskingLaws.{answered, asked_then, asked_wider, asked_ok, asked_stop, asked_memory}
-use Rattle.dw_report.proofs.Gathered.{GatheredTo, to_more, to_same, item_among}
-use Rattle.dw_report.proofs.KeyLists.{keys_whole}
+use Rattle.dw_list.specs.inner.AskingLemmas.{answered, asked_then, asked_wider, asked_ok, asked_stop, asked_memory}
+use Rattle.dw_report.proofs.GatheredLemmas.{GatheredTo, to_more, to_same, item_among}
+use Rattle.dw_report.proofs.KeyListLemmas.{keys_whole}
 use Rattle.dw_report.proofs.keys.keys.Goals.{then-branch+in_ok-push, else-branch}
 use Rattle.dw_report.proofs.keys.keys.Goals as goal
 

@@ -3,8 +3,8 @@ use Rattle.dw_moves.specs.Moves.{play}
 use Rattle.dw_moves.specs.Order.{Precedes}
 use Rattle.dw_solve.specs.Wins.{Lost}
 use Rattle.dw_list.specs.Asking.{Asked}
-use Rattle.dw_list.specs.AskingLaws.{answered}
-use Rattle.dw_report.proofs.Gathered.{GatheredTo}
+use Rattle.dw_list.specs.inner.AskingLemmas.{answered}
+use Rattle.dw_report.proofs.GatheredLemmas.{GatheredTo}
 use Rattle.dw_report.proofs.keys.keys.Given as goal
 
 abbrev pub invariant-moves : goal.invariant-moves

@@ -1,6 +1,6 @@
 use Rattle.dw_report.specs.Report.{chosen}
 use Rattle.dw_notation.specs.Problems.{problems_of}
-use Rattle.dw_report.proofs.Texts.{Laws, texts_some, texts_only}
+use Rattle.dw_report.proofs.TextLemmas.{Laws, texts_some, texts_only}
 use Rattle.dw_report.proofs.laws.one_report.Goals as goal
 
 pub returns : goal.returns

@@ -1,4 +1,4 @@
-use Rattle.dw_report.proofs.Verdicts.{verdict_some, verdict_only}
+use Rattle.dw_report.proofs.VerdictLemmas.{verdict_some, verdict_only}
 use Rattle.dw_report.proofs.laws.one_verdict.Goals as goal
 
 pub returns : goal.returns

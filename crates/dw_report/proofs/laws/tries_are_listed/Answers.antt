@@ -1,4 +1,4 @@
-use Rattle.dw_report.proofs.Verdicts.{tries_some, tries_only}
+use Rattle.dw_report.proofs.VerdictLemmas.{tries_some, tries_only}
 use Rattle.dw_report.proofs.laws.tries_are_listed.Goals as goal
 
 pub returns : goal.returns

@@ -3,9 +3,9 @@ use Rattle.std.proofs.lemmas.Result.{err_from_is_err_and}
 use Rattle.dw_list.specs.Listing.{stack_of}
 use Rattle.dw_list.specs.Lines.{Lines}
 use Rattle.dw_report.specs.ListedText.{IsListedText}
-use Rattle.dw_report.proofs.LineRows.{listed_after, listed_written, listed_fault}
-use Rattle.dw_report.proofs.ListedTexts.{listed_some}
-use Rattle.dw_report.proofs.Writings.{no_lines}
+use Rattle.dw_report.proofs.LineRowLemmas.{listed_after, listed_written, listed_fault}
+use Rattle.dw_report.proofs.ListedTextLemmas.{listed_some}
+use Rattle.dw_report.proofs.WritingLemmas.{no_lines}
 use Rattle.dw_report.proofs.listing.write_after.Goals as goal
 
 pub write_listing-requires : goal.write_listing-requires

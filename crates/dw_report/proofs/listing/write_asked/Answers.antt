@@ -5,7 +5,7 @@ use Rattle.dw_notation.specs.Writes.{Writes}
 use Rattle.dw_list.specs.Listing.{stack_of}
 use Rattle.dw_report.specs.ListedText.{IsListedText}
 use Rattle.dw_report.specs.Request.{request_of}
-use Rattle.dw_report.proofs.LineRows.{EndsListed, listed_all, listed_written, listed_fault, refused_as}
+use Rattle.dw_report.proofs.LineRowLemmas.{EndsListed, listed_all, listed_written, listed_fault, refused_as}
 use Rattle.dw_report.proofs.listing.write_asked.Goals as goal
 
 pub write_listing-requires : goal.write_listing-requires

@@ -7,11 +7,12 @@ use Rattle.dw_notation.specs.Text.{ArePlayable}
 use Rattle.dw_notation.specs.Writes.{StopsShort, Writes}
 use Rattle.dw_list.specs.Listing.{stack_of, kept_of, shared_of, ComesFrom}
 use Rattle.dw_report.specs.ListedText.{IsListing}
-use Rattle.dw_report.specs.Rows.{IsRow, IsNothing}
-use Rattle.dw_report.specs.Running.{AreLinesOf, TextEnds}
-use Rattle.dw_report.proofs.JudgedTexts.{line_playable}
-use Rattle.dw_report.proofs.LineRows.{line_odd, comes_first, lines_text, no_rows, row_written, given_line, last_line, line_next, none_next, rows_stop, row_ends, more_line, complete_written, complete_short, more_written, more_short}
-use Rattle.dw_report.proofs.Writings.{at_stop, at_sink}
+use Rattle.dw_report.specs.inner.Rows.{IsRow, IsNothing}
+use Rattle.dw_report.specs.Running.{AreLinesOf}
+use Rattle.dw_report.specs.inner.Running.{TextEnds}
+use Rattle.dw_report.proofs.JudgedTextLemmas.{line_playable}
+use Rattle.dw_report.proofs.LineRowLemmas.{line_odd, comes_first, lines_text, no_rows, row_written, given_line, last_line, line_next, none_next, rows_stop, row_ends, more_line, complete_written, complete_short, more_written, more_short}
+use Rattle.dw_report.proofs.WritingLemmas.{at_stop, at_sink}
 use Rattle.dw_report.proofs.listing.write_listing.Goals as goal
 
 pub lines-init : goal.lines-init

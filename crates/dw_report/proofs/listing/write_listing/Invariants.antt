@@ -1,7 +1,7 @@
 use Rattle.std.proofs.Common.{◌≡◌, ◌≤◌, ◌-◌}
 use Rattle.dw_notation.specs.LineTexts.{IsTextOf, start_of, moves_of}
 use Rattle.dw_list.specs.Listing.{lender, solver_of, stack_of, ComesFrom}
-use Rattle.dw_report.proofs.LineRows.{RowsSoFar}
+use Rattle.dw_report.proofs.LineRowLemmas.{RowsSoFar}
 use Rattle.dw_report.proofs.listing.write_listing.Given as goal
 
 abbrev pub invariant-lines : goal.invariant-lines

@@ -3,7 +3,7 @@ use Rattle.std.specs.Io.KnownBytes.{Appends}
 use Rattle.std.proofs.lemmas.Result.{err_from_is_err_and}
 use Rattle.dw_list.specs.Tokens.{token_of}
 use Rattle.dw_notation.specs.Writes.{StopsShort}
-use Rattle.dw_report.proofs.LineRows.{first_short, second_short, last_written, last_short}
+use Rattle.dw_report.proofs.LineRowLemmas.{first_short, second_short, last_written, last_short}
 use Rattle.dw_report.proofs.listing.write_more.Goals as goal
 
 pub returns-in_err-write_all-clause-err : goal.returns-in_err-write_all-clause-err

@@ -4,8 +4,8 @@ use Rattle.dw_moves.specs.Order.{AreListed}
 use Rattle.dw_solve.specs.declared.stop.Stop.TheVariants as stops
 use Rattle.dw_report.specs.Report.{IsMovesText}
 use Rattle.dw_report.specs.Running.{AreLinesOf}
-use Rattle.dw_report.proofs.MoveLines.{no_move, moves_some, lines_more, lines_all, line_short, count_short}
-use Rattle.dw_report.proofs.Writings.{at_stop, at_sink, no_lines}
+use Rattle.dw_report.proofs.MoveLineLemmas.{no_move, moves_some, lines_more, lines_all, line_short, count_short}
+use Rattle.dw_report.proofs.WritingLemmas.{at_stop, at_sink, no_lines}
 use Rattle.dw_report.proofs.problem.write_moves.Goals as goal
 
 pub returns-in_err-list-clause-text : goal.returns-in_err-list-clause-text

@@ -1,5 +1,5 @@
 use Rattle.std.proofs.Common.{◌≡◌}
-use Rattle.dw_report.proofs.MoveLines.{LinesTo}
+use Rattle.dw_report.proofs.MoveLineLemmas.{LinesTo}
 use Rattle.dw_report.proofs.problem.write_moves.Given as goal
 
 abbrev pub invariant-moves : goal.invariant-moves

@@ -6,8 +6,8 @@ use Rattle.dw_notation.specs.Writes.{StopsShort}
 use Rattle.dw_report.specs.Request.{request_of}
 use Rattle.dw_report.specs.Report.{IsProblemText}
 use Rattle.dw_report.specs.Running.{IsProblemPart}
-use Rattle.dw_report.proofs.Searches.{searches_none, sink_not_stopped}
-use Rattle.dw_report.proofs.Writings.{at_sink, first_line_short, problem_ends}
+use Rattle.dw_report.proofs.SearchLemmas.{searches_none, sink_not_stopped}
+use Rattle.dw_report.proofs.WritingLemmas.{at_sink, first_line_short, problem_ends}
 use Rattle.dw_report.proofs.problem.write_problem.Goals as goal
 
 pub returns-in_err-write_all-clause-text : goal.returns-in_err-write_all-clause-text

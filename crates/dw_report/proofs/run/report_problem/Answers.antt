@@ -5,8 +5,8 @@ use Rattle.dw_report.specs.Request.{request_of}
 use Rattle.dw_report.specs.Report.{IsProblemText, IsReportOn}
 use Rattle.dw_report.specs.Running.{IsProblemPart, IsPartOn}
 use Rattle.dw_report.specs.declared.settings.Summary.{Summary}
-use Rattle.dw_report.proofs.Runs.{counts_chosen}
-use Rattle.dw_report.proofs.Writings.{fault_stays, one_report_on, one_part_on}
+use Rattle.dw_report.proofs.RunLemmas.{counts_chosen}
+use Rattle.dw_report.proofs.WritingLemmas.{fault_stays, one_report_on, one_part_on}
 use Rattle.dw_report.proofs.run.report_problem.Goals as goal
 
 pub returns-in_err-refused-clause-text : goal.returns-in_err-refused-clause-text

@@ -3,9 +3,10 @@ use Rattle.dw_notation.specs.Problems.{Numbered, numbered}
 use Rattle.dw_notation.specs.Reading.{cutter_of}
 use Rattle.dw_report.specs.Request.{request_of}
 use Rattle.dw_report.specs.Report.{IsReportOn, chosen}
-use Rattle.dw_report.specs.Running.{TextEnds, IsPartOn, CountsOne}
-use Rattle.dw_report.proofs.Runs.{SoFar-start, SoFar-more, SoFar-next, SoFar-asked, SoFar-end, SoFar-read, unmet_before, SoFar-fault, failed-at_ok, refused-le, length-chosen-le}
-use Rattle.dw_report.proofs.Searches.{searches_keep, stops_rightly}
+use Rattle.dw_report.specs.Running.{IsPartOn}
+use Rattle.dw_report.specs.inner.Running.{TextEnds, CountsOne}
+use Rattle.dw_report.proofs.RunLemmas.{SoFar-start, SoFar-more, SoFar-next, SoFar-asked, SoFar-end, SoFar-read, unmet_before, SoFar-fault, failed-at_ok, refused-le, length-chosen-le}
+use Rattle.dw_report.proofs.SearchLemmas.{searches_keep, stops_rightly}
 use Rattle.dw_report.proofs.run.write_report.Goals as goal
 
 pub problems-init : goal.problems-init

@@ -3,7 +3,7 @@ use Rattle.dw_notation.specs.Cutting.{EndIsTrue, handed_count}
 use Rattle.dw_notation.specs.Reading.{lender, source_of, cutter_of}
 use Rattle.dw_report.specs.Request.{request_of}
 use Rattle.dw_report.specs.declared.settings.Command.TheVariants.{Moves}
-use Rattle.dw_report.proofs.Runs.{SoFar}
+use Rattle.dw_report.proofs.RunLemmas.{SoFar}
 use Rattle.dw_report.proofs.run.write_report.Given as goal
 
 abbrev pub invariant-problems : goal.invariant-problems

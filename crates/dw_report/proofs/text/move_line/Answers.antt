@@ -2,7 +2,7 @@ use Rattle.std.proofs.Common.{◌≡◌, sym, ap, ◌∙◌, ◌++◌, subst, ge
 use Rattle.std.proofs.lemmas.List.{get_or_read}
 use Rattle.dw_moves.specs.Moves.{Legal, play}
 use Rattle.dw_moves.specs.Order.{Listed}
-use Rattle.dw_report.proofs.MoveLines.{item_is_legal, line_made}
+use Rattle.dw_report.proofs.MoveLineLemmas.{item_is_legal, line_made}
 use Rattle.dw_report.proofs.text.move_line.Goals as goal
 
 pub play-requires : goal.play-requires

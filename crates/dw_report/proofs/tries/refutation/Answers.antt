@@ -2,10 +2,10 @@ use Rattle.std.proofs.Common.{◌+◌, map, sym, ap, ◌∙◌, subst, arith}
 use Rattle.dw_moves.specs.Moves.{Legal, play}
 use Rattle.dw_moves.specs.Order.{Precedes, IsListOf}
 use Rattle.dw_solve.specs.Wins.{Win}
-use Rattle.dw_list.specs.AskingLaws.{answered, asked_then, asked_ok, asked_stop}
-use Rattle.dw_report.proofs.Gathered.{item_among}
+use Rattle.dw_list.specs.inner.AskingLemmas.{answered, asked_then, asked_ok, asked_stop}
+use Rattle.dw_report.proofs.GatheredLemmas.{item_among}
 use Rattle.dw_report.specs.Verdict.{Refutes}
-use Rattle.dw_report.proofs.Refuting.{FoundTo, found_first, found_same, found_second, found_all}
+use Rattle.dw_report.proofs.RefutingLemmas.{FoundTo, found_first, found_same, found_second, found_all}
 use Rattle.dw_report.proofs.tries.refutation.Goals.{then-not-branch+in-None, else-not-branch}
 use Rattle.dw_report.proofs.tries.refutation.Goals as goal
 

@@ -1,6 +1,6 @@
 use Rattle.dw_list.specs.Asking.{Asked}
-use Rattle.dw_list.specs.AskingLaws.{answered}
-use Rattle.dw_report.proofs.Refuting.{FoundTo}
+use Rattle.dw_list.specs.inner.AskingLemmas.{answered}
+use Rattle.dw_report.proofs.RefutingLemmas.{FoundTo}
 use Rattle.dw_report.proofs.tries.refutation.Given as goal
 
 abbrev pub invariant-replies : goal.invariant-replies

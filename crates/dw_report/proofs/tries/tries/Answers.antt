@@ -1,11 +1,11 @@
 use Rattle.std.proofs.Common.{◌+◌, ◌-◌, ◌≤◌, map, sym, ap, ◌∙◌, subst, arith}
 use Rattle.dw_moves.specs.Moves.{Legal, play}
 use Rattle.dw_moves.specs.Order.{Precedes, IsListOf}
-use Rattle.dw_list.specs.AskingLaws.{answered, asked_then, asked_wider, asked_ok, asked_stop, asked_memory}
-use Rattle.dw_report.proofs.Gathered.{item_among, to_more, to_same}
+use Rattle.dw_list.specs.inner.AskingLemmas.{answered, asked_then, asked_wider, asked_ok, asked_stop, asked_memory}
+use Rattle.dw_report.proofs.GatheredLemmas.{item_among, to_more, to_same}
 use Rattle.dw_report.specs.Verdict.{IsRefutation}
-use Rattle.dw_report.specs.Judging.{FindsRefutation}
-use Rattle.dw_report.proofs.TryLists.{TriesTo, tries_whole}
+use Rattle.dw_report.specs.inner.Judging.{FindsRefutation}
+use Rattle.dw_report.proofs.TryListLemmas.{TriesTo, tries_whole}
 use Rattle.dw_report.proofs.tries.tries.Goals.{in-Some+in_ok-push, in_default}
 use Rattle.dw_report.proofs.tries.tries.Goals as goal
 

@@ -1,6 +1,6 @@
 use Rattle.dw_list.specs.Asking.{Asked}
-use Rattle.dw_list.specs.AskingLaws.{answered}
-use Rattle.dw_report.proofs.TryLists.{TriesTo}
+use Rattle.dw_list.specs.inner.AskingLemmas.{answered}
+use Rattle.dw_report.proofs.TryListLemmas.{TriesTo}
 use Rattle.dw_report.proofs.tries.tries.Given as goal
 
 abbrev pub invariant-moves : goal.invariant-moves

@@ -1,5 +1,5 @@
 use Rattle.std.proofs.Common.{sym, subst, arith, ◌+◌}
-use Rattle.dw_moves.specs.MoveLaws.{listed_is_legal}
+use Rattle.dw_moves.specs.inner.MoveLemmas.{listed_is_legal}
 use Rattle.dw_solve.proofs.RankLemmas.{Gathered, gathered_none, gathered_more, gathered_all}
 use Rattle.dw_solve.proofs.ply.rank_all.Goals as goal
 

@@ -1,4 +1,4 @@
-use Rattle.dw_board.proofs.Signs.{signs-are}
+use Rattle.dw_board.proofs.SignLemmas.{signs-are}
 use Rattle.dw_board.proofs.diagram.Signs.of.Goals as goal
 
 pub returns : goal.returns

@@ -2,7 +2,7 @@ use Rattle.std.proofs.Common.{Err, sym, ◌∙◌, ap}
 use Rattle.dw_board.specs.FenReader.{tokens_of, end_of, place_of}
 use Rattle.dw_board.specs.Fen.{fault}
 use Rattle.dw_board.specs.declared.fen.fault.FenFaultKind.TheVariants.{Rest}
-use Rattle.dw_board.proofs.FenStages.{ends_well, ends_badly}
+use Rattle.dw_board.proofs.FenStageLemmas.{ends_well, ends_badly}
 use Rattle.dw_board.proofs.fen.read.read_end.Goals as goal
 
 pub returns-then-is_at_end : goal.returns-then-is_at_end

@@ -1,5 +1,5 @@
 use Rattle.std.proofs.Common.{arith}
-use Rattle.dw_board.proofs.FenLawProofs.{short_is_grammar}
+use Rattle.dw_board.proofs.FenLawLemmas.{short_is_grammar}
 use Rattle.dw_board.proofs.fen.read.read_fen.Goals as goal
 
 pub returns-clause-grammar : goal.returns-clause-grammar

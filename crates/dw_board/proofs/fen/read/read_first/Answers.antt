@@ -2,9 +2,10 @@ use Rattle.std.proofs.Common.{◌≡◌, false, Err, Some, None, is_some, refl, 
 use Rattle.std.proofs.lemmas.Result.{err_from_is_err_and}
 use Rattle.dw_board.specs.FenTokens.{side_named, is_sign}
 use Rattle.dw_board.specs.FenReader.{tokens_of, end_of, behind, left_of, first_named, first_is}
-use Rattle.dw_board.specs.Fen.{read_from, listing, AfterColon, AfterColour, AfterItem}
+use Rattle.dw_board.specs.Fen.{read_from, AfterColon, AfterColour, AfterItem}
+use Rattle.dw_board.specs.inner.FenReading.{listing}
 use Rattle.dw_board.specs.declared.fen.fault.FenFaultKind.TheVariants.{Colour}
-use Rattle.dw_board.proofs.FenStages.{colour_fault, colour_read, list_colon, same_read, fault_here}
+use Rattle.dw_board.proofs.FenStageLemmas.{colour_fault, colour_read, list_colon, same_read, fault_here}
 use Rattle.dw_board.proofs.fen.read.read_first.Goals as goal
 
 pub returns-in_default : goal.returns-in_default

@@ -2,9 +2,10 @@ use Rattle.std.proofs.Common.{◌≡◌, Ok, Err, Some, None, is_some, refl, sym
 use Rattle.std.proofs.lemmas.Result.{err_from_is_err_and}
 use Rattle.dw_board.specs.FenTokens.{number_named}
 use Rattle.dw_board.specs.FenReader.{tokens_of, end_of, place_of, behind, left_of, first_named}
-use Rattle.dw_board.specs.Fen.{fault, read_behind, listing, Item, AfterNumber}
+use Rattle.dw_board.specs.Fen.{fault, Item, AfterNumber}
+use Rattle.dw_board.specs.inner.FenReading.{read_behind, listing}
 use Rattle.dw_board.specs.declared.fen.fault.FenFaultKind.TheVariants.{Number}
-use Rattle.dw_board.proofs.FenStages.{item_number, item_fault, item_set, length-left, length-named, same_read}
+use Rattle.dw_board.proofs.FenStageLemmas.{item_number, item_fault, item_set, length-left, length-named, same_read}
 use Rattle.dw_board.proofs.fen.read.read_item.Goals as goal
 
 on_ok_always : {A B P : Type 0} (r : Result A B) → P → OnOk r P

@@ -1,7 +1,8 @@
 use Rattle.std.proofs.Common.{sym, ◌∙◌, ap}
 use Rattle.dw_board.specs.FenReader.{tokens_of, end_of, left_of}
-use Rattle.dw_board.specs.Fen.{read_from, listing, AfterComma, AfterItem}
-use Rattle.dw_board.proofs.FenStages.{comma_read}
+use Rattle.dw_board.specs.Fen.{read_from, AfterComma, AfterItem}
+use Rattle.dw_board.specs.inner.FenReading.{listing}
+use Rattle.dw_board.proofs.FenStageLemmas.{comma_read}
 use Rattle.dw_board.proofs.fen.read.read_items.Goals as goal
 
 pub items-preserved : goal.items-preserved

@@ -1,6 +1,7 @@
 use Rattle.std.proofs.Common.{◌≡◌, Bool, length}
 use Rattle.dw_board.specs.FenReader.{tokens_of, end_of}
-use Rattle.dw_board.specs.Fen.{read_from, listing, AfterComma}
+use Rattle.dw_board.specs.Fen.{read_from, AfterComma}
+use Rattle.dw_board.specs.inner.FenReading.{listing}
 use Rattle.dw_board.proofs.fen.read.read_items.Given as goal
 
 abbrev pub invariant-items : goal.invariant-items

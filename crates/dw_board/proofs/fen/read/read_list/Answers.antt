@@ -1,7 +1,8 @@
 use Rattle.std.proofs.Common.{sym, ◌∙◌, Err}
 use Rattle.dw_board.specs.FenReader.{tokens_of, end_of}
-use Rattle.dw_board.specs.Fen.{listing, read_from, AfterItem}
-use Rattle.dw_board.proofs.FenStages.{list_nothing, list_something, nothing-no_comma, step_before}
+use Rattle.dw_board.specs.Fen.{read_from, AfterItem}
+use Rattle.dw_board.specs.inner.FenReading.{listing}
+use Rattle.dw_board.proofs.FenStageLemmas.{list_nothing, list_something, nothing-no_comma, step_before}
 use Rattle.dw_board.proofs.fen.read.read_list.Goals as goal
 
 pub returns-then-ends_list-clause-list : goal.returns-then-ends_list-clause-list

@@ -1,9 +1,10 @@
 use Rattle.std.proofs.Common.{◌≡◌, ◌<◌, ◌≤◌, Err, Some, None, is_some, sym, ◌∙◌, ap, arith}
 use Rattle.dw_board.specs.FenTokens.{number_named}
 use Rattle.dw_board.specs.FenReader.{tokens_of, end_of, place_of, behind, left_of, first_named}
-use Rattle.dw_board.specs.Fen.{fault, read_behind}
+use Rattle.dw_board.specs.Fen.{fault}
+use Rattle.dw_board.specs.inner.FenReading.{read_behind}
 use Rattle.dw_board.specs.declared.fen.fault.FenFaultKind.TheVariants.{Number, RangeBackwards}
-use Rattle.dw_board.proofs.FenStages.{dash_read, dash_fault, range_backwards, range_read, number_read, length-left}
+use Rattle.dw_board.proofs.FenStageLemmas.{dash_read, dash_fault, range_backwards, range_read, number_read, length-left}
 use Rattle.dw_board.proofs.fen.read.read_range_end.Goals as goal
 
 pub returns-then-not-take-clause-range : goal.returns-then-not-take-clause-range

@@ -2,9 +2,10 @@ use Rattle.std.proofs.Common.{◌≡◌, true, Err, Some, None, is_some, refl, s
 use Rattle.std.proofs.lemmas.Result.{err_from_is_err_and}
 use Rattle.dw_board.specs.FenTokens.{side_named, is_sign}
 use Rattle.dw_board.specs.FenReader.{tokens_of, end_of, behind, left_of, first_named, first_is}
-use Rattle.dw_board.specs.Fen.{read_from, listing, AfterColour, AfterItem}
+use Rattle.dw_board.specs.Fen.{read_from, AfterColour, AfterItem}
+use Rattle.dw_board.specs.inner.FenReading.{listing}
 use Rattle.dw_board.specs.declared.fen.fault.FenFaultKind.TheVariants.{Colour}
-use Rattle.dw_board.proofs.FenStages.{colour_fault, second_fault, second_read, list_colon, lists_read, same_read, fault_here}
+use Rattle.dw_board.proofs.FenStageLemmas.{colour_fault, second_fault, second_read, list_colon, lists_read, same_read, fault_here}
 use Rattle.dw_board.proofs.fen.read.read_second.Goals as goal
 
 pub returns-in_default : goal.returns-in_default

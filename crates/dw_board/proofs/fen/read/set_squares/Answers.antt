@@ -2,7 +2,7 @@ use Rattle.std.proofs.Common.{◌≡◌, ◌+◌, ◌-◌, ◌<◌, Some, is_ok,
 use Rattle.std.specs.Result.{result_err}
 use Rattle.dw_board.specs.Placement.{placed}
 use Rattle.dw_board.specs.Fen.{set_squares, fault}
-use Rattle.dw_board.proofs.FenStages.{squares_go, squares_stop, squares_done}
+use Rattle.dw_board.proofs.FenStageLemmas.{squares_go, squares_stop, squares_done}
 use Rattle.dw_board.proofs.fen.read.set_squares.Goals as goal
 
 pub squares-init : goal.squares-init

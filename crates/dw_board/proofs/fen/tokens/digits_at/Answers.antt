@@ -1,6 +1,6 @@
 use Rattle.std.proofs.Common.{arith, subst, sym, ◌∙◌}
 use Rattle.std.proofs.lemmas.List.{take_more}
-use Rattle.dw_board.specs.FenBlanks.{AreDigits}
+use Rattle.dw_board.specs.inner.FenBlanks.{AreDigits}
 use Rattle.dw_board.proofs.FenTokenLemmas.{AreDigits-push}
 use Rattle.dw_board.proofs.fen.tokens.digits_at.Goals as goal
 

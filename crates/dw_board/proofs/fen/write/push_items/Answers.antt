@@ -1,6 +1,6 @@
 use Rattle.std.proofs.Common.{◌<◌, refl, sym, subst}
 use Rattle.std.specs.FinSet as set
-use Rattle.dw_board.proofs.Items.{fewer_left, all_left, room_left, one_written, all_written, few_written}
+use Rattle.dw_board.proofs.ItemLemmas.{fewer_left, all_left, room_left, one_written, all_written, few_written}
 use Rattle.dw_board.proofs.fen.write.push_items.Goals as goal
 
 pub squares-init : goal.squares-init

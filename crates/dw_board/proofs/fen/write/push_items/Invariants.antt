@@ -1,5 +1,5 @@
 use Rattle.std.specs.FinSet as set
-use Rattle.dw_board.proofs.Items.{IsLeft}
+use Rattle.dw_board.proofs.ItemLemmas.{IsLeft}
 use Rattle.dw_board.proofs.fen.write.push_items.Given as goal
 
 abbrev pub invariant-squares : goal.invariant-squares

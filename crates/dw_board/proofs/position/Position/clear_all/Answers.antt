@@ -1,8 +1,8 @@
 use Rattle.std.proofs.Common.{◌∙◌, ap}
 use Rattle.dw_board.specs.Placement.{without}
 use Rattle.dw_board.specs.Standing.{set_of}
-use Rattle.dw_board.proofs.Standing.{kept_placement, cells_again, kept-again}
-use Rattle.dw_board.proofs.Cleared.{kept-without}
+use Rattle.dw_board.proofs.StandingLemmas.{kept_placement, cells_again, kept-again}
+use Rattle.dw_board.proofs.ClearedLemmas.{kept-without}
 use Rattle.dw_board.proofs.position.Position.clear_all.Goals as goal
 
 pub invariant_of-self : goal.invariant_of-self

@@ -5,8 +5,8 @@ use Rattle.dw_board.specs.declared.piece.Kind.{Kind}
 use Rattle.dw_board.specs.declared.piece.Kind.TheVariants.{Man, King}
 use Rattle.dw_board.specs.SquareSet.{word_of}
 use Rattle.dw_board.specs.Standing.{set_of, standing_word, mixed_word}
-use Rattle.dw_board.proofs.Standing.{kept_placement}
-use Rattle.dw_board.proofs.Mixed.{mixed-is}
+use Rattle.dw_board.proofs.StandingLemmas.{kept_placement}
+use Rattle.dw_board.proofs.MixedLemmas.{mixed-is}
 use Rattle.dw_board.proofs.position.Position.mixed_word.Goals as goal
 
 pub returns : goal.returns

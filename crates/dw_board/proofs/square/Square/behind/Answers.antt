@@ -1,5 +1,5 @@
 use Rattle.std.proofs.Common.{◌∙◌, ◌≡◌, ◌+◌, ◌-◌, ◌/◌, ap, sym, arith}
-use Rattle.dw_board.proofs.Sets.{IsPlace-bit, square_behind}
+use Rattle.dw_board.proofs.SetLemmas.{IsPlace-bit, square_behind}
 use Rattle.dw_board.proofs.square.Square.behind.Goals as goal
 
 pub invariant_of-result : goal.invariant_of-result

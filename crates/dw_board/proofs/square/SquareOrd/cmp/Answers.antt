@@ -1,5 +1,5 @@
 use Rattle.std.proofs.Common.{◌∙◌}
-use Rattle.dw_board.proofs.Sets.{same_order}
+use Rattle.dw_board.proofs.SetLemmas.{same_order}
 use Rattle.dw_board.proofs.square.SquareOrd.cmp.Goals as goal
 
 pub returns : goal.returns

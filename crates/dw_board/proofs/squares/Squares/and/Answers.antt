@@ -1,7 +1,7 @@
 use Rattle.std.proofs.Common.{ap, ◌∙◌}
 use Rattle.std.specs.FinSet as set
 use Rattle.dw_board.specs.SquareSet.{squares_of}
-use Rattle.dw_board.proofs.Sets.{OnlySquares-and_left, squares_of-and}
+use Rattle.dw_board.proofs.SetLemmas.{OnlySquares-and_left, squares_of-and}
 use Rattle.dw_board.proofs.squares.Squares.and.Goals as goal
 
 pub invariant_of-result : goal.invariant_of-result

@@ -1,6 +1,6 @@
 use Rattle.std.proofs.Common.{ap, ◌∙◌, arith}
 use Rattle.std.specs.FinSet as set
-use Rattle.dw_board.proofs.Counting.{ones-is, len-squares_of}
+use Rattle.dw_board.proofs.CountingLemmas.{ones-is, len-squares_of}
 use Rattle.dw_board.proofs.squares.Squares.count.Goals as goal
 
 pub returns-clause-value : goal.returns-clause-value

@@ -1,7 +1,7 @@
 use Rattle.std.proofs.Common.{◌∙◌, ap, sym}
 use Rattle.std.proofs.lemmas.Bool.{eqb-true, eq-eqb}
 use Rattle.dw_board.specs.SquareSet.{squares_of}
-use Rattle.dw_board.proofs.Sets.{squares_of-empty, word-zero}
+use Rattle.dw_board.proofs.SetLemmas.{squares_of-empty, word-zero}
 use Rattle.dw_board.proofs.squares.Squares.is_empty.Goals as goal
 
 pub returns : goal.returns

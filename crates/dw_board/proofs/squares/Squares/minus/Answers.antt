@@ -1,8 +1,8 @@
 use Rattle.std.proofs.Common.{ap, ◌∙◌}
 use Rattle.std.specs.FinSet as set
 use Rattle.dw_board.specs.SquareSet.{squares_of}
-use Rattle.dw_board.proofs.Sets.{OnlySquares-not, squares_of-minus}
-use Rattle.dw_board.proofs.Counting.{word-fits}
+use Rattle.dw_board.proofs.SetLemmas.{OnlySquares-not, squares_of-minus}
+use Rattle.dw_board.proofs.CountingLemmas.{word-fits}
 use Rattle.dw_board.proofs.squares.Squares.minus.Goals as goal
 
 pub invariant_of-result : goal.invariant_of-result

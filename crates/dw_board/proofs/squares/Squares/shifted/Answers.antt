@@ -1,7 +1,7 @@
 use Rattle.std.proofs.Common.{sym, ap, ◌∙◌, bit_and}
 use Rattle.std.specs.FinSet as set
 use Rattle.dw_board.specs.SquareSet.{squares_of}
-use Rattle.dw_board.proofs.Sets.{OnlySquares-and, contains-shifted}
+use Rattle.dw_board.proofs.SetLemmas.{OnlySquares-and, contains-shifted}
 use Rattle.dw_board.proofs.squares.Squares.shifted.Goals as goal
 
 pub invariant_of-result : goal.invariant_of-result

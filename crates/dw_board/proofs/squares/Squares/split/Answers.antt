@@ -1,8 +1,8 @@
 use Rattle.std.proofs.Common.{◌∙◌, ap, refl, sym}
 use Rattle.dw_board.specs.SquareSet.{squares_of}
-use Rattle.dw_board.proofs.Sets.{squares_of-empty, OnlySquares-and_left}
-use Rattle.dw_board.proofs.Counting.{least-is, least-place, least-some}
-use Rattle.dw_board.proofs.Lowest.{rest-is}
+use Rattle.dw_board.proofs.SetLemmas.{squares_of-empty, OnlySquares-and_left}
+use Rattle.dw_board.proofs.CountingLemmas.{least-is, least-place, least-some}
+use Rattle.dw_board.proofs.LowestLemmas.{rest-is}
 use Rattle.dw_board.proofs.squares.Squares.split.Goals as goal
 
 pub of_bit-square-requires : goal.of_bit-square-requires

@@ -2,7 +2,7 @@ use Rattle.std.proofs.Common.{ap, ◌∙◌, bit_and, ◌*◌, ◌^◌, ◌%◌,
 use Rattle.std.specs.Int.{bit_not}
 use Rattle.std.specs.FinSet as set
 use Rattle.dw_board.specs.SquareSet.{squares_of}
-use Rattle.dw_board.proofs.Sets.{OnlySquares-not, squares_of-without}
+use Rattle.dw_board.proofs.SetLemmas.{OnlySquares-not, squares_of-without}
 use Rattle.dw_board.proofs.squares.Squares.without.Goals as goal
 
 pub invariant_of-result : goal.invariant_of-result

@@ -1,4 +1,4 @@
-use Rattle.dw_board.proofs.Sets.{members-are}
+use Rattle.dw_board.proofs.SetLemmas.{members-are}
 use Rattle.dw_board.proofs.squares.Squares.word.Goals as goal
 
 pub returns-clause-members : goal.returns-clause-members

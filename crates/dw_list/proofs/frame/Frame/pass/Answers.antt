@@ -1,4 +1,4 @@
-use Rattle.dw_list.proofs.Passing.{pass_level}
+use Rattle.dw_list.proofs.PassingLemmas.{pass_level}
 use Rattle.dw_list.proofs.frame.Frame.pass.Goals as goal
 use Rattle.dw_list.proofs.frame.Frame.pass.Goals.{in-None, in-Some}
 

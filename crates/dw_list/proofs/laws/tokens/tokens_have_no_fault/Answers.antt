@@ -1,4 +1,4 @@
-use Rattle.dw_list.proofs.TokenLawProofs as law
+use Rattle.dw_list.proofs.TokenLawLemmas as law
 use Rattle.dw_list.proofs.laws.tokens.tokens_have_no_fault.Goals as goal
 
 pub returns : goal.returns

@@ -1,5 +1,5 @@
 use Rattle.std.proofs.Common.{◌-◌, ◌∙◌, ap, refl, length, length-take, arith}
-use Rattle.dw_list.proofs.StackViews.{inside_back, back_of, with_both}
+use Rattle.dw_list.proofs.StackViewLemmas.{inside_back, back_of, with_both}
 use Rattle.dw_list.proofs.stack.Stack.back.Goals as goal
 
 pub invariant_of-self : goal.invariant_of-self

@@ -1,7 +1,7 @@
 use Rattle.std.proofs.Common.{◌<◌, ◌+◌, ◌≡◌, [], ◌∷◌, ◌++◌, sym, ap, ◌∙◌, reverse, arith, length, length-append, lit<}
 use Rattle.std.proofs.lemmas.List.{length-reverse}
 use Rattle.dw_list.specs.Standing.{Standing}
-use Rattle.dw_list.proofs.StackViews.{end_of, end_first, inside_first, inside_entered, same_trial}
+use Rattle.dw_list.proofs.StackViewLemmas.{end_of, end_first, inside_first, inside_entered, same_trial}
 use Rattle.dw_list.proofs.stack.Stack.enter.Goals as goal
 
 pub push-requires-2 : goal.push-requires-2

@@ -1,6 +1,6 @@
 use Rattle.std.proofs.Common.{sym, ap, ◌∙◌, reverse}
 use Rattle.dw_list.specs.Standing.{Standing}
-use Rattle.dw_list.proofs.StackViews.{end_of, end_first, inside_listed, listing_ends, with_levels}
+use Rattle.dw_list.proofs.StackViewLemmas.{end_of, end_first, inside_listed, listing_ends, with_levels}
 use Rattle.dw_list.proofs.stack.Stack.list.Goals as goal
 
 pub invariant_of-self-2 : goal.invariant_of-self-2

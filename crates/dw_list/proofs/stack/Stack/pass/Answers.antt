@@ -1,4 +1,4 @@
-use Rattle.dw_list.proofs.StackViews.{inside_passed}
+use Rattle.dw_list.proofs.StackViewLemmas.{inside_passed}
 use Rattle.dw_list.proofs.stack.Stack.pass.Goals as goal
 
 pub invariant_of-self : goal.invariant_of-self

@@ -1,8 +1,9 @@
 use Rattle.std.proofs.Common.{Some, refl, sym, ap, ◌∙◌, subst, reverse}
 use Rattle.dw_moves.specs.Moves.{play}
-use Rattle.dw_list.specs.Standing.{Standing, AreLevels}
+use Rattle.dw_list.specs.Standing.{Standing}
+use Rattle.dw_list.specs.inner.Levels.{AreLevels}
 use Rattle.dw_list.proofs.StackLemmas.{behind_first}
-use Rattle.dw_list.proofs.StackViews.{at_last, not_listed, all_passed}
+use Rattle.dw_list.proofs.StackViewLemmas.{at_last, not_listed, all_passed}
 use Rattle.dw_list.proofs.stack.Stack.task.Goals as goal
 
 pub returns-then-not-is_listed-clause-task : goal.returns-then-not-is_listed-clause-task

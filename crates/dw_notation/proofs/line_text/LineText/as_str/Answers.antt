@@ -1,7 +1,7 @@
 use Rattle.std.proofs.Common.{sym, subst}
 use Rattle.dw_notation.specs.Text.{IsLineText}
 use Rattle.dw_notation.specs.LineTexts.{start_of, moves_of}
-use Rattle.dw_notation.proofs.LineWritten.{written_line}
+use Rattle.dw_notation.proofs.LineWrittenLemmas.{written_line}
 use Rattle.dw_notation.proofs.line_text.LineText.as_str.Goals as goal
 
 pub returns-clause-text : goal.returns-clause-text

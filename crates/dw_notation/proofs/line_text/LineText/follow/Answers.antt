@@ -1,7 +1,7 @@
 use Rattle.std.proofs.Common.{◌+◌, ◌-◌, ◌∙◌, sym, refl, length, subst, take, drop, append-nil}
 use Rattle.dw_notation.specs.Text.{ArePlayable}
 use Rattle.dw_notation.specs.LineTexts.{end_of, moves_of}
-use Rattle.dw_notation.proofs.LineWritten.{next_legal, moves_more, playable_from, rest_is}
+use Rattle.dw_notation.proofs.LineWrittenLemmas.{next_legal, moves_more, playable_from, rest_is}
 use Rattle.dw_notation.proofs.line_text.LineText.follow.Goals as goal
 
 pub moves-init : goal.moves-init

@@ -1,5 +1,5 @@
 use Rattle.std.proofs.Common.{◌≡◌, ◌-◌, ◌∙◌, ap, get_or, arith}
-use Rattle.dw_notation.proofs.LineWritten.{len_found}
+use Rattle.dw_notation.proofs.LineWrittenLemmas.{len_found}
 use Rattle.dw_notation.proofs.line_text.LineText.len_to.Goals as goal
 
 pub returns-else-count-eq0 : goal.returns-else-count-eq0

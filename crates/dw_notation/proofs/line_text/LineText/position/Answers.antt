@@ -1,5 +1,5 @@
 use Rattle.std.proofs.Common.{◌≡◌, ◌-◌, ◌∙◌, ap, sym, get_or, arith}
-use Rattle.dw_notation.proofs.LineWritten.{end_at}
+use Rattle.dw_notation.proofs.LineWrittenLemmas.{end_at}
 use Rattle.dw_notation.proofs.line_text.LineText.position.Goals as goal
 
 pub returns-else-count-eq0 : goal.returns-else-count-eq0

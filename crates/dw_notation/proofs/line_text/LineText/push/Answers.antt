@@ -2,7 +2,7 @@ use Rattle.std.proofs.Common.{◌≡◌, ◌≤◌, ◌+◌, ◌∙◌, ap, leng
 use Rattle.std.proofs.lemmas.List.{length-map}
 use Rattle.dw_moves.specs.Moves.{play}
 use Rattle.dw_notation.specs.LineTexts.{end_from}
-use Rattle.dw_notation.proofs.LineWritten.{written_room, written_pushed, end_push}
+use Rattle.dw_notation.proofs.LineWrittenLemmas.{written_room, written_pushed, end_push}
 use Rattle.dw_notation.proofs.line_text.LineText.push.Goals as goal
 
 pub push_words-requires-clause-room : goal.push_words-requires-clause-room

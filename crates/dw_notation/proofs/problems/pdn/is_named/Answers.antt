@@ -1,4 +1,4 @@
-use Rattle.dw_notation.proofs.Names.{same_name-test}
+use Rattle.dw_notation.proofs.NameLemmas.{same_name-test}
 use Rattle.dw_notation.proofs.problems.pdn.is_named.Goals as goal
 
 pub returns : goal.returns

@@ -1,4 +1,4 @@
-use Rattle.dw_notation.proofs.Cuts.{found_from-at, found_from-push}
+use Rattle.dw_notation.proofs.CutLemmas.{found_from-at, found_from-push}
 use Rattle.dw_notation.proofs.problems.fens.Line.add_to_line_feed.Goals as goal
 
 pub returns-in-Some-clause-some : goal.returns-in-Some-clause-some

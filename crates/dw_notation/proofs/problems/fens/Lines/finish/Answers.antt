@@ -1,8 +1,8 @@
 use Rattle.std.proofs.Common.{true, option_to_list, [], ap, ◌∙◌}
 use Rattle.dw_notation.specs.Ahead.{found_from, behind_mark}
 use Rattle.dw_notation.specs.Held.{held_line}
-use Rattle.dw_notation.proofs.Cuts.{line_found-nil}
-use Rattle.dw_notation.proofs.Marks.{ahead-end}
+use Rattle.dw_notation.proofs.CutLemmas.{line_found-nil}
+use Rattle.dw_notation.proofs.MarkLemmas.{ahead-end}
 use Rattle.dw_notation.proofs.problems.fens.Lines.finish.Goals as goal
 
 pub returns-clause-found : goal.returns-clause-found

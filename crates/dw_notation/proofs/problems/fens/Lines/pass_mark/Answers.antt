@@ -1,7 +1,7 @@
 use Rattle.std.proofs.Common.{◌++◌, drop, ap, sym, ◌∙◌, arith}
 use Rattle.dw_notation.specs.Ahead.{found_from, behind_mark}
 use Rattle.dw_notation.specs.Held.{held_line}
-use Rattle.dw_notation.proofs.Marks.{ahead-mark, ahead-leave}
+use Rattle.dw_notation.proofs.MarkLemmas.{ahead-mark, ahead-leave}
 use Rattle.dw_notation.proofs.problems.fens.Lines.pass_mark.Goals as goal
 
 pub bytes-preserved : goal.bytes-preserved

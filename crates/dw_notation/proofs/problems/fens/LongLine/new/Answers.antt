@@ -1,7 +1,7 @@
 use Rattle.std.proofs.Common.{◌&&◌, refl, sym, ap, ◌∙◌, arith}
 use Rattle.std.specs.List.{list_all}
 use Rattle.dw_board.specs.FenTokens.{is_blank}
-use Rattle.dw_notation.proofs.Long.{SaysSame-long, front_of, last_of}
+use Rattle.dw_notation.proofs.LongLineLemmas.{SaysSame-long, front_of, last_of}
 use Rattle.dw_notation.proofs.problems.fens.LongLine.new.Goals as goal
 use Rattle.dw_notation.proofs.problems.fens.LongLine.new.Goals.{then-is_blank_before, else-is_blank_before}
 

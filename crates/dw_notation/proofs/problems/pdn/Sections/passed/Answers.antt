@@ -1,4 +1,4 @@
-use Rattle.dw_notation.proofs.Passing.{pass_outside, pass_comment}
+use Rattle.dw_notation.proofs.PassingLemmas.{pass_outside, pass_comment}
 use Rattle.dw_notation.proofs.problems.pdn.Sections.passed.Goals as goal
 
 pub returns-in-Outside-clause-same : goal.returns-in-Outside-clause-same

@@ -1,5 +1,5 @@
 use Rattle.std.proofs.Common.{◌+◌, ◌≤◌, arith}
-use Rattle.dw_notation.proofs.Cuts.{found-rest, length-slice_range-le}
+use Rattle.dw_notation.proofs.CutLemmas.{found-rest, length-slice_range-le}
 use Rattle.dw_notation.proofs.problems.reader.Cutter.cut.Goals as goal
 
 pub returns-in-Some-clause-found : goal.returns-in-Some-clause-found

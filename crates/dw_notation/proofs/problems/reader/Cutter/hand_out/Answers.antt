@@ -1,7 +1,7 @@
 use Rattle.std.proofs.Common.{◌≡◌, ◌++◌, option_to_list, Some, sym, ◌∙◌, ap, arith}
-use Rattle.dw_notation.specs.Pieces.{pieces_cut}
+use Rattle.dw_notation.specs.inner.Pieces.{pieces_cut}
 use Rattle.dw_notation.specs.Problems.{number_from}
-use Rattle.dw_notation.proofs.Numbers.{number_from-step, number_from-last}
+use Rattle.dw_notation.proofs.NumberLemmas.{number_from-step, number_from-last}
 use Rattle.dw_notation.proofs.problems.reader.Cutter.hand_out.Goals as goal
 use Rattle.dw_notation.proofs.problems.reader.Cutter.hand_out.Goals.{then-self-lt-MAX_PROBLEMS, else-self-lt-MAX_PROBLEMS}
 

@@ -1,6 +1,6 @@
 use Rattle.std.proofs.Common.{true, false, ap, sym, ◌∙◌}
 use Rattle.dw_notation.specs.Problems.{found_of, ended_of}
-use Rattle.dw_notation.proofs.Definition.{lines-new, lines-new_ended, sections-new}
+use Rattle.dw_notation.proofs.DefinitionLemmas.{lines-new, lines-new_ended, sections-new}
 use Rattle.dw_notation.proofs.problems.reader.Pieces.new.Goals as goal
 
 pub returns-in-Fens-clause-all : goal.returns-in-Fens-clause-all

@@ -1,6 +1,6 @@
 use Rattle.std.proofs.Common.{◌∙◌, rules, arith, add-zero}
-use Rattle.dw_notation.proofs.Handing.{NextGives-over, NextGives-err, NextGives-some, NextGives-end, HandsOut-blank}
-use Rattle.dw_notation.proofs.Carries.{not_err, or-not_err}
+use Rattle.dw_notation.proofs.HandingLemmas.{NextGives-over, NextGives-err, NextGives-some, NextGives-end, HandsOut-blank}
+use Rattle.dw_notation.proofs.CarryLemmas.{not_err, or-not_err}
 use Rattle.dw_notation.proofs.problems.reader.Problems.next.Goals as goal
 
 pub returns-then-handed-gt-MAX_PROBLEMS-clause-given : goal.returns-then-handed-gt-MAX_PROBLEMS-clause-given

@@ -1,5 +1,6 @@
 use Rattle.std.proofs.Common.{◌≡◌, true, []}
-use Rattle.dw_notation.specs.Cutting.{HandsOut, weight, EndIsTrue, IsStarved}
+use Rattle.dw_notation.specs.Cutting.{EndIsTrue, IsStarved}
+use Rattle.dw_notation.specs.inner.Cutting.{HandsOut, weight}
 use Rattle.dw_notation.proofs.problems.reader.Problems.next.Given as goal
 
 abbrev pub invariant-pieces : goal.invariant-pieces

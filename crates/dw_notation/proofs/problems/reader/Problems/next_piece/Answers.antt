@@ -1,6 +1,6 @@
 use Rattle.std.proofs.Common.{◌≡◌, true, false, rules, arith, ◌∙◌, sym}
-use Rattle.dw_notation.proofs.Cuts.{length-slice_range-le}
-use Rattle.dw_notation.proofs.Carries.{CarriesOn-cut, CarriesOn-fill, TakesLast-end, weight-fill, not_err, or-not_err}
+use Rattle.dw_notation.proofs.CutLemmas.{length-slice_range-le}
+use Rattle.dw_notation.proofs.CarryLemmas.{CarriesOn-cut, CarriesOn-fill, TakesLast-end, weight-fill, not_err, or-not_err}
 use Rattle.dw_notation.proofs.problems.reader.Problems.next_piece.Goals as goal
 
 pub returns-then-met_end-clause-piece : goal.returns-then-met_end-clause-piece

@@ -1,5 +1,6 @@
 use Rattle.std.proofs.Common.{◌≡◌, ◌≤◌, ◌+◌, true, cond}
-use Rattle.dw_notation.specs.Cutting.{CarriesOn, weight, EndIsTrue, IsStarved}
+use Rattle.dw_notation.specs.Cutting.{EndIsTrue, IsStarved}
+use Rattle.dw_notation.specs.inner.Cutting.{CarriesOn, weight}
 use Rattle.dw_notation.proofs.problems.reader.Problems.next_piece.Given as goal
 
 abbrev pub invariant-reads : goal.invariant-reads

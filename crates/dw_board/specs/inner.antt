@@ -1,0 +1,11 @@
+-- What only relates the code to the definitions: no contract of a public call names it.
+pub mod GeometryLemmas
+pub mod SquareSetLemmas
+pub mod PlacementLemmas
+pub mod StandingLemmas
+pub mod BoardLemmas
+pub mod Drawing
+pub mod FenReading
+pub mod FenBlanks
+pub mod Shifting
+pub mod Held

@@ -1,0 +1,12 @@
+-- What only relates the code to the definitions: no contract of a public call names it.
+pub mod AskingLemmas
+pub mod LexLemmas
+pub mod LineOrderLemmas
+pub mod ListLemmas
+pub mod Tasks
+pub mod Going
+pub mod Steps
+pub mod Seeking
+pub mod Walking
+pub mod Levels
+pub mod StandingCodes

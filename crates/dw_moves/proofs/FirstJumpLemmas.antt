@@ -1,0 +1,193 @@
+-- Something can be taken where a single jump is there, and a first jump is found on the sets of a position.
+use Rattle.std.proofs.Common.{◌≡◌, ◌≢◌, ℕ, ◌+◌, ◌-◌, ◌≤◌, ◌<◌, zero, suc, List, [], ◌∷◌, ◌++◌, length, refl, sym, ap, ◌∙◌, subst, ◌⊎◌, inl, inr, ◌↔◌, arith, Some, None, get_or-set_other, length-append, append_assoc}
+use Rattle.dw_board.specs.declared.board.Dir.{Dir}
+use Rattle.dw_board.specs.declared.piece.Side.{Side}
+use Rattle.dw_board.specs.declared.piece.Kind.{Kind}
+use Rattle.dw_board.specs.declared.piece.Kind.TheVariants.{Man, King}
+use Rattle.dw_board.specs.declared.piece.Piece.{Piece}
+use Rattle.dw_board.specs.Geometry.{Geometry, IsBoard, OnBoard, step}
+use Rattle.dw_board.specs.Placement.{Placement, at, placed}
+use Rattle.dw_board.specs.SquareSet.{Squares}
+use Rattle.dw_moves.specs.Moves.{Member, AllEmpty, Stands, Jump, Jumps, Path, CanCapture, other, ray, In}
+use Rattle.dw_moves.specs.inner.Glance.{AreSets, RunsTo, MeetsBehind, Takes}
+use Rattle.dw_moves.specs.inner.MemberLemmas.{mem_left, mem_right, mem_at}
+use Rattle.dw_moves.proofs.StepLemmas.{none_some, step_is}
+use Rattle.dw_moves.proofs.ExactLemmas.{option_cases}
+use Rattle.dw_moves.proofs.RayLemmas.{Toward, ray_some, ray_none, ray_of_length, ray_of_low, ray_toward}
+use Rattle.dw_moves.proofs.QuietOnceLemmas.{not_toward}
+use Rattle.dw_moves.proofs.CaptureBoundLemmas.{stood}
+use Rattle.dw_moves.proofs.GlanceSetLemmas.{free_at, not_taken}
+
+pub empty_append : (p : Placement) (xs ys : List ℕ) → AllEmpty p xs → AllEmpty p ys → AllEmpty p (xs ++ ys)
+empty_append p [] ys h k = k
+empty_append p (x ∷ xs) ys h k = (h.0, empty_append p xs ys h.1 k)
+
+pub empty_member : (p : Placement) (xs : List ℕ) (x : ℕ) → AllEmpty p xs → Member x xs → at p x ≡ None
+empty_member p [] x h m = absurd m
+empty_member p (y ∷ xs) x h (inl e) = ap (at p) e ∙ h.0
+empty_member p (y ∷ xs) x h (inr m) = empty_member p xs x h.1 m
+
+-- what was empty stays empty where a square is emptied
+still_empty : (p : Placement) (s t : ℕ) → at p t ≡ None → at (placed p s None) t ≡ None
+still_empty p s t e = elim (option_cases (at (placed p s None) t)) [
+  | inl none ↦ none
+  | inr q ↦ absurd (none_some q.0 (sym e ∙ stood p s t q.0 q.1))
+]
+
+all_still_empty : (p : Placement) (s : ℕ) (xs : List ℕ) → AllEmpty p xs → AllEmpty (placed p s None) xs
+all_still_empty p s [] h = tt
+all_still_empty p s (x ∷ xs) h = (still_empty p s x h.0, all_still_empty p s xs h.1)
+
+-- another square holds what it held
+other_at : (p : Placement) (s t : ℕ) → 1 ≤ s → 1 ≤ t → t ≢ s → at (placed p s None) t ≡ at p t
+other_at p s t low low_too ne = let apart : t - 1 ≢ s - 1 = λ e. ne (omega arith) in get_or-set_other p.cells (s - 1) (t - 1) None None apart
+
+-- a ray that begins with x
+pub ray_head : (g : Geometry) → IsBoard g → (s x : ℕ) (xs : List ℕ) (d : Dir) → OnBoard g s → ray g s d ≡ x ∷ xs → (step g s d ≡ Some x) × (ray g x d ≡ xs)
+ray_head g b s x xs d on e = elim (option_cases (step g s d)) [
+  | inl none ↦ let no : [] ≡ x ∷ xs = sym (ray_none g s d none) ∙ e in cc
+  | inr some ↦
+      let same : some.0 ∷ ray g some.0 d ≡ x ∷ xs = sym (ray_some g b s some.0 d on some.1) ∙ e in
+      let head : some.0 ≡ x = cc in
+      let tail : ray g some.0 d ≡ xs = cc in
+      (some.1 ∙ ap Some head, ap (λ z. ray g z d) (sym head) ∙ tail)
+]
+
+-- no square of a ray is its origin
+pub apart_on_ray : (g : Geometry) → IsBoard g → (d : Dir) (s x : ℕ) → OnBoard g s → Member x (ray g s d) → x ≢ s
+apart_on_ray g b d s x on m e = not_toward g d s (subst (Toward g d s) e (ray_toward g b d s x on m))
+
+-- so it holds what it held before the origin was emptied
+pub same_on_ray : (g : Geometry) → IsBoard g → (p : Placement) (d : Dir) (s x : ℕ) → OnBoard g s → Member x (ray g s d) → at (placed p s None) x ≡ at p x
+same_on_ray g b p d s x on m = other_at p s x on.0 (ray_of_low g g.rows s d x m) (apart_on_ray g b d s x on m)
+
+-- the empty squares that a run led over
+pub record Run (g : Geometry) (p : Placement) (from : Squares) (d : Dir) (n t : ℕ) : Type 0 where
+  pub start : ℕ
+  pub begins : In start from
+  pub before : List ℕ
+  pub on_ray : ray g start d ≡ before ++ ray g t d
+  pub clear : AllEmpty p before
+  pub steps : length before ≡ n
+  pub on : OnBoard g t
+
+no_length : (xs : List ℕ) → length xs ≡ 0 → xs ≡ []
+no_length [] e = refl
+no_length (x ∷ xs) e = absurd (omega arith)
+
+-- where a run ends that leads up to c, and what follows c on the ray
+record Walked (g : Geometry) (from occupied : Squares) (d : Dir) (n c : ℕ) (rest : List ℕ) : Type 0 where
+  pub last : ℕ
+  pub runs : RunsTo g from occupied d n last
+  pub steps : step g last d ≡ Some c
+  pub on : OnBoard g c
+  pub ray_is : ray g c d ≡ rest
+
+-- the first square behind an enemy is empty
+pub head_free : (p : Placement) (behind : List ℕ) (t : ℕ) (beyond : List ℕ) → AllEmpty p behind → at p t ≡ None → (x : ℕ) × (rest : List ℕ) × (behind ++ t ∷ beyond ≡ x ∷ rest) × (at p x ≡ None)
+head_free p [] t beyond clear free = (t, beyond, refl, free)
+head_free p (x ∷ behind) t beyond clear free = (x, behind ++ t ∷ beyond, refl, clear.0)
+
+pub piece_is : (piece : Piece) (side : Side) (kind_of : Kind) → piece.side ≡ side → piece.kind ≡ kind_of → piece ≡ record { side = side; kind = kind_of }
+piece_is piece side kind_of e f = λ i. record { side = e i; kind = f i }
+
+pub kind_cases : (k : Kind) → (k ≡ Man) ⊎ (k ≡ King)
+kind_cases Man = inl refl
+kind_cases King = inr refl
+
+pub first_jump : (g : Geometry) (p : Placement) (piece : Piece) (s : ℕ) (ts cs : List ℕ) → Jumps g p piece s ts cs → 0 < length cs → (c : ℕ) × (t : ℕ) × Jump g p piece s c t
+first_jump g p piece s [] [] h some = absurd (omega arith)
+first_jump g p piece s [] (c ∷ cs) h some = absurd h
+first_jump g p piece s (t ∷ ts) [] h some = absurd h
+first_jump g p piece s (t ∷ ts) (c ∷ cs) h some = (c, t, h.0)
+
+module _ (g : Geometry) (b : IsBoard g) (p : Placement) (men kings enemies occupied : Squares) (sets : AreSets g p men kings enemies occupied) where
+  run_of : (from : Squares) (d : Dir) → ((s : ℕ) → In s from → OnBoard g s) → (n t : ℕ) → RunsTo g from occupied d n t → Run g p from d n t
+  run_of from d on zero t r = record { start = t; begins = r; before = []; on_ray = refl; clear = tt; steps = refl; on = on t r }
+  run_of from d on (suc n) t r =
+      let h = run_of from d on n r.0 r.1 in
+      let next : OnBoard g t = (step_is g b r.0 t d h.on r.2).on in
+      record {
+        start = h.start;
+        begins = h.begins;
+        before = h.before ++ t ∷ [];
+        on_ray = h.on_ray ∙ (ap (λ z. h.before ++ z) (ray_some g b r.0 t d h.on r.2) ∙ sym (append_assoc h.before (t ∷ []) (ray g t d)));
+        clear = empty_append p h.before (t ∷ []) h.clear (free_at g p men kings enemies occupied t sets next r.3, tt);
+        steps = omega (arith, length-append h.before (t ∷ []), h.steps);
+        on = next;
+      }
+
+  -- one jump behind such a run
+  jump_of : (kind : Kind) (from : Squares) (d : Dir) → ((s : ℕ) → In s from ↔ (OnBoard g s × (at p s ≡ Some (record { side = p.turn; kind = kind })))) → (n c t : ℕ) → (kind ≡ Man → n ≡ 0)
+      → MeetsBehind g from enemies occupied d n c → step g c d ≡ Some t → (In t occupied → ⊥) → CanCapture g p
+  jump_of kind from d from_is n c t man m to free =
+      let h = run_of from d (λ s i. ((from_is s).0 i).0) n m.0 m.1 in
+      let piece : Piece = record { side = p.turn; kind = kind } in
+      let own = (from_is h.start).0 h.begins in
+      let c_on : OnBoard g c = (step_is g b m.0 c d h.on m.2).on in
+      let t_on : OnBoard g t = (step_is g b c t d c_on to).on in
+      let enemy = (sets.of_enemies c).0 m.3 in
+      let ray_is : ray g h.start d ≡ h.before ++ c ∷ ([] ++ t ∷ ray g t d) = h.on_ray ∙ ap (λ z. h.before ++ z) (ray_some g b m.0 c d h.on m.2 ∙ ap (λ z. c ∷ z) (ray_some g b c t d c_on to)) in
+      let on_ray : Member c (ray g h.start d) = subst (Member c) (sym ray_is) (mem_at c h.before (t ∷ ray g t d)) in
+      let jump : Jump g (placed p h.start None) piece h.start c t = record {
+        dir = d;
+        before = h.before;
+        behind = [];
+        beyond = ray g t d;
+        on_ray = ray_is;
+        clear = all_still_empty p h.start h.before h.clear;
+        enemy = (enemy.1.0, same_on_ray g b p d h.start c own.0 on_ray ∙ enemy.1.1);
+        clear_behind = tt;
+        free = still_empty p h.start t (free_at g p men kings enemies occupied t sets t_on free);
+        man = λ q. (no_length h.before (h.steps ∙ man q), refl);
+      } in
+      let path : Path g p h.start (t ∷ []) (c ∷ []) = record { piece = piece; stands = record { on_board = own.0; there = own.1; own = refl }; jumps = (jump, tt); once = ((λ i. i), tt) } in
+      (h.start, t ∷ [], c ∷ [], path, omega arith)
+
+  pub takes_capture : (d : Dir) → Takes g men kings enemies occupied d → CanCapture g p
+  takes_capture d h = elim h.2 [
+    | inl m ↦ jump_of Man men d sets.of_men 0 h.0 h.1 (λ _. refl) m h.3 h.4
+    | inr m ↦ jump_of King kings d sets.of_kings m.0 h.0 h.1 (λ q. cc) m.2 h.3 h.4
+  ]
+
+  -- a run over the empty squares of a ray
+  walk : (from : Squares) (d : Dir) (before : List ℕ) (n m s c : ℕ) (rest : List ℕ) → m ≡ n + length before → RunsTo g from occupied d n s → OnBoard g s → ray g s d ≡ before ++ c ∷ rest
+      → ((x : ℕ) → Member x before → In x occupied → ⊥) → Walked g from occupied d m c rest
+  walk from d [] n m s c rest e r on is free =
+      let h = ray_head g b s c rest d on is in
+      let same : n ≡ m = omega arith in
+      record { last = s; runs = subst (λ k. RunsTo g from occupied d k s) same r; steps = h.0; on = (step_is g b s c d on h.0).on; ray_is = h.1 }
+  walk from d (x ∷ before) n m s c rest e r on is free =
+      let h = ray_head g b s x (before ++ c ∷ rest) d on is in
+      walk from d before (suc n) m x c rest (omega arith) (s, r, h.0, free x (inl refl)) (step_is g b s x d on h.0).on h.1 (λ y i. free y (inr i))
+
+  -- what a jump takes is met
+  jump_takes : (s c t : ℕ) (piece : Piece) → Stands g p s piece → Jump g (placed p s None) piece s c t → (d : Dir) × Takes g men kings enemies occupied d
+  jump_takes s c t piece stands j =
+      let d : Dir = j.dir in
+      let next = head_free (placed p s None) j.behind t j.beyond j.clear_behind j.free in
+      let ray_is : ray g s d ≡ j.before ++ c ∷ (next.0 ∷ next.1) = j.on_ray ∙ ap (λ z. j.before ++ c ∷ z) next.2 in
+      let empty_on : (x : ℕ) → Member x (ray g s d) → at (placed p s None) x ≡ None → In x occupied → ⊥ = λ x i e. not_taken g p men kings enemies occupied x sets (sym (same_on_ray g b p d s x stands.on_board i) ∙ e) in
+      let free : (x : ℕ) → Member x j.before → In x occupied → ⊥ = λ x i. empty_on x (subst (Member x) (sym j.on_ray) (mem_left x j.before (c ∷ (j.behind ++ t ∷ j.beyond)) i)) (empty_member (placed p s None) j.before x j.clear i) in
+      let behind : In next.0 occupied → ⊥ = empty_on next.0 (subst (Member next.0) (sym ray_is) (mem_right next.0 j.before (c ∷ (next.0 ∷ next.1)) (inr (inl refl)))) next.3 in
+      let there : (kind : Kind) → piece.kind ≡ kind → at p s ≡ Some (record { side = p.turn; kind = kind }) = λ kind e. stands.there ∙ ap Some (piece_is piece p.turn kind stands.own e) in
+      let enemy_at : at p c ≡ Some (record { side = other p.turn; kind = j.enemy.0 }) = stood p s c (record { side = other piece.side; kind = j.enemy.0 }) j.enemy.1 ∙ ap (λ z. Some (record { side = other z; kind = j.enemy.0 })) stands.own in
+      let met : (from : Squares) → In s from → Walked g from occupied d (length j.before) c (next.0 ∷ next.1) = λ from i. walk from d j.before 0 (length j.before) s c (next.0 ∷ next.1) (omega arith) i stands.on_board ray_is free in
+      let enemy : OnBoard g c → In c enemies = λ on. (sets.of_enemies c).1 (on, (j.enemy.0, enemy_at)) in
+      let few : length j.before < g.rows = omega (arith, ap length ray_is, length-append j.before (c ∷ (next.0 ∷ next.1)), ray_of_length g g.rows s d) in
+      let meets : (from : Squares) → In s from → MeetsBehind g from enemies occupied d (length j.before) c = λ from i. let w = met from i in (w.last, w.runs, w.steps, enemy w.on) in
+      let to : (from : Squares) → In s from → step g c d ≡ Some next.0 = λ from i. let w = met from i in (ray_head g b c next.0 next.1 d w.on w.ray_is).0 in
+      elim (kind_cases piece.kind) [
+        | inl man ↦
+            let i : In s men = (sets.of_men s).1 (stands.on_board, there Man man) in
+            let at_once : length j.before ≡ 0 = ap length (j.man man).0 in
+            (d, (c, next.0, inl (subst (λ n. MeetsBehind g men enemies occupied d n c) at_once (meets men i)), to men i, behind))
+        | inr king ↦
+            let i : In s kings = (sets.of_kings s).1 (stands.on_board, there King king) in
+            (d, (c, next.0, inr (length j.before, few, meets kings i), to kings i, behind))
+      ]
+
+  pub capture_takes : CanCapture g p → (d : Dir) × Takes g men kings enemies occupied d
+  capture_takes h =
+      let first = first_jump g (placed p h.0 None) h.3.piece h.0 h.1 h.2 h.3.jumps h.4 in
+      jump_takes h.0 first.0 first.1 h.3.piece h.3.stands first.2

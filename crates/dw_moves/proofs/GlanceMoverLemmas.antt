@@ -1,0 +1,85 @@
+-- The pieces that move or take are found from the squares that they reach.
+use Rattle.std.proofs.Common.{◌≡◌, ℕ, ◌∷◌, ◌++◌, refl, sym, ap, ◌∙◌, subst, ◌⊎◌, inl, inr, ◌↔◌, Some, None}
+use Rattle.std.specs.FinSet as fin
+use Rattle.dw_board.specs.declared.board.Dir.{Dir}
+use Rattle.dw_board.specs.declared.board.Dir.TheVariants.{UpLeft, UpRight, DownLeft, DownRight}
+use Rattle.dw_board.specs.declared.piece.Kind.{Kind}
+use Rattle.dw_board.specs.declared.piece.Kind.TheVariants.{Man, King}
+use Rattle.dw_board.specs.declared.piece.Piece.{Piece}
+use Rattle.dw_board.specs.Geometry.{Geometry, IsBoard, OnBoard, step}
+use Rattle.dw_board.specs.Placement.{Placement, at, placed}
+use Rattle.dw_board.specs.SquareSet.{Squares}
+use Rattle.dw_moves.specs.Moves.{Member, Stands, Jump, other, ray, In}
+use Rattle.dw_moves.specs.inner.Glance.{AreSets, MenMeet, CanTakeFrom, back}
+use Rattle.dw_moves.proofs.StepLemmas.{step_is}
+use Rattle.dw_moves.proofs.StepBackLemmas.{step_back}
+use Rattle.dw_moves.proofs.SquareSetLemmas.{in_or, in_minus}
+use Rattle.dw_moves.proofs.GlanceSetLemmas.{not_taken}
+use Rattle.dw_moves.proofs.GlanceRunLemmas.{IsShifted}
+use Rattle.dw_moves.proofs.FirstJumpLemmas.{ray_head, piece_is, kind_cases, same_on_ray}
+
+-- a man that can take is found from the square behind what it takes
+pub taker_in : (g : Geometry) → IsBoard g → (men enemies occupied met next free over behind : Squares) (d e : Dir) → e ≡ back d → ((c : ℕ) → In c met ↔ MenMeet g men enemies occupied d c)
+    → IsShifted g met d next → free ≡ fin.difference next occupied → IsShifted g free e over → IsShifted g over e behind
+    → (s c t : ℕ) → OnBoard g s → In s men → step g s d ≡ Some c → In c enemies → step g c d ≡ Some t → (In t occupied → ⊥) → In s behind
+taker_in g b men enemies occupied met next free over behind d e e_is met_is next_is free_is over_is behind_is s c t on m to enemy further empty =
+    let c_on : OnBoard g c = (step_is g b s c d on to).on in
+    let hit : In c met = (met_is c).1 (s, m, to, enemy) in
+    let landed : In t free = (in_minus next occupied free t free_is).1 ((next_is t).1 (c, (hit, further)), empty) in
+    let there : In c over = (over_is c).1 (t, (landed, subst (λ z. step g t z ≡ Some c) (sym e_is) (step_back g b c t d c_on further))) in
+    (behind_is s).1 (c, (there, subst (λ z. step g c z ≡ Some s) (sym e_is) (step_back g b s c d on to)))
+
+-- one of the four sets, or the first
+pub in_five : (a u v x y two three four all : Squares) (s : ℕ) → two ≡ fin.union u v → three ≡ fin.union x y → four ≡ fin.union a two → all ≡ fin.union four three
+    → In s a ⊎ (In s u ⊎ (In s v ⊎ (In s x ⊎ In s y))) → In s all
+in_five a u v x y two three four all s two_is three_is four_is all_is h = elim h [
+  | inl l ↦ (in_or four three all s all_is).1 (inl ((in_or a two four s four_is).1 (inl l)))
+  | inr (inl l) ↦ (in_or four three all s all_is).1 (inl ((in_or a two four s four_is).1 (inr ((in_or u v two s two_is).1 (inl l)))))
+  | inr (inr (inl l)) ↦ (in_or four three all s all_is).1 (inl ((in_or a two four s four_is).1 (inr ((in_or u v two s two_is).1 (inr l)))))
+  | inr (inr (inr (inl l))) ↦ (in_or four three all s all_is).1 (inr ((in_or x y three s three_is).1 (inl l)))
+  | inr (inr (inr (inr l))) ↦ (in_or four three all s all_is).1 (inr ((in_or x y three s three_is).1 (inr l)))
+]
+
+-- what a direction's set holds, for all four
+abbrev pub FourSets : (Dir → Type 0) → (ul ur dl dr : Type 0) → Type 0
+FourSets P ul ur dl dr = (P UpLeft → ul) × ((P UpRight → ur) × ((P DownLeft → dl) × (P DownRight → dr)))
+
+by_dir : (P : Dir → Type 0) (ul ur dl dr : Type 0) → FourSets P ul ur dl dr → (d : Dir) → P d → ul ⊎ (ur ⊎ (dl ⊎ dr))
+by_dir P ul ur dl dr f UpLeft h = inl (f.0 h)
+by_dir P ul ur dl dr f UpRight h = inr (inl (f.1.0 h))
+by_dir P ul ur dl dr f DownLeft h = inr (inr (inl (f.1.1.0 h)))
+by_dir P ul ur dl dr f DownRight h = inr (inr (inr (f.1.1.1 h)))
+
+-- a man takes from s in a direction
+abbrev pub TakesFrom : Geometry → Squares → Squares → Squares → ℕ → Dir → Type 0
+TakesFrom g men enemies occupied s d = (c : ℕ) × ((t : ℕ) × (OnBoard g s × (In s men × ((step g s d ≡ Some c) × (In c enemies × ((step g c d ≡ Some t) × (In t occupied → ⊥)))))))
+
+module _ (g : Geometry) (b : IsBoard g) (p : Placement) (men kings enemies occupied : Squares) (sets : AreSets g p men kings enemies occupied) where
+  -- a capture begins with a king, or with a man next to an enemy that has an empty square behind it
+  capture_begins : (s : ℕ) → CanTakeFrom g p s → In s kings ⊎ ((d : Dir) × TakesFrom g men enemies occupied s d)
+  capture_begins s h =
+      let piece : Piece = h.2 in
+      let stands : Stands g p s piece = h.3 in
+      let j : Jump g (placed p s None) piece s h.0 h.1 = h.4 in
+      let on = stands.on_board in
+      let there : (kind_of : Kind) → piece.kind ≡ kind_of → at p s ≡ Some (record { side = p.turn; kind = kind_of }) = λ kind_of e. stands.there ∙ ap Some (piece_is piece p.turn kind_of stands.own e) in
+      elim (kind_cases piece.kind) [
+        | inl man ↦
+            let first : ray g s j.dir ≡ h.0 ∷ (h.1 ∷ j.beyond) = j.on_ray ∙ (ap (λ z. z ++ h.0 ∷ (j.behind ++ h.1 ∷ j.beyond)) (j.man man).0 ∙ ap (λ z. h.0 ∷ (z ++ h.1 ∷ j.beyond)) (j.man man).1) in
+            let to = ray_head g b s h.0 (h.1 ∷ j.beyond) j.dir on first in
+            let c_on : OnBoard g h.0 = (step_is g b s h.0 j.dir on to.0).on in
+            let further = ray_head g b h.0 h.1 j.beyond j.dir c_on to.1 in
+            let c_in : Member h.0 (ray g s j.dir) = subst (Member h.0) (sym first) (inl refl) in
+            let t_in : Member h.1 (ray g s j.dir) = subst (Member h.1) (sym first) (inr (inl refl)) in
+            let c_at : at p h.0 ≡ Some (record { side = other p.turn; kind = j.enemy.0 }) = sym (same_on_ray g b p j.dir s h.0 on c_in) ∙ (j.enemy.1 ∙ ap (λ z. Some (record { side = other z; kind = j.enemy.0 })) stands.own) in
+            let t_at : at p h.1 ≡ None = sym (same_on_ray g b p j.dir s h.1 on t_in) ∙ j.free in
+            inr (j.dir, (h.0, (h.1, (on, ((sets.of_men s).1 (on, there Man man), (to.0, ((sets.of_enemies h.0).1 (c_on, (j.enemy.0, c_at)), (further.0, not_taken g p men kings enemies occupied h.1 sets t_at))))))))
+        | inr king ↦ inl ((sets.of_kings s).1 (on, there King king))
+      ]
+
+  pub captures_within : (ul ur dl dr two three four all : Squares) → (s : ℕ) → FourSets (TakesFrom g men enemies occupied s) (In s ul) (In s ur) (In s dl) (In s dr)
+      → two ≡ fin.union ul ur → three ≡ fin.union dl dr → four ≡ fin.union kings two → all ≡ fin.union four three → CanTakeFrom g p s → In s all
+  captures_within ul ur dl dr two three four all s f two_is three_is four_is all_is h = in_five kings ul ur dl dr two three four all s two_is three_is four_is all_is (elim (capture_begins s h) [
+    | inl k ↦ inl k
+    | inr m ↦ inr (by_dir (TakesFrom g men enemies occupied s) (In s ul) (In s ur) (In s dl) (In s dr) f m.0 m.1)
+  ])

@@ -1,0 +1,129 @@
+-- What the walks found is all legal moves with their least paths.
+use Rattle.std.proofs.Common.{◌≡◌, ℕ, ◌<◌, zero, suc, List, [], ◌∷◌, ◌++◌, length, map, refl, sym, ap, ◌∙◌, subst, inl, inr, arith}
+use Rattle.std.proofs.lemmas.Bool.{cases_lt}
+use Rattle.std.specs.FinSet as fin
+use Rattle.std.specs.Ordering.{nat_cmp}
+use Rattle.dw_board.specs.Geometry.{Geometry}
+use Rattle.dw_board.specs.Placement.{Placement}
+use Rattle.dw_moves.specs.Moves.{Member, NoRepeat, IsBest, Move, Quiet, IsPathOf, Legal, LegalAt, last_of}
+use Rattle.dw_moves.specs.inner.MemberLemmas.{mem_map, mem_map_back}
+use Rattle.dw_moves.specs.Order.{LexLess, LandsAt, IsLeastPath, Listed, HasLeastPath}
+use Rattle.dw_moves.specs.inner.Plain.{Adds}
+use Rattle.dw_moves.specs.inner.Listing.{quietly_listed, steps_of, HasAll, Leading, LongestLeast}
+use Rattle.dw_moves.proofs.FilledLemmas.{quiet_from_legal, capture_from_legal, legal_from_capture, legal_count}
+use Rattle.dw_moves.proofs.LeastTakingLemmas.{leading_takes}
+use Rattle.dw_moves.proofs.LegalMoveLemmas.{best_only}
+use Rattle.dw_moves.proofs.LexLemmas.{lex_irrefl}
+use Rattle.dw_moves.proofs.AddingLemmas.{AreQuiet, are_quiet, move_to}
+
+-- the number reached is the greatest
+best_led : (g : Geometry) (p : Placement) (k : ℕ) (list kept : List Listed) → LongestLeast (Leading g p) 0 list k kept → IsBest g p k
+best_led g p k list kept h = record {
+  reached = λ some. elim h.reached [
+    | inl none ↦ absurd (omega arith)
+    | inr r ↦ let is = r.1.1.1 in (r.0.step.from, r.1.1.0, is.over, is.path, is.count)
+  ];
+  most = λ from ts cs path. elim (cases_lt 0 (length cs)) [
+    | inl some ↦
+        let step : Move = record { from = from; to = last_of from ts; taken = fin.from_list cs } in
+        h.most (length cs) (record { step = step; path = from ∷ ts }) (some, (ts, record { over = cs; path = path; count = refl; ends = refl; takes = refl }, refl))
+    | inr none ↦ omega arith
+  ];
+}
+
+-- a move stands once, and so with one path
+once_same : (list : List Listed) → NoRepeat (steps_of list) → (l r : Listed) → Member l list → Member r list → l.step ≡ r.step → l ≡ r
+once_same [] once l r hl hr e = absurd hl
+once_same (x ∷ list) once l r (inl hl) (inl hr) e = hl ∙ sym hr
+once_same (x ∷ list) once l r (inl hl) (inr hr) e = absurd (once.0 (subst (λ z. Member z (steps_of list)) (sym e ∙ ap (λ (z : Listed). z.step) hl) (mem_map (λ (z : Listed). z.step) r list hr)))
+once_same (x ∷ list) once l r (inr hl) (inl hr) e = absurd (once.0 (subst (λ z. Member z (steps_of list)) (e ∙ ap (λ (z : Listed). z.step) hr) (mem_map (λ (z : Listed). z.step) l list hl)))
+once_same (x ∷ list) once l r (inr hl) (inr hr) e = once_same list once.1 l r hl hr e
+
+lands_by : (g : Geometry) (p : Placement) (m : Move) (k : ℕ) (ts : List ℕ) → 0 < k → IsPathOf g p m k ts → LandsAt g p m k ts
+lands_by g p m zero ts some h = absurd (omega arith)
+lands_by g p m (suc k) ts some h = h
+
+path_by : (g : Geometry) (p : Placement) (m : Move) (k : ℕ) (ts : List ℕ) → 0 < k → LandsAt g p m k ts → IsPathOf g p m k ts
+path_by g p m zero ts some h = absurd (omega arith)
+path_by g p m (suc k) ts some h = h
+
+no_member : (list : List Listed) → list ≡ [] → (l : Listed) → Member l list → ⊥
+no_member list e l h = rw e at h
+
+-- what is kept of the captures of the greatest number is the least of a move's paths
+pub kept_least : (g : Geometry) (p : Placement) (k : ℕ) (list kept : List Listed) → 0 < k → IsBest g p k → NoRepeat (steps_of kept) → LongestLeast (Leading g p) 0 list k kept → (l : Listed) → Member l kept → Leading g p k l → HasLeastPath g p l
+kept_least g p k list kept some best once h l m leads = (
+  leads.1.0,
+  record {
+    leads = (k, best, lands_by g p l.step k leads.1.0 some leads.1.1);
+    least = λ others o less.
+        let path : IsPathOf g p l.step k others = path_by g p l.step k others some (subst (λ z. LandsAt g p l.step z others) (best_only g p o.0 k o.1 best) o.2) in
+        let r = h.least (record { step = l.step; path = l.step.from ∷ others }) (inr (some, (others, path, refl))) in
+        let same : l ≡ r.0 = once_same kept once l r.0 m r.1 (sym r.2) in
+        r.3 (subst (LexLess (l.step.from ∷ others)) (sym leads.1.2 ∙ ap (λ (z : Listed). z.path) same) (inr (refl, less)));
+  },
+  leads.1.2,
+)
+
+-- something can be taken
+pub captures_all : (g : Geometry) (p : Placement) (k : ℕ) (list kept : List Listed) → list ≡ [] → 0 < k → LongestLeast (Leading g p) 0 list k kept → HasAll g p kept
+captures_all g p k list kept e some h =
+    let best : IsBest g p k = best_led g p k list kept h in
+    let once : NoRepeat (steps_of kept) = h.once (subst (λ z. NoRepeat (steps_of z)) (sym e) tt) in
+    let leads : (l : Listed) → Member l kept → Leading g p k l = λ l m. elim (h.from l m) [ inl old ↦ absurd (no_member list e l old.1) | inr f ↦ f ] in
+    record {
+      legal = λ l m. legal_from_capture g p k l.step best (leading_takes g p k l (leads l m));
+      paths = λ l m. kept_least g p k list kept some best once h l m (leads l m);
+      all = λ m legal.
+          let t = capture_from_legal g p k m some best legal in
+          let r = h.least (record { step = m; path = m.from ∷ t.1.0 }) (inr (t.0, (t.1.0, t.1.1, refl))) in
+          subst (λ z. Member z (steps_of kept)) r.2 (mem_map (λ (z : Listed). z.step) r.0 kept r.1);
+      once = once;
+    }
+
+-- the only path of a quiet move
+quiet_least : (g : Geometry) (p : Placement) (m : Move) → Legal g p m → fin.len m.taken ≡ 0 → IsLeastPath g p m (m.to ∷ [])
+quiet_least g p m legal none = at_k legal.0 (legal_count g p legal.0 m legal.1 legal) legal.1 legal.2 where
+  only : (j : ℕ) → j ≡ 0 → (others : List ℕ) → LandsAt g p m j others → LexLess others (m.to ∷ []) → ⊥
+  only zero e others lands less = lex_irrefl (m.to ∷ []) (subst (λ z. LexLess z (m.to ∷ [])) lands.2 less)
+  only (suc j) e others lands less = omega arith
+
+  at_k : (k : ℕ) → fin.len m.taken ≡ k → IsBest g p k → LegalAt g p k m → IsLeastPath g p m (m.to ∷ [])
+  at_k zero count best h = record {
+    leads = (0, best, (h.0, h.1, refl));
+    least = λ others o less. only o.0 (best_only g p o.0 0 o.1 best) others o.2 less;
+  }
+  at_k (suc k) count best h = absurd (omega (arith, none, count))
+
+-- a quiet move with its path
+abbrev with_ends : Move → Listed
+with_ends m = record { step = m; path = m.from ∷ m.to ∷ [] }
+
+steps_with_ends : (ms : List Move) → steps_of (map with_ends ms) ≡ ms
+steps_with_ends [] = refl
+steps_with_ends (m ∷ ms) = ap (λ z. m ∷ z) (steps_with_ends ms)
+
+quiet_listing : (g : Geometry) (p : Placement) (moves : List Move) → AreQuiet g p moves → IsBest g p 0 → HasAll g p (map with_ends moves)
+quiet_listing g p moves quiet best =
+    let steps = steps_with_ends moves in
+    let legal : (m : Move) → Member m moves → Legal g p m = λ m h. (0, best, (quiet.exactly m).0 h) in
+    record {
+      legal = λ l m. let f = mem_map_back with_ends l moves m in subst (λ (z : Listed). Legal g p z.step) (sym f.2) (legal f.0 f.1);
+      paths = λ l m.
+          let f = mem_map_back with_ends l moves m in
+          let none : fin.len f.0.taken ≡ 0 = ap fin.len ((quiet.exactly f.0).0 f.1).1 ∙ fin.len-empty nat_cmp in
+          subst (HasLeastPath g p) (sym f.2) (f.0.to ∷ [], quiet_least g p f.0 (legal f.0 f.1) none, refl);
+      all = λ m l. subst (Member m) (sym steps) ((quiet.exactly m).1 (quiet_from_legal g p m best l));
+      once = subst NoRepeat (sym steps) quiet.once;
+    }
+
+made_of_moves : (pairs : List (ℕ × ℕ)) → map (λ (q : ℕ × ℕ). quietly_listed q.0 q.1) pairs ≡ map with_ends (map move_to pairs)
+made_of_moves [] = refl
+made_of_moves (q ∷ pairs) = ap (λ z. quietly_listed q.0 q.1 ∷ z) (made_of_moves pairs)
+
+-- nothing can be taken, and the quiet moves were added
+pub quiet_all_listed : (g : Geometry) (p : Placement) (k : ℕ) (list kept old now : List Listed) → k ≡ 0 → LongestLeast (Leading g p) 0 list k kept → old ≡ [] → Adds quietly_listed (Quiet g p) old now → HasAll g p now
+quiet_all_listed g p k list kept old now none h e added =
+    let best : IsBest g p 0 = subst (IsBest g p) none (best_led g p k list kept h) in
+    let whole : now ≡ map with_ends (map move_to added.pairs) = added.are ∙ (ap (λ z. z ++ map (λ (q : ℕ × ℕ). quietly_listed q.0 q.1) added.pairs) e ∙ made_of_moves added.pairs) in
+    subst (HasAll g p) (sym whole) (quiet_listing g p (map move_to added.pairs) (are_quiet g p added.pairs added.exactly added.once) best)

@@ -1,0 +1,121 @@
+-- Squares met one after another on a ray.
+use Rattle.std.proofs.Common.{◌≡◌, ℕ, ◌+◌, ◌≤◌, ◌<◌, suc, List, [], ◌∷◌, length, refl, sym, ap, ◌∙◌, inl, inr, arith, Option, Some, None}
+use Rattle.dw_board.specs.declared.piece.Kind.{Kind}
+use Rattle.dw_board.specs.declared.piece.Kind.TheVariants.{Man, King}
+use Rattle.dw_board.specs.declared.board.Dir.{Dir}
+use Rattle.dw_board.specs.Geometry.{Geometry, IsBoard, OnBoard, step}
+use Rattle.dw_board.specs.Placement.{Placement, at}
+use Rattle.dw_moves.specs.Moves.{ray}
+use Rattle.dw_moves.specs.inner.Plain.{free_front, free_next, landings_for, free_if, free_step}
+use Rattle.dw_moves.proofs.StepLemmas.{step_is, none_some}
+use Rattle.dw_moves.proofs.ExactLemmas.{option_cases}
+use Rattle.dw_moves.proofs.RayLemmas.{ray_some, ray_none, ray_of_length}
+
+-- the next square is t, and empty
+pub record Freed (g : Geometry) (p : Placement) (s : ℕ) (d : Dir) (t : ℕ) : Type 0 where
+  pub steps : step g s d ≡ Some t
+  pub on : OnBoard g t
+  pub ray_is : ray g s d ≡ t ∷ ray g t d
+  pub free : at p t ≡ None
+
+some_inj : (x y : ℕ) → Some x ≡ Some y → x ≡ y
+some_inj x y e = cc
+
+free_if_some : (p : Placement) (o : Option ℕ) (t : ℕ) → free_if p o ≡ Some t → (o ≡ Some t) × (at p t ≡ None)
+free_if_some p None t e = absurd (none_some t e)
+free_if_some p (Some u) t e = elim (option_cases (at p u)) [
+  | inl h ↦ let same : u ≡ t = some_inj u t (rw (h, free_if) at e) in (ap Some same, ap (at p) (sym same) ∙ h)
+  | inr h ↦ absurd (none_some t (rw (h.1, free_if) at e))
+]
+
+pub freed : (g : Geometry) → IsBoard g → (p : Placement) (s : ℕ) (d : Dir) (t : ℕ) → OnBoard g s → free_step g p s d ≡ Some t → Freed g p s d t
+freed g b p s d t on e =
+    let h = free_if_some p (step g s d) t e in
+    record { steps = h.0; on = (step_is g b s t d on h.0).on; ray_is = ray_some g b s t d on h.0; free = h.1 }
+
+pub run_man : (p : Placement) (t : ℕ) (ts : List ℕ) → at p t ≡ None → landings_for Man p (t ∷ ts) ≡ t ∷ []
+run_man p t ts e = rw (e, free_next) refl
+
+pub run_king : (p : Placement) (t : ℕ) (ts : List ℕ) → at p t ≡ None → landings_for King p (t ∷ ts) ≡ t ∷ landings_for King p ts
+run_king p t ts e = rw (e, free_front) refl
+
+run_blocked : (k : Kind) (p : Placement) (t : ℕ) (ts : List ℕ) → (at p t ≡ None → ⊥) → landings_for k p (t ∷ ts) ≡ []
+run_blocked Man p t ts ne = elim (option_cases (at p t)) [ inl e ↦ absurd (ne e) | inr e ↦ rw (e.1, free_next) refl ]
+run_blocked King p t ts ne = elim (option_cases (at p t)) [ inl e ↦ absurd (ne e) | inr e ↦ rw (e.1, free_front) refl ]
+
+run_empty : (k : Kind) (p : Placement) → landings_for k p [] ≡ []
+run_empty Man p = refl
+run_empty King p = refl
+
+pub run_stop : (g : Geometry) → IsBoard g → (k : Kind) (p : Placement) (s : ℕ) (d : Dir) → OnBoard g s → free_step g p s d ≡ None → landings_for k p (ray g s d) ≡ []
+run_stop g b k p s d on e = elim (option_cases (step g s d)) [
+  | inl h ↦ ap (landings_for k p) (ray_none g s d h) ∙ run_empty k p
+  | inr h ↦ ap (landings_for k p) (ray_some g b s h.0 d on h.1) ∙ run_blocked k p h.0 (ray g h.0 d) (λ free.
+      let is : free_step g p s d ≡ Some h.0 = ap (free_if p) h.1 ∙ rw (free, free_if) refl in none_some h.0 (sym e ∙ is))
+]
+
+front_length : (p : Placement) (xs : List ℕ) → length (free_front p xs) ≤ length xs
+front_length p [] = omega arith
+front_length p (x ∷ xs) = elim (option_cases (at p x)) [
+  | inl e ↦ let l : length (free_front p (x ∷ xs)) ≡ suc (length (free_front p xs)) = rw (e, free_front) refl in omega (arith, front_length p xs)
+  | inr e ↦ let l : length (free_front p (x ∷ xs)) ≡ 0 = rw (e.1, free_front) refl in omega arith
+]
+
+next_length : (p : Placement) (xs : List ℕ) → length (free_next p xs) ≤ length xs
+next_length p [] = omega arith
+next_length p (x ∷ xs) = elim (option_cases (at p x)) [
+  | inl e ↦ let l : length (free_next p (x ∷ xs)) ≡ 1 = rw (e, free_next) refl in omega arith
+  | inr e ↦ let l : length (free_next p (x ∷ xs)) ≡ 0 = rw (e.1, free_next) refl in omega arith
+]
+
+pub run_length : (k : Kind) (p : Placement) (xs : List ℕ) → length (landings_for k p xs) ≤ length xs
+run_length Man p xs = next_length p xs
+run_length King p xs = front_length p xs
+
+pub ray_length : (g : Geometry) → IsBoard g → (s : ℕ) (d : Dir) → length (ray g s d) ≤ 10
+ray_length g b s d = omega (arith, ray_of_length g g.rows s d, b.even, b.high)
+
+pub run_short : (g : Geometry) → IsBoard g → (k : Kind) (p : Placement) (s : ℕ) (d : Dir) → length (landings_for k p (ray g s d)) ≤ 10
+run_short g b k p s d = omega (arith, run_length k p (ray g s d), ray_length g b s d)
+
+-- how a count goes on over one more empty square
+pub count_king : (g : Geometry) (p : Placement) (s : ℕ) (d : Dir) (t count total : ℕ) → Freed g p s d t → count + length (landings_for King p (ray g s d)) ≡ total → count + 1 + length (landings_for King p (ray g t d)) ≡ total
+count_king g p s d t count total h e =
+    let l : length (landings_for King p (ray g s d)) ≡ suc (length (landings_for King p (ray g t d))) = ap (λ z. length (landings_for King p z)) h.ray_is ∙ ap length (run_king p t (ray g t d) h.free) in
+    omega arith
+
+pub count_man : (g : Geometry) (p : Placement) (s : ℕ) (d : Dir) (t count total : ℕ) → Freed g p s d t → count + length (landings_for Man p (ray g s d)) ≡ total → count + 1 ≡ total
+count_man g p s d t count total h e =
+    let l : length (landings_for Man p (ray g s d)) ≡ 1 = ap (λ z. length (landings_for Man p z)) h.ray_is ∙ ap length (run_man p t (ray g t d) h.free) in
+    omega arith
+
+pub count_stop : (g : Geometry) → IsBoard g → (k : Kind) (p : Placement) (s : ℕ) (d : Dir) (count total : ℕ) → OnBoard g s → free_step g p s d ≡ None → count + length (landings_for k p (ray g s d)) ≡ total → count ≡ total
+count_stop g b k p s d count total on stop e =
+    let l : length (landings_for k p (ray g s d)) ≡ 0 = ap length (run_stop g b k p s d on stop) in
+    omega arith
+
+pub ray_falls : (g : Geometry) (p : Placement) (s : ℕ) (d : Dir) (t : ℕ) → Freed g p s d t → length (ray g t d) < length (ray g s d)
+ray_falls g p s d t h = let l : length (ray g s d) ≡ suc (length (ray g t d)) = ap length h.ray_is in omega arith
+
+some_more : (k : Kind) (g : Geometry) (p : Placement) (s : ℕ) (d : Dir) (t : ℕ) → Freed g p s d t → 1 ≤ length (landings_for k p (ray g s d))
+some_more Man g p s d t h =
+    let l : length (landings_for Man p (ray g s d)) ≡ 1 = ap (λ z. length (landings_for Man p z)) h.ray_is ∙ ap length (run_man p t (ray g t d) h.free) in
+    omega arith
+some_more King g p s d t h =
+    let l : length (landings_for King p (ray g s d)) ≡ suc (length (landings_for King p (ray g t d))) = ap (λ z. length (landings_for King p z)) h.ray_is ∙ ap length (run_king p t (ray g t d) h.free) in
+    omega arith
+
+pub room : (k : Kind) (g : Geometry) → IsBoard g → (p : Placement) (from s : ℕ) (d : Dir) (t count : ℕ) → Freed g p s d t → count + length (landings_for k p (ray g s d)) ≡ length (landings_for k p (ray g from d)) → count + 1 ≤ 10
+room k g b p from s d t count h e = omega (arith, some_more k g p s d t h, run_short g b k p from d)
+
+pub goes_on : (k : Kind) (g : Geometry) (p : Placement) (s : ℕ) (d : Dir) (t count total : ℕ) → k ≡ King → Freed g p s d t → count + length (landings_for k p (ray g s d)) ≡ total → count + 1 + length (landings_for k p (ray g t d)) ≡ total
+goes_on Man g p s d t count total k h e = cc
+goes_on King g p s d t count total k h e = count_king g p s d t count total h e
+
+pub goes_once : (k : Kind) (g : Geometry) (p : Placement) (s : ℕ) (d : Dir) (t count total : ℕ) → k ≡ Man → Freed g p s d t → count + length (landings_for k p (ray g s d)) ≡ total → count + 1 ≡ total
+goes_once Man g p s d t count total k h e = count_man g p s d t count total h e
+goes_once King g p s d t count total k h e = cc
+
+pub not_some : (o : Option ℕ) → ((x : ℕ) → o ≡ Some x → ⊥) → o ≡ None
+not_some None h = refl
+not_some (Some x) h = absurd (h x refl)

@@ -1,0 +1,122 @@
+-- How the quiet moves are counted: those of men direction by direction, those of kings square by square.
+use Rattle.std.proofs.Common.{◌≡◌, ℕ, ◌+◌, ◌*◌, ◌≤◌, zero, suc, List, [], ◌∷◌, ◌++◌, length, map, refl, sym, ap, ◌∙◌, subst, inl, inr, ◌↔◌, arith, length-append}
+use Rattle.std.proofs.lemmas.Bool.{true≢false, cases_Bool, cases_lt}
+use Rattle.std.proofs.lemmas.List.{length-map}
+use Rattle.std.specs.FinSet as fin
+use Rattle.std.specs.Ordering.{nat_cmp}
+use Rattle.dw_board.specs.declared.board.Dir.{Dir}
+use Rattle.dw_board.specs.declared.board.Dir.TheVariants.{UpLeft, UpRight, DownLeft, DownRight}
+use Rattle.dw_board.specs.declared.piece.Kind.TheVariants.{King}
+use Rattle.dw_board.specs.Geometry.{Geometry, IsBoard, squares}
+use Rattle.dw_board.specs.Placement.{Placement}
+use Rattle.dw_board.specs.SquareSet.{Squares}
+use Rattle.dw_moves.specs.Moves.{Member, IsQuietCount, Quiet, In}
+use Rattle.dw_moves.specs.inner.Glance.{back}
+use Rattle.dw_moves.specs.inner.Plain.{numbers_to, quiet_for, Adds, Counts, ManSteps, KingGoes}
+use Rattle.dw_moves.proofs.StepBackLemmas.{step_back}
+use Rattle.dw_moves.proofs.LegalMoveLemmas.{squares_length, number_in}
+use Rattle.dw_moves.proofs.SquareSetLemmas.{some_in}
+use Rattle.dw_moves.proofs.GlanceSetLemmas.{AreKind}
+use Rattle.dw_moves.proofs.TakesTheseLemmas.{one_fewer, not_removed}
+use Rattle.dw_moves.proofs.AddingLemmas.{Stepping, stepping_none, stepping_more, stepping_all, Going, going_none, going_more, going_all, all_quiet, in_rest}
+
+abbrev pair : ℕ → ℕ → ℕ × ℕ
+pair s t = (s, t)
+
+abbrev same_pair : ℕ × ℕ → ℕ × ℕ
+same_pair q = pair q.0 q.1
+
+-- a list of pairs, counted
+counted : (P : ℕ → ℕ → Type 0) (list : List (ℕ × ℕ)) (n : ℕ) → Adds pair P [] list → length list ≡ n → Counts P n
+counted P list n h is = record { pairs = h.pairs; exactly = h.exactly; once = h.once; count = sym (ap length h.are ∙ length-map h.pairs same_pair) ∙ is }
+
+-- the pairs of a count, behind a list
+with_counted : (P : ℕ → ℕ → Type 0) (n : ℕ) (c : Counts P n) (old : List (ℕ × ℕ)) → Adds pair P old (old ++ map same_pair c.pairs)
+with_counted P n c old = record { pairs = c.pairs; exactly = c.exactly; once = c.once; are = refl }
+
+longer : (P : ℕ → ℕ → Type 0) (n : ℕ) (c : Counts P n) (old : List (ℕ × ℕ)) → length (old ++ map same_pair c.pairs) ≡ length old + n
+longer P n c old = omega (arith, length-append old (map same_pair c.pairs), length-map c.pairs same_pair, c.count)
+
+pub all_counted : (g : Geometry) → IsBoard g → (p : Placement) (n1 n2 n3 n4 n5 : ℕ) → Counts (ManSteps g p UpLeft) n1 → Counts (ManSteps g p UpRight) n2 → Counts (ManSteps g p DownLeft) n3 → Counts (ManSteps g p DownRight) n4 → Counts (KingGoes g p) n5
+    → IsQuietCount g p ((n1 + n2) + (n3 + n4) + n5)
+all_counted g b p n1 n2 n3 n4 n5 c1 c2 c3 c4 c5 =
+    let m1 : List (ℕ × ℕ) = [] ++ map same_pair c1.pairs in
+    let m2 : List (ℕ × ℕ) = m1 ++ map same_pair c2.pairs in
+    let m3 : List (ℕ × ℕ) = m2 ++ map same_pair c3.pairs in
+    let m4 : List (ℕ × ℕ) = m3 ++ map same_pair c4.pairs in
+    let m5 : List (ℕ × ℕ) = m4 ++ map same_pair c5.pairs in
+    let all : Adds pair (Quiet g p) [] m5 = all_quiet pair g b p [] m1 m2 m3 m4 m5
+    (with_counted (ManSteps g p UpLeft) n1 c1 []) (with_counted (ManSteps g p UpRight) n2 c2 m1) (with_counted (ManSteps g p DownLeft) n3 c3 m2) (with_counted (ManSteps g p DownRight) n4 c4 m3) (with_counted (KingGoes g p) n5 c5 m4) in
+    let long : length m5 ≡ (n1 + n2) + (n3 + n4) + n5 =
+    omega (arith, longer (ManSteps g p UpLeft) n1 c1 [], longer (ManSteps g p UpRight) n2 c2 m1, longer (ManSteps g p DownLeft) n3 c3 m2, longer (ManSteps g p DownRight) n4 c4 m3, longer (KingGoes g p) n5 c5 m4) in
+    let c = counted (Quiet g p) m5 ((n1 + n2) + (n3 + n4) + n5) all long in
+    record { moves = c.pairs; exactly = c.exactly; once = c.once; count = c.count }
+
+-- ---- steps of men
+stepped : (g : Geometry) → IsBoard g → (p : Placement) (d : Dir) (n : ℕ) (left : Squares) (now : List (ℕ × ℕ)) → fin.len left ≡ n → Stepping pair g p d left [] now → (new : List (ℕ × ℕ)) × Adds pair (ManSteps g p d) [] new × (length new ≡ length now + n)
+stepped g b p d zero left now is h = (now, stepping_all pair g p d left [] now (fin.empty_of_len left is) h, omega arith)
+stepped g b p d (suc n) left now is h =
+    let some = some_in left (λ e. let none : fin.len left ≡ 0 = ap fin.len e ∙ fin.len-empty nat_cmp in omega arith) in
+    let to : ℕ = some.0 in
+    let r = h.reached to some.1 in
+    let rest : Squares = fin.remove left to in
+    let longer_now : List (ℕ × ℕ) = now ++ (r.0, to) ∷ [] in
+    let next = stepping_more pair g b p d (back d) left rest [] now longer_now r.0 to refl some.1 refl (step_back g b r.0 to d r.1.on r.1.steps) h refl in
+    let fewer : fin.len rest ≡ n = omega (arith, one_fewer left to some.1) in
+    let all = stepped g b p d n rest longer_now fewer next in
+    (all.0, all.1, omega (arith, all.2, length-append now ((r.0, to) ∷ [])))
+
+-- as many as the squares that they reach
+pub men_counted : (g : Geometry) → IsBoard g → (p : Placement) (d : Dir) (v : Squares) (n : ℕ) → ((t : ℕ) → In t v ↔ ((s : ℕ) × ManSteps g p d s t)) → n ≡ fin.len v → Counts (ManSteps g p d) n
+men_counted g b p d v n are is =
+    let all = stepped g b p d (fin.len v) v [] refl (stepping_none pair g p d v [] are) in
+    let long : length all.0 ≡ n = omega (arith, all.2, is) in
+    counted (ManSteps g p d) all.0 n all.1 long
+
+-- ---- moves of kings
+-- a set is no larger than a list that has all its members
+len_in : (ys : List ℕ) (v : Squares) → ((s : ℕ) → In s v → Member s ys) → fin.len v ≤ length ys
+len_in [] v all = elim (cases_lt 0 (fin.len v)) [
+  | inl some ↦ let first = some_in v (λ h. let none : fin.len v ≡ 0 = ap fin.len h ∙ fin.len-empty nat_cmp in omega arith) in absurd (all first.0 first.1)
+  | inr none ↦ omega arith
+]
+len_in (y ∷ ys) v all = elim (cases_Bool (fin.contains v y)) [
+  | inl there ↦
+      let rest : fin.len (fin.remove v y) ≤ length ys = len_in ys (fin.remove v y) (λ s m. elim (all s (in_rest v y s m)) [
+        | inl same ↦ absurd (true≢false (sym (subst (λ z. In z (fin.remove v y)) same m) ∙ not_removed v y))
+        | inr other ↦ other
+      ]) in
+      omega (arith, one_fewer v y there)
+  | inr out ↦
+      let rest : fin.len v ≤ length ys = len_in ys v (λ s m. elim (all s m) [
+        | inl same ↦ absurd (true≢false (sym (subst (λ z. In z v) same m) ∙ out))
+        | inr other ↦ other
+      ]) in
+      omega arith
+]
+
+-- the moves of the kings that were passed, and how many at most
+pub record Tally (g : Geometry) (p : Placement) (left : Squares) (n : ℕ) : Type 0 where
+  pub list : List (ℕ × ℕ)
+  pub going : Going pair g p left [] list
+  pub is : length list ≡ n
+  pub small : n + 40 * fin.len left ≤ 2000
+
+pub tally_none : (g : Geometry) → IsBoard g → (p : Placement) (left : Squares) → AreKind g p p.turn King left → Tally g p left 0
+tally_none g b p left are =
+    let few : fin.len left ≤ length (numbers_to (squares g)) = len_in (numbers_to (squares g)) left (λ s m. let on = ((are s).0 m).0 in number_in (squares g) s on.0 on.1) in
+    record { list = []; going = going_none pair g p left [] are; is = refl; small = omega (arith, few, squares_length (squares g), b.squares_high) }
+
+pub tally_more : (g : Geometry) → IsBoard g → (p : Placement) (left rest : Squares) (from n m : ℕ) → In from left → rest ≡ fin.remove left from → Tally g p left n → m ≡ length (quiet_for King g p p.turn from) → m ≤ 40 → Tally g p rest (n + m)
+tally_more g b p left rest from n m there rest_is h m_is low =
+    let fewer : fin.len left ≡ fin.len rest + 1 = one_fewer left from there ∙ ap (λ v. fin.len v + 1) (sym rest_is) in
+    let new : List (ℕ × ℕ) = h.list ++ map (pair from) (quiet_for King g p p.turn from) in
+    record {
+      list = new;
+      going = going_more pair g b p left rest [] h.list new from there rest_is h.going refl;
+      is = omega (arith, length-append h.list (map (pair from) (quiet_for King g p p.turn from)), length-map (quiet_for King g p p.turn from) (pair from), h.is);
+      small = omega (arith, h.small, fewer);
+    }
+
+pub tally_all : (g : Geometry) (p : Placement) (left : Squares) (n : ℕ) → left ≡ fin.empty → Tally g p left n → Counts (KingGoes g p) n
+tally_all g p left n none h = counted (KingGoes g p) h.list n (going_all pair g p left [] h.list none h.going) h.is

@@ -1,0 +1,96 @@
+-- A position as sets of squares, and what its pieces meet and reach there.
+use Rattle.std.specs.Prelude.{◌≡◌, ℕ, ◌<◌, ◌⊎◌, ◌↔◌, Some, None, IsTrue, is_some}
+use Rattle.std.proofs.Common.{zero, suc}
+use Rattle.dw_board.specs.declared.board.Dir.{Dir}
+use Rattle.dw_board.specs.declared.board.Dir.TheVariants.{UpLeft, UpRight, DownLeft, DownRight}
+use Rattle.dw_board.specs.declared.piece.Side.{Side}
+use Rattle.dw_board.specs.declared.piece.Kind.{Kind}
+use Rattle.dw_board.specs.declared.piece.Kind.TheVariants.{Man, King}
+use Rattle.dw_board.specs.declared.piece.Piece.{Piece}
+use Rattle.dw_board.specs.Geometry.{Geometry, step, OnBoard}
+use Rattle.dw_board.specs.Placement.{Placement, at, placed}
+use Rattle.dw_board.specs.SquareSet.{Squares}
+use Rattle.dw_moves.specs.Moves.{IsForward, Quiet, Stands, Jump, other, play}
+use Rattle.dw_moves.specs.inner.Plain.{quiet_to}
+use Rattle.dw_moves.specs.Replies.{IsLoose}
+use Rattle.dw_moves.specs.Moves.{In}
+
+-- the squares on which a side's pieces stand
+abbrev pub AreOf : Geometry → Placement → Side → Squares → Type 0
+AreOf g p side v = (s : ℕ) → In s v ↔ (OnBoard g s × ((k : Kind) × (at p s ≡ Some (record { side = side; kind = k }))))
+
+-- the mover's men and kings, the pieces of the other side, and all pieces
+pub record AreSets (g : Geometry) (p : Placement) (men kings enemies occupied : Squares) : Type 0 where
+  pub of_men : (s : ℕ) → In s men ↔ (OnBoard g s × (at p s ≡ Some (record { side = p.turn; kind = Man })))
+  pub of_kings : (s : ℕ) → In s kings ↔ (OnBoard g s × (at p s ≡ Some (record { side = p.turn; kind = King })))
+  pub of_enemies : AreOf g p (other p.turn) enemies
+  pub of_all : (s : ℕ) → In s occupied ↔ (OnBoard g s × ((q : Piece) × (at p s ≡ Some q)))
+
+-- the pieces of the other side than this one, and all pieces
+pub record IsGround (g : Geometry) (p : Placement) (side : Side) (enemies occupied : Squares) : Type 0 where
+  pub of_enemies : AreOf g p (other side) enemies
+  pub of_all : (s : ℕ) → In s occupied ↔ (OnBoard g s × IsTrue (is_some (at p s)))
+
+-- n steps lead from a square of a set to t, none of them onto a piece
+abbrev pub RunsTo : Geometry → Squares → Squares → Dir → ℕ → ℕ → Type 0
+RunsTo g from occupied d zero t = In t from
+RunsTo g from occupied d (suc n) t =
+    (s : ℕ) × RunsTo g from occupied d n s × (step g s d ≡ Some t) × (In t occupied → ⊥)
+
+-- behind n such steps the next square is c, and an enemy stands there
+abbrev pub MeetsBehind : Geometry → Squares → Squares → Squares → Dir → ℕ → ℕ → Type 0
+MeetsBehind g from enemies occupied d n c =
+    (s : ℕ) × RunsTo g from occupied d n s × (step g s d ≡ Some c) × In c enemies
+
+-- a man meets an enemy on the next square
+abbrev pub MenMeet : Geometry → Squares → Squares → Squares → Dir → ℕ → Type 0
+MenMeet g men enemies occupied d c = MeetsBehind g men enemies occupied d 0 c
+
+-- a king meets an enemy on the first square that is not empty; a run has fewer steps than the board has rows
+abbrev pub KingsMeet : Geometry → Squares → Squares → Squares → Dir → ℕ → Type 0
+KingsMeet g kings enemies occupied d c = (n : ℕ) × (n < g.rows) × MeetsBehind g kings enemies occupied d n c
+
+-- in this direction an enemy is met, and the square behind it is empty
+abbrev pub Takes : Geometry → Squares → Squares → Squares → Squares → Dir → Type 0
+Takes g men kings enemies occupied d =
+    (c : ℕ) × (t : ℕ) × (MenMeet g men enemies occupied d c ⊎ KingsMeet g kings enemies occupied d c)
+    × (step g c d ≡ Some t) × (In t occupied → ⊥)
+
+-- in this direction the next square of a king is empty, or of a man that goes forward
+abbrev pub Steps : Geometry → Side → Squares → Squares → Squares → Dir → Type 0
+Steps g side men kings occupied d = (s : ℕ) × (t : ℕ) × ((In s men × IsForward side d) ⊎ In s kings)
+    × (step g s d ≡ Some t) × (In t occupied → ⊥)
+
+-- such a step leads from s to t
+abbrev pub StepsFrom : Geometry → Side → Squares → Squares → Squares → Dir → ℕ → ℕ → Type 0
+StepsFrom g side men kings occupied d s t =
+    ((In s men × IsForward side d) ⊎ In s kings) × (step g s d ≡ Some t) × (In t occupied → ⊥)
+
+-- such a step leads to t
+abbrev pub StepsOn : Geometry → Side → Squares → Squares → Squares → Dir → ℕ → Type 0
+StepsOn g side men kings occupied d t =
+    (s : ℕ) × ((In s men × IsForward side d) ⊎ In s kings) × (step g s d ≡ Some t) × (In t occupied → ⊥)
+
+-- a set has two members at least
+abbrev pub HasTwo : Squares → Type 0
+HasTwo v = (s : ℕ) × (t : ℕ) × In s v × In t v × (s ≡ t → ⊥)
+
+-- some quiet move is there
+abbrev pub CanStep : Geometry → Placement → Type 0
+CanStep g p = (from : ℕ) × (to : ℕ) × Quiet g p from to
+
+-- a capture begins on this square
+abbrev pub CanTakeFrom : Geometry → Placement → ℕ → Type 0
+CanTakeFrom g p s = (c : ℕ) × (t : ℕ) × (piece : Piece) × Stands g p s piece × Jump g (placed p s None) piece s c t
+
+-- the direction that leads back
+abbrev pub back : Dir → Dir
+back UpLeft = DownRight
+back UpRight = DownLeft
+back DownLeft = UpRight
+back DownRight = UpLeft
+
+-- no step in this direction leaves a loose position, but for those onto these squares
+abbrev pub NoneLoose : Geometry → Placement → Squares → Squares → Squares → Dir → Squares → Type 0
+NoneLoose g p men kings occupied d but =
+    (s t : ℕ) → StepsFrom g p.turn men kings occupied d s t → (In t but → ⊥) → IsLoose g (play g p (quiet_to s t)) → ⊥

@@ -1,0 +1,287 @@
+//! Tests of the whole board at once, by sets of squares: no move is listed.
+ghost use Rattle.std.specs.Prelude.{◌≡◌, ◌↔◌, ◌⊎◌, ℕ, Some, IsTrue, IsNone, IfSome};
+ghost use Rattle.std.specs.FinSet as set;
+ghost use Rattle.dw_board.specs.Geometry.{OnBoard, step};
+ghost use Rattle.dw_moves.specs.Moves.{CanCapture, Legal};
+ghost use Rattle.dw_moves.specs.Moves as moved;
+ghost use Rattle.dw_moves.specs.inner.Glance.{AreSets, MenMeet, KingsMeet, Takes, Steps, StepsOn, HasTwo, CanStep};
+ghost use Rattle.dw_moves.specs.Moves.{In};
+ghost use Rattle.dw_moves.specs.inner.Glance.{CanTakeFrom, NoneLoose, back};
+ghost use Rattle.dw_moves.specs.Replies.{given, passed, OneStep, IsLoose, IsLooseStep, AlwaysReply};
+
+use crate::moves::Move;
+use crate::play::{other, play};
+use crate::quiet::may_go;
+use dw_board::board::{Board, Dir};
+use dw_board::piece::{Kind, Side};
+use dw_board::position::Position;
+use dw_board::square::step;
+use dw_board::squares::Squares;
+
+/// Whether the side to move can take something.
+///
+/// A man can take an adjacent enemy, forward or backward, where the square behind it is empty. A king can take the
+/// one enemy on a diagonal that has only empty squares before it and an empty square behind it.
+/// Example: at `W:W32:B28` it is `true`, and at `W:W27,45:B16` it is `false`.
+pub fn can_capture<B: Board>(position: &Position<B>) -> bool
+    ensures { IsTrue result ↔ CanCapture B.geometry position.now }
+{
+    let field = Field::of(position);
+    field.takes(Dir::UpLeft)
+        || field.takes(Dir::UpRight)
+        || field.takes(Dir::DownLeft)
+        || field.takes(Dir::DownRight)
+}
+
+/// Whether the side to move has a quiet move, whether or not it must capture.
+pub(crate) fn can_step<B: Board>(position: &Position<B>) -> bool
+    ensures { IsTrue result ↔ CanStep B.geometry position.now }
+{
+    let field = Field::of(position);
+    let side = position.turn();
+    field.steps(side, Dir::UpLeft)
+        || field.steps(side, Dir::UpRight)
+        || field.steps(side, Dir::DownLeft)
+        || field.steps(side, Dir::DownRight)
+}
+
+/// Whether it is seen at a glance that the other side has a reply to every move: nothing can be taken, and if it were
+/// the other side's turn, pieces of it could go one square to two different squares or more. A quiet move stands in the
+/// way of one.
+/// Example: at `W:W28:B1,2` it is `true`, and at `W:W27,45:B16` it is `false`.
+pub fn is_loose<B: Board>(position: &Position<B>) -> bool
+    ensures exact { IsTrue result ↔ IsLoose B.geometry position.now }
+    ensures replies { IsTrue result → AlwaysReply B.geometry position.now }
+{
+    if can_capture(position) {
+        return false;
+    }
+    has_two(other_steps(position))
+}
+
+/// A legal move of one square after which the position is loose, and that position: it is seen at a glance that the
+/// other side has no win in its next move. `None` if something can be taken, or if there is no such move. It lists no
+/// moves.
+/// Example: at `W:W28:B1,2` it is `28-22` or `28-23`, with the position after it; at `W:W32:B28` it is `None`.
+pub fn loose_step<B: Board>(position: &Position<B>) -> Option<(Move<B>, Position<B>)>
+    ensures legal { IfSome result (λ found. Legal B.geometry position.now found.0) }
+    ensures some { IfSome result (λ found. IsLooseStep B.geometry position.now found.0) }
+    ensures after { IfSome result (λ found. found.1 ≡ moved.play B.geometry position.now found.0) }
+    ensures none { IsNone result → CanCapture B.geometry position.now
+        ⊎ ((m : moved.Move) → IsLooseStep B.geometry position.now m → ⊥) }
+{
+    if can_capture(position) {
+        return None;
+    }
+    let field = Field::of(position);
+    if let Some(found) = field.loose_towards(position, Dir::UpLeft) {
+        return Some(found);
+    }
+    if let Some(found) = field.loose_towards(position, Dir::UpRight) {
+        return Some(found);
+    }
+    if let Some(found) = field.loose_towards(position, Dir::DownLeft) {
+        return Some(found);
+    }
+    field.loose_towards(position, Dir::DownRight)
+}
+
+/// The squares to which a piece of the other side could go one square, if it were its turn: a man forward, a king in
+/// any direction.
+/// Example: at `W:W28:B1,2` they are 6, 7 and 8.
+#[inline]
+pub fn other_steps<B: Board>(position: &Position<B>) -> Squares<B>
+    ensures { (t : ℕ) → In t result ↔ ((s : ℕ) × OneStep B.geometry (passed position.now) s t) }
+{
+    let side = other(position.turn());
+    let field = Field::given(position, side);
+    let up = field
+        .next_free(side, Dir::UpLeft)
+        .or(field.next_free(side, Dir::UpRight));
+    let down = field
+        .next_free(side, Dir::DownLeft)
+        .or(field.next_free(side, Dir::DownRight));
+    up.or(down)
+}
+
+/// The squares from which a capture may begin: each from which one does is among them.
+pub(crate) fn may_take<B: Board>(position: &Position<B>) -> Squares<B>
+    ensures { (s : ℕ) → CanTakeFrom B.geometry position.now s → In s result }
+{
+    let field = Field::of(position);
+    let up = field
+        .before_enemy(Dir::UpLeft)
+        .or(field.before_enemy(Dir::UpRight));
+    let down = field
+        .before_enemy(Dir::DownLeft)
+        .or(field.before_enemy(Dir::DownRight));
+    field.kings.or(up).or(down)
+}
+
+/// The squares of a position, by what the side to move has to do with what stands there.
+#[derive(Drop)]
+struct Field<B: Board> {
+    men: Squares<B>,
+    kings: Squares<B>,
+    enemies: Squares<B>,
+    occupied: Squares<B>,
+}
+
+impl<B: Board> Field<B> {
+    /// The sets of a position.
+    #[inline]
+    fn of(position: &Position<B>) -> Self
+        ensures { AreSets B.geometry position.now result.men result.kings result.enemies result.occupied }
+    {
+        Field::given(position, position.turn())
+    }
+
+    /// The sets that it would have, if it were this side's turn.
+    #[inline]
+    fn given(position: &Position<B>, side: Side) -> Self
+        ensures { AreSets B.geometry (given position.now side) result.men result.kings result.enemies result.occupied }
+    {
+        let men = position.squares(side, Kind::Man);
+        let kings = position.squares(side, Kind::King);
+        let enemies = position.all_of(other(side));
+        Field {
+            men,
+            kings,
+            enemies,
+            occupied: men.or(kings).or(enemies),
+        }
+    }
+
+    /// Whether something can be taken in a direction.
+    #[inline(always)]
+    fn takes(&self, direction: Dir) -> bool
+        ensures { IsTrue result ↔ Takes B.geometry self.now.men self.now.kings self.now.enemies self.now.occupied
+            direction }
+    {
+        let met = self.met_by_men(direction).or(self.met_by_kings(direction));
+        any(met.shifted(direction).minus(self.occupied))
+    }
+
+    /// The enemies next to a man.
+    #[inline]
+    fn met_by_men(&self, direction: Dir) -> Squares<B>
+        ensures { (c : ℕ) → In c result ↔ MenMeet B.geometry self.now.men self.now.enemies self.now.occupied
+            direction c }
+    {
+        self.men.shifted(direction).and(self.enemies)
+    }
+
+    /// The enemies that a king meets first. All kings go on together, until none has an empty square before it.
+    #[inline(always)]
+    fn met_by_kings(&self, direction: Dir) -> Squares<B>
+        ensures { (c : ℕ) → In c result ↔ KingsMeet B.geometry self.now.kings self.now.enemies self.now.occupied
+            direction c }
+    {
+        let mut reached = self.kings;
+        let mut met = Squares::none();
+        'run: for _ in 0..B::ROWS {
+            if !any(reached) {
+                return met;
+            }
+            let next = reached.shifted(direction);
+            met = met.or(next.and(self.enemies));
+            reached = next.minus(self.occupied);
+        }
+        met
+    }
+
+    /// The squares from which a man can take in a direction.
+    #[inline]
+    fn before_enemy(&self, direction: Dir) -> Squares<B>
+        ensures { (s c t : ℕ) → OnBoard B.geometry s → In s self.now.men → step B.geometry s direction ≡ Some c
+            → In c self.now.enemies → step B.geometry c direction ≡ Some t → (In t self.now.occupied → ⊥)
+            → In s result }
+    {
+        let behind = self.met_by_men(direction).shifted(direction);
+        let back = opposite(direction);
+        behind.minus(self.occupied).shifted(back).shifted(back)
+    }
+
+    /// Whether a piece of the side to move can go to the next square in a direction.
+    #[inline]
+    fn steps(&self, side: Side, direction: Dir) -> bool
+        ensures { IsTrue result ↔ Steps B.geometry side self.now.men self.now.kings self.now.occupied direction }
+    {
+        any(self.next_free(side, direction))
+    }
+
+    /// The empty squares to which a piece of the side to move can go one square in a direction.
+    #[inline]
+    fn next_free(&self, side: Side, direction: Dir) -> Squares<B>
+        ensures { (t : ℕ) → In t result ↔ StepsOn B.geometry side self.now.men self.now.kings self.now.occupied
+            direction t }
+    {
+        let movers = if may_go(Kind::Man, side, direction) {
+            self.kings.or(self.men)
+        } else {
+            self.kings
+        };
+        movers.shifted(direction).minus(self.occupied)
+    }
+
+    /// A step in a direction after which the position is loose, and that position.
+    fn loose_towards(
+        &self,
+        position: &Position<B>,
+        direction: Dir,
+    ) -> Option<(Move<B>, Position<B>)>
+        requires sets { AreSets B.geometry position.now self.now.men self.now.kings self.now.enemies self.now.occupied }
+        requires quiet { CanCapture B.geometry position.now → ⊥ }
+        ensures legal { IfSome result (λ found. Legal B.geometry position.now found.0) }
+        ensures some { IfSome result (λ found. IsLooseStep B.geometry position.now found.0) }
+        ensures after { IfSome result (λ found. found.1 ≡ moved.play B.geometry position.now found.0) }
+        ensures none { IsNone result → NoneLoose B.geometry position.now self.now.men self.now.kings self.now.occupied
+            direction set.empty }
+    {
+        let back = opposite(direction);
+        let mut left = self.next_free(position.turn(), direction);
+        'goals: while let Some((to, rest)) = left.split() {
+            if let Some(from) = step(to, back) {
+                let found = Move::quiet(from, to);
+                let after = play(position, &found);
+                if is_loose(&after) {
+                    return Some((found, after));
+                }
+            }
+            left = rest;
+        }
+        None
+    }
+}
+
+/// The direction that leads back.
+#[inline]
+pub(crate) fn opposite(direction: Dir) -> Dir
+    ensures { result ≡ back direction }
+{
+    match direction {
+        Dir::UpLeft => Dir::DownRight,
+        Dir::UpRight => Dir::DownLeft,
+        Dir::DownLeft => Dir::UpRight,
+        Dir::DownRight => Dir::UpLeft,
+    }
+}
+
+/// Whether a square is in the set.
+#[inline]
+fn any<B: Board>(squares: Squares<B>) -> bool
+    ensures { IsTrue result ↔ ((s : ℕ) × In s squares) }
+{
+    !squares.is_empty()
+}
+
+/// Whether two squares or more are in the set.
+#[inline]
+fn has_two<B: Board>(squares: Squares<B>) -> bool
+    ensures { IsTrue result ↔ HasTwo squares }
+{
+    match squares.split() {
+        Some((_, others)) => any(others),
+        None => false,
+    }
+}

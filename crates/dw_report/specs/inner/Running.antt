@@ -1,0 +1,57 @@
+-- What the parts of a run do.
+use Rattle.std.specs.Prelude.{◌≡◌, ℕ, ◌+◌, List, [], ◌∷◌, length, Bool, true, Option, Result, Ok, Err}
+use Rattle.dw_board.specs.Geometry.{Geometry}
+use Rattle.dw_notation.specs.Problems.{Numbered}
+use Rattle.dw_notation.specs.Writes.{Writes}
+use Rattle.dw_notation.specs.inner.Writes.{WritesShort}
+use Rattle.dw_solve.specs.Searching.{IsCounted}
+use Rattle.dw_solve.specs.Solving.{Solving}
+use Rattle.dw_solve.specs.declared.stop.Stop.{Stop}
+use Rattle.dw_solve.specs.declared.stop.Stop.TheVariants.{Memory, Limit}
+use Rattle.dw_report.specs.Request.{Request}
+use Rattle.dw_report.specs.Report.{chosen}
+use Rattle.dw_report.specs.declared.settings.Summary.{Summary}
+use Rattle.dw_report.specs.declared.settings.RunFault.{RunFault}
+use Rattle.dw_report.specs.declared.settings.RunFault.TheVariants as ends
+use Rattle.dw_report.specs.declared.settings.Command.{Command}
+use Rattle.dw_report.specs.declared.settings.Command.TheVariants as asked
+use Rattle.dw_report.specs.declared.problem.TextFault.{TextFault}
+use Rattle.dw_report.specs.declared.problem.TextFault.TheVariants.{Stopped, Sink}
+use Rattle.dw_report.specs.Running.{AreRefused}
+
+-- the counts with one more problem read, which is chosen or not
+pub record CountsOne (g : Geometry) (request : Request) (old new : Summary) (problem : Numbered) : Type 0 where
+  pub read : new.problems ≡ old.problems + 1
+  pub shown : new.shown ≡ old.shown + length (chosen request.only (problem ∷ []))
+  pub refused : (count : ℕ) × AreRefused g request (chosen request.only (problem ∷ [])) count
+      × (new.refused ≡ old.refused + count)
+
+-- what writing a text did: it was written; after a stop a part of it; after a fault of the sink some beginning
+abbrev pub TextEnds : {X : Type 0} → (List ℕ → Type 0) → (List ℕ → Type 0) → Option (List ℕ) → Option (List ℕ)
+    → Result X TextFault → Type 0
+TextEnds P Part old new (Ok x) = Writes P old new
+TextEnds P Part old new (Err (Stopped why)) = Writes Part old new
+TextEnds P Part old new (Err Sink) = WritesShort P old new
+
+-- the sink has failed exactly where it is the fault
+abbrev pub SinkEnds : {X : Type 0} → Bool → Bool → Result X TextFault → Type 0
+SinkEnds old new (Ok x) = new ≡ old
+SinkEnds old new (Err (Stopped why)) = new ≡ old
+SinkEnds old new (Err Sink) = new ≡ true
+
+-- expansions are counted, up to the limit, and it is the limit that stops a search there
+pub record Spends {M X : Type 0} (old new : Solving M) (result : Result X TextFault) : Type 0 where
+  pub count : IsCounted old.expanded old.limit new.expanded new.limit
+  pub limit : result ≡ Err (Stopped Limit) → new.expanded ≡ new.limit
+
+-- nothing is searched where positions are shown or moves are listed, and only want of memory stops that
+abbrev pub SearchesFor : {M X : Type 0} → Command → Solving M → Solving M → Result X TextFault → Type 0
+SearchesFor asked.Show old new result = (new ≡ old) × ((why : Stop) → result ≡ Err (Stopped why) → ⊥)
+SearchesFor asked.Moves old new result = (new ≡ old) × ((why : Stop) → result ≡ Err (Stopped why) → why ≡ Memory)
+SearchesFor asked.Judge old new result = Spends old new result
+SearchesFor asked.List old new result = Spends old new result
+
+-- how a run ends where a text was not written to its end
+abbrev pub ended_by : TextFault → ℕ → RunFault
+ended_by (Stopped why) expanded = ends.Stopped why expanded
+ended_by Sink expanded = ends.Write
