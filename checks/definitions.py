@@ -5,7 +5,9 @@
 
 A contract names definitions of specs/, these name others, and so on: all of them count, with their comments, without
 imports and blank lines. The table in docs/PROVED.md has to give the same numbers. The files of one contract are told
-by their lines, too. Beside that no line in src and specs of any crate may have more than 120 columns.
+by their lines, too. No contract of a public item of a layer may lead to a definition of specs/inner, and each other
+definition has to be one that some public contract leads to. Beside that no line in src and specs of any crate may have
+more than 120 columns.
 """
 import dataclasses
 import pathlib
@@ -66,7 +68,8 @@ class File(Imports):
     def __init__(self, path):
         super().__init__(path.read_text())
         self.path, self.definitions, self.cases = path, {}, {}
-        self.module = f"Rattle.{path.parts[-3]}.specs.{path.stem}"
+        crate, *inside = path.relative_to(CRATES).with_suffix("").parts
+        self.module = ".".join(["Rattle", crate, *inside])
         for block in re.split(r"\n(?:\s*\n)+", path.read_text()):
             self.read([line for line in block.splitlines() if not line.startswith("use ")])
 
@@ -88,7 +91,7 @@ class File(Imports):
         return self.definitions.get(name) or self.definitions.get(f"◌{name}◌") or self.cases.get(name)
 
 
-FILES = {file.module: file for file in map(File, sorted(CRATES.glob("*/specs/*.antt"))) if file.path.stem != "Lib"}
+FILES = {file.module: file for file in map(File, sorted(CRATES.glob("*/specs/**/*.antt"))) if file.path.stem not in ("Lib", "inner")}
 
 
 def named(text, imports):
@@ -126,6 +129,62 @@ def contract(file, start, clause=""):
     return whole, Imports(text)
 
 
+def public_text(path):
+    """What the contracts of a file's public items say: no private functions, no methods of private types, no proofs."""
+    text = path.read_text()
+    private = set(re.findall(r"^(?:pub\(crate\) )?(?:struct|enum|trait) (\w+)", text, re.MULTILINE)) | PRIVATE_TRAITS
+    kept, impl, lines = [], "", iter(text.splitlines())
+    for line in lines:
+        start = re.match(r"impl(?:<.*?>)? (?:(\w+).*? for )?(\w+)|(?:pub(?:\(crate\))? )?(?:struct|enum|trait) (\w+)", line)
+        impl = line if start else impl
+        if start and private & set(start.groups()):
+            skip(lines, line, "}")
+        elif function := re.match(r"( *)(pub |pub\(crate\) |)(?:const )?fn ", line):
+            head = list(function_head(function[1], line, lines))
+            skip(lines, head[-1], function[1] + "}")
+            if function[2] == "pub " or function[1] and (" for " in impl or "trait" in impl):
+                kept += head
+        elif re.match(PROOF, line):
+            skip(lines, line, "};", str.endswith)
+        elif not re.match(r"\s*((ghost )?use |//)", line):
+            kept.append(line)
+    return "\n".join(kept), Imports(text)
+
+
+def function_head(indent, line, lines):
+    """The lines of a function up to the one that opens its body, or to the semicolon in its place."""
+    is_contract = False
+    while True:
+        yield line
+        if line in (indent + "{", indent + "{}") or line.endswith("};" if is_contract else ("{", ";")):
+            return
+        line = next(lines)
+        is_contract = is_contract or re.match(r"\s*(requires|ensures)\b", line) is not None
+
+
+def skip(lines, line, end, ends=str.__eq__):
+    """Leaves out the rest of an item that begins with this line, if it has more lines."""
+    if not line.endswith((";", "}")):
+        next(line for line in lines if ends(line, end))
+
+
+# Ghost items that are proofs, which nobody has to believe.
+PROOF = r"\s*ghost (laws|total|matches_\w+|respects_eq|inverse|inverse_ok|numbers|shifts|word_is) ="
+LAYERS = [f"dw_{layer}" for layer in "board moves memo solve notation list report".split()] + ["dw"]
+SOURCES = [path for layer in LAYERS for path in sorted((CRATES / layer).glob("src/**/*.rt"))]
+PRIVATE_TRAITS = {name for path in SOURCES for name in re.findall(r"^pub\(crate\) trait (\w+)", path.read_text(), re.M)}
+
+
+def check_inner():
+    """specs/inner has what no public contract leads to, and the rest of specs nothing else."""
+    seen = {id(definition) for definition in reached([public_text(path) for path in SOURCES])}
+    for file in FILES.values():
+        if file.path.relative_to(CRATES).parts[0] in LAYERS:
+            wrong = [n for n, d in file.definitions.items() if (id(d) in seen) == ("inner" in file.path.parts)]
+            assert not wrong, f"{file.path.relative_to(TOP)}: {' '.join(wrong)}"
+    print(f"specs: the public contracts lead to {len(seen)} definitions, none of them in specs/inner")
+
+
 def rows():
     """The rows of the table: what stands in its first column, and what is reached."""
     wins, legal, play = "dw_solve/src/solver.rt", "dw_moves/src/legal.rt", "dw_moves/src/play.rt"
@@ -151,6 +210,7 @@ def main(words):
         if title == "`run`":
             whole = sum(len(path.read_text().splitlines()) for path in files)
             assert f"those of `run` have {whole:,} lines in all" in " ".join(told.split()), f"{whole:,} lines in all"
+    check_inner()
     for path in sorted([*CRATES.glob("*/src/**/*.rt"), *CRATES.glob("*/specs/**/*.antt")]):
         wide = [number for number, line in enumerate(path.read_text().splitlines(), 1) if len(line) > MOST]
         assert not wide, f"{path.relative_to(TOP)}: over {MOST} columns in line {wide}"

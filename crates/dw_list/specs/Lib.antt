@@ -1,6 +1,5 @@
 pub mod Lines
 pub mod Laws
-pub mod Asking
 pub mod Standing
 pub mod Walking
 pub mod Listing

@@ -6,7 +6,7 @@ ghost use Rattle.dw_solve.specs.Searching.{IsCounted};
 ghost use Rattle.dw_solve.specs.Work.{moment, Searched, cut_off};
 ghost use Rattle.dw_list.specs.Lines.{Lines};
 ghost use Rattle.dw_list.specs.inner.Going.{AreWays, AreAdded};
-ghost use Rattle.dw_list.specs.Asking.{Asked};
+ghost use Rattle.dw_solve.specs.Asking.{Asked};
 
 use crate::going::{keeps, left_behind, may_move};
 use dw_board::board::Board;

@@ -1,6 +1,6 @@
 //! Going along a given list of moves.
 ghost use Rattle.std.specs.Prelude.{◌≡◌, ◌≤◌, IfOk, IfSome, IfNone, IsTrue};
-ghost use Rattle.dw_list.specs.Asking.{Asked};
+ghost use Rattle.dw_solve.specs.Asking.{Asked};
 ghost use Rattle.dw_list.specs.inner.Levels.{AreLevels};
 ghost use Rattle.dw_list.specs.inner.Tasks.{IsTrial};
 ghost use Rattle.dw_list.specs.inner.Seeking.{SomePassed, IsNotAhead, IsUnlisted, WentOn, GoOnWith, IsFound};

@@ -33,7 +33,7 @@ pub struct Lister<'a, B: Board, M: Memo<B>, G: Guide<B>> {
 impl<'a, B: Board, M: Memo<B>, G: Guide<B>> Lister<'a, B, M, G> {
     ghost use Rattle.dw_moves.specs.Moves as of;
     ghost use Rattle.dw_list.specs.Lines.{Lines};
-    ghost use Rattle.dw_list.specs.Asking.{moment_of};
+    ghost use Rattle.dw_solve.specs.Asking.{moment_of};
     ghost use Rattle.dw_list.specs.Standing.{AreToCome};
     ghost use Rattle.dw_list.specs.Walking.{SameToCome, GivesNext};
     ghost use Rattle.dw_list.specs.Seeking.{IsAlong};

@@ -1,6 +1,6 @@
 //! The walk over a stack, from line to line.
 ghost use Rattle.std.specs.Prelude.{◌≡◌, ◌≤◌, length, IfOk, OnOk, OnErr, if◌then◌else◌};
-ghost use Rattle.dw_list.specs.Asking.{Asked};
+ghost use Rattle.dw_solve.specs.Asking.{Asked};
 ghost use Rattle.dw_list.specs.Walking.{SameToCome, GivesNext};
 ghost use Rattle.dw_list.specs.inner.Walking.{HasStepped, IsNear, KeepsFirst};
 

@@ -4,7 +4,7 @@ ghost use Rattle.dw_solve.specs.declared.stop.Stop.TheVariants.{Limit};
 ghost use Rattle.dw_solve.specs.Wins.{Win};
 ghost use Rattle.dw_solve.specs.Searching.{IsCounted};
 ghost use Rattle.dw_solve.specs.Work.{moment, Searched, cut_off};
-ghost use Rattle.dw_list.specs.Asking.{Asked};
+ghost use Rattle.dw_solve.specs.Asking.{Asked};
 ghost use Rattle.dw_report.specs.Verdict.{Keys, IsVerdict, Tries};
 ghost use Rattle.dw_report.specs.Judging.{said_by};
 

@@ -1,5 +1,8 @@
 -- The steps of a search: nothing, one after another, a note, and one expansion that ends or is cut off.
-use Rattle.std.proofs.Common.{◌≡◌, ℕ, ◌+◌, ◌-◌, ◌^◌, ◌<◌, ◌≤◌, zero, suc, List, [], ◌∷◌, ◌++◌, length, refl, sym, ap, ◌∙◌, subst, ◌⊎◌, inl, inr, arith, Some, Bool, true, false, length-append, Result, Ok, Err, IsErr}
+use Rattle.std.proofs.Common.{◌≡◌, ℕ, ◌+◌, ◌-◌, ◌^◌, ◌<◌, ◌≤◌, zero, suc, List, [], ◌∷◌, ◌++◌, length, refl, sym, ap, ◌∙◌, subst, ◌⊎◌, inl, inr, arith, Some, Bool, true, false, length-append, Result, Ok, Err, IsErr, IsErrOf}
+use Rattle.std.specs.Result.{IsErrAnd}
+use Rattle.dw_solve.specs.declared.stop.Stop.{Stop}
+use Rattle.dw_solve.specs.declared.stop.Stop.TheVariants.{Limit}
 use Rattle.std.specs.Prelude.{max, min, cond}
 use Rattle.std.proofs.lemmas.Bool.{cases_lt, true≢false}
 use Rattle.dw_board.specs.Geometry.{Geometry}
@@ -102,10 +105,18 @@ searched_looser g n cut more a c less s = record {
   };
 }
 
+err_is : {B : Type 0} (d : Stop) → IsErrOf {T = B} (Err d) Limit → d ≡ Limit
+err_is d same = cc
+
 -- at a stop
 pub searched_stop : {A E : Type 0} (g : Geometry) (n : ℕ) (r : Result A E) (a c : Moment) → IsErr r → Searched g n n a c → Searched g n (cut_off r n) a c
 searched_stop g n (Ok x) a c e s = absurd (true≢false (sym e))
 searched_stop g n (Err x) a c e s = s
+
+-- what holds at the limit still does where a stop is handed on
+pub stop_passed : {A B : Type 0} (e : Stop) (r : Result B Stop) (P : Type 0) → IsErrAnd r (λ d. d ≡ e) → (IsErrOf {T = A} (Err e) Limit → P) → IsErrOf r Limit → P
+stop_passed e (Ok x) P is h o = absurd is
+stop_passed e (Err d) P is h o = h (ap (λ z. Err z) (sym is ∙ err_is d o))
 
 -- the same entries in another order
 stronger_same : (c d : Content) → SameEntries c d → Stronger c d

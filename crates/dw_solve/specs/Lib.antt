@@ -6,4 +6,5 @@ pub mod Work
 pub mod Saying
 pub mod Searching
 pub mod Solving
+pub mod Asking
 pub mod inner

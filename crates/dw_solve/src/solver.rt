@@ -6,6 +6,7 @@ ghost use Rattle.dw_memo.specs.Content.{IsMap, SameEntries};
 ghost use Rattle.dw_solve.specs.Facts.{AreTrue, IsDecided, RepliesAreDecided};
 ghost use Rattle.dw_solve.specs.Searching.{IsCounted};
 ghost use Rattle.dw_solve.specs.Solving.{IsLeast};
+ghost use Rattle.dw_solve.specs.Asking.{Asked, Idle, LostNothing};
 ghost use Rattle.dw_solve.specs.Work.{moment, NothingLost, Searched, cut_off};
 ghost use Rattle.dw_solve.specs.Saying.{SaysWin, SaysLost, SaysLeast};
 
@@ -108,18 +109,12 @@ impl<B: Board, M: Memo<B>, G: Guide<B>> Solver<B, M, G> {
         ensures answer { IfOk result (λ yes. IsTrue yes ↔ Win B.geometry position.now moves) }
         ensures right { AreTrue B.geometry (M.content self.new.memo) }
         ensures map { IsMap (M.content self.new.memo) }
-        ensures count { IsCounted self.old.expanded self.old.limit self.new.expanded self.new.limit }
-        ensures stop { IsErrOf result Limit → self.new.expanded ≡ self.new.limit }
+        ensures asked { Asked B.geometry M.content M.dropped moves self.old self.new result }
         ensures known { (moves ≡ 0) ⊎ IsDecided (M.content self.old.memo) position.now moves
-            → IsOk result × (self.new.expanded ≡ self.old.expanded)
-            × SameEntries (M.content self.old.memo) (M.content self.new.memo) }
+            → IsOk result × Idle M.content self.old self.new }
         ensures spent { OnOk result (1 ≤ moves → (IsDecided (M.content self.old.memo) position.now moves → ⊥)
             → self.old.expanded < self.new.expanded) }
-        ensures searched { Searched B.geometry moves (cut_off result moves)
-            (moment M.content M.dropped self.old.memo self.old.expanded)
-            (moment M.content M.dropped self.new.memo self.new.expanded) }
-        ensures says { NothingLost (moment M.content M.dropped self.old.memo self.old.expanded)
-            (moment M.content M.dropped self.new.memo self.new.expanded)
+        ensures says { LostNothing M.content M.dropped self.old self.new
             → IfOk result (SaysWin (M.content self.new.memo) position.now moves) }
     {
         let answer = ask_wins(&mut self.search, &mut self.plies, alloc, position, moves);
@@ -136,17 +131,11 @@ impl<B: Board, M: Memo<B>, G: Guide<B>> Solver<B, M, G> {
         ensures answer { IfOk result (λ yes. IsTrue yes ↔ Lost B.geometry position.now moves) }
         ensures right { AreTrue B.geometry (M.content self.new.memo) }
         ensures map { IsMap (M.content self.new.memo) }
-        ensures count { IsCounted self.old.expanded self.old.limit self.new.expanded self.new.limit }
-        ensures stop { IsErrOf result Limit → self.new.expanded ≡ self.new.limit }
-        ensures searched { Searched B.geometry moves (cut_off result moves)
-            (moment M.content M.dropped self.old.memo self.old.expanded)
-            (moment M.content M.dropped self.new.memo self.new.expanded) }
-        ensures says { NothingLost (moment M.content M.dropped self.old.memo self.old.expanded)
-            (moment M.content M.dropped self.new.memo self.new.expanded)
+        ensures asked { Asked B.geometry M.content M.dropped moves self.old self.new result }
+        ensures says { LostNothing M.content M.dropped self.old self.new
             → IfOk result (SaysLost B.geometry (M.content self.new.memo) position.now moves) }
         ensures known { RepliesAreDecided B.geometry (M.content self.old.memo) position.now moves
-            → (IsErrOf result Limit → ⊥) × (self.new.expanded ≡ self.old.expanded)
-            × SameEntries (M.content self.old.memo) (M.content self.new.memo) }
+            → (IsErrOf result Limit → ⊥) × Idle M.content self.old self.new }
     {
         let answer = ask_loses(&mut self.search, &mut self.plies, alloc, position, moves);
         // The check learns here that the content is a map, as every memo's is.
@@ -168,17 +157,11 @@ impl<B: Board, M: Memo<B>, G: Guide<B>> Solver<B, M, G> {
         ensures answer { IfOk result (IsLeast B.geometry position.now most) }
         ensures right { AreTrue B.geometry (M.content self.new.memo) }
         ensures map { IsMap (M.content self.new.memo) }
-        ensures count { IsCounted self.old.expanded self.old.limit self.new.expanded self.new.limit }
-        ensures stop { IsErrOf result Limit → self.new.expanded ≡ self.new.limit }
-        ensures searched { Searched B.geometry most (cut_off result most)
-            (moment M.content M.dropped self.old.memo self.old.expanded)
-            (moment M.content M.dropped self.new.memo self.new.expanded) }
-        ensures says { NothingLost (moment M.content M.dropped self.old.memo self.old.expanded)
-            (moment M.content M.dropped self.new.memo self.new.expanded)
+        ensures asked { Asked B.geometry M.content M.dropped most self.old self.new result }
+        ensures says { LostNothing M.content M.dropped self.old self.new
             → IfOk result (λ _. SaysLeast (M.content self.new.memo) position.now most) }
         ensures known { SaysLeast (M.content self.old.memo) position.now most
-            → IsOk result × (self.new.expanded ≡ self.old.expanded)
-            × SameEntries (M.content self.old.memo) (M.content self.new.memo) }
+            → IsOk result × Idle M.content self.old self.new }
     {
         // The check learns here what every solver keeps to, for the loop below.
         let _ = &self.search;

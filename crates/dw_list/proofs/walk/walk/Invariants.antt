@@ -1,5 +1,5 @@
 use Rattle.std.proofs.Common.{◌*◌, ◌^◌}
-use Rattle.dw_list.specs.Asking.{Asked}
+use Rattle.dw_solve.specs.Asking.{Asked}
 use Rattle.dw_list.specs.inner.Steps.{cost}
 use Rattle.dw_list.specs.inner.Walking.{KeepsFirst}
 use Rattle.dw_list.specs.inner.AskingLemmas.{answered}

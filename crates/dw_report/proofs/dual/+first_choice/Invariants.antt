@@ -1,5 +1,5 @@
 use Rattle.std.proofs.Common.{◌+◌, ◌*◌}
-use Rattle.dw_list.specs.Asking.{Asked}
+use Rattle.dw_solve.specs.Asking.{Asked}
 use Rattle.dw_list.specs.inner.AskingLemmas.{answered}
 use Rattle.dw_report.specs.inner.Judging.{LeadsToChoices, RepliesToChoices}
 use Rattle.dw_report.proofs.ChoiceLoopLemmas.{NoneTo}

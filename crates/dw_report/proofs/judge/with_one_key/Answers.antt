@@ -19,7 +19,7 @@ returns-then-branch-clause-asked g c =
     let n = c.args.moves in
     let less : n - 1 ≤ n = omega arith in
     let first = asked_wider geo content lost law (n - 1) n _ _ answered less
-    (asked_ok geo content lost (n - 1) _ _ _ 0 (record { count = c.in_ok-wins.ensures.count; stop = c.in_ok-wins.ensures.stop; searched = c.in_ok-wins.ensures.searched })) in
+    (asked_ok geo content lost (n - 1) _ _ _ 0 c.in_ok-wins.ensures.asked) in
     asked_then geo content lost law n _ _ _ _ first c.cooked.ensures.asked
 
 pub returns-in_err-dual-clause-asked : goal.returns-in_err-dual-clause-asked
@@ -31,7 +31,7 @@ returns-in_err-dual-clause-asked g c =
     let n = c.args.moves in
     let less : n - 1 ≤ n = omega arith in
     let first = asked_wider geo content lost law (n - 1) n _ _ answered less
-    (asked_ok geo content lost (n - 1) _ _ _ 0 (record { count = c.in_ok-wins.ensures.count; stop = c.in_ok-wins.ensures.stop; searched = c.in_ok-wins.ensures.searched })) in
+    (asked_ok geo content lost (n - 1) _ _ _ 0 c.in_ok-wins.ensures.asked) in
     asked_then geo content lost law n _ _ _ _ first
     (asked_stop geo content lost n _ _ c.in_err-dual.field-0.0 _ c.from_residual-in_err-dual.ensures.1 c.in_err-dual.ensures.asked)
 
@@ -54,7 +54,7 @@ returns-in-Some-clause-asked g c =
     let n = c.args.moves in
     let less : n - 1 ≤ n = omega arith in
     let first = asked_wider geo content lost law (n - 1) n _ _ answered less
-    (asked_ok geo content lost (n - 1) _ _ _ 0 (record { count = c.in_ok-wins.ensures.count; stop = c.in_ok-wins.ensures.stop; searched = c.in_ok-wins.ensures.searched })) in
+    (asked_ok geo content lost (n - 1) _ _ _ 0 c.in_ok-wins.ensures.asked) in
     asked_then geo content lost law n _ _ _ _ first (asked_ok geo content lost n _ _ _ _ c.in_ok-dual.ensures.asked)
 
 pub returns-clause-verdict : goal.returns-clause-verdict
@@ -78,5 +78,5 @@ returns-clause-asked g c =
     let n = c.args.moves in
     let less : n - 1 ≤ n = omega arith in
     let first = asked_wider geo content lost law (n - 1) n _ _ answered less
-    (asked_ok geo content lost (n - 1) _ _ _ 0 (record { count = c.in_ok-wins.ensures.count; stop = c.in_ok-wins.ensures.stop; searched = c.in_ok-wins.ensures.searched })) in
+    (asked_ok geo content lost (n - 1) _ _ _ 0 c.in_ok-wins.ensures.asked) in
     asked_then geo content lost law n _ _ _ _ first (asked_ok geo content lost n _ _ _ _ c.in_ok-dual.ensures.asked)

@@ -26,7 +26,7 @@ returns-in_err-loses-clause-asked g c =
     asked_then geo content lost law c.args.moves _ _ _ _ c.moves.invariant.asked
     (asked_wider geo content lost law (c.args.moves - 1) c.args.moves _ _ _ less
     (asked_stop geo content lost (c.args.moves - 1) _ _ c.in_err-loses.field-0.0 _ c.from_residual-in_err-loses.ensures.1
-    (record { count = c.in_err-loses.ensures.count; stop = c.in_err-loses.ensures.stop; searched = c.in_err-loses.ensures.searched })))
+    c.in_err-loses.ensures.asked))
 
 pub returns-in_err-push-clause-asked : goal.returns-in_err-push-clause-asked
 returns-in_err-push-clause-asked g c =
@@ -39,7 +39,7 @@ returns-in_err-push-clause-asked g c =
     (asked_then geo content lost law c.args.moves _ _ _ answered c.moves.invariant.asked
     (asked_wider geo content lost law (c.args.moves - 1) c.args.moves _ _ answered less
     (asked_ok geo content lost (c.args.moves - 1) _ _ _ 0
-    (record { count = c.in_ok-loses.ensures.count; stop = c.in_ok-loses.ensures.stop; searched = c.in_ok-loses.ensures.searched }))))
+    c.in_ok-loses.ensures.asked)))
 
 pub moves-preserved : goal.moves-preserved
 moves-preserved g c =
@@ -68,7 +68,7 @@ moves-preserved g c =
       asked = asked_then geo content lost law n _ _ _ answered c.moves.invariant.asked
           (asked_wider geo content lost law (n - 1) n _ _ answered less
           (asked_ok geo content lost (n - 1) _ _ _ 0
-          (record { count = c.in_ok-loses.ensures.count; stop = c.in_ok-loses.ensures.stop; searched = c.in_ok-loses.ensures.searched })));
+          c.in_ok-loses.ensures.asked));
     }
 
 pub returns-clause-keys : goal.returns-clause-keys

@@ -24,7 +24,7 @@ returns-in_err-wins-clause-asked g c =
     let lost = g.M.Memo.dropped in
     asked_then geo content lost c.searches_add_up.ensures c.args.left _ _ _ _ c.replies.invariant.asked
     (asked_stop geo content lost c.args.left _ _ c.in_err-wins.field-0.0 _ c.from_residual-in_err-wins.ensures.1
-    (record { count = c.in_err-wins.ensures.count; stop = c.in_err-wins.ensures.stop; searched = c.in_err-wins.ensures.searched }))
+    c.in_err-wins.ensures.asked)
 
 pub returns-in-Some-clause-found : goal.returns-in-Some-clause-found
 returns-in-Some-clause-found g c =
@@ -46,7 +46,7 @@ returns-in-Some-clause-asked g c =
     let lost = g.M.Memo.dropped in
     asked_then geo content lost c.searches_add_up.ensures c.args.left _ _ _ _ c.replies.invariant.asked
     (asked_ok geo content lost c.args.left _ _ _ _
-    (record { count = c.in_ok-wins.ensures.count; stop = c.in_ok-wins.ensures.stop; searched = c.in_ok-wins.ensures.searched }))
+    c.in_ok-wins.ensures.asked)
 
 pub replies-preserved : goal.replies-preserved
 replies-preserved g c =
@@ -73,7 +73,7 @@ replies-preserved g c =
       ];
       asked = asked_then geo content lost c.searches_add_up.ensures n _ _ _ answered c.replies.invariant.asked
           (asked_ok geo content lost n _ _ _ 0
-          (record { count = c.in_ok-wins.ensures.count; stop = c.in_ok-wins.ensures.stop; searched = c.in_ok-wins.ensures.searched }));
+          c.in_ok-wins.ensures.asked);
     }
 
 pub returns-clause-found : goal.returns-clause-found

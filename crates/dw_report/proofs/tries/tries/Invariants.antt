@@ -1,4 +1,4 @@
-use Rattle.dw_list.specs.Asking.{Asked}
+use Rattle.dw_solve.specs.Asking.{Asked}
 use Rattle.dw_list.specs.inner.AskingLemmas.{answered}
 use Rattle.dw_report.proofs.TryListLemmas.{TriesTo}
 use Rattle.dw_report.proofs.tries.tries.Given as goal

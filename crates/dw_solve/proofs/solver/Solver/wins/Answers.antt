@@ -2,6 +2,7 @@ use Rattle.std.proofs.Common.{◌≡◌, ◌⊎◌, ◌≤◌, ◌<◌, IsOk, On
 use Rattle.dw_memo.specs.Content.{SameEntries}
 use Rattle.dw_solve.specs.Facts.{IsDecided}
 use Rattle.dw_solve.specs.Solving.{Solving}
+use Rattle.dw_solve.specs.Asking.{Asked}
 use Rattle.dw_solve.proofs.solver.Solver.wins.Goals as goal
 
 pub returns-clause-known : goal.returns-clause-known
@@ -22,3 +23,12 @@ returns-clause-spent g c =
     (λ (s : Solving g.row.M.Denot).
     OnOk c.ask_wins-answer.result (1 ≤ c.args.moves → (IsDecided (content s.memo) c.args.position.now c.args.moves → ⊥) → s.expanded < after.expanded))
     c.self.view_is c.ask_wins-answer.ensures.spent
+
+pub returns-clause-asked : goal.returns-clause-asked
+returns-clause-asked g c =
+    let asked = c.ask_wins-answer in
+    let after = asked.new.search in
+    subst
+    (λ (s : Solving g.row.M.Denot).
+    Asked g.B.Board.geometry g.M.Memo.content g.M.Memo.dropped c.args.moves s (record { memo = after.memo; expanded = after.expanded; limit = after.limit }) asked.result)
+    c.self.view_is (record { count = asked.ensures.count; stop = asked.ensures.stop; searched = asked.ensures.searched })
