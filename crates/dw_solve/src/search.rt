@@ -52,9 +52,11 @@ pub(crate) fn wins<B: Board, M: Memo<B>, G: Guide<B>>(
     requires room { 2 * moves ≤ length plies.old }
     ensures answer { IfOk result (λ yes. IsTrue yes ↔ Win B.geometry position.now moves) }
     ensures right { AreTrue B.geometry (M.content search.new.memo) }
-    ensures count { IsCounted search.old.expanded search.old.limit search.new.expanded search.new.limit }
+    ensures count { IsCounted search.old.expanded search.old.limit
+        search.new.expanded search.new.limit }
     ensures stop { IsErrOf result Limit → search.new.expanded ≡ search.new.limit }
-    ensures spent { OnOk result (1 ≤ moves → (IsDecided (M.content search.old.memo) position.now moves → ⊥)
+    ensures spent { OnOk result (1 ≤ moves →
+        (IsDecided (M.content search.old.memo) position.now moves → ⊥)
         → search.old.expanded < search.new.expanded) }
     ensures searched { Searched B.geometry moves (cut_off result moves)
         (moment M.content M.dropped search.old.memo search.old.expanded)
@@ -96,7 +98,8 @@ fn some_move_wins<B: Board, M: Memo<B>, G: Guide<B>>(
     requires room { 2 * moves + 1 ≤ length plies.old }
     ensures answer { IfOk result (λ yes. IsTrue yes ↔ Win B.geometry position.now (moves + 1)) }
     ensures right { AreTrue B.geometry (M.content search.new.memo) }
-    ensures count { IsCounted search.old.expanded search.old.limit search.new.expanded search.new.limit }
+    ensures count { IsCounted search.old.expanded search.old.limit
+        search.new.expanded search.new.limit }
     ensures stop { IsErrOf result Limit → search.new.expanded ≡ search.new.limit }
     ensures searched { Searched B.geometry moves (cut_off result moves)
         (moment M.content M.dropped search.old.memo search.old.expanded)
@@ -127,7 +130,8 @@ pub(crate) fn loses<B: Board, M: Memo<B>, G: Guide<B>>(
     requires room { 0 < moves → 2 * moves + 1 ≤ length plies.old }
     ensures answer { IfOk result (λ yes. IsTrue yes ↔ Lost B.geometry position.now moves) }
     ensures right { AreTrue B.geometry (M.content search.new.memo) }
-    ensures count { IsCounted search.old.expanded search.old.limit search.new.expanded search.new.limit }
+    ensures count { IsCounted search.old.expanded search.old.limit
+        search.new.expanded search.new.limit }
     ensures stop { IsErrOf result Limit → search.new.expanded ≡ search.new.limit }
     ensures searched { Searched B.geometry moves (cut_off result moves)
         (moment M.content M.dropped search.old.memo search.old.expanded)
@@ -192,7 +196,8 @@ fn line_up_replies<B: Board, G: Guide<B>>(
 ) -> Result<Option<Position<B>>, AllocError>
     ensures last { IfOk result (λ found. IsSome found → moves ≡ 1) }
     ensures reply { IfOk result (λ found. IfSome found (IsLooseReply B.geometry position.now)) }
-    ensures all { IfOk result (λ found. IsNone found → AreRanked B.geometry position.now ply.new.ranked.items) }
+    ensures all { IfOk result (λ found. IsNone found →
+        AreRanked B.geometry position.now ply.new.ranked.items) }
 {
     if moves != 1 {
         ply.fill(position, guide)?;
@@ -224,7 +229,8 @@ fn refute<B: Board, M: Memo<B>, G>(
     requires within { search.old.expanded ≤ search.old.limit }
     requires lost { AlwaysReply B.geometry position.now }
     ensures right { AreTrue B.geometry (M.content search.new.memo) }
-    ensures count { IsCounted search.old.expanded search.old.limit search.new.expanded search.new.limit }
+    ensures count { IsCounted search.old.expanded search.old.limit
+        search.new.expanded search.new.limit }
     ensures stop { IsErrOf result Limit → search.new.expanded ≡ search.new.limit }
     ensures searched { Searched B.geometry 1 (cut_off result 1)
         (moment M.content M.dropped search.old.memo search.old.expanded)
@@ -257,11 +263,13 @@ pub(crate) fn known<B: Board, M: Memo<B>, G>(
     ensures count { search.new.expanded ≡ search.old.expanded }
     ensures limit { search.new.limit ≡ search.old.limit }
     ensures same { SameEntries (M.content search.old.memo) (M.content search.new.memo) }
-    ensures sure { IsSome result → (moves ≡ 0) ⊎ IsDecided (M.content search.old.memo) position.now moves }
+    ensures sure { IsSome result
+        → (moves ≡ 0) ⊎ IsDecided (M.content search.old.memo) position.now moves }
     ensures some { IsNone result → 1 ≤ moves }
     ensures open { IsNone result → IsDecided (M.content search.old.memo) position.now moves → ⊥ }
     ensures map { IsNone result → IsMap (M.content search.old.memo) }
-    ensures searched { Searched B.geometry 0 0 (moment M.content M.dropped search.old.memo search.old.expanded)
+    ensures searched { Searched B.geometry 0 0
+        (moment M.content M.dropped search.old.memo search.old.expanded)
         (moment M.content M.dropped search.new.memo search.new.expanded) }
     ensures says { IfSome result (SaysWin (M.content search.new.memo) position.now moves) }
 {
@@ -304,7 +312,8 @@ fn note<B: Board, M: Memo<B>, G>(
     ensures right { AreTrue B.geometry (M.content search.new.memo) }
     ensures count { search.new.expanded ≡ search.old.expanded }
     ensures limit { search.new.limit ≡ search.old.limit }
-    ensures noted { IsNoted position.now moves won (moment M.content M.dropped search.old.memo search.old.expanded)
+    ensures noted { IsNoted position.now moves won
+        (moment M.content M.dropped search.old.memo search.old.expanded)
         (moment M.content M.dropped search.new.memo search.new.expanded) }
 {
     let bounds = bounds_now(&mut search.memo, position);

@@ -39,9 +39,14 @@ impl<B: Board, M: Memo<B>, G: Guide<B>> Model for Solver<B, M, G> {
 
     ghost Value = { Solving M };
 
-    ghost view = { λ s. record { memo = s.search.memo; expanded = s.search.expanded; limit = s.search.limit } };
+    ghost view = { λ s. record {
+      memo = s.search.memo;
+      expanded = s.search.expanded;
+      limit = s.search.limit;
+    } };
 
-    ghost invariant = { λ s. AreTrue B.geometry (M.content s.search.memo) × (s.search.expanded ≤ s.search.limit) };
+    ghost invariant = { λ s. AreTrue B.geometry (M.content s.search.memo)
+        × (s.search.expanded ≤ s.search.limit) };
 }
 
 impl<B: Board, M: Memo<B>, G: Guide<B>> Solver<B, M, G> {
@@ -112,7 +117,8 @@ impl<B: Board, M: Memo<B>, G: Guide<B>> Solver<B, M, G> {
         ensures asked { Asked B.geometry M.content M.dropped moves self.old self.new result }
         ensures known { (moves ≡ 0) ⊎ IsDecided (M.content self.old.memo) position.now moves
             → IsOk result × Idle M.content self.old self.new }
-        ensures spent { OnOk result (1 ≤ moves → (IsDecided (M.content self.old.memo) position.now moves → ⊥)
+        ensures spent { OnOk result (1 ≤ moves →
+            (IsDecided (M.content self.old.memo) position.now moves → ⊥)
             → self.old.expanded < self.new.expanded) }
         ensures says { LostNothing M.content M.dropped self.old self.new
             → IfOk result (SaysWin (M.content self.new.memo) position.now moves) }
@@ -199,12 +205,14 @@ fn ask_wins<B: Board, M: Memo<B>, G: Guide<B>>(
     requires within { search.old.expanded ≤ search.old.limit }
     ensures answer { IfOk result (λ yes. IsTrue yes ↔ Win B.geometry position.now moves) }
     ensures right { AreTrue B.geometry (M.content search.new.memo) }
-    ensures count { IsCounted search.old.expanded search.old.limit search.new.expanded search.new.limit }
+    ensures count { IsCounted search.old.expanded search.old.limit
+        search.new.expanded search.new.limit }
     ensures stop { IsErrOf result Limit → search.new.expanded ≡ search.new.limit }
     ensures known { (moves ≡ 0) ⊎ IsDecided (M.content search.old.memo) position.now moves
         → IsOk result × (search.new.expanded ≡ search.old.expanded)
         × SameEntries (M.content search.old.memo) (M.content search.new.memo) }
-    ensures spent { OnOk result (1 ≤ moves → (IsDecided (M.content search.old.memo) position.now moves → ⊥)
+    ensures spent { OnOk result (1 ≤ moves →
+        (IsDecided (M.content search.old.memo) position.now moves → ⊥)
         → search.old.expanded < search.new.expanded) }
     ensures searched { Searched B.geometry moves (cut_off result moves)
         (moment M.content M.dropped search.old.memo search.old.expanded)
@@ -235,7 +243,8 @@ fn ask_loses<B: Board, M: Memo<B>, G: Guide<B>>(
     requires within { search.old.expanded ≤ search.old.limit }
     ensures answer { IfOk result (λ yes. IsTrue yes ↔ Lost B.geometry position.now moves) }
     ensures right { AreTrue B.geometry (M.content search.new.memo) }
-    ensures count { IsCounted search.old.expanded search.old.limit search.new.expanded search.new.limit }
+    ensures count { IsCounted search.old.expanded search.old.limit
+        search.new.expanded search.new.limit }
     ensures stop { IsErrOf result Limit → search.new.expanded ≡ search.new.limit }
     ensures searched { Searched B.geometry moves (cut_off result moves)
         (moment M.content M.dropped search.old.memo search.old.expanded)
