@@ -8,7 +8,8 @@ use Rattle.dw_board.specs.declared.piece.Piece.{Piece}
 use Rattle.dw_board.specs.Geometry.{Geometry, OnBoard, squares}
 use Rattle.dw_board.specs.Placement.{Placement, at, placed, count, same_side}
 use Rattle.dw_board.specs.SquareSet.{Squares}
-use Rattle.dw_moves.specs.Moves.{Jumps, Path, Stands, IsBest, CanCapture, Move, Legal, LegalAt, other, last_of}
+use Rattle.dw_moves.specs.Moves.{Jumps, Path, Stands, IsBest, CanCapture, Move, Legal, LegalAt, last_of}
+use Rattle.dw_board.specs.Placement.{other}
 use Rattle.dw_moves.specs.inner.Glance.{CanStep}
 use Rattle.dw_moves.proofs.PlainLemmas.{best}
 use Rattle.dw_moves.specs.inner.Chains.{Chain, ChainsFit, IsLongest, IsBestFrom}

@@ -9,8 +9,10 @@ use Rattle.dw_board.specs.declared.piece.Piece.{Piece}
 use Rattle.dw_board.specs.Geometry.{Geometry, IsBoard, OnBoard, step}
 use Rattle.dw_board.specs.Placement.{Placement, at, placed}
 use Rattle.dw_board.specs.SquareSet.{Squares}
-use Rattle.dw_moves.specs.Moves.{Member, Stands, Jump, other, ray, In}
-use Rattle.dw_moves.specs.inner.Glance.{AreSets, MenMeet, CanTakeFrom, back}
+use Rattle.dw_moves.specs.Moves.{Member, Stands, Jump, ray, In}
+use Rattle.dw_board.specs.Placement.{other}
+use Rattle.dw_moves.specs.inner.Glance.{AreSets, MenMeet, CanTakeFrom}
+use Rattle.dw_board.specs.Geometry.{back}
 use Rattle.dw_moves.proofs.StepLemmas.{step_is}
 use Rattle.dw_moves.proofs.StepBackLemmas.{step_back}
 use Rattle.dw_moves.proofs.SquareSetLemmas.{in_or, in_minus}

@@ -8,7 +8,8 @@ use Rattle.dw_board.specs.declared.piece.Piece.{Piece}
 use Rattle.dw_board.specs.declared.board.Dir.{Dir}
 use Rattle.dw_board.specs.Geometry.{Geometry, IsBoard, OnBoard, step}
 use Rattle.dw_board.specs.Placement.{Placement, at, same_side}
-use Rattle.dw_moves.specs.Moves.{ray, other, In}
+use Rattle.dw_moves.specs.Moves.{ray, In}
+use Rattle.dw_board.specs.Placement.{other}
 use Rattle.dw_moves.specs.inner.Plain.{landings_for, king_takes, takes_for, over_enemy, free_if, free_step}
 use Rattle.std.proofs.lemmas.Bool.{true≢false}
 use Rattle.std.specs.FinSet as fin

@@ -9,7 +9,8 @@ use Rattle.dw_board.specs.Placement.{Placement}
 use Rattle.dw_board.specs.SquareSet.{Squares}
 use Rattle.dw_moves.specs.Moves.{CanCapture, IsBest, Legal, Move, play, In}
 use Rattle.dw_moves.specs.inner.Plain.{quiet_to}
-use Rattle.dw_moves.specs.inner.Glance.{AreSets, StepsFrom, StepsOn, NoneLoose, back}
+use Rattle.dw_moves.specs.inner.Glance.{AreSets, StepsFrom, StepsOn, NoneLoose}
+use Rattle.dw_board.specs.Geometry.{back}
 use Rattle.dw_moves.specs.Replies.{OneStep, IsLoose, IsLooseStep}
 use Rattle.dw_moves.proofs.PlainLemmas.{best}
 use Rattle.dw_moves.proofs.LegalMoveLemmas.{is_best}

@@ -3,7 +3,8 @@ use Rattle.std.proofs.Common.{◌≡◌, ℕ, List, [], ◌∷◌, ◌++◌, ref
 use Rattle.dw_board.specs.declared.piece.Piece.{Piece}
 use Rattle.dw_board.specs.Geometry.{Geometry, IsBoard, OnBoard}
 use Rattle.dw_board.specs.Placement.{Placement, at, placed}
-use Rattle.dw_moves.specs.Moves.{AllEmpty, Jump, Jumps, other, ray}
+use Rattle.dw_moves.specs.Moves.{AllEmpty, Jump, Jumps, ray}
+use Rattle.dw_board.specs.Placement.{other}
 use Rattle.dw_moves.specs.Laws.{PathTells}
 use Rattle.dw_moves.proofs.RayLemmas.{ray_toward, ray_of_on, one_dir, landing_on_ray}
 

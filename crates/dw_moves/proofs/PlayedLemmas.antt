@@ -3,7 +3,8 @@ use Rattle.std.proofs.Common.{◌≡◌, ◌∙◌, ap}
 use Rattle.dw_board.specs.declared.piece.Side.{Side}
 use Rattle.dw_board.specs.Geometry.{Geometry}
 use Rattle.dw_board.specs.Placement.{Placement, carried}
-use Rattle.dw_moves.specs.Moves.{Move, play, other}
+use Rattle.dw_moves.specs.Moves.{Move, play}
+use Rattle.dw_board.specs.Placement.{other}
 
 pub played : (g : Geometry) (p : Placement) (n m : Move) → n ≡ m → (moved : Placement) → moved ≡ carried g p n.from n.to n.taken
     → (side : Side) → side ≡ other p.turn → (final : Placement) → final ≡ record { cells = moved.cells; turn = side } → final ≡ play g p m

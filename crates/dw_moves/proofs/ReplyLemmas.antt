@@ -8,7 +8,8 @@ use Rattle.dw_board.specs.declared.piece.Side.TheVariants.{White, Black}
 use Rattle.dw_board.specs.declared.piece.Piece.{Piece}
 use Rattle.dw_board.specs.Geometry.{Geometry, IsBoard, OnBoard}
 use Rattle.dw_board.specs.Placement.{Placement, at}
-use Rattle.dw_moves.specs.Moves.{Move, Quiet, Stands, Legal, LegalAt, IsBest, other, play, ray}
+use Rattle.dw_moves.specs.Moves.{Move, Quiet, Stands, Legal, LegalAt, IsBest, play, ray}
+use Rattle.dw_board.specs.Placement.{other}
 use Rattle.dw_moves.specs.Replies.{passed, OneStep, TwoSteps, IsLoose, AlwaysReply}
 use Rattle.dw_moves.specs.Laws.{StepsAreQuiet, LooseReplies}
 use Rattle.dw_moves.specs.inner.Glance.{CanStep}

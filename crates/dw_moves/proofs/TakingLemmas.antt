@@ -10,7 +10,8 @@ use Rattle.dw_board.specs.Geometry.{Geometry, IsBoard}
 use Rattle.dw_board.specs.Placement.{Placement, IsPosition, at, placed, count, same_side}
 use Rattle.dw_board.specs.SquareSet.{Squares}
 use Rattle.dw_moves.specs.inner.Glance.{CanTakeFrom}
-use Rattle.dw_moves.specs.Moves.{In, Path, Stands, Move, other, last_of}
+use Rattle.dw_moves.specs.Moves.{In, Path, Stands, Move, last_of}
+use Rattle.dw_board.specs.Placement.{other}
 use Rattle.dw_moves.specs.inner.Chains.{ChainsFit, Taking, TakingFrom, EndsAs, Longest}
 use Rattle.dw_moves.proofs.ExactLemmas.{same_side_refl}
 use Rattle.dw_moves.proofs.StepLemmas.{none_some}

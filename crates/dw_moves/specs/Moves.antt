@@ -10,7 +10,7 @@ use Rattle.dw_board.specs.declared.piece.Kind.{Kind}
 use Rattle.dw_board.specs.declared.piece.Kind.TheVariants.{Man}
 use Rattle.dw_board.specs.declared.piece.Piece.{Piece}
 use Rattle.dw_board.specs.Geometry.{Geometry, step, OnBoard, is_down}
-use Rattle.dw_board.specs.Placement.{Placement, at, placed, carried}
+use Rattle.dw_board.specs.Placement.{Placement, at, placed, carried, other}
 use Rattle.dw_board.specs.SquareSet.{Squares, word_of}
 use Rattle.std.specs.Prelude.{IsTrue}
 use Rattle.std.specs.Ordering.{on}
@@ -25,11 +25,6 @@ Member x (y ∷ ys) = (x ≡ y) ⊎ Member x ys
 abbrev pub NoRepeat : {X : Type 0} → List X → Type 0
 NoRepeat [] = Unit {0}
 NoRepeat (x ∷ xs) = (Member x xs → ⊥) × NoRepeat xs
-
--- the other player
-abbrev pub other : Side → Side
-other White = Black
-other Black = White
 
 -- the first n squares met on the way from s in a direction, fewer where the board ends
 abbrev pub ray_of : Geometry → ℕ → ℕ → Dir → List ℕ

@@ -7,7 +7,8 @@ use Rattle.dw_board.specs.declared.piece.Side.{Side}
 use Rattle.dw_board.specs.Geometry.{Geometry, step}
 use Rattle.dw_board.specs.Placement.{Placement, at}
 use Rattle.std.specs.FinSet as set
-use Rattle.dw_moves.specs.Moves.{IsForward, Stands, CanCapture, Move, Legal, other, play}
+use Rattle.dw_moves.specs.Moves.{IsForward, Stands, CanCapture, Move, Legal, play}
+use Rattle.dw_board.specs.Placement.{other}
 
 -- the same pieces, and it is this side's turn
 abbrev pub given : Placement → Side → Placement

@@ -7,7 +7,6 @@ ghost use Rattle.dw_moves.specs.inner.Chains.{ChainsFit, IsLongest, IsBestFrom};
 
 use crate::glance::{can_capture, can_step};
 use crate::jumps::jumps;
-use crate::play::other;
 use dw_board::board::Board;
 use dw_board::piece::{Piece, Side};
 use dw_board::position::Position;
@@ -50,7 +49,7 @@ fn best_from<B: Board>(position: &Position<B>, from: Square<B>) -> u8
     if !is_own(piece, position.turn()) {
         return 0;
     }
-    let enemies = position.count(other(position.turn()));
+    let enemies = position.count(position.turn().other());
     let mut rest = *position;
     rest.clear(from);
     longest(&rest, piece, from, Squares::none(), enemies)

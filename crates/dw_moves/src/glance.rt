@@ -6,11 +6,12 @@ ghost use Rattle.dw_moves.specs.Moves.{CanCapture, Legal};
 ghost use Rattle.dw_moves.specs.Moves as moved;
 ghost use Rattle.dw_moves.specs.inner.Glance.{AreSets, MenMeet, KingsMeet, Takes, Steps, StepsOn, HasTwo, CanStep};
 ghost use Rattle.dw_moves.specs.Moves.{In};
-ghost use Rattle.dw_moves.specs.inner.Glance.{CanTakeFrom, NoneLoose, back};
+ghost use Rattle.dw_moves.specs.inner.Glance.{CanTakeFrom, NoneLoose};
+ghost use Rattle.dw_board.specs.Geometry.{back};
 ghost use Rattle.dw_moves.specs.Replies.{given, passed, OneStep, IsLoose, IsLooseStep, AlwaysReply};
 
 use crate::moves::Move;
-use crate::play::{other, play};
+use crate::play::play;
 use crate::quiet::may_go;
 use dw_board::board::{Board, Dir};
 use dw_board::piece::{Kind, Side};
@@ -93,7 +94,7 @@ pub fn loose_step<B: Board>(position: &Position<B>) -> Option<(Move<B>, Position
 pub fn other_steps<B: Board>(position: &Position<B>) -> Squares<B>
     ensures { (t : ℕ) → In t result ↔ ((s : ℕ) × OneStep B.geometry (passed position.now) s t) }
 {
-    let side = other(position.turn());
+    let side = position.turn().other();
     let field = Field::given(position, side);
     let up = field
         .next_free(side, Dir::UpLeft)
@@ -143,7 +144,7 @@ impl<B: Board> Field<B> {
     {
         let men = position.squares(side, Kind::Man);
         let kings = position.squares(side, Kind::King);
-        let enemies = position.all_of(other(side));
+        let enemies = position.all_of(side.other());
         Field {
             men,
             kings,
@@ -198,7 +199,7 @@ impl<B: Board> Field<B> {
             → In s result }
     {
         let behind = self.met_by_men(direction).shifted(direction);
-        let back = opposite(direction);
+        let back = direction.opposite();
         behind.minus(self.occupied).shifted(back).shifted(back)
     }
 
@@ -238,7 +239,7 @@ impl<B: Board> Field<B> {
         ensures none { IsNone result → NoneLoose B.geometry position.now self.now.men self.now.kings self.now.occupied
             direction set.empty }
     {
-        let back = opposite(direction);
+        let back = direction.opposite();
         let mut left = self.next_free(position.turn(), direction);
         'goals: while let Some((to, rest)) = left.split() {
             if let Some(from) = step(to, back) {
@@ -251,19 +252,6 @@ impl<B: Board> Field<B> {
             left = rest;
         }
         None
-    }
-}
-
-/// The direction that leads back.
-#[inline]
-pub(crate) fn opposite(direction: Dir) -> Dir
-    ensures { result ≡ back direction }
-{
-    match direction {
-        Dir::UpLeft => Dir::DownRight,
-        Dir::UpRight => Dir::DownLeft,
-        Dir::DownLeft => Dir::UpRight,
-        Dir::DownRight => Dir::UpLeft,
     }
 }
 

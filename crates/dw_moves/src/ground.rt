@@ -4,7 +4,6 @@ ghost use Rattle.dw_board.specs.Geometry.{OnBoard};
 ghost use Rattle.dw_moves.specs.inner.Glance.{IsGround};
 ghost use Rattle.dw_moves.specs.inner.Plain as plain;
 
-use crate::play::other;
 use dw_board::board::{Board, Dir};
 use dw_board::piece::Side;
 use dw_board::position::Position;
@@ -25,7 +24,7 @@ impl<B: Board> Ground<B> {
         ensures { IsGround B.geometry position.now side result.enemies result.occupied }
     {
         Ground {
-            enemies: position.all_of(other(side)),
+            enemies: position.all_of(side.other()),
             occupied: position.occupied(),
         }
     }

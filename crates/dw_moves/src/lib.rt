@@ -23,5 +23,4 @@ pub use glance::{can_capture, is_loose, loose_step, other_steps};
 pub use legal::{is_legal, legal_into};
 pub use listed::listed_into;
 pub use moves::{Listed, Move};
-pub use play::other;
 pub use quiet::quiet_count;

@@ -18,7 +18,7 @@ pub fn play<B: Board>(position: &Position<B>, step: &Move<B>) -> Position<B>
     ensures { result ≡ of.play B.geometry position.now step.now }
 {
     let mut after = position.carried(step.from, step.to, step.taken);
-    after.set_turn(other(position.turn()));
+    after.set_turn(position.turn().other());
     after
 }
 

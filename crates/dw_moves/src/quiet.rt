@@ -8,7 +8,6 @@ ghost use Rattle.dw_moves.specs.inner.Plain as plain;
 ghost use Rattle.dw_moves.specs.inner.Plain.{Adds, Counts, ManSteps, KingGoes};
 
 use crate::best::is_own;
-use crate::glance::opposite;
 use dw_board::board::{Board, Dir};
 use dw_board::piece::{Kind, Side};
 use dw_board::position::Position;
@@ -145,7 +144,7 @@ fn push_steps<B: Board, T: FromQuiet<B> + Drop>(
 {
     let mut left = men_reach(position, direction);
     'squares: while let Some((to, rest)) = left.split() {
-        if let Some(from) = step(to, opposite(direction)) {
+        if let Some(from) = step(to, direction.opposite()) {
             moves.push(T::from_quiet(&from, &to))?;
         }
         left = rest;

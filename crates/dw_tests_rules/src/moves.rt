@@ -15,7 +15,7 @@ use dw_moves::laws;
 use dw_moves::legal::{is_legal, legal, legal_into};
 use dw_moves::listed::{listed, listed_into};
 use dw_moves::moves::Move;
-use dw_moves::play::{other, play};
+use dw_moves::play::play;
 use dw_moves::quiet::quiet_count;
 use dw_tests_common::six::Six;
 use std::alloc::Global;
@@ -341,7 +341,7 @@ fn moves(rt: HostRuntime) {
     assert!(rt; laws::same_move(&Move::default(), &Move::quiet(first, first)));
     assert!(rt; !laws::same_move(&Move::quiet(first, last), &Move::quiet(last, first)));
     assert!(rt; move_of(&rt, 1, 50, &[50]) != Move::quiet(first, last));
-    assert!(rt; other(Side::White) == Side::Black && other(Side::Black) == Side::White);
+    assert!(rt; Side::White.other() == Side::Black && Side::Black.other() == Side::White);
     laws::path_tells();
     laws::path_is_short();
     laws::moves_listed();

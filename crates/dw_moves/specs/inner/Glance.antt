@@ -10,7 +10,8 @@ use Rattle.dw_board.specs.declared.piece.Piece.{Piece}
 use Rattle.dw_board.specs.Geometry.{Geometry, step, OnBoard}
 use Rattle.dw_board.specs.Placement.{Placement, at, placed}
 use Rattle.dw_board.specs.SquareSet.{Squares}
-use Rattle.dw_moves.specs.Moves.{IsForward, Quiet, Stands, Jump, other, play}
+use Rattle.dw_moves.specs.Moves.{IsForward, Quiet, Stands, Jump, play}
+use Rattle.dw_board.specs.Placement.{other}
 use Rattle.dw_moves.specs.inner.Plain.{quiet_to}
 use Rattle.dw_moves.specs.Replies.{IsLoose}
 use Rattle.dw_moves.specs.Moves.{In}
@@ -82,13 +83,6 @@ CanStep g p = (from : ℕ) × (to : ℕ) × Quiet g p from to
 -- a capture begins on this square
 abbrev pub CanTakeFrom : Geometry → Placement → ℕ → Type 0
 CanTakeFrom g p s = (c : ℕ) × (t : ℕ) × (piece : Piece) × Stands g p s piece × Jump g (placed p s None) piece s c t
-
--- the direction that leads back
-abbrev pub back : Dir → Dir
-back UpLeft = DownRight
-back UpRight = DownLeft
-back DownLeft = UpRight
-back DownRight = UpLeft
 
 -- no step in this direction leaves a loose position, but for those onto these squares
 abbrev pub NoneLoose : Geometry → Placement → Squares → Squares → Squares → Dir → Squares → Type 0

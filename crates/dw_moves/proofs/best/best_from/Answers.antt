@@ -1,6 +1,6 @@
 use Rattle.std.proofs.Common.{sym, ap, ◌∙◌}
 use Rattle.dw_board.specs.Placement.{same_side, count}
-use Rattle.dw_moves.specs.Moves.{other}
+use Rattle.dw_board.specs.Placement.{other}
 use Rattle.dw_moves.proofs.BestFromLemmas.{stands_own, fits_at, best_at}
 use Rattle.dw_moves.proofs.best.best_from.Goals as goal
 

@@ -1,5 +1,5 @@
 use Rattle.std.proofs.Common.{ap, ◌∙◌}
-use Rattle.dw_moves.specs.Moves.{other}
+use Rattle.dw_board.specs.Placement.{other}
 use Rattle.dw_moves.proofs.StepSetLemmas.{all_steps}
 use Rattle.dw_moves.proofs.glance.other_steps.Goals as goal
 

@@ -1,5 +1,5 @@
 use Rattle.std.proofs.Common.{sym, ◌∙◌, subst, refl}
-use Rattle.dw_moves.specs.Moves.{other}
+use Rattle.dw_board.specs.Placement.{other}
 use Rattle.dw_moves.proofs.JumpStepLemmas.{Before, before_man, before_king, met_edge, met_other, met_enemy}
 use Rattle.dw_moves.proofs.jumps.first_met.Goals as goal
 use Rattle.dw_moves.proofs.jumps.first_met.Goals.{in-Man, in-King}
