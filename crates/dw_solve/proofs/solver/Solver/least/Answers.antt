@@ -33,7 +33,7 @@ moves-preserved g c = (
       λ all.
           let before = c.moves.invariant.1.1.2 all in
           let here = c.in_ok-wins.ensures.known (inr (decided_same _ _ c.args.position.now c.moves.moves before.1 (all c.moves.moves c.moves.auto.moves (omega (arith, c.moves-test.true))))) in
-          unchanged_then _ _ _ _ _ _ before (here.1, here.2),
+          unchanged_then _ _ _ _ _ _ before here.1,
     ),
   ),
 )
@@ -66,11 +66,11 @@ pub returns-then-branch-clause-known : goal.returns-then-branch-clause-known
 returns-then-branch-clause-known g c all =
     let before = c.moves.invariant.1.1.2 all in
     let here = c.in_ok-wins.ensures.known (inr (decided_same _ _ c.args.position.now c.moves.moves before.1 (all c.moves.moves c.moves.auto.moves (omega (arith, c.moves-test.true))))) in
-    let after = unchanged_then _ _ _ _ _ _ before (here.1, here.2) in
-    (refl, after.0, after.1)
+    let after = unchanged_then _ _ _ _ _ _ before here.1 in
+    (refl, after)
 
 pub returns-clause-known : goal.returns-clause-known
-returns-clause-known g c all = let u = c.moves.invariant.1.1.2 all in (refl, u.0, u.1)
+returns-clause-known g c all = let u = c.moves.invariant.1.1.2 all in (refl, u)
 
 pub returns-in_err-wins-clause-known : goal.returns-in_err-wins-clause-known
 returns-in_err-wins-clause-known g c all =

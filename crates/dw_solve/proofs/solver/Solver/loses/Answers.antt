@@ -7,14 +7,15 @@ use Rattle.dw_solve.specs.Asking.{Asked}
 use Rattle.dw_solve.proofs.solver.Solver.loses.Goals as goal
 
 pub returns-clause-known : goal.returns-clause-known
-returns-clause-known g c =
+returns-clause-known g c decided =
     let content = g.M.Memo.content in
     let after = c.ask_loses-answer.new.search in
-    subst
+    let idle = subst
     (λ (s : Solving g.row.M.Denot).
     RepliesAreDecided g.B.Board.geometry (content s.memo) c.args.position.now c.args.moves →
     (IsErrOf c.ask_loses-answer.result Limit → ⊥) × (after.expanded ≡ s.expanded) × SameEntries (content s.memo) (content after.memo))
-    c.self.view_is c.ask_loses-answer.ensures.known
+    c.self.view_is c.ask_loses-answer.ensures.known decided in
+    (idle.0, (idle.1, idle.2))
 
 pub returns-clause-asked : goal.returns-clause-asked
 returns-clause-asked g c =

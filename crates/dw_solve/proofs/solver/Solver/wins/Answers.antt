@@ -6,14 +6,15 @@ use Rattle.dw_solve.specs.Asking.{Asked}
 use Rattle.dw_solve.proofs.solver.Solver.wins.Goals as goal
 
 pub returns-clause-known : goal.returns-clause-known
-returns-clause-known g c =
+returns-clause-known g c decided =
     let content = g.M.Memo.content in
     let after = c.ask_wins-answer.new.search in
-    subst
+    let idle = subst
     (λ (s : Solving g.row.M.Denot).
     (c.args.moves ≡ 0) ⊎ IsDecided (content s.memo) c.args.position.now c.args.moves →
     IsOk c.ask_wins-answer.result × (after.expanded ≡ s.expanded) × SameEntries (content s.memo) (content after.memo))
-    c.self.view_is c.ask_wins-answer.ensures.known
+    c.self.view_is c.ask_wins-answer.ensures.known decided in
+    (idle.0, (idle.1, idle.2))
 
 pub returns-clause-spent : goal.returns-clause-spent
 returns-clause-spent g c =
