@@ -21,8 +21,8 @@ pub fn perft<B: Board>(
         return Ok(moves.len() as u64);
     }
     let mut count = 0_u64;
-    'moves: for step in moves.as_slice() {
-        count = count.saturating_add(perft(&play(position, step), rest)?);
+    'moves: for mv in moves.as_slice() {
+        count = count.saturating_add(perft(&play(position, mv), rest)?);
     }
     Ok(count)
 }
@@ -37,8 +37,8 @@ pub fn moves_made<B: Board>(
     };
     legal_into(position, moves)?;
     let mut count = moves.len() as u64;
-    'moves: for step in moves.as_slice() {
-        count = count.saturating_add(moves_made(&play(position, step), rest)?);
+    'moves: for mv in moves.as_slice() {
+        count = count.saturating_add(moves_made(&play(position, mv), rest)?);
     }
     Ok(count)
 }

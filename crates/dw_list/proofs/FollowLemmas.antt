@@ -146,16 +146,16 @@ module _ (g : Geometry) (old new : Standing) (end : Bool) (h : IsListed g old ne
       ap (λ (s : Standing). s.moves) r.1 ∙ ap (λ (s : Standing). s.moves) h.is
 
   -- the move does not keep a win
-  pub follow_lost : {B : Type 0} (now : Standing) (t : Trial B) (m : Move) → SomePassed new now → IsTrial g now.levels t → t.step ≡ m → (Keeps g t.attacks t.after t.left → ⊥) → GoOnWith g old.levels m → ⊥
+  pub follow_lost : {B : Type 0} (now : Standing) (t : Trial B) (m : Move) → SomePassed new now → IsTrial g now.levels t → t.mv ≡ m → (Keeps g t.attacks t.after t.left → ⊥) → GoOnWith g old.levels m → ⊥
   follow_lost now t m passed trial is lost on =
       let r = passed h.last h.outer h.listing.moves listed_levels in
       let same = levels_last on.last h.last on.outer h.outer (sym on.are ∙ h.are) in
       let level = levels_last trial.last (with_ahead h.last r.0) trial.outer h.outer (sym trial.are ∙ ap (λ (s : Standing). s.levels) r.1) in
-      let next : IsNext g h.last.attacks h.last.position h.last.left t.step = subst (λ z. IsNext g h.last.attacks h.last.position h.last.left z) (sym is) (subst (λ (z : Level). IsNext g z.attacks z.position z.left m) same on.next) in
-      let keeps = next_keeps g h.last.attacks h.last.position h.last.left t.step next in
-      let here : Keeps g trial.last.attacks (play g trial.last.position t.step) (left_after trial.last.attacks trial.last.left) =
-      subst (λ (z : Level). Keeps g z.attacks (play g z.position t.step) (left_after z.attacks z.left)) (sym level) keeps in
-      lost (subst (λ z. Keeps g t.attacks t.after z) (sym trial.left) (subst (λ z. Keeps g t.attacks z (left_after trial.last.attacks trial.last.left)) (sym trial.after) (subst (λ z. Keeps g z (play g trial.last.position t.step) (left_after trial.last.attacks trial.last.left)) (sym trial.attacks) here)))
+      let next : IsNext g h.last.attacks h.last.position h.last.left t.mv = subst (λ z. IsNext g h.last.attacks h.last.position h.last.left z) (sym is) (subst (λ (z : Level). IsNext g z.attacks z.position z.left m) same on.next) in
+      let keeps = next_keeps g h.last.attacks h.last.position h.last.left t.mv next in
+      let here : Keeps g trial.last.attacks (play g trial.last.position t.mv) (left_after trial.last.attacks trial.last.left) =
+      subst (λ (z : Level). Keeps g z.attacks (play g z.position t.mv) (left_after z.attacks z.left)) (sym level) keeps in
+      lost (subst (λ z. Keeps g t.attacks t.after z) (sym trial.left) (subst (λ z. Keeps g t.attacks z (left_after trial.last.attacks trial.last.left)) (sym trial.after) (subst (λ z. Keeps g z (play g trial.last.position t.mv) (left_after trial.last.attacks trial.last.left)) (sym trial.attacks) here)))
 
 -- ALL MOVES
 

@@ -38,23 +38,23 @@ append_last : (before rest : List Move) (m : Move) → before ++ m ∷ rest ≡ 
 append_last [] rest m = refl
 append_last (x ∷ before) rest m = ap (λ z. x ∷ z) (append_last before rest m)
 
-first_same : {B : Type 0} (g : Geometry) (f : Level) (outer : List Level) (rest : List Move) (levels : List Level) (t : Trial B) → levels ≡ with_ahead f rest ∷ outer → IsTrial g levels t → first_ahead (Some rest) ≡ Some t.step
+first_same : {B : Type 0} (g : Geometry) (f : Level) (outer : List Level) (rest : List Move) (levels : List Level) (t : Trial B) → levels ≡ with_ahead f rest ∷ outer → IsTrial g levels t → first_ahead (Some rest) ≡ Some t.mv
 first_same g f outer rest levels t is trial =
     let same = levels_last trial.last (with_ahead f rest) trial.outer outer (sym trial.are ∙ is) in
-    subst (λ (z : Level). first_ahead z.ahead ≡ Some t.step) same trial.first
+    subst (λ (z : Level). first_ahead z.ahead ≡ Some t.mv) same trial.first
 
-pub seeks_more : {B : Type 0} (g : Geometry) (old s new : Standing) (m : Move) (t : Trial B) → Seeks old s m → IsTrial g s.levels t → (t.step ≡ m → ⊥) → new ≡ record s { levels = passed_last s.levels } → Seeks old new m
+pub seeks_more : {B : Type 0} (g : Geometry) (old s new : Standing) (m : Move) (t : Trial B) → Seeks old s m → IsTrial g s.levels t → (t.mv ≡ m → ⊥) → new ≡ record s { levels = passed_last s.levels } → Seeks old new m
 seeks_more g old s new m t seeks trial apart is f outer moves e =
     let h = seeks f outer moves e in
     let here : s.levels ≡ with_ahead f h.1 ∷ outer = ap (λ (z : Standing). z.levels) h.3 in
-    let first = first_cons h.1 t.step (first_same g f outer h.1 s.levels t here trial) in
+    let first = first_cons h.1 t.mv (first_same g f outer h.1 s.levels t here trial) in
     let now : new ≡ ahead_of old f outer first.0 =
     is ∙ ap (λ (z : Standing). record z { levels = passed_last z.levels }) h.3 ∙ ap (λ z. record old { levels = passed_last (with_ahead f z ∷ outer) }) first.1 in (
-      h.0 ++ t.step ∷ [],
+      h.0 ++ t.mv ∷ [],
       first.0,
-      h.2 ∙ ap (λ z. h.0 ++ z) first.1 ∙ append_last h.0 first.0 t.step,
+      h.2 ∙ ap (λ z. h.0 ++ z) first.1 ∙ append_last h.0 first.0 t.mv,
       now,
-      λ k. elim (mem_cases m h.0 (t.step ∷ []) k) [ inl early ↦ h.4 early | inr (inl e) ↦ apart (sym e) | inr (inr none) ↦ none ],
+      λ k. elim (mem_cases m h.0 (t.mv ∷ []) k) [ inl early ↦ h.4 early | inr (inl e) ↦ apart (sym e) | inr (inr none) ↦ none ],
     )
 
 pub seeks_passed : (old new : Standing) (m : Move) → Seeks old new m → SomePassed old new
@@ -88,4 +88,4 @@ count_less (Some (r ∷ moves)) m e = omega arith
 pub count_falls : {B : Type 0} (g : Geometry) (s new : Standing) (t : Trial B) → IsTrial g s.levels t → new ≡ record s { levels = passed_last s.levels } → ahead_count new.levels < ahead_count s.levels
 count_falls g s new t trial is =
     let levels : new.levels ≡ passed_last s.levels = ap (λ (z : Standing). z.levels) is in
-    subst (λ z. ahead_count z < ahead_count s.levels) (sym levels) (subst (λ z. ahead_count (passed_last z) < ahead_count z) (sym trial.are) (count_less trial.last.ahead t.step trial.first))
+    subst (λ z. ahead_count z < ahead_count s.levels) (sym levels) (subst (λ z. ahead_count (passed_last z) < ahead_count z) (sym trial.are) (count_less trial.last.ahead t.mv trial.first))

@@ -128,9 +128,9 @@ pub with_both : (s : Standing) (p : Placement) (n : ℕ) (line line' : List Move
 with_both s p n line line' old new is e f = subst (λ (z : Standing). standing p n line' new ≡ record z { line = drop 1 z.line; levels = drop 1 z.levels }) is (λ i. standing p n (e i) (f i))
 
 -- the trial of the last level
-pub same_trial : {B : Type 0} (g : Geometry) (levels outer : List Level) (f : Level) (t : Trial B) → levels ≡ f ∷ outer → IsTrial g levels t → (first_ahead f.ahead ≡ Some t.step) × (t.after ≡ play g f.position t.step) × (t.attacks ≡ f.attacks) × (t.left ≡ left_after f.attacks f.left)
+pub same_trial : {B : Type 0} (g : Geometry) (levels outer : List Level) (f : Level) (t : Trial B) → levels ≡ f ∷ outer → IsTrial g levels t → (first_ahead f.ahead ≡ Some t.mv) × (t.after ≡ play g f.position t.mv) × (t.attacks ≡ f.attacks) × (t.left ≡ left_after f.attacks f.left)
 same_trial g levels outer f t are trial =
     let same : trial.last ≡ f = heads trial.last f trial.outer outer (sym trial.are ∙ are) in
-    subst (λ (z : Level). (first_ahead z.ahead ≡ Some t.step) × (t.after ≡ play g z.position t.step) × (t.attacks ≡ z.attacks) × (t.left ≡ left_after z.attacks z.left)) same (trial.first, trial.after, trial.attacks, trial.left) where
+    subst (λ (z : Level). (first_ahead z.ahead ≡ Some t.mv) × (t.after ≡ play g z.position t.mv) × (t.attacks ≡ z.attacks) × (t.left ≡ left_after z.attacks z.left)) same (trial.first, trial.after, trial.attacks, trial.left) where
       heads : (x y : Level) (xs ys : List Level) → x ∷ xs ≡ y ∷ ys → x ≡ y
       heads x y xs ys e = cc

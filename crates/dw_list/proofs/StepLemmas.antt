@@ -353,18 +353,18 @@ module _ (g : Geometry) (s : Standing) (levels : AreLevels g s.position s.moves 
   pub walk_passed : {B : Type 0} (new : Standing) (t : Trial B) → IsTrial g s.levels t → (Keeps g t.attacks t.after t.left → ⊥) → new ≡ record s { levels = passed_last s.levels } → IsStep g s new
   walk_passed new t h none is =
       let facts = opened h.last h.outer h.are in
-      let ms = first_is h.last.ahead t.step h.first in
+      let ms = first_is h.last.ahead t.mv h.first in
       let new_is : new ≡ standing s.position s.moves s.line (passed h.last ∷ h.outer) = is ∙ ap (λ z. standing s.position s.moves s.line (passed_last z)) h.are in
-      let none' : Keeps g h.last.attacks (play g h.last.position t.step) (left_after h.last.attacks h.last.left) → ⊥ =
-      λ k. none (subst (λ z. Keeps g t.attacks t.after z) (sym h.left) (subst (λ z. Keeps g t.attacks z (left_after h.last.attacks h.last.left)) (sym h.after) (subst (λ z. Keeps g z (play g h.last.position t.step) (left_after h.last.attacks h.last.left)) (sym h.attacks) k))) in
-      subst (IsStep g s) (sym new_is) (as_step h.last h.outer _ h.are (step_passed g s.position s.moves s.line h.last h.outer facts.0 facts.1 t.step ms.0 ms.1 none'))
+      let none' : Keeps g h.last.attacks (play g h.last.position t.mv) (left_after h.last.attacks h.last.left) → ⊥ =
+      λ k. none (subst (λ z. Keeps g t.attacks t.after z) (sym h.left) (subst (λ z. Keeps g t.attacks z (left_after h.last.attacks h.last.left)) (sym h.after) (subst (λ z. Keeps g z (play g h.last.position t.mv) (left_after h.last.attacks h.last.left)) (sym h.attacks) k))) in
+      subst (IsStep g s) (sym new_is) (as_step h.last h.outer _ h.are (step_passed g s.position s.moves s.line h.last h.outer facts.0 facts.1 t.mv ms.0 ms.1 none'))
 
-  pub walk_entered : {B : Type 0} (new : Standing) (t : Trial B) → IsTrial g s.levels t → new ≡ record s { line = t.step ∷ s.line; levels = begun t.after (not t.attacks) t.left ∷ passed_last s.levels } → IsStep g s new
+  pub walk_entered : {B : Type 0} (new : Standing) (t : Trial B) → IsTrial g s.levels t → new ≡ record s { line = t.mv ∷ s.line; levels = begun t.after (not t.attacks) t.left ∷ passed_last s.levels } → IsStep g s new
   walk_entered new t h is =
       let facts = opened h.last h.outer h.are in
-      let ms = first_is h.last.ahead t.step h.first in
-      let new_is : new ≡ standing s.position s.moves (t.step ∷ s.line) (begun t.after (not t.attacks) t.left ∷ passed h.last ∷ h.outer) = is ∙ ap (λ z. standing s.position s.moves (t.step ∷ s.line) (begun t.after (not t.attacks) t.left ∷ passed_last z)) h.are in
-      subst (IsStep g s) (sym new_is) (as_step h.last h.outer _ h.are (step_entered g s.position s.moves s.line h.last h.outer facts.0 facts.1 t.step ms.0 t.after (not t.attacks) t.left ms.1))
+      let ms = first_is h.last.ahead t.mv h.first in
+      let new_is : new ≡ standing s.position s.moves (t.mv ∷ s.line) (begun t.after (not t.attacks) t.left ∷ passed h.last ∷ h.outer) = is ∙ ap (λ z. standing s.position s.moves (t.mv ∷ s.line) (begun t.after (not t.attacks) t.left ∷ passed_last z)) h.are in
+      subst (IsStep g s) (sym new_is) (as_step h.last h.outer _ h.are (step_entered g s.position s.moves s.line h.last h.outer facts.0 facts.1 t.mv ms.0 t.after (not t.attacks) t.left ms.1))
 
   -- a trial leaves no more moves than there are
   pub trial_few : {B : Type 0} (t : Trial B) → IsTrial g s.levels t → t.left ≤ s.moves

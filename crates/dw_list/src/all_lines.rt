@@ -95,22 +95,22 @@ fn push_ways<B: Board, M: Memo<B>, G: Guide<B>>(
     alloc: Global,
     solver: &mut Solver<B, M, G>,
     position: &Position<B>,
-    step: &Move<B>,
+    mv: &Move<B>,
     attacks: bool,
     left: u8,
     lists: &mut Vec<Vec<Move<B>>>,
 ) -> Result<(), Stop>
-    requires legal { Legal B.geometry position.now step.now }
+    requires legal { Legal B.geometry position.now mv.now }
     requires few { left ≤ 20 }
-    ensures added { OnOk result (AreAdded B.geometry attacks position.now left step.now
+    ensures added { OnOk result (AreAdded B.geometry attacks position.now left mv.now
         (map (λ list. list.items) lists.old.items) (map (λ list. list.items) lists.new.items)) }
     ensures asked { Asked B.geometry M.content M.dropped left solver.old solver.new result }
 {
     searches_add_up();
-    let after = played(position, step);
+    let after = played(position, mv);
     if keeps(alloc, solver, &after, attacks, left)? {
         let behind = ways(alloc, solver, &after, !attacks, left)?;
-        push_each(alloc, step, behind.as_slice(), lists)?;
+        push_each(alloc, mv, behind.as_slice(), lists)?;
     }
     Ok(())
 }
@@ -118,15 +118,15 @@ fn push_ways<B: Board, M: Memo<B>, G: Guide<B>>(
 /// Adds each of these lists with one move before it.
 fn push_each<B: Board>(
     alloc: Global,
-    step: &Move<B>,
+    mv: &Move<B>,
     behind: &[Vec<Move<B>>],
     lists: &mut Vec<Vec<Move<B>>>,
 ) -> Result<(), AllocError>
     ensures { OnOk result (map (λ list. list.items) lists.new.items
-        ≡ map (λ list. list.items) lists.old.items ++ map (λ list. step.now ∷ list.items) behind.now) }
+        ≡ map (λ list. list.items) lists.old.items ++ map (λ list. mv.now ∷ list.items) behind.now) }
 {
     'lists: for rest in behind {
-        lists.push(joined(alloc, step, rest.as_slice())?)?;
+        lists.push(joined(alloc, mv, rest.as_slice())?)?;
     }
     Ok(())
 }
@@ -134,13 +134,13 @@ fn push_each<B: Board>(
 /// A move, and others after it.
 fn joined<B: Board>(
     alloc: Global,
-    step: &Move<B>,
+    mv: &Move<B>,
     rest: &[Move<B>],
 ) -> Result<Vec<Move<B>>, AllocError>
-    ensures { IfOk result (λ list. list.items ≡ step.now ∷ rest.now) }
+    ensures { IfOk result (λ list. list.items ≡ mv.now ∷ rest.now) }
 {
     let mut list = Vec::new(alloc);
-    list.push(*step)?;
+    list.push(*mv)?;
     list.extend_from_slice(rest)?;
     Ok(list)
 }

@@ -47,8 +47,8 @@ pub(crate) fn followed<B: Board, M: Memo<B>, G: Guide<B>>(
     let mut stack = Stack::new(position, moves);
     let _ = stack.moves();
     let mut place: usize = 1;
-    'line: for step in line {
-        let went = follow(alloc, solver, &mut stack, step)?;
+    'line: for mv in line {
+        let went = follow(alloc, solver, &mut stack, mv)?;
         if !went {
             return Ok(Found::Place(place));
         }
@@ -68,13 +68,13 @@ fn follow<B: Board, M: Memo<B>, G: Guide<B>>(
     alloc: Global,
     solver: &mut Solver<B, M, G>,
     stack: &mut Stack<B>,
-    step: &Move<B>,
+    mv: &Move<B>,
 ) -> Result<bool, Stop>
     requires { IsUnlisted stack.old.levels }
-    ensures went { IfOk result (λ yes. IsTrue yes → WentOn stack.old stack.new step.now) }
+    ensures went { IfOk result (λ yes. IsTrue yes → WentOn stack.old stack.new mv.now) }
     ensures levels { AreLevels B.geometry stack.new.position stack.new.moves stack.new.levels stack.new.line }
-    ensures next { IfOk result (λ yes. IsTrue yes → GoOnWith B.geometry stack.old.levels step.now) }
-    ensures barred { IfOk result (λ yes. (IsTrue yes → ⊥) → GoOnWith B.geometry stack.old.levels step.now → ⊥) }
+    ensures next { IfOk result (λ yes. IsTrue yes → GoOnWith B.geometry stack.old.levels mv.now) }
+    ensures barred { IfOk result (λ yes. (IsTrue yes → ⊥) → GoOnWith B.geometry stack.old.levels mv.now → ⊥) }
     ensures asked { Asked B.geometry M.content M.dropped stack.old.moves solver.old solver.new result }
 {
     searches_add_up();
@@ -83,7 +83,7 @@ fn follow<B: Board, M: Memo<B>, G: Guide<B>>(
     let listing = stack.list(alloc);
     let _ = stack.moves();
     let _ = listing?;
-    let Some(trial) = seek(stack, step) else {
+    let Some(trial) = seek(stack, mv) else {
         let _ = stack.moves();
         return Ok(false);
     };
@@ -97,15 +97,15 @@ fn follow<B: Board, M: Memo<B>, G: Guide<B>>(
 }
 
 /// Passes the moves ahead at the last level up to the given one.
-fn seek<B: Board>(stack: &mut Stack<B>, step: &Move<B>) -> Option<Trial<B>>
+fn seek<B: Board>(stack: &mut Stack<B>, mv: &Move<B>) -> Option<Trial<B>>
     ensures passed { SomePassed stack.old stack.new }
-    ensures found { IfSome result (λ trial. IsTrial B.geometry stack.new.levels trial × (trial.step ≡ step.now)) }
-    ensures none { IfNone result (IsNotAhead stack.old step.now) }
+    ensures found { IfSome result (λ trial. IsTrial B.geometry stack.new.levels trial × (trial.mv ≡ mv.now)) }
+    ensures none { IfNone result (IsNotAhead stack.old mv.now) }
 {
     'moves: loop {
         match stack.task() {
             Task::Try(trial) => {
-                if same_move(&trial.step, step) {
+                if same_move(&trial.mv, mv) {
                     return Some(trial);
                 }
                 stack.pass();

@@ -19,7 +19,7 @@ use std::marker::Model;
 /// the attacker after it.
 #[derive(Drop)]
 pub(crate) struct Trial<B: Board> {
-    pub(crate) step: Move<B>,
+    pub(crate) mv: Move<B>,
     pub(crate) after: Position<B>,
     pub(crate) attacks: bool,
     pub(crate) left: u8,
@@ -141,7 +141,7 @@ impl<B: Board> Stack<B> {
         }
         match frame.first() {
             None => Task::Passed,
-            Some(step) => Task::Try(trial_of(frame, step)),
+            Some(mv) => Task::Try(trial_of(frame, mv)),
         }
     }
 
@@ -174,7 +174,7 @@ impl<B: Board> Stack<B> {
         requires first { IsTrial B.geometry self.old.levels trial.now }
         requires keeps { Keeps B.geometry trial.now.attacks trial.now.after trial.now.left }
         ensures { self.new ≡ record self.old {
-          line = trial.now.step ∷ self.old.line;
+          line = trial.now.mv ∷ self.old.line;
           levels = begun trial.now.after (not trial.now.attacks) trial.now.left ∷ passed_last self.old.levels;
         } }
     {
@@ -183,7 +183,7 @@ impl<B: Board> Stack<B> {
         self.frames.push(frame);
         let next = frame_at(&mut self.spare, trial.after, !trial.attacks, trial.left);
         self.frames.push(next);
-        self.line.push(trial.step);
+        self.line.push(trial.mv);
     }
 
     /// Goes back from the last level to the one before it.
@@ -226,17 +226,17 @@ fn leave_last<B: Board>(frames: &mut ArrayVec<Frame<B>, 40>, spare: &mut ArrayVe
 }
 
 /// The position after a move of a level, and whose the move is.
-fn trial_of<B: Board>(frame: &Frame<B>, step: Move<B>) -> Trial<B>
-    requires { Legal B.geometry frame.now.position step }
-    ensures step { result.step ≡ step }
-    ensures after { result.after ≡ play B.geometry frame.now.position step }
+fn trial_of<B: Board>(frame: &Frame<B>, mv: Move<B>) -> Trial<B>
+    requires { Legal B.geometry frame.now.position mv }
+    ensures mv { result.mv ≡ mv }
+    ensures after { result.after ≡ play B.geometry frame.now.position mv }
     ensures attacks { result.attacks ≡ frame.now.attacks }
     ensures left { result.left ≡ left_after frame.now.attacks frame.now.left }
 {
     let attacks = frame.attacks();
     Trial {
-        step,
-        after: played(frame.position(), &step),
+        mv,
+        after: played(frame.position(), &mv),
         attacks,
         left: left_behind(attacks, frame.left()),
     }

@@ -93,21 +93,21 @@ fn bytes_of<B: Board>(line: &[Move<B>]) -> ArrayVec<u8, MAX_BYTES>
     bytes.push(2);
     bytes.push(B::ROWS);
     bytes.push(line.len() as u8);
-    'line: for step in line {
-        push_move(&mut bytes, step);
+    'line: for mv in line {
+        push_move(&mut bytes, mv);
     }
     bytes
 }
 
 /// Appends the bytes of a move.
-fn push_move<B: Board>(bytes: &mut ArrayVec<u8, MAX_BYTES>, step: &Move<B>)
+fn push_move<B: Board>(bytes: &mut ArrayVec<u8, MAX_BYTES>, mv: &Move<B>)
     requires { array_vec_len bytes.old + 10 ≤ 393 }
-    ensures items { bytes.new.items ≡ bytes.old.items ++ tokens.move_bytes B.geometry step.now }
+    ensures items { bytes.new.items ≡ bytes.old.items ++ tokens.move_bytes B.geometry mv.now }
     ensures len { array_vec_len bytes.new ≡ array_vec_len bytes.old + 10 }
 {
-    bytes.push(step.from.number());
-    bytes.push(step.to.number());
-    let number = number_of(step.taken).to_be_bytes();
+    bytes.push(mv.from.number());
+    bytes.push(mv.to.number());
+    let number = number_of(mv.taken).to_be_bytes();
     if bytes.try_extend_from_slice(&number).is_err() {
         unreachable!();
     }
@@ -242,7 +242,7 @@ fn read_moves<B: Board>(
     'moves: for _place in 0..count {
         let (front, behind) = rest.split_at(MOVE_BYTES);
         match read_move(front) {
-            Ok(step) => line.push(step),
+            Ok(mv) => line.push(mv),
             Err(fault) => return Err(fault),
         }
         rest = behind;
@@ -254,7 +254,7 @@ fn read_moves<B: Board>(
 fn read_move<B: Board>(bytes: &[u8]) -> Result<Move<B>, TokenFault>
     requires { length bytes.now ≡ 10 }
     ensures { MatchResult result
-        (λ step. tokens.IsMove B.geometry step bytes.now)
+        (λ mv. tokens.IsMove B.geometry mv bytes.now)
         (λ fault. tokens.move_fault B.geometry bytes.now ≡ Some fault) }
 {
     let Some(from) = Square::new(bytes[0]) else {

@@ -173,53 +173,53 @@ fn walk_towards<B: Board>(
 /// Keeps a capture of so many pieces where none that is kept takes more, once, and drops those that take fewer.
 #[inline]
 fn offer<B: Board>(
-    step: Move<B>,
+    mv: Move<B>,
     count: u8,
     most: u8,
     moves: &mut Vec<Move<B>>,
 ) -> Result<u8, AllocError>
-    ensures { IfOk result (λ k. Longest (Is step count) most moves.old.items k moves.new.items) }
+    ensures { IfOk result (λ k. Longest (Is mv count) most moves.old.items k moves.new.items) }
 {
     if count == 0 || count < most {
         return Ok(most);
     }
-    keep(step, count, most, moves)
+    keep(mv, count, most, moves)
 }
 
 /// Keeps a capture that takes at least as many pieces as those that are kept, once, and drops those that take fewer.
 #[inline(never)]
 fn keep<B: Board>(
-    step: Move<B>,
+    mv: Move<B>,
     count: u8,
     most: u8,
     moves: &mut Vec<Move<B>>,
 ) -> Result<u8, AllocError>
     requires some { 1 ≤ count }
     requires longest { most ≤ count }
-    ensures { IfOk result (λ k. Longest (Is step count) most moves.old.items k moves.new.items) }
+    ensures { IfOk result (λ k. Longest (Is mv count) most moves.old.items k moves.new.items) }
 {
     if most < count {
         moves.clear();
     }
-    if !moves.contains(&step) {
-        moves.push(step)?;
+    if !moves.contains(&mv) {
+        moves.push(mv)?;
     }
     Ok(count)
 }
 
 /// Whether the side to move can capture by a path that begins, ends and takes as this move does.
-pub(crate) fn is_capture<B: Board>(position: &Position<B>, step: &Move<B>) -> bool
-    ensures { IsTrue result ↔ IsCapture B.geometry position.now step.now }
+pub(crate) fn is_capture<B: Board>(position: &Position<B>, mv: &Move<B>) -> bool
+    ensures { IsTrue result ↔ IsCapture B.geometry position.now mv.now }
 {
-    let Some(piece) = position.at(step.from) else {
+    let Some(piece) = position.at(mv.from) else {
         return false;
     };
     if !is_own(piece, position.turn()) {
         return false;
     }
     let mut rest = *position;
-    rest.clear(step.from);
-    takes(&rest, piece, step.from, step.to, step.taken)
+    rest.clear(mv.from);
+    takes(&rest, piece, mv.from, mv.to, mv.taken)
 }
 
 /// Whether a piece can jump from one square to another and take exactly these pieces.

@@ -32,9 +32,9 @@ pub fn follow<B: Board>(position: &Position<B>, squares: &[Square<B>]) -> Option
     }
     let mut rest = *position;
     rest.clear(*from);
-    let step = jump_along(&rest, piece, *from, landings)?;
-    if step.taken.count() == most {
-        Some(step)
+    let mv = jump_along(&rest, piece, *from, landings)?;
+    if mv.taken.count() == most {
+        Some(mv)
     } else {
         None
     }
@@ -50,19 +50,19 @@ fn jump_along<B: Board>(
     requires { OnBoard B.geometry from }
     ensures { (m : of.Move) → (result ≡ Some m) ↔ LandsOnEach B.geometry position.now piece from landings.now m }
 {
-    let mut step = Move::quiet(from, from);
+    let mut mv = Move::quiet(from, from);
     'landings: for landing in landings {
-        let over = jumped(position, piece, step.to, *landing)?;
-        if step.taken.has(over) {
+        let over = jumped(position, piece, mv.to, *landing)?;
+        if mv.taken.has(over) {
             return None;
         }
-        step = Move {
+        mv = Move {
             from,
             to: *landing,
-            taken: step.taken.with(over),
+            taken: mv.taken.with(over),
         };
     }
-    Some(step)
+    Some(mv)
 }
 
 /// The square of the piece that is taken by a jump between two squares; there is at most one.

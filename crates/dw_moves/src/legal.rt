@@ -12,16 +12,16 @@ use std::alloc::{AllocError, Global};
 
 /// Whether a move is legal: a quiet one where nothing can be taken, else a capture of the greatest number.
 /// Example: at `W:W32:B28` it is `true` for the capture `32x23`, and `false` for the quiet move `32-27`.
-pub fn is_legal<B: Board>(position: &Position<B>, step: &Move<B>) -> bool
-    ensures { IsTrue result ↔ Legal B.geometry position.now step.now }
+pub fn is_legal<B: Board>(position: &Position<B>, mv: &Move<B>) -> bool
+    ensures { IsTrue result ↔ Legal B.geometry position.now mv.now }
 {
     let most = best(position);
-    if step.taken.count() != most {
+    if mv.taken.count() != most {
         false
     } else if most == 0 {
-        is_quiet(position, step.from, step.to)
+        is_quiet(position, mv.from, mv.to)
     } else {
-        is_capture(position, step)
+        is_capture(position, mv)
     }
 }
 

@@ -63,8 +63,8 @@ fn push_listed<B: Board>(
     if keep_captures(position, &mut paths)? == 0 {
         push_quiet(position, list)?;
     } else {
-        'paths: for (step, path) in paths {
-            list.push(Listed { step, path })?;
+        'paths: for (mv, path) in paths {
+            list.push(Listed { step: mv, path })?;
         }
     }
     Ok(())
@@ -164,13 +164,13 @@ fn walk<B: Board>(
 
 /// Keeps a capture of so many pieces where none that is kept takes more, and drops those that take fewer.
 fn keep<B: Board>(
-    step: Move<B>,
+    mv: Move<B>,
     path: &ArrayVec<Square<B>, 21>,
     count: u8,
     most: u8,
     paths: &mut IndexMap<Move<B>, ArrayVec<Square<B>, 21>>,
 ) -> Result<u8, AllocError>
-    ensures { IfOk result (λ k. LongestLeast (This (record { step = step; path = path.now.items }) count) most
+    ensures { IfOk result (λ k. LongestLeast (This (record { step = mv; path = path.now.items }) count) most
         (entries_listed paths.old.entries) k (entries_listed paths.new.entries)) }
 {
     if count == 0 || count < most {
@@ -179,27 +179,27 @@ fn keep<B: Board>(
     if most < count {
         paths.clear();
     }
-    keep_least(step, path, paths)?;
+    keep_least(mv, path, paths)?;
     Ok(count)
 }
 
 /// Keeps a path of a move where it is the first, or less than the one that is kept.
 fn keep_least<B: Board>(
-    step: Move<B>,
+    mv: Move<B>,
     path: &ArrayVec<Square<B>, 21>,
     paths: &mut IndexMap<Move<B>, ArrayVec<Square<B>, 21>>,
 ) -> Result<(), AllocError>
     ensures { OnOk result (TakenIn (record {
-      step = step;
+      step = mv;
       path = path.now.items;
     }) (entries_listed paths.old.entries) (entries_listed paths.new.entries)) }
 {
-    let is_least = match paths.get(&step) {
+    let is_least = match paths.get(&mv) {
         Some(kept) => is_less(path.as_slice(), kept.as_slice()),
         None => true,
     };
     if is_least {
-        paths.insert(step, path.clone()?)?;
+        paths.insert(mv, path.clone()?)?;
     }
     Ok(())
 }

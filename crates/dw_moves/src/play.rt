@@ -13,11 +13,11 @@ use dw_board::position::Position;
 /// during a capture and ends elsewhere stays a man.
 /// Example: `7-1` leads from `W:W7:B` to `B:WK1:B`.
 #[inline]
-pub fn play<B: Board>(position: &Position<B>, step: &Move<B>) -> Position<B>
-    requires { Legal B.geometry position.now step.now }
-    ensures { result ≡ of.play B.geometry position.now step.now }
+pub fn play<B: Board>(position: &Position<B>, mv: &Move<B>) -> Position<B>
+    requires { Legal B.geometry position.now mv.now }
+    ensures { result ≡ of.play B.geometry position.now mv.now }
 {
-    let mut after = position.carried(step.from, step.to, step.taken);
+    let mut after = position.carried(mv.from, mv.to, mv.taken);
     after.set_turn(position.turn().other());
     after
 }

@@ -77,25 +77,25 @@ written_split {B} g p ply base (suc k) before (x ∷ plies) text e later h = wri
 
 -- it is the text of the line
 pub written_words : {B : Type 0} (g : Geometry) (p : Placement) (ply : ℕ) (before : List ℕ) (plies : List (Ply B)) (text : List ℕ) → AreWritten g p ply before plies text
-    → (words : List (List ℕ)) × AreWords g p ply (map (λ (x : Ply B). x.step) plies) words × (text ≡ before ++ onto ply words)
+    → (words : List (List ℕ)) × AreWords g p ply (map (λ (x : Ply B). x.mv) plies) words × (text ≡ before ++ onto ply words)
 written_words g p ply before [] text h = ([], refl, h ∙ (sym (append-nil before) ∙ ap (λ z. before ++ z) (sym (onto_none ply))))
 written_words {B} g p ply before (x ∷ plies) text h =
     let r = written_words g x.after (ply + 1) (before ++ added ply h.0) plies text h.5 in
-    let words : AreWords g (play g p x.step) (ply + 1) (map (λ (y : Ply B). y.step) plies) r.0 = subst (λ z. AreWords g z (ply + 1) (map (λ (y : Ply B). y.step) plies) r.0) h.3 r.1 in
+    let words : AreWords g (play g p x.mv) (ply + 1) (map (λ (y : Ply B). y.mv) plies) r.0 = subst (λ z. AreWords g z (ply + 1) (map (λ (y : Ply B). y.mv) plies) r.0) h.3 r.1 in
     let joined : (before ++ added ply h.0) ++ onto (ply + 1) r.0 ≡ before ++ onto ply (numbered ply (h.0 ∷ r.0)) =
     append_assoc before (added ply h.0) (onto (ply + 1) r.0) ∙ ap (λ z. before ++ z) (ap (λ z. added ply h.0 ++ z) (onto_later (ply + 1) r.0 (omega arith)) ∙ sym (numbered_onto ply h.0 r.0)) in
     (numbered ply (h.0 ∷ r.0), (h.0, r.0, h.1, words, refl), r.2 ∙ joined)
 
-pub written_line : {B : Type 0} (g : Geometry) (p : Placement) (plies : List (Ply B)) (text : List ℕ) → AreWritten g p 0 [] plies text → IsLineText g p (map (λ (x : Ply B). x.step) plies) text
+pub written_line : {B : Type 0} (g : Geometry) (p : Placement) (plies : List (Ply B)) (text : List ℕ) → AreWritten g p 0 [] plies text → IsLineText g p (map (λ (x : Ply B). x.mv) plies) text
 written_line g p plies text h = let r = written_words g p 0 [] plies text h in (r.0, r.1, r.2)
 
 -- one move more
 pub written_push : {B : Type 0} (g : Geometry) (p q : Placement) (ply k : ℕ) (before : List ℕ) (plies : List (Ply B)) (text new word : List ℕ) (x : Ply B) → AreWritten g p ply before plies text → q ≡ end_from p plies → k ≡ ply + length plies
-    → IsMoveText g q x.step word → length word ≤ 62 → x.after ≡ play g q x.step → new ≡ text ++ added k word → x.len ≡ length new → AreWritten g p ply before (plies ++ x ∷ []) new
+    → IsMoveText g q x.mv word → length word ≤ 62 → x.after ≡ play g q x.mv → new ≡ text ++ added k word → x.len ≡ length new → AreWritten g p ply before (plies ++ x ∷ []) new
 written_push g p q ply k before [] text new word x h end count is short after e len =
     let same : k ≡ ply = omega (arith, count) in
     let made : new ≡ before ++ added ply word = e ∙ (ap (λ z. z ++ added k word) h ∙ ap (λ z. before ++ added z word) same) in
-    (word, subst (λ z. IsMoveText g z x.step word) end is, short, after ∙ ap (λ z. play g z x.step) end, len ∙ ap length made, made)
+    (word, subst (λ z. IsMoveText g z x.mv word) end is, short, after ∙ ap (λ z. play g z x.mv) end, len ∙ ap length made, made)
 written_push g p q ply k before (y ∷ plies) text new word x h end count is short after e len =
     (h.0, h.1, h.2, h.3, h.4, written_push g y.after q (ply + 1) k (before ++ added ply h.0) plies text new word x h.5 end (omega (arith, count)) is short after e len)
 
@@ -159,12 +159,12 @@ pub moves_more : (front rest taken new : List Move) (i : ℕ) (m : Move) → i <
 moves_more front rest taken new i m low is h e = e ∙ (ap (λ z. z ++ m ∷ []) h ∙ (append_assoc front (take i rest) (m ∷ []) ∙ ap (λ z. front ++ z) (ap (λ z. take i rest ++ z ∷ []) is ∙ sym (take_more rest i m low))))
 
 -- behind the moves that are kept the rest can be played
-playable_behind : {B : Type 0} (g : Geometry) (p : Placement) (ply : ℕ) (before : List ℕ) (plies : List (Ply B)) (text : List ℕ) (rest : List Move) → AreWritten g p ply before plies text → ArePlayable g p (map (λ (x : Ply B). x.step) plies ++ rest) → ArePlayable g (end_from p plies) rest
+playable_behind : {B : Type 0} (g : Geometry) (p : Placement) (ply : ℕ) (before : List ℕ) (plies : List (Ply B)) (text : List ℕ) (rest : List Move) → AreWritten g p ply before plies text → ArePlayable g p (map (λ (x : Ply B). x.mv) plies ++ rest) → ArePlayable g (end_from p plies) rest
 playable_behind g p ply before [] text rest h k = k
 playable_behind {B} g p ply before (x ∷ plies) text rest h k =
-    playable_behind g x.after (ply + 1) (before ++ added ply h.0) plies text rest h.5 (subst (λ z. ArePlayable g z (map (λ (y : Ply B). y.step) plies ++ rest)) (sym h.3) k.1)
+    playable_behind g x.after (ply + 1) (before ++ added ply h.0) plies text rest h.5 (subst (λ z. ArePlayable g z (map (λ (y : Ply B). y.mv) plies ++ rest)) (sym h.3) k.1)
 
-pub playable_from : {B : Type 0} (g : Geometry) (p : Placement) (plies : List (Ply B)) (text : List ℕ) (line : List Move) (shared : ℕ) → AreWritten g p 0 [] plies text → map (λ (x : Ply B). x.step) plies ≡ take shared line → ArePlayable g p line → ArePlayable g (end_from p plies) (drop shared line)
+pub playable_from : {B : Type 0} (g : Geometry) (p : Placement) (plies : List (Ply B)) (text : List ℕ) (line : List Move) (shared : ℕ) → AreWritten g p 0 [] plies text → map (λ (x : Ply B). x.mv) plies ≡ take shared line → ArePlayable g p line → ArePlayable g (end_from p plies) (drop shared line)
 playable_from {B} g p plies text line shared h same k =
     playable_behind g p 0 [] plies text (drop shared line) h (subst (ArePlayable g p) (sym (take-append-drop shared line) ∙ ap (λ z. z ++ drop shared line) (sym same)) k)
 

@@ -11,8 +11,8 @@ use Rattle.dw_notation.specs.declared.line_text.LineText.{LineText}
 -- behind some text stand the words of these moves, each of which ends where it says
 abbrev pub AreWritten : {B : Type 0} → Geometry → Placement → ℕ → List ℕ → List (Ply B) → List ℕ → Type 0
 AreWritten g p ply before [] text = text ≡ before
-AreWritten g p ply before (x ∷ plies) text = (word : List ℕ) × IsMoveText g p x.step word × (length word ≤ 62)
-    × (x.after ≡ play g p x.step) × (x.len ≡ length (before ++ onto ply (numbered ply (word ∷ []))))
+AreWritten g p ply before (x ∷ plies) text = (word : List ℕ) × IsMoveText g p x.mv word × (length word ≤ 62)
+    × (x.after ≡ play g p x.mv) × (x.len ≡ length (before ++ onto ply (numbered ply (word ∷ []))))
     × AreWritten g x.after (ply + 1) (before ++ onto ply (numbered ply (word ∷ []))) plies text
 
 -- the position after these moves
@@ -27,7 +27,7 @@ abbrev pub end_of : {B : Type 0} → LineText B → Placement
 end_of t = end_from t.start t.plies.items
 
 abbrev pub moves_of : {B : Type 0} → LineText B → List Move
-moves_of t = map (λ x. x.step) t.plies.items
+moves_of t = map (λ x. x.mv) t.plies.items
 
 -- it is the text of its moves
 abbrev pub IsTextOf : {B : Type 0} → Geometry → LineText B → Type 0

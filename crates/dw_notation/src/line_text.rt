@@ -23,7 +23,7 @@ pub const LINE_ROOM: usize = 2560;
 /// Example: of `1. 45-40 16-21 2. 27x16` the first ply is `45-40`, at whose end the text has 8 bytes.
 #[derive(Drop)]
 pub struct Ply<B: Board> {
-    step: Move<B>,
+    mv: Move<B>,
     after: Position<B>,
     len: usize,
 }
@@ -34,7 +34,7 @@ impl<B: Board> Default for Ply<B> {
 
     fn default() -> Self {
         Ply {
-            step: Move::default(),
+            mv: Move::default(),
             after: Position::empty(Side::White),
             len: 0,
         }
@@ -109,22 +109,22 @@ impl<B: Board> LineText<B> {
 
     /// Goes on with a legal move; or nothing is changed, for want of memory.
     /// Example: at `W:W27,45:B16` the text after the move `45-40` is `1. 45-40`.
-    pub fn push(&mut self, alloc: Global, step: &Move<B>) -> Result<(), AllocError>
+    pub fn push(&mut self, alloc: Global, mv: &Move<B>) -> Result<(), AllocError>
         requires text { IsTextOf B.geometry self.old }
         requires few { length (moves_of self.old) < 39 }
-        requires legal { Legal B.geometry (end_of self.old) step.now }
+        requires legal { Legal B.geometry (end_of self.old) mv.now }
         ensures text { IsTextOf B.geometry self.new }
         ensures start { start_of self.new ≡ start_of self.old }
-        ensures end { OnOk result (end_of self.new ≡ play B.geometry (end_of self.old) step.now) }
-        ensures moves { OnOk result (moves_of self.new ≡ moves_of self.old ++ step.now ∷ []) }
+        ensures end { OnOk result (end_of self.new ≡ play B.geometry (end_of self.old) mv.now) }
+        ensures moves { OnOk result (moves_of self.new ≡ moves_of self.old ++ mv.now ∷ []) }
         ensures same { OnErr result (moves_of self.new ≡ moves_of self.old) }
     {
         let current = self.position();
-        let word = text_in(alloc, &current, step)?;
+        let word = text_in(alloc, &current, mv)?;
         push_words(&mut self.text, self.plies.len(), &word);
         self.plies.push(Ply {
-            step: *step,
-            after: played(&current, step),
+            mv: *mv,
+            after: played(&current, mv),
             len: self.text.len(),
         });
         Ok(())
@@ -150,8 +150,8 @@ impl<B: Board> LineText<B> {
     {
         self.keep(shared);
         let rest = &line[shared..];
-        'moves: for step in rest {
-            self.push(alloc, step)?;
+        'moves: for mv in rest {
+            self.push(alloc, mv)?;
         }
         Ok(())
     }

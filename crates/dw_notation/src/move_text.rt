@@ -44,27 +44,27 @@ pub fn move_text<B: Board>(list: &[Listed<B>], place: usize) -> ArrayString<MOVE
 pub fn text_in<B: Board>(
     alloc: Global,
     position: &Position<B>,
-    step: &Move<B>,
+    mv: &Move<B>,
 ) -> Result<ArrayString<MOVE_ROOM>, AllocError>
-    requires { Legal B.geometry position.now step.now }
-    ensures text { IfOk result (λ text. IsMoveText B.geometry position.now step.now text.bytes) }
+    requires { Legal B.geometry position.now mv.now }
+    ensures text { IfOk result (λ text. IsMoveText B.geometry position.now mv.now text.bytes) }
     ensures short { IfOk result (λ text. length text.bytes ≤ 62) }
 {
     let list = listed(alloc, position)?;
-    let place = place_of(list.as_slice(), step);
+    let place = place_of(list.as_slice(), mv);
     Ok(move_text(list.as_slice(), place))
 }
 
 /// The place of a move in a list that has it.
-fn place_of<B: Board>(list: &[Listed<B>], step: &Move<B>) -> usize
-    requires { HasStep list.now step.now }
+fn place_of<B: Board>(list: &[Listed<B>], mv: &Move<B>) -> usize
+    requires { HasStep list.now mv.now }
     ensures within { result < length list.now }
-    ensures there { HoldsAt (λ l. l.step ≡ step.now) list.now result }
+    ensures there { HoldsAt (λ l. l.step ≡ mv.now) list.now result }
 {
     let mut place = 0;
     'places: loop {
         let item = &list[place];
-        if item.step == *step {
+        if item.step == *mv {
             return place;
         }
         place += 1;
@@ -72,12 +72,12 @@ fn place_of<B: Board>(list: &[Listed<B>], step: &Move<B>) -> usize
 }
 
 /// Whether more than one of these moves has this one's start and end.
-fn shares_ends<B: Board>(list: &[Listed<B>], step: &Move<B>) -> bool
-    ensures { result ≡ are_shared list.now step.now }
+fn shares_ends<B: Board>(list: &[Listed<B>], mv: &Move<B>) -> bool
+    ensures { result ≡ are_shared list.now mv.now }
 {
     let mut count: usize = 0;
     'list: for other in list {
-        if other.step.from == step.from && other.step.to == step.to {
+        if other.step.from == mv.from && other.step.to == mv.to {
             count += 1;
         }
     }

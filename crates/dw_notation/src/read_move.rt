@@ -172,9 +172,9 @@ fn quiet_move<B: Board>(
 ) -> Result<Move<B>, MoveFault>
     ensures { IsAnswer B.geometry position.now (QuietMove from to) result }
 {
-    let step = Move::quiet(from, to);
-    if is_legal(position, &step) {
-        Ok(step)
+    let mv = Move::quiet(from, to);
+    if is_legal(position, &mv) {
+        Ok(mv)
     } else {
         Err(MoveFault::NoSuchMove)
     }
@@ -218,19 +218,19 @@ fn only_capture<B: Board>(
     ensures { IsOnly moves.now from to result }
 {
     let mut found = None;
-    'moves: for step in moves {
-        if is_capture_between(step, from, to) {
+    'moves: for mv in moves {
+        if is_capture_between(mv, from, to) {
             if found.is_some() {
                 return Err(MoveFault::Ambiguous);
             }
-            found = Some(*step);
+            found = Some(*mv);
         }
     }
     found.ok_or(MoveFault::NoSuchMove)
 }
 
-fn is_capture_between<B: Board>(step: &Move<B>, from: Square<B>, to: Square<B>) -> bool
-    ensures { IsTrue result ↔ Takes from to step.now }
+fn is_capture_between<B: Board>(mv: &Move<B>, from: Square<B>, to: Square<B>) -> bool
+    ensures { IsTrue result ↔ Takes from to mv.now }
 {
-    step.from == from && step.to == to && step.taken.count() > 0
+    mv.from == from && mv.to == to && mv.taken.count() > 0
 }

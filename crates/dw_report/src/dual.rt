@@ -110,12 +110,12 @@ fn choice_from<B: Board, M: Memo<B>, G: Guide<B>>(
 }
 
 /// The choice, with one more move before it.
-fn with_first<B: Board>(step: Move<B>, dual: Dual<B>) -> Dual<B>
+fn with_first<B: Board>(mv: Move<B>, dual: Dual<B>) -> Dual<B>
     requires { length dual.at.items < 38 }
-    ensures at { result.at.items ≡ step ∷ dual.at.items }
+    ensures at { result.at.items ≡ mv ∷ dual.at.items }
     ensures choices { result.choices.items ≡ dual.choices.items }
 {
     let mut at = dual.at;
-    at.insert(0, step);
+    at.insert(0, mv);
     Dual { at, ..dual }
 }

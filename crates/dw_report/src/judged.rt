@@ -113,20 +113,20 @@ fn write_try<B: Board, K: Sink, M: Memo<B>, G: Guide<B>>(
     sink: &mut K,
     solver: &mut Solver<B, M, G>,
     position: &Position<B>,
-    step: &Move<B>,
+    mv: &Move<B>,
     moves: u8,
 ) -> Result<(), TextFault>
     requires some { 1 ≤ moves }
     requires few { moves ≤ 20 }
-    requires legal { Legal B.geometry position.now step.now }
-    ensures text { TextEnds (IsTryText B.geometry position.now moves step.now) (λ out. out ≡ []) (K.taken sink.old)
+    requires legal { Legal B.geometry position.now mv.now }
+    ensures text { TextEnds (IsTryText B.geometry position.now moves mv.now) (λ out. out ≡ []) (K.taken sink.old)
         (K.taken sink.new) result }
     ensures sink { SinkEnds (K.is_failed sink.old) (K.is_failed sink.new) result }
     ensures spends { Spends solver.old solver.new result }
 {
-    let after = play(position, step);
+    let after = play(position, mv);
     if let Some(reply) = refutation(alloc, solver, &after, moves - 1)? {
-        let line = try_line(alloc, position, step, &reply)?;
+        let line = try_line(alloc, position, mv, &reply)?;
         write_all(sink, line.as_str().as_bytes())?;
     }
     Ok(())
@@ -225,15 +225,15 @@ fn dual_line<B: Board>(
 fn try_line<B: Board>(
     alloc: Global,
     position: &Position<B>,
-    step: &Move<B>,
+    mv: &Move<B>,
     reply: &Move<B>,
 ) -> Result<String, AllocError>
-    requires step { Legal B.geometry position.now step.now }
-    requires reply { Legal B.geometry (of.play B.geometry position.now step.now) reply.now }
-    ensures { IfOk result (λ line. IsTryLine B.geometry position.now (step.now, reply.now) (string_bytes line)) }
+    requires step { Legal B.geometry position.now mv.now }
+    requires reply { Legal B.geometry (of.play B.geometry position.now mv.now) reply.now }
+    ensures { IfOk result (λ line. IsTryLine B.geometry position.now (mv.now, reply.now) (string_bytes line)) }
 {
-    let first = text_in(alloc, position, step)?;
-    let second = text_in(alloc, &play(position, step), reply)?;
+    let first = text_in(alloc, position, mv)?;
+    let second = text_in(alloc, &play(position, mv), reply)?;
     [
         "try ",
         first.as_str(),
@@ -250,8 +250,8 @@ fn reached<B: Board>(position: &Position<B>, moves: &[Move<B>]) -> Position<B>
     ensures { result ≡ reach B.geometry position.now moves.now }
 {
     let mut current = *position;
-    'moves: for step in moves {
-        current = play(&current, step);
+    'moves: for mv in moves {
+        current = play(&current, mv);
     }
     current
 }
@@ -271,9 +271,9 @@ fn joined<B: Board>(
         return Ok(text);
     };
     text.push_str(text_in(alloc, position, first)?.as_str())?;
-    'rest: for step in rest {
+    'rest: for mv in rest {
         text.push_str(mark)?;
-        text.push_str(text_in(alloc, position, step)?.as_str())?;
+        text.push_str(text_in(alloc, position, mv)?.as_str())?;
     }
     Ok(text)
 }

@@ -14,8 +14,8 @@ use dw_moves::moves::Move;
 pub trait Guide<B: Board> {
     /// The rank of a legal move.
     /// Example: `AnyOrder` gives each move the rank 0.
-    fn rank(&self, position: &Position<B>, step: &Move<B>) -> u32
-        requires { Legal B.geometry position.now step.now };
+    fn rank(&self, position: &Position<B>, mv: &Move<B>) -> u32
+        requires { Legal B.geometry position.now mv.now };
 }
 
 /// Moves come in any order.
@@ -37,10 +37,10 @@ impl<B: Board> Guide<B> for AnyOrder {
 pub struct ByTrial;
 
 impl<B: Board> Guide<B> for ByTrial {
-    fn rank(&self, position: &Position<B>, step: &Move<B>) -> u32
-        requires { Legal B.geometry position.now step.now }
-        ensures { IsTrial B.geometry (play B.geometry position.now step.now) result }
+    fn rank(&self, position: &Position<B>, mv: &Move<B>) -> u32
+        requires { Legal B.geometry position.now mv.now }
+        ensures { IsTrial B.geometry (play B.geometry position.now mv.now) result }
     {
-        trial(position, step)
+        trial(position, mv)
     }
 }

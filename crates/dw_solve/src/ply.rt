@@ -85,8 +85,8 @@ fn rank_all<B: Board, G: Guide<B>>(
     requires empty { ranked.old.items ≡ [] }
     ensures { OnOk result (AreRanked B.geometry position.now ranked.new.items) }
 {
-    'moves: for step in moves {
-        ranked.push((guide.rank(position, step), *step))?;
+    'moves: for mv in moves {
+        ranked.push((guide.rank(position, mv), *mv))?;
     }
     Ok(())
 }

@@ -109,8 +109,8 @@ fn some_move_wins<B: Board, M: Memo<B>, G: Guide<B>>(
         → IfOk result (SaysMove B.geometry (M.content search.new.memo) position.now moves) }
 {
     'moves: for candidate in ranked {
-        let step = &candidate.1;
-        if loses(search, plies, &played(position, step), moves)? {
+        let mv = &candidate.1;
+        if loses(search, plies, &played(position, mv), moves)? {
             return Ok(true);
         }
     }

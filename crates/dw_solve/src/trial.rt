@@ -12,11 +12,11 @@ use dw_moves::quiet::quiet_count;
 /// How free the other side is after a legal move: the number of its quiet moves, or 0 where it must capture. A move
 /// that leaves less freedom is worth trying first.
 /// Example: at `W:W27,32,38:B18` it is 0 for `27-22`, which forces a capture, and 2 for `32-28`.
-pub fn trial<B: Board>(position: &Position<B>, step: &Move<B>) -> u32
-    requires { Legal B.geometry position.now step.now }
-    ensures { IsTrial B.geometry (play B.geometry position.now step.now) result }
+pub fn trial<B: Board>(position: &Position<B>, mv: &Move<B>) -> u32
+    requires { Legal B.geometry position.now mv.now }
+    ensures { IsTrial B.geometry (play B.geometry position.now mv.now) result }
 {
-    let after = played(position, step);
+    let after = played(position, mv);
     if can_capture(&after) {
         0
     } else {

@@ -14,8 +14,8 @@ pub record IsTrial {B : Type 0} (g : Geometry) (levels : List Level) (trial : Tr
   pub last : Level
   pub outer : List Level
   pub are : levels ≡ last ∷ outer
-  pub first : first_ahead last.ahead ≡ Some trial.step
-  pub after : trial.after ≡ play g last.position trial.step
+  pub first : first_ahead last.ahead ≡ Some trial.mv
+  pub after : trial.after ≡ play g last.position trial.mv
   pub attacks : trial.attacks ≡ last.attacks
   pub left : trial.left ≡ left_after last.attacks last.left
 

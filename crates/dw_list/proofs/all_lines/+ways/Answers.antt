@@ -26,7 +26,7 @@ push_ways-returns-in_err-push_each-clause-asked g t c =
 
 pub push_ways-returns-in_ok-push_each-clause-added : goal.push_ways-returns-in_ok-push_each-clause-added
 push_ways-returns-in_ok-push_each-clause-added g t c =
-    added_kept (λ list. list.items) g.B.Board.geometry c.args.attacks c.args.position.now c.play-after.result c.args.left c.args.step.now c.in_ok-behind.behind.items c.as_slice.result.now _ _
+    added_kept (λ list. list.items) g.B.Board.geometry c.args.attacks c.args.position.now c.play-after.result c.args.left c.args.mv.now c.in_ok-behind.behind.items c.as_slice.result.now _ _
     c.play-after.ensures (c.in_ok-keeps.ensures.answer.0 c.if-branch.true) c.in_ok-behind.ensures.ways c.as_slice.ensures.value c.in_ok-push_each.ensures
 
 pub push_ways-returns-in_ok-push_each-clause-asked : goal.push_ways-returns-in_ok-push_each-clause-asked
@@ -39,7 +39,7 @@ push_ways-returns-in_ok-push_each-clause-asked g t c =
 
 pub push_ways-returns-else-branch-clause-added : goal.push_ways-returns-else-branch-clause-added
 push_ways-returns-else-branch-clause-added g t c =
-    added_none g.B.Board.geometry c.args.attacks c.args.position.now c.play-after.result c.args.left c.args.step.now _ c.play-after.ensures
+    added_none g.B.Board.geometry c.args.attacks c.args.position.now c.play-after.result c.args.left c.args.mv.now _ c.play-after.ensures
     (λ h. let yes = c.in_ok-keeps.ensures.answer.1 h in let not_so = c.if-branch.false in cc)
 
 pub ways-returns-then-not-may_move-clause-asked : goal.ways-returns-then-not-may_move-clause-asked

@@ -6,7 +6,7 @@ use Rattle.dw_list.proofs.following.follow.Goals as goal
 
 pub returns-in_default-clause-barred : goal.returns-in_default-clause-barred
 returns-in_default-clause-barred g c _ on =
-    follow_barred g.B.Board.geometry c.args.stack.now c.list-listing.new.self c.in_ok-listing.field-0 c.in_ok-listing.ensures.listed c.args.step.now c.in_default.ensures.none on
+    follow_barred g.B.Board.geometry c.args.stack.now c.list-listing.new.self c.in_ok-listing.field-0 c.in_ok-listing.ensures.listed c.args.mv.now c.in_default.ensures.none on
 
 pub keeps-requires : goal.keeps-requires
 keeps-requires g c =
@@ -32,7 +32,7 @@ returns-then-kept-clause-asked g c =
 
 pub returns-else-kept-clause-barred : goal.returns-else-kept-clause-barred
 returns-else-kept-clause-barred g c _ on =
-    follow_lost g.B.Board.geometry c.args.stack.now c.list-listing.new.self c.in_ok-listing.field-0 c.in_ok-listing.ensures.listed c.seek.new.stack c.in-Some.trial c.args.step.now c.in-Some.ensures.passed
+    follow_lost g.B.Board.geometry c.args.stack.now c.list-listing.new.self c.in_ok-listing.field-0 c.in_ok-listing.ensures.listed c.seek.new.stack c.in-Some.trial c.args.mv.now c.in-Some.ensures.passed
     c.in-Some.ensures.found.0 c.in-Some.ensures.found.1 (λ keeps. let yes = c.in_ok-kept.ensures.answer.1 keeps in let not_so = c.if-kept.false in cc) on
 
 pub returns-else-kept-clause-asked : goal.returns-else-kept-clause-asked

@@ -6,7 +6,7 @@ use Rattle.dw_list.proofs.following.followed.Given as goal
 
 abbrev pub invariant-line : goal.invariant-line
 invariant-line g l = record {
-  follows : Follows g.B.Board.geometry l.position l.moves l.line l.step-index l.stack;
-  place : l.place ≡ l.step-index + 1;
+  follows : Follows g.B.Board.geometry l.position l.moves l.line l.mv-index l.stack;
+  place : l.place ≡ l.mv-index + 1;
   asked : Asked g.B.Board.geometry g.M.Memo.content g.M.Memo.dropped l.moves l.initial.solver l.solver answered;
 }

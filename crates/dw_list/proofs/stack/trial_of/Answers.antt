@@ -3,4 +3,4 @@ use Rattle.dw_moves.specs.Moves.{play}
 use Rattle.dw_list.proofs.stack.trial_of.Goals as goal
 
 pub returns-clause-after : goal.returns-clause-after
-returns-clause-after g c = c.play.ensures ∙ ap (λ z. play g.B.Board.geometry z c.args.step) c.position.ensures
+returns-clause-after g c = c.play.ensures ∙ ap (λ z. play g.B.Board.geometry z c.args.mv) c.position.ensures

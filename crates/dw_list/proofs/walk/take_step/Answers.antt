@@ -30,7 +30,7 @@ returns-then-kept-clause-stepped g c =
     walk_entered g.B.Board.geometry c.args.stack.now c.in-Try.ensures.levels c.in-Try.ensures.fits c.enter.new.self c.in-Try.trial c.in-Try.ensures.task c.enter.ensures
 
 pub returns-then-kept-clause-line : goal.returns-then-kept-clause-line
-returns-then-kept-clause-line g c = inr (inr (c.in-Try.trial.step, ap (λ (s : Standing). s.line) c.enter.ensures))
+returns-then-kept-clause-line g c = inr (inr (c.in-Try.trial.mv, ap (λ (s : Standing). s.line) c.enter.ensures))
 
 pub returns-then-kept-clause-asked : goal.returns-then-kept-clause-asked
 returns-then-kept-clause-asked g c =

@@ -14,7 +14,7 @@ use Rattle.dw_moves.proofs.listed.keep_least.Goals.{in-Some, in-None}
 
 pub returns-in_ok-insert : goal.returns-in_ok-insert
 returns-in_ok-insert g c =
-    let m = c.args.step in
+    let m = c.args.mv in
     let v = c.in_ok-clone.field-0 in
     let es = c.args.paths.now.entries in
     let copied : v.items ≡ c.args.path.now.items = same_from_all_zip _ c.args.path.now.items v.items c.in_ok-clone.ensures.cases (λ x y h. sym h.3 ∙ (ap (square_of g.B.Board.geometry) h.4.0 ∙ h.2)) in
@@ -29,7 +29,7 @@ returns-in_ok-insert g c =
 
 pub returns-else-is_least : goal.returns-else-is_least
 returns-else-is_least g c = elim c.match-get.branch [
-  | in-Some s ↦ taken_old c.args.step c.args.path.now s.in-Some.kept.now c.args.paths.now.entries (sym c.get.ensures.value ∙ ap option_copied s.in-Some.is)
+  | in-Some s ↦ taken_old c.args.mv c.args.path.now s.in-Some.kept.now c.args.paths.now.entries (sym c.get.ensures.value ∙ ap option_copied s.in-Some.is)
       (λ less. true≢false (sym (s.is_less-is_least.ensures.1 (subst (λ z. LexLess z s.as_slice-in-Some.result.now) (sym s.as_slice.ensures.value)
       (subst (LexLess c.args.path.now.items) (sym s.as_slice-in-Some.ensures.value) less))) ∙ (sym s.is_least-is ∙ c.if-is_least.false)))
   | in-None s ↦ absurd (true≢false (sym s.is_least-is ∙ c.if-is_least.false))

@@ -5,9 +5,9 @@ use Rattle.dw_moves.proofs.listed.push_listed.Goals as goal
 
 pub paths-init : goal.paths-init
 paths-init g c =
-    let rest = entries_listed c.into_iter-step-iterator.result in
+    let rest = entries_listed c.into_iter-mv-iterator.result in
     let kept = entries_listed c.keep_captures.new.paths.entries in
-    let whole : c.args.list.now.items ++ rest ≡ kept = ap (λ z. z ++ rest) c.requires ∙ ap entries_listed c.into_iter-step-iterator.ensures.into_iter_gives.0 in
+    let whole : c.args.list.now.items ++ rest ≡ kept = ap (λ z. z ++ rest) c.requires ∙ ap entries_listed c.into_iter-mv-iterator.ensures.into_iter_gives.0 in
     subst (HasAll g.B.Board.geometry c.args.position.now) (sym whole)
     (captures_all g.B.Board.geometry c.args.position.now c.in_ok-keep_captures.field-0 (entries_listed c.new-paths.result.entries) kept (ap entries_listed c.new-paths.ensures.empty) (omega (arith, c.if-branch-eq0.false)) c.in_ok-keep_captures.ensures)
 

@@ -30,8 +30,8 @@ returns-in-Some-clause-task g c =
       last = c.index-frames-frames.result;
       outer = here.0;
       are = here.1;
-      first = sym c.first.ensures ∙ c.in-Some.is ∙ ap Some (sym c.trial_of.ensures.step);
-      after = c.trial_of.ensures.after ∙ ap (play g.B.Board.geometry c.index-frames-frames.result.position) (sym c.trial_of.ensures.step);
+      first = sym c.first.ensures ∙ c.in-Some.is ∙ ap Some (sym c.trial_of.ensures.mv);
+      after = c.trial_of.ensures.after ∙ ap (play g.B.Board.geometry c.index-frames-frames.result.position) (sym c.trial_of.ensures.mv);
       attacks = c.trial_of.ensures.attacks;
       left = c.trial_of.ensures.left;
     }

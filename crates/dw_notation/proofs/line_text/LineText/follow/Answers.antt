@@ -22,12 +22,12 @@ pub moves-preserved : goal.moves-preserved
 moves-preserved g c =
     let geo = g.B.Board.geometry in
     let rest = take (length c.args.line.now - c.args.shared) (drop c.args.shared c.args.line.now) in
-    let i = c.moves.step-index in
-    let m = c.step-item.result in
-    let next = next_legal geo (end_of c.moves.self) rest i m c.moves.invariant.playable c.moves-test.true c.step-item.is in
+    let i = c.moves.mv-index in
+    let m = c.mv-item.result in
+    let next = next_legal geo (end_of c.moves.self) rest i m c.moves.invariant.playable c.moves-test.true c.mv-item.is in
     record {
       text = c.push.ensures.text;
       start = c.push.ensures.start ∙ c.moves.invariant.start;
-      taken = moves_more (moves_of c.keep.new.self) rest (moves_of c.moves.self) (moves_of c.push.new.self) i m c.moves-test.true c.step-item.is c.moves.invariant.taken c.in_ok-push.ensures.moves;
+      taken = moves_more (moves_of c.keep.new.self) rest (moves_of c.moves.self) (moves_of c.push.new.self) i m c.moves-test.true c.mv-item.is c.moves.invariant.taken c.in_ok-push.ensures.moves;
       playable = subst (λ z. ArePlayable geo z (drop (i + 1) rest)) (sym c.in_ok-push.ensures.end) next.1;
     }

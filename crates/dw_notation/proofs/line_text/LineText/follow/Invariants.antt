@@ -7,6 +7,6 @@ abbrev pub invariant-moves : goal.invariant-moves
 invariant-moves g l = record {
   text : IsTextOf g.B.Board.geometry l.self;
   start : start_of l.self ≡ start_of l.initial.self;
-  taken : moves_of l.self ≡ moves_of l.initial.self ++ take l.step-index l.rest;
-  playable : ArePlayable g.B.Board.geometry (end_of l.self) (drop l.step-index l.rest);
+  taken : moves_of l.self ≡ moves_of l.initial.self ++ take l.mv-index l.rest;
+  playable : ArePlayable g.B.Board.geometry (end_of l.self) (drop l.mv-index l.rest);
 }
