@@ -10,8 +10,7 @@ use Rattle.dw_board.specs.declared.piece.Side.{Side}
 use Rattle.dw_board.specs.declared.piece.Side.TheVariants.{White, Black}
 use Rattle.dw_board.specs.declared.piece.Kind.{Kind}
 use Rattle.dw_board.specs.declared.piece.Piece.{Piece}
-use Rattle.dw_board.specs.Geometry.{Geometry, IsBoard, OnBoard, squares}
-use Rattle.dw_board.specs.SquareSet.{Squares}
+use Rattle.dw_board.specs.Geometry.{Geometry, IsBoard, OnBoard, squares, Squares}
 use Rattle.dw_board.specs.inner.SquareSetLemmas.{contains-insert, and-false}
 use Rattle.dw_board.specs.Placement.{Placement, IsPosition, is_of, is_man, is_stuck, same_side, on_last_row, at, left, placed, without, crowned, landed, carried}
 use Rattle.dw_board.specs.Standing.{IsKept}

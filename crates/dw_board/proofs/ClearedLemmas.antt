@@ -11,8 +11,7 @@ use Rattle.dw_board.specs.declared.piece.Side.{Side}
 use Rattle.dw_board.specs.declared.piece.Side.TheVariants.{White, Black}
 use Rattle.dw_board.specs.declared.piece.Kind.{Kind}
 use Rattle.dw_board.specs.declared.piece.Piece.{Piece}
-use Rattle.dw_board.specs.Geometry.{Geometry}
-use Rattle.dw_board.specs.SquareSet.{Squares}
+use Rattle.dw_board.specs.Geometry.{Geometry, Squares}
 use Rattle.dw_board.specs.inner.SquareSetLemmas.{and-false, and-true}
 use Rattle.dw_board.specs.Placement.{Placement, IsPosition, is_of, is_stuck, at, left, without}
 use Rattle.dw_board.specs.Standing.{is_that, standing, IsKept}

@@ -8,9 +8,9 @@ use Rattle.std.specs.Int.Count.{ones, ones_in}
 use Rattle.std.proofs.lemmas.Bool.{agree_below, agree_below_at, eqb-true, cases_Bool, cases_lt, or_cases, and_parts, true≢false, eq-eqb}
 use Rattle.std.proofs.lemmas.Nat.{mod-pow-add, ones_cat, pow_pos, shr_split}
 use Rattle.std.proofs.lemmas.Nat.Bits.{bit_at-trailing_zeros, bit_at-lt, bit_at_above, bit_at_cat_low, same_from_bits}
-use Rattle.dw_board.specs.Geometry.{Geometry, IsBoard, squares, OnBoard, bit, square_of, IsPlace}
+use Rattle.dw_board.specs.Geometry.{Geometry, IsBoard, squares, OnBoard, bit, square_of, IsPlace, Squares}
 use Rattle.dw_board.specs.inner.GeometryLemmas.{at_boards, bit-square_at}
-use Rattle.dw_board.specs.SquareSet.{Squares, is_set, square_at, members_below, squares_of, OnlySquares}
+use Rattle.dw_board.specs.SquareSet.{is_set, square_at, members_below, squares_of, OnlySquares}
 use Rattle.dw_board.specs.inner.SquareSetLemmas.{contains-members_below, below_two, some_square, bit-small, contains-here}
 use Rattle.dw_board.proofs.SetLemmas.{past_range, bit-below, place-is, least_member}
 

@@ -9,8 +9,7 @@ use Rattle.dw_board.specs.declared.piece.Side.{Side}
 use Rattle.dw_board.specs.declared.piece.Kind.{Kind}
 use Rattle.dw_board.specs.declared.piece.Kind.TheVariants.{Man, King}
 use Rattle.dw_board.specs.declared.piece.Piece.{Piece}
-use Rattle.dw_board.specs.Geometry.{Geometry, IsBoard, squares, OnBoard}
-use Rattle.dw_board.specs.SquareSet.{Squares}
+use Rattle.dw_board.specs.Geometry.{Geometry, IsBoard, squares, OnBoard, Squares}
 use Rattle.dw_board.specs.Placement.{Placement, IsPosition, at, is_of}
 use Rattle.dw_board.specs.FenText.{king_mark, item_text, items_text}
 use Rattle.dw_board.proofs.SetLemmas.{contains-remove}

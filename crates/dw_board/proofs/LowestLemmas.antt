@@ -6,8 +6,8 @@ use Rattle.std.proofs.lemmas.Bool.{cases_lt, cases_eq, and_parts, eq-eqb, ne_eqb
 use Rattle.std.proofs.lemmas.Nat.{pow_pos, shr_split}
 use native.Mathlib.Nat.{pow-suc}
 use Rattle.std.proofs.lemmas.Nat.Bits.{bit_at-trailing_zeros, bit_at-zero, bit_at_above, bit_at_cat_low, bit_at_cat_high, same_from_bits}
-use Rattle.dw_board.specs.Geometry.{Geometry, IsBoard, bit, square_of, IsPlace}
-use Rattle.dw_board.specs.SquareSet.{Squares, is_set, squares_of, OnlySquares}
+use Rattle.dw_board.specs.Geometry.{Geometry, IsBoard, bit, square_of, IsPlace, Squares}
+use Rattle.dw_board.specs.SquareSet.{is_set, squares_of, OnlySquares}
 use Rattle.dw_board.specs.inner.SquareSetLemmas.{contains-here}
 use Rattle.dw_board.proofs.SetLemmas.{contains-remove, is_set-and, same_place, squares_of-is, squares_of-within}
 use Rattle.dw_board.proofs.CountingLemmas.{bit_at-low, low_split, word-fits, least-place}

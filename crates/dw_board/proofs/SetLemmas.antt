@@ -13,10 +13,10 @@ use Rattle.dw_board.specs.declared.board.Dir.{Dir}
 use Rattle.dw_board.specs.declared.board.Dir.TheVariants.{UpLeft, UpRight, DownLeft, DownRight}
 use Rattle.dw_board.specs.Geometry.{Geometry, IsBoard, step, OnBoard, bit, square_of, IsPlace, IsShift, ShiftsAreSteps}
 use Rattle.dw_board.specs.inner.Shifting.{shifted_word}
-use Rattle.dw_board.specs.SquareSet.{Squares, is_set, square_at, squares_of, word_of, OnlySquares, WholeBoard, IsWord}
+use Rattle.dw_board.specs.SquareSet.{is_set, square_at, squares_of, word_of, OnlySquares, WholeBoard, IsWord}
+use Rattle.dw_board.specs.Geometry.{Squares, is_square}
 use Rattle.dw_board.specs.inner.GeometryLemmas.{square_at-bit, bit-square_at, step-OnBoard}
 use Rattle.dw_board.specs.inner.SquareSetLemmas.{contains-insert, and-false, contains-squares_of, is_square-true, below_two, is_set-or, bit-small, square_of_bit, contains-here, zero_one, word_of-squares_of, same_members, same_members-is}
-use Rattle.dw_board.specs.Geometry.{is_square}
 
 pub contains-remove : (v : Squares) (k q : ℕ) → set.contains (set.remove v k) q ≡ (not (eqb q k) && set.contains v q)
 contains-remove v k q = set.contains-remove nat_cmp_total v k q ∙ ap (λ b. not b && set.contains v q) (unsigned_tied q k)

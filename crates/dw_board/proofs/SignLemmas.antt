@@ -8,8 +8,7 @@ use Rattle.dw_board.specs.declared.piece.Side.TheVariants.{White, Black}
 use Rattle.dw_board.specs.declared.piece.Kind.{Kind}
 use Rattle.dw_board.specs.declared.piece.Kind.TheVariants.{Man, King}
 use Rattle.dw_board.specs.declared.piece.Piece.{Piece}
-use Rattle.dw_board.specs.Geometry.{Geometry, OnBoard}
-use Rattle.dw_board.specs.SquareSet.{Squares}
+use Rattle.dw_board.specs.Geometry.{Geometry, OnBoard, Squares}
 use Rattle.dw_board.specs.Placement.{Placement, at, is_of}
 use Rattle.dw_board.specs.Diagram.{square_sign}
 use Rattle.dw_board.specs.inner.Drawing.{sign_by, AreSigns}

@@ -1,3 +1,4 @@
+pub mod Lists
 pub mod Geometry
 pub mod SquareSet
 pub mod Boards

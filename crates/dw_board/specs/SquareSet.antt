@@ -2,13 +2,9 @@
 use Rattle.std.proofs.Common.{◌≡◌, ℕ, suc, zero, ◌+◌, ◌/◌, ◌%◌, ◌^◌, Bool, true, cond, ◌&&◌, eqb, leb, Option, Some}
 use Rattle.std.proofs.Common.{None, is_some, bit_or}
 use Rattle.std.specs.Int.{bit_at}
-use Rattle.std.specs.Ordering.{nat_cmp}
 use Rattle.std.specs.FinSet as set
 use Rattle.dw_board.specs.Geometry.{Geometry, IsBoard, squares, OnBoard, bit, square_of}
-
--- a set of squares, by their numbers
-abbrev pub Squares : Type 0
-Squares = set.FinSet nat_cmp
+use Rattle.dw_board.specs.Geometry.{Squares}
 
 -- whether a bit of a word is set
 abbrev pub is_set : ℕ → ℕ → Bool

@@ -10,8 +10,8 @@ use Rattle.dw_board.specs.declared.piece.Kind.{Kind}
 use Rattle.dw_board.specs.declared.piece.Kind.TheVariants.{Man, King}
 use Rattle.dw_board.specs.declared.piece.Piece.{Piece}
 use Rattle.dw_board.specs.declared.held.Held.{Held}
-use Rattle.dw_board.specs.Geometry.{Geometry}
-use Rattle.dw_board.specs.SquareSet.{Squares, word_of}
+use Rattle.dw_board.specs.Geometry.{Geometry, Squares}
+use Rattle.dw_board.specs.SquareSet.{word_of}
 use Rattle.dw_board.specs.Placement.{Placement, IsPosition, same_side, side_code}
 
 -- whether two kinds are the same

@@ -2,7 +2,8 @@
 use Rattle.std.proofs.Common.{◌≡◌, ℕ, ◌<◌, Some, None, Option, List, [], ◌∷◌, ◌++◌, length, drop, refl, sym, ap, ◌∙◌, subst, inl, inr, arith}
 use Rattle.std.specs.Prelude.{option_map}
 use Rattle.dw_board.specs.Geometry.{Geometry}
-use Rattle.dw_moves.specs.Moves.{Member, Move}
+use Rattle.dw_moves.specs.Moves.{Move}
+use Rattle.dw_board.specs.Lists.{Member}
 use Rattle.dw_moves.specs.inner.MemberLemmas.{mem_cases}
 use Rattle.dw_list.specs.declared.stack.Trial.{Trial}
 use Rattle.dw_list.specs.inner.Tasks.{IsTrial}

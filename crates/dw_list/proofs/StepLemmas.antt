@@ -5,7 +5,8 @@ use Rattle.std.proofs.lemmas.Bool.{true≢false}
 use Rattle.std.proofs.lemmas.List.{append-nil}
 use Rattle.dw_board.specs.Geometry.{Geometry}
 use Rattle.dw_board.specs.Placement.{Placement}
-use Rattle.dw_moves.specs.Moves.{Member, Move, Legal, play}
+use Rattle.dw_moves.specs.Moves.{Move, Legal, play}
+use Rattle.dw_board.specs.Lists.{Member}
 use Rattle.dw_moves.specs.Order.{Precedes, IsAscending, IsListOf}
 use Rattle.dw_moves.specs.Laws.{MovesHaveKeys}
 use Rattle.dw_list.specs.Lines.{Line, Before}

@@ -8,8 +8,8 @@ use Rattle.std.proofs.lemmas.Bool.{cases_lt, leb-true, le-leb, eq-eqb, and_parts
 use Rattle.std.proofs.lemmas.Nat.Bits.{bit_at-zero, bit_at-lt, same_from_bits, bit_at_above}
 use Rattle.std.proofs.lemmas.Nat.{shr-shr, shr_split, pow_pos, mod_below, shl_whole}
 use Rattle.std.specs.Int.Bits.{or_zero_r}
-use Rattle.dw_board.specs.Geometry.{Geometry, squares, OnBoard}
-use Rattle.dw_board.specs.SquareSet.{Squares, is_set}
+use Rattle.dw_board.specs.Geometry.{Geometry, squares, OnBoard, Squares}
+use Rattle.dw_board.specs.SquareSet.{is_set}
 use Rattle.dw_board.specs.inner.SquareSetLemmas.{below_two, is_set-or, one_bit, here_bit, zero_one, member_more, none_in_empty}
 use Rattle.dw_list.specs.Tokens.{IsNumberOf, number_below, number_of}
 

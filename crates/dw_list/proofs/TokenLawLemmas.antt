@@ -5,7 +5,8 @@ use Rattle.std.proofs.lemmas.Nat.{from_be_bytes-to_be_bytes_8, pow_below, mod_be
 use Rattle.hex.specs.Hex.{IsBytes}
 use Rattle.hex.proofs.HexLemmas.{decode_of-encode_lower, decode_of-same}
 use Rattle.dw_board.specs.Geometry.{Geometry, IsBoard, squares, OnBoard}
-use Rattle.dw_moves.specs.Moves.{Move, Member}
+use Rattle.dw_moves.specs.Moves.{Move}
+use Rattle.dw_board.specs.Lists.{Member}
 use Rattle.dw_list.specs.Tokens.{number_in, IsMove, AreMoves, IsCounted, IsVersion1, IsVersion2, number_of, move_bytes, moves_bytes, line_bytes}
 use Rattle.dw_list.specs.TokenLaws.{IsOnBoard, WrittenIsToken, OneLine, TokensHaveNoFault, Version1Keeps}
 use Rattle.dw_list.proofs.TokenBitLemmas.{number_of-is, number_of-small}

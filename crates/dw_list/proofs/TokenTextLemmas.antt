@@ -8,8 +8,7 @@ use Rattle.hex.specs.Hex.{decode_of, decode_sized}
 use Rattle.hex.specs.declared.error.FromHexError.{FromHexError}
 use Rattle.hex.specs.declared.error.FromHexError.TheVariants.{OddLength}
 use Rattle.hex.proofs.HexLemmas.{decode_of-ok, decode_of-same, decode_of-odd, decode_sized-ok, decode_sized-twice}
-use Rattle.dw_board.specs.Geometry.{Geometry}
-use Rattle.dw_board.specs.SquareSet.{Squares}
+use Rattle.dw_board.specs.Geometry.{Geometry, Squares}
 use Rattle.dw_moves.specs.Moves.{Move}
 use Rattle.dw_list.specs.declared.tokens.TokenFault.{TokenFault}
 use Rattle.dw_list.specs.declared.tokens.TokenFault.TheVariants.{NotHex, Length}

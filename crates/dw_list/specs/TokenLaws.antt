@@ -3,7 +3,8 @@ use Rattle.std.specs.Prelude.{◌≡◌, ℕ, ◌%◌, ◌≤◌, ◌⊎◌, ◌
 use Rattle.std.specs.FinSet as set
 use Rattle.hex.specs.Hex.{decode_of}
 use Rattle.dw_board.specs.Geometry.{Geometry, IsBoard, OnBoard}
-use Rattle.dw_moves.specs.Moves.{Move, Member}
+use Rattle.dw_moves.specs.Moves.{Move}
+use Rattle.dw_board.specs.Lists.{Member}
 use Rattle.dw_list.specs.Tokens.{IsToken, token_of, token_fault}
 
 -- a move from, to and over squares of the board

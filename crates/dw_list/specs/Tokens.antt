@@ -7,8 +7,8 @@ use Rattle.std.specs.Int.{w64, to_be_bytes, from_be_bytes}
 use Rattle.std.specs.FinSet as set
 use Rattle.hex.specs.Hex.{decode_of, encode_lower}
 use Rattle.hex.specs.declared.error.FromHexError.{FromHexError}
-use Rattle.dw_board.specs.Geometry.{Geometry, squares, OnBoard, is_square}
-use Rattle.dw_board.specs.SquareSet.{Squares, is_set}
+use Rattle.dw_board.specs.Geometry.{Geometry, squares, OnBoard, is_square, Squares}
+use Rattle.dw_board.specs.SquareSet.{is_set}
 use Rattle.dw_moves.specs.Moves.{Move}
 use Rattle.dw_list.specs.declared.tokens.TokenFault.{TokenFault}
 use Rattle.dw_list.specs.declared.tokens.TokenFault.TheVariants.{NotHex, Version, Length, Square, Taken, Board}

@@ -2,7 +2,8 @@
 use Rattle.std.proofs.Common.{◌≡◌, [], ◌∷◌, sym, ap, ◌∙◌, subst, inl, inr}
 use Rattle.dw_board.specs.Placement.{Placement}
 use Rattle.dw_memo.specs.declared.bounds.Bounds.{Bounds}
-use Rattle.dw_memo.specs.Content.{Entry, entry, Content, Member, positions, IsMap}
+use Rattle.dw_memo.specs.Content.{Entry, entry, Content, positions, IsMap}
+use Rattle.dw_board.specs.Lists.{Member}
 
 -- an entry's position is held
 pub position_held : (e : Entry) (c : Content) → Member e c → Member e.position (positions c)

@@ -5,7 +5,8 @@ use Rattle.dw_board.specs.Placement.{Placement}
 use Rattle.dw_memo.specs.declared.bounds.Bounds.{Bounds}
 use Rattle.dw_memo.specs.declared.memo.Noted.{Noted}
 use Rattle.dw_memo.specs.declared.memo.Noted.TheVariants.{Kept, NotKept}
-use Rattle.dw_memo.specs.Content.{Entry, entry, Content, Member, IsMap}
+use Rattle.dw_memo.specs.Content.{Entry, entry, Content, IsMap}
+use Rattle.dw_board.specs.Lists.{Member}
 use Rattle.dw_memo.specs.Noting.{IsPutIn, AreMissing, IsNote}
 
 -- none is missing

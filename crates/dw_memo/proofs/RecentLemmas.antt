@@ -8,7 +8,8 @@ use Rattle.dw_board.specs.Placement.{Placement}
 use Rattle.dw_board.specs.inner.PlacementLemmas.{same, same-is}
 use Rattle.dw_memo.specs.declared.bounds.Bounds.{Bounds}
 use Rattle.dw_memo.specs.declared.memo.Noted.TheVariants.{Kept, NotKept}
-use Rattle.dw_memo.specs.Content.{Entry, entry, Member, positions, IsMap, SameEntries, IsFound}
+use Rattle.dw_memo.specs.Content.{Entry, entry, positions, IsMap, SameEntries, IsFound}
+use Rattle.dw_board.specs.Lists.{Member}
 use Rattle.dw_memo.specs.Recent.{content_of, IsRecent}
 use Rattle.dw_memo.specs.Noting.{IsNote}
 use Rattle.dw_memo.proofs.EntryLemmas.{position_held, bounds_held, one_entry}

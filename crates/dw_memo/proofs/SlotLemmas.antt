@@ -9,7 +9,8 @@ use Rattle.dw_board.specs.Placement.{Placement}
 use Rattle.dw_board.specs.inner.PlacementLemmas.{same, same-is}
 use Rattle.dw_memo.specs.declared.bounds.Bounds.{Bounds}
 use Rattle.dw_memo.specs.declared.memo.Noted.TheVariants.{Kept}
-use Rattle.dw_memo.specs.Content.{Entry, entry, Member, positions, IsMap, IsFound}
+use Rattle.dw_memo.specs.Content.{Entry, entry, positions, IsMap, IsFound}
+use Rattle.dw_board.specs.Lists.{Member}
 use Rattle.dw_memo.specs.Noting.{IsPutIn, IsNote}
 use Rattle.dw_memo.specs.Slots.{Slots, held, slot_of, IsTable}
 use Rattle.dw_memo.specs.inner.Keeping.{bounds_in, lost}

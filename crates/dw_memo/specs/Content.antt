@@ -1,5 +1,6 @@
 -- What a memo holds: a finite map from positions to bounds, as a list of entries.
 use Rattle.std.specs.Prelude.{◌≡◌, ◌↔◌, ◌⊎◌, List, [], ◌∷◌, map, Option, Some, None}
+use Rattle.dw_board.specs.Lists.{Member, NoRepeat}
 use Rattle.dw_board.specs.Placement.{Placement}
 use Rattle.dw_memo.specs.declared.bounds.Bounds.{Bounds}
 
@@ -13,16 +14,6 @@ entry p b = record { position = p; bounds = b }
 
 abbrev pub Content : Type 0
 Content = List Entry
-
--- x stands in the list
-abbrev pub Member : {X : Type 0} → X → List X → Type 0
-Member x [] = ⊥
-Member x (y ∷ ys) = (x ≡ y) ⊎ Member x ys
-
--- nothing stands twice
-abbrev pub NoRepeat : {X : Type 0} → List X → Type 0
-NoRepeat [] = Unit {0}
-NoRepeat (x ∷ xs) = (Member x xs → ⊥) × NoRepeat xs
 
 abbrev pub positions : Content → List Placement
 positions c = map (λ e. e.position) c

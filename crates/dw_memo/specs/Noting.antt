@@ -4,7 +4,8 @@ use Rattle.dw_board.specs.Placement.{Placement}
 use Rattle.dw_memo.specs.declared.bounds.Bounds.{Bounds}
 use Rattle.dw_memo.specs.declared.memo.Noted.{Noted}
 use Rattle.dw_memo.specs.declared.memo.Noted.TheVariants.{Kept}
-use Rattle.dw_memo.specs.Content.{Entry, entry, Content, Member, NoRepeat, IsMap}
+use Rattle.dw_memo.specs.Content.{Entry, entry, Content, IsMap}
+use Rattle.dw_board.specs.Lists.{Member, NoRepeat}
 
 -- the given entry, or an old one of another position: what a memo that loses nothing holds after a note
 abbrev pub IsPutIn : Content → Placement → Bounds → Entry → Type 0

@@ -9,13 +9,12 @@ use Rattle.dw_board.specs.declared.board.Dir.TheVariants.{UpLeft, UpRight, DownL
 use Rattle.dw_board.specs.declared.piece.Side.{Side}
 use Rattle.dw_board.specs.declared.piece.Kind.TheVariants.{Man, King}
 use Rattle.dw_board.specs.declared.piece.Piece.{Piece}
-use Rattle.dw_board.specs.Geometry.{Geometry, IsBoard, OnBoard, step}
+use Rattle.dw_board.specs.Geometry.{Geometry, IsBoard, OnBoard, step, Squares, back}
 use Rattle.dw_board.specs.Placement.{Placement, at, is_man}
-use Rattle.dw_board.specs.SquareSet.{Squares}
-use Rattle.dw_moves.specs.Moves.{Member, NoRepeat, IsForward, Move, Quiet, ray, In}
+use Rattle.dw_moves.specs.Moves.{IsForward, Move, Quiet, ray, In}
+use Rattle.dw_board.specs.Lists.{Member, NoRepeat}
 use Rattle.dw_moves.specs.inner.MoveLemmas.{same_move}
 use Rattle.dw_moves.specs.inner.MemberLemmas.{mem_left, mem_right, mem_cases, mem_map, mem_map_back}
-use Rattle.dw_board.specs.Geometry.{back}
 use Rattle.dw_moves.specs.inner.Plain.{may_go, quiet_for, targets_of, targets, quiet_to, Adds, ManSteps, KingGoes}
 use Rattle.dw_moves.proofs.ExactLemmas.{option_cases, same_side_refl}
 use Rattle.dw_moves.proofs.StepLemmas.{none_some, step_is}

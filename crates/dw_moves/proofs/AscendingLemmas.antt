@@ -1,6 +1,6 @@
 -- Ascending lists: one for each set of members, made by insertion under a key.
 use Rattle.std.proofs.Common.{◌≡◌, ℕ, List, [], ◌∷◌, refl, sym, ap, ◌∙◌, subst, ◌⊎◌, inl, inr}
-use Rattle.dw_moves.specs.Moves.{Member}
+use Rattle.dw_board.specs.Lists.{Member}
 use Rattle.dw_moves.specs.Order.{LexLess, IsAscending, IsListOf}
 use Rattle.dw_moves.proofs.LexLemmas.{lex_trans, lex_cases}
 

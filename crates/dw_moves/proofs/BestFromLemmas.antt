@@ -5,11 +5,9 @@ use Rattle.std.specs.Prelude.{◌↔◌, Bool, IsTrue}
 use Rattle.std.specs.FinSet as fin
 use Rattle.std.specs.Ordering.{nat_cmp}
 use Rattle.dw_board.specs.declared.piece.Piece.{Piece}
-use Rattle.dw_board.specs.Geometry.{Geometry, OnBoard, squares}
-use Rattle.dw_board.specs.Placement.{Placement, at, placed, count, same_side}
-use Rattle.dw_board.specs.SquareSet.{Squares}
+use Rattle.dw_board.specs.Geometry.{Geometry, OnBoard, squares, Squares}
+use Rattle.dw_board.specs.Placement.{Placement, at, placed, count, same_side, other}
 use Rattle.dw_moves.specs.Moves.{Jumps, Path, Stands, IsBest, CanCapture, Move, Legal, LegalAt, last_of}
-use Rattle.dw_board.specs.Placement.{other}
 use Rattle.dw_moves.specs.inner.Glance.{CanStep}
 use Rattle.dw_moves.proofs.PlainLemmas.{best}
 use Rattle.dw_moves.specs.inner.Chains.{Chain, ChainsFit, IsLongest, IsBestFrom}

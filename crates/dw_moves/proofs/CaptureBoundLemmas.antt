@@ -7,7 +7,8 @@ use Rattle.dw_board.specs.declared.piece.Side.{Side}
 use Rattle.dw_board.specs.declared.piece.Piece.{Piece}
 use Rattle.dw_board.specs.Geometry.{Geometry}
 use Rattle.dw_board.specs.Placement.{Placement, at, placed, is_of, same_side, count}
-use Rattle.dw_moves.specs.Moves.{Member, Jumps}
+use Rattle.dw_moves.specs.Moves.{Jumps}
+use Rattle.dw_board.specs.Lists.{Member}
 use Rattle.dw_board.specs.Placement.{other}
 use Rattle.dw_moves.specs.Laws.{PathIsShort}
 use Rattle.dw_moves.specs.inner.MemberLemmas.{no_more}

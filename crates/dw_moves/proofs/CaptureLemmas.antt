@@ -4,7 +4,8 @@ use Rattle.std.proofs.lemmas.Bool.{eqb-true, eq-eqb, or_cases, or_left, or_right
 use Rattle.dw_board.specs.declared.piece.Piece.{Piece}
 use Rattle.dw_board.specs.Geometry.{Geometry}
 use Rattle.dw_board.specs.Placement.{Placement}
-use Rattle.dw_moves.specs.Moves.{Member, NoRepeat, Jumps}
+use Rattle.dw_moves.specs.Moves.{Jumps}
+use Rattle.dw_board.specs.Lists.{Member, NoRepeat}
 use Rattle.dw_moves.proofs.PlainLemmas.{captures, is_in}
 use Rattle.dw_moves.specs.inner.Plain.{jump_list}
 use Rattle.dw_moves.specs.inner.MemberLemmas.{mem_map, mem_map_back, mem_flat, mem_flat_back}

@@ -9,7 +9,8 @@ use Rattle.dw_board.specs.declared.board.Dir.TheVariants.{UpLeft, UpRight, DownL
 use Rattle.dw_board.specs.declared.piece.Piece.{Piece}
 use Rattle.dw_board.specs.Geometry.{Geometry}
 use Rattle.dw_board.specs.Placement.{Placement, at, same_side}
-use Rattle.dw_moves.specs.Moves.{Member, AllEmpty, Jump, ray}
+use Rattle.dw_moves.specs.Moves.{AllEmpty, Jump, ray}
+use Rattle.dw_board.specs.Lists.{Member}
 use Rattle.dw_board.specs.Placement.{other}
 use Rattle.dw_moves.specs.inner.Plain.{dirs, free_front, free_next, landings_for, over_enemy, man_takes, king_takes, takes_for, jump_list}
 use Rattle.dw_moves.specs.inner.MemberLemmas.{mem_map, mem_map_back, mem_flat, mem_flat_back}

@@ -5,11 +5,10 @@ use Rattle.dw_board.specs.declared.piece.Side.{Side}
 use Rattle.dw_board.specs.declared.piece.Kind.{Kind}
 use Rattle.dw_board.specs.declared.piece.Kind.TheVariants.{Man, King}
 use Rattle.dw_board.specs.declared.piece.Piece.{Piece}
-use Rattle.dw_board.specs.Geometry.{Geometry, IsBoard, OnBoard, step}
-use Rattle.dw_board.specs.Placement.{Placement, at, placed}
-use Rattle.dw_board.specs.SquareSet.{Squares}
-use Rattle.dw_moves.specs.Moves.{Member, AllEmpty, Stands, Jump, Jumps, Path, CanCapture, ray, In}
-use Rattle.dw_board.specs.Placement.{other}
+use Rattle.dw_board.specs.Geometry.{Geometry, IsBoard, OnBoard, step, Squares}
+use Rattle.dw_board.specs.Placement.{Placement, at, placed, other}
+use Rattle.dw_moves.specs.Moves.{AllEmpty, Stands, Jump, Jumps, Path, CanCapture, ray, In}
+use Rattle.dw_board.specs.Lists.{Member}
 use Rattle.dw_moves.specs.inner.Glance.{AreSets, RunsTo, MeetsBehind, Takes}
 use Rattle.dw_moves.specs.inner.MemberLemmas.{mem_left, mem_right, mem_at}
 use Rattle.dw_moves.proofs.StepLemmas.{none_some, step_is}

@@ -4,9 +4,8 @@ use Rattle.dw_board.specs.declared.board.Dir.{Dir}
 use Rattle.dw_board.specs.declared.piece.Side.{Side}
 use Rattle.dw_board.specs.declared.piece.Kind.{Kind}
 use Rattle.dw_board.specs.declared.piece.Kind.TheVariants.{Man, King}
-use Rattle.dw_board.specs.Geometry.{Geometry, IsBoard, OnBoard, step}
+use Rattle.dw_board.specs.Geometry.{Geometry, IsBoard, OnBoard, step, Squares}
 use Rattle.dw_board.specs.Placement.{Placement, at}
-use Rattle.dw_board.specs.SquareSet.{Squares}
 use Rattle.dw_moves.specs.Moves.{IsForward, Quiet, ray, In}
 use Rattle.dw_moves.specs.inner.Glance.{AreSets, Steps, CanStep}
 use Rattle.dw_moves.proofs.StepLemmas.{step_is}

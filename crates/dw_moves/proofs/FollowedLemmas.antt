@@ -8,7 +8,8 @@ use Rattle.std.specs.FinSet as fin
 use Rattle.dw_board.specs.declared.piece.Piece.{Piece}
 use Rattle.dw_board.specs.Geometry.{Geometry, IsBoard, OnBoard}
 use Rattle.dw_board.specs.Placement.{Placement, placed}
-use Rattle.dw_moves.specs.Moves.{Member, Move, Jump, Jumps, Path, Stands, IsBest, IsPathOf, Legal, LegalAt, last_of}
+use Rattle.dw_moves.specs.Moves.{Move, Jump, Jumps, Path, Stands, IsBest, IsPathOf, Legal, LegalAt, last_of}
+use Rattle.dw_board.specs.Lists.{Member}
 use Rattle.dw_moves.specs.inner.MoveLemmas.{same_move}
 use Rattle.dw_moves.specs.inner.Plain.{jump_list}
 use Rattle.dw_moves.specs.inner.Chains.{Chain, GoesOn, LandsOnEach, further}

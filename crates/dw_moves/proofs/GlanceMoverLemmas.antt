@@ -6,13 +6,11 @@ use Rattle.dw_board.specs.declared.board.Dir.TheVariants.{UpLeft, UpRight, DownL
 use Rattle.dw_board.specs.declared.piece.Kind.{Kind}
 use Rattle.dw_board.specs.declared.piece.Kind.TheVariants.{Man, King}
 use Rattle.dw_board.specs.declared.piece.Piece.{Piece}
-use Rattle.dw_board.specs.Geometry.{Geometry, IsBoard, OnBoard, step}
-use Rattle.dw_board.specs.Placement.{Placement, at, placed}
-use Rattle.dw_board.specs.SquareSet.{Squares}
-use Rattle.dw_moves.specs.Moves.{Member, Stands, Jump, ray, In}
-use Rattle.dw_board.specs.Placement.{other}
+use Rattle.dw_board.specs.Geometry.{Geometry, IsBoard, OnBoard, step, Squares, back}
+use Rattle.dw_board.specs.Placement.{Placement, at, placed, other}
+use Rattle.dw_moves.specs.Moves.{Stands, Jump, ray, In}
+use Rattle.dw_board.specs.Lists.{Member}
 use Rattle.dw_moves.specs.inner.Glance.{AreSets, MenMeet, CanTakeFrom}
-use Rattle.dw_board.specs.Geometry.{back}
 use Rattle.dw_moves.proofs.StepLemmas.{step_is}
 use Rattle.dw_moves.proofs.StepBackLemmas.{step_back}
 use Rattle.dw_moves.proofs.SquareSetLemmas.{in_or, in_minus}

@@ -6,8 +6,7 @@ use Rattle.std.specs.FinSet as fin
 use Rattle.dw_board.specs.declared.board.Dir.{Dir}
 use Rattle.dw_board.specs.declared.piece.Side.{Side}
 use Rattle.dw_board.specs.declared.piece.Kind.TheVariants.{Man}
-use Rattle.dw_board.specs.Geometry.{Geometry, step}
-use Rattle.dw_board.specs.SquareSet.{Squares}
+use Rattle.dw_board.specs.Geometry.{Geometry, step, Squares}
 use Rattle.dw_moves.specs.Moves.{IsForward, In}
 use Rattle.dw_moves.specs.inner.Plain.{may_go}
 use Rattle.dw_moves.specs.inner.Glance.{RunsTo, MeetsBehind, MenMeet, KingsMeet, Takes, Steps, StepsOn}

@@ -9,11 +9,9 @@ use Rattle.dw_board.specs.declared.piece.Side.{Side}
 use Rattle.dw_board.specs.declared.piece.Side.TheVariants.{White, Black}
 use Rattle.dw_board.specs.declared.piece.Kind.{Kind}
 use Rattle.dw_board.specs.declared.piece.Kind.TheVariants.{Man, King}
-use Rattle.dw_board.specs.Geometry.{Geometry, IsBoard, OnBoard, step}
-use Rattle.dw_board.specs.Placement.{Placement, at, is_of}
-use Rattle.dw_board.specs.SquareSet.{Squares}
+use Rattle.dw_board.specs.Geometry.{Geometry, IsBoard, OnBoard, step, Squares}
+use Rattle.dw_board.specs.Placement.{Placement, at, is_of, other}
 use Rattle.dw_moves.specs.Moves.{In}
-use Rattle.dw_board.specs.Placement.{other}
 use Rattle.dw_moves.specs.inner.Plain.{free_if, free_step}
 use Rattle.dw_moves.specs.inner.Glance.{AreOf, AreSets}
 use Rattle.dw_moves.proofs.StepLemmas.{none_some, step_is}

@@ -6,14 +6,12 @@ use Rattle.dw_board.specs.declared.piece.Kind.TheVariants.{Man, King}
 use Rattle.dw_board.specs.declared.piece.Side.{Side}
 use Rattle.dw_board.specs.declared.piece.Piece.{Piece}
 use Rattle.dw_board.specs.declared.board.Dir.{Dir}
-use Rattle.dw_board.specs.Geometry.{Geometry, IsBoard, OnBoard, step}
-use Rattle.dw_board.specs.Placement.{Placement, at, same_side}
+use Rattle.dw_board.specs.Geometry.{Geometry, IsBoard, OnBoard, step, Squares}
+use Rattle.dw_board.specs.Placement.{Placement, at, same_side, other}
 use Rattle.dw_moves.specs.Moves.{ray, In}
-use Rattle.dw_board.specs.Placement.{other}
 use Rattle.dw_moves.specs.inner.Plain.{landings_for, king_takes, takes_for, over_enemy, free_if, free_step}
 use Rattle.std.proofs.lemmas.Bool.{true≢false}
 use Rattle.std.specs.FinSet as fin
-use Rattle.dw_board.specs.SquareSet.{Squares}
 use Rattle.dw_moves.specs.inner.Glance.{AreOf}
 use Rattle.dw_moves.proofs.ExactLemmas.{option_cases, same_side_true, same_side_refl}
 use Rattle.dw_moves.proofs.StepLemmas.{none_some, step_is}

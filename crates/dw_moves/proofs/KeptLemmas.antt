@@ -2,7 +2,8 @@
 use Rattle.std.proofs.Common.{◌≡◌, ℕ, ◌<◌, ◌≤◌, ◌++◌, List, [], ◌∷◌, refl, sym, ◌∙◌, subst, ◌⊎◌, inl, inr, arith, true, false}
 use Rattle.std.specs.List.{list_any}
 use Rattle.std.proofs.lemmas.Bool.{true≢false, or_cases, or_left, or_right}
-use Rattle.dw_moves.specs.Moves.{Member, NoRepeat, Move}
+use Rattle.dw_moves.specs.Moves.{Move}
+use Rattle.dw_board.specs.Lists.{Member, NoRepeat}
 use Rattle.dw_moves.specs.inner.MoveLemmas.{same_moves, same_moves-is}
 use Rattle.dw_moves.specs.inner.Chains.{Is, Longest}
 use Rattle.dw_moves.specs.inner.MemberLemmas.{mem_left, mem_right, mem_cases}

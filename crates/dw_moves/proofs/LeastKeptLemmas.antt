@@ -1,6 +1,6 @@
 -- How the longest captures are kept, each with the least of its paths.
 use Rattle.std.proofs.Common.{◌≡◌, ℕ, ◌<◌, ◌≤◌, List, [], refl, sym, ◌∙◌, subst, ◌⊎◌, inl, inr, arith}
-use Rattle.dw_moves.specs.Moves.{Member, NoRepeat}
+use Rattle.dw_board.specs.Lists.{Member, NoRepeat}
 use Rattle.dw_moves.specs.Order.{LexLess, Listed}
 use Rattle.dw_moves.specs.inner.Listing.{steps_of, Covered, TakenIn, This, LongestLeast}
 use Rattle.dw_moves.proofs.LexLemmas.{lex_irrefl}

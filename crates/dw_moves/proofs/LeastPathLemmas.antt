@@ -5,7 +5,8 @@ use Rattle.std.specs.FinSet as fin
 use Rattle.std.specs.Ordering.{nat_cmp}
 use Rattle.dw_board.specs.Geometry.{Geometry}
 use Rattle.dw_board.specs.Placement.{Placement}
-use Rattle.dw_moves.specs.Moves.{Member, NoRepeat, IsBest, Move, Quiet, IsPathOf, Legal, LegalAt, last_of}
+use Rattle.dw_moves.specs.Moves.{IsBest, Move, Quiet, IsPathOf, Legal, LegalAt, last_of}
+use Rattle.dw_board.specs.Lists.{Member, NoRepeat}
 use Rattle.dw_moves.specs.inner.MemberLemmas.{mem_map, mem_map_back}
 use Rattle.dw_moves.specs.Order.{LexLess, LandsAt, IsLeastPath, Listed, HasLeastPath}
 use Rattle.dw_moves.specs.inner.Plain.{Adds}

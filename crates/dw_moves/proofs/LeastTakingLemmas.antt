@@ -3,9 +3,8 @@ use Rattle.std.proofs.Common.{◌≡◌, ℕ, List, [], ◌∷◌, sym, ap, ◌�
 use Rattle.std.specs.FinSet as fin
 use Rattle.std.specs.Ordering.{nat_cmp}
 use Rattle.dw_board.specs.declared.piece.Piece.{Piece}
-use Rattle.dw_board.specs.Geometry.{Geometry}
+use Rattle.dw_board.specs.Geometry.{Geometry, Squares}
 use Rattle.dw_board.specs.Placement.{Placement, at, placed, same_side}
-use Rattle.dw_board.specs.SquareSet.{Squares}
 use Rattle.dw_moves.specs.inner.Glance.{CanTakeFrom}
 use Rattle.dw_moves.specs.Moves.{In, Path, Stands, last_of}
 use Rattle.dw_moves.specs.inner.Chains.{Taking}

@@ -6,7 +6,8 @@ use Rattle.std.specs.FinSet as fin
 use Rattle.dw_board.specs.declared.piece.Piece.{Piece}
 use Rattle.dw_board.specs.Geometry.{Geometry}
 use Rattle.dw_board.specs.Placement.{Placement}
-use Rattle.dw_moves.specs.Moves.{Member, Jump, last_of}
+use Rattle.dw_moves.specs.Moves.{Jump, last_of}
+use Rattle.dw_board.specs.Lists.{Member}
 use Rattle.dw_moves.specs.inner.MoveLemmas.{same_move}
 use Rattle.dw_moves.specs.inner.Plain.{jump_list}
 use Rattle.dw_moves.specs.inner.Chains.{Chain, further}

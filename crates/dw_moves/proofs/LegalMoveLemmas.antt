@@ -12,7 +12,8 @@ use Rattle.dw_board.specs.declared.piece.Piece.{Piece}
 use Rattle.dw_board.specs.Geometry.{Geometry, squares, OnBoard, is_down}
 use Rattle.dw_board.specs.Placement.{Placement, at, placed, same_side}
 use Rattle.std.specs.FinSet as set
-use Rattle.dw_moves.specs.Moves.{Member, IsForward, Quiet, Jumps, Path, IsBest, Move, Legal, LegalAt, ray}
+use Rattle.dw_moves.specs.Moves.{IsForward, Quiet, Jumps, Path, IsBest, Move, Legal, LegalAt, ray}
+use Rattle.dw_board.specs.Lists.{Member}
 use Rattle.dw_board.specs.Placement.{other}
 use Rattle.dw_moves.specs.inner.MoveLemmas.{same_move}
 use Rattle.dw_moves.proofs.RayLemmas.{jump_low}

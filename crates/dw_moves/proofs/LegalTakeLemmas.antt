@@ -7,7 +7,8 @@ use Rattle.std.specs.FinSet as fin
 use Rattle.std.specs.Ordering.{nat_cmp}
 use Rattle.dw_moves.specs.Laws.{LegalMovesTake}
 use Rattle.dw_moves.specs.inner.MemberLemmas.{mem_at}
-use Rattle.dw_moves.specs.Moves.{Member, Jumps, Move, Legal, LegalAt}
+use Rattle.dw_moves.specs.Moves.{Jumps, Move, Legal, LegalAt}
+use Rattle.dw_board.specs.Lists.{Member}
 use Rattle.dw_board.specs.Placement.{other}
 use Rattle.dw_moves.proofs.CaptureBoundLemmas.{path_bound}
 use Rattle.dw_moves.proofs.FilledLemmas.{legal_count}

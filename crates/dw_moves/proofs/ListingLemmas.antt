@@ -8,7 +8,8 @@ use Rattle.std.specs.Cmp.{IsStrictWeakOrder}
 use Rattle.std.specs.List.Sorted.{IsPermutation, IsSortedBy}
 use Rattle.dw_board.specs.Geometry.{Geometry, IsBoard}
 use Rattle.dw_board.specs.Placement.{Placement, placed}
-use Rattle.dw_moves.specs.Moves.{Member, NoRepeat, Move, Legal, last_of}
+use Rattle.dw_moves.specs.Moves.{Move, Legal, last_of}
+use Rattle.dw_board.specs.Lists.{Member, NoRepeat}
 use Rattle.dw_moves.specs.inner.MoveLemmas.{same_moves, same_moves-is}
 use Rattle.dw_moves.specs.Order.{LexLess, LandsAt, front, IsKey, Precedes, IsAscending, Listed, HasLeastPath, AreListed}
 use Rattle.dw_moves.specs.inner.Listing.{sorted_by, steps_of, HasAll}

@@ -6,10 +6,10 @@ use Rattle.std.specs.FinSet as fin
 use Rattle.std.specs.Cmp.{nat_cmp_total, unsigned_tied}
 use Rattle.std.specs.Ordering.{nat_cmp, ord_max}
 use Rattle.dw_board.specs.declared.piece.Piece.{Piece}
-use Rattle.dw_board.specs.Geometry.{Geometry, IsBoard, OnBoard}
+use Rattle.dw_board.specs.Geometry.{Geometry, IsBoard, OnBoard, Squares}
 use Rattle.dw_board.specs.Placement.{Placement}
-use Rattle.dw_board.specs.SquareSet.{Squares}
-use Rattle.dw_moves.specs.Moves.{Member, Jump}
+use Rattle.dw_moves.specs.Moves.{Jump}
+use Rattle.dw_board.specs.Lists.{Member}
 use Rattle.dw_moves.specs.inner.Plain.{jump_list}
 use Rattle.dw_moves.specs.inner.Chains.{Chain, ChainsFit, IsLongest}
 use Rattle.dw_moves.proofs.ExactLemmas.{jump_from, jump_in}

@@ -4,13 +4,11 @@ use Rattle.std.proofs.lemmas.Bool.{true≢false, cases_eq}
 use Rattle.std.specs.FinSet as fin
 use Rattle.dw_board.specs.declared.board.Dir.{Dir}
 use Rattle.dw_board.specs.declared.board.Dir.TheVariants.{UpLeft, UpRight, DownLeft, DownRight}
-use Rattle.dw_board.specs.Geometry.{Geometry, IsBoard, OnBoard, step}
+use Rattle.dw_board.specs.Geometry.{Geometry, IsBoard, OnBoard, step, Squares, back}
 use Rattle.dw_board.specs.Placement.{Placement}
-use Rattle.dw_board.specs.SquareSet.{Squares}
 use Rattle.dw_moves.specs.Moves.{CanCapture, IsBest, Legal, Move, play, In}
 use Rattle.dw_moves.specs.inner.Plain.{quiet_to}
 use Rattle.dw_moves.specs.inner.Glance.{AreSets, StepsFrom, StepsOn, NoneLoose}
-use Rattle.dw_board.specs.Geometry.{back}
 use Rattle.dw_moves.specs.Replies.{OneStep, IsLoose, IsLooseStep}
 use Rattle.dw_moves.proofs.PlainLemmas.{best}
 use Rattle.dw_moves.proofs.LegalMoveLemmas.{is_best}

@@ -4,10 +4,10 @@ use Rattle.std.specs.Prelude.{filter}
 use Rattle.std.specs.FinSet as set
 use Rattle.std.proofs.lemmas.Bool.{eqb-true, eq-eqb, and_parts, and_from}
 use Rattle.dw_board.specs.declared.piece.Piece.{Piece}
-use Rattle.dw_board.specs.Geometry.{Geometry, IsBoard}
+use Rattle.dw_board.specs.Geometry.{Geometry, IsBoard, Squares}
 use Rattle.dw_board.specs.Placement.{Placement, placed}
-use Rattle.dw_board.specs.SquareSet.{Squares}
-use Rattle.dw_moves.specs.Moves.{Member, Move, Jumps, Path, Legal, LegalAt, last_of}
+use Rattle.dw_moves.specs.Moves.{Move, Jumps, Path, Legal, LegalAt, last_of}
+use Rattle.dw_board.specs.Lists.{Member}
 use Rattle.dw_moves.specs.inner.MoveLemmas.{same_items, same_move}
 use Rattle.dw_moves.specs.Order.{LexLess, LandsAt, front, IsKey, IsLeastPath, Precedes, IsListOf, Listed, HasLeastPath, AreListed}
 use Rattle.dw_moves.proofs.PlainLemmas.{Capture, path_list, best, legal_list}

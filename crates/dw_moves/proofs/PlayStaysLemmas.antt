@@ -7,13 +7,13 @@ use Rattle.std.proofs.lemmas.Bool.{cases_Bool, cases_lt, cases_eq, eq-eqb, or_le
 use Rattle.std.specs.FinSet as fin
 use Rattle.std.specs.Cmp.{nat_cmp_total, unsigned_tied}
 use Rattle.std.specs.Ordering.{nat_cmp, eq_by_cmp}
-use Rattle.dw_board.specs.SquareSet.{Squares}
+use Rattle.dw_board.specs.Geometry.{Squares, Geometry, IsBoard, OnBoard, squares}
 use Rattle.dw_board.specs.declared.piece.Side.{Side}
 use Rattle.dw_board.specs.declared.piece.Side.TheVariants.{White, Black}
 use Rattle.dw_board.specs.declared.piece.Piece.{Piece}
-use Rattle.dw_board.specs.Geometry.{Geometry, IsBoard, OnBoard, squares}
 use Rattle.dw_board.specs.Placement.{Placement, at, placed, left, without, is_of, is_man, is_stuck, on_last_row, crowned, landed}
-use Rattle.dw_moves.specs.Moves.{Member, Move, Jumps, Stands, Legal, LegalAt, play, last_of}
+use Rattle.dw_moves.specs.Moves.{Move, Jumps, Stands, Legal, LegalAt, play, last_of}
+use Rattle.dw_board.specs.Lists.{Member}
 use Rattle.dw_moves.specs.Laws.{PlayStays}
 use Rattle.dw_moves.specs.inner.MemberLemmas.{mem_at}
 use Rattle.dw_moves.proofs.RayLemmas.{ray_of_on, landing_on_ray}

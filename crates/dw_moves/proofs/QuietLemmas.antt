@@ -10,7 +10,8 @@ use Rattle.dw_board.specs.declared.piece.Piece.{Piece}
 use Rattle.dw_board.specs.declared.piece.Side.{Side}
 use Rattle.dw_board.specs.Geometry.{Geometry, IsBoard, OnBoard}
 use Rattle.dw_board.specs.Placement.{Placement, at, same_side}
-use Rattle.dw_moves.specs.Moves.{Member, Quiet, ray}
+use Rattle.dw_moves.specs.Moves.{Quiet, ray}
+use Rattle.dw_board.specs.Lists.{Member}
 use Rattle.dw_moves.specs.inner.Plain.{dirs, landings_for, goes, quiet_for, targets_of, targets, free_step}
 use Rattle.dw_moves.specs.inner.MemberLemmas.{mem_flat, mem_flat_back}
 use Rattle.dw_moves.proofs.LegalMoveLemmas.{target_from, target_in}

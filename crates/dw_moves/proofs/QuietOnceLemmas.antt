@@ -9,7 +9,8 @@ use Rattle.dw_board.specs.declared.board.Dir.{Dir}
 use Rattle.dw_board.specs.declared.board.Dir.TheVariants.{UpLeft, UpRight, DownLeft, DownRight}
 use Rattle.dw_board.specs.Geometry.{Geometry, IsBoard, OnBoard, step}
 use Rattle.dw_board.specs.Placement.{Placement, at}
-use Rattle.dw_moves.specs.Moves.{Member, NoRepeat, ray_of, ray}
+use Rattle.dw_moves.specs.Moves.{ray_of, ray}
+use Rattle.dw_board.specs.Lists.{Member, NoRepeat}
 use Rattle.dw_moves.specs.inner.Plain.{dirs, free_front, free_next, landings_for, may_go, goes, quiet_for}
 use Rattle.dw_moves.specs.inner.MemberLemmas.{mem_cases, mem_map_back, mem_at}
 use Rattle.dw_moves.proofs.ExactLemmas.{option_cases}

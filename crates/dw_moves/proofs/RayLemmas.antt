@@ -5,7 +5,8 @@ use Rattle.dw_board.specs.declared.board.Dir.TheVariants.{UpLeft, UpRight, DownL
 use Rattle.dw_board.specs.declared.piece.Piece.{Piece}
 use Rattle.dw_board.specs.Geometry.{Geometry, IsBoard, OnBoard, row, column, step, and_then, moved, is_down, is_right}
 use Rattle.dw_board.specs.Placement.{Placement}
-use Rattle.dw_moves.specs.Moves.{Member, Jump, ray_of, ray}
+use Rattle.dw_moves.specs.Moves.{Jump, ray_of, ray}
+use Rattle.dw_board.specs.Lists.{Member}
 use Rattle.dw_moves.specs.inner.MemberLemmas.{mem_at, mem_right}
 use Rattle.dw_moves.proofs.StepLemmas.{IsNext, step_is, row_low, none_some}
 use Rattle.dw_moves.proofs.ExactLemmas.{option_cases}

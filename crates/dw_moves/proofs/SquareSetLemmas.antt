@@ -6,7 +6,7 @@ use Rattle.std.specs.List.{list_any}
 use Rattle.std.specs.FinSet as fin
 use Rattle.std.specs.Cmp.{nat_cmp_total, unsigned_tied}
 use Rattle.std.specs.Ordering.{nat_cmp, eq_by_cmp}
-use Rattle.dw_board.specs.SquareSet.{Squares}
+use Rattle.dw_board.specs.Geometry.{Squares}
 use Rattle.dw_moves.specs.Moves.{In}
 
 pub in_none : (v : Squares) (s : ℕ) → v ≡ fin.empty → In s v → ⊥

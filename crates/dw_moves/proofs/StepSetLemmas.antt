@@ -8,11 +8,9 @@ use Rattle.dw_board.specs.declared.board.Dir.TheVariants.{UpLeft, UpRight, DownL
 use Rattle.dw_board.specs.declared.piece.Side.{Side}
 use Rattle.dw_board.specs.declared.piece.Kind.{Kind}
 use Rattle.dw_board.specs.declared.piece.Kind.TheVariants.{Man, King}
-use Rattle.dw_board.specs.Geometry.{Geometry, IsBoard, OnBoard}
-use Rattle.dw_board.specs.Placement.{Placement, at}
-use Rattle.dw_board.specs.SquareSet.{Squares}
+use Rattle.dw_board.specs.Geometry.{Geometry, IsBoard, OnBoard, Squares}
+use Rattle.dw_board.specs.Placement.{Placement, at, other}
 use Rattle.dw_moves.specs.Moves.{IsForward, CanCapture, In}
-use Rattle.dw_board.specs.Placement.{other}
 use Rattle.dw_moves.specs.inner.Glance.{AreSets, StepsFrom, StepsOn, HasTwo}
 use Rattle.dw_moves.specs.Replies.{given, passed, OneStep, TwoSteps, IsLoose}
 use Rattle.dw_moves.proofs.StepLemmas.{step_is}

@@ -6,10 +6,10 @@ use Rattle.std.specs.FinSet as fin
 use Rattle.std.specs.Cmp.{nat_cmp_total, unsigned_tied}
 use Rattle.std.specs.Ordering.{nat_cmp}
 use Rattle.dw_board.specs.declared.piece.Piece.{Piece}
-use Rattle.dw_board.specs.Geometry.{Geometry}
+use Rattle.dw_board.specs.Geometry.{Geometry, Squares}
 use Rattle.dw_board.specs.Placement.{Placement, at, placed, same_side}
-use Rattle.dw_board.specs.SquareSet.{Squares}
-use Rattle.dw_moves.specs.Moves.{Member, NoRepeat, Move, Jump, Jumps, Stands, last_of}
+use Rattle.dw_moves.specs.Moves.{Move, Jump, Jumps, Stands, last_of}
+use Rattle.dw_board.specs.Lists.{Member, NoRepeat}
 use Rattle.dw_moves.specs.inner.Plain.{jump_list}
 use Rattle.dw_moves.specs.inner.Chains.{Takes, IsCapture}
 use Rattle.dw_moves.proofs.StepLemmas.{none_some}

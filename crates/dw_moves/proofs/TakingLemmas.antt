@@ -6,12 +6,10 @@ use Rattle.std.specs.Ordering.{nat_cmp}
 use Rattle.dw_board.specs.declared.piece.Side.{Side}
 use Rattle.dw_board.specs.declared.piece.Side.TheVariants.{White, Black}
 use Rattle.dw_board.specs.declared.piece.Piece.{Piece}
-use Rattle.dw_board.specs.Geometry.{Geometry, IsBoard}
-use Rattle.dw_board.specs.Placement.{Placement, IsPosition, at, placed, count, same_side}
-use Rattle.dw_board.specs.SquareSet.{Squares}
+use Rattle.dw_board.specs.Geometry.{Geometry, IsBoard, Squares}
+use Rattle.dw_board.specs.Placement.{Placement, IsPosition, at, placed, count, same_side, other}
 use Rattle.dw_moves.specs.inner.Glance.{CanTakeFrom}
 use Rattle.dw_moves.specs.Moves.{In, Path, Stands, Move, last_of}
-use Rattle.dw_board.specs.Placement.{other}
 use Rattle.dw_moves.specs.inner.Chains.{ChainsFit, Taking, TakingFrom, EndsAs, Longest}
 use Rattle.dw_moves.proofs.ExactLemmas.{same_side_refl}
 use Rattle.dw_moves.proofs.StepLemmas.{none_some}

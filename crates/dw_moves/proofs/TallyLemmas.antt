@@ -7,11 +7,10 @@ use Rattle.std.specs.Ordering.{nat_cmp}
 use Rattle.dw_board.specs.declared.board.Dir.{Dir}
 use Rattle.dw_board.specs.declared.board.Dir.TheVariants.{UpLeft, UpRight, DownLeft, DownRight}
 use Rattle.dw_board.specs.declared.piece.Kind.TheVariants.{King}
-use Rattle.dw_board.specs.Geometry.{Geometry, IsBoard, squares}
+use Rattle.dw_board.specs.Geometry.{Geometry, IsBoard, squares, Squares, back}
 use Rattle.dw_board.specs.Placement.{Placement}
-use Rattle.dw_board.specs.SquareSet.{Squares}
-use Rattle.dw_moves.specs.Moves.{Member, IsQuietCount, Quiet, In}
-use Rattle.dw_board.specs.Geometry.{back}
+use Rattle.dw_moves.specs.Moves.{IsQuietCount, Quiet, In}
+use Rattle.dw_board.specs.Lists.{Member}
 use Rattle.dw_moves.specs.inner.Plain.{numbers_to, quiet_for, Adds, Counts, ManSteps, KingGoes}
 use Rattle.dw_moves.proofs.StepBackLemmas.{step_back}
 use Rattle.dw_moves.proofs.LegalMoveLemmas.{squares_length, number_in}

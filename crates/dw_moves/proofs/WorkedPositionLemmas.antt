@@ -5,7 +5,8 @@ use Rattle.std.specs.Cmp.{nat_cmp_total}
 use Rattle.std.specs.FinSet as set
 use Rattle.dw_board.specs.Boards.{ten}
 use Rattle.dw_board.specs.Placement.{Placement}
-use Rattle.dw_moves.specs.Moves.{Member, Move}
+use Rattle.dw_moves.specs.Moves.{Move}
+use Rattle.dw_board.specs.Lists.{Member}
 use Rattle.dw_moves.specs.WorkedPositions.{move, AreTheLegal, WorkedPositions}
 use Rattle.dw_moves.proofs.PlainLemmas.{legal_list}
 use Rattle.dw_moves.proofs.LegalMoveLemmas.{legal_from, legal_in}

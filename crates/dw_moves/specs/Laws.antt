@@ -3,7 +3,8 @@ use Rattle.std.specs.Prelude.{◌≡◌, ℕ, ◌≤◌, ◌↔◌, List, length
 use Rattle.std.specs.FinSet as set
 use Rattle.dw_board.specs.Geometry.{Geometry, IsBoard, OnBoard}
 use Rattle.dw_board.specs.Placement.{Placement, IsPosition, count}
-use Rattle.dw_moves.specs.Moves.{Member, Path, IsBest, Move, Quiet, IsPathOf, Legal, play}
+use Rattle.dw_moves.specs.Moves.{Path, IsBest, Move, Quiet, IsPathOf, Legal, play}
+use Rattle.dw_board.specs.Lists.{Member}
 use Rattle.dw_board.specs.Placement.{other}
 use Rattle.dw_moves.specs.Replies.{OneStep, IsLoose, AlwaysReply}
 use Rattle.dw_moves.specs.Order.{IsKey, Precedes, IsListOf, Listed, AreListed}

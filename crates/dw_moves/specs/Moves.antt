@@ -3,28 +3,19 @@ use Rattle.std.specs.Prelude.{◌≡◌, ℕ, ◌≤◌, ◌<◌, ◌⊎◌, ◌
 use Rattle.std.specs.Coded.{Coded, code_by, coded×, coded_ℕ}
 use Rattle.std.proofs.Common.{zero, suc}
 use Rattle.std.specs.FinSet as set
+use Rattle.dw_board.specs.Lists.{Member, NoRepeat}
 use Rattle.dw_board.specs.declared.board.Dir.{Dir}
 use Rattle.dw_board.specs.declared.piece.Side.{Side}
 use Rattle.dw_board.specs.declared.piece.Side.TheVariants.{White, Black}
 use Rattle.dw_board.specs.declared.piece.Kind.{Kind}
 use Rattle.dw_board.specs.declared.piece.Kind.TheVariants.{Man}
 use Rattle.dw_board.specs.declared.piece.Piece.{Piece}
-use Rattle.dw_board.specs.Geometry.{Geometry, step, OnBoard, is_down}
+use Rattle.dw_board.specs.Geometry.{Geometry, step, OnBoard, is_down, Squares}
 use Rattle.dw_board.specs.Placement.{Placement, at, placed, carried, other}
-use Rattle.dw_board.specs.SquareSet.{Squares, word_of}
+use Rattle.dw_board.specs.SquareSet.{word_of}
 use Rattle.std.specs.Prelude.{IsTrue}
 use Rattle.std.specs.Ordering.{on}
 use Rattle.std.specs.Hash as fed
-
--- x is an element of a list
-abbrev pub Member : {X : Type 0} → X → List X → Type 0
-Member x [] = ⊥
-Member x (y ∷ ys) = (x ≡ y) ⊎ Member x ys
-
--- no element stands twice in a list
-abbrev pub NoRepeat : {X : Type 0} → List X → Type 0
-NoRepeat [] = Unit {0}
-NoRepeat (x ∷ xs) = (Member x xs → ⊥) × NoRepeat xs
 
 -- the first n squares met on the way from s in a direction, fewer where the board ends
 abbrev pub ray_of : Geometry → ℕ → ℕ → Dir → List ℕ

@@ -5,7 +5,8 @@ use Rattle.std.proofs.Common.{zero, suc}
 use Rattle.std.specs.FinSet as set
 use Rattle.dw_board.specs.Geometry.{Geometry}
 use Rattle.dw_board.specs.Placement.{Placement}
-use Rattle.dw_moves.specs.Moves.{Member, Move, Quiet, IsBest, IsPathOf, Legal, move_code}
+use Rattle.dw_moves.specs.Moves.{Move, Quiet, IsBest, IsPathOf, Legal, move_code}
+use Rattle.dw_board.specs.Lists.{Member}
 
 -- lists of numbers in lexicographic order; what begins a list comes before it
 abbrev pub LexLess : List ℕ → List ℕ → Type 0

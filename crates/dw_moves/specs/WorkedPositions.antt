@@ -7,7 +7,8 @@ use Rattle.dw_board.specs.declared.piece.Kind.{Kind}
 use Rattle.dw_board.specs.declared.piece.Kind.TheVariants.{Man, King}
 use Rattle.dw_board.specs.Boards.{ten}
 use Rattle.dw_board.specs.Placement.{Placement, empty, placed}
-use Rattle.dw_moves.specs.Moves.{Member, Move, Legal}
+use Rattle.dw_moves.specs.Moves.{Move, Legal}
+use Rattle.dw_board.specs.Lists.{Member}
 
 -- the same pieces on all these squares
 abbrev pub with_all : Placement → Side → Kind → List ℕ → Placement

@@ -1,7 +1,8 @@
 //! Quiet moves.
 ghost use Rattle.std.specs.Prelude.{◌≡◌, ◌≤◌, ◌↔◌, ◌++◌, ℕ, length, map, IsTrue, OnOk};
 ghost use Rattle.dw_board.specs.Geometry.{OnBoard};
-ghost use Rattle.dw_moves.specs.Moves.{IsQuietCount, Quiet, Member, ray};
+ghost use Rattle.dw_moves.specs.Moves.{IsQuietCount, Quiet, ray};
+ghost use Rattle.dw_board.specs.Lists.{Member};
 ghost use Rattle.dw_board.specs.declared.piece.Kind.TheVariants.{King};
 ghost use Rattle.dw_moves.specs.Moves.{In};
 ghost use Rattle.dw_moves.specs.inner.Plain as plain;

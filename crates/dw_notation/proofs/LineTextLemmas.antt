@@ -6,7 +6,8 @@ use Rattle.std.proofs.lemmas.List.{drop_more}
 use Rattle.std.specs.List.{join_with_byte}
 use Rattle.dw_board.specs.Geometry.{Geometry}
 use Rattle.dw_board.specs.Placement.{Placement}
-use Rattle.dw_moves.specs.Moves.{Member, Move, Legal}
+use Rattle.dw_moves.specs.Moves.{Move, Legal}
+use Rattle.dw_board.specs.Lists.{Member}
 use Rattle.dw_moves.specs.Order.{Listed, AreListed}
 use Rattle.dw_notation.specs.Text.{IsMoveText, numbered, text_among}
 use Rattle.dw_notation.specs.LineWords.{spaced, onto}

@@ -4,7 +4,8 @@ use Rattle.std.proofs.lemmas.Bool.{true≢false}
 use Rattle.std.proofs.lemmas.List.{take_more}
 use Rattle.dw_board.specs.Geometry.{Geometry}
 use Rattle.dw_board.specs.Placement.{Placement}
-use Rattle.dw_moves.specs.Moves.{Member, NoRepeat, Move, AreLegal}
+use Rattle.dw_moves.specs.Moves.{Move, AreLegal}
+use Rattle.dw_board.specs.Lists.{Member, NoRepeat}
 use Rattle.dw_moves.specs.inner.MemberLemmas.{mem_left, mem_right, mem_cases}
 use Rattle.dw_notation.specs.MoveReading.{Named, Capture, IsAnswer, Names, IsAnswered, IsRead}
 use Rattle.dw_notation.proofs.MoveNameLemmas.{names_one}

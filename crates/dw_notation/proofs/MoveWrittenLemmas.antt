@@ -9,7 +9,8 @@ use Rattle.std.proofs.lemmas.List.Sums.{sum_by-cons}
 use Rattle.dw_board.specs.Geometry.{Geometry, IsBoard, OnBoard, squares}
 use Rattle.dw_board.specs.Placement.{Placement, IsPosition}
 use Rattle.dw_board.specs.FenTokens.{is_digit}
-use Rattle.dw_moves.specs.Moves.{Member, Move, Quiet, Path, IsBest, IsPathOf, Legal, LegalAt, last_of}
+use Rattle.dw_moves.specs.Moves.{Move, Quiet, Path, IsBest, IsPathOf, Legal, LegalAt, last_of}
+use Rattle.dw_board.specs.Lists.{Member}
 use Rattle.dw_moves.specs.inner.MoveLemmas.{same_move}
 use Rattle.dw_moves.specs.Order.{LexLess, Precedes, IsAscending, IsPathFor, LandsAt, Listed, AreListed}
 use Rattle.dw_moves.specs.inner.MemberLemmas.{mem_map, mem_map_back}

@@ -3,7 +3,7 @@ use Rattle.std.proofs.Common.{◌≡◌, List, [], ◌∷◌, map, refl, sym, ap
 use Rattle.dw_board.specs.Geometry.{Geometry}
 use Rattle.dw_board.specs.Placement.{Placement}
 use Rattle.dw_moves.specs.Laws.{MovesInOrder, MovesHaveKeys}
-use Rattle.dw_moves.specs.Moves.{Member}
+use Rattle.dw_board.specs.Lists.{Member}
 use Rattle.dw_moves.specs.Order.{Precedes, IsAscending, Listed}
 use Rattle.dw_notation.specs.MoveReading.{Fits}
 use Rattle.dw_notation.specs.Text.{text_among}

@@ -3,7 +3,7 @@ ghost use Rattle.std.specs.Prelude.{◌≡◌, ◌≤◌, ◌<◌, ◌∷◌, []
 ghost use Rattle.std.specs.Prelude.{◌↔◌};
 ghost use Rattle.dw_board.specs.FenTokens.{number_named, begins_with_digit};
 ghost use Rattle.dw_board.specs.inner.FenBlanks.{AreDigits};
-ghost use Rattle.dw_moves.specs.Moves.{NoRepeat};
+ghost use Rattle.dw_board.specs.Lists.{NoRepeat};
 ghost use Rattle.dw_notation.specs.declared.read_move.MoveFault.TheVariants.{Memory};
 ghost use Rattle.dw_notation.specs.MoveReading.{Names, QuietMove, Capture, IsAnswer, IsRead, is_cross};
 ghost use Rattle.dw_notation.specs.inner.MoveReader.{Begins, BeginsNowhere, IsOnly, Takes};

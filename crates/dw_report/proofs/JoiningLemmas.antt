@@ -5,7 +5,8 @@ use Rattle.std.proofs.lemmas.List.{take_more, take_all, drop_more, drop_all}
 use Rattle.std.proofs.lemmas.Grind.{flat_map-append}
 use Rattle.dw_board.specs.Geometry.{Geometry}
 use Rattle.dw_board.specs.Placement.{Placement}
-use Rattle.dw_moves.specs.Moves.{Member, Move, Legal, play}
+use Rattle.dw_moves.specs.Moves.{Move, Legal, play}
+use Rattle.dw_board.specs.Lists.{Member}
 use Rattle.dw_notation.specs.Text.{IsMoveText, ArePlayable, AreMoveTexts, AreJoined}
 use Rattle.dw_report.specs.Verdict.{reach}
 

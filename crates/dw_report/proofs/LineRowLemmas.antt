@@ -4,7 +4,8 @@ use Rattle.std.specs.Io.KnownBytes.{Appends}
 use Rattle.std.proofs.KnownBytes.{Appends-trans, Appends-nil}
 use Rattle.dw_board.specs.Geometry.{Geometry, IsBoard}
 use Rattle.dw_board.specs.Placement.{Placement}
-use Rattle.dw_moves.specs.Moves.{Member, Move, play}
+use Rattle.dw_moves.specs.Moves.{Move, play}
+use Rattle.dw_board.specs.Lists.{Member}
 use Rattle.dw_moves.specs.inner.MemberLemmas.{mem_left, mem_right}
 use Rattle.dw_notation.specs.Text.{IsLineText, ArePlayable}
 use Rattle.dw_notation.specs.TextLaws.{LinesHaveTexts}

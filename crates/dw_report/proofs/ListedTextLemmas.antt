@@ -3,7 +3,8 @@ use Rattle.std.proofs.Common.{◌≡◌, ℕ, ◌+◌, ◌-◌, ◌<◌, ◌≤�
 use Rattle.std.proofs.lemmas.Bool.{cases_order}
 use Rattle.dw_board.specs.Geometry.{Geometry, IsBoard}
 use Rattle.dw_board.specs.Placement.{Placement}
-use Rattle.dw_moves.specs.Moves.{Member, Move}
+use Rattle.dw_moves.specs.Moves.{Move}
+use Rattle.dw_board.specs.Lists.{Member}
 use Rattle.dw_moves.specs.inner.MemberLemmas.{mem_left, mem_right}
 use Rattle.dw_moves.specs.Order.{IsAscending}
 use Rattle.dw_moves.specs.Laws.{MovesHaveKeys}

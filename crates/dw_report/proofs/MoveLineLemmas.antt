@@ -8,7 +8,8 @@ use Rattle.std.proofs.lemmas.List.{take_more, take_all, take-append-drop}
 use Rattle.std.proofs.lemmas.Grind.{flat_map-append}
 use Rattle.dw_board.specs.Geometry.{Geometry}
 use Rattle.dw_board.specs.Placement.{Placement}
-use Rattle.dw_moves.specs.Moves.{Member, Legal, IsBest, play}
+use Rattle.dw_moves.specs.Moves.{Legal, IsBest, play}
+use Rattle.dw_board.specs.Lists.{Member}
 use Rattle.dw_moves.specs.Order.{Listed, AreListed}
 use Rattle.dw_board.specs.FenText.{written}
 use Rattle.dw_notation.specs.Text.{text_among}

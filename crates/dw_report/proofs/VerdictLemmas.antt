@@ -3,7 +3,8 @@ use Rattle.std.proofs.Common.{◌≡◌, ℕ, ◌-◌, ◌<◌, ◌≤◌, zero,
 use Rattle.std.proofs.lemmas.Bool.{cases_order}
 use Rattle.dw_board.specs.Geometry.{Geometry, IsBoard}
 use Rattle.dw_board.specs.Placement.{Placement}
-use Rattle.dw_moves.specs.Moves.{Member, Move, Legal, play}
+use Rattle.dw_moves.specs.Moves.{Move, Legal, play}
+use Rattle.dw_board.specs.Lists.{Member}
 use Rattle.dw_moves.specs.Order.{LexLess, IsKey, Precedes, IsAscending, IsListOf}
 use Rattle.dw_moves.specs.Laws.{MovesListed, MovesInOrder, MovesHaveKeys}
 use Rattle.dw_solve.specs.Wins.{Win}

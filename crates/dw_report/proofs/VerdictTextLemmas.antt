@@ -2,7 +2,8 @@
 use Rattle.std.proofs.Common.{◌≡◌, ℕ, ◌+◌, ◌-◌, ◌/◌, List, [], ◌∷◌, ◌++◌, length, refl, sym, ap, ◌∙◌, subst, inl, append_assoc, append-nil, codes, decimal}
 use Rattle.dw_board.specs.Geometry.{Geometry}
 use Rattle.dw_board.specs.Placement.{Placement}
-use Rattle.dw_moves.specs.Moves.{Member, Move, Legal, play}
+use Rattle.dw_moves.specs.Moves.{Move, Legal, play}
+use Rattle.dw_board.specs.Lists.{Member}
 use Rattle.dw_notation.specs.Text.{IsMoveText, IsLineText, ArePlayable, AreJoined}
 use Rattle.dw_report.specs.Verdict.{unsolvable, cooked, dual, sound, reach, IsVerdict}
 use Rattle.dw_report.specs.JudgedText.{next_number, IsVerdictText, IsTryLine}

@@ -1,7 +1,8 @@
 //! The texts of verdicts and tries.
 ghost use Rattle.std.specs.Prelude.{◌≡◌, ◌≤◌, [], length, IfOk};
 ghost use Rattle.std.specs.String.{string_bytes};
-ghost use Rattle.dw_moves.specs.Moves.{Member, Legal};
+ghost use Rattle.dw_moves.specs.Moves.{Legal};
+ghost use Rattle.dw_board.specs.Lists.{Member};
 ghost use Rattle.dw_moves.specs.Moves as of;
 ghost use Rattle.dw_notation.specs.Text.{ArePlayable, AreJoined};
 ghost use Rattle.dw_report.specs.Verdict.{IsVerdict, reach, cooked, dual};

@@ -5,12 +5,10 @@ use Rattle.std.proofs.lemmas.Bool.{cases_Bool, le-leb, or_cases, or_left, or_rig
 use Rattle.dw_board.specs.Placement.{Placement}
 use Rattle.dw_memo.specs.Bounding.{decides, fails_decide, wins_decide}
 use Rattle.dw_memo.specs.Content.{Entry, entry, Content, positions, IsMap, SameEntries}
-use Rattle.dw_memo.specs.Content as memo
-use Rattle.dw_moves.specs.Moves.{Member, NoRepeat}
+use Rattle.dw_board.specs.Lists.{Member, NoRepeat}
 use Rattle.dw_moves.specs.inner.MemberLemmas.{mem_map, mem_map_back, mem_filter, mem_filter_back, no_more}
 use Rattle.dw_solve.specs.Facts.{IsDecided}
 use Rattle.dw_solve.specs.Work.{Stronger, decided_at, decided_to}
-use Rattle.dw_solve.proofs.MemberLemmas.{to, from, once, apart}
 use Rattle.dw_solve.proofs.MemoLemmas.{wins_known, fails_known}
 
 -- the entries that decide n, and their positions
@@ -44,16 +42,16 @@ decided_from c p n m =
     let w = mem_map_back (λ (e : Entry). e.position) p (deciding c n) m in
     let k = mem_filter_back (λ (e : Entry). decides e.bounds n) w.0 c w.1 in
     let e : Entry = w.0 in
-    let held : memo.Member (entry e.position e.bounds) c = from e c k.0 in
+    let held : Member (entry e.position e.bounds) c = k.0 in
     subst (λ q. IsDecided c q n) (sym w.2) (elim (or_cases (wins_decide e.bounds.wins n) (fails_decide e.bounds.fails n) k.1) [
       | inl t ↦ inl (wins_known c e.position e.bounds n held t)
       | inr t ↦ inr (fails_known c e.position e.bounds n held t)
     ])
 
-held_decides : (c : Content) (e : Entry) (p : Placement) (n : ℕ) → memo.Member e c → e.position ≡ p → decides e.bounds n ≡ true → Member p (decided_list c n)
+held_decides : (c : Content) (e : Entry) (p : Placement) (n : ℕ) → Member e c → e.position ≡ p → decides e.bounds n ≡ true → Member p (decided_list c n)
 held_decides c e p n m about t =
     subst (λ z. Member z (decided_list c n)) about
-    (mem_map (λ (e : Entry). e.position) e (deciding c n) (mem_filter (λ (e : Entry). decides e.bounds n) e c (to e c m) t))
+    (mem_map (λ (e : Entry). e.position) e (deciding c n) (mem_filter (λ (e : Entry). decides e.bounds n) e c m t))
 
 pub decided_in : (c : Content) (p : Placement) (n : ℕ) → IsDecided c p n → Member p (decided_list c n)
 decided_in c p n (inl h) =
@@ -65,12 +63,12 @@ decided_in c p n (inr h) =
     let t : fails_decide e.bounds.fails n ≡ true = rw h.is (le-leb n h.bound h.enough) in
     held_decides c e p n h.held h.about (or_right (wins_decide e.bounds.wins n) (fails_decide e.bounds.fails n) t)
 
-pub decided_counted : (c : Content) (n : ℕ) → IsMap c → (ps : List Placement) × memo.NoRepeat ps × ((p : Placement) → memo.Member p ps ↔ IsDecided c p n) × (length ps ≡ decided_at c n)
+pub decided_counted : (c : Content) (n : ℕ) → IsMap c → (ps : List Placement) × NoRepeat ps × ((p : Placement) → Member p ps ↔ IsDecided c p n) × (length ps ≡ decided_at c n)
 decided_counted c n u =
     let ps = decided_list c n in (
       ps,
-      apart ps (decided_once c n (once (positions c) u)),
-      (λ p. ((λ m. decided_from c p n (to p ps m)), (λ h. from p ps (decided_in c p n h)))),
+      decided_once c n u,
+      (λ p. ((λ m. decided_from c p n m), (λ h. decided_in c p n h))),
       decided_length c n,
     )
 

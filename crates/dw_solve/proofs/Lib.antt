@@ -1,7 +1,6 @@
 mod WinLemmas
 mod FactLemmas
 mod MemoLemmas
-mod MemberLemmas
 pub mod CountingLemmas
 pub mod WorkLemmas
 pub mod RankLemmas

@@ -7,7 +7,8 @@ use Rattle.dw_board.specs.Placement.{Placement}
 use Rattle.dw_memo.specs.declared.bounds.Bounds.{Bounds}
 use Rattle.dw_memo.specs.declared.memo.Noted.{Noted}
 use Rattle.dw_memo.specs.Bounding.{wins_decide, fails_decide, decided, at_least, at_most, with_fail, with_win}
-use Rattle.dw_memo.specs.Content.{Entry, entry, Content, Member, positions, IsMap, SameEntries}
+use Rattle.dw_memo.specs.Content.{Entry, entry, Content, positions, IsMap, SameEntries}
+use Rattle.dw_board.specs.Lists.{Member}
 use Rattle.dw_memo.specs.Noting.{IsNote}
 use Rattle.dw_solve.specs.Wins.{Win}
 use Rattle.dw_solve.specs.Facts.{KnownWin, KnownFail, IsDecided, AreTrue}

@@ -7,7 +7,8 @@ use Rattle.std.proofs.lemmas.List.Elements.{Contains-push_cases, Contains-append
 use Rattle.std.proofs.Common.{add-one}
 use Rattle.dw_board.specs.Geometry.{Geometry}
 use Rattle.dw_board.specs.Placement.{Placement}
-use Rattle.dw_moves.specs.Moves.{Member, Move, Legal, AreLegal, play}
+use Rattle.dw_moves.specs.Moves.{Move, Legal, AreLegal, play}
+use Rattle.dw_board.specs.Lists.{Member}
 use Rattle.dw_solve.specs.Wins.{Win, Lost}
 use Rattle.dw_solve.specs.inner.Ranking.{AreRanked}
 

@@ -2,7 +2,8 @@
 use Rattle.std.proofs.Common.{◌≡◌, ℕ, ◌≤◌, ◌-◌, zero, suc, subst, sym, false, List, [], ◌∷◌, ◌⊎◌, inl, inr, arith, refl}
 use Rattle.dw_board.specs.Geometry.{Geometry}
 use Rattle.dw_board.specs.Placement.{Placement}
-use Rattle.dw_moves.specs.Moves.{Member, Move, Legal, play}
+use Rattle.dw_moves.specs.Moves.{Move, Legal, play}
+use Rattle.dw_board.specs.Lists.{Member}
 use Rattle.dw_moves.specs.Laws.{MovesListed}
 use Rattle.dw_moves.specs.Replies.{AlwaysReply}
 use Rattle.std.proofs.lemmas.Bool.{true≢false}

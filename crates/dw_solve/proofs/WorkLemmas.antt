@@ -11,14 +11,14 @@ use Rattle.dw_moves.specs.Moves.{Move, Legal, play}
 use Rattle.dw_memo.specs.declared.bounds.Bounds.{Bounds}
 use Rattle.dw_memo.specs.declared.memo.Noted.{Noted}
 use Rattle.dw_memo.specs.Bounding.{at_least, at_most, with_fail, with_win}
-use Rattle.dw_memo.specs.Content.{Entry, entry, Content, Member, positions, IsMap, SameEntries}
+use Rattle.dw_memo.specs.Content.{Entry, entry, Content, positions, IsMap, SameEntries}
+use Rattle.dw_board.specs.Lists.{Member}
 use Rattle.dw_memo.specs.Noting.{IsPutIn, IsNote}
 use Rattle.dw_moves.specs.inner.MemberLemmas as laws
 use Rattle.dw_solve.specs.Facts.{KnownWin, KnownFail, IsDecided, IsClosed}
 use Rattle.dw_solve.specs.inner.Searching.{HasBounds, IsNoted, SaysMove}
 use Rattle.dw_solve.specs.Work.{Moment, Stronger, decided_to, FewNew, LossIsCounted, NothingLost, Worked, Searched, cut_off, moment}
 use Rattle.dw_solve.specs.Saying.{SaysWin}
-use Rattle.dw_solve.proofs.MemberLemmas.{to, from}
 use Rattle.dw_solve.proofs.MemoLemmas.{option_cases, mem_map, same_entry, same_win, same_fail}
 use Rattle.dw_solve.proofs.CountingLemmas.{decided_grows, decided_rises, decided_to_grows}
 
@@ -55,8 +55,8 @@ few_then a m c f g = record {
   positions = f.positions ++ g.positions;
   few = omega (arith, f.few, g.few, length-append f.positions g.positions);
   all = λ e h. elim (g.all e h) [
-    | inl k ↦ elim (f.all e k) [ inl o ↦ inl o | inr n ↦ inr (from e.position (f.positions ++ g.positions) (laws.mem_left e.position f.positions g.positions (to e.position f.positions n))) ]
-    | inr n ↦ inr (from e.position (f.positions ++ g.positions) (laws.mem_right e.position f.positions g.positions (to e.position g.positions n)))
+    | inl k ↦ elim (f.all e k) [ inl o ↦ inl o | inr n ↦ inr (laws.mem_left e.position f.positions g.positions n) ]
+    | inr n ↦ inr (laws.mem_right e.position f.positions g.positions n)
   ];
 }
 

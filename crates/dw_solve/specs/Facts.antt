@@ -3,7 +3,8 @@ use Rattle.std.specs.Prelude.{◌≡◌, ℕ, ◌-◌, ◌<◌, ◌≤◌, ◌�
 use Rattle.dw_board.specs.Geometry.{Geometry}
 use Rattle.dw_board.specs.Placement.{Placement}
 use Rattle.dw_moves.specs.Moves.{Move, Legal, play}
-use Rattle.dw_memo.specs.Content.{Entry, entry, Content, Member}
+use Rattle.dw_memo.specs.Content.{Entry, entry, Content}
+use Rattle.dw_board.specs.Lists.{Member}
 use Rattle.dw_solve.specs.Wins.{Win}
 
 -- the memo says that the position has no win within f moves

@@ -3,7 +3,8 @@ use Rattle.std.specs.Prelude.{◌≡◌, ℕ, ◌+◌, ◌≤◌, ◌⊎◌, ◌
 use Rattle.dw_board.specs.Geometry.{Geometry, IsBoard}
 use Rattle.dw_board.specs.Placement.{Placement}
 use Rattle.dw_moves.specs.Replies.{IsLoose, AlwaysReply}
-use Rattle.dw_memo.specs.Content.{Content, Member, NoRepeat, IsMap}
+use Rattle.dw_memo.specs.Content.{Content, IsMap}
+use Rattle.dw_board.specs.Lists.{Member, NoRepeat}
 use Rattle.dw_solve.specs.Wins.{Win, Lost}
 use Rattle.dw_solve.specs.Facts.{IsClosed, AreTrue, IsDecided}
 use Rattle.dw_solve.specs.Work.{Moment, decided_at, LossIsCounted, NothingLost, Searched}

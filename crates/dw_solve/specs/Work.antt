@@ -4,7 +4,8 @@ use Rattle.std.proofs.Common.{zero, suc}
 use Rattle.dw_board.specs.Geometry.{Geometry}
 use Rattle.dw_board.specs.Placement.{Placement}
 use Rattle.dw_memo.specs.Bounding.{decides}
-use Rattle.dw_memo.specs.Content.{Entry, Content, Member}
+use Rattle.dw_memo.specs.Content.{Entry, Content}
+use Rattle.dw_board.specs.Lists.{Member}
 use Rattle.dw_solve.specs.Facts.{KnownWin, KnownFail, IsClosed}
 
 -- a search at one time: what its cache holds, how many entries the cache has lost, how many positions were expanded

@@ -1,8 +1,7 @@
 -- How the sign of a square is told: by three sets.
 use Rattle.std.specs.Prelude.{◌≡◌, ℕ, Bool, true, false, None}
 use Rattle.std.specs.FinSet as set
-use Rattle.dw_board.specs.Geometry.{Geometry, OnBoard}
-use Rattle.dw_board.specs.SquareSet.{Squares}
+use Rattle.dw_board.specs.Geometry.{Geometry, OnBoard, Squares}
 use Rattle.dw_board.specs.Placement.{Placement, at}
 use Rattle.dw_board.specs.Diagram.{piece_sign, square_sign}
 use Rattle.dw_board.specs.declared.piece.Side.TheVariants.{White, Black}

@@ -12,11 +12,10 @@ use Rattle.std.proofs.lemmas.Bool.{agree_below, agree_below_at, or_left, or_righ
 use Rattle.std.proofs.lemmas.Nat.Bits.{bit_at_or, bit_at-zero, bit_at-pow_same, bit_at-pow_other, bit_at-lt}
 use Rattle.std.proofs.lemmas.Nat.Bits.{same_from_bits, bit_at_above}
 use Rattle.std.proofs.lemmas.Bool.Decides.{nat_tests}
-use Rattle.dw_board.specs.Geometry.{Geometry, IsBoard, squares, OnBoard, bit}
-use Rattle.dw_board.specs.SquareSet.{Squares, is_set, square_at, members_below, squares_of, word_below, word_of}
+use Rattle.dw_board.specs.Geometry.{Geometry, IsBoard, squares, OnBoard, bit, Squares, is_square}
+use Rattle.dw_board.specs.SquareSet.{is_set, square_at, members_below, squares_of, word_below, word_of}
 use Rattle.dw_board.specs.SquareSet.{OnlySquares, WholeBoard}
 use Rattle.dw_board.specs.inner.GeometryLemmas.{square_at-bit, bit-square_at}
-use Rattle.dw_board.specs.Geometry.{is_square}
 
 pub contains-insert : (v : Squares) (k q : ℕ) → set.contains (set.insert v k) q ≡ (eqb q k || set.contains v q)
 contains-insert v k q = set.contains-insert nat_cmp_total v k q ∙ ap (λ b. b || set.contains v q) (unsigned_tied q k)

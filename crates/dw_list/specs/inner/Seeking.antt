@@ -2,7 +2,8 @@
 use Rattle.std.specs.Prelude.{◌≡◌, ℕ, None, List, ◌∷◌}
 use Rattle.dw_board.specs.Geometry.{Geometry}
 use Rattle.dw_board.specs.Placement.{Placement}
-use Rattle.dw_moves.specs.Moves.{Member, Move}
+use Rattle.dw_moves.specs.Moves.{Move}
+use Rattle.dw_board.specs.Lists.{Member}
 use Rattle.dw_list.specs.declared.following.Found.{Found}
 use Rattle.dw_list.specs.declared.following.Found.TheVariants.{Along, Place}
 use Rattle.dw_list.specs.Lines.{IsPlace}

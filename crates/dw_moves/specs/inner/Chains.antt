@@ -3,10 +3,10 @@ use Rattle.std.specs.Prelude.{◌≡◌, ℕ, ◌+◌, ◌<◌, ◌≤◌, ◌�
 use Rattle.std.specs.FinSet as set
 use Rattle.dw_board.specs.declared.board.Dir.{Dir}
 use Rattle.dw_board.specs.declared.piece.Piece.{Piece}
-use Rattle.dw_board.specs.Geometry.{Geometry}
+use Rattle.dw_board.specs.Geometry.{Geometry, Squares}
 use Rattle.dw_board.specs.Placement.{Placement}
-use Rattle.dw_board.specs.SquareSet.{Squares}
-use Rattle.dw_moves.specs.Moves.{Member, NoRepeat, Jumps, Path, Move, IsPathOf, last_of, ray}
+use Rattle.dw_moves.specs.Moves.{Jumps, Path, Move, IsPathOf, last_of, ray}
+use Rattle.dw_board.specs.Lists.{Member, NoRepeat}
 use Rattle.dw_moves.specs.inner.Plain.{takes_for}
 
 -- jumps from s that take nothing twice and nothing that was taken before

@@ -7,14 +7,11 @@ use Rattle.dw_board.specs.declared.piece.Side.{Side}
 use Rattle.dw_board.specs.declared.piece.Kind.{Kind}
 use Rattle.dw_board.specs.declared.piece.Kind.TheVariants.{Man, King}
 use Rattle.dw_board.specs.declared.piece.Piece.{Piece}
-use Rattle.dw_board.specs.Geometry.{Geometry, step, OnBoard}
-use Rattle.dw_board.specs.Placement.{Placement, at, placed}
-use Rattle.dw_board.specs.SquareSet.{Squares}
-use Rattle.dw_moves.specs.Moves.{IsForward, Quiet, Stands, Jump, play}
-use Rattle.dw_board.specs.Placement.{other}
+use Rattle.dw_board.specs.Geometry.{Geometry, step, OnBoard, Squares}
+use Rattle.dw_board.specs.Placement.{Placement, at, placed, other}
+use Rattle.dw_moves.specs.Moves.{IsForward, Quiet, Stands, Jump, play, In}
 use Rattle.dw_moves.specs.inner.Plain.{quiet_to}
 use Rattle.dw_moves.specs.Replies.{IsLoose}
-use Rattle.dw_moves.specs.Moves.{In}
 
 -- the squares on which a side's pieces stand
 abbrev pub AreOf : Geometry → Placement → Side → Squares → Type 0

@@ -5,7 +5,8 @@ use Rattle.arrayvec.specs.ArrayVec.{ArrayVec}
 use Rattle.dw_board.specs.declared.piece.Piece.{Piece}
 use Rattle.dw_board.specs.Geometry.{Geometry}
 use Rattle.dw_board.specs.Placement.{Placement}
-use Rattle.dw_moves.specs.Moves.{Member, NoRepeat, Move, IsPathOf, Legal, last_of}
+use Rattle.dw_moves.specs.Moves.{Move, IsPathOf, Legal, last_of}
+use Rattle.dw_board.specs.Lists.{Member, NoRepeat}
 use Rattle.dw_moves.specs.inner.Plain.{quiet_to}
 use Rattle.dw_moves.specs.inner.Chains.{Chain}
 use Rattle.dw_moves.specs.Order.{LexLess, Listed, HasLeastPath}

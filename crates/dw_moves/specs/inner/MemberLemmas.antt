@@ -3,7 +3,7 @@ use Rattle.std.proofs.Common.{◌≡◌, ◌≤◌, List, [], ◌∷◌, ◌++�
 use Rattle.std.proofs.Common.{length-append, Bool, true, false}
 use Rattle.std.specs.List.{flat_map}
 use Rattle.std.specs.Prelude.{filter}
-use Rattle.dw_moves.specs.Moves.{Member, NoRepeat}
+use Rattle.dw_board.specs.Lists.{Member, NoRepeat}
 
 pub mem_left : {X : Type 0} → (x : X) (xs ys : List X) → Member x xs → Member x (xs ++ ys)
 mem_left x [] ys m = absurd m

@@ -7,10 +7,10 @@ use Rattle.std.specs.FinSet as set
 use Rattle.std.specs.List.{list_any}
 use Rattle.std.specs.Ordering.{on, eq_of_both, eq_by_cmp, nat_cmp}
 use Rattle.std.proofs.lemmas.Bool.{and_parts, and_from, eqb-true, eq-eqb}
-use Rattle.dw_board.specs.Geometry.{Geometry}
-use Rattle.dw_board.specs.SquareSet.{Squares}
+use Rattle.dw_board.specs.Geometry.{Geometry, Squares}
 use Rattle.dw_board.specs.Placement.{Placement}
-use Rattle.dw_moves.specs.Moves.{Member, Move, Legal, AreLegal}
+use Rattle.dw_moves.specs.Moves.{Move, Legal, AreLegal}
+use Rattle.dw_board.specs.Lists.{Member}
 
 -- sets with the same items are the same
 pub same_items : (v w : Squares) → set.items v ≡ set.items w → v ≡ w

@@ -13,7 +13,8 @@ use Rattle.dw_board.specs.declared.piece.Piece.{Piece}
 use Rattle.dw_board.specs.Geometry.{Geometry, OnBoard, squares, is_down, step}
 use Rattle.dw_board.specs.Placement.{Placement, at, same_side}
 use Rattle.std.specs.FinSet as set
-use Rattle.dw_moves.specs.Moves.{Member, NoRepeat, IsForward, Move, ray}
+use Rattle.dw_moves.specs.Moves.{IsForward, Move, ray}
+use Rattle.dw_board.specs.Lists.{Member, NoRepeat}
 use Rattle.dw_board.specs.Placement.{other}
 
 -- the numbers from 1 to n

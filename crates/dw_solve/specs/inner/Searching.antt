@@ -3,7 +3,8 @@ use Rattle.std.specs.Prelude.{◌≡◌, ◌-◌, ◌⊎◌, ℕ, Bool, cond, Is
 use Rattle.dw_memo.specs.declared.bounds.Bounds.{Bounds}
 use Rattle.dw_memo.specs.inner.Keeping.{nothing}
 use Rattle.dw_board.specs.Placement.{Placement}
-use Rattle.dw_memo.specs.Content.{entry, Content, Member, positions}
+use Rattle.dw_memo.specs.Content.{entry, Content, positions}
+use Rattle.dw_board.specs.Lists.{Member}
 use Rattle.dw_memo.specs.declared.memo.Noted.{Noted}
 use Rattle.dw_memo.specs.Bounding.{with_win, with_fail}
 use Rattle.dw_memo.specs.Noting.{IsNote}

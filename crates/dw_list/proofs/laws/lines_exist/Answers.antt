@@ -1,7 +1,8 @@
 use Rattle.std.proofs.Common.{◌≡◌, [], List, subst, inl, refl, ◌∷◌}
 use Rattle.dw_board.specs.Geometry.{Geometry}
 use Rattle.dw_board.specs.Placement.{Placement}
-use Rattle.dw_moves.specs.Moves.{Member, Move}
+use Rattle.dw_moves.specs.Moves.{Move}
+use Rattle.dw_board.specs.Lists.{Member}
 use Rattle.dw_solve.specs.Wins.{Win}
 use Rattle.dw_list.specs.Lines.{Line, Before, Lines}
 use Rattle.dw_list.specs.inner.ListLemmas.{list_only}

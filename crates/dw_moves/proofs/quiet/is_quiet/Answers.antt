@@ -3,7 +3,7 @@ use Rattle.std.specs.Prelude.{IsTrue}
 use Rattle.dw_board.specs.declared.board.Dir.{Dir}
 use Rattle.dw_board.specs.declared.board.Dir.TheVariants.{UpLeft, UpRight, DownLeft, DownRight}
 use Rattle.dw_board.specs.Placement.{same_side}
-use Rattle.dw_moves.specs.Moves.{Member}
+use Rattle.dw_board.specs.Lists.{Member}
 use Rattle.dw_moves.specs.inner.Plain.{goes}
 use Rattle.dw_moves.proofs.OrChainLemmas.{then_or, else_or}
 use Rattle.dw_moves.proofs.QuietLemmas.{Anywhere, own_quiet, both_ways}

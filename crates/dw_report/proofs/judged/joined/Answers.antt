@@ -1,6 +1,6 @@
 use Rattle.std.proofs.Common.{◌++◌, sym, ap, ◌∙◌, subst, inr}
 use Rattle.std.specs.String.{string_bytes}
-use Rattle.dw_moves.specs.Moves.{Member}
+use Rattle.dw_board.specs.Lists.{Member}
 use Rattle.dw_report.proofs.JoiningLemmas.{one_of_them, joined_one, joined_more, joined_all}
 use Rattle.dw_report.proofs.judged.joined.Goals as goal
 
