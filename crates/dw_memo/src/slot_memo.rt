@@ -93,7 +93,7 @@ fn lost<B: Board>(slot: &Option<(Position<B>, Bounds)>, position: &Position<B>) 
     }
 }
 
-/// The slot of a position, among so many: its mixed word as a part of 2^64, times their number. So no division is needed.
+/// The slot of a position, among so many: its mixed word as a part of 2^64, times their number. No division is needed.
 fn slot_of<B: Board>(position: &Position<B>, slots: usize) -> usize
     requires { 1 ≤ slots }
     ensures slot { result ≡ of.slot_of B.geometry position.now slots }
