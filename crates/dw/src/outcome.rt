@@ -143,91 +143,121 @@ mod tests {
         refused: 1,
     };
 
-    // Each ending, the problem asked for, the status, and the line on standard error.
+    const NO_ROOM: RunFault = RunFault::Stopped {
+        why: Stop::Memory,
+        expanded: 0,
+    };
+
+    const NO_MORE: RunFault = RunFault::Stopped {
+        why: Stop::Limit,
+        expanded: 1,
+    };
+
+    /// An ending, the problem asked for, the status, and the line on standard error.
+    type Row = (Ending<&'static str>, Option<u32>, u8, &'static str);
+
+    const ROWS: [Row; 21] = [
+        (Ending::Help, None, 0, ""),
+        (Ending::HelpNotWritten, None, 3, "dw: write failed\n"),
+        (Ending::Words("why\n"), None, 2, "why\n"),
+        (
+            Ending::Memory,
+            None,
+            3,
+            "dw: stopped: 1 memory, 0 expanded\n",
+        ),
+        (
+            Ending::Ran(Err(NO_ROOM)),
+            Some(2),
+            3,
+            "dw: stopped: 1 memory, 0 expanded\n",
+        ),
+        (
+            Ending::Ran(Err(NO_MORE)),
+            None,
+            3,
+            "dw: stopped: 2 limit, 1 expanded\n",
+        ),
+        (
+            Ending::NotOpened("a b"),
+            Some(2),
+            3,
+            "dw: cannot open a b\n",
+        ),
+        (
+            Ending::Ran(Err(RunFault::Read)),
+            Some(2),
+            3,
+            "dw: read failed\n",
+        ),
+        (
+            Ending::Ran(Err(RunFault::Write)),
+            None,
+            3,
+            "dw: write failed\n",
+        ),
+        (Ending::Ran(Ok(NOTHING)), None, 0, ""),
+        (Ending::Ran(Ok(NOTHING)), Some(7), 1, "dw: no problem 7\n"),
+        (Ending::Ran(Ok(ONE_SHOWN)), Some(2), 0, ""),
+        (Ending::Ran(Ok(ONE_REFUSED)), None, 1, ""),
+        (Ending::Ran(Ok(ONE_REFUSED)), Some(3), 1, ""),
+        (
+            Ending::TokenRefused(TokenFault::NotHex),
+            None,
+            1,
+            "dw: token refused: 1 not hex\n",
+        ),
+        (
+            Ending::TokenRefused(TokenFault::Version),
+            None,
+            1,
+            "dw: token refused: 2 version\n",
+        ),
+        (
+            Ending::TokenRefused(TokenFault::Length),
+            None,
+            1,
+            "dw: token refused: 3 length\n",
+        ),
+        (
+            Ending::TokenRefused(TokenFault::Length),
+            Some(1),
+            1,
+            "dw: token refused: 3 length\n",
+        ),
+        (
+            Ending::TokenRefused(TokenFault::Square),
+            None,
+            1,
+            "dw: token refused: 4 square\n",
+        ),
+        (
+            Ending::TokenRefused(TokenFault::Taken),
+            None,
+            1,
+            "dw: token refused: 5 taken\n",
+        ),
+        (
+            Ending::TokenRefused(TokenFault::Board),
+            None,
+            1,
+            "dw: token refused: 6 board\n",
+        ),
+    ];
+
     #[test]
     fn statuses_and_lines(rt: HostRuntime) -> Result<(), Fail> {
-        let rows = [
-            (Ending::Help, None, 0, ""),
-            (Ending::HelpNotWritten, None, 3, "dw: write failed\n"),
-            (Ending::Words("why\n"), None, 2, "why\n"),
-            (
-                Ending::Memory,
-                None,
-                3,
-                "dw: stopped: 1 memory, 0 expanded\n",
-            ),
-            (
-                Ending::Ran(Err(RunFault::Stopped {
-                    why: Stop::Memory,
-                    expanded: 0,
-                })),
-                Some(2),
-                3,
-                "dw: stopped: 1 memory, 0 expanded\n",
-            ),
-            (
-                Ending::Ran(Err(RunFault::Stopped {
-                    why: Stop::Limit,
-                    expanded: 1,
-                })),
-                None,
-                3,
-                "dw: stopped: 2 limit, 1 expanded\n",
-            ),
-            (
-                Ending::NotOpened("a b"),
-                Some(2),
-                3,
-                "dw: cannot open a b\n",
-            ),
-            (
-                Ending::Ran(Err(RunFault::Read)),
-                Some(2),
-                3,
-                "dw: read failed\n",
-            ),
-            (
-                Ending::Ran(Err(RunFault::Write)),
-                None,
-                3,
-                "dw: write failed\n",
-            ),
-            (Ending::Ran(Ok(NOTHING)), None, 0, ""),
-            (Ending::Ran(Ok(NOTHING)), Some(7), 1, "dw: no problem 7\n"),
-            (Ending::Ran(Ok(ONE_SHOWN)), Some(2), 0, ""),
-            (Ending::Ran(Ok(ONE_REFUSED)), None, 1, ""),
-            (Ending::Ran(Ok(ONE_REFUSED)), Some(3), 1, ""),
-        ];
-        for (ending, only, status, line) in rows {
+        for (ending, only, status, line) in ROWS {
             let exit = outcome(ending, only);
-            assert_eq!(rt; exit.status, status, "{line}");
             let written = match exit.message {
                 None => String::new(rt.alloc()),
                 Some(message) => format!(in rt.alloc(); "{message}")?,
             };
-            assert_eq!(rt; written.as_str(), line);
+            assert!(rt;
+                exit.status == status && written.as_str() == line,
+                "{written}"
+            );
         }
-        Ok(())
-    }
-
-    // Each fault of a token, and the line on standard error.
-    #[test]
-    fn refused_tokens(rt: HostRuntime) -> Result<(), Fail> {
-        let rows = [
-            (TokenFault::NotHex, "dw: token refused: 1 not hex\n"),
-            (TokenFault::Version, "dw: token refused: 2 version\n"),
-            (TokenFault::Length, "dw: token refused: 3 length\n"),
-            (TokenFault::Square, "dw: token refused: 4 square\n"),
-            (TokenFault::Taken, "dw: token refused: 5 taken\n"),
-            (TokenFault::Board, "dw: token refused: 6 board\n"),
-        ];
-        for (fault, line) in rows {
-            let message = Message::<&str>::TokenRefused(fault);
-            let written = format!(in rt.alloc(); "{message}")?;
-            assert_eq!(rt; written.as_str(), line);
-        }
-        let exit = outcome(Ending::<&str>::TokenRefused(TokenFault::Length), Some(1));
-        assert_eq!(rt; exit.status, 1);
         Ok(())
     }
 }

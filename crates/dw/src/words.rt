@@ -370,183 +370,110 @@ mod tests {
     use super::*;
     use std::test::Fail;
 
-    #[test]
-    fn commands_that_are_asked_for(rt: HostRuntime) -> Result<(), Fail> {
-        for (name, wanted) in [("show", Command::Show), ("moves", Command::Moves)] {
-            let words = ["dw", name, "--problem", "3", "a.fen"];
-            let matches = command(rt.alloc())?
-                .try_get_matches_from(words.as_slice())
-                .ok()
-                .expect(&rt, "matches");
-            let request = requested(&matches).expect(&rt, "a command");
-            assert_eq!(rt; request.command, wanted);
-            assert_eq!(rt; request.only, Some(3));
-            assert_eq!(rt; request.file, Some("a.fen"));
-        }
-        Ok(())
+    /// Words with blanks between them, and what they ask for, as `asked` tells it; nothing if they are no command.
+    type Row = (&'static str, &'static str);
+
+    const ROWS: [Row; 29] = [
+        (
+            "dw show --problem 3 a.fen",
+            "Show Fens Some(3) Ten Some(\"a.fen\")",
+        ),
+        (
+            "dw moves --problem 3 a.fen",
+            "Moves Fens Some(3) Ten Some(\"a.fen\")",
+        ),
+        ("dw show", "Show Fens None Ten None"),
+        ("dw show a.fen", "Show Fens None Ten Some(\"a.fen\")"),
+        ("dw show --pdn a.pdn", "Show Pdn None Ten Some(\"a.pdn\")"),
+        (
+            "dw show --board 8 --problem 1",
+            "Show Fens Some(1) Eight None",
+        ),
+        (
+            "dw show --problem=1000000 --board=10",
+            "Show Fens Some(1000000) Ten None",
+        ),
+        ("dw show -- --pdn", "Show Fens None Ten Some(\"--pdn\")"),
+        (
+            "dw judge -n 2",
+            "Judge 2 1000000000000 Lru 100000 1 None None",
+        ),
+        (
+            "dw judge -n20 --positions 7 --memo=none",
+            "Judge 20 7 None 100000 1 None None",
+        ),
+        (
+            "dw list -n 1 --memo slots --cache 4000000",
+            "List 1 1000000000000 Slots 4000000 1000000000 None None",
+        ),
+        (
+            "dw list -n 3 --lines 5 --after 01",
+            "List 3 1000000000000 Lru 100000 5 Some(\"01\") Some(1)",
+        ),
+        (
+            "dw list -n 3 --problem 4 --after ",
+            "List 3 1000000000000 Lru 100000 1000000000 Some(\"\") Some(4)",
+        ),
+        ("dw", ""),
+        ("dw solve", ""),
+        ("dw show --board 9", ""),
+        ("dw show --problem 0", ""),
+        ("dw show --problem 1000001", ""),
+        ("dw show --problem x", ""),
+        ("dw show a b", ""),
+        ("dw show --fen", ""),
+        ("dw show -n 1", ""),
+        ("dw judge", ""),
+        ("dw judge -n 0", ""),
+        ("dw judge -n 21", ""),
+        ("dw judge -n 2 --lines 1", ""),
+        ("dw list -n 2 --memo big", ""),
+        ("dw list -n 2 --cache 4000001", ""),
+        ("dw list -n 2 --positions 1000000000001", ""),
+    ];
+
+    // The table as a slice: what names the table itself holds all of its rows for the prover, and that takes time.
+    fn rows() -> &'static [Row] {
+        &ROWS
     }
 
-    // Words, and the form, the problem, the board and the file that they ask for.
-    #[test]
-    fn words_that_ask(rt: HostRuntime) -> Result<(), Fail> {
-        let rows: [(&[&str], Form, Option<u32>, BoardSize, Option<&str>); 6] = [
-            (&["dw", "show"], Form::Fens, None, BoardSize::Ten, None),
-            (
-                &["dw", "show", "a.fen"],
-                Form::Fens,
-                None,
-                BoardSize::Ten,
-                Some("a.fen"),
-            ),
-            (
-                &["dw", "show", "--pdn", "a.pdn"],
-                Form::Pdn,
-                None,
-                BoardSize::Ten,
-                Some("a.pdn"),
-            ),
-            (
-                &["dw", "show", "--board", "8", "--problem", "1"],
-                Form::Fens,
-                Some(1),
-                BoardSize::Eight,
-                None,
-            ),
-            (
-                &["dw", "show", "--problem=1000000", "--board=10"],
-                Form::Fens,
-                Some(1_000_000),
-                BoardSize::Ten,
-                None,
-            ),
-            (
-                &["dw", "show", "--", "--pdn"],
-                Form::Fens,
-                None,
-                BoardSize::Ten,
-                Some("--pdn"),
-            ),
-        ];
-        for (words, form, only, board, file) in rows {
-            let matches = command(rt.alloc())?
-                .try_get_matches_from(words)
-                .ok()
-                .expect(&rt, "matches");
-            let request = requested(&matches).expect(&rt, "a command");
-            assert_eq!(rt; request.form, form);
-            assert_eq!(rt; request.only, only);
-            assert_eq!(rt; request.board, board);
-            assert_eq!(rt; request.file, file);
+    // The command. If it only reads, then the form, the problem, the board and the file; if it searches, the moves, the
+    // positions, the memo, what that keeps, the lines, the token and the problem.
+    fn asked(alloc: Global, request: &Request<'_>) -> Result<String, Fail> {
+        let command = request.command;
+        let only = request.only;
+        if matches!(command, Command::Show | Command::Moves) {
+            let Request {
+                form,
+                board,
+                file,
+                ..
+            } = request;
+            return Ok(format!(in alloc; "{command:?} {form:?} {only:?} {board:?} {file:?}")?);
         }
-        Ok(())
-    }
-
-    // Words of a search, and the moves, the positions, the memo, what it keeps, the lines, the token and the problem.
-    #[test]
-    fn words_that_search(rt: HostRuntime) -> Result<(), Fail> {
-        let rows: [(
-            &[&str],
-            u8,
-            u64,
-            MemoKind,
-            usize,
-            u64,
-            Option<&str>,
-            Option<u32>,
-        ); 5] = [
-            (
-                &["dw", "judge", "-n", "2"],
-                2,
-                1_000_000_000_000,
-                MemoKind::Lru,
-                100_000,
-                1,
-                None,
-                None,
-            ),
-            (
-                &["dw", "judge", "-n20", "--positions", "7", "--memo=none"],
-                20,
-                7,
-                MemoKind::None,
-                100_000,
-                1,
-                None,
-                None,
-            ),
-            (
-                &[
-                    "dw", "list", "-n", "1", "--memo", "slots", "--cache", "4000000",
-                ],
-                1,
-                1_000_000_000_000,
-                MemoKind::Slots,
-                4_000_000,
-                1_000_000_000,
-                None,
-                None,
-            ),
-            (
-                &["dw", "list", "-n", "3", "--lines", "5", "--after", "01"],
-                3,
-                1_000_000_000_000,
-                MemoKind::Lru,
-                100_000,
-                5,
-                Some("01"),
-                Some(1),
-            ),
-            (
-                &["dw", "list", "-n", "3", "--problem", "4", "--after", ""],
-                3,
-                1_000_000_000_000,
-                MemoKind::Lru,
-                100_000,
-                1_000_000_000,
-                Some(""),
-                Some(4),
-            ),
-        ];
-        for (words, n, positions, memo, cache, lines, after, only) in rows {
-            let matches = command(rt.alloc())?
-                .try_get_matches_from(words)
-                .ok()
-                .expect(&rt, "matches");
-            let request = requested(&matches).expect(&rt, "a command");
-            assert_eq!(rt; request.n, n);
-            assert_eq!(rt; request.positions, positions);
-            assert_eq!(rt; request.memo, memo);
-            assert_eq!(rt; request.kept(), cache);
-            assert_eq!(rt; request.lines, lines);
-            assert_eq!(rt; request.after, after);
-            assert_eq!(rt; request.only, only);
-        }
-        Ok(())
+        let Request {
+            n,
+            positions,
+            memo,
+            lines,
+            after,
+            ..
+        } = request;
+        let kept = request.kept();
+        Ok(format!(in alloc;
+            "{command:?} {n} {positions} {memo:?} {kept} {lines} {after:?} {only:?}"
+        )?)
     }
 
     #[test]
-    fn words_that_are_no_command(rt: HostRuntime) -> Result<(), Fail> {
-        let rows: [&[&str]; 16] = [
-            &["dw"],
-            &["dw", "solve"],
-            &["dw", "show", "--board", "9"],
-            &["dw", "show", "--problem", "0"],
-            &["dw", "show", "--problem", "1000001"],
-            &["dw", "show", "--problem", "x"],
-            &["dw", "show", "a", "b"],
-            &["dw", "show", "--fen"],
-            &["dw", "show", "-n", "1"],
-            &["dw", "judge"],
-            &["dw", "judge", "-n", "0"],
-            &["dw", "judge", "-n", "21"],
-            &["dw", "judge", "-n", "2", "--lines", "1"],
-            &["dw", "list", "-n", "2", "--memo", "big"],
-            &["dw", "list", "-n", "2", "--cache", "4000001"],
-            &["dw", "list", "-n", "2", "--positions", "1000000000001"],
-        ];
-        for words in rows {
-            let matches = command(rt.alloc())?.try_get_matches_from(words);
-            assert!(rt; matches.is_err());
+    fn words_ask(rt: HostRuntime) -> Result<(), Fail> {
+        for (line, wanted) in rows() {
+            let words = line.split(' ').collect::<Vec<&str>>(rt.alloc())?;
+            let found = match command(rt.alloc())?.try_get_matches_from(words.as_slice()) {
+                Err(_) => String::new(rt.alloc()),
+                Ok(matches) => asked(rt.alloc(), &requested(&matches).expect(&rt, "a command"))?,
+            };
+            assert!(rt; found.as_str() == *wanted, "{line}");
         }
         Ok(())
     }
