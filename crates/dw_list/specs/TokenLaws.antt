@@ -8,15 +8,15 @@ use Rattle.dw_board.specs.Lists.{Member}
 use Rattle.dw_list.specs.Tokens.{IsToken, token_of, token_fault}
 
 -- a move from, to and over squares of the board
-pub record IsOnBoard (g : Geometry) (step : Move) : Type 0 where
-  pub from : OnBoard g step.from
-  pub to : OnBoard g step.to
-  pub taken : (s : ℕ) → set.contains step.taken s ≡ true → OnBoard g s
+pub record IsOnBoard (g : Geometry) (m : Move) : Type 0 where
+  pub from : OnBoard g m.from
+  pub to : OnBoard g m.to
+  pub taken : (s : ℕ) → set.contains m.taken s ≡ true → OnBoard g s
 
 -- what is written of a line is a token of it
 abbrev pub WrittenIsToken : Type 0
 WrittenIsToken = (g : Geometry) → IsBoard g → (g.rows ≡ 10) ⊎ (g.rows ≡ 8) → (line : List Move) →
-    length line % 2 ≡ 1 → length line ≤ 39 → ((step : Move) → Member step line → IsOnBoard g step) →
+    length line % 2 ≡ 1 → length line ≤ 39 → ((m : Move) → Member m line → IsOnBoard g m) →
     IsToken g (token_of g line) line
 
 -- a text is a token of at most one line

@@ -23,18 +23,18 @@ unfoldable pub number_in : List ℕ → ℕ
 number_in bytes = from_be_bytes w64 (drop 2 bytes)
 
 -- the ten bytes of a move: from, to, and the number of the squares taken
-pub record IsMove (g : Geometry) (step : Move) (bytes : List ℕ) : Type 0 where
+pub record IsMove (g : Geometry) (m : Move) (bytes : List ℕ) : Type 0 where
   pub ten : length bytes ≡ 10
-  pub from : slice_index bytes 0 ≡ step.from
-  pub to : slice_index bytes 1 ≡ step.to
-  pub from_on : OnBoard g step.from
-  pub to_on : OnBoard g step.to
-  pub taken : IsNumberOf g step.taken (number_in bytes)
+  pub from : slice_index bytes 0 ≡ m.from
+  pub to : slice_index bytes 1 ≡ m.to
+  pub from_on : OnBoard g m.from
+  pub to_on : OnBoard g m.to
+  pub taken : IsNumberOf g m.taken (number_in bytes)
 
 -- the bytes of moves, one after the other
 abbrev pub AreMoves : Geometry → List Move → List ℕ → Type 0
 AreMoves g [] bytes = bytes ≡ []
-AreMoves g (step ∷ line) bytes = IsMove g step (take 10 bytes) × AreMoves g line (drop 10 bytes)
+AreMoves g (m ∷ line) bytes = IsMove g m (take 10 bytes) × AreMoves g line (drop 10 bytes)
 
 -- the number of moves, odd and at most 39, and the moves
 pub record IsCounted (g : Geometry) (line : List Move) (bytes : List ℕ) : Type 0 where
@@ -79,12 +79,12 @@ number_of g v = number_below v (squares g)
 
 -- the bytes of a move, as they are written
 unfoldable pub move_bytes : Geometry → Move → List ℕ
-move_bytes g step = step.from ∷ step.to ∷ to_be_bytes w64 (number_of g step.taken)
+move_bytes g m = m.from ∷ m.to ∷ to_be_bytes w64 (number_of g m.taken)
 
 -- the bytes of moves, as they are written
 unfoldable pub moves_bytes : Geometry → List Move → List ℕ
 moves_bytes g [] = []
-moves_bytes g (step ∷ line) = move_bytes g step ++ moves_bytes g line
+moves_bytes g (m ∷ line) = move_bytes g m ++ moves_bytes g line
 
 -- the bytes of a line, as they are written: version 2
 abbrev pub line_bytes : Geometry → List Move → List ℕ

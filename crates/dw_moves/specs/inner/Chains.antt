@@ -64,7 +64,7 @@ pub record EndsTowards (g : Geometry) (p : Placement) (piece : Piece) (begun : M
 
 -- m is this move, and it takes k pieces, k above 0
 abbrev pub Is : Move → ℕ → ℕ → Move → Type 0
-Is step n k m = (0 < k) × ((k ≡ n) × (m ≡ step))
+Is this n k m = (0 < k) × ((k ≡ n) × (m ≡ this))
 
 -- a list of moves that take k pieces becomes one of moves that take now pieces: of those that were there and of the
 -- captures, the longest
