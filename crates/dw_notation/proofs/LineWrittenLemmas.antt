@@ -100,9 +100,9 @@ written_push g p q ply k before (y ∷ plies) text new word x h end count is sho
     (h.0, h.1, h.2, h.3, h.4, written_push g y.after q (ply + 1) k (before ++ added ply h.0) plies text new word x h.5 end (omega (arith, count)) is short after e len)
 
 pub written_pushed : {B : Type 0} (g : Geometry) (p q after : Placement) (k len : ℕ) (plies now : List (Ply B)) (text new word : List ℕ) (m : Move) → AreWritten g p 0 [] plies text → q ≡ end_from p plies → k ≡ 0 + length plies
-    → IsMoveText g q m word → length word ≤ 62 → after ≡ play g q m → new ≡ text ++ added k word → len ≡ length new → now ≡ plies ++ record { step = m; after = after; len = len } ∷ [] → AreWritten g p 0 [] now new
+    → IsMoveText g q m word → length word ≤ 62 → after ≡ play g q m → new ≡ text ++ added k word → len ≡ length new → now ≡ plies ++ record { mv = m; after = after; len = len } ∷ [] → AreWritten g p 0 [] now new
 written_pushed g p q after k len plies now text new word m h end count is short played e long made =
-    subst (λ z. AreWritten g p 0 [] z new) (sym made) (written_push g p q 0 k [] plies text new word (record { step = m; after = after; len = len }) h end count is short played e long)
+    subst (λ z. AreWritten g p 0 [] z new) (sym made) (written_push g p q 0 k [] plies text new word (record { mv = m; after = after; len = len }) h end count is short played e long)
 
 -- it is short
 pub written_room : {B : Type 0} (g : Geometry) (p : Placement) (ply k : ℕ) (before : List ℕ) (plies : List (Ply B)) (text : List ℕ) → AreWritten g p ply before plies text → k ≡ ply + length plies → k ≤ 39 → length before ≤ 65 * ply + 2 * (ply % 2) → length text ≤ 65 * k + 2 * (k % 2)

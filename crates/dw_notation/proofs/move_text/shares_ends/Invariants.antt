@@ -5,6 +5,6 @@ use Rattle.dw_notation.proofs.move_text.shares_ends.Given as goal
 
 abbrev pub invariant-list : goal.invariant-list
 invariant-list g l = record {
-  counted : l.count ≡ count_by (has_ends l.step) (take l.other-index l.list);
+  counted : l.count ≡ count_by (has_ends l.mv) (take l.other-index l.list);
   few : l.count ≤ l.other-index;
 }

@@ -19,4 +19,4 @@ returns-clause-text g c =
     (subst (λ z. AreWritten geo t.start 0 [] (take c.args.moves t.plies.items) z) (sym bytes) (written_keep geo t.start 0 0 c.args.moves [] t.plies.items t.text.bytes refl c.requires))
 
 pub returns-clause-moves : goal.returns-clause-moves
-returns-clause-moves g c = ap (map (λ x. x.step)) c.truncate.ensures.items ∙ sym (take-map (λ x. x.step) c.args.moves c.args.self.now.plies.items)
+returns-clause-moves g c = ap (map (λ x. x.mv)) c.truncate.ensures.items ∙ sym (take-map (λ x. x.mv) c.args.moves c.args.self.now.plies.items)

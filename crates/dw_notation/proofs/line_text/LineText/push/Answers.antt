@@ -9,7 +9,7 @@ pub push_words-requires-clause-room : goal.push_words-requires-clause-room
 push_words-requires-clause-room g c =
     let t = c.args.self.now in
     let count : c.len.result ≡ 0 + length t.plies.items = omega (arith, c.len.ensures.value) in
-    let few : c.len.result ≤ 39 = omega (arith, c.len.ensures.value, c.requires.few, length-map t.plies.items (λ x. x.step)) in
+    let few : c.len.result ≤ 39 = omega (arith, c.len.ensures.value, c.requires.few, length-map t.plies.items (λ x. x.mv)) in
     written_room g.B.Board.geometry t.start 0 c.len.result [] t.plies.items t.text.bytes c.requires.text count few (omega arith)
 
 pub returns-clause-text : goal.returns-clause-text
