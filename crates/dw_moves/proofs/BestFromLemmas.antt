@@ -111,15 +111,29 @@ not_there g p from e = best_nowhere g p from (λ piece s. none_some piece (sym e
 pub stands_own : (g : Geometry) (p : Placement) (from : ℕ) (q : Piece) → OnBoard g from → at p from ≡ Some q → same_side q.side p.turn ≡ true → Stands g p from q
 stands_own g p from q on e f = record { on_board = on; there = e; own = same_side_true q.side p.turn f }
 
-pub move_by_capture : (g : Geometry) (p : Placement) (r : Bool) → IsTrue r ↔ CanCapture g p → r ≡ true → IsTrue r ↔ ((m : Move) × Legal g p m)
-move_by_capture g p r h e = ((λ t. capture_moves g p (h.0 t)), (λ m. e))
+-- where a quiet move is there, a move is legal: that one, or a capture
+step_moves : (g : Geometry) (p : Placement) → CanStep g p → (m : Move) × Legal g p m
+step_moves g p h = by_most (best g p) (is_best g p) where
+  by_most : (k : ℕ) → IsBest g p k → (m : Move) × Legal g p m
+  by_most zero most = (record { from = h.0; to = h.1; taken = fin.empty }, (0, most, (h.2, refl)))
+  by_most (suc k) most = has_capture g p (suc k) most (omega arith)
 
-pub move_by_step : (g : Geometry) (p : Placement) (r q : Bool) → IsTrue r ↔ CanCapture g p → r ≡ false → IsTrue q ↔ CanStep g p → IsTrue q ↔ ((m : Move) × Legal g p m)
-move_by_step g p r q h e s =
-    let none : IsBest g p 0 = best_none g p (λ k. true≢false (sym (h.1 k) ∙ e)) in (
-      (λ t. let step = s.0 t in (record { from = step.0; to = step.1; taken = fin.empty }, (0, none, (step.2, refl)))),
-      (λ m. s.1 (legal_steps g p none m.0 m.1)),
-    )
+pub move_by_step : (g : Geometry) (p : Placement) (r : Bool) → IsTrue r ↔ CanStep g p → r ≡ true → IsTrue r ↔ ((m : Move) × Legal g p m)
+move_by_step g p r h e = ((λ t. step_moves g p (h.0 t)), (λ m. e))
+
+-- a legal move is a quiet one or a capture
+takes_or_steps : (g : Geometry) (p : Placement) (m : Move) (k : ℕ) → LegalAt g p k m → CanStep g p ⊎ CanCapture g p
+takes_or_steps g p m zero at = inl (m.from, m.to, at.0)
+takes_or_steps g p m (suc k) at = inr (m.from, at.0, at.1.over, at.1.path, omega (arith, at.1.count))
+
+pub move_by_capture : (g : Geometry) (p : Placement) (r q : Bool) → IsTrue r ↔ CanStep g p → r ≡ false → IsTrue q ↔ CanCapture g p → IsTrue q ↔ ((m : Move) × Legal g p m)
+move_by_capture g p r q h e s = (
+  (λ t. capture_moves g p (s.0 t)),
+  (λ m. elim (takes_or_steps g p m.0 m.1.0 m.1.2) [
+    | inl step ↦ absurd (true≢false (sym (h.1 step) ∙ e))
+    | inr capture ↦ s.1 capture
+  ]),
+)
 
 pub fits_at : (g : Geometry) (p q : Placement) (from : ℕ) (piece : Piece) (v : Squares) (n : ℕ) → Stands g p from piece → q ≡ placed p from None → v ≡ fin.empty → n ≡ count p (other p.turn) → ChainsFit g q piece from v n
 fits_at g p q from piece v n s q_is v_is n_is ts cs chain =

@@ -92,5 +92,5 @@ fn longest<B: Board>(
 pub fn has_move<B: Board>(position: &Position<B>) -> bool
     ensures { IsTrue result ↔ ((m : Move) × Legal B.geometry position.now m) }
 {
-    can_capture(position) || can_step(position)
+    can_step(position) || can_capture(position)
 }

@@ -24,7 +24,7 @@ use dw_board::position::Position;
 use dw_memo::bounds::Bounds;
 use dw_memo::memo::Memo;
 use dw_moves::best::has_move;
-use dw_moves::glance::{is_loose, loose_step};
+use dw_moves::glance::loose_step;
 use dw_moves::laws::loose_replies;
 use dw_moves::moves::Move;
 use dw_moves::play::play as played;
@@ -72,10 +72,6 @@ pub(crate) fn wins<B: Board, M: Memo<B>, G: Guide<B>>(
         return Ok(answer);
     }
     count(search)?;
-    if is_hopeless(position, moves) {
-        note(search, position, moves, false);
-        return Ok(false);
-    }
     let (ply, rest) = plies.split_first_mut().unwrap();
     line_up(ply, position, &search.guide, moves - 1)?;
     let won = some_move_wins(search, rest, position, ply.ranked.as_slice(), moves - 1)?;
@@ -159,13 +155,6 @@ pub(crate) fn loses<B: Board, M: Memo<B>, G: Guide<B>>(
         }
     }
     Ok(true)
-}
-
-/// Whether it is seen without a list of moves that the attacker does not win with his last move.
-fn is_hopeless<B: Board>(position: &Position<B>, moves: u8) -> bool
-    ensures { IsTrue result → (moves ≡ 1) × AlwaysReply B.geometry position.now }
-{
-    moves == 1 && is_loose(position)
 }
 
 /// Takes up the moves of the attacker, who has so many left after them: in the guide's order if there are two or more.

@@ -11,7 +11,7 @@ use Rattle.dw_moves.specs.Moves.{play}
 use Rattle.dw_solve.proofs.RankLemmas.{ranked_legal, below_more, below_all, win_by, never_won}
 use Rattle.dw_solve.proofs.WorkLemmas.{searched_none, searched_wider, searched_stop, begun_is, wins_stopped, wins_ended}
 use Rattle.dw_solve.proofs.TriedLemmas.{Refuted, Answered, tried_none, refuted_more, answered_more, searched_after, says_winning, says_none, says_refuted, says_all}
-use Rattle.dw_solve.proofs.WinLemmas.{hopeless_is, says_hopeless}
+use Rattle.dw_solve.proofs.WinLemmas.{hopeless_is}
 use Rattle.dw_solve.proofs.SearchLemmas.{answered, never_known, unchanged_none, unchanged_then, reply_decided, lost_at_none, says_at_none, counted_none, counted_then, is_so, is_not, answer_no, answer_yes}
 use Rattle.dw_solve.proofs.search.+search.Goals as goal
 
@@ -177,34 +177,6 @@ wins-some_move_wins-requires g t c κs within =
       ),
     )
 
-pub wins-note-requires-clause-answer : goal.wins-note-requires-clause-answer
-wins-note-requires-clause-answer g t c =
-    let h = c.is_hopeless.ensures c.if-is_hopeless.true in
-    answer_no (Win g.B.Board.geometry c.args.position.now c.args.moves) (hopeless_is g.B.Board.geometry c.args.position.now c.args.moves h.0 h.1)
-
-pub wins-returns-then-is_hopeless-clause-answer : goal.wins-returns-then-is_hopeless-clause-answer
-wins-returns-then-is_hopeless-clause-answer g t c =
-    let h = c.is_hopeless.ensures c.if-is_hopeless.true in
-    answer_no (Win g.B.Board.geometry c.args.position.now c.args.moves) (hopeless_is g.B.Board.geometry c.args.position.now c.args.moves h.0 h.1)
-
-pub wins-returns-then-is_hopeless-clause-searched : goal.wins-returns-then-is_hopeless-clause-searched
-wins-returns-then-is_hopeless-clause-searched g t c =
-    let geo = g.B.Board.geometry in
-    let h = c.is_hopeless.ensures c.if-is_hopeless.true in
-    let now = moment g.M.Memo.content g.M.Memo.dropped c.count.new.search.memo c.count.new.search.expanded in
-    (wins_ended geo c.args.moves c.args.position.now false _ (moment g.M.Memo.content g.M.Memo.dropped c.known.new.search.memo c.known.new.search.expanded) now now _ (c.in_default.ensures.some refl)
-    (begun_is g.M.Memo.content g.M.Memo.dropped _ _ _ _ c.count.ensures.memo c.in_ok-count.ensures.more) (c.in_default.ensures.open refl) (c.in_default.ensures.map refl)
-    c.known.ensures.searched (searched_none geo (c.args.moves - 1) 0 now) (λ _. says_hopeless geo now.content c.args.position.now c.args.moves h.0 h.1) c.note.ensures.noted).searched
-
-pub wins-returns-then-is_hopeless-clause-says : goal.wins-returns-then-is_hopeless-clause-says
-wins-returns-then-is_hopeless-clause-says g t c =
-    let geo = g.B.Board.geometry in
-    let h = c.is_hopeless.ensures c.if-is_hopeless.true in
-    let now = moment g.M.Memo.content g.M.Memo.dropped c.count.new.search.memo c.count.new.search.expanded in
-    (wins_ended geo c.args.moves c.args.position.now false _ (moment g.M.Memo.content g.M.Memo.dropped c.known.new.search.memo c.known.new.search.expanded) now now _ (c.in_default.ensures.some refl)
-    (begun_is g.M.Memo.content g.M.Memo.dropped _ _ _ _ c.count.ensures.memo c.in_ok-count.ensures.more) (c.in_default.ensures.open refl) (c.in_default.ensures.map refl)
-    c.known.ensures.searched (searched_none geo (c.args.moves - 1) 0 now) (λ _. says_hopeless geo now.content c.args.position.now c.args.moves h.0 h.1) c.note.ensures.noted).says
-
 pub loses-returns-then-moves-eq0-clause-answer : goal.loses-returns-then-moves-eq0-clause-answer
 loses-returns-then-moves-eq0-clause-answer g t c = lost_at_none g.B.Board.geometry c.args.position.now c.args.moves c.has_move.result c.if-moves-eq0.true c.has_move.ensures
 
@@ -287,7 +259,7 @@ wins-returns-clause-searched g t c =
     let some = c.in_default.ensures.some refl in
     (wins_ended geo c.args.moves c.args.position.now c.in_ok-won.won _ (moment g.M.Memo.content g.M.Memo.dropped c.known.new.search.memo c.known.new.search.expanded) _ (moment g.M.Memo.content g.M.Memo.dropped c.some_move_wins.new.search.memo c.some_move_wins.new.search.expanded) _ some
     (begun_is g.M.Memo.content g.M.Memo.dropped _ _ _ _ c.count.ensures.memo c.in_ok-count.ensures.more) (c.in_default.ensures.open refl) (c.in_default.ensures.map refl)
-    c.known.ensures.searched c.in_ok-won.ensures.searched c.in_ok-won.ensures.says c.note-2.ensures.noted).searched
+    c.known.ensures.searched c.in_ok-won.ensures.searched c.in_ok-won.ensures.says c.note.ensures.noted).searched
 
 pub wins-returns-clause-says : goal.wins-returns-clause-says
 wins-returns-clause-says g t c =
@@ -295,7 +267,7 @@ wins-returns-clause-says g t c =
     let some = c.in_default.ensures.some refl in
     (wins_ended geo c.args.moves c.args.position.now c.in_ok-won.won _ (moment g.M.Memo.content g.M.Memo.dropped c.known.new.search.memo c.known.new.search.expanded) _ (moment g.M.Memo.content g.M.Memo.dropped c.some_move_wins.new.search.memo c.some_move_wins.new.search.expanded) _ some
     (begun_is g.M.Memo.content g.M.Memo.dropped _ _ _ _ c.count.ensures.memo c.in_ok-count.ensures.more) (c.in_default.ensures.open refl) (c.in_default.ensures.map refl)
-    c.known.ensures.searched c.in_ok-won.ensures.searched c.in_ok-won.ensures.says c.note-2.ensures.noted).says
+    c.known.ensures.searched c.in_ok-won.ensures.searched c.in_ok-won.ensures.says c.note.ensures.noted).says
 
 pub loses-returns-in_err-wins-clause-known : goal.loses-returns-in_err-wins-clause-known
 loses-returns-in_err-wins-clause-known g t c all =
@@ -365,7 +337,7 @@ pub wins-returns-in_err-won-clause-right : goal.wins-returns-in_err-won-clause-r
 wins-returns-in_err-won-clause-right g t c = c.in_err-won.ensures.right
 
 pub wins-returns-clause-right : goal.wins-returns-clause-right
-wins-returns-clause-right g t c = c.note-2.ensures.right
+wins-returns-clause-right g t c = c.note.ensures.right
 
 pub loses-returns-in_err-refute-clause-known : goal.loses-returns-in_err-refute-clause-known
 loses-returns-in_err-refute-clause-known g t c all =
