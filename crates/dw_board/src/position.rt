@@ -127,6 +127,7 @@ impl<B: Board> Position<B> {
 
     /// The position after what stands on one square has gone to another, and what stands on these squares has left the
     /// board. A man that comes to its last row becomes a king. What stood on the other square is gone.
+    /// Example: of `W:W7:B` to carry what stands on 7 to 1, with nothing taken, leaves `W:WK1:B`.
     #[inline]
     pub fn carried(&self, from: Square<B>, to: Square<B>, taken: Squares<B>) -> Self
         ensures { result ≡ of.carried B.geometry self.now from to taken }
@@ -146,6 +147,7 @@ impl<B: Board> Position<B> {
 
     /// A number of the side to move and of where the pieces of each side and kind stand, for hashes: each word times a
     /// factor of its own.
+    /// Example: equal positions have the same one.
     #[inline]
     pub fn mixed_word(&self) -> u64
         ensures { result ≡ mixed_word B.geometry self.now }

@@ -5,7 +5,6 @@ ghost use Rattle.dw_moves.specs.Moves as of;
 
 use crate::moves::Move;
 use dw_board::board::Board;
-use dw_board::piece::Side;
 use dw_board::position::Position;
 
 /// The position after a legal move. The piece leaves its square, all that it took leaves the board at once, and it
@@ -20,16 +19,4 @@ pub fn play<B: Board>(position: &Position<B>, mv: &Move<B>) -> Position<B>
     let mut after = position.carried(mv.from, mv.to, mv.taken);
     after.set_turn(position.turn().other());
     after
-}
-
-/// The other player.
-/// Example: `other(Side::White)` is `Side::Black`.
-#[inline]
-pub fn other(side: Side) -> Side
-    ensures { result ≡ of.other side }
-{
-    match side {
-        Side::White => Side::Black,
-        Side::Black => Side::White,
-    }
 }
