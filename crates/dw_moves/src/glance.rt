@@ -154,7 +154,6 @@ impl<B: Board> Field<B> {
     }
 
     /// Whether something can be taken in a direction.
-    #[inline(always)]
     fn takes(&self, direction: Dir) -> bool
         ensures { IsTrue result ↔ Takes B.geometry self.now.men self.now.kings self.now.enemies self.now.occupied
             direction }
@@ -173,7 +172,6 @@ impl<B: Board> Field<B> {
     }
 
     /// The enemies that a king meets first. All kings go on together, until none has an empty square before it.
-    #[inline(always)]
     fn met_by_kings(&self, direction: Dir) -> Squares<B>
         ensures { (c : ℕ) → In c result ↔ KingsMeet B.geometry self.now.kings self.now.enemies self.now.occupied
             direction c }

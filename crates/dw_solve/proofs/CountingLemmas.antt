@@ -81,7 +81,7 @@ pub decided_grows : (old new : Content) (n : ℕ) → IsMap old → Stronger old
 decided_grows old new n u s =
     omega (
       arith,
-      no_more (decided_list old n) (decided_list new n) (decided_once old n (once (positions old) u))
+      no_more (decided_list old n) (decided_list new n) (decided_once old n u)
           (λ p m. decided_in new p n (stays_decided old new p n s (decided_from old p n m))),
       decided_length old n,
       decided_length new n,
@@ -90,7 +90,7 @@ decided_grows old new n u s =
 -- and more, where one more position is decided
 pub decided_rises : (old new : Content) (p : Placement) (n : ℕ) → IsMap old → Stronger old new → (IsDecided old p n → ⊥) → IsDecided new p n → 1 + decided_at old n ≤ decided_at new n
 decided_rises old new p n u s unknown known =
-    let longer = no_more (p ∷ decided_list old n) (decided_list new n) ((λ m. unknown (decided_from old p n m)), decided_once old n (once (positions old) u))
+    let longer = no_more (p ∷ decided_list old n) (decided_list new n) ((λ m. unknown (decided_from old p n m)), decided_once old n u)
     (λ q m. elim m [
       | inl e ↦ subst (λ z. Member z (decided_list new n)) (sym e) (decided_in new p n known)
       | inr m' ↦ decided_in new q n (stays_decided old new q n s (decided_from old q n m'))
