@@ -2,8 +2,9 @@
 //!
 //!     rustc -O checks/bitboards.rs -o /tmp/bitboards && /tmp/bitboards 2
 //!
-//! It makes the same moves on the same positions as `dw_bench 2` and prints how many, and how many a second. Square s is
-//! bit s - 1 + (s - 1) / 10, so that a step of all squares is one shift.
+//! It makes the same moves on the same positions as `dw_bench 2` and prints how many, and how many a second. With the
+//! word `deep` it counts the same lines as `dw_bench deep`. Square s is bit s - 1 + (s - 1) / 10, so that a step of all
+//! squares is one shift.
 
 use std::time::Instant;
 
@@ -152,12 +153,25 @@ fn moves_made(position: &Position, lists: &mut [Vec<Move>]) -> u64 {
     count
 }
 
+fn perft(position: &Position, lists: &mut [Vec<Move>]) -> u64 {
+    let Some((moves, rest)) = lists.split_first_mut() else {
+        return 1;
+    };
+    legal_into(position, moves);
+    if rest.is_empty() {
+        return moves.len() as u64;
+    }
+    moves.iter().map(|step| perft(&play(position, step), rest)).sum()
+}
+
 pub fn squares(numbers: impl IntoIterator<Item = u64>) -> u64 {
     numbers.into_iter().fold(0, |set, s| set | 1 << (s - 1 + (s - 1) / 10))
 }
 
 fn main() {
-    let added: usize = std::env::args().nth(1).map_or(0, |word| word.parse().unwrap());
+    let word = std::env::args().nth(1);
+    let is_deep = word.as_deref() == Some("deep");
+    let added: usize = word.filter(|_| !is_deep).map_or(0, |word| word.parse().unwrap());
     let opening = Position { men: [squares(31..=50), squares(1..=20)], kings: [0, 0], turn: 1 };
     let middle = Position {
         men: [
@@ -172,6 +186,14 @@ fn main() {
         kings: [squares([31]), squares([17, 24])],
         turn: 1,
     };
+    if is_deep {
+        for (position, plies) in [(opening, 9), (middle, 15), (kings, 7)] {
+            let start = Instant::now();
+            let count = perft(&position, &mut vec![Vec::new(); plies]);
+            println!("{count} lines of {plies} plies in {} milliseconds", start.elapsed().as_millis());
+        }
+        return;
+    }
     for (position, plies) in [(opening, 5), (middle, 7), (kings, 4)] {
         let mut lists: Vec<Vec<Move>> = vec![Vec::new(); plies + added];
         let start = Instant::now();

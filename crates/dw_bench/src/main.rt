@@ -1,8 +1,8 @@
 //! Counts the lines of play from some positions, ply by ply, and solves problems; it says how many moves are made, and
 //! how many positions are expanded, a second. Counts and answers go to standard output, speeds to standard error.
 //!
-//! Without a word it does some of both. A number gives plies to add to the lines, `solve` asks for all problems, and
-//! `lines` lists the lines of some forced wins.
+//! Without a word it does some of both. A number gives plies to add to the lines, `deep` counts many plies and no more,
+//! `solve` asks for all problems, and `lines` lists the lines of some forced wins.
 #![tactic(auto)]
 
 mod lines;
@@ -13,6 +13,7 @@ mod solving;
 use anyhow::Context;
 use dw_board::board::Ten;
 use dw_board::fen::read::read_fen;
+use dw_board::position::Position;
 use dw_moves::moves::Move;
 use lines::list_lines;
 use perft::{moves_made, perft};
@@ -20,19 +21,21 @@ use solving::solve_problems;
 use std::env;
 use std::time::Instant;
 
-/// A position, and to how many plies its lines are counted.
-type Case = (&'static str, usize);
+/// A position, to how many plies its lines are counted, and to how many where many are asked for.
+type Case = (&'static str, usize, usize);
 
 /// The opening, and two positions with many captures.
 const CASES: [Case; 3] = [
-    ("B:W31-50:B1-20", 5),
+    ("B:W31-50:B1-20", 5, 9),
     (
         "W:W25,27,28,30,32,33,34,35,37,38:B12,13,14,16,18,19,21,23,24,26",
         7,
+        15,
     ),
     (
         "B:W6,9,10,11,20,21,22,23,30,K31,33,37,41,42,43,44,46:BK17,K24",
         4,
+        7,
     ),
 ];
 
@@ -52,6 +55,7 @@ fn main(rt: HostRuntime) -> anyhow::Result<()> {
             count_all(&rt, 0)?;
             solve_problems(&rt, FEW_MOVES)
         }
+        Some("deep") => count_deep(&rt),
         Some("solve") => solve_problems(&rt, ALL_MOVES),
         Some("lines") => list_lines(&rt),
         Some(word) => count_all(&rt, plies_added(word)?),
@@ -68,8 +72,21 @@ fn plies_added(word: &str) -> anyhow::Result<usize> {
 
 /// Counts the lines of all cases, with so many plies added.
 fn count_all(rt: &HostRuntime, added: usize) -> anyhow::Result<()> {
-    for (text, plies) in CASES {
+    for (text, plies, _) in CASES {
         count_lines(rt, text, plies.saturating_add(added))?;
+    }
+    Ok(())
+}
+
+/// Counts the lines of all cases to many plies, and says how long it took.
+fn count_deep(rt: &HostRuntime) -> anyhow::Result<()> {
+    for (text, _, plies) in CASES {
+        let start = Instant::now(rt)?;
+        let position = read_fen::<Ten>(text.as_bytes()).context("no FEN text")?;
+        println!(rt; "{text}")?;
+        count_plies(rt, &position, plies)?;
+        let millis = start.elapsed(rt)?.as_millis();
+        eprintln!(rt; "{plies} plies in {millis} milliseconds")?;
     }
     Ok(())
 }
@@ -77,16 +94,26 @@ fn count_all(rt: &HostRuntime, added: usize) -> anyhow::Result<()> {
 /// Writes the number of lines of each length, and how fast all moves of the longest ones are made.
 fn count_lines(rt: &HostRuntime, text: &str, plies: usize) -> anyhow::Result<()> {
     let position = read_fen::<Ten>(text.as_bytes()).context("no FEN text")?;
-    let mut lists = Vec::new(rt.alloc());
     println!(rt; "{text}")?;
-    for _ in 0..plies {
-        lists.push(Vec::<Move<Ten>>::new(rt.alloc()))?;
-        println!(rt; "{}", perft(&position, &mut lists)?)?;
-    }
+    let mut lists = count_plies(rt, &position, plies)?;
     let start = Instant::now(rt)?;
     let moves = moves_made(&position, &mut lists)?;
     let micros = start.elapsed(rt)?.as_micros().max(1);
     let speed = u128::from(moves) * 1_000_000 / micros;
     eprintln!(rt; "{moves} moves made in {micros} microseconds: {speed} a second")?;
     Ok(())
+}
+
+/// Writes the number of lines of each length up to so many plies, and answers the lists that it used, one a ply.
+fn count_plies(
+    rt: &HostRuntime,
+    position: &Position<Ten>,
+    plies: usize,
+) -> anyhow::Result<Vec<Vec<Move<Ten>>>> {
+    let mut lists = Vec::new(rt.alloc());
+    for _ in 0..plies {
+        lists.push(Vec::<Move<Ten>>::new(rt.alloc()))?;
+        println!(rt; "{}", perft(position, &mut lists)?)?;
+    }
+    Ok(lists)
 }
