@@ -23,6 +23,11 @@ pub record Standing : Type 0 where
   pub line : List Move
   pub levels : List Level
 
+-- it goes on with one of these moves
+abbrev pub BeginsAmong : List Move → List Move → Type 0
+BeginsAmong moves [] = ⊥
+BeginsAmong moves (m ∷ l) = Member m moves
+
 -- a list of moves goes on with one of these, or in any way if they are not listed yet
 abbrev pub IsAhead : Option (List Move) → List Move → Type 0
 IsAhead None l = Unit {0}
@@ -48,8 +53,3 @@ IsStillAhead (f ∷ outer) line l = Remains outer line (IsAhead f.ahead) l
 abbrev pub AreToCome : Geometry → Standing → List (List Move) → Type 0
 AreToCome g s lines =
     IsListOf (Before g s.position) (λ l. Line g s.position s.moves l × IsStillAhead s.levels s.line l) lines
-
--- it goes on with one of these moves
-abbrev pub BeginsAmong : List Move → List Move → Type 0
-BeginsAmong moves [] = ⊥
-BeginsAmong moves (m ∷ l) = Member m moves

@@ -10,8 +10,8 @@ returns-in-Err g c =
 
 pub moves-preserved : goal.moves-preserved
 moves-preserved g c =
-    let here = subst (IsMove g.B.Board.geometry c.in-Ok.step) c.split_at.ensures.front c.in-Ok.ensures in
-    rw (c.push.ensures.items, c.split_at.ensures.back) (read_more g.B.Board.geometry c.args.count c.args.bytes.now c.moves.line.items c.moves._place c.moves.rest.now c.in-Ok.step c.moves-test.true c.moves.invariant here)
+    let here = subst (IsMove g.B.Board.geometry c.in-Ok.mv) c.split_at.ensures.front c.in-Ok.ensures in
+    rw (c.push.ensures.items, c.split_at.ensures.back) (read_more g.B.Board.geometry c.args.count c.args.bytes.now c.moves.line.items c.moves._place c.moves.rest.now c.in-Ok.mv c.moves-test.true c.moves.invariant here)
 
 pub returns : goal.returns
 returns g c =

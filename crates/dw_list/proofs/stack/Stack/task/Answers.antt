@@ -16,7 +16,7 @@ trial_of-requires g c =
     let geo = g.B.Board.geometry in
     let here = at_last c.args.self.now.levels c.self.inside.frames.items c.as_slice-frames.result.now _ c.index-frames-frames.result c.is_empty.result (ap (λ (s : Standing). s.levels) c.self.view_is) c.as_slice-frames.ensures.value c.is_empty.ensures c.if-is_empty.false refl c.index-frames-frames.is in
     let levels = subst (λ z. AreLevels geo c.self.inside.position c.self.inside.moves z (reverse c.self.inside.line.items)) (ap (λ (s : Standing). s.levels) c.self.view_is ∙ here.1) c.self.invariant.0 in
-    (behind_first geo c.index-frames-frames.result.position c.in-Some.step c.index-frames-frames.result.ahead (sym c.first.ensures ∙ c.in-Some.is) levels.1).1
+    (behind_first geo c.index-frames-frames.result.position c.in-Some.mv c.index-frames-frames.result.ahead (sym c.first.ensures ∙ c.in-Some.is) levels.1).1
 
 pub returns-in-None-clause-task : goal.returns-in-None-clause-task
 returns-in-None-clause-task g c =
