@@ -1,9 +1,11 @@
 -- Laws of FEN texts, for every board.
-use Rattle.std.specs.Prelude.{◌≡◌, ℕ, ◌⊎◌, ◌↔◌, List, Ok, Err}
+use Rattle.std.specs.Prelude.{◌≡◌, ℕ, ◌+◌, ◌-◌, ◌≤◌, Bool, true, ◌||◌, ◌⊎◌, ◌↔◌, List, [], ◌∷◌, ◌++◌, length, map, take}
+use Rattle.std.specs.Prelude.{Ok, Err}
 use Rattle.dw_board.specs.Geometry.{Geometry, IsBoard}
 use Rattle.dw_board.specs.Placement.{Placement, IsPosition}
+use Rattle.dw_board.specs.FenTokens.{Token, tokens_from, colon, comma, dash, is_sign, is_king_letter}
 use Rattle.dw_board.specs.Fen.{fen}
-use Rattle.dw_board.specs.FenGrammar.{Fen}
+use Rattle.dw_board.specs.FenGrammar.{Word, IsRange, Names, Fen}
 use Rattle.dw_board.specs.FenText.{written}
 use Rattle.dw_board.specs.declared.fen.fault.FenFault.{FenFault}
 
@@ -42,3 +44,37 @@ pub record IsFaulty (g : Geometry) (text : List ℕ) : Type 0 where
 -- exactly one of a position and a fault holds of a text
 abbrev pub EitherFenOrFaulty : Type 0
 EitherFenOrFaulty = (g : Geometry) (text : List ℕ) → IsFen g text ⊎ IsFaulty g text
+
+-- no words that begin with those of these tokens name a position
+abbrev pub LeadNowhere : Geometry → List Token → Type 0
+LeadNowhere g tokens = (more : List Word) (p : Placement) → Names g (map (λ t. t.text) tokens ++ more) p → ⊥
+
+-- something has to follow a colon, a comma, a dash and K
+abbrev pub asks_more : Word → Bool
+asks_more w = is_sign colon w || (is_sign comma w || (is_sign dash w || is_king_letter w))
+
+-- a text ends too soon if it has no token, or the turn alone, or a last one that asks for more
+pub data EndsTooSoon : List Token → Type 0 where
+  no_token : EndsTooSoon []
+  turn_alone : (turn : Token) → EndsTooSoon (turn ∷ [])
+  open_end : (before : List Token) (last : Token) → asks_more last.text ≡ true → EndsTooSoon (before ++ last ∷ [])
+
+-- a fault of a text with these tokens and this end has this place: it is the end, or that of a token with which they
+-- lead nowhere, or of the first token of a range with which they do
+pub data StandsAt : Geometry → List Token → ℕ → ℕ → Type 0 where
+  behind_all : {g : Geometry} {tokens : List Token} {end : ℕ} → EndsTooSoon tokens → StandsAt g tokens end end
+  at_token : {g : Geometry} {end : ℕ} (before : List Token) (t : Token) (rest : List Token)
+      → LeadNowhere g (before ++ t ∷ []) → StandsAt g (before ++ t ∷ rest) end t.place
+  at_range : {g : Geometry} {end m n : ℕ} (before : List Token) (from dash to : Token) (rest : List Token)
+      → IsRange g (from.text ∷ dash.text ∷ to.text ∷ []) m n → LeadNowhere g (before ++ from ∷ dash ∷ to ∷ [])
+      → StandsAt g (before ++ from ∷ dash ∷ to ∷ rest) end from.place
+
+-- where a text of at most 1,024 bytes has its earliest fault, it ends too soon, or no text goes on
+abbrev pub NoneGoesOn : Type 0
+NoneGoesOn = (g : Geometry) (text : List ℕ) (fault : FenFault) → length text ≤ 1024 → IsFirstFault g text fault
+    → StandsAt g (tokens_from 1 text) (length text + 1) fault.place
+
+-- cut off before its earliest fault, such a text has no fault but at its end: it names a position or ends too soon
+abbrev pub NoneBefore : Type 0
+NoneBefore = (g : Geometry) (text : List ℕ) (fault earlier : FenFault) → length text ≤ 1024 → IsFirstFault g text fault
+    → IsFirstFault g (take (fault.place - 1) text) earlier → earlier.place ≡ fault.place

@@ -1,5 +1,6 @@
 //! Laws of the definitions, each the contract of a function that does nothing, and what `==` means.
 ghost use Rattle.dw_board.specs.FenLaws.{ReadingIsGrammar, WrittenIsFen, WrittenIsRead, NamesOne, EitherFenOrFaulty};
+ghost use Rattle.dw_board.specs.FenLaws.{NoneGoesOn, NoneBefore};
 ghost use Rattle.std.specs.Prelude.{◌≡◌, ◌↔◌, IsTrue};
 ghost use Rattle.dw_board.specs.Laws.{StepsAreDiagonal, StepsStay, PlacesDiffer, ShiftsStep};
 
@@ -65,4 +66,11 @@ pub fn names_one()
 /// Example: `W:W31.` has a position and no fault, and `W:W51:B1` has a fault and no position.
 pub fn either_fen_or_faulty()
     ensures { EitherFenOrFaulty }
+{}
+
+/// No text goes on behind its earliest fault, and what stands before it has no fault.
+/// Example: no text that begins with `W:W27,27` names a position, and `W:W27,` has no fault but that it ends there.
+pub fn none_goes_on()
+    ensures behind { NoneGoesOn }
+    ensures before { NoneBefore }
 {}
