@@ -1,11 +1,11 @@
 -- Where the earliest fault of a FEN text stands.
-use Rattle.std.proofs.Common.{◌≡◌, ℕ, suc, zero, ◌+◌, ◌-◌, ◌≤◌, ◌<◌, Bool, true, false, ◌&&◌, ◌||◌, cond, ltb, List, [], ◌∷◌, ◌++◌, length, take, map, Option, Some, None, Result, Ok, Err, refl, sym, ap, ◌∙◌, subst, arith, ◌⊎◌, inl, inr, append_assoc, append-nil}
-use Rattle.std.proofs.lemmas.Bool.{cases_Bool, ltb-false, or_right}
+use Rattle.std.proofs.Common.{◌≡◌, ℕ, suc, zero, ◌+◌, ◌-◌, ◌≤◌, ◌<◌, Bool, true, false, ◌||◌, cond, ltb, List, [], ◌∷◌, ◌++◌, map, Option, Some, None, Result, Ok, Err, refl, sym, ap, ◌∙◌, subst, arith, ◌⊎◌, inl, inr, append_assoc, append-nil}
+use Rattle.std.proofs.lemmas.Bool.{ltb-false, or_right}
 use Rattle.std.proofs.lemmas.List.{map-append}
 use Rattle.dw_board.specs.Geometry.{Geometry}
 use Rattle.dw_board.specs.Placement.{Placement, placed, put_fault, same_side}
-use Rattle.dw_board.specs.FenTokens.{Token, tokens_from, onto_run, is_blank, is_digit, begins_with_digit, is_sign, side_named, is_king_letter, number_named}
-use Rattle.dw_board.specs.FenGrammar.{Word, IsRange, range, Names}
+use Rattle.dw_board.specs.FenTokens.{Token, is_sign, side_named, is_king_letter, number_named}
+use Rattle.dw_board.specs.FenGrammar.{Word, IsRange, range}
 use Rattle.dw_board.specs.Fen.{fault, ◌>>=◌, Listing, Item, Stage, Start, AfterTurn, AfterColon, AfterColour, AfterComma, AfterKing, AfterNumber, AfterDash, AfterItem, AfterStop, AfterLists, next_stage, at_end, read_from, with_item, item_ended, item_begun, list_begun, if_named, then_set, set_squares, piece_of, put_kind}
 use Rattle.dw_board.specs.FenLaws.{LeadNowhere, EndsTooSoon, no_token, turn_alone, open_end, asks_more}
 use Rattle.dw_board.specs.inner.FenReading.{listing}
@@ -15,7 +15,6 @@ use Rattle.dw_board.specs.declared.piece.PutFault.{PutFault}
 use Rattle.dw_board.specs.declared.fen.fault.FenFault.{FenFault}
 use Rattle.dw_board.specs.declared.fen.fault.FenFaultKind.{FenFaultKind}
 use Rattle.dw_board.specs.declared.fen.fault.FenFaultKind.TheVariants.{Turn, Colon, Colour, Number, SameColour, Rest, RangeBackwards}
-use Rattle.dw_board.proofs.FenTokenLemmas.{tokens_from-blank}
 use Rattle.dw_board.proofs.FenStageLemmas.{set_squares-step, squares_stop, squares_done}
 use Rattle.dw_board.proofs.FenSoundLemmas.{bind_ok, chosen, named_ok, same_ok}
 use Rattle.dw_board.proofs.FenCompleteLemmas.{names_read}
@@ -75,10 +74,8 @@ first_square g list item to f high e =
     elim (then_err (put_fault g list.placed item.from piece) item.place _ f split) [
       | inl later ↦ ok_err _ f _ (squares_done g 0 piece item.place (item.from + 1) (item.from + 1 - item.from - 1) (placed list.placed item.from (Some piece)) none) later
       | inr here ↦ ap (λ r. r >>= λ p. Ok (listing list.side list.is_second p))
-          (squares_stop g 0 piece item.place item.from (to + 1 - item.from) item.from list.placed here.0 some refl here.1 ∙ sym (same_fault here.0 item.place f here.2))
-    ] where
-    same_fault : (why : PutFault) (place : ℕ) (f : FenFault) → fault {A = Placement} (put_kind why) place ≡ Err f → Err f ≡ fault {A = Placement} (put_kind why) place
-    same_fault why place f e = sym e
+          (squares_stop g 0 piece item.place item.from (to + 1 - item.from) item.from list.placed here.0 some refl here.1 ∙ here.2)
+    ]
 
 -- ---- what leads nowhere
 bare : List Word → List Token
@@ -104,17 +101,17 @@ number_stuck g list item f bad (t ∷ ts) p e =
       | inl dash ↦ dash_stuck ts (subst (λ s. read_from g 0 s ts ≡ Ok p) (same_ok _ _ _ refl dash.1) h.2)
       | inr other ↦ let k = bind_ok (with_item g list item item.from) (λ all. item_ended all t) h.0 other.1 in ok_err k.0 f _ k.1 bad
     ] where
-    dash_stuck : (ts : List Token) → read_from g 0 (AfterDash list item) ts ≡ Ok p → ⊥
-    dash_stuck [] e = cc
-    dash_stuck (u ∷ us) e =
-        let h = bind_ok (next_stage g (AfterDash list item) u) (λ s. read_from g 0 s us) p e in
-        let k = named_ok (number_named g u.text) Number u.place _ h.0 h.1 in
-        elim (chosen (ltb k.0 item.from) _ _ _ k.2) [
-          | inl low ↦ cc
-          | inr high ↦
-              let l = bind_ok (with_item g list item k.0) (λ all. Ok (AfterItem all)) h.0 high.1 in
-              ok_err l.0 f _ l.1 (first_square g list item k.0 f (ltb-false _ _ high.0) bad)
-        ]
+      dash_stuck : (ts : List Token) → read_from g 0 (AfterDash list item) ts ≡ Ok p → ⊥
+      dash_stuck [] e = cc
+      dash_stuck (u ∷ us) e =
+          let h = bind_ok (next_stage g (AfterDash list item) u) (λ s. read_from g 0 s us) p e in
+          let k = named_ok (number_named g u.text) Number u.place _ h.0 h.1 in
+          elim (chosen (ltb k.0 item.from) _ _ _ k.2) [
+            | inl low ↦ cc
+            | inr high ↦
+                let l = bind_ok (with_item g list item k.0) (λ all. Ok (AfterItem all)) h.0 high.1 in
+                ok_err l.0 f _ l.1 (first_square g list item k.0 f (ltb-false _ _ high.0) bad)
+          ]
 
 -- ---- what the last token was
 pub record EndsWith (test : Word → Bool) (tokens : List Token) : Type 0 where
@@ -124,7 +121,7 @@ pub record EndsWith (test : Word → Bool) (tokens : List Token) : Type 0 where
   pub passes : test last.text ≡ true
 
 -- read alone, these tokens have no fault but at their end
-abbrev Clear : Geometry → List Token → Type 0
+abbrev pub Clear : Geometry → List Token → Type 0
 Clear g tokens = (end : ℕ) (f : FenFault) → read_from g end Start tokens ≡ Err f → f.place ≡ end
 
 -- the last token is the item's first number
@@ -145,7 +142,7 @@ pub record EndsWithDash (g : Geometry) (item : Item) (tokens : List Token) : Typ
 
 abbrev Last : Geometry → List Token → Stage → Type 0
 Last g tokens Start = tokens ≡ []
-Last g tokens (AfterTurn turn) = (t : Token) × (tokens ≡ t ∷ [])
+Last g tokens (AfterTurn turn) = (t : Token) × (tokens ≡ t ∷ []) × (side_named t.text ≡ Some turn)
 Last g tokens (AfterColon first p) = EndsWith (is_sign 58) tokens
 Last g tokens (AfterColour list) = Unit {0}
 Last g tokens (AfterComma list) = EndsWith (is_sign 44) tokens
@@ -194,7 +191,7 @@ end_err : (g : Geometry) (tokens : List Token) (stage : Stage) (end : ℕ) (f : 
     → ((f.place ≡ end) × EndsTooSoon tokens) ⊎ NumberFault g stage f
 unfolding at_end
 end_err g tokens Start end f last e = inl (fault_place _ end f e, subst EndsTooSoon (sym last) no_token)
-end_err g tokens (AfterTurn turn) end f last e = inl (fault_place _ end f e, subst EndsTooSoon (sym last.1) (turn_alone last.0))
+end_err g tokens (AfterTurn turn) end f last e = inl (fault_place _ end f e, subst EndsTooSoon (sym last.1) (turn_alone last.0 turn last.2))
 end_err g tokens (AfterColon first p) end f last e = inl (fault_place _ end f e, open_with tokens (is_sign 58) colon_asks last)
 end_err g tokens (AfterColour list) end f last e = cc
 end_err g tokens (AfterComma list) end f last e = inl (fault_place _ end f e, open_with tokens (is_sign 44) comma_asks last)
@@ -258,7 +255,7 @@ next_last : (g : Geometry) (tokens : List Token) (stage : Stage) (t : Token) (s 
 unfolding next_stage
 next_last g tokens Start t s come e =
     let h = named_ok (side_named t.text) Turn t.place (λ side. Ok (AfterTurn side)) s e in
-    at_stage g (tokens ++ t ∷ []) _ s _ refl h.2 (t, ap (λ l. l ++ t ∷ []) come.last)
+    at_stage g (tokens ++ t ∷ []) _ s _ refl h.2 (t, ap (λ l. l ++ t ∷ []) come.last, h.1)
 next_last g tokens (AfterTurn turn) t s come e = elim (chosen (is_sign 58 t.text) _ _ _ e) [
   | inl colon ↦ at_stage g (tokens ++ t ∷ []) _ s _ refl colon.1 (ends_with (is_sign 58) tokens t colon.0)
   | inr other ↦ ok_err s _ _ refl (sym other.1)
@@ -381,7 +378,7 @@ pub record AtToken (g : Geometry) (tokens : List Token) (place : ℕ) : Type 0 w
   pub rest : List Token
   pub is : tokens ≡ before ++ t ∷ rest
   pub here : place ≡ t.place
-  pub clear : (end : ℕ) (f : FenFault) → read_from g end Start before ≡ Err f → f.place ≡ end
+  pub clear : Clear g before
   pub leads : LeadNowhere g (before ++ t ∷ []) ⊎ RangeBehind g before t rest
 
 abbrev pub Found : Geometry → ℕ → List Token → ℕ → Type 0
@@ -411,7 +408,7 @@ range_found g tokens ts (AfterDash list item) t f come e bad =
     let last = come.last in
     let number = last.number in
     let split : (more : List Token) → tokens ++ more ≡ number.front ++ (number.first ∷ last.dash ∷ more) = λ more.
-        ap (λ l. l ++ more) (last.is ∙ ap (λ l. l ++ last.dash ∷ []) number.is) ∙ (append_assoc (number.front ++ number.first ∷ []) (last.dash ∷ []) more ∙ append_assoc number.front (number.first ∷ []) (last.dash ∷ more)) in
+    ap (λ l. l ++ more) (last.is ∙ ap (λ l. l ++ last.dash ∷ []) number.is) ∙ (append_assoc (number.front ++ number.first ∷ []) (last.dash ∷ []) more ∙ append_assoc number.front (number.first ∷ []) (last.dash ∷ more)) in
     record {
       before = number.front;
       t = number.first;
@@ -459,87 +456,3 @@ walk g end (t ∷ ts) tokens stage f come e = elim (bind_err (next_stage g stage
 
 pub found : (g : Geometry) (end : ℕ) (ts : List Token) (f : FenFault) → read_from g end Start ts ≡ Err f → Found g end ts f.place
 found g end ts f e = walk g end ts [] Start f (record { reads = λ end more. refl; last = refl }) e
-
--- ---- a text that is cut off where a token begins
-pub record CutAt (place : ℕ) (text : List ℕ) (before : List Token) (t : Token) : Type 0 where
-  pub low : place ≤ t.place
-  pub high : t.place < place + length text
-  pub cut : tokens_from place (take (t.place - place) text) ≡ before
-
-tokens_from-onto : (place byte : ℕ) (bytes : List ℕ) → is_blank byte ≡ false → (is_digit byte && begins_with_digit bytes) ≡ true
-    → tokens_from place (byte ∷ bytes) ≡ onto_run byte place (tokens_from (place + 1) bytes)
-tokens_from-onto place byte bytes h k = rw (h, k) refl
-
-tokens_from-apart : (place byte : ℕ) (bytes : List ℕ) → is_blank byte ≡ false → (is_digit byte && begins_with_digit bytes) ≡ false
-    → tokens_from place (byte ∷ bytes) ≡ record { text = byte ∷ []; place = place } ∷ tokens_from (place + 1) bytes
-tokens_from-apart place byte bytes h k = rw (h, k) refl
-
-apart_cut : (d : Bool) (k : ℕ) (bytes : List ℕ) → (d && begins_with_digit bytes) ≡ false → (d && begins_with_digit (take k bytes)) ≡ false
-apart_cut false k bytes h = refl
-apart_cut true zero bytes h = refl
-apart_cut true (suc k) [] h = refl
-apart_cut true (suc k) (b ∷ bytes) h = h
-
-joined_cut : (d : Bool) (place k : ℕ) (bytes : List ℕ) (run : Token) (others : List Token) → (d && begins_with_digit bytes) ≡ true → tokens_from place (take k bytes) ≡ run ∷ others
-    → (d && begins_with_digit (take k bytes)) ≡ true
-joined_cut d place zero bytes run others h e = cc
-joined_cut d place (suc k) [] run others h e = cc
-joined_cut d place (suc k) (b ∷ bytes) run others h e = h
-
--- the first token is the one at which the text is cut off
-cut_first : (place byte : ℕ) (bytes : List ℕ) (t : Token) → t.place ≡ place → CutAt place (byte ∷ bytes) [] t
-cut_first place byte bytes t e =
-    let none : t.place - place ≡ 0 = omega arith in
-    record { low = omega arith; high = omega arith; cut = ap (λ k. tokens_from place (take k (byte ∷ bytes))) none }
-
--- one byte more is left
-cut_more : (place byte : ℕ) (bytes : List ℕ) (old before : List Token) (t : Token) → CutAt (place + 1) bytes old t
-    → tokens_from place (byte ∷ take (t.place - (place + 1)) bytes) ≡ before → CutAt place (byte ∷ bytes) before t
-cut_more place byte bytes old before t h e =
-    let low : place + 1 ≤ t.place = h.low in
-    let high : t.place < place + 1 + length bytes = h.high in
-    let more : t.place - place ≡ suc (t.place - (place + 1)) = omega arith in
-    record { low = omega arith; high = omega arith; cut = ap (λ k. tokens_from place (take k (byte ∷ bytes))) more ∙ e }
-
--- one byte more in front of bytes that are cut off there
-cut_byte : (place byte : ℕ) (bytes : List ℕ) (t : Token) (rest : List Token)
-    → ((front : List Token) → tokens_from (place + 1) bytes ≡ front ++ t ∷ rest → CutAt (place + 1) bytes front t)
-    → (before : List Token) → tokens_from place (byte ∷ bytes) ≡ before ++ t ∷ rest → CutAt place (byte ∷ bytes) before t
-cut_byte place byte bytes t rest again before e = elim (cases_Bool (is_blank byte)) [
-  | inl blank ↦
-      let h = again before (sym (tokens_from-blank place byte bytes blank) ∙ e) in
-      cut_more place byte bytes before before t h (tokens_from-blank place byte (take (t.place - (place + 1)) bytes) blank ∙ h.cut)
-  | inr token ↦ elim (cases_Bool (is_digit byte && begins_with_digit bytes)) [
-    | inl joins ↦ onto token joins (tokens_from (place + 1) bytes) refl before (sym (tokens_from-onto place byte bytes token joins) ∙ e)
-    | inr apart ↦ alone token apart before (sym (tokens_from-apart place byte bytes token apart) ∙ e)
-  ]
-] where
-  onto : is_blank byte ≡ false → (is_digit byte && begins_with_digit bytes) ≡ true → (ts : List Token) → tokens_from (place + 1) bytes ≡ ts → (before : List Token) → onto_run byte place ts ≡ before ++ t ∷ rest
-      → CutAt place (byte ∷ bytes) before t
-  onto token joins [] is [] e = cc
-  onto token joins [] is (b ∷ before) e = cc
-  onto token joins (run ∷ others) is [] e = cut_first place byte bytes t (let s : record { text = byte ∷ run.text; place = place } ≡ t = cc in sym (ap (λ x. x.place) s))
-  onto token joins (run ∷ others) is (b ∷ before) e =
-      let left : others ≡ before ++ t ∷ rest = cc in
-      let first : record { text = byte ∷ run.text; place = place } ≡ b = cc in
-      let h = again (run ∷ before) (is ∙ ap (λ l. run ∷ l) left) in
-      let k : ℕ = t.place - (place + 1) in
-      cut_more place byte bytes (run ∷ before) (b ∷ before) t h
-      (tokens_from-onto place byte (take k bytes) token (joined_cut (is_digit byte) (place + 1) k bytes run before joins h.cut)
-      ∙ (ap (onto_run byte place) h.cut ∙ ap (λ x. x ∷ before) first))
-
-  alone : is_blank byte ≡ false → (is_digit byte && begins_with_digit bytes) ≡ false → (before : List Token)
-      → record { text = byte ∷ []; place = place } ∷ tokens_from (place + 1) bytes ≡ before ++ t ∷ rest → CutAt place (byte ∷ bytes) before t
-  alone token apart [] e = cut_first place byte bytes t (let s : record { text = byte ∷ []; place = place } ≡ t = cc in sym (ap (λ x. x.place) s))
-  alone token apart (b ∷ before) e =
-      let left : tokens_from (place + 1) bytes ≡ before ++ t ∷ rest = cc in
-      let first : record { text = byte ∷ []; place = place } ≡ b = cc in
-      let h = again before left in
-      let k : ℕ = t.place - (place + 1) in
-      cut_more place byte bytes before (b ∷ before) t h
-      (tokens_from-apart place byte (take k bytes) token (apart_cut (is_digit byte) k bytes apart) ∙ (ap (λ l. record { text = byte ∷ []; place = place } ∷ l) h.cut ∙ ap (λ x. x ∷ before) first))
-
-pub cut_at : (place : ℕ) (text : List ℕ) (before : List Token) (t : Token) (rest : List Token) → tokens_from place text ≡ before ++ t ∷ rest → CutAt place text before t
-cut_at place [] [] t rest e = cc
-cut_at place [] (b ∷ before) t rest e = cc
-cut_at place (byte ∷ bytes) before t rest e = cut_byte place byte bytes t rest (λ front same. cut_at (place + 1) bytes front t rest same) before e

@@ -8,12 +8,13 @@ use Rattle.dw_board.specs.FenTokens.{Token, tokens_from}
 use Rattle.dw_board.specs.Fen.{fen, short_fen, Start, read_from, fault}
 use Rattle.dw_board.specs.FenGrammar.{Fen, words}
 use Rattle.dw_board.specs.FenText.{written}
-use Rattle.dw_board.specs.FenLaws.{IsFen, IsFaulty, LeadNowhere, StandsAt, behind_all, at_token, at_range}
+use Rattle.dw_board.specs.FenLaws.{IsFen, IsFaulty, LeadNowhere, StandsAt, at_text_end, at_token, at_range}
 use Rattle.dw_board.specs.declared.fen.fault.FenFault.{FenFault}
 use Rattle.dw_board.specs.declared.fen.fault.FenFaultKind.TheVariants.{TooLong}
 use Rattle.dw_board.proofs.FenSoundLemmas.{read_follows}
 use Rattle.dw_board.proofs.FenCompleteLemmas.{names_read}
-use Rattle.dw_board.proofs.FenFaultLemmas.{Found, RangeBehind, found, cut_at}
+use Rattle.dw_board.proofs.FenCutLemmas.{cut_at}
+use Rattle.dw_board.proofs.FenFaultLemmas.{Found, RangeBehind, found}
 use Rattle.dw_board.proofs.FenWrittenLemmas.{written_names, length-written}
 
 fen-long : (g : Geometry) (text : List ℕ) → 1024 < length text → fen g text ≡ fault TooLong 1025
@@ -71,12 +72,12 @@ err_read : (g : Geometry) (text : List ℕ) (f : FenFault) → length text ≤ 1
 err_read g text f short e = sym (fen-short g text short) ∙ e
 
 stands_at : (g : Geometry) (end : ℕ) (tokens : List Token) (place : ℕ) → Found g end tokens place → StandsAt g tokens end place
-stands_at g end tokens place (inl soon) = subst (StandsAt g tokens end) (sym soon.0) (behind_all soon.1)
+stands_at g end tokens place (inl soon) = subst (StandsAt g tokens end) (sym soon.0) (at_text_end soon.1)
 stands_at g end tokens place (inr at) =
     subst (λ l. StandsAt g l end place) (sym at.is) (subst (StandsAt g (at.before ++ at.t ∷ at.rest) end) (sym at.here) (there at.leads)) where
-    there : LeadNowhere g (at.before ++ at.t ∷ []) ⊎ RangeBehind g at.before at.t at.rest → StandsAt g (at.before ++ at.t ∷ at.rest) end at.t.place
-    there (inl leads) = at_token at.before at.t at.rest leads
-    there (inr r) = subst (λ l. StandsAt g (at.before ++ at.t ∷ l) end at.t.place) (sym r.is) (at_range at.before at.t r.dash r.to r.others r.is_range r.leads)
+      there : LeadNowhere g (at.before ++ at.t ∷ []) ⊎ RangeBehind g at.before at.t at.rest → StandsAt g (at.before ++ at.t ∷ at.rest) end at.t.place
+      there (inl leads) = at_token at.before at.t at.rest leads
+      there (inr r) = subst (λ l. StandsAt g (at.before ++ at.t ∷ l) end at.t.place) (sym r.is) (at_range at.before at.t r.dash r.to r.others r.is_range r.leads)
 
 pub none_goes_on : (g : Geometry) (text : List ℕ) (f : FenFault) → length text ≤ 1024 → fen g text ≡ Err f → StandsAt g (tokens_from 1 text) (length text + 1) f.place
 none_goes_on g text f short e = stands_at g (length text + 1) (tokens_from 1 text) f.place (found g (length text + 1) (tokens_from 1 text) f (err_read g text f short e))

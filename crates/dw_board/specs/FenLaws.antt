@@ -1,12 +1,13 @@
 -- Laws of FEN texts, for every board.
 use Rattle.std.specs.Prelude.{◌≡◌, ℕ, ◌+◌, ◌-◌, ◌≤◌, Bool, true, ◌||◌, ◌⊎◌, ◌↔◌, List, [], ◌∷◌, ◌++◌, length, map, take}
-use Rattle.std.specs.Prelude.{Ok, Err}
+use Rattle.std.specs.Prelude.{Some, Ok, Err}
 use Rattle.dw_board.specs.Geometry.{Geometry, IsBoard}
 use Rattle.dw_board.specs.Placement.{Placement, IsPosition}
-use Rattle.dw_board.specs.FenTokens.{Token, tokens_from, colon, comma, dash, is_sign, is_king_letter}
+use Rattle.dw_board.specs.FenTokens.{Token, tokens_from, colon, comma, dash, is_sign, side_named, is_king_letter}
 use Rattle.dw_board.specs.Fen.{fen}
 use Rattle.dw_board.specs.FenGrammar.{Word, IsRange, Names, Fen}
 use Rattle.dw_board.specs.FenText.{written}
+use Rattle.dw_board.specs.declared.piece.Side.{Side}
 use Rattle.dw_board.specs.declared.fen.fault.FenFault.{FenFault}
 
 -- a text is read as a position exactly where the grammar gives it that position
@@ -49,27 +50,27 @@ EitherFenOrFaulty = (g : Geometry) (text : List ℕ) → IsFen g text ⊎ IsFaul
 abbrev pub LeadNowhere : Geometry → List Token → Type 0
 LeadNowhere g tokens = (more : List Word) (p : Placement) → Names g (map (λ t. t.text) tokens ++ more) p → ⊥
 
--- something has to follow a colon, a comma, a dash and K
+-- behind a colon, a comma, a dash or K something can be missing
 abbrev pub asks_more : Word → Bool
 asks_more w = is_sign colon w || (is_sign comma w || (is_sign dash w || is_king_letter w))
 
--- a text ends too soon if it has no token, or the turn alone, or a last one that asks for more
+-- a text that ends too soon has no token, or the turn alone, or a last one that asks for more
 pub data EndsTooSoon : List Token → Type 0 where
   no_token : EndsTooSoon []
-  turn_alone : (turn : Token) → EndsTooSoon (turn ∷ [])
+  turn_alone : (turn : Token) (side : Side) → side_named turn.text ≡ Some side → EndsTooSoon (turn ∷ [])
   open_end : (before : List Token) (last : Token) → asks_more last.text ≡ true → EndsTooSoon (before ++ last ∷ [])
 
--- a fault of a text with these tokens and this end has this place: it is the end, or that of a token with which they
--- lead nowhere, or of the first token of a range with which they do
-pub data StandsAt : Geometry → List Token → ℕ → ℕ → Type 0 where
-  behind_all : {g : Geometry} {tokens : List Token} {end : ℕ} → EndsTooSoon tokens → StandsAt g tokens end end
+-- where a fault of these tokens stands: at their end, if they end too soon; or at a token, or at the first number of a
+-- range, if the tokens up to and with that one or that range lead nowhere
+pub data StandsAt : Geometry → List Token → (end place : ℕ) → Type 0 where
+  at_text_end : {g : Geometry} {tokens : List Token} {end : ℕ} → EndsTooSoon tokens → StandsAt g tokens end end
   at_token : {g : Geometry} {end : ℕ} (before : List Token) (t : Token) (rest : List Token)
       → LeadNowhere g (before ++ t ∷ []) → StandsAt g (before ++ t ∷ rest) end t.place
   at_range : {g : Geometry} {end m n : ℕ} (before : List Token) (from dash to : Token) (rest : List Token)
       → IsRange g (from.text ∷ dash.text ∷ to.text ∷ []) m n → LeadNowhere g (before ++ from ∷ dash ∷ to ∷ [])
       → StandsAt g (before ++ from ∷ dash ∷ to ∷ rest) end from.place
 
--- where a text of at most 1,024 bytes has its earliest fault, it ends too soon, or no text goes on
+-- with its earliest fault a text of at most 1,024 bytes ends too soon or leads nowhere
 abbrev pub NoneGoesOn : Type 0
 NoneGoesOn = (g : Geometry) (text : List ℕ) (fault : FenFault) → length text ≤ 1024 → IsFirstFault g text fault
     → StandsAt g (tokens_from 1 text) (length text + 1) fault.place

@@ -68,8 +68,9 @@ pub fn either_fen_or_faulty()
     ensures { EitherFenOrFaulty }
 {}
 
-/// No text goes on behind its earliest fault, and what stands before it has no fault.
-/// Example: no text that begins with `W:W27,27` names a position, and `W:W27,` has no fault but that it ends there.
+/// At its earliest fault a text ends too soon, or no text goes on with its tokens up to and with that fault. Cut off
+/// before it, the text has no fault but at its end.
+/// Example: no text that begins with the tokens `W:W27,27` names a position, and `W:W27,` only ends too soon.
 pub fn none_goes_on()
     ensures behind { NoneGoesOn }
     ensures before { NoneBefore }
