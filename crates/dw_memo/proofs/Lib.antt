@@ -1,4 +1,5 @@
 pub mod EntryLemmas
+pub mod GrowingLemmas
 pub mod NoteLemmas
 pub mod RecentLemmas
 pub mod SlotLemmas

@@ -1,5 +1,6 @@
 -- Tables in which each position has one slot.
-use Rattle.std.proofs.Common.{◌≡◌, ◌≢◌, ℕ, zero, suc, ◌<◌, ◌⊎◌, Bool, true, false, not, cond, [], ◌∷◌, length, slice_get, get_or, Option, Some, None, refl, sym, ap, ◌∙◌, subst, inl, inr, arith}
+use Rattle.std.proofs.Common.{◌≡◌, ◌≢◌, ℕ, zero, suc, ◌<◌, ◌⊎◌, Bool, true, false, not, cond, [], ◌∷◌, ◌++◌, length, take, slice_get, get_or, Option, Some, None, refl, sym, ap, ◌∙◌, subst, inl, inr, arith}
+use Rattle.std.specs.Prelude.{if◌then◌else◌}
 use Rattle.std.specs.Int.{from_bool}
 use Rattle.std.proofs.lemmas.Bool.{cases_lt}
 use Rattle.std.proofs.lemmas.Option.{slice_get_read}
@@ -17,24 +18,24 @@ use Rattle.dw_memo.specs.inner.Keeping.{bounds_in, lost}
 use Rattle.dw_memo.proofs.EntryLemmas.{bounds_held}
 use Rattle.dw_memo.proofs.NoteLemmas.{none_missing, one_missing}
 
-abbrev Pair : Type 0
+abbrev pub Pair : Type 0
 Pair = Placement × Bounds
 
-abbrev entry_of : Pair → Entry
+abbrev pub entry_of : Pair → Entry
 entry_of e = entry e.0 e.1
 
 -- the k-th slot holds these bounds of this position
-abbrev Holds : Slots → ℕ → Placement → Bounds → Type 0
+abbrev pub Holds : Slots → ℕ → Placement → Bounds → Type 0
 Holds slots k p b = slice_get slots k ≡ Some (Some (p, b))
 
 -- ---- slots and entries
-slot_held : (slots : Slots) (e : Entry) → Member e (held slots) → (k : ℕ) × Holds slots k e.position e.bounds
+pub slot_held : (slots : Slots) (e : Entry) → Member e (held slots) → (k : ℕ) × Holds slots k e.position e.bounds
 slot_held [] e m = absurd m
 slot_held (None ∷ slots) e m = let on = slot_held slots e m in (suc on.0, on.1)
 slot_held (Some f ∷ slots) e (inl q) = (zero, λ i. Some (Some ((sym q i).position, (sym q i).bounds)))
 slot_held (Some f ∷ slots) e (inr m) = let on = slot_held slots e m in (suc on.0, on.1)
 
-at_held : (slots : Slots) (k : ℕ) (p : Placement) (b : Bounds) → Holds slots k p b → Member (entry p b) (held slots)
+pub at_held : (slots : Slots) (k : ℕ) (p : Placement) (b : Bounds) → Holds slots k p b → Member (entry p b) (held slots)
 at_held [] k p b h = cc
 at_held (None ∷ slots) zero p b h = absurd (cc)
 at_held (None ∷ slots) (suc k) p b h = at_held slots k p b h
@@ -64,7 +65,7 @@ pub table_map : (g : Geometry) (slots : Slots) → IsTable g slots → IsMap (he
 table_map g slots t = unique_map slots (λ j k p b c h i. t.placed j p b h ∙ sym (t.placed k p c i))
 
 -- ---- empty slots
-empty_held : (n : ℕ) → held (replicate n None) ≡ []
+pub empty_held : (n : ℕ) → held (replicate n None) ≡ []
 empty_held zero = refl
 empty_held (suc n) = empty_held n
 
@@ -92,26 +93,26 @@ found g slots k p None t here h = not_here g slots k p None t here h (λ b q. ab
 found g slots k p (Some f) t here h = some_found g slots k p f (same f.0 p) t here h refl
 
 -- ---- a note
-set_here : (slots : Slots) (k : ℕ) (x : Option Pair) → k < length slots → slice_get (set slots k x) k ≡ Some x
+pub set_here : (slots : Slots) (k : ℕ) (x : Option Pair) → k < length slots → slice_get (set slots k x) k ≡ Some x
 set_here [] k x h = absurd (omega arith)
 set_here (y ∷ slots) zero x h = refl
 set_here (y ∷ slots) (suc k) x h = set_here slots k x (omega arith)
 
-set_other : (slots : Slots) (k : ℕ) (x : Option Pair) (j : ℕ) → j ≢ k → slice_get (set slots k x) j ≡ slice_get slots j
+pub set_other : (slots : Slots) (k : ℕ) (x : Option Pair) (j : ℕ) → j ≢ k → slice_get (set slots k x) j ≡ slice_get slots j
 set_other [] k x j h = refl
 set_other (y ∷ slots) zero x zero h = absurd (h refl)
 set_other (y ∷ slots) zero x (suc j) h = refl
 set_other (y ∷ slots) (suc k) x zero h = refl
 set_other (y ∷ slots) (suc k) x (suc j) h = set_other slots k x j (λ e. h (ap (λ n. suc n) e))
 
-same_number : (j k : ℕ) → (j ≡ k) ⊎ (j ≢ k)
+pub same_number : (j k : ℕ) → (j ≡ k) ⊎ (j ≢ k)
 same_number j k = elim (cases_lt j k) [
   | inl l ↦ inr (λ e. omega arith)
   | inr l ↦ elim (cases_lt k j) [ inl m ↦ inr (λ e. omega arith) | inr m ↦ inl (omega arith) ]
 ]
 
 -- what is read of a table after a write
-set_read : (slots : Slots) (k : ℕ) (x : Option Pair) (j : ℕ) (y : Option Pair) → k < length slots → slice_get (set slots k x) j ≡ Some y → ((j ≡ k) × (x ≡ y)) ⊎ ((j ≢ k) × (slice_get slots j ≡ Some y))
+pub set_read : (slots : Slots) (k : ℕ) (x : Option Pair) (j : ℕ) (y : Option Pair) → k < length slots → slice_get (set slots k x) j ≡ Some y → ((j ≡ k) × (x ≡ y)) ⊎ ((j ≢ k) × (slice_get slots j ≡ Some y))
 set_read slots k x j y inside h = elim (same_number j k) [
   | inl e ↦ let q : Some x ≡ Some y = sym (set_here slots k x inside) ∙ (ap (slice_get (set slots k x)) (sym e) ∙ h) in inl (e, (cc))
   | inr n ↦ inr (n, sym (set_other slots k x j n) ∙ h)
@@ -192,12 +193,16 @@ module _ (g : Geometry) (slots : Slots) (k : ℕ) (p : Placement) (b : Bounds) (
   noted (Some f) h = some_lost f (same f.0 p) h refl
 
 -- ---- a new table
-pub is_none : {X : Type 0} (R : Option X → Type 0) → ((x : X) → R (Some x) → ⊥) → (o : Option X) → R o → o ≡ None
-is_none R some None h = refl
-is_none R some (Some x) h = absurd (some x h)
+abbrev empty : Slots
+empty = []
 
-pub new_held : (n : ℕ) (slots : Slots) → slots ≡ replicate n None → held slots ≡ []
-new_held n slots e = ap held e ∙ empty_held n
+take_none : (n : ℕ) → take n empty ≡ empty
+take_none zero = refl
+take_none (suc n) = refl
+
+pub new_held : (n m : ℕ) (old new : Slots) (ok : Bool) → old ≡ [] → new ≡ (if ok then take n old ++ replicate m None else old) → held new ≡ []
+new_held n m old new false none is = ap held (is ∙ none)
+new_held n m old new true none is = ap held (is ∙ ap (λ xs. take n xs ++ replicate m None) none) ∙ (ap held (ap (λ xs. xs ++ replicate m None) (take_none n)) ∙ empty_held m)
 
 -- ---- the slot of a position as the program reads it
 pub found_in : (g : Geometry) (slots : Slots) (n k : ℕ) (p : Placement) (was : Option (Placement × Bounds)) (o : Option Bounds)

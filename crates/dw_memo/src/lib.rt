@@ -7,6 +7,7 @@
 #![tactic(auto)]
 
 pub mod bounds;
+mod growing;
 pub mod lru_memo;
 pub mod memo;
 pub mod no_memo;

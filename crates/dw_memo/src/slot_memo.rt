@@ -5,6 +5,7 @@ ghost use Rattle.dw_memo.specs.inner.Keeping.{bounds_in, lost};
 ghost use Rattle.dw_memo.specs.declared.memo.Noted.TheVariants.{Kept};
 
 use crate::bounds::Bounds;
+use crate::growing::{first_size, make_room};
 use crate::memo::{Memo, Noted};
 use dw_board::board::Board;
 use dw_board::position::Position;
@@ -12,12 +13,20 @@ use std::alloc::{AllocError, Global};
 use std::marker::Model;
 
 /// A table of slots. A position that is noted takes the place of the one that stood in its slot.
+///
+/// A large table begins with fewer slots, which the processor's caches can hold. When half of them hold a position it
+/// doubles, and loses nothing by it, until it has all.
 /// Example: of one slot, it holds the position that was noted last, and no other.
 #[derive(Drop)]
 pub struct SlotMemo<B: Board> {
-    slots: Vec<Option<(Position<B>, Bounds)>>,
+    slots: Slots<B>,
+    most: usize,
+    used: usize,
     dropped: u64,
 }
+
+/// Positions with their bounds, each in its slot.
+pub(crate) type Slots<B> = Vec<Option<(Position<B>, Bounds)>>;
 
 impl<B: Board> Model for SlotMemo<B> {
     ghost use Rattle.dw_memo.specs.Holding.{Holding};
@@ -38,8 +47,12 @@ impl<B: Board> SlotMemo<B> {
         requires most { slots ≤ 4_000_000 }
         ensures { IfOk result (λ m. m ≡ record { content = []; dropped = 0 }) }
     {
+        let mut table = Vec::with_capacity(alloc, slots)?;
+        table.resize(first_size(slots), None)?;
         Ok(SlotMemo {
-            slots: vec![in alloc; None; slots]?,
+            slots: table,
+            most: slots,
+            used: 0,
             dropped: 0,
         })
     }
@@ -58,8 +71,12 @@ impl<B: Board> Memo<B> for SlotMemo<B> {
     }
 
     fn put(&mut self, position: &Position<B>, bounds: Bounds) -> Noted {
+        make_room(&mut self.slots, self.used, self.most);
         let slot = slot_of(position, self.slots.len());
         let lost = lost(&self.slots[slot], position);
+        self.used = self
+            .used
+            .saturating_add(usize::from(self.slots[slot].is_none()));
         self.slots[slot] = Some((*position, bounds));
         self.dropped = self.dropped.saturating_add(lost);
         Noted::Kept
@@ -94,7 +111,7 @@ fn lost<B: Board>(slot: &Option<(Position<B>, Bounds)>, position: &Position<B>) 
 }
 
 /// The slot of a position, among so many: its mixed word as a part of 2^64, times their number. No division is needed.
-fn slot_of<B: Board>(position: &Position<B>, slots: usize) -> usize
+pub(crate) fn slot_of<B: Board>(position: &Position<B>, slots: usize) -> usize
     requires { 1 ≤ slots }
     ensures slot { result ≡ of.slot_of B.geometry position.now slots }
     ensures within { result < slots }
