@@ -4,13 +4,18 @@ use Rattle.std.specs.Io.KnownBytes.{Appends}
 use Rattle.std.proofs.KnownBytes.{Appends-trans, Appends-nil}
 use Rattle.dw_board.specs.Geometry.{Geometry}
 use Rattle.dw_board.specs.Placement.{Placement}
+use Rattle.dw_board.specs.Diagram.{diagram_text}
+use Rattle.dw_notation.specs.Lines.{Found}
 use Rattle.dw_notation.specs.Problems.{Numbered}
 use Rattle.dw_notation.specs.Writes.{IsBeginning, StopsShort, Writes}
 use Rattle.dw_notation.specs.inner.Writes.{WritesShort}
 use Rattle.dw_report.specs.Request.{number_is_chosen, Request}
-use Rattle.dw_report.specs.Report.{IsAnswer, IsFurther, IsProblemText, AreTexts, IsReportOn, chosen, first_line}
+use Rattle.dw_report.specs.Report.{IsSaid, IsFurther, IsProblemText, AreTexts, IsReportOn, chosen, first_line}
+use Rattle.dw_report.specs.declared.settings.Command.{Command}
+use Rattle.dw_report.specs.declared.settings.Command.TheVariants.{Show, Moves, Judge, List as Lists}
 use Rattle.dw_report.specs.Running.{AreLinesOf, IsProblemPart, IsPartOn}
-use Rattle.dw_report.specs.inner.Running.{TextEnds}
+use Rattle.dw_report.specs.inner.Running.{at_once, IsSaidThen, IsRest, SearchesFor, TextEnds}
+use Rattle.dw_solve.specs.Solving.{Solving}
 use Rattle.dw_solve.specs.declared.stop.Stop.{Stop}
 use Rattle.dw_report.specs.declared.problem.TextFault.{TextFault}
 use Rattle.dw_report.specs.declared.problem.TextFault.TheVariants.{Stopped, Sink}
@@ -47,40 +52,79 @@ stops_within old mid new before piece after whole split wrote stop = record {
   front = subst (IsBeginning (before ++ stop.out)) (sym split) (begins_within before stop.out piece after stop.front);
 }
 
--- a problem's first line was cut short
-pub first_line_short : (g : Geometry) (request : Request) (problem : Numbered) (old new : Option (List ℕ)) → (text : List ℕ) × AreTexts g request (problem ∷ []) text → StopsShort old new (first_line g problem) → WritesShort (IsProblemText g request problem) old new
-first_line_short g request problem old new some stop =
+-- what is known at once is the front of what follows a first line
+known_front : (g : Geometry) (request : Request) (found : Found) (command : Command) (text : List ℕ) → request.command ≡ command → IsFurther g request found text → (back : List ℕ) × (text ≡ at_once g found command ++ back)
+known_front g request (Err fault) command text e h = (text, refl)
+known_front g request (Ok p) Show text e h = ([], subst (λ (c : Command). IsSaid g c request p text) e h ∙ sym (append-nil (diagram_text g p)))
+known_front g request (Ok p) Moves text e h = (text, refl)
+known_front g request (Ok p) Judge text e h = (text, refl)
+known_front g request (Ok p) Lists text e h = (text, refl)
+
+-- what is known at once was cut short
+pub known_short : (g : Geometry) (request : Request) (problem : Numbered) (old new : Option (List ℕ)) → (text : List ℕ) × AreTexts g request (problem ∷ []) text → StopsShort old new (first_line g problem ++ at_once g problem.found request.command)
+    → WritesShort (IsProblemText g request problem) old new
+known_short g request problem old new some stop =
     let one = some.1.0 in
     let is = some.1.2 in
+    let line = first_line g problem in
+    let known = at_once g problem.found request.command in
+    let front = known_front g request problem.found request.command is.further refl is.follows in
+    let whole : one ≡ (line ++ known) ++ front.0 = is.is ∙ (ap (λ z. line ++ z) front.1 ∙ sym (append_assoc line known front.0)) in
     record {
       text = one;
       is = is;
-      stops = stops_within old old new [] (first_line g problem) is.further one is.is (Appends-nil old) stop;
+      stops = stops_within old old new [] (line ++ known) front.0 one whole (Appends-nil old) stop;
     }
 
-answer_behind : {X : Type 0} (g : Geometry) (request : Request) (problem : Numbered) (old mid new : Option (List ℕ)) (result : Result X TextFault) → Appends old mid (first_line g problem)
-    → TextEnds (IsFurther g request problem.found) (AreLinesOf (IsFurther g request problem.found)) mid new result → TextEnds (IsProblemText g request problem) (IsProblemPart g request problem) old new result
-answer_behind g request problem old mid new (Ok x) first h = record {
-  text = first_line g problem ++ h.text;
-  is = record { further = h.text; follows = h.is; is = refl };
-  wrote = Appends-trans old mid new (first_line g problem) h.text first h.wrote;
-}
-answer_behind g request problem old mid new (Err (Stopped why)) first h = record {
-  text = first_line g problem ++ h.text;
-  is = record { lines = h.text; are = h.is; is = refl };
-  wrote = Appends-trans old mid new (first_line g problem) h.text first h.wrote;
-}
-answer_behind g request problem old mid new (Err Sink) first h = record {
-  text = first_line g problem ++ h.text;
-  is = record { further = h.text; follows = h.is; is = refl };
-  stops = stops_within old mid new (first_line g problem) h.text [] (first_line g problem ++ h.text) (sym (append-nil (first_line g problem ++ h.text))) first h.stops;
-}
+-- what is known at once, and what is said behind that
+said_all : (g : Geometry) (request : Request) (p : Placement) (command : Command) (text : List ℕ) → IsSaidThen g command request p text → IsSaid g command request p (at_once g (Ok p) command ++ text)
+said_all g request p Show text h = ap (λ z. diagram_text g p ++ z) h ∙ append-nil (diagram_text g p)
+said_all g request p Moves text h = h
+said_all g request p Judge text h = h
+said_all g request p Lists text h = h
 
--- behind a first line the answer on the position that was found
-pub problem_ends : {X : Type 0} (g : Geometry) (request : Request) (problem : Numbered) (p : Placement) (old mid new : Option (List ℕ)) (result : Result X TextFault) → problem.found ≡ Ok p → Appends old mid (first_line g problem)
-    → TextEnds (IsAnswer g request p) (AreLinesOf (IsAnswer g request p)) mid new result → TextEnds (IsProblemText g request problem) (IsProblemPart g request problem) old new result
-problem_ends g request problem p old mid new result found first h =
-    answer_behind g request problem old mid new result first (subst (λ f. TextEnds (IsFurther g request f) (AreLinesOf (IsFurther g request f)) mid new result) (sym found) h)
+part_all : (g : Geometry) (request : Request) (p : Placement) (command : Command) (lines : List ℕ) → (command ≡ Show → ⊥) → AreLinesOf (IsSaidThen g command request p) lines → AreLinesOf (IsSaid g command request p) (at_once g (Ok p) command ++ lines)
+part_all g request p Show lines other h = absurd (other refl)
+part_all g request p Moves lines other h = h
+part_all g request p Judge lines other h = h
+part_all g request p Lists lines other h = h
+
+-- behind what is known at once the rest is written
+rest_behind : {X : Type 0} (g : Geometry) (request : Request) (problem : Numbered) (p : Placement) (old mid new : Option (List ℕ)) (result : Result X TextFault) → problem.found ≡ Ok p
+    → Appends old mid (first_line g problem ++ at_once g (Ok p) request.command) → (request.command ≡ Show → (why : Stop) → result ≡ Err (Stopped why) → ⊥)
+    → TextEnds (IsRest g request p) (AreLinesOf (IsRest g request p)) mid new result → TextEnds (IsProblemText g request problem) (IsProblemPart g request problem) old new result
+rest_behind g request problem p old mid new (Ok x) found first goes h =
+    let line = first_line g problem in
+    let known = at_once g (Ok p) request.command in
+    record {
+      text = (line ++ known) ++ h.text;
+      is = record { further = known ++ h.text; follows = subst (λ f. IsFurther g request f (known ++ h.text)) (sym found) (said_all g request p request.command h.text h.is); is = append_assoc line known h.text };
+      wrote = Appends-trans old mid new (line ++ known) h.text first h.wrote;
+    }
+rest_behind g request problem p old mid new (Err (Stopped why)) found first goes h =
+    let line = first_line g problem in
+    let known = at_once g (Ok p) request.command in
+    record {
+      text = (line ++ known) ++ h.text;
+      is = record { lines = known ++ h.text; are = subst (λ f. AreLinesOf (IsFurther g request f) (known ++ h.text)) (sym found) (part_all g request p request.command h.text (λ e. goes e why refl) h.is); is = append_assoc line known h.text };
+      wrote = Appends-trans old mid new (line ++ known) h.text first h.wrote;
+    }
+rest_behind g request problem p old mid new (Err Sink) found first goes h =
+    let line = first_line g problem in
+    let known = at_once g (Ok p) request.command in
+    record {
+      text = (line ++ known) ++ h.text;
+      is = record { further = known ++ h.text; follows = subst (λ f. IsFurther g request f (known ++ h.text)) (sym found) (said_all g request p request.command h.text h.is); is = append_assoc line known h.text };
+      stops = stops_within old mid new (line ++ known) h.text [] ((line ++ known) ++ h.text) (sym (append-nil ((line ++ known) ++ h.text))) first h.stops;
+    }
+
+-- the same of the command that is asked for, which does not stop where positions are shown
+pub problem_ends : {M X : Type 0} (g : Geometry) (request : Request) (problem : Numbered) (p : Placement) (old mid new : Option (List ℕ)) (was now : Solving M) (result : Result X TextFault) → problem.found ≡ Ok p
+    → Appends old mid (first_line g problem ++ at_once g problem.found request.command) → SearchesFor request.command was now result
+    → TextEnds (IsRest g request p) (AreLinesOf (IsRest g request p)) mid new result → TextEnds (IsProblemText g request problem) (IsProblemPart g request problem) old new result
+problem_ends {M = M} {X = X} g request problem p old mid new was now result found first searches h =
+    rest_behind g request problem p old mid new result found (subst (λ f. Appends old mid (first_line g problem ++ at_once g f request.command)) found first)
+    (λ e. (subst (λ (c : Command). SearchesFor {M = M} {X = X} c was now result) e searches).1) h
 
 -- a fault handed on says the same of a text that this one makes up
 pub fault_stays : {X Y : Type 0} (P Q Part Piece : List ℕ → Type 0) (old new : Option (List ℕ)) (r : Result X TextFault) (s : Result Y TextFault) (fault other : TextFault) → r ≡ Err fault → s ≡ Err other → fault ≡ other

@@ -2,20 +2,19 @@
 ghost use Rattle.std.specs.Prelude.{◌≡◌, ◌≤◌, ◌⊎◌, ◌↔◌, ◌≢◌, false, Ok, Err, IfOk, IsTrue, Option, Some};
 ghost use Rattle.dw_notation.specs.Problems.{numbered};
 ghost use Rattle.dw_report.specs.Request.{request_of};
-ghost use Rattle.dw_report.specs.Report.{IsProblemText, IsAnswer, IsMovesText};
+ghost use Rattle.dw_report.specs.Report.{IsProblemText, IsMovesText};
 ghost use Rattle.dw_report.specs.declared.problem.TextFault.TheVariants as because;
 ghost use Rattle.dw_solve.specs.declared.stop.Stop.TheVariants as stops;
 ghost use Rattle.dw_report.specs.Running.{IsProblemPart, AreLinesOf, IsRefused};
-ghost use Rattle.dw_report.specs.inner.Running.{TextEnds, SinkEnds, SearchesFor};
+ghost use Rattle.dw_report.specs.inner.Running.{TextEnds, SinkEnds, SearchesFor, IsRest};
 ghost use Rattle.dw_report.specs.Running.{IsNoLine};
 
 use crate::judged::write_judged;
 use crate::laws::one_report;
 use crate::listing::write_lines;
 use crate::settings::{Command, Settings};
-use crate::text::{count_line, first_line, move_line};
+use crate::text::{count_line, known_text, move_line};
 use dw_board::board::Board;
-use dw_board::diagram::diagram;
 use dw_board::position::Position;
 use dw_memo::memo::Memo;
 use dw_moves::best::best;
@@ -65,7 +64,8 @@ impl From<WriteFault> for TextFault {
     }
 }
 
-/// Writes the text of a problem: its first line at once, then what the command adds, each line as soon as it is known.
+/// Writes the text of a problem: what is known at once in one write, its first line and the diagram of a position that
+/// is shown; then what the command adds, each line as soon as it is known.
 /// Answers whether the problem was refused, or the line after which its lines are asked for.
 ///
 /// After a stop the sink has its first line and whole lines of the rest.
@@ -91,15 +91,17 @@ pub(crate) fn write_problem<B: Board, K: Sink, M: Memo<B>, G: Guide<B>>(
 {
     one_report();
     let _ = solver.limit();
-    write_all(sink, first_line(problem).as_str().as_bytes())?;
+    let known = known_text(problem, settings.command);
+    write_all(sink, known.as_str().as_bytes())?;
     match &problem.found {
-        Ok(position) => write_answer(alloc, sink, solver, settings, position),
+        Ok(position) => write_rest(alloc, sink, solver, settings, position),
         Err(_) => Ok(true),
     }
 }
 
-/// Writes what the command says of a position. Answers whether the line after which lines are asked for was refused.
-fn write_answer<B: Board, K: Sink, M: Memo<B>, G: Guide<B>>(
+/// Writes what the command says of a position beside its diagram. Answers whether the line after which lines are asked
+/// for was refused.
+fn write_rest<B: Board, K: Sink, M: Memo<B>, G: Guide<B>>(
     alloc: Global,
     sink: &mut K,
     solver: &mut Solver<B, M, G>,
@@ -111,8 +113,8 @@ fn write_answer<B: Board, K: Sink, M: Memo<B>, G: Guide<B>>(
     requires few { settings.now.n ≤ 20 }
     requires lines { 1 ≤ settings.now.lines }
     requires rows { settings.now.command ≡ Command.List → (B.geometry.rows ≡ 10) ⊎ (B.geometry.rows ≡ 8) }
-    ensures text { TextEnds (IsAnswer B.geometry (request_of settings.now) position.now)
-        (AreLinesOf (IsAnswer B.geometry (request_of settings.now) position.now)) (K.taken sink.old) (K.taken sink.new)
+    ensures text { TextEnds (IsRest B.geometry (request_of settings.now) position.now)
+        (AreLinesOf (IsRest B.geometry (request_of settings.now) position.now)) (K.taken sink.old) (K.taken sink.new)
         result }
     ensures sink { SinkEnds (K.is_failed sink.old) (K.is_failed sink.new) result }
     ensures searches { SearchesFor settings.now.command solver.old solver.new result }
@@ -122,10 +124,7 @@ fn write_answer<B: Board, K: Sink, M: Memo<B>, G: Guide<B>>(
 {
     let _ = solver.limit();
     match settings.command {
-        Command::Show => {
-            write_all(sink, diagram(position).as_str().as_bytes())?;
-            Ok(false)
-        }
+        Command::Show => Ok(false),
         Command::Moves => {
             write_moves(alloc, sink, position)?;
             Ok(false)

@@ -1,12 +1,15 @@
 //! The texts of the report.
 ghost use Rattle.std.specs.Prelude.{◌≡◌, ◌<◌, ◌++◌, length, codes, decimal, HoldsAt};
 ghost use Rattle.dw_moves.specs.Order.{AreListed};
+ghost use Rattle.dw_report.specs.inner.Running.{at_once};
 ghost use Rattle.dw_report.specs.Report.{fen_fault_text, refusal_text, found_text, first_line as line_of};
 ghost use Rattle.dw_report.specs.Report.{move_line as line_of_move, count_line as line_of_count};
 ghost use Rattle.dw_notation.specs.Problems.{numbered};
 
+use crate::settings::Command;
 use arrayvec::ArrayString;
 use dw_board::board::Board;
+use dw_board::diagram::{DIAGRAM_ROOM, diagram};
 use dw_board::fen::fault::{FenFault, FenFaultKind};
 use dw_board::fen::write::fen_text;
 use dw_board::position::Position;
@@ -15,6 +18,23 @@ use dw_moves::play::play;
 use dw_notation::move_text::move_text;
 use dw_notation::problems::{Problem, ProblemFault};
 use itoa::Buffer;
+
+/// The bytes that suffice for what is known at once of a problem's text.
+const KNOWN_ROOM: usize = 254 + DIAGRAM_ROOM;
+
+/// What is known at once of a problem's text: its first line and, if positions are shown, the diagram.
+/// Example: of problem 1, which is `W:W32:B28` and judged, it is `problem 1: W:W32:B28` and a line end.
+pub fn known_text<B: Board>(problem: &Problem<B>, command: Command) -> ArrayString<KNOWN_ROOM>
+    ensures { result.bytes ≡ line_of B.geometry (numbered problem.now)
+        ++ at_once B.geometry (numbered problem.now).found command }
+{
+    let mut text = ArrayString::new();
+    text.push_str(first_line(problem).as_str());
+    if let (Ok(position), Command::Show) = (&problem.found, command) {
+        text.push_str(diagram(position).as_str());
+    }
+    text
+}
 
 /// A problem's first line: its number, and its position as it is written or why it is refused.
 /// Example: of problem 1, which is `W:W32:B28`, it is `problem 1: W:W32:B28` and a line end.

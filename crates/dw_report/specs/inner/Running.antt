@@ -1,6 +1,9 @@
 -- What the parts of a run do.
 use Rattle.std.specs.Prelude.{◌≡◌, ℕ, ◌+◌, List, [], ◌∷◌, length, Bool, true, Option, Result, Ok, Err}
 use Rattle.dw_board.specs.Geometry.{Geometry}
+use Rattle.dw_board.specs.Placement.{Placement}
+use Rattle.dw_board.specs.Diagram.{diagram_text}
+use Rattle.dw_notation.specs.Lines.{Found}
 use Rattle.dw_notation.specs.Problems.{Numbered}
 use Rattle.dw_notation.specs.Writes.{Writes}
 use Rattle.dw_notation.specs.inner.Writes.{WritesShort}
@@ -9,7 +12,7 @@ use Rattle.dw_solve.specs.Solving.{Solving}
 use Rattle.dw_solve.specs.declared.stop.Stop.{Stop}
 use Rattle.dw_solve.specs.declared.stop.Stop.TheVariants.{Memory, Limit}
 use Rattle.dw_report.specs.Request.{Request}
-use Rattle.dw_report.specs.Report.{chosen}
+use Rattle.dw_report.specs.Report.{chosen, IsSaid}
 use Rattle.dw_report.specs.declared.settings.Summary.{Summary}
 use Rattle.dw_report.specs.declared.settings.RunFault.{RunFault}
 use Rattle.dw_report.specs.declared.settings.RunFault.TheVariants as ends
@@ -25,6 +28,24 @@ pub record CountsOne (g : Geometry) (request : Request) (old new : Summary) (pro
   pub shown : new.shown ≡ old.shown + length (chosen request.only (problem ∷ []))
   pub refused : (count : ℕ) × AreRefused g request (chosen request.only (problem ∷ [])) count
       × (new.refused ≡ old.refused + count)
+
+-- what a problem's text has behind its first line that is known at once: the diagram, if the position is shown
+abbrev pub at_once : Geometry → Found → Command → List ℕ
+at_once g (Err fault) command = []
+at_once g (Ok p) asked.Show = diagram_text g p
+at_once g (Ok p) asked.Moves = []
+at_once g (Ok p) asked.Judge = []
+at_once g (Ok p) asked.List = []
+
+-- and what is said behind that
+abbrev pub IsSaidThen : Geometry → Command → Request → Placement → List ℕ → Type 0
+IsSaidThen g asked.Show request p text = text ≡ []
+IsSaidThen g asked.Moves request p text = IsSaid g asked.Moves request p text
+IsSaidThen g asked.Judge request p text = IsSaid g asked.Judge request p text
+IsSaidThen g asked.List request p text = IsSaid g asked.List request p text
+
+abbrev pub IsRest : Geometry → Request → Placement → List ℕ → Type 0
+IsRest g request p text = IsSaidThen g request.command request p text
 
 -- what writing a text did: it was written; after a stop a part of it; after a fault of the sink some beginning
 abbrev pub TextEnds : {X : Type 0} → (List ℕ → Type 0) → (List ℕ → Type 0) → Option (List ℕ) → Option (List ℕ)

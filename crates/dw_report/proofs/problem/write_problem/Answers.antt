@@ -7,7 +7,7 @@ use Rattle.dw_report.specs.Request.{request_of}
 use Rattle.dw_report.specs.Report.{IsProblemText}
 use Rattle.dw_report.specs.Running.{IsProblemPart}
 use Rattle.dw_report.proofs.SearchLemmas.{searches_none, sink_not_stopped}
-use Rattle.dw_report.proofs.WritingLemmas.{at_sink, first_line_short, problem_ends}
+use Rattle.dw_report.proofs.WritingLemmas.{at_sink, known_short, problem_ends}
 use Rattle.dw_report.proofs.problem.write_problem.Goals as goal
 
 pub returns-in_err-write_all-clause-text : goal.returns-in_err-write_all-clause-text
@@ -16,9 +16,9 @@ returns-in_err-write_all-clause-text g c =
     let request = request_of c.args.settings.now in
     let problem = numbered c.args.problem.now in
     let why = err_from_is_err_and c.from_residual.result c.from_residual.ensures.1 in
-    let line = c.as_bytes.ensures.value ∙ (c.as_str.ensures.value ∙ c.first_line.ensures) in
+    let line = c.as_bytes.ensures.value ∙ (c.as_str.ensures.value ∙ c.known_text-known.ensures) in
     at_sink (IsProblemText geo request problem) (IsProblemPart geo request problem) _ _ c.from_residual.result (why.1 ∙ ap Err why.2)
-    (first_line_short geo request problem _ _ (c.one_report.ensures.texts geo g.met.B.Board.numbers request c.requires.lines (problem ∷ [])) (subst (StopsShort _ _) line c.in_err-write_all.ensures.err))
+    (known_short geo request problem _ _ (c.one_report.ensures.texts geo g.met.B.Board.numbers request c.requires.lines (problem ∷ [])) (subst (StopsShort _ _) line c.in_err-write_all.ensures.err))
 
 pub returns-in_err-write_all-clause-searches : goal.returns-in_err-write_all-clause-searches
 returns-in_err-write_all-clause-searches g c =
@@ -27,11 +27,11 @@ returns-in_err-write_all-clause-searches g c =
 
 pub returns-in-Ok-clause-text : goal.returns-in-Ok-clause-text
 returns-in-Ok-clause-text g c =
-    let line = c.as_bytes.ensures.value ∙ (c.as_str.ensures.value ∙ c.first_line.ensures) in
-    problem_ends g.B.Board.geometry (request_of c.args.settings.now) (numbered c.args.problem.now) c.in-Ok.position _ _ _ c.write_answer.result c.in-Ok.is (subst (Appends _ _) line c.in_ok-write_all.ensures.ok) c.write_answer.ensures.text
+    let line = c.as_bytes.ensures.value ∙ (c.as_str.ensures.value ∙ c.known_text-known.ensures) in
+    problem_ends g.B.Board.geometry (request_of c.args.settings.now) (numbered c.args.problem.now) c.in-Ok.position _ _ _ _ _ c.write_rest.result c.in-Ok.is (subst (Appends _ _) line c.in_ok-write_all.ensures.ok) c.write_rest.ensures.searches c.write_rest.ensures.text
 
 pub returns-in-Ok-clause-refused : goal.returns-in-Ok-clause-refused
-returns-in-Ok-clause-refused g c = rw c.in-Ok.is c.write_answer.ensures.refused
+returns-in-Ok-clause-refused g c = rw c.in-Ok.is c.write_rest.ensures.refused
 
 pub returns-in-Err-clause-searches : goal.returns-in-Err-clause-searches
 returns-in-Err-clause-searches g c = searches_none c.args.settings.now.command _ _ _ refl c.limit.ensures.within (λ why e. cc)
