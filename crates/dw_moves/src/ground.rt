@@ -55,7 +55,8 @@ impl<B: Board> Ground<B> {
     /// Whether no man on these squares can jump over one of these enemies, in any direction.
     #[inline]
     pub(crate) fn stops(&self, men: Squares<B>, enemies: Squares<B>) -> bool
-        ensures { IsTrue result → (d : Dir) (s c t : ℕ) → JumpsOver B.geometry men enemies self.now.occupied d s c t → ⊥ }
+        ensures { IsTrue result → (d : Dir) (s c t : ℕ)
+            → JumpsOver B.geometry men enemies self.now.occupied d s c t → ⊥ }
     {
         let up = self
             .reached(men, enemies, Dir::UpLeft)
