@@ -26,7 +26,6 @@ pub mod TakesTheseLemmas
 pub mod FollowedLemmas
 pub mod SquareSetLemmas
 pub mod GlanceSetLemmas
-pub mod GroundLemmas
 pub mod GlanceRunLemmas
 pub mod FirstJumpLemmas
 pub mod FirstStepLemmas

@@ -41,11 +41,6 @@ in_minus a b v s e =
     )
 
 -- a set that is not empty has a square
-pub in_one : (v : Squares) (s : ℕ) → v ≡ fin.insert fin.empty s → In s v
-in_one v s e =
-    ap (λ w. fin.contains w s) e
-    ∙ (fin.contains-insert nat_cmp_total fin.empty s s ∙ or_left (eq_by_cmp nat_cmp s s) (fin.contains (fin.empty {R = nat_cmp}) s) (unsigned_tied s s ∙ eq-eqb s s refl))
-
 pub some_in : (v : Squares) → (v ≡ fin.empty → ⊥) → (s : ℕ) × In s v
 some_in v not_empty = first (fin.items v) refl where
   first : (xs : List ℕ) → fin.items v ≡ xs → (s : ℕ) × In s v

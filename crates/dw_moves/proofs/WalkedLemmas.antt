@@ -16,7 +16,7 @@ use Rattle.dw_board.specs.Lists.{Member}
 use Rattle.dw_moves.specs.inner.MoveLemmas.{same_move}
 use Rattle.dw_moves.specs.inner.MemberLemmas.{mem_left, mem_right, mem_cases, mem_map, mem_map_back, mem_flat, mem_flat_back}
 use Rattle.dw_moves.specs.inner.Plain.{dirs, takes_for, landings_for, free_step, no_jumps}
-use Rattle.dw_moves.specs.inner.Chains.{Chain, ChainsFit, NoneFollows, EndsAs, EndsTowards, Is, Longest, further}
+use Rattle.dw_moves.specs.inner.Chains.{Chain, ChainsFit, EndsAs, EndsTowards, Is, Longest, further}
 use Rattle.dw_moves.proofs.ExactLemmas.{all_dirs, jump_from, jump_in}
 use Rattle.dw_moves.proofs.JumpStepLemmas.{append_none}
 use Rattle.dw_moves.proofs.RunLemmas.{Freed, run_man, run_king, run_stop}
@@ -233,18 +233,6 @@ walked_all g p piece b n most k1 k2 k3 k4 k moves m1 m2 m3 m4 new h1 h2 h3 h4 h 
     let four = longest_then (λ j m. (T UpLeft j m ⊎ T UpRight j m) ⊎ T DownLeft j m) (T DownRight) most k3 k4 moves m3 m4 three h4 in
     longest_wider (Onward g p piece b n) (EndsAs g p piece b n) most k moves new (onward_ends g p piece b n) (λ j m f. inl (ends_onward g p piece b n j m f))
     (longest_then (λ j m. ((T UpLeft j m ⊎ T UpRight j m) ⊎ T DownLeft j m) ⊎ T DownRight j m) (Is b n) most k4 k moves m4 new four h)
-
--- no jump goes on, so that it ends here
-ends_all : (g : Geometry) (p : Placement) (piece : Piece) (b : Move) (n k : ℕ) (m : Move) → NoneFollows g p piece b.to b.taken → EndsAs g p piece b n k m → Is b n k m
-ends_all g p piece b n k m none h = by_chain h.landings h.over h.chain h.count h.to h.taken where
-  by_chain : (ts cs : List ℕ) → Chain g p piece b.to b.taken ts cs → n + length cs ≡ k → m.to ≡ last_of b.to ts → m.taken ≡ fin.union b.taken (fin.from_list cs) → Is b n k m
-  by_chain [] [] chain count to taken = (h.some, (omega arith, same_move m b h.from to (taken ∙ union_none b.taken)))
-  by_chain [] (c ∷ cs) chain count to taken = absurd chain.jumps
-  by_chain (t ∷ ts) [] chain count to taken = absurd chain.jumps
-  by_chain (t ∷ ts) (c ∷ cs) chain count to taken = absurd (true≢false (sym (none c t chain.jumps.0) ∙ chain.fresh c (inl refl)))
-
-pub ended_all : (g : Geometry) (p : Placement) (piece : Piece) (b : Move) (n most k : ℕ) (moves new : List Move) → NoneFollows g p piece b.to b.taken → Longest (Is b n) most moves k new → Longest (EndsAs g p piece b n) most moves k new
-ended_all g p piece b n most k moves new none h = longest_wider (Is b n) (EndsAs g p piece b n) most k moves new (ends_here g p piece b n) (λ j m f. inl (ends_all g p piece b n j m none f)) h
 
 -- one piece more is no more than twenty
 pub count_fits : (g : Geometry) (p : Placement) (piece : Piece) (s c t : ℕ) (taken : Squares) (n : ℕ) → n ≤ 20 → ChainsFit g p piece s taken (20 - n) → Jump g p piece s c t → fin.contains taken c ≡ false → n + 1 ≤ 20

@@ -2,7 +2,7 @@
 ghost use Rattle.std.specs.Prelude.{◌≡◌, ◌≤◌, ◌-◌, ◌↔◌, IfOk, IsTrue};
 ghost use Rattle.dw_board.specs.Geometry.{OnBoard};
 ghost use Rattle.dw_moves.specs.inner.Chains.{ChainsFit, Taking, TakingFrom, EndsAs, EndsTowards, Is, Longest, Takes};
-ghost use Rattle.dw_moves.specs.inner.Chains.{IsCapture, NoneFollows};
+ghost use Rattle.dw_moves.specs.inner.Chains.{IsCapture};
 ghost use Rattle.dw_moves.specs.inner.Glance.{IsGround};
 
 use crate::best::is_own;
@@ -161,58 +161,13 @@ fn walk_towards<B: Board>(
             to: landing,
             taken,
         };
-        longest = walk_on(position, ground, piece, further, count + 1, longest, moves)?;
+        longest = walk(position, ground, piece, further, count + 1, longest, moves)?;
         match piece.kind {
             Kind::Man => break,
             Kind::King => at = landing,
         }
     }
     Ok(longest)
-}
-
-/// Goes through the captures that begin with a move so far, as `walk` does. One that goes no further is kept at once.
-#[cycle(walk)]
-#[inline(always)]
-fn walk_on<B: Board>(
-    position: &Position<B>,
-    ground: &Ground<B>,
-    piece: Piece,
-    begun: Move<B>,
-    count: u8,
-    most: u8,
-    moves: &mut Vec<Move<B>>,
-) -> Result<u8, AllocError>
-    requires on_board { OnBoard B.geometry begun.to }
-    requires ground { IsGround B.geometry position.now piece.side ground.now.enemies ground.now.occupied }
-    requires few { count ≤ 20 }
-    requires fits { ChainsFit B.geometry position.now piece begun.to begun.taken (20 - count) }
-    ensures { IfOk result (λ k. Longest (EndsAs B.geometry position.now piece begun count) most moves.old.items k
-        moves.new.items) }
-{
-    if goes_no_further(position, ground, piece, &begun) {
-        offer(begun, count, most, moves)
-    } else {
-        walk(position, ground, piece, begun, count, most, moves)
-    }
-}
-
-/// Whether it is seen at a glance that captures which begin with a move so far end there: those of a man that can jump
-/// over no enemy but those that it has taken.
-#[inline]
-fn goes_no_further<B: Board>(
-    position: &Position<B>,
-    ground: &Ground<B>,
-    piece: Piece,
-    begun: &Move<B>,
-) -> bool
-    requires on_board { OnBoard B.geometry begun.now.to }
-    requires ground { IsGround B.geometry position.now piece.side ground.now.enemies ground.now.occupied }
-    ensures { IsTrue result → NoneFollows B.geometry position.now piece begun.now.to begun.now.taken }
-{
-    match piece.kind {
-        Kind::King => false,
-        Kind::Man => ground.stops(Squares::one(begun.to), ground.enemies.minus(begun.taken)),
-    }
 }
 
 /// Keeps a capture of so many pieces where none that is kept takes more, once, and drops those that take fewer.

@@ -1,9 +1,7 @@
 //! What a piece meets on its way, by sets of squares that are taken once for the whole way.
-ghost use Rattle.std.specs.Prelude.{◌≡◌, ℕ, IsTrue};
-ghost use Rattle.dw_board.specs.declared.board.Dir.{Dir};
+ghost use Rattle.std.specs.Prelude.{◌≡◌};
 ghost use Rattle.dw_board.specs.Geometry.{OnBoard};
-ghost use Rattle.dw_moves.specs.inner.Glance.{IsGround, JumpsOver};
-ghost use Rattle.dw_moves.specs.Moves.{In};
+ghost use Rattle.dw_moves.specs.inner.Glance.{IsGround};
 ghost use Rattle.dw_moves.specs.inner.Plain as plain;
 
 use dw_board::board::{Board, Dir};
@@ -50,29 +48,5 @@ impl<B: Board> Ground<B> {
         } else {
             Some(next)
         }
-    }
-
-    /// Whether no man on these squares can jump over one of these enemies, in any direction.
-    #[inline]
-    pub(crate) fn stops(&self, men: Squares<B>, enemies: Squares<B>) -> bool
-        ensures { IsTrue result → (d : Dir) (s c t : ℕ)
-            → JumpsOver B.geometry men enemies self.now.occupied d s c t → ⊥ }
-    {
-        let up = self
-            .reached(men, enemies, Dir::UpLeft)
-            .or(self.reached(men, enemies, Dir::UpRight));
-        let down = self
-            .reached(men, enemies, Dir::DownLeft)
-            .or(self.reached(men, enemies, Dir::DownRight));
-        up.or(down).is_empty()
-    }
-
-    /// The squares to which men on these squares can jump over one of these enemies in a direction.
-    #[inline]
-    fn reached(&self, men: Squares<B>, enemies: Squares<B>, direction: Dir) -> Squares<B>
-        ensures { (s c t : ℕ) → JumpsOver B.geometry men enemies self.now.occupied direction s c t → In t result }
-    {
-        let met = men.shifted(direction).and(enemies);
-        met.shifted(direction).minus(self.occupied)
     }
 }

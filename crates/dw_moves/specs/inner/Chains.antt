@@ -1,11 +1,11 @@
 -- Captures that go on from a square with a piece that has taken some already, and the longest of them.
-use Rattle.std.specs.Prelude.{◌≡◌, ℕ, ◌+◌, ◌<◌, ◌≤◌, ◌⊎◌, ◌↔◌, false, true, List, length}
+use Rattle.std.specs.Prelude.{◌≡◌, ℕ, ◌+◌, ◌<◌, ◌≤◌, ◌⊎◌, ◌↔◌, false, List, length}
 use Rattle.std.specs.FinSet as set
 use Rattle.dw_board.specs.declared.board.Dir.{Dir}
 use Rattle.dw_board.specs.declared.piece.Piece.{Piece}
 use Rattle.dw_board.specs.Geometry.{Geometry, Squares}
 use Rattle.dw_board.specs.Placement.{Placement}
-use Rattle.dw_moves.specs.Moves.{Jump, Jumps, Path, Move, IsPathOf, last_of, ray}
+use Rattle.dw_moves.specs.Moves.{Jumps, Path, Move, IsPathOf, last_of, ray}
 use Rattle.dw_board.specs.Lists.{Member, NoRepeat}
 use Rattle.dw_moves.specs.inner.Plain.{takes_for}
 
@@ -37,10 +37,6 @@ Taking g p k m = (0 < k) × ((landings : List ℕ) × IsPathOf g p m k landings)
 -- and it begins on this square
 abbrev pub TakingFrom : Geometry → Placement → ℕ → ℕ → Move → Type 0
 TakingFrom g p from k m = (m.from ≡ from) × Taking g p k m
-
--- each jump from s would take what was taken before
-abbrev pub NoneFollows : Geometry → Placement → Piece → ℕ → Squares → Type 0
-NoneFollows g p piece s taken = (c t : ℕ) → Jump g p piece s c t → set.contains taken c ≡ true
 
 -- m is a move so far, which took n pieces, with a chain of jumps behind it: it takes k pieces, k above 0
 pub record EndsAs (g : Geometry) (p : Placement) (piece : Piece) (begun : Move) (n k : ℕ) (m : Move) : Type 0 where

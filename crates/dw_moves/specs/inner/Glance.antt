@@ -29,14 +29,6 @@ pub record IsGround (g : Geometry) (p : Placement) (side : Side) (enemies occupi
   pub of_enemies : AreOf g p (other side) enemies
   pub of_all : (s : ℕ) → In s occupied ↔ (OnBoard g s × IsTrue (is_some (at p s)))
 
--- a man on s, one of these, jumps in a direction over an enemy on c, one of these, to t, which is empty
-pub record JumpsOver (g : Geometry) (men enemies occupied : Squares) (d : Dir) (s c t : ℕ) : Type 0 where
-  pub stands : In s men
-  pub next : step g s d ≡ Some c
-  pub enemy : In c enemies
-  pub behind : step g c d ≡ Some t
-  pub free : In t occupied → ⊥
-
 -- n steps lead from a square of a set to t, none of them onto a piece
 abbrev pub RunsTo : Geometry → Squares → Squares → Dir → ℕ → ℕ → Type 0
 RunsTo g from occupied d zero t = In t from

@@ -5,7 +5,7 @@ use Rattle.dw_moves.specs.Moves.{Move}
 use Rattle.dw_moves.specs.inner.MoveLemmas.{same_move}
 use Rattle.dw_moves.specs.inner.Chains.{ChainsFit, Is, Longest, further}
 use Rattle.dw_moves.proofs.RunLemmas.{freed, ray_falls}
-use Rattle.dw_moves.proofs.WalkedLemmas.{TakesOver, landed_none, landed_more, landed_last, landed_stop, jump_onto, onto_towards, towards_taken, ended_all, walked_all, count_fits, chains_fit_behind}
+use Rattle.dw_moves.proofs.WalkedLemmas.{TakesOver, landed_none, landed_more, landed_last, landed_stop, jump_onto, onto_towards, towards_taken, walked_all, count_fits, chains_fit_behind}
 use Rattle.dw_moves.proofs.chains.+walk.Goals as goal
 
 pub walk-returns : goal.walk-returns
@@ -14,11 +14,6 @@ walk-returns g t c =
     walked_all g.B.Board.geometry c.args.position.now c.args.piece c.args.begun c.args.count c.args.most c.in_ok-one.one c.in_ok-two.two c.in_ok-three.three c.in_ok-four.four k
     c.args.moves.now.items c.walk_towards.new.moves.items c.walk_towards-2.new.moves.items c.walk_towards-3.new.moves.items c.walk_towards-4.new.moves.items c.offer.new.moves.items
     c.in_ok-one.ensures c.in_ok-two.ensures c.in_ok-three.ensures c.in_ok-four.ensures h) c.offer.ensures
-
-pub walk_on-returns-then-goes_no_further : goal.walk_on-returns-then-goes_no_further
-walk_on-returns-then-goes_no_further g t c =
-    IfOk-weaker c.offer.result (λ k. Longest (Is c.args.begun c.args.count) c.args.most c.args.moves.now.items k c.offer.new.moves.items) _ (λ k h.
-    ended_all g.B.Board.geometry c.args.position.now c.args.piece c.args.begun c.args.count c.args.most k c.args.moves.now.items c.offer.new.moves.items (c.goes_no_further.ensures c.if-goes_no_further.true) h) c.offer.ensures
 
 pub walk_towards-returns-then-has : goal.walk_towards-returns-then-has
 walk_towards-returns-then-has g t c =
@@ -32,8 +27,8 @@ walk_towards-landings-init g t c = landed_none g.B.Board.geometry c.args.positio
 pub walk_towards-free_step-requires : goal.walk_towards-free_step-requires
 walk_towards-free_step-requires g t c = record { on_board = c.landings.invariant.on; ground = c.requires.ground }
 
-pub walk_towards-walk_on-requires : goal.walk_towards-walk_on-requires
-walk_towards-walk_on-requires g t c κs within =
+pub walk_towards-walk-requires : goal.walk_towards-walk-requires
+walk_towards-walk-requires g t c κs within =
     let geo = g.B.Board.geometry in
     let f = freed geo g.met.B.Board.numbers c.args.position.now c.landings.at c.args.direction c.in-Some-free_step.landing c.landings.invariant.on (sym c.free_step.ensures ∙ c.in-Some-free_step.is) in
     let takes : TakesOver geo c.args.position.now c.args.piece c.args.begun.to c.args.direction c.in-Some.over = subst (λ (m : Move). TakesOver geo c.args.position.now c.args.piece m.to c.args.direction c.in-Some.over) c.begun.view_is c.in-Some.ensures.some in
@@ -72,7 +67,7 @@ walk_towards-landings-preserved g t c =
     let taken_is : c.with-taken.result ≡ fin.insert c.args.begun.taken c.in-Some.over = c.with-taken.ensures ∙ ap (λ (m : Move). fin.insert m.taken c.in-Some.over) c.begun.view_is in
     let next : Move = record { from = c.begun.inside.from; to = c.in-Some-free_step.landing; taken = c.with-taken.result } in
     let next_is : next ≡ further c.args.begun c.in-Some.over c.in-Some-free_step.landing = same_move next (further c.args.begun c.in-Some.over c.in-Some-free_step.landing) (ap (λ (m : Move). m.from) c.begun.view_is) refl taken_is in
-    landed_more geo c.args.position.now c.args.piece c.args.begun c.args.count c.in-Some.over c.args.piece.kind c.args.direction c.landings.at c.in-Some-free_step.landing c.args.most c.args.moves.now.items c.landings.longest c.landings.moves.items next c.in_ok-longest.longest c.walk_on.new.moves.items
+    landed_more geo c.args.position.now c.args.piece c.args.begun c.args.count c.in-Some.over c.args.piece.kind c.args.direction c.landings.at c.in-Some-free_step.landing c.args.most c.args.moves.now.items c.landings.longest c.landings.moves.items next c.in_ok-longest.longest c.walk.new.moves.items
     c.in-King.is c.landings.invariant f next_is c.in_ok-longest.ensures
 
 pub walk_towards-returns-in-Man : goal.walk_towards-returns-in-Man
@@ -84,8 +79,8 @@ walk_towards-returns-in-Man g t c =
     let taken_is : c.with-taken.result ≡ fin.insert c.args.begun.taken c.in-Some.over = c.with-taken.ensures ∙ ap (λ (m : Move). fin.insert m.taken c.in-Some.over) c.begun.view_is in
     let next : Move = record { from = c.begun.inside.from; to = c.in-Some-free_step.landing; taken = c.with-taken.result } in
     let next_is : next ≡ further c.args.begun c.in-Some.over c.in-Some-free_step.landing = same_move next (further c.args.begun c.in-Some.over c.in-Some-free_step.landing) (ap (λ (m : Move). m.from) c.begun.view_is) refl taken_is in
-    onto_towards geo c.args.position.now c.args.piece c.args.begun c.args.count c.in-Some.over c.args.direction c.args.most c.in_ok-longest.longest c.args.moves.now.items c.walk_on.new.moves.items takes fresh
-    (landed_last geo c.args.position.now c.args.piece c.args.begun c.args.count c.in-Some.over c.args.piece.kind c.args.direction c.landings.at c.in-Some-free_step.landing c.args.most c.args.moves.now.items c.landings.longest c.landings.moves.items next c.in_ok-longest.longest c.walk_on.new.moves.items
+    onto_towards geo c.args.position.now c.args.piece c.args.begun c.args.count c.in-Some.over c.args.direction c.args.most c.in_ok-longest.longest c.args.moves.now.items c.walk.new.moves.items takes fresh
+    (landed_last geo c.args.position.now c.args.piece c.args.begun c.args.count c.in-Some.over c.args.piece.kind c.args.direction c.landings.at c.in-Some-free_step.landing c.args.most c.args.moves.now.items c.landings.longest c.landings.moves.items next c.in_ok-longest.longest c.walk.new.moves.items
     c.in-Man.is c.landings.invariant f next_is c.in_ok-longest.ensures)
 
 pub walk_towards-returns-in_default-free_step : goal.walk_towards-returns-in_default-free_step
