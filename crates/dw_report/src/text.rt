@@ -24,7 +24,10 @@ const KNOWN_ROOM: usize = 254 + DIAGRAM_ROOM;
 
 /// What is known at once of a problem's text: its first line and, if positions are shown, the diagram.
 /// Example: of problem 1, which is `W:W32:B28` and judged, it is `problem 1: W:W32:B28` and a line end.
-pub(crate) fn known_text<B: Board>(problem: &Problem<B>, command: Command) -> ArrayString<KNOWN_ROOM>
+pub(crate) fn known_text<B: Board>(
+    problem: &Problem<B>,
+    command: Command,
+) -> ArrayString<KNOWN_ROOM>
     ensures { result.bytes ≡ line_of B.geometry (numbered problem.now)
         ++ at_once B.geometry (numbered problem.now).found command }
 {
