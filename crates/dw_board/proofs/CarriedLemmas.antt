@@ -1,6 +1,5 @@
 -- A position stays one where a piece is carried to another square.
-use Rattle.std.proofs.Common.{◌≡◌, ◌∙◌, ℕ, ◌+◌, ◌-◌, ◌≤◌, ◌<◌, ◌≢◌, Bool, true, false, cond, ◌&&◌, ◌||◌, List, Option, Some, None, length, get_or, set as put_at, count_by, refl, sym, ap, subst, arith, get_or-set_other, get_or-set_same, length-set, inl, inr}
-use Rattle.std.specs.List.{range_with_len}
+use Rattle.std.proofs.Common.{◌≡◌, ◌∙◌, ℕ, ◌+◌, ◌-◌, ◌≤◌, ◌<◌, ◌≢◌, true, false, cond, List, Option, Some, None, length, get_or, set as put_at, count_by, refl, sym, ap, subst, arith, get_or-set_other, get_or-set_same, length-set, inl, inr}
 use Rattle.std.specs.FinSet as set
 use Rattle.std.proofs.lemmas.Bool.{cases_Bool, cases_eq, eq-eqb, or_left}
 use Rattle.std.proofs.lemmas.List.{ext_get_or, set-set}
@@ -10,9 +9,9 @@ use Rattle.dw_board.specs.declared.piece.Side.{Side}
 use Rattle.dw_board.specs.declared.piece.Side.TheVariants.{White, Black}
 use Rattle.dw_board.specs.declared.piece.Kind.{Kind}
 use Rattle.dw_board.specs.declared.piece.Piece.{Piece}
-use Rattle.dw_board.specs.Geometry.{Geometry, IsBoard, OnBoard, squares, Squares}
+use Rattle.dw_board.specs.Geometry.{Geometry, IsBoard, OnBoard, Squares}
 use Rattle.dw_board.specs.inner.SquareSetLemmas.{contains-insert, and-false}
-use Rattle.dw_board.specs.Placement.{Placement, IsPosition, is_of, is_man, is_stuck, same_side, on_last_row, at, left, placed, without, crowned, landed, carried}
+use Rattle.dw_board.specs.Placement.{Placement, is_of, is_man, is_stuck, same_side, on_last_row, at, left, placed, without, crowned, landed, carried}
 use Rattle.dw_board.specs.Standing.{IsKept}
 use Rattle.dw_board.specs.inner.Held.{entered}
 use Rattle.dw_board.proofs.ClearedLemmas.{few_left, kept-without}

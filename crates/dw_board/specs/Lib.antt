@@ -1,6 +1,7 @@
 pub mod Lists
 pub mod Geometry
 pub mod SquareSet
+pub mod Slides
 pub mod Boards
 pub mod Placement
 pub mod Standing

@@ -8,4 +8,5 @@ pub mod Drawing
 pub mod FenReading
 pub mod FenBlanks
 pub mod Shifting
+pub mod Sliding
 pub mod Held

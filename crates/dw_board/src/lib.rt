@@ -13,6 +13,7 @@ mod held;
 pub mod laws;
 pub mod piece;
 pub mod position;
+mod sliding;
 pub mod square;
 pub mod squares;
 

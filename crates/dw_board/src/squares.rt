@@ -2,6 +2,7 @@
 ghost use Rattle.std.specs.Prelude.{◌≡◌, ◌≤◌, ◌<◌, ◌↔◌, ℕ, Some, IsTrue, IsNone, IfSome};
 ghost use Rattle.std.specs.FinSet as set;
 ghost use Rattle.dw_board.specs.Geometry as Geo;
+ghost use Rattle.dw_board.specs.Slides.{SlidesTo};
 ghost use Rattle.dw_board.specs.inner.Shifting.{shifted_word};
 ghost use Rattle.std.specs.Prelude.{◌==◌};
 ghost use Rattle.std.proofs.Common.{rules};
@@ -13,6 +14,7 @@ ghost use Rattle.dw_board.specs.SquareSet.{word_of, is_set, OnlySquares};
 ghost use Rattle.dw_board.specs.inner.SquareSetLemmas.{same_members-is};
 
 use crate::board::{Board, Dir};
+use crate::sliding::slid_word;
 use crate::square::Square;
 use std::fmt;
 use std::hash::{Hash, Hasher};
@@ -215,6 +217,19 @@ impl<B: Board> Squares<B> {
     {
         Squares {
             word: shifted_word::<B>(self.word, direction) & B::WORD,
+            board: PhantomData,
+        }
+    }
+
+    /// These squares, and those that they slide to: by any number of steps, none of them onto a barred square.
+    /// Example: on ten rows {46} slid up right, with 32 barred, is {37, 41, 46}.
+    #[inline]
+    pub fn slid(self, barred: Self, direction: Dir) -> Self
+        ensures { (t : ℕ) → IsTrue (set.contains result t)
+            ↔ ((n : ℕ) × SlidesTo B.geometry self barred direction n t) }
+    {
+        Squares {
+            word: slid_word::<B>(self.word, B::WORD & !barred.word, direction),
             board: PhantomData,
         }
     }

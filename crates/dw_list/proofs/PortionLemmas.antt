@@ -1,10 +1,10 @@
 -- What one turn of taking lines in portions does.
-use Rattle.std.proofs.Common.{◌≡◌, Bool, true, false, List, [], ◌∷◌, ◌++◌, map, reverse, sym, ap, ◌∙◌, subst}
+use Rattle.std.proofs.Common.{◌≡◌, true, false, List, [], ◌∷◌, ◌++◌, map, reverse, sym, ap, ◌∙◌, subst}
 use Rattle.std.proofs.lemmas.List.{map-append}
 use Rattle.dw_board.specs.Geometry.{Geometry}
 use Rattle.dw_moves.specs.Moves.{Move}
 use Rattle.dw_list.specs.Standing.{Standing, AreToCome}
-use Rattle.dw_list.specs.Walking.{Gives, SameToCome, GivesFirst, GivesNone, GivesNext}
+use Rattle.dw_list.specs.Walking.{Gives, SameToCome, GivesFirst, GivesNext}
 use Rattle.dw_list.proofs.StepLemmas.{gives_nothing, gives_then, gives_same, none_stays, none_first}
 
 pub taken_none_yet : (g : Geometry) (s : Standing) {X : Type 0} (f : X → List Move) (xs : List X) → xs ≡ [] → Gives g s s (map f xs)

@@ -1,14 +1,14 @@
 -- A table of slots while it doubles.
-use Rattle.std.proofs.Common.{◌≡◌, ◌≢◌, ℕ, zero, suc, ◌<◌, ◌≤◌, ◌+◌, ◌*◌, ◌/◌, ◌^◌, ◌⊎◌, [], ◌∷◌, ◌++◌, List, length, take, slice_get, Bool, true, false, Option, Some, None, refl, sym, ap, ◌∙◌, subst, inl, inr, arith}
+use Rattle.std.proofs.Common.{◌≡◌, ℕ, zero, suc, ◌<◌, ◌≤◌, ◌+◌, ◌*◌, ◌/◌, ◌^◌, [], ◌∷◌, ◌++◌, List, length, take, slice_get, Bool, true, false, Some, None, refl, sym, ap, ◌∙◌, subst, inl, inr, arith}
 use Rattle.std.proofs.lemmas.Bool.{cases_lt}
 use Rattle.std.proofs.Math.ListN.{set, length-set, replicate}
 use Rattle.dw_board.specs.Geometry.{Geometry}
 use Rattle.dw_board.specs.Standing.{mixed_word}
 use Rattle.dw_board.specs.Placement.{Placement}
 use Rattle.dw_memo.specs.declared.bounds.Bounds.{Bounds}
-use Rattle.dw_memo.specs.Content.{Entry, entry, IsMap, SameEntries}
+use Rattle.dw_memo.specs.Content.{Entry, IsMap, SameEntries}
 use Rattle.dw_board.specs.Lists.{Member}
-use Rattle.dw_memo.specs.Noting.{IsPutIn, AreMissing, IsNote}
+use Rattle.dw_memo.specs.Noting.{IsPutIn, IsNote}
 use Rattle.dw_memo.specs.declared.memo.Noted.{Noted}
 use Rattle.dw_memo.specs.Slots.{Slots, held, slot_of, IsTable}
 use Rattle.dw_memo.specs.inner.Growing.{IsHalfway}

@@ -26,7 +26,8 @@ use Rattle.dw_moves.proofs.QuietOnceLemmas.{once_append, once_map, quiet_for_onc
 use Rattle.dw_moves.proofs.SquareSetLemmas.{in_none, in_minus}
 use Rattle.dw_moves.proofs.GlanceSetLemmas.{AreKind}
 use Rattle.dw_moves.proofs.GlanceRunLemmas.{IsShifted}
-use Rattle.dw_moves.proofs.FirstJumpLemmas.{ray_head, piece_is, kind_cases}
+use Rattle.dw_moves.proofs.SlideLemmas.{ray_head}
+use Rattle.dw_moves.proofs.FirstJumpLemmas.{piece_is, kind_cases}
 use Rattle.dw_moves.proofs.TakesTheseLemmas.{contains-remove, not_removed}
 use Rattle.dw_moves.proofs.TakingLemmas.{out_of_rest, past_rest}
 

@@ -1,5 +1,5 @@
 -- Something can be taken where a single jump is there, and a first jump is found on the sets of a position.
-use Rattle.std.proofs.Common.{◌≡◌, ◌≢◌, ℕ, ◌+◌, ◌-◌, ◌≤◌, ◌<◌, zero, suc, List, [], ◌∷◌, ◌++◌, length, refl, sym, ap, ◌∙◌, subst, ◌⊎◌, inl, inr, ◌↔◌, arith, Some, None, get_or-set_other, length-append, append_assoc}
+use Rattle.std.proofs.Common.{◌≡◌, ◌≢◌, ℕ, ◌+◌, ◌-◌, ◌≤◌, ◌<◌, List, [], ◌∷◌, ◌++◌, length, refl, sym, ap, ◌∙◌, subst, ◌⊎◌, inl, inr, ◌↔◌, arith, Some, None, get_or-set_other}
 use Rattle.dw_board.specs.declared.board.Dir.{Dir}
 use Rattle.dw_board.specs.declared.piece.Side.{Side}
 use Rattle.dw_board.specs.declared.piece.Kind.{Kind}
@@ -9,18 +9,15 @@ use Rattle.dw_board.specs.Geometry.{Geometry, IsBoard, OnBoard, step, Squares}
 use Rattle.dw_board.specs.Placement.{Placement, at, placed, other}
 use Rattle.dw_moves.specs.Moves.{AllEmpty, Stands, Jump, Jumps, Path, CanCapture, ray, In}
 use Rattle.dw_board.specs.Lists.{Member}
-use Rattle.dw_moves.specs.inner.Glance.{AreSets, RunsTo, MeetsBehind, Takes}
+use Rattle.dw_moves.specs.inner.Glance.{AreSets, MeetsBehind, Takes}
 use Rattle.dw_moves.specs.inner.MemberLemmas.{mem_left, mem_right, mem_at}
 use Rattle.dw_moves.proofs.StepLemmas.{none_some, step_is}
 use Rattle.dw_moves.proofs.ExactLemmas.{option_cases}
-use Rattle.dw_moves.proofs.RayLemmas.{Toward, ray_some, ray_none, ray_of_length, ray_of_low, ray_toward}
+use Rattle.dw_moves.proofs.RayLemmas.{Toward, ray_some, ray_of_low, ray_toward}
 use Rattle.dw_moves.proofs.QuietOnceLemmas.{not_toward}
 use Rattle.dw_moves.proofs.CaptureBoundLemmas.{stood}
 use Rattle.dw_moves.proofs.GlanceSetLemmas.{free_at, not_taken}
-
-pub empty_append : (p : Placement) (xs ys : List ℕ) → AllEmpty p xs → AllEmpty p ys → AllEmpty p (xs ++ ys)
-empty_append p [] ys h k = k
-empty_append p (x ∷ xs) ys h k = (h.0, empty_append p xs ys h.1 k)
+use Rattle.dw_moves.proofs.SlideLemmas.{ray_head, run_of, Walked, walk}
 
 pub empty_member : (p : Placement) (xs : List ℕ) (x : ℕ) → AllEmpty p xs → Member x xs → at p x ≡ None
 empty_member p [] x h m = absurd m
@@ -42,17 +39,6 @@ all_still_empty p s (x ∷ xs) h = (still_empty p s x h.0, all_still_empty p s x
 other_at : (p : Placement) (s t : ℕ) → 1 ≤ s → 1 ≤ t → t ≢ s → at (placed p s None) t ≡ at p t
 other_at p s t low low_too ne = let apart : t - 1 ≢ s - 1 = λ e. ne (omega arith) in get_or-set_other p.cells (s - 1) (t - 1) None None apart
 
--- a ray that begins with x
-pub ray_head : (g : Geometry) → IsBoard g → (s x : ℕ) (xs : List ℕ) (d : Dir) → OnBoard g s → ray g s d ≡ x ∷ xs → (step g s d ≡ Some x) × (ray g x d ≡ xs)
-ray_head g b s x xs d on e = elim (option_cases (step g s d)) [
-  | inl none ↦ let no : [] ≡ x ∷ xs = sym (ray_none g s d none) ∙ e in cc
-  | inr some ↦
-      let same : some.0 ∷ ray g some.0 d ≡ x ∷ xs = sym (ray_some g b s some.0 d on some.1) ∙ e in
-      let head : some.0 ≡ x = cc in
-      let tail : ray g some.0 d ≡ xs = cc in
-      (some.1 ∙ ap Some head, ap (λ z. ray g z d) (sym head) ∙ tail)
-]
-
 -- no square of a ray is its origin
 pub apart_on_ray : (g : Geometry) → IsBoard g → (d : Dir) (s x : ℕ) → OnBoard g s → Member x (ray g s d) → x ≢ s
 apart_on_ray g b d s x on m e = not_toward g d s (subst (Toward g d s) e (ray_toward g b d s x on m))
@@ -61,27 +47,9 @@ apart_on_ray g b d s x on m e = not_toward g d s (subst (Toward g d s) e (ray_to
 pub same_on_ray : (g : Geometry) → IsBoard g → (p : Placement) (d : Dir) (s x : ℕ) → OnBoard g s → Member x (ray g s d) → at (placed p s None) x ≡ at p x
 same_on_ray g b p d s x on m = other_at p s x on.0 (ray_of_low g g.rows s d x m) (apart_on_ray g b d s x on m)
 
--- the empty squares that a run led over
-pub record Run (g : Geometry) (p : Placement) (from : Squares) (d : Dir) (n t : ℕ) : Type 0 where
-  pub start : ℕ
-  pub begins : In start from
-  pub before : List ℕ
-  pub on_ray : ray g start d ≡ before ++ ray g t d
-  pub clear : AllEmpty p before
-  pub steps : length before ≡ n
-  pub on : OnBoard g t
-
 no_length : (xs : List ℕ) → length xs ≡ 0 → xs ≡ []
 no_length [] e = refl
 no_length (x ∷ xs) e = absurd (omega arith)
-
--- where a run ends that leads up to c, and what follows c on the ray
-record Walked (g : Geometry) (from occupied : Squares) (d : Dir) (n c : ℕ) (rest : List ℕ) : Type 0 where
-  pub last : ℕ
-  pub runs : RunsTo g from occupied d n last
-  pub steps : step g last d ≡ Some c
-  pub on : OnBoard g c
-  pub ray_is : ray g c d ≡ rest
 
 -- the first square behind an enemy is empty
 pub head_free : (p : Placement) (behind : List ℕ) (t : ℕ) (beyond : List ℕ) → AllEmpty p behind → at p t ≡ None → (x : ℕ) × (rest : List ℕ) × (behind ++ t ∷ beyond ≡ x ∷ rest) × (at p x ≡ None)
@@ -102,26 +70,11 @@ first_jump g p piece s (t ∷ ts) [] h some = absurd h
 first_jump g p piece s (t ∷ ts) (c ∷ cs) h some = (c, t, h.0)
 
 module _ (g : Geometry) (b : IsBoard g) (p : Placement) (men kings enemies occupied : Squares) (sets : AreSets g p men kings enemies occupied) where
-  run_of : (from : Squares) (d : Dir) → ((s : ℕ) → In s from → OnBoard g s) → (n t : ℕ) → RunsTo g from occupied d n t → Run g p from d n t
-  run_of from d on zero t r = record { start = t; begins = r; before = []; on_ray = refl; clear = tt; steps = refl; on = on t r }
-  run_of from d on (suc n) t r =
-      let h = run_of from d on n r.0 r.1 in
-      let next : OnBoard g t = (step_is g b r.0 t d h.on r.2).on in
-      record {
-        start = h.start;
-        begins = h.begins;
-        before = h.before ++ t ∷ [];
-        on_ray = h.on_ray ∙ (ap (λ z. h.before ++ z) (ray_some g b r.0 t d h.on r.2) ∙ sym (append_assoc h.before (t ∷ []) (ray g t d)));
-        clear = empty_append p h.before (t ∷ []) h.clear (free_at g p men kings enemies occupied t sets next r.3, tt);
-        steps = omega (arith, length-append h.before (t ∷ []), h.steps);
-        on = next;
-      }
-
   -- one jump behind such a run
   jump_of : (kind : Kind) (from : Squares) (d : Dir) → ((s : ℕ) → In s from ↔ (OnBoard g s × (at p s ≡ Some (record { side = p.turn; kind = kind })))) → (n c t : ℕ) → (kind ≡ Man → n ≡ 0)
       → MeetsBehind g from enemies occupied d n c → step g c d ≡ Some t → (In t occupied → ⊥) → CanCapture g p
   jump_of kind from d from_is n c t man m to free =
-      let h = run_of from d (λ s i. ((from_is s).0 i).0) n m.0 m.1 in
+      let h = run_of g b p occupied sets.of_all from d (λ s i. ((from_is s).0 i).0) n m.0 m.1 in
       let piece : Piece = record { side = p.turn; kind = kind } in
       let own = (from_is h.start).0 h.begins in
       let c_on : OnBoard g c = (step_is g b m.0 c d h.on m.2).on in
@@ -147,19 +100,8 @@ module _ (g : Geometry) (b : IsBoard g) (p : Placement) (men kings enemies occup
   pub takes_capture : (d : Dir) → Takes g men kings enemies occupied d → CanCapture g p
   takes_capture d h = elim h.2 [
     | inl m ↦ jump_of Man men d sets.of_men 0 h.0 h.1 (λ _. refl) m h.3 h.4
-    | inr m ↦ jump_of King kings d sets.of_kings m.0 h.0 h.1 (λ q. cc) m.2 h.3 h.4
+    | inr m ↦ jump_of King kings d sets.of_kings m.0 h.0 h.1 (λ q. cc) m.1 h.3 h.4
   ]
-
-  -- a run over the empty squares of a ray
-  walk : (from : Squares) (d : Dir) (before : List ℕ) (n m s c : ℕ) (rest : List ℕ) → m ≡ n + length before → RunsTo g from occupied d n s → OnBoard g s → ray g s d ≡ before ++ c ∷ rest
-      → ((x : ℕ) → Member x before → In x occupied → ⊥) → Walked g from occupied d m c rest
-  walk from d [] n m s c rest e r on is free =
-      let h = ray_head g b s c rest d on is in
-      let same : n ≡ m = omega arith in
-      record { last = s; runs = subst (λ k. RunsTo g from occupied d k s) same r; steps = h.0; on = (step_is g b s c d on h.0).on; ray_is = h.1 }
-  walk from d (x ∷ before) n m s c rest e r on is free =
-      let h = ray_head g b s x (before ++ c ∷ rest) d on is in
-      walk from d before (suc n) m x c rest (omega arith) (s, r, h.0, free x (inl refl)) (step_is g b s x d on h.0).on h.1 (λ y i. free y (inr i))
 
   -- what a jump takes is met
   jump_takes : (s c t : ℕ) (piece : Piece) → Stands g p s piece → Jump g (placed p s None) piece s c t → (d : Dir) × Takes g men kings enemies occupied d
@@ -172,9 +114,8 @@ module _ (g : Geometry) (b : IsBoard g) (p : Placement) (men kings enemies occup
       let behind : In next.0 occupied → ⊥ = empty_on next.0 (subst (Member next.0) (sym ray_is) (mem_right next.0 j.before (c ∷ (next.0 ∷ next.1)) (inr (inl refl)))) next.3 in
       let there : (kind : Kind) → piece.kind ≡ kind → at p s ≡ Some (record { side = p.turn; kind = kind }) = λ kind e. stands.there ∙ ap Some (piece_is piece p.turn kind stands.own e) in
       let enemy_at : at p c ≡ Some (record { side = other p.turn; kind = j.enemy.0 }) = stood p s c (record { side = other piece.side; kind = j.enemy.0 }) j.enemy.1 ∙ ap (λ z. Some (record { side = other z; kind = j.enemy.0 })) stands.own in
-      let met : (from : Squares) → In s from → Walked g from occupied d (length j.before) c (next.0 ∷ next.1) = λ from i. walk from d j.before 0 (length j.before) s c (next.0 ∷ next.1) (omega arith) i stands.on_board ray_is free in
+      let met : (from : Squares) → In s from → Walked g from occupied d (length j.before) c (next.0 ∷ next.1) = λ from i. walk g b from occupied d j.before 0 (length j.before) s c (next.0 ∷ next.1) (omega arith) i stands.on_board ray_is free in
       let enemy : OnBoard g c → In c enemies = λ on. (sets.of_enemies c).1 (on, (j.enemy.0, enemy_at)) in
-      let few : length j.before < g.rows = omega (arith, ap length ray_is, length-append j.before (c ∷ (next.0 ∷ next.1)), ray_of_length g g.rows s d) in
       let meets : (from : Squares) → In s from → MeetsBehind g from enemies occupied d (length j.before) c = λ from i. let w = met from i in (w.last, w.runs, w.steps, enemy w.on) in
       let to : (from : Squares) → In s from → step g c d ≡ Some next.0 = λ from i. let w = met from i in (ray_head g b c next.0 next.1 d w.on w.ray_is).0 in
       elim (kind_cases piece.kind) [
@@ -184,7 +125,7 @@ module _ (g : Geometry) (b : IsBoard g) (p : Placement) (men kings enemies occup
             (d, (c, next.0, inl (subst (λ n. MeetsBehind g men enemies occupied d n c) at_once (meets men i)), to men i, behind))
         | inr king ↦
             let i : In s kings = (sets.of_kings s).1 (stands.on_board, there King king) in
-            (d, (c, next.0, inr (length j.before, few, meets kings i), to kings i, behind))
+            (d, (c, next.0, inr (length j.before, meets kings i), to kings i, behind))
       ]
 
   pub capture_takes : CanCapture g p → (d : Dir) × Takes g men kings enemies occupied d

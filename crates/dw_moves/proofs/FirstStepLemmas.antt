@@ -11,7 +11,8 @@ use Rattle.dw_moves.specs.inner.Glance.{AreSets, Steps, CanStep}
 use Rattle.dw_moves.proofs.StepLemmas.{step_is}
 use Rattle.dw_moves.proofs.RayLemmas.{ray_some}
 use Rattle.dw_moves.proofs.GlanceSetLemmas.{free_at, not_taken}
-use Rattle.dw_moves.proofs.FirstJumpLemmas.{ray_head, head_free, piece_is, kind_cases}
+use Rattle.dw_moves.proofs.SlideLemmas.{ray_head}
+use Rattle.dw_moves.proofs.FirstJumpLemmas.{head_free, piece_is, kind_cases}
 
 module _ (g : Geometry) (b : IsBoard g) (p : Placement) (men kings enemies occupied : Squares) (sets : AreSets g p men kings enemies occupied) where
   step_of : (kind_of : Kind) (s t : ℕ) (d : Dir) → OnBoard g s → at p s ≡ Some (record { side = p.turn; kind = kind_of }) → (kind_of ≡ Man → IsForward p.turn d) → step g s d ≡ Some t → (In t occupied → ⊥) → CanStep g p

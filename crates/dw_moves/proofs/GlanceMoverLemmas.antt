@@ -16,7 +16,8 @@ use Rattle.dw_moves.proofs.StepBackLemmas.{step_back}
 use Rattle.dw_moves.proofs.SquareSetLemmas.{in_or, in_minus}
 use Rattle.dw_moves.proofs.GlanceSetLemmas.{not_taken}
 use Rattle.dw_moves.proofs.GlanceRunLemmas.{IsShifted}
-use Rattle.dw_moves.proofs.FirstJumpLemmas.{ray_head, piece_is, kind_cases, same_on_ray}
+use Rattle.dw_moves.proofs.SlideLemmas.{ray_head}
+use Rattle.dw_moves.proofs.FirstJumpLemmas.{piece_is, kind_cases, same_on_ray}
 
 -- a man that can take is found from the square behind what it takes
 pub taker_in : (g : Geometry) → IsBoard g → (men enemies occupied met next free over behind : Squares) (d e : Dir) → e ≡ back d → ((c : ℕ) → In c met ↔ MenMeet g men enemies occupied d c)

@@ -1,7 +1,7 @@
 -- What is met and reached on sets of squares, as the kernel computes it.
-use Rattle.std.proofs.Common.{◌≡◌, ℕ, ◌+◌, ◌≤◌, ◌<◌, zero, suc, Bool, true, false, refl, sym, ◌∙◌, subst, ◌⊎◌, inl, inr, ◌↔◌, arith, Some}
+use Rattle.std.proofs.Common.{◌≡◌, ℕ, zero, suc, Bool, true, false, refl, sym, ◌∙◌, subst, ◌⊎◌, inl, inr, ◌↔◌, Some}
 use Rattle.std.specs.Prelude.{IsTrue}
-use Rattle.std.proofs.lemmas.Bool.{true≢false, cases_lt}
+use Rattle.std.proofs.lemmas.Bool.{true≢false}
 use Rattle.std.specs.FinSet as fin
 use Rattle.dw_board.specs.declared.board.Dir.{Dir}
 use Rattle.dw_board.specs.declared.piece.Side.{Side}
@@ -9,7 +9,8 @@ use Rattle.dw_board.specs.declared.piece.Kind.TheVariants.{Man}
 use Rattle.dw_board.specs.Geometry.{Geometry, step, Squares}
 use Rattle.dw_moves.specs.Moves.{IsForward, In}
 use Rattle.dw_moves.specs.inner.Plain.{may_go}
-use Rattle.dw_moves.specs.inner.Glance.{RunsTo, MeetsBehind, MenMeet, KingsMeet, Takes, Steps, StepsOn}
+use Rattle.dw_moves.specs.inner.Glance.{MenMeet, KingsMeet, Takes, Steps, StepsOn}
+use Rattle.dw_board.specs.Slides.{SlidesTo}
 use Rattle.dw_moves.proofs.LegalMoveLemmas.{may_from, may_in}
 use Rattle.dw_moves.proofs.SquareSetLemmas.{in_none, in_or, in_and, in_minus}
 
@@ -23,68 +24,28 @@ men_meet g men enemies occupied d next v shifted e c = (
   (λ h. (in_and next enemies v c e).1 ((shifted c).1 (h.0, (h.1, h.2)), h.3)),
 )
 
--- the squares that kings reach in i steps, and the enemies met on the way
-pub record Swept (g : Geometry) (kings enemies occupied : Squares) (d : Dir) (i : ℕ) (reached met : Squares) : Type 0 where
-  pub reach : (t : ℕ) → In t reached ↔ RunsTo g kings occupied d i t
-  pub meet : (c : ℕ) → In c met ↔ ((n : ℕ) × (n < i) × MeetsBehind g kings enemies occupied d n c)
-
-pub swept_none : (g : Geometry) (kings enemies occupied : Squares) (d : Dir) (met : Squares) → met ≡ fin.empty → Swept g kings enemies occupied d 0 kings met
-swept_none g kings enemies occupied d met e = record {
-  reach = λ t. (λ h. h, λ h. h);
-  meet = λ c. (λ h. absurd (in_none met c e h), λ h. absurd (omega (arith, h.1)));
-}
-
-at_last : (n i : ℕ) → n < suc i → (n < i) ⊎ (n ≡ i)
-at_last n i h = grind arith
-
-pub swept_more : (g : Geometry) (kings enemies occupied : Squares) (d : Dir) (i : ℕ) (reached met next hits met_too reached_next : Squares) → Swept g kings enemies occupied d i reached met
-    → IsShifted g reached d next → hits ≡ fin.intersection next enemies → met_too ≡ fin.union met hits → reached_next ≡ fin.difference next occupied
-    → Swept g kings enemies occupied d (i + 1) reached_next met_too
-swept_more g kings enemies occupied d i reached met next hits met_too reached_next h shifted hits_is met_is next_is =
-    let more : i + 1 ≡ suc i = omega arith in
-    let one : Swept g kings enemies occupied d (suc i) reached_next met_too = record {
-      reach = λ t. (
-        (λ k. let w = (in_minus next occupied reached_next t next_is).0 k in let r = (shifted t).0 w.0 in (r.0, (h.reach r.0).0 r.1.0, r.1.1, w.1)),
-        (λ k. (in_minus next occupied reached_next t next_is).1 ((shifted t).1 (k.0, ((h.reach k.0).1 k.1, k.2)), k.3)),
-      );
-      meet = λ c. (
-        (λ k. elim ((in_or met hits met_too c met_is).0 k) [
-          | inl before ↦ let r = (h.meet c).0 before in (r.0, omega (arith, r.1), r.2)
-          | inr now ↦ let both = (in_and next enemies hits c hits_is).0 now in let r = (shifted c).0 both.0 in (i, omega arith, (r.0, (h.reach r.0).0 r.1.0, r.1.1, both.1))
-        ]),
-        (λ k. (in_or met hits met_too c met_is).1 (elim (at_last k.0 i k.1) [
-          | inl before ↦ inl ((h.meet c).1 (k.0, before, k.2))
-          | inr last ↦
-              let m : MeetsBehind g kings enemies occupied d i c = subst (λ n. MeetsBehind g kings enemies occupied d n c) last k.2 in
-              inr ((in_and next enemies hits c hits_is).1 ((shifted c).1 (m.0, ((h.reach m.0).1 m.1, m.2)), m.3))
-        ])),
-      );
-    } in
-    subst (λ n. Swept g kings enemies occupied d n reached_next met_too) (sym more) one
-
--- a run of n steps has run i of them before
-begun : (g : Geometry) (from occupied : Squares) (d : Dir) (i n t : ℕ) → i ≤ n → RunsTo g from occupied d n t → (s : ℕ) × RunsTo g from occupied d i s
-begun g from occupied d i zero t low r = let same : 0 ≡ i = omega arith in (t, subst (λ k. RunsTo g from occupied d k t) same r)
-begun g from occupied d i (suc n) t low r = elim (cases_lt n i) [
-  | inl less ↦ let same : suc n ≡ i = omega arith in (t, subst (λ k. RunsTo g from occupied d k t) same r)
-  | inr more ↦ begun g from occupied d i n r.0 more r.1
-]
-
--- as many steps as the board has rows
-pub swept_all : (g : Geometry) (kings enemies occupied : Squares) (d : Dir) (i : ℕ) (reached met : Squares) → i ≡ g.rows → Swept g kings enemies occupied d i reached met → (c : ℕ) → In c met ↔ KingsMeet g kings enemies occupied d c
-swept_all g kings enemies occupied d i reached met e h c = (
-  (λ k. let r = (h.meet c).0 k in (r.0, omega (arith, r.1), r.2)),
-  (λ k. (h.meet c).1 (k.0, omega (arith, k.1), k.2)),
+-- what comes after a slide
+pub kings_meet : (g : Geometry) (kings enemies occupied : Squares) (d : Dir) (reached next v : Squares)
+    → ((t : ℕ) → In t reached ↔ ((n : ℕ) × SlidesTo g kings occupied d n t)) → IsShifted g reached d next → v ≡ fin.intersection next enemies
+    → (c : ℕ) → In c v ↔ KingsMeet g kings enemies occupied d c
+kings_meet g kings enemies occupied d reached next v slid shifted e c = (
+  (λ h.
+      let both = (in_and next enemies v c e).0 h in
+      let s = (shifted c).0 both.0 in
+      let r = (slid s.0).0 s.1.0 in
+      (r.0, (s.0, r.1, s.1.1, both.1))),
+  (λ h. (in_and next enemies v c e).1 ((shifted c).1 (h.1.0, ((slid h.1.0).1 (h.0, h.1.1), h.1.2)), h.1.3)),
 )
 
--- no king has gone so far
-pub swept_early : (g : Geometry) (kings enemies occupied : Squares) (d : Dir) (i : ℕ) (reached met : Squares) → i ≤ g.rows → ((s : ℕ) × In s reached → ⊥) → Swept g kings enemies occupied d i reached met → (c : ℕ) → In c met ↔ KingsMeet g kings enemies occupied d c
-swept_early g kings enemies occupied d i reached met low none h c = (
-  (λ k. let r = (h.meet c).0 k in (r.0, omega (arith, r.1), r.2)),
-  (λ k. elim (cases_lt k.0 i) [
-    | inl less ↦ (h.meet c).1 (k.0, less, k.2)
-    | inr more ↦ let r = begun g kings occupied d i k.0 k.2.0 more k.2.1 in absurd (none (r.0, (h.reach r.0).1 r.1))
-  ]),
+none_slide : (g : Geometry) (from occupied : Squares) (d : Dir) → ((s : ℕ) → In s from → ⊥) → (n t : ℕ) → SlidesTo g from occupied d n t → ⊥
+none_slide g from occupied d none zero t r = none t r
+none_slide g from occupied d none (suc n) t r = none_slide g from occupied d none n r.0 r.1
+
+pub no_kings_meet : (g : Geometry) (kings enemies occupied : Squares) (d : Dir) (v : Squares) → v ≡ fin.empty → ((s : ℕ) → In s kings → ⊥)
+    → (c : ℕ) → In c v ↔ KingsMeet g kings enemies occupied d c
+no_kings_meet g kings enemies occupied d v e none c = (
+  (λ h. absurd (in_none v c e h)),
+  (λ h. absurd (none_slide g kings occupied d none h.0 h.1.0 h.1.1)),
 )
 
 -- behind what is met an empty square

@@ -21,12 +21,14 @@ pub mod TakingLemmas
 pub mod QuietLemmas
 pub mod AddingLemmas
 pub mod TallyLemmas
+pub mod KingSlideLemmas
 pub mod FilledLemmas
 pub mod TakesTheseLemmas
 pub mod FollowedLemmas
 pub mod SquareSetLemmas
 pub mod GlanceSetLemmas
 pub mod GlanceRunLemmas
+pub mod SlideLemmas
 pub mod FirstJumpLemmas
 pub mod FirstStepLemmas
 pub mod OrChainLemmas

@@ -1,7 +1,6 @@
 -- The list of quiet moves, and how it is filled.
-use Rattle.std.proofs.Common.{◌≡◌, ℕ, [], ◌∷◌, refl, sym, ap, ◌∙◌, subst, ◌↔◌, inl, inr, ◌⊎◌, Bool, true, false, Some, None}
+use Rattle.std.proofs.Common.{◌≡◌, ℕ, [], ◌∷◌, refl, sym, ap, ◌∙◌, subst, ◌↔◌, inl, inr, ◌⊎◌, Bool, true, Some, None}
 use Rattle.std.specs.Prelude.{IsTrue}
-use Rattle.std.proofs.lemmas.Bool.{true≢false}
 use Rattle.dw_board.specs.declared.board.Dir.{Dir}
 use Rattle.dw_board.specs.declared.board.Dir.TheVariants.{UpLeft, UpRight, DownLeft, DownRight}
 use Rattle.dw_board.specs.declared.piece.Kind.{Kind}
@@ -15,18 +14,13 @@ use Rattle.dw_board.specs.Lists.{Member}
 use Rattle.dw_moves.specs.inner.Plain.{dirs, landings_for, goes, quiet_for, targets_of, targets, free_step}
 use Rattle.dw_moves.specs.inner.MemberLemmas.{mem_flat, mem_flat_back}
 use Rattle.dw_moves.proofs.LegalMoveLemmas.{target_from, target_in}
-use Rattle.dw_moves.proofs.ExactLemmas.{all_dirs, same_side_refl}
-use Rattle.dw_moves.proofs.StepLemmas.{none_some}
+use Rattle.dw_moves.proofs.ExactLemmas.{all_dirs}
 use Rattle.dw_moves.proofs.RunLemmas.{Freed, run_man, run_king, run_stop}
-use Rattle.dw_moves.proofs.BestFromLemmas.{some_same}
 
 -- the square is none of those that were passed
 pub record Passed (g : Geometry) (p : Placement) (k : Kind) (d : Dir) (from to at : ℕ) : Type 0 where
   pub on : OnBoard g at
   pub same : Member to (landings_for k p (ray g from d)) ↔ Member to (landings_for k p (ray g at d))
-
-pub passed_none : (g : Geometry) (p : Placement) (k : Kind) (d : Dir) (from to : ℕ) → OnBoard g from → Passed g p k d from to from
-passed_none g p k d from to on = record { on = on; same = ((λ m. m), (λ m. m)) }
 
 king_run : (g : Geometry) (p : Placement) (s : ℕ) (d : Dir) (t : ℕ) → Freed g p s d t → landings_for King p (ray g s d) ≡ t ∷ landings_for King p (ray g t d)
 king_run g p s d t f = ap (landings_for King p) f.ray_is ∙ run_king p t (ray g t d) f.free
@@ -96,12 +90,3 @@ own_quiet g p from to piece on e own =
 -- a test of what is the same as another thing
 pub both_ways : (v : Bool) (A B : Type 0) → IsTrue v ↔ A → A ↔ B → IsTrue v ↔ B
 both_ways v A B h k = ((λ t. k.0 (h.0 t)), (λ b. h.1 (k.1 b)))
-
-pub no_quiet : (g : Geometry) (p : Placement) (from to : ℕ) → at p from ≡ None → Quiet g p from to → ⊥
-no_quiet g p from to e q = none_some q.piece (sym e ∙ q.stands.there)
-
-pub no_enemy_quiet : (g : Geometry) (p : Placement) (from to : ℕ) (piece : Piece) → at p from ≡ Some piece → same_side piece.side p.turn ≡ false → Quiet g p from to → ⊥
-no_enemy_quiet g p from to piece e other_is q =
-    let one : q.piece ≡ piece = some_same q.piece piece (sym q.stands.there ∙ e) in
-    let own : piece.side ≡ p.turn = ap (λ z. z.side) (sym one) ∙ q.stands.own in
-    true≢false (sym (same_side_refl p.turn) ∙ (ap (λ z. same_side z p.turn) (sym own) ∙ other_is))

@@ -1,5 +1,5 @@
 -- Squares met one after another on a ray.
-use Rattle.std.proofs.Common.{◌≡◌, ℕ, ◌+◌, ◌≤◌, ◌<◌, suc, List, [], ◌∷◌, length, refl, sym, ap, ◌∙◌, inl, inr, arith, Option, Some, None}
+use Rattle.std.proofs.Common.{◌≡◌, ℕ, ◌≤◌, ◌<◌, suc, List, [], ◌∷◌, length, refl, sym, ap, ◌∙◌, inl, inr, arith, Option, Some, None}
 use Rattle.dw_board.specs.declared.piece.Kind.{Kind}
 use Rattle.dw_board.specs.declared.piece.Kind.TheVariants.{Man, King}
 use Rattle.dw_board.specs.declared.board.Dir.{Dir}
@@ -78,44 +78,5 @@ ray_length g b s d = omega (arith, ray_of_length g g.rows s d, b.even, b.high)
 pub run_short : (g : Geometry) → IsBoard g → (k : Kind) (p : Placement) (s : ℕ) (d : Dir) → length (landings_for k p (ray g s d)) ≤ 10
 run_short g b k p s d = omega (arith, run_length k p (ray g s d), ray_length g b s d)
 
--- how a count goes on over one more empty square
-pub count_king : (g : Geometry) (p : Placement) (s : ℕ) (d : Dir) (t count total : ℕ) → Freed g p s d t → count + length (landings_for King p (ray g s d)) ≡ total → count + 1 + length (landings_for King p (ray g t d)) ≡ total
-count_king g p s d t count total h e =
-    let l : length (landings_for King p (ray g s d)) ≡ suc (length (landings_for King p (ray g t d))) = ap (λ z. length (landings_for King p z)) h.ray_is ∙ ap length (run_king p t (ray g t d) h.free) in
-    omega arith
-
-pub count_man : (g : Geometry) (p : Placement) (s : ℕ) (d : Dir) (t count total : ℕ) → Freed g p s d t → count + length (landings_for Man p (ray g s d)) ≡ total → count + 1 ≡ total
-count_man g p s d t count total h e =
-    let l : length (landings_for Man p (ray g s d)) ≡ 1 = ap (λ z. length (landings_for Man p z)) h.ray_is ∙ ap length (run_man p t (ray g t d) h.free) in
-    omega arith
-
-pub count_stop : (g : Geometry) → IsBoard g → (k : Kind) (p : Placement) (s : ℕ) (d : Dir) (count total : ℕ) → OnBoard g s → free_step g p s d ≡ None → count + length (landings_for k p (ray g s d)) ≡ total → count ≡ total
-count_stop g b k p s d count total on stop e =
-    let l : length (landings_for k p (ray g s d)) ≡ 0 = ap length (run_stop g b k p s d on stop) in
-    omega arith
-
 pub ray_falls : (g : Geometry) (p : Placement) (s : ℕ) (d : Dir) (t : ℕ) → Freed g p s d t → length (ray g t d) < length (ray g s d)
 ray_falls g p s d t h = let l : length (ray g s d) ≡ suc (length (ray g t d)) = ap length h.ray_is in omega arith
-
-some_more : (k : Kind) (g : Geometry) (p : Placement) (s : ℕ) (d : Dir) (t : ℕ) → Freed g p s d t → 1 ≤ length (landings_for k p (ray g s d))
-some_more Man g p s d t h =
-    let l : length (landings_for Man p (ray g s d)) ≡ 1 = ap (λ z. length (landings_for Man p z)) h.ray_is ∙ ap length (run_man p t (ray g t d) h.free) in
-    omega arith
-some_more King g p s d t h =
-    let l : length (landings_for King p (ray g s d)) ≡ suc (length (landings_for King p (ray g t d))) = ap (λ z. length (landings_for King p z)) h.ray_is ∙ ap length (run_king p t (ray g t d) h.free) in
-    omega arith
-
-pub room : (k : Kind) (g : Geometry) → IsBoard g → (p : Placement) (from s : ℕ) (d : Dir) (t count : ℕ) → Freed g p s d t → count + length (landings_for k p (ray g s d)) ≡ length (landings_for k p (ray g from d)) → count + 1 ≤ 10
-room k g b p from s d t count h e = omega (arith, some_more k g p s d t h, run_short g b k p from d)
-
-pub goes_on : (k : Kind) (g : Geometry) (p : Placement) (s : ℕ) (d : Dir) (t count total : ℕ) → k ≡ King → Freed g p s d t → count + length (landings_for k p (ray g s d)) ≡ total → count + 1 + length (landings_for k p (ray g t d)) ≡ total
-goes_on Man g p s d t count total k h e = cc
-goes_on King g p s d t count total k h e = count_king g p s d t count total h e
-
-pub goes_once : (k : Kind) (g : Geometry) (p : Placement) (s : ℕ) (d : Dir) (t count total : ℕ) → k ≡ Man → Freed g p s d t → count + length (landings_for k p (ray g s d)) ≡ total → count + 1 ≡ total
-goes_once Man g p s d t count total k h e = count_man g p s d t count total h e
-goes_once King g p s d t count total k h e = cc
-
-pub not_some : (o : Option ℕ) → ((x : ℕ) → o ≡ Some x → ⊥) → o ≡ None
-not_some None h = refl
-not_some (Some x) h = absurd (h x refl)

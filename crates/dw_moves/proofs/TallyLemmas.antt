@@ -1,23 +1,18 @@
 -- How the quiet moves are counted: those of men direction by direction, those of kings square by square.
-use Rattle.std.proofs.Common.{◌≡◌, ℕ, ◌+◌, ◌*◌, ◌≤◌, zero, suc, List, [], ◌∷◌, ◌++◌, length, map, refl, sym, ap, ◌∙◌, subst, inl, inr, ◌↔◌, arith, length-append}
-use Rattle.std.proofs.lemmas.Bool.{true≢false, cases_Bool, cases_lt}
+use Rattle.std.proofs.Common.{◌≡◌, ℕ, ◌+◌, zero, suc, List, [], ◌∷◌, ◌++◌, length, map, refl, sym, ap, ◌∙◌, ◌↔◌, arith, length-append}
 use Rattle.std.proofs.lemmas.List.{length-map}
 use Rattle.std.specs.FinSet as fin
 use Rattle.std.specs.Ordering.{nat_cmp}
 use Rattle.dw_board.specs.declared.board.Dir.{Dir}
 use Rattle.dw_board.specs.declared.board.Dir.TheVariants.{UpLeft, UpRight, DownLeft, DownRight}
-use Rattle.dw_board.specs.declared.piece.Kind.TheVariants.{King}
-use Rattle.dw_board.specs.Geometry.{Geometry, IsBoard, squares, Squares, back}
+use Rattle.dw_board.specs.Geometry.{Geometry, IsBoard, Squares, back}
 use Rattle.dw_board.specs.Placement.{Placement}
 use Rattle.dw_moves.specs.Moves.{IsQuietCount, Quiet, In}
-use Rattle.dw_board.specs.Lists.{Member}
-use Rattle.dw_moves.specs.inner.Plain.{numbers_to, quiet_for, Adds, Counts, ManSteps, KingGoes}
+use Rattle.dw_moves.specs.inner.Plain.{Adds, Counts, ManSteps, KingGoes}
 use Rattle.dw_moves.proofs.StepBackLemmas.{step_back}
-use Rattle.dw_moves.proofs.LegalMoveLemmas.{squares_length, number_in}
 use Rattle.dw_moves.proofs.SquareSetLemmas.{some_in}
-use Rattle.dw_moves.proofs.GlanceSetLemmas.{AreKind}
-use Rattle.dw_moves.proofs.TakesTheseLemmas.{one_fewer, not_removed}
-use Rattle.dw_moves.proofs.AddingLemmas.{Stepping, stepping_none, stepping_more, stepping_all, Going, going_none, going_more, going_all, all_quiet, in_rest}
+use Rattle.dw_moves.proofs.TakesTheseLemmas.{one_fewer}
+use Rattle.dw_moves.proofs.AddingLemmas.{Stepping, stepping_none, stepping_more, stepping_all, all_quiet}
 
 abbrev pair : ℕ → ℕ → ℕ × ℕ
 pair s t = (s, t)
@@ -71,51 +66,3 @@ men_counted g b p d v n are is =
     let all = stepped g b p d (fin.len v) v [] refl (stepping_none pair g p d v [] are) in
     let long : length all.0 ≡ n = omega (arith, all.2, is) in
     counted (ManSteps g p d) all.0 n all.1 long
-
--- ---- moves of kings
--- a set is no larger than a list that has all its members
-len_in : (ys : List ℕ) (v : Squares) → ((s : ℕ) → In s v → Member s ys) → fin.len v ≤ length ys
-len_in [] v all = elim (cases_lt 0 (fin.len v)) [
-  | inl some ↦ let first = some_in v (λ h. let none : fin.len v ≡ 0 = ap fin.len h ∙ fin.len-empty nat_cmp in omega arith) in absurd (all first.0 first.1)
-  | inr none ↦ omega arith
-]
-len_in (y ∷ ys) v all = elim (cases_Bool (fin.contains v y)) [
-  | inl there ↦
-      let rest : fin.len (fin.remove v y) ≤ length ys = len_in ys (fin.remove v y) (λ s m. elim (all s (in_rest v y s m)) [
-        | inl same ↦ absurd (true≢false (sym (subst (λ z. In z (fin.remove v y)) same m) ∙ not_removed v y))
-        | inr other ↦ other
-      ]) in
-      omega (arith, one_fewer v y there)
-  | inr out ↦
-      let rest : fin.len v ≤ length ys = len_in ys v (λ s m. elim (all s m) [
-        | inl same ↦ absurd (true≢false (sym (subst (λ z. In z v) same m) ∙ out))
-        | inr other ↦ other
-      ]) in
-      omega arith
-]
-
--- the moves of the kings that were passed, and how many at most
-pub record Tally (g : Geometry) (p : Placement) (left : Squares) (n : ℕ) : Type 0 where
-  pub list : List (ℕ × ℕ)
-  pub going : Going pair g p left [] list
-  pub is : length list ≡ n
-  pub small : n + 40 * fin.len left ≤ 2000
-
-pub tally_none : (g : Geometry) → IsBoard g → (p : Placement) (left : Squares) → AreKind g p p.turn King left → Tally g p left 0
-tally_none g b p left are =
-    let few : fin.len left ≤ length (numbers_to (squares g)) = len_in (numbers_to (squares g)) left (λ s m. let on = ((are s).0 m).0 in number_in (squares g) s on.0 on.1) in
-    record { list = []; going = going_none pair g p left [] are; is = refl; small = omega (arith, few, squares_length (squares g), b.squares_high) }
-
-pub tally_more : (g : Geometry) → IsBoard g → (p : Placement) (left rest : Squares) (from n m : ℕ) → In from left → rest ≡ fin.remove left from → Tally g p left n → m ≡ length (quiet_for King g p p.turn from) → m ≤ 40 → Tally g p rest (n + m)
-tally_more g b p left rest from n m there rest_is h m_is low =
-    let fewer : fin.len left ≡ fin.len rest + 1 = one_fewer left from there ∙ ap (λ v. fin.len v + 1) (sym rest_is) in
-    let new : List (ℕ × ℕ) = h.list ++ map (pair from) (quiet_for King g p p.turn from) in
-    record {
-      list = new;
-      going = going_more pair g b p left rest [] h.list new from there rest_is h.going refl;
-      is = omega (arith, length-append h.list (map (pair from) (quiet_for King g p p.turn from)), length-map (quiet_for King g p p.turn from) (pair from), h.is);
-      small = omega (arith, h.small, fewer);
-    }
-
-pub tally_all : (g : Geometry) (p : Placement) (left : Squares) (n : ℕ) → left ≡ fin.empty → Tally g p left n → Counts (KingGoes g p) n
-tally_all g p left n none h = counted (KingGoes g p) h.list n (going_all pair g p left [] h.list none h.going) h.is

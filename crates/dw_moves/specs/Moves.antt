@@ -1,5 +1,5 @@
 -- Moves: what a position allows, and what a move leaves.
-use Rattle.std.specs.Prelude.{◌≡◌, ℕ, ◌≤◌, ◌<◌, ◌⊎◌, ◌↔◌, true, false, Some, None, List, [], ◌∷◌, ◌++◌, length, refl}
+use Rattle.std.specs.Prelude.{◌≡◌, ℕ, ◌≤◌, ◌<◌, ◌↔◌, true, false, Some, None, List, [], ◌∷◌, ◌++◌, length, refl}
 use Rattle.std.specs.Coded.{Coded, code_by, coded×, coded_ℕ}
 use Rattle.std.proofs.Common.{zero, suc}
 use Rattle.std.specs.FinSet as set
@@ -14,7 +14,6 @@ use Rattle.dw_board.specs.Geometry.{Geometry, step, OnBoard, is_down, Squares}
 use Rattle.dw_board.specs.Placement.{Placement, at, placed, carried, other}
 use Rattle.dw_board.specs.SquareSet.{word_of}
 use Rattle.std.specs.Prelude.{IsTrue}
-use Rattle.std.specs.Ordering.{on}
 use Rattle.std.specs.Hash as fed
 
 -- the first n squares met on the way from s in a direction, fewer where the board ends

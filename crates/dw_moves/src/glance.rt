@@ -171,22 +171,17 @@ impl<B: Board> Field<B> {
         self.men.shifted(direction).and(self.enemies)
     }
 
-    /// The enemies that a king meets first. All kings go on together, until none has an empty square before it.
+    /// The enemies that a king meets first. All kings go on together.
+    #[inline]
     fn met_by_kings(&self, direction: Dir) -> Squares<B>
         ensures { (c : ℕ) → In c result ↔ KingsMeet B.geometry self.now.kings self.now.enemies self.now.occupied
             direction c }
     {
-        let mut reached = self.kings;
-        let mut met = Squares::none();
-        'run: for _ in 0..B::ROWS {
-            if !any(reached) {
-                return met;
-            }
-            let next = reached.shifted(direction);
-            met = met.or(next.and(self.enemies));
-            reached = next.minus(self.occupied);
+        if !any(self.kings) {
+            return Squares::none();
         }
-        met
+        let reached = self.kings.slid(self.occupied, direction);
+        reached.shifted(direction).and(self.enemies)
     }
 
     /// The squares from which a man can take in a direction.

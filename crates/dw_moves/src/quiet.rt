@@ -6,7 +6,7 @@ ghost use Rattle.dw_board.specs.Lists.{Member};
 ghost use Rattle.dw_board.specs.declared.piece.Kind.TheVariants.{King};
 ghost use Rattle.dw_moves.specs.Moves.{In};
 ghost use Rattle.dw_moves.specs.inner.Plain as plain;
-ghost use Rattle.dw_moves.specs.inner.Plain.{Adds, Counts, ManSteps, KingGoes};
+ghost use Rattle.dw_moves.specs.inner.Plain.{Adds, Counts, ManSteps, KingGoes, KingLands};
 
 use crate::best::is_own;
 use dw_board::board::{Board, Dir};
@@ -39,28 +39,22 @@ fn men_count<B: Board>(position: &Position<B>, direction: Dir) -> u32
 /// The number of quiet moves of kings.
 fn kings_count<B: Board>(position: &Position<B>) -> u32
     ensures value { Counts (KingGoes B.geometry position.now) result }
-    ensures small { result ≤ 2000 }
+    ensures small { result ≤ 200 }
 {
-    let mut count = 0;
-    let mut left = position.squares(position.turn(), Kind::King);
-    'squares: while let Some((square, rest)) = left.split() {
-        count += king_count(position, square);
-        left = rest;
-    }
-    count
+    let up = kings_run(position, Dir::UpLeft) + kings_run(position, Dir::UpRight);
+    let down = kings_run(position, Dir::DownLeft) + kings_run(position, Dir::DownRight);
+    up + down
 }
 
-/// The number of quiet moves of a king from a square.
-fn king_count<B: Board>(position: &Position<B>, from: Square<B>) -> u32
-    requires { OnBoard B.geometry from }
-    ensures value { result ≡ length (plain.quiet_for King B.geometry position.now position.now.turn from) }
-    ensures small { result ≤ 40 }
+/// The number of quiet moves of kings in one direction: each leads to another square.
+#[inline]
+fn kings_run<B: Board>(position: &Position<B>, direction: Dir) -> u32
+    ensures value { Counts (KingLands B.geometry position.now direction) result }
+    ensures small { result ≤ 50 }
 {
-    let up = free_run(position, Kind::King, from, Dir::UpLeft)
-        + free_run(position, Kind::King, from, Dir::UpRight);
-    let down = free_run(position, Kind::King, from, Dir::DownLeft)
-        + free_run(position, Kind::King, from, Dir::DownRight);
-    up + down
+    let kings = position.squares(position.turn(), Kind::King);
+    let reached = kings.slid(position.occupied(), direction);
+    u32::from(reached.minus(kings).count())
 }
 
 /// Whether a piece may go this way where it takes nothing.
@@ -73,25 +67,6 @@ pub(crate) fn may_go(kind: Kind, side: Side, direction: Dir) -> bool
         (Kind::Man, Side::White) => !direction.is_down(),
         (Kind::Man, Side::Black) => direction.is_down(),
     }
-}
-
-/// The number of squares that a piece can reach in one direction over empty squares: a man at most one.
-#[inline]
-fn free_run<B: Board>(position: &Position<B>, kind: Kind, from: Square<B>, direction: Dir) -> u32
-    requires { OnBoard B.geometry from }
-    ensures value { result ≡ length (plain.landings_for kind position.now (ray B.geometry from direction)) }
-    ensures small { result ≤ 10 }
-{
-    let mut count = 0;
-    let mut at = from;
-    'run: while let Some(next) = free_step(position, at, direction) {
-        count += 1;
-        match kind {
-            Kind::Man => break,
-            Kind::King => at = next,
-        }
-    }
-    count
 }
 
 /// The next square in a direction, where nothing stands on it.

@@ -4,7 +4,7 @@ use Rattle.std.specs.Prelude.{filter}
 use Rattle.std.proofs.lemmas.Bool.{cases_Bool, le-leb, or_cases, or_left, or_right}
 use Rattle.dw_board.specs.Placement.{Placement}
 use Rattle.dw_memo.specs.Bounding.{decides, fails_decide, wins_decide}
-use Rattle.dw_memo.specs.Content.{Entry, entry, Content, positions, IsMap, SameEntries}
+use Rattle.dw_memo.specs.Content.{Entry, entry, Content, positions, IsMap}
 use Rattle.dw_board.specs.Lists.{Member, NoRepeat}
 use Rattle.dw_moves.specs.inner.MemberLemmas.{mem_map, mem_map_back, mem_filter, mem_filter_back, no_more}
 use Rattle.dw_solve.specs.Facts.{IsDecided}

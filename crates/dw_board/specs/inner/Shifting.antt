@@ -1,8 +1,8 @@
 -- How the word of a set of squares takes a step.
-use Rattle.std.specs.Prelude.{ℕ, ◌+◌, ◌-◌, ◌*◌, ◌/◌, ◌%◌, ◌^◌}
+use Rattle.std.specs.Prelude.{ℕ, ◌+◌, ◌*◌, ◌/◌, ◌%◌, ◌^◌}
 use Rattle.dw_board.specs.declared.board.Dir.{Dir}
 use Rattle.dw_board.specs.declared.board.Dir.TheVariants.{UpLeft, UpRight, DownLeft, DownRight}
-use Rattle.dw_board.specs.Geometry.{Geometry, step}
+use Rattle.dw_board.specs.Geometry.{Geometry}
 
 -- what a shift by one step makes of a padded word of 64 bits
 abbrev pub shifted_word : Geometry → Dir → ℕ → ℕ

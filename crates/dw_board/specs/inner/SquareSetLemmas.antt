@@ -90,9 +90,12 @@ pub first_true : (b c : Bool) (n s : ℕ) → cond (b && c) (Some n) None ≡ So
 first_true true c n s e = refl
 first_true false c n s e = cc
 
-pub bit-small : (g : Geometry) → IsBoard g → (s : ℕ) → OnBoard g s → bit g s < 64
-bit-small g b s on = let h : bit g s + 1 ≤ squares g + g.rows / 2 =
+pub bit-within : (g : Geometry) → IsBoard g → (s : ℕ) → OnBoard g s → bit g s < squares g + g.rows / 2
+bit-within g b s on = let h : bit g s + 1 ≤ squares g + g.rows / 2 =
     leb-true _ _ (first_true _ _ _ s (square_at-bit g b s on)) in omega arith
+
+pub bit-small : (g : Geometry) → IsBoard g → (s : ℕ) → OnBoard g s → bit g s < 64
+bit-small g b s on = let h : bit g s < squares g + g.rows / 2 = bit-within g b s on in omega arith
 
 pub some_square : (o : Option ℕ) → is_some o ≡ true → (s : ℕ) × (o ≡ Some s)
 some_square None e = absurd (true≢false (sym e))

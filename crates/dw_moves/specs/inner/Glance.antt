@@ -1,13 +1,12 @@
 -- A position as sets of squares, and what its pieces meet and reach there.
-use Rattle.std.specs.Prelude.{◌≡◌, ℕ, ◌<◌, ◌⊎◌, ◌↔◌, Some, None, IsTrue, is_some}
-use Rattle.std.proofs.Common.{zero, suc}
+use Rattle.std.specs.Prelude.{◌≡◌, ℕ, ◌⊎◌, ◌↔◌, Some, None, IsTrue, is_some}
 use Rattle.dw_board.specs.declared.board.Dir.{Dir}
-use Rattle.dw_board.specs.declared.board.Dir.TheVariants.{UpLeft, UpRight, DownLeft, DownRight}
 use Rattle.dw_board.specs.declared.piece.Side.{Side}
 use Rattle.dw_board.specs.declared.piece.Kind.{Kind}
 use Rattle.dw_board.specs.declared.piece.Kind.TheVariants.{Man, King}
 use Rattle.dw_board.specs.declared.piece.Piece.{Piece}
 use Rattle.dw_board.specs.Geometry.{Geometry, step, OnBoard, Squares}
+use Rattle.dw_board.specs.Slides.{SlidesTo}
 use Rattle.dw_board.specs.Placement.{Placement, at, placed, other}
 use Rattle.dw_moves.specs.Moves.{IsForward, Quiet, Stands, Jump, play, In}
 use Rattle.dw_moves.specs.inner.Plain.{quiet_to}
@@ -29,24 +28,18 @@ pub record IsGround (g : Geometry) (p : Placement) (side : Side) (enemies occupi
   pub of_enemies : AreOf g p (other side) enemies
   pub of_all : (s : ℕ) → In s occupied ↔ (OnBoard g s × IsTrue (is_some (at p s)))
 
--- n steps lead from a square of a set to t, none of them onto a piece
-abbrev pub RunsTo : Geometry → Squares → Squares → Dir → ℕ → ℕ → Type 0
-RunsTo g from occupied d zero t = In t from
-RunsTo g from occupied d (suc n) t =
-    (s : ℕ) × RunsTo g from occupied d n s × (step g s d ≡ Some t) × (In t occupied → ⊥)
-
--- behind n such steps the next square is c, and an enemy stands there
+-- after n steps over empty squares the next square is c, and an enemy stands there
 abbrev pub MeetsBehind : Geometry → Squares → Squares → Squares → Dir → ℕ → ℕ → Type 0
 MeetsBehind g from enemies occupied d n c =
-    (s : ℕ) × RunsTo g from occupied d n s × (step g s d ≡ Some c) × In c enemies
+    (s : ℕ) × SlidesTo g from occupied d n s × (step g s d ≡ Some c) × In c enemies
 
 -- a man meets an enemy on the next square
 abbrev pub MenMeet : Geometry → Squares → Squares → Squares → Dir → ℕ → Type 0
 MenMeet g men enemies occupied d c = MeetsBehind g men enemies occupied d 0 c
 
--- a king meets an enemy on the first square that is not empty; a run has fewer steps than the board has rows
+-- a king meets an enemy on the first square that is not empty
 abbrev pub KingsMeet : Geometry → Squares → Squares → Squares → Dir → ℕ → Type 0
-KingsMeet g kings enemies occupied d c = (n : ℕ) × (n < g.rows) × MeetsBehind g kings enemies occupied d n c
+KingsMeet g kings enemies occupied d c = (n : ℕ) × MeetsBehind g kings enemies occupied d n c
 
 -- in this direction an enemy is met, and the square behind it is empty
 abbrev pub Takes : Geometry → Squares → Squares → Squares → Squares → Dir → Type 0

@@ -125,6 +125,12 @@ pub record KingGoes (g : Geometry) (p : Placement) (s t : ℕ) : Type 0 where
   pub there : at p s ≡ Some (record { side = p.turn; kind = King })
   pub goes : Member t (quiet_for King g p p.turn s)
 
+-- a king of the side to move goes from s to t in this direction
+pub record KingLands (g : Geometry) (p : Placement) (d : Dir) (s t : ℕ) : Type 0 where
+  pub on : OnBoard g s
+  pub there : at p s ≡ Some (record { side = p.turn; kind = King })
+  pub lands : Member t (landings_for King p (ray g s d))
+
 -- the next square, where nothing stands on it
 abbrev pub free_if : Placement → Option ℕ → Option ℕ
 free_if p None = None

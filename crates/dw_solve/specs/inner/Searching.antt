@@ -1,5 +1,5 @@
 -- What the parts of a search do.
-use Rattle.std.specs.Prelude.{◌≡◌, ◌-◌, ◌⊎◌, ℕ, Bool, cond, IsTrue}
+use Rattle.std.specs.Prelude.{◌≡◌, ◌⊎◌, ℕ, Bool, cond, IsTrue}
 use Rattle.dw_memo.specs.declared.bounds.Bounds.{Bounds}
 use Rattle.dw_memo.specs.inner.Keeping.{nothing}
 use Rattle.dw_board.specs.Placement.{Placement}

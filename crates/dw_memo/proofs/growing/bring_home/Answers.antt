@@ -1,4 +1,4 @@
-use Rattle.std.proofs.Common.{◌≡◌, ◌∙◌, Some, length, slice_get, ap, refl, sym, arith}
+use Rattle.std.proofs.Common.{◌≡◌, ◌∙◌, Some, length, slice_get, ap, refl, arith}
 use Rattle.std.proofs.lemmas.Option.{slice_get_read}
 use Rattle.dw_memo.proofs.GrowingLemmas.{brought}
 use Rattle.dw_memo.proofs.growing.bring_home.Goals as goal

@@ -1,4 +1,4 @@
-use Rattle.std.proofs.Common.{◌≡◌, ◌∙◌, true, false, length, sym, ap, arith}
+use Rattle.std.proofs.Common.{◌≡◌, length, arith}
 use Rattle.std.specs.Prelude.{is_ok}
 use Rattle.std.specs.Vec.{vec_len}
 use Rattle.dw_memo.proofs.GrowingLemmas.{begun, same_on}

@@ -1,0 +1,61 @@
+//! Slides on padded words: the squares of a set go on together over free squares, in four doublings.
+ghost use Rattle.std.specs.Prelude.{◌≡◌, ◌<◌, ◌≤◌, ℕ};
+ghost use Rattle.dw_board.specs.inner.Sliding as inner;
+
+use crate::board::{Board, Dir};
+
+/// The word of the squares that are reached from those of a word, if only free squares are stepped on: they themselves,
+/// and those up to 15 steps on. No board has longer diagonals.
+#[inline]
+pub(crate) fn slid_word<B: Board>(word: u64, free: u64, direction: Dir) -> u64
+    ensures { result ≡ inner.slid_word B.geometry direction word free }
+{
+    let down = direction.is_down();
+    let by = stride::<B>(direction);
+    let one = further(down, by, word, free);
+    let two_clear = clearer(down, by, free);
+    let three = further(down, 2 * by, one, two_clear);
+    let four_clear = clearer(down, 2 * by, two_clear);
+    let seven = further(down, 4 * by, three, four_clear);
+    let eight_clear = clearer(down, 4 * by, four_clear);
+    further(down, 8 * by, seven, eight_clear)
+}
+
+/// By how many bits a step moves the bit of a square, at most 6.
+#[inline]
+fn stride<B: Board>(direction: Dir) -> u8
+    ensures value { result ≡ inner.stride B.geometry direction }
+    ensures few { result ≤ 6 }
+{
+    match direction {
+        Dir::UpLeft | Dir::DownRight => B::PER_ROW + 1,
+        Dir::UpRight | Dir::DownLeft => B::PER_ROW,
+    }
+}
+
+/// What is reached by so many bits more, if the squares before it are clear.
+#[inline]
+fn further(down: bool, by: u8, reached: u64, clear: u64) -> u64
+    requires { by < 64 }
+    ensures { result ≡ inner.further down by reached clear }
+{
+    reached | (clear & moved_word(down, by, reached))
+}
+
+/// What is clear together with the squares before it, of twice as many.
+#[inline]
+fn clearer(down: bool, by: u8, clear: u64) -> u64
+    requires { by < 64 }
+    ensures { result ≡ inner.clearer down by clear }
+{
+    clear & moved_word(down, by, clear)
+}
+
+/// The word, each bit moved by so many places.
+#[inline]
+fn moved_word(down: bool, by: u8, word: u64) -> u64
+    requires { by < 64 }
+    ensures { result ≡ inner.moved_word down by word }
+{
+    if down { word << by } else { word >> by }
+}
