@@ -187,7 +187,7 @@ fn main() {
         turn: 1,
     };
     if is_deep {
-        for (position, plies) in [(opening, 9), (middle, 15), (kings, 7)] {
+        for (position, plies) in [(opening, 9), (middle, 17), (kings, 7)] {
             let start = Instant::now();
             let count = perft(&position, &mut vec![Vec::new(); plies]);
             println!("{count} lines of {plies} plies in {} milliseconds", start.elapsed().as_millis());
