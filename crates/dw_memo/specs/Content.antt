@@ -1,5 +1,5 @@
 -- What a memo holds: a finite map from positions to bounds, as a list of entries.
-use Rattle.std.specs.Prelude.{◌↔◌, List, [], map, Option, Some, None}
+use Rattle.std.specs.Prelude.{◌↔◌, List, map, Option, Some, None}
 use Rattle.dw_board.specs.Lists.{Member, NoRepeat}
 use Rattle.dw_board.specs.Placement.{Placement}
 use Rattle.dw_memo.specs.declared.bounds.Bounds.{Bounds}

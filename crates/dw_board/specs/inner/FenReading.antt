@@ -1,7 +1,7 @@
 -- How the code reads a FEN text.
 use Rattle.std.specs.Prelude.{ℕ, Bool, Result, List, ◌||◌}
 use Rattle.dw_board.specs.Geometry.{Geometry}
-use Rattle.dw_board.specs.Placement.{Placement, placed}
+use Rattle.dw_board.specs.Placement.{Placement}
 use Rattle.dw_board.specs.FenTokens.{Token, colon, full_stop, is_sign}
 use Rattle.dw_board.specs.declared.piece.Side.{Side}
 use Rattle.dw_board.specs.declared.fen.fault.FenFault.{FenFault}

@@ -1,5 +1,5 @@
 -- Lines that say the same, whatever follows.
-use Rattle.std.specs.Prelude.{◌≡◌, ℕ, ◌+◌, List, ◌++◌, ◌==◌, if◌then◌else◌, [], ◌∷◌, length, false, Bool}
+use Rattle.std.specs.Prelude.{◌≡◌, ℕ, List, ◌++◌, ◌==◌, if◌then◌else◌, [], ◌∷◌, length, false, Bool}
 use Rattle.dw_board.specs.Geometry.{Geometry}
 use Rattle.dw_notation.specs.Lines.{line_found, line_feed, Found}
 use Rattle.std.specs.Prelude.{Option, Some, None, Err, nat_lt}
