@@ -5,7 +5,7 @@ use Rattle.std.specs.FinSet as fin
 use Rattle.std.specs.Ordering.{nat_cmp}
 use Rattle.dw_board.specs.Geometry.{Geometry}
 use Rattle.dw_board.specs.Placement.{Placement}
-use Rattle.dw_moves.specs.Moves.{IsBest, Move, Quiet, IsPathOf, Legal, LegalAt, last_of}
+use Rattle.dw_moves.specs.Moves.{IsBest, CanCapture, Move, Quiet, IsPathOf, Legal, LegalAt, last_of}
 use Rattle.dw_board.specs.Lists.{Member, NoRepeat}
 use Rattle.dw_moves.specs.inner.MemberLemmas.{mem_map, mem_map_back}
 use Rattle.dw_moves.specs.Order.{LexLess, LandsAt, IsLeastPath, Listed, HasLeastPath}
@@ -123,8 +123,28 @@ made_of_moves [] = refl
 made_of_moves (q ∷ pairs) = ap (λ z. quietly_listed q.0 q.1 ∷ z) (made_of_moves pairs)
 
 -- nothing can be taken, and the quiet moves were added
-pub quiet_all_listed : (g : Geometry) (p : Placement) (k : ℕ) (list kept old now : List Listed) → k ≡ 0 → LongestLeast (Leading g p) 0 list k kept → old ≡ [] → Adds quietly_listed (Quiet g p) old now → HasAll g p now
-quiet_all_listed g p k list kept old now none h e added =
-    let best : IsBest g p 0 = subst (IsBest g p) none (best_led g p k list kept h) in
+-- with nothing to take none is found, and with something to take one is
+led_can : (g : Geometry) (p : Placement) (k : ℕ) (l : Listed) → Leading g p k l → CanCapture g p
+led_can g p k l h = let way = h.1.1 in (l.step.from, h.1.0, way.over, way.path, omega (arith, h.0, way.count))
+
+none_led : (g : Geometry) (p : Placement) → (CanCapture g p → ⊥) → LongestLeast (Leading g p) 0 [] 0 []
+none_led g p none = record {
+  grown = omega arith;
+  reached = inl refl;
+  most = λ j l h. absurd (none (led_can g p j l h));
+  from = λ l m. absurd m;
+  least = λ l h. elim h [ inl old ↦ absurd old.1 | inr c ↦ absurd (none (led_can g p 0 l c)) ];
+  once = λ h. h;
+}
+
+pub some_led : (g : Geometry) (p : Placement) (k : ℕ) (list kept : List Listed) → CanCapture g p → LongestLeast (Leading g p) 0 list k kept → 0 < k
+some_led g p k list kept can h =
+    let l : Listed = record { step = record { from = can.0; to = last_of can.0 can.1; taken = fin.from_list can.2 }; path = can.0 ∷ can.1 } in
+    let led : Leading g p (length can.2) l = (can.4, (can.1, record { over = can.2; path = can.3; count = refl; ends = refl; takes = refl }, refl)) in
+    omega (arith, can.4, h.most (length can.2) l led)
+
+pub quiet_all_listed : (g : Geometry) (p : Placement) (old now : List Listed) → (CanCapture g p → ⊥) → old ≡ [] → Adds quietly_listed (Quiet g p) old now → HasAll g p now
+quiet_all_listed g p old now none e added =
+    let best : IsBest g p 0 = best_led g p 0 [] [] (none_led g p none) in
     let whole : now ≡ map with_ends (map move_to added.pairs) = added.are ∙ (ap (λ z. z ++ map (λ (q : ℕ × ℕ). quietly_listed q.0 q.1) added.pairs) e ∙ made_of_moves added.pairs) in
     subst (HasAll g p) (sym whole) (quiet_listing g p (map move_to added.pairs) (are_quiet g p added.pairs added.exactly added.once) best)

@@ -8,7 +8,7 @@ ghost use Rattle.dw_moves.specs.inner.Listing.{sorted_by, entries_listed, HasAll
 ghost use Rattle.dw_moves.specs.inner.Listing.{LongestLeast, TakenIn};
 
 use crate::best::is_own;
-use crate::glance::may_take;
+use crate::glance::{can_capture, may_take};
 use crate::jumps::jumps;
 use crate::moves::{Listed, Move};
 use crate::quiet::push_quiet;
@@ -59,13 +59,13 @@ fn push_listed<B: Board>(
     requires { list.old.items ≡ [] }
     ensures { OnOk result (HasAll B.geometry position.now list.new.items) }
 {
+    if !can_capture(position) {
+        return push_quiet(position, list);
+    }
     let mut paths = IndexMap::new(*list.allocator());
-    if keep_captures(position, &mut paths)? == 0 {
-        push_quiet(position, list)?;
-    } else {
-        'paths: for (mv, path) in paths {
-            list.push(Listed { step: mv, path })?;
-        }
+    keep_captures(position, &mut paths)?;
+    'paths: for (mv, path) in paths {
+        list.push(Listed { step: mv, path })?;
     }
     Ok(())
 }
@@ -208,25 +208,17 @@ fn keep_least<B: Board>(
 fn order<B: Board>(a: &Listed<B>, b: &Listed<B>) -> Ordering
     ensures { IsTrue (is_lt result) ↔ LexLess (sorted_by a.now) (sorted_by b.now) }
 {
-    if precedes(a, b) {
-        Ordering::Less
-    } else if precedes(b, a) {
-        Ordering::Greater
-    } else {
-        Ordering::Equal
-    }
-}
-
-/// Whether a move comes before another: by its start, then by its end, then by its path.
-fn precedes<B: Board>(a: &Listed<B>, b: &Listed<B>) -> bool
-    ensures { IsTrue result ↔ LexLess (sorted_by a.now) (sorted_by b.now) }
-{
-    if a.step.from != b.step.from {
+    let precedes = if a.step.from != b.step.from {
         a.step.from < b.step.from
     } else if a.step.to != b.step.to {
         a.step.to < b.step.to
     } else {
         is_less(a.path.as_slice(), b.path.as_slice())
+    };
+    if precedes {
+        Ordering::Less
+    } else {
+        Ordering::Greater
     }
 }
 

@@ -163,13 +163,31 @@ two_pass R f test (x ∷ xs) up h = elim (cases_Bool (test x)) [
 ]
 
 -- ---- the text of one of the legal moves
-module _ (rules : Rules) (g : Geometry) (b : IsBoard g) (p : Placement) (pos : IsPosition g p.cells) (list : List Listed) (all : AreListed g p list) where
+module _ (rules : Rules) (g : Geometry) (b : IsBoard g) (p : Placement) (list : List Listed) (all : AreListed g p list) where
   legal_here : (l : Listed) → Member l list → Legal g p l.step
   legal_here l here = (all.in_order.exactly l.step).0 (mem_map (λ l. l.step) l list here)
 
   ends_of : (m : Move) (l : Listed) → has_ends m l ≡ true → (l.step.from ≡ m.from) × (l.step.to ≡ m.to)
   ends_of m l h = let k = and_parts _ _ h in (eqb-true l.step.from m.from k.0, eqb-true l.step.to m.to k.1)
 
+  -- a path of one jump is enough
+  pub shared_is_long : (l : Listed) (k : ℕ) → IsBest g p (suc k) → (landings : List ℕ) → IsPathOf g p l.step (suc k) landings → shares_ends list l.step ≡ true → length landings ≡ 1 → ⊥
+  shared_is_long l k best landings path shared one =
+      let many : 1 < count_by (has_ends l.step) list = ltb-true 1 (count_by (has_ends l.step) list) shared in
+      let two = two_pass (Precedes g p) (λ (z : Listed). z.step) (has_ends l.step) list all.in_order.ascending many in
+      let alike : (z : Listed) → Member z list → has_ends l.step z ≡ true → z.step ≡ l.step = λ z m h. is_same z m (ends_of l.step z h) in
+      let first = alike two.first two.here two.passes in
+      let second = alike two.second two.there two.passes_too in
+      let self : Precedes g p l.step l.step = subst (λ z. Precedes g p z l.step) first (subst (Precedes g p two.first.step) second two.before) in
+      not_before_itself rules.keys g p l.step self
+    where
+      is_same : (z : Listed) → Member z list → (z.step.from ≡ l.step.from) × (z.step.to ≡ l.step.to) → z.step ≡ l.step
+      is_same z m e = at_most (legal_here z m).0 (rules.best.only g p (legal_here z m).0 (suc k) (legal_here z m).1 best) (legal_here z m).2 where
+        at_most : (j : ℕ) → j ≡ suc k → LegalAt g p j z.step → z.step ≡ l.step
+        at_most zero same at = absurd (omega arith)
+        at_most (suc j) same at = one_short rules g b p z.step l.step (suc j) (suc k) at.0 landings at.1 path e.0 e.1 (omega (arith, rules.take.long g p z.step (suc j) at.0 at.1, rules.take.long g p l.step (suc k) landings path)) one
+
+module _ (rules : Rules) (g : Geometry) (b : IsBoard g) (p : Placement) (pos : IsPosition g p.cells) (list : List Listed) (all : AreListed g p list) where
   ends_are : (m : Move) (l : Listed) → l.step.from ≡ m.from → l.step.to ≡ m.to → has_ends m l ≡ true
   ends_are m l from to = and_from _ _ (eq-eqb l.step.from m.from from) (eq-eqb l.step.to m.to to)
 
@@ -194,7 +212,7 @@ module _ (rules : Rules) (g : Geometry) (b : IsBoard g) (p : Placement) (pos : I
         named = Capture (l.step.from ∷ l.step.to ∷ []);
         names = by_crosses (crossed_written g b l.step.from (l.step.to ∷ []) path.path.stands.on_board (to_on, tt)) (omega arith) (omega arith);
         answers = record {
-          fits = (legal_here l here, (refl, refl), some);
+          fits = (legal_here rules g b p list all l here, (refl, refl), some);
           alone = λ other h.
               let found = mem_map_back (λ l. l.step) other list ((all.in_order.exactly other).1 h.0) in
               let same : l ≡ found.0 = only_counted (has_ends l.step) l found.0 list few here found.1 (ends_are l.step l refl refl) (ends_are l.step found.0 (sym (ap (λ z. z.from) found.2) ∙ h.1.0) (sym (ap (λ z. z.to) found.2) ∙ h.1.1)) in
@@ -204,23 +222,6 @@ module _ (rules : Rules) (g : Geometry) (b : IsBoard g) (p : Placement) (pos : I
 
   path_at : (m : Move) (k : ℕ) → IsBest g p (suc k) → (landings : List ℕ) → IsPathOf g p m (suc k) landings → IsPathFor g p m (m.from ∷ landings)
   path_at m k best landings path = record { most = suc k; best = best; some = omega arith; landings = landings; leads = path; are = refl }
-
-  -- a path of one jump is enough
-  shared_is_long : (l : Listed) (k : ℕ) → IsBest g p (suc k) → (landings : List ℕ) → IsPathOf g p l.step (suc k) landings → shares_ends list l.step ≡ true → length landings ≡ 1 → ⊥
-  shared_is_long l k best landings path shared one =
-      let many : 1 < count_by (has_ends l.step) list = ltb-true 1 (count_by (has_ends l.step) list) shared in
-      let two = two_pass (Precedes g p) (λ (z : Listed). z.step) (has_ends l.step) list all.in_order.ascending many in
-      let alike : (z : Listed) → Member z list → has_ends l.step z ≡ true → z.step ≡ l.step = λ z m h. is_same z m (ends_of l.step z h) in
-      let first = alike two.first two.here two.passes in
-      let second = alike two.second two.there two.passes_too in
-      let self : Precedes g p l.step l.step = subst (λ z. Precedes g p z l.step) first (subst (Precedes g p two.first.step) second two.before) in
-      not_before_itself rules.keys g p l.step self
-    where
-      is_same : (z : Listed) → Member z list → (z.step.from ≡ l.step.from) × (z.step.to ≡ l.step.to) → z.step ≡ l.step
-      is_same z m e = at_most (legal_here z m).0 (rules.best.only g p (legal_here z m).0 (suc k) (legal_here z m).1 best) (legal_here z m).2 where
-        at_most : (j : ℕ) → j ≡ suc k → LegalAt g p j z.step → z.step ≡ l.step
-        at_most zero same at = absurd (omega arith)
-        at_most (suc j) same at = one_short rules g b p z.step l.step (suc j) (suc k) at.0 landings at.1 path e.0 e.1 (omega (arith, rules.take.long g p z.step (suc j) at.0 at.1, rules.take.long g p l.step (suc k) landings path)) one
 
   -- its path tells it
   path_written : (m : Move) (k : ℕ) → IsBest g p (suc k) → Legal g p m → (landings : List ℕ) → IsPathOf g p m (suc k) landings → (length landings ≡ 1 → ⊥) → IsAnswered g p (squares_text 120 (m.from ∷ landings)) (Ok m)
@@ -247,14 +248,14 @@ module _ (rules : Rules) (g : Geometry) (b : IsBoard g) (p : Placement) (pos : I
     by_most landings is zero best lands =
         let none : eqb (set.len l.step.taken) 0 ≡ true = eq-eqb (set.len l.step.taken) 0 (ap set.len lands.1 ∙ set.len-empty nat_cmp) in
         let text : text_among list l ≡ squares_text 45 (l.step.from ∷ l.step.to ∷ []) = rw none refl in
-        subst (λ z. IsAnswered g p z (Ok l.step)) (sym text) (quiet_written l.step (legal_here l here) lands.0 lands.1)
+        subst (λ z. IsAnswered g p z (Ok l.step)) (sym text) (quiet_written l.step (legal_here rules g b p list all l here) lands.0 lands.1)
     by_most landings is (suc k) best lands =
-        let count : set.len l.step.taken ≡ suc k = rules.take.taken g p (suc k) l.step best (legal_here l here) in
+        let count : set.len l.step.taken ≡ suc k = rules.take.taken g p (suc k) l.step best (legal_here rules g b p list all l here) in
         let some : eqb (set.len l.step.taken) 0 ≡ false = ne_eqb (set.len l.step.taken) 0 (λ e. omega arith) in
         elim (cases_Bool (shares_ends list l.step)) [
           | inl shared ↦
               let text : text_among list l ≡ squares_text 120 l.path = rw (some, shared) refl in
-              subst (λ z. IsAnswered g p z (Ok l.step)) (sym (text ∙ ap (squares_text 120) is)) (path_written l.step k best (legal_here l here) landings lands (shared_is_long l k best landings lands shared))
+              subst (λ z. IsAnswered g p z (Ok l.step)) (sym (text ∙ ap (squares_text 120) is)) (path_written l.step k best (legal_here rules g b p list all l here) landings lands (shared_is_long rules g b p list all l k best landings lands shared))
           | inr apart ↦
               let text : text_among list l ≡ squares_text 120 (l.step.from ∷ l.step.to ∷ []) = rw (some, apart) refl in
               subst (λ z. IsAnswered g p z (Ok l.step)) (sym text) (short_written l here (suc k) landings lands (omega arith) apart)

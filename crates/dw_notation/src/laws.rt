@@ -2,7 +2,7 @@
 ghost use Rattle.dw_notation.specs.Tags.{SectionsAreFound, LastSectionIsFound, CommentsSayNothing, OpenCommentIsFound};
 ghost use Rattle.dw_notation.specs.Tags.{OthersSayNothing, OpenCommentGivesNothing, OpenSectionGivesNothing};
 ghost use Rattle.dw_notation.specs.WholeTexts.{TextsAreRows};
-ghost use Rattle.dw_notation.specs.TextLaws.{MovesHaveTexts, LinesHaveTexts};
+ghost use Rattle.dw_notation.specs.TextLaws.{MovesHaveTexts, EndsTell, LinesHaveTexts};
 ghost use Rattle.dw_notation.specs.MoveReadingLaws.{NamesOneThing, HasOneAnswer, WrittenMoveIsNamed, WrittenMoveIsRead};
 
 use dw_moves::laws::{legal_moves_take, moves_have_keys, moves_in_order, one_best, path_tells};
@@ -46,6 +46,18 @@ pub fn unfinished_give_nothing()
 /// Example: at `W:W27,45:B16` they are `27-21`, `27-22` and `45-40`.
 pub fn moves_have_texts()
     ensures { MovesHaveTexts }
+{
+    moves_in_order();
+    path_tells();
+    one_best();
+    moves_have_keys();
+    legal_moves_take();
+}
+
+/// A quiet move, and a capture of one piece, are always written by their ends: no other legal move shares them.
+/// Example: at `W:W32:B28` the capture is `32x23`.
+pub fn ends_tell()
+    ensures { EndsTell }
 {
     moves_in_order();
     path_tells();

@@ -1,7 +1,7 @@
 //! Texts of draughts: where bytes come from and go, and the problems of a byte text.
 //!
-//! Everything is generic over the board. Memory is taken by `text_in`, `line_text` and `LineText`, which list legal
-//! moves, and by `read_move` at two squares joined by `x`.
+//! Everything is generic over the board. Memory is taken by `text_in`, `line_text` and `LineText`, which list the legal
+//! moves if a capture takes several pieces, and by `read_move` at two squares joined by `x`.
 //!
 //! Begin with `Problems`, which reads the problems of a `Source`, and with `move_text::move_text`,
 //! `line_text::line_text` and `read_move::read_move`.

@@ -5,6 +5,7 @@ ghost use Rattle.dw_moves.specs.Moves.{Legal};
 ghost use Rattle.dw_notation.specs.Text.{IsMoveText, squares_text, text_among, shares_ends as are_shared};
 ghost use Rattle.dw_notation.specs.inner.LineWords.{HasStep};
 
+use crate::laws::ends_tell;
 use arrayvec::ArrayString;
 use dw_board::board::Board;
 use dw_board::position::Position;
@@ -39,9 +40,28 @@ pub fn move_text<B: Board>(list: &[Listed<B>], place: usize) -> ArrayString<MOVE
     }
 }
 
-/// The text of a legal move of a position, or want of memory.
+/// The text of a legal move of a position; or want of memory, which only a capture of several pieces takes.
 /// Example: at `W:W32:B28` that of the capture of 28 is `32x23`.
 pub fn text_in<B: Board>(
+    alloc: Global,
+    position: &Position<B>,
+    mv: &Move<B>,
+) -> Result<ArrayString<MOVE_ROOM>, AllocError>
+    requires { Legal B.geometry position.now mv.now }
+    ensures text { IfOk result (λ text. IsMoveText B.geometry position.now mv.now text.bytes) }
+    ensures short { IfOk result (λ text. length text.bytes ≤ 62) }
+{
+    ends_tell();
+    let squares = [mv.from, mv.to];
+    match mv.taken.count() {
+        0 => Ok(squares_text(&squares, '-')),
+        1 => Ok(squares_text(&squares, 'x')),
+        _ => listed_text(alloc, position, mv),
+    }
+}
+
+/// The text of a legal move, as it is written among all legal moves.
+fn listed_text<B: Board>(
     alloc: Global,
     position: &Position<B>,
     mv: &Move<B>,

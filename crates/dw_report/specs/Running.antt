@@ -20,7 +20,6 @@ use Rattle.dw_report.specs.declared.settings.RunFault.{RunFault}
 use Rattle.dw_report.specs.declared.settings.RunFault.TheVariants as ends
 use Rattle.dw_report.specs.declared.settings.Command.{Command}
 use Rattle.dw_report.specs.declared.settings.Command.TheVariants as asked
-use Rattle.dw_report.specs.declared.problem.TextFault.TheVariants.{Stopped}
 
 -- the problem that was asked for by its number
 abbrev pub is_asked : Option ℕ → Numbered → Bool

@@ -176,13 +176,21 @@ fn write_listing<B: Board, K: Sink, M: Memo<B>, G: Guide<B>>(
 {
     lines_have_texts();
     let mut text = LineText::new(position);
+    let mut row = ArrayString::new();
     let mut written: u64 = 0;
     'lines: while written < most {
         if !lister.advance(alloc)? {
             write_all(sink, complete_row(written).as_str().as_bytes())?;
             return Ok(());
         }
-        write_row(alloc, sink, &mut text, lister.shared(), lister.line())?;
+        write_row(
+            alloc,
+            sink,
+            &mut text,
+            &mut row,
+            lister.shared(),
+            lister.line(),
+        )?;
         written += 1;
     }
     let last = kept(lister.line());
@@ -195,11 +203,12 @@ fn write_listing<B: Board, K: Sink, M: Memo<B>, G: Guide<B>>(
 }
 
 /// Writes the text of a line and a line feed. It is made of the text of another line, of which so many first moves are
-/// the same. All memory is taken before a byte is written.
+/// the same. All memory is taken before a byte is written. What the row holds is overwritten.
 fn write_row<B: Board, K: Sink>(
     alloc: Global,
     sink: &mut K,
     text: &mut LineText<B>,
+    row: &mut ArrayString<ROW_ROOM>,
     shared: usize,
     line: &[Move<B>],
 ) -> Result<(), TextFault>
@@ -218,19 +227,19 @@ fn write_row<B: Board, K: Sink>(
 {
     lines_have_texts();
     text.follow(alloc, shared, line)?;
-    write_all(sink, row_of(text).as_str().as_bytes())?;
+    fill_row(row, text);
+    write_all(sink, row.as_str().as_bytes())?;
     Ok(())
 }
 
-/// The text of a line and a line feed.
-fn row_of<B: Board>(text: &LineText<B>) -> ArrayString<ROW_ROOM>
+/// Fills a row with the text of a line and a line feed.
+fn fill_row<B: Board>(row: &mut ArrayString<ROW_ROOM>, text: &LineText<B>)
     requires { IsTextOf B.geometry text.now }
-    ensures { IsRow B.geometry (start_of text.now) (moves_of text.now) result.bytes }
+    ensures { IsRow B.geometry (start_of text.now) (moves_of text.now) row.new.bytes }
 {
-    let mut row = ArrayString::new();
+    row.clear();
     row.push_str(text.as_str());
     row.push('\n');
-    row
 }
 
 /// That so many lines are all of them.

@@ -7,7 +7,6 @@ use Rattle.dw_moves.specs.Moves.{Move, Legal, play}
 use Rattle.dw_solve.specs.Wins.{Lost}
 use Rattle.dw_report.specs.Verdict.{Keys, IsRefutation}
 use Rattle.dw_report.specs.declared.dual.Dual as found
-use Rattle.dw_report.specs.declared.verdict.Verdict.TheVariants.{Dual}
 
 -- moves lead from p to choices of the attacker, who has n moves left at p
 abbrev pub LeadsToChoices : Geometry → ℕ → Placement → List Move → List Move → Type 0

@@ -1,7 +1,7 @@
 use Rattle.std.proofs.Common.{◌<◌, sym, ap, ◌∙◌, length, get_or, subst, [], arith}
 use Rattle.dw_moves.specs.Order.{Listed, AreListed}
 use Rattle.dw_notation.proofs.LineTextLemmas.{legal_has_step, text_at}
-use Rattle.dw_notation.proofs.move_text.text_in.Goals as goal
+use Rattle.dw_notation.proofs.move_text.listed_text.Goals as goal
 
 pub place_of-place-requires : goal.place_of-place-requires
 place_of-place-requires g c = (omega arith, legal_has_step g.B.Board.geometry c.args.position.now c.args.mv.now c.as_slice.result.now (subst (AreListed g.B.Board.geometry c.args.position.now) (sym c.as_slice.ensures.value) c.in_ok-list.ensures) c.requires)
