@@ -204,8 +204,8 @@ fn keep_least<B: Board>(
     Ok(())
 }
 
-/// The order of moves: by their starts, then by their ends, then by their paths. A list holds each move once, and so none
-/// is equal to another.
+/// The order of moves: by their starts, then by their ends, then by their paths. A list holds each move once, and so
+/// none is equal to another.
 fn order<B: Board>(a: &Listed<B>, b: &Listed<B>) -> Ordering
     ensures { IsTrue (is_lt result) ↔ LexLess (sorted_by a.now) (sorted_by b.now) }
 {
