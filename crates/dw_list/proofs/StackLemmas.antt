@@ -2,6 +2,7 @@
 use Rattle.std.proofs.Common.{◌≡◌, ℕ, ◌+◌, ◌*◌, ◌≤◌, zero, suc, Bool, true, false, cond, Some, None, Option, List, [], ◌∷◌, ◌++◌, length, drop, refl, sym, subst, arith, append_assoc}
 use Rattle.std.specs.Prelude.{not, option_map}
 use Rattle.std.proofs.lemmas.Bool.{true≢false}
+use Rattle.std.proofs.lemmas.Option.{none-some, same_Some}
 use Rattle.dw_board.specs.Geometry.{Geometry}
 use Rattle.dw_board.specs.Placement.{Placement}
 use Rattle.dw_moves.specs.Moves.{Move, Legal, play}
@@ -72,10 +73,10 @@ last_behind g q m None h = absurd h
 last_behind g q m (Some ms) h = (h.0 ++ m ∷ [], subst (IsListOf (Precedes g q) (Legal g q)) (sym (append_assoc h.0 (m ∷ []) ms)) h.1)
 
 pub behind_first : (g : Geometry) (q : Placement) (m : Move) (o : Option (List Move)) → first_ahead o ≡ Some m → AreLast g q o → AreBehind g q m (option_map (drop 1) o) × Legal g q m
-behind_first g q m None e h = cc
-behind_first g q m (Some []) e h = cc
+behind_first g q m None e h = absurd (none-some m e)
+behind_first g q m (Some []) e h = absurd (none-some m e)
 behind_first g q m (Some (r ∷ ms)) e h =
-    let same : r ≡ m = (cc) in
+    let same : r ≡ m = same_Some r m e in
     let all = subst (λ z. IsListOf (Precedes g q) (Legal g q) (h.0 ++ z ∷ ms)) same h.1 in
     ((h.0, all), (all.exactly m).0 (mem_at m h.0 ms))
 

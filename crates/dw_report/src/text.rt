@@ -2,7 +2,7 @@
 ghost use Rattle.std.specs.Prelude.{◌≡◌, ◌<◌, ◌++◌, length, codes, decimal, HoldsAt};
 ghost use Rattle.dw_moves.specs.Order.{AreListed};
 ghost use Rattle.dw_report.specs.inner.Running.{at_once};
-ghost use Rattle.dw_report.specs.Report.{fen_fault_text, refusal_text, found_text, first_line as line_of};
+ghost use Rattle.dw_report.specs.Report.{fen_fault_text, refusal_text, first_line as line_of};
 ghost use Rattle.dw_report.specs.Report.{move_line as line_of_move, count_line as line_of_count};
 ghost use Rattle.dw_notation.specs.Problems.{numbered};
 
@@ -32,26 +32,19 @@ pub(crate) fn known_text<B: Board>(
         ++ at_once B.geometry (numbered problem.now).found command }
 {
     let mut text = ArrayString::new();
-    text.push_str(first_line(problem).as_str());
+    let mut digits = Buffer::new();
+    text.push_str("problem ");
+    text.push_str(digits.format(problem.number));
+    text.push_str(": ");
+    match &problem.found {
+        Ok(position) => text.push_str(fen_text(position).as_str()),
+        Err(fault) => text.push_str(refused_text(*fault).as_str()),
+    }
+    text.push_str("\n");
     if let (Ok(position), Command::Show) = (&problem.found, command) {
         text.push_str(diagram(position).as_str());
     }
     text
-}
-
-/// A problem's first line: its number, and its position as it is written or why it is refused.
-/// Example: of problem 1, which is `W:W32:B28`, it is `problem 1: W:W32:B28` and a line end.
-pub fn first_line<B: Board>(problem: &Problem<B>) -> ArrayString<254>
-    ensures { result.bytes ≡ line_of B.geometry (numbered problem.now) }
-{
-    let mut line = ArrayString::new();
-    let mut digits = Buffer::new();
-    line.push_str("problem ");
-    line.push_str(digits.format(problem.number));
-    line.push_str(": ");
-    line.push_str(answer_text(problem).as_str());
-    line.push_str("\n");
-    line
 }
 
 /// The line of a legal move: its text, and the position after it. The place is that of the move in the list of all.
@@ -86,16 +79,6 @@ pub fn count_line(moves: usize, taken: u8) -> ArrayString<64>
     line.push_str(Buffer::new().format(taken));
     line.push_str("\n");
     line
-}
-
-/// The position as it is written, or why the problem is refused.
-fn answer_text<B: Board>(problem: &Problem<B>) -> ArrayString<192>
-    ensures { result.bytes ≡ found_text B.geometry problem.now.found }
-{
-    match &problem.found {
-        Ok(position) => fen_text(position),
-        Err(fault) => refused_text(*fault),
-    }
 }
 
 fn refused_text(fault: ProblemFault) -> ArrayString<192>
