@@ -3,9 +3,9 @@
 
     checks/arguments.py
 
-Each row has the arguments, the exit status, and what is written on standard output and on standard error. Standard input
-has three problems; so has the file `three`, and a file `--pdn` has one. What is no command ends with status 2, writes
-nothing on standard output, and says on standard error what is wrong. The six faults of a token each have their line.
+Each row has the arguments, the exit status, and what is written on standard output and on standard error. Standard
+input has three problems; so has the file `three`, and a file `--pdn` has one. What is no command ends with status 2,
+writes nothing on standard output, and says on standard error what is wrong. Each of a token's six faults has its line.
 """
 import pathlib
 import subprocess

@@ -129,9 +129,9 @@ def tokens():
     rest = b"".join(FOUR_LINES[2:]) + b"complete 2\n"
     for token in (SECOND, OLD_SECOND, SECOND.upper()):
         ran = run(["list", "-n", "2", "--after", token], FOUR + FEN)
-        expect(f"behind {token[:6]}, of problem 1 where none is named", ran, 0, b"", FOUR_FIRST + rest)
+        expect(f"after {token[:6]}, of problem 1 if none is named", ran, 0, b"", FOUR_FIRST + rest)
     ran = run(["list", "-n", "2", "--after", SECOND, "--problem", "2"], FEN + FOUR)
-    expect("behind a token of problem 2", ran, 0, b"", b"problem 2: " + FOUR + rest)
+    expect("after a token of problem 2", ran, 0, b"", b"problem 2: " + FOUR + rest)
     expect("a token, and no problem", run(["list", "-n", "2", "--after", SECOND]), 1, b"dw: no problem 1\n", b"")
     expect("a token, and no file", run(["list", "-n", "2", "--after", SECOND, "/no/such/file"]), 3,
            b"dw: cannot open /no/such/file\n", b"")

@@ -6,7 +6,7 @@
 It stands on the generator of perft.py and on the rules as docs/RULES.md and docs/REPORT.md tell them, and on nothing
 of the solver: no order of moves, no cut. For so many random small positions (500 if not said; two thirds of them with a
 win) on the boards of 10 and of 8 rows, and for wins in 1 to 3 moves, it makes the whole report of each command, with
-all lines and with the first one or two, and the rest behind a token; each has to be the same bytes as the program's.
+all lines and with the first one or two, and the rest after a token; each has to be the same bytes as the program's.
 """
 import itertools
 import pathlib
@@ -104,7 +104,7 @@ class Problems:
                     yield [key, reply, *rest]
 
     def dual(self, cells, turn, n):
-        """The first place along the lines, behind some turns, at which the attacker has a choice."""
+        """The first place along the lines, after some turns, at which the attacker has a choice."""
         for key in self.keys(cells, turn, n):
             for reply, later in self.after(play(self.board, cells, key), other(turn)):
                 choices = self.keys(later, turn, n - 1)
@@ -218,8 +218,8 @@ def check(rows, count, source, folder):
                 rest = problems.listing(cells, turn, lines[place + 1 :], MOST_LINES)
                 wanted = f"problem {number}: {firsts[number - 1]}\n" + "".join(line + "\n" for line in rest)
                 words = ["list", "--problem", str(number), "--after", problems.token(lines[place]), *common]
-                compare(f"list behind a token on {rows} rows", words, wanted)
-    print(f"{rows} rows: {count} positions, {verdicts}, {written} lines, {resumed} lists behind a token:",
+                compare(f"list after a token on {rows} rows", words, wanted)
+    print(f"{rows} rows: {count} positions, {verdicts}, {written} lines, {resumed} lists after a token:",
           "the same bytes")
 
 

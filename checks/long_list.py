@@ -1,11 +1,11 @@
 #!/usr/bin/env python3
-"""long_list.py: lists over a million lines, measures speed and memory, and goes on behind lines of the list.
+"""long_list.py: lists over a million lines, measures speed and memory, and goes on after lines of the list.
 
     checks/long_list.py
 
 With each memo it prints how many lines a second `dw list` writes and its greatest resident size, for the whole list and
 for its first 10,000 lines; the size may not grow by more than 1 MB. The memos hold 1,000 positions there, so that they
-are full in both runs; with the usual 100,000 the size is printed only. Then it stops the list by --lines behind 20 of
+are full in both runs; with the usual 100,000 the size is printed only. Then it stops the list by --lines after 20 of
 its lines, from the first to the last but one, and goes on with the token that is named: what comes is the rest of the
 list, byte for byte, and `complete` tells its number. The token is also made here, from the text of the line. Behind the
 last line nothing comes.
@@ -132,7 +132,7 @@ def token_of(line):
 
 
 def go_on(file, rest, whole, place, token):
-    """Goes on behind the line of that number and token, and compares what comes with the whole list."""
+    """Goes on after the line of that number and token, and compares what comes with the whole list."""
     path, lines, count = whole
     listed(["--after", token], file, rest)
     complete = b"complete %d\n" % (count - place)
@@ -144,7 +144,7 @@ def go_on(file, rest, whole, place, token):
 
 
 def resume(file, folder, path, count):
-    """Stops the list behind some of its lines, and goes on behind each; then behind the last line."""
+    """Stops the list after some of its lines, and goes on after each; then after the last line."""
     lines = starts(path)  # line k of the list, from 1, starts at lines[k]
     assert len(lines) == count + 3, (len(lines), count)
     begun, rest, whole = folder / "begun", folder / "rest", (path, lines, count)
@@ -156,12 +156,12 @@ def resume(file, folder, path, count):
         assert begun.stat().st_size == stop + len(MORE) + len(token) + 1, place
         assert digest(begun, 0, stop) == digest(path, 0, stop), place
         go_on(file, rest, whole, place, token)
-        print(f"stopped behind line {place}, and {count - place} lines behind it: the same bytes", flush=True)
+        print(f"stopped after line {place}, and {count - place} lines after it: the same bytes", flush=True)
     listed(["--lines", str(count)], file, begun)
     size = path.stat().st_size
     assert begun.stat().st_size == size and digest(begun, 0, size) == digest(path, 0, size), "not complete"
     go_on(file, rest, whole, count, token_of(text_at(path, lines, count)))
-    print(f"stopped behind line {count}, the last: complete, and no line behind its token")
+    print(f"stopped after line {count}, the last: complete, and no line after its token")
 
 
 def main():

@@ -4,12 +4,11 @@
     checks/refused_memory.py
 
 A run that was refused memory writes the whole report, or it ends with status 3 and the line `dw: stopped: 1 memory, E
-expanded`, behind the whole texts of some problems, the first line of the next, and whole lines of its text; or with
-nothing written and E 0, where the words of the command line could not be read or the memo not be made. For some words
-that comes at the same allocations whatever the problems are, so that a problem's first line is never left out. E is at
-most what a run without a memo expands, and 0 for `moves`. The last run of each input meets no refusal and is whole.
-`judge` and `list` run with each memo. `dw show` takes no memory once its words are read, however many problems there
-are.
+expanded`, after the whole texts of some problems, the first line of the next, and whole lines of its text; or with
+nothing written and E 0, if the arguments could not be read or the memo not be made. For some arguments that comes at
+the same allocations whatever the problems are, so that a problem's first line is never left out. E is at most what a
+run without a memo expands, and 0 for `moves`. The last run of each input meets no refusal and is whole. `judge` and
+`list` run with each memo. `dw show` takes no memory once its arguments are read, however many problems there are.
 """
 import os
 import pathlib
@@ -27,7 +26,7 @@ TOGETHER = "\n".join(POSITIONS).encode()
 IN_ONE = POSITIONS[:2] + POSITIONS[10:12]
 MEMOS = ["none", "lru", "slots"]
 STOPPED = re.compile(rb"dw: stopped: 1 memory, (\d+) expanded\n")
-# What the last line of a problem's text has, of a command that marks it. A verdict may have tries behind it.
+# What the last line of a problem's text has, of a command that marks it. A verdict may have tries after it.
 LAST_LINE = {"moves": b" taking ", "list": b"\ncomplete "}
 
 
@@ -71,7 +70,7 @@ def is_part(written, report, command):
 
 
 def each_in_turn(folder, words, given, most):
-    """The number of allocations, at how many the run stopped with nothing written, and at how many behind something."""
+    """The number of allocations, at how many the run stopped with nothing written, and at how many after something."""
     report = whole(words, given)
     silent = stopped = 0
     for number in range(1, 10000):
@@ -111,7 +110,7 @@ def command_on(folder, words, inputs, memo=()):
         allocations, stops = allocations + number, stops + stopped
     assert len(silences) == 1, f"a first line was left out: {silences}"
     print(f"{' '.join([*words, *memo])}: {len(inputs)} inputs, {allocations} allocations, each refused in turn; "
-          f"{silences.pop()} of each stopped with nothing written, {stops} behind whole lines", flush=True)
+          f"{silences.pop()} of each stopped with nothing written, {stops} after whole lines", flush=True)
 
 
 def main():

@@ -5,9 +5,9 @@
 
 It runs the tests wants_memory of dw_tests_search and of dw_tests_lines, which `rt test` in those crates builds, once
 for each allocation. The first searches some positions with each cache, for 1 to 3 moves; the second asks for the lines
-of some positions with each cache, one by one, and for what follows each of them. Where a growth is refused the right
-answer comes without it, or want of memory is said, and the right answer comes when it is asked again; the test fails
-where that is not so. The last run of each meets no refusal.
+of some positions with each cache, one by one, and for what follows each of them. If a growth is refused the right
+answer comes without it, or the search says that it is out of memory and gives it when asked again; the test fails
+if that is not so. The last run of each meets no refusal.
 """
 import os
 import pathlib

@@ -6,7 +6,7 @@
 The positions and their reports are those of crates/dw_tests_report/src/solved.rt. Each is judged and listed with each
 memo and with --cache 1, 2 and 100000; that has to write the stated bytes. Then the limit of --positions rises by one
 from 1 until the run is whole. Each smaller limit E has to stop the run with status 3 and `dw: stopped: 2 limit, E
-expanded`, behind the problem's first line and whole lines of the rest, and never with less than a smaller one wrote.
+expanded`, after the problem's first line and whole lines of the rest, and never with less than a smaller one wrote.
 """
 import pathlib
 import re
@@ -30,7 +30,7 @@ def solved():
 
 
 def read(literal):
-    """The bytes of a string literal: a backslash at a line's end passes over the line feed and the blanks behind it."""
+    """The bytes of a string literal: a backslash at a line's end passes over the line feed and the blanks after it."""
     return re.sub(r"\\\n\s*", "", literal).replace(r"\n", "\n").encode()
 
 

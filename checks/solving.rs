@@ -31,7 +31,7 @@ struct Solver {
 /// A move behind its rank: a lower one is tried first.
 type Ranked = (u32, Move);
 
-/// The number of the other side's quiet moves after a move, 0 where it must capture.
+/// The number of the other side's quiet moves after a move, 0 if it must capture.
 fn trial(position: &Position, step: &Move) -> u32 {
     let after = play(position, step);
     let (men, kings) = (after.men[after.turn], after.kings[after.turn]);
@@ -157,7 +157,7 @@ fn position_of(text: &str) -> Position {
     Position { men: [white.0, black.0], kings: [white.1, black.1], turn: usize::from(parts[0] == "B") }
 }
 
-/// The last number in a text, or the given one where there is none.
+/// The last number in a text, or the given one if there is none.
 fn last_number(text: &str, otherwise: u8) -> u8 {
     let words = text.split(|c: char| !c.is_ascii_digit());
     words.filter_map(|word| word.parse().ok()).last().unwrap_or(otherwise)

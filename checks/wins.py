@@ -65,7 +65,7 @@ class Recursion:
         return number > 0 and any(self.loses(after, other(turn), number - 1) for after in self.after(cells, turn))
 
     def loses(self, cells, turn, number):
-        """Every reply leaves the other side a win within so many moves; so where there is no reply."""
+        """Every reply leaves the other side a win within so many moves; so it is if there is no reply."""
         return all(self.wins(after, other(turn), number) for after in self.after(cells, turn))
 
     def least(self, cells, turn, most):
@@ -103,7 +103,7 @@ def kind_of(board, cells, turn):
 
 
 def found_in(board, cells, turn, wanted):
-    """The least number, where it is one of the wanted ones and the recursion has room."""
+    """The least number, if it is one of the wanted ones and the recursion has room."""
     try:
         least = Recursion(board).least(cells, turn, MOST if 0 in wanted else max(wanted))
     except TooLong:

@@ -15,7 +15,7 @@ quiet status = record { status = status; message = None }
 abbrev pub told : {T : Type 0} → ℕ → Message T → Exit T
 told status message = record { status = status; message = Some message }
 
--- where the problem that was asked for was not shown, there is none
+-- if the problem that was asked for was not shown, there is none
 abbrev pub asked_outcome : {T : Type 0} → ℕ → Option ℕ → Exit T
 asked_outcome shown None = quiet 0
 asked_outcome shown (Some number) = if shown == 0 then told 1 (say.NoProblem number) else quiet 0

@@ -45,7 +45,7 @@ fn main(rt: HostRuntime) -> ExitCode {
     }
 }
 
-/// Ends where help was asked for or the words are no command.
+/// Ends if help was asked for or the arguments are no command.
 fn end_without_words(rt: &HostRuntime, error: &Error) -> ExitCode {
     if error.kind() == ErrorKind::OutOfMemory {
         return end_with(rt, Ending::Memory, None);
@@ -62,7 +62,7 @@ fn end_without_words(rt: &HostRuntime, error: &Error) -> ExitCode {
     }
 }
 
-/// Runs the command that the words ask for.
+/// Runs the command that the arguments ask for.
 fn obey(rt: &HostRuntime, matches: &ArgMatches<'_>) -> ExitCode {
     let Some(request) = requested(matches) else {
         return end_with(rt, Ending::Words("dw: no command\n"), None);

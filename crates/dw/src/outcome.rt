@@ -21,7 +21,7 @@ pub enum Ending<T> {
     Help,
     /// Help was asked for, and standard output failed.
     HelpNotWritten,
-    /// The words are no command; the text says why.
+    /// The arguments are no command; the text says why.
     Words(T),
     /// The token of the line to begin after can not be read.
     TokenRefused(TokenFault),
@@ -37,7 +37,7 @@ pub enum Ending<T> {
 /// Example: `Message::NoProblem(7)` is written `dw: no problem 7`, with a line end.
 #[derive(Clone, Copy)]
 pub enum Message<T> {
-    /// Why the words are no command, with its own line ends.
+    /// Why the arguments are no command, with its own line ends.
     Words(T),
     /// Why the token is none.
     TokenRefused(TokenFault),
@@ -83,7 +83,7 @@ pub struct Exit<T> {
 
 /// The status and the message for an ending; `only` is the number of the problem that was asked for.
 ///
-/// Status 0 is done, 1 that something was refused or is not there, 2 that the words are no command, 3 that
+/// Status 0 is done, 1 that something was refused or is not there, 2 that the arguments are no command, 3 that
 /// the program was stopped or a stream failed.
 /// Example: for `Ending::Help` the status is 0, and there is no message.
 pub fn outcome<T: Copy>(ending: Ending<T>, only: Option<u32>) -> Exit<T>

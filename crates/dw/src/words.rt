@@ -1,4 +1,4 @@
-//! The words of the command line.
+//! The arguments of the command line.
 ghost use Rattle.std.specs.Prelude.{◌≤◌};
 
 use clap::{Arg, ArgAction, ArgMatches, Command as Words, value_parser};
@@ -28,7 +28,7 @@ pub enum MemoKind {
     Slots,
 }
 
-/// What the words ask for.
+/// What the arguments ask for.
 /// See [`requested`] for an example.
 #[derive(Clone, Copy)]
 pub struct Request<'a> {
@@ -52,16 +52,16 @@ pub struct Request<'a> {
     pub file: Option<&'a str>,
 }
 
-/// The most positions that a run may expand, and what it may where the words say nothing.
+/// The most positions that a run may expand, and what it may if the arguments say nothing.
 const MOST_POSITIONS: u64 = 1_000_000_000_000;
 
-/// The most lines that a run may list, and what it may where the words say nothing.
+/// The most lines that a run may list, and what it may if the arguments say nothing.
 const MOST_LINES: u64 = 1_000_000_000;
 
 /// The most positions that a memo may keep.
 const MOST_KEPT: usize = 4_000_000;
 
-/// How many positions a memo keeps where the words say nothing.
+/// How many positions a memo keeps if the arguments say nothing.
 const USUALLY_KEPT: usize = 100_000;
 
 const VERSION: &str = "0.9.0";
@@ -288,7 +288,7 @@ fn after<'a>(alloc: Global) -> Arg<'a> {
         .help("Begin after the line of this token, of problem 1 or that of --problem")
 }
 
-/// What parsed words ask for.
+/// What parsed arguments ask for.
 /// Example: `dw show --problem 3 a.fen` asks for problem 3 alone, of the file `a.fen`.
 pub fn requested<'a>(matches: &ArgMatches<'a>) -> Option<Request<'a>> {
     if let Some(words) = matches.subcommand_matches("show") {
@@ -367,7 +367,7 @@ fn memo_kind(kind: Option<&str>) -> MemoKind {
 
 impl Request<'_> {
     /// The most positions that the memo keeps, 1 to 4,000,000.
-    /// Example: where `cache` is 0 it is 1.
+    /// Example: if `cache` is 0 it is 1.
     pub fn kept(&self) -> usize
         ensures some { 1 ≤ result }
         ensures most { result ≤ 4_000_000 }

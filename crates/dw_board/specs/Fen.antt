@@ -74,7 +74,7 @@ with_item g list item to =
     set_squares g (piece_of list item) item.place item.from (to + 1 - item.from) list.placed >>= λ p.
     Ok (record list { placed = p })
 
--- the stage behind a token that may be absent
+-- the stage after a token that may be absent
 abbrev pub if_named : {A : Type 0} → Option A → FenFaultKind → ℕ → (A → Result Stage FenFault) → Result Stage FenFault
 if_named None what place next = fault what place
 if_named (Some x) what place next = next x
@@ -93,7 +93,7 @@ item_begun g list t =
     else if_named (number_named g t.text) Number t.place
     (λ n. Ok (AfterNumber list (record { is_king = false; from = n; place = t.place })))
 
--- behind an item a comma, a colon or a stop may stand
+-- after an item a comma, a colon or a stop may stand
 abbrev pub item_ended : Listing → Token → Result Stage FenFault
 item_ended list t =
     if is_sign comma t.text then Ok (AfterComma list)
@@ -101,7 +101,7 @@ item_ended list t =
     then Ok (if list.is_second then AfterLists list.placed else AfterColon (Some list.side) list.placed)
     else (if is_sign full_stop t.text then Ok (AfterStop list.placed) else fault Rest t.place))
 
--- the stage behind the next token, or what is wrong with that token
+-- the stage after the next token, or what is wrong with that token
 unfoldable pub next_stage : Geometry → Stage → Token → Result Stage FenFault
 next_stage g Start t = if_named (side_named t.text) Turn t.place (λ side. Ok (AfterTurn side))
 next_stage g (AfterTurn turn) t =
@@ -124,7 +124,7 @@ next_stage g (AfterItem list) t = item_ended list t
 next_stage g (AfterStop p) t = fault Rest t.place
 next_stage g (AfterLists p) t = Ok (AfterLists p)
 
--- the position, where the text may end here, or what is missing
+-- the position, if the text may end here, or what is missing
 unfoldable pub at_end : Geometry → ℕ → Stage → Result Placement FenFault
 at_end g place Start = fault Turn place
 at_end g place (AfterTurn turn) = fault Colon place

@@ -53,7 +53,7 @@ pub data IsEnd : List Word → Type 0 where
   nothing : IsEnd []
   stop : {w : Word} → is_sign 46 w ≡ true → IsEnd (w ∷ [])
 
--- behind a second list further fields may follow, which are passed over
+-- after a second list further fields may follow, which are passed over
 pub data IsTail : List Word → Type 0 where
   ends : {ws : List Word} → IsEnd ws → IsTail ws
   fields : {w : Word} {ws : List Word} → is_sign 58 w ≡ true → IsTail (w ∷ ws)

@@ -10,7 +10,7 @@ use Rattle.dw_board.specs.FenText.{written}
 use Rattle.dw_board.specs.declared.piece.Side.{Side}
 use Rattle.dw_board.specs.declared.fen.fault.FenFault.{FenFault}
 
--- a text is read as a position exactly where the grammar gives it that position
+-- a text is read as a position exactly if the grammar gives it that position
 abbrev pub ReadingIsGrammar : Type 0
 ReadingIsGrammar = (g : Geometry) (text : List ℕ) (p : Placement) → (fen g text ≡ Ok p) ↔ Fen g text p
 
@@ -50,7 +50,7 @@ EitherFenOrFaulty = (g : Geometry) (text : List ℕ) → IsFen g text ⊎ IsFaul
 abbrev pub LeadNowhere : Geometry → List Token → Type 0
 LeadNowhere g tokens = (more : List Word) (p : Placement) → Names g (map (λ t. t.text) tokens ++ more) p → ⊥
 
--- behind a colon, a comma, a dash or K something can be missing
+-- after a colon, a comma, a dash or K something can be missing
 abbrev pub asks_more : Word → Bool
 asks_more w = is_sign colon w || (is_sign comma w || (is_sign dash w || is_king_letter w))
 

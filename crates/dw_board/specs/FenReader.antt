@@ -7,7 +7,7 @@ use Rattle.dw_board.specs.declared.fen.tokens.Tokens.{Tokens}
 abbrev pub tokens_of : Tokens → List Token
 tokens_of t = tokens_from (t.at + 1) (drop t.at t.text.now)
 
--- the place behind the text
+-- the place after the text
 abbrev pub end_of : Tokens → ℕ
 end_of t = length t.text.now + 1
 
@@ -29,7 +29,7 @@ abbrev pub first_named : {A : Type 0} → (List ℕ → Option A) → List Token
 first_named name [] = None
 first_named name (t ∷ tokens) = name t.text
 
--- what is left where the first token was taken
+-- what is left if the first token was taken
 abbrev pub left_of : Bool → List Token → List Token
 left_of true tokens = behind tokens
 left_of false tokens = tokens

@@ -1,4 +1,4 @@
--- The tokens of a FEN text: letters, runs of digits and signs, with blanks before, between and behind them.
+-- The tokens of a FEN text: letters, runs of digits and signs, with blanks before, between and after them.
 use Rattle.std.specs.Prelude.{ℕ, ◌+◌, ◌-◌, ◌*◌, ◌==◌, ◌&&◌, ◌||◌, nat_le, Bool, false, if◌then◌else◌, Option, Some}
 use Rattle.std.specs.Prelude.{None, List, [], ◌∷◌}
 use Rattle.dw_board.specs.Geometry.{Geometry, squares}
@@ -40,7 +40,7 @@ abbrev pub begins_with_digit : List ℕ → Bool
 begins_with_digit [] = false
 begins_with_digit (byte ∷ bytes) = is_digit byte
 
--- a digit goes onto the front of the run of digits behind it
+-- a digit goes onto the front of the run of digits after it
 abbrev pub onto_run : ℕ → ℕ → List Token → List Token
 onto_run digit place [] = []
 onto_run digit place (run ∷ tokens) = record { text = digit ∷ run.text; place = place } ∷ tokens

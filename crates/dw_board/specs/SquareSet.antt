@@ -10,7 +10,7 @@ use Rattle.dw_board.specs.Geometry.{Squares}
 abbrev pub is_set : ℕ → ℕ → Bool
 is_set w x = eqb (bit_at w x) 1
 
--- the square of a bit; the bit behind each two rows belongs to none
+-- the square of a bit; the bit after each two rows belongs to none
 abbrev pub square_at : Geometry → ℕ → Option ℕ
 square_at g x = cond (leb (x + 1) (squares g + g.rows / 2) && leb (x % (g.rows + 1) + 1) g.rows)
     (Some (square_of g x)) None

@@ -43,7 +43,7 @@ pub fn same_squares<B: Board>(one: Squares<B>, other: Squares<B>) -> bool
     one == other
 }
 
-/// A text is read as a position exactly where the grammar of FEN texts gives it that position.
+/// A text is read as a position exactly if the grammar of FEN texts gives it that position.
 /// Example: the grammar gives `W : W 27 : B 16 : 5` the position `W:W27:B16`, and as that it is read.
 pub fn reading_is_grammar()
     ensures { ReadingIsGrammar }

@@ -8,7 +8,7 @@ use Rattle.dw_moves.specs.Order.{Precedes, IsListOf}
 use Rattle.dw_solve.specs.Wins.{Lost}
 
 -- A line: each move of the attacker keeps a win within n of his moves, the defender plays anything legal, and the line
--- ends where the defender has no move.
+-- ends if the defender has no move.
 abbrev pub Line : Geometry → Placement → ℕ → List Move → Type 0
 Line g p zero l = ⊥
 Line g p (suc n) [] = ⊥

@@ -18,7 +18,7 @@ pub record IsNumberOf (g : Geometry) (v : Squares) (number : ℕ) : Type 0 where
   pub bits : (x : ℕ) → is_set number x ≡ set.contains v (x + 1)
   pub only : (s : ℕ) → set.contains v s ≡ true → OnBoard g s
 
--- the number behind the two squares of a move, of eight bytes, big endian
+-- the number after the two squares of a move, of eight bytes, big endian
 unfoldable pub number_in : List ℕ → ℕ
 number_in bytes = from_be_bytes w64 (drop 2 bytes)
 
@@ -124,7 +124,7 @@ counted_fault g (n ∷ moves) = if are_moves n (length moves) then moves_fault g
 abbrev pub names_board : Geometry → ℕ → Bool
 names_board g rows = (rows == 10 || rows == 8) && rows == g.rows
 
--- the first fault behind the byte of version 2
+-- the first fault after the byte of version 2
 unfoldable pub board_fault : Geometry → List ℕ → Option TokenFault
 board_fault g [] = Some Board
 board_fault g (rows ∷ counted) = if names_board g rows then counted_fault g counted else Some Board

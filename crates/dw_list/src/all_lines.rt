@@ -71,7 +71,7 @@ fn ways<B: Board, M: Memo<B>, G: Guide<B>>(
     Ok(lists)
 }
 
-/// The ways that go on with no move: one where the line ends, that is where the defender has no move.
+/// The ways that go on with no move: one if the line ends, that is if the defender has no move.
 fn ends<B: Board>(
     alloc: Global,
     attacks: bool,

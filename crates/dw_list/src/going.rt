@@ -42,7 +42,7 @@ pub(crate) fn left_behind(attacks: bool, moves: u8) -> u8
     }
 }
 
-/// Whether a side can have a move in a line: the attacker has none where he has no moves left.
+/// Whether a side can have a move in a line: the attacker has none if he has no moves left.
 pub(crate) fn may_move(attacks: bool, moves: u8) -> bool
     ensures { IsTrue result ↔ (IsTrue attacks → 1 ≤ moves) }
 {

@@ -156,7 +156,7 @@ impl<'a, B: Board, M: Memo<B>, G: Guide<B>> Lister<'a, B, M, G> {
         self.stack.line()
     }
 
-    /// How many of its first moves the line that was given last has in common with the one given before it: 0 where
+    /// How many of its first moves the line that was given last has in common with the one given before it: 0 if
     /// that is the first one since the start, or since the lister went on after a line.
     /// Example: at `W:W27,32:B18`, within 2 moves, it is 0 after the first line, and then 2 and 1.
     pub fn shared(&self) -> usize

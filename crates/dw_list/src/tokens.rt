@@ -269,7 +269,7 @@ fn read_move<B: Board>(bytes: &[u8]) -> Result<Move<B>, TokenFault>
     Ok(Move { from, to, taken })
 }
 
-/// The number that the bytes of a move hold, behind its two squares.
+/// The number that the bytes of a move hold, after its two squares.
 fn number_in(bytes: &[u8]) -> u64
     requires { length bytes.now ≡ 10 }
     ensures { result ≡ tokens.number_in bytes.now }
@@ -280,7 +280,7 @@ fn number_in(bytes: &[u8]) -> u64
     u64::from_be_bytes(eight)
 }
 
-/// The set of the squares s whose bit `s - 1` is set, or `None` where a bit is set for no square.
+/// The set of the squares s whose bit `s - 1` is set, or `None` if a bit is set for no square.
 fn taken_of<B: Board>(number: u64) -> Option<Squares<B>>
     ensures { MatchOption result
         (2 ^ squares B.geometry ≤ number)

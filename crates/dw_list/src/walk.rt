@@ -89,7 +89,7 @@ fn take_step<B: Board, M: Memo<B>, G: Guide<B>>(
     }
 }
 
-/// What is met where the moves of a level were listed.
+/// What is met once the moves of a level are listed.
 fn listed_step(is_end: bool) -> Step
     ensures { result ≡ (if is_end then Step.Given else Step.On) }
 {

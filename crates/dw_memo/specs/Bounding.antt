@@ -2,12 +2,12 @@
 use Rattle.std.specs.Prelude.{ℕ, Bool, true, false, cond, ◌||◌, nat_le, min, max, Option, Some, None}
 use Rattle.dw_memo.specs.declared.bounds.Bounds.{Bounds}
 
--- a win in w moves is one in n moves where w is at most n
+-- a win in w moves is one in n moves if w is at most n
 abbrev pub wins_decide : Option ℕ → ℕ → Bool
 wins_decide None n = false
 wins_decide (Some w) n = nat_le w n
 
--- no win in f moves is none in n moves where n is at most f
+-- no win in f moves is none in n moves if n is at most f
 abbrev pub fails_decide : Option ℕ → ℕ → Bool
 fails_decide None n = false
 fails_decide (Some f) n = nat_le n f

@@ -13,8 +13,8 @@ pub struct Bounds {
 }
 
 impl Bounds {
-    /// Whether there is a win in so many moves, or `None` where the bounds don't say.
-    /// Example: where `fails` is `Some(1)` and `wins` is `Some(3)`, it is `None` at 2, and `Some(true)` at 3 and at 4.
+    /// Whether there is a win in so many moves, or `None` if the bounds don't say.
+    /// Example: if `fails` is `Some(1)` and `wins` is `Some(3)`, it is `None` at 2, and `Some(true)` at 3 and at 4.
     pub fn decide(self, moves: u8) -> Option<bool>
         ensures value { result ≡ of.decided self moves }
         ensures decides { is_some result ≡ of.decides self moves }

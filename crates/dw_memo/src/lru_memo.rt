@@ -32,7 +32,7 @@ impl<B: Board> Model for LruMemo<B> {
 }
 
 impl<B: Board> LruMemo<B> {
-    /// An empty memo of so many positions, 1 to 4,000,000, or want of memory.
+    /// An empty memo of so many positions, 1 to 4,000,000, or an error if out of memory.
     /// Example: `LruMemo::<Ten>::new(alloc, 2)` has room for two positions, and holds none yet.
     pub fn new(alloc: Global, capacity: usize) -> Result<Self, AllocError>
         requires some { 1 ≤ capacity }

@@ -28,7 +28,7 @@ pub trait Memo<B: Board> {
 
     ghost may_answer: { Noted → Type 0 };
 
-    /// The bounds of a position, the side to move included, or `None` where it is not held.
+    /// The bounds of a position, the side to move included, or `None` if it is not held.
     /// Example: in a new memo it is `None` for each position.
     fn look(&mut self, position: &Position<B>) -> Option<Bounds>
         ensures map { IsMap (content self.old) }

@@ -40,7 +40,7 @@ impl<B: Board> Model for SlotMemo<B> {
 }
 
 impl<B: Board> SlotMemo<B> {
-    /// An empty memo of so many slots, 1 to 4,000,000, or want of memory. No memory is taken later.
+    /// An empty memo of so many slots, 1 to 4,000,000, or an error if out of memory. No memory is taken later.
     /// Example: `SlotMemo::<Ten>::new(alloc, 1)` has one slot, in which nothing stands yet.
     pub fn new(alloc: Global, slots: usize) -> Result<Self, AllocError>
         requires some { 1 ≤ slots }

@@ -67,6 +67,6 @@ pub record MovesInOrder : Type 0 where
 abbrev pub StepsAreQuiet : Type 0
 StepsAreQuiet = (g : Geometry) → IsBoard g → (p : Placement) (from to : ℕ) → OneStep g p from to → Quiet g p from to
 
--- where nothing can be taken and the other side has steps to two squares, it has a reply to every move
+-- if nothing can be taken and the other side has steps to two squares, it has a reply to every move
 abbrev pub LooseReplies : Type 0
 LooseReplies = (g : Geometry) → IsBoard g → (p : Placement) → IsLoose g p → AlwaysReply g p

@@ -90,7 +90,7 @@ pub record Path (g : Geometry) (p : Placement) (from : ℕ) (landings taken : Li
   pub jumps : Jumps g (placed p from None) piece from landings taken
   pub once : NoRepeat taken
 
--- k is the greatest number of pieces that a path takes, 0 where nothing can be taken
+-- k is the greatest number of pieces that a path takes, 0 if nothing can be taken
 pub record IsBest (g : Geometry) (p : Placement) (k : ℕ) : Type 0 where
   pub reached : 0 < k → (from : ℕ) × (landings : List ℕ) × (taken : List ℕ) × Path g p from landings taken
       × (length taken ≡ k)
@@ -125,12 +125,12 @@ pub record IsPathOf (g : Geometry) (p : Placement) (m : Move) (k : ℕ) (landing
   pub ends : last_of m.from landings ≡ m.to
   pub takes : m.taken ≡ set.from_list over
 
--- where the greatest number is k: a quiet move if it is 0, else a capture of k pieces
+-- with k the greatest number: a quiet move if it is 0, else a capture of k pieces
 abbrev pub LegalAt : Geometry → Placement → ℕ → Move → Type 0
 LegalAt g p zero m = Quiet g p m.from m.to × (m.taken ≡ set.empty)
 LegalAt g p (suc k) m = (landings : List ℕ) × IsPathOf g p m (suc k) landings
 
--- a legal move: a quiet one where nothing can be taken, else a capture of the greatest number
+-- a legal move: a quiet one if nothing can be taken, else a capture of the greatest number
 abbrev pub Legal : Geometry → Placement → Move → Type 0
 Legal g p m = (k : ℕ) × IsBest g p k × LegalAt g p k m
 

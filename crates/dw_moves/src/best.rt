@@ -13,10 +13,10 @@ use dw_board::position::Position;
 use dw_board::square::Square;
 use dw_board::squares::Squares;
 
-/// The greatest number of pieces that the side to move can take in one move, at most 20; 0 where it can take
+/// The greatest number of pieces that the side to move can take in one move, at most 20; 0 if it can take
 /// nothing. Kings and men count alike.
 ///
-/// A man captures an adjacent enemy, forward or backward, where the square behind it is empty, and lands there. A
+/// A man captures an adjacent enemy, forward or backward, if the square behind it is empty, and lands there. A
 /// king captures the one enemy on a diagonal that has only empty squares before it and an empty square behind it,
 /// and lands on any empty square up to the next piece. The capture goes on with the same piece; the square that it
 /// left counts as empty, what it has jumped stays until the end and is not jumped twice.
@@ -62,7 +62,7 @@ pub(crate) fn is_own(piece: Piece, side: Side) -> bool
     piece.side == side
 }
 
-/// The most pieces that a piece can take from a square on, where it has taken some and can take at most so many more.
+/// The most pieces that a piece can take from a square on, if it has taken some and can take at most so many more.
 fn longest<B: Board>(
     position: &Position<B>,
     piece: Piece,

@@ -17,7 +17,7 @@ use dw_board::square::Square;
 use dw_board::squares::Squares;
 use std::alloc::AllocError;
 
-/// Adds the captures of the greatest number, each once, and answers that number; adds none where it is 0.
+/// Adds the captures of the greatest number, each once, and answers that number; adds none if it is 0.
 pub(crate) fn push_captures<B: Board>(
     position: &Position<B>,
     moves: &mut Vec<Move<B>>,
@@ -170,7 +170,7 @@ fn walk_towards<B: Board>(
     Ok(longest)
 }
 
-/// Keeps a capture of so many pieces where none that is kept takes more, once, and drops those that take fewer.
+/// Keeps a capture of so many pieces if none that is kept takes more, once, and drops those that take fewer.
 #[inline]
 fn offer<B: Board>(
     mv: Move<B>,

@@ -15,7 +15,7 @@ use dw_board::position::Position;
 use dw_board::square::Square;
 
 /// The legal capture of which these squares, its start first, are a path, be it the least one or another; `None`
-/// where there is none.
+/// if there is none.
 /// Example: at `W:W38:B22,23,32,33` the squares 38, 27, 18, 29, 38 are a capture of all four men, and 38, 27, 18 none.
 pub fn follow<B: Board>(position: &Position<B>, squares: &[Square<B>]) -> Option<Move<B>>
     ensures path { (m : of.Move) → (result ≡ Some m) ↔ IsPathFor B.geometry position.now m squares.now }
@@ -40,7 +40,7 @@ pub fn follow<B: Board>(position: &Position<B>, squares: &[Square<B>]) -> Option
     }
 }
 
-/// What a piece that jumps from a square onto each of these in turn has made, where it takes nothing twice.
+/// What a piece that jumps from a square onto each of these in turn has made, if it takes nothing twice.
 fn jump_along<B: Board>(
     position: &Position<B>,
     piece: Piece,

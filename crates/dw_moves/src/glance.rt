@@ -21,7 +21,7 @@ use dw_board::squares::Squares;
 
 /// Whether the side to move can take something.
 ///
-/// A man can take an adjacent enemy, forward or backward, where the square behind it is empty. A king can take the
+/// A man can take an adjacent enemy, forward or backward, if the square behind it is empty. A king can take the
 /// one enemy on a diagonal that has only empty squares before it and an empty square behind it.
 /// Example: at `W:W32:B28` it is `true`, and at `W:W27,45:B16` it is `false`.
 pub fn can_capture<B: Board>(position: &Position<B>) -> bool

@@ -61,7 +61,7 @@ pub fn steps_are_quiet()
     ensures { StepsAreQuiet }
 {}
 
-/// Where nothing can be taken and the other side has steps to two squares, it has a reply to every move.
+/// If nothing can be taken and the other side has steps to two squares, it has a reply to every move.
 /// Example: at `W:W28:B1,2` Black has a reply to `28-22` and to `28-23`.
 pub fn loose_replies()
     ensures { LooseReplies }

@@ -21,7 +21,7 @@ use indexmap::IndexMap;
 use std::alloc::{AllocError, Global};
 use std::cmp::Ordering;
 
-/// All legal moves in ascending order, each once and with its least path; or want of memory.
+/// All legal moves in ascending order, each once and with its least path; or an error if out of memory.
 /// Example: at `W:W28:B22,K23` they are `28x17` with the path 28, 17, and then `28x19` with the path 28, 19.
 pub fn listed<B: Board>(alloc: Global, position: &Position<B>) -> Result<Vec<Listed<B>>, AllocError>
     ensures { IfOk result (λ list. AreListed B.geometry position.now list.items) }
@@ -32,7 +32,7 @@ pub fn listed<B: Board>(alloc: Global, position: &Position<B>) -> Result<Vec<Lis
 }
 
 /// Fills a list with all legal moves in ascending order, each once and with its least path. What it held is dropped,
-/// and its memory used again; only captures take other memory besides. After want of memory it is empty.
+/// and its memory used again; only captures take other memory besides. If out of memory it is empty.
 /// See [`listed`] for an example.
 pub fn listed_into<B: Board>(
     position: &Position<B>,
@@ -70,7 +70,7 @@ fn push_listed<B: Board>(
     Ok(())
 }
 
-/// Keeps the captures of the greatest number with their least paths, and answers that number; none where it is 0.
+/// Keeps the captures of the greatest number with their least paths, and answers that number; none if it is 0.
 fn keep_captures<B: Board>(
     position: &Position<B>,
     paths: &mut IndexMap<Move<B>, ArrayVec<Square<B>, 21>>,
@@ -162,7 +162,7 @@ fn walk<B: Board>(
     }
 }
 
-/// Keeps a capture of so many pieces where none that is kept takes more, and drops those that take fewer.
+/// Keeps a capture of so many pieces if none that is kept takes more, and drops those that take fewer.
 fn keep<B: Board>(
     mv: Move<B>,
     path: &ArrayVec<Square<B>, 21>,
@@ -183,7 +183,7 @@ fn keep<B: Board>(
     Ok(count)
 }
 
-/// Keeps a path of a move where it is the first, or less than the one that is kept.
+/// Keeps a path of a move if it is the first, or less than the one that is kept.
 fn keep_least<B: Board>(
     mv: Move<B>,
     path: &ArrayVec<Square<B>, 21>,

@@ -57,7 +57,7 @@ fn kings_run<B: Board>(position: &Position<B>, direction: Dir) -> u32
     u32::from(reached.minus(kings).count())
 }
 
-/// Whether a piece may go this way where it takes nothing.
+/// Whether a piece may go this way if it takes nothing.
 #[inline]
 pub(crate) fn may_go(kind: Kind, side: Side, direction: Dir) -> bool
     ensures { result ≡ plain.may_go kind side direction }
@@ -69,7 +69,7 @@ pub(crate) fn may_go(kind: Kind, side: Side, direction: Dir) -> bool
     }
 }
 
-/// The next square in a direction, where nothing stands on it.
+/// The next square in a direction, if nothing stands on it.
 #[inline]
 pub(crate) fn free_step<B: Board>(
     position: &Position<B>,
@@ -128,7 +128,7 @@ fn push_steps<B: Board, T: FromQuiet<B> + Drop>(
     Ok(())
 }
 
-/// The squares that men of the side to move reach in one direction, none where it is backward.
+/// The squares that men of the side to move reach in one direction, none if it is backward.
 #[inline]
 fn men_reach<B: Board>(position: &Position<B>, direction: Dir) -> Squares<B>
     ensures { (t : ℕ) → In t result ↔ ((s : ℕ) × ManSteps B.geometry position.now direction s t) }

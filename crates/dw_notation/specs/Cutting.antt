@@ -23,7 +23,7 @@ found_ahead at_end g cutter bytes = pieces_ahead at_end g cutter.pieces (rest_of
 abbrev pub problems_from : Bool → Geometry → Cutter → List ℕ → List Numbered
 problems_from at_end g cutter bytes = number_from cutter.handed (found_ahead at_end g cutter bytes)
 
--- the problems not yet handed out, where these bytes are still to be read
+-- the problems not yet handed out, if these bytes are still to be read
 abbrev pub to_come : Geometry → Cutter → List ℕ → List Numbered
 to_come = problems_from true
 
@@ -66,7 +66,7 @@ IsCounted old new result = IfOk result (λ found.
     (handed_count new ≡ handed_count old + length (option_to_list found))
     × IfSome found (λ problem. (problem.number ≡ handed_count new) × (handed_count old ≤ MAX_PROBLEMS)))
 
--- the end was met only where the source has nothing left
+-- the end was met only if the source has nothing left
 abbrev pub EndIsTrue : Option (List ℕ) → Cutter → Type 0
 EndIsTrue coming cutter = has_met_end cutter ≡ true → IsAtEnd coming
 

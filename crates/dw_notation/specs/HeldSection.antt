@@ -78,7 +78,7 @@ game_on Before byte = if is_blank byte then Before else (if is_ascii_digit byte 
 game_on (Within n) byte = if is_ascii_digit byte then Within (min (n * 10 + (byte - 48)) 21) else Behind n
 game_on (Behind n) byte = Behind n
 
--- the number of the game, where the value ends here
+-- the number of the game, if the value ends here
 abbrev pub number_held : Game → ℕ
 number_held Before = 20
 number_held (Within n) = n

@@ -8,7 +8,7 @@ use Rattle.dw_notation.specs.LineWords.{onto}
 use Rattle.dw_notation.specs.declared.line_text.Ply.{Ply}
 use Rattle.dw_notation.specs.declared.line_text.LineText.{LineText}
 
--- behind some text stand the words of these moves, each of which ends where it says
+-- after some text stand the words of these moves, each of which ends where it says
 abbrev pub AreWritten : {B : Type 0} → Geometry → Placement → ℕ → List ℕ → List (Ply B) → List ℕ → Type 0
 AreWritten g p ply before [] text = text ≡ before
 AreWritten g p ply before (x ∷ plies) text = (word : List ℕ) × IsMoveText g p x.mv word × (length word ≤ 62)

@@ -29,12 +29,12 @@ abbrev pub onto_line : ℕ → List (List ℕ) → List (List ℕ)
 onto_line byte [] = (byte ∷ []) ∷ []
 onto_line byte (line ∷ lines) = (byte ∷ line) ∷ lines
 
--- the same, where what has no line feed behind it is no line
+-- the same, if what has no line feed after it is no line
 abbrev pub onto_whole_line : ℕ → List (List ℕ) → List (List ℕ)
 onto_whole_line byte [] = []
 onto_whole_line byte (line ∷ lines) = (byte ∷ line) ∷ lines
 
--- the text cut at line feeds: the last line needs none, and nothing behind the last line feed is no line
+-- the text cut at line feeds: the last line needs none, and nothing after the last line feed is no line
 abbrev pub lines_of : List ℕ → List (List ℕ)
 lines_of [] = []
 lines_of (byte ∷ bytes) = if byte == line_feed then [] ∷ lines_of bytes else onto_line byte (lines_of bytes)

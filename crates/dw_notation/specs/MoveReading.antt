@@ -92,7 +92,7 @@ pub record IsAnswered (g : Geometry) (p : Placement) (text : List ℕ) (answer :
   pub names : Names g text named
   pub answers : IsAnswer g p named answer
 
--- the answer to a text: `Syntax` where it names nothing, or the answer to what it names
+-- the answer to a text: `Syntax` if it names nothing, or the answer to what it names
 abbrev pub IsRead : Geometry → Placement → List ℕ → Result Move MoveFault → Type 0
 IsRead g p text (Ok m) = IsAnswered g p text (Ok m)
 IsRead g p text (Err Syntax) = (named : Named) → Names g text named → ⊥

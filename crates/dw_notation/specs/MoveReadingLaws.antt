@@ -13,7 +13,7 @@ abbrev pub NamesOneThing : Type 0
 NamesOneThing = (g : Geometry) (text : List ℕ) (named other : Named) → Names g text named → Names g text other
     → named ≡ other
 
--- so it has one answer, where memory is not refused
+-- so it has one answer, if memory is not refused
 abbrev pub HasOneAnswer : Type 0
 HasOneAnswer =
     (g : Geometry) (p : Placement) (text : List ℕ) (answer other : Result Move MoveFault) → IsRead g p text answer
@@ -26,7 +26,7 @@ WrittenMoveIsNamed =
     (g : Geometry) → IsBoard g → (p : Placement) → IsPosition g p.cells → (m : Move) (text : List ℕ)
     → IsMoveText g p m text → IsRead g p text (Ok m)
 
--- so it is read again, where memory is not refused
+-- so it is read again, if memory is not refused
 abbrev pub WrittenMoveIsRead : Type 0
 WrittenMoveIsRead =
     (g : Geometry) → IsBoard g → (p : Placement) → IsPosition g p.cells

@@ -13,7 +13,7 @@ use Rattle.dw_notation.specs.declared.problems.reader.Pieces.TheVariants.{InLine
 abbrev pub lines_ahead : Bool → Geometry → Lines → List ℕ → List Found
 lines_ahead at_end g lines bytes = found_from at_end g (held_line lines.line) (behind_mark lines.front bytes)
 
--- what the bytes say behind the line that was cut off
+-- what the bytes say after the line that was cut off
 abbrev pub lines_behind : Bool → Geometry → Lines → List ℕ → List Found
 lines_behind at_end g lines bytes = found_from at_end g [] (behind_mark lines.front bytes)
 

@@ -31,7 +31,7 @@ abbrev pub found_of : Geometry → Form → List ℕ → List Found
 found_of g Fens bytes = all_found g (lines_of (without_mark bytes))
 found_of g Pdn bytes = sections_found true g Outside bare (without_mark bytes)
 
--- the same for those that a line feed ends, or a byte behind their section
+-- the same for those that a line feed ends, or a byte after their section
 abbrev pub ended_of : Geometry → Form → List ℕ → List Found
 ended_of g Fens bytes = all_found g (whole_lines_of (without_mark bytes))
 ended_of g Pdn bytes = sections_found false g Outside bare (without_mark bytes)

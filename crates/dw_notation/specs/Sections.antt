@@ -104,7 +104,7 @@ abbrev pub number_on : ℕ → List ℕ → ℕ
 number_on n [] = n
 number_on n (byte ∷ text) = if is_ascii_digit byte then number_on (n * 10 + (byte - 48)) text else n
 
--- the game that a value names: the number at its front, blanks aside; 20, international draughts, where there is none
+-- the game that a value names: the number at its front, blanks aside; 20, international draughts, if there is none
 abbrev pub game_of : List ℕ → ℕ
 game_of [] = 20
 game_of (byte ∷ text) = if is_blank byte then game_of text
@@ -166,7 +166,7 @@ section_found g s =
     else (if s.is_unclosed then Err UnclosedTag
     else (if is_wrong g s.games then Err WrongGame else fens_found g s.fens))
 
--- what is found where a byte does this in a section that says so
+-- what is found if a byte does this in a section that says so
 abbrev pub found_by : Deed → Found → List Found
 found_by End found = found ∷ []
 found_by _ found = []

@@ -46,7 +46,7 @@ pub record IsTag (text : List ℕ) (tag : Tag) : Type 0 where
   pub spells : Spells spelling tag.value
   pub joined : text ≡ 91 ∷ (first ++ (tag.name ++ (middle ++ 34 ∷ (spelling ++ 34 ∷ (last ++ 93 ∷ [])))))
 
--- a bracket and the bytes behind it in its line, no beginning of which is a whole tag
+-- a bracket and the bytes after it in its line, no beginning of which is a whole tag
 pub record IsUnclosed (text : List ℕ) : Type 0 where
   pub line : List ℕ
   pub in_line : list_all (λ byte. not (ends_line byte)) line ≡ true
@@ -57,7 +57,7 @@ pub record IsUnclosed (text : List ℕ) : Type 0 where
 abbrev pub is_space : ℕ → Bool
 is_space byte = is_blank byte || ends_line byte
 
--- spaces alone, and behind an unclosed tag the end of its line first
+-- spaces alone, and after an unclosed tag the end of its line first
 abbrev pub IsGap : Bool → List ℕ → Type 0
 IsGap false gap = list_all is_space gap ≡ true
 IsGap true [] = ⊥
@@ -118,7 +118,7 @@ SectionsAreFound =
     → outside_found at_end g (text ++ (gap ++ byte ∷ more))
     ≡ tags_found g (length text) some tags ∷ outside_found at_end g (byte ∷ more)
 
--- at the end of the text it needs no byte behind it, and an unclosed tag no end of its line
+-- at the end of the text it needs no byte after it, and an unclosed tag no end of its line
 abbrev pub LastSectionIsFound : Type 0
 LastSectionIsFound =
     (g : Geometry) (text gap : List ℕ) (tags : List Tag) (some last : Bool) → IsSection text tags some last
@@ -138,7 +138,7 @@ CommentsSayNothing =
     (at_end : Bool) (g : Geometry) (text more : List ℕ) → list_all (λ byte. not (closes byte)) text ≡ true
     → outside_found at_end g (123 ∷ (text ++ 125 ∷ more)) ≡ outside_found at_end g more
 
--- but a fault is found where the text ends in it
+-- but a fault is found if the text ends in it
 abbrev pub OpenCommentIsFound : Type 0
 OpenCommentIsFound = (g : Geometry) (text : List ℕ) → list_all (λ byte. not (closes byte)) text ≡ true
     → outside_found true g (123 ∷ text) ≡ Err UnclosedComment ∷ []

@@ -30,11 +30,11 @@ has_ends m l = (l.step.from == m.from) && (l.step.to == m.to)
 abbrev pub shares_ends : List Listed → Move → Bool
 shares_ends list m = nat_lt 1 (count_by (has_ends m) list)
 
--- a capture is written as 32x23; where another of these moves shares its ends, with all squares of its path
+-- a capture is written as 32x23; if another of these moves shares its ends, with all squares of its path
 abbrev pub capture_text : List Listed → Listed → List ℕ
 capture_text list l = if shares_ends list l.step then squares_text cross l.path else ends_text cross l.step
 
--- how one of these moves is written: as 32-28 where it takes nothing
+-- how one of these moves is written: as 32-28 if it takes nothing
 abbrev pub text_among : List Listed → Listed → List ℕ
 text_among list l = if set.len l.step.taken == 0 then ends_text dash l.step else capture_text list l
 

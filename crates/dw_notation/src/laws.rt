@@ -8,7 +8,7 @@ ghost use Rattle.dw_notation.specs.MoveReadingLaws.{NamesOneThing, HasOneAnswer,
 use dw_moves::laws::{legal_moves_take, moves_have_keys, moves_in_order, one_best, path_tells};
 
 /// A row of tags, whole or unclosed, is one problem, which says what its tags say, and the byte that ends it
-/// is outside. At the end of the text it needs no byte behind it.
+/// is outside. At the end of the text it needs no byte after it.
 /// Example: `[FEN "W:W32:B28"]*[FEN "W:W27:B28"]` is two problems, and `*` is outside.
 pub fn sections_are_found()
     ensures found { SectionsAreFound }
@@ -74,14 +74,14 @@ pub fn lines_have_texts()
     moves_have_texts();
 }
 
-/// The text of a move names one thing at most, and so it is read in one way, where memory is not refused.
+/// The text of a move names one thing at most, and so it is read in one way, if memory is not refused.
 /// Example: at `W:W32:B28` the text `32x23` names the capture of the man on 28, and nothing else.
 pub fn texts_have_one_answer()
     ensures named { NamesOneThing }
     ensures answer { HasOneAnswer }
 {}
 
-/// The written text of a legal move is read as that move, where memory is not refused.
+/// The written text of a legal move is read as that move, if memory is not refused.
 /// Example: at `W:W32:B28` the text `32x23` is written of one move, and is read as that move.
 pub fn written_moves_are_read()
     ensures named { WrittenMoveIsNamed }

@@ -107,7 +107,7 @@ impl<B: Board> LineText<B> {
         self.text.truncate(len);
     }
 
-    /// Goes on with a legal move; or nothing is changed, for want of memory.
+    /// Goes on with a legal move; or nothing is changed, if out of memory.
     /// Example: at `W:W27,45:B16` the text after the move `45-40` is `1. 45-40`.
     pub fn push(&mut self, alloc: Global, mv: &Move<B>) -> Result<(), AllocError>
         requires text { IsTextOf B.geometry self.old }
@@ -131,7 +131,7 @@ impl<B: Board> LineText<B> {
     }
 
     /// Goes over to another line of at most 39 moves, each legal after those before it, of which so many first ones
-    /// are the same; or, for want of memory, to some of them.
+    /// are the same; or, if out of memory, to some of them.
     /// Example: from `1. 32-28 18-22 2. 27x18` to `1. 32-28 18-22 2. 28x17` the first 2 moves are the same.
     pub fn follow(
         &mut self,
@@ -167,7 +167,7 @@ impl<B: Board> LineText<B> {
     }
 }
 
-/// The text of a line of at most 39 moves, each legal after those before it; or want of memory.
+/// The text of a line of at most 39 moves, each legal after those before it; or an error if out of memory.
 ///
 /// The attacker is the side to move in the position. Its moves are numbered, whichever colour it has, and all is joined
 /// by blanks: `1. 45-40 16-21 2. 27x16`. The text of no move is empty.

@@ -40,7 +40,7 @@ pub fn move_text<B: Board>(list: &[Listed<B>], place: usize) -> ArrayString<MOVE
     }
 }
 
-/// The text of a legal move of a position; or want of memory, which only a capture of several pieces takes.
+/// The text of a legal move of a position; or an error if out of memory. Only a capture of several pieces takes any.
 /// Example: at `W:W32:B28` that of the capture of 28 is `32x23`.
 pub fn text_in<B: Board>(
     alloc: Global,

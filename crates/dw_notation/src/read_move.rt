@@ -78,7 +78,7 @@ pub fn read_move<B: Board>(
     capture(alloc, position, squares.as_slice())
 }
 
-/// The squares of a quiet move, where a text names one.
+/// The squares of a quiet move, if a text names one.
 fn quiet_named<B: Board>(text: &[u8]) -> Option<(Square<B>, Square<B>)>
     ensures { MatchOption result ((from to : ℕ) → Names B.geometry text.now (QuietMove from to)
         → ⊥) (λ r. Names B.geometry text.now (QuietMove r.0 r.1)) }
@@ -93,7 +93,7 @@ fn quiet_named<B: Board>(text: &[u8]) -> Option<(Square<B>, Square<B>)>
     Some((from, square_named(rest)?))
 }
 
-/// The start of a capture and squares on which it lands, where a text names one.
+/// The start of a capture and squares on which it lands, if a text names one.
 fn capture_named<B: Board>(text: &[u8]) -> Option<ArrayVec<Square<B>, MAX_SQUARES>>
     ensures { MatchOption result
         ((squares : List ℕ) → Names B.geometry text.now (Capture squares) → ⊥)
@@ -130,7 +130,7 @@ fn is_cross(byte: u8) -> bool
     byte == b'x' || byte == b'X'
 }
 
-/// The square that the digits at the front of a text number, and what stands behind them.
+/// The square that the digits at the front of a text number, and what stands after them.
 fn first_square<B: Board>(text: &[u8]) -> Option<(Square<B>, &[u8])>
     ensures { MatchOption result (BeginsNowhere B.geometry text.now) (λ r. Begins B.geometry text.now r.0 r.1.now) }
 {

@@ -12,7 +12,7 @@ pub use writing::Writing;
 /// Where bytes come from.
 /// See [`Reading`] for an example.
 pub trait Source {
-    /// The bytes still to come, where the source tells them.
+    /// The bytes still to come, if the source tells them.
     ghost coming: { Self → Option (List ℕ) };
 
     /// Whether a pull has failed.
@@ -23,7 +23,7 @@ pub trait Source {
 
     /// Puts the next bytes at the front of the buffer, and answers how many: none only at the end.
     /// `None` is a failure, and each later pull fails too.
-    /// Example: where no byte is left it is `Some(0)`, and after a failure it is `None`.
+    /// Example: if no byte is left it is `Some(0)`, and after a failure it is `None`.
     fn pull(&mut self, buffer: &mut [u8]) -> Option<usize>
         requires { 0 < length buffer.old }
         ensures bytes { PullTakes (coming self.old) (coming self.new) result buffer.new }
@@ -40,7 +40,7 @@ pub trait Source {
 /// Where bytes go.
 /// See [`Writing`] for an example.
 pub trait Sink {
-    /// The bytes taken so far, where the sink tells them.
+    /// The bytes taken so far, if the sink tells them.
     ghost taken: { Self → Option (List ℕ) };
 
     /// Whether a give has failed.

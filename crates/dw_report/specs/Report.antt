@@ -85,7 +85,7 @@ IsSaid g Lists request p text = IsListedText g p request.moves request.lines req
 abbrev pub IsAnswer : Geometry → Request → Placement → List ℕ → Type 0
 IsAnswer g request p text = IsSaid g request.command request p text
 
--- what follows a first line: the answer, and nothing behind a refusal
+-- what follows a first line: the answer, and nothing after a refusal
 abbrev pub IsFurther : Geometry → Request → Found → List ℕ → Type 0
 IsFurther g request (Ok p) text = IsAnswer g request p text
 IsFurther g request (Err fault) text = text ≡ []
@@ -96,7 +96,7 @@ pub record IsProblemText (g : Geometry) (request : Request) (problem : Numbered)
   pub follows : IsFurther g request problem.found further
   pub is : text ≡ first_line g problem ++ further
 
--- the texts of problems, one behind another
+-- the texts of problems, one after another
 abbrev pub AreTexts : Geometry → Request → List Numbered → List ℕ → Type 0
 AreTexts g request [] text = text ≡ []
 AreTexts g request (problem ∷ problems) text =

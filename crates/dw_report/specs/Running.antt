@@ -66,7 +66,7 @@ pub record Finishes (g : Geometry) (request : Request) (bytes : List ℕ) (left 
   pub through : IsReadThrough request (problems_of g request.form bytes) left
 
 -- After a failed read the sink has taken the whole texts of just the chosen problems that end in the bytes read. The
--- problem that was asked for is none of those: reading ends behind it.
+-- problem that was asked for is none of those: reading ends after it.
 pub record StopsReading (g : Geometry) (request : Request) (bytes : List ℕ)
     (left taken after : Option (List ℕ)) : Type 0 where
   pub read : List ℕ
@@ -74,7 +74,7 @@ pub record StopsReading (g : Geometry) (request : Request) (bytes : List ℕ)
   pub wrote : Writes (IsReportOn g request (ended_problems_of g request.form read)) taken after
   pub unasked : list_any (is_asked request.only) (ended_problems_of g request.form read) ≡ false
 
--- the sink has taken a beginning of some kind, whatever bytes follow those read; none do where the end was met
+-- the sink has taken a beginning of some kind, whatever bytes follow those read; none do if the end was met
 pub record StopsAhead (P : List ℕ → List ℕ → Type 0) (bytes : List ℕ)
     (left taken after : Option (List ℕ)) : Type 0 where
   pub read : List ℕ
@@ -123,7 +123,7 @@ pub record IsPartOn (g : Geometry) (request : Request) (problems : List Numbered
 abbrev pub IsPart : Geometry → Request → List ℕ → List ℕ → Type 0
 IsPart g request bytes out = IsPartOn g request (problems_of g request.form bytes) out
 
--- what a run did, where the source tells its bytes
+-- what a run did, if the source tells its bytes
 abbrev pub RunEnds : Geometry → Request → Option (List ℕ) → Option (List ℕ) → Option (List ℕ) → Option (List ℕ)
     → Result Summary RunFault → Type 0
 RunEnds g request None left taken after result = Unit {0}
@@ -134,12 +134,12 @@ RunEnds g request (Some bytes) left taken after (Err ends.Read) = StopsReading g
 RunEnds g request (Some bytes) left taken after (Err ends.Write) =
     StopsAhead (BeginsReport g request) bytes left taken after
 
--- a search is stopped at the limit, or by want of memory before it
+-- a search is stopped at the limit, or out of memory before it
 abbrev pub StopsSearch : ℕ → Stop → ℕ → Type 0
 StopsSearch limit Limit expanded = expanded ≡ limit
 StopsSearch limit Memory expanded = expanded ≤ limit
 
--- where positions are shown nothing stops, where moves are listed only want of memory, and else a search
+-- if positions are shown nothing stops, if moves are listed only lack of memory, and else a search
 abbrev pub MayStop : Command → ℕ → Stop → ℕ → Type 0
 MayStop asked.Show limit why expanded = ⊥
 MayStop asked.Moves limit why expanded = (why ≡ Memory) × (expanded ≡ 0)

@@ -27,7 +27,7 @@ pub(crate) struct Dual<B: Board> {
     pub(crate) choices: Vec<Move<B>>,
 }
 
-/// The first choice behind one of the keys of a position, in the order of lines, where what begins a line comes before
+/// The first choice after one of the keys of a position, in the order of lines, where what begins a line comes before
 /// it. The keys are all of those within so many moves.
 #[cycle(first_choice)]
 pub(crate) fn first_choice<B: Board, M: Memo<B>, G: Guide<B>>(
@@ -85,7 +85,7 @@ fn choice_after_reply<B: Board, M: Memo<B>, G: Guide<B>>(
     Ok(None)
 }
 
-/// The choice at a position, or else the first one behind it.
+/// The choice at a position, or else the first one after it.
 #[cycle(first_choice)]
 fn choice_from<B: Board, M: Memo<B>, G: Guide<B>>(
     alloc: Global,

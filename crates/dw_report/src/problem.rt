@@ -137,7 +137,7 @@ fn write_rest<B: Board, K: Sink, M: Memo<B>, G: Guide<B>>(
     }
 }
 
-/// Writes the lines of all legal moves in order, and their count. Only want of memory stops it.
+/// Writes the lines of all legal moves in order, and their count. It stops only if out of memory.
 fn write_moves<B: Board, K: Sink>(
     alloc: Global,
     sink: &mut K,

@@ -25,12 +25,12 @@ use std::alloc::Global;
 ///
 /// Lines are listed on boards of 10 and 8 rows, which have tokens.
 ///
-/// Reading ends at the end of the source, or behind the problem that was asked for. `Read` and `Write` come only
-/// where that stream failed: after `Read` the sink has the whole texts of the chosen problems that end in
+/// Reading ends at the end of the source, or after the problem that was asked for. `Read` and `Write` come only
+/// if that stream failed: after `Read` the sink has the whole texts of the chosen problems that end in
 /// the bytes read, and the problem asked for is none of these; after `Write` some beginning of the report. After
 /// `Stopped` the sink has the whole texts of some chosen problems, the first line of the next, and whole lines of the
-/// rest of its text. Positions are shown without a stop, and moves listed with none but want of memory; `Limit` comes
-/// only where as many positions were expanded as the settings allow.
+/// rest of its text. Positions are shown without a stop, and moves listed with none but that of memory; `Limit` comes
+/// only if as many positions were expanded as the settings allow.
 /// Example: judged within 1 move, `W:W32:B28` gives the lines `problem 1: W:W32:B28` and `sound in 1: 32x23`.
 pub fn run<B: Board, S: Source, K: Sink, M: Memo<B> + Drop, G: Guide<B> + Drop>(
     alloc: Global,
@@ -99,7 +99,7 @@ fn write_report<B: Board, S: Source, K: Sink, M: Memo<B>, G: Guide<B>>(
     }
 }
 
-/// How a run ends where a text was not written to its end, after so many expansions.
+/// How a run ends if a text was not written to its end, after so many expansions.
 fn ended(fault: TextFault, expanded: u64) -> RunFault
     ensures { result ≡ ended_by fault expanded }
 {

@@ -33,7 +33,7 @@ pub struct Settings<B: Board> {
     pub form: Form,
     /// Within how many moves of the side to move a win is looked for, 1 to 20.
     pub n: u8,
-    /// The number of the one problem to report, or all. Reading ends behind that problem.
+    /// The number of the one problem to report, or all. Reading ends after that problem.
     pub only: Option<u32>,
     /// The most lines to list, at least 1.
     pub lines: u64,
@@ -45,7 +45,7 @@ pub struct Settings<B: Board> {
 
 impl<B: Board> Settings<B> {
     /// Whether the problem of this number is reported.
-    /// Example: where `only` is `Some(3)`, it is `true` for 3 alone; where it is `None`, for each number.
+    /// Example: if `only` is `Some(3)`, it is `true` for 3 alone; if it is `None`, for each number.
     pub fn chooses(&self, number: u32) -> bool
         ensures { result ≡ number_is_chosen self.now.only number }
     {
@@ -55,8 +55,8 @@ impl<B: Board> Settings<B> {
         }
     }
 
-    /// Whether the problem of this number is the one that was asked for: reading ends behind it.
-    /// Example: where `only` is `Some(3)`, it is `true` for 3 alone; where it is `None`, for no number.
+    /// Whether the problem of this number is the one that was asked for: reading ends after it.
+    /// Example: if `only` is `Some(3)`, it is `true` for 3 alone; if it is `None`, for no number.
     pub fn asks_for(&self, number: u32) -> bool
         ensures { result ≡ number_is_asked self.now.only number }
     {

@@ -18,7 +18,7 @@ pub enum Verdict<B: Board> {
     },
     /// One first move wins, and later there is a choice.
     Dual {
-        /// The least beginning of a line behind which several moves win. It has an even number of moves, 2 to 38.
+        /// The least beginning of a line after which several moves win. It has an even number of moves, 2 to 38.
         at: ArrayVec<Move<B>, 38>,
         /// All moves that win there, in order.
         choices: Vec<Move<B>>,

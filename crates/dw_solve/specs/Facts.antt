@@ -29,7 +29,7 @@ pub record KnownWin (c : Content) (p : Placement) (w : ℕ) : Type 0 where
 abbrev pub IsDecided : Content → Placement → ℕ → Type 0
 IsDecided c p n = KnownWin c p n ⊎ KnownFail c p n
 
--- and so it can after each reply, where there is a move left to win within
+-- and so it can after each reply, if there is a move left to win within
 abbrev pub RepliesAreDecided : Geometry → Content → Placement → ℕ → Type 0
 RepliesAreDecided g c q n = (r : Move) → Legal g q r → (n ≡ 0) ⊎ IsDecided c (play g q r) n
 
@@ -39,7 +39,7 @@ pub record AreTrue (g : Geometry) (c : Content) : Type 0 where
   pub wins : (p : Placement) (w : ℕ) → KnownWin c p w → Win g p w
 
 -- Each bound follows from others in one move and its replies: a win in w has a move after whose every reply there is
--- one in w - 1, and where there is none in f, each move has a reply after which there is none in f - 1.
+-- one in w - 1, and if there is none in f, each move has a reply after which there is none in f - 1.
 pub record IsClosed (g : Geometry) (c : Content) : Type 0 where
   pub wins : (e : Entry) → Member e c → (w : ℕ) → e.bounds.wins ≡ Some w →
       (1 ≤ w) × (m : Move) × Legal g e.position m ×

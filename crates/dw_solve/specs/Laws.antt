@@ -18,7 +18,7 @@ pub record WinsStay : Type 0 where
 abbrev pub WinsAreDecided : Type 0
 WinsAreDecided = (g : Geometry) (p : Placement) (n : ℕ) → Win g p n ⊎ (Win g p n → ⊥)
 
--- there is no win in one move where the other side always has a reply; so there is none where nothing can be taken and
+-- there is no win in one move if the other side always has a reply; so there is none if nothing can be taken and
 -- the other side has steps to two squares
 pub record NoWinInOne : Type 0 where
   pub replied : (g : Geometry) (p : Placement) → AlwaysReply g p → Win g p 1 → ⊥
@@ -34,7 +34,7 @@ DecidedAreCounted = (c : Content) (n : ℕ) → IsMap c →
     (ps : List Placement) × NoRepeat ps × ((p : Placement) → Member p ps ↔ IsDecided c p n)
     × (length ps ≡ decided_at c n)
 
--- searches one after another are one search, which lost nothing where none of them did
+-- searches one after another are one search, which lost nothing if none of them did
 pub record SearchesAddUp : Type 0 where
   pub none : (g : Geometry) (n : ℕ) (a : Moment) → Searched g n 0 a a
   pub next : (g : Geometry) (n s t : ℕ) (a b c : Moment) → Searched g n s a b → Searched g n t b c

@@ -61,7 +61,7 @@ pub record Searched (g : Geometry) (n cut : ℕ) (before after : Moment) : Type 
   pub counted : LossIsCounted before.lost after.lost
   pub worked : NothingLost before after → Worked g n cut before after
 
--- how many expansions of a search for a win within n moves are cut off: one for each move at most by a stop, none where
+-- how many expansions of a search for a win within n moves are cut off: one for each move at most by a stop, none if
 -- there is an answer
 abbrev pub cut_off : {A E : Type 0} → Result A E → ℕ → ℕ
 cut_off (Ok answer) n = 0

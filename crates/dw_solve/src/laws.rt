@@ -18,7 +18,7 @@ pub fn wins_are_decided()
     moves_listed()
 }
 
-/// There is no win in one move where the other side always has a reply, as it has where nothing can be taken and it has
+/// There is no win in one move if the other side always has a reply, as it has if nothing can be taken and it has
 /// steps to two squares.
 /// Example: at `W:W28:B1,2` White has no win in one move.
 pub fn no_win_in_one()
@@ -27,7 +27,7 @@ pub fn no_win_in_one()
     loose_replies()
 }
 
-/// Where each bound of a memo follows from others in one move and its replies, all of them are right.
+/// If each bound of a memo follows from others in one move and its replies, all of them are right.
 /// Example: that `W:W32:B28` is won in 1 follows from `32x23`, which leaves no reply; and it is right.
 pub fn closed_is_true()
     ensures { ClosedIsTrue }

@@ -208,7 +208,7 @@ fn loose_reply<B: Board>(position: &Position<B>) -> Option<Position<B>>
     Some(after)
 }
 
-/// Takes it up that the attacker does not win with his last move, where that is seen at a glance: the position is
+/// Takes it up that the attacker does not win with his last move, if that is seen at a glance: the position is
 /// counted and noted, unless the cache decides it.
 fn refute<B: Board, M: Memo<B>, G>(
     search: &mut Search<M, G>,
@@ -240,7 +240,7 @@ fn refute<B: Board, M: Memo<B>, G>(
     Ok(())
 }
 
-/// Whether there is a win within so many moves, where that is known without a search.
+/// Whether there is a win within so many moves, if that is known without a search.
 pub(crate) fn known<B: Board, M: Memo<B>, G>(
     search: &mut Search<M, G>,
     position: &Position<B>,
@@ -309,7 +309,7 @@ fn note<B: Board, M: Memo<B>, G>(
     search.memo.note(*position, joined(bounds, moves, won));
 }
 
-/// The bounds of a position, which say nothing where it is not held.
+/// The bounds of a position, which say nothing if it is not held.
 fn bounds_now<B: Board, M: Memo<B>>(memo: &mut M, position: &Position<B>) -> Bounds
     ensures map { IsMap (M.content memo.old) }
     ensures bounds { HasBounds (M.content memo.old) position.now result }

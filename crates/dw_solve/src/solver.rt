@@ -106,7 +106,7 @@ impl<B: Board, M: Memo<B>, G: Guide<B>> Solver<B, M, G> {
     }
 
     /// Whether the side to move wins within so many of its moves, 0 to 20. It is answered without a search, without
-    /// memory and without an expansion where the cache decides it or the number is 0. After a stop all bounds in the
+    /// memory and without an expansion if the cache decides it or the number is 0. After a stop all bounds in the
     /// cache are right, and it can be asked again.
     /// Example: at `W:W27,45:B16` it is `Ok(false)` within 1 move, and `Ok(true)` within 2.
     pub fn wins(&mut self, alloc: Global, position: &Position<B>, moves: u8) -> Result<bool, Stop>
@@ -149,8 +149,8 @@ impl<B: Board, M: Memo<B>, G: Guide<B>> Solver<B, M, G> {
         answer
     }
 
-    /// The least number of moves, from 1 to the given one, within which the side to move wins, or `None` where it has
-    /// no win within that number, which is at most 20. It is answered without memory and without an expansion where the
+    /// The least number of moves, from 1 to the given one, within which the side to move wins, or `None` if it has
+    /// no win within that number, which is at most 20. It is answered without memory and without an expansion if the
     /// cache decides each of these numbers.
     /// Example: at `W:W27,45:B16` it is `Ok(None)` up to 1 move, and `Ok(Some(2))` up to 20.
     pub fn least(

@@ -9,7 +9,7 @@ use dw_moves::moves::Move;
 use dw_moves::play::play as played;
 use dw_moves::quiet::quiet_count;
 
-/// How free the other side is after a legal move: the number of its quiet moves, or 0 where it must capture. A move
+/// How free the other side is after a legal move: the number of its quiet moves, or 0 if it must capture. A move
 /// that leaves less freedom is worth trying first.
 /// Example: at `W:W27,32,38:B18` it is 0 for `27-22`, which forces a capture, and 2 for `32-28`.
 pub fn trial<B: Board>(position: &Position<B>, mv: &Move<B>) -> u32

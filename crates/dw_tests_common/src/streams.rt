@@ -4,7 +4,7 @@ use std::alloc::Global;
 use std::io;
 
 /// Gives its bytes a few at a time. At one of its reads, counted from 1, it fails, at another it gives none; it would
-/// go on behind them.
+/// go on after them.
 #[derive(Drop)]
 pub struct Chopped<'a> {
     rest: &'a [u8],
@@ -73,7 +73,7 @@ impl io::Read for Repeated {
     }
 }
 
-/// Takes a few bytes a write, and fails at one of its writes, counted from 1; it would go on behind it.
+/// Takes a few bytes a write, and fails at one of its writes, counted from 1; it would go on after it.
 #[derive(Drop)]
 pub struct Narrow {
     pub taken: Vec<u8>,

@@ -142,7 +142,7 @@ fn check_rest<B: Board, M: Memo<B>>(
 /// Of lists of so many lines the whole rest is compared after each line, and of longer ones the next line.
 const COMPARED: usize = 200;
 
-// After each of these lines, which are all of a position, the lister gives those behind it, and no other.
+// After each of these lines, which are all of a position, the lister gives those after it, and no other.
 fn check_after<B: Board, M: Memo<B>>(
     rt: &impl Abort,
     alloc: Global,
@@ -163,7 +163,7 @@ fn check_after<B: Board, M: Memo<B>>(
     }
 }
 
-// All lines of a position. The lister gives just these, and after each of them those behind it.
+// All lines of a position. The lister gives just these, and after each of them those after it.
 fn check_lines<B: Board, M: Memo<B>>(
     rt: &impl Abort,
     alloc: Global,
@@ -468,7 +468,7 @@ fn moves_of<B: Board>(rt: &impl Abort, steps: &[Step]) -> ArrayVec<Move<B>, 39> 
     line
 }
 
-// Whether the next line is this one, or there is none where none is wanted.
+// Whether the next line is this one, or there is none if none is wanted.
 fn is_next<B: Board, M: Memo<B>>(
     rt: &impl Abort,
     alloc: Global,
@@ -531,7 +531,7 @@ fn check_refused<B: Board, M: Memo<B>>(
     }
 }
 
-// All lines are given with ample memory, and where any one growth is refused: checks/refused_search.py runs it so.
+// All lines are given with ample memory, and if any one growth is refused: checks/refused_search.py runs it so.
 #[test]
 fn wants_memory(rt: HostRuntime) {
     let alloc = rt.alloc();

@@ -496,7 +496,7 @@ problem 2: refused: 4 wrong game
 /// What is written of the problems that end in so many bytes.
 type Ended = (u64, &'static str);
 
-/// A text, what is written of the problems that have ended behind some of its bytes, and the whole report.
+/// A text, what is written of the problems that have ended after some of its bytes, and the whole report.
 type Ending = (Asked, &'static [u8], &'static [Ended], &'static str);
 
 const REFUSED: &str = "problem 1: refused: 1 fen: 7 last row at 4\n";

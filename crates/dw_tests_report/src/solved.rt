@@ -144,7 +144,7 @@ fn judges_and_lists(rt: HostRuntime) {
     }
 }
 
-// Under limits that rise by one from 1, a run is stopped behind the first line and whole lines of the rest, or it is
+// Under limits that rise by one from 1, a run is stopped after the first line and whole lines of the rest, or it is
 // whole; and with a higher limit no less is written.
 #[test]
 fn stops_at_each_limit(rt: HostRuntime) {

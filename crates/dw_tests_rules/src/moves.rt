@@ -63,7 +63,7 @@ fn replies_seen_at_a_glance(rt: HostRuntime) {
     check_glances::<Eight>(&rt, &EIGHT_GLANCES);
 }
 
-/// A position, how many pieces each move takes, how many quiet moves there are, also where one must capture, and how
+/// A position, how many pieces each move takes, how many quiet moves there are, also if one must capture, and how
 /// many legal moves.
 type Count = (&'static str, u8, u32, usize);
 
@@ -103,7 +103,7 @@ fn check_counts<B: Board>(rt: &impl Abort, alloc: Global, rows: &[Count]) {
     }
 }
 
-/// A position, a move by its squares and what it takes, and the position after it, or nothing where it is not legal.
+/// A position, a move by its squares and what it takes, and the position after it, or nothing if it is not legal.
 type Play = (&'static str, u8, u8, &'static [u8], &'static str);
 
 const ROUND: &str = "W:W38:B22,23,32,33";

@@ -400,7 +400,7 @@ fn check_refused<M: Memo<Ten>>(
     assert!(rt; answer == Ok(wanted), "{text} within {moves}");
 }
 
-// All is answered with ample memory, and where any one growth is refused: checks/refused_search.py runs it so.
+// All is answered with ample memory, and if any one growth is refused: checks/refused_search.py runs it so.
 #[test]
 fn wants_memory(rt: HostRuntime) {
     let alloc = rt.alloc();

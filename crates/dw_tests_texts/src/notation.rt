@@ -23,7 +23,7 @@ use std::io;
 use std::process::Abort;
 use std::test::Fail;
 
-// What the problems of a text say, each behind a stroke: the written FEN or the fault; `failed` for a failure. What
+// What the problems of a text say, each after a stroke: the written FEN or the fault; `failed` for a failure. What
 // has ended stays so, and problems are numbered from 1.
 fn said<B: Board, R: io::Read + Drop>(rt: &impl Abort, reader: R, form: Form) -> ArrayString<512> {
     let mut source = Reading::new(reader);
@@ -667,7 +667,7 @@ fn moves_are_read(rt: HostRuntime) {
     }
 }
 
-// Holds also where memory is refused. Each row begins with whether its text may take memory.
+// Holds also if memory is refused. Each row begins with whether its text may take memory.
 #[test]
 fn is_right_or_wants_memory(rt: HostRuntime) {
     let rows = [

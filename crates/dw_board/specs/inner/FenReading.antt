@@ -11,7 +11,7 @@ use Rattle.dw_board.specs.FenReader.{first_is, is_empty}
 abbrev pub listing : Side → Bool → Placement → Listing
 listing side second p = record { side = side; is_second = second; placed = p }
 
--- what the tokens behind an item that ends with this square say
+-- what the tokens after an item that ends with this square say
 abbrev pub read_behind : Geometry → ℕ → Listing → Item → ℕ → List Token → Result Placement FenFault
 read_behind g end list item to tokens = with_item g list item to >>= λ all. read_from g end (AfterItem all) tokens
 

@@ -23,7 +23,7 @@ use crate::square::Square;
 /// Example: 1,025 blanks are refused as `too long at 1025`.
 pub const MAX_FEN: usize = 1024;
 
-/// Reads a position: exactly where the text is a FEN text of one, and else its earliest fault.
+/// Reads a position: exactly if the text is a FEN text of one, and else its earliest fault.
 /// Example: `read_fen::<Ten>(b"W:W31.")` is the position `W:W31:B`; `b"W:W27 32:B16"` has the fault `rest at 7`.
 pub fn read_fen<B: Board>(text: &[u8]) -> Result<Position<B>, FenFault>
     ensures exact { result ≡ fen B.geometry text.now }
@@ -53,7 +53,7 @@ fn read_short_fen<B: Board>(text: &[u8]) -> Result<Position<B>, FenFault>
     read_first(&mut tokens, Position::empty(turn))
 }
 
-/// Reads the first list, behind its colon, and what follows it.
+/// Reads the first list, after its colon, and what follows it.
 fn read_first<B: Board>(
     tokens: &mut Tokens<'_>,
     mut position: Position<B>,
@@ -70,7 +70,7 @@ fn read_first<B: Board>(
     read_end(tokens, position)
 }
 
-/// Reads the second list, behind its colon, and what follows it.
+/// Reads the second list, after its colon, and what follows it.
 fn read_second<B: Board>(
     tokens: &mut Tokens<'_>,
     first: Side,
@@ -102,7 +102,7 @@ fn is_same_side(a: Side, b: Side) -> bool
     }
 }
 
-/// Reads the end of a text, behind its lists: nothing, or a stop.
+/// Reads the end of a text, after its lists: nothing, or a stop.
 fn read_end<B: Board>(
     tokens: &mut Tokens<'_>,
     position: Position<B>,
@@ -120,7 +120,7 @@ fn read_end<B: Board>(
     }
 }
 
-/// Reads a list behind its colour: nothing, or items joined by commas.
+/// Reads a list after its colour: nothing, or items joined by commas.
 fn read_list<B: Board>(
     tokens: &mut Tokens<'_>,
     side: Side,

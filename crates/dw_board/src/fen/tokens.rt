@@ -38,7 +38,7 @@ impl<'a> Tokens<'a> {
         }
     }
 
-    /// The place of the next token, or the one behind the text.
+    /// The place of the next token, or the one after the text.
     /// Example: at the start of ` W` it is 2.
     pub fn place(&self) -> u16
         ensures { result ≡ place_of (tokens_of self.now) (end_of self.now) }
@@ -72,7 +72,7 @@ impl<'a> Tokens<'a> {
         self.text.get(self.at).copied()
     }
 
-    /// Goes past so many bytes, and past the blanks behind them.
+    /// Goes past so many bytes, and past the blanks after them.
     fn pass(&mut self, count: usize)
         requires { self.old.at + count ≤ length self.old.text.now }
         ensures tokens { tokens_of self.new ≡ tokens_from (self.old.at + count + 1)

@@ -88,7 +88,7 @@ module _ {M : Type 0} (g : Geometry) (content : M → Content) (lost : M → ℕ
     searched = h.searched;
   }
 
-  -- want of memory after answers
+  -- out of memory after answers
   pub asked_memory : {B : Type 0} (n : ℕ) (a b : Solving M) (r : Result B Stop) → IsErrAnd r (λ d. d ≡ Memory)
       → Asked g content lost n a b answered → Asked g content lost n a b r
   asked_memory n a b (Ok x) is h = absurd is

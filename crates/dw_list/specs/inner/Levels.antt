@@ -12,7 +12,7 @@ abbrev pub AreLast : Geometry → Placement → Option (List Move) → Type 0
 AreLast g q None = Unit {0}
 AreLast g q (Some ahead) = (passed : List Move) × IsListOf (Precedes g q) (Legal g q) (passed ++ ahead)
 
--- those behind one of them
+-- those after one of them
 abbrev pub AreBehind : Geometry → Placement → Move → Option (List Move) → Type 0
 AreBehind g q m None = ⊥
 AreBehind g q m (Some ahead) = (passed : List Move) × IsListOf (Precedes g q) (Legal g q) (passed ++ m ∷ ahead)

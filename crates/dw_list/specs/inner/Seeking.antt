@@ -33,7 +33,7 @@ pub record IsUnlisted (levels : List Level) : Type 0 where
   pub are : levels ≡ last ∷ outer
   pub ahead : last.ahead ≡ None
 
--- the stack went on with a move, and the moves behind it are not listed
+-- the stack went on with a move, and the moves after it are not listed
 pub record WentOn (old new : Standing) (m : Move) : Type 0 where
   pub position : new.position ≡ old.position
   pub moves : new.moves ≡ old.moves

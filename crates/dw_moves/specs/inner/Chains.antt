@@ -25,7 +25,7 @@ pub record IsLongest (g : Geometry) (p : Placement) (piece : Piece) (s : ℕ) (t
   pub reached : (landings : List ℕ) × (over : List ℕ) × Chain g p piece s taken landings over × (length over ≡ k)
   pub most : ChainsFit g p piece s taken k
 
--- the most pieces that a path from one square takes, 0 where there is none
+-- the most pieces that a path from one square takes, 0 if there is none
 pub record IsBestFrom (g : Geometry) (p : Placement) (from k : ℕ) : Type 0 where
   pub reached : 0 < k → (landings : List ℕ) × (taken : List ℕ) × Path g p from landings taken × (length taken ≡ k)
   pub most : (landings taken : List ℕ) → Path g p from landings taken → length taken ≤ k
@@ -38,7 +38,7 @@ Taking g p k m = (0 < k) × ((landings : List ℕ) × IsPathOf g p m k landings)
 abbrev pub TakingFrom : Geometry → Placement → ℕ → ℕ → Move → Type 0
 TakingFrom g p from k m = (m.from ≡ from) × Taking g p k m
 
--- m is a move so far, which took n pieces, with a chain of jumps behind it: it takes k pieces, k above 0
+-- m is a move so far, which took n pieces, with a chain of jumps after it: it takes k pieces, k above 0
 pub record EndsAs (g : Geometry) (p : Placement) (piece : Piece) (begun : Move) (n k : ℕ) (m : Move) : Type 0 where
   pub landings : List ℕ
   pub over : List ℕ
@@ -89,7 +89,7 @@ pub record Takes (g : Geometry) (p : Placement) (piece : Piece) (s t : ℕ) (tak
 abbrev pub IsCapture : Geometry → Placement → Move → Type 0
 IsCapture g p m = (landings : List ℕ) × IsPathOf g p m (set.len m.taken) landings
 
--- m is a move so far with jumps behind it onto these squares, one after another
+-- m is a move so far with jumps after it onto these squares, one after another
 pub record GoesOn (g : Geometry) (p : Placement) (piece : Piece) (begun : Move) (landings : List ℕ)
     (m : Move) : Type 0 where
   pub over : List ℕ

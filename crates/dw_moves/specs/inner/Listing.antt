@@ -42,7 +42,7 @@ Leading g p k l = (0 < k) × ((landings : List ℕ) × IsPathOf g p l.step k lan
 abbrev pub LeadingFrom : Geometry → Placement → ℕ → ℕ → Listed → Type 0
 LeadingFrom g p from k l = (l.step.from ≡ from) × Leading g p k l
 
--- l is a move so far on its path, which took n pieces, with a chain of jumps behind it: it takes k pieces, k above 0
+-- l is a move so far on its path, which took n pieces, with a chain of jumps after it: it takes k pieces, k above 0
 pub record GoesBy (g : Geometry) (p : Placement) (piece : Piece) (begun : Listed) (n k : ℕ) (l : Listed) : Type 0 where
   pub landings : List ℕ
   pub over : List ℕ

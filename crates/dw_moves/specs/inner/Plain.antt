@@ -30,7 +30,7 @@ abbrev pub free_front : Placement → List ℕ → List ℕ
 free_front cells [] = []
 free_front cells (t ∷ ts) = elim (at cells t) [ None ↦ t ∷ free_front cells ts | Some piece ↦ [] ]
 
--- the first of them, where there is one
+-- the first of them, if there is one
 abbrev pub free_next : Placement → List ℕ → List ℕ
 free_next cells [] = []
 free_next cells (t ∷ ts) = elim (at cells t) [ None ↦ t ∷ [] | Some piece ↦ [] ]
@@ -68,7 +68,7 @@ abbrev pub is_forward : Side → Dir → Bool
 is_forward White d = not (is_down d)
 is_forward Black d = is_down d
 
--- whether a piece may go this way where it takes nothing
+-- whether a piece may go this way if it takes nothing
 abbrev pub may_go : Kind → Side → Dir → Bool
 may_go Man side d = is_forward side d
 may_go King side d = true
@@ -97,7 +97,7 @@ quiet_pairs g p = flat_map (λ s. map (λ t. (s, t)) (targets g p s)) (numbers_t
 abbrev pub quiet_to : ℕ → ℕ → Move
 quiet_to from to = record { from = from; to = to; taken = set.empty }
 
--- a list, and behind it what is made of the pairs that P holds of, each once
+-- a list, and after it what is made of the pairs that P holds of, each once
 pub record Adds {X : Type 0} (made : ℕ → ℕ → X) (P : ℕ → ℕ → Type 0) (old new : List X) : Type 0 where
   pub pairs : List (ℕ × ℕ)
   pub exactly : (s t : ℕ) → Member (s, t) pairs ↔ P s t
@@ -131,7 +131,7 @@ pub record KingLands (g : Geometry) (p : Placement) (d : Dir) (s t : ℕ) : Type
   pub there : at p s ≡ Some (record { side = p.turn; kind = King })
   pub lands : Member t (landings_for King p (ray g s d))
 
--- the next square, where nothing stands on it
+-- the next square, if nothing stands on it
 abbrev pub free_if : Placement → Option ℕ → Option ℕ
 free_if p None = None
 free_if p (Some t) = elim (at p t) [ None ↦ Some t | Some piece ↦ None ]

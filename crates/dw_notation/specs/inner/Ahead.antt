@@ -3,7 +3,7 @@ use Rattle.std.specs.Prelude.{ℕ, List, [], ◌∷◌, Bool, true, false}
 use Rattle.dw_notation.specs.declared.problems.fens.Front.{Front}
 use Rattle.dw_notation.specs.declared.problems.fens.Front.TheVariants.{Bare, One, Two, Behind}
 
--- the bytes of a byte-order mark that were passed over, where more of it may come
+-- the bytes of a byte-order mark that were passed over, if more of it may come
 abbrev pub passed_over : Front → List ℕ
 passed_over Bare = []
 passed_over One = 0xEF ∷ []

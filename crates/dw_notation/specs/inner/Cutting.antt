@@ -10,7 +10,7 @@ use Rattle.dw_notation.specs.declared.problems.ReadFault.{ReadFault}
 use Rattle.dw_notation.specs.declared.problems.reader.Cutter.{Cutter}
 use Rattle.dw_notation.specs.Cutting.{rest_of, found_ahead, problems_from}
 
--- what the rest and the bytes still to be read say behind the piece that was cut off
+-- what the rest and the bytes still to be read say after the piece that was cut off
 abbrev pub found_behind : Bool → Geometry → Cutter → List ℕ → List Found
 found_behind at_end g cutter bytes = pieces_behind at_end g cutter.pieces (rest_of cutter ++ bytes)
 

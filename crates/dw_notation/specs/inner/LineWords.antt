@@ -6,7 +6,7 @@ use Rattle.dw_moves.specs.Moves.{Move}
 use Rattle.dw_board.specs.Lists.{Member}
 use Rattle.dw_moves.specs.Order.{Listed}
 
--- how long the text of so many of them is, behind a text of some length
+-- how long the text of so many of them is, after a text of some length
 abbrev pub len_to : {B : Type 0} → ℕ → ℕ → List (Ply B) → ℕ
 len_to base zero [] = base
 len_to base zero (x ∷ plies) = base

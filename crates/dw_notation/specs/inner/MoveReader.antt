@@ -9,7 +9,7 @@ use Rattle.dw_notation.specs.MoveReading.{IsNumber, Between}
 use Rattle.dw_notation.specs.declared.read_move.MoveFault.{MoveFault}
 use Rattle.dw_notation.specs.declared.read_move.MoveFault.TheVariants.{Syntax, NoSuchMove, Ambiguous, Memory}
 
--- all digits at the front give the number of a square, and the rest stands behind them
+-- all digits at the front give the number of a square, and the rest stands after them
 pub record Begins (g : Geometry) (text : List ℕ) (s : ℕ) (rest : List ℕ) : Type 0 where
   pub front : List ℕ
   pub joined : text ≡ front ++ rest

@@ -7,7 +7,7 @@ use Rattle.dw_notation.specs.declared.problems.reader.Pieces.{Pieces}
 use Rattle.dw_notation.specs.declared.problems.reader.Pieces.TheVariants.{InLines, InSections}
 use Rattle.dw_notation.specs.Pieces.{lines_behind, lines_cut}
 
--- what the bytes say behind the piece that was cut off
+-- what the bytes say after the piece that was cut off
 abbrev pub pieces_behind : Bool → Geometry → Pieces → List ℕ → List Found
 pieces_behind at_end g (InLines lines) bytes = lines_behind at_end g lines bytes
 pieces_behind at_end g (InSections sections) bytes = sections_ahead at_end g sections bytes

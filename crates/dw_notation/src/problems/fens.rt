@@ -90,7 +90,7 @@ fn line_feed_at(bytes: &[u8]) -> Option<usize>
     None
 }
 
-/// How many bytes of a line are kept: a FEN text, and a carriage return behind it.
+/// How many bytes of a line are kept: a FEN text, and a carriage return after it.
 const FRONT: usize = 1025;
 
 /// The fewest bytes of a line that is not kept: without a carriage return it is still no FEN text.
@@ -180,7 +180,7 @@ impl Line {
         self.long = None;
     }
 
-    /// Puts a piece behind the line.
+    /// Puts a piece after the line.
     fn push(&mut self, piece: &[u8])
         ensures { SaysSame (held_line self.old ++ piece.now) (held_line self.new) }
     {
@@ -243,7 +243,7 @@ enum Front {
 }
 
 impl Front {
-    /// The bytes of a mark that were passed over, where more of it may come.
+    /// The bytes of a mark that were passed over, if more of it may come.
     fn passed(self) -> &'static [u8]
         ensures { result.now ≡ passed_over self }
     {

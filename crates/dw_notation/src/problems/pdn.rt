@@ -35,7 +35,7 @@ enum Place {
     /// Behind a backslash in a value.
     Escaped,
     BehindValue,
-    /// In the line of an unclosed tag, behind the byte that broke it.
+    /// In the line of an unclosed tag, after the byte that broke it.
     Rest,
 }
 
@@ -302,7 +302,7 @@ impl Game {
         }
     }
 
-    /// Its number, where the value ends here.
+    /// Its number, if the value ends here.
     fn number(self) -> u8
         ensures { result ≡ number_held self }
     {

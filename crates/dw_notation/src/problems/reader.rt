@@ -303,7 +303,7 @@ impl<'a, B: Board, S: Source> Problems<'a, B, S> {
         }
     }
 
-    /// The next problem, or `None` where the text has no more. `Failed` is the source's fault: no problem
+    /// The next problem, or `None` if the text has no more. `Failed` is the source's fault: no problem
     /// that was read whole is lost by it, and each later call answers `Failed` too.
     /// Example: of the lines `W:W32:B28` and `x` it gives a position, then a problem that was refused, and then `None`.
     pub fn next(&mut self) -> Result<Option<Problem<B>>, ReadFault>

@@ -29,7 +29,7 @@ pub record CountsOne (g : Geometry) (request : Request) (old new : Summary) (pro
   pub refused : (count : ℕ) × AreRefused g request (chosen request.only (problem ∷ [])) count
       × (new.refused ≡ old.refused + count)
 
--- what a problem's text has behind its first line that is known at once: the diagram, if the position is shown
+-- what a problem's text has after its first line that is known at once: the diagram, if the position is shown
 abbrev pub at_once : Geometry → Found → Command → List ℕ
 at_once g (Err fault) command = []
 at_once g (Ok p) asked.Show = diagram_text g p
@@ -37,7 +37,7 @@ at_once g (Ok p) asked.Moves = []
 at_once g (Ok p) asked.Judge = []
 at_once g (Ok p) asked.List = []
 
--- and what is said behind that
+-- and what is said after that
 abbrev pub IsSaidThen : Geometry → Command → Request → Placement → List ℕ → Type 0
 IsSaidThen g asked.Show request p text = text ≡ []
 IsSaidThen g asked.Moves request p text = IsSaid g asked.Moves request p text
@@ -54,7 +54,7 @@ TextEnds P Part old new (Ok x) = Writes P old new
 TextEnds P Part old new (Err (Stopped why)) = Writes Part old new
 TextEnds P Part old new (Err Sink) = WritesShort P old new
 
--- the sink has failed exactly where it is the fault
+-- the sink has failed exactly if it is the fault
 abbrev pub SinkEnds : {X : Type 0} → Bool → Bool → Result X TextFault → Type 0
 SinkEnds old new (Ok x) = new ≡ old
 SinkEnds old new (Err (Stopped why)) = new ≡ old
@@ -65,14 +65,14 @@ pub record Spends {M X : Type 0} (old new : Solving M) (result : Result X TextFa
   pub count : IsCounted old.expanded old.limit new.expanded new.limit
   pub limit : result ≡ Err (Stopped Limit) → new.expanded ≡ new.limit
 
--- nothing is searched where positions are shown or moves are listed, and only want of memory stops that
+-- nothing is searched if positions are shown or moves are listed, and only lack of memory stops that
 abbrev pub SearchesFor : {M X : Type 0} → Command → Solving M → Solving M → Result X TextFault → Type 0
 SearchesFor asked.Show old new result = (new ≡ old) × ((why : Stop) → result ≡ Err (Stopped why) → ⊥)
 SearchesFor asked.Moves old new result = (new ≡ old) × ((why : Stop) → result ≡ Err (Stopped why) → why ≡ Memory)
 SearchesFor asked.Judge old new result = Spends old new result
 SearchesFor asked.List old new result = Spends old new result
 
--- how a run ends where a text was not written to its end
+-- how a run ends if a text was not written to its end
 abbrev pub ended_by : TextFault → ℕ → RunFault
 ended_by (Stopped why) expanded = ends.Stopped why expanded
 ended_by Sink expanded = ends.Write
