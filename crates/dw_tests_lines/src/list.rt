@@ -387,24 +387,27 @@ pub(crate) fn step_of<B: Board>(rt: &impl Abort, step: &Step) -> Move<B> {
 // A list that is no line is refused with its place, and the lines still to come stay.
 #[test]
 fn places_are_found(rt: HostRuntime) {
-    let alloc = rt.alloc();
-    for (text, moves, steps, place) in &PLACES {
-        let position = position_of::<Ten>(&rt, text);
+    check_places(&rt, rt.alloc(), &PLACES);
+}
+
+fn check_places(rt: &impl Abort, alloc: Global, rows: &[Place]) {
+    for (text, moves, steps, place) in rows {
+        let position = position_of::<Ten>(rt, text);
         assert!(rt; 1 <= *moves && *moves <= 20);
         let mut line = ArrayVec::<Move<Ten>, 39>::new();
         for step in *steps {
             assert!(rt; !line.is_full());
-            line.push(step_of(&rt, step));
+            line.push(step_of(rt, step));
         }
         let mut solver = Solver::<Ten, NoMemo, ByTrial>::new(NoMemo::new(), ByTrial, 1_000_000);
         let whole = all_lines(alloc, &mut solver, &position, *moves);
-        let whole = whole.ok().expect(&rt, "all lines");
+        let whole = whole.ok().expect(rt, "all lines");
         let mut lister = Lister::start(&mut solver, &position, *moves);
         let answer = lister.after(alloc, line.as_slice());
         assert!(rt; answer == Err(AfterFault::NotALine(*place)), "{text}");
         for line in whole.as_slice() {
             let given = lister.next(alloc).ok().flatten();
-            let given = given.expect(&rt, "a line");
+            let given = given.expect(rt, "a line");
             assert!(rt; *given == *line.as_slice(), "{text}");
         }
     }
@@ -439,8 +442,10 @@ fn stops_lose_no_line(rt: HostRuntime) {
     }
 }
 
-/// Positions, and all their lines, each with its moves.
-const REFUSED: [(&str, u8, &[&[Step]]); 3] = [
+/// A position, a number of moves, and all its lines, each with its moves.
+type Refused = (&'static str, u8, &'static [&'static [Step]]);
+
+const REFUSED: [Refused; 3] = [
     (
         "W:W27,45:B16",
         2,
@@ -517,7 +522,7 @@ fn check_refused<B: Board, M: Memo<B>>(
     rt: &impl Abort,
     alloc: Global,
     solver: &mut Solver<B, M, ByTrial>,
-    row: &(&str, u8, &[&[Step]]),
+    row: &Refused,
 ) {
     let (text, moves, lines) = row;
     assert!(rt; 1 <= *moves && *moves <= 20);
@@ -534,17 +539,20 @@ fn check_refused<B: Board, M: Memo<B>>(
 // All lines are given with ample memory, and if any one growth is refused: checks/refused_search.py runs it so.
 #[test]
 fn wants_memory(rt: HostRuntime) {
-    let alloc = rt.alloc();
-    for row in &REFUSED {
+    check_memory(&rt, rt.alloc(), &REFUSED);
+}
+
+fn check_memory(rt: &impl Abort, alloc: Global, rows: &[Refused]) {
+    for row in rows {
         let mut solver = Solver::<Ten, NoMemo, ByTrial>::new(NoMemo::new(), ByTrial, 1_000_000);
-        check_refused(&rt, alloc, &mut solver, row);
+        check_refused(rt, alloc, &mut solver, row);
         if let Ok(recent) = LruMemo::new(alloc, 1_000) {
             let mut solver = Solver::<Ten, LruMemo<Ten>, ByTrial>::new(recent, ByTrial, 1_000_000);
-            check_refused(&rt, alloc, &mut solver, row);
+            check_refused(rt, alloc, &mut solver, row);
         }
         if let Ok(slots) = SlotMemo::new(alloc, 1_000) {
             let mut solver = Solver::<Ten, SlotMemo<Ten>, ByTrial>::new(slots, ByTrial, 1_000_000);
-            check_refused(&rt, alloc, &mut solver, row);
+            check_refused(rt, alloc, &mut solver, row);
         }
     }
 }

@@ -174,14 +174,21 @@ fn check_rows<B: Board, M: Memo<B>>(
     }
 }
 
+fn check_ten(rt: &impl Abort, alloc: Global, rows: &[Row]) {
+    let mut solver = Solver::<Ten, NoMemo, ByTrial>::new(NoMemo::new(), ByTrial, 1_000_000_000);
+    check_rows(rt, alloc, &mut solver, rows);
+}
+
+fn check_eight(rt: &impl Abort, alloc: Global, rows: &[Row]) {
+    let memo = LruMemo::new(alloc, 1_000).expect(rt, "memory");
+    let mut solver = Solver::<Eight, LruMemo<Eight>, ByTrial>::new(memo, ByTrial, 1_000_000_000);
+    check_rows(rt, alloc, &mut solver, rows);
+}
+
 #[test]
 fn problems_are_judged(rt: HostRuntime) {
-    let alloc = rt.alloc();
-    let mut solver = Solver::<Ten, NoMemo, ByTrial>::new(NoMemo::new(), ByTrial, 1_000_000_000);
-    check_rows(&rt, alloc, &mut solver, &TEN);
-    let memo = LruMemo::new(alloc, 1_000).expect(&rt, "memory");
-    let mut solver = Solver::<Eight, LruMemo<Eight>, ByTrial>::new(memo, ByTrial, 1_000_000_000);
-    check_rows(&rt, alloc, &mut solver, &EIGHT);
+    check_ten(&rt, rt.alloc(), &TEN);
+    check_eight(&rt, rt.alloc(), &EIGHT);
     laws::one_verdict();
     laws::tries_are_listed();
 }

@@ -129,16 +129,19 @@ fn check<B: Board, M: Memo<B> + Drop>(
 // With each memo, however little it keeps.
 #[test]
 fn judges_and_lists(rt: HostRuntime) {
-    let alloc = rt.alloc();
-    for (text, n, judged, listed) in &SOLVED {
+    check_solved(&rt, rt.alloc(), &SOLVED);
+}
+
+fn check_solved(rt: &impl Abort, alloc: Global, rows: &[Solved]) {
+    for (text, n, judged, listed) in rows {
         for (asked, wanted) in [(judge_in(*n), judged), (list_in(*n), listed)] {
-            check::<Ten, NoMemo>(&rt, alloc, &asked, NoMemo::new(), text, wanted);
+            check::<Ten, NoMemo>(rt, alloc, &asked, NoMemo::new(), text, wanted);
             for kept in [1, 2, 100_000usize] {
                 let kept = kept.clamp(1, 4_000_000);
-                let recent = LruMemo::<Ten>::new(alloc, kept).expect(&rt, "memory");
-                check(&rt, alloc, &asked, recent, text, wanted);
-                let slots = SlotMemo::<Ten>::new(alloc, kept).expect(&rt, "memory");
-                check(&rt, alloc, &asked, slots, text, wanted);
+                let recent = LruMemo::<Ten>::new(alloc, kept).expect(rt, "memory");
+                check(rt, alloc, &asked, recent, text, wanted);
+                let slots = SlotMemo::<Ten>::new(alloc, kept).expect(rt, "memory");
+                check(rt, alloc, &asked, slots, text, wanted);
             }
         }
     }
@@ -148,8 +151,11 @@ fn judges_and_lists(rt: HostRuntime) {
 // whole; and with a higher limit no less is written.
 #[test]
 fn stops_at_each_limit(rt: HostRuntime) {
-    let alloc = rt.alloc();
-    for (text, n, judged, listed) in &SOLVED {
+    check_limits(&rt, rt.alloc(), &SOLVED);
+}
+
+fn check_limits(rt: &impl Abort, alloc: Global, rows: &[Solved]) {
+    for (text, n, judged, listed) in rows {
         for (asked, wanted) in [(judge_in(*n), judged), (list_in(*n), listed)] {
             let mut ended = false;
             let mut most = 0;
@@ -261,8 +267,11 @@ const PARTS: [Part; 9] = [
 
 #[test]
 fn lists_in_parts(rt: HostRuntime) -> Result<(), Fail> {
-    let alloc = rt.alloc();
-    for (text, token, lines, wanted, is_refused) in &PARTS {
+    check_parts(&rt, rt.alloc(), &PARTS)
+}
+
+fn check_parts(rt: &impl Abort, alloc: Global, parts: &[Part]) -> Result<(), Fail> {
+    for (text, token, lines, wanted, is_refused) in parts {
         let asked = Asked {
             only: Some(1),
             lines: *lines,

@@ -27,7 +27,9 @@ pub(crate) fn set_of<B: Board>(rt: &impl Abort, numbers: &[u8]) -> Squares<B> {
 }
 
 /// Some squares of the board of ten rows, and their padded word.
-const WORDS: [(&[u8], u64); 8] = [
+type Word = (&'static [u8], u64);
+
+const WORDS: [Word; 8] = [
     (&[1], 1),
     (&[10], 1 << 9),
     (&[11], 1 << 11),
@@ -45,15 +47,19 @@ const WORDS: [(&[u8], u64); 8] = [
     ),
 ];
 
-#[test]
-fn words(rt: HostRuntime) {
-    for (numbers, word) in &WORDS {
-        let squares = set_of::<Ten>(&rt, numbers);
+fn check_words(rt: &impl Abort, rows: &[Word]) {
+    for (numbers, word) in rows {
+        let squares = set_of::<Ten>(rt, numbers);
         assert!(rt;
             squares.word() == *word && squares.count() as usize == numbers.len(),
             "{word}"
         );
     }
+}
+
+#[test]
+fn words(rt: HostRuntime) {
+    check_words(&rt, &WORDS);
     assert!(rt; set_of::<Eight>(&rt, &[8, 9, 32]).word() == 0x400000280);
     assert!(rt; set_of::<Six>(&rt, &[6, 7, 18]).word() == 0x800a0);
 }
@@ -105,7 +111,9 @@ fn sets(rt: HostRuntime) {
 }
 
 /// A square of the board of ten rows, a direction, and the square one step further.
-const STEPS: [(u8, Dir, Option<u8>); 6] = [
+type Step = (u8, Dir, Option<u8>);
+
+const STEPS: [Step; 6] = [
     (28, Dir::UpLeft, Some(22)),
     (28, Dir::UpRight, Some(23)),
     (28, Dir::DownLeft, Some(32)),
@@ -114,13 +122,17 @@ const STEPS: [(u8, Dir, Option<u8>); 6] = [
     (26, Dir::DownLeft, None),
 ];
 
-#[test]
-fn steps(rt: HostRuntime) {
-    for (from, direction, to) in &STEPS {
-        let next = step(square_of::<Ten>(&rt, *from), *direction);
-        let wanted = to.map(|number| square_of(&rt, number));
+fn check_steps(rt: &impl Abort, rows: &[Step]) {
+    for (from, direction, to) in rows {
+        let next = step(square_of::<Ten>(rt, *from), *direction);
+        let wanted = to.map(|number| square_of(rt, number));
         assert!(rt; next == wanted, "{from} {direction:?}");
     }
+}
+
+#[test]
+fn steps(rt: HostRuntime) {
+    check_steps(&rt, &STEPS);
     let is_none = Square::<Ten>::new(0).is_none() && Square::<Ten>::new(51).is_none();
     let down = Dir::DownLeft;
     assert!(rt; is_none && down.is_down() && !down.is_right() && Dir::UpRight.is_right());
@@ -157,7 +169,9 @@ const START: [Group; 2] = [
 ];
 
 /// A square, a piece that is put on it at the start, and why it is refused, or nothing.
-const PUTS: [(u8, Side, Kind, &str); 5] = [
+type Put = (u8, Side, Kind, &'static str);
+
+const PUTS: [Put; 5] = [
     (4, Side::Black, Kind::Man, "taken"),
     (17, Side::Black, Kind::Man, "last row"),
     (17, Side::Black, Kind::King, "too many"),
@@ -167,15 +181,19 @@ const PUTS: [(u8, Side, Kind, &str); 5] = [
 
 #[test]
 fn refusals(rt: HostRuntime) {
-    let start = placed::<Six>(&rt, Side::White, &START);
-    for (number, side, kind, message) in &PUTS {
+    check_refusals(&rt, &START, &PUTS);
+}
+
+fn check_refusals(rt: &impl Abort, groups: &[Group], rows: &[Put]) {
+    let start = placed::<Six>(rt, Side::White, groups);
+    for (number, side, kind, message) in rows {
         let mut position = start;
         let piece = Piece {
             side: *side,
             kind: *kind,
         };
         let mut text = ArrayString::<16>::new();
-        if let Err(fault) = position.put(square_of(&rt, *number), piece) {
+        if let Err(fault) = position.put(square_of(rt, *number), piece) {
             let _ = write!(text, "{fault}");
         }
         assert!(rt; text.as_str() == *message, "at {number}");
@@ -411,7 +429,9 @@ fn reads(rt: HostRuntime) {
 }
 
 /// A text up to its blanks, how many they are, and what is read from it.
-const LONG_READ: [(&str, u16, &str); 3] = [
+type LongRead = (&'static str, u16, &'static str);
+
+const LONG_READ: [LongRead; 3] = [
     ("W:W32:B28", 1015, "W:W32:B28"),
     ("W:W32:B28", 1016, "too long at 1025"),
     ("", 1025, "too long at 1025"),
@@ -419,7 +439,11 @@ const LONG_READ: [(&str, u16, &str); 3] = [
 
 #[test]
 fn long_texts(rt: HostRuntime) {
-    for (front, blanks, wanted) in &LONG_READ {
+    check_long(&rt, &LONG_READ);
+}
+
+fn check_long(rt: &impl Abort, rows: &[LongRead]) {
+    for (front, blanks, wanted) in rows {
         let mut text = ArrayString::<1025>::new();
         assert!(rt; text.try_push_str(front).is_ok());
         for _ in 0..*blanks {

@@ -98,7 +98,9 @@ fn check_notes<B: Board, M: Memo<B>>(rt: &impl Abort, memo: &mut M, answer: Note
 }
 
 /// A size, and what such a cache of each kind does.
-const SIZES: [(usize, &[Note], &[Note]); 5] = [
+type Size = (usize, &'static [Note], &'static [Note]);
+
+const SIZES: [Size; 5] = [
     (1, &AGAIN, &AGAIN),
     (2, &AGAIN, &AGAIN),
     (1_000, &AGAIN, &AGAIN),
@@ -106,9 +108,8 @@ const SIZES: [(usize, &[Note], &[Note]); 5] = [
     (2, &TWO, &[]),
 ];
 
-fn check_memos<B: Board>(rt: &impl Abort, alloc: Global) {
-    check_notes::<B, NoMemo>(rt, &mut NoMemo::new(), Noted::NotKept, &NONE);
-    for (size, recent, slots) in &SIZES {
+fn check_memos<B: Board>(rt: &impl Abort, alloc: Global, sizes: &[Size]) {
+    for (size, recent, slots) in sizes {
         assert!(rt; 1 <= *size && *size <= 1_000);
         let mut memo = LruMemo::<B>::new(alloc, *size).expect(rt, "memory");
         check_notes(rt, &mut memo, Noted::Kept, recent);
@@ -119,8 +120,10 @@ fn check_memos<B: Board>(rt: &impl Abort, alloc: Global) {
 
 #[test]
 fn notes_are_found(rt: HostRuntime) {
-    check_memos::<Ten>(&rt, rt.alloc());
-    check_memos::<Eight>(&rt, rt.alloc());
+    check_notes::<Ten, NoMemo>(&rt, &mut NoMemo::new(), Noted::NotKept, &NONE);
+    check_notes::<Eight, NoMemo>(&rt, &mut NoMemo::new(), Noted::NotKept, &NONE);
+    check_memos::<Ten>(&rt, rt.alloc(), &SIZES);
+    check_memos::<Eight>(&rt, rt.alloc(), &SIZES);
 }
 
 /// Positions, with a number for each.

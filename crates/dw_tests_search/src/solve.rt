@@ -368,7 +368,7 @@ fn known_wins_cost_nothing(rt: HostRuntime) {
 }
 
 /// Positions, and the least number of moves up to 3 within which the side to move wins, or 0.
-const REFUSED: [(&str, u8); 11] = [
+const REFUSED: [Small; 11] = [
     ("W:W32:B28", 1),
     ("W:W41,45,47:B36", 1),
     ("W:W27,45:B16", 2),
@@ -403,19 +403,22 @@ fn check_refused<M: Memo<Ten>>(
 // All is answered with ample memory, and if any one growth is refused: checks/refused_search.py runs it so.
 #[test]
 fn wants_memory(rt: HostRuntime) {
-    let alloc = rt.alloc();
-    for (text, least) in REFUSED {
+    check_memory(&rt, rt.alloc(), &REFUSED);
+}
+
+fn check_memory(rt: &impl Abort, alloc: Global, rows: &[Small]) {
+    for (text, least) in rows {
         for moves in 1..4 {
-            let wanted = 1 <= least && least <= moves;
+            let wanted = 1 <= *least && *least <= moves;
             let mut solver = Solver::<Ten, NoMemo, ByEnd>::new(NoMemo::new(), ByEnd, 1_000_000);
-            check_refused(&rt, alloc, &mut solver, text, moves, wanted);
+            check_refused(rt, alloc, &mut solver, text, moves, wanted);
             if let Ok(recent) = LruMemo::new(alloc, 1_000) {
                 let mut solver = Solver::<Ten, LruMemo<Ten>, ByEnd>::new(recent, ByEnd, 1_000_000);
-                check_refused(&rt, alloc, &mut solver, text, moves, wanted);
+                check_refused(rt, alloc, &mut solver, text, moves, wanted);
             }
             if let Ok(slots) = SlotMemo::new(alloc, 1_000) {
                 let mut solver = Solver::<Ten, SlotMemo<Ten>, ByEnd>::new(slots, ByEnd, 1_000_000);
-                check_refused(&rt, alloc, &mut solver, text, moves, wanted);
+                check_refused(rt, alloc, &mut solver, text, moves, wanted);
             }
         }
     }

@@ -378,15 +378,19 @@ const MEASURED: [Measured; 34] = [
 
 #[test]
 fn texts_are_measured(rt: HostRuntime) -> Result<(), Fail> {
-    for (form, front, byte, count, back, wanted) in &MEASURED {
-        let mut text = Vec::from_slice(rt.alloc(), front)?;
+    check_measured(&rt, rt.alloc(), &MEASURED)
+}
+
+fn check_measured(rt: &impl Abort, alloc: Global, rows: &[Measured]) -> Result<(), Fail> {
+    for (form, front, byte, count, back, wanted) in rows {
+        let mut text = Vec::from_slice(alloc, front)?;
         for _ in 0..*count {
             text.push(*byte)?;
         }
         text.extend_from_slice(back)?;
         for step in [1, 3, 1000, 9000] {
             let reader = Chopped::new(text.as_slice(), step, 0, 0);
-            let found = said::<Ten, _>(&rt, reader, *form);
+            let found = said::<Ten, _>(rt, reader, *form);
             assert!(rt; found.as_str() == *wanted, "{wanted}, {count} times {byte}");
         }
     }
@@ -494,9 +498,13 @@ const BROKEN: [Broken; 11] = [
 
 #[test]
 fn keeps_what_ended_before_a_failed_read(rt: HostRuntime) {
-    for (form, text, step, fails_at, pauses_at, wanted) in &BROKEN {
+    check_broken(&rt, &BROKEN);
+}
+
+fn check_broken(rt: &impl Abort, rows: &[Broken]) {
+    for (form, text, step, fails_at, pauses_at, wanted) in rows {
         let reader = Chopped::new(text, *step, *fails_at, *pauses_at);
-        let found = said::<Ten, _>(&rt, reader, *form);
+        let found = said::<Ten, _>(rt, reader, *form);
         assert!(rt; found.as_str() == *wanted, "at read {fails_at}");
     }
 }
@@ -726,7 +734,9 @@ fn line_of<B: Board>(
 }
 
 /// A position, a line of three moves, and its text.
-const LINE_TEXTS: [(&str, [&str; 3], &str); 3] = [
+type LineRow = (&'static str, [&'static str; 3], &'static str);
+
+const LINE_TEXTS: [LineRow; 3] = [
     (WAIT, ["45-40", "16-21", "27x16"], "1. 45-40 16-21 2. 27x16"),
     (
         "W:W27,32,38:B18",
@@ -740,15 +750,19 @@ const LINE_TEXTS: [(&str, [&str; 3], &str); 3] = [
     ),
 ];
 
+fn check_lines(rt: &impl Abort, alloc: Global, rows: &[LineRow]) {
+    for (fen, words, wanted) in rows {
+        let text = line_of::<Ten>(rt, alloc, fen, *words);
+        assert!(rt; text.as_str() == *wanted, "{wanted}");
+    }
+}
+
 #[test]
 fn moves_and_lines_are_written(rt: HostRuntime) {
     let alloc = rt.alloc();
     check_texts::<Ten>(&rt, alloc, &TEN_TEXTS);
     check_texts::<Eight>(&rt, alloc, &EIGHT_TEXTS);
-    for (fen, words, wanted) in &LINE_TEXTS {
-        let text = line_of::<Ten>(&rt, alloc, fen, *words);
-        assert!(rt; text.as_str() == *wanted, "{wanted}");
-    }
+    check_lines(&rt, alloc, &LINE_TEXTS);
     let position = position_of::<Eight>(&rt, "W:W14:B");
     let step = move_of(&rt, alloc, &position, "14-9");
     let none = line_text(alloc, &position, &[]).expect(&rt, "memory");
