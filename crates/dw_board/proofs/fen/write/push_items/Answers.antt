@@ -9,10 +9,12 @@ squares-init g c =
     c.all_of-left.ensures
 
 pub push_item-requires : goal.push_item-requires
-push_item-requires g c =
-    (search rules, room_left g.B.Board.geometry g.met.B.Board.numbers c.args.position.now c.requires.position c.args.side
-    c.squares.left c.args.text.now.bytes c.squares.text.bytes c.squares.is_first
-    c.squares.invariant _ c.in-Some.ensures.member c.in-Some.ensures.least _ c.requires.room)
+push_item-requires g c = (
+  search rules,
+  room_left g.B.Board.geometry g.met.B.Board.numbers c.args.position.now c.requires.position c.args.side
+      c.squares.left c.args.text.now.bytes c.squares.text.bytes c.squares.is_first
+      c.squares.invariant _ c.in-Some.ensures.member c.in-Some.ensures.least _ c.requires.room,
+)
 
 pub squares-smaller : goal.squares-smaller
 squares-smaller g c =
