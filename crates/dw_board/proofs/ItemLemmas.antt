@@ -126,15 +126,15 @@ written_before g p side left start text first h s there least =
 pub room_left : (g : Geometry) → IsBoard g → (p : Placement) → IsPosition g p.cells
     → (side : Side) (left : Squares) (start text : List ℕ) (first : Bool)
     → IsLeft g p side left start text first → (s : ℕ) → set.contains left s ≡ true → IsLeast left s
-    → (most : ℕ) → length start + 80 ≤ most → length text + 4 ≤ most
-room_left g b p pos side left start text first h s there least most room =
+    → length start + 80 ≤ 192 → length text + 4 ≤ 192
+room_left g b p pos side left start text first h s there least room =
     let is = (h.left_is s).0 there in
     let low = is.0 in
     let high = is.1.0.1 in
     let e : s - 1 + 1 ≡ s = omega arith in
     let before = written_before g p side left start text first h s there least in
     let stands = ap (λ t. is_of side (at p t)) e ∙ is.1.1 in
-    room_for g b p pos side (s - 1) start text first before (omega arith) stands most room
+    room_for g b p pos side (s - 1) start text first before (omega arith) stands room
 
 -- the least square's item is added, and the others are left
 pub one_written : (g : Geometry) (p : Placement) (side : Side) (left rest kings : Squares)

@@ -97,8 +97,8 @@ held-few g b p h side n low = omega (arith, length-held-le p side n (omega (arit
 
 -- there is room for one more piece
 pub room_for : (g : Geometry) → IsBoard g → (p : Placement) → IsPosition g p.cells → (side : Side) (n : ℕ) (start text : List ℕ) (first : Bool) → IsWrittenTo p side n start text first
-    → n < squares g → is_of side (at p (n + 1)) ≡ true → (most : ℕ) → length start + 80 ≤ most → length text + 4 ≤ most
-room_for g b p h side n start text first w low there most room =
+    → n < squares g → is_of side (at p (n + 1)) ≡ true → length start + 80 ≤ 192 → length text + 4 ≤ 192
+room_for g b p h side n start text first w low there room =
     let more = ap length (held-with p side n there) ∙ length-append (held p side n) ((n + 1) ∷ []) in
     let all = held-few g b p h side (n + 1) (omega arith) in
     let few = w.few in

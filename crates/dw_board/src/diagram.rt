@@ -25,27 +25,17 @@ pub const DIAGRAM_ROOM: usize = 130;
 pub fn diagram<B: Board>(position: &Position<B>) -> ArrayString<DIAGRAM_ROOM>
     ensures { result.bytes ≡ diagram_text B.geometry position.now }
 {
+    let signs = Signs::of(position);
     let mut text = ArrayString::new();
-    push_diagram(&mut text, position);
+    'rows: for row in 0..B::ROWS {
+        push_row(&mut text, &signs, row);
+    }
     text
 }
 
-/// Appends the diagram of a position, for which there is room: it has at most 130 bytes.
-/// Example: of `W:W32:B28` it appends ten lines, the seventh of which is `| . w . . .|`.
-pub fn push_diagram<B: Board, const N: usize>(text: &mut ArrayString<N>, position: &Position<B>)
-    requires room { array_string_len text.old + 130 ≤ N }
-    ensures bytes { text.new.bytes ≡ text.old.bytes ++ diagram_text B.geometry position.now }
-    ensures few { array_string_len text.new ≤ array_string_len text.old + 130 }
-{
-    let signs = Signs::of(position);
-    'rows: for row in 0..B::ROWS {
-        push_row(text, &signs, row);
-    }
-}
-
-fn push_row<B: Board, const N: usize>(text: &mut ArrayString<N>, signs: &Signs<B>, row: u8)
+fn push_row<B: Board>(text: &mut ArrayString<DIAGRAM_ROOM>, signs: &Signs<B>, row: u8)
     requires on_board { row < B.geometry.rows }
-    requires room { array_string_len text.old + 13 ≤ N }
+    requires room { array_string_len text.old + 13 ≤ 130 }
     ensures bytes { (p : Placement) → AreSigns B.geometry p signs.now.occupied signs.now.white signs.now.kings
         → text.new.bytes ≡ text.old.bytes ++ row_text B.geometry p row }
     ensures few { array_string_len text.new ≤ array_string_len text.old + 13 }

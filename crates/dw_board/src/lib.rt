@@ -20,7 +20,7 @@ pub mod squares;
 pub use board::{Board, Dir, Eight, Ten};
 pub use fen::fault::{FenFault, FenFaultKind};
 pub use fen::read::{MAX_FEN, read_fen};
-pub use fen::write::{FEN_ROOM, fen_text, push_fen};
+pub use fen::write::{FEN_ROOM, fen_text};
 pub use piece::{Kind, Piece, PutFault, Side};
 pub use position::Position;
 pub use square::{Square, step};

@@ -9,9 +9,9 @@ ghost use Rattle.dw_notation.specs.Problems.{numbered};
 use crate::settings::Command;
 use arrayvec::ArrayString;
 use dw_board::board::Board;
-use dw_board::diagram::{DIAGRAM_ROOM, push_diagram};
+use dw_board::diagram::{DIAGRAM_ROOM, diagram};
 use dw_board::fen::fault::{FenFault, FenFaultKind};
-use dw_board::fen::write::{fen_text, push_fen};
+use dw_board::fen::write::fen_text;
 use dw_board::position::Position;
 use dw_moves::moves::Listed;
 use dw_moves::play::play;
@@ -37,12 +37,12 @@ pub(crate) fn known_text<B: Board>(
     text.push_str(digits.format(problem.number));
     text.push_str(": ");
     match &problem.found {
-        Ok(position) => push_fen(&mut text, position),
+        Ok(position) => text.push_str(fen_text(position).as_str()),
         Err(fault) => text.push_str(refused_text(*fault).as_str()),
     }
     text.push_str("\n");
     if let (Ok(position), Command::Show) = (&problem.found, command) {
-        push_diagram(&mut text, position);
+        text.push_str(diagram(position).as_str());
     }
     text
 }

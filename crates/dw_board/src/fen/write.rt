@@ -18,28 +18,18 @@ pub const FEN_ROOM: usize = 192;
 /// The FEN text of a position, as `W:WK7,31:B`: the turn, White's pieces and Black's, the squares of each
 /// ascending, and a `K` before a king.
 /// Example: with White to move, a white king on 7 and a white man on 31 it is `W:WK7,31:B`.
+#[tactic(auto, unfolding(crate::specs::FenText::written))]
 pub fn fen_text<B: Board>(position: &Position<B>) -> ArrayString<FEN_ROOM>
     ensures { result.bytes ≡ written B.geometry position.now }
 {
     let mut text = ArrayString::new();
-    push_fen(&mut text, position);
-    text
-}
-
-/// Appends the FEN text of a position, for which there is room: it has at most 192 bytes.
-/// Example: after `problem 1: ` it appends `W:W32:B28`.
-#[tactic(auto, unfolding(crate::specs::FenText::written))]
-pub fn push_fen<B: Board, const N: usize>(text: &mut ArrayString<N>, position: &Position<B>)
-    requires room { array_string_len text.old + 192 ≤ N }
-    ensures bytes { text.new.bytes ≡ text.old.bytes ++ written B.geometry position.now }
-    ensures few { array_string_len text.new ≤ array_string_len text.old + 192 }
-{
     let side = position.turn();
     text.push(letter(side));
     text.push_str(":W");
-    push_items(text, position, Side::White);
+    push_items(&mut text, position, Side::White);
     text.push_str(":B");
-    push_items(text, position, Side::Black);
+    push_items(&mut text, position, Side::Black);
+    text
 }
 
 fn letter(side: Side) -> char
@@ -53,13 +43,9 @@ fn letter(side: Side) -> char
 }
 
 /// Appends a side's pieces, joined by commas: at most four bytes each.
-fn push_items<B: Board, const N: usize>(
-    text: &mut ArrayString<N>,
-    position: &Position<B>,
-    side: Side,
-)
+fn push_items<B: Board>(text: &mut ArrayString<FEN_ROOM>, position: &Position<B>, side: Side)
     requires position { IsPosition B.geometry position.now.cells }
-    requires room { array_string_len text.old + 80 ≤ N }
+    requires room { array_string_len text.old + 80 ≤ 192 }
     ensures bytes { text.new.bytes ≡ text.old.bytes ++ items_text B.geometry position.now side }
     ensures few { array_string_len text.new ≤ array_string_len text.old + 80 }
 {
@@ -74,13 +60,13 @@ fn push_items<B: Board, const N: usize>(
 }
 
 /// Appends a piece on its square, and a comma before it unless it is the first.
-fn push_item<B: Board, const N: usize>(
-    text: &mut ArrayString<N>,
+fn push_item<B: Board>(
+    text: &mut ArrayString<FEN_ROOM>,
     square: Square<B>,
     is_king: bool,
     is_first: bool,
 )
-    requires room { array_string_len text.old + 4 ≤ N }
+    requires room { array_string_len text.old + 4 ≤ 192 }
     ensures bytes { text.new.bytes ≡ text.old.bytes ++ (if is_first then [] else codes ",")
         ++ (if is_king then codes "K" else []) ++ decimal square }
     ensures few { array_string_len text.new ≤ array_string_len text.old + 4 }
@@ -95,9 +81,9 @@ fn push_item<B: Board, const N: usize>(
 }
 
 /// Appends a number of at most two digits.
-fn push_number<const N: usize>(text: &mut ArrayString<N>, number: u8)
+fn push_number(text: &mut ArrayString<FEN_ROOM>, number: u8)
     requires small { number < 100 }
-    requires room { array_string_len text.old + 2 ≤ N }
+    requires room { array_string_len text.old + 2 ≤ 192 }
     ensures bytes { text.new.bytes ≡ text.old.bytes ++ decimal number }
     ensures few { array_string_len text.new ≤ array_string_len text.old + 2 }
 {
@@ -107,9 +93,9 @@ fn push_number<const N: usize>(text: &mut ArrayString<N>, number: u8)
     push_digit(text, number % 10);
 }
 
-fn push_digit<const N: usize>(text: &mut ArrayString<N>, digit: u8)
+fn push_digit(text: &mut ArrayString<FEN_ROOM>, digit: u8)
     requires small { digit < 10 }
-    requires room { array_string_len text.old < N }
+    requires room { array_string_len text.old < 192 }
     ensures { text.new.bytes ≡ text.old.bytes ++ (48 + digit) ∷ [] }
 {
     text.push((b'0' + digit) as char);

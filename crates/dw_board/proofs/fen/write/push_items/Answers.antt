@@ -1,4 +1,4 @@
-use Rattle.std.proofs.Common.{rules, ◌<◌, refl, sym, subst}
+use Rattle.std.proofs.Common.{◌<◌, refl, sym, subst}
 use Rattle.std.specs.FinSet as set
 use Rattle.dw_board.proofs.ItemLemmas.{fewer_left, all_left, room_left, one_written, all_written, few_written}
 use Rattle.dw_board.proofs.fen.write.push_items.Goals as goal
@@ -9,12 +9,11 @@ squares-init g c =
     c.all_of-left.ensures
 
 pub push_item-requires : goal.push_item-requires
-push_item-requires g c = (
-  search rules,
-  room_left g.B.Board.geometry g.met.B.Board.numbers c.args.position.now c.requires.position c.args.side
+push_item-requires g c = record {
+  room = room_left g.B.Board.geometry g.met.B.Board.numbers c.args.position.now c.requires.position c.args.side
       c.squares.left c.args.text.now.bytes c.squares.text.bytes c.squares.is_first
-      c.squares.invariant _ c.in-Some.ensures.member c.in-Some.ensures.least _ c.requires.room,
-)
+      c.squares.invariant _ c.in-Some.ensures.member c.in-Some.ensures.least c.requires.room;
+}
 
 pub squares-smaller : goal.squares-smaller
 squares-smaller g c =

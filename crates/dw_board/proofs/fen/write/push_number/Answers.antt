@@ -10,7 +10,7 @@ one_digit : (n : ℕ) → n < 10 → decimal n ≡ (48 + n % 10) ∷ []
 one_digit n low = let e : n ≡ n % 10 = omega arith in decimal_digit n low ∙ ap (λ d. (48 + d) ∷ []) e
 
 pub returns-clause-bytes : goal.returns-clause-bytes
-returns-clause-bytes g c = c.push_digit-2.ensures ∙ (elim c.if-number-ge10.branch [
+returns-clause-bytes c = c.push_digit-2.ensures ∙ (elim c.if-number-ge10.branch [
   | then-number-ge10 w ↦ ap (λ t. t.bytes ++ ((48 + c.args.number % 10) ∷ [])) w.text-is ∙ (ap (λ t. t ++ ((48 + c.args.number % 10) ∷ [])) w.push_digit.ensures ∙ (append_assoc c.args.text.now.bytes _ _ ∙ ap (λ t. c.args.text.now.bytes ++ t) (sym (two_digits c.args.number w.if-number-ge10.true c.requires.small))))
   | else-number-ge10 w ↦ ap (λ t. t.bytes ++ ((48 + c.args.number % 10) ∷ [])) w.text-is ∙ ap (λ t. c.args.text.now.bytes ++ t) (sym (one_digit c.args.number w.if-number-ge10.false))
 ])
