@@ -53,6 +53,17 @@ held_in side n (o ∷ os) (suc i) q e own =
 at_held : (side : Side) (p : Placement) (s : ℕ) (q : Piece) → 1 ≤ s → at p s ≡ Some q → q.side ≡ side → Member s (held side 1 p.cells)
 at_held side p s q low e own = let same : 1 + (s - 1) ≡ s = omega arith in subst (λ z. Member z (held side 1 p.cells)) same (held_in side 1 p.cells (s - 1) q e own)
 
+-- an emptied square is empty
+pub emptied : (p : Placement) (t : ℕ) → at (placed p t None) t ≡ None
+emptied p t = elim (cases_lt (t - 1) (length p.cells)) [
+  | inl l ↦ get_or-set_same p.cells (t - 1) None None l
+  | inr past ↦ ap (λ c. get_or c (t - 1) None) (set_past p.cells (t - 1) None past) ∙ get_or-past p.cells (t - 1) past
+] where
+  get_or-past : (cells : List (Option Piece)) (i : ℕ) → length cells ≤ i → get_or cells i None ≡ None
+  get_or-past [] i low = refl
+  get_or-past (x ∷ xs) zero low = absurd (omega (arith, low))
+  get_or-past (x ∷ xs) (suc i) low = get_or-past xs i (omega (arith, low))
+
 -- a piece that stands after a square was emptied stood there before
 pub stood : (p : Placement) (t s : ℕ) (q : Piece) → at (placed p t None) s ≡ Some q → at p s ≡ Some q
 stood p t s q e = elim (cases_eq (s - 1) (t - 1)) [

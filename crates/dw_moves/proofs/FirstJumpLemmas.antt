@@ -36,7 +36,7 @@ all_still_empty p s [] h = tt
 all_still_empty p s (x ∷ xs) h = (still_empty p s x h.0, all_still_empty p s xs h.1)
 
 -- another square holds what it held
-other_at : (p : Placement) (s t : ℕ) → 1 ≤ s → 1 ≤ t → t ≢ s → at (placed p s None) t ≡ at p t
+pub other_at : (p : Placement) (s t : ℕ) → 1 ≤ s → 1 ≤ t → t ≢ s → at (placed p s None) t ≡ at p t
 other_at p s t low low_too ne = let apart : t - 1 ≢ s - 1 = λ e. ne (omega arith) in get_or-set_other p.cells (s - 1) (t - 1) None None apart
 
 -- no square of a ray is its origin

@@ -21,7 +21,7 @@ use Rattle.dw_moves.proofs.LongestLemmas.{contains-insert}
 use Rattle.dw_moves.proofs.QuietOnceLemmas.{once_append}
 use Rattle.dw_moves.proofs.RayLemmas.{ray_some, ray_toward, one_dir}
 use Rattle.dw_moves.proofs.SlideLemmas.{AreAll, is_free, is_out, run_of, walk}
-use Rattle.dw_moves.proofs.SquareSetLemmas.{in_minus, some_in}
+use Rattle.dw_moves.proofs.SquareSetLemmas.{in_none, in_minus, some_in}
 use Rattle.dw_moves.proofs.StepBackLemmas.{step_back}
 use Rattle.dw_moves.proofs.StepLemmas.{step_is}
 use Rattle.dw_moves.proofs.TakesTheseLemmas.{contains-remove, not_removed, one_fewer}
@@ -36,10 +36,10 @@ record Paired (P : ℕ → ℕ → Type 0) (v : Squares) (n : ℕ) : Type 0 wher
 left_in : (v : Squares) (c t : ℕ) → t ≢ c → In t v → In t (fin.remove v c)
 left_in v c t ne h = contains-remove v c t ∙ (ap (λ z. not z && fin.contains v t) (ne_eqb t c ne) ∙ h)
 
-one_in : (q : ℕ) → In q (fin.insert fin.empty q)
+pub one_in : (q : ℕ) → In q (fin.insert fin.empty q)
 one_in q = contains-insert fin.empty q q ∙ ap (λ z. z || fin.contains {R = nat_cmp} fin.empty q) (eq-eqb q q refl)
 
-in_one : (q x : ℕ) → In x (fin.insert fin.empty q) → x ≡ q
+pub in_one : (q x : ℕ) → In x (fin.insert fin.empty q) → x ≡ q
 in_one q x h = elim (cases_eq x q) [
   | inl e ↦ e
   | inr ne ↦ absurd (true≢false (sym h ∙ (contains-insert fin.empty q x ∙ (ap (λ z. z || fin.contains {R = nat_cmp} fin.empty x) (ne_eqb x q ne) ∙ fin.contains-empty nat_cmp x))))
@@ -136,6 +136,15 @@ goes_lands g p s t h =
         ]
       ]
     ]
+
+-- without kings there are none
+pub no_kings_counted : (g : Geometry) (p : Placement) (kings : Squares) → AreKind g p p.turn King kings → kings ≡ fin.empty → Counts (KingGoes g p) 0
+no_kings_counted g p kings are none = record {
+  pairs = [];
+  exactly = λ s t. ((λ m. absurd m), (λ h. absurd (in_none kings s none ((are s).1 (h.on, h.there)))));
+  once = tt;
+  count = refl;
+}
 
 pub kings_counted : (g : Geometry) → IsBoard g → (p : Placement) (n1 n2 n3 n4 : ℕ) → Counts (KingLands g p UpLeft) n1 → Counts (KingLands g p UpRight) n2 → Counts (KingLands g p DownLeft) n3 → Counts (KingLands g p DownRight) n4
     → Counts (KingGoes g p) ((n1 + n2) + (n3 + n4))

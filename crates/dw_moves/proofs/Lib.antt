@@ -17,6 +17,9 @@ pub mod LongestLemmas
 pub mod BestFromLemmas
 pub mod KeptLemmas
 pub mod WalkedLemmas
+pub mod ManChainLemmas
+pub mod GroundLemmas
+pub mod KingChainLemmas
 pub mod TakingLemmas
 pub mod QuietLemmas
 pub mod AddingLemmas

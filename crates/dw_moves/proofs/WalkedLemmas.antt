@@ -234,6 +234,12 @@ walked_all g p piece b n most k1 k2 k3 k4 k moves m1 m2 m3 m4 new h1 h2 h3 h4 h 
     longest_wider (Onward g p piece b n) (EndsAs g p piece b n) most k moves new (onward_ends g p piece b n) (λ j m f. inl (ends_onward g p piece b n j m f))
     (longest_then (λ j m. ((T UpLeft j m ⊎ T UpRight j m) ⊎ T DownLeft j m) ⊎ T DownRight j m) (Is b n) most k4 k moves m4 new four h)
 
+-- what can not jump on ends its capture here
+pub ends_there : (g : Geometry) (p : Placement) (piece : Piece) (b : Move) (n most k : ℕ) (moves new : List Move) → ((c t : ℕ) → fin.contains b.taken c ≡ false → Jump g p piece b.to c t → ⊥) → Longest (Is b n) most moves k new → Longest (EndsAs g p piece b n) most moves k new
+ends_there g p piece b n most k moves new none h =
+    let stays : (d : Dir) → Longest (EndsTowards g p piece b n d) most moves most moves = λ d. longest_none (EndsTowards g p piece b n d) most moves (λ j m f. none f.c f.t f.fresh (in_direction g p piece b.to d (f.c, f.t) f.jump)) in
+    walked_all g p piece b n most most most most most k moves moves moves moves moves new (stays UpLeft) (stays UpRight) (stays DownLeft) (stays DownRight) h
+
 -- one piece more is no more than twenty
 pub count_fits : (g : Geometry) (p : Placement) (piece : Piece) (s c t : ℕ) (taken : Squares) (n : ℕ) → n ≤ 20 → ChainsFit g p piece s taken (20 - n) → Jump g p piece s c t → fin.contains taken c ≡ false → n + 1 ≤ 20
 count_fits g p piece s c t taken n small fits jump fresh = omega (arith, some_left g p piece s c t taken (20 - n) fits jump fresh)

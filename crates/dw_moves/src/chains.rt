@@ -1,14 +1,16 @@
 //! Captures: whole chains of jumps, the longest of them kept.
 ghost use Rattle.std.specs.Prelude.{◌≡◌, ◌≤◌, ◌-◌, ◌↔◌, IfOk, IsTrue};
 ghost use Rattle.dw_board.specs.Geometry.{OnBoard};
+ghost use Rattle.dw_board.specs.declared.piece.Kind.TheVariants.{King};
 ghost use Rattle.dw_moves.specs.inner.Chains.{ChainsFit, Taking, TakingFrom, EndsAs, EndsTowards, Is, Longest, Takes};
 ghost use Rattle.dw_moves.specs.inner.Chains.{IsCapture};
 ghost use Rattle.dw_moves.specs.inner.Glance.{IsGround};
 
 use crate::best::is_own;
-use crate::glance::may_take;
+use crate::glance::{king_goes_on, may_take};
 use crate::ground::Ground;
 use crate::jumps::{first_met, jumps};
+use crate::man_chains::walk_man;
 use crate::moves::Move;
 use dw_board::board::{Board, Dir};
 use dw_board::piece::{Kind, Piece};
@@ -52,20 +54,43 @@ fn push_from<B: Board>(
     }
     let mut rest = *position;
     rest.clear(from);
-    let ground = Ground::of(&rest, piece.side);
-    walk(
-        &rest,
-        &ground,
-        piece,
-        Move::quiet(from, from),
-        0,
-        most,
-        moves,
-    )
+    let ground = Ground::without(position, piece.side, from);
+    let begun = Move::quiet(from, from);
+    match piece.kind {
+        Kind::Man => walk_man(&rest, &ground, piece, begun, 0, most, moves),
+        Kind::King => walk_king(&rest, &ground, piece, begun, 0, most, moves),
+    }
 }
 
-/// Goes through the captures that begin with a move so far, which has taken so many pieces. It keeps those that take
-/// at least `most`, which rises with them, and answers how many the kept ones take.
+/// Goes through the captures that begin with a king's move so far, which has taken so many pieces. It keeps those that
+/// take at least `most`, which rises with them, and answers how many the kept ones take. Most end where they are, which
+/// is seen on sets of squares.
+#[cycle(walk)]
+fn walk_king<B: Board>(
+    position: &Position<B>,
+    ground: &Ground<B>,
+    piece: Piece,
+    begun: Move<B>,
+    count: u8,
+    most: u8,
+    moves: &mut Vec<Move<B>>,
+) -> Result<u8, AllocError>
+    requires king { piece.kind ≡ King }
+    requires on_board { OnBoard B.geometry begun.to }
+    requires ground { IsGround B.geometry position.now piece.side ground.now.enemies ground.now.occupied }
+    requires few { count ≤ 20 }
+    requires fits { ChainsFit B.geometry position.now piece begun.to begun.taken (20 - count) }
+    ensures { IfOk result (λ k. Longest (EndsAs B.geometry position.now piece begun count) most moves.old.items k
+        moves.new.items) }
+{
+    if king_goes_on(ground, begun.to, begun.taken) {
+        walk(position, ground, piece, begun, count, most, moves)
+    } else {
+        offer(begun, count, most, moves)
+    }
+}
+
+/// Goes through them in all directions.
 #[cycle(walk)]
 fn walk<B: Board>(
     position: &Position<B>,
@@ -76,6 +101,7 @@ fn walk<B: Board>(
     most: u8,
     moves: &mut Vec<Move<B>>,
 ) -> Result<u8, AllocError>
+    requires king { piece.kind ≡ King }
     requires on_board { OnBoard B.geometry begun.to }
     requires ground { IsGround B.geometry position.now piece.side ground.now.enemies ground.now.occupied }
     requires few { count ≤ 20 }
@@ -139,6 +165,7 @@ fn walk_towards<B: Board>(
     most: u8,
     moves: &mut Vec<Move<B>>,
 ) -> Result<u8, AllocError>
+    requires king { piece.kind ≡ King }
     requires on_board { OnBoard B.geometry begun.to }
     requires ground { IsGround B.geometry position.now piece.side ground.now.enemies ground.now.occupied }
     requires few { count ≤ 20 }
@@ -161,18 +188,15 @@ fn walk_towards<B: Board>(
             to: landing,
             taken,
         };
-        longest = walk(position, ground, piece, further, count + 1, longest, moves)?;
-        match piece.kind {
-            Kind::Man => break,
-            Kind::King => at = landing,
-        }
+        longest = walk_king(position, ground, piece, further, count + 1, longest, moves)?;
+        at = landing;
     }
     Ok(longest)
 }
 
 /// Keeps a capture of so many pieces if none that is kept takes more, once, and drops those that take fewer.
 #[inline]
-fn offer<B: Board>(
+pub(crate) fn offer<B: Board>(
     mv: Move<B>,
     count: u8,
     most: u8,

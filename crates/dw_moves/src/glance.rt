@@ -10,13 +10,14 @@ ghost use Rattle.dw_moves.specs.inner.Glance.{CanTakeFrom, NoneLoose};
 ghost use Rattle.dw_board.specs.Geometry.{back};
 ghost use Rattle.dw_moves.specs.Replies.{given, passed, OneStep, IsLoose, IsLooseStep, AlwaysReply};
 
+use crate::ground::Ground;
 use crate::moves::Move;
 use crate::play::play;
 use crate::quiet::may_go;
 use dw_board::board::{Board, Dir};
 use dw_board::piece::{Kind, Side};
 use dw_board::position::Position;
-use dw_board::square::step;
+use dw_board::square::{Square, step};
 use dw_board::squares::Squares;
 
 /// Whether the side to move can take something.
@@ -27,11 +28,7 @@ use dw_board::squares::Squares;
 pub fn can_capture<B: Board>(position: &Position<B>) -> bool
     ensures { IsTrue result ↔ CanCapture B.geometry position.now }
 {
-    let field = Field::of(position);
-    field.takes(Dir::UpLeft)
-        || field.takes(Dir::UpRight)
-        || field.takes(Dir::DownLeft)
-        || field.takes(Dir::DownRight)
+    Field::of(position).takes_somewhere()
 }
 
 /// Whether the side to move has a quiet move, whether or not it must capture.
@@ -119,6 +116,24 @@ pub(crate) fn may_take<B: Board>(position: &Position<B>) -> Squares<B>
     field.kings.or(up).or(down)
 }
 
+/// Whether a king on this square, which has taken these, can take one more.
+pub(crate) fn king_goes_on<B: Board>(
+    ground: &Ground<B>,
+    from: Square<B>,
+    taken: Squares<B>,
+) -> bool
+    ensures { (d : Dir) → Takes B.geometry set.empty (set.insert set.empty from)
+        (set.difference ground.now.enemies taken) ground.now.occupied d → IsTrue result }
+{
+    let field = Field {
+        men: Squares::none(),
+        kings: Squares::one(from),
+        enemies: ground.enemies.minus(taken),
+        occupied: ground.occupied,
+    };
+    field.takes_somewhere()
+}
+
 /// The squares of a position, by what the side to move has to do with what stands there.
 #[derive(Drop)]
 struct Field<B: Board> {
@@ -151,6 +166,18 @@ impl<B: Board> Field<B> {
             enemies,
             occupied: men.or(kings).or(enemies),
         }
+    }
+
+    /// Whether something can be taken.
+    #[inline]
+    fn takes_somewhere(&self) -> bool
+        ensures { IsTrue result ↔ ((d : Dir) × Takes B.geometry self.now.men self.now.kings self.now.enemies
+            self.now.occupied d) }
+    {
+        self.takes(Dir::UpLeft)
+            || self.takes(Dir::UpRight)
+            || self.takes(Dir::DownLeft)
+            || self.takes(Dir::DownRight)
     }
 
     /// Whether something can be taken in a direction.
@@ -250,7 +277,7 @@ impl<B: Board> Field<B> {
 
 /// Whether a square is in the set.
 #[inline]
-fn any<B: Board>(squares: Squares<B>) -> bool
+pub(crate) fn any<B: Board>(squares: Squares<B>) -> bool
     ensures { IsTrue result ↔ ((s : ℕ) × In s squares) }
 {
     !squares.is_empty()

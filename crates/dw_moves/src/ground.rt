@@ -1,9 +1,13 @@
 //! What a piece meets on its way, by sets of squares that are taken once for the whole way.
-ghost use Rattle.std.specs.Prelude.{◌≡◌};
+ghost use Rattle.std.specs.Prelude.{◌≡◌, ◌↔◌, ℕ, None, IsTrue};
+ghost use Rattle.std.specs.FinSet as set;
 ghost use Rattle.dw_board.specs.Geometry.{OnBoard};
-ghost use Rattle.dw_moves.specs.inner.Glance.{IsGround};
+ghost use Rattle.dw_board.specs.Placement.{at, is_of, placed};
+ghost use Rattle.dw_moves.specs.Moves.{In};
+ghost use Rattle.dw_moves.specs.inner.Glance.{IsGround, JumpsTo};
 ghost use Rattle.dw_moves.specs.inner.Plain as plain;
 
+use crate::glance::any;
 use dw_board::board::{Board, Dir};
 use dw_board::piece::Side;
 use dw_board::position::Position;
@@ -29,6 +33,19 @@ impl<B: Board> Ground<B> {
         }
     }
 
+    /// The sets of a position if this square is emptied, on which a piece of this side stands.
+    #[inline]
+    pub(crate) fn without(position: &Position<B>, side: Side, from: Square<B>) -> Self
+        requires on_board { OnBoard B.geometry from }
+        requires own { IsTrue (is_of side (at position.now from)) }
+        ensures { IsGround B.geometry (placed position.now from None) side result.enemies result.occupied }
+    {
+        Ground {
+            enemies: position.all_of(side.other()),
+            occupied: position.occupied().without(from),
+        }
+    }
+
     /// The next square in a direction, if nothing stands on it.
     #[inline]
     pub(crate) fn free_step(
@@ -48,5 +65,29 @@ impl<B: Board> Ground<B> {
         } else {
             Some(next)
         }
+    }
+    /// Whether a man on this square, which has taken these, can jump over one more enemy.
+    #[inline]
+    pub(crate) fn goes_on(&self, from: Square<B>, taken: Squares<B>) -> bool
+        ensures { (d : Dir) (t : ℕ) → JumpsTo B.geometry (set.difference self.now.enemies taken) self.now.occupied from d t
+            → IsTrue result }
+    {
+        let left = self.enemies.minus(taken);
+        let up = self
+            .landing(from, left, Dir::UpLeft)
+            .or(self.landing(from, left, Dir::UpRight));
+        let down = self
+            .landing(from, left, Dir::DownLeft)
+            .or(self.landing(from, left, Dir::DownRight));
+        any(up.or(down))
+    }
+
+    /// The square to which a man can jump in a direction over one of these enemies, if it is free.
+    #[inline]
+    fn landing(&self, from: Square<B>, enemies: Squares<B>, direction: Dir) -> Squares<B>
+        ensures { (t : ℕ) → In t result ↔ JumpsTo B.geometry enemies self.now.occupied from direction t }
+    {
+        let met = Squares::one(from).shifted(direction).and(enemies);
+        met.shifted(direction).minus(self.occupied)
     }
 }

@@ -14,6 +14,7 @@ mod jumps;
 pub mod laws;
 pub mod legal;
 pub mod listed;
+mod man_chains;
 pub mod moves;
 pub mod play;
 pub mod quiet;

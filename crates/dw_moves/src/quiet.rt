@@ -41,6 +41,9 @@ fn kings_count<B: Board>(position: &Position<B>) -> u32
     ensures value { Counts (KingGoes B.geometry position.now) result }
     ensures small { result ≤ 200 }
 {
+    if position.squares(position.turn(), Kind::King).is_empty() {
+        return 0;
+    }
     let up = kings_run(position, Dir::UpLeft) + kings_run(position, Dir::UpRight);
     let down = kings_run(position, Dir::DownLeft) + kings_run(position, Dir::DownRight);
     up + down

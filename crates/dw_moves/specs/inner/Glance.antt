@@ -41,6 +41,11 @@ MenMeet g men enemies occupied d c = MeetsBehind g men enemies occupied d 0 c
 abbrev pub KingsMeet : Geometry → Squares → Squares → Squares → Dir → ℕ → Type 0
 KingsMeet g kings enemies occupied d c = (n : ℕ) × MeetsBehind g kings enemies occupied d n c
 
+-- a man on s can jump in this direction over one of these enemies, onto t
+abbrev pub JumpsTo : Geometry → Squares → Squares → ℕ → Dir → ℕ → Type 0
+JumpsTo g enemies occupied s d t =
+    (c : ℕ) × (step g s d ≡ Some c) × In c enemies × (step g c d ≡ Some t) × (In t occupied → ⊥)
+
 -- in this direction an enemy is met, and the square behind it is empty
 abbrev pub Takes : Geometry → Squares → Squares → Squares → Squares → Dir → Type 0
 Takes g men kings enemies occupied d =

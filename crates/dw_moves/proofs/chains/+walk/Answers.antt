@@ -6,6 +6,10 @@ use Rattle.dw_moves.specs.inner.MoveLemmas.{same_move}
 use Rattle.dw_moves.specs.inner.Chains.{ChainsFit, Is, Longest, further}
 use Rattle.dw_moves.proofs.RunLemmas.{freed, ray_falls}
 use Rattle.dw_moves.proofs.WalkedLemmas.{TakesOver, landed_none, landed_more, landed_last, landed_stop, jump_onto, onto_towards, towards_taken, walked_all, count_fits, chains_fit_behind}
+use Rattle.std.specs.Prelude.{IsTrue}
+use Rattle.dw_board.specs.declared.board.Dir.{Dir}
+use Rattle.dw_moves.specs.inner.Glance.{Takes}
+use Rattle.dw_moves.proofs.KingChainLemmas.{king_ends}
 use Rattle.dw_moves.proofs.chains.+walk.Goals as goal
 
 pub walk-returns : goal.walk-returns
@@ -27,8 +31,8 @@ walk_towards-landings-init g t c = landed_none g.B.Board.geometry c.args.positio
 pub walk_towards-free_step-requires : goal.walk_towards-free_step-requires
 walk_towards-free_step-requires g t c = record { on_board = c.landings.invariant.on; ground = c.requires.ground }
 
-pub walk_towards-walk-requires : goal.walk_towards-walk-requires
-walk_towards-walk-requires g t c κs within =
+pub walk_towards-walk_king-requires : goal.walk_towards-walk_king-requires
+walk_towards-walk_king-requires g t c κs within =
     let geo = g.B.Board.geometry in
     let f = freed geo g.met.B.Board.numbers c.args.position.now c.landings.at c.args.direction c.in-Some-free_step.landing c.landings.invariant.on (sym c.free_step.ensures ∙ c.in-Some-free_step.is) in
     let takes : TakesOver geo c.args.position.now c.args.piece c.args.begun.to c.args.direction c.in-Some.over = subst (λ (m : Move). TakesOver geo c.args.position.now c.args.piece m.to c.args.direction c.in-Some.over) c.begun.view_is c.in-Some.ensures.some in
@@ -41,13 +45,16 @@ walk_towards-walk-requires g t c κs within =
       (
         within,
         (
-          f.on,
+          c.requires.king,
           (
-            c.requires.ground,
+            f.on,
             (
-              small,
-              subst (λ v. ChainsFit geo c.args.position.now c.args.piece c.in-Some-free_step.landing v (20 - (c.args.count + 1))) (sym taken_is)
-                  (chains_fit_behind geo c.args.position.now c.args.piece c.args.begun.to c.in-Some.over c.in-Some-free_step.landing c.args.begun.taken c.args.count c.requires.fits jump fresh),
+              c.requires.ground,
+              (
+                small,
+                subst (λ v. ChainsFit geo c.args.position.now c.args.piece c.in-Some-free_step.landing v (20 - (c.args.count + 1))) (sym taken_is)
+                    (chains_fit_behind geo c.args.position.now c.args.piece c.args.begun.to c.in-Some.over c.in-Some-free_step.landing c.args.begun.taken c.args.count c.requires.fits jump fresh),
+              ),
             ),
           ),
         ),
@@ -67,27 +74,23 @@ walk_towards-landings-preserved g t c =
     let taken_is : c.with-taken.result ≡ fin.insert c.args.begun.taken c.in-Some.over = c.with-taken.ensures ∙ ap (λ (m : Move). fin.insert m.taken c.in-Some.over) c.begun.view_is in
     let next : Move = record { from = c.begun.inside.from; to = c.in-Some-free_step.landing; taken = c.with-taken.result } in
     let next_is : next ≡ further c.args.begun c.in-Some.over c.in-Some-free_step.landing = same_move next (further c.args.begun c.in-Some.over c.in-Some-free_step.landing) (ap (λ (m : Move). m.from) c.begun.view_is) refl taken_is in
-    landed_more geo c.args.position.now c.args.piece c.args.begun c.args.count c.in-Some.over c.args.piece.kind c.args.direction c.landings.at c.in-Some-free_step.landing c.args.most c.args.moves.now.items c.landings.longest c.landings.moves.items next c.in_ok-longest.longest c.walk.new.moves.items
-    c.in-King.is c.landings.invariant f next_is c.in_ok-longest.ensures
+    landed_more geo c.args.position.now c.args.piece c.args.begun c.args.count c.in-Some.over c.args.piece.kind c.args.direction c.landings.at c.in-Some-free_step.landing c.args.most c.args.moves.now.items c.landings.longest c.landings.moves.items next c.in_ok-longest.longest c.walk_king.new.moves.items
+    c.requires.king c.landings.invariant f next_is c.in_ok-longest.ensures
 
-pub walk_towards-returns-in-Man : goal.walk_towards-returns-in-Man
-walk_towards-returns-in-Man g t c =
-    let geo = g.B.Board.geometry in
-    let f = freed geo g.met.B.Board.numbers c.args.position.now c.landings.at c.args.direction c.in-Some-free_step.landing c.landings.invariant.on (sym c.free_step.ensures ∙ c.in-Some-free_step.is) in
-    let takes : TakesOver geo c.args.position.now c.args.piece c.args.begun.to c.args.direction c.in-Some.over = subst (λ (m : Move). TakesOver geo c.args.position.now c.args.piece m.to c.args.direction c.in-Some.over) c.begun.view_is c.in-Some.ensures.some in
-    let fresh : fin.contains c.args.begun.taken c.in-Some.over ≡ false = ap (λ (m : Move). fin.contains m.taken c.in-Some.over) (sym c.begun.view_is) ∙ (sym c.has.ensures ∙ c.if-has.false) in
-    let taken_is : c.with-taken.result ≡ fin.insert c.args.begun.taken c.in-Some.over = c.with-taken.ensures ∙ ap (λ (m : Move). fin.insert m.taken c.in-Some.over) c.begun.view_is in
-    let next : Move = record { from = c.begun.inside.from; to = c.in-Some-free_step.landing; taken = c.with-taken.result } in
-    let next_is : next ≡ further c.args.begun c.in-Some.over c.in-Some-free_step.landing = same_move next (further c.args.begun c.in-Some.over c.in-Some-free_step.landing) (ap (λ (m : Move). m.from) c.begun.view_is) refl taken_is in
-    onto_towards geo c.args.position.now c.args.piece c.args.begun c.args.count c.in-Some.over c.args.direction c.args.most c.in_ok-longest.longest c.args.moves.now.items c.walk.new.moves.items takes fresh
-    (landed_last geo c.args.position.now c.args.piece c.args.begun c.args.count c.in-Some.over c.args.piece.kind c.args.direction c.landings.at c.in-Some-free_step.landing c.args.most c.args.moves.now.items c.landings.longest c.landings.moves.items next c.in_ok-longest.longest c.walk.new.moves.items
-    c.in-Man.is c.landings.invariant f next_is c.in_ok-longest.ensures)
-
-pub walk_towards-returns-in_default-free_step : goal.walk_towards-returns-in_default-free_step
-walk_towards-returns-in_default-free_step g t c =
+pub walk_towards-returns : goal.walk_towards-returns
+walk_towards-returns g t c =
     let geo = g.B.Board.geometry in
     let takes : TakesOver geo c.args.position.now c.args.piece c.args.begun.to c.args.direction c.in-Some.over = subst (λ (m : Move). TakesOver geo c.args.position.now c.args.piece m.to c.args.direction c.in-Some.over) c.begun.view_is c.in-Some.ensures.some in
     let fresh : fin.contains c.args.begun.taken c.in-Some.over ≡ false = ap (λ (m : Move). fin.contains m.taken c.in-Some.over) (sym c.begun.view_is) ∙ (sym c.has.ensures ∙ c.if-has.false) in
     onto_towards geo c.args.position.now c.args.piece c.args.begun c.args.count c.in-Some.over c.args.direction c.args.most c.landings.longest c.args.moves.now.items c.landings.moves.items takes fresh
     (landed_stop geo g.met.B.Board.numbers c.args.position.now c.args.piece c.args.begun c.args.count c.in-Some.over c.args.piece.kind c.args.direction c.landings.at c.args.most c.args.moves.now.items c.landings.longest c.landings.moves.items
     c.landings.invariant (sym c.free_step.ensures ∙ c.in_default-free_step.is))
+
+pub walk_king-returns-else-king_goes_on : goal.walk_king-returns-else-king_goes_on
+walk_king-returns-else-king_goes_on g t c =
+    let geo = g.B.Board.geometry in
+    IfOk-weaker c.offer.result (λ k. Longest (Is c.args.begun c.args.count) c.args.most c.args.moves.now.items k c.offer.new.moves.items) _ (λ k h.
+    king_ends geo g.met.B.Board.numbers c.args.position.now c.args.piece c.args.begun c.args.count c.args.most k c.args.moves.now.items c.offer.new.moves.items c.args.ground.now.enemies c.args.ground.now.occupied c.king_goes_on.result
+    c.requires.on_board c.requires.ground
+    (subst (λ (m : Move). (d : Dir) → Takes geo fin.empty (fin.insert fin.empty m.to) (fin.difference c.args.ground.now.enemies m.taken) c.args.ground.now.occupied d → IsTrue c.king_goes_on.result) c.begun.view_is c.king_goes_on.ensures)
+    c.if-king_goes_on.false h) c.offer.ensures

@@ -1,7 +1,14 @@
-use Rattle.dw_moves.proofs.KingSlideLemmas.{kings_counted}
+use Rattle.dw_moves.proofs.KingSlideLemmas.{kings_counted, no_kings_counted}
+use Rattle.std.proofs.Common.{subst}
+use Rattle.dw_board.specs.declared.piece.Kind.TheVariants.{King}
+use Rattle.dw_moves.proofs.GlanceSetLemmas.{AreKind}
 use Rattle.dw_moves.proofs.quiet.kings_count.Goals as goal
 
 pub returns-clause-value : goal.returns-clause-value
 returns-clause-value g c =
     kings_counted g.B.Board.geometry g.met.B.Board.numbers c.args.position.now c.kings_run.result c.kings_run-2.result c.kings_run-3.result c.kings_run-4.result
     c.kings_run.ensures.value c.kings_run-2.ensures.value c.kings_run-3.ensures.value c.kings_run-4.ensures.value
+
+pub returns-then-is_empty-clause-value : goal.returns-then-is_empty-clause-value
+returns-then-is_empty-clause-value g c =
+    no_kings_counted g.B.Board.geometry c.args.position.now c.squares.result (subst (λ z. AreKind g.B.Board.geometry c.args.position.now z King c.squares.result) c.turn.ensures.value c.squares.ensures) (c.is_empty.ensures.0 c.if-is_empty.true)
