@@ -4,12 +4,13 @@ use Rattle.std.specs.Prelude.{IsTrue}
 use Rattle.std.proofs.lemmas.Bool.{true≢false}
 use Rattle.std.specs.FinSet as fin
 use Rattle.dw_board.specs.declared.board.Dir.{Dir}
+use Rattle.dw_board.specs.declared.board.Dir.TheVariants.{UpLeft, UpRight, DownLeft, DownRight}
 use Rattle.dw_board.specs.declared.piece.Side.{Side}
 use Rattle.dw_board.specs.declared.piece.Kind.TheVariants.{Man}
 use Rattle.dw_board.specs.Geometry.{Geometry, step, Squares}
 use Rattle.dw_moves.specs.Moves.{IsForward, In}
 use Rattle.dw_moves.specs.inner.Plain.{may_go}
-use Rattle.dw_moves.specs.inner.Glance.{MenMeet, KingsMeet, Takes, Steps, StepsOn}
+use Rattle.dw_moves.specs.inner.Glance.{MenMeet, KingsMeet, MenTake, KingsTake, Takes, Steps, StepsOn}
 use Rattle.dw_board.specs.Slides.{SlidesTo}
 use Rattle.dw_moves.proofs.LegalMoveLemmas.{may_from, may_in}
 use Rattle.dw_moves.proofs.SquareSetLemmas.{in_none, in_or, in_and, in_minus}
@@ -37,32 +38,63 @@ kings_meet g kings enemies occupied d reached next v slid shifted e c = (
   (λ h. (in_and next enemies v c e).1 ((shifted c).1 (h.1.0, ((slid h.1.0).1 (h.0, h.1.1), h.1.2)), h.1.3)),
 )
 
+-- behind what is met an empty square
+pub behind_is : (P : ℕ → Type 0) (g : Geometry) (occupied : Squares) (d : Dir) (met behind free : Squares) → ((c : ℕ) → In c met ↔ P c) → IsShifted g met d behind → free ≡ fin.difference behind occupied
+    → (t : ℕ) → In t free ↔ ((c : ℕ) × P c × (step g c d ≡ Some t) × (In t occupied → ⊥))
+behind_is P g occupied d met behind free is shifted free_is t = (
+  (λ h.
+      let w = (in_minus behind occupied free t free_is).0 h in
+      let c = (shifted t).0 w.0 in
+      (c.0, (is c.0).0 c.1.0, c.1.1, w.1)),
+  (λ h. (in_minus behind occupied free t free_is).1 ((shifted t).1 (h.0, ((is h.0).1 h.1, h.2)), h.3)),
+)
+
+-- a square is found in some direction
+pub somewhere : (P : Dir → ℕ → Type 0) (ul ur dl dr up down all : Squares) (r : Bool) → ((t : ℕ) → In t ul ↔ P UpLeft t) → ((t : ℕ) → In t ur ↔ P UpRight t) → ((t : ℕ) → In t dl ↔ P DownLeft t) → ((t : ℕ) → In t dr ↔ P DownRight t)
+    → up ≡ fin.union ul ur → down ≡ fin.union dl dr → all ≡ fin.union up down → IsTrue r ↔ ((t : ℕ) × In t all) → IsTrue r ↔ ((d : Dir) × (t : ℕ) × P d t)
+somewhere P ul ur dl dr up down all r a b c e up_is down_is all_is any = (
+  (λ yes. let t = any.0 yes in found t.0 t.1),
+  (λ h. any.1 (h.1, by_dir h.0 h.1 h.2)),
+) where
+  by_dir : (d : Dir) (t : ℕ) → P d t → In t all
+  by_dir UpLeft t j = (in_or up down all t all_is).1 (inl ((in_or ul ur up t up_is).1 (inl ((a t).1 j))))
+  by_dir UpRight t j = (in_or up down all t all_is).1 (inl ((in_or ul ur up t up_is).1 (inr ((b t).1 j))))
+  by_dir DownLeft t j = (in_or up down all t all_is).1 (inr ((in_or dl dr down t down_is).1 (inl ((c t).1 j))))
+  by_dir DownRight t j = (in_or up down all t all_is).1 (inr ((in_or dl dr down t down_is).1 (inr ((e t).1 j))))
+
+  found : (t : ℕ) → In t all → (d : Dir) × (t : ℕ) × P d t
+  found t h = elim ((in_or up down all t all_is).0 h) [
+    | inl u ↦ elim ((in_or ul ur up t up_is).0 u) [
+      | inl x ↦ (UpLeft, t, (a t).0 x)
+      | inr x ↦ (UpRight, t, (b t).0 x)
+    ]
+    | inr u ↦ elim ((in_or dl dr down t down_is).0 u) [
+      | inl x ↦ (DownLeft, t, (c t).0 x)
+      | inr x ↦ (DownRight, t, (e t).0 x)
+    ]
+  ]
+
+-- a man takes, or a king
+pub men_take_is : (g : Geometry) (men kings enemies occupied : Squares) → ((d : Dir) × (t : ℕ) × MenTake g men enemies occupied d t) → (d : Dir) × Takes g men kings enemies occupied d
+men_take_is g men kings enemies occupied h = (h.0, (h.2.0, h.1, inl h.2.1, h.2.2, h.2.3))
+
+pub kings_take_is : (g : Geometry) (men kings enemies occupied : Squares) → ((d : Dir) × (t : ℕ) × KingsTake g kings enemies occupied d t) → (d : Dir) × Takes g men kings enemies occupied d
+kings_take_is g men kings enemies occupied h = (h.0, (h.2.0, h.1, inr h.2.1, h.2.2, h.2.3))
+
+pub takes_by : (g : Geometry) (men kings enemies occupied : Squares) → ((d : Dir) × Takes g men kings enemies occupied d)
+    → ((d : Dir) × (t : ℕ) × MenTake g men enemies occupied d t) ⊎ ((d : Dir) × (t : ℕ) × KingsTake g kings enemies occupied d t)
+takes_by g men kings enemies occupied h = elim h.1.2 [
+  | inl m ↦ inl (h.0, h.1.1, (h.1.0, m, h.1.3, h.1.4))
+  | inr k ↦ inr (h.0, h.1.1, (h.1.0, k, h.1.3, h.1.4))
+]
+
+-- no kings take nothing
 none_slide : (g : Geometry) (from occupied : Squares) (d : Dir) → ((s : ℕ) → In s from → ⊥) → (n t : ℕ) → SlidesTo g from occupied d n t → ⊥
 none_slide g from occupied d none zero t r = none t r
 none_slide g from occupied d none (suc n) t r = none_slide g from occupied d none n r.0 r.1
 
-pub no_kings_meet : (g : Geometry) (kings enemies occupied : Squares) (d : Dir) (v : Squares) → v ≡ fin.empty → ((s : ℕ) → In s kings → ⊥)
-    → (c : ℕ) → In c v ↔ KingsMeet g kings enemies occupied d c
-no_kings_meet g kings enemies occupied d v e none c = (
-  (λ h. absurd (in_none v c e h)),
-  (λ h. absurd (none_slide g kings occupied d none h.0 h.1.0 h.1.1)),
-)
-
--- behind what is met an empty square
-pub takes_is : (g : Geometry) (men kings enemies occupied : Squares) (d : Dir) (by_men by_kings met behind free : Squares) (r : Bool)
-    → ((c : ℕ) → In c by_men ↔ MenMeet g men enemies occupied d c) → ((c : ℕ) → In c by_kings ↔ KingsMeet g kings enemies occupied d c) → met ≡ fin.union by_men by_kings
-    → IsShifted g met d behind → free ≡ fin.difference behind occupied → IsTrue r ↔ ((s : ℕ) × In s free) → IsTrue r ↔ Takes g men kings enemies occupied d
-takes_is g men kings enemies occupied d by_men by_kings met behind free r m k met_is shifted free_is any = (
-  (λ yes.
-      let t = any.0 yes in
-      let w = (in_minus behind occupied free t.0 free_is).0 t.1 in
-      let c = (shifted t.0).0 w.0 in
-      let by : MenMeet g men enemies occupied d c.0 ⊎ KingsMeet g kings enemies occupied d c.0 = elim ((in_or by_men by_kings met c.0 met_is).0 c.1.0) [ inl a ↦ inl ((m c.0).0 a) | inr b ↦ inr ((k c.0).0 b) ] in
-      (c.0, t.0, by, c.1.1, w.1)),
-  (λ h.
-      let by : In h.0 by_men ⊎ In h.0 by_kings = elim h.2 [ inl a ↦ inl ((m h.0).1 a) | inr b ↦ inr ((k h.0).1 b) ] in
-      any.1 (h.1, (in_minus behind occupied free h.1 free_is).1 ((shifted h.1).1 (h.0, ((in_or by_men by_kings met h.0 met_is).1 by, h.3)), h.4))),
-)
+pub no_kings_take : (g : Geometry) (kings enemies occupied : Squares) → ((s : ℕ) → In s kings → ⊥) → ((d : Dir) × (t : ℕ) × KingsTake g kings enemies occupied d t) → ⊥
+no_kings_take g kings enemies occupied none h = let m = h.2.1 in none_slide g kings occupied h.0 none m.0 m.1.0 m.1.1
 
 -- the pieces that may go this way where they take nothing
 abbrev pub AreMovers : Side → Squares → Squares → Dir → Squares → Type 0

@@ -40,18 +40,6 @@ lands_on g enemies occupied s d here next met behind v here_is next_is met_is be
       (in_minus behind occupied v t v_is).1 ((behind_is t).1 (h.0, (hit, h.3)), h.4)),
 )
 
--- one of the four directions has a square
-pub goes_somewhere : (g : Geometry) (enemies occupied : Squares) (s : ℕ) (ul ur dl dr up down all : Squares) (r : Bool)
-    → ((t : ℕ) → In t ul ↔ JumpsTo g enemies occupied s UpLeft t) → ((t : ℕ) → In t ur ↔ JumpsTo g enemies occupied s UpRight t)
-    → ((t : ℕ) → In t dl ↔ JumpsTo g enemies occupied s DownLeft t) → ((t : ℕ) → In t dr ↔ JumpsTo g enemies occupied s DownRight t)
-    → up ≡ fin.union ul ur → down ≡ fin.union dl dr → all ≡ fin.union up down → IsTrue r ↔ ((t : ℕ) × In t all) → (d : Dir) (t : ℕ) → JumpsTo g enemies occupied s d t → IsTrue r
-goes_somewhere g enemies occupied s ul ur dl dr up down all r a b c e up_is down_is all_is any d t h = any.1 (t, by_dir d h) where
-  by_dir : (d : Dir) → JumpsTo g enemies occupied s d t → In t all
-  by_dir UpLeft j = (in_or up down all t all_is).1 (inl ((in_or ul ur up t up_is).1 (inl ((a t).1 j))))
-  by_dir UpRight j = (in_or up down all t all_is).1 (inl ((in_or ul ur up t up_is).1 (inr ((b t).1 j))))
-  by_dir DownLeft j = (in_or up down all t all_is).1 (inr ((in_or dl dr down t down_is).1 (inl ((c t).1 j))))
-  by_dir DownRight j = (in_or up down all t all_is).1 (inr ((in_or dl dr down t down_is).1 (inr ((e t).1 j))))
-
 -- a jump of a man over what was not taken
 jump_lands : (g : Geometry) → IsBoard g → (p : Placement) (piece : Piece) (s c t : ℕ) (enemies occupied taken : Squares) → piece.kind ≡ Man → OnBoard g s → IsGround g p piece.side enemies occupied → fin.contains taken c ≡ false
     → (j : Jump g p piece s c t) → JumpsTo g (fin.difference enemies taken) occupied s j.dir t

@@ -4,7 +4,8 @@ ghost use Rattle.std.specs.FinSet as set;
 ghost use Rattle.dw_board.specs.Geometry.{OnBoard, step};
 ghost use Rattle.dw_moves.specs.Moves.{CanCapture, Legal};
 ghost use Rattle.dw_moves.specs.Moves as moved;
-ghost use Rattle.dw_moves.specs.inner.Glance.{AreSets, MenMeet, KingsMeet, Takes, Steps, StepsOn, HasTwo, CanStep};
+ghost use Rattle.dw_moves.specs.inner.Glance.{AreSets, MenMeet, KingsMeet, MenTake, KingsTake, Takes};
+ghost use Rattle.dw_moves.specs.inner.Glance.{Steps, StepsOn, HasTwo, CanStep};
 ghost use Rattle.dw_moves.specs.Moves.{In};
 ghost use Rattle.dw_moves.specs.inner.Glance.{CanTakeFrom, NoneLoose};
 ghost use Rattle.dw_board.specs.Geometry.{back};
@@ -25,10 +26,11 @@ use dw_board::squares::Squares;
 /// A man can take an adjacent enemy, forward or backward, if the square behind it is empty. A king can take the
 /// one enemy on a diagonal that has only empty squares before it and an empty square behind it.
 /// Example: at `W:W32:B28` it is `true`, and at `W:W27,45:B16` it is `false`.
+#[inline]
 pub fn can_capture<B: Board>(position: &Position<B>) -> bool
     ensures { IsTrue result ↔ CanCapture B.geometry position.now }
 {
-    Field::of(position).takes_somewhere()
+    Field::of(position).takes()
 }
 
 /// Whether the side to move has a quiet move, whether or not it must capture.
@@ -131,7 +133,7 @@ pub(crate) fn king_goes_on<B: Board>(
         enemies: ground.enemies.minus(taken),
         occupied: ground.occupied,
     };
-    field.takes_somewhere()
+    field.takes()
 }
 
 /// The squares of a position, by what the side to move has to do with what stands there.
@@ -170,23 +172,69 @@ impl<B: Board> Field<B> {
 
     /// Whether something can be taken.
     #[inline]
-    fn takes_somewhere(&self) -> bool
+    fn takes(&self) -> bool
         ensures { IsTrue result ↔ ((d : Dir) × Takes B.geometry self.now.men self.now.kings self.now.enemies
             self.now.occupied d) }
     {
-        self.takes(Dir::UpLeft)
-            || self.takes(Dir::UpRight)
-            || self.takes(Dir::DownLeft)
-            || self.takes(Dir::DownRight)
+        self.men_take() || self.kings_take()
     }
 
-    /// Whether something can be taken in a direction.
-    fn takes(&self, direction: Dir) -> bool
-        ensures { IsTrue result ↔ Takes B.geometry self.now.men self.now.kings self.now.enemies self.now.occupied
-            direction }
+    /// Whether a man can take something.
+    #[inline]
+    fn men_take(&self) -> bool
+        ensures { IsTrue result ↔ ((d : Dir) × (t : ℕ) × MenTake B.geometry self.now.men self.now.enemies
+            self.now.occupied d t) }
     {
-        let met = self.met_by_men(direction).or(self.met_by_kings(direction));
-        any(met.shifted(direction).minus(self.occupied))
+        let up = self
+            .behind_men(Dir::UpLeft)
+            .or(self.behind_men(Dir::UpRight));
+        let down = self
+            .behind_men(Dir::DownLeft)
+            .or(self.behind_men(Dir::DownRight));
+        any(up.or(down))
+    }
+
+    /// Whether a king can take something.
+    #[inline]
+    fn kings_take(&self) -> bool
+        ensures { IsTrue result ↔ ((d : Dir) × (t : ℕ) × KingsTake B.geometry self.now.kings self.now.enemies
+            self.now.occupied d t) }
+    {
+        any(self.kings) && self.sliding_kings_take()
+    }
+
+    /// The same, for a position with kings: it is no part of what is asked of each position.
+    #[inline(never)]
+    fn sliding_kings_take(&self) -> bool
+        ensures { IsTrue result ↔ ((d : Dir) × (t : ℕ) × KingsTake B.geometry self.now.kings self.now.enemies
+            self.now.occupied d t) }
+    {
+        let up = self
+            .behind_kings(Dir::UpLeft)
+            .or(self.behind_kings(Dir::UpRight));
+        let down = self
+            .behind_kings(Dir::DownLeft)
+            .or(self.behind_kings(Dir::DownRight));
+        any(up.or(down))
+    }
+
+    /// The empty squares behind the enemies next to a man.
+    #[inline]
+    fn behind_men(&self, direction: Dir) -> Squares<B>
+        ensures { (t : ℕ) → In t result ↔ MenTake B.geometry self.now.men self.now.enemies self.now.occupied direction t }
+    {
+        let met = self.met_by_men(direction);
+        met.shifted(direction).minus(self.occupied)
+    }
+
+    /// The empty squares behind the enemies that a king meets first.
+    #[inline]
+    fn behind_kings(&self, direction: Dir) -> Squares<B>
+        ensures { (t : ℕ) → In t result ↔ KingsTake B.geometry self.now.kings self.now.enemies self.now.occupied
+            direction t }
+    {
+        let met = self.met_by_kings(direction);
+        met.shifted(direction).minus(self.occupied)
     }
 
     /// The enemies next to a man.
@@ -204,9 +252,6 @@ impl<B: Board> Field<B> {
         ensures { (c : ℕ) → In c result ↔ KingsMeet B.geometry self.now.kings self.now.enemies self.now.occupied
             direction c }
     {
-        if !any(self.kings) {
-            return Squares::none();
-        }
         let reached = self.kings.slid(self.occupied, direction);
         reached.shifted(direction).and(self.enemies)
     }
