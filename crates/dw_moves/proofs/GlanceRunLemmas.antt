@@ -13,7 +13,7 @@ use Rattle.dw_moves.specs.inner.Plain.{may_go}
 use Rattle.dw_moves.specs.inner.Glance.{MenMeet, KingsMeet, MenTake, KingsTake, Takes, Steps, StepsOn}
 use Rattle.dw_board.specs.Slides.{SlidesTo}
 use Rattle.dw_moves.proofs.LegalMoveLemmas.{may_from, may_in}
-use Rattle.dw_moves.proofs.SquareSetLemmas.{in_none, in_or, in_and, in_minus}
+use Rattle.dw_moves.proofs.SquareSetLemmas.{in_or, in_and, in_minus}
 
 -- a step from a set leads to these squares
 abbrev pub IsShifted : Geometry → Squares → Dir → Squares → Type 0

@@ -1,11 +1,10 @@
 -- The sets of a position without one of its pieces.
-use Rattle.std.proofs.Common.{◌≡◌, ◌≢◌, ℕ, refl, sym, ap, ◌∙◌, subst, inl, inr, ◌↔◌, Bool, ◌&&◌, not, eqb, true, false, Some, None, is_some}
+use Rattle.std.proofs.Common.{◌≡◌, ◌≢◌, ℕ, sym, ap, ◌∙◌, subst, inl, inr, ◌↔◌, not, eqb, true, None, is_some}
 use Rattle.std.specs.Prelude.{IsTrue}
 use Rattle.std.proofs.lemmas.Bool.{true≢false, and_parts, and_from, not_from_true, not_from_false, eq-eqb}
 use Rattle.std.specs.FinSet as fin
 use Rattle.dw_board.specs.declared.piece.Side.{Side}
 use Rattle.dw_board.specs.declared.piece.Side.TheVariants.{White, Black}
-use Rattle.dw_board.specs.declared.piece.Piece.{Piece}
 use Rattle.dw_board.specs.Geometry.{Geometry, OnBoard, Squares}
 use Rattle.dw_board.specs.Placement.{Placement, at, is_of, other, placed, same_side}
 use Rattle.dw_moves.specs.Moves.{In}

@@ -5,7 +5,7 @@ use Rattle.std.proofs.lemmas.Bool.{true≢false}
 use Rattle.std.specs.FinSet as fin
 use Rattle.dw_board.specs.declared.board.Dir.{Dir}
 use Rattle.dw_board.specs.declared.piece.Piece.{Piece}
-use Rattle.dw_board.specs.Geometry.{Geometry, IsBoard, OnBoard, step, Squares}
+use Rattle.dw_board.specs.Geometry.{Geometry, IsBoard, OnBoard, Squares}
 use Rattle.dw_board.specs.Placement.{Placement, at}
 use Rattle.dw_board.specs.Lists.{Member}
 use Rattle.dw_moves.specs.Moves.{Jump, Move, In, ray}
@@ -31,7 +31,7 @@ jump_seen g b p piece s c t enemies occupied taken on ground fresh j =
     let out : (x : ℕ) → at p x ≡ None → In x occupied → ⊥ = λ x e h. true≢false (sym ((ground.of_all x).0 h).1 ∙ ap is_some e) in
     let free : (x : ℕ) → Member x j.before → In x occupied → ⊥ = λ x i. out x (empty_member p j.before x j.clear i) in
     let w : Walked g (fin.insert fin.empty s) occupied j.dir (length j.before) c (next.0 ∷ next.1) =
-        walk g b (fin.insert fin.empty s) occupied j.dir j.before 0 (length j.before) s c (next.0 ∷ next.1) (omega arith) (one_in s) on ray_is free in
+    walk g b (fin.insert fin.empty s) occupied j.dir j.before 0 (length j.before) s c (next.0 ∷ next.1) (omega arith) (one_in s) on ray_is free in
     let enemy : In c enemies = (ground.of_enemies c).1 (w.on, j.enemy) in
     let left : In c (fin.difference enemies taken) = (in_minus enemies taken (fin.difference enemies taken) c refl).1 (enemy, λ h. true≢false (sym h ∙ fresh)) in
     (c, next.0, inr (length j.before, (w.last, w.runs, w.steps, left)), (ray_head g b c next.0 next.1 j.dir w.on w.ray_is).0, out next.0 next.3)

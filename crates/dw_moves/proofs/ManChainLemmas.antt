@@ -1,25 +1,23 @@
 -- How the chains of a man are walked: he jumps over the next square onto the one behind it.
-use Rattle.std.proofs.Common.{◌≡◌, ℕ, ◌+◌, List, [], ◌∷◌, ◌++◌, map, refl, sym, ap, ◌∙◌, subst, ◌⊎◌, inl, inr, ◌↔◌, Bool, true, false, Some, None, is_some}
+use Rattle.std.proofs.Common.{◌≡◌, ℕ, ◌+◌, List, ◌∷◌, ◌++◌, map, refl, sym, ap, ◌∙◌, subst, inl, inr, ◌↔◌, Bool, true, false, Some, None, is_some}
 use Rattle.std.specs.Prelude.{IsTrue}
 use Rattle.std.proofs.lemmas.Bool.{true≢false, cases_Bool}
 use Rattle.std.specs.FinSet as fin
 use Rattle.dw_board.specs.declared.board.Dir.{Dir}
-use Rattle.dw_board.specs.declared.board.Dir.TheVariants.{UpLeft, UpRight, DownLeft, DownRight}
-use Rattle.dw_board.specs.declared.piece.Kind.{Kind}
 use Rattle.dw_board.specs.declared.piece.Kind.TheVariants.{Man}
 use Rattle.dw_board.specs.declared.piece.Piece.{Piece}
 use Rattle.dw_board.specs.Geometry.{Geometry, IsBoard, OnBoard, step, Squares}
 use Rattle.dw_board.specs.Placement.{Placement, other}
 use Rattle.dw_moves.specs.Moves.{Jump, Move, In, ray}
-use Rattle.dw_moves.specs.inner.Plain.{takes_for, landings_for, free_step}
+use Rattle.dw_moves.specs.inner.Plain.{free_step}
 use Rattle.dw_moves.specs.inner.Chains.{EndsAs, EndsTowards, Is, Longest, further}
 use Rattle.dw_moves.specs.inner.Glance.{IsGround, JumpsTo}
-use Rattle.dw_moves.proofs.StepLemmas.{step_is, none_some}
+use Rattle.dw_moves.proofs.StepLemmas.{step_is}
 use Rattle.dw_moves.proofs.SlideLemmas.{ray_head}
 use Rattle.dw_moves.proofs.RunLemmas.{Freed, run_stop}
-use Rattle.dw_moves.proofs.SquareSetLemmas.{in_or, in_and, in_minus}
+use Rattle.dw_moves.proofs.SquareSetLemmas.{in_and, in_minus}
 use Rattle.dw_moves.proofs.GlanceRunLemmas.{IsShifted}
-use Rattle.dw_moves.proofs.JumpStepLemmas.{Before, before_man, met_edge, met_other, met_enemy}
+use Rattle.dw_moves.proofs.JumpStepLemmas.{before_man, met_edge, met_other, met_enemy}
 use Rattle.dw_moves.proofs.KingSlideLemmas.{one_in, in_one}
 use Rattle.dw_moves.proofs.WalkedLemmas.{TakesOver, jump_onto, landed_none, landed_last, onto_towards, towards_none, towards_taken, ends_there}
 

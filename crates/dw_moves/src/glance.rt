@@ -119,11 +119,7 @@ pub(crate) fn may_take<B: Board>(position: &Position<B>) -> Squares<B>
 }
 
 /// Whether a king on this square, which has taken these, can take one more.
-pub(crate) fn king_goes_on<B: Board>(
-    ground: &Ground<B>,
-    from: Square<B>,
-    taken: Squares<B>,
-) -> bool
+pub(crate) fn king_goes_on<B: Board>(ground: &Ground<B>, from: Square<B>, taken: Squares<B>) -> bool
     ensures { (d : Dir) → Takes B.geometry set.empty (set.insert set.empty from)
         (set.difference ground.now.enemies taken) ground.now.occupied d → IsTrue result }
 {

@@ -5,7 +5,7 @@ use Rattle.dw_moves.specs.Moves.{Move}
 use Rattle.dw_moves.specs.inner.MoveLemmas.{same_move}
 use Rattle.dw_moves.specs.inner.Chains.{ChainsFit, Is, Longest, further}
 use Rattle.dw_moves.proofs.RunLemmas.{freed, ray_falls}
-use Rattle.dw_moves.proofs.WalkedLemmas.{TakesOver, landed_none, landed_more, landed_last, landed_stop, jump_onto, onto_towards, towards_taken, walked_all, count_fits, chains_fit_behind}
+use Rattle.dw_moves.proofs.WalkedLemmas.{TakesOver, landed_none, landed_more, landed_stop, jump_onto, onto_towards, towards_taken, walked_all, count_fits, chains_fit_behind}
 use Rattle.std.specs.Prelude.{IsTrue}
 use Rattle.dw_board.specs.declared.board.Dir.{Dir}
 use Rattle.dw_moves.specs.inner.Glance.{Takes}

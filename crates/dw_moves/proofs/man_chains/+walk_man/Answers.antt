@@ -1,7 +1,7 @@
 use Rattle.std.proofs.Common.{◌≡◌, ◌≤◌, ◌+◌, ◌-◌, Some, sym, ap, ◌∙◌, subst, arith, refl}
 use Rattle.std.specs.FinSet as fin
 use Rattle.std.proofs.lemmas.Result.{IfOk-weaker}
-use Rattle.dw_board.specs.Geometry.{OnBoard, step}
+use Rattle.dw_board.specs.Geometry.{step}
 use Rattle.dw_moves.specs.Moves.{Move}
 use Rattle.dw_moves.specs.inner.MoveLemmas.{same_move}
 use Rattle.dw_moves.specs.inner.Chains.{ChainsFit, EndsAs, Is, Longest, further}
