@@ -1,8 +1,11 @@
-//! What the tests of several layers share: a small board, positions and moves by their texts, small positions whose
-//! answers are known, and streams that fail where they are told to.
+//! What the programs of tests share: rows of text, a small board, positions and moves by their texts, and streams that
+//! fail where they are told to.
 #![tactic(auto)]
 
+pub mod escapes;
+pub mod rows;
 pub mod six;
 pub mod small_positions;
 pub mod streams;
+pub mod tally;
 pub mod texts;

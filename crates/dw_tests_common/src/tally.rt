@@ -1,0 +1,94 @@
+//! How many rows were right, and what was found of those that were not.
+
+use crate::rows::Row;
+use std::alloc::{AllocError, Global};
+use std::fmt::{Debug, Display, Write};
+use std::io;
+
+/// Bytes that are found of most rows, at most: for these no memory is taken once a tally is there.
+const ROOM: usize = 4096;
+
+/// What is found of a row.
+#[derive(Drop)]
+pub struct Found {
+    text: String,
+    is_cut: bool,
+}
+
+impl Found {
+    pub fn new(alloc: Global) -> Result<Found, AllocError> {
+        Ok(Found {
+            text: String::with_capacity(alloc, ROOM)?,
+            is_cut: false,
+        })
+    }
+
+    /// Adds a text. If there is no memory for it, that is kept in mind.
+    pub fn add(&mut self, text: &str) {
+        self.is_cut = self.text.push_str(text).is_err() || self.is_cut;
+    }
+
+    /// Adds a value as it is written.
+    pub fn say<T: Display>(&mut self, value: &T) {
+        self.is_cut = write!(self.text, "{value}").is_err() || self.is_cut;
+    }
+
+    /// Adds a value as it is shown to a programmer.
+    pub fn show<T: Debug>(&mut self, value: &T) {
+        self.is_cut = write!(self.text, "{value:?}").is_err() || self.is_cut;
+    }
+
+    /// What was added so far.
+    pub fn as_str(&self) -> &str {
+        self.text.as_str()
+    }
+}
+
+/// The rows that were asked so far.
+#[derive(Drop)]
+pub struct Tally {
+    /// What is found of the row that is asked now.
+    pub found: Found,
+    asked: u32,
+    right: u32,
+    wrong: String,
+}
+
+impl Tally {
+    pub fn new(alloc: Global) -> Result<Tally, AllocError> {
+        Ok(Tally {
+            found: Found::new(alloc)?,
+            asked: 0,
+            right: 0,
+            wrong: String::new(alloc),
+        })
+    }
+
+    /// Ends a row: it is right if it could be asked, and what was found of it is what is wanted.
+    pub fn end(&mut self, row: &Row, answered: Option<()>) {
+        let is_whole = answered.is_some() && !self.found.is_cut;
+        self.asked = self.asked.wrapping_add(1);
+        if is_whole && self.found.as_str() == row.wanted.as_str() {
+            self.right = self.right.wrapping_add(1);
+        } else {
+            let (asked, found) = (row.asked.as_str(), self.found.text.as_str());
+            let end = if is_whole { "" } else { " and no more" };
+            let _ = write!(self.wrong, "wrong: {asked}\n  found: {found}{end}\n");
+        }
+        self.found.text.clear();
+        self.found.is_cut = false;
+    }
+
+    /// Ends rows that could not be asked.
+    pub fn lose(&mut self, rows: &[Row]) {
+        for row in rows {
+            self.end(row, None);
+        }
+    }
+
+    /// Writes what was found of each wrong row, and how many rows were right.
+    pub fn report(&self, rt: &impl Print, head: &str) -> io::Result<()> {
+        let (wrong, right, asked) = (self.wrong.as_str(), self.right, self.asked);
+        println!(rt; "{wrong}{head}: {right} of {asked} right")
+    }
+}

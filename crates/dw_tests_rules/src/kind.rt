@@ -1,0 +1,75 @@
+//! What the rows of a section ask.
+
+/// What is asked of each row.
+#[derive(Clone, Copy)]
+pub enum Kind {
+    Square,
+    Set,
+    Sets,
+    One,
+    SameSets,
+    Step,
+    Put,
+    Pieces,
+    Clear,
+    Turn,
+    Drawn,
+    Fen,
+    Glance,
+    Count,
+    Play,
+    Same,
+    Path,
+    List,
+    Again,
+    Named,
+    Refused,
+    Texts,
+    Line,
+    Fens,
+    Pdn,
+    BrokenFens,
+    BrokenPdn,
+    Many,
+    Write,
+    Law,
+}
+
+impl Kind {
+    /// The kind that a word names.
+    pub fn named(word: &str) -> Option<Kind> {
+        match word {
+            "square" => Some(Kind::Square),
+            "set" => Some(Kind::Set),
+            "sets" => Some(Kind::Sets),
+            "one" => Some(Kind::One),
+            "same-sets" => Some(Kind::SameSets),
+            "step" => Some(Kind::Step),
+            "put" => Some(Kind::Put),
+            "pieces" => Some(Kind::Pieces),
+            "clear" => Some(Kind::Clear),
+            "turn" => Some(Kind::Turn),
+            "drawn" => Some(Kind::Drawn),
+            "fen" => Some(Kind::Fen),
+            "glance" => Some(Kind::Glance),
+            "count" => Some(Kind::Count),
+            "play" => Some(Kind::Play),
+            "same" => Some(Kind::Same),
+            "path" => Some(Kind::Path),
+            "list" => Some(Kind::List),
+            "again" => Some(Kind::Again),
+            "named" => Some(Kind::Named),
+            "refused" => Some(Kind::Refused),
+            "texts" => Some(Kind::Texts),
+            "line" => Some(Kind::Line),
+            "fens" => Some(Kind::Fens),
+            "pdn" => Some(Kind::Pdn),
+            "broken-fens" => Some(Kind::BrokenFens),
+            "broken-pdn" => Some(Kind::BrokenPdn),
+            "many" => Some(Kind::Many),
+            "write" => Some(Kind::Write),
+            "law" => Some(Kind::Law),
+            _ => None,
+        }
+    }
+}

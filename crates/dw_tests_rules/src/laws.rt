@@ -1,0 +1,40 @@
+//! The laws.
+
+use dw_board::laws as boards;
+use dw_moves::laws as moves;
+use dw_notation::laws as texts;
+use dw_tests_common::tally::Found;
+
+/// Calls each law once.
+pub fn law(found: &mut Found) {
+    boards::steps_are_diagonal();
+    boards::places_differ();
+    boards::shifts_step();
+    boards::reading_is_grammar();
+    boards::written_is_read();
+    boards::names_one();
+    boards::either_fen_or_faulty();
+    boards::none_goes_on();
+    moves::path_tells();
+    moves::path_is_short();
+    moves::moves_listed();
+    moves::one_best();
+    moves::legal_moves_take();
+    moves::play_stays();
+    moves::moves_have_keys();
+    moves::moves_in_order();
+    moves::steps_are_quiet();
+    moves::loose_replies();
+    moves::worked_positions();
+    texts::sections_are_found();
+    texts::comments_say_nothing();
+    texts::others_say_nothing();
+    texts::texts_are_rows();
+    texts::unfinished_give_nothing();
+    texts::ends_tell();
+    texts::lines_have_texts();
+    texts::moves_have_texts();
+    texts::texts_have_one_answer();
+    texts::written_moves_are_read();
+    found.add("called");
+}

@@ -1,0 +1,112 @@
+//! The problems of byte texts.
+
+use dw_board::board::Board;
+use dw_board::fen::write::fen_text;
+use dw_notation::problems::{Form, Problem, ProblemFault, Problems, ReadFault};
+use dw_notation::streams::{Reading, Source};
+use dw_tests_common::escapes::unescaped;
+use dw_tests_common::rows::column;
+use dw_tests_common::streams::{Chopped, Repeated};
+use dw_tests_common::tally::Found;
+use std::alloc::Global;
+use std::io;
+
+/// The most answers of a reader that are looked at.
+const ANSWERS: u32 = 8;
+
+/// Adds what is said of a problem: the written FEN or the fault.
+fn add_problem<B: Board>(problem: &Problem<B>, found: &mut Found) {
+    match problem.found {
+        Ok(position) => found.add(fen_text(&position).as_str()),
+        Err(fault) => found.say(&fault),
+    }
+    found.add("; ");
+}
+
+/// Adds what the problems of a text say; `failed` for a failure. What has ended stays so, and problems are numbered from
+/// 1.
+fn add_said<B: Board, R: io::Read + Drop>(reader: R, form: Form, found: &mut Found) -> Option<()> {
+    let mut source = Reading::new(reader);
+    let mut problems: Problems<'_, B, Reading<R>> = Problems::new(&mut source, form);
+    for number in 1..ANSWERS + 1 {
+        match problems.next() {
+            Err(ReadFault::Failed) => found.add("failed; "),
+            Ok(Some(problem)) if problem.number == number => add_problem(&problem, found),
+            Ok(Some(_)) => return None,
+            Ok(None) => {
+                let is_end = matches!(problems.next(), Ok(None));
+                found.add(if is_end { "end" } else { "no end" });
+                return Some(());
+            }
+        }
+    }
+    found.add("and so on");
+    Some(())
+}
+
+/// A text: a front, and if there are more columns a byte, how many times it follows, and a back.
+fn whole_text(alloc: Global, asked: &str) -> Option<Vec<u8>> {
+    let mut text = unescaped(alloc, column(asked, 0))?;
+    let repeated = unescaped(alloc, column(asked, 1))?;
+    for _ in 0..column(asked, 2).parse::<u32>().unwrap_or(0) {
+        text.extend_from_slice(repeated.as_slice()).ok()?;
+    }
+    let back = unescaped(alloc, column(asked, 3))?;
+    text.extend_from_slice(back.as_slice()).ok()?;
+    Some(text)
+}
+
+/// Whatever the pieces in which a text is read, it has the same problems.
+pub fn pieces<B: Board>(alloc: Global, form: Form, asked: &str, found: &mut Found) -> Option<()> {
+    let text = whole_text(alloc, asked)?;
+    add_said::<B, _>(text.as_slice(), form, found)?;
+    for step in [1, 2, 3, 7, 1000, 4096, 9000] {
+        let mut chopped = Found::new(alloc).ok()?;
+        add_said::<B, _>(
+            Chopped::new(text.as_slice(), step, 0, 0),
+            form,
+            &mut chopped,
+        )?;
+        if chopped.as_str() != found.as_str() {
+            return None;
+        }
+    }
+    Some(())
+}
+
+/// A text, the bytes of each read, the read that fails, and the one that gives nothing, which is the end, since the
+/// reader is not asked again.
+pub fn broken<B: Board>(alloc: Global, form: Form, asked: &str, found: &mut Found) -> Option<()> {
+    let text = unescaped(alloc, column(asked, 0))?;
+    let step = column(asked, 1).parse::<usize>().ok()?;
+    let fails_at = column(asked, 2).parse::<u64>().ok()?;
+    let pauses_at = column(asked, 3).parse::<u64>().ok()?;
+    let reader = Chopped::new(text.as_slice(), step, fails_at, pauses_at);
+    add_said::<B, _>(reader, form, found)
+}
+
+/// A text of so many lines, each of one letter that names no position: it has a problem a line, numbered from 1, up to one
+/// that says that there are too many, and then it ends. What is said of that one.
+pub fn many<B: Board>(asked: &str, found: &mut Found) -> Option<()> {
+    let lines = asked.parse::<u32>().ok()?;
+    let mut source = Reading::new(Repeated::new(b"a\n", lines));
+    if source.failed() {
+        return None;
+    }
+    let mut problems: Problems<'_, B, Reading<Repeated>> = Problems::new(&mut source, Form::Fens);
+    for before in 0..lines {
+        let problem = problems.next().ok()??;
+        if problem.number != before.wrapping_add(1) {
+            return None;
+        }
+        if matches!(problem.found, Err(ProblemFault::TooManyProblems)) {
+            found.say(&problem.number);
+            found.add(": ");
+            add_problem(&problem, found);
+            let is_end = matches!(problems.next(), Ok(None));
+            found.add(if is_end { "end" } else { "no end" });
+            return Some(());
+        }
+    }
+    None
+}

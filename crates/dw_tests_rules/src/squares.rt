@@ -1,0 +1,99 @@
+//! Squares, steps, and sets of squares.
+
+use dw_board::board::{Board, Dir};
+use dw_board::laws;
+use dw_board::square::{Square, step};
+use dw_board::squares::Squares;
+use dw_tests_common::rows::{column, word};
+use dw_tests_common::tally::Found;
+use dw_tests_common::texts::{add_set, set_of, square_of};
+
+fn direction(text: &str) -> Option<Dir> {
+    match text {
+        "up-left" => Some(Dir::UpLeft),
+        "up-right" => Some(Dir::UpRight),
+        "down-left" => Some(Dir::DownLeft),
+        "down-right" => Some(Dir::DownRight),
+        _ => None,
+    }
+}
+
+/// Adds the number of a square, or `none`.
+fn add_square<B: Board>(square: Option<Square<B>>, found: &mut Found) {
+    match square {
+        Some(square) => found.say(&square.number()),
+        None => found.add("none"),
+    }
+}
+
+/// The square of a number, or the square that stands for none.
+pub fn square<B: Board>(asked: &str, found: &mut Found) -> Option<()> {
+    let square = match asked {
+        "default" => Some(Square::<B>::default()),
+        number => Square::new(number.parse::<u8>().ok()?),
+    };
+    add_square(square, found);
+    Some(())
+}
+
+/// The padded word of a set, how many squares it has, and the first of them.
+pub fn set<B: Board>(asked: &str, found: &mut Found) -> Option<()> {
+    let squares = match asked {
+        "default" => Squares::<B>::default(),
+        numbers => set_of(numbers)?,
+    };
+    found.say(&squares.word());
+    found.add(" ");
+    found.say(&squares.count());
+    found.add(" ");
+    add_square(squares.first(), found);
+    Some(())
+}
+
+/// Two sets joined, or a set shifted one step.
+pub fn sets<B: Board>(asked: &str, found: &mut Found) -> Option<()> {
+    let (left, right) = (set_of::<B>(column(asked, 0))?, column(asked, 2));
+    let squares = match column(asked, 1) {
+        "or" => left.or(set_of(right)?),
+        "and" => left.and(set_of(right)?),
+        "minus" => left.minus(set_of(right)?),
+        "shifted" => left.shifted(direction(right)?),
+        _ => return None,
+    };
+    add_set(squares, found);
+    Some(())
+}
+
+/// A set with and without a square, and whether it has it.
+pub fn one<B: Board>(asked: &str, found: &mut Found) -> Option<()> {
+    let squares = set_of::<B>(column(asked, 0))?;
+    let square = square_of(column(asked, 1))?;
+    add_set(squares.with(square), found);
+    found.add(", ");
+    add_set(squares.without(square), found);
+    found.add(", ");
+    found.say(&squares.has(square));
+    Some(())
+}
+
+/// Whether two sets are the same, asked in two ways.
+pub fn same<B: Board>(asked: &str, found: &mut Found) -> Option<()> {
+    let left = set_of::<B>(column(asked, 0))?;
+    let right = set_of::<B>(column(asked, 1))?;
+    found.say(&laws::same_squares(left, right));
+    found.add(" ");
+    found.say(&(left == right));
+    Some(())
+}
+
+/// The square one step further, and whether the direction leads down and to the right.
+pub fn one_step<B: Board>(asked: &str, found: &mut Found) -> Option<()> {
+    let from = square_of::<B>(word(asked, 0))?;
+    let direction = direction(word(asked, 1))?;
+    add_square(step(from, direction), found);
+    found.add(", down ");
+    found.say(&direction.is_down());
+    found.add(", right ");
+    found.say(&direction.is_right());
+    Some(())
+}

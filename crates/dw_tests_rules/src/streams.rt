@@ -1,0 +1,32 @@
+//! Sinks that take a few bytes a write, and fail.
+
+use dw_notation::streams::{Sink, Writing};
+use dw_notation::writes::{WriteFault, write_all};
+use dw_tests_common::rows::word;
+use dw_tests_common::streams::Narrow;
+use dw_tests_common::tally::Found;
+use std::alloc::Global;
+use std::str;
+
+fn said(answer: Result<(), WriteFault>) -> &'static str {
+    match answer {
+        Ok(()) => "written, ",
+        Err(WriteFault::Failed) => "failed, ",
+    }
+}
+
+/// The bytes that a write takes, and the write that fails. What is answered to nothing, to `hello` and to `you`,
+/// whether the sink has failed, and what it took.
+pub fn write(alloc: Global, asked: &str, found: &mut Found) -> Option<()> {
+    let step = word(asked, 0).parse::<usize>().ok()?;
+    let fails_at = word(asked, 1).parse::<u64>().ok()?;
+    let mut sink = Writing::new(Narrow::new(alloc, step, fails_at));
+    found.add(said(write_all(&mut sink, b"")));
+    found.add(said(write_all(&mut sink, b"hello")));
+    found.add(said(write_all(&mut &mut sink, b"you")));
+    found.add(if sink.failed() { "failed: " } else { "sound: " });
+    let Narrow { taken, .. } = sink.into_inner();
+    found.add(str::from_utf8(taken.as_slice()).ok()?);
+    found.add(".");
+    Some(())
+}
