@@ -1,46 +1,71 @@
 #!/usr/bin/env python3
-"""refused_search.py: refuses each allocation of the solver's searches and of the lister in turn.
+"""refused_search.py: refuses each allocation of the solver's searches, of the lister and of the reader of moves in turn.
 
     checks/refused_search.py
 
-It runs the tests wants_memory of dw_tests_search and of dw_tests_lines, which `rt test` in those crates builds, once
-for each allocation. The first searches some positions with each cache, for 1 to 3 moves; the second asks for the lines
-of some positions with each cache, one by one, and for what follows each of them. If a growth is refused the right
-answer comes without it, or the search says that it is out of memory and gives it when asked again; the test fails
-if that is not so. The last run of each meets no refusal.
+It takes the sections of rows whose heads begin with `refused` from the stored input of dw_tests_rules and of
+dw_tests_search, and gives each to its program, which `rt run` in that crate builds, once for each allocation. The rows
+of the first read texts of moves; those of the second note bounds, search some positions with each cache, for 1 to 3
+moves, and ask for the lines of some positions with each cache, one by one, and for what follows each of them. If a
+growth is refused the right answer comes without it, or the search says that it is out of memory and gives it when asked
+again; a row is wrong if that is not so. Only while the rows are read may the program end for want of memory, with no
+row found wrong. The last run of each section meets no refusal.
 """
 import os
 import pathlib
 import subprocess
 import tempfile
 
-HERE = pathlib.Path(__file__).resolve().parent
-# A crate of tests, and the test of it that is run.
-TESTS = [("dw_tests_search", "solve::wants_memory"), ("dw_tests_lines", "list::wants_memory")]
+CRATES = pathlib.Path(__file__).resolve().parent.parent / "crates"
+PROGRAMS = ["dw_tests_rules", "dw_tests_search"]
 MOST = 100_000
 
 
-def was_refused(folder, crate, test, number):
-    """Runs the test with that allocation refused, and tells whether there was one of that number."""
+def sections(crate):
+    """The sections to run: each its head, with its rows, and what has to be said of it."""
+    folder = CRATES / crate
+    wanted = dict(line.split(": ") for line in (folder / "stdout").read_text().splitlines())
+    found = {}
+    for line in (folder / "stdin").read_text().splitlines():
+        if not line.startswith((" ", "#")):
+            head = line
+        if not line.startswith("#") and head.startswith("refused"):
+            found.setdefault(head, []).append(line)
+    assert found, f"{crate} has no such rows"
+    return [("\n".join(lines) + "\n", f"{head}: {wanted[head]}\n") for head, lines in found.items()]
+
+
+def run(folder, crate, number, rows):
+    """Runs the program with that allocation refused, and tells whether there was one of that number."""
     mark = folder / "mark"
     mark.unlink(missing_ok=True)
     changes = {"LD_PRELOAD": str(folder / "refuse.so"), "REFUSED_ALLOCATION": str(number), "REFUSED_MARK": str(mark)}
-    program = HERE.parent / "crates" / crate / "out" / f"{crate}_tests"
-    ran = subprocess.run([program, test], capture_output=True, timeout=60, check=False, env=os.environ | changes)
-    assert ran.returncode == 0, (test, number, ran)
-    return mark.exists()
+    program = CRATES / crate / "out" / crate
+    ran = subprocess.run([program], input=rows, capture_output=True, timeout=60, check=False, text=True,
+                         env=os.environ | changes)
+    return ran, mark.exists()
 
 
 def main():
     with tempfile.TemporaryDirectory() as name:
         folder = pathlib.Path(name)
         library = folder / "refuse.so"
-        source = HERE / "refuse_allocation.c"
+        source = pathlib.Path(__file__).resolve().parent / "refuse_allocation.c"
         subprocess.run(["cc", "-O1", "-shared", "-fPIC", "-o", library, source, "-ldl"], check=True)
-        for crate, test in TESTS:
-            last = next(number for number in range(1, MOST) if not was_refused(folder, crate, test, number))
-            assert last > 1, "no allocation was refused"
-            print(f"{crate} {test}: {last - 1} allocations, each refused in turn")
+        for crate in PROGRAMS:
+            for rows, wanted in sections(crate):
+                unread = 0
+                for number in range(1, MOST):
+                    ran, was_refused = run(folder, crate, number, rows)
+                    if ran.returncode == 1 and was_refused and ran.stdout == "" and unread == number - 1:
+                        unread = number
+                        continue
+                    assert (ran.returncode, ran.stdout) == (0, wanted), (crate, wanted, number, ran)
+                    if not was_refused:
+                        break
+                assert number - 1 > unread, "no allocation was refused behind the reading"
+                print(f"{crate} {wanted.strip()}, with {number - 1} allocations, each refused in turn;"
+                      f" of the first {unread} the rows are read")
 
 
 main()

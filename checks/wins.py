@@ -1,11 +1,10 @@
 #!/usr/bin/env python3
-"""wins.py: makes the table of small positions and least numbers of moves that the tests of the solver read.
+"""wins.py: makes the rows of small positions and least numbers of moves that the tests of the solver read.
 
 It is made by bare recursion on the generator of perft.py alone: no cache, no order of moves, nothing of the solver. The
-table is what it prints, made again or compared by
+rows are what it prints, and stand so in crates/dw_tests_search/stdin, as `checks/all.py wins` sees; made by
 
-    python3 checks/wins.py > crates/dw_tests_common/src/small_positions.rt
-    python3 checks/wins.py | cmp - crates/dw_tests_common/src/small_positions.rt
+    python3 checks/wins.py
 
 Positions come from a fixed seed, as many of each kind: by the least number of moves (1, 2 or 3, or none up to 3), with
 a king or with men alone, with a capture to begin with or without, and by the side to move.
@@ -20,26 +19,8 @@ MOST = 3
 # A position whose recursion looks at the moves of more positions than this is left out, so that the tests stay quick.
 ROOM = 300
 TURNS = "WB"
-HEAD = """\
-//! Small positions, and the least number of moves from 1 to 3 within which the side to move wins, or 0 if it has no win
-//! within 3. Made by checks/wins.py.
-//!
-//! They stand in tables of 64 rows, each named by one function alone: what names a table holds all of its rows for the
-//! prover, and that takes time by the square of their number.
-
-/// A position, and its least number of moves.
-pub type Small = (&'static str, u8);
-
-/// Positions on the board of 10 rows.
-pub fn ten_rows() -> [&'static [Small]; 4] {
-    [ten_unwon(), ten_in_one(), ten_in_two(), ten_in_three()]
-}
-
-/// Positions on the board of 8 rows.
-pub fn eight_rows() -> [&'static [Small]; 1] {
-    [eight()]
-}
-"""
+# How the tests ask each row: as a search and as a list of lines, with these caches, in these orders of moves.
+HEAD = "least,lists {rows} none,lru:1000,slots:1000 any,end,trial"
 
 
 class TooLong(Exception):
@@ -125,21 +106,15 @@ def table(rows, each):
     return [row for positions in found.values() for row in positions.items()]
 
 
-def printed(name, rows):
-    print(f"\nconst {name}: [Small; {len(rows)}] = [")
-    for text, least in rows:
-        print(f'    ("{text}", {least}),')
-    print("];")
-    print(f"\nfn {name.lower()}() -> &'static [Small] {{\n    &{name}\n}}")
+def printed(rows, each):
+    print(HEAD.format(rows=rows))
+    for text, least in table(rows, each):
+        print(f"  {text} = {least}")
 
 
 def main():
-    print(HEAD, end="")
-    names = ("TEN_UNWON", "TEN_IN_ONE", "TEN_IN_TWO", "TEN_IN_THREE")
-    ten = table(10, 8)
-    for number, name in enumerate(names):
-        printed(name, [(text, least) for text, least in ten if least == number])
-    printed("EIGHT", table(8, 2))
+    printed(10, 8)
+    printed(8, 2)
 
 
 if __name__ == "__main__":

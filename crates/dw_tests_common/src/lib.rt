@@ -5,7 +5,6 @@
 pub mod escapes;
 pub mod rows;
 pub mod six;
-pub mod small_positions;
 pub mod streams;
 pub mod tally;
 pub mod texts;

@@ -1,0 +1,139 @@
+//! Rows are asked with each cache and each order of moves that the head of their section names.
+ghost use Rattle.std.specs.Prelude.{◌≡◌, ◌≤◌, [], IfSome};
+ghost use Rattle.dw_solve.specs.Facts.{AreTrue};
+
+use crate::kind::Kind;
+use crate::lines::list_rows;
+use crate::notes::{crowded, notes};
+use crate::solve::{ByEnd, ask_rows};
+use dw_board::board::Board;
+use dw_memo::lru_memo::LruMemo;
+use dw_memo::memo::Memo;
+use dw_memo::no_memo::NoMemo;
+use dw_memo::slot_memo::SlotMemo;
+use dw_solve::guide::{AnyOrder, ByTrial};
+use dw_tests_common::rows::{Row, Section, word};
+use dw_tests_common::tally::Tally;
+use std::alloc::Global;
+use std::slice;
+
+/// Asks the rows of a section with each cache.
+pub fn ask_on<B: Board>(alloc: Global, kind: Kind, section: &Section, tally: &mut Tally) {
+    let guides = word(section.head.as_str(), 3);
+    let rows = section.rows.as_slice();
+    for memo in word(section.head.as_str(), 2).split(',') {
+        if kind.keeps() {
+            ask_with::<B>(alloc, kind, memo, guides, rows, tally);
+        } else {
+            ask_each::<B>(alloc, kind, memo, guides, rows, tally);
+        }
+    }
+}
+
+/// Asks each row with a new cache.
+fn ask_each<B: Board>(
+    alloc: Global,
+    kind: Kind,
+    memo: &str,
+    guides: &str,
+    rows: &[Row],
+    tally: &mut Tally,
+) {
+    for row in rows {
+        ask_with::<B>(alloc, kind, memo, guides, slice::from_ref(row), tally);
+    }
+}
+
+/// Asks rows in each order of moves.
+fn ask_with<B: Board>(
+    alloc: Global,
+    kind: Kind,
+    memo: &str,
+    guides: &str,
+    rows: &[Row],
+    tally: &mut Tally,
+) {
+    for guide in guides.split(',') {
+        if guide == "trial" || !kind.lists() {
+            if ask_memo::<B>(alloc, kind, memo, guide, rows, tally).is_none() {
+                tally.lose(rows);
+            }
+        }
+    }
+}
+
+/// Asks rows of a cache, `none`, `lru:SIZE` or `slots:SIZE`; a spare one is made with it.
+fn ask_memo<B: Board>(
+    alloc: Global,
+    kind: Kind,
+    memo: &str,
+    guide: &str,
+    rows: &[Row],
+    tally: &mut Tally,
+) -> Option<()> {
+    let (name, size) = memo.split_once(':').unwrap_or((memo, "1"));
+    let size = size.parse::<usize>().ok()?.clamp(1, 4_000_000);
+    match name {
+        "none" => {
+            let (memo, spare) = (NoMemo::new(), NoMemo::new());
+            ask_kind::<B, NoMemo>(alloc, kind, memo, spare, guide, rows, tally)
+        }
+        "lru" => {
+            let (memo, spare) = (latest::<B>(alloc, size)?, latest::<B>(alloc, size)?);
+            ask_kind(alloc, kind, memo, spare, guide, rows, tally)
+        }
+        "slots" => {
+            let (memo, spare) = (slots::<B>(alloc, size)?, slots::<B>(alloc, size)?);
+            ask_kind(alloc, kind, memo, spare, guide, rows, tally)
+        }
+        _ => None,
+    }
+}
+
+/// A new cache of the positions used latest; it is made again if memory is refused once.
+fn latest<B: Board>(alloc: Global, size: usize) -> Option<LruMemo<B>>
+    requires some { 1 ≤ size }
+    requires most { size ≤ 4_000_000 }
+    ensures { IfSome result (λ m. m.content ≡ []) }
+{
+    match LruMemo::new(alloc, size) {
+        Ok(memo) => Some(memo),
+        Err(_) => LruMemo::new(alloc, size).ok(),
+    }
+}
+
+/// A new cache of slots; it is made again if memory is refused once.
+fn slots<B: Board>(alloc: Global, size: usize) -> Option<SlotMemo<B>>
+    requires some { 1 ≤ size }
+    requires most { size ≤ 4_000_000 }
+    ensures { IfSome result (λ m. m.content ≡ []) }
+{
+    match SlotMemo::new(alloc, size) {
+        Ok(memo) => Some(memo),
+        Err(_) => SlotMemo::new(alloc, size).ok(),
+    }
+}
+
+/// Asks rows of a cache, or of a solver or a lister over it, in this order of moves.
+fn ask_kind<B: Board, M: Memo<B> + Drop>(
+    alloc: Global,
+    kind: Kind,
+    memo: M,
+    spare: M,
+    guide: &str,
+    rows: &[Row],
+    tally: &mut Tally,
+) -> Option<()>
+    requires right { AreTrue B.geometry (M.content memo) }
+    requires spare { AreTrue B.geometry (M.content spare) }
+{
+    match (kind, guide) {
+        (Kind::Notes, _) => notes(memo, rows, tally),
+        (Kind::Crowded, _) => crowded(alloc, memo, rows, tally),
+        (kind, "trial") if kind.lists() => list_rows(alloc, kind, memo, rows, tally),
+        (_, "any") => ask_rows(alloc, kind, memo, spare, AnyOrder, rows, tally),
+        (_, "end") => ask_rows(alloc, kind, memo, spare, ByEnd, rows, tally),
+        (_, "trial") => ask_rows(alloc, kind, memo, spare, ByTrial, rows, tally),
+        _ => None,
+    }
+}

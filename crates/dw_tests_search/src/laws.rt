@@ -1,0 +1,24 @@
+//! The laws.
+
+use dw_list::laws as lines;
+use dw_list::laws::tokens;
+use dw_solve::laws as wins;
+use dw_tests_common::tally::Found;
+
+/// Calls each law once.
+pub fn law(found: &mut Found) {
+    wins::wins_stay();
+    wins::wins_are_decided();
+    wins::closed_is_true();
+    wins::decided_are_counted();
+    wins::searches_add_up();
+    wins::no_win_in_one();
+    lines::none_begins();
+    lines::lines_exist();
+    lines::line_or_place();
+    tokens::written_is_token();
+    tokens::one_line();
+    tokens::tokens_have_no_fault();
+    tokens::version_1_keeps();
+    found.add("called");
+}

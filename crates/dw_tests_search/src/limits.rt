@@ -1,0 +1,116 @@
+//! Limits on how many positions may be expanded, and what is counted.
+ghost use Rattle.std.specs.Prelude.{◌≤◌};
+
+use crate::solve::moves_of;
+use dw_board::board::Board;
+use dw_board::position::Position;
+use dw_memo::memo::Memo;
+use dw_solve::guide::Guide;
+use dw_solve::solver::Solver;
+use dw_solve::stop::Stop;
+use dw_tests_common::rows::word;
+use dw_tests_common::tally::Found;
+use dw_tests_common::texts::read_position;
+use std::alloc::Global;
+
+/// A limit that no question here reaches.
+const HIGH: u64 = 1_000_000;
+
+/// What is answered about one move less, and then to the question itself; and how many positions were expanded by then.
+type Both = (Result<bool, Stop>, Result<bool, Stop>, u64);
+
+fn ask_both<B: Board, M: Memo<B>, G: Guide<B>>(
+    alloc: Global,
+    solver: &mut Solver<B, M, G>,
+    position: &Position<B>,
+    moves: u8,
+) -> Both
+    requires { moves ≤ 20 }
+{
+    let before = solver.wins(alloc, position, moves.saturating_sub(1));
+    let answer = solver.wins(alloc, position, moves);
+    (before, answer, solver.expanded())
+}
+
+/// With one expansion too few there is no answer. What was answered by then is still known, and with a higher limit the
+/// rest is found, and is known from then on. The first solver has an ample limit, the other has expanded nothing.
+pub fn limited<B: Board, M: Memo<B>, G: Guide<B>>(
+    alloc: Global,
+    whole: &mut Solver<B, M, G>,
+    other: &mut Solver<B, M, G>,
+    asked: &str,
+    found: &mut Found,
+) -> Option<()> {
+    let position = read_position::<B>(word(asked, 0))?;
+    let moves = moves_of(word(asked, 1))?;
+    let (before, answer, needed) = ask_both(alloc, whole, &position, moves);
+    found.show(&before);
+    found.show(&answer);
+    if other.expanded() != 0 || needed < 2 {
+        return None;
+    }
+    other.set_limit(needed - 1);
+    let first = ask_both(alloc, other, &position, moves);
+    let again = ask_both(alloc, other, &position, moves);
+    let stopped = (before, Err(Stop::Limit), needed - 1);
+    found.add(if first == stopped && again == stopped {
+        " stops"
+    } else {
+        " does not stop"
+    });
+    other.set_limit(other.expanded().max(HIGH));
+    let last = ask_both(alloc, other, &position, moves);
+    let known = ask_both(alloc, other, &position, moves);
+    let is_right = last.0 == before && last.1 == answer && last.2 >= needed && known == last;
+    found.add(if is_right && other.dropped() == 0 {
+        ", goes on"
+    } else {
+        ", does not go on"
+    });
+    Some(())
+}
+
+/// The answer under a limit, and whether as many positions were expanded.
+pub fn limit<B: Board, M: Memo<B>, G: Guide<B>>(
+    alloc: Global,
+    solver: &mut Solver<B, M, G>,
+    asked: &str,
+    found: &mut Found,
+) -> Option<()> {
+    let position = read_position::<B>(word(asked, 0))?;
+    let moves = moves_of(word(asked, 1))?;
+    let limit = word(asked, 2).parse::<u64>().ok()?.max(1);
+    solver.set_limit(solver.expanded().max(limit));
+    found.show(&solver.wins(alloc, &position, moves));
+    found.add(if solver.expanded() == limit {
+        ", all expanded"
+    } else {
+        ", not all expanded"
+    });
+    Some(())
+}
+
+/// What the cache decides is not searched again, not even at the limit.
+pub fn known<B: Board, M: Memo<B>, G: Guide<B>>(
+    alloc: Global,
+    solver: &mut Solver<B, M, G>,
+    asked: &str,
+    found: &mut Found,
+) -> Option<()> {
+    let position = read_position::<B>(word(asked, 0))?;
+    let moves = moves_of(word(asked, 1))?;
+    found.show(&solver.wins(alloc, &position, moves));
+    let expanded = solver.expanded();
+    found.show(&solver.wins(alloc, &position, moves));
+    let is_known = expanded > 0 && solver.expanded() == expanded;
+    solver.set_limit(solver.expanded().max(1));
+    found.show(&solver.wins(alloc, &position, moves));
+    let is_limit = solver.limit() == expanded && solver.expanded() == expanded;
+    let is_right = is_known && is_limit && solver.dropped() == 0;
+    found.add(if is_right {
+        " searched once"
+    } else {
+        " searched again"
+    });
+    Some(())
+}

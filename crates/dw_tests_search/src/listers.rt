@@ -1,0 +1,130 @@
+//! Listers: that they give just the lines that are there, and after each line those behind it.
+ghost use Rattle.std.specs.Prelude.{◌≤◌};
+
+use arrayvec::ArrayVec;
+use dw_board::board::Board;
+use dw_board::position::Position;
+use dw_list::all_lines::all_lines;
+use dw_list::lister::Lister;
+use dw_memo::memo::Memo;
+use dw_moves::moves::Move;
+use dw_solve::guide::ByTrial;
+use dw_solve::solver::Solver;
+use dw_tests_common::tally::Found;
+use dw_tests_common::texts::{add_step, step_of};
+use std::alloc::Global;
+
+/// Of lists of so many lines the whole rest is compared after each line, and of longer ones the next line.
+const COMPARED: usize = 200;
+
+/// A list of moves with a comma between them; they need not be legal.
+pub fn moves_in<B: Board>(text: &str) -> Option<ArrayVec<Move<B>, 39>> {
+    let mut line = ArrayVec::new();
+    if text.is_empty() {
+        return Some(line);
+    }
+    for part in text.split(',') {
+        line.try_push(step_of(part.trim())?).ok()?;
+    }
+    Some(line)
+}
+
+/// Adds a line: of each move where it begins and ends, and what it takes.
+pub fn add_line<B: Board>(line: &[Move<B>], found: &mut Found) {
+    for (place, step) in line.iter().enumerate() {
+        if place > 0 {
+            found.add(", ");
+        }
+        add_step(step, found);
+    }
+    found.add("\n");
+}
+
+/// How many first moves two lines have in common.
+fn common<B: Board>(line: &[Move<B>], other: &[Move<B>]) -> usize {
+    let mut count = 0_usize;
+    for (step, there) in line.iter().zip(other) {
+        if *step != *there {
+            return count;
+        }
+        count = count.saturating_add(1);
+    }
+    count
+}
+
+/// Nothing, unless the lister gives these lines and no other, and says what each has in common with the one before it.
+pub fn gives<B: Board, M: Memo<B>>(
+    alloc: Global,
+    lister: &mut Lister<'_, B, M, ByTrial>,
+    lines: &[Vec<Move<B>>],
+) -> Option<()> {
+    for (place, line) in lines.iter().enumerate() {
+        gives_next(alloc, lister, line)?;
+        let shared = if place > 0 {
+            common(lines[place - 1].as_slice(), line.as_slice())
+        } else {
+            0
+        };
+        if lister.shared() != shared {
+            return None;
+        }
+    }
+    ended(alloc, lister)
+}
+
+/// Nothing, unless no line is still to come.
+pub fn ended<B: Board, M: Memo<B>>(
+    alloc: Global,
+    lister: &mut Lister<'_, B, M, ByTrial>,
+) -> Option<()> {
+    match lister.next(alloc) {
+        Ok(None) => Some(()),
+        _ => None,
+    }
+}
+
+/// Nothing, unless the lister gives this line next.
+fn gives_next<B: Board, M: Memo<B>>(
+    alloc: Global,
+    lister: &mut Lister<'_, B, M, ByTrial>,
+    line: &Vec<Move<B>>,
+) -> Option<()> {
+    match lister.next(alloc) {
+        Ok(Some(given)) if *given == *line.as_slice() => Some(()),
+        _ => None,
+    }
+}
+
+/// Nothing, unless after each of these lines, which are all of a position, the lister gives those after it and no other.
+fn goes_on<B: Board, M: Memo<B>>(
+    alloc: Global,
+    lister: &mut Lister<'_, B, M, ByTrial>,
+    lines: &[Vec<Move<B>>],
+) -> Option<()> {
+    for (place, line) in lines.iter().enumerate() {
+        lister.after(alloc, line.as_slice()).ok()?;
+        let behind = &lines[place + 1..];
+        match behind.first() {
+            Some(next) if lines.len() > COMPARED => gives_next(alloc, lister, next)?,
+            _ => gives(alloc, lister, behind)?,
+        }
+    }
+    Some(())
+}
+
+/// All lines of a position. The lister gives just these, and after each of them those after it.
+pub fn lines_of<B: Board, M: Memo<B>>(
+    alloc: Global,
+    solver: &mut Solver<B, M, ByTrial>,
+    position: &Position<B>,
+    moves: u8,
+) -> Option<Vec<Vec<Move<B>>>>
+    requires some { 1 ≤ moves }
+    requires few { moves ≤ 20 }
+{
+    let whole = all_lines(alloc, solver, position, moves).ok()?;
+    let mut lister = Lister::start(solver, position, moves);
+    gives(alloc, &mut lister, whole.as_slice())?;
+    goes_on(alloc, &mut lister, whole.as_slice())?;
+    Some(whole)
+}

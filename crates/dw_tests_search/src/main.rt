@@ -1,0 +1,54 @@
+//! Tests of caches, of the solver, of the lines of forced wins and of tokens, over public calls: at the boards of ten
+//! and of eight rows, and at a small one of six. Each row of standard input is asked, with each cache and each order of
+//! moves that the head of its section names, and of each section it is said how many rows were right.
+//!
+//! The rows hold what no clause says: worked positions, a call of each public function, limits that stop a search, and
+//! memory that is refused (`checks/refused_search.py` refuses it).
+#![tactic(auto)]
+
+mod ask;
+mod kind;
+mod laws;
+mod limits;
+mod lines;
+mod listers;
+mod notes;
+mod plain;
+mod solve;
+mod tokens;
+
+use ask::ask_on;
+use dw_board::board::{Eight, Ten};
+use dw_tests_common::rows::{Section, input_sections, word};
+use dw_tests_common::six::Six;
+use dw_tests_common::tally::Tally;
+use kind::Kind;
+use plain::ask_plain;
+use std::alloc::Global;
+use std::io;
+
+fn main(rt: HostRuntime) -> io::Result<()> {
+    for section in input_sections(&rt)?.as_slice() {
+        let mut tally = Tally::new(rt.alloc())?;
+        for kind in word(section.head.as_str(), 0).split(',') {
+            ask_section(rt.alloc(), kind, section, &mut tally);
+        }
+        tally.report(&rt, section.head.as_str())?;
+    }
+    Ok(())
+}
+
+/// Asks all rows of a section, on each board.
+fn ask_section(alloc: Global, kind: &str, section: &Section, tally: &mut Tally) {
+    let rows = section.rows.as_slice();
+    for board in word(section.head.as_str(), 1).split(',') {
+        match (Kind::named(kind), board) {
+            (Some(kind), "10") => ask_on::<Ten>(alloc, kind, section, tally),
+            (Some(kind), "8") => ask_on::<Eight>(alloc, kind, section, tally),
+            (Some(kind), "6") => ask_on::<Six>(alloc, kind, section, tally),
+            (None, "10") => ask_plain::<Ten>(alloc, kind, rows, tally),
+            (None, "8") => ask_plain::<Eight>(alloc, kind, rows, tally),
+            _ => tally.lose(rows),
+        }
+    }
+}

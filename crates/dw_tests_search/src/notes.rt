@@ -1,0 +1,122 @@
+//! What is found again in a cache, what is lost, and what is counted.
+
+use dw_board::board::Board;
+use dw_board::position::Position;
+use dw_memo::bounds::Bounds;
+use dw_memo::memo::{Memo, Noted};
+use dw_tests_common::rows::{Row, word};
+use dw_tests_common::tally::{Found, Tally};
+use dw_tests_common::texts::read_position;
+use std::alloc::Global;
+
+/// Bounds: the greatest number of moves that fails and the least that wins, `-` for none.
+pub fn bounds_of(fails: &str, wins: &str) -> Bounds {
+    Bounds {
+        fails: fails.parse::<u8>().ok(),
+        wins: wins.parse::<u8>().ok(),
+    }
+}
+
+/// What a cache answers when it notes bounds, what it finds of a position, and how many entries were lost.
+fn note<B: Board, M: Memo<B>>(memo: &mut M, asked: &str, found: &mut Found) -> Option<()> {
+    if asked == "lost" {
+        found.say(&memo.dropped());
+        return Some(());
+    }
+    let position = read_position::<B>(word(asked, 1))?;
+    let bounds = bounds_of(word(asked, 2), word(asked, 3));
+    match word(asked, 0) {
+        "note" => found.show(&memo.note(position, bounds)),
+        "look" => found.show(
+            &memo
+                .look(&position)
+                .map(|bounds| (bounds.fails, bounds.wins)),
+        ),
+        "keep" => keep(memo, &position, bounds, found),
+        _ => return None,
+    }
+    Some(())
+}
+
+/// Whether bounds are held just if their note is kept, and else they alone are counted as lost.
+fn keep<B: Board, M: Memo<B>>(
+    memo: &mut M,
+    position: &Position<B>,
+    bounds: Bounds,
+    found: &mut Found,
+) {
+    let before = memo.dropped();
+    let is_kept = memo.note(*position, bounds) == Noted::Kept;
+    let is_held = memo.look(position) == Some(bounds);
+    let lost = memo.dropped().wrapping_sub(before);
+    let is_right = is_held == is_kept && lost == u64::from(!is_kept);
+    found.add(if is_right {
+        "as it says"
+    } else {
+        "not as it says"
+    });
+}
+
+/// All rows are asked of one cache.
+pub fn notes<B: Board, M: Memo<B> + Drop>(
+    mut memo: M,
+    rows: &[Row],
+    tally: &mut Tally,
+) -> Option<()> {
+    for row in rows {
+        let answered = note(&mut memo, row.asked.as_str(), &mut tally.found);
+        tally.end(row, answered);
+    }
+    Some(())
+}
+
+/// How many of the entries held before are lost after that of this number was noted. Each row is a position with its
+/// number; nothing else is found again than what was held, and the entry itself is.
+fn lost_after<B: Board, M: Memo<B>>(
+    memo: &mut M,
+    rows: &[Row],
+    held: &mut [bool],
+    number: u8,
+) -> Option<u64> {
+    let mut lost = 0u64;
+    for (row, was_held) in rows.iter().zip(held.iter_mut()) {
+        let own = word(row.asked.as_str(), 1).parse::<u8>().ok()?;
+        let found = memo.look(&read_position(word(row.asked.as_str(), 0))?);
+        let is_held = found == Some(Bounds::default().with_fail(own));
+        let may_be_held = *was_held || own == number;
+        if !is_held && (found.is_some() || own == number) || is_held && !may_be_held {
+            return None;
+        }
+        lost = lost.wrapping_add(u64::from(*was_held && !is_held));
+        *was_held = is_held;
+    }
+    Some(lost)
+}
+
+/// All rows are noted in one cache, which is too small for them: a note loses at most one of the entries that were held,
+/// and that is counted. There is room for seven.
+pub fn crowded<B: Board, M: Memo<B> + Drop>(
+    alloc: Global,
+    mut memo: M,
+    rows: &[Row],
+    tally: &mut Tally,
+) -> Option<()> {
+    let mut held = Vec::new(alloc);
+    held.resize(rows.len(), false).ok()?;
+    for row in rows {
+        let number = word(row.asked.as_str(), 1).parse::<u8>().ok()?;
+        let position = read_position::<B>(word(row.asked.as_str(), 0))?;
+        let before = memo.dropped();
+        let own = Bounds::default().with_fail(number);
+        let is_kept = memo.note(position, own) == Noted::Kept;
+        let lost = lost_after(&mut memo, rows, held.as_mut_slice(), number)?;
+        let is_counted = memo.dropped().wrapping_sub(before) == lost;
+        let is_enough = memo.dropped() >= u64::from(number.saturating_sub(7));
+        let is_right = is_kept && lost <= 1 && is_counted && is_enough;
+        tally
+            .found
+            .add(if is_right { "one lost at most" } else { "lost" });
+        tally.end(row, Some(()));
+    }
+    Some(())
+}

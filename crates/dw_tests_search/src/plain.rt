@@ -1,0 +1,61 @@
+//! Rows that are asked of no cache.
+ghost use Rattle.std.specs.Prelude.{◌≡◌, ◌⊎◌};
+
+use crate::laws::law;
+use crate::notes::bounds_of;
+use crate::tokens::{token, written};
+use dw_board::board::Board;
+use dw_moves::legal::is_legal;
+use dw_solve::trial::trial;
+use dw_tests_common::rows::{Row, column, word};
+use dw_tests_common::tally::{Found, Tally};
+use dw_tests_common::texts::{read_position, step_of};
+use std::alloc::Global;
+
+/// Asks rows of the kind that a word names.
+pub fn ask_plain<B: Board>(alloc: Global, kind: &str, rows: &[Row], tally: &mut Tally)
+    requires { (B.geometry.rows ≡ 10) ⊎ (B.geometry.rows ≡ 8) }
+{
+    for row in rows {
+        let (asked, found) = (row.asked.as_str(), &mut tally.found);
+        let answered = match kind {
+            "bounds" => bounds(asked, found),
+            "trial" => tried::<B>(asked, found),
+            "token" => token::<B>(alloc, asked, found),
+            "written" => written::<B>(alloc, asked, found),
+            "law" => {
+                law(found);
+                Some(())
+            }
+            _ => None,
+        };
+        tally.end(row, answered);
+    }
+}
+
+/// What bounds decide, after wins and failures were added to them.
+fn bounds(asked: &str, found: &mut Found) -> Option<()> {
+    let (first, added) = (column(asked, 0), column(asked, 1));
+    let mut bounds = bounds_of(word(first, 0), word(first, 1));
+    for (place, next) in [(0, 1), (2, 3)] {
+        let moves = word(added, next).parse::<u8>();
+        bounds = match (word(added, place), moves) {
+            ("win", Ok(moves)) => bounds.with_win(moves),
+            ("fail", Ok(moves)) => bounds.with_fail(moves),
+            _ => bounds,
+        };
+    }
+    found.show(&bounds.decide(column(asked, 2).parse::<u8>().ok()?));
+    Some(())
+}
+
+/// The trial of a legal move.
+fn tried<B: Board>(asked: &str, found: &mut Found) -> Option<()> {
+    let position = read_position::<B>(column(asked, 0))?;
+    let step = step_of(column(asked, 1))?;
+    if !is_legal(&position, &step) {
+        return None;
+    }
+    found.say(&trial(&position, &step));
+    Some(())
+}

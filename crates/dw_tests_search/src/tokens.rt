@@ -1,0 +1,43 @@
+//! Tokens of lines: read, refused, and written.
+ghost use Rattle.std.specs.Prelude.{◌≡◌, ◌⊎◌};
+
+use crate::listers::{add_line, moves_in};
+use dw_board::board::Board;
+use dw_list::tokens::{MAX_MOVES, read_token, write_token};
+use dw_notation::streams::Writing;
+use dw_tests_common::rows::{column, word};
+use dw_tests_common::streams::Narrow;
+use dw_tests_common::tally::Found;
+use std::alloc::Global;
+use std::str;
+
+/// The line of a token, or why the text is none. A second column tells how often the text is repeated.
+pub fn token<B: Board>(alloc: Global, asked: &str, found: &mut Found) -> Option<()> {
+    let mut text = Vec::new(alloc);
+    for _ in 0..column(asked, 1).parse::<u16>().unwrap_or(1) {
+        text.extend_from_slice(column(asked, 0).as_bytes()).ok()?;
+    }
+    match read_token::<B>(text.as_slice()) {
+        Ok(line) => add_line(line.as_slice(), found),
+        Err(fault) => found.say(&fault),
+    }
+    Some(())
+}
+
+/// The token of a line, written to a sink that takes so many bytes a write and fails at this write.
+pub fn written<B: Board>(alloc: Global, asked: &str, found: &mut Found) -> Option<()>
+    requires { (B.geometry.rows ≡ 10) ⊎ (B.geometry.rows ≡ 8) }
+{
+    let line = moves_in::<B>(column(asked, 0))?;
+    if line.len() % 2 != 1 || line.len() > MAX_MOVES {
+        return None;
+    }
+    let step = word(column(asked, 1), 0).parse::<usize>().ok()?;
+    let fails_at = word(column(asked, 1), 1).parse::<u64>().ok()?;
+    let mut sink = Writing::new(Narrow::new(alloc, step, fails_at));
+    let is_written = write_token(line.as_slice(), &mut sink).is_ok();
+    let Narrow { taken, .. } = sink.into_inner();
+    found.add(str::from_utf8(taken.as_slice()).ok()?);
+    found.add(if is_written { ", written" } else { ", failed" });
+    Some(())
+}
