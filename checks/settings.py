@@ -3,35 +3,42 @@
 
     checks/settings.py
 
-The positions and their reports are those of crates/dw_tests_report/src/solved.rt. Each is judged and listed with each
+The positions and their reports are those of crates/dw_tests_report/stdin. Each is judged and listed with each
 memo and with --cache 1, 2 and 100000; that has to write the stated bytes. Then the limit of --positions rises by one
 from 1 until the run is whole. Each smaller limit E has to stop the run with status 3 and `dw: stopped: 2 limit, E
 expanded`, after the problem's first line and whole lines of the rest, and never with less than a smaller one wrote.
 """
 import pathlib
-import re
 import subprocess
 
 TOP = pathlib.Path(__file__).resolve().parent.parent
 DW = TOP / "dw"
-SOLVED = TOP / "crates/dw_tests_report/src/solved.rt"
+ROWS = TOP / "crates/dw_tests_report/stdin"
 MEMOS = [("none", "100000"), *((memo, cache) for memo in ("lru", "slots") for cache in ("1", "2", "100000"))]
 MOST = 1000
-STRING = r'"((?:[^"\\]|\\[\s\S])*)"'
+
+
+def reports(command):
+    """The reports of a command, by position and number of moves. Below each stands how many problems it is on."""
+    found, rows = {}, None
+    for line in ROWS.read_text().splitlines():
+        if not line.startswith((" ", "#")):
+            rows = found if line.startswith(f"run,limits 10 {command} fens ") else None
+        elif rows is not None and line.startswith("  > "):
+            rows[key].append(line[4:] + "\n")
+        elif rows is not None and line.startswith("  "):
+            fen, n = (word.strip() for word in line.split("|"))
+            key = (fen, n)
+            rows[key] = []
+    assert found and all(lines[-1].startswith("(") for lines in found.values()), command
+    return {key: "".join(lines[:-1]).encode() for key, lines in found.items()}
 
 
 def solved():
-    """The rows of the table: a position, a number of moves, the report that judges it and the one that lists it."""
-    text = SOLVED.read_text()
-    table = text[text.index("const SOLVED") : text.index("];", text.index("const SOLVED"))]
-    rows = re.findall(rf"\(\s*{STRING},\s*(\d+),\s*{STRING},\s*{STRING},?\s*\)", table)
-    assert len(rows) == int(re.search(r"\[Solved; (\d+)\]", table)[1]), len(rows)
-    return [(fen, n, read(judged), read(listed)) for fen, n, judged, listed in rows]
-
-
-def read(literal):
-    """The bytes of a string literal: a backslash at a line's end passes over the line feed and the blanks after it."""
-    return re.sub(r"\\\n\s*", "", literal).replace(r"\n", "\n").encode()
+    """The rows: a position, a number of moves, the report that judges it and the one that lists it."""
+    judged, listed = reports("judge"), reports("list")
+    assert judged.keys() == listed.keys()
+    return [(fen, n, judged[fen, n], listed[fen, n]) for fen, n in judged]
 
 
 def run(words, fen):

@@ -1,0 +1,86 @@
+//! Verdicts and tries of worked problems.
+
+use crate::asked::{AMPLE, Asked};
+use dw_board::board::Board;
+use dw_memo::lru_memo::LruMemo;
+use dw_memo::no_memo::NoMemo;
+use dw_moves::moves::Move;
+use dw_report::judge::judge;
+use dw_report::verdict::{Judged, Verdict};
+use dw_solve::guide::ByTrial;
+use dw_solve::solver::Solver;
+use dw_solve::stop::Stop;
+use dw_tests_common::tally::Found;
+use dw_tests_common::texts::{add_step, read_position};
+use std::alloc::Global;
+
+/// Adds moves, each in a line of its own behind a word.
+fn add_moves<B: Board>(word: &str, moves: &[Move<B>], found: &mut Found) {
+    for step in moves {
+        found.add(word);
+        found.add(" ");
+        add_step(step, found);
+        found.add("\n");
+    }
+}
+
+/// Adds the verdict: its name, the shortest win, the moves that lead to a choice, and the keys or choices.
+fn add_verdict<B: Board>(verdict: &Verdict<B>, found: &mut Found) {
+    match verdict {
+        Verdict::Unsolvable => found.add("unsolvable\n"),
+        Verdict::Cooked { shortest, keys } => {
+            found.add("cooked, shortest ");
+            found.say(shortest);
+            found.add("\n");
+            add_moves("key", keys.as_slice(), found);
+        }
+        Verdict::Dual { at, choices } => {
+            found.add("dual\n");
+            add_moves("after", at.as_slice(), found);
+            add_moves("choice", choices.as_slice(), found);
+        }
+        Verdict::Sound { key } => {
+            found.add("sound\n");
+            add_moves("key", &[*key], found);
+        }
+    }
+}
+
+/// Adds the verdict, and the tries, each with the reply that refutes it.
+fn add_judged<B: Board>(judged: &Judged<B>, found: &mut Found) {
+    add_verdict(&judged.verdict, found);
+    for (first, reply) in judged.tries.as_slice() {
+        add_moves("try", &[*first], found);
+        add_moves("refuted by", &[*reply], found);
+    }
+}
+
+/// What is judged of a position, with no cache.
+pub fn judged<B: Board>(alloc: Global, asked: &Asked<'_>, found: &mut Found) -> Option<()> {
+    let position = read_position::<B>(asked.column(0))?;
+    let mut solver = Solver::<B, NoMemo, ByTrial>::new(NoMemo::new(), ByTrial, AMPLE);
+    let judged = judge(alloc, &mut solver, &position, asked.moves()?).ok()?;
+    add_judged(&judged, found);
+    Some(())
+}
+
+/// What is judged under limits that rise by one, with a cache: the solver is asked again until it has an answer.
+pub fn stopped<B: Board>(alloc: Global, asked: &Asked<'_>, found: &mut Found) -> Option<()> {
+    let position = read_position::<B>(asked.column(0))?;
+    let moves = asked.moves()?;
+    let memo = LruMemo::new(alloc, 1_000).ok()?;
+    let mut solver = Solver::<B, LruMemo<B>, ByTrial>::new(memo, ByTrial, 1);
+    for limit in 1..1_000 {
+        let limit = solver.expanded().max(limit);
+        solver.set_limit(limit);
+        match judge(alloc, &mut solver, &position, moves) {
+            Err(Stop::Limit) => {}
+            Err(Stop::Memory) => return None,
+            Ok(judged) => {
+                add_judged(&judged, found);
+                return Some(());
+            }
+        }
+    }
+    None
+}

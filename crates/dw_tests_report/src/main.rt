@@ -1,0 +1,69 @@
+//! Tests of verdicts and of whole runs, over public calls: at the boards of ten and of eight rows. Each row of standard
+//! input is asked, and of each section it is said how many rows were right.
+//!
+//! The rows hold what no clause says: worked reports, and each read and each write failing in turn.
+#![tactic(auto)]
+
+mod asked;
+mod broken;
+mod judged;
+mod kind;
+mod plain;
+mod reports;
+mod runs;
+
+ghost use Rattle.std.specs.Prelude.{◌≡◌, ◌⊎◌};
+
+use asked::Asked;
+use dw_board::board::{Board, Eight, Ten};
+use dw_tests_common::rows::{Section, input_sections, word};
+use dw_tests_common::tally::{Found, Tally};
+use kind::Kind;
+use std::alloc::Global;
+use std::io;
+
+fn main(rt: HostRuntime) -> io::Result<()> {
+    for section in input_sections(&rt)?.as_slice() {
+        let mut tally = Tally::new(rt.alloc())?;
+        for kind in word(section.head.as_str(), 0).split(',') {
+            ask_section(rt.alloc(), Kind::named(kind), section, &mut tally);
+        }
+        tally.report(&rt, section.head.as_str())?;
+    }
+    Ok(())
+}
+
+/// Asks all rows of a section, on its board.
+fn ask_section(alloc: Global, kind: Option<Kind>, section: &Section, tally: &mut Tally) {
+    for row in section.rows.as_slice() {
+        let asked = Asked::new(section, row);
+        let found = &mut tally.found;
+        let answered = match (kind, word(asked.head, 1)) {
+            (Some(kind), "10") => answer::<Ten>(alloc, kind, &asked, found),
+            (Some(kind), "8") => answer::<Eight>(alloc, kind, &asked, found),
+            _ => None,
+        };
+        tally.end(row, answered);
+    }
+}
+
+/// Writes what is found for a row.
+fn answer<B: Board>(alloc: Global, kind: Kind, asked: &Asked<'_>, found: &mut Found) -> Option<()>
+    requires { (B.geometry.rows ≡ 10) ⊎ (B.geometry.rows ≡ 8) }
+{
+    match kind {
+        Kind::Judge => judged::judged::<B>(alloc, asked, found),
+        Kind::Stopped => judged::stopped::<B>(alloc, asked, found),
+        Kind::Run => reports::whole::<B>(alloc, asked, found),
+        Kind::Limits => reports::limits::<B>(alloc, asked, found),
+        Kind::Reads => broken::reads::<B>(alloc, asked, found),
+        Kind::Writes => broken::writes::<B>(alloc, asked, found),
+        Kind::Changed => reports::changed::<B>(alloc, asked, found),
+        Kind::Many => plain::many::<B>(alloc, asked, found),
+        Kind::Chosen => plain::chosen::<B>(asked, found),
+        Kind::Law => {
+            plain::law(found);
+            Some(())
+        }
+    }
+}

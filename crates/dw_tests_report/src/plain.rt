@@ -1,0 +1,53 @@
+//! A run over too many problems; which problems are chosen; the laws.
+ghost use Rattle.std.specs.Prelude.{◌≡◌, ◌⊎◌};
+
+use crate::asked::{AMPLE, Asked};
+use crate::runs::Ran;
+use dw_board::board::Board;
+use dw_memo::no_memo::NoMemo;
+use dw_report::laws;
+use dw_report::run::run;
+use dw_report::streams::{Reading, Writing};
+use dw_solve::guide::AnyOrder;
+use dw_tests_common::streams::{Narrow, Repeated};
+use dw_tests_common::tally::Found;
+use std::alloc::Global;
+
+/// The report on a text of so many lines, each of one letter that names no position.
+pub fn many<B: Board>(alloc: Global, asked: &Asked<'_>, found: &mut Found) -> Option<()>
+    requires { (B.geometry.rows ≡ 10) ⊎ (B.geometry.rows ≡ 8) }
+{
+    let lines = asked.column(0).parse::<u32>().ok()?;
+    let settings = asked.settings::<B>(AMPLE)?;
+    let mut source = Reading::new(Repeated::new(b"a\n", lines));
+    let mut sink = Writing::new(Narrow::new(alloc, 4096, 0));
+    let memo = NoMemo::new();
+    let answer = run(alloc, &mut source, &mut sink, &settings, memo, AnyOrder);
+    let written = sink.into_inner().taken;
+    Ran { answer, written }.say(found)
+}
+
+/// Whether the problem of a number is reported, and whether it is the one that was asked for.
+pub fn chosen<B: Board>(asked: &Asked<'_>, found: &mut Found) -> Option<()> {
+    let settings = asked.settings::<B>(AMPLE)?;
+    let number = asked.column(0).parse::<u32>().ok()?;
+    found.add(if settings.chooses(number) {
+        "reported"
+    } else {
+        "left out"
+    });
+    found.add(if settings.asks_for(number) {
+        ", asked for"
+    } else {
+        ""
+    });
+    Some(())
+}
+
+/// Calls each law once.
+pub fn law(found: &mut Found) {
+    laws::one_verdict();
+    laws::tries_are_listed();
+    laws::one_report();
+    found.add("called");
+}

@@ -1,0 +1,142 @@
+//! Worked reports: in whatever pieces, with each memo, under each limit, and of texts that are changed.
+ghost use Rattle.std.specs.Prelude.{◌≡◌, ◌≤◌, ◌⊎◌};
+
+use crate::asked::{AMPLE, Asked};
+use crate::runs::{Ran, ran_with};
+use dw_board::board::Board;
+use dw_report::settings::{RunFault, Settings, Stop};
+use dw_tests_common::escapes::unescaped;
+use dw_tests_common::rows::word;
+use dw_tests_common::streams::{Chopped, Narrow};
+use dw_tests_common::tally::Found;
+use std::alloc::Global;
+
+/// A run that reads and writes so many bytes at a time.
+fn in_pieces<B: Board>(
+    alloc: Global,
+    settings: &Settings<B>,
+    memo: &str,
+    text: &[u8],
+    step: usize,
+) -> Option<Ran>
+    requires rows { (B.geometry.rows ≡ 10) ⊎ (B.geometry.rows ≡ 8) }
+    requires some { 1 ≤ settings.now.n }
+    requires few { settings.now.n ≤ 20 }
+    requires lines { 1 ≤ settings.now.lines }
+    requires limit { 1 ≤ settings.now.limit }
+{
+    let (reader, writer) = (Chopped::new(text, step, 0, 0), Narrow::new(alloc, step, 0));
+    ran_with(alloc, settings, memo, reader, writer)
+}
+
+/// Nothing, unless runs with this memo write and answer the same in whatever pieces.
+fn same_with<B: Board>(
+    alloc: Global,
+    settings: &Settings<B>,
+    memo: &str,
+    text: &[u8],
+    first: &Ran,
+) -> Option<()>
+    requires rows { (B.geometry.rows ≡ 10) ⊎ (B.geometry.rows ≡ 8) }
+    requires some { 1 ≤ settings.now.n }
+    requires few { settings.now.n ≤ 20 }
+    requires lines { 1 ≤ settings.now.lines }
+    requires limit { 1 ≤ settings.now.limit }
+{
+    for step in [1, 2, 3, 4096] {
+        let ran = in_pieces(alloc, settings, memo, text, step)?;
+        if ran.answer != first.answer || ran.written.as_slice() != first.written.as_slice() {
+            return None;
+        }
+    }
+    Some(())
+}
+
+/// The report, and what the run answers, which are the same with each memo and in whatever pieces.
+pub fn whole<B: Board>(alloc: Global, asked: &Asked<'_>, found: &mut Found) -> Option<()>
+    requires { (B.geometry.rows ≡ 10) ⊎ (B.geometry.rows ≡ 8) }
+{
+    let text = unescaped(alloc, asked.column(0))?;
+    let settings = asked.settings::<B>(AMPLE)?;
+    let first = in_pieces(alloc, &settings, "none", text.as_slice(), 4096)?;
+    first.say(found)?;
+    for memo in word(asked.head, 4).split(',') {
+        same_with(alloc, &settings, memo, text.as_slice(), &first)?;
+    }
+    Some(())
+}
+
+/// Whether a run under this limit was stopped after the first line and whole lines of the rest of a report, of which no
+/// less was written than that many bytes.
+fn is_stopped(ran: &Ran, whole: &[u8], limit: u64, most: usize) -> bool {
+    let taken = ran.written.as_slice();
+    let stopped = RunFault::Stopped {
+        why: Stop::Limit,
+        expanded: limit,
+    };
+    ran.answer == Err(stopped)
+        && whole.starts_with(taken)
+        && taken.starts_with(b"problem 1: ")
+        && taken.ends_with(b"\n")
+        && taken.len() >= most
+}
+
+/// The report and the answer, if under limits that rise by one from 1 a run is stopped, or it is whole, and then it is so
+/// with each higher limit.
+pub fn limits<B: Board>(alloc: Global, asked: &Asked<'_>, found: &mut Found) -> Option<()>
+    requires { (B.geometry.rows ≡ 10) ⊎ (B.geometry.rows ≡ 8) }
+{
+    let text = unescaped(alloc, asked.column(0))?;
+    let settings = asked.settings::<B>(AMPLE)?;
+    let whole = in_pieces(alloc, &settings, "none", text.as_slice(), 4096)?;
+    let mut ended = false;
+    let mut most = 0;
+    for limit in 1..200 {
+        let settings = asked.settings::<B>(limit)?;
+        let ran = in_pieces(alloc, &settings, "none", text.as_slice(), 4096)?;
+        ended = ended || ran.answer.is_ok();
+        let is_same = ran.answer == whole.answer
+            && ran.written.as_slice() == whole.written.as_slice();
+        if ended && !is_same || !ended && !is_stopped(&ran, whole.written.as_slice(), limit, most) {
+            return None;
+        }
+        most = ran.written.len();
+    }
+    if ended { whole.say(found) } else { None }
+}
+
+/// Nothing, unless the report on a text is the same in whatever pieces, and begins with a problem.
+fn reported<B: Board>(alloc: Global, settings: &Settings<B>, text: &[u8]) -> Option<()>
+    requires rows { (B.geometry.rows ≡ 10) ⊎ (B.geometry.rows ≡ 8) }
+    requires some { 1 ≤ settings.now.n }
+    requires few { settings.now.n ≤ 20 }
+    requires lines { 1 ≤ settings.now.lines }
+    requires limit { 1 ≤ settings.now.limit }
+{
+    let ran = in_pieces(alloc, settings, "none", text, 4096)?;
+    let chopped = in_pieces(alloc, settings, "none", text, 1)?;
+    let is_same = ran.answer == chopped.answer
+        && ran.written.as_slice() == chopped.written.as_slice();
+    let is_one = ran.answer.is_ok() && ran.written.as_slice().starts_with(b"problem 1: ");
+    if is_same && is_one { Some(()) } else { None }
+}
+
+/// How many texts have a report, if each byte of a text is changed in turn to each mark of the form.
+pub fn changed<B: Board>(alloc: Global, asked: &Asked<'_>, found: &mut Found) -> Option<()>
+    requires { (B.geometry.rows ≡ 10) ⊎ (B.geometry.rows ≡ 8) }
+{
+    let mut text = unescaped(alloc, asked.column(0))?;
+    let settings = asked.settings::<B>(AMPLE)?;
+    let mut count = 0_u32;
+    for place in 0..text.len() {
+        for mark in [b'[', b']', b'{', b'}', b'"', b'\\'] {
+            let before = text.get(place).copied()?;
+            *text.get_mut(place)? = mark;
+            reported(alloc, &settings, text.as_slice())?;
+            *text.get_mut(place)? = before;
+            count = count.wrapping_add(1);
+        }
+    }
+    found.say(&count);
+    Some(())
+}

@@ -1,0 +1,89 @@
+//! Runs over streams in memory.
+ghost use Rattle.std.specs.Prelude.{◌≡◌, ◌≤◌, ◌⊎◌};
+ghost use Rattle.dw_solve.specs.Facts.{AreTrue};
+
+use dw_board::board::Board;
+use dw_memo::lru_memo::LruMemo;
+use dw_memo::memo::Memo;
+use dw_memo::no_memo::NoMemo;
+use dw_memo::slot_memo::SlotMemo;
+use dw_report::run::run;
+use dw_report::settings::{RunFault, Settings, Summary};
+use dw_report::streams::{Reading, Writing};
+use dw_solve::guide::ByTrial;
+use dw_tests_common::streams::{Chopped, Narrow};
+use dw_tests_common::tally::Found;
+use std::alloc::Global;
+use std::str;
+
+/// The answer of a run, and what it wrote.
+#[derive(Drop)]
+pub struct Ran {
+    pub answer: Result<Summary, RunFault>,
+    pub written: Vec<u8>,
+}
+
+impl Ran {
+    /// Writes what was written, and below it how the run ended.
+    pub fn say(&self, found: &mut Found) -> Option<()> {
+        found.add(str::from_utf8(self.written.as_slice()).ok()?);
+        match self.answer {
+            Ok(summary) => found.show(&(summary.problems, summary.shown, summary.refused)),
+            Err(fault) => found.say(&fault),
+        }
+        found.add("\n");
+        Some(())
+    }
+}
+
+/// A run with a memo.
+fn run_over<B: Board, M: Memo<B> + Drop>(
+    alloc: Global,
+    settings: &Settings<B>,
+    memo: M,
+    reader: Chopped<'_>,
+    writer: Narrow,
+) -> Ran
+    requires rows { (B.geometry.rows ≡ 10) ⊎ (B.geometry.rows ≡ 8) }
+    requires right { AreTrue B.geometry (M.content memo) }
+    requires some { 1 ≤ settings.now.n }
+    requires few { settings.now.n ≤ 20 }
+    requires lines { 1 ≤ settings.now.lines }
+    requires limit { 1 ≤ settings.now.limit }
+{
+    let mut source = Reading::new(reader);
+    let mut sink = Writing::new(writer);
+    let answer = run(alloc, &mut source, &mut sink, settings, memo, ByTrial);
+    let written = sink.into_inner().taken;
+    Ran { answer, written }
+}
+
+/// A run with the memo that is named, `none`, `lru:SIZE` or `slots:SIZE`.
+pub fn ran_with<B: Board>(
+    alloc: Global,
+    settings: &Settings<B>,
+    memo: &str,
+    reader: Chopped<'_>,
+    writer: Narrow,
+) -> Option<Ran>
+    requires rows { (B.geometry.rows ≡ 10) ⊎ (B.geometry.rows ≡ 8) }
+    requires some { 1 ≤ settings.now.n }
+    requires few { settings.now.n ≤ 20 }
+    requires lines { 1 ≤ settings.now.lines }
+    requires limit { 1 ≤ settings.now.limit }
+{
+    let (name, size) = memo.split_once(':').unwrap_or((memo, "1"));
+    let size = size.parse::<usize>().ok()?.clamp(1, 4_000_000);
+    match name {
+        "none" => Some(run_over::<B, NoMemo>(alloc, settings, NoMemo::new(), reader, writer)),
+        "lru" => match LruMemo::new(alloc, size) {
+            Ok(memo) => Some(run_over(alloc, settings, memo, reader, writer)),
+            Err(_) => None,
+        },
+        "slots" => match SlotMemo::new(alloc, size) {
+            Ok(memo) => Some(run_over(alloc, settings, memo, reader, writer)),
+            Err(_) => None,
+        },
+        _ => None,
+    }
+}
