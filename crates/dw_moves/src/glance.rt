@@ -217,7 +217,8 @@ impl<B: Board> Field<B> {
     /// The empty squares behind the enemies next to a man.
     #[inline]
     fn behind_men(&self, direction: Dir) -> Squares<B>
-        ensures { (t : ℕ) → In t result ↔ MenTake B.geometry self.now.men self.now.enemies self.now.occupied direction t }
+        ensures { (t : ℕ) → In t result ↔ MenTake B.geometry self.now.men self.now.enemies self.now.occupied
+            direction t }
     {
         let met = self.met_by_men(direction);
         met.shifted(direction).minus(self.occupied)

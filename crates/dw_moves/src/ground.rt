@@ -69,8 +69,8 @@ impl<B: Board> Ground<B> {
     /// Whether a man on this square, which has taken these, can jump over one more enemy.
     #[inline]
     pub(crate) fn goes_on(&self, from: Square<B>, taken: Squares<B>) -> bool
-        ensures { (d : Dir) (t : ℕ) → JumpsTo B.geometry (set.difference self.now.enemies taken) self.now.occupied from d t
-            → IsTrue result }
+        ensures { (d : Dir) (t : ℕ) → JumpsTo B.geometry (set.difference self.now.enemies taken) self.now.occupied from
+            d t → IsTrue result }
     {
         let left = self.enemies.minus(taken);
         let up = self

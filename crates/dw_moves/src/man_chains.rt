@@ -1,6 +1,7 @@
 //! Captures of a man: whole chains of jumps, the longest of them kept.
 //!
-//! They are walked as those of a king are, but a man meets an enemy on the next square alone, and lands right behind it.
+//! They are walked as those of a king are, but a man meets an enemy on the next square alone, and lands right behind
+//! it.
 ghost use Rattle.std.specs.Prelude.{◌≡◌, ◌≤◌, ◌-◌, IfOk};
 ghost use Rattle.dw_board.specs.Geometry.{OnBoard};
 ghost use Rattle.dw_board.specs.declared.piece.Kind.TheVariants.{Man};

@@ -37,8 +37,8 @@ fn lines_in(ended: &str, bytes: usize) -> Option<usize> {
     Some(lines)
 }
 
-/// Nothing, unless a source that gives so many bytes a read and fails at one leaves the sink just with the whole texts of
-/// the problems that ended before, and with the whole report if that read is not needed.
+/// Nothing, unless a source that gives so many bytes a read and fails at one leaves the sink just with the whole texts
+/// of the problems that ended before, and with the whole report if that read is not needed.
 fn fails_at_reads<B: Board>(
     alloc: Global,
     asked: &Asked<'_>,
@@ -115,7 +115,8 @@ fn narrowed<B: Board>(
     )
 }
 
-/// Nothing, unless a sink that takes so many bytes a write and fails at one has a beginning of the report, byte for byte.
+/// Nothing, unless a sink that takes so many bytes a write and fails at one has a beginning of the report, byte for
+/// byte.
 fn fails_at_writes<B: Board>(
     alloc: Global,
     settings: &Settings<B>,

@@ -81,8 +81,8 @@ fn is_stopped(ran: &Ran, whole: &[u8], limit: u64, most: usize) -> bool {
         && taken.len() >= most
 }
 
-/// The report and the answer, if under limits that rise by one from 1 a run is stopped, or it is whole, and then it is so
-/// with each higher limit.
+/// The report and the answer, if under limits that rise by one from 1 a run is stopped, or it is whole, and then it is
+/// so with each higher limit.
 pub fn limits<B: Board>(alloc: Global, asked: &Asked<'_>, found: &mut Found) -> Option<()>
     requires { (B.geometry.rows ≡ 10) ⊎ (B.geometry.rows ≡ 8) }
 {

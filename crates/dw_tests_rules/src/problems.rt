@@ -23,8 +23,8 @@ fn add_problem<B: Board>(problem: &Problem<B>, found: &mut Found) {
     found.add("; ");
 }
 
-/// Adds what the problems of a text say; `failed` for a failure. What has ended stays so, and problems are numbered from
-/// 1.
+/// Adds what the problems of a text say; `failed` for a failure. What has ended stays so, and problems are numbered
+/// from 1.
 fn add_said<B: Board, R: io::Read + Drop>(reader: R, form: Form, found: &mut Found) -> Option<()> {
     let mut source = Reading::new(reader);
     let mut problems: Problems<'_, B, Reading<R>> = Problems::new(&mut source, form);
@@ -85,8 +85,8 @@ pub fn broken<B: Board>(alloc: Global, form: Form, asked: &str, found: &mut Foun
     add_said::<B, _>(reader, form, found)
 }
 
-/// A text of so many lines, each of one letter that names no position: it has a problem a line, numbered from 1, up to one
-/// that says that there are too many, and then it ends. What is said of that one.
+/// A text of so many lines, each of one letter that names no position: it has a problem a line, numbered from 1, up to
+/// one that says that there are too many, and then it ends. What is said of that one.
 pub fn many<B: Board>(asked: &str, found: &mut Found) -> Option<()> {
     let lines = asked.parse::<u32>().ok()?;
     let mut source = Reading::new(Repeated::new(b"a\n", lines));

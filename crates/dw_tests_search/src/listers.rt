@@ -95,7 +95,8 @@ fn gives_next<B: Board, M: Memo<B>>(
     }
 }
 
-/// Nothing, unless after each of these lines, which are all of a position, the lister gives those after it and no other.
+/// Nothing, unless after each of these lines, which are all of a position, the lister gives those after it and no
+/// other.
 fn goes_on<B: Board, M: Memo<B>>(
     alloc: Global,
     lister: &mut Lister<'_, B, M, ByTrial>,

@@ -93,8 +93,8 @@ fn lost_after<B: Board, M: Memo<B>>(
     Some(lost)
 }
 
-/// All rows are noted in one cache, which is too small for them: a note loses at most one of the entries that were held,
-/// and that is counted. There is room for seven.
+/// All rows are noted in one cache, which is too small for them: a note loses at most one of the entries that were
+/// held, and that is counted. There is room for seven.
 pub fn crowded<B: Board, M: Memo<B> + Drop>(
     alloc: Global,
     mut memo: M,
