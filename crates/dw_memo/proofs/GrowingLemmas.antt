@@ -1,7 +1,6 @@
 -- A table of slots while it doubles.
-use Rattle.std.proofs.Common.{◌≡◌, ℕ, zero, suc, ◌<◌, ◌≤◌, ◌+◌, ◌*◌, ◌/◌, ◌^◌, [], ◌∷◌, ◌++◌, List, length, take, map, slice_get, Bool, true, false, Some, None, refl, sym, ap, ◌∙◌, subst, ◌≢◌, ◌⊎◌, inl, inr, arith}
+use Rattle.std.proofs.Common.{◌≡◌, ℕ, zero, suc, ◌<◌, ◌≤◌, ◌+◌, ◌*◌, ◌/◌, ◌^◌, [], ◌∷◌, ◌++◌, List, length, take, slice_get, Bool, true, false, Some, None, refl, sym, ap, ◌∙◌, subst, ◌≢◌, ◌⊎◌, inl, inr, arith}
 use Rattle.std.proofs.lemmas.Bool.{cases_lt}
-use Rattle.std.proofs.lemmas.List.{take_all}
 use Rattle.std.proofs.Math.ListN.{set, length-set, replicate}
 use Rattle.dw_board.specs.Geometry.{Geometry}
 use Rattle.dw_board.specs.Standing.{mixed_word}
@@ -11,9 +10,8 @@ use Rattle.dw_memo.specs.Content.{Entry, IsMap, SameEntries}
 use Rattle.dw_board.specs.Lists.{Member}
 use Rattle.dw_memo.specs.Noting.{IsPutIn, IsNote}
 use Rattle.dw_memo.specs.declared.memo.Noted.{Noted}
-use Rattle.dw_memo.specs.Slots.{Slots, held, slot_of, tag_in, IsTable, AreTags}
+use Rattle.dw_memo.specs.Slots.{Slots, held, slot_of, IsTable}
 use Rattle.dw_memo.specs.inner.Growing.{IsHalfway}
-use Rattle.dw_memo.proofs.TagLemmas.{tags_length, widened_tags}
 use Rattle.std.specs.Prelude.{if◌then◌else◌, ◌-◌}
 use Rattle.dw_memo.proofs.SlotLemmas.{empty_held, Pair, entry_of, Holds, slot_held, at_held, set_here, set_other, same_number, set_read}
 
@@ -126,6 +124,12 @@ widened_length [] zero = refl
 widened_length [] (suc n) = omega (arith, widened_length [] n)
 widened_length (x ∷ old) n = omega (arith, widened_length old n)
 
+take_all : (old : Slots) (n : ℕ) → length old ≤ n → take n old ≡ old
+take_all [] zero h = refl
+take_all [] (suc n) h = refl
+take_all (x ∷ old) zero h = absurd (omega arith)
+take_all (x ∷ old) (suc n) h = ap (λ xs. x ∷ xs) (take_all old n (omega arith))
+
 widened : (g : Geometry) (size : ℕ) (old : Slots) → IsTable g old → size ≡ length old
     → IsHalfway g size size (old ++ replicate size None) × SameEntries (held old) (held (old ++ replicate size None))
 widened g size old t n = (
@@ -137,25 +141,14 @@ widened g size old t n = (
   λ e. (subst (λ c. Member e c) (sym (widened_held old size)), subst (λ c. Member e c) (widened_held old size)),
 )
 
--- a list that was made twice as long
-longer : {A : Type 0} (n m : ℕ) (old new : List A) (x : A) (ok : Bool) → n ≡ length old → n ≡ m → ok ≡ true → new ≡ (if ok then take (2 * n) old ++ replicate (2 * n - m) x else old)
-    → new ≡ old ++ replicate n x
-longer n m old new x true len own done is =
-    let more : 2 * n - m ≡ n = omega (arith, own) in
-    is ∙ (ap (λ xs. xs ++ replicate (2 * n - m) x) (take_all (2 * n) old (omega (arith, len))) ∙ ap (λ k. old ++ replicate k x) more)
-longer n m old new x false len own done is = absurd (cc)
-
 -- a table that got as many slots again, all of them empty
 pub begun : (g : Geometry) (size m : ℕ) (old new : Slots) (ok : Bool) → IsTable g old → size ≡ length old → size ≡ m → ok ≡ true → new ≡ (if ok then take (2 * size) old ++ replicate (2 * size - m) None else old)
     → IsHalfway g size size new × SameEntries (held old) (held new)
-begun g size m old new ok t n q done is = subst (λ x. IsHalfway g size size x × SameEntries (held old) (held x)) (sym (longer size m old new None ok n q done is)) (widened g size old t n)
-
--- and its tags
-pub begun_tags : (g : Geometry) (size m k : ℕ) (old new : Slots) (tags more : List ℕ) (ok went : Bool) → AreTags g old tags → size ≡ length old → size ≡ m → size ≡ k → ok ≡ true → went ≡ true
-    → new ≡ (if ok then take (2 * size) old ++ replicate (2 * size - m) None else old) → more ≡ (if went then take (2 * size) tags ++ replicate (2 * size - k) 0 else tags) → AreTags g new more
-begun_tags g size m k old new tags more ok went t n q r done also is more_is =
-    longer size k tags more 0 went (n ∙ sym (tags_length g old tags t)) r also more_is
-    ∙ (widened_tags g old tags size t ∙ ap (map (tag_in g)) (sym (longer size m old new None ok n q done is)))
+begun g size m old new true t n q done is =
+    let more : 2 * size - m ≡ size = omega (arith, q) in
+    let all : new ≡ old ++ replicate size None = is ∙ (ap (λ xs. xs ++ replicate (2 * size - m) None) (take_all old (2 * size) (omega (arith, n))) ∙ ap (λ k. old ++ replicate k None) more) in
+    subst (λ x. IsHalfway g size size x × SameEntries (held old) (held x)) (sym all) (widened g size old t n)
+begun g size m old new false t n q done is = absurd (cc)
 
 pub same_on : (a b c : Slots) → SameEntries (held a) (held b) → SameEntries (held b) (held c) → SameEntries (held a) (held c)
 same_on a b c h i e = (λ m. (i e).0 ((h e).0 m), λ m. (h e).1 ((i e).1 m))

@@ -119,9 +119,9 @@ fn lost<B: Board>(slot: &Option<(Position<B>, Bounds)>, position: &Position<B>) 
     }
 }
 
-/// The slot of a position, among so many, and its tag. The slot is its mixed word as a part of 2^64, times their
-/// number, so that no division is needed. The tag is 128, so that it isn't 0, and the seven bits of this word below the
-/// 22 that tell its slot in the largest table.
+/// The slot of a position, among so many, and its tag. The slot is its mixed word as a part of 2^64, times their number,
+/// so that no division is needed. The tag has the seven bits of this word below the 22 that tell the slot in the largest
+/// table, and a bit more, so that it isn't 0.
 pub(crate) fn place_of<B: Board>(position: &Position<B>, slots: usize) -> (usize, u8)
     requires { 1 ≤ slots }
     ensures slot { result.0 ≡ slot_of B.geometry position.now slots }

@@ -1,8 +1,8 @@
 use Rattle.std.proofs.Common.{◌≡◌, length, arith}
 use Rattle.std.specs.Prelude.{is_ok}
 use Rattle.std.specs.Vec.{vec_len}
-use Rattle.dw_memo.proofs.GrowingLemmas.{begun, begun_tags, same_on}
-use Rattle.dw_memo.proofs.TagLemmas.{tags_length}
+use Rattle.dw_memo.proofs.GrowingLemmas.{begun, same_on}
+use Rattle.dw_memo.proofs.TagLemmas.{longer_tags, tags_length}
 use Rattle.dw_memo.proofs.growing.double.Goals as goal
 
 pub slots-init : goal.slots-init
@@ -15,7 +15,7 @@ slots-init g c =
     record {
       within = omega arith;
       halfway = all.0;
-      are_tags = begun_tags g.B.Board.geometry c.len-size.result (vec_len table.slots) (vec_len table.tags) table.slots.items c.resize-2.new.self.items table.tags.items c.resize.new.self.items
+      are_tags = longer_tags g.B.Board.geometry c.len-size.result (vec_len table.slots) (vec_len table.tags) table.slots.items c.resize-2.new.self.items table.tags.items c.resize.new.self.items
           (is_ok c.resize-2.result) (is_ok c.resize.result) c.requires.tags size c.len-size.ensures tags_size c.if-is_err-2.ensures.negation c.if-is_err.ensures.negation c.resize-2.ensures.items c.resize.ensures.items;
       same = all.1;
     }
