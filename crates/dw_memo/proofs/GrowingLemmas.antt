@@ -1,5 +1,5 @@
 -- A table of slots while it doubles.
-use Rattle.std.proofs.Common.{◌≡◌, ℕ, zero, suc, ◌<◌, ◌≤◌, ◌+◌, ◌*◌, ◌/◌, ◌^◌, [], ◌∷◌, ◌++◌, List, length, take, slice_get, Bool, true, false, Some, None, refl, sym, ap, ◌∙◌, subst, ◌≢◌, ◌⊎◌, inl, inr, arith}
+use Rattle.std.proofs.Common.{◌≡◌, ℕ, zero, suc, ◌<◌, ◌≤◌, ◌+◌, ◌*◌, ◌/◌, ◌^◌, [], ◌∷◌, ◌++◌, List, length, take, slice_get, Bool, true, false, Some, None, refl, sym, ap, ◌∙◌, subst, inl, inr, arith}
 use Rattle.std.proofs.lemmas.Bool.{cases_lt}
 use Rattle.std.proofs.Math.ListN.{set, length-set, replicate}
 use Rattle.dw_board.specs.Geometry.{Geometry}
@@ -72,31 +72,6 @@ brought g size k t slots p b h inside here to within e =
       stays slots k t p b here k_inside t_inside empty e,
       stood slots k t p b here k_inside t_inside empty e,
     )
-
-pub brought_halfway : (g : Geometry) (size k t : ℕ) (slots : Slots) (p : Placement) (b : Bounds) → IsHalfway g size (k + 1) slots → k < size → slice_get slots k ≡ Some (Some (p, b))
-    → t ≡ slot_of g p (2 * size) → t < 2 * size → IsHalfway g size k (set (set slots k None) t (Some (p, b)))
-brought_halfway g size k t slots p b h inside here to within =
-    let left = set slots k None in
-    let home : k ≡ slot_of g p size = h.before k p b (omega arith) here in
-    let near : 2 * k ≤ t = omega (arith, home, to, (doubled (mixed_word g p) size).0) in
-    let k_inside : k < length slots = omega (arith, h.all, inside) in
-    let t_inside : t < length left = omega (arith, h.all, within, length-set slots k None) in
-    let read : (j : ℕ) (q : Placement) (c : Bounds) → Holds (set left t (Some (p, b))) j q c → ((j ≡ t) × (q ≡ p)) ⊎ ((j ≢ k) × Holds slots j q c) =
-    λ j q c m. elim (set_read left t (Some (p, b)) j (Some (q, c)) t_inside m) [
-      | inl r ↦ let s : ◌≡◌ {A = Pair} (p, b) (q, c) = cc in inl (r.0, ap (λ (e : Pair). e.0) (sym s))
-      | inr r ↦ elim (set_read slots k None j (Some (q, c)) k_inside r.1) [ inl n ↦ absurd (cc) | inr n ↦ inr (n.0, n.1) ]
-    ] in
-    record {
-      all = omega (arith, h.all, length-set slots k None, length-set left t (Some (p, b)));
-      before = λ j q c l m. elim (read j q c m) [
-        | inl r ↦ absurd (omega (arith, l, near, r.0))
-        | inr r ↦ h.before j q c (omega (arith, l)) r.1
-      ];
-      after = λ j q c l m. elim (read j q c m) [
-        | inl r ↦ (omega (arith, near, r.0), r.0 ∙ (to ∙ ap (λ x. slot_of g x (2 * size)) (sym r.1)))
-        | inr r ↦ let behind : k + 1 ≤ j = omega (arith, l, r.0) in let on = h.after j q c behind r.1 in (omega (arith, on.0), on.1)
-      ];
-    }
 
 -- ---- empty slots behind a table
 none_there : (n k : ℕ) (p : Placement) (b : Bounds) → Holds (replicate n None) k p b → ⊥

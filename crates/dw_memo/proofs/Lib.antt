@@ -3,4 +3,3 @@ pub mod GrowingLemmas
 pub mod NoteLemmas
 pub mod RecentLemmas
 pub mod SlotLemmas
-pub mod TagLemmas

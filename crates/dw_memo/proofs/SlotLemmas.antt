@@ -3,7 +3,7 @@ use Rattle.std.proofs.Common.{◌≡◌, ◌≢◌, ℕ, zero, suc, ◌<◌, ◌
 use Rattle.std.specs.Prelude.{if◌then◌else◌}
 use Rattle.std.specs.Int.{from_bool}
 use Rattle.std.proofs.lemmas.Bool.{cases_lt}
-use Rattle.std.proofs.lemmas.Option.{slice_get_read, slice_get-get_or}
+use Rattle.std.proofs.lemmas.Option.{slice_get_read}
 use Rattle.std.proofs.Math.ListN.{set, length-set, replicate}
 use Rattle.dw_board.specs.Geometry.{Geometry}
 use Rattle.dw_board.specs.Placement.{Placement}
@@ -87,7 +87,7 @@ some_found g slots k p f false t here h e = not_here g slots k p (Some f) t here
     let s : f ≡ (p, b) = cc in
     let i = (same-is f.0 p).1 (ap (λ (x : Pair). x.0) s) in absurd (cc))
 
-pub found : (g : Geometry) (slots : Slots) (k : ℕ) (p : Placement) (was : Option (Placement × Bounds)) → IsTable g slots → k ≡ slot_of g p (length slots) → slice_get slots k ≡ Some was
+found : (g : Geometry) (slots : Slots) (k : ℕ) (p : Placement) (was : Option (Placement × Bounds)) → IsTable g slots → k ≡ slot_of g p (length slots) → slice_get slots k ≡ Some was
     → IsFound (held slots) p (bounds_in was p)
 found g slots k p None t here h = not_here g slots k p None t here h (λ b q. absurd (cc))
 found g slots k p (Some f) t here h = some_found g slots k p f (same f.0 p) t here h refl
@@ -212,10 +212,9 @@ found_in g slots n k p was o t len here inside read is =
     subst (IsFound (held slots) p) (sym is)
     (found g slots k p was t (here ∙ ap (slot_of g p) len) (slice_get_read slots n k was len inside read))
 
-pub noted_in : (g : Geometry) (slots : Slots) (n k : ℕ) (p : Placement) (b : Bounds) (l : ℕ)
-    → IsTable g slots → n ≡ length slots → k ≡ slot_of g p n → k < n → l ≡ lost (get_or slots k None) p
+pub noted_in : (g : Geometry) (slots : Slots) (n k : ℕ) (p : Placement) (b : Bounds) (was : Option (Placement × Bounds)) (l : ℕ)
+    → IsTable g slots → n ≡ length slots → k ≡ slot_of g p n → k < n → was ≡ get_or slots k was → l ≡ lost was p
     → IsNote (held slots) p b Kept (held (set slots k (Some (p, b)))) 0 l
-noted_in g slots n k p b l t len here inside is =
-    let within : k < length slots = omega (arith, len, inside) in
+noted_in g slots n k p b was l t len here inside read is =
     subst (λ (x : ℕ). IsNote (held slots) p b Kept (held (set slots k (Some (p, b)))) 0 x) (sym is)
-    (noted g slots k p b t (here ∙ ap (slot_of g p) len) within (get_or slots k None) (slice_get-get_or slots k None within))
+    (noted g slots k p b t (here ∙ ap (slot_of g p) len) (omega (arith, len, inside)) was (slice_get_read slots n k was len inside read))

@@ -1,5 +1,5 @@
 -- A table in which each position has one slot.
-use Rattle.std.specs.Prelude.{◌≡◌, ℕ, ◌+◌, ◌*◌, ◌/◌, ◌%◌, ◌^◌, ◌≤◌, List, [], ◌∷◌, length, map, slice_get, Option, Some, None}
+use Rattle.std.specs.Prelude.{◌≡◌, ℕ, ◌*◌, ◌/◌, ◌^◌, ◌≤◌, List, [], ◌∷◌, length, slice_get, Option, Some, None}
 use Rattle.dw_board.specs.Geometry.{Geometry}
 use Rattle.dw_board.specs.Standing.{mixed_word}
 use Rattle.dw_board.specs.Placement.{Placement}
@@ -25,16 +25,3 @@ pub record IsTable (g : Geometry) (slots : Slots) : Type 0 where
   pub some_slot : 1 ≤ length slots
   pub placed : (k : ℕ) (p : Placement) (b : Bounds) → slice_get slots k ≡ Some (Some (p, b))
       → k ≡ slot_of g p (length slots)
-
--- the tag of a position: 128, and the seven bits of its mixed word below the 22 that tell its slot among 2^22
-abbrev pub tag_of : Geometry → Placement → ℕ
-tag_of g p = 128 + mixed_word g p / 2 ^ 35 % 2 ^ 7
-
--- the tag of a slot: 0 if it is empty, else that of its position
-abbrev pub tag_in : Geometry → Option (Placement × Bounds) → ℕ
-tag_in g None = 0
-tag_in g (Some e) = tag_of g e.0
-
--- the tags are those of the slots, in their order
-abbrev pub AreTags : Geometry → Slots → List ℕ → Type 0
-AreTags g slots tags = tags ≡ map (tag_in g) slots

@@ -12,7 +12,6 @@ pub mod lru_memo;
 pub mod memo;
 pub mod no_memo;
 pub mod slot_memo;
-mod table;
 
 pub use bounds::Bounds;
 pub use lru_memo::LruMemo;

@@ -1,11 +1,12 @@
 //! A memo of fixed size, in which each position has one slot.
-ghost use Rattle.std.specs.Prelude.{◌≡◌, ◌≤◌, [], IfOk};
+ghost use Rattle.std.specs.Prelude.{◌≡◌, ◌≤◌, ◌<◌, [], length, IfOk};
+ghost use Rattle.dw_memo.specs.Slots as of;
+ghost use Rattle.dw_memo.specs.inner.Keeping.{bounds_in, lost};
 ghost use Rattle.dw_memo.specs.declared.memo.Noted.TheVariants.{Kept};
 
 use crate::bounds::Bounds;
-use crate::growing::make_room;
+use crate::growing::{first_size, make_room};
 use crate::memo::{Memo, Noted};
-use crate::table::Table;
 use dw_board::board::Board;
 use dw_board::position::Position;
 use std::alloc::{AllocError, Global};
@@ -18,20 +19,24 @@ use std::marker::Model;
 /// Example: of one slot, it holds the position that was noted last, and no other.
 #[derive(Drop)]
 pub struct SlotMemo<B: Board> {
-    table: Table<B>,
+    slots: Slots<B>,
+    most: usize,
+    used: usize,
     dropped: u64,
 }
 
+/// Positions with their bounds, each in its slot.
+pub(crate) type Slots<B> = Vec<Option<(Position<B>, Bounds)>>;
+
 impl<B: Board> Model for SlotMemo<B> {
     ghost use Rattle.dw_memo.specs.Holding.{Holding};
-    ghost use Rattle.dw_memo.specs.Slots.{held, IsTable, AreTags};
+    ghost use Rattle.dw_memo.specs.Slots.{held, IsTable};
 
     ghost Value = { Holding };
 
-    ghost view = { λ m. record { content = held m.table.slots.items; dropped = m.dropped } };
+    ghost view = { λ m. record { content = held m.slots.items; dropped = m.dropped } };
 
-    ghost invariant = { λ m. IsTable B.geometry m.table.slots.items
-        × AreTags B.geometry m.table.slots.items m.table.tags.items };
+    ghost invariant = { λ m. IsTable B.geometry m.slots.items };
 }
 
 impl<B: Board> SlotMemo<B> {
@@ -42,8 +47,12 @@ impl<B: Board> SlotMemo<B> {
         requires most { slots ≤ 4_000_000 }
         ensures { IfOk result (λ m. m ≡ record { content = []; dropped = 0 }) }
     {
+        let mut table = Vec::with_capacity(alloc, slots)?;
+        table.resize(first_size(slots), None)?;
         Ok(SlotMemo {
-            table: Table::new(alloc, slots)?,
+            slots: table,
+            most: slots,
+            used: 0,
             dropped: 0,
         })
     }
@@ -57,12 +66,18 @@ impl<B: Board> Memo<B> for SlotMemo<B> {
     ghost may_answer = { λ answer. answer ≡ Kept };
 
     fn look(&mut self, position: &Position<B>) -> Option<Bounds> {
-        self.table.find(position)
+        let slot = slot_of(position, self.slots.len());
+        bounds_in(&self.slots[slot], position)
     }
 
     fn put(&mut self, position: &Position<B>, bounds: Bounds) -> Noted {
-        make_room(&mut self.table);
-        let lost = self.table.put(position, bounds);
+        make_room(&mut self.slots, self.used, self.most);
+        let slot = slot_of(position, self.slots.len());
+        let lost = lost(&self.slots[slot], position);
+        self.used = self
+            .used
+            .saturating_add(usize::from(self.slots[slot].is_none()));
+        self.slots[slot] = Some((*position, bounds));
         self.dropped = self.dropped.saturating_add(lost);
         Noted::Kept
     }
@@ -70,4 +85,36 @@ impl<B: Board> Memo<B> for SlotMemo<B> {
     fn dropped(&self) -> u64 {
         self.dropped
     }
+}
+
+/// The bounds of a position, if the slot holds it and not another one.
+fn bounds_in<B: Board>(
+    slot: &Option<(Position<B>, Bounds)>,
+    position: &Position<B>,
+) -> Option<Bounds>
+    ensures { result ≡ bounds_in slot.now position.now }
+{
+    match slot {
+        Some((held, bounds)) if held == position => Some(*bounds),
+        _ => None,
+    }
+}
+
+/// How many entries are lost when a position comes into a slot.
+fn lost<B: Board>(slot: &Option<(Position<B>, Bounds)>, position: &Position<B>) -> u64
+    ensures { result ≡ lost slot.now position.now }
+{
+    match slot {
+        Some((other, _)) => u64::from(other != position),
+        None => 0,
+    }
+}
+
+/// The slot of a position, among so many: its mixed word as a part of 2^64, times their number. No division is needed.
+pub(crate) fn slot_of<B: Board>(position: &Position<B>, slots: usize) -> usize
+    requires { 1 ≤ slots }
+    ensures slot { result ≡ of.slot_of B.geometry position.now slots }
+    ensures within { result < slots }
+{
+    ((u128::from(position.mixed_word()) * slots as u128) >> 64) as usize
 }

@@ -7,4 +7,4 @@ use Rattle.dw_memo.proofs.slot_memo.SlotMemoMemo.dropped.Goals as goal
 pub returns-clause-map : goal.returns-clause-map
 returns-clause-map g c =
     subst (λ (h : Holding). IsMap h.content) c.self.view_is
-    (table_map g.B.Board.geometry c.self.inside.table.slots.items c.self.invariant.0)
+    (table_map g.B.Board.geometry c.self.inside.slots.items c.self.invariant)

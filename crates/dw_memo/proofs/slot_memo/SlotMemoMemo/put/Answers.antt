@@ -1,20 +1,23 @@
-use Rattle.std.proofs.Common.{subst}
+use Rattle.std.proofs.Common.{◌≡◌, Some, length, arith, subst}
+use Rattle.std.proofs.Math.ListN.{set}
 use Rattle.dw_memo.specs.declared.memo.Noted.TheVariants.{Kept}
 use Rattle.dw_memo.specs.Holding.{Holding}
 use Rattle.dw_memo.specs.Noting.{IsNote}
 use Rattle.dw_memo.specs.Slots.{held}
 use Rattle.dw_memo.proofs.NoteLemmas.{counted_on}
-use Rattle.dw_memo.proofs.SlotLemmas.{table_map}
+use Rattle.dw_memo.proofs.SlotLemmas.{table_map, noted_in}
 use Rattle.dw_memo.proofs.GrowingLemmas.{noted_larger}
 use Rattle.dw_memo.proofs.slot_memo.SlotMemoMemo.put.Goals as goal
 
 pub returns-clause-note : goal.returns-clause-note
 returns-clause-note g c =
-    let position = c.args.position.now in
-    let old = c.self.inside.table.slots.items in
-    let after = held c.put-lost.new.self.slots.items in
-    subst (λ (h : Holding). IsNote h.content position c.args.bounds Kept after h.dropped c.saturating_add-self-inside.result) c.self.view_is
-    (counted_on (held old) position c.args.bounds Kept after c.put-lost.result c.self.inside.dropped c.saturating_add-self-inside.result
-    (noted_larger old c.make_room.new.table.slots.items position c.args.bounds Kept after c.put-lost.result (table_map g.B.Board.geometry old c.self.invariant.0)
-    c.make_room.ensures.same c.put-lost.ensures.note)
-    c.saturating_add-self-inside.ensures)
+    let old = c.self.inside.slots.items in
+    let slots = c.make_room.new.slots.items in
+    let after = held (set slots c.slot_of-slot.result (Some (c.args.position.now, c.args.bounds))) in
+    let n : c.len.result ≡ length slots = omega (arith, c.len.ensures, c.make_room.new.slots.ok) in
+    subst (λ (h : Holding). IsNote h.content c.args.position.now c.args.bounds Kept after h.dropped c.saturating_add-self-inside-2.result) c.self.view_is
+    (counted_on (held old) c.args.position.now c.args.bounds Kept after c.lost-lost.result c.self.inside.dropped c.saturating_add-self-inside-2.result
+    (noted_larger old slots c.args.position.now c.args.bounds Kept after c.lost-lost.result (table_map g.B.Board.geometry old c.self.invariant) c.make_room.ensures.same
+    (noted_in g.B.Board.geometry slots c.len.result c.slot_of-slot.result c.args.position.now c.args.bounds c.index.result.now c.lost-lost.result
+    c.make_room.ensures.table n c.slot_of-slot.ensures.slot c.slot_of-slot.ensures.within c.index.ensures c.lost-lost.ensures))
+    c.saturating_add-self-inside-2.ensures)
