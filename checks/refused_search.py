@@ -1,5 +1,5 @@
 #!/usr/bin/env python3
-"""refused_search.py: refuses each allocation of the solver's searches, of the lister and of the reader of moves in turn.
+"""refused_search.py: refuses each allocation of the solver's searches, the lister and the reader of moves in turn.
 
     checks/refused_search.py
 
