@@ -10,7 +10,7 @@ use Rattle.dw_board.specs.Slides.{SlidesTo}
 use Rattle.dw_board.specs.SquareSet.{is_set, squares_of, OnlySquares, WholeBoard}
 use Rattle.dw_board.specs.inner.GeometryLemmas.{at_boards, step-OnBoard}
 use Rattle.dw_board.specs.inner.Shifting.{shifted_word}
-use Rattle.dw_board.specs.inner.Sliding.{stride, moved_word, further, clearer, slid_word}
+use Rattle.dw_board.specs.inner.Sliding.{stride, moved_word, further, clearer, near_word, slid_word}
 use Rattle.dw_board.specs.inner.SquareSetLemmas.{is_set-or, bit-within, bit-small, contains-here}
 use Rattle.dw_board.proofs.SetLemmas.{is_set-and, is_set-minus, is_set-shr, is_set-shl_low, is_set-shl_high, shift_set, contains-shifted, squares_of-within, members-are, OnlySquares-or, OnlySquares-and_left}
 
@@ -236,11 +236,23 @@ module _ (g : Geometry) (b : IsBoard g) (shifts : ShiftsAreSteps g) (whole_word 
       only_clear = OnlySquares-and_left g clear (moved_word (is_down d) (places (stride g d) (suc j)) clear) h.only_clear;
     })
 
-    -- four doublings
-    slid : (word : ℕ) → OnlySquares g word → OnlySquares g free → Doubled word 15 (slid_word g d word free) (clearer (is_down d) (8 * stride g d) (clearer (is_down d) (4 * stride g d) (clearer (is_down d) (2 * stride g d) (clearer (is_down d) (stride g d) free))))
-    slid word only only_free =
+    -- three doublings
+    near : (word : ℕ) → OnlySquares g word → OnlySquares g free → Doubled word 7 (near_word g d word free) (clearer (is_down d) (4 * stride g d) (clearer (is_down d) (2 * stride g d) (clearer (is_down d) (stride g d) free)))
+    near word only only_free =
         let m : ℕ = stride g d in
-        doubled word 7 _ _ (8 * m) (omega arith) (doubled word 3 _ _ (4 * m) (omega arith) (doubled word 1 _ _ (2 * m) (omega arith) (doubled word 0 word free m (omega arith) (none_yet word only only_free))))
+        doubled word 3 _ _ (4 * m) (omega arith) (doubled word 1 _ _ (2 * m) (omega arith) (doubled word 0 word free m (omega arith) (none_yet word only only_free)))
+
+    pub OnlySquares-near : (word : ℕ) → OnlySquares g word → OnlySquares g free → OnlySquares g (near_word g d word free)
+    OnlySquares-near word only only_free = (near word only only_free).only_reached
+
+    pub contains-near : (word : ℕ) → OnlySquares g word → OnlySquares g free → (t : ℕ)
+        → (set.contains (squares_of g (near_word g d word free)) t ≡ true) ↔ ((n : ℕ) × (n < 8) × SlidesTo g (squares_of g word) barred d n t)
+    contains-near word only only_free t = (near word only only_free).reach t
+
+    -- and a fourth
+    slid : (word : ℕ) → OnlySquares g word → OnlySquares g free
+        → Doubled word 15 (slid_word g d word free) (clearer (is_down d) (8 * stride g d) (clearer (is_down d) (4 * stride g d) (clearer (is_down d) (2 * stride g d) (clearer (is_down d) (stride g d) free))))
+    slid word only only_free = doubled word 7 _ _ (8 * stride g d) (omega arith) (near word only only_free)
 
     pub OnlySquares-slid : (word : ℕ) → OnlySquares g word → OnlySquares g free → OnlySquares g (slid_word g d word free)
     OnlySquares-slid word only only_free = (slid word only only_free).only_reached

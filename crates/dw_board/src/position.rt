@@ -249,8 +249,8 @@ fn on_last_row<B: Board>(square: Square<B>, side: Side) -> bool
     ensures { result ≡ of.on_last_row B.geometry side square }
 {
     match side {
-        Side::White => square.number() <= B::PER_ROW,
-        Side::Black => B::ROWS * B::PER_ROW < square.number() + B::PER_ROW,
+        Side::White => square <= Square::behind(B::PER_ROW - 1),
+        Side::Black => Square::behind(B::ROWS * B::PER_ROW - B::PER_ROW) <= square,
     }
 }
 

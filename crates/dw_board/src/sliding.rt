@@ -12,13 +12,25 @@ pub(crate) fn slid_word<B: Board>(word: u64, free: u64, direction: Dir) -> u64
 {
     let down = direction.is_down();
     let by = stride::<B>(direction);
+    let two_clear = clearer(down, by, free);
+    let four_clear = clearer(down, 2 * by, two_clear);
+    let eight_clear = clearer(down, 4 * by, four_clear);
+    let seven = near_word::<B>(word, free, direction);
+    further(down, 8 * by, seven, eight_clear)
+}
+
+/// The same up to 7 steps on, in three doublings.
+#[inline]
+pub(crate) fn near_word<B: Board>(word: u64, free: u64, direction: Dir) -> u64
+    ensures { result ≡ inner.near_word B.geometry direction word free }
+{
+    let down = direction.is_down();
+    let by = stride::<B>(direction);
     let one = further(down, by, word, free);
     let two_clear = clearer(down, by, free);
     let three = further(down, 2 * by, one, two_clear);
     let four_clear = clearer(down, 2 * by, two_clear);
-    let seven = further(down, 4 * by, three, four_clear);
-    let eight_clear = clearer(down, 4 * by, four_clear);
-    further(down, 8 * by, seven, eight_clear)
+    further(down, 4 * by, three, four_clear)
 }
 
 /// By how many bits a step moves the bit of a square, at most 6.

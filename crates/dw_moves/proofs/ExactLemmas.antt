@@ -156,6 +156,12 @@ all_dirs UpRight = inr (inl refl)
 all_dirs DownLeft = inr (inr (inl refl))
 all_dirs DownRight = inr (inr (inr (inl refl)))
 
+-- what can be taken on a ray is a jump in its direction
+pub jump_along : (g : Geometry) (cells : Placement) (piece : Piece) (s c t : ℕ) (d : Dir) → Member (c, t) (takes_for piece.kind cells piece.side (ray g s d)) → (j : Jump g cells piece s c t) × (j.dir ≡ d)
+jump_along g cells piece s c t d m =
+    let h = takes_from piece.kind cells piece.side (ray g s d) (c, t) m in
+    (record { dir = d; before = h.before; behind = h.behind; beyond = h.beyond; on_ray = h.is; clear = h.clear; enemy = h.enemy; clear_behind = h.clear_behind; free = h.free; man = h.man }, refl)
+
 -- the list of jumps holds the jumps
 pub jump_from : (g : Geometry) (cells : Placement) (piece : Piece) (s : ℕ) (j : ℕ × ℕ) → Member j (jump_list g cells piece s) → Jump g cells piece s j.0 j.1
 jump_from g cells piece s j m =

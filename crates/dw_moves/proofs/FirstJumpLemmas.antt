@@ -103,29 +103,33 @@ module _ (g : Geometry) (b : IsBoard g) (p : Placement) (men kings enemies occup
     | inr m ↦ jump_of King kings d sets.of_kings m.0 h.0 h.1 (λ q. cc) m.1 h.3 h.4
   ]
 
-  -- what a jump takes is met
-  jump_takes : (s c t : ℕ) (piece : Piece) → Stands g p s piece → Jump g (placed p s None) piece s c t → (d : Dir) × Takes g men kings enemies occupied d
-  jump_takes s c t piece stands j =
+  -- what a jump takes is met from its start, and the next square is empty
+  pub jump_meets : (s c t : ℕ) (piece : Piece) → Stands g p s piece → (j : Jump g (placed p s None) piece s c t) → (from : Squares) → In s from
+      → (u : ℕ) × MeetsBehind g from enemies occupied j.dir (length j.before) c × (step g c j.dir ≡ Some u) × (In u occupied → ⊥)
+  jump_meets s c t piece stands j from i =
       let d : Dir = j.dir in
       let next = head_free (placed p s None) j.behind t j.beyond j.clear_behind j.free in
       let ray_is : ray g s d ≡ j.before ++ c ∷ (next.0 ∷ next.1) = j.on_ray ∙ ap (λ z. j.before ++ c ∷ z) next.2 in
       let empty_on : (x : ℕ) → Member x (ray g s d) → at (placed p s None) x ≡ None → In x occupied → ⊥ = λ x i e. not_taken g p men kings enemies occupied x sets (sym (same_on_ray g b p d s x stands.on_board i) ∙ e) in
       let free : (x : ℕ) → Member x j.before → In x occupied → ⊥ = λ x i. empty_on x (subst (Member x) (sym j.on_ray) (mem_left x j.before (c ∷ (j.behind ++ t ∷ j.beyond)) i)) (empty_member (placed p s None) j.before x j.clear i) in
       let behind : In next.0 occupied → ⊥ = empty_on next.0 (subst (Member next.0) (sym ray_is) (mem_right next.0 j.before (c ∷ (next.0 ∷ next.1)) (inr (inl refl)))) next.3 in
-      let there : (kind : Kind) → piece.kind ≡ kind → at p s ≡ Some (record { side = p.turn; kind = kind }) = λ kind e. stands.there ∙ ap Some (piece_is piece p.turn kind stands.own e) in
       let enemy_at : at p c ≡ Some (record { side = other p.turn; kind = j.enemy.0 }) = stood p s c (record { side = other piece.side; kind = j.enemy.0 }) j.enemy.1 ∙ ap (λ z. Some (record { side = other z; kind = j.enemy.0 })) stands.own in
-      let met : (from : Squares) → In s from → Walked g from occupied d (length j.before) c (next.0 ∷ next.1) = λ from i. walk g b from occupied d j.before 0 (length j.before) s c (next.0 ∷ next.1) (omega arith) i stands.on_board ray_is free in
-      let enemy : OnBoard g c → In c enemies = λ on. (sets.of_enemies c).1 (on, (j.enemy.0, enemy_at)) in
-      let meets : (from : Squares) → In s from → MeetsBehind g from enemies occupied d (length j.before) c = λ from i. let w = met from i in (w.last, w.runs, w.steps, enemy w.on) in
-      let to : (from : Squares) → In s from → step g c d ≡ Some next.0 = λ from i. let w = met from i in (ray_head g b c next.0 next.1 d w.on w.ray_is).0 in
+      let w : Walked g from occupied d (length j.before) c (next.0 ∷ next.1) = walk g b from occupied d j.before 0 (length j.before) s c (next.0 ∷ next.1) (omega arith) i stands.on_board ray_is free in
+      (next.0, (w.last, w.runs, w.steps, (sets.of_enemies c).1 (w.on, (j.enemy.0, enemy_at))), (ray_head g b c next.0 next.1 d w.on w.ray_is).0, behind)
+
+  jump_takes : (s c t : ℕ) (piece : Piece) → Stands g p s piece → Jump g (placed p s None) piece s c t → (d : Dir) × Takes g men kings enemies occupied d
+  jump_takes s c t piece stands j =
+      let there : (kind : Kind) → piece.kind ≡ kind → at p s ≡ Some (record { side = p.turn; kind = kind }) = λ kind e. stands.there ∙ ap Some (piece_is piece p.turn kind stands.own e) in
       elim (kind_cases piece.kind) [
         | inl man ↦
             let i : In s men = (sets.of_men s).1 (stands.on_board, there Man man) in
+            let m = jump_meets s c t piece stands j men i in
             let at_once : length j.before ≡ 0 = ap length (j.man man).0 in
-            (d, (c, next.0, inl (subst (λ n. MeetsBehind g men enemies occupied d n c) at_once (meets men i)), to men i, behind))
+            (j.dir, (c, m.0, inl (subst (λ n. MeetsBehind g men enemies occupied j.dir n c) at_once m.1), m.2, m.3))
         | inr king ↦
             let i : In s kings = (sets.of_kings s).1 (stands.on_board, there King king) in
-            (d, (c, next.0, inr (length j.before, meets kings i), to kings i, behind))
+            let m = jump_meets s c t piece stands j kings i in
+            (j.dir, (c, m.0, inr (length j.before, m.1), m.2, m.3))
       ]
 
   pub capture_takes : CanCapture g p → (d : Dir) × Takes g men kings enemies occupied d

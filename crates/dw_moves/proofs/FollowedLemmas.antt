@@ -21,7 +21,7 @@ use Rattle.dw_moves.proofs.LegalMoveLemmas.{best_only}
 use Rattle.dw_moves.proofs.LongestLemmas.{chain_none, chain_more, chain_tail, index_of, here, landing_of, landing_on}
 use Rattle.dw_moves.proofs.PathTellsLemmas.{one_taken}
 use Rattle.dw_moves.proofs.TakesTheseLemmas.{len_list}
-use Rattle.dw_moves.proofs.TakingLemmas.{start}
+use Rattle.dw_moves.specs.inner.Chains.{start}
 use Rattle.dw_moves.proofs.WalkedLemmas.{union_more, union_none, union_of_none}
 
 some_injective : {x y : ℕ} → Some x ≡ Some y → x ≡ y

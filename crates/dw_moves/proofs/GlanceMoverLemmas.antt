@@ -1,5 +1,5 @@
 -- The pieces that move or take are found from the squares that they reach.
-use Rattle.std.proofs.Common.{◌≡◌, ℕ, ◌∷◌, ◌++◌, refl, sym, ap, ◌∙◌, subst, ◌⊎◌, inl, inr, ◌↔◌, Some, None}
+use Rattle.std.proofs.Common.{◌≡◌, ℕ, ◌∷◌, ◌++◌, length, refl, sym, ap, ◌∙◌, subst, ◌⊎◌, inl, inr, ◌↔◌, Some, None}
 use Rattle.std.specs.FinSet as fin
 use Rattle.dw_board.specs.declared.board.Dir.{Dir}
 use Rattle.dw_board.specs.declared.board.Dir.TheVariants.{UpLeft, UpRight, DownLeft, DownRight}
@@ -10,14 +10,15 @@ use Rattle.dw_board.specs.Geometry.{Geometry, IsBoard, OnBoard, step, Squares, b
 use Rattle.dw_board.specs.Placement.{Placement, at, placed, other}
 use Rattle.dw_moves.specs.Moves.{Stands, Jump, ray, In}
 use Rattle.dw_board.specs.Lists.{Member}
-use Rattle.dw_moves.specs.inner.Glance.{AreSets, MenMeet, CanTakeFrom}
+use Rattle.dw_moves.specs.inner.Glance.{AreSets, MenMeet, KingsTake, CanTakeFrom, CanTakeTowards}
+use Rattle.dw_moves.proofs.ExactLemmas.{jump_along}
 use Rattle.dw_moves.proofs.StepLemmas.{step_is}
 use Rattle.dw_moves.proofs.StepBackLemmas.{step_back}
 use Rattle.dw_moves.proofs.SquareSetLemmas.{in_or, in_minus}
 use Rattle.dw_moves.proofs.GlanceSetLemmas.{not_taken}
 use Rattle.dw_moves.proofs.GlanceRunLemmas.{IsShifted}
 use Rattle.dw_moves.proofs.SlideLemmas.{ray_head}
-use Rattle.dw_moves.proofs.FirstJumpLemmas.{piece_is, kind_cases, same_on_ray}
+use Rattle.dw_moves.proofs.FirstJumpLemmas.{piece_is, kind_cases, same_on_ray, jump_meets}
 
 -- a man that can take is found from the square behind what it takes
 pub taker_in : (g : Geometry) → IsBoard g → (men enemies occupied met next free over behind : Squares) (d e : Dir) → e ≡ back d → ((c : ℕ) → In c met ↔ MenMeet g men enemies occupied d c)
@@ -56,27 +57,40 @@ abbrev pub TakesFrom : Geometry → Squares → Squares → Squares → ℕ → 
 TakesFrom g men enemies occupied s d = (c : ℕ) × ((t : ℕ) × (OnBoard g s × (In s men × ((step g s d ≡ Some c) × (In c enemies × ((step g c d ≡ Some t) × (In t occupied → ⊥)))))))
 
 module _ (g : Geometry) (b : IsBoard g) (p : Placement) (men kings enemies occupied : Squares) (sets : AreSets g p men kings enemies occupied) where
-  -- a capture begins with a king, or with a man next to an enemy that has an empty square behind it
-  capture_begins : (s : ℕ) → CanTakeFrom g p s → In s kings ⊎ ((d : Dir) × TakesFrom g men enemies occupied s d)
-  capture_begins s h =
-      let piece : Piece = h.2 in
-      let stands : Stands g p s piece = h.3 in
-      let j : Jump g (placed p s None) piece s h.0 h.1 = h.4 in
+  -- a jump begins with a king, or with a man next to an enemy that has an empty square behind it
+  jump_begins : (s c t : ℕ) (piece : Piece) → Stands g p s piece → (j : Jump g (placed p s None) piece s c t) → In s kings ⊎ TakesFrom g men enemies occupied s j.dir
+  jump_begins s c t piece stands j =
       let on = stands.on_board in
       let there : (kind_of : Kind) → piece.kind ≡ kind_of → at p s ≡ Some (record { side = p.turn; kind = kind_of }) = λ kind_of e. stands.there ∙ ap Some (piece_is piece p.turn kind_of stands.own e) in
       elim (kind_cases piece.kind) [
         | inl man ↦
-            let first : ray g s j.dir ≡ h.0 ∷ (h.1 ∷ j.beyond) = j.on_ray ∙ (ap (λ z. z ++ h.0 ∷ (j.behind ++ h.1 ∷ j.beyond)) (j.man man).0 ∙ ap (λ z. h.0 ∷ (z ++ h.1 ∷ j.beyond)) (j.man man).1) in
-            let to = ray_head g b s h.0 (h.1 ∷ j.beyond) j.dir on first in
-            let c_on : OnBoard g h.0 = (step_is g b s h.0 j.dir on to.0).on in
-            let further = ray_head g b h.0 h.1 j.beyond j.dir c_on to.1 in
-            let c_in : Member h.0 (ray g s j.dir) = subst (Member h.0) (sym first) (inl refl) in
-            let t_in : Member h.1 (ray g s j.dir) = subst (Member h.1) (sym first) (inr (inl refl)) in
-            let c_at : at p h.0 ≡ Some (record { side = other p.turn; kind = j.enemy.0 }) = sym (same_on_ray g b p j.dir s h.0 on c_in) ∙ (j.enemy.1 ∙ ap (λ z. Some (record { side = other z; kind = j.enemy.0 })) stands.own) in
-            let t_at : at p h.1 ≡ None = sym (same_on_ray g b p j.dir s h.1 on t_in) ∙ j.free in
-            inr (j.dir, (h.0, (h.1, (on, ((sets.of_men s).1 (on, there Man man), (to.0, ((sets.of_enemies h.0).1 (c_on, (j.enemy.0, c_at)), (further.0, not_taken g p men kings enemies occupied h.1 sets t_at))))))))
+            let first : ray g s j.dir ≡ c ∷ (t ∷ j.beyond) = j.on_ray ∙ (ap (λ z. z ++ c ∷ (j.behind ++ t ∷ j.beyond)) (j.man man).0 ∙ ap (λ z. c ∷ (z ++ t ∷ j.beyond)) (j.man man).1) in
+            let to = ray_head g b s c (t ∷ j.beyond) j.dir on first in
+            let c_on : OnBoard g c = (step_is g b s c j.dir on to.0).on in
+            let further = ray_head g b c t j.beyond j.dir c_on to.1 in
+            let c_in : Member c (ray g s j.dir) = subst (Member c) (sym first) (inl refl) in
+            let t_in : Member t (ray g s j.dir) = subst (Member t) (sym first) (inr (inl refl)) in
+            let c_at : at p c ≡ Some (record { side = other p.turn; kind = j.enemy.0 }) = sym (same_on_ray g b p j.dir s c on c_in) ∙ (j.enemy.1 ∙ ap (λ z. Some (record { side = other z; kind = j.enemy.0 })) stands.own) in
+            let t_at : at p t ≡ None = sym (same_on_ray g b p j.dir s t on t_in) ∙ j.free in
+            inr (c, (t, (on, ((sets.of_men s).1 (on, there Man man), (to.0, ((sets.of_enemies c).1 (c_on, (j.enemy.0, c_at)), (further.0, not_taken g p men kings enemies occupied t sets t_at)))))))
         | inr king ↦ inl ((sets.of_kings s).1 (on, there King king))
       ]
+
+  -- and so does a capture
+  capture_begins : (s : ℕ) → CanTakeFrom g p s → In s kings ⊎ ((d : Dir) × TakesFrom g men enemies occupied s d)
+  capture_begins s h = elim (jump_begins s h.0 h.1 h.2 h.3 h.4) [ inl k ↦ inl k | inr m ↦ inr (h.4.dir, m) ]
+
+  pub towards_within : (movers towards all : Squares) (d : Dir) (s : ℕ) → (In s kings → ((u : ℕ) × KingsTake g kings enemies occupied d u) → In s movers) → (TakesFrom g men enemies occupied s d → In s towards) → all ≡ fin.union movers towards
+      → CanTakeTowards g p d s → In s all
+  towards_within movers towards all d s k f all_is h =
+      let j = jump_along g (placed p s None) h.2 s h.0 h.1 d h.4 in
+      let takes : In s kings → (u : ℕ) × KingsTake g kings enemies occupied d u = λ i.
+      let m = jump_meets g b p men kings enemies occupied sets s h.0 h.1 h.2 h.3 j.0 kings i in
+      subst (λ z. (u : ℕ) × KingsTake g kings enemies occupied z u) j.1 (m.0, (h.0, (length j.0.before, m.1), m.2, m.3)) in
+      (in_or movers towards all s all_is).1 (elim (jump_begins s h.0 h.1 h.2 h.3 j.0) [
+        | inl i ↦ inl (k i (takes i))
+        | inr m ↦ inr (f (subst (TakesFrom g men enemies occupied s) j.1 m))
+      ])
 
   pub captures_within : (ul ur dl dr two three four all : Squares) → (s : ℕ) → FourSets (TakesFrom g men enemies occupied s) (In s ul) (In s ur) (In s dl) (In s dr)
       → two ≡ fin.union ul ur → three ≡ fin.union dl dr → four ≡ fin.union kings two → all ≡ fin.union four three → CanTakeFrom g p s → In s all

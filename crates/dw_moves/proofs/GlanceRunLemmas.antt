@@ -1,5 +1,5 @@
 -- What is met and reached on sets of squares, as the kernel computes it.
-use Rattle.std.proofs.Common.{◌≡◌, ℕ, zero, suc, Bool, true, false, refl, sym, ◌∙◌, subst, ◌⊎◌, inl, inr, ◌↔◌, Some}
+use Rattle.std.proofs.Common.{◌≡◌, ℕ, ◌<◌, zero, suc, Bool, true, false, refl, sym, ◌∙◌, subst, ◌⊎◌, inl, inr, ◌↔◌, Some}
 use Rattle.std.specs.Prelude.{IsTrue}
 use Rattle.std.proofs.lemmas.Bool.{true≢false}
 use Rattle.std.specs.FinSet as fin
@@ -7,11 +7,12 @@ use Rattle.dw_board.specs.declared.board.Dir.{Dir}
 use Rattle.dw_board.specs.declared.board.Dir.TheVariants.{UpLeft, UpRight, DownLeft, DownRight}
 use Rattle.dw_board.specs.declared.piece.Side.{Side}
 use Rattle.dw_board.specs.declared.piece.Kind.TheVariants.{Man}
-use Rattle.dw_board.specs.Geometry.{Geometry, step, Squares}
+use Rattle.dw_board.specs.Geometry.{Geometry, IsBoard, OnBoard, step, Squares}
 use Rattle.dw_moves.specs.Moves.{IsForward, In}
 use Rattle.dw_moves.specs.inner.Plain.{may_go}
-use Rattle.dw_moves.specs.inner.Glance.{MenMeet, KingsMeet, MenTake, KingsTake, Takes, Steps, StepsOn}
+use Rattle.dw_moves.specs.inner.Glance.{MenMeet, MenTake, KingsTake, Takes, Steps, StepsOn}
 use Rattle.dw_board.specs.Slides.{SlidesTo}
+use Rattle.dw_moves.proofs.SlideLemmas.{room_behind}
 use Rattle.dw_moves.proofs.LegalMoveLemmas.{may_from, may_in}
 use Rattle.dw_moves.proofs.SquareSetLemmas.{in_or, in_and, in_minus}
 
@@ -25,17 +26,22 @@ men_meet g men enemies occupied d next v shifted e c = (
   (λ h. (in_and next enemies v c e).1 ((shifted c).1 (h.0, (h.1, h.2)), h.3)),
 )
 
--- what comes after a slide
-pub kings_meet : (g : Geometry) (kings enemies occupied : Squares) (d : Dir) (reached next v : Squares)
-    → ((t : ℕ) → In t reached ↔ ((n : ℕ) × SlidesTo g kings occupied d n t)) → IsShifted g reached d next → v ≡ fin.intersection next enemies
-    → (c : ℕ) → In c v ↔ KingsMeet g kings enemies occupied d c
-kings_meet g kings enemies occupied d reached next v slid shifted e c = (
+-- kings slide as near as they have to, to take what comes next
+pub kings_take_behind : (g : Geometry) → IsBoard g → (kings enemies occupied : Squares) (d : Dir) (reached next met behind free : Squares) → ((t : ℕ) → In t reached ↔ ((n : ℕ) × (n < 8) × SlidesTo g kings occupied d n t)) → ((s : ℕ) → In s kings → OnBoard g s)
+    → IsShifted g reached d next → met ≡ fin.intersection next enemies → IsShifted g met d behind → free ≡ fin.difference behind occupied → (t : ℕ) → In t free ↔ KingsTake g kings enemies occupied d t
+kings_take_behind g b kings enemies occupied d reached next met behind free slid on shifted met_is further free_is t = (
   (λ h.
-      let both = (in_and next enemies v c e).0 h in
-      let s = (shifted c).0 both.0 in
+      let w = (in_minus behind occupied free t free_is).0 h in
+      let c = (further t).0 w.0 in
+      let both = (in_and next enemies met c.0 met_is).0 c.1.0 in
+      let s = (shifted c.0).0 both.0 in
       let r = (slid s.0).0 s.1.0 in
-      (r.0, (s.0, r.1, s.1.1, both.1))),
-  (λ h. (in_and next enemies v c e).1 ((shifted c).1 (h.1.0, ((slid h.1.0).1 (h.0, h.1.1), h.1.2)), h.1.3)),
+      (c.0, (r.0, (s.0, r.2, s.1.1, both.1)), c.1.1, w.1)),
+  (λ h.
+      let m = h.1.1 in
+      let few = room_behind g b kings occupied d on h.1.0 m.0 h.0 t m.1 m.2 h.2 in
+      let hit : In h.0 met = (in_and next enemies met h.0 met_is).1 ((shifted h.0).1 (m.0, ((slid m.0).1 (h.1.0, few, m.1), m.2)), m.3) in
+      (in_minus behind occupied free t free_is).1 ((further t).1 (h.0, (hit, h.2)), h.3)),
 )
 
 -- behind what is met an empty square

@@ -91,10 +91,6 @@ before_man g p k side d from before on e f = record {
   blocked = λ q. cc;
 }
 
-pub before_king : (g : Geometry) (p : Placement) (k : Kind) (side : Side) (d : Dir) (from before : ℕ) → OnBoard g before → k ≡ King → king_takes p side (ray g from d) ≡ king_takes p side (ray g before d) → free_step g p before d ≡ None → Before g p k side d from before
-before_king g p Man side d from before on e f s = cc
-before_king g p King side d from before on e f s = record { on = on; takes = f; blocked = λ q. s }
-
 no_ray : (k : Kind) (p : Placement) (side : Side) → takes_for k p side [] ≡ []
 no_ray Man p side = refl
 no_ray King p side = refl

@@ -1,6 +1,5 @@
 -- How it is seen on sets that a king can take nothing more.
-use Rattle.std.proofs.Common.{◌≡◌, ℕ, ◌∷◌, ◌++◌, List, length, sym, ap, ◌∙◌, subst, refl, inr, arith, Bool, false, None, is_some}
-use Rattle.std.specs.Prelude.{IsTrue}
+use Rattle.std.proofs.Common.{◌≡◌, ℕ, ◌∷◌, ◌++◌, length, sym, ap, ◌∙◌, subst, refl, inr, arith, false, None, is_some}
 use Rattle.std.proofs.lemmas.Bool.{true≢false}
 use Rattle.std.specs.FinSet as fin
 use Rattle.dw_board.specs.declared.board.Dir.{Dir}
@@ -8,14 +7,12 @@ use Rattle.dw_board.specs.declared.piece.Piece.{Piece}
 use Rattle.dw_board.specs.Geometry.{Geometry, IsBoard, OnBoard, Squares}
 use Rattle.dw_board.specs.Placement.{Placement, at}
 use Rattle.dw_board.specs.Lists.{Member}
-use Rattle.dw_moves.specs.Moves.{Jump, Move, In, ray}
-use Rattle.dw_moves.specs.inner.Chains.{EndsAs, Is, Longest}
+use Rattle.dw_moves.specs.Moves.{Jump, In, ray}
 use Rattle.dw_moves.specs.inner.Glance.{IsGround, Takes}
 use Rattle.dw_moves.proofs.SquareSetLemmas.{in_minus}
 use Rattle.dw_moves.proofs.SlideLemmas.{Walked, walk, ray_head}
 use Rattle.dw_moves.proofs.FirstJumpLemmas.{empty_member, head_free}
 use Rattle.dw_moves.proofs.KingSlideLemmas.{one_in}
-use Rattle.dw_moves.proofs.WalkedLemmas.{ends_there}
 
 -- the same sets
 pub takes_with : (g : Geometry) (men kings men' kings' left left' occupied : Squares) (d : Dir) → men ≡ men' → kings ≡ kings' → left ≡ left' → Takes g men kings left occupied d → Takes g men' kings' left' occupied d
@@ -23,7 +20,7 @@ takes_with g men kings men' kings' left left' occupied d m k l h =
     subst (λ z. Takes g men' kings' z occupied d) l (subst (λ z. Takes g men' z left occupied d) k (subst (λ z. Takes g z kings left occupied d) m h))
 
 -- a jump over what was not taken, seen from its start
-jump_seen : (g : Geometry) → IsBoard g → (p : Placement) (piece : Piece) (s c t : ℕ) (enemies occupied taken : Squares) → OnBoard g s → IsGround g p piece.side enemies occupied → fin.contains taken c ≡ false
+pub jump_seen : (g : Geometry) → IsBoard g → (p : Placement) (piece : Piece) (s c t : ℕ) (enemies occupied taken : Squares) → OnBoard g s → IsGround g p piece.side enemies occupied → fin.contains taken c ≡ false
     → (j : Jump g p piece s c t) → Takes g fin.empty (fin.insert fin.empty s) (fin.difference enemies taken) occupied j.dir
 jump_seen g b p piece s c t enemies occupied taken on ground fresh j =
     let next = head_free p j.behind t j.beyond j.clear_behind j.free in
@@ -35,10 +32,3 @@ jump_seen g b p piece s c t enemies occupied taken on ground fresh j =
     let enemy : In c enemies = (ground.of_enemies c).1 (w.on, j.enemy) in
     let left : In c (fin.difference enemies taken) = (in_minus enemies taken (fin.difference enemies taken) c refl).1 (enemy, λ h. true≢false (sym h ∙ fresh)) in
     (c, next.0, inr (length j.before, (w.last, w.runs, w.steps, left)), (ray_head g b c next.0 next.1 j.dir w.on w.ray_is).0, out next.0 next.3)
-
--- a piece that can not be seen to take one more ends its capture here
-pub king_ends : (g : Geometry) → IsBoard g → (p : Placement) (piece : Piece) (b : Move) (n most k : ℕ) (moves new : List Move) (enemies occupied : Squares) (r : Bool) → OnBoard g b.to → IsGround g p piece.side enemies occupied
-    → ((d : Dir) → Takes g fin.empty (fin.insert fin.empty b.to) (fin.difference enemies b.taken) occupied d → IsTrue r) → r ≡ false → Longest (Is b n) most moves k new → Longest (EndsAs g p piece b n) most moves k new
-king_ends g board p piece b n most k moves new enemies occupied r on ground seen out h =
-    ends_there g p piece b n most k moves new
-    (λ c t fresh jump. true≢false (sym (seen jump.dir (jump_seen g board p piece b.to c t enemies occupied b.taken on ground fresh jump)) ∙ out)) h

@@ -12,7 +12,8 @@ use Rattle.dw_moves.specs.Order.{Listed}
 use Rattle.dw_moves.specs.inner.Listing.{Leading, LeadingFrom, GoesBy, LongestLeast}
 use Rattle.dw_moves.proofs.BestFromLemmas.{path_of, chain_of}
 use Rattle.dw_moves.proofs.LeastKeptLemmas.{least_none, least_then, least_wider}
-use Rattle.dw_moves.proofs.TakingLemmas.{start, none_takes, enemy_takes, begins_there, out_of_rest, past_rest}
+use Rattle.dw_moves.specs.inner.Chains.{start}
+use Rattle.dw_moves.proofs.TakingLemmas.{none_takes, enemy_takes, begins_there, out_of_rest, past_rest}
 use Rattle.dw_moves.proofs.TakesTheseLemmas.{not_removed}
 use Rattle.dw_moves.proofs.WalkedLemmas.{union_of_none}
 

@@ -20,7 +20,9 @@ pub mod WalkedLemmas
 pub mod ManChainLemmas
 pub mod GroundLemmas
 pub mod KingChainLemmas
+pub mod KingMeetLemmas
 pub mod TakingLemmas
+pub mod TakingTowardsLemmas
 pub mod QuietLemmas
 pub mod AddingLemmas
 pub mod TallyLemmas

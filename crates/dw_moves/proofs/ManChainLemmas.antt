@@ -39,7 +39,7 @@ lands_on g enemies occupied s d here next met behind v here_is next_is met_is be
 )
 
 -- a jump of a man over what was not taken
-jump_lands : (g : Geometry) → IsBoard g → (p : Placement) (piece : Piece) (s c t : ℕ) (enemies occupied taken : Squares) → piece.kind ≡ Man → OnBoard g s → IsGround g p piece.side enemies occupied → fin.contains taken c ≡ false
+pub jump_lands : (g : Geometry) → IsBoard g → (p : Placement) (piece : Piece) (s c t : ℕ) (enemies occupied taken : Squares) → piece.kind ≡ Man → OnBoard g s → IsGround g p piece.side enemies occupied → fin.contains taken c ≡ false
     → (j : Jump g p piece s c t) → JumpsTo g (fin.difference enemies taken) occupied s j.dir t
 jump_lands g b p piece s c t enemies occupied taken man on ground fresh j =
     let first : ray g s j.dir ≡ c ∷ (t ∷ j.beyond) = j.on_ray ∙ (ap (λ z. z ++ c ∷ (j.behind ++ t ∷ j.beyond)) (j.man man).0 ∙ ap (λ z. c ∷ (z ++ t ∷ j.beyond)) (j.man man).1) in

@@ -1,15 +1,15 @@
 -- What a slide leads over on a board, and along which ray.
-use Rattle.std.proofs.Common.{◌≡◌, ℕ, ◌+◌, zero, suc, List, [], ◌∷◌, ◌++◌, length, refl, sym, ap, ◌∙◌, subst, inl, inr, ◌↔◌, arith, Some, None, length-append, append_assoc}
+use Rattle.std.proofs.Common.{◌≡◌, ℕ, ◌+◌, ◌≤◌, ◌<◌, Bool, true, false, zero, suc, List, [], ◌∷◌, ◌++◌, length, refl, sym, ap, ◌∙◌, subst, inl, inr, ◌↔◌, arith, Some, None, length-append, append_assoc}
 use Rattle.dw_board.specs.declared.board.Dir.{Dir}
 use Rattle.dw_board.specs.declared.piece.Piece.{Piece}
-use Rattle.dw_board.specs.Geometry.{Geometry, IsBoard, OnBoard, step, Squares}
+use Rattle.dw_board.specs.Geometry.{Geometry, IsBoard, OnBoard, step, row, is_down, Squares}
 use Rattle.dw_board.specs.Lists.{Member}
 use Rattle.dw_board.specs.Placement.{Placement, at}
 use Rattle.dw_board.specs.Slides.{SlidesTo}
 use Rattle.dw_moves.specs.Moves.{AllEmpty, ray, In}
 use Rattle.dw_moves.proofs.ExactLemmas.{option_cases}
 use Rattle.dw_moves.proofs.RayLemmas.{ray_some, ray_none}
-use Rattle.dw_moves.proofs.StepLemmas.{none_some, step_is}
+use Rattle.dw_moves.proofs.StepLemmas.{IsNext, none_some, step_is, row_low}
 
 -- the squares on which anything stands
 abbrev pub AreAll : Geometry → Placement → Squares → Type 0
@@ -82,3 +82,35 @@ walk g b from occupied d [] n m s c rest e r on is free =
 walk g b from occupied d (x ∷ before) n m s c rest e r on is free =
     let h = ray_head g b s x (before ++ c ∷ rest) d on is in
     walk g b from occupied d before (suc n) m x c rest (omega arith) (s, r, h.0, free x (inl refl)) (step_is g b s x d on h.0).on h.1 (λ y i. free y (inr i))
+
+-- a slide has gone as many rows as it has steps
+abbrev HasGone : Bool → ℕ → ℕ → ℕ → Type 0
+HasGone true n r rows = n ≤ r
+HasGone false n r rows = n + r < rows
+
+none_gone : (down : Bool) (r rows : ℕ) → r < rows → HasGone down 0 r rows
+none_gone true r rows low = omega arith
+none_gone false r rows low = omega (arith, low)
+
+one_gone : (down : Bool) (n r q rows : ℕ) → HasGone down n r rows → IsNext down r q → HasGone down (suc n) q rows
+one_gone true n r q rows h k = omega (arith, h, k)
+one_gone false n r q rows h k = omega (arith, h, k)
+
+few_gone : (down : Bool) (n r rows : ℕ) → HasGone down (suc (suc n)) r rows → r < rows → rows ≤ 10 → n < 8
+few_gone true n r rows h low high = omega (arith, h, low, high)
+few_gone false n r rows h low high = omega (arith, h, low, high)
+
+slid_rows : (g : Geometry) → IsBoard g → (from barred : Squares) (d : Dir) → ((s : ℕ) → In s from → OnBoard g s) → (n t : ℕ) → SlidesTo g from barred d n t → OnBoard g t × HasGone (is_down d) n (row g t) g.rows
+slid_rows g b from barred d on zero t r = (on t r, none_gone (is_down d) (row g t) g.rows (row_low g b t (on t r)))
+slid_rows g b from barred d on (suc n) t r =
+    let h = slid_rows g b from barred d on n r.0 r.1 in
+    let s = step_is g b r.0 t d h.0 r.2 in
+    (s.on, one_gone (is_down d) n (row g r.0) (row g t) g.rows h.1 s.rows)
+
+-- with room for two steps more it has seven at most
+pub room_behind : (g : Geometry) → IsBoard g → (from barred : Squares) (d : Dir) → ((s : ℕ) → In s from → OnBoard g s) → (n s c t : ℕ) → SlidesTo g from barred d n s → step g s d ≡ Some c → step g c d ≡ Some t → n < 8
+room_behind g b from barred d on n s c t r to further =
+    let h = slid_rows g b from barred d on n s r in
+    let one = step_is g b s c d h.0 to in
+    let two = step_is g b c t d one.on further in
+    few_gone (is_down d) n (row g t) g.rows (one_gone (is_down d) (suc n) (row g c) (row g t) g.rows (one_gone (is_down d) n (row g s) (row g c) g.rows h.1 one.rows) two.rows) (row_low g b t two.on) (omega (arith, b.even, b.high))

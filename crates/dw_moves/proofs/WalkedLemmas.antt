@@ -1,5 +1,5 @@
 -- How chains of jumps are walked, jump by jump, with the longest captures kept.
-use Rattle.std.proofs.Common.{◌≡◌, ℕ, ◌+◌, ◌-◌, ◌≤◌, ◌||◌, List, [], ◌∷◌, ◌++◌, length, map, refl, sym, ap, ◌∙◌, subst, ◌⊎◌, inl, inr, arith, Bool, true, false, None, append_assoc}
+use Rattle.std.proofs.Common.{◌≡◌, ℕ, ◌+◌, ◌-◌, ◌≤◌, ◌||◌, List, [], ◌∷◌, ◌++◌, length, refl, sym, ap, ◌∙◌, subst, ◌⊎◌, inl, inr, arith, Bool, true, false, None, append_assoc}
 use Rattle.std.proofs.lemmas.Bool.{true≢false}
 use Rattle.std.specs.FinSet as fin
 use Rattle.std.specs.Cmp.{nat_cmp_total}
@@ -15,6 +15,7 @@ use Rattle.dw_moves.specs.Moves.{Move, Jump, last_of, ray}
 use Rattle.dw_board.specs.Lists.{Member}
 use Rattle.dw_moves.specs.inner.MoveLemmas.{same_move}
 use Rattle.dw_moves.specs.inner.MemberLemmas.{mem_left, mem_right, mem_cases, mem_map, mem_map_back, mem_flat, mem_flat_back}
+use Rattle.dw_moves.specs.inner.Plain as plain
 use Rattle.dw_moves.specs.inner.Plain.{dirs, takes_for, landings_for, free_step, no_jumps}
 use Rattle.dw_moves.specs.inner.Chains.{Chain, ChainsFit, EndsAs, EndsTowards, Is, Longest, further}
 use Rattle.dw_moves.proofs.ExactLemmas.{all_dirs, jump_from, jump_in}
@@ -127,15 +128,15 @@ landed_stop g board p piece b n c kind d at most moves longest now h stop =
     subst (λ z. Longest (Onto g p piece b n c z) most moves longest now) (sym (append_none h.passed) ∙ (ap (λ z. h.passed ++ z) (sym (run_stop g board kind p at d h.on stop)) ∙ h.all)) h.walked
 
 -- the square that comes next is a landing
-next_lands : (kind : Kind) (g : Geometry) (p : Placement) (s : ℕ) (d : Dir) (t : ℕ) → Freed g p s d t → Member t (landings_for kind p (ray g s d))
+pub next_lands : (kind : Kind) (g : Geometry) (p : Placement) (s : ℕ) (d : Dir) (t : ℕ) → Freed g p s d t → Member t (landings_for kind p (ray g s d))
 next_lands Man g p s d t f = subst (Member t) (sym (ap (landings_for Man p) f.ray_is ∙ run_man p t (ray g t d) f.free)) (inl refl)
 next_lands King g p s d t f = subst (Member t) (sym (ap (landings_for King p) f.ray_is ∙ run_king p t (ray g t d) f.free)) (inl refl)
 
 -- what is taken in this direction, and where it lands
 abbrev pub TakesOver : Geometry → Placement → Piece → ℕ → Dir → ℕ → Type 0
-TakesOver g p piece s d c = takes_for piece.kind p piece.side (ray g s d) ≡ map (λ t. (c, t)) (landings_for piece.kind p (ray g c d))
+TakesOver g p piece = plain.TakesOver piece.kind g p piece.side
 
-in_direction : (g : Geometry) (p : Placement) (piece : Piece) (s : ℕ) (d : Dir) (j : ℕ × ℕ) → Member j (takes_for piece.kind p piece.side (ray g s d)) → Jump g p piece s j.0 j.1
+pub in_direction : (g : Geometry) (p : Placement) (piece : Piece) (s : ℕ) (d : Dir) (j : ℕ × ℕ) → Member j (takes_for piece.kind p piece.side (ray g s d)) → Jump g p piece s j.0 j.1
 in_direction g p piece s d j m = jump_from g p piece s j (mem_flat (λ d. takes_for piece.kind p piece.side (ray g s d)) d j dirs (all_dirs d) m)
 
 pub jump_onto : (g : Geometry) (p : Placement) (piece : Piece) (b : Move) (n c : ℕ) (d : Dir) (at t most : ℕ) (moves : List Move) (longest : ℕ) (now : List Move)
@@ -171,7 +172,7 @@ abbrev pub Onward : Geometry → Placement → Piece → Move → ℕ → ℕ �
 Onward g p piece b n k m =
     (((EndsTowards g p piece b n UpLeft k m ⊎ EndsTowards g p piece b n UpRight k m) ⊎ EndsTowards g p piece b n DownLeft k m) ⊎ EndsTowards g p piece b n DownRight k m) ⊎ Is b n k m
 
-towards_ends : (g : Geometry) (p : Placement) (piece : Piece) (b : Move) (n : ℕ) (d : Dir) (k : ℕ) (m : Move) → EndsTowards g p piece b n d k m → EndsAs g p piece b n k m
+pub towards_ends : (g : Geometry) (p : Placement) (piece : Piece) (b : Move) (n : ℕ) (d : Dir) (k : ℕ) (m : Move) → EndsTowards g p piece b n d k m → EndsAs g p piece b n k m
 towards_ends g p piece b n d k m h = record {
   landings = h.t ∷ h.rest.landings;
   over = h.c ∷ h.rest.over;
@@ -197,7 +198,7 @@ by_dir g p piece b n k m DownLeft h = inl (inl (inr h))
 by_dir g p piece b n k m DownRight h = inl (inr h)
 
 -- a chain ends where it begins, or goes on in a direction
-ends_onward : (g : Geometry) (p : Placement) (piece : Piece) (b : Move) (n k : ℕ) (m : Move) → EndsAs g p piece b n k m → Onward g p piece b n k m
+pub ends_onward : (g : Geometry) (p : Placement) (piece : Piece) (b : Move) (n k : ℕ) (m : Move) → EndsAs g p piece b n k m → Onward g p piece b n k m
 ends_onward g p piece b n k m h = by_chain h.landings h.over h.chain h.count h.to h.taken where
   by_chain : (ts cs : List ℕ) → Chain g p piece b.to b.taken ts cs → n + length cs ≡ k → m.to ≡ last_of b.to ts → m.taken ≡ fin.union b.taken (fin.from_list cs) → Onward g p piece b n k m
   by_chain [] [] chain count to taken = inr (h.some, (omega arith, same_move m b h.from to (taken ∙ union_none b.taken)))

@@ -1,16 +1,18 @@
 //! Captures: whole chains of jumps, the longest of them kept.
-ghost use Rattle.std.specs.Prelude.{◌≡◌, ◌≤◌, ◌-◌, ◌↔◌, IfOk, IsTrue};
+ghost use Rattle.std.specs.Prelude.{◌≡◌, ◌≤◌, ◌-◌, ◌↔◌, ℕ, IfOk, IsTrue};
 ghost use Rattle.dw_board.specs.Geometry.{OnBoard};
 ghost use Rattle.dw_board.specs.declared.piece.Kind.TheVariants.{King};
-ghost use Rattle.dw_moves.specs.inner.Chains.{ChainsFit, Taking, TakingFrom, EndsAs, EndsTowards, Is, Longest, Takes};
+ghost use Rattle.dw_moves.specs.inner.Chains.{ChainsFit, Taking, TakingFromTowards, TakingTowards, EndsAs, EndsTowards};
+ghost use Rattle.dw_moves.specs.inner.Chains.{Is, Longest, Takes};
 ghost use Rattle.dw_moves.specs.inner.Chains.{IsCapture};
-ghost use Rattle.dw_moves.specs.inner.Glance.{IsGround};
+ghost use Rattle.dw_moves.specs.Moves.{In};
+ghost use Rattle.dw_moves.specs.inner.Glance.{CanTakeTowards, IsGround};
 
 use crate::best::is_own;
-use crate::glance::{king_goes_on, may_take};
+use crate::glance::may_take_towards;
 use crate::ground::Ground;
-use crate::jumps::{first_met, jumps};
-use crate::man_chains::walk_man;
+use crate::jumps::jumps;
+use crate::man_chains::walk_on;
 use crate::moves::Move;
 use dw_board::board::{Board, Dir};
 use dw_board::piece::{Kind, Piece};
@@ -19,32 +21,59 @@ use dw_board::square::Square;
 use dw_board::squares::Squares;
 use std::alloc::AllocError;
 
-/// Adds the captures of the greatest number, each once, and answers that number; adds none if it is 0.
+/// Adds the captures of the greatest number, each once, and answers that number; adds none if it is 0. It goes through
+/// them by the direction of the first jump: so each jump that a man begins with is found on sets of squares.
 pub(crate) fn push_captures<B: Board>(
     position: &Position<B>,
     moves: &mut Vec<Move<B>>,
 ) -> Result<u8, AllocError>
     ensures { IfOk result (λ k. Longest (Taking B.geometry position.now) 0 moves.old.items k moves.new.items) }
 {
-    let mut most = 0;
-    let mut left = may_take(position);
-    'squares: while let Some((square, rest)) = left.split() {
-        most = push_from(position, square, most, moves)?;
-        left = rest;
-    }
-    Ok(most)
+    let down_left = may_take_towards(position, Dir::DownLeft);
+    let down_right = may_take_towards(position, Dir::DownRight);
+    let up_left = may_take_towards(position, Dir::UpLeft);
+    let up_right = may_take_towards(position, Dir::UpRight);
+    let one = push_each(position, down_left, Dir::DownLeft, 0, moves)?;
+    let two = push_each(position, down_right, Dir::DownRight, one, moves)?;
+    let three = push_each(position, up_left, Dir::UpLeft, two, moves)?;
+    push_each(position, up_right, Dir::UpRight, three, moves)
 }
 
-/// Goes through the captures of what stands on a square.
+/// Goes through the captures that begin in one direction, each on one of these squares. It keeps those that take at
+/// least `most`, which rises with them, and answers how many the kept ones take.
+#[inline(always)]
+fn push_each<B: Board>(
+    position: &Position<B>,
+    squares: Squares<B>,
+    direction: Dir,
+    most: u8,
+    moves: &mut Vec<Move<B>>,
+) -> Result<u8, AllocError>
+    requires { (s : ℕ) → CanTakeTowards B.geometry position.now direction s → In s squares }
+    ensures { IfOk result (λ k. Longest (TakingTowards B.geometry position.now direction) most moves.old.items k
+        moves.new.items) }
+{
+    let mut longest = most;
+    let mut left = squares;
+    'squares: while let Some((square, rest)) = left.split() {
+        longest = push_from(position, square, direction, longest, moves)?;
+        left = rest;
+    }
+    Ok(longest)
+}
+
+/// Goes through those of them that begin with what stands on a square.
+#[inline(always)]
 fn push_from<B: Board>(
     position: &Position<B>,
     from: Square<B>,
+    direction: Dir,
     most: u8,
     moves: &mut Vec<Move<B>>,
 ) -> Result<u8, AllocError>
     requires { OnBoard B.geometry from }
-    ensures { IfOk result (λ k. Longest (TakingFrom B.geometry position.now from) most moves.old.items k
-        moves.new.items) }
+    ensures { IfOk result (λ k. Longest (TakingFromTowards B.geometry position.now from direction) most
+        moves.old.items k moves.new.items) }
 {
     let Some(piece) = position.at(from) else {
         return Ok(most);
@@ -57,42 +86,15 @@ fn push_from<B: Board>(
     let ground = Ground::without(position, piece.side, from);
     let begun = Move::quiet(from, from);
     match piece.kind {
-        Kind::Man => walk_man(&rest, &ground, piece, begun, 0, most, moves),
-        Kind::King => walk_king(&rest, &ground, piece, begun, 0, most, moves),
+        Kind::Man => walk_on(&rest, &ground, piece, begun, 0, direction, most, moves),
+        Kind::King => walk_towards(&rest, &ground, piece, begun, 0, direction, most, moves),
     }
 }
 
 /// Goes through the captures that begin with a king's move so far, which has taken so many pieces. It keeps those that
-/// take at least `most`, which rises with them, and answers how many the kept ones take. Most end where they are, which
-/// is seen on sets of squares.
-#[cycle(walk)]
+/// take at least `most`, which rises with them, and answers how many the kept ones take.
+#[cycle(walk_king)]
 fn walk_king<B: Board>(
-    position: &Position<B>,
-    ground: &Ground<B>,
-    piece: Piece,
-    begun: Move<B>,
-    count: u8,
-    most: u8,
-    moves: &mut Vec<Move<B>>,
-) -> Result<u8, AllocError>
-    requires king { piece.kind ≡ King }
-    requires on_board { OnBoard B.geometry begun.to }
-    requires ground { IsGround B.geometry position.now piece.side ground.now.enemies ground.now.occupied }
-    requires few { count ≤ 20 }
-    requires fits { ChainsFit B.geometry position.now piece begun.to begun.taken (20 - count) }
-    ensures { IfOk result (λ k. Longest (EndsAs B.geometry position.now piece begun count) most moves.old.items k
-        moves.new.items) }
-{
-    if king_goes_on(ground, begun.to, begun.taken) {
-        walk(position, ground, piece, begun, count, most, moves)
-    } else {
-        offer(begun, count, most, moves)
-    }
-}
-
-/// Goes through them in all directions.
-#[cycle(walk)]
-fn walk<B: Board>(
     position: &Position<B>,
     ground: &Ground<B>,
     piece: Piece,
@@ -153,7 +155,7 @@ fn walk<B: Board>(
 }
 
 /// Goes through those of them that go on in one direction: over the enemy that is met, onto each square behind it.
-#[cycle(walk)]
+#[cycle(walk_king)]
 #[inline(always)]
 fn walk_towards<B: Board>(
     position: &Position<B>,
@@ -173,7 +175,7 @@ fn walk_towards<B: Board>(
     ensures { IfOk result (λ k. Longest (EndsTowards B.geometry position.now piece begun count direction) most
         moves.old.items k moves.new.items) }
 {
-    let Some(over) = first_met(position, ground, piece, begun.to, direction) else {
+    let Some(over) = ground.met_by_king(position, piece.side, begun.to, direction) else {
         return Ok(most);
     };
     if begun.taken.has(over) {

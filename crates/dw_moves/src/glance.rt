@@ -2,19 +2,19 @@
 ghost use Rattle.std.specs.Prelude.{◌≡◌, ◌↔◌, ◌⊎◌, ℕ, Some, IsTrue, IsNone, IfSome};
 ghost use Rattle.std.specs.FinSet as set;
 ghost use Rattle.dw_board.specs.Geometry.{OnBoard, step};
-ghost use Rattle.dw_moves.specs.Moves.{CanCapture, Legal};
+ghost use Rattle.dw_moves.specs.Moves.{CanCapture, IsQuietCount, Legal};
 ghost use Rattle.dw_moves.specs.Moves as moved;
-ghost use Rattle.dw_moves.specs.inner.Glance.{AreSets, MenMeet, KingsMeet, MenTake, KingsTake, Takes};
+ghost use Rattle.dw_moves.specs.inner.Glance.{AreSets, MenMeet, MenTake, KingsTake, Takes};
 ghost use Rattle.dw_moves.specs.inner.Glance.{Steps, StepsOn, HasTwo, CanStep};
 ghost use Rattle.dw_moves.specs.Moves.{In};
-ghost use Rattle.dw_moves.specs.inner.Glance.{CanTakeFrom, NoneLoose};
+ghost use Rattle.dw_moves.specs.inner.Glance.{CanTakeFrom, CanTakeTowards, NoneLoose};
 ghost use Rattle.dw_board.specs.Geometry.{back};
 ghost use Rattle.dw_moves.specs.Replies.{given, passed, OneStep, IsLoose, IsLooseStep, AlwaysReply};
 
 use crate::ground::Ground;
 use crate::moves::Move;
 use crate::play::play;
-use crate::quiet::may_go;
+use crate::quiet::{count_on, may_go};
 use dw_board::board::{Board, Dir};
 use dw_board::piece::{Kind, Side};
 use dw_board::position::Position;
@@ -33,6 +33,39 @@ pub fn can_capture<B: Board>(position: &Position<B>) -> bool
     Field::of(position).takes()
 }
 
+/// The number of legal moves if nothing can be taken, or `None` if something can be: then it is not counted.
+/// Example: at `W:W27,45:B16` it is 3, and at `W:W32:B28` it is `None`.
+#[inline]
+pub fn count_if_quiet<B: Board>(position: &Position<B>) -> Option<u32>
+    ensures none { IsNone result ↔ CanCapture B.geometry position.now }
+    ensures some { IfSome result (IsQuietCount B.geometry position.now) }
+{
+    let field = Field::of(position);
+    if field.men_take() {
+        None
+    } else if field.kings.is_empty() {
+        Some(count_on(position, &field))
+    } else {
+        count_unless_kings_take(position, &field)
+    }
+}
+
+/// The same, if no man can take something. Kings slide once, for what they take and for where they go.
+#[inline(never)]
+fn count_unless_kings_take<B: Board>(position: &Position<B>, field: &Field<B>) -> Option<u32>
+    requires sets { AreSets B.geometry position.now field.now.men field.now.kings field.now.enemies
+        field.now.occupied }
+    requires men { (d : Dir) (t : ℕ) → MenTake B.geometry field.now.men field.now.enemies field.now.occupied d t → ⊥ }
+    ensures none { IsNone result ↔ CanCapture B.geometry position.now }
+    ensures some { IfSome result (IsQuietCount B.geometry position.now) }
+{
+    if field.slide_to_take() {
+        None
+    } else {
+        Some(count_on(position, field))
+    }
+}
+
 /// Whether the side to move has a quiet move, whether or not it must capture.
 pub(crate) fn can_step<B: Board>(position: &Position<B>) -> bool
     ensures { IsTrue result ↔ CanStep B.geometry position.now }
@@ -49,6 +82,7 @@ pub(crate) fn can_step<B: Board>(position: &Position<B>) -> bool
 /// the other side's turn, pieces of it could go one square to two different squares or more. A quiet move stands in the
 /// way of one.
 /// Example: at `W:W28:B1,2` it is `true`, and at `W:W27,45:B16` it is `false`.
+#[inline]
 pub fn is_loose<B: Board>(position: &Position<B>) -> bool
     ensures exact { IsTrue result ↔ IsLoose B.geometry position.now }
     ensures replies { IsTrue result → AlwaysReply B.geometry position.now }
@@ -118,6 +152,17 @@ pub(crate) fn may_take<B: Board>(position: &Position<B>) -> Squares<B>
     field.kings.or(up).or(down)
 }
 
+/// The squares from which a capture may begin in a direction: each from which one does is among them.
+#[inline]
+pub(crate) fn may_take_towards<B: Board>(position: &Position<B>, direction: Dir) -> Squares<B>
+    ensures { (s : ℕ) → CanTakeTowards B.geometry position.now direction s → In s result }
+{
+    let field = Field::of(position);
+    field
+        .kings_before_enemy(direction)
+        .or(field.before_enemy(direction))
+}
+
 /// Whether a king on this square, which has taken these, can take one more.
 pub(crate) fn king_goes_on<B: Board>(ground: &Ground<B>, from: Square<B>, taken: Squares<B>) -> bool
     ensures { (d : Dir) → Takes B.geometry set.empty (set.insert set.empty from)
@@ -134,17 +179,17 @@ pub(crate) fn king_goes_on<B: Board>(ground: &Ground<B>, from: Square<B>, taken:
 
 /// The squares of a position, by what the side to move has to do with what stands there.
 #[derive(Drop)]
-struct Field<B: Board> {
-    men: Squares<B>,
-    kings: Squares<B>,
-    enemies: Squares<B>,
-    occupied: Squares<B>,
+pub(crate) struct Field<B: Board> {
+    pub men: Squares<B>,
+    pub kings: Squares<B>,
+    pub enemies: Squares<B>,
+    pub occupied: Squares<B>,
 }
 
 impl<B: Board> Field<B> {
     /// The sets of a position.
     #[inline]
-    fn of(position: &Position<B>) -> Self
+    pub(crate) fn of(position: &Position<B>) -> Self
         ensures { AreSets B.geometry position.now result.men result.kings result.enemies result.occupied }
     {
         Field::given(position, position.turn())
@@ -196,12 +241,12 @@ impl<B: Board> Field<B> {
         ensures { IsTrue result ↔ ((d : Dir) × (t : ℕ) × KingsTake B.geometry self.now.kings self.now.enemies
             self.now.occupied d t) }
     {
-        any(self.kings) && self.sliding_kings_take()
+        any(self.kings) && slides_take(self.kings, self.enemies, self.occupied)
     }
 
-    /// The same, for a position with kings: it is no part of what is asked of each position.
-    #[inline(never)]
-    fn sliding_kings_take(&self) -> bool
+    /// The same: all kings slide, whether or not there are some.
+    #[inline(always)]
+    fn slide_to_take(&self) -> bool
         ensures { IsTrue result ↔ ((d : Dir) × (t : ℕ) × KingsTake B.geometry self.now.kings self.now.enemies
             self.now.occupied d t) }
     {
@@ -224,13 +269,14 @@ impl<B: Board> Field<B> {
         met.shifted(direction).minus(self.occupied)
     }
 
-    /// The empty squares behind the enemies that a king meets first.
+    /// The empty squares behind the enemies that a king meets first. All kings go on together.
     #[inline]
     fn behind_kings(&self, direction: Dir) -> Squares<B>
         ensures { (t : ℕ) → In t result ↔ KingsTake B.geometry self.now.kings self.now.enemies self.now.occupied
             direction t }
     {
-        let met = self.met_by_kings(direction);
+        let reached = self.kings.slid_near(self.occupied, direction);
+        let met = reached.shifted(direction).and(self.enemies);
         met.shifted(direction).minus(self.occupied)
     }
 
@@ -243,14 +289,17 @@ impl<B: Board> Field<B> {
         self.men.shifted(direction).and(self.enemies)
     }
 
-    /// The enemies that a king meets first. All kings go on together.
+    /// The kings, if one of them can take something in a direction.
     #[inline]
-    fn met_by_kings(&self, direction: Dir) -> Squares<B>
-        ensures { (c : ℕ) → In c result ↔ KingsMeet B.geometry self.now.kings self.now.enemies self.now.occupied
-            direction c }
+    fn kings_before_enemy(&self, direction: Dir) -> Squares<B>
+        ensures { (s : ℕ) → In s self.now.kings → ((t : ℕ) × KingsTake B.geometry self.now.kings self.now.enemies
+            self.now.occupied direction t) → In s result }
     {
-        let reached = self.kings.slid(self.occupied, direction);
-        reached.shifted(direction).and(self.enemies)
+        if any(self.kings) && any(self.behind_kings(direction)) {
+            self.kings
+        } else {
+            Squares::none()
+        }
     }
 
     /// The squares from which a man can take in a direction.
@@ -288,6 +337,7 @@ impl<B: Board> Field<B> {
     }
 
     /// A step in a direction after which the position is loose, and that position.
+    #[inline(always)]
     fn loose_towards(
         &self,
         position: &Position<B>,
@@ -315,6 +365,20 @@ impl<B: Board> Field<B> {
         }
         None
     }
+}
+
+/// Whether one of these kings can take something. It is no part of what is asked of each position, and stands apart.
+#[inline(never)]
+fn slides_take<B: Board>(kings: Squares<B>, enemies: Squares<B>, occupied: Squares<B>) -> bool
+    ensures { IsTrue result ↔ ((d : Dir) × (t : ℕ) × KingsTake B.geometry kings enemies occupied d t) }
+{
+    let field = Field {
+        men: Squares::none(),
+        kings,
+        enemies,
+        occupied,
+    };
+    field.slide_to_take()
 }
 
 /// Whether a square is in the set.

@@ -1,11 +1,13 @@
 //! What a piece meets on its way, by sets of squares that are taken once for the whole way.
-ghost use Rattle.std.specs.Prelude.{◌≡◌, ◌↔◌, ℕ, None, IsTrue};
+ghost use Rattle.std.specs.Prelude.{◌≡◌, ◌↔◌, ℕ, None, IsTrue, IfSome};
 ghost use Rattle.std.specs.FinSet as set;
 ghost use Rattle.dw_board.specs.Geometry.{OnBoard};
 ghost use Rattle.dw_board.specs.Placement.{at, is_of, placed};
-ghost use Rattle.dw_moves.specs.Moves.{In};
+ghost use Rattle.dw_board.specs.declared.piece.Kind.TheVariants.{Man, King};
+ghost use Rattle.dw_moves.specs.Moves.{In, ray};
 ghost use Rattle.dw_moves.specs.inner.Glance.{IsGround, JumpsTo};
 ghost use Rattle.dw_moves.specs.inner.Plain as plain;
+ghost use Rattle.dw_moves.specs.inner.Plain.{TakesOver};
 
 use crate::glance::any;
 use dw_board::board::{Board, Dir};
@@ -66,6 +68,51 @@ impl<B: Board> Ground<B> {
             Some(next)
         }
     }
+
+    /// The enemy that a man meets on the next square.
+    #[inline]
+    pub(crate) fn met_by_man(
+        &self,
+        position: &Position<B>,
+        side: Side,
+        from: Square<B>,
+        direction: Dir,
+    ) -> Option<Square<B>>
+        requires on_board { OnBoard B.geometry from }
+        requires ground { IsGround B.geometry position.now side self.now.enemies self.now.occupied }
+        ensures none { result ≡ None → plain.man_takes position.now side (ray B.geometry from direction)
+            ≡ plain.no_jumps }
+        ensures some { IfSome result (λ c. TakesOver Man B.geometry position.now side from direction c) }
+        ensures on_board { IfSome result (OnBoard B.geometry) }
+    {
+        let met = step(from, direction)?;
+        if self.enemies.has(met) {
+            Some(met)
+        } else {
+            None
+        }
+    }
+
+    /// The enemy that a king meets on the first square that is not empty. It slides there in one go.
+    #[inline]
+    pub(crate) fn met_by_king(
+        &self,
+        position: &Position<B>,
+        side: Side,
+        from: Square<B>,
+        direction: Dir,
+    ) -> Option<Square<B>>
+        requires on_board { OnBoard B.geometry from }
+        requires ground { IsGround B.geometry position.now side self.now.enemies self.now.occupied }
+        ensures none { result ≡ None → plain.king_takes position.now side (ray B.geometry from direction)
+            ≡ plain.no_jumps }
+        ensures some { IfSome result (λ c. TakesOver King B.geometry position.now side from direction c) }
+        ensures on_board { IfSome result (OnBoard B.geometry) }
+    {
+        let reached = Squares::one(from).slid_near(self.occupied, direction);
+        reached.shifted(direction).and(self.enemies).first()
+    }
+
     /// Whether a man on this square, which has taken these, can jump over one more enemy.
     #[inline]
     pub(crate) fn goes_on(&self, from: Square<B>, taken: Squares<B>) -> bool

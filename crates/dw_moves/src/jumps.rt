@@ -1,7 +1,6 @@
 //! The jumps that a piece has from one square.
 ghost use Rattle.std.specs.Prelude.{◌≡◌, ◌≤◌, ◌+◌, ◌++◌, map, None, IfSome, Ok, length};
 ghost use Rattle.dw_board.specs.Geometry.{OnBoard};
-ghost use Rattle.dw_board.specs.declared.piece.Side as sides;
 ghost use Rattle.dw_moves.specs.inner.Glance.{IsGround};
 ghost use Rattle.dw_moves.specs.Moves.{ray};
 ghost use Rattle.dw_moves.specs.inner.Plain as plain;
@@ -9,9 +8,9 @@ ghost use Rattle.dw_moves.specs.inner.Plain as plain;
 use crate::ground::Ground;
 use arrayvec::ArrayVec;
 use dw_board::board::{Board, Dir};
-use dw_board::piece::{Kind, Piece, Side};
+use dw_board::piece::{Kind, Piece};
 use dw_board::position::Position;
-use dw_board::square::{Square, step};
+use dw_board::square::Square;
 use std::alloc::AllocError;
 use std::marker::Model;
 
@@ -72,6 +71,7 @@ pub(crate) fn jumps<B: Board>(
 }
 
 /// Adds the jumps in one direction: over the piece that is met first, to a square behind it.
+#[inline(always)]
 fn add_jumps<B: Board>(
     position: &Position<B>,
     ground: &Ground<B>,
@@ -138,36 +138,8 @@ pub(crate) fn first_met<B: Board>(
         )) (plain.landings_for piece.kind position.now (ray B.geometry c direction))) }
     ensures on_board { IfSome result (OnBoard B.geometry) }
 {
-    let before = match piece.kind {
-        Kind::Man => from,
-        Kind::King => last_free(position, ground, piece.side, from, direction),
-    };
-    let met = step(before, direction)?;
-    if ground.enemies.has(met) {
-        Some(met)
-    } else {
-        None
+    match piece.kind {
+        Kind::Man => ground.met_by_man(position, piece.side, from, direction),
+        Kind::King => ground.met_by_king(position, piece.side, from, direction),
     }
-}
-
-/// The last square before the next piece or the edge.
-fn last_free<B: Board>(
-    position: &Position<B>,
-    ground: &Ground<B>,
-    side: Side,
-    from: Square<B>,
-    direction: Dir,
-) -> Square<B>
-    requires on_board { OnBoard B.geometry from }
-    requires ground { IsGround B.geometry position.now side ground.now.enemies ground.now.occupied }
-    ensures takes { (of : sides.Side) → plain.king_takes position.now of (ray B.geometry from direction)
-        ≡ plain.king_takes position.now of (ray B.geometry result direction) }
-    ensures on_board { OnBoard B.geometry result }
-    ensures blocked { plain.free_step B.geometry position.now result direction ≡ None }
-{
-    let mut at = from;
-    'empty: while let Some(next) = ground.free_step(position, side, at, direction) {
-        at = next;
-    }
-    at
 }

@@ -20,7 +20,7 @@ pub mod play;
 pub mod quiet;
 
 pub use best::has_move;
-pub use glance::{can_capture, is_loose, loose_step, other_steps};
+pub use glance::{can_capture, count_if_quiet, is_loose, loose_step, other_steps};
 pub use legal::{is_legal, legal_into};
 pub use listed::listed_into;
 pub use moves::{Listed, Move};

@@ -1,22 +1,27 @@
 //! The legal moves in order, with their least paths.
-ghost use Rattle.std.specs.Prelude.{◌≡◌, ◌≤◌, ◌+◌, ◌-◌, ◌↔◌, [], ◌∷◌, length, IfOk, OnOk, OnErr, IsTrue};
+ghost use Rattle.std.specs.Prelude.{◌≡◌, ℕ, ◌≤◌, ◌+◌, ◌-◌, ◌↔◌, [], ◌∷◌, false, length, IfOk, OnOk, OnErr, IsTrue};
 ghost use Rattle.std.specs.Ordering.{is_lt};
+ghost use Rattle.std.specs.FinSet as set;
 ghost use Rattle.dw_board.specs.Geometry.{OnBoard};
+ghost use Rattle.dw_moves.specs.Moves.{Jump};
 ghost use Rattle.dw_moves.specs.inner.Chains.{ChainsFit};
+ghost use Rattle.dw_moves.specs.inner.Glance.{IsGround};
 ghost use Rattle.dw_moves.specs.Order.{LexLess, AreListed};
 ghost use Rattle.dw_moves.specs.inner.Listing.{sorted_by, entries_listed, HasAll, Leading, LeadingFrom, GoesBy, This};
-ghost use Rattle.dw_moves.specs.inner.Listing.{LongestLeast, TakenIn};
+ghost use Rattle.dw_moves.specs.inner.Listing.{GoesTowards, LongestLeast, TakenIn};
 
 use crate::best::is_own;
-use crate::glance::{can_capture, may_take};
-use crate::jumps::jumps;
+use crate::glance::{can_capture, king_goes_on, may_take};
+use crate::ground::Ground;
+use crate::jumps::first_met;
 use crate::moves::{Listed, Move};
 use crate::quiet::push_quiet;
 use arrayvec::ArrayVec;
-use dw_board::board::Board;
-use dw_board::piece::Piece;
+use dw_board::board::{Board, Dir};
+use dw_board::piece::{Kind, Piece};
 use dw_board::position::Position;
 use dw_board::square::Square;
+use dw_board::squares::Squares;
 use indexmap::IndexMap;
 use std::alloc::{AllocError, Global};
 use std::cmp::Ordering;
@@ -106,10 +111,12 @@ fn keep_from<B: Board>(
     }
     let mut rest = *position;
     rest.clear(from);
+    let ground = Ground::without(position, piece.side, from);
     let mut path = ArrayVec::new();
     path.push(from);
     walk(
         &rest,
+        &ground,
         piece,
         Move::quiet(from, from),
         &mut path,
@@ -121,8 +128,10 @@ fn keep_from<B: Board>(
 
 /// Goes through the captures that begin with a move so far, which has taken so many pieces on this path. It keeps those
 /// that take at least `most`, which rises with them, and answers how many the kept ones take. The path stays as it was.
+#[cycle(walk)]
 fn walk<B: Board>(
     position: &Position<B>,
+    ground: &Ground<B>,
     piece: Piece,
     begun: Move<B>,
     path: &mut ArrayVec<Square<B>, 21>,
@@ -131,6 +140,7 @@ fn walk<B: Board>(
     paths: &mut IndexMap<Move<B>, ArrayVec<Square<B>, 21>>,
 ) -> Result<u8, AllocError>
     requires on_board { OnBoard B.geometry begun.to }
+    requires ground { IsGround B.geometry position.now piece.side ground.now.enemies ground.now.occupied }
     requires few { count ≤ 20 }
     requires fits { ChainsFit B.geometry position.now piece begun.to begun.taken (20 - count) }
     requires long { length path.old.items ≡ count + 1 }
@@ -139,26 +149,133 @@ fn walk<B: Board>(
         (entries_listed paths.old.entries) k (entries_listed paths.new.entries)) }
     ensures path { OnOk result (path.new.items ≡ path.old.items) }
 {
+    let one = walk_towards(
+        position,
+        ground,
+        piece,
+        begun,
+        path,
+        count,
+        Dir::UpLeft,
+        most,
+        paths,
+    )?;
+    let two = walk_towards(
+        position,
+        ground,
+        piece,
+        begun,
+        path,
+        count,
+        Dir::UpRight,
+        one,
+        paths,
+    )?;
+    let three = walk_towards(
+        position,
+        ground,
+        piece,
+        begun,
+        path,
+        count,
+        Dir::DownLeft,
+        two,
+        paths,
+    )?;
+    let four = walk_towards(
+        position,
+        ground,
+        piece,
+        begun,
+        path,
+        count,
+        Dir::DownRight,
+        three,
+        paths,
+    )?;
+    keep(begun, path, count, four, paths)
+}
+
+/// Goes through those of them that go on in one direction: over the enemy that is met, onto the square behind it, or
+/// for a king onto each. Most end there, which is seen on sets of squares, and need no walk of their own.
+#[cycle(walk)]
+#[inline(always)]
+fn walk_towards<B: Board>(
+    position: &Position<B>,
+    ground: &Ground<B>,
+    piece: Piece,
+    begun: Move<B>,
+    path: &mut ArrayVec<Square<B>, 21>,
+    count: u8,
+    direction: Dir,
+    most: u8,
+    paths: &mut IndexMap<Move<B>, ArrayVec<Square<B>, 21>>,
+) -> Result<u8, AllocError>
+    requires on_board { OnBoard B.geometry begun.to }
+    requires ground { IsGround B.geometry position.now piece.side ground.now.enemies ground.now.occupied }
+    requires few { count ≤ 20 }
+    requires fits { ChainsFit B.geometry position.now piece begun.to begun.taken (20 - count) }
+    requires long { length path.old.items ≡ count + 1 }
+    ensures kept { IfOk result (λ k. LongestLeast
+        (GoesTowards B.geometry position.now piece (record { step = begun; path = path.old.items }) count direction)
+        most (entries_listed paths.old.entries) k (entries_listed paths.new.entries)) }
+    ensures path { OnOk result (path.new.items ≡ path.old.items) }
+{
+    let Some(over) = first_met(position, ground, piece, begun.to, direction) else {
+        return Ok(most);
+    };
+    if begun.taken.has(over) {
+        return Ok(most);
+    }
+    let taken = begun.taken.with(over);
     let mut longest = most;
-    let mut goes_on = false;
-    let found = jumps(position, piece, begun.to);
-    'jumps: for jump in found.as_slice() {
-        if !begun.taken.has(jump.over) {
-            goes_on = true;
-            let further = Move {
-                from: begun.from,
-                to: jump.landing,
-                taken: begun.taken.with(jump.over),
-            };
-            path.push(jump.landing);
-            longest = walk(position, piece, further, path, count + 1, longest, paths)?;
-            path.pop();
+    let mut at = over;
+    'landings: while let Some(landing) = ground.free_step(position, piece.side, at, direction) {
+        let further = Move {
+            from: begun.from,
+            to: landing,
+            taken,
+        };
+        path.push(landing);
+        longest = if goes_on(position, ground, piece, landing, taken) {
+            walk(
+                position,
+                ground,
+                piece,
+                further,
+                path,
+                count + 1,
+                longest,
+                paths,
+            )?
+        } else {
+            keep(further, path, count + 1, longest, paths)?
+        };
+        path.pop();
+        match piece.kind {
+            Kind::Man => break,
+            Kind::King => at = landing,
         }
     }
-    if goes_on {
-        Ok(longest)
-    } else {
-        keep(begun, path, count, longest, paths)
+    Ok(longest)
+}
+
+/// Whether a piece on this square, which has taken these, can take one more.
+#[inline]
+fn goes_on<B: Board>(
+    position: &Position<B>,
+    ground: &Ground<B>,
+    piece: Piece,
+    from: Square<B>,
+    taken: Squares<B>,
+) -> bool
+    requires on_board { OnBoard B.geometry from }
+    requires ground { IsGround B.geometry position.now piece.side ground.now.enemies ground.now.occupied }
+    ensures { (c t : ℕ) → set.contains taken c ≡ false → Jump B.geometry position.now piece from c t → IsTrue result }
+{
+    match piece.kind {
+        Kind::Man => ground.goes_on(from, taken),
+        Kind::King => king_goes_on(ground, from, taken),
     }
 }
 

@@ -83,7 +83,7 @@ pub(crate) fn walk_man<B: Board>(
 /// Goes through those of them that go on in one direction. Most end with the next jump, and need no walk of their own.
 #[cycle(walk_man)]
 #[inline(always)]
-fn walk_on<B: Board>(
+pub(crate) fn walk_on<B: Board>(
     position: &Position<B>,
     ground: &Ground<B>,
     piece: Piece,

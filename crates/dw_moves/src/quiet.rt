@@ -5,10 +5,12 @@ ghost use Rattle.dw_moves.specs.Moves.{IsQuietCount, Quiet, ray};
 ghost use Rattle.dw_board.specs.Lists.{Member};
 ghost use Rattle.dw_board.specs.declared.piece.Kind.TheVariants.{King};
 ghost use Rattle.dw_moves.specs.Moves.{In};
+ghost use Rattle.dw_moves.specs.inner.Glance.{AreSets};
 ghost use Rattle.dw_moves.specs.inner.Plain as plain;
 ghost use Rattle.dw_moves.specs.inner.Plain.{Adds, Counts, ManSteps, KingGoes, KingLands};
 
 use crate::best::is_own;
+use crate::glance::Field;
 use dw_board::board::{Board, Dir};
 use dw_board::piece::{Kind, Side};
 use dw_board::position::Position;
@@ -22,9 +24,18 @@ use std::alloc::AllocError;
 pub fn quiet_count<B: Board>(position: &Position<B>) -> u32
     ensures { IsQuietCount B.geometry position.now result }
 {
+    count_on(position, &Field::of(position))
+}
+
+/// The number of quiet moves, if the sets of the position are known.
+#[inline(always)]
+pub(crate) fn count_on<B: Board>(position: &Position<B>, field: &Field<B>) -> u32
+    requires { AreSets B.geometry position.now field.now.men field.now.kings field.now.enemies field.now.occupied }
+    ensures { IsQuietCount B.geometry position.now result }
+{
     let up = men_count(position, Dir::UpLeft) + men_count(position, Dir::UpRight);
     let down = men_count(position, Dir::DownLeft) + men_count(position, Dir::DownRight);
-    up + down + kings_count(position)
+    up + down + kings_count(position, field)
 }
 
 /// The number of quiet moves of men in one direction: each leads to another square.
@@ -37,27 +48,30 @@ fn men_count<B: Board>(position: &Position<B>, direction: Dir) -> u32
 }
 
 /// The number of quiet moves of kings.
-fn kings_count<B: Board>(position: &Position<B>) -> u32
+#[inline]
+fn kings_count<B: Board>(position: &Position<B>, field: &Field<B>) -> u32
+    requires { AreSets B.geometry position.now field.now.men field.now.kings field.now.enemies field.now.occupied }
     ensures value { Counts (KingGoes B.geometry position.now) result }
     ensures small { result ≤ 200 }
 {
-    if position.squares(position.turn(), Kind::King).is_empty() {
+    if field.kings.is_empty() {
         return 0;
     }
-    let up = kings_run(position, Dir::UpLeft) + kings_run(position, Dir::UpRight);
-    let down = kings_run(position, Dir::DownLeft) + kings_run(position, Dir::DownRight);
+    let up = kings_run(position, field, Dir::UpLeft) + kings_run(position, field, Dir::UpRight);
+    let down = kings_run(position, field, Dir::DownLeft)
+        + kings_run(position, field, Dir::DownRight);
     up + down
 }
 
 /// The number of quiet moves of kings in one direction: each leads to another square.
 #[inline]
-fn kings_run<B: Board>(position: &Position<B>, direction: Dir) -> u32
+fn kings_run<B: Board>(position: &Position<B>, field: &Field<B>, direction: Dir) -> u32
+    requires { AreSets B.geometry position.now field.now.men field.now.kings field.now.enemies field.now.occupied }
     ensures value { Counts (KingLands B.geometry position.now direction) result }
     ensures small { result ≤ 50 }
 {
-    let kings = position.squares(position.turn(), Kind::King);
-    let reached = kings.slid(position.occupied(), direction);
-    u32::from(reached.minus(kings).count())
+    let reached = field.kings.slid(field.occupied, direction);
+    u32::from(reached.minus(field.kings).count())
 }
 
 /// Whether a piece may go this way if it takes nothing.

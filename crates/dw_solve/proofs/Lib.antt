@@ -1,5 +1,6 @@
 mod WinLemmas
 mod FactLemmas
+mod LastMoveLemmas
 mod MemoLemmas
 pub mod CountingLemmas
 pub mod WorkLemmas

@@ -121,6 +121,21 @@ pub bounds_open : (c : Content) (p : Placement) (b : Bounds) (n : ℕ) (r : Opti
 bounds_open c p b n r u (inl held) e none known = undecided_open c p b n r u held e none known
 bounds_open c p b n r u (inr out) e none known = unheld_open c p n out.1 known
 
+-- what bounds decide is so, and the memo says it
+pub bounds_right : (g : Geometry) (c : Content) (p : Placement) (b : Bounds) (n : ℕ) (r : Option Bool) (x : Bool) → AreTrue g c → HasBounds c p b → r ≡ decided b n → r ≡ Some x → IsTrue x ↔ Win g p n
+bounds_right g c p b n r x right (inl held) e is = subst (λ o. IfSome o (λ yes. IsTrue yes ↔ Win g p n)) is (decided_right g c p b n r right held e)
+bounds_right g c p b n r x right (inr none) e is =
+    let d : decided b n ≡ None = subst (λ z. decided z n ≡ None) (sym none.0) refl in
+    let no : None ≡ Some x = sym d ∙ (sym e ∙ is) in
+    absurd (cc)
+
+pub bounds_say : (c : Content) (p : Placement) (b : Bounds) (n : ℕ) (r : Option Bool) (x : Bool) → HasBounds c p b → r ≡ decided b n → r ≡ Some x → SaysWin c p n x
+bounds_say c p b n r x (inl held) e is = subst (λ o. IfSome o (SaysWin c p n)) is (decided_says c p b n r held e)
+bounds_say c p b n r x (inr none) e is =
+    let d : decided b n ≡ None = subst (λ z. decided z n ≡ None) (sym none.0) refl in
+    let no : None ≡ Some x = sym d ∙ (sym e ∙ is) in
+    absurd (cc)
+
 -- where each move has a reply, what is known of one move is that there is no win
 pub says_no : (g : Geometry) (c : Content) (p : Placement) → AreTrue g c → AlwaysReply g p → IsDecided c p 1 → SaysWin c p 1 false
 says_no g c p right always known = record {

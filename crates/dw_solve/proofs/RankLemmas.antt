@@ -12,7 +12,7 @@ use Rattle.dw_board.specs.Lists.{Member}
 use Rattle.dw_solve.specs.Wins.{Win, Lost}
 use Rattle.dw_solve.specs.inner.Ranking.{AreRanked}
 
-get_same : {X : Type 0} (xs : List X) (i : ℕ) (a b : X) → i < length xs → get_or xs i a ≡ get_or xs i b
+pub get_same : {X : Type 0} (xs : List X) (i : ℕ) (a b : X) → i < length xs → get_or xs i a ≡ get_or xs i b
 get_same [] i a b low = absurd (omega arith)
 get_same (x ∷ xs) zero a b low = refl
 get_same (x ∷ xs) (suc i) a b low = get_same xs i a b (omega arith)
@@ -22,7 +22,7 @@ member_at [] i x low e = absurd (omega arith)
 member_at (y ∷ xs) zero x low e = inl e
 member_at (y ∷ xs) (suc i) x low e = inr (member_at xs i x (omega arith) e)
 
-index_of : {X : Type 0} (x : X) (xs : List X) → Member x xs → (k : ℕ) × (k < length xs) × (x ≡ get_or xs k x)
+pub index_of : {X : Type 0} (x : X) (xs : List X) → Member x xs → (k : ℕ) × (k < length xs) × (x ≡ get_or xs k x)
 index_of x [] m = absurd m
 index_of x (y ∷ xs) (inl e) = (0, omega arith, e)
 index_of x (y ∷ xs) (inr m) = let r = index_of x xs m in (suc r.0, omega (arith, r.1), r.2)
@@ -38,7 +38,7 @@ gathered_none moves = record {
   all = λ k m low e. absurd (omega (arith, low));
 }
 
-split : (k i : ℕ) → k < i + 1 → (k ≡ i) ⊎ (k < i)
+pub split : (k i : ℕ) → k < i + 1 → (k ≡ i) ⊎ (k < i)
 split k i low = grind arith
 
 pub gathered_more : (moves : List Move) (ranked : List (ℕ × Move)) (i rank : ℕ) (m : Move) → Gathered moves ranked i → i < length moves → m ≡ get_or moves i m → Gathered moves (ranked ++ (rank, m) ∷ []) (i + 1)

@@ -1,11 +1,12 @@
 //! The moves of one position, in the order in which a search goes through them.
-ghost use Rattle.std.specs.Prelude.{◌≡◌, [], OnOk, IfSome};
+ghost use Rattle.std.specs.Prelude.{◌≡◌, [], IfOk, OnOk, IfSome};
 ghost use Rattle.dw_moves.specs.Moves.{AreLegal};
-ghost use Rattle.dw_solve.specs.inner.Ranking.{AreRanked, IsLooseReply};
+ghost use Rattle.dw_solve.specs.inner.Ranking.{AreRanked, IsLastWin, IsLooseReply};
 
 use crate::guide::{AnyOrder, Guide};
 use dw_board::board::Board;
 use dw_board::position::Position;
+use dw_moves::best::has_move;
 use dw_moves::glance::is_loose;
 use dw_moves::legal::legal_into;
 use dw_moves::moves::Move;
@@ -47,6 +48,19 @@ impl<B: Board> Ply<B> {
         ensures { OnOk result (AreRanked B.geometry position.now self.new.ranked.items) }
     {
         self.gather(position, &AnyOrder)
+    }
+
+    /// Whether a legal move leaves the other side without one. The moves are gone through as they come.
+    pub(crate) fn wins_at_once(&mut self, position: &Position<B>) -> Result<bool, AllocError>
+        ensures { IfOk result (IsLastWin B.geometry position.now) }
+    {
+        legal_into(position, &mut self.moves)?;
+        'moves: for mv in self.moves.as_slice() {
+            if !has_move(&played(position, mv)) {
+                return Ok(true);
+            }
+        }
+        Ok(false)
     }
 
     /// The position after the first move that leaves it loose: it is seen at a glance that the other side has no win in

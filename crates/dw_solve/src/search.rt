@@ -68,6 +68,10 @@ pub(crate) fn wins<B: Board, M: Memo<B>, G: Guide<B>>(
         → IsOk result × (search.new.expanded ≡ search.old.expanded)
         × SameEntries (M.content search.old.memo) (M.content search.new.memo) }
 {
+    if moves == 1 {
+        let (last, _) = plies.split_first_mut().unwrap();
+        return wins_at_once(search, last, position);
+    }
     if let Some(answer) = known(search, position, moves) {
         return Ok(answer);
     }
@@ -238,6 +242,42 @@ fn refute<B: Board, M: Memo<B>, G>(
     count(search)?;
     search.memo.note(*position, bounds.with_fail(1));
     Ok(())
+}
+
+/// Whether the side to move wins with its next move, which is its last. Nothing else comes between the look at the
+/// cache and the note, so the bounds are looked up once.
+fn wins_at_once<B: Board, M: Memo<B>, G>(
+    search: &mut Search<M, G>,
+    ply: &mut Ply<B>,
+    position: &Position<B>,
+) -> Result<bool, Stop>
+    requires right { AreTrue B.geometry (M.content search.old.memo) }
+    requires within { search.old.expanded ≤ search.old.limit }
+    ensures answer { IfOk result (λ yes. IsTrue yes ↔ Win B.geometry position.now 1) }
+    ensures right { AreTrue B.geometry (M.content search.new.memo) }
+    ensures count { IsCounted search.old.expanded search.old.limit
+        search.new.expanded search.new.limit }
+    ensures stop { IsErrOf result Limit → search.new.expanded ≡ search.new.limit }
+    ensures spent { OnOk result ((IsDecided (M.content search.old.memo) position.now 1 → ⊥)
+        → search.old.expanded < search.new.expanded) }
+    ensures searched { Searched B.geometry 1 (cut_off result 1)
+        (moment M.content M.dropped search.old.memo search.old.expanded)
+        (moment M.content M.dropped search.new.memo search.new.expanded) }
+    ensures says { NothingLost (moment M.content M.dropped search.old.memo search.old.expanded)
+        (moment M.content M.dropped search.new.memo search.new.expanded)
+        → IfOk result (SaysWin (M.content search.new.memo) position.now 1) }
+    ensures known { IsDecided (M.content search.old.memo) position.now 1
+        → IsOk result × (search.new.expanded ≡ search.old.expanded)
+        × SameEntries (M.content search.old.memo) (M.content search.new.memo) }
+{
+    let bounds = bounds_now(&mut search.memo, position);
+    if let Some(answer) = bounds.decide(1) {
+        return Ok(answer);
+    }
+    count(search)?;
+    let won = ply.wins_at_once(position)?;
+    search.memo.note(*position, joined(bounds, 1, won));
+    Ok(won)
 }
 
 /// Whether there is a win within so many moves, if that is known without a search.

@@ -4,10 +4,9 @@ ghost use Rattle.dw_solve.specs.Trial.{IsTrial};
 
 use dw_board::board::Board;
 use dw_board::position::Position;
-use dw_moves::glance::can_capture;
+use dw_moves::glance::count_if_quiet;
 use dw_moves::moves::Move;
 use dw_moves::play::play as played;
-use dw_moves::quiet::quiet_count;
 
 /// How free the other side is after a legal move: the number of its quiet moves, or 0 if it must capture. A move
 /// that leaves less freedom is worth trying first.
@@ -17,9 +16,5 @@ pub fn trial<B: Board>(position: &Position<B>, mv: &Move<B>) -> u32
     ensures { IsTrial B.geometry (play B.geometry position.now mv.now) result }
 {
     let after = played(position, mv);
-    if can_capture(&after) {
-        0
-    } else {
-        quiet_count(&after)
-    }
+    count_if_quiet(&after).unwrap_or(0)
 }

@@ -4,7 +4,7 @@ use dw_board::board::Board;
 use dw_board::fen::write::fen_text;
 use dw_moves::best::{best, has_move};
 use dw_moves::follow::follow;
-use dw_moves::glance::{can_capture, is_loose, other_steps};
+use dw_moves::glance::{can_capture, count_if_quiet, is_loose, other_steps};
 use dw_moves::laws;
 use dw_moves::legal::{is_legal, legal, legal_into};
 use dw_moves::listed::{listed, listed_into};
@@ -27,7 +27,7 @@ pub fn glance<B: Board>(asked: &str, found: &mut Found) -> Option<()> {
 }
 
 /// How many pieces each move takes and whether any does, how many quiet moves there are, also if one must capture, and
-/// how many legal moves and whether there is any.
+/// if nothing can be taken, and how many legal moves and whether there is any.
 pub fn count<B: Board>(alloc: Global, asked: &str, found: &mut Found) -> Option<()> {
     let position = read_position::<B>(asked)?;
     found.add("takes ");
@@ -36,6 +36,11 @@ pub fn count<B: Board>(alloc: Global, asked: &str, found: &mut Found) -> Option<
     found.say(&can_capture(&position));
     found.add(", quiet ");
     found.say(&quiet_count(&position));
+    found.add(", if nothing is taken ");
+    match count_if_quiet(&position) {
+        Some(number) => found.say(&number),
+        None => found.add("none"),
+    }
     found.add(", moves ");
     found.say(&legal(alloc, &position).ok()?.len());
     found.add(" ");

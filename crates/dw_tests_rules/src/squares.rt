@@ -50,7 +50,7 @@ pub fn set<B: Board>(asked: &str, found: &mut Found) -> Option<()> {
     Some(())
 }
 
-/// Two sets joined, or a set shifted one step.
+/// Two sets joined, or a set shifted one step, or slid over an empty board.
 pub fn sets<B: Board>(asked: &str, found: &mut Found) -> Option<()> {
     let (left, right) = (set_of::<B>(column(asked, 0))?, column(asked, 2));
     let squares = match column(asked, 1) {
@@ -58,6 +58,8 @@ pub fn sets<B: Board>(asked: &str, found: &mut Found) -> Option<()> {
         "and" => left.and(set_of(right)?),
         "minus" => left.minus(set_of(right)?),
         "shifted" => left.shifted(direction(right)?),
+        "slid" => left.slid(Squares::none(), direction(right)?),
+        "slid-near" => left.slid_near(Squares::none(), direction(right)?),
         _ => return None,
     };
     add_set(squares, found);

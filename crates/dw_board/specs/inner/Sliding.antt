@@ -24,12 +24,19 @@ further down by reached clear = bit_or reached (bit_and clear (moved_word down b
 abbrev pub clearer : Bool → ℕ → ℕ → ℕ
 clearer down by clear = bit_and clear (moved_word down by clear)
 
--- what a slide over the free squares reaches
-abbrev pub slid_word : Geometry → Dir → ℕ → ℕ → ℕ
-slid_word g d word free =
+-- what a slide of at most seven steps over the free squares reaches
+abbrev pub near_word : Geometry → Dir → ℕ → ℕ → ℕ
+near_word g d word free =
     let down = is_down d in
     let by = stride g d in
     let two = clearer down by free in
     let four = clearer down (2 * by) two in
-    let eight = clearer down (4 * by) four in
-    further down (8 * by) (further down (4 * by) (further down (2 * by) (further down by word free) two) four) eight
+    further down (4 * by) (further down (2 * by) (further down by word free) two) four
+
+-- and of any number of steps
+abbrev pub slid_word : Geometry → Dir → ℕ → ℕ → ℕ
+slid_word g d word free =
+    let down = is_down d in
+    let by = stride g d in
+    let eight = clearer down (4 * by) (clearer down (2 * by) (clearer down by free)) in
+    further down (8 * by) (near_word g d word free) eight

@@ -1,11 +1,11 @@
 -- Captures that go on from a square with a piece that has taken some already, and the longest of them.
-use Rattle.std.specs.Prelude.{◌≡◌, ℕ, ◌+◌, ◌<◌, ◌≤◌, ◌⊎◌, ◌↔◌, false, List, length}
+use Rattle.std.specs.Prelude.{◌≡◌, ℕ, ◌+◌, ◌<◌, ◌≤◌, ◌⊎◌, ◌↔◌, false, None, List, length}
 use Rattle.std.specs.FinSet as set
 use Rattle.dw_board.specs.declared.board.Dir.{Dir}
 use Rattle.dw_board.specs.declared.piece.Piece.{Piece}
 use Rattle.dw_board.specs.Geometry.{Geometry, Squares}
-use Rattle.dw_board.specs.Placement.{Placement}
-use Rattle.dw_moves.specs.Moves.{Jumps, Path, Move, IsPathOf, last_of, ray}
+use Rattle.dw_board.specs.Placement.{Placement, placed}
+use Rattle.dw_moves.specs.Moves.{Stands, Jumps, Path, Move, IsPathOf, last_of, ray}
 use Rattle.dw_board.specs.Lists.{Member, NoRepeat}
 use Rattle.dw_moves.specs.inner.Plain.{takes_for}
 
@@ -61,6 +61,19 @@ pub record EndsTowards (g : Geometry) (p : Placement) (piece : Piece) (begun : M
   pub jump : Member (c, t) (takes_for piece.kind p piece.side (ray g begun.to d))
   pub fresh : set.contains begun.taken c ≡ false
   pub rest : EndsAs g p piece (further begun c t) (n + 1) k m
+
+-- a move that has not begun
+abbrev pub start : ℕ → Move
+start from = record { from = from; to = from; taken = set.empty }
+
+-- m is a capture of k pieces, which begins on this square with a jump in this direction
+abbrev pub TakingFromTowards : Geometry → Placement → ℕ → Dir → ℕ → Move → Type 0
+TakingFromTowards g p from d k m =
+    (piece : Piece) × Stands g p from piece × EndsTowards g (placed p from None) piece (start from) 0 d k m
+
+-- and it begins on some square
+abbrev pub TakingTowards : Geometry → Placement → Dir → ℕ → Move → Type 0
+TakingTowards g p d k m = (from : ℕ) × TakingFromTowards g p from d k m
 
 -- m is this move, and it takes k pieces, k above 0
 abbrev pub Is : Move → ℕ → ℕ → Move → Type 0

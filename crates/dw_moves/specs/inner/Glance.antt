@@ -8,8 +8,9 @@ use Rattle.dw_board.specs.declared.piece.Piece.{Piece}
 use Rattle.dw_board.specs.Geometry.{Geometry, step, OnBoard, Squares}
 use Rattle.dw_board.specs.Slides.{SlidesTo}
 use Rattle.dw_board.specs.Placement.{Placement, at, placed, other}
-use Rattle.dw_moves.specs.Moves.{IsForward, Quiet, Stands, Jump, play, In}
-use Rattle.dw_moves.specs.inner.Plain.{quiet_to}
+use Rattle.dw_board.specs.Lists.{Member}
+use Rattle.dw_moves.specs.Moves.{IsForward, Quiet, Stands, Jump, play, In, ray}
+use Rattle.dw_moves.specs.inner.Plain.{quiet_to, takes_for}
 use Rattle.dw_moves.specs.Replies.{IsLoose}
 
 -- the squares on which a side's pieces stand
@@ -88,6 +89,11 @@ CanStep g p = (from : ℕ) × (to : ℕ) × Quiet g p from to
 -- a capture begins on this square
 abbrev pub CanTakeFrom : Geometry → Placement → ℕ → Type 0
 CanTakeFrom g p s = (c : ℕ) × (t : ℕ) × (piece : Piece) × Stands g p s piece × Jump g (placed p s None) piece s c t
+
+-- a capture begins on this square in this direction
+abbrev pub CanTakeTowards : Geometry → Placement → Dir → ℕ → Type 0
+CanTakeTowards g p d s = (c : ℕ) × (t : ℕ) × (piece : Piece) × Stands g p s piece
+    × Member (c, t) (takes_for piece.kind (placed p s None) piece.side (ray g s d))
 
 -- no step in this direction leaves a loose position, but for those onto these squares
 abbrev pub NoneLoose : Geometry → Placement → Squares → Squares → Squares → Dir → Squares → Type 0

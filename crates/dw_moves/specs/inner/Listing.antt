@@ -1,14 +1,15 @@
 -- How the least paths of moves are found.
-use Rattle.std.specs.Prelude.{◌≡◌, ℕ, ◌+◌, ◌≤◌, ◌<◌, ◌⊎◌, List, [], ◌∷◌, ◌++◌, length, map}
+use Rattle.std.specs.Prelude.{◌≡◌, ℕ, ◌+◌, ◌≤◌, ◌<◌, ◌⊎◌, List, [], ◌∷◌, ◌++◌, false, length, map}
 use Rattle.std.specs.FinSet as set
 use Rattle.arrayvec.specs.ArrayVec.{ArrayVec}
+use Rattle.dw_board.specs.declared.board.Dir.{Dir}
 use Rattle.dw_board.specs.declared.piece.Piece.{Piece}
 use Rattle.dw_board.specs.Geometry.{Geometry}
 use Rattle.dw_board.specs.Placement.{Placement}
-use Rattle.dw_moves.specs.Moves.{Move, IsPathOf, Legal, last_of}
+use Rattle.dw_moves.specs.Moves.{Move, IsPathOf, Legal, last_of, ray}
 use Rattle.dw_board.specs.Lists.{Member, NoRepeat}
-use Rattle.dw_moves.specs.inner.Plain.{quiet_to}
-use Rattle.dw_moves.specs.inner.Chains.{Chain}
+use Rattle.dw_moves.specs.inner.Plain.{quiet_to, takes_for}
+use Rattle.dw_moves.specs.inner.Chains.{Chain, further}
 use Rattle.dw_moves.specs.Order.{LexLess, Listed, HasLeastPath}
 
 -- what listed moves are sorted by: the start, the end, and the path
@@ -53,6 +54,19 @@ pub record GoesBy (g : Geometry) (p : Placement) (piece : Piece) (begun : Listed
   pub to : l.step.to ≡ last_of begun.step.to landings
   pub taken : l.step.taken ≡ set.union begun.step.taken (set.from_list over)
   pub path : l.path ≡ begun.path ++ landings
+
+-- a move so far on its path, with one more jump
+abbrev pub onward : Listed → ℕ → ℕ → Listed
+onward begun c t = record { step = further begun.step c t; path = begun.path ++ t ∷ [] }
+
+-- and its next jump goes in this direction
+pub record GoesTowards (g : Geometry) (p : Placement) (piece : Piece) (begun : Listed) (n : ℕ) (d : Dir) (k : ℕ)
+    (l : Listed) : Type 0 where
+  pub c : ℕ
+  pub t : ℕ
+  pub jump : Member (c, t) (takes_for piece.kind p piece.side (ray g begun.step.to d))
+  pub fresh : set.contains begun.step.taken c ≡ false
+  pub rest : GoesBy g p piece (onward begun c t) (n + 1) k l
 
 -- l is this move on this path, and it takes k pieces, k above 0
 abbrev pub This : Listed → ℕ → ℕ → Listed → Type 0

@@ -1,19 +1,11 @@
-use Rattle.std.proofs.Common.{◌<◌, sym, subst, refl}
-use Rattle.std.specs.FinSet as fin
-use Rattle.dw_moves.proofs.TakesTheseLemmas.{fewer_left}
-use Rattle.dw_moves.proofs.TakingLemmas.{past_none, past_more, past_all}
+use Rattle.std.proofs.lemmas.Result.{IfOk-weaker}
+use Rattle.dw_board.specs.declared.board.Dir.TheVariants.{UpRight}
+use Rattle.dw_moves.specs.inner.Chains.{Longest, TakingTowards}
+use Rattle.dw_moves.proofs.TakingTowardsLemmas.{all_directions}
 use Rattle.dw_moves.proofs.chains.push_captures.Goals as goal
 
-pub squares-init : goal.squares-init
-squares-init g c = past_none g.B.Board.geometry c.args.position.now c.may_take-left.result c.args.moves.now.items c.may_take-left.ensures
-
-pub squares-smaller : goal.squares-smaller
-squares-smaller g c = subst (λ v. fin.len v < fin.len c.squares.left) (sym c.in-Some.ensures.rest) (fewer_left c.squares.left _ c.in-Some.ensures.member)
-
-pub squares-preserved : goal.squares-preserved
-squares-preserved g c =
-    past_more g.B.Board.geometry c.args.position.now c.squares.left _ _ c.squares.most c.in_ok-most.most c.args.moves.now.items c.squares.moves.items c.push_from.new.moves.items
-    c.in-Some.ensures.rest c.squares.invariant c.in_ok-most.ensures
-
 pub returns : goal.returns
-returns g c = past_all g.B.Board.geometry c.args.position.now c.squares.left c.squares.most c.args.moves.now.items c.squares.moves.items (c.in_default.ensures.none.0 refl) c.squares.invariant
+returns g c =
+    IfOk-weaker c.push_each-4.result (λ k. Longest (TakingTowards g.B.Board.geometry c.args.position.now UpRight) c.in_ok-three.three c.push_each-3.new.moves.items k c.push_each-4.new.moves.items) _ (λ k h.
+    all_directions g.B.Board.geometry c.args.position.now c.in_ok-one.one c.in_ok-two.two c.in_ok-three.three k c.args.moves.now.items c.push_each.new.moves.items c.push_each-2.new.moves.items c.push_each-3.new.moves.items
+    c.push_each-4.new.moves.items c.in_ok-one.ensures c.in_ok-two.ensures c.in_ok-three.ensures h) c.push_each-4.ensures

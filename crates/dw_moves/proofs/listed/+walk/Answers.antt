@@ -1,91 +1,193 @@
-use Rattle.std.proofs.Common.{◌≡◌, ◌≤◌, ◌+◌, ◌-◌, [], ◌∷◌, ◌++◌, length, true, false, sym, ap, ◌∙◌, subst, arith, refl}
+use Rattle.std.proofs.Common.{◌≡◌, ◌≤◌, ◌+◌, ◌-◌, ◌∷◌, [], ◌++◌, List, false, length, sym, ap, ◌∙◌, subst, arith, refl}
+use Rattle.std.specs.Prelude.{ℕ}
 use Rattle.std.specs.FinSet as fin
+use Rattle.std.proofs.lemmas.Bool.{true≢false}
 use Rattle.std.proofs.lemmas.Result.{IfOk-weaker}
-use Rattle.dw_moves.specs.Moves.{Move}
+use Rattle.dw_board.specs.declared.board.Dir.TheVariants.{UpRight, DownLeft, DownRight}
+use Rattle.dw_moves.specs.Moves.{Move, ray}
 use Rattle.dw_moves.specs.inner.MoveLemmas.{same_move}
-use Rattle.dw_moves.specs.inner.Plain.{jump_list}
+use Rattle.dw_moves.specs.inner.Plain.{takes_for, no_jumps}
 use Rattle.dw_moves.specs.inner.Chains.{ChainsFit}
 use Rattle.dw_moves.specs.Order.{Listed}
-use Rattle.dw_moves.specs.inner.Listing.{entries_listed, This, LongestLeast}
-use Rattle.dw_moves.proofs.LongestLemmas.{item_of, landing_on}
-use Rattle.dw_moves.proofs.WalkedLemmas.{count_fits, chains_fit_behind}
-use Rattle.dw_moves.proofs.LeastWalkedLemmas.{onward, same_listed_parts, gone_none, gone_past, gone_more, gone_on, gone_here, gone_as, popped}
+use Rattle.dw_moves.specs.inner.Listing.{entries_listed, GoesBy, GoesTowards, This, LongestLeast, onward}
+use Rattle.dw_moves.proofs.RunLemmas.{freed, ray_falls}
+use Rattle.dw_moves.proofs.WalkedLemmas.{TakesOver, count_fits, chains_fit_behind}
+use Rattle.dw_moves.proofs.LeastWalkedLemmas.{same_listed_parts, gone_none, gone_more, gone_last, gone_stop, jump_by, by_towards, towards_none, towards_taken, gone_all, ends_there, least_as, popped}
 use Rattle.dw_moves.proofs.listed.+walk.Goals as goal
-use Rattle.dw_moves.proofs.listed.+walk.Goals.{then-not-has+in_ok-longest, else-not-has}
+use Rattle.dw_moves.proofs.listed.+walk.Goals.{walk_towards-then-goes_on+in_ok-longest, walk_towards-else-goes_on+in_ok-longest-2}
 
-pub jumps-init : goal.jumps-init
-jumps-init g t c =
-    (gone_none g.B.Board.geometry c.args.position.now c.args.piece (record { step = c.args.begun; path = c.args.path.now.items }) c.args.count c.as_slice-jump-items.result.now c.args.most (entries_listed c.args.paths.now.entries), refl)
-
-pub push-requires : goal.push-requires
-push-requires g t c =
+pub walk-returns-clause-kept : goal.walk-returns-clause-kept
+walk-returns-clause-kept g t c =
     let geo = g.B.Board.geometry in
-    let items_are : c.as_slice-jump-items.result.now ≡ jump_list geo c.args.position.now c.args.piece c.args.begun.to = c.as_slice-jump-items.ensures.value ∙ (c.jumps-found.ensures ∙ ap (λ (m : Move). jump_list geo c.args.position.now c.args.piece m.to) c.begun.view_is) in
-    let item = item_of geo c.args.position.now c.args.piece c.args.begun.to c.as_slice-jump-items.result.now c.jumps.jump-index c.jump.inside.over c.jump.inside.landing c.jump-item.result items_are c.jumps-test.true c.jump.view_is c.jump-item.is in
-    let fresh : fin.contains c.args.begun.taken c.jump.inside.over ≡ false = ap (λ (m : Move). fin.contains m.taken c.jump.inside.over) (sym c.begun.view_is) ∙ (sym c.has.ensures ∙ c.if-not-has.true) in
-    let small : c.args.count + 1 ≤ 20 = count_fits geo c.args.position.now c.args.piece c.args.begun.to c.jump.inside.over c.jump.inside.landing c.args.begun.taken c.args.count c.requires.few c.requires.fits item.jump fresh in
-    let long : length c.jumps.path.items ≡ c.args.count + 1 = ap length c.jumps.invariant.1 ∙ c.requires.long in
-    (omega arith, omega (arith, small, long))
+    let on : List ℕ → Listed = λ path. record { step = c.args.begun; path = path } in
+    let b = on c.args.path.now.items in
+    let one = c.in_ok-one.ensures.path in
+    let two = c.in_ok-two.ensures.path ∙ one in
+    let three = c.in_ok-three.ensures.path ∙ two in
+    let four = c.in_ok-four.ensures.path ∙ three in
+    let l0 = entries_listed c.args.paths.now.entries in
+    let l1 = entries_listed c.walk_towards.new.paths.entries in
+    let l2 = entries_listed c.walk_towards-2.new.paths.entries in
+    let l3 = entries_listed c.walk_towards-3.new.paths.entries in
+    let l4 = entries_listed c.walk_towards-4.new.paths.entries in
+    let new = entries_listed c.keep.new.paths.entries in
+    IfOk-weaker c.keep.result (λ k. LongestLeast (This (on c.walk_towards-4.new.path.items) c.args.count) c.in_ok-four.four l4 k new) _ (λ k h.
+    gone_all geo c.args.position.now c.args.piece b c.args.count c.args.most c.in_ok-one.one c.in_ok-two.two c.in_ok-three.three c.in_ok-four.four k l0 l1 l2 l3 l4 new
+    c.in_ok-one.ensures.kept
+    (subst (λ z. LongestLeast (GoesTowards geo c.args.position.now c.args.piece (on z) c.args.count UpRight) c.in_ok-one.one l1 c.in_ok-two.two l2) one c.in_ok-two.ensures.kept)
+    (subst (λ z. LongestLeast (GoesTowards geo c.args.position.now c.args.piece (on z) c.args.count DownLeft) c.in_ok-two.two l2 c.in_ok-three.three l3) two c.in_ok-three.ensures.kept)
+    (subst (λ z. LongestLeast (GoesTowards geo c.args.position.now c.args.piece (on z) c.args.count DownRight) c.in_ok-three.three l3 c.in_ok-four.four l4) three c.in_ok-four.ensures.kept)
+    (subst (λ z. LongestLeast (This (on z) c.args.count) c.in_ok-four.four l4 k new) four h)) c.keep.ensures
 
-pub walk-requires : goal.walk-requires
-walk-requires g t c κs within =
+pub walk_towards-returns-in_default-clause-kept : goal.walk_towards-returns-in_default-clause-kept
+walk_towards-returns-in_default-clause-kept g t c =
     let geo = g.B.Board.geometry in
-    let items_are : c.as_slice-jump-items.result.now ≡ jump_list geo c.args.position.now c.args.piece c.args.begun.to = c.as_slice-jump-items.ensures.value ∙ (c.jumps-found.ensures ∙ ap (λ (m : Move). jump_list geo c.args.position.now c.args.piece m.to) c.begun.view_is) in
-    let item = item_of geo c.args.position.now c.args.piece c.args.begun.to c.as_slice-jump-items.result.now c.jumps.jump-index c.jump.inside.over c.jump.inside.landing c.jump-item.result items_are c.jumps-test.true c.jump.view_is c.jump-item.is in
-    let fresh : fin.contains c.args.begun.taken c.jump.inside.over ≡ false = ap (λ (m : Move). fin.contains m.taken c.jump.inside.over) (sym c.begun.view_is) ∙ (sym c.has.ensures ∙ c.if-not-has.true) in
-    let small : c.args.count + 1 ≤ 20 = count_fits geo c.args.position.now c.args.piece c.args.begun.to c.jump.inside.over c.jump.inside.landing c.args.begun.taken c.args.count c.requires.few c.requires.fits item.jump fresh in
-    let taken_is : c.with.result ≡ fin.insert c.args.begun.taken c.jump.inside.over = c.with.ensures ∙ ap (λ (m : Move). fin.insert m.taken c.jump.inside.over) c.begun.view_is in
-    let long : length c.jumps.path.items ≡ c.args.count + 1 = ap length c.jumps.invariant.1 ∙ c.requires.long in
-    let longer : length c.push.new.self.items ≡ c.args.count + 1 + 1 = omega (arith, c.push.ensures.len, long) in
-    let f = c.decreases in
-    let lands = landing_on geo g.met.B.Board.numbers c.args.position.now c.args.piece c.args.begun.to c.jump.inside.over c.jump.inside.landing c.requires.on_board item.jump in
-    let fits = subst (λ v. ChainsFit geo c.args.position.now c.args.piece c.jump.inside.landing v (20 - (c.args.count + 1))) (sym taken_is)
-    (chains_fit_behind geo c.args.position.now c.args.piece c.args.begun.to c.jump.inside.over c.jump.inside.landing c.args.begun.taken c.args.count c.requires.fits item.jump fresh) in
-    (omega (arith, f, small), (within, (omega arith, (lands, (small, (fits, longer))))))
-
-pub jumps-preserved : goal.jumps-preserved
-jumps-preserved g t c =
-    let geo = g.B.Board.geometry in
-    let items_are : c.as_slice-jump-items.result.now ≡ jump_list geo c.args.position.now c.args.piece c.args.begun.to = c.as_slice-jump-items.ensures.value ∙ (c.jumps-found.ensures ∙ ap (λ (m : Move). jump_list geo c.args.position.now c.args.piece m.to) c.begun.view_is) in
-    let item = item_of geo c.args.position.now c.args.piece c.args.begun.to c.as_slice-jump-items.result.now c.jumps.jump-index c.jump.inside.over c.jump.inside.landing c.jump-item.result items_are c.jumps-test.true c.jump.view_is c.jump-item.is in
-    let has_is : c.has.result ≡ fin.contains c.args.begun.taken c.jump.inside.over = c.has.ensures ∙ ap (λ (m : Move). fin.contains m.taken c.jump.inside.over) c.begun.view_is in
     let b : Listed = record { step = c.args.begun; path = c.args.path.now.items } in
     let old = entries_listed c.args.paths.now.entries in
-    elim c.if-not-has.branch [
-      | then-not-has+in_ok-longest w ↦
-          let step : Move = record { from = c.begun.inside.from; to = c.jump.inside.landing; taken = w.with.result } in
-          let next : Listed = record { step = step; path = w.push.new.self.items } in
-          let taken_is : w.with.result ≡ fin.insert c.args.begun.taken c.jump.inside.over = w.with.ensures ∙ ap (λ (m : Move). fin.insert m.taken c.jump.inside.over) c.begun.view_is in
-          let longer : w.push.new.self.items ≡ c.args.path.now.items ++ c.jump.inside.landing ∷ [] = w.push.ensures.items ∙ ap (λ z. z ++ c.jump.inside.landing ∷ []) c.jumps.invariant.1 in
-          let go = onward b c.jump.inside.over c.jump.inside.landing in
-          let next_is : next ≡ go = same_listed_parts next go (same_move step go.step (ap (λ (m : Move). m.from) c.begun.view_is) refl taken_is) longer in
-          let walked = gone_more geo c.args.position.now c.args.piece b c.args.count c.as_slice-jump-items.result.now c.jumps.jump-index c.args.most old c.jumps.longest (entries_listed c.jumps.paths.entries) c.jumps.goes_on
-          c.jump.inside.over c.jump.inside.landing next w.in_ok-longest.longest (entries_listed w.walk.new.paths.entries) c.jumps.invariant.0 item.is (sym has_is ∙ w.if-not-has.true) next_is w.in_ok-longest.ensures.kept in (
-            gone_as geo c.args.position.now c.args.piece b c.args.count c.as_slice-jump-items.result.now (c.jumps.jump-index + 1) c.args.most old w.in_ok-longest.longest c.if-not-has.longest
-                (entries_listed w.walk.new.paths.entries) (entries_listed c.if-not-has.paths.entries) true c.if-not-has.goes_on (sym w.longest-is) (ap (λ z. entries_listed z.entries) (sym w.paths-is)) (sym w.goes_on-is) walked,
-            ap (λ z. z.items) w.path-is ∙ (w.pop.ensures.rest ∙ popped c.args.path.now.items w.walk.new.path.items c.jump.inside.landing (w.in_ok-longest.ensures.path ∙ longer)),
-          )
-      | else-not-has w ↦ (
-        gone_as geo c.args.position.now c.args.piece b c.args.count c.as_slice-jump-items.result.now (c.jumps.jump-index + 1) c.args.most old c.jumps.longest c.if-not-has.longest (entries_listed c.jumps.paths.entries)
-            (entries_listed c.if-not-has.paths.entries) c.jumps.goes_on c.if-not-has.goes_on (sym w.longest-is) (ap (λ z. entries_listed z.entries) (sym w.paths-is)) (sym w.goes_on-is)
-            (gone_past geo c.args.position.now c.args.piece b c.args.count c.as_slice-jump-items.result.now c.jumps.jump-index c.args.most old c.jumps.longest (entries_listed c.jumps.paths.entries) c.jumps.goes_on
-            c.jump.inside.over c.jump.inside.landing c.jumps.invariant.0 item.is (sym has_is ∙ w.if-not-has.false)),
-        ap (λ z. z.items) w.path-is ∙ c.jumps.invariant.1,
-      )
-    ]
+    towards_none geo c.args.position.now c.args.piece b c.args.count c.args.direction c.args.most old
+    (subst (λ (m : Move). takes_for c.args.piece.kind c.args.position.now c.args.piece.side (ray geo m.to c.args.direction) ≡ no_jumps) c.begun.view_is (c.first_met.ensures.none c.in_default.is))
 
-pub returns-then-goes_on-clause-kept : goal.returns-then-goes_on-clause-kept
-returns-then-goes_on-clause-kept g t c =
-    gone_on g.B.Board.geometry c.args.position.now c.args.piece (record { step = c.args.begun; path = c.args.path.now.items }) c.args.count c.as_slice-jump-items.result.now c.jumps.jump-index c.args.most
-    (entries_listed c.args.paths.now.entries) c.jumps.longest (entries_listed c.jumps.paths.entries) c.jumps.goes_on
-    (c.as_slice-jump-items.ensures.value ∙ (c.jumps-found.ensures ∙ ap (λ (m : Move). jump_list g.B.Board.geometry c.args.position.now c.args.piece m.to) c.begun.view_is)) c.jumps.auto.jump-index-end c.jumps-test.false c.if-goes_on.true c.jumps.invariant.0
-
-pub returns-else-goes_on-clause-kept : goal.returns-else-goes_on-clause-kept
-returns-else-goes_on-clause-kept g t c =
+pub walk_towards-returns-then-has-clause-kept : goal.walk_towards-returns-then-has-clause-kept
+walk_towards-returns-then-has-clause-kept g t c =
+    let geo = g.B.Board.geometry in
     let b : Listed = record { step = c.args.begun; path = c.args.path.now.items } in
-    let at : Listed = record { step = c.args.begun; path = c.jumps.path.items } in
-    let at_is : at ≡ b = same_listed_parts at b refl c.jumps.invariant.1 in
-    IfOk-weaker c.keep.result (λ k. LongestLeast (This at c.args.count) c.jumps.longest (entries_listed c.jumps.paths.entries) k (entries_listed c.keep.new.paths.entries)) _ (λ k h.
-    gone_here g.B.Board.geometry c.args.position.now c.args.piece b c.args.count c.as_slice-jump-items.result.now c.jumps.jump-index c.args.most (entries_listed c.args.paths.now.entries) c.jumps.longest (entries_listed c.jumps.paths.entries) c.jumps.goes_on k (entries_listed c.keep.new.paths.entries)
-    (c.as_slice-jump-items.ensures.value ∙ (c.jumps-found.ensures ∙ ap (λ (m : Move). jump_list g.B.Board.geometry c.args.position.now c.args.piece m.to) c.begun.view_is)) c.jumps.auto.jump-index-end c.jumps-test.false c.jumps.invariant.0
-    (subst (λ z. LongestLeast (This z c.args.count) c.jumps.longest (entries_listed c.jumps.paths.entries) k (entries_listed c.keep.new.paths.entries)) at_is h)) c.keep.ensures
+    let old = entries_listed c.args.paths.now.entries in
+    let takes : TakesOver geo c.args.position.now c.args.piece c.args.begun.to c.args.direction c.in-Some.over = subst (λ (m : Move). TakesOver geo c.args.position.now c.args.piece m.to c.args.direction c.in-Some.over) c.begun.view_is c.in-Some.ensures.some in
+    towards_taken geo c.args.position.now c.args.piece b c.args.count c.in-Some.over c.args.direction c.args.most old takes
+    (ap (λ (m : Move). fin.contains m.taken c.in-Some.over) (sym c.begun.view_is) ∙ (sym c.has.ensures ∙ c.if-has.true))
+
+pub walk_towards-landings-init : goal.walk_towards-landings-init
+walk_towards-landings-init g t c =
+    let geo = g.B.Board.geometry in
+    let b : Listed = record { step = c.args.begun; path = c.args.path.now.items } in
+    let old = entries_listed c.args.paths.now.entries in
+    (gone_none geo c.args.position.now c.args.piece b c.args.count c.in-Some.over c.args.piece.kind c.args.direction c.args.most old c.in-Some.ensures.on_board, refl)
+
+pub walk_towards-free_step-requires : goal.walk_towards-free_step-requires
+walk_towards-free_step-requires g t c =
+    record { on_board = c.landings.invariant.0.on; ground = c.requires.ground }
+
+pub walk_towards-push-requires : goal.walk_towards-push-requires
+walk_towards-push-requires g t c =
+    let geo = g.B.Board.geometry in
+    let b : Listed = record { step = c.args.begun; path = c.args.path.now.items } in
+    let old = entries_listed c.args.paths.now.entries in
+    let now = entries_listed c.landings.paths.entries in
+    let f = freed geo g.met.B.Board.numbers c.args.position.now c.landings.at c.args.direction c.in-Some-free_step.landing c.landings.invariant.0.on (sym c.free_step.ensures ∙ c.in-Some-free_step.is) in
+    let takes : TakesOver geo c.args.position.now c.args.piece c.args.begun.to c.args.direction c.in-Some.over = subst (λ (m : Move). TakesOver geo c.args.position.now c.args.piece m.to c.args.direction c.in-Some.over) c.begun.view_is c.in-Some.ensures.some in
+    let fresh : fin.contains c.args.begun.taken c.in-Some.over ≡ false = ap (λ (m : Move). fin.contains m.taken c.in-Some.over) (sym c.begun.view_is) ∙ (sym c.has.ensures ∙ c.if-has.false) in
+    let jump = jump_by geo c.args.position.now c.args.piece b c.args.count c.in-Some.over c.args.direction c.landings.at c.in-Some-free_step.landing c.args.most old c.landings.longest now takes c.landings.invariant.0 f in
+    let small : c.args.count + 1 ≤ 20 = count_fits geo c.args.position.now c.args.piece c.args.begun.to c.in-Some.over c.in-Some-free_step.landing c.args.begun.taken c.args.count c.requires.few c.requires.fits jump fresh in
+    let long : length c.landings.path.items ≡ c.args.count + 1 = ap length c.landings.invariant.1 ∙ c.requires.long in
+    (omega arith, omega (arith, small, long))
+
+pub walk_towards-walk-requires : goal.walk_towards-walk-requires
+walk_towards-walk-requires g t c κs within =
+    let geo = g.B.Board.geometry in
+    let b : Listed = record { step = c.args.begun; path = c.args.path.now.items } in
+    let old = entries_listed c.args.paths.now.entries in
+    let now = entries_listed c.landings.paths.entries in
+    let f = freed geo g.met.B.Board.numbers c.args.position.now c.landings.at c.args.direction c.in-Some-free_step.landing c.landings.invariant.0.on (sym c.free_step.ensures ∙ c.in-Some-free_step.is) in
+    let takes : TakesOver geo c.args.position.now c.args.piece c.args.begun.to c.args.direction c.in-Some.over = subst (λ (m : Move). TakesOver geo c.args.position.now c.args.piece m.to c.args.direction c.in-Some.over) c.begun.view_is c.in-Some.ensures.some in
+    let fresh : fin.contains c.args.begun.taken c.in-Some.over ≡ false = ap (λ (m : Move). fin.contains m.taken c.in-Some.over) (sym c.begun.view_is) ∙ (sym c.has.ensures ∙ c.if-has.false) in
+    let jump = jump_by geo c.args.position.now c.args.piece b c.args.count c.in-Some.over c.args.direction c.landings.at c.in-Some-free_step.landing c.args.most old c.landings.longest now takes c.landings.invariant.0 f in
+    let small : c.args.count + 1 ≤ 20 = count_fits geo c.args.position.now c.args.piece c.args.begun.to c.in-Some.over c.in-Some-free_step.landing c.args.begun.taken c.args.count c.requires.few c.requires.fits jump fresh in
+    let long : length c.landings.path.items ≡ c.args.count + 1 = ap length c.landings.invariant.1 ∙ c.requires.long in
+    let taken_is : c.with-taken.result ≡ fin.insert c.args.begun.taken c.in-Some.over = c.with-taken.ensures ∙ ap (λ (m : Move). fin.insert m.taken c.in-Some.over) c.begun.view_is in
+    let longer : length c.push.new.self.items ≡ c.args.count + 1 + 1 = omega (arith, c.push.ensures.len, long) in
+    let fits = subst (λ v. ChainsFit geo c.args.position.now c.args.piece c.in-Some-free_step.landing v (20 - (c.args.count + 1))) (sym taken_is)
+    (chains_fit_behind geo c.args.position.now c.args.piece c.args.begun.to c.in-Some.over c.in-Some-free_step.landing c.args.begun.taken c.args.count c.requires.fits jump fresh) in
+    let falls = c.decreases in
+    (omega (arith, falls, small), (within, (omega arith, (f.on, (c.requires.ground, (small, (fits, longer)))))))
+
+pub walk_towards-landings-smaller : goal.walk_towards-landings-smaller
+walk_towards-landings-smaller g t c =
+    let geo = g.B.Board.geometry in
+    let f = freed geo g.met.B.Board.numbers c.args.position.now c.landings.at c.args.direction c.in-Some-free_step.landing c.landings.invariant.0.on (sym c.free_step.ensures ∙ c.in-Some-free_step.is) in
+    ray_falls geo c.args.position.now c.landings.at c.args.direction c.in-Some-free_step.landing f
+
+pub walk_towards-returns-in_default-free_step-clause-kept : goal.walk_towards-returns-in_default-free_step-clause-kept
+walk_towards-returns-in_default-free_step-clause-kept g t c =
+    let geo = g.B.Board.geometry in
+    let b : Listed = record { step = c.args.begun; path = c.args.path.now.items } in
+    let old = entries_listed c.args.paths.now.entries in
+    let now = entries_listed c.landings.paths.entries in
+    let takes : TakesOver geo c.args.position.now c.args.piece c.args.begun.to c.args.direction c.in-Some.over = subst (λ (m : Move). TakesOver geo c.args.position.now c.args.piece m.to c.args.direction c.in-Some.over) c.begun.view_is c.in-Some.ensures.some in
+    let fresh : fin.contains c.args.begun.taken c.in-Some.over ≡ false = ap (λ (m : Move). fin.contains m.taken c.in-Some.over) (sym c.begun.view_is) ∙ (sym c.has.ensures ∙ c.if-has.false) in
+    by_towards geo c.args.position.now c.args.piece b c.args.count c.in-Some.over c.args.direction c.args.most c.landings.longest old now takes fresh
+    (gone_stop geo g.met.B.Board.numbers c.args.position.now c.args.piece b c.args.count c.in-Some.over c.args.piece.kind c.args.direction c.landings.at c.args.most old c.landings.longest now
+    c.landings.invariant.0 (sym c.free_step.ensures ∙ c.in_default-free_step.is))
+
+pub walk_towards-landings-preserved : goal.walk_towards-landings-preserved
+walk_towards-landings-preserved g t c =
+    let geo = g.B.Board.geometry in
+    let b : Listed = record { step = c.args.begun; path = c.args.path.now.items } in
+    let old = entries_listed c.args.paths.now.entries in
+    let now = entries_listed c.landings.paths.entries in
+    let f = freed geo g.met.B.Board.numbers c.args.position.now c.landings.at c.args.direction c.in-Some-free_step.landing c.landings.invariant.0.on (sym c.free_step.ensures ∙ c.in-Some-free_step.is) in
+    let taken_is : c.with-taken.result ≡ fin.insert c.args.begun.taken c.in-Some.over = c.with-taken.ensures ∙ ap (λ (m : Move). fin.insert m.taken c.in-Some.over) c.begun.view_is in
+    let longer : c.push.new.self.items ≡ c.args.path.now.items ++ c.in-Some-free_step.landing ∷ [] = c.push.ensures.items ∙ ap (λ z. z ++ c.in-Some-free_step.landing ∷ []) c.landings.invariant.1 in
+    let step : Move = record { from = c.begun.inside.from; to = c.in-Some-free_step.landing; taken = c.with-taken.result } in
+    let next : Listed = record { step = step; path = c.push.new.self.items } in
+    let go = onward b c.in-Some.over c.in-Some-free_step.landing in
+    let next_is : next ≡ go = same_listed_parts next go (same_move step go.step (ap (λ (m : Move). m.from) c.begun.view_is) refl taken_is) longer in
+    let new = entries_listed c.if-goes_on.paths.entries in
+    let F : ℕ → Listed → Type 0 = GoesBy geo c.args.position.now c.args.piece next (c.args.count + 1) in
+    let done : LongestLeast F c.landings.longest now c.if-goes_on.longest new = elim c.if-goes_on.branch [
+      | walk_towards-then-goes_on+in_ok-longest w ↦
+          let found = entries_listed w.walk.new.paths.entries in
+          least_as F c.landings.longest now w.in_ok-longest.longest c.if-goes_on.longest found new (sym w.longest-is) (ap (λ z. entries_listed z.entries) (sym w.paths-is)) w.in_ok-longest.ensures.kept
+      | walk_towards-else-goes_on+in_ok-longest-2 w ↦
+          let found = entries_listed w.keep.new.paths.entries in
+          least_as F c.landings.longest now w.in_ok-longest-2.longest c.if-goes_on.longest found new (sym w.longest-is) (ap (λ z. entries_listed z.entries) (sym w.paths-is))
+          (ends_there geo c.args.position.now c.args.piece next (c.args.count + 1) c.landings.longest w.in_ok-longest-2.longest now found
+          (λ x t free jump. true≢false (sym (c.goes_on.ensures x t free jump) ∙ w.if-goes_on.false)) w.in_ok-longest-2.ensures)
+    ] in
+    let same : c.if-goes_on.path.items ≡ c.args.path.now.items ++ c.in-Some-free_step.landing ∷ [] = elim c.if-goes_on.branch [
+      | walk_towards-then-goes_on+in_ok-longest w ↦ ap (λ z. z.items) w.path-is ∙ (w.in_ok-longest.ensures.path ∙ longer)
+      | walk_towards-else-goes_on+in_ok-longest-2 w ↦ ap (λ z. z.items) w.path-is ∙ longer
+    ] in (
+      gone_more geo c.args.position.now c.args.piece b c.args.count c.in-Some.over c.args.piece.kind c.args.direction c.landings.at c.in-Some-free_step.landing c.args.most old c.landings.longest now next c.if-goes_on.longest new
+          c.in-King.is c.landings.invariant.0 f next_is done,
+      c.pop.ensures.rest ∙ popped c.args.path.now.items c.if-goes_on.path.items c.in-Some-free_step.landing same,
+    )
+
+pub walk_towards-returns-in-Man-clause-kept : goal.walk_towards-returns-in-Man-clause-kept
+walk_towards-returns-in-Man-clause-kept g t c =
+    let geo = g.B.Board.geometry in
+    let b : Listed = record { step = c.args.begun; path = c.args.path.now.items } in
+    let old = entries_listed c.args.paths.now.entries in
+    let now = entries_listed c.landings.paths.entries in
+    let f = freed geo g.met.B.Board.numbers c.args.position.now c.landings.at c.args.direction c.in-Some-free_step.landing c.landings.invariant.0.on (sym c.free_step.ensures ∙ c.in-Some-free_step.is) in
+    let takes : TakesOver geo c.args.position.now c.args.piece c.args.begun.to c.args.direction c.in-Some.over = subst (λ (m : Move). TakesOver geo c.args.position.now c.args.piece m.to c.args.direction c.in-Some.over) c.begun.view_is c.in-Some.ensures.some in
+    let fresh : fin.contains c.args.begun.taken c.in-Some.over ≡ false = ap (λ (m : Move). fin.contains m.taken c.in-Some.over) (sym c.begun.view_is) ∙ (sym c.has.ensures ∙ c.if-has.false) in
+    let taken_is : c.with-taken.result ≡ fin.insert c.args.begun.taken c.in-Some.over = c.with-taken.ensures ∙ ap (λ (m : Move). fin.insert m.taken c.in-Some.over) c.begun.view_is in
+    let longer : c.push.new.self.items ≡ c.args.path.now.items ++ c.in-Some-free_step.landing ∷ [] = c.push.ensures.items ∙ ap (λ z. z ++ c.in-Some-free_step.landing ∷ []) c.landings.invariant.1 in
+    let step : Move = record { from = c.begun.inside.from; to = c.in-Some-free_step.landing; taken = c.with-taken.result } in
+    let next : Listed = record { step = step; path = c.push.new.self.items } in
+    let go = onward b c.in-Some.over c.in-Some-free_step.landing in
+    let next_is : next ≡ go = same_listed_parts next go (same_move step go.step (ap (λ (m : Move). m.from) c.begun.view_is) refl taken_is) longer in
+    let new = entries_listed c.if-goes_on.paths.entries in
+    let F : ℕ → Listed → Type 0 = GoesBy geo c.args.position.now c.args.piece next (c.args.count + 1) in
+    let done : LongestLeast F c.landings.longest now c.if-goes_on.longest new = elim c.if-goes_on.branch [
+      | walk_towards-then-goes_on+in_ok-longest w ↦
+          let found = entries_listed w.walk.new.paths.entries in
+          least_as F c.landings.longest now w.in_ok-longest.longest c.if-goes_on.longest found new (sym w.longest-is) (ap (λ z. entries_listed z.entries) (sym w.paths-is)) w.in_ok-longest.ensures.kept
+      | walk_towards-else-goes_on+in_ok-longest-2 w ↦
+          let found = entries_listed w.keep.new.paths.entries in
+          least_as F c.landings.longest now w.in_ok-longest-2.longest c.if-goes_on.longest found new (sym w.longest-is) (ap (λ z. entries_listed z.entries) (sym w.paths-is))
+          (ends_there geo c.args.position.now c.args.piece next (c.args.count + 1) c.landings.longest w.in_ok-longest-2.longest now found
+          (λ x t free jump. true≢false (sym (c.goes_on.ensures x t free jump) ∙ w.if-goes_on.false)) w.in_ok-longest-2.ensures)
+    ] in
+    by_towards geo c.args.position.now c.args.piece b c.args.count c.in-Some.over c.args.direction c.args.most c.if-goes_on.longest old new takes fresh
+    (gone_last geo c.args.position.now c.args.piece b c.args.count c.in-Some.over c.args.piece.kind c.args.direction c.landings.at c.in-Some-free_step.landing c.args.most old c.landings.longest now next c.if-goes_on.longest new
+    c.in-Man.is c.landings.invariant.0 f next_is done)
+
+pub walk_towards-returns-in-Man-clause-path : goal.walk_towards-returns-in-Man-clause-path
+walk_towards-returns-in-Man-clause-path g t c =
+    let longer : c.push.new.self.items ≡ c.args.path.now.items ++ c.in-Some-free_step.landing ∷ [] = c.push.ensures.items ∙ ap (λ z. z ++ c.in-Some-free_step.landing ∷ []) c.landings.invariant.1 in
+    let same : c.if-goes_on.path.items ≡ c.args.path.now.items ++ c.in-Some-free_step.landing ∷ [] = elim c.if-goes_on.branch [
+      | walk_towards-then-goes_on+in_ok-longest w ↦ ap (λ z. z.items) w.path-is ∙ (w.in_ok-longest.ensures.path ∙ longer)
+      | walk_towards-else-goes_on+in_ok-longest-2 w ↦ ap (λ z. z.items) w.path-is ∙ longer
+    ] in
+    c.pop.ensures.rest ∙ popped c.args.path.now.items c.if-goes_on.path.items c.in-Some-free_step.landing same

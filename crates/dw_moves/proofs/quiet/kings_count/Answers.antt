@@ -1,7 +1,4 @@
 use Rattle.dw_moves.proofs.KingSlideLemmas.{kings_counted, no_kings_counted}
-use Rattle.std.proofs.Common.{subst}
-use Rattle.dw_board.specs.declared.piece.Kind.TheVariants.{King}
-use Rattle.dw_moves.proofs.GlanceSetLemmas.{AreKind}
 use Rattle.dw_moves.proofs.quiet.kings_count.Goals as goal
 
 pub returns-clause-value : goal.returns-clause-value
@@ -10,5 +7,4 @@ returns-clause-value g c =
     c.kings_run.ensures.value c.kings_run-2.ensures.value c.kings_run-3.ensures.value c.kings_run-4.ensures.value
 
 pub returns-then-is_empty-clause-value : goal.returns-then-is_empty-clause-value
-returns-then-is_empty-clause-value g c =
-    no_kings_counted g.B.Board.geometry c.args.position.now c.squares.result (subst (λ z. AreKind g.B.Board.geometry c.args.position.now z King c.squares.result) c.turn.ensures.value c.squares.ensures) (c.is_empty.ensures.0 c.if-is_empty.true)
+returns-then-is_empty-clause-value g c = no_kings_counted g.B.Board.geometry c.args.position.now c.args.field.now.kings c.requires.of_kings (c.is_empty.ensures.0 c.if-is_empty.true)

@@ -1,4 +1,6 @@
-use Rattle.std.proofs.Common.{◌≡◌, ◌+◌, ◌-◌, false, length, refl, sym, ap, subst, arith, inl, inr, is_some, IfSome}
+use Rattle.std.proofs.Common.{◌≡◌, ◌+◌, ◌-◌, false, length, refl, sym, ap, subst, arith, inl, inr, ◌↔◌, is_some, IfSome}
+use Rattle.std.specs.Prelude.{IsTrue, IfOk}
+use Rattle.std.proofs.lemmas.Result.{on_ok_weaker}
 use Rattle.std.proofs.lemmas.Bool.{true≢false}
 use Rattle.std.specs.List.{IsFirstAndRest}
 use Rattle.std.proofs.lemmas.Option.{MatchOption-at_some}
@@ -155,7 +157,7 @@ wins-returns-in-Some-clause-spent g t c some undecided =
 pub wins-some_move_wins-requires : goal.wins-some_move_wins-requires
 wins-some_move_wins-requires g t c κs within =
     let geo = g.B.Board.geometry in
-    let rest = (MatchOption-at_some (length c.args.plies.now ≡ 0) (λ p. IsFirstAndRest c.args.plies.now p.0.now p.1.now) c.unwrap.result c.unwrap.ensures c.split_first_mut.ensures.cases).1 in
+    let rest = (MatchOption-at_some (length c.args.plies.now ≡ 0) (λ p. IsFirstAndRest c.args.plies.now p.0.now p.1.now) c.unwrap-2.result c.unwrap-2.ensures c.split_first_mut-2.ensures.cases).1 in
     let f = c.decreases in
     let some = c.in_default.ensures.some refl in (
       omega (arith, f, some),
@@ -378,3 +380,18 @@ loses-returns-in-Some-clause-known g t c all =
       | inr known ↦ subst (λ n. IsDecided (g.M.Memo.content c.args.search.now.memo) c.in-Some.after n) one (subst (λ q. IsDecided (g.M.Memo.content c.args.search.now.memo) q c.args.moves) (sym reply.2) known)
     ]) in
     ((λ none. answered _ _ none), here.1, here.2)
+
+pub wins-returns-then-moves-eq1-clause-answer : goal.wins-returns-then-moves-eq1-clause-answer
+wins-returns-then-moves-eq1-clause-answer g t c =
+    subst (λ n. IfOk c.wins_at_once.result (λ yes. IsTrue yes ↔ Win g.B.Board.geometry c.args.position.now n)) (sym c.if-moves-eq1.true) c.wins_at_once.ensures.answer
+
+pub wins-returns-then-moves-eq1-clause-spent : goal.wins-returns-then-moves-eq1-clause-spent
+wins-returns-then-moves-eq1-clause-spent g t c =
+    on_ok_weaker c.wins_at_once.result (λ less some undecided.
+    less (λ known. undecided (subst (IsDecided (g.M.Memo.content c.args.search.now.memo) c.args.position.now) (sym c.if-moves-eq1.true) known))) c.wins_at_once.ensures.spent
+
+pub wins-returns-then-moves-eq1-clause-known : goal.wins-returns-then-moves-eq1-clause-known
+wins-returns-then-moves-eq1-clause-known g t c h = elim h [
+  | inl none ↦ absurd (omega (arith, none, c.if-moves-eq1.true))
+  | inr known ↦ c.wins_at_once.ensures.known (subst (IsDecided (g.M.Memo.content c.args.search.now.memo) c.args.position.now) c.if-moves-eq1.true known)
+]

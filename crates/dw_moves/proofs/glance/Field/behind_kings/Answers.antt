@@ -1,8 +1,7 @@
-use Rattle.dw_moves.specs.inner.Glance.{KingsMeet}
-use Rattle.dw_moves.proofs.GlanceRunLemmas.{behind_is}
+use Rattle.dw_moves.proofs.GlanceRunLemmas.{kings_take_behind}
 use Rattle.dw_moves.proofs.glance.Field.behind_kings.Goals as goal
 
 pub returns : goal.returns
 returns g c =
-    behind_is (KingsMeet g.B.Board.geometry c.args.self.now.kings c.args.self.now.enemies c.args.self.now.occupied c.args.direction) g.B.Board.geometry c.args.self.now.occupied c.args.direction
-    c.met_by_kings-met.result c.shifted.result c.minus.result c.met_by_kings-met.ensures c.shifted.ensures c.minus.ensures
+    kings_take_behind g.B.Board.geometry g.met.B.Board.numbers c.args.self.now.kings c.args.self.now.enemies c.args.self.now.occupied c.args.direction c.slid_near-reached.result c.shifted.result c.and-met.result c.shifted-2.result c.minus.result
+    c.slid_near-reached.ensures.reached c.slid_near-reached.ensures.on_board c.shifted.ensures c.and-met.ensures c.shifted-2.ensures c.minus.ensures

@@ -1,16 +1,13 @@
 use Rattle.std.proofs.Common.{◌+◌, ◌-◌, ◌*◌, length}
 use Rattle.dw_moves.specs.Moves.{ray}
 use Rattle.dw_moves.proofs.WalkedLemmas.{Landed}
-use Rattle.dw_moves.proofs.chains.+walk.Given as goal
+use Rattle.dw_moves.proofs.chains.+walk_king.Given as goal
 
 abbrev pub decreases-walk_king : goal.decreases-walk_king
-decreases-walk_king g l = 3 * (20 - l.count) + 2
-
-abbrev pub decreases-walk : goal.decreases-walk
-decreases-walk g l = 3 * (20 - l.count) + 1
+decreases-walk_king g l = 2 * (20 - l.count) + 1
 
 abbrev pub decreases-walk_towards : goal.decreases-walk_towards
-decreases-walk_towards g l = 3 * (20 - l.count)
+decreases-walk_towards g l = 2 * (20 - l.count)
 
 abbrev pub invariant-walk_towards-landings : goal.invariant-walk_towards-landings
 invariant-walk_towards-landings g l = Landed g.B.Board.geometry l.position l.piece l.fn.begun l.count l.initial.at l.piece.kind l.direction l.at l.initial.most l.initial.moves.items l.longest l.moves.items

@@ -4,16 +4,13 @@ use Rattle.std.proofs.lemmas.Result.{IfOk-weaker}
 use Rattle.dw_moves.specs.Moves.{Move}
 use Rattle.dw_moves.specs.inner.MoveLemmas.{same_move}
 use Rattle.dw_moves.specs.inner.Chains.{ChainsFit, Is, Longest, further}
+use Rattle.dw_moves.specs.inner.Plain as over
 use Rattle.dw_moves.proofs.RunLemmas.{freed, ray_falls}
 use Rattle.dw_moves.proofs.WalkedLemmas.{TakesOver, landed_none, landed_more, landed_stop, jump_onto, onto_towards, towards_taken, walked_all, count_fits, chains_fit_behind}
-use Rattle.std.specs.Prelude.{IsTrue}
-use Rattle.dw_board.specs.declared.board.Dir.{Dir}
-use Rattle.dw_moves.specs.inner.Glance.{Takes}
-use Rattle.dw_moves.proofs.KingChainLemmas.{king_ends}
-use Rattle.dw_moves.proofs.chains.+walk.Goals as goal
+use Rattle.dw_moves.proofs.chains.+walk_king.Goals as goal
 
-pub walk-returns : goal.walk-returns
-walk-returns g t c =
+pub walk_king-returns : goal.walk_king-returns
+walk_king-returns g t c =
     IfOk-weaker c.offer.result (λ k. Longest (Is c.args.begun c.args.count) c.in_ok-four.four c.walk_towards-4.new.moves.items k c.offer.new.moves.items) _ (λ k h.
     walked_all g.B.Board.geometry c.args.position.now c.args.piece c.args.begun c.args.count c.args.most c.in_ok-one.one c.in_ok-two.two c.in_ok-three.three c.in_ok-four.four k
     c.args.moves.now.items c.walk_towards.new.moves.items c.walk_towards-2.new.moves.items c.walk_towards-3.new.moves.items c.walk_towards-4.new.moves.items c.offer.new.moves.items
@@ -21,7 +18,7 @@ walk-returns g t c =
 
 pub walk_towards-returns-then-has : goal.walk_towards-returns-then-has
 walk_towards-returns-then-has g t c =
-    let takes : TakesOver g.B.Board.geometry c.args.position.now c.args.piece c.args.begun.to c.args.direction c.in-Some.over = subst (λ (m : Move). TakesOver g.B.Board.geometry c.args.position.now c.args.piece m.to c.args.direction c.in-Some.over) c.begun.view_is c.in-Some.ensures.some in
+    let takes : TakesOver g.B.Board.geometry c.args.position.now c.args.piece c.args.begun.to c.args.direction c.in-Some.over = subst (λ (m : Move). TakesOver g.B.Board.geometry c.args.position.now c.args.piece m.to c.args.direction c.in-Some.over) c.begun.view_is (subst (λ k. over.TakesOver k g.B.Board.geometry c.args.position.now c.args.piece.side c.begun.inside.to c.args.direction c.in-Some.over) (sym c.requires.king) c.in-Some.ensures.some) in
     towards_taken g.B.Board.geometry c.args.position.now c.args.piece c.args.begun c.args.count c.in-Some.over c.args.direction c.args.most c.args.moves.now.items takes
     (ap (λ (m : Move). fin.contains m.taken c.in-Some.over) (sym c.begun.view_is) ∙ (sym c.has.ensures ∙ c.if-has.true))
 
@@ -35,7 +32,7 @@ pub walk_towards-walk_king-requires : goal.walk_towards-walk_king-requires
 walk_towards-walk_king-requires g t c κs within =
     let geo = g.B.Board.geometry in
     let f = freed geo g.met.B.Board.numbers c.args.position.now c.landings.at c.args.direction c.in-Some-free_step.landing c.landings.invariant.on (sym c.free_step.ensures ∙ c.in-Some-free_step.is) in
-    let takes : TakesOver geo c.args.position.now c.args.piece c.args.begun.to c.args.direction c.in-Some.over = subst (λ (m : Move). TakesOver geo c.args.position.now c.args.piece m.to c.args.direction c.in-Some.over) c.begun.view_is c.in-Some.ensures.some in
+    let takes : TakesOver geo c.args.position.now c.args.piece c.args.begun.to c.args.direction c.in-Some.over = subst (λ (m : Move). TakesOver geo c.args.position.now c.args.piece m.to c.args.direction c.in-Some.over) c.begun.view_is (subst (λ k. over.TakesOver k geo c.args.position.now c.args.piece.side c.begun.inside.to c.args.direction c.in-Some.over) (sym c.requires.king) c.in-Some.ensures.some) in
     let fresh : fin.contains c.args.begun.taken c.in-Some.over ≡ false = ap (λ (m : Move). fin.contains m.taken c.in-Some.over) (sym c.begun.view_is) ∙ (sym c.has.ensures ∙ c.if-has.false) in
     let jump = jump_onto geo c.args.position.now c.args.piece c.args.begun c.args.count c.in-Some.over c.args.direction c.landings.at c.in-Some-free_step.landing c.args.most c.args.moves.now.items c.landings.longest c.landings.moves.items takes c.landings.invariant f in
     let small : c.args.count + 1 ≤ 20 = count_fits geo c.args.position.now c.args.piece c.args.begun.to c.in-Some.over c.in-Some-free_step.landing c.args.begun.taken c.args.count c.requires.few c.requires.fits jump fresh in
@@ -80,17 +77,8 @@ walk_towards-landings-preserved g t c =
 pub walk_towards-returns : goal.walk_towards-returns
 walk_towards-returns g t c =
     let geo = g.B.Board.geometry in
-    let takes : TakesOver geo c.args.position.now c.args.piece c.args.begun.to c.args.direction c.in-Some.over = subst (λ (m : Move). TakesOver geo c.args.position.now c.args.piece m.to c.args.direction c.in-Some.over) c.begun.view_is c.in-Some.ensures.some in
+    let takes : TakesOver geo c.args.position.now c.args.piece c.args.begun.to c.args.direction c.in-Some.over = subst (λ (m : Move). TakesOver geo c.args.position.now c.args.piece m.to c.args.direction c.in-Some.over) c.begun.view_is (subst (λ k. over.TakesOver k geo c.args.position.now c.args.piece.side c.begun.inside.to c.args.direction c.in-Some.over) (sym c.requires.king) c.in-Some.ensures.some) in
     let fresh : fin.contains c.args.begun.taken c.in-Some.over ≡ false = ap (λ (m : Move). fin.contains m.taken c.in-Some.over) (sym c.begun.view_is) ∙ (sym c.has.ensures ∙ c.if-has.false) in
     onto_towards geo c.args.position.now c.args.piece c.args.begun c.args.count c.in-Some.over c.args.direction c.args.most c.landings.longest c.args.moves.now.items c.landings.moves.items takes fresh
     (landed_stop geo g.met.B.Board.numbers c.args.position.now c.args.piece c.args.begun c.args.count c.in-Some.over c.args.piece.kind c.args.direction c.landings.at c.args.most c.args.moves.now.items c.landings.longest c.landings.moves.items
     c.landings.invariant (sym c.free_step.ensures ∙ c.in_default-free_step.is))
-
-pub walk_king-returns-else-king_goes_on : goal.walk_king-returns-else-king_goes_on
-walk_king-returns-else-king_goes_on g t c =
-    let geo = g.B.Board.geometry in
-    IfOk-weaker c.offer.result (λ k. Longest (Is c.args.begun c.args.count) c.args.most c.args.moves.now.items k c.offer.new.moves.items) _ (λ k h.
-    king_ends geo g.met.B.Board.numbers c.args.position.now c.args.piece c.args.begun c.args.count c.args.most k c.args.moves.now.items c.offer.new.moves.items c.args.ground.now.enemies c.args.ground.now.occupied c.king_goes_on.result
-    c.requires.on_board c.requires.ground
-    (subst (λ (m : Move). (d : Dir) → Takes geo fin.empty (fin.insert fin.empty m.to) (fin.difference c.args.ground.now.enemies m.taken) c.args.ground.now.occupied d → IsTrue c.king_goes_on.result) c.begun.view_is c.king_goes_on.ensures)
-    c.if-king_goes_on.false h) c.offer.ensures

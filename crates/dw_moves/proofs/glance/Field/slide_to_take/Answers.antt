@@ -1,6 +1,6 @@
 use Rattle.dw_moves.specs.inner.Glance.{KingsTake}
 use Rattle.dw_moves.proofs.GlanceRunLemmas.{somewhere}
-use Rattle.dw_moves.proofs.glance.Field.sliding_kings_take.Goals as goal
+use Rattle.dw_moves.proofs.glance.Field.slide_to_take.Goals as goal
 
 pub returns : goal.returns
 returns g c =

@@ -1,5 +1,5 @@
 use Rattle.dw_moves.proofs.TallyLemmas.{all_counted}
-use Rattle.dw_moves.proofs.quiet.quiet_count.Goals as goal
+use Rattle.dw_moves.proofs.quiet.count_on.Goals as goal
 
 pub returns : goal.returns
 returns g c =
