@@ -7,30 +7,31 @@ ghost use Rattle.dw_memo.specs.inner.Growing.{IsHalfway};
 use crate::slot_memo::{Slots, slot_of};
 use dw_board::board::Board;
 
-/// A table of more slots than this begins with half of them, a quarter or less, as long as that is a whole number.
+/// A table of more slots than this begins with half of them, a quarter or less, rounded down.
 const FEW: usize = 2048;
 
-/// How many slots a table begins with that may have so many.
+/// How many slots a table begins with that may have so many. Doubled as often as it can be, it has nearly all of them.
 pub(crate) fn first_size(most: usize) -> usize
     requires { 1 ≤ most }
     ensures some { 1 ≤ result }
     ensures within { result ≤ most }
 {
     let mut size = most;
-    'halves: while FEW < size && size % 2 == 0 {
+    'halves: while FEW < size {
         size /= 2;
     }
     size
 }
 
-/// Doubles a table of which more than half is used, if it may have as many slots.
+/// Doubles a table of which all but a sixteenth is used, if it may have as many slots. A larger one would lose less, and
+/// be slower for all that: much of what stands in it belongs to problems that are done.
 pub(crate) fn make_room<B: Board>(slots: &mut Slots<B>, used: usize, most: usize)
     requires { IsTable B.geometry slots.old.items }
     ensures table { IsTable B.geometry slots.new.items }
     ensures same { SameEntries (held slots.old.items) (held slots.new.items) }
 {
     let size = slots.len();
-    if size / 2 < used && size <= most / 2 {
+    if size - size / 16 < used && size <= most / 2 {
         double(slots);
     }
 }
