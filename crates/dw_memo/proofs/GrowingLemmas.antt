@@ -1,5 +1,5 @@
 -- A table of slots while it doubles.
-use Rattle.std.proofs.Common.{◌≡◌, ℕ, zero, suc, ◌<◌, ◌≤◌, ◌+◌, ◌*◌, ◌/◌, ◌^◌, [], ◌∷◌, ◌++◌, List, length, take, slice_get, Bool, true, false, Some, None, refl, sym, ap, ◌∙◌, subst, inl, inr, arith}
+use Rattle.std.proofs.Common.{◌≡◌, ℕ, zero, suc, ◌<◌, ◌≤◌, ◌+◌, ◌*◌, ◌/◌, ◌^◌, [], ◌∷◌, ◌++◌, List, length, take, slice_get, Option, Bool, true, false, Some, None, refl, sym, ap, ◌∙◌, subst, inl, inr, arith}
 use Rattle.std.proofs.lemmas.Bool.{cases_lt}
 use Rattle.std.proofs.Math.ListN.{set, length-set, replicate}
 use Rattle.dw_board.specs.Geometry.{Geometry}
@@ -55,7 +55,7 @@ module _ (slots : Slots) (k t : ℕ) (p : Placement) (b : Bounds) (here : Holds 
   ]
 
 -- what stands in a slot goes to its own among all
-pub brought : (g : Geometry) (size k t : ℕ) (slots : Slots) (p : Placement) (b : Bounds) → IsHalfway g size (k + 1) slots → k < size → slice_get slots k ≡ Some (Some (p, b))
+brought : (g : Geometry) (size k t : ℕ) (slots : Slots) (p : Placement) (b : Bounds) → IsHalfway g size (k + 1) slots → k < size → slice_get slots k ≡ Some (Some (p, b))
     → t ≡ slot_of g p (2 * size) → t < 2 * size → SameEntries (held slots) (held (set (set slots k None) t (Some (p, b))))
 brought g size k t slots p b h inside here to within e =
     let home : k ≡ slot_of g p size = h.before k p b (omega arith) here in
@@ -72,6 +72,51 @@ brought g size k t slots p b h inside here to within e =
       stays slots k t p b here k_inside t_inside empty e,
       stood slots k t p b here k_inside t_inside empty e,
     )
+
+-- it stands in its own slot then, and so do the others
+halfway : (g : Geometry) (size k t : ℕ) (slots : Slots) (p : Placement) (b : Bounds) → IsHalfway g size (k + 1) slots → k < size → slice_get slots k ≡ Some (Some (p, b))
+    → t ≡ slot_of g p (2 * size) → t < 2 * size → IsHalfway g size k (set (set slots k None) t (Some (p, b)))
+halfway g size k t slots p b h inside here to within =
+    let home : k ≡ slot_of g p size = h.before k p b (omega arith) here in
+    let near = doubled (mixed_word g p) size in
+    let left : Slots = set slots k None in
+    let k_inside : k < length slots = omega (arith, h.all, inside) in
+    let t_inside : t < length left = omega (arith, h.all, within, length-set slots k None) in
+    let far : 2 * k ≤ t = omega (arith, home, to, near.0) in
+    record {
+      all = length-set left t (Some (p, b)) ∙ (length-set slots k None ∙ h.all);
+      before = λ j q c less there. elim (set_read left t (Some (p, b)) j (Some (q, c)) t_inside there) [
+        | inl e ↦ absurd (omega (arith, e.0, less, far))
+        | inr n ↦ elim (set_read slots k None j (Some (q, c)) k_inside n.1) [
+          | inl e ↦ absurd (cc)
+          | inr m ↦ h.before j q c (omega (arith, less)) m.1
+        ]
+      ];
+      after = λ j q c from there. elim (set_read left t (Some (p, b)) j (Some (q, c)) t_inside there) [
+        | inl e ↦
+            let s : ◌≡◌ {A = Pair} (p, b) (q, c) = cc in
+            (omega (arith, e.0, far), e.0 ∙ (to ∙ ap (λ (x : Pair). slot_of g x.0 (2 * size)) s))
+        | inr n ↦ elim (set_read slots k None j (Some (q, c)) k_inside n.1) [
+          | inl e ↦ absurd (cc)
+          | inr m ↦
+              let behind : k + 1 ≤ j = elim (cases_lt j (k + 1)) [
+                | inl l ↦ absurd (m.0 (omega (arith, l, from)))
+                | inr l ↦ omega (arith, l)
+              ] in
+              let was = h.after j q c behind m.1 in
+              (omega (arith, was.0), was.1)
+        ]
+      ];
+    }
+
+-- what is written into the two slots, by names
+pub brought_halfway : {p : Placement} {b : Bounds} (g : Geometry) (size k t : ℕ) (slots : Slots) (nothing one : Option Pair) → nothing ≡ None → one ≡ Some (p, b)
+    → IsHalfway g size (k + 1) slots → k < size → slice_get slots k ≡ Some (Some (p, b)) → t ≡ slot_of g p (2 * size) → t < 2 * size
+    → IsHalfway g size k (set (set slots k nothing) t one) × SameEntries (held slots) (held (set (set slots k nothing) t one))
+brought_halfway {p} {b} g size k t slots nothing one is_none is_one h inside here to within =
+    subst (λ (x : Option Pair). IsHalfway g size k (set (set slots k x) t one) × SameEntries (held slots) (held (set (set slots k x) t one))) (sym is_none)
+    (subst (λ (x : Option Pair). IsHalfway g size k (set (set slots k None) t x) × SameEntries (held slots) (held (set (set slots k None) t x))) (sym is_one)
+    (halfway g size k t slots p b h inside here to within, brought g size k t slots p b h inside here to within))
 
 -- ---- empty slots behind a table
 none_there : (n k : ℕ) (p : Placement) (b : Bounds) → Holds (replicate n None) k p b → ⊥

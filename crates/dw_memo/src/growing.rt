@@ -4,6 +4,7 @@ ghost use Rattle.dw_memo.specs.Content.{SameEntries};
 ghost use Rattle.dw_memo.specs.Slots.{held, IsTable};
 ghost use Rattle.dw_memo.specs.inner.Growing.{IsHalfway};
 
+use crate::slot::Slot;
 use crate::slot_memo::{Slots, slot_of};
 use dw_board::board::Board;
 
@@ -36,7 +37,10 @@ pub(crate) fn make_room<B: Board>(slots: &mut Slots<B>, used: usize, most: usize
     }
 }
 
-/// Makes the slots twice as many, and brings each position to its own slot. If memory is refused, nothing changes.
+/// Makes the slots twice as many, and brings each position to its own slot. If memory is refused, nothing changes. It is
+/// rare, and stands apart from the notes between.
+#[cold]
+#[inline(never)]
 fn double<B: Board>(slots: &mut Slots<B>)
     requires few { length slots.old.items * 2 < 18446744073709551616 }
     requires table { IsTable B.geometry slots.old.items }
@@ -44,7 +48,7 @@ fn double<B: Board>(slots: &mut Slots<B>)
     ensures same { SameEntries (held slots.old.items) (held slots.new.items) }
 {
     let size = slots.len();
-    if slots.resize(2 * size, None).is_err() {
+    if slots.resize(2 * size, Slot::empty()).is_err() {
         return;
     }
     let mut left = size;
@@ -61,10 +65,10 @@ fn bring_home<B: Board>(slots: &mut Slots<B>, index: usize, size: usize)
     ensures halfway { IsHalfway B.geometry size index slots.new.items }
     ensures same { SameEntries (held slots.old.items) (held slots.new.items) }
 {
-    let Some((position, bounds)) = slots[index] else {
+    let Some((position, bounds)) = slots[index].entry() else {
         return;
     };
-    slots[index] = None;
+    slots[index] = Slot::empty();
     let slot = slot_of(&position, 2 * size);
-    slots[slot] = Some((position, bounds));
+    slots[slot] = Slot::with(position, bounds);
 }

@@ -11,6 +11,7 @@ mod growing;
 pub mod lru_memo;
 pub mod memo;
 pub mod no_memo;
+mod slot;
 pub mod slot_memo;
 
 pub use bounds::Bounds;

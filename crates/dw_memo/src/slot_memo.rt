@@ -1,12 +1,12 @@
 //! A memo of fixed size, in which each position has one slot.
 ghost use Rattle.std.specs.Prelude.{◌≡◌, ◌≤◌, ◌<◌, [], length, IfOk};
 ghost use Rattle.dw_memo.specs.Slots as of;
-ghost use Rattle.dw_memo.specs.inner.Keeping.{bounds_in, lost};
 ghost use Rattle.dw_memo.specs.declared.memo.Noted.TheVariants.{Kept};
 
 use crate::bounds::Bounds;
 use crate::growing::{first_size, make_room};
 use crate::memo::{Memo, Noted};
+use crate::slot::Slot;
 use dw_board::board::Board;
 use dw_board::position::Position;
 use std::alloc::{AllocError, Global};
@@ -26,7 +26,7 @@ pub struct SlotMemo<B: Board> {
 }
 
 /// Positions with their bounds, each in its slot.
-pub(crate) type Slots<B> = Vec<Option<(Position<B>, Bounds)>>;
+pub(crate) type Slots<B> = Vec<Slot<B>>;
 
 impl<B: Board> Model for SlotMemo<B> {
     ghost use Rattle.dw_memo.specs.Holding.{Holding};
@@ -48,7 +48,7 @@ impl<B: Board> SlotMemo<B> {
         ensures { IfOk result (λ m. m ≡ record { content = []; dropped = 0 }) }
     {
         let mut table = Vec::with_capacity(alloc, slots)?;
-        table.resize(first_size(slots), None)?;
+        table.resize(first_size(slots), Slot::empty())?;
         Ok(SlotMemo {
             slots: table,
             most: slots,
@@ -67,46 +67,23 @@ impl<B: Board> Memo<B> for SlotMemo<B> {
 
     fn look(&mut self, position: &Position<B>) -> Option<Bounds> {
         let slot = slot_of(position, self.slots.len());
-        bounds_in(&self.slots[slot], position)
+        self.slots[slot].bounds_of(position)
     }
 
     fn put(&mut self, position: &Position<B>, bounds: Bounds) -> Noted {
         make_room(&mut self.slots, self.used, self.most);
         let slot = slot_of(position, self.slots.len());
-        let lost = lost(&self.slots[slot], position);
+        let lost = self.slots[slot].lost(position);
         self.used = self
             .used
-            .saturating_add(usize::from(self.slots[slot].is_none()));
-        self.slots[slot] = Some((*position, bounds));
+            .saturating_add(usize::from(self.slots[slot].is_empty()));
+        self.slots[slot] = Slot::with(*position, bounds);
         self.dropped = self.dropped.saturating_add(lost);
         Noted::Kept
     }
 
     fn dropped(&self) -> u64 {
         self.dropped
-    }
-}
-
-/// The bounds of a position, if the slot holds it and not another one.
-fn bounds_in<B: Board>(
-    slot: &Option<(Position<B>, Bounds)>,
-    position: &Position<B>,
-) -> Option<Bounds>
-    ensures { result ≡ bounds_in slot.now position.now }
-{
-    match slot {
-        Some((held, bounds)) if held == position => Some(*bounds),
-        _ => None,
-    }
-}
-
-/// How many entries are lost when a position comes into a slot.
-fn lost<B: Board>(slot: &Option<(Position<B>, Bounds)>, position: &Position<B>) -> u64
-    ensures { result ≡ lost slot.now position.now }
-{
-    match slot {
-        Some((other, _)) => u64::from(other != position),
-        None => 0,
     }
 }
 

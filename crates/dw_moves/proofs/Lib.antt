@@ -33,6 +33,8 @@ pub mod FollowedLemmas
 pub mod SquareSetLemmas
 pub mod GlanceSetLemmas
 pub mod GlanceRunLemmas
+pub mod ShelterLemmas
+pub mod ShelterSetLemmas
 pub mod SlideLemmas
 pub mod FirstJumpLemmas
 pub mod FirstStepLemmas
@@ -51,4 +53,4 @@ pub mod ListingLemmas
 pub mod WorkedPositionLemmas
 pub mod ReplyLemmas
 pub mod StepSetLemmas
-pub mod LooseStepLemmas
+pub mod SureStepLemmas

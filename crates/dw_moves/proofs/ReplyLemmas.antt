@@ -11,7 +11,7 @@ use Rattle.dw_board.specs.Placement.{Placement, at}
 use Rattle.dw_moves.specs.Moves.{Move, Quiet, Stands, Legal, LegalAt, IsBest, play, ray}
 use Rattle.dw_board.specs.Placement.{other}
 use Rattle.dw_moves.specs.Replies.{passed, OneStep, TwoSteps, IsLoose, AlwaysReply}
-use Rattle.dw_moves.specs.Laws.{StepsAreQuiet, LooseReplies}
+use Rattle.dw_moves.specs.Laws.{StepsAreQuiet}
 use Rattle.dw_moves.specs.inner.Glance.{CanStep}
 use Rattle.dw_moves.proofs.StepLemmas.{none_some, step_is}
 use Rattle.dw_moves.proofs.RayLemmas.{ray_some}
@@ -36,7 +36,7 @@ step_quiet g b p s t h = record {
 }
 
 -- some move is legal where a quiet one is there
-reply_of : (g : Geometry) (q : Placement) → CanStep g q → (r : Move) × Legal g q r
+pub reply_of : (g : Geometry) (q : Placement) → CanStep g q → (r : Move) × Legal g q r
 reply_of g q h = by_best (best g q) (is_best g q) where
   by_best : (k : ℕ) → IsBest g q k → (r : Move) × Legal g q r
   by_best zero is = (record { from = h.0; to = h.1; taken = fin.empty }, (0, is, (h.2, refl)))
@@ -87,11 +87,8 @@ module _ (g : Geometry) (b : IsBoard g) (p : Placement) where
     | inl e ↦ reply_there m legal q none h.from_too h.to_too h.two (λ f. h.apart (e ∙ sym f))
   ]
 
-  loose_reply : IsLoose g p → AlwaysReply g p
+  pub loose_reply : IsLoose g p → AlwaysReply g p
   loose_reply h m legal = at_k legal.0 legal.1 legal.2 where
     at_k : (k : ℕ) → IsBest g p k → LegalAt g p k m → (r : Move) × Legal g (play g p m) r
     at_k zero is l = two_reply m legal l.0 l.1 h.1
     at_k (suc k) is l = let r = is.reached (omega arith) in absurd (h.0 (r.0, r.1, r.2, r.3, omega (arith, r.4)))
-
-pub loose_replies : LooseReplies
-loose_replies g b p h = loose_reply g b p h

@@ -35,7 +35,7 @@ module _ (g : Geometry) (b : IsBoard g) (p : Placement) (men kings enemies occup
       man = ahead;
     }
 
-  step_from : (d : Dir) (t : ℕ) → StepsOn g p.turn men kings occupied d t → (s : ℕ) × OneStep g p s t
+  pub step_from : (d : Dir) (t : ℕ) → StepsOn g p.turn men kings occupied d t → (s : ℕ) × OneStep g p s t
   step_from d t h = (h.0, step_of d h.0 t (h.1, h.2, h.3))
 
   pub from_step : (s t : ℕ) (q : OneStep g p s t) → StepsFrom g p.turn men kings occupied q.dir s t
@@ -47,39 +47,32 @@ module _ (g : Geometry) (b : IsBoard g) (p : Placement) (men kings enemies occup
       ] in
       (mover, q.leads, not_taken g p men kings enemies occupied t sets q.free)
 
-  step_in : (s t : ℕ) → OneStep g p s t → (d : Dir) × StepsOn g p.turn men kings occupied d t
+  pub step_in : (s t : ℕ) → OneStep g p s t → (d : Dir) × StepsOn g p.turn men kings occupied d t
   step_in s t q = let h = from_step s t q in (q.dir, (s, h.0, h.1, h.2))
 
-  -- the steps in the four directions together
-  steps_together : (ul ur dl dr up down all : Squares) → ((t : ℕ) → In t ul ↔ StepsOn g p.turn men kings occupied UpLeft t) → ((t : ℕ) → In t ur ↔ StepsOn g p.turn men kings occupied UpRight t)
-      → ((t : ℕ) → In t dl ↔ StepsOn g p.turn men kings occupied DownLeft t) → ((t : ℕ) → In t dr ↔ StepsOn g p.turn men kings occupied DownRight t)
-      → up ≡ fin.union ul ur → down ≡ fin.union dl dr → all ≡ fin.union up down → (t : ℕ) → In t all ↔ ((s : ℕ) × OneStep g p s t)
-  steps_together ul ur dl dr up down all a b c e up_is down_is all_is t = (
-    (λ h. elim ((in_or up down all t all_is).0 h) [
-      | inl u ↦ elim ((in_or ul ur up t up_is).0 u) [
-        | inl x ↦ step_from UpLeft t ((a t).0 x)
-        | inr x ↦ step_from UpRight t ((b t).0 x)
-      ]
-      | inr u ↦ elim ((in_or dl dr down t down_is).0 u) [
-        | inl x ↦ step_from DownLeft t ((c t).0 x)
-        | inr x ↦ step_from DownRight t ((e t).0 x)
-      ]
-    ]),
-    (λ h. let w = step_in h.0 t h.1 in by_dir w.0 w.1),
-  ) where
-    by_dir : (d : Dir) → StepsOn g p.turn men kings occupied d t → In t all
-    by_dir UpLeft h = (in_or up down all t all_is).1 (inl ((in_or ul ur up t up_is).1 (inl ((a t).1 h))))
-    by_dir UpRight h = (in_or up down all t all_is).1 (inl ((in_or ul ur up t up_is).1 (inr ((b t).1 h))))
-    by_dir DownLeft h = (in_or up down all t all_is).1 (inr ((in_or dl dr down t down_is).1 (inl ((c t).1 h))))
-    by_dir DownRight h = (in_or up down all t all_is).1 (inr ((in_or dl dr down t down_is).1 (inr ((e t).1 h))))
+-- what leads somewhere in one of the four directions
+pub in_any : (F : Dir → ℕ → Type 0) (ul ur dl dr up down all : Squares) → ((t : ℕ) → In t ul ↔ F UpLeft t) → ((t : ℕ) → In t ur ↔ F UpRight t) → ((t : ℕ) → In t dl ↔ F DownLeft t) → ((t : ℕ) → In t dr ↔ F DownRight t)
+    → up ≡ fin.union ul ur → down ≡ fin.union dl dr → all ≡ fin.union up down → (t : ℕ) → In t all ↔ ((d : Dir) × F d t)
+in_any F ul ur dl dr up down all a b c e up_is down_is all_is t = (
+  (λ h. elim ((in_or up down all t all_is).0 h) [
+    | inl u ↦ elim ((in_or ul ur up t up_is).0 u) [ inl x ↦ (UpLeft, (a t).0 x) | inr x ↦ (UpRight, (b t).0 x) ]
+    | inr u ↦ elim ((in_or dl dr down t down_is).0 u) [ inl x ↦ (DownLeft, (c t).0 x) | inr x ↦ (DownRight, (e t).0 x) ]
+  ]),
+  (λ h. by_dir h.0 h.1),
+) where
+  by_dir : (d : Dir) → F d t → In t all
+  by_dir UpLeft h = (in_or up down all t all_is).1 (inl ((in_or ul ur up t up_is).1 (inl ((a t).1 h))))
+  by_dir UpRight h = (in_or up down all t all_is).1 (inl ((in_or ul ur up t up_is).1 (inr ((b t).1 h))))
+  by_dir DownLeft h = (in_or up down all t all_is).1 (inr ((in_or dl dr down t down_is).1 (inl ((c t).1 h))))
+  by_dir DownRight h = (in_or up down all t all_is).1 (inr ((in_or dl dr down t down_is).1 (inr ((e t).1 h))))
 
 pub all_steps : (g : Geometry) → IsBoard g → (p : Placement) (side : Side) (men kings enemies occupied : Squares) → AreSets g (given p side) men kings enemies occupied → side ≡ other p.turn
-    → (ul ur dl dr up down all : Squares) → ((t : ℕ) → In t ul ↔ StepsOn g side men kings occupied UpLeft t) → ((t : ℕ) → In t ur ↔ StepsOn g side men kings occupied UpRight t)
-    → ((t : ℕ) → In t dl ↔ StepsOn g side men kings occupied DownLeft t) → ((t : ℕ) → In t dr ↔ StepsOn g side men kings occupied DownRight t)
-    → up ≡ fin.union ul ur → down ≡ fin.union dl dr → all ≡ fin.union up down → (t : ℕ) → In t all ↔ ((s : ℕ) × OneStep g (passed p) s t)
-all_steps g b p side men kings enemies occupied sets side_is ul ur dl dr up down all a_is b_is c_is d_is up_is down_is all_is t =
-    subst (λ z. In t all ↔ ((s : ℕ) × OneStep g (given p z) s t)) side_is
-    (steps_together g b (given p side) men kings enemies occupied sets ul ur dl dr up down all a_is b_is c_is d_is up_is down_is all_is t)
+    → (all : Squares) → ((t : ℕ) → In t all ↔ ((d : Dir) × StepsOn g side men kings occupied d t)) → (t : ℕ) → In t all ↔ ((s : ℕ) × OneStep g (passed p) s t)
+all_steps g b p side men kings enemies occupied sets side_is all are t =
+    subst (λ z. In t all ↔ ((s : ℕ) × OneStep g (given p z) s t)) side_is (
+      (λ h. let w = (are t).0 h in step_from g b (given p side) men kings enemies occupied sets w.0 t w.1),
+      (λ h. (are t).1 (step_in g b (given p side) men kings enemies occupied sets h.0 t h.1)),
+    )
 
 -- TWO MEMBERS
 
@@ -110,9 +103,6 @@ pub two_of_none : (v : Squares) → v ≡ fin.empty → IsTrue false ↔ HasTwo 
 two_of_none v e = ((λ no. absurd (true≢false (sym no))), (λ h. absurd (in_none v h.0 e h.2)))
 
 -- A LOOSE POSITION
-
-pub not_loose : (g : Geometry) (p : Placement) → CanCapture g p → IsTrue false ↔ IsLoose g p
-not_loose g p can = ((λ no. absurd (true≢false (sym no))), (λ h. absurd (h.0 can)))
 
 pub loose_is : (g : Geometry) (p : Placement) (steps : Squares) (takes two : Bool) → IsTrue takes ↔ CanCapture g p → takes ≡ false → ((t : ℕ) → In t steps ↔ ((s : ℕ) × OneStep g (passed p) s t)) → IsTrue two ↔ HasTwo steps → IsTrue two ↔ IsLoose g p
 loose_is g p steps takes two can not_can are has = (

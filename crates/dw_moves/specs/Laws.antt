@@ -6,7 +6,7 @@ use Rattle.dw_board.specs.Placement.{Placement, IsPosition, count}
 use Rattle.dw_moves.specs.Moves.{Path, IsBest, Move, Quiet, IsPathOf, Legal, play}
 use Rattle.dw_board.specs.Lists.{Member}
 use Rattle.dw_board.specs.Placement.{other}
-use Rattle.dw_moves.specs.Replies.{OneStep, IsLoose, AlwaysReply}
+use Rattle.dw_moves.specs.Replies.{OneStep, HasSureReply, AlwaysReply}
 use Rattle.dw_moves.specs.Order.{IsKey, Precedes, IsListOf, Listed, AreListed}
 
 -- a path tells what it takes: two paths over the same landings from the same square take the same pieces in the same
@@ -67,6 +67,7 @@ pub record MovesInOrder : Type 0 where
 abbrev pub StepsAreQuiet : Type 0
 StepsAreQuiet = (g : Geometry) → IsBoard g → (p : Placement) (from to : ℕ) → OneStep g p from to → Quiet g p from to
 
--- if nothing can be taken and the other side has steps to two squares, it has a reply to every move
-abbrev pub LooseReplies : Type 0
-LooseReplies = (g : Geometry) → IsBoard g → (p : Placement) → IsLoose g p → AlwaysReply g p
+-- if the other side has a sure reply, it has a reply to every move: if nothing can be taken, steps to two squares are
+-- enough, and else such steps by pieces that are not exposed
+abbrev pub SureReplies : Type 0
+SureReplies = (g : Geometry) → IsBoard g → (p : Placement) → HasSureReply g p → AlwaysReply g p

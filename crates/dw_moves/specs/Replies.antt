@@ -1,11 +1,11 @@
 -- Steps of one square, and replies that are there whatever is played.
-use Rattle.std.specs.Prelude.{◌≡◌, ℕ, Some, None}
+use Rattle.std.specs.Prelude.{◌≡◌, ℕ, ◌⊎◌, Some, None, IsTrue}
 use Rattle.dw_board.specs.declared.board.Dir.{Dir}
 use Rattle.dw_board.specs.declared.piece.Kind.TheVariants.{Man}
 use Rattle.dw_board.specs.declared.piece.Piece.{Piece}
 use Rattle.dw_board.specs.declared.piece.Side.{Side}
-use Rattle.dw_board.specs.Geometry.{Geometry, step}
-use Rattle.dw_board.specs.Placement.{Placement, at}
+use Rattle.dw_board.specs.Geometry.{Geometry, step, back}
+use Rattle.dw_board.specs.Placement.{Placement, at, is_of}
 use Rattle.std.specs.FinSet as set
 use Rattle.dw_moves.specs.Moves.{IsForward, Stands, CanCapture, Move, Legal, play}
 use Rattle.dw_board.specs.Placement.{other}
@@ -27,15 +27,19 @@ pub record OneStep (g : Geometry) (p : Placement) (from to : ℕ) : Type 0 where
   pub free : at p to ≡ None
   pub man : piece.kind ≡ Man → IsForward p.turn dir
 
--- a piece could go one square, to two different squares or more
-pub record TwoSteps (g : Geometry) (p : Placement) : Type 0 where
+-- such steps lead to two different squares or more
+pub record LeadToTwo (Leads : ℕ → ℕ → Type 0) : Type 0 where
   pub from : ℕ
   pub to : ℕ
-  pub one : OneStep g p from to
+  pub one : Leads from to
   pub from_too : ℕ
   pub to_too : ℕ
-  pub two : OneStep g p from_too to_too
+  pub two : Leads from_too to_too
   pub apart : to ≡ to_too → ⊥
+
+-- a piece could go one square, to two different squares or more
+abbrev pub TwoSteps : Geometry → Placement → Type 0
+TwoSteps g p = LeadToTwo (OneStep g p)
 
 -- nothing can be taken, and if it were the other side's turn, there would be steps to two squares
 abbrev pub IsLoose : Geometry → Placement → Type 0
@@ -45,6 +49,23 @@ IsLoose g p = (CanCapture g p → ⊥) × TwoSteps g (passed p)
 abbrev pub AlwaysReply : Geometry → Placement → Type 0
 AlwaysReply g p = (m : Move) → Legal g p m → (r : Move) × Legal g (play g p m) r
 
--- a quiet move to the next square, after which the position is loose
-abbrev pub IsLooseStep : Geometry → Placement → Move → Type 0
-IsLooseStep g p m = OneStep g p m.from m.to × (m.taken ≡ set.empty) × IsLoose g (play g p m)
+-- on the next square in a direction no piece of this side stands
+abbrev pub IsOpen : Geometry → Placement → Side → ℕ → Dir → Type 0
+IsOpen g p side s d = (t : ℕ) × (step g s d ≡ Some t) × (IsTrue (is_of side (at p t)) → ⊥)
+
+-- on a diagonal it is open to both sides; else, along each of them, the edge is next to a piece or one of its own side,
+-- and it can not be taken
+abbrev pub IsExposed : Geometry → Placement → Side → ℕ → Type 0
+IsExposed g p side s = (d : Dir) × IsOpen g p side s d × IsOpen g p side s (back d)
+
+-- if it were the other side's turn, a piece of it that is not exposed could go one square
+abbrev pub SafeStep : Geometry → Placement → ℕ → ℕ → Type 0
+SafeStep g p from to = OneStep g (passed p) from to × (IsExposed g p (other p.turn) from → ⊥)
+
+-- it is seen at a glance that the other side has a reply to every move
+abbrev pub HasSureReply : Geometry → Placement → Type 0
+HasSureReply g p = IsLoose g p ⊎ LeadToTwo (SafeStep g p)
+
+-- a quiet move to the next square, after which the other side does not win at once
+abbrev pub IsSureStep : Geometry → Placement → Move → Type 0
+IsSureStep g p m = OneStep g p m.from m.to × (m.taken ≡ set.empty) × HasSureReply g (play g p m)

@@ -3,5 +3,6 @@ pub mod MemberLemmas
 pub mod Chains
 pub mod Glance
 pub mod Plain
+pub mod Shelter
 pub mod MoveLemmas
 pub mod Listing

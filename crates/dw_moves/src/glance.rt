@@ -2,18 +2,15 @@
 ghost use Rattle.std.specs.Prelude.{◌≡◌, ◌↔◌, ◌⊎◌, ℕ, Some, IsTrue, IsNone, IfSome};
 ghost use Rattle.std.specs.FinSet as set;
 ghost use Rattle.dw_board.specs.Geometry.{OnBoard, step};
-ghost use Rattle.dw_moves.specs.Moves.{CanCapture, IsQuietCount, Legal};
-ghost use Rattle.dw_moves.specs.Moves as moved;
+ghost use Rattle.dw_moves.specs.Moves.{CanCapture, IsQuietCount};
 ghost use Rattle.dw_moves.specs.inner.Glance.{AreSets, MenMeet, MenTake, KingsTake, Takes};
 ghost use Rattle.dw_moves.specs.inner.Glance.{Steps, StepsOn, HasTwo, CanStep};
 ghost use Rattle.dw_moves.specs.Moves.{In};
-ghost use Rattle.dw_moves.specs.inner.Glance.{CanTakeFrom, CanTakeTowards, NoneLoose};
+ghost use Rattle.dw_moves.specs.inner.Glance.{CanTakeFrom, CanTakeTowards};
 ghost use Rattle.dw_board.specs.Geometry.{back};
-ghost use Rattle.dw_moves.specs.Replies.{given, passed, OneStep, IsLoose, IsLooseStep, AlwaysReply};
+ghost use Rattle.dw_moves.specs.Replies.{given, passed, OneStep};
 
 use crate::ground::Ground;
-use crate::moves::Move;
-use crate::play::play;
 use crate::quiet::{count_on, may_go};
 use dw_board::board::{Board, Dir};
 use dw_board::piece::{Kind, Side};
@@ -78,48 +75,6 @@ pub(crate) fn can_step<B: Board>(position: &Position<B>) -> bool
         || field.steps(side, Dir::DownRight)
 }
 
-/// Whether it is seen at a glance that the other side has a reply to every move: nothing can be taken, and if it were
-/// the other side's turn, pieces of it could go one square to two different squares or more. A quiet move stands in the
-/// way of one.
-/// Example: at `W:W28:B1,2` it is `true`, and at `W:W27,45:B16` it is `false`.
-#[inline]
-pub fn is_loose<B: Board>(position: &Position<B>) -> bool
-    ensures exact { IsTrue result ↔ IsLoose B.geometry position.now }
-    ensures replies { IsTrue result → AlwaysReply B.geometry position.now }
-{
-    if can_capture(position) {
-        return false;
-    }
-    has_two(other_steps(position))
-}
-
-/// A legal move of one square after which the position is loose, and that position: it is seen at a glance that the
-/// other side has no win in its next move. `None` if something can be taken, or if there is no such move. It lists no
-/// moves.
-/// Example: at `W:W28:B1,2` it is `28-22` or `28-23`, with the position after it; at `W:W32:B28` it is `None`.
-pub fn loose_step<B: Board>(position: &Position<B>) -> Option<(Move<B>, Position<B>)>
-    ensures legal { IfSome result (λ found. Legal B.geometry position.now found.0) }
-    ensures some { IfSome result (λ found. IsLooseStep B.geometry position.now found.0) }
-    ensures after { IfSome result (λ found. found.1 ≡ moved.play B.geometry position.now found.0) }
-    ensures none { IsNone result → CanCapture B.geometry position.now
-        ⊎ ((m : moved.Move) → IsLooseStep B.geometry position.now m → ⊥) }
-{
-    if can_capture(position) {
-        return None;
-    }
-    let field = Field::of(position);
-    if let Some(found) = field.loose_towards(position, Dir::UpLeft) {
-        return Some(found);
-    }
-    if let Some(found) = field.loose_towards(position, Dir::UpRight) {
-        return Some(found);
-    }
-    if let Some(found) = field.loose_towards(position, Dir::DownLeft) {
-        return Some(found);
-    }
-    field.loose_towards(position, Dir::DownRight)
-}
-
 /// The squares to which a piece of the other side could go one square, if it were its turn: a man forward, a king in
 /// any direction.
 /// Example: at `W:W28:B1,2` they are 6, 7 and 8.
@@ -128,14 +83,7 @@ pub fn other_steps<B: Board>(position: &Position<B>) -> Squares<B>
     ensures { (t : ℕ) → In t result ↔ ((s : ℕ) × OneStep B.geometry (passed position.now) s t) }
 {
     let side = position.turn().other();
-    let field = Field::given(position, side);
-    let up = field
-        .next_free(side, Dir::UpLeft)
-        .or(field.next_free(side, Dir::UpRight));
-    let down = field
-        .next_free(side, Dir::DownLeft)
-        .or(field.next_free(side, Dir::DownRight));
-    up.or(down)
+    Field::given(position, side).all_next_free(side)
 }
 
 /// The squares from which a capture may begin: each from which one does is among them.
@@ -197,7 +145,7 @@ impl<B: Board> Field<B> {
 
     /// The sets that it would have, if it were this side's turn.
     #[inline]
-    fn given(position: &Position<B>, side: Side) -> Self
+    pub(crate) fn given(position: &Position<B>, side: Side) -> Self
         ensures { AreSets B.geometry (given position.now side) result.men result.kings result.enemies result.occupied }
     {
         let men = position.squares(side, Kind::Man);
@@ -324,7 +272,7 @@ impl<B: Board> Field<B> {
 
     /// The empty squares to which a piece of the side to move can go one square in a direction.
     #[inline]
-    fn next_free(&self, side: Side, direction: Dir) -> Squares<B>
+    pub(crate) fn next_free(&self, side: Side, direction: Dir) -> Squares<B>
         ensures { (t : ℕ) → In t result ↔ StepsOn B.geometry side self.now.men self.now.kings self.now.occupied
             direction t }
     {
@@ -336,34 +284,19 @@ impl<B: Board> Field<B> {
         movers.shifted(direction).minus(self.occupied)
     }
 
-    /// A step in a direction after which the position is loose, and that position.
-    #[inline(always)]
-    fn loose_towards(
-        &self,
-        position: &Position<B>,
-        direction: Dir,
-    ) -> Option<(Move<B>, Position<B>)>
-        requires sets { AreSets B.geometry position.now self.now.men self.now.kings self.now.enemies self.now.occupied }
-        requires quiet { CanCapture B.geometry position.now → ⊥ }
-        ensures legal { IfSome result (λ found. Legal B.geometry position.now found.0) }
-        ensures some { IfSome result (λ found. IsLooseStep B.geometry position.now found.0) }
-        ensures after { IfSome result (λ found. found.1 ≡ moved.play B.geometry position.now found.0) }
-        ensures none { IsNone result → NoneLoose B.geometry position.now self.now.men self.now.kings self.now.occupied
-            direction set.empty }
+    /// The empty squares to which a piece of the side to move can go one square.
+    #[inline]
+    pub(crate) fn all_next_free(&self, side: Side) -> Squares<B>
+        ensures { (t : ℕ) → In t result ↔ ((d : Dir) × StepsOn B.geometry side self.now.men self.now.kings
+            self.now.occupied d t) }
     {
-        let back = direction.opposite();
-        let mut left = self.next_free(position.turn(), direction);
-        'goals: while let Some((to, rest)) = left.split() {
-            if let Some(from) = step(to, back) {
-                let found = Move::quiet(from, to);
-                let after = play(position, &found);
-                if is_loose(&after) {
-                    return Some((found, after));
-                }
-            }
-            left = rest;
-        }
-        None
+        let up = self
+            .next_free(side, Dir::UpLeft)
+            .or(self.next_free(side, Dir::UpRight));
+        let down = self
+            .next_free(side, Dir::DownLeft)
+            .or(self.next_free(side, Dir::DownRight));
+        up.or(down)
     }
 }
 
@@ -391,7 +324,7 @@ pub(crate) fn any<B: Board>(squares: Squares<B>) -> bool
 
 /// Whether two squares or more are in the set.
 #[inline]
-fn has_two<B: Board>(squares: Squares<B>) -> bool
+pub(crate) fn has_two<B: Board>(squares: Squares<B>) -> bool
     ensures { IsTrue result ↔ HasTwo squares }
 {
     match squares.split() {

@@ -2,7 +2,7 @@
 ghost use Rattle.std.specs.Prelude.{◌≡◌, ◌↔◌, IsTrue};
 ghost use Rattle.dw_moves.specs.WorkedPositions.{WorkedPositions};
 ghost use Rattle.dw_moves.specs.Laws.{PathTells, PathIsShort, MovesListed, OneBest, LegalMovesTake, PlayStays};
-ghost use Rattle.dw_moves.specs.Laws.{MovesHaveKeys, MovesInOrder, StepsAreQuiet, LooseReplies};
+ghost use Rattle.dw_moves.specs.Laws.{MovesHaveKeys, MovesInOrder, StepsAreQuiet, SureReplies};
 
 use crate::moves::Move;
 use dw_board::board::Board;
@@ -61,10 +61,10 @@ pub fn steps_are_quiet()
     ensures { StepsAreQuiet }
 {}
 
-/// If nothing can be taken and the other side has steps to two squares, it has a reply to every move.
+/// If the other side has steps to two squares, with pieces that can not be taken, it has a reply to every move.
 /// Example: at `W:W28:B1,2` Black has a reply to `28-22` and to `28-23`.
-pub fn loose_replies()
-    ensures { LooseReplies }
+pub fn sure_replies()
+    ensures { SureReplies }
 {}
 
 /// Worked positions have exactly these legal moves.

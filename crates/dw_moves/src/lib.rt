@@ -18,10 +18,12 @@ mod man_chains;
 pub mod moves;
 pub mod play;
 pub mod quiet;
+pub mod replies;
 
 pub use best::has_move;
-pub use glance::{can_capture, count_if_quiet, is_loose, loose_step, other_steps};
+pub use glance::{can_capture, count_if_quiet, other_steps};
 pub use legal::{is_legal, legal_into};
 pub use listed::listed_into;
 pub use moves::{Listed, Move};
 pub use quiet::quiet_count;
+pub use replies::{has_sure_reply, sure_step};

@@ -2,7 +2,7 @@
 use Rattle.std.specs.Prelude.{◌≡◌, ℕ, ◌+◌, ◌≤◌, ◌⊎◌, ◌↔◌, List, length}
 use Rattle.dw_board.specs.Geometry.{Geometry, IsBoard}
 use Rattle.dw_board.specs.Placement.{Placement}
-use Rattle.dw_moves.specs.Replies.{IsLoose, AlwaysReply}
+use Rattle.dw_moves.specs.Replies.{HasSureReply, AlwaysReply}
 use Rattle.dw_memo.specs.Content.{Content, IsMap}
 use Rattle.dw_board.specs.Lists.{Member, NoRepeat}
 use Rattle.dw_solve.specs.Wins.{Win, Lost}
@@ -18,11 +18,10 @@ pub record WinsStay : Type 0 where
 abbrev pub WinsAreDecided : Type 0
 WinsAreDecided = (g : Geometry) (p : Placement) (n : ℕ) → Win g p n ⊎ (Win g p n → ⊥)
 
--- there is no win in one move if the other side always has a reply; so there is none if nothing can be taken and
--- the other side has steps to two squares
+-- there is no win in one move if the other side always has a reply; so there is none if it has a sure one
 pub record NoWinInOne : Type 0 where
   pub replied : (g : Geometry) (p : Placement) → AlwaysReply g p → Win g p 1 → ⊥
-  pub loose : (g : Geometry) → IsBoard g → (p : Placement) → IsLoose g p → Win g p 1 → ⊥
+  pub sure : (g : Geometry) → IsBoard g → (p : Placement) → HasSureReply g p → Win g p 1 → ⊥
 
 -- a closed content is true
 abbrev pub ClosedIsTrue : Type 0

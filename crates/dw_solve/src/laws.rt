@@ -2,7 +2,7 @@
 ghost use Rattle.dw_solve.specs.Laws.{WinsStay, WinsAreDecided, NoWinInOne, ClosedIsTrue, DecidedAreCounted};
 ghost use Rattle.dw_solve.specs.Laws.{SearchesAddUp};
 
-use dw_moves::laws::{loose_replies, moves_listed};
+use dw_moves::laws::{moves_listed, sure_replies};
 
 /// A win within some number of moves is one within more, and so is a loss.
 /// Example: at `W:W32:B28` White wins within 1 move, and so within 2.
@@ -18,13 +18,13 @@ pub fn wins_are_decided()
     moves_listed()
 }
 
-/// There is no win in one move if the other side always has a reply, as it has if nothing can be taken and it has
-/// steps to two squares.
+/// There is no win in one move if the other side always has a reply, as it has if pieces of it that can not be taken
+/// have steps to two squares.
 /// Example: at `W:W28:B1,2` White has no win in one move.
 pub fn no_win_in_one()
     ensures { NoWinInOne }
 {
-    loose_replies()
+    sure_replies()
 }
 
 /// If each bound of a memo follows from others in one move and its replies, all of them are right.

@@ -1,16 +1,16 @@
 //! The moves of one position, in the order in which a search goes through them.
 ghost use Rattle.std.specs.Prelude.{◌≡◌, [], IfOk, OnOk, IfSome};
 ghost use Rattle.dw_moves.specs.Moves.{AreLegal};
-ghost use Rattle.dw_solve.specs.inner.Ranking.{AreRanked, IsLastWin, IsLooseReply};
+ghost use Rattle.dw_solve.specs.inner.Ranking.{AreRanked, IsLastWin, IsSureReply};
 
 use crate::guide::{AnyOrder, Guide};
 use dw_board::board::Board;
 use dw_board::position::Position;
 use dw_moves::best::has_move;
-use dw_moves::glance::is_loose;
 use dw_moves::legal::legal_into;
 use dw_moves::moves::Move;
 use dw_moves::play::play as played;
+use dw_moves::replies::has_sure_reply;
 use std::alloc::{AllocError, Global};
 
 /// The lists that a search needs for one move of a line. Their memory is used again at the next position.
@@ -63,15 +63,14 @@ impl<B: Board> Ply<B> {
         Ok(false)
     }
 
-    /// The position after the first move that leaves it loose: it is seen at a glance that the other side has no win in
-    /// one move.
-    pub(crate) fn first_loose(&self, position: &Position<B>) -> Option<Position<B>>
+    /// The position after the first move after which it is seen at a glance that the other side has no win in one move.
+    pub(crate) fn first_sure(&self, position: &Position<B>) -> Option<Position<B>>
         requires { AreRanked B.geometry position.now self.now.ranked.items }
-        ensures { IfSome result (IsLooseReply B.geometry position.now) }
+        ensures { IfSome result (IsSureReply B.geometry position.now) }
     {
         'moves: for candidate in self.ranked.as_slice() {
             let after = played(position, &candidate.1);
-            if is_loose(&after) {
+            if has_sure_reply(&after) {
                 return Some(after);
             }
         }

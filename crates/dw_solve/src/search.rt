@@ -14,7 +14,7 @@ ghost use Rattle.dw_solve.specs.inner.Searching.{IsNoted};
 ghost use Rattle.dw_solve.specs.Work.{moment, NothingLost, Searched, cut_off};
 ghost use Rattle.dw_solve.specs.Saying.{SaysWin, SaysLost};
 ghost use Rattle.dw_solve.specs.inner.Searching.{SaysMove};
-ghost use Rattle.dw_solve.specs.inner.Ranking.{AreRanked, IsLooseReply};
+ghost use Rattle.dw_solve.specs.inner.Ranking.{AreRanked, IsSureReply};
 
 use crate::guide::Guide;
 use crate::ply::Ply;
@@ -24,10 +24,10 @@ use dw_board::position::Position;
 use dw_memo::bounds::Bounds;
 use dw_memo::memo::Memo;
 use dw_moves::best::has_move;
-use dw_moves::glance::loose_step;
-use dw_moves::laws::loose_replies;
+use dw_moves::laws::sure_replies;
 use dw_moves::moves::Move;
 use dw_moves::play::play as played;
+use dw_moves::replies::sure_step;
 use std::alloc::AllocError;
 
 /// What a search works on: a cache, an order of moves, and how many positions it has expanded and may expand.
@@ -188,7 +188,7 @@ fn line_up_replies<B: Board, G: Guide<B>>(
     moves: u8,
 ) -> Result<Option<Position<B>>, AllocError>
     ensures last { IfOk result (λ found. IsSome found → moves ≡ 1) }
-    ensures reply { IfOk result (λ found. IfSome found (IsLooseReply B.geometry position.now)) }
+    ensures reply { IfOk result (λ found. IfSome found (IsSureReply B.geometry position.now)) }
     ensures all { IfOk result (λ found. IsNone found →
         AreRanked B.geometry position.now ply.new.ranked.items) }
 {
@@ -196,19 +196,19 @@ fn line_up_replies<B: Board, G: Guide<B>>(
         ply.fill(position, guide)?;
         return Ok(None);
     }
-    if let Some(after) = loose_reply(position) {
+    if let Some(after) = sure_reply(position) {
         return Ok(Some(after));
     }
     ply.fill_anyhow(position)?;
-    Ok(ply.first_loose(position))
+    Ok(ply.first_sure(position))
 }
 
 /// The position after a step of one square, if it is seen at a glance that the other side has no win in one move then.
-fn loose_reply<B: Board>(position: &Position<B>) -> Option<Position<B>>
-    ensures { IfSome result (IsLooseReply B.geometry position.now) }
+fn sure_reply<B: Board>(position: &Position<B>) -> Option<Position<B>>
+    ensures { IfSome result (IsSureReply B.geometry position.now) }
 {
-    loose_replies();
-    let (_, after) = loose_step(position)?;
+    sure_replies();
+    let (_, after) = sure_step(position)?;
     Some(after)
 }
 

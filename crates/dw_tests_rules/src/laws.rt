@@ -24,7 +24,7 @@ pub fn law(found: &mut Found) {
     moves::moves_have_keys();
     moves::moves_in_order();
     moves::steps_are_quiet();
-    moves::loose_replies();
+    moves::sure_replies();
     moves::worked_positions();
     texts::sections_are_found();
     texts::comments_say_nothing();

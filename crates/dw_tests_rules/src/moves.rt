@@ -4,13 +4,14 @@ use dw_board::board::Board;
 use dw_board::fen::write::fen_text;
 use dw_moves::best::{best, has_move};
 use dw_moves::follow::follow;
-use dw_moves::glance::{can_capture, count_if_quiet, is_loose, other_steps};
+use dw_moves::glance::{can_capture, count_if_quiet, other_steps};
 use dw_moves::laws;
 use dw_moves::legal::{is_legal, legal, legal_into};
 use dw_moves::listed::{listed, listed_into};
 use dw_moves::moves::{Listed, Move};
 use dw_moves::play::play;
 use dw_moves::quiet::quiet_count;
+use dw_moves::replies::has_sure_reply;
 use dw_tests_common::rows::column;
 use dw_tests_common::tally::Found;
 use dw_tests_common::texts::{add_set, read_position, square_of, step_of};
@@ -21,8 +22,8 @@ use std::alloc::Global;
 pub fn glance<B: Board>(asked: &str, found: &mut Found) -> Option<()> {
     let position = read_position::<B>(asked)?;
     add_set(other_steps(&position), found);
-    found.add(", loose ");
-    found.say(&is_loose(&position));
+    found.add(", sure ");
+    found.say(&has_sure_reply(&position));
     Some(())
 }
 

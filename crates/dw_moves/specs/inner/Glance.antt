@@ -11,7 +11,7 @@ use Rattle.dw_board.specs.Placement.{Placement, at, placed, other}
 use Rattle.dw_board.specs.Lists.{Member}
 use Rattle.dw_moves.specs.Moves.{IsForward, Quiet, Stands, Jump, play, In, ray}
 use Rattle.dw_moves.specs.inner.Plain.{quiet_to, takes_for}
-use Rattle.dw_moves.specs.Replies.{IsLoose}
+use Rattle.dw_moves.specs.Replies.{HasSureReply}
 
 -- the squares on which a side's pieces stand
 abbrev pub AreOf : Geometry → Placement → Side → Squares → Type 0
@@ -95,7 +95,7 @@ abbrev pub CanTakeTowards : Geometry → Placement → Dir → ℕ → Type 0
 CanTakeTowards g p d s = (c : ℕ) × (t : ℕ) × (piece : Piece) × Stands g p s piece
     × Member (c, t) (takes_for piece.kind (placed p s None) piece.side (ray g s d))
 
--- no step in this direction leaves a loose position, but for those onto these squares
-abbrev pub NoneLoose : Geometry → Placement → Squares → Squares → Squares → Dir → Squares → Type 0
-NoneLoose g p men kings occupied d but =
-    (s t : ℕ) → StepsFrom g p.turn men kings occupied d s t → (In t but → ⊥) → IsLoose g (play g p (quiet_to s t)) → ⊥
+-- after no step in this direction a reply is sure, but for those onto these squares
+abbrev pub NoneSure : Geometry → Placement → Squares → Squares → Squares → Dir → Squares → Type 0
+NoneSure g p men kings occupied d but =
+    (s t : ℕ) → StepsFrom g p.turn men kings occupied d s t → (In t but → ⊥) → HasSureReply g (play g p (quiet_to s t)) → ⊥

@@ -10,8 +10,8 @@ abbrev pub AreRanked : Geometry → Placement → List (ℕ × Move) → Type 0
 AreRanked g p ranked = (m : Move) → Legal g p m ↔ ((rank : ℕ) × Contains ranked (rank, m))
 
 -- the position after a legal move, if who made it has a reply to whatever the other side plays then
-abbrev pub IsLooseReply : Geometry → Placement → Placement → Type 0
-IsLooseReply g p after = (m : Move) × Legal g p m × (after ≡ play g p m) × AlwaysReply g after
+abbrev pub IsSureReply : Geometry → Placement → Placement → Type 0
+IsSureReply g p after = (m : Move) × Legal g p m × (after ≡ play g p m) × AlwaysReply g after
 
 -- it says whether some legal move leaves the other side without one, or each leaves it a reply
 pub record IsLastWin (g : Geometry) (p : Placement) (answer : Bool) : Type 0 where

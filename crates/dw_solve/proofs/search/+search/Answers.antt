@@ -6,7 +6,7 @@ use Rattle.std.specs.List.{IsFirstAndRest}
 use Rattle.std.proofs.lemmas.Option.{MatchOption-at_some}
 use Rattle.dw_solve.specs.Wins.{Win, Lost}
 use Rattle.dw_solve.specs.Facts.{AreTrue, IsDecided}
-use Rattle.dw_solve.specs.inner.Ranking.{AreRanked, IsLooseReply}
+use Rattle.dw_solve.specs.inner.Ranking.{AreRanked, IsSureReply}
 use Rattle.dw_solve.specs.Work.{moment}
 use Rattle.dw_solve.specs.Saying.{SaysWin}
 use Rattle.dw_moves.specs.Moves.{play}
@@ -344,7 +344,7 @@ wins-returns-clause-right g t c = c.note.ensures.right
 pub loses-returns-in_err-refute-clause-known : goal.loses-returns-in_err-refute-clause-known
 loses-returns-in_err-refute-clause-known g t c all =
     let geo = g.B.Board.geometry in
-    let reply = subst (λ o. IfSome o (IsLooseReply geo c.args.position.now)) c.in-Some.is c.in_ok-found.ensures.reply in
+    let reply = subst (λ o. IfSome o (IsSureReply geo c.args.position.now)) c.in-Some.is c.in_ok-found.ensures.reply in
     let one = c.in_ok-found.ensures.last (ap is_some c.in-Some.is) in
     let here = c.in_err-refute.ensures.known (elim (all reply.0 reply.1) [
       | inl none ↦ absurd (omega (arith, none, one))
@@ -355,14 +355,14 @@ loses-returns-in_err-refute-clause-known g t c all =
 pub loses-returns-in-Some-clause-answer : goal.loses-returns-in-Some-clause-answer
 loses-returns-in-Some-clause-answer g t c =
     let geo = g.B.Board.geometry in
-    let reply = subst (λ o. IfSome o (IsLooseReply geo c.args.position.now)) c.in-Some.is c.in_ok-found.ensures.reply in
+    let reply = subst (λ o. IfSome o (IsSureReply geo c.args.position.now)) c.in-Some.is c.in_ok-found.ensures.reply in
     answer_no (Lost geo c.args.position.now c.args.moves)
     (λ lost. hopeless_is geo c.in-Some.after c.args.moves (c.in_ok-found.ensures.last (ap is_some c.in-Some.is)) reply.3 (subst (λ q. Win geo q c.args.moves) (sym reply.2) (lost reply.0 reply.1)))
 
 pub loses-returns-in-Some-clause-says : goal.loses-returns-in-Some-clause-says
 loses-returns-in-Some-clause-says g t c kept =
     let geo = g.B.Board.geometry in
-    let reply = subst (λ o. IfSome o (IsLooseReply geo c.args.position.now)) c.in-Some.is c.in_ok-found.ensures.reply in
+    let reply = subst (λ o. IfSome o (IsSureReply geo c.args.position.now)) c.in-Some.is c.in_ok-found.ensures.reply in
     let one = c.in_ok-found.ensures.last (ap is_some c.in-Some.is) in
     let before = moment g.M.Memo.content g.M.Memo.dropped c.args.search.now.memo c.args.search.now.expanded in
     let after = moment g.M.Memo.content g.M.Memo.dropped c.refute.new.search.memo c.refute.new.search.expanded in
@@ -373,7 +373,7 @@ loses-returns-in-Some-clause-says g t c kept =
 pub loses-returns-in-Some-clause-known : goal.loses-returns-in-Some-clause-known
 loses-returns-in-Some-clause-known g t c all =
     let geo = g.B.Board.geometry in
-    let reply = subst (λ o. IfSome o (IsLooseReply geo c.args.position.now)) c.in-Some.is c.in_ok-found.ensures.reply in
+    let reply = subst (λ o. IfSome o (IsSureReply geo c.args.position.now)) c.in-Some.is c.in_ok-found.ensures.reply in
     let one = c.in_ok-found.ensures.last (ap is_some c.in-Some.is) in
     let here = c.in_ok-refute.ensures.known (elim (all reply.0 reply.1) [
       | inl none ↦ absurd (omega (arith, none, one))

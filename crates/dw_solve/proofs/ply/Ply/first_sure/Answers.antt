@@ -1,18 +1,18 @@
 use Rattle.std.proofs.Common.{sym, subst}
 use Rattle.dw_solve.specs.inner.Ranking.{AreRanked}
 use Rattle.dw_solve.proofs.RankLemmas.{ranked_legal}
-use Rattle.dw_solve.proofs.ply.Ply.first_loose.Goals as goal
+use Rattle.dw_solve.proofs.ply.Ply.first_sure.Goals as goal
 
 pub play-after-requires : goal.play-after-requires
 play-after-requires g c =
     ranked_legal g.B.Board.geometry c.args.position.now c.as_slice-candidate-items.result.now c.moves.candidate-index c.candidate-item.result
     (subst (AreRanked g.B.Board.geometry c.args.position.now) (sym c.as_slice-candidate-items.ensures.value) c.requires) c.moves-test.true c.candidate-item.is
 
-pub returns-then-is_loose : goal.returns-then-is_loose
-returns-then-is_loose g c = (
+pub returns-then-has_sure_reply : goal.returns-then-has_sure_reply
+returns-then-has_sure_reply g c = (
   c.candidate-item.result.1,
   ranked_legal g.B.Board.geometry c.args.position.now c.as_slice-candidate-items.result.now c.moves.candidate-index c.candidate-item.result
       (subst (AreRanked g.B.Board.geometry c.args.position.now) (sym c.as_slice-candidate-items.ensures.value) c.requires) c.moves-test.true c.candidate-item.is,
   c.play-after.ensures,
-  c.is_loose.ensures.replies c.if-is_loose.true,
+  c.has_sure_reply.ensures.replies c.if-has_sure_reply.true,
 )

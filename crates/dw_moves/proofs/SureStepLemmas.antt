@@ -1,4 +1,4 @@
--- Steps of one square after which a position is loose, looked for direction by direction.
+-- Steps of one square after which a reply is sure, looked for direction by direction.
 use Rattle.std.proofs.Common.{◌≡◌, ℕ, ◌&&◌, zero, suc, not, refl, sym, ap, ◌∙◌, subst, inl, inr, arith, Some, None}
 use Rattle.std.proofs.lemmas.Bool.{true≢false, cases_eq}
 use Rattle.std.specs.FinSet as fin
@@ -8,8 +8,8 @@ use Rattle.dw_board.specs.Geometry.{Geometry, IsBoard, OnBoard, step, Squares, b
 use Rattle.dw_board.specs.Placement.{Placement}
 use Rattle.dw_moves.specs.Moves.{CanCapture, IsBest, Legal, Move, play, In}
 use Rattle.dw_moves.specs.inner.Plain.{quiet_to}
-use Rattle.dw_moves.specs.inner.Glance.{AreSets, StepsFrom, StepsOn, NoneLoose}
-use Rattle.dw_moves.specs.Replies.{OneStep, IsLoose, IsLooseStep}
+use Rattle.dw_moves.specs.inner.Glance.{AreSets, StepsFrom, StepsOn, NoneSure}
+use Rattle.dw_moves.specs.Replies.{OneStep, HasSureReply, IsSureStep}
 use Rattle.dw_moves.proofs.PlainLemmas.{best}
 use Rattle.dw_moves.proofs.LegalMoveLemmas.{is_best}
 use Rattle.dw_moves.proofs.ReplyLemmas.{step_quiet}
@@ -35,10 +35,10 @@ within v rest s t is h = elim (cases_eq t s) [
   | inr ne ↦ sym (ap (λ z. fin.contains z t) is ∙ (contains-remove v s t ∙ ap (λ b. not b && fin.contains v t) (apart_false t s ne))) ∙ h
 ]
 
--- the goals still to be gone through, where no step onto another one leaves a loose position
+-- the goals still to be gone through, where after no step onto another one a reply is sure
 pub record IsLeft (g : Geometry) (p : Placement) (men kings occupied : Squares) (d : Dir) (left : Squares) : Type 0 where
   pub steps : (t : ℕ) → In t left → StepsOn g p.turn men kings occupied d t
-  pub tried : NoneLoose g p men kings occupied d left
+  pub tried : NoneSure g p men kings occupied d left
 
 module _ (g : Geometry) (b : IsBoard g) (p : Placement) (men kings enemies occupied : Squares) (sets : AreSets g p men kings enemies occupied) (d : Dir) where
   on_start : (s t : ℕ) → StepsFrom g p.turn men kings occupied d s t → OnBoard g s
@@ -60,42 +60,42 @@ module _ (g : Geometry) (b : IsBoard g) (p : Placement) (men kings enemies occup
   pub is_legal : (CanCapture g p → ⊥) → (left : Squares) → IsLeft g p men kings occupied d left → (t : ℕ) → In t left → (s : ℕ) → step g t (back d) ≡ Some s → Legal g p (quiet_to s t)
   is_legal none left l t m s leads = legal_step g b p s t none (step_of g b p men kings enemies occupied sets d s t (begun left l t m s leads))
 
-  pub is_loose_step : (left : Squares) → IsLeft g p men kings occupied d left → (t : ℕ) → In t left → (s : ℕ) → step g t (back d) ≡ Some s → IsLoose g (play g p (quiet_to s t)) → IsLooseStep g p (quiet_to s t)
-  is_loose_step left l t m s leads loose = (step_of g b p men kings enemies occupied sets d s t (begun left l t m s leads), refl, loose)
+  pub is_sure_step : (left : Squares) → IsLeft g p men kings occupied d left → (t : ℕ) → In t left → (s : ℕ) → step g t (back d) ≡ Some s → HasSureReply g (play g p (quiet_to s t)) → IsSureStep g p (quiet_to s t)
+  is_sure_step left l t m s leads sure = (step_of g b p men kings enemies occupied sets d s t (begun left l t m s leads), refl, sure)
 
-  fewer : (left rest : Squares) → IsLeft g p men kings occupied d left → (t : ℕ) → rest ≡ fin.remove left t → ((s : ℕ) → StepsFrom g p.turn men kings occupied d s t → IsLoose g (play g p (quiet_to s t)) → ⊥)
+  fewer : (left rest : Squares) → IsLeft g p men kings occupied d left → (t : ℕ) → rest ≡ fin.remove left t → ((s : ℕ) → StepsFrom g p.turn men kings occupied d s t → HasSureReply g (play g p (quiet_to s t)) → ⊥)
       → IsLeft g p men kings occupied d rest
   fewer left rest l t is none = record {
     steps = λ u m. l.steps u (within left rest t u is m);
-    tried = λ s u h out loose. elim (cases_eq u t) [
-      | inl e ↦ none s (subst (λ z. StepsFrom g p.turn men kings occupied d s z) e h) (subst (λ z. IsLoose g (play g p (quiet_to s z))) e loose)
-      | inr ne ↦ l.tried s u h (λ m. out (kept left rest t u is ne m)) loose
+    tried = λ s u h out sure. elim (cases_eq u t) [
+      | inl e ↦ none s (subst (λ z. StepsFrom g p.turn men kings occupied d s z) e h) (subst (λ z. HasSureReply g (play g p (quiet_to s z))) e sure)
+      | inr ne ↦ l.tried s u h (λ m. out (kept left rest t u is ne m)) sure
     ];
   }
 
-  pub one_tried : (left rest : Squares) → IsLeft g p men kings occupied d left → (t : ℕ) → rest ≡ fin.remove left t → (s : ℕ) → step g t (back d) ≡ Some s → (IsLoose g (play g p (quiet_to s t)) → ⊥) → IsLeft g p men kings occupied d rest
-  one_tried left rest l t is s leads none = fewer left rest l t is (λ u h loose.
+  pub one_tried : (left rest : Squares) → IsLeft g p men kings occupied d left → (t : ℕ) → rest ≡ fin.remove left t → (s : ℕ) → step g t (back d) ≡ Some s → (HasSureReply g (play g p (quiet_to s t)) → ⊥) → IsLeft g p men kings occupied d rest
+  one_tried left rest l t is s leads none = fewer left rest l t is (λ u h sure.
       let same : u ≡ s = let e : Some u ≡ Some s = sym (start u t h) ∙ leads in cc in
-      none (subst (λ z. IsLoose g (play g p (quiet_to z t))) same loose))
+      none (subst (λ z. HasSureReply g (play g p (quiet_to z t))) same sure))
 
   pub none_begun : (left : Squares) → IsLeft g p men kings occupied d left → (t : ℕ) → In t left → step g t (back d) ≡ None → ⊥
   none_begun left l t m leads = let h = l.steps t m in let e : None ≡ Some h.0 = sym leads ∙ start h.0 t (h.1, h.2, h.3) in cc
 
-  pub all_tried : (left : Squares) → left ≡ fin.empty → IsLeft g p men kings occupied d left → NoneLoose g p men kings occupied d fin.empty
-  all_tried left is l s t h out loose = l.tried s t h (λ m. in_none left t is m) loose
+  pub all_tried : (left : Squares) → left ≡ fin.empty → IsLeft g p men kings occupied d left → NoneSure g p men kings occupied d fin.empty
+  all_tried left is l s t h out sure = l.tried s t h (λ m. in_none left t is m) sure
 
 -- none in all four directions
 pub none_anywhere : (g : Geometry) → IsBoard g → (p : Placement) (men kings enemies occupied : Squares) → AreSets g p men kings enemies occupied
-    → NoneLoose g p men kings occupied UpLeft fin.empty → NoneLoose g p men kings occupied UpRight fin.empty → NoneLoose g p men kings occupied DownLeft fin.empty → NoneLoose g p men kings occupied DownRight fin.empty
-    → (m : Move) → IsLooseStep g p m → ⊥
+    → NoneSure g p men kings occupied UpLeft fin.empty → NoneSure g p men kings occupied UpRight fin.empty → NoneSure g p men kings occupied DownLeft fin.empty → NoneSure g p men kings occupied DownRight fin.empty
+    → (m : Move) → IsSureStep g p m → ⊥
 none_anywhere g b p men kings enemies occupied sets ul ur dl dr m h =
     let same : m ≡ quiet_to m.from m.to = λ i. record { from = m.from; to = m.to; taken = h.1 i } in
-    in_dir h.0.dir (from_step g b p men kings enemies occupied sets m.from m.to h.0) (subst (λ z. IsLoose g (play g p z)) same h.2) where
+    in_dir h.0.dir (from_step g b p men kings enemies occupied sets m.from m.to h.0) (subst (λ z. HasSureReply g (play g p z)) same h.2) where
       out : (t : ℕ) → In t fin.empty → ⊥
       out t m = in_none fin.empty t refl m
 
-      in_dir : (d : Dir) → StepsFrom g p.turn men kings occupied d m.from m.to → IsLoose g (play g p (quiet_to m.from m.to)) → ⊥
-      in_dir UpLeft f loose = ul m.from m.to f (out m.to) loose
-      in_dir UpRight f loose = ur m.from m.to f (out m.to) loose
-      in_dir DownLeft f loose = dl m.from m.to f (out m.to) loose
-      in_dir DownRight f loose = dr m.from m.to f (out m.to) loose
+      in_dir : (d : Dir) → StepsFrom g p.turn men kings occupied d m.from m.to → HasSureReply g (play g p (quiet_to m.from m.to)) → ⊥
+      in_dir UpLeft f sure = ul m.from m.to f (out m.to) sure
+      in_dir UpRight f sure = ur m.from m.to f (out m.to) sure
+      in_dir DownLeft f sure = dl m.from m.to f (out m.to) sure
+      in_dir DownRight f sure = dr m.from m.to f (out m.to) sure

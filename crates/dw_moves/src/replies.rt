@@ -1,0 +1,129 @@
+//! Replies that are there whatever is played: they are seen on sets of squares, and no move is listed.
+ghost use Rattle.std.specs.Prelude.{◌≡◌, ◌↔◌, ◌⊎◌, ℕ, IsTrue, IsNone, IfSome};
+ghost use Rattle.std.specs.FinSet as set;
+ghost use Rattle.dw_board.specs.Geometry.{OnBoard};
+ghost use Rattle.dw_moves.specs.Moves as moved;
+ghost use Rattle.dw_moves.specs.Moves.{CanCapture, In, Legal};
+ghost use Rattle.dw_moves.specs.Replies.{SafeStep, HasSureReply, IsSureStep, AlwaysReply};
+ghost use Rattle.dw_moves.specs.inner.Glance.{AreSets, NoneSure};
+ghost use Rattle.dw_moves.specs.inner.Shelter.{OpenIn, ExposedIn};
+
+use crate::glance::{Field, can_capture, has_two, other_steps};
+use crate::moves::Move;
+use crate::play::play;
+use dw_board::board::{Board, Dir};
+use dw_board::position::Position;
+use dw_board::square::step;
+use dw_board::squares::Squares;
+
+/// Whether it is seen at a glance that the other side has a reply to every move: if it were its turn, pieces of it that
+/// can not be taken could go one square to two different squares or more. A move stands in the way of one.
+///
+/// If nothing can be taken, no piece can. Else a piece can not be taken if, along each diagonal, the edge is next to it
+/// or a piece of its own side, which stays where it is while the move lasts.
+/// Example: at `W:W32:B1,28` it is `true`, since the man on 1 is at the edge; at `W:W32:B28` it is `false`.
+pub fn has_sure_reply<B: Board>(position: &Position<B>) -> bool
+    ensures exact { IsTrue result ↔ HasSureReply B.geometry position.now }
+    ensures replies { IsTrue result → AlwaysReply B.geometry position.now }
+{
+    if can_capture(position) {
+        has_two(safe_steps(position))
+    } else {
+        has_two(other_steps(position))
+    }
+}
+
+/// A legal move of one square after which the other side is seen to have no win in its next move, and the position after
+/// it: whatever it plays there, a reply is sure. `None` if something can be taken, or if there is no such move. It lists
+/// no moves.
+/// Example: at `W:W28:B1,2` it is `28-22` or `28-23`, with the position after it; at `W:W32:B28` it is `None`.
+pub fn sure_step<B: Board>(position: &Position<B>) -> Option<(Move<B>, Position<B>)>
+    ensures legal { IfSome result (λ found. Legal B.geometry position.now found.0) }
+    ensures some { IfSome result (λ found. IsSureStep B.geometry position.now found.0) }
+    ensures after { IfSome result (λ found. found.1 ≡ moved.play B.geometry position.now found.0) }
+    ensures none { IsNone result → CanCapture B.geometry position.now
+        ⊎ ((m : moved.Move) → IsSureStep B.geometry position.now m → ⊥) }
+{
+    if can_capture(position) {
+        return None;
+    }
+    let field = Field::of(position);
+    if let Some(found) = sure_towards(position, &field, Dir::UpLeft) {
+        return Some(found);
+    }
+    if let Some(found) = sure_towards(position, &field, Dir::UpRight) {
+        return Some(found);
+    }
+    if let Some(found) = sure_towards(position, &field, Dir::DownLeft) {
+        return Some(found);
+    }
+    sure_towards(position, &field, Dir::DownRight)
+}
+
+/// The same in one direction, if the sets of the position are known.
+#[inline(always)]
+fn sure_towards<B: Board>(
+    position: &Position<B>,
+    field: &Field<B>,
+    direction: Dir,
+) -> Option<(Move<B>, Position<B>)>
+    requires sets { AreSets B.geometry position.now field.now.men field.now.kings field.now.enemies field.now.occupied }
+    requires quiet { CanCapture B.geometry position.now → ⊥ }
+    ensures legal { IfSome result (λ found. Legal B.geometry position.now found.0) }
+    ensures some { IfSome result (λ found. IsSureStep B.geometry position.now found.0) }
+    ensures after { IfSome result (λ found. found.1 ≡ moved.play B.geometry position.now found.0) }
+    ensures none { IsNone result → NoneSure B.geometry position.now field.now.men field.now.kings field.now.occupied
+        direction set.empty }
+{
+    let back = direction.opposite();
+    let mut left = field.next_free(position.turn(), direction);
+    'goals: while let Some((to, rest)) = left.split() {
+        if let Some(from) = step(to, back) {
+            let found = Move::quiet(from, to);
+            let after = play(position, &found);
+            if has_sure_reply(&after) {
+                return Some((found, after));
+            }
+        }
+        left = rest;
+    }
+    None
+}
+
+/// The squares to which a piece of the other side that is not exposed could go one square, if it were its turn.
+#[inline]
+fn safe_steps<B: Board>(position: &Position<B>) -> Squares<B>
+    ensures { (t : ℕ) → In t result ↔ ((s : ℕ) × SafeStep B.geometry position.now s t) }
+{
+    let side = position.turn().other();
+    let field = Field::given(position, side);
+    let exposed = exposed(position.all_of(side));
+    let sheltered = Field {
+        men: field.men.minus(exposed),
+        kings: field.kings.minus(exposed),
+        enemies: field.enemies,
+        occupied: field.occupied,
+    };
+    sheltered.all_next_free(side)
+}
+
+/// Those of these pieces next to which, on a diagonal, there is a square on both sides and none of them on it.
+#[inline]
+fn exposed<B: Board>(pieces: Squares<B>) -> Squares<B>
+    requires { (s : ℕ) → In s pieces → OnBoard B.geometry s }
+    ensures { (s : ℕ) → In s result ↔ (In s pieces × ExposedIn B.geometry pieces s) }
+{
+    let falling = open_towards(pieces, Dir::UpLeft).and(open_towards(pieces, Dir::DownRight));
+    let rising = open_towards(pieces, Dir::UpRight).and(open_towards(pieces, Dir::DownLeft));
+    falling.or(rising)
+}
+
+/// Those of these pieces next to which there is a square in a direction, and none of them on it.
+#[inline]
+fn open_towards<B: Board>(pieces: Squares<B>, direction: Dir) -> Squares<B>
+    requires { (s : ℕ) → In s pieces → OnBoard B.geometry s }
+    ensures { (s : ℕ) → In s result ↔ (In s pieces × OpenIn B.geometry pieces s direction) }
+{
+    let next = pieces.shifted(direction).minus(pieces);
+    next.shifted(direction.opposite())
+}
