@@ -24,8 +24,8 @@ pub(crate) fn first_size(most: usize) -> usize
     size
 }
 
-/// Doubles a table of which all but a sixteenth is used, if it may have as many slots. A larger one would lose less, and
-/// be slower for all that: much of what stands in it belongs to problems that are done.
+/// Doubles a table of which all but a sixteenth is used, if it may have as many slots. A larger one would lose less,
+/// and be slower for all that: much of what stands in it belongs to problems that are done.
 pub(crate) fn make_room<B: Board>(slots: &mut Slots<B>, used: usize, most: usize)
     requires { IsTable B.geometry slots.old.items }
     ensures table { IsTable B.geometry slots.new.items }
@@ -37,8 +37,8 @@ pub(crate) fn make_room<B: Board>(slots: &mut Slots<B>, used: usize, most: usize
     }
 }
 
-/// Makes the slots twice as many, and brings each position to its own slot. If memory is refused, nothing changes. It is
-/// rare, and stands apart from the notes between.
+/// Makes the slots twice as many, and brings each position to its own slot. If memory is refused, nothing changes. It
+/// is rare, and stands apart from the notes between.
 #[cold]
 #[inline(never)]
 fn double<B: Board>(slots: &mut Slots<B>)

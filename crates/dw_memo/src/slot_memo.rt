@@ -14,8 +14,8 @@ use std::marker::Model;
 
 /// A table of slots. A position that is noted takes the place of the one that stood in its slot.
 ///
-/// A large table begins with fewer slots, which the processor's caches can hold. When nearly all of them hold a position
-/// it doubles, and loses nothing by it, until it has nearly all that it may have.
+/// A large table begins with fewer slots, which the processor's caches can hold. When nearly all of them hold a
+/// position it doubles, and loses nothing by it, until it has nearly all that it may have.
 /// Example: of one slot, it holds the position that was noted last, and no other.
 #[derive(Drop)]
 pub struct SlotMemo<B: Board> {

@@ -33,9 +33,9 @@ pub fn has_sure_reply<B: Board>(position: &Position<B>) -> bool
     }
 }
 
-/// A legal move of one square after which the other side is seen to have no win in its next move, and the position after
-/// it: whatever it plays there, a reply is sure. `None` if something can be taken, or if there is no such move. It lists
-/// no moves.
+/// A legal move of one square after which the other side is seen to have no win in its next move, and the position
+/// after it: whatever it plays there, a reply is sure. `None` if something can be taken, or if there is no such move.
+/// It lists no moves.
 /// Example: at `W:W28:B1,2` it is `28-22` or `28-23`, with the position after it; at `W:W32:B28` it is `None`.
 pub fn sure_step<B: Board>(position: &Position<B>) -> Option<(Move<B>, Position<B>)>
     ensures legal { IfSome result (λ found. Legal B.geometry position.now found.0) }

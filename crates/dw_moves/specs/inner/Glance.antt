@@ -98,4 +98,5 @@ CanTakeTowards g p d s = (c : ℕ) × (t : ℕ) × (piece : Piece) × Stands g p
 -- after no step in this direction a reply is sure, but for those onto these squares
 abbrev pub NoneSure : Geometry → Placement → Squares → Squares → Squares → Dir → Squares → Type 0
 NoneSure g p men kings occupied d but =
-    (s t : ℕ) → StepsFrom g p.turn men kings occupied d s t → (In t but → ⊥) → HasSureReply g (play g p (quiet_to s t)) → ⊥
+    (s t : ℕ) → StepsFrom g p.turn men kings occupied d s t → (In t but → ⊥)
+    → HasSureReply g (play g p (quiet_to s t)) → ⊥
