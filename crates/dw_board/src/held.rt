@@ -4,6 +4,7 @@ ghost use Rattle.dw_board.specs.inner.StandingLemmas.{same_sets};
 ghost use Rattle.std.specs.FinSet as set;
 ghost use Rattle.dw_board.specs.Standing.{set_of, held_at};
 ghost use Rattle.dw_board.specs.inner.Held.{entered};
+ghost use Rattle.dw_board.specs.Packing.{parted};
 ghost use Rattle.dw_board.specs.declared.piece.Side.TheVariants.{White, Black};
 ghost use Rattle.dw_board.specs.declared.piece.Kind.TheVariants.{Man, King};
 
@@ -33,6 +34,19 @@ impl<B: Board> Held<B> {
             white_kings: Squares::none(),
             black_men: Squares::none(),
             black_kings: Squares::none(),
+        }
+    }
+
+    /// Where the pieces stand, if white's, black's and all kings stand on these squares.
+    #[inline]
+    pub(crate) fn parted(white: Squares<B>, black: Squares<B>, kings: Squares<B>) -> Self
+        ensures { (side : Side) (kind : Kind) → set_of result side kind ≡ parted white black kings side kind }
+    {
+        Held {
+            white_men: white.minus(kings),
+            white_kings: white.and(kings),
+            black_men: black.minus(kings),
+            black_kings: black.and(kings),
         }
     }
 

@@ -19,6 +19,7 @@ ghost use Rattle.std.specs.Result.{result_err};
 
 use crate::board::Board;
 use crate::held::Held;
+use crate::packed::Packed;
 use crate::piece::{Kind, Piece, PutFault, Side};
 use crate::square::Square;
 use crate::squares::Squares;
@@ -143,6 +144,32 @@ impl<B: Board> Position<B> {
             held,
             turn: self.turn,
         }
+    }
+
+    /// What stands on the board, in less memory.
+    /// Example: of `W:W32:B28` and of `B:W32:B28` it is the same.
+    #[inline]
+    pub fn pack(&self) -> Packed<B>
+        ensures { result ≡ self.now.cells }
+    {
+        let held = &self.held;
+        Packed {
+            white: held.all_of(Side::White),
+            black: held.all_of(Side::Black),
+            kings: held
+                .of(Side::White, Kind::King)
+                .or(held.of(Side::Black, Kind::King)),
+        }
+    }
+
+    /// The position in which this stands on the board, and this side is to move.
+    /// Example: of what `pack` makes of `W:W32:B28`, with `Side::Black`, it makes `B:W32:B28`.
+    #[inline]
+    pub fn unpack(packed: &Packed<B>, turn: Side) -> Self
+        ensures { result ≡ record { cells = packed.now; turn = turn } }
+    {
+        let held = Held::parted(packed.white, packed.black, packed.kings);
+        Position { held, turn }
     }
 
     /// A number of the side to move and of where the pieces of each side and kind stand, for hashes: each word times a

@@ -2,4 +2,5 @@ pub mod EntryLemmas
 pub mod GrowingLemmas
 pub mod NoteLemmas
 pub mod RecentLemmas
+pub mod KeepingLemmas
 pub mod SlotLemmas

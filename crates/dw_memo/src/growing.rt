@@ -70,5 +70,5 @@ fn bring_home<B: Board>(slots: &mut Slots<B>, index: usize, size: usize)
     };
     slots[index] = Slot::empty();
     let slot = slot_of(&position, 2 * size);
-    slots[slot] = Slot::with(position, bounds);
+    slots[slot] = Slot::with(&position, bounds);
 }

@@ -1,19 +1,21 @@
 //! One slot of a table.
-ghost use Rattle.std.specs.Prelude.{◌≡◌, Some, None, is_some, not, ⊤};
-ghost use Rattle.dw_memo.specs.inner.Keeping.{bounds_in, lost};
+ghost use Rattle.std.specs.Prelude.{◌≡◌, Some, None, is_some, not, ⊤, ◌↔◌, IsTrue};
+ghost use Rattle.dw_memo.specs.inner.Keeping.{bounds_in, lost, kept_position};
 
 use crate::bounds::Bounds;
 use dw_board::board::Board;
+use dw_board::packed::Packed;
 use dw_board::piece::Side;
 use dw_board::position::Position;
 use std::alloc::AllocError;
 use std::marker::Model;
 
 /// A position with its bounds, or nothing: then there are no bounds, and the position is that of the board without a
-/// piece. An option around both would take eight bytes more.
+/// piece. It takes 32 bytes: the position is kept as three sets and the side to move.
 #[derive(Copy)]
 pub(crate) struct Slot<B: Board> {
-    position: Position<B>,
+    pieces: Packed<B>,
+    turn: Side,
     bounds: Option<Bounds>,
 }
 
@@ -22,19 +24,25 @@ impl<B: Board> Model for Slot<B> {
     ghost use Rattle.dw_board.specs.Placement.{Placement, empty};
     ghost use Rattle.dw_board.specs.declared.piece.Side.TheVariants.{White};
     ghost use Rattle.dw_memo.specs.declared.bounds.Bounds.{Bounds};
-    ghost use Rattle.dw_memo.specs.inner.Keeping.{stands, kept_position, kept_bounds, position_back, bounds_back};
+    ghost use Rattle.dw_memo.specs.inner.Keeping.{stands, at_turn, kept_position, kept_bounds};
+    ghost use Rattle.dw_memo.specs.inner.Keeping.{position_back, bounds_back};
 
     ghost Value = { Option (Placement × Bounds) };
 
-    ghost view = { λ s. stands s.position s.bounds };
+    ghost view = { λ s. stands (at_turn s.pieces s.turn) s.bounds };
 
-    ghost invariant = { λ s. s.bounds ≡ None → s.position ≡ empty White };
+    ghost invariant = { λ s. s.bounds ≡ None → at_turn s.pieces s.turn ≡ empty White };
 
-    ghost inverse = { λ v. record { position = kept_position v; bounds = kept_bounds v } };
+    ghost inverse = { λ v. record {
+      pieces = (kept_position v).cells;
+      turn = (kept_position v).turn;
+      bounds = kept_bounds v;
+    } };
 
     ghost inverse_ok = { λ a h i. record {
-      position = position_back a.position a.bounds h i;
-      bounds = bounds_back a.position a.bounds i;
+      pieces = (position_back (at_turn a.pieces a.turn) a.bounds h i).cells;
+      turn = (position_back (at_turn a.pieces a.turn) a.bounds h i).turn;
+      bounds = bounds_back (at_turn a.pieces a.turn) a.bounds i;
     } };
 }
 
@@ -56,18 +64,20 @@ impl<B: Board> Slot<B> {
         ensures { result ≡ None }
     {
         Slot {
-            position: Position::empty(Side::White),
+            pieces: Position::empty(Side::White).pack(),
+            turn: Side::White,
             bounds: None,
         }
     }
 
     /// A slot with a position and its bounds.
     #[inline]
-    pub(crate) fn with(position: Position<B>, bounds: Bounds) -> Self
-        ensures { result ≡ Some (position, bounds) }
+    pub(crate) fn with(position: &Position<B>, bounds: Bounds) -> Self
+        ensures { result ≡ Some (position.now, bounds) }
     {
         Slot {
-            position,
+            pieces: position.pack(),
+            turn: position.turn(),
             bounds: Some(bounds),
         }
     }
@@ -78,7 +88,7 @@ impl<B: Board> Slot<B> {
         ensures { result ≡ self.now }
     {
         let bounds = self.bounds?;
-        Some((self.position, bounds))
+        Some((Position::unpack(&self.pieces, self.turn), bounds))
     }
 
     /// Whether nothing stands there.
@@ -94,7 +104,7 @@ impl<B: Board> Slot<B> {
     pub(crate) fn bounds_of(&self, position: &Position<B>) -> Option<Bounds>
         ensures { result ≡ bounds_in self.now position.now }
     {
-        if self.position == *position {
+        if self.keeps(position) {
             self.bounds
         } else {
             None
@@ -106,6 +116,14 @@ impl<B: Board> Slot<B> {
     pub(crate) fn lost(&self, position: &Position<B>) -> u64
         ensures { result ≡ lost self.now position.now }
     {
-        u64::from(self.bounds.is_some() && self.position != *position)
+        u64::from(self.bounds.is_some() && !self.keeps(position))
+    }
+
+    /// Whether the position that it keeps is this one.
+    #[inline]
+    fn keeps(&self, position: &Position<B>) -> bool
+        ensures { IsTrue result ↔ (kept_position self.now ≡ position.now) }
+    {
+        self.pieces.is_same(&position.pack()) && self.turn == position.turn()
     }
 }

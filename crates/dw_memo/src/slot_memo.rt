@@ -77,7 +77,7 @@ impl<B: Board> Memo<B> for SlotMemo<B> {
         self.used = self
             .used
             .saturating_add(usize::from(self.slots[slot].is_empty()));
-        self.slots[slot] = Slot::with(*position, bounds);
+        self.slots[slot] = Slot::with(position, bounds);
         self.dropped = self.dropped.saturating_add(lost);
         Noted::Kept
     }

@@ -3,13 +3,10 @@ use Rattle.std.proofs.Common.{◌≡◌, ℕ, ◌+◌, ◌<◌, ◌≤◌, suc, 
 use Rattle.std.proofs.lemmas.List.{take_all}
 use Rattle.dw_board.specs.Geometry.{Geometry}
 use Rattle.dw_board.specs.Placement.{Placement}
-use Rattle.dw_moves.specs.Moves.{Move, Legal}
-use Rattle.dw_board.specs.Lists.{Member}
-use Rattle.dw_moves.specs.Order.{Precedes, IsAscending, IsListOf}
+use Rattle.dw_moves.specs.Moves.{Move, Legal, AreLegal}
+use Rattle.dw_board.specs.Lists.{Member, NoRepeat}
 use Rattle.dw_moves.specs.inner.MemberLemmas.{mem_left, mem_right, mem_cases}
-use Rattle.dw_moves.specs.Laws.{MovesHaveKeys}
-use Rattle.dw_list.specs.inner.LineOrderLemmas.{precedes_asym}
-use Rattle.dw_list.specs.inner.ListLemmas.{at_item, ascending_parts}
+use Rattle.dw_list.specs.inner.ListLemmas.{at_item}
 use Rattle.dw_report.specs.Verdict.{Refutes}
 use Rattle.dw_report.specs.inner.Judging.{FindsRefutation}
 
@@ -58,21 +55,31 @@ found_same step g q n xs i x found low at not_so h =
         ],
       )
 
+-- a move that stands once in a list is none of those before it
+apart : (r m : Move) (before after : List Move) → NoRepeat (before ++ m ∷ after) → Member r before → r ≡ m → ⊥
+apart r m [] after once early is = early
+apart r m (b ∷ before) after once (inl e) is =
+    once.0 (subst (λ z. Member z (before ++ m ∷ after)) (sym is ∙ e) (mem_right m before (m ∷ after) (inl refl)))
+apart r m (b ∷ before) after once (inr early) is = apart r m before after once.1 early is
+
 -- a second one: then none is the only one
-pub found_second : MovesHaveKeys → {V : Type 0} (step : V → Move) (g : Geometry) (q : Placement) (n : ℕ) (xs : List V) (i : ℕ) (x : V) (r m : Move) → IsAscending (Precedes g q) (map step xs) → i < length xs → x ≡ get_or xs i x → m ≡ step x → Refutes g q n m → FoundTo step g q n xs i (Some r) → FindsRefutation g q n None
-found_second law step g q n xs i x r m order low at is here one s only =
+pub found_second : {V : Type 0} (step : V → Move) (g : Geometry) (q : Placement) (n : ℕ) (xs : List V) (i : ℕ) (x : V) (r m : Move) → NoRepeat (map step xs) → i < length xs → x ≡ get_or xs i x → m ≡ step x → Refutes g q n m → FoundTo step g q n xs i (Some r) → FindsRefutation g q n None
+found_second step g q n xs i x r m once low at is here one s only =
     let parts = at_item step xs i x low at in
     let e : r ≡ s = only.only r one.0 in
     let f : m ≡ s = only.only m here in
-    let whole = subst (IsAscending (Precedes g q)) parts.0 order in
-    let less : Precedes g q r (step x) = (ascending_parts (Precedes g q) (map step (take i xs)) (step x ∷ map step (drop (suc i) xs)) whole).1 r (step x) one.1 (inl refl) in
-    let loop : Precedes g q r r = subst (Precedes g q r) (sym is ∙ f ∙ sym e) less in
-    precedes_asym law g q r r loop loop
+    apart r (step x) (map step (take i xs)) (map step (drop (suc i) xs)) (subst NoRepeat parts.0 once) one.1 (e ∙ sym f ∙ is)
 
-pub found_all : {V : Type 0} (step : V → Move) (g : Geometry) (q : Placement) (n : ℕ) (xs : List V) (i : ℕ) (found : Option Move) → length xs ≤ i → IsListOf (Precedes g q) (Legal g q) (map step xs) → FoundTo step g q n xs i found → FindsRefutation g q n found
+pub found_all : {V : Type 0} (step : V → Move) (g : Geometry) (q : Placement) (n : ℕ) (xs : List V) (i : ℕ) (found : Option Move) → length xs ≤ i → AreLegal g q (map step xs) → FoundTo step g q n xs i found → FindsRefutation g q n found
 found_all step g q n xs i None end all h =
     let whole = subst (λ z. FoundAmong g q n (map step z) None) (take_all i xs end) h in
     λ r only. whole r ((all.exactly r).1 only.refutes.0) only.refutes
 found_all step g q n xs i (Some r) end all h =
     let whole = subst (λ z. FoundAmong g q n (map step z) (Some r)) (take_all i xs end) h in
     record { refutes = whole.0; only = λ s k. whole.2 s ((all.exactly s).1 k.0) k }
+
+-- what stands at a place is a legal move
+pub legal_at : {V : Type 0} (step : V → Move) (g : Geometry) (q : Placement) (xs : List V) (i : ℕ) (x : V) → AreLegal g q (map step xs) → i < length xs → x ≡ get_or xs i x → Legal g q (step x)
+legal_at step g q xs i x all low at =
+    let parts = at_item step xs i x low at in
+    (all.exactly (step x)).0 (subst (Member (step x)) (sym parts.0) (mem_right (step x) (map step (take i xs)) (step x ∷ map step (drop (suc i) xs)) (inl refl)))

@@ -32,6 +32,7 @@ use dw_notation::streams::Sink;
 use dw_notation::writes::write_all;
 use dw_solve::guide::Guide;
 use dw_solve::laws::wins_are_decided;
+use dw_solve::lineup::Lineup;
 use dw_solve::solver::Solver;
 use itoa::Buffer;
 use std::alloc::{AllocError, Global};
@@ -101,9 +102,18 @@ fn write_tries<B: Board, K: Sink, M: Memo<B>, G: Guide<B>>(
     moves_have_keys();
     moves_have_texts();
     let _ = solver.limit();
+    let mut lineup = Lineup::new(alloc);
     let list = listed(alloc, position)?;
     'moves: for item in list.as_slice() {
-        write_try(alloc, sink, solver, position, &item.step, moves)?;
+        write_try(
+            alloc,
+            sink,
+            solver,
+            &mut lineup,
+            position,
+            &item.step,
+            moves,
+        )?;
     }
     Ok(())
 }
@@ -113,6 +123,7 @@ fn write_try<B: Board, K: Sink, M: Memo<B>, G: Guide<B>>(
     alloc: Global,
     sink: &mut K,
     solver: &mut Solver<B, M, G>,
+    lineup: &mut Lineup<B>,
     position: &Position<B>,
     mv: &Move<B>,
     moves: u8,
@@ -126,7 +137,7 @@ fn write_try<B: Board, K: Sink, M: Memo<B>, G: Guide<B>>(
     ensures spends { Spends solver.old solver.new result }
 {
     let after = play(position, mv);
-    if let Some(reply) = refutation(alloc, solver, &after, moves - 1)? {
+    if let Some(reply) = refutation(alloc, solver, lineup, &after, moves - 1)? {
         let line = try_line(alloc, position, mv, &reply)?;
         write_all(sink, line.as_str().as_bytes())?;
     }

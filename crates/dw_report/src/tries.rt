@@ -8,12 +8,12 @@ use crate::keys::push;
 use dw_board::board::Board;
 use dw_board::position::Position;
 use dw_memo::memo::Memo;
-use dw_moves::laws::moves_have_keys;
 use dw_moves::listed::listed;
 use dw_moves::moves::Move;
 use dw_moves::play::play;
 use dw_solve::guide::Guide;
 use dw_solve::laws::searches_add_up;
+use dw_solve::lineup::Lineup;
 use dw_solve::solver::Solver;
 use dw_solve::stop::Stop;
 use std::alloc::Global;
@@ -34,20 +34,23 @@ pub(crate) fn tries<B: Board, M: Memo<B>, G: Guide<B>>(
     searches_add_up();
     let _ = solver.limit();
     let mut tries = Vec::new(alloc);
+    let mut lineup = Lineup::new(alloc);
     let list = listed(alloc, position)?;
     'moves: for item in list.as_slice() {
         let after = play(position, &item.step);
-        if let Some(reply) = refutation(alloc, solver, &after, moves - 1)? {
+        if let Some(reply) = refutation(alloc, solver, &mut lineup, &after, moves - 1)? {
             push(&mut tries, (item.step, reply))?;
         }
     }
     Ok(tries)
 }
 
-/// The only reply after which the attacker has no win within so many moves, if there is just one.
+/// The only reply after which the attacker has no win within so many moves, if there is just one. Replies are asked in
+/// the solver's order, since most of those that refute come early in it.
 pub(crate) fn refutation<B: Board, M: Memo<B>, G: Guide<B>>(
     alloc: Global,
     solver: &mut Solver<B, M, G>,
+    lineup: &mut Lineup<B>,
     position: &Position<B>,
     left: u8,
 ) -> Result<Option<Move<B>>, Stop>
@@ -56,16 +59,15 @@ pub(crate) fn refutation<B: Board, M: Memo<B>, G: Guide<B>>(
     ensures asked { Asked B.geometry M.content M.dropped left solver.old solver.new result }
 {
     searches_add_up();
-    moves_have_keys();
     let _ = solver.limit();
-    let list = listed(alloc, position)?;
+    solver.line_up(position, lineup)?;
     let mut found = None;
-    'replies: for item in list.as_slice() {
-        let after = play(position, &item.step);
+    'replies: for reply in lineup.moves() {
+        let after = play(position, &reply.1);
         if !solver.wins(alloc, &after, left)? {
             match found {
                 Some(_) => return Ok(None),
-                None => found = Some(item.step),
+                None => found = Some(reply.1),
             }
         }
     }

@@ -1,16 +1,22 @@
 -- Lists of ranked moves.
-use Rattle.std.proofs.Common.{◌≡◌, ℕ, ◌+◌, ◌≤◌, ◌<◌, zero, suc, List, [], ◌∷◌, ◌++◌, length, get_or, refl, sym, ap, ◌∙◌, subst, ◌⊎◌, inl, inr, arith}
+use Rattle.std.proofs.Common.{◌≡◌, ℕ, ◌+◌, ◌≤◌, ◌<◌, zero, suc, List, [], ◌∷◌, ◌++◌, length, map, take, get_or, refl, sym, ap, ◌∙◌, subst, ◌⊎◌, ◌↔◌, true, false, inl, inr, arith}
 use Rattle.std.specs.Prelude.{Contains}
 use Rattle.std.specs.List.Sorted.{IsPermutation}
-use Rattle.std.proofs.lemmas.List.Sorted.{Contains-permutation, IsPermutation-sym}
-use Rattle.std.proofs.lemmas.List.Elements.{Contains-push_cases, Contains-append_left, Contains-push}
+use Rattle.std.specs.List.{IsDistinct, AllByRecursion}
+use Rattle.std.proofs.lemmas.Bool.{true≢false, cases_Bool}
+use Rattle.std.proofs.lemmas.List.{map-append, take_all}
+use Rattle.std.proofs.lemmas.List.Sorted.{Contains-permutation, IsPermutation-sym, IsPermutation-map}
+use Rattle.std.proofs.lemmas.Map.Keys.{IsDistinct-IsPermutation}
+use Rattle.std.proofs.Math.Seq.{take-suc}
 use Rattle.std.proofs.Common.{add-one}
 use Rattle.dw_board.specs.Geometry.{Geometry}
 use Rattle.dw_board.specs.Placement.{Placement}
 use Rattle.dw_moves.specs.Moves.{Move, Legal, AreLegal, play}
-use Rattle.dw_board.specs.Lists.{Member}
+use Rattle.dw_moves.specs.inner.MemberLemmas.{mem_map, mem_map_back}
+use Rattle.dw_moves.specs.inner.MoveLemmas.{same_moves, same_moves-is}
+use Rattle.dw_board.specs.Lists.{Member, NoRepeat}
 use Rattle.dw_solve.specs.Wins.{Win, Lost}
-use Rattle.dw_solve.specs.inner.Ranking.{AreRanked}
+use Rattle.dw_solve.specs.Ranking.{AreRanked}
 
 pub get_same : {X : Type 0} (xs : List X) (i : ℕ) (a b : X) → i < length xs → get_or xs i a ≡ get_or xs i b
 get_same [] i a b low = absurd (omega arith)
@@ -27,53 +33,86 @@ index_of x [] m = absurd m
 index_of x (y ∷ xs) (inl e) = (0, omega arith, e)
 index_of x (y ∷ xs) (inr m) = let r = index_of x xs m in (suc r.0, omega (arith, r.1), r.2)
 
--- the moves at indices below i, each with some rank
-pub record Gathered (moves : List Move) (ranked : List (ℕ × Move)) (i : ℕ) : Type 0 where
-  pub from : (rank : ℕ) (m : Move) → Contains ranked (rank, m) → (k : ℕ) × (k < i) × (m ≡ get_or moves k m)
-  pub all : (k : ℕ) (m : Move) → k < i → m ≡ get_or moves k m → (rank : ℕ) × Contains ranked (rank, m)
+-- ---- lists of ranked moves
+-- the moves, without their ranks
+abbrev pub steps : List (ℕ × Move) → List Move
+steps ranked = map (λ r. r.1) ranked
 
-pub gathered_none : (moves : List Move) → Gathered moves [] 0
-gathered_none moves = record {
-  from = λ rank m h. absurd (omega (arith, h.1));
-  all = λ k m low e. absurd (omega (arith, low));
-}
-
-pub split : (k i : ℕ) → k < i + 1 → (k ≡ i) ⊎ (k < i)
-split k i low = grind arith
-
-pub gathered_more : (moves : List Move) (ranked : List (ℕ × Move)) (i rank : ℕ) (m : Move) → Gathered moves ranked i → i < length moves → m ≡ get_or moves i m → Gathered moves (ranked ++ (rank, m) ∷ []) (i + 1)
-gathered_more moves ranked i rank m h low is = record {
-  from = λ r n c. elim (Contains-push_cases ranked (rank, m) (r, n) c) [
-    | inl old ↦ let k = h.from r n old in (k.0, omega (arith, k.1), k.2)
-    | inr e ↦ let same : m ≡ n = ap (λ (x : ℕ × Move). x.1) e in (i, omega arith, subst (λ z. z ≡ get_or moves i z) same is)
-  ];
-  all = λ k n under e. elim (split k i under) [
-    | inl q ↦
-        let at_i : n ≡ get_or moves i n = subst (λ z. n ≡ get_or moves z n) q e in
-        let same : m ≡ n = is ∙ (get_same moves i m n low ∙ sym at_i) in
-        (rank, subst (λ z. Contains (ranked ++ (rank, m) ∷ []) (rank, z)) same (Contains-push ranked (rank, m)))
-    | inr less ↦ let old = h.all k n less e in (old.0, Contains-append_left ranked ((rank, m) ∷ []) (old.0, n) old.1)
-  ];
-}
-
-pub gathered_all : (g : Geometry) (p : Placement) (moves : List Move) (ranked : List (ℕ × Move)) (i : ℕ) → AreLegal g p moves → Gathered moves ranked i → i ≡ length moves → AreRanked g p ranked
-gathered_all g p moves ranked i legal h all m = (
-  (λ l. let k = index_of m moves ((legal.exactly m).1 l) in
-      h.all k.0 m (omega (arith, k.1, all)) k.2),
-  (λ r. let k = h.from r.0 m r.1 in
-      (legal.exactly m).0 (member_at moves k.0 m (omega (arith, k.1, all)) k.2)),
+-- the legal moves are those that stand there with some rank
+ranked_members : (g : Geometry) (p : Placement) (ranked : List (ℕ × Move)) → AreRanked g p ranked → (m : Move) → Legal g p m ↔ ((rank : ℕ) × Contains ranked (rank, m))
+ranked_members g p ranked all m = (
+  (λ l.
+      let f = mem_map_back (λ (r : ℕ × Move). r.1) m ranked ((all.exactly m).1 l) in
+      let k = index_of f.0 ranked f.1 in
+      (f.0.0, subst (λ z. Contains ranked (f.0.0, z)) (sym f.2) (k.0, k.1, sym k.2))),
+  (λ c. (all.exactly m).0 (mem_map (λ (r : ℕ × Move). r.1) (c.0, m) ranked (member_at ranked c.1.0 (c.0, m) c.1.1 (sym c.1.2)))),
 )
+
+-- one more move, with its rank
+pub ranked_more : (moves : List Move) (ranked : List (ℕ × Move)) (i rank : ℕ) (m : Move) → steps ranked ≡ take i moves → i < length moves → m ≡ get_or moves i m → steps (ranked ++ (rank, m) ∷ []) ≡ take (i + 1) moves
+ranked_more moves ranked i rank m h low is =
+    let next = take-suc moves i m low in
+    map-append (λ (r : ℕ × Move). r.1) ranked ((rank, m) ∷ []) ∙ (ap (λ z. z ++ m ∷ []) h ∙ (ap (λ z. take i moves ++ z ∷ []) is ∙ (sym next ∙ ap (λ n. take n moves) (sym (add-one i)))))
+
+pub ranked_all : (g : Geometry) (p : Placement) (moves : List Move) (ranked : List (ℕ × Move)) (i : ℕ) → AreLegal g p moves → steps ranked ≡ take i moves → length moves ≤ i → AreRanked g p ranked
+ranked_all g p moves ranked i legal h end = subst (AreLegal g p) (sym (h ∙ take_all i moves end)) legal
+
+-- ---- another order
+same_flip : (a b : Move) → same_moves a b ≡ same_moves b a
+same_flip a b = elim (cases_Bool (same_moves b a)) [
+  | inl e ↦ (same_moves-is a b).1 (sym ((same_moves-is b a).0 e)) ∙ sym e
+  | inr e ↦ elim (cases_Bool (same_moves a b)) [
+    | inl f ↦ absurd (true≢false (sym ((same_moves-is b a).1 (sym ((same_moves-is a b).0 f))) ∙ e))
+    | inr f ↦ f ∙ sym e
+  ]
+]
+
+none_same : (m : Move) (ms : List Move) → (Member m ms → ⊥) → AllByRecursion (λ n. same_moves m n ≡ false) ms
+none_same m [] not_there = tt
+none_same m (n ∷ ms) not_there = (
+  elim (cases_Bool (same_moves m n)) [ inl e ↦ absurd (not_there (inl ((same_moves-is m n).0 e))) | inr e ↦ e ],
+  none_same m ms (λ there. not_there (inr there)),
+)
+
+not_there : (m : Move) (ms : List Move) → AllByRecursion (λ n. same_moves m n ≡ false) ms → Member m ms → ⊥
+not_there m [] none there = there
+not_there m (n ∷ ms) none (inl e) = true≢false (sym ((same_moves-is m n).1 e) ∙ none.0)
+not_there m (n ∷ ms) none (inr there) = not_there m ms none.1 there
+
+distinct : (ms : List Move) → NoRepeat ms → IsDistinct same_moves ms
+unfolding IsDistinct
+distinct [] once = tt
+distinct (m ∷ ms) once = (none_same m ms once.0, distinct ms once.1)
+
+no_repeat : (ms : List Move) → IsDistinct same_moves ms → NoRepeat ms
+unfolding IsDistinct
+no_repeat [] d = tt
+no_repeat (m ∷ ms) d = (not_there m ms d.0, no_repeat ms d.1)
+
+still_there : {X : Type 0} (xs ys : List X) → IsPermutation xs ys → (x : X) → Member x xs → Member x ys
+still_there xs ys moved x m =
+    let k = index_of x xs m in
+    let c = Contains-permutation xs ys x moved (k.0, k.1, sym k.2) in
+    member_at ys c.0 x c.1 (sym c.2)
 
 -- they may stand in any order
 pub ranked_anyhow : (g : Geometry) (p : Placement) (ranked sorted : List (ℕ × Move)) → AreRanked g p ranked → IsPermutation ranked sorted → AreRanked g p sorted
-ranked_anyhow g p ranked sorted all moved m = (
-  (λ l. let r = (all m).0 l in (r.0, Contains-permutation ranked sorted (r.0, m) moved r.1)),
-  (λ r. (all m).1 (r.0, Contains-permutation sorted ranked (r.0, m) (IsPermutation-sym ranked sorted moved) r.1)),
-)
+ranked_anyhow g p ranked sorted all moved =
+    let there = IsPermutation-map (λ (r : ℕ × Move). r.1) ranked sorted moved in
+    record {
+      exactly = λ m. (
+        (λ k. (all.exactly m).0 (still_there (steps sorted) (steps ranked) (IsPermutation-sym (steps ranked) (steps sorted) there) m k)),
+        (λ l. still_there (steps ranked) (steps sorted) there m ((all.exactly m).1 l)),
+      );
+      once = no_repeat (steps sorted) (IsDistinct-IsPermutation same_moves same_flip (steps ranked) (steps sorted) there (distinct (steps ranked) all.once));
+    }
 
 -- what stands at an index is a legal move
 pub ranked_legal : (g : Geometry) (p : Placement) (ranked : List (ℕ × Move)) (i : ℕ) (x : ℕ × Move) → AreRanked g p ranked → i < length ranked → x ≡ get_or ranked i x → Legal g p x.1
-ranked_legal g p ranked i x all low is = (all x.1).1 (x.0, (i, low, sym is))
+ranked_legal g p ranked i x all low is = (ranked_members g p ranked all x.1).1 (x.0, (i, low, sym is))
+
+pub split : (k i : ℕ) → k < i + 1 → (k ≡ i) ⊎ (k < i)
+split k i low = grind arith
 
 -- so it is of each move at an index below i
 abbrev pub Below : (Move → Type 0) → List (ℕ × Move) → ℕ → Type 0
@@ -94,7 +133,7 @@ below_more P ranked i x h low is here k y under e = elim (split k i under) [
 -- and so of each legal move
 pub below_all : (g : Geometry) (p : Placement) (P : Move → Type 0) (ranked : List (ℕ × Move)) (i : ℕ) → AreRanked g p ranked → length ranked ≤ i → Below P ranked i → (m : Move) → Legal g p m → P m
 below_all g p P ranked i all end h m legal =
-    let c = (all m).0 legal in
+    let c = (ranked_members g p ranked all m).0 legal in
     h c.1.0 (c.0, m) (omega (arith, c.1.1, end)) (sym c.1.2)
 
 -- no move at an index below i leaves a lost position; each leaves a win for the other side

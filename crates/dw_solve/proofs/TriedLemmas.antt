@@ -6,7 +6,7 @@ use Rattle.dw_board.specs.Placement.{Placement}
 use Rattle.dw_moves.specs.Moves.{Move, Legal, play}
 use Rattle.dw_memo.specs.Content.{Content}
 use Rattle.dw_solve.specs.Facts.{KnownWin, KnownFail, IsDecided}
-use Rattle.dw_solve.specs.inner.Ranking.{AreRanked}
+use Rattle.dw_solve.specs.Ranking.{AreRanked}
 use Rattle.dw_solve.specs.Work.{Moment, Stronger, NothingLost, Searched}
 use Rattle.dw_solve.specs.Saying.{SaysWin, SaysLeast, SaysLost}
 use Rattle.dw_solve.specs.inner.Searching.{SaysMove}

@@ -2,6 +2,7 @@ pub mod Wins
 pub mod Facts
 pub mod Laws
 pub mod Trial
+pub mod Ranking
 pub mod Work
 pub mod Saying
 pub mod Searching

@@ -7,6 +7,7 @@
 
 pub mod guide;
 pub mod laws;
+pub mod lineup;
 mod ply;
 mod search;
 pub mod solver;
@@ -14,5 +15,6 @@ pub mod stop;
 pub mod trial;
 
 pub use guide::{AnyOrder, ByTrial, Guide};
+pub use lineup::Lineup;
 pub use solver::Solver;
 pub use stop::Stop;

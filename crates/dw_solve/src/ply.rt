@@ -1,7 +1,8 @@
 //! The moves of one position, in the order in which a search goes through them.
 ghost use Rattle.std.specs.Prelude.{◌≡◌, [], IfOk, OnOk, IfSome};
 ghost use Rattle.dw_moves.specs.Moves.{AreLegal};
-ghost use Rattle.dw_solve.specs.inner.Ranking.{AreRanked, IsLastWin, IsSureReply};
+ghost use Rattle.dw_solve.specs.Ranking.{AreRanked};
+ghost use Rattle.dw_solve.specs.inner.Ranking.{IsLastWin, IsSureReply};
 
 use crate::guide::{AnyOrder, Guide};
 use dw_board::board::Board;
@@ -23,7 +24,9 @@ pub(crate) struct Ply<B: Board> {
 
 impl<B: Board> Ply<B> {
     /// Empty lists.
-    pub(crate) fn new(alloc: Global) -> Self {
+    pub(crate) fn new(alloc: Global) -> Self
+        ensures { result.ranked.items ≡ [] }
+    {
         Ply {
             moves: Vec::new(alloc),
             ranked: Vec::new(alloc),

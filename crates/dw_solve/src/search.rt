@@ -14,7 +14,8 @@ ghost use Rattle.dw_solve.specs.inner.Searching.{IsNoted};
 ghost use Rattle.dw_solve.specs.Work.{moment, NothingLost, Searched, cut_off};
 ghost use Rattle.dw_solve.specs.Saying.{SaysWin, SaysLost};
 ghost use Rattle.dw_solve.specs.inner.Searching.{SaysMove};
-ghost use Rattle.dw_solve.specs.inner.Ranking.{AreRanked, IsSureReply};
+ghost use Rattle.dw_solve.specs.Ranking.{AreRanked};
+ghost use Rattle.dw_solve.specs.inner.Ranking.{IsSureReply};
 
 use crate::guide::Guide;
 use crate::ply::Ply;

@@ -4,6 +4,7 @@ ghost use Rattle.dw_solve.specs.declared.stop.Stop.TheVariants.{Limit};
 ghost use Rattle.dw_solve.specs.Wins.{Win, Lost};
 ghost use Rattle.dw_memo.specs.Content.{IsMap, SameEntries};
 ghost use Rattle.dw_solve.specs.Facts.{AreTrue, IsDecided, RepliesAreDecided};
+ghost use Rattle.dw_solve.specs.Ranking.{AreRanked};
 ghost use Rattle.dw_solve.specs.Searching.{IsCounted};
 ghost use Rattle.dw_solve.specs.Solving.{IsLeast};
 ghost use Rattle.dw_solve.specs.Asking.{Asked, Idle, LostNothing};
@@ -11,6 +12,7 @@ ghost use Rattle.dw_solve.specs.Work.{moment, NothingLost, Searched, cut_off};
 ghost use Rattle.dw_solve.specs.Saying.{SaysWin, SaysLost, SaysLeast};
 
 use crate::guide::Guide;
+use crate::lineup::Lineup;
 use crate::ply::Ply;
 use crate::search::{Search, known, loses, wins};
 use crate::stop::Stop;
@@ -178,6 +180,16 @@ impl<B: Board, M: Memo<B>, G: Guide<B>> Solver<B, M, G> {
             }
         }
         Ok(None)
+    }
+
+    /// Takes up the legal moves of a position, in the order in which `loses` goes through replies while the attacker
+    /// has two moves or more: by rank, the lowest first. Nothing is searched.
+    /// Example: with `ByTrial` at `W:W27,45:B16` the move `27-21`, which forces a capture, comes first, and others come
+    /// after it, as `45-40` does.
+    pub fn line_up(&self, position: &Position<B>, lineup: &mut Lineup<B>) -> Result<(), AllocError>
+        ensures { OnOk result (AreRanked B.geometry position.now lineup.new) }
+    {
+        lineup.ply.fill(position, &self.search.guide)
     }
 
     /// The cache. All its bounds are right.

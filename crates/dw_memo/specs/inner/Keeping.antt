@@ -1,10 +1,12 @@
 -- What a memo keeps of bounds.
 use Rattle.std.proofs.Common.{◌≡◌, refl, sym}
-use Rattle.std.specs.Prelude.{None, ℕ, Option, Some, not, cond}
+use Rattle.std.specs.Prelude.{None, ℕ, List, Option, Some, not, cond}
 use Rattle.dw_memo.specs.declared.bounds.Bounds.{Bounds}
 use Rattle.std.specs.Int.{from_bool}
 use Rattle.dw_board.specs.inner.PlacementLemmas.{same}
+use Rattle.dw_board.specs.declared.piece.Side.{Side}
 use Rattle.dw_board.specs.declared.piece.Side.TheVariants.{White}
+use Rattle.dw_board.specs.declared.piece.Piece.{Piece}
 use Rattle.dw_board.specs.Placement.{Placement, empty}
 
 -- nothing is known
@@ -20,6 +22,10 @@ bounds_in (Some e) p = cond (same e.0 p) (Some e.1) None
 abbrev pub lost : Option (Placement × Bounds) → Placement → ℕ
 lost None p = 0
 lost (Some e) p = from_bool (not (same e.0 p))
+
+-- what stands on a board, and the side to move
+abbrev pub at_turn : List (Option Piece) → Side → Placement
+at_turn cells turn = record { cells = cells; turn = turn }
 
 -- what stands in a slot that keeps a position and the bounds of it, if there are some
 abbrev pub stands : Placement → Option Bounds → Option (Placement × Bounds)

@@ -1,13 +1,9 @@
--- Legal moves with their ranks.
-use Rattle.std.specs.Prelude.{◌≡◌, ℕ, ◌↔◌, Bool, IsTrue, List, Contains}
+-- What a search finds out from a list of moves.
+use Rattle.std.specs.Prelude.{◌≡◌, Bool, IsTrue}
 use Rattle.dw_board.specs.Geometry.{Geometry}
 use Rattle.dw_board.specs.Placement.{Placement}
 use Rattle.dw_moves.specs.Moves.{Move, Legal, play}
 use Rattle.dw_moves.specs.Replies.{AlwaysReply}
-
--- these are the legal moves, each with some rank, in some order
-abbrev pub AreRanked : Geometry → Placement → List (ℕ × Move) → Type 0
-AreRanked g p ranked = (m : Move) → Legal g p m ↔ ((rank : ℕ) × Contains ranked (rank, m))
 
 -- the position after a legal move, if who made it has a reply to whatever the other side plays then
 abbrev pub IsSureReply : Geometry → Placement → Placement → Type 0

@@ -5,6 +5,6 @@ use Rattle.dw_report.proofs.tries.refutation.Given as goal
 
 abbrev pub invariant-replies : goal.invariant-replies
 invariant-replies g l = record {
-  found : FoundTo (λ item. item.step) g.B.Board.geometry l.position l.left l.item-items l.item-index l.found;
+  found : FoundTo (λ r. r.1) g.B.Board.geometry l.position l.left l.reply-items l.reply-index l.found;
   asked : Asked g.B.Board.geometry g.M.Memo.content g.M.Memo.dropped l.left l.initial.solver l.solver answered;
 }

@@ -6,7 +6,8 @@ use Rattle.std.specs.List.{IsFirstAndRest}
 use Rattle.std.proofs.lemmas.Option.{MatchOption-at_some}
 use Rattle.dw_solve.specs.Wins.{Win, Lost}
 use Rattle.dw_solve.specs.Facts.{AreTrue, IsDecided}
-use Rattle.dw_solve.specs.inner.Ranking.{AreRanked, IsSureReply}
+use Rattle.dw_solve.specs.Ranking.{AreRanked}
+use Rattle.dw_solve.specs.inner.Ranking.{IsSureReply}
 use Rattle.dw_solve.specs.Work.{moment}
 use Rattle.dw_solve.specs.Saying.{SaysWin}
 use Rattle.dw_moves.specs.Moves.{play}

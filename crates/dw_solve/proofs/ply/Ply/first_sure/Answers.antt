@@ -1,5 +1,5 @@
 use Rattle.std.proofs.Common.{sym, subst}
-use Rattle.dw_solve.specs.inner.Ranking.{AreRanked}
+use Rattle.dw_solve.specs.Ranking.{AreRanked}
 use Rattle.dw_solve.proofs.RankLemmas.{ranked_legal}
 use Rattle.dw_solve.proofs.ply.Ply.first_sure.Goals as goal
 

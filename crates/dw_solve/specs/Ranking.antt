@@ -1,0 +1,9 @@
+-- Moves in the order in which they are tried.
+use Rattle.std.specs.Prelude.{ℕ, List, map}
+use Rattle.dw_board.specs.Geometry.{Geometry}
+use Rattle.dw_board.specs.Placement.{Placement}
+use Rattle.dw_moves.specs.Moves.{Move, AreLegal}
+
+-- these are the legal moves, each once and with some rank, in some order
+abbrev pub AreRanked : Geometry → Placement → List (ℕ × Move) → Type 0
+AreRanked g p ranked = AreLegal g p (map (λ r. r.1) ranked)

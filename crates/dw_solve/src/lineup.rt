@@ -1,0 +1,48 @@
+//! Moves for a caller, in the order in which a solver tries them.
+ghost use Rattle.std.specs.Prelude.{◌≡◌, []};
+
+use crate::ply::Ply;
+use dw_board::board::Board;
+use dw_moves::moves::Move;
+use std::alloc::Global;
+use std::marker::Model;
+
+/// The moves of one position, each with its rank, in the order in which a solver tries them. `Solver::line_up` fills
+/// it, and uses its memory again.
+/// See [`Solver::line_up`](crate::solver::Solver::line_up) for an example.
+#[derive(Drop)]
+pub struct Lineup<B: Board> {
+    pub(crate) ply: Ply<B>,
+}
+
+impl<B: Board> Model for Lineup<B> {
+    ghost use Rattle.std.specs.Prelude.{ℕ, List};
+    ghost use Rattle.std.specs.Coded.{coded×, coded_list, coded_ℕ};
+    ghost use Rattle.dw_moves.specs.Moves.{Move, move_code};
+
+    ghost Value = { List (ℕ × Move) };
+
+    ghost coded = { coded_list (coded× coded_ℕ move_code) };
+
+    ghost view = { λ l. l.ply.ranked.items };
+}
+
+impl<B: Board> Lineup<B> {
+    /// No moves. It takes no memory.
+    /// Example: of `Lineup::<Ten>::new(alloc)` the `moves` are empty.
+    pub fn new(alloc: Global) -> Self
+        ensures { result ≡ [] }
+    {
+        Lineup {
+            ply: Ply::new(alloc),
+        }
+    }
+
+    /// The moves with their ranks, that which is tried first before the others.
+    /// Example: lined up by a solver with `ByTrial` at `W:W27,45:B16`, the first is `27-21` with the rank 0.
+    pub fn moves(&self) -> &[(u32, Move<B>)]
+        ensures { result.now ≡ self.now }
+    {
+        self.ply.ranked.as_slice()
+    }
+}
