@@ -1,8 +1,7 @@
 -- Three sets tell of the same as the sets of each side and kind.
-use Rattle.std.proofs.Common.{◌≡◌, ◌∙◌, ◌-◌, ℕ, ◌↔◌, Bool, true, false, ◌&&◌, ◌||◌, not, leb, List, Option, Some, None, get_or}
-use Rattle.std.proofs.Common.{refl, sym, ap, subst, replicate}
+use Rattle.std.proofs.Common.{◌≡◌, ◌∙◌, ◌-◌, ℕ, Bool, true, false, ◌&&◌, ◌||◌, not, leb, List, Option, Some, None, get_or}
+use Rattle.std.proofs.Common.{refl, sym, subst}
 use Rattle.std.specs.FinSet as set
-use Rattle.std.specs.Ordering.{nat_cmp}
 use Rattle.std.specs.Cmp.{nat_cmp_total}
 use Rattle.dw_board.specs.declared.piece.Side.{Side}
 use Rattle.dw_board.specs.declared.piece.Side.TheVariants.{White, Black}
@@ -10,10 +9,10 @@ use Rattle.dw_board.specs.declared.piece.Kind.{Kind}
 use Rattle.dw_board.specs.declared.piece.Kind.TheVariants.{Man, King}
 use Rattle.dw_board.specs.declared.piece.Piece.{Piece}
 use Rattle.dw_board.specs.Geometry.{Geometry, Squares}
-use Rattle.dw_board.specs.Standing.{is_that, standing, cells_of, IsKept}
+use Rattle.dw_board.specs.Standing.{is_that, standing, IsKept}
 use Rattle.dw_board.specs.inner.StandingLemmas.{contains-standing}
 use Rattle.dw_board.specs.Packing.{parted, packed_cells, all_standing, kings_standing, IsPacked}
-use Rattle.dw_board.proofs.StandingLemmas.{kept-empty, cells_again}
+use Rattle.dw_board.proofs.StandingLemmas.{cells_again}
 
 abbrev Cells : Type 0
 Cells = List (Option Piece)

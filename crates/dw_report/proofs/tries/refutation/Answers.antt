@@ -1,5 +1,4 @@
-use Rattle.std.proofs.Common.{◌+◌, sym, ap, ◌∙◌, subst, refl, arith}
-use Rattle.dw_moves.specs.Moves.{play}
+use Rattle.std.proofs.Common.{◌+◌, sym, subst, refl, arith}
 use Rattle.dw_solve.specs.Wins.{Win}
 use Rattle.dw_solve.specs.Ranking.{AreRanked}
 use Rattle.dw_list.specs.inner.AskingLemmas.{answered, asked_then, asked_ok, asked_stop}
