@@ -1,5 +1,6 @@
 //! The moves of one position, in the order in which a search goes through them.
 ghost use Rattle.std.specs.Prelude.{◌≡◌, [], IfOk, OnOk, IfSome};
+ghost use Rattle.std.specs.List.Sorted.{IsNonDecreasingBy};
 ghost use Rattle.dw_moves.specs.Moves.{AreLegal};
 ghost use Rattle.dw_solve.specs.Ranking.{AreRanked};
 ghost use Rattle.dw_solve.specs.inner.Ranking.{IsLastWin, IsSureReply};
@@ -39,7 +40,8 @@ impl<B: Board> Ply<B> {
         position: &Position<B>,
         guide: &G,
     ) -> Result<(), AllocError>
-        ensures { OnOk result (AreRanked B.geometry position.now self.new.ranked.items) }
+        ensures ranked { OnOk result (AreRanked B.geometry position.now self.new.ranked.items) }
+        ensures order { OnOk result (IsNonDecreasingBy (λ r. r.0) self.new.ranked.items) }
     {
         self.gather(position, guide)?;
         self.ranked.sort_unstable_by_key(|ranked| ranked.0);

@@ -1,5 +1,6 @@
 //! The solver: forced wins of any position, over one cache.
 ghost use Rattle.std.specs.Prelude.{◌≡◌, ℕ, ◌≤◌, ◌<◌, ◌↔◌, ◌⊎◌, length, IfOk, OnOk, IsOk, IsErrOf, IsTrue};
+ghost use Rattle.std.specs.List.Sorted.{IsNonDecreasingBy};
 ghost use Rattle.dw_solve.specs.declared.stop.Stop.TheVariants.{Limit};
 ghost use Rattle.dw_solve.specs.Wins.{Win, Lost};
 ghost use Rattle.dw_memo.specs.Content.{IsMap, SameEntries};
@@ -187,7 +188,8 @@ impl<B: Board, M: Memo<B>, G: Guide<B>> Solver<B, M, G> {
     /// Example: with `ByTrial` at `W:W27,45:B16` the move `27-21`, which forces a capture, comes first, and others come
     /// after it, as `45-40` does.
     pub fn line_up(&self, position: &Position<B>, lineup: &mut Lineup<B>) -> Result<(), AllocError>
-        ensures { OnOk result (AreRanked B.geometry position.now lineup.new) }
+        ensures ranked { OnOk result (AreRanked B.geometry position.now lineup.new) }
+        ensures order { OnOk result (IsNonDecreasingBy (λ r. r.0) lineup.new) }
     {
         lineup.ply.fill(position, &self.search.guide)
     }
