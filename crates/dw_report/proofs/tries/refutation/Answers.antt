@@ -11,7 +11,7 @@ pub play-after-requires : goal.play-after-requires
 play-after-requires g c =
     let geo = g.B.Board.geometry in
     let q = c.args.position.now in
-    let all = subst (AreRanked geo q) (sym c.moves-reply-items.ensures) c.in_ok-line_up.ensures in
+    let all = subst (AreRanked geo q) (sym c.moves-reply-items.ensures) c.in_ok-line_up.ensures.ranked in
     legal_at (λ r. r.1) geo q c.moves-reply-items.result.now c.replies.reply-index c.reply-item.result all c.replies-test.true c.reply-item.is
 
 pub returns-in_err-wins-clause-asked : goal.returns-in_err-wins-clause-asked
@@ -29,7 +29,7 @@ returns-in-Some-clause-found g c =
     let q = c.args.position.now in
     let n = c.args.left in
     let items = c.moves-reply-items.result.now in
-    let all = subst (AreRanked geo q) (sym c.moves-reply-items.ensures) c.in_ok-line_up.ensures in
+    let all = subst (AreRanked geo q) (sym c.moves-reply-items.ensures) c.in_ok-line_up.ensures.ranked in
     let legal = legal_at (λ r. r.1) geo q items c.replies.reply-index c.reply-item.result all c.replies-test.true c.reply-item.is in
     let here : Refutes geo q n c.reply-item.result.1 = (legal, λ w. let yes = c.in_ok-wins.ensures.answer.1 (subst (λ z. Win geo z n) (sym c.play-after.ensures) w) in let not_so = c.if-not-branch.true in cc) in
     found_second (λ r. r.1) geo q n items c.replies.reply-index c.reply-item.result _ c.reply-item.result.1 all.once c.replies-test.true c.reply-item.is refl here
@@ -52,7 +52,7 @@ replies-preserved g c =
     let q = c.args.position.now in
     let n = c.args.left in
     let items = c.moves-reply-items.result.now in
-    let all = subst (AreRanked geo q) (sym c.moves-reply-items.ensures) c.in_ok-line_up.ensures in
+    let all = subst (AreRanked geo q) (sym c.moves-reply-items.ensures) c.in_ok-line_up.ensures.ranked in
     let legal = legal_at (λ r. r.1) geo q items c.replies.reply-index c.reply-item.result all c.replies-test.true c.reply-item.is in
     record {
       found = elim c.if-not-branch.branch [
@@ -75,5 +75,5 @@ pub returns-clause-found : goal.returns-clause-found
 returns-clause-found g c =
     let geo = g.B.Board.geometry in
     let q = c.args.position.now in
-    let all = subst (AreRanked geo q) (sym c.moves-reply-items.ensures) c.in_ok-line_up.ensures in
+    let all = subst (AreRanked geo q) (sym c.moves-reply-items.ensures) c.in_ok-line_up.ensures.ranked in
     found_all (λ r. r.1) geo q c.args.left c.moves-reply-items.result.now c.replies.reply-index c.replies.found (omega (arith, c.replies-test.false)) all c.replies.invariant.found
