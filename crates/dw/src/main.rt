@@ -1,7 +1,7 @@
 //! `dw`: problems of international draughts.
 #![tactic(auto)]
 
-ghost use Rattle.std.specs.Prelude.{◌≡◌, ◌≤◌, ◌⊎◌, false};
+ghost use Rattle.std.specs.Prelude.{◌≡◌, ◌≤◌, ◌⊎◌};
 ghost use Rattle.dw_solve.specs.Facts.{AreTrue};
 
 mod outcome;
@@ -19,12 +19,13 @@ use dw_memo::slot_memo::SlotMemo;
 use dw_moves::moves::Move;
 use dw_report::run::run;
 use dw_report::settings::{RunFault, Settings, Summary};
-use dw_report::streams::{Reading, Source, Writing};
+use dw_report::streams::{Reading, Writing};
 use dw_solve::guide::ByTrial;
 use outcome::{Ending, outcome};
 use std::env;
 use std::fmt::Display;
 use std::fs::File;
+use std::io::Read;
 use std::process::ExitCode;
 use words::{BoardSize, MemoKind, Request, command, requested};
 
@@ -132,23 +133,23 @@ fn report_with<B: Board, M: Memo<B> + Drop>(
     requires limit { 1 ≤ settings.now.limit }
 {
     let ran = match request.file {
-        None => report_on(rt, Reading::new(rt.stdin()), settings, memo),
+        None => report_on(rt, &mut rt.stdin(), settings, memo),
         Some(path) => match File::open(rt, path) {
-            Ok(file) => report_on(rt, Reading::new(file), settings, memo),
+            Ok(mut file) => report_on(rt, &mut file, settings, memo),
             Err(_) => return end_with(rt, Ending::NotOpened(path), settings.only),
         },
     };
     end_with(rt, Ending::Ran(ran), settings.only)
 }
 
-/// Writes the report on the problems of a source to standard output.
-fn report_on<B: Board, S: Source + Drop, M: Memo<B> + Drop>(
+/// Writes the report on the problems that the reader gives to standard output. A file and standard input are read
+/// through the same code.
+fn report_on<B: Board, M: Memo<B> + Drop>(
     rt: &HostRuntime,
-    mut source: S,
+    reader: &mut dyn Read,
     settings: &Settings<B>,
     memo: M,
 ) -> Result<Summary, RunFault>
-    requires source { S.is_failed source ≡ false }
     requires rows { (B.geometry.rows ≡ 10) ⊎ (B.geometry.rows ≡ 8) }
     requires right { AreTrue B.geometry (M.content memo) }
     requires some { 1 ≤ settings.now.n }
@@ -156,6 +157,7 @@ fn report_on<B: Board, S: Source + Drop, M: Memo<B> + Drop>(
     requires lines { 1 ≤ settings.now.lines }
     requires limit { 1 ≤ settings.now.limit }
 {
+    let mut source = Reading::new(reader);
     let mut sink = Writing::new(rt.stdout());
     run(rt.alloc(), &mut source, &mut sink, settings, memo, ByTrial)
 }
