@@ -1,5 +1,6 @@
 #!/usr/bin/env python3
-"""definitions.py: counts the definitions that a reader of the main contracts has to believe, and compares docs/PROVED.md.
+"""definitions.py: counts the definitions that a reader of the main contracts has to believe, and compares
+docs/PROVED.md.
 
     checks/definitions.py [--list]      with --list it prints the names, file by file
 
@@ -20,6 +21,7 @@ MOST = 120
 NAME = r"[\w'◌>=-]+"
 USE = re.compile(r"(?:ghost )?use (Rattle\.[\w.]+)\.\{(.*)\};?$")
 ALIAS = re.compile(r"(?:ghost )?use (Rattle\.[\w.]+) as (\w+);?$")
+BLOCK = re.compile(r"impl(?:<.*?>)? (?:(\w+).*? for )?(\w+)|(?:pub(?:\(crate\))? )?(?:struct|enum|trait) (\w+)")
 STARTS = re.compile(rf"(?:(?:abbrev|unfoldable) )?pub (?:(record|data) )?({NAME})(?: |$)")
 
 
@@ -91,7 +93,8 @@ class File(Imports):
         return self.definitions.get(name) or self.definitions.get(f"◌{name}◌") or self.cases.get(name)
 
 
-FILES = {file.module: file for file in map(File, sorted(CRATES.glob("*/specs/**/*.antt"))) if file.path.stem not in ("Lib", "inner")}
+SPECS = map(File, sorted(CRATES.glob("*/specs/**/*.antt")))
+FILES = {file.module: file for file in SPECS if file.path.stem not in ("Lib", "inner")}
 
 
 def named(text, imports):
@@ -135,7 +138,7 @@ def public_text(path):
     private = set(re.findall(r"^(?:pub\(crate\) )?(?:struct|enum|trait) (\w+)", text, re.MULTILINE)) | PRIVATE_TRAITS
     kept, impl, lines = [], "", iter(text.splitlines())
     for line in lines:
-        start = re.match(r"impl(?:<.*?>)? (?:(\w+).*? for )?(\w+)|(?:pub(?:\(crate\))? )?(?:struct|enum|trait) (\w+)", line)
+        start = BLOCK.match(line)
         impl = line if start else impl
         if start and private & set(start.groups()):
             skip(lines, line, "}")

@@ -6,9 +6,9 @@
 `rt ci` tries those in crates/CRATE/must-fail; more of them would take it too long. Those in checks/edits/CRATE have the
 same form. This program copies the tracked files, as they are now, to a temporary folder, puts these edits in the place
 of the gate's, and runs `rt must-fail` there, as many crates side by side as there are processors and 4 GB of memory for
-each. It prints what each run says as it ends, and ends with 0 if the prover refused every edit. What is built,
-crates/*/out, is copied too, so that the crates below are not proved again (`./dw` builds them). The first edit of a
-crate takes minutes, a further one 15 to 40 s.
+each. It prints what each run says as it ends, and ends with 0 if the prover refused every edit. What `rt lib` or
+`rt check` kept in crates/*/out is copied too. `rt lib` is run first in the crates named and in those that they stand
+on, lowest first, which takes minutes for each of which nothing is kept. After that an edit takes 15 to 40 s.
 
 Files that end in .borrow hold uses that must not compile, in the form of an edit. The borrow check has to refuse
 each, before any proof; `rt must-fail` does not take such edits, so this program tries them itself.
@@ -38,6 +38,32 @@ def copy_tracked(room):
 def copy_built(room):
     for built in TOP.glob("crates/*/out"):
         shutil.copytree(built, room / built.relative_to(TOP), symlinks=True)
+
+
+def lowest_first(crates):
+    """These crates and all that they stand on, each after those."""
+    lines = (line.split(":") for line in (TOP / "crates.txt").read_text().splitlines() if ":" in line)
+    named = {crate: used.split() for crate, used in lines}
+    found = []
+
+    def visit(crate):
+        for below in named[crate]:
+            if below in named:
+                visit(below)
+        if crate not in found:
+            found.append(crate)
+
+    for crate in crates:
+        visit(crate)
+    return found
+
+
+def build(room, crates):
+    """Proves and builds libraries. Where that fails, the edits of the crate can not be tried, as their run will say."""
+    for crate in lowest_first(crates):
+        if (room / "crates" / crate / "src/lib.rt").is_file():
+            subprocess.run(["rt", "lib", "--jobs", str(side_by_side())], cwd=room / "crates" / crate,
+                           stdout=subprocess.DEVNULL, stderr=subprocess.STDOUT, check=False)
 
 
 def put_edits(room, crate):
@@ -99,6 +125,7 @@ def main(words):
         room = pathlib.Path(name)
         copy_tracked(room)
         copy_built(room)
+        build(room, crates)
         for crate in crates:
             put_edits(room, crate)
         with concurrent.futures.ThreadPoolExecutor(side_by_side()) as pool:

@@ -2,10 +2,10 @@
 //!
 //!     rustc -O checks/solving.rs -o /tmp/solving && /tmp/solving < crates/dw_bench/src/problems.rt
 //!
-//! It reads positions in quotes, each behind the least number of moves within which the side to move is said to win, and
-//! prints the position, that number, the one that it finds up to it (0 for none), the positions expanded and the
-//! microseconds. It begins each problem with an empty table of what is known. With the word `bare` there is no table and no
-//! order of moves.
+//! It reads positions in quotes, each behind the least number of moves within which the side to move is said to win,
+//! and prints the position, that number, the one that it finds up to it (0 for none), the positions expanded and the
+//! microseconds. It begins each problem with an empty table of what is known. With the word `bare` there is no table
+//! and no order of moves.
 
 #[path = "bitboards.rs"]
 #[allow(dead_code)]
@@ -17,7 +17,8 @@ use std::time::Instant;
 
 const SLOTS: usize = 1 << 20;
 
-/// What is known of a position: the greatest number of moves within which it has no win, and the least within which it has.
+/// What is known of a position: the greatest number of moves within which it has no win, and the least within which it
+/// has one.
 type Slot = Option<(Position, u8, u8)>;
 
 struct Solver {
@@ -72,7 +73,8 @@ fn slot_of(position: &Position) -> usize {
 
 impl Solver {
     fn new(has_table: bool) -> Self {
-        Solver { slots: vec![None; if has_table { SLOTS } else { 0 }], expanded: 0, moves: Vec::new(), ranked: Vec::new() }
+        let slots = vec![None; if has_table { SLOTS } else { 0 }];
+        Solver { slots, expanded: 0, moves: Vec::new(), ranked: Vec::new() }
     }
 
     /// The greatest number of moves within which it is known that there is no win, and the least within which there is.

@@ -1,8 +1,8 @@
 //! `dw`: problems of international draughts.
 #![tactic(auto)]
 
-ghost use Rattle.std.specs.Prelude.{◌≡◌, ◌≤◌, ◌⊎◌};
-ghost use Rattle.dw_solve.specs.Facts.{AreTrue};
+ghost use Rattle.std.specs.Prelude.{◌≡◌, ◌≤◌, ◌⊎◌, [], IfOk};
+ghost use Rattle.dw_memo.specs.Choice.{content_of};
 
 mod outcome;
 mod words;
@@ -12,8 +12,8 @@ use clap::error::ErrorKind;
 use clap::{ArgMatches, Error};
 use dw_board::board::{Board, Eight, Ten};
 use dw_list::tokens::{MAX_MOVES, read_token};
+use dw_memo::any_memo::AnyMemo;
 use dw_memo::lru_memo::LruMemo;
-use dw_memo::memo::Memo;
 use dw_memo::no_memo::NoMemo;
 use dw_memo::slot_memo::SlotMemo;
 use dw_moves::moves::Move;
@@ -22,6 +22,7 @@ use dw_report::settings::{RunFault, Settings, Summary};
 use dw_report::streams::{Reading, Writing};
 use dw_solve::guide::ByTrial;
 use outcome::{Ending, outcome};
+use std::alloc::{AllocError, Global};
 use std::env;
 use std::fmt::Display;
 use std::fs::File;
@@ -74,7 +75,7 @@ fn obey(rt: &HostRuntime, matches: &ArgMatches<'_>) -> ExitCode {
     }
 }
 
-/// Reads the token, if there is one, and then makes the memo.
+/// Reads the token, if there is one, and then makes the memo, and with it the report.
 fn obey_on<B: Board>(rt: &HostRuntime, request: &Request<'_>) -> ExitCode
     requires { (B.geometry.rows ≡ 10) ⊎ (B.geometry.rows ≡ 8) }
 {
@@ -83,18 +84,22 @@ fn obey_on<B: Board>(rt: &HostRuntime, request: &Request<'_>) -> ExitCode
         Some(Ok(line)) => Some(line),
         Some(Err(fault)) => return end_with(rt, Ending::TokenRefused(fault), None),
     };
-    let settings = settings_of(request, after);
-    match request.memo {
-        MemoKind::None => report_with(rt, request, &settings, NoMemo::new()),
-        MemoKind::Lru => match LruMemo::new(rt.alloc(), request.kept()) {
-            Ok(memo) => report_with(rt, request, &settings, memo),
-            Err(_) => end_with(rt, Ending::Memory, None),
-        },
-        MemoKind::Slots => match SlotMemo::new(rt.alloc(), request.kept()) {
-            Ok(memo) => report_with(rt, request, &settings, memo),
-            Err(_) => end_with(rt, Ending::Memory, None),
-        },
+    match memo_of(rt.alloc(), request) {
+        Ok(memo) => report_with(rt, request, &settings_of(request, after), memo),
+        Err(_) => end_with(rt, Ending::Memory, None),
     }
+}
+
+/// The memo that was asked for, in which nothing is noted yet, or an error if out of memory.
+fn memo_of<B: Board>(alloc: Global, request: &Request<'_>) -> Result<AnyMemo<B>, AllocError>
+    ensures { IfOk result (λ memo. content_of memo ≡ []) }
+{
+    let memo = match request.memo {
+        MemoKind::None => AnyMemo::None(NoMemo::new()),
+        MemoKind::Lru => AnyMemo::Lru(LruMemo::new(alloc, request.kept())?),
+        MemoKind::Slots => AnyMemo::Slots(SlotMemo::new(alloc, request.kept())?),
+    };
+    Ok(memo)
 }
 
 /// What is asked of the run, with the line after which lines are listed.
@@ -119,14 +124,14 @@ fn settings_of<B: Board>(
 }
 
 /// Opens the file and writes the report.
-fn report_with<B: Board, M: Memo<B> + Drop>(
+fn report_with<B: Board>(
     rt: &HostRuntime,
     request: &Request<'_>,
     settings: &Settings<B>,
-    memo: M,
+    memo: AnyMemo<B>,
 ) -> ExitCode
     requires rows { (B.geometry.rows ≡ 10) ⊎ (B.geometry.rows ≡ 8) }
-    requires right { AreTrue B.geometry (M.content memo) }
+    requires empty { content_of memo ≡ [] }
     requires some { 1 ≤ settings.now.n }
     requires few { settings.now.n ≤ 20 }
     requires lines { 1 ≤ settings.now.lines }
@@ -144,14 +149,14 @@ fn report_with<B: Board, M: Memo<B> + Drop>(
 
 /// Writes the report on the problems that the reader gives to standard output. A file and standard input are read
 /// through the same code.
-fn report_on<B: Board, M: Memo<B> + Drop>(
+fn report_on<B: Board>(
     rt: &HostRuntime,
     reader: &mut dyn Read,
     settings: &Settings<B>,
-    memo: M,
+    memo: AnyMemo<B>,
 ) -> Result<Summary, RunFault>
     requires rows { (B.geometry.rows ≡ 10) ⊎ (B.geometry.rows ≡ 8) }
-    requires right { AreTrue B.geometry (M.content memo) }
+    requires empty { content_of memo ≡ [] }
     requires some { 1 ≤ settings.now.n }
     requires few { settings.now.n ≤ 20 }
     requires lines { 1 ≤ settings.now.lines }

@@ -1,4 +1,5 @@
 pub mod Bounding
+pub mod Choice
 pub mod Content
 pub mod Noting
 pub mod Holding

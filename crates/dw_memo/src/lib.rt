@@ -1,11 +1,13 @@
 //! Caches of what is known of positions: in how many moves the side to move wins, and in how many it doesn't.
 //!
 //! A caller works over the trait `Memo` and uses only its clauses: a cache may lose what was noted, and counts it.
-//! Begin with `Memo` and `Bounds`. `NoMemo`, `LruMemo` and `SlotMemo` are memos.
+//! Begin with `Memo` and `Bounds`. `NoMemo`, `LruMemo` and `SlotMemo` are memos, and
+//! `AnyMemo` is one of them.
 //!
 //! An example tells a position by its FEN text, on the board of ten rows if it names no other.
 #![tactic(auto)]
 
+pub mod any_memo;
 pub mod bounds;
 mod growing;
 pub mod lru_memo;
@@ -14,6 +16,7 @@ pub mod no_memo;
 mod slot;
 pub mod slot_memo;
 
+pub use any_memo::AnyMemo;
 pub use bounds::Bounds;
 pub use lru_memo::LruMemo;
 pub use memo::{Memo, Noted};

@@ -2,6 +2,7 @@
 
 use crate::asked::{AMPLE, Asked};
 use dw_board::board::Board;
+use dw_memo::any_memo::AnyMemo;
 use dw_memo::lru_memo::LruMemo;
 use dw_memo::no_memo::NoMemo;
 use dw_moves::moves::Move;
@@ -58,7 +59,11 @@ fn add_judged<B: Board>(judged: &Judged<B>, found: &mut Found) {
 /// What is judged of a position, with no cache.
 pub fn judged<B: Board>(alloc: Global, asked: &Asked<'_>, found: &mut Found) -> Option<()> {
     let position = read_position::<B>(asked.column(0))?;
-    let mut solver = Solver::<B, NoMemo, ByTrial>::new(NoMemo::new(), ByTrial, AMPLE);
+    let mut solver = Solver::<B, AnyMemo<B>, ByTrial>::new(
+        AnyMemo::None(NoMemo::new()),
+        ByTrial,
+        AMPLE,
+    );
     let judged = judge(alloc, &mut solver, &position, asked.moves()?).ok()?;
     add_judged(&judged, found);
     Some(())
@@ -68,8 +73,8 @@ pub fn judged<B: Board>(alloc: Global, asked: &Asked<'_>, found: &mut Found) -> 
 pub fn stopped<B: Board>(alloc: Global, asked: &Asked<'_>, found: &mut Found) -> Option<()> {
     let position = read_position::<B>(asked.column(0))?;
     let moves = asked.moves()?;
-    let memo = LruMemo::new(alloc, 1_000).ok()?;
-    let mut solver = Solver::<B, LruMemo<B>, ByTrial>::new(memo, ByTrial, 1);
+    let memo = AnyMemo::Lru(LruMemo::new(alloc, 1_000).ok()?);
+    let mut solver = Solver::<B, AnyMemo<B>, ByTrial>::new(memo, ByTrial, 1);
     for limit in 1..1_000 {
         let limit = solver.expanded().max(limit);
         solver.set_limit(limit);

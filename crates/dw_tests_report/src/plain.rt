@@ -4,6 +4,7 @@ ghost use Rattle.std.specs.Prelude.{◌≡◌, ◌⊎◌};
 use crate::asked::{AMPLE, Asked};
 use crate::runs::Ran;
 use dw_board::board::Board;
+use dw_memo::any_memo::AnyMemo;
 use dw_memo::no_memo::NoMemo;
 use dw_report::laws;
 use dw_report::run::run;
@@ -21,7 +22,7 @@ pub fn many<B: Board>(alloc: Global, asked: &Asked<'_>, found: &mut Found) -> Op
     let settings = asked.settings::<B>(AMPLE)?;
     let mut source = Reading::new(Repeated::new(b"a\n", lines));
     let mut sink = Writing::new(Narrow::new(alloc, 4096, 0));
-    let memo = NoMemo::new();
+    let memo = AnyMemo::None(NoMemo::new());
     let answer = run(alloc, &mut source, &mut sink, &settings, memo, AnyOrder);
     let written = sink.into_inner().taken;
     Ran { answer, written }.say(found)

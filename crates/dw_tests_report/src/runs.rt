@@ -1,10 +1,10 @@
 //! Runs over streams in memory.
-ghost use Rattle.std.specs.Prelude.{◌≡◌, ◌≤◌, ◌⊎◌};
-ghost use Rattle.dw_solve.specs.Facts.{AreTrue};
+ghost use Rattle.std.specs.Prelude.{◌≡◌, ◌≤◌, ◌⊎◌, [], IfSome};
+ghost use Rattle.dw_memo.specs.Choice.{content_of};
 
 use dw_board::board::Board;
+use dw_memo::any_memo::AnyMemo;
 use dw_memo::lru_memo::LruMemo;
-use dw_memo::memo::Memo;
 use dw_memo::no_memo::NoMemo;
 use dw_memo::slot_memo::SlotMemo;
 use dw_report::run::run;
@@ -37,15 +37,15 @@ impl Ran {
 }
 
 /// A run with a memo.
-fn run_over<B: Board, M: Memo<B> + Drop>(
+fn run_over<B: Board>(
     alloc: Global,
     settings: &Settings<B>,
-    memo: M,
+    memo: AnyMemo<B>,
     reader: Chopped<'_>,
     writer: Narrow,
 ) -> Ran
     requires rows { (B.geometry.rows ≡ 10) ⊎ (B.geometry.rows ≡ 8) }
-    requires right { AreTrue B.geometry (M.content memo) }
+    requires empty { content_of memo ≡ [] }
     requires some { 1 ≤ settings.now.n }
     requires few { settings.now.n ≤ 20 }
     requires lines { 1 ≤ settings.now.lines }
@@ -72,18 +72,20 @@ pub fn ran_with<B: Board>(
     requires lines { 1 ≤ settings.now.lines }
     requires limit { 1 ≤ settings.now.limit }
 {
+    let memo = new_memo(alloc, memo)?;
+    Some(run_over(alloc, settings, memo, reader, writer))
+}
+
+/// The memo that is named.
+fn new_memo<B: Board>(alloc: Global, memo: &str) -> Option<AnyMemo<B>>
+    ensures { IfSome result (λ m. content_of m ≡ []) }
+{
     let (name, size) = memo.split_once(':').unwrap_or((memo, "1"));
     let size = size.parse::<usize>().ok()?.clamp(1, 4_000_000);
     match name {
-        "none" => Some(run_over::<B, NoMemo>(alloc, settings, NoMemo::new(), reader, writer)),
-        "lru" => match LruMemo::new(alloc, size) {
-            Ok(memo) => Some(run_over(alloc, settings, memo, reader, writer)),
-            Err(_) => None,
-        },
-        "slots" => match SlotMemo::new(alloc, size) {
-            Ok(memo) => Some(run_over(alloc, settings, memo, reader, writer)),
-            Err(_) => None,
-        },
+        "none" => Some(AnyMemo::None(NoMemo::new())),
+        "lru" => Some(AnyMemo::Lru(LruMemo::new(alloc, size).ok()?)),
+        "slots" => Some(AnyMemo::Slots(SlotMemo::new(alloc, size).ok()?)),
         _ => None,
     }
 }

@@ -1,5 +1,6 @@
 //! Rows are asked with each cache and each order of moves that the head of their section names.
 ghost use Rattle.std.specs.Prelude.{◌≡◌, ◌≤◌, [], IfSome};
+ghost use Rattle.dw_memo.specs.Choice.{content_of};
 ghost use Rattle.dw_solve.specs.Facts.{AreTrue};
 
 use crate::kind::Kind;
@@ -7,6 +8,7 @@ use crate::lines::list_rows;
 use crate::notes::{crowded, notes};
 use crate::solve::{ByEnd, ask_rows};
 use dw_board::board::Board;
+use dw_memo::any_memo::AnyMemo;
 use dw_memo::lru_memo::LruMemo;
 use dw_memo::memo::Memo;
 use dw_memo::no_memo::NoMemo;
@@ -73,19 +75,23 @@ fn ask_memo<B: Board>(
 ) -> Option<()> {
     let (name, size) = memo.split_once(':').unwrap_or((memo, "1"));
     let size = size.parse::<usize>().ok()?.clamp(1, 4_000_000);
+    let (memo, spare) = (
+        new_memo::<B>(alloc, name, size)?,
+        new_memo(alloc, name, size)?,
+    );
+    ask_kind(alloc, kind, memo, spare, guide, rows, tally)
+}
+
+/// A new cache, `none`, `lru` or `slots`.
+fn new_memo<B: Board>(alloc: Global, name: &str, size: usize) -> Option<AnyMemo<B>>
+    requires some { 1 ≤ size }
+    requires most { size ≤ 4_000_000 }
+    ensures { IfSome result (λ m. content_of m ≡ []) }
+{
     match name {
-        "none" => {
-            let (memo, spare) = (NoMemo::new(), NoMemo::new());
-            ask_kind::<B, NoMemo>(alloc, kind, memo, spare, guide, rows, tally)
-        }
-        "lru" => {
-            let (memo, spare) = (latest::<B>(alloc, size)?, latest::<B>(alloc, size)?);
-            ask_kind(alloc, kind, memo, spare, guide, rows, tally)
-        }
-        "slots" => {
-            let (memo, spare) = (slots::<B>(alloc, size)?, slots::<B>(alloc, size)?);
-            ask_kind(alloc, kind, memo, spare, guide, rows, tally)
-        }
+        "none" => Some(AnyMemo::None(NoMemo::new())),
+        "lru" => Some(AnyMemo::Lru(latest(alloc, size)?)),
+        "slots" => Some(AnyMemo::Slots(slots(alloc, size)?)),
         _ => None,
     }
 }

@@ -1,0 +1,52 @@
+//! A memo whose kind is chosen while the program runs.
+ghost use Rattle.std.specs.Prelude.{⊤};
+ghost use Rattle.dw_memo.specs.Choice.{content_of, dropped_of};
+
+use crate::bounds::Bounds;
+use crate::lru_memo::LruMemo;
+use crate::memo::{Memo, Noted};
+use crate::no_memo::NoMemo;
+use crate::slot_memo::SlotMemo;
+use dw_board::board::Board;
+use dw_board::position::Position;
+
+/// One of the three kinds. What is built over it is compiled once, and not once for each kind.
+/// Example: `AnyMemo::<Ten>::Slots(SlotMemo::new(alloc, 1)?)` does what that memo does.
+#[derive(Drop)]
+pub enum AnyMemo<B: Board> {
+    None(NoMemo),
+    Lru(LruMemo<B>),
+    Slots(SlotMemo<B>),
+}
+
+impl<B: Board> Memo<B> for AnyMemo<B> {
+    ghost content = { content_of };
+
+    ghost dropped = { dropped_of };
+
+    ghost may_answer = { λ _. ⊤ };
+
+    fn look(&mut self, position: &Position<B>) -> Option<Bounds> {
+        match self {
+            AnyMemo::None(memo) => memo.look(position),
+            AnyMemo::Lru(memo) => memo.look(position),
+            AnyMemo::Slots(memo) => memo.look(position),
+        }
+    }
+
+    fn put(&mut self, position: &Position<B>, bounds: Bounds) -> Noted {
+        match self {
+            AnyMemo::None(memo) => memo.put(position, bounds),
+            AnyMemo::Lru(memo) => memo.put(position, bounds),
+            AnyMemo::Slots(memo) => memo.put(position, bounds),
+        }
+    }
+
+    fn dropped(&self) -> u64 {
+        match self {
+            AnyMemo::None(memo) => Memo::<B>::dropped(memo),
+            AnyMemo::Lru(memo) => memo.dropped(),
+            AnyMemo::Slots(memo) => memo.dropped(),
+        }
+    }
+}
