@@ -1,6 +1,7 @@
 //! The arguments of the command line.
 ghost use Rattle.std.specs.Prelude.{◌≤◌};
 
+use clap::builder::ValueParser;
 use clap::{Arg, ArgAction, ArgMatches, Command as Words, value_parser};
 use dw_notation::problems::Form;
 use dw_report::settings::Command;
@@ -151,13 +152,18 @@ fn subcommands<'a>(alloc: Global) -> Result<Vec<Words<'a>>, AllocError> {
     Ok(commands)
 }
 
+/// A command with its arguments: it reads problems, and may search for wins too, and list lines as well.
 fn subcommand<'a>(alloc: Global, command: Command) -> Result<Words<'a>, AllocError> {
-    let args = arguments(alloc, command)?;
     let [name, about, examples] = texts(command);
-    Words::new(alloc, name)
+    let words = Words::new(alloc, name)
         .about(about)
         .after_help(examples)
-        .args(args)
+        .args(reading(alloc)?)?;
+    match command {
+        Command::Show | Command::Moves => Ok(words),
+        Command::Judge => words.args(searching(alloc)?),
+        Command::List => words.args(searching(alloc)?)?.args(listing(alloc)?),
+    }
 }
 
 /// The name of a command, what it does, and how it is used.
@@ -170,54 +176,24 @@ fn texts<'a>(command: Command) -> [&'a str; 3] {
     }
 }
 
-/// The arguments of a command, which reads problems, and may search for wins too, and list lines as well.
-fn arguments<'a>(alloc: Global, command: Command) -> Result<Vec<Arg<'a>>, AllocError> {
-    match command {
-        Command::Show | Command::Moves => reading(alloc),
-        Command::Judge => searching(alloc),
-        Command::List => listing(alloc),
-    }
-}
-
+/// The arguments of every command.
 fn reading<'a>(alloc: Global) -> Result<Vec<Arg<'a>>, AllocError> {
     Ok(vec![in alloc; board(alloc), pdn(alloc), problem(alloc), file(alloc)]?)
 }
 
+/// The arguments of a command that searches for wins.
 fn searching<'a>(alloc: Global) -> Result<Vec<Arg<'a>>, AllocError> {
-    Ok(vec![in alloc;
-        board(alloc),
-        pdn(alloc),
-        problem(alloc),
-        file(alloc),
-        within(alloc),
-        positions(alloc),
-        memo(alloc),
-        cache(alloc),
-    ]?)
+    Ok(vec![in alloc; within(alloc), positions(alloc), memo(alloc), cache(alloc)]?)
 }
 
+/// The arguments of the command that lists lines.
 fn listing<'a>(alloc: Global) -> Result<Vec<Arg<'a>>, AllocError> {
-    Ok(vec![in alloc;
-        board(alloc),
-        pdn(alloc),
-        problem(alloc),
-        file(alloc),
-        within(alloc),
-        positions(alloc),
-        memo(alloc),
-        cache(alloc),
-        lines(alloc),
-        after(alloc),
-    ]?)
+    Ok(vec![in alloc; lines(alloc), after(alloc)]?)
 }
 
 fn board<'a>(alloc: Global) -> Arg<'a> {
-    Arg::new(alloc, "board")
-        .long("board")
-        .value_name("ROWS")
-        .value_parser(["10", "8"].as_slice())
-        .default_value("10")
-        .help("The board: 10 by 10 or 8 by 8")
+    let help = "The board: 10 by 10 or 8 by 8";
+    option(alloc, "board", "ROWS", ["10", "8"].as_slice().into(), help).default_value("10")
 }
 
 fn pdn<'a>(alloc: Global) -> Arg<'a> {
@@ -228,11 +204,9 @@ fn pdn<'a>(alloc: Global) -> Arg<'a> {
 }
 
 fn problem<'a>(alloc: Global) -> Arg<'a> {
-    Arg::new(alloc, "problem")
-        .long("problem")
-        .value_name("I")
-        .value_parser(value_parser!(u32).range(1..=1_000_000))
-        .help("Report on the problem of this number alone, 1 to 1000000 [default: all]")
+    let numbers = value_parser!(u32).range(1..=1_000_000);
+    let help = "Report on the problem of this number alone, 1 to 1000000 [default: all]";
+    option(alloc, "problem", "I", numbers, help)
 }
 
 fn file<'a>(alloc: Global) -> Arg<'a> {
@@ -249,43 +223,47 @@ fn within<'a>(alloc: Global) -> Arg<'a> {
 }
 
 fn positions<'a>(alloc: Global) -> Arg<'a> {
-    Arg::new(alloc, "positions")
-        .long("positions")
-        .value_name("L")
-        .value_parser(value_parser!(u64).range(1..=1_000_000_000_000))
-        .help("Stop after L positions, 1 to 1000000000000 [default: 1000000000000]")
+    let numbers = value_parser!(u64).range(1..=1_000_000_000_000);
+    let help = "Stop after L positions, 1 to 1000000000000 [default: 1000000000000]";
+    option(alloc, "positions", "L", numbers, help)
 }
 
 fn memo<'a>(alloc: Global) -> Arg<'a> {
-    Arg::new(alloc, "memo")
-        .long("memo")
-        .value_name("KIND")
-        .value_parser(["none", "lru", "slots"].as_slice())
-        .default_value("lru")
-        .help("What is kept of the search: nothing, the positions used last, or a fixed table")
+    let kinds = ["none", "lru", "slots"].as_slice().into();
+    let help = "What is kept of the search: nothing, the positions used last, or a fixed table";
+    option(alloc, "memo", "KIND", kinds, help).default_value("lru")
 }
 
 fn cache<'a>(alloc: Global) -> Arg<'a> {
-    Arg::new(alloc, "cache")
-        .long("cache")
-        .value_name("C")
-        .value_parser(value_parser!(u32).range(1..=4_000_000))
-        .help("Keep at most C positions, 1 to 4000000 [default: 100000]")
+    let numbers = value_parser!(u32).range(1..=4_000_000);
+    let help = "Keep at most C positions, 1 to 4000000 [default: 100000]";
+    option(alloc, "cache", "C", numbers, help)
 }
 
 fn lines<'a>(alloc: Global) -> Arg<'a> {
-    Arg::new(alloc, "lines")
-        .long("lines")
-        .value_name("K")
-        .value_parser(value_parser!(u64).range(1..=1_000_000_000))
-        .help("List at most K lines, 1 to 1000000000 [default: 1000000000]")
+    let numbers = value_parser!(u64).range(1..=1_000_000_000);
+    let help = "List at most K lines, 1 to 1000000000 [default: 1000000000]";
+    option(alloc, "lines", "K", numbers, help)
 }
 
 fn after<'a>(alloc: Global) -> Arg<'a> {
-    Arg::new(alloc, "after")
-        .long("after")
-        .value_name("TOKEN")
-        .help("Begin after the line of this token, of problem 1 or that of --problem")
+    let help = "Begin after the line of this token, of problem 1 or that of --problem";
+    option(alloc, "after", "TOKEN", ValueParser::string(), help)
+}
+
+/// An argument that is named `--name` and has a value.
+fn option<'a>(
+    alloc: Global,
+    name: &'a str,
+    value_name: &'a str,
+    values: ValueParser<'a>,
+    help: &'a str,
+) -> Arg<'a> {
+    Arg::new(alloc, name)
+        .long(name)
+        .value_name(value_name)
+        .value_parser(values)
+        .help(help)
 }
 
 /// What parsed arguments ask for.
