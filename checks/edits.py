@@ -5,10 +5,10 @@
 
 `rt ci` tries those in crates/CRATE/must-fail; more of them would take it too long. Those in checks/edits/CRATE have the
 same form. This program copies the tracked files, as they are now, to a temporary folder, puts these edits in the place
-of the gate's, and runs `rt must-fail` there, as many crates side by side as there are processors and 4 GB of memory for
-each. It prints what each run says as it ends, and ends with 0 if the prover refused every edit. What `rt lib` or
-`rt check` kept in crates/*/out is copied too. `rt lib` is run first in the crates named and in those that they stand
-on, lowest first, which takes minutes for each of which nothing is kept. After that an edit takes 15 to 40 s.
+of the gate's, and runs `rt must-fail` there over all of them, which tries as many side by side as there are processors
+and memory for, and says at its end what came of each. This program ends with 0 if the prover refused every edit. What
+`rt lib` or `rt check` kept in crates/*/out is copied too. `rt lib` is run first in the crates named and in those that
+they stand on, lowest first, which takes minutes for each of which nothing is kept. After that an edit takes 15 to 40 s.
 
 Files that end in .borrow hold uses that must not compile, in the form of an edit. The borrow check has to refuse
 each, before any proof; `rt must-fail` does not take such edits, so this program tries them itself.
@@ -40,30 +40,39 @@ def copy_built(room):
         shutil.copytree(built, room / built.relative_to(TOP), symlinks=True)
 
 
-def lowest_first(crates):
-    """These crates and all that they stand on, each after those."""
+def named_by():
+    """Of each crate, those of the repository that it names."""
     lines = (line.split(":") for line in (TOP / "crates.txt").read_text().splitlines() if ":" in line)
     named = {crate: used.split() for crate, used in lines}
-    found = []
+    return {crate: [name for name in used if name in named] for crate, used in named.items()}
 
-    def visit(crate):
-        for below in named[crate]:
-            if below in named:
-                visit(below)
+
+def with_all_below(crates, named):
+    """These crates and all that they stand on."""
+    found, left = set(), list(crates)
+    while left:
+        crate = left.pop()
         if crate not in found:
-            found.append(crate)
-
-    for crate in crates:
-        visit(crate)
+            found.add(crate)
+            left += named[crate]
     return found
 
 
 def build(room, crates):
-    """Proves and builds libraries. Where that fails, the edits of the crate can not be tried, as their run will say."""
-    for crate in lowest_first(crates):
-        if (room / "crates" / crate / "src/lib.rt").is_file():
-            subprocess.run(["rt", "lib", "--jobs", str(side_by_side())], cwd=room / "crates" / crate,
-                           stdout=subprocess.DEVNULL, stderr=subprocess.STDOUT, check=False)
+    """Proves and builds libraries, those side by side that stand on none that is left. Where that fails, the edits of
+    the crate can not be tried, as their run will say."""
+
+    def build_one(crate):
+        subprocess.run(["rt", "lib", "--jobs", str(side_by_side())], cwd=room / "crates" / crate,
+                       stdout=subprocess.DEVNULL, stderr=subprocess.STDOUT, check=False)
+
+    named = named_by()
+    left = {crate for crate in with_all_below(crates, named) if (room / "crates" / crate / "src/lib.rt").is_file()}
+    while left:
+        ready = [crate for crate in left if left.isdisjoint(named[crate])]
+        with concurrent.futures.ThreadPoolExecutor(len(ready)) as pool:
+            list(pool.map(build_one, ready))
+        left -= set(ready)
 
 
 def put_edits(room, crate):
@@ -102,15 +111,15 @@ def compiles(room, crate, edit):
     return "error[borrow-" not in run.stdout
 
 
-def tried(room, crate):
-    run = subprocess.run(["rt", "must-fail", crate], cwd=room, stdout=subprocess.PIPE, stderr=subprocess.STDOUT,
-                         text=True, check=False)
-    status, text = run.returncode, run.stdout
-    for edit in sorted((EDITS / crate).glob("*.borrow")):
-        passes = compiles(room, crate, edit)
-        status = 1 if passes else status
-        text += f"{crate}/{edit.name}: {'NOT REFUSED' if passes else 'refused, as it must be'} by the borrow check\n"
-    return crate, status, text
+def all_refused(room, crates):
+    """Whether the prover refused each edit of these crates, and the borrow check each use that must not compile."""
+    passed = subprocess.run(["rt", "must-fail", *crates], cwd=room, check=False).returncode == 0
+    for crate in crates:
+        for edit in sorted((EDITS / crate).glob("*.borrow")):
+            passes = compiles(room, crate, edit)
+            passed = passed and not passes
+            print(f"{crate}/{edit.name}: {'NOT REFUSED' if passes else 'refused, as it must be'} by the borrow check")
+    return passed
 
 
 def main(words):
@@ -120,7 +129,6 @@ def main(words):
         print(f"edits.py: no edits of {' '.join(unknown)}; there are some of {' '.join(known)}", file=sys.stderr)
         return 2
     crates = words or known
-    failed = []
     with tempfile.TemporaryDirectory(prefix="dw-edits-") as name:
         room = pathlib.Path(name)
         copy_tracked(room)
@@ -128,15 +136,9 @@ def main(words):
         build(room, crates)
         for crate in crates:
             put_edits(room, crate)
-        with concurrent.futures.ThreadPoolExecutor(side_by_side()) as pool:
-            for run in concurrent.futures.as_completed([pool.submit(tried, room, crate) for crate in crates]):
-                crate, status, text = run.result()
-                print(f"== {crate}\n{text}", end="", flush=True)
-                if status != 0:
-                    failed.append(crate)
-    said = "not all were refused in " + " ".join(sorted(failed)) if failed else "each edit was refused"
-    print(f"edits.py: {said}")
-    return 1 if failed else 0
+        passed = all_refused(room, crates)
+    print("edits.py: each edit was refused" if passed else "edits.py: not all were refused, as told above")
+    return 0 if passed else 1
 
 
 if __name__ == "__main__":

@@ -1,5 +1,6 @@
 -- A position stays one where some squares are emptied, and its sets lose these squares.
-use Rattle.std.proofs.Common.{◌≡◌, ◌∙◌, ℕ, ◌+◌, ◌-◌, ◌≤◌, ◌<◌, Bool, true, false, cond, not, ◌&&◌, leb, List, [], ◌∷◌, Option, None, length, get_or, map, count_by, refl, sym, ap, subst, arith, inl, inr}
+use Rattle.std.proofs.Common.{◌≡◌, ◌∙◌, ℕ, ◌+◌, ◌-◌, ◌≤◌, ◌<◌, Bool, true, false, cond, not, ◌&&◌, leb, List, [], ◌∷◌}
+use Rattle.std.proofs.Common.{Option, None, length, get_or, map, count_by, refl, sym, ap, subst, arith, inl, inr}
 use Rattle.std.specs.List.{range_with_len}
 use Rattle.std.specs.FinSet as set
 use Rattle.std.specs.Cmp.{nat_cmp_total}
@@ -18,29 +19,34 @@ use Rattle.dw_board.specs.Standing.{is_that, standing, IsKept}
 use Rattle.dw_board.specs.inner.StandingLemmas.{contains-standing}
 
 -- ---- each square
-here : (p : Placement) (emptied : Squares) (s : ℕ) → 1 ≤ s → s ≤ 50 → get_or (without p emptied).cells (s - 1) None ≡ left p emptied s
+here : (p : Placement) (emptied : Squares) (s : ℕ) → 1 ≤ s → s ≤ 50 → get_or (without p emptied).cells (s - 1) None
+    ≡ left p emptied s
 here p emptied s low high = get_or-map-range_with_len (left p emptied) 1 50 (s - 1) s None (omega arith) (omega arith)
 
 past : (p : Placement) (emptied : Squares) (s : ℕ) → 50 < s → get_or (without p emptied).cells (s - 1) None ≡ None
-past p emptied s high = get_or_past (without p emptied).cells (s - 1) None (omega (arith, length-map-range_with_len (left p emptied) 1 50))
+past p emptied s high = get_or_past (without p emptied).cells (s - 1) None
+    (omega (arith, length-map-range_with_len (left p emptied) 1 50))
 
 either : (P : Option Piece → Type 0) (b : Bool) (o : Option Piece) → P None → P o → P (cond b None o)
 either P true o none some = none
 either P false o none some = some
 
 -- what holds of an empty square and of the square before, holds of the square after
-holds : (P : Option Piece → Type 0) (p : Placement) (emptied : Squares) (s : ℕ) → 1 ≤ s → P None → P (at p s) → P (get_or (without p emptied).cells (s - 1) None)
+holds : (P : Option Piece → Type 0) (p : Placement) (emptied : Squares) (s : ℕ) → 1 ≤ s → P None → P (at p s)
+    → P (get_or (without p emptied).cells (s - 1) None)
 holds P p emptied s low none before = elim (cases_lt 50 s) [
   | inl high ↦ subst P (sym (past p emptied s high)) none
   | inr fits ↦ subst P (sym (here p emptied s low fits)) (either P (set.contains emptied s) (at p s) none before)
 ]
 
 -- ---- the number of pieces
-fewer_here : (side : Side) (b : Bool) (o : Option Piece) → cond (is_of side (cond b None o)) 1 0 ≤ cond (is_of side o) 1 0
+fewer_here : (side : Side) (b : Bool) (o : Option Piece) → cond (is_of side (cond b None o)) 1 0
+    ≤ cond (is_of side o) 1 0
 fewer_here side true o = omega arith
 fewer_here side false o = omega arith
 
-fewer : (side : Side) (p : Placement) (emptied : Squares) (xs : List ℕ) → count_by (is_of side) (map (left p emptied) xs) ≤ count_by (is_of side) (map (at p) xs)
+fewer : (side : Side) (p : Placement) (emptied : Squares) (xs : List ℕ)
+    → count_by (is_of side) (map (left p emptied) xs) ≤ count_by (is_of side) (map (at p) xs)
 fewer side p emptied [] = omega arith
 fewer side p emptied (x ∷ xs) =
     let a = fewer_here side (set.contains emptied x) (at p x) in
@@ -55,13 +61,15 @@ all_cells p fifty = ext_get_or None _ _ (length-map-range_with_len (at p) 1 50 �
     let behind : i + 1 - 1 ≡ i = omega arith in
     get_or-map-range_with_len (at p) 1 50 i (i + 1) None few (omega arith) ∙ ap (λ k. get_or p.cells k None) behind)
 
-pub few_left : (side : Side) (p : Placement) (emptied : Squares) (limit : ℕ) → length p.cells ≡ 50 → count_by (is_of side) p.cells ≤ limit → count_by (is_of side) (without p emptied).cells ≤ limit
+pub few_left : (side : Side) (p : Placement) (emptied : Squares) (limit : ℕ) → length p.cells ≡ 50
+    → count_by (is_of side) p.cells ≤ limit → count_by (is_of side) (without p emptied).cells ≤ limit
 few_left side p emptied limit fifty fits =
     let a = fewer side p emptied (range_with_len 1 50) in
     let b = ap (count_by (is_of side)) (all_cells p fifty) in
     omega arith
 
-IsPosition-without : (g : Geometry) (p : Placement) (emptied : Squares) → IsPosition g p.cells → IsPosition g (without p emptied).cells
+IsPosition-without : (g : Geometry) (p : Placement) (emptied : Squares) → IsPosition g p.cells
+    → IsPosition g (without p emptied).cells
 IsPosition-without g p emptied is = record {
   fifty = length-map-range_with_len (left p emptied) 1 50;
   on_board = λ s high. holds (λ o. o ≡ None) p emptied s (omega arith) refl (is.on_board s high);
@@ -71,23 +79,30 @@ IsPosition-without g p emptied is = record {
 }
 
 -- ---- the sets
-that_left : (side : Side) (k : Kind) (b : Bool) (o : Option Piece) → is_that side k (cond b None o) ≡ (is_that side k o && not b)
+that_left : (side : Side) (k : Kind) (b : Bool) (o : Option Piece) → is_that side k (cond b None o)
+    ≡ (is_that side k o && not b)
 that_left side k true o = sym (and-false _)
 that_left side k false o = sym (and-true _)
 
-standing-without : (p : Placement) (emptied : Squares) (side : Side) (k : Kind) → standing (without p emptied).cells side k ≡ set.difference (standing p.cells side k) emptied
+standing-without : (p : Placement) (emptied : Squares) (side : Side) (k : Kind)
+    → standing (without p emptied).cells side k ≡ set.difference (standing p.cells side k) emptied
 standing-without p emptied side k = set.same_set nat_cmp_total set.nat_cmp-IsAntisymmetric _ _ (λ q.
     contains-standing (without p emptied).cells side k q
     ∙ (elim (cases_Bool (leb 1 q && leb q 50)) [
       | inl e ↦
           let r = and_parts _ _ e in
-          rw e (ap (is_that side k) (here p emptied q (leb-true _ _ r.0) (leb-true _ _ r.1)) ∙ that_left side k (set.contains emptied q) (at p q))
+          rw e (ap (is_that side k) (here p emptied q (leb-true _ _ r.0) (leb-true _ _ r.1))
+          ∙ that_left side k (set.contains emptied q) (at p q))
       | inr e ↦ rw e refl
-    ] ∙ sym (set.contains-difference nat_cmp_total (standing p.cells side k) emptied q ∙ ap (λ b. b && not (set.contains emptied q)) (contains-standing p.cells side k q))))
+    ] ∙ sym (set.contains-difference nat_cmp_total (standing p.cells side k) emptied q
+    ∙ ap (λ b. b && not (set.contains emptied q)) (contains-standing p.cells side k q))))
 
-pub kept-without : (g : Geometry) (p : Placement) (sets now : Side → Kind → Squares) (emptied : Squares) → IsKept g p.cells sets
-    → ((side : Side) (k : Kind) → now side k ≡ set.difference (sets side k) emptied) → IsKept g (without p emptied).cells now
+pub kept-without : (g : Geometry) (p : Placement) (sets now : Side → Kind → Squares) (emptied : Squares)
+    → IsKept g p.cells sets
+    → ((side : Side) (k : Kind) → now side k ≡ set.difference (sets side k) emptied)
+    → IsKept g (without p emptied).cells now
 kept-without g p sets now emptied is goes = record {
   position = IsPosition-without g p emptied is.position;
-  standing_is = λ side k. standing-without p emptied side k ∙ (ap (λ v. set.difference v emptied) (is.standing_is side k) ∙ sym (goes side k));
+  standing_is = λ side k. standing-without p emptied side k
+      ∙ (ap (λ v. set.difference v emptied) (is.standing_is side k) ∙ sym (goes side k));
 }

@@ -1,5 +1,6 @@
 -- The laws of FEN texts.
-use Rattle.std.proofs.Common.{◌≡◌, ℕ, ◌+◌, ◌-◌, ◌≤◌, ◌<◌, true, false, ltb, List, [], ◌∷◌, ◌++◌, length, take, Result, Ok, Err, refl, sym, ap, ◌∙◌, subst, arith, ◌⊎◌, inl, inr, ◌↔◌}
+use Rattle.std.proofs.Common.{◌≡◌, ℕ, ◌+◌, ◌-◌, ◌≤◌, ◌<◌, true, false, ltb, List, [], ◌∷◌, ◌++◌, length, take, Result}
+use Rattle.std.proofs.Common.{Ok, Err, refl, sym, ap, ◌∙◌, subst, arith, ◌⊎◌, inl, inr, ◌↔◌}
 use Rattle.std.proofs.lemmas.Bool.{cases_lt, lt-ltb, le-ltb}
 use Rattle.std.proofs.lemmas.List.{take_all, length-take-le}
 use Rattle.dw_board.specs.Geometry.{Geometry, IsBoard}
@@ -20,14 +21,18 @@ use Rattle.dw_board.proofs.FenWrittenLemmas.{written_names, length-written}
 fen-long : (g : Geometry) (text : List ℕ) → 1024 < length text → fen g text ≡ fault TooLong 1025
 fen-long g text h = let l : ltb 1024 (length text) ≡ true = lt-ltb 1024 (length text) h in rw l refl
 
-fen-short : (g : Geometry) (text : List ℕ) → length text ≤ 1024 → fen g text ≡ read_from g (length text + 1) Start (tokens_from 1 text)
+fen-short : (g : Geometry) (text : List ℕ) → length text ≤ 1024
+    → fen g text ≡ read_from g (length text + 1) Start (tokens_from 1 text)
 unfolding short_fen
 fen-short g text h = let l : ltb 1024 (length text) ≡ false = le-ltb 1024 (length text) h in rw l refl
 
 is_fen : (g : Geometry) (text : List ℕ) (p : Placement) → fen g text ≡ Ok p → Fen g text p
 is_fen g text p e = elim (cases_lt 1024 (length text)) [
   | inl long ↦ let bad : fault TooLong 1025 ≡ Ok p = sym (fen-long g text long) ∙ e in cc
-  | inr short ↦ (short, read_follows g (length text + 1) Start (tokens_from 1 text) p (sym (fen-short g text short) ∙ e))
+  | inr short ↦ (
+    short,
+    read_follows g (length text + 1) Start (tokens_from 1 text) p (sym (fen-short g text short) ∙ e),
+  )
 ]
 
 is_read : (g : Geometry) (text : List ℕ) (p : Placement) → Fen g text p → fen g text ≡ Ok p
@@ -51,9 +56,18 @@ names_one g text p q h k = same_ok p q (fen g text) (is_read g text p h) (is_rea
 not_both : (r : Result Placement FenFault) (p : Placement) (f : FenFault) → r ≡ Ok p → r ≡ Err f → ⊥
 not_both r p f e h = cc
 
-answer : (g : Geometry) (text : List ℕ) (r : Result Placement FenFault) → fen g text ≡ r → IsFen g text ⊎ IsFaulty g text
-answer g text (Ok p) e = inl (record { position = p; names = is_fen g text p e; no_fault = λ f h. not_both (fen g text) p f e h })
-answer g text (Err f) e = inr (record { fault = f; first = e; names_none = λ p h. not_both (fen g text) p f (is_read g text p h) e })
+answer : (g : Geometry) (text : List ℕ) (r : Result Placement FenFault) → fen g text ≡ r → IsFen g text
+    ⊎ IsFaulty g text
+answer g text (Ok p) e = inl (record {
+  position = p;
+  names = is_fen g text p e;
+  no_fault = λ f h. not_both (fen g text) p f e h;
+})
+answer g text (Err f) e = inr (record {
+  fault = f;
+  first = e;
+  names_none = λ p h. not_both (fen g text) p f (is_read g text p h) e;
+})
 
 pub either_fen_or_faulty : (g : Geometry) (text : List ℕ) → IsFen g text ⊎ IsFaulty g text
 either_fen_or_faulty g text = answer g text (fen g text) refl
@@ -62,44 +76,56 @@ fen-is_short : (g : Geometry) (text : List ℕ) → length text ≤ 1024 → fen
 fen-is_short g text h = let l : ltb 1024 (length text) ≡ false = le-ltb 1024 (length text) h in rw l refl
 
 -- what a short text is read as is what the grammar gives it
-pub short_is_grammar : (g : Geometry) (text : List ℕ) (r : Result Placement FenFault) → length text ≤ 1024 → r ≡ short_fen g text → (p : Placement) → (r ≡ Ok p) ↔ Fen g text p
+pub short_is_grammar : (g : Geometry) (text : List ℕ) (r : Result Placement FenFault) → length text ≤ 1024
+    → r ≡ short_fen g text → (p : Placement) → (r ≡ Ok p) ↔ Fen g text p
 short_is_grammar g text r short is p =
     let same : r ≡ fen g text = is ∙ sym (fen-is_short g text short) in
     ((λ e. is_fen g text p (sym same ∙ e)), (λ h. same ∙ is_read g text p h))
 
 -- ---- the earliest fault
-err_read : (g : Geometry) (text : List ℕ) (f : FenFault) → length text ≤ 1024 → fen g text ≡ Err f → read_from g (length text + 1) Start (tokens_from 1 text) ≡ Err f
+err_read : (g : Geometry) (text : List ℕ) (f : FenFault) → length text ≤ 1024 → fen g text ≡ Err f
+    → read_from g (length text + 1) Start (tokens_from 1 text) ≡ Err f
 err_read g text f short e = sym (fen-short g text short) ∙ e
 
-stands_at : (g : Geometry) (end : ℕ) (tokens : List Token) (place : ℕ) → Found g end tokens place → StandsAt g tokens end place
+stands_at : (g : Geometry) (end : ℕ) (tokens : List Token) (place : ℕ) → Found g end tokens place
+    → StandsAt g tokens end place
 stands_at g end tokens place (inl soon) = subst (StandsAt g tokens end) (sym soon.0) (at_text_end soon.1)
 stands_at g end tokens place (inr at) =
-    subst (λ l. StandsAt g l end place) (sym at.is) (subst (StandsAt g (at.before ++ at.t ∷ at.rest) end) (sym at.here) (there at.leads)) where
-      there : LeadNowhere g (at.before ++ at.t ∷ []) ⊎ RangeBehind g at.before at.t at.rest → StandsAt g (at.before ++ at.t ∷ at.rest) end at.t.place
+    subst (λ l. StandsAt g l end place) (sym at.is) (subst (StandsAt g (at.before ++ at.t ∷ at.rest) end) (sym at.here)
+    (there at.leads)) where
+      there : LeadNowhere g (at.before ++ at.t ∷ []) ⊎ RangeBehind g at.before at.t at.rest
+          → StandsAt g (at.before ++ at.t ∷ at.rest) end at.t.place
       there (inl leads) = at_token at.before at.t at.rest leads
-      there (inr r) = subst (λ l. StandsAt g (at.before ++ at.t ∷ l) end at.t.place) (sym r.is) (at_range at.before at.t r.dash r.to r.others r.is_range r.leads)
+      there (inr r) = subst (λ l. StandsAt g (at.before ++ at.t ∷ l) end at.t.place) (sym r.is)
+          (at_range at.before at.t r.dash r.to r.others r.is_range r.leads)
 
-pub none_goes_on : (g : Geometry) (text : List ℕ) (f : FenFault) → length text ≤ 1024 → fen g text ≡ Err f → StandsAt g (tokens_from 1 text) (length text + 1) f.place
-none_goes_on g text f short e = stands_at g (length text + 1) (tokens_from 1 text) f.place (found g (length text + 1) (tokens_from 1 text) f (err_read g text f short e))
+pub none_goes_on : (g : Geometry) (text : List ℕ) (f : FenFault) → length text ≤ 1024 → fen g text ≡ Err f
+    → StandsAt g (tokens_from 1 text) (length text + 1) f.place
+none_goes_on g text f short e = stands_at g (length text + 1) (tokens_from 1 text) f.place
+    (found g (length text + 1) (tokens_from 1 text) f (err_read g text f short e))
 
 same_err : (f h : FenFault) (r : Result Placement FenFault) → r ≡ Err f → r ≡ Err h → h ≡ f
 same_err f h r e k = cc
 
-pub none_before : (g : Geometry) (text : List ℕ) (f earlier : FenFault) → length text ≤ 1024 → fen g text ≡ Err f → fen g (take (f.place - 1) text) ≡ Err earlier → earlier.place ≡ f.place
-none_before g text f earlier short e h = elim (found g (length text + 1) (tokens_from 1 text) f (err_read g text f short e)) [
-  | inl soon ↦
-      let place : f.place ≡ length text + 1 = soon.0 in
-      let same : take (f.place - 1) text ≡ text = take_all (f.place - 1) text (omega arith) in
-      ap (λ x. x.place) (same_err f earlier (fen g text) e (ap (fen g) (sym same) ∙ h))
-  | inr at ↦
-      let cut = cut_at 1 text at.before at.t at.rest at.is in
-      let place : f.place ≡ at.t.place = at.here in
-      let low : 1 ≤ at.t.place = cut.low in
-      let high : at.t.place < 1 + length text = cut.high in
-      let front : List ℕ = take (f.place - 1) text in
-      let size : length front ≡ f.place - 1 = length-take-le (f.place - 1) text (omega arith) in
-      let tokens : tokens_from 1 front ≡ at.before = ap (λ k. tokens_from 1 (take (k - 1) text)) place ∙ cut.cut in
-      let read : read_from g (length front + 1) Start at.before ≡ Err earlier = ap (read_from g (length front + 1) Start) (sym tokens) ∙ err_read g front earlier (omega arith) h in
-      let end : earlier.place ≡ length front + 1 = at.clear (length front + 1) earlier read in
-      omega arith
-]
+pub none_before : (g : Geometry) (text : List ℕ) (f earlier : FenFault) → length text ≤ 1024 → fen g text ≡ Err f
+    → fen g (take (f.place - 1) text) ≡ Err earlier → earlier.place ≡ f.place
+none_before g text f earlier short e h = elim (found g (length text + 1) (tokens_from 1 text) f
+    (err_read g text f short e)) [
+      | inl soon ↦
+          let place : f.place ≡ length text + 1 = soon.0 in
+          let same : take (f.place - 1) text ≡ text = take_all (f.place - 1) text (omega arith) in
+          ap (λ x. x.place) (same_err f earlier (fen g text) e (ap (fen g) (sym same) ∙ h))
+      | inr at ↦
+          let cut = cut_at 1 text at.before at.t at.rest at.is in
+          let place : f.place ≡ at.t.place = at.here in
+          let low : 1 ≤ at.t.place = cut.low in
+          let high : at.t.place < 1 + length text = cut.high in
+          let front : List ℕ = take (f.place - 1) text in
+          let size : length front ≡ f.place - 1 = length-take-le (f.place - 1) text (omega arith) in
+          let tokens : tokens_from 1 front ≡ at.before = ap (λ k. tokens_from 1 (take (k - 1) text)) place ∙ cut.cut in
+          let read : read_from g (length front + 1) Start at.before
+          ≡ Err earlier = ap (read_from g (length front + 1) Start) (sym tokens)
+          ∙ err_read g front earlier (omega arith) h in
+          let end : earlier.place ≡ length front + 1 = at.clear (length front + 1) earlier read in
+          omega arith
+    ]

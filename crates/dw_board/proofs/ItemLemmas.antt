@@ -1,5 +1,7 @@
 -- The pieces of a side, least square first, as they are taken out of a set.
-use Rattle.std.proofs.Common.{◌≡◌, ◌∙◌, ℕ, suc, zero, ◌+◌, ◌-◌, ◌≤◌, ◌<◌, ◌≢◌, ◌↔◌, Bool, true, false, not, cond, Option, Some, List, [], ◌++◌, length, map, if◌then◌else◌, codes, decimal, add-zero, sym, ap, subst, arith, inl, inr}
+use Rattle.std.proofs.Common.{◌≡◌, ◌∙◌, ℕ, suc, zero, ◌+◌, ◌-◌, ◌≤◌, ◌<◌, ◌≢◌, ◌↔◌, Bool, true, false, not, cond}
+use Rattle.std.proofs.Common.{Option, Some, List, [], ◌++◌, length, map, if◌then◌else◌, codes, decimal, add-zero, sym}
+use Rattle.std.proofs.Common.{ap, subst, arith, inl, inr}
 use Rattle.std.specs.FinSet as set
 use Rattle.std.specs.Ordering.{nat_cmp}
 use Rattle.std.specs.Cmp.{nat_cmp_total}
@@ -14,7 +16,8 @@ use Rattle.dw_board.specs.Placement.{Placement, IsPosition, at, is_of}
 use Rattle.dw_board.specs.FenText.{king_mark, item_text, items_text}
 use Rattle.dw_board.proofs.SetLemmas.{contains-remove}
 use Rattle.dw_board.proofs.SideLemmas.{piece_of}
-use Rattle.dw_board.proofs.WrittenLemmas.{held, is_nil, held-past, held-few, room_for, IsWrittenTo, IsWrittenTo-none, IsWrittenTo-with}
+use Rattle.dw_board.proofs.WrittenLemmas.{held, is_nil, held-past, held-few, room_for, IsWrittenTo, IsWrittenTo-none}
+use Rattle.dw_board.proofs.WrittenLemmas.{IsWrittenTo-with}
 
 -- ---- a set that gets smaller
 none_missing : (v : Squares) (s : ℕ) → set.contains v s ≡ true → set.len v ≡ 0 → ⊥

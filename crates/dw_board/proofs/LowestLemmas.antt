@@ -1,11 +1,13 @@
 -- A word without its lowest one.
-use Rattle.std.proofs.Common.{add-one, ◌≡◌, ◌∙◌, ℕ, ◌+◌, ◌-◌, ◌*◌, ◌/◌, ◌%◌, ◌^◌, ◌<◌, Bool, true, false, not, ◌&&◌, eqb, refl, sym, ap, arith, inl, inr, bit_and, w64}
+use Rattle.std.proofs.Common.{add-one, ◌≡◌, ◌∙◌, ℕ, ◌+◌, ◌-◌, ◌*◌, ◌/◌, ◌%◌, ◌^◌, ◌<◌, Bool, true, false, not, ◌&&◌}
+use Rattle.std.proofs.Common.{eqb, refl, sym, ap, arith, inl, inr, bit_and, w64}
 use Rattle.std.specs.Int.{bit_at, trailing_zeros}
 use Rattle.std.specs.FinSet as set
 use Rattle.std.proofs.lemmas.Bool.{cases_lt, cases_eq, and_parts, eq-eqb, ne_eqb}
 use Rattle.std.proofs.lemmas.Nat.{pow_pos, shr_split}
 use native.Mathlib.Nat.{pow-suc}
-use Rattle.std.proofs.lemmas.Nat.Bits.{bit_at-trailing_zeros, bit_at-zero, bit_at_above, bit_at_cat_low, bit_at_cat_high, same_from_bits}
+use Rattle.std.proofs.lemmas.Nat.Bits.{bit_at-trailing_zeros, bit_at-zero, bit_at_above, bit_at_cat_low}
+use Rattle.std.proofs.lemmas.Nat.Bits.{bit_at_cat_high, same_from_bits}
 use Rattle.dw_board.specs.Geometry.{Geometry, IsBoard, bit, square_of, IsPlace, Squares}
 use Rattle.dw_board.specs.SquareSet.{is_set, squares_of, OnlySquares}
 use Rattle.dw_board.specs.inner.SquareSetLemmas.{contains-here}
@@ -27,7 +29,8 @@ parts w x e below =
     let all = shr_split w (x + 1) in
     omega arith
 
-one_less : (w x : ℕ) → bit_at w x ≡ 1 → ((i : ℕ) → i < x → bit_at w i ≡ 0) → w - 1 ≡ w / 2 ^ (x + 1) * 2 ^ (x + 1) + (2 ^ x - 1)
+one_less : (w x : ℕ) → bit_at w x ≡ 1 → ((i : ℕ) → i < x → bit_at w i ≡ 0)
+    → w - 1 ≡ w / 2 ^ (x + 1) * 2 ^ (x + 1) + (2 ^ x - 1)
 one_less w x e below = let whole = parts w x e below in let some = pow_pos x in omega arith
 
 wider : (x : ℕ) → 2 ^ (x + 1) ≡ 2 ^ x * 2
@@ -38,24 +41,30 @@ both_same true = refl
 both_same false = refl
 
 -- of the bits of w and w - 1, the lowest of w is gone
-pub is_set-lowered : (w x y : ℕ) → bit_at w x ≡ 1 → ((i : ℕ) → i < x → bit_at w i ≡ 0) → is_set (bit_and w (w - 1)) y ≡ (not (eqb y x) && is_set w y)
+pub is_set-lowered : (w x y : ℕ) → bit_at w x ≡ 1 → ((i : ℕ) → i < x → bit_at w i ≡ 0) → is_set (bit_and w (w - 1)) y
+    ≡ (not (eqb y x) && is_set w y)
 is_set-lowered w x y e below = is_set-and w (w - 1) y ∙ (elim (cases_eq y x) [
   | inl same ↦
       let some = pow_pos x in
-      let gone = ap (λ n. bit_at n x) (one_less w x e below) ∙ (bit_at_cat_low (w / 2 ^ (x + 1)) (x + 1) (2 ^ x - 1) x (omega arith) ∙ bit_at_above (2 ^ x - 1) x x (omega arith) (omega arith)) in
+      let gone = ap (λ n. bit_at n x) (one_less w x e below)
+      ∙ (bit_at_cat_low (w / 2 ^ (x + 1)) (x + 1) (2 ^ x - 1) x (omega arith)
+      ∙ bit_at_above (2 ^ x - 1) x x (omega arith) (omega arith)) in
       rw (same, eq-eqb x x refl, gone, e) refl
   | inr other ↦ elim (cases_lt y x) [
     | inl low ↦ rw (ne_eqb y x other, below y low) refl
     | inr high ↦
         let some = pow_pos x in
         let more = wider x in
-        let now = ap (λ n. bit_at n y) (one_less w x e below) ∙ bit_at_cat_high (w / 2 ^ (x + 1)) (x + 1) (2 ^ x - 1) y (omega arith) (omega arith) in
-        let before = ap (λ n. bit_at n y) (parts w x e below) ∙ bit_at_cat_high (w / 2 ^ (x + 1)) (x + 1) (2 ^ x) y (omega arith) (omega arith) in
+        let now = ap (λ n. bit_at n y) (one_less w x e below) ∙ bit_at_cat_high (w / 2 ^ (x + 1)) (x + 1) (2 ^ x - 1) y
+        (omega arith) (omega arith) in
+        let before = ap (λ n. bit_at n y) (parts w x e below) ∙ bit_at_cat_high (w / 2 ^ (x + 1)) (x + 1) (2 ^ x) y
+        (omega arith) (omega arith) in
         rw (ne_eqb y x other, now ∙ sym before) (both_same (is_set w y))
   ]
 ])
 
-squares_of-lowered : (g : Geometry) → IsBoard g → (w x : ℕ) → IsPlace g x → bit_at w x ≡ 1 → ((i : ℕ) → i < x → bit_at w i ≡ 0)
+squares_of-lowered : (g : Geometry) → IsBoard g → (w x : ℕ) → IsPlace g x → bit_at w x ≡ 1
+    → ((i : ℕ) → i < x → bit_at w i ≡ 0)
     → squares_of g (bit_and w (w - 1)) ≡ set.remove (squares_of g w) (square_of g x)
 squares_of-lowered g b w x is e below =
     let s = square_of g x in

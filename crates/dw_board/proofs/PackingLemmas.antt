@@ -1,5 +1,6 @@
 -- Three sets tell of the same as the sets of each side and kind.
-use Rattle.std.proofs.Common.{◌≡◌, ◌∙◌, ◌-◌, ℕ, Bool, true, false, ◌&&◌, ◌||◌, not, leb, List, Option, Some, None, get_or}
+use Rattle.std.proofs.Common.{◌≡◌, ◌∙◌, ◌-◌, ℕ, Bool, true, false, ◌&&◌, ◌||◌, not, leb, List, Option, Some, None}
+use Rattle.std.proofs.Common.{get_or}
 use Rattle.std.proofs.Common.{refl, sym, subst}
 use Rattle.std.specs.FinSet as set
 use Rattle.std.specs.Cmp.{nat_cmp_total}
@@ -25,7 +26,8 @@ told_by white black king White King = white && king
 told_by white black king Black Man = black && not king
 told_by white black king Black King = black && king
 
-contains-parted : (white black kings : Squares) (side : Side) (kind : Kind) (q : ℕ) → set.contains (parted white black kings side kind) q
+contains-parted : (white black kings : Squares) (side : Side) (kind : Kind) (q : ℕ)
+    → set.contains (parted white black kings side kind) q
     ≡ told_by (set.contains white q) (set.contains black q) (set.contains kings q) side kind
 contains-parted white black kings White Man q = set.contains-difference nat_cmp_total white kings q
 contains-parted white black kings White King q = set.contains-intersection nat_cmp_total white kings q
@@ -37,7 +39,8 @@ abbrev either : Bool → Option Piece → Side → Kind → Side → Kind → Bo
 either on o side kind other sort = (on && is_that side kind o) || (on && is_that other sort o)
 
 abbrev told_of : Bool → Option Piece → Side → Kind → Bool
-told_of on o = told_by (either on o White Man White King) (either on o Black Man Black King) (either on o White King Black King)
+told_of on o = told_by (either on o White Man White King) (either on o Black Man Black King)
+    (either on o White King Black King)
 
 told_off : (o : Option Piece) (side : Side) (kind : Kind) → told_of false o side kind ≡ false
 told_off o White Man = refl
@@ -79,21 +82,29 @@ told true (Some p) side kind = told_some p.side p.kind side kind
 contains-either : (cells : Cells) (side : Side) (kind : Kind) (other : Side) (sort : Kind) (q : ℕ)
     → set.contains (set.union (standing cells side kind) (standing cells other sort)) q
     ≡ either (leb 1 q && leb q 50) (get_or cells (q - 1) None) side kind other sort
-contains-either cells side kind other sort q = set.contains-union nat_cmp_total (standing cells side kind) (standing cells other sort) q
+contains-either cells side kind other sort q = set.contains-union nat_cmp_total (standing cells side kind)
+    (standing cells other sort) q
     ∙ rw (contains-standing cells side kind q, contains-standing cells other sort q) refl
 
 -- the three sets of cells give back the sets of each side and kind
 pub parted_standing : (cells : Cells) (side : Side) (kind : Kind)
-    → parted (all_standing cells White) (all_standing cells Black) (kings_standing cells) side kind ≡ standing cells side kind
+    → parted (all_standing cells White) (all_standing cells Black) (kings_standing cells) side kind
+    ≡ standing cells side kind
 parted_standing cells side kind = set.same_set nat_cmp_total set.nat_cmp-IsAntisymmetric _ _ (λ q.
     contains-parted (all_standing cells White) (all_standing cells Black) (kings_standing cells) side kind q
-    ∙ (rw (contains-either cells White Man White King q, contains-either cells Black Man Black King q, contains-either cells White King Black King q)
+    ∙ (rw (
+      contains-either cells White Man White King q,
+      contains-either cells Black Man Black King q,
+      contains-either cells White King Black King q,
+    )
     (told (leb 1 q && leb q 50) (get_or cells (q - 1) None) side kind)
     ∙ sym (contains-standing cells side kind q)))
 
 -- ---- from four sets to three
-module _ (g : Geometry) (cells : Cells) (sets : Side → Kind → Squares) (white black kings : Squares) (is : IsKept g cells sets)
-    (white_is : white ≡ set.union (sets White Man) (sets White King)) (black_is : black ≡ set.union (sets Black Man) (sets Black King))
+module _ (g : Geometry) (cells : Cells) (sets : Side → Kind → Squares) (white black kings : Squares)
+    (is : IsKept g cells sets)
+    (white_is : white ≡ set.union (sets White Man) (sets White King)) (black_is : black
+    ≡ set.union (sets Black Man) (sets Black King))
     (kings_are : kings ≡ set.union (sets White King) (sets Black King)) where
   pub packed : IsPacked g cells white black kings
   packed = record {
@@ -104,7 +115,8 @@ module _ (g : Geometry) (cells : Cells) (sets : Side → Kind → Squares) (whit
   }
 
 -- ---- from three sets to four
-pub parted_kept : (g : Geometry) (cells : Cells) (sets : Side → Kind → Squares) (white black kings : Squares) → IsPacked g cells white black kings
+pub parted_kept : (g : Geometry) (cells : Cells) (sets : Side → Kind → Squares) (white black kings : Squares)
+    → IsPacked g cells white black kings
     → ((side : Side) (kind : Kind) → sets side kind ≡ parted white black kings side kind) → IsKept g cells sets
 parted_kept g cells sets white black kings is are = record {
   position = is.position;
@@ -113,9 +125,11 @@ parted_kept g cells sets white black kings is are = record {
 }
 
 -- packed cells are again those that they were packed from
-pub packed_again : (g : Geometry) (cells : Cells) (white black kings : Squares) → IsPacked g cells white black kings → packed_cells white black kings ≡ cells
+pub packed_again : (g : Geometry) (cells : Cells) (white black kings : Squares) → IsPacked g cells white black kings
+    → packed_cells white black kings ≡ cells
 packed_again g cells white black kings is =
-    cells_again g cells (parted white black kings) (parted_kept g cells (parted white black kings) white black kings is (λ side kind. refl))
+    cells_again g cells (parted white black kings) (parted_kept g cells (parted white black kings) white black kings is
+    (λ side kind. refl))
 
 pub packed-again : (g : Geometry) (cells : Cells) (white black kings : Squares) → IsPacked g cells white black kings
     → IsPacked g (packed_cells white black kings) white black kings

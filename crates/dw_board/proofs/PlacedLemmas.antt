@@ -1,5 +1,7 @@
 -- A position stays one where a piece is put or taken away, and the empty one is one.
-use Rattle.std.proofs.Common.{◌≡◌, ◌∙◌, ℕ, ◌+◌, ◌-◌, ◌≤◌, ◌<◌, ◌≢◌, Bool, true, false, cond, List, Option, Some, None, length, get_or, set, replicate, count_by, refl, subst, arith, get_or-set_other, get_or-set_same, length-set, inl, inr}
+use Rattle.std.proofs.Common.{◌≡◌, ◌∙◌, ℕ, ◌+◌, ◌-◌, ◌≤◌, ◌<◌, ◌≢◌, Bool, true, false, cond, List, Option, Some, None}
+use Rattle.std.proofs.Common.{length, get_or, set, replicate, count_by, refl, subst, arith, get_or-set_other}
+use Rattle.std.proofs.Common.{get_or-set_same, length-set, inl, inr}
 use Rattle.std.proofs.lemmas.Bool.{cases_eq, cases_lt}
 use Rattle.std.proofs.lemmas.List.Sums.{sum_by-set}
 use Rattle.std.proofs.lemmas.List.{get_or-replicate, get_or_past, length-replicate}
@@ -15,34 +17,45 @@ same_side-true White Black e = cc
 same_side-true Black White e = cc
 same_side-true Black Black e = refl
 
-counted : (b : Bool) (was now limit z : ℕ) → now + z ≡ was + cond b 1 0 → z ≡ 0 → was ≤ limit → (b ≡ true → was < limit) → now ≤ limit
+counted : (b : Bool) (was now limit z : ℕ) → now + z ≡ was + cond b 1 0 → z ≡ 0 → was ≤ limit → (b ≡ true → was < limit)
+    → now ≤ limit
 counted true was now limit z e f fits few = let h = few refl in omega arith
 counted false was now limit z e f fits few = omega arith
 
 -- a piece put on an empty cell adds one to its side and nothing to the other
-side_fits : (cells : List (Option Piece)) (i : ℕ) (p : Piece) (side : Side) (limit : ℕ) → i < length cells → get_or cells i None ≡ None
-    → count_by (is_of side) cells ≤ limit → (p.side ≡ side → count_by (is_of side) cells < limit) → count_by (is_of side) (set cells i (Some p)) ≤ limit
+side_fits : (cells : List (Option Piece)) (i : ℕ) (p : Piece) (side : Side) (limit : ℕ) → i < length cells
+    → get_or cells i None ≡ None
+    → count_by (is_of side) cells ≤ limit → (p.side ≡ side → count_by (is_of side) cells < limit)
+    → count_by (is_of side) (set cells i (Some p)) ≤ limit
 side_fits cells i p side limit len free fits few =
-    counted (same_side p.side side) _ _ limit _ (sum_by-set (λ x. cond (is_of side x) 1 0) cells i (Some p) None len) (rw free refl) fits (λ h. few (same_side-true p.side side h))
+    counted (same_side p.side side) _ _ limit _ (sum_by-set (λ x. cond (is_of side x) 1 0) cells i (Some p) None len)
+    (rw free refl) fits (λ h. few (same_side-true p.side side h))
 
 -- an emptied cell adds nothing to a side
-fewer : (cells : List (Option Piece)) (i : ℕ) (side : Side) (limit : ℕ) → i < length cells → count_by (is_of side) cells ≤ limit → count_by (is_of side) (set cells i None) ≤ limit
-fewer cells i side limit len fits = let h = sum_by-set (λ x. cond (is_of side x) 1 0) cells i None None len in omega arith
+fewer : (cells : List (Option Piece)) (i : ℕ) (side : Side) (limit : ℕ) → i < length cells → count_by (is_of side) cells
+    ≤ limit → count_by (is_of side) (set cells i None) ≤ limit
+fewer cells i side limit len fits = let h = sum_by-set (λ x. cond (is_of side x) 1 0) cells i None None len in
+    omega arith
 
-pub IsPosition-put : (g : Geometry) (cells : List (Option Piece)) (s : ℕ) (p : Piece) → IsPosition g cells → 1 ≤ s → s ≤ squares g → s - 1 < length cells
-    → get_or cells (s - 1) None ≡ None → is_stuck g s (Some p) ≡ false → count_by (is_of p.side) cells < g.side → IsPosition g (set cells (s - 1) (Some p))
+pub IsPosition-put : (g : Geometry) (cells : List (Option Piece)) (s : ℕ) (p : Piece) → IsPosition g cells → 1 ≤ s
+    → s ≤ squares g → s - 1 < length cells
+    → get_or cells (s - 1) None ≡ None → is_stuck g s (Some p) ≡ false → count_by (is_of p.side) cells < g.side
+    → IsPosition g (set cells (s - 1) (Some p))
 IsPosition-put g cells s p h low on len free stuck few = record {
   fifty = length-set cells (s - 1) (Some p) ∙ h.fifty;
   on_board = λ t past. let ne : t - 1 ≢ s - 1 = omega arith in rw get_or-set_other (h.on_board t past);
-  white_fits = side_fits cells (s - 1) p White g.side len free h.white_fits (λ e. subst (λ side. count_by (is_of side) cells < g.side) e few);
-  black_fits = side_fits cells (s - 1) p Black g.side len free h.black_fits (λ e. subst (λ side. count_by (is_of side) cells < g.side) e few);
+  white_fits = side_fits cells (s - 1) p White g.side len free h.white_fits
+      (λ e. subst (λ side. count_by (is_of side) cells < g.side) e few);
+  black_fits = side_fits cells (s - 1) p Black g.side len free h.black_fits
+      (λ e. subst (λ side. count_by (is_of side) cells < g.side) e few);
   no_stuck_man = λ t at. elim (cases_eq t s) [
     | inl e ↦ rw (e, get_or-set_same) stuck
     | inr ne ↦ let ne2 : t - 1 ≢ s - 1 = (λ q. ne (omega arith)) in rw get_or-set_other (h.no_stuck_man t at)
   ];
 }
 
-pub IsPosition-clear : (g : Geometry) (cells : List (Option Piece)) (s : ℕ) → IsPosition g cells → s - 1 < length cells → 1 ≤ s → IsPosition g (set cells (s - 1) None)
+pub IsPosition-clear : (g : Geometry) (cells : List (Option Piece)) (s : ℕ) → IsPosition g cells → s - 1 < length cells
+    → 1 ≤ s → IsPosition g (set cells (s - 1) None)
 IsPosition-clear g cells s h len low = record {
   fifty = length-set cells (s - 1) None ∙ h.fifty;
   on_board = λ t past. elim (cases_eq (t - 1) (s - 1)) [

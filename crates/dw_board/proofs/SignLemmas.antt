@@ -1,5 +1,6 @@
 -- The sets that tell the signs of squares are those of a position's pieces.
-use Rattle.std.proofs.Common.{◌≡◌, ◌∙◌, ℕ, ◌↔◌, ◌⊎◌, Bool, true, false, Option, Some, None, is_some, refl, sym, ap, inl, inr}
+use Rattle.std.proofs.Common.{◌≡◌, ◌∙◌, ℕ, ◌↔◌, ◌⊎◌, Bool, true, false, Option, Some, None, is_some, refl, sym, ap, inl}
+use Rattle.std.proofs.Common.{inr}
 use Rattle.std.specs.FinSet as set
 use Rattle.std.specs.Cmp.{nat_cmp_total}
 use Rattle.std.proofs.lemmas.Bool.{or_cases, or_left, or_right}

@@ -1,9 +1,11 @@
 -- Steps by rows and columns: for each board a table.
-use Rattle.std.proofs.Common.{◌≡◌, ℕ, suc, zero, ◌+◌, ◌-◌, ◌*◌, ◌/◌, ◌≤◌, ◌<◌, Bool, true, false, ◌&&◌, eqb, ltb, Option, Some, None, refl, sym, ap, ◌∙◌, subst, arith}
+use Rattle.std.proofs.Common.{◌≡◌, ℕ, suc, zero, ◌+◌, ◌-◌, ◌*◌, ◌/◌, ◌≤◌, ◌<◌, Bool, true, false, ◌&&◌, eqb, ltb}
+use Rattle.std.proofs.Common.{Option, Some, None, refl, sym, ap, ◌∙◌, subst, arith}
 use Rattle.std.proofs.lemmas.Bool.{agree_below, agree_below_at, eqb-true, and_parts, ltb-true, lt-ltb}
 use Rattle.dw_board.specs.declared.board.Dir.{Dir}
 use Rattle.dw_board.specs.declared.board.Dir.TheVariants.{UpLeft, UpRight, DownLeft, DownRight}
-use Rattle.dw_board.specs.Geometry.{Geometry, IsBoard, squares, step, OnBoard, row, column, is_down, is_right, moved, and_then}
+use Rattle.dw_board.specs.Geometry.{Geometry, IsBoard, squares, step, OnBoard, row, column, is_down, is_right, moved}
+use Rattle.dw_board.specs.Geometry.{and_then}
 use Rattle.dw_board.specs.inner.GeometryLemmas.{at_boards, step-OnBoard, shifts_are_steps}
 use Rattle.dw_board.specs.Laws.{IsNext, StepsAreDiagonal, StepsStay, PlacesDiffer, ShiftsStep}
 
@@ -26,12 +28,18 @@ abbrev leads : Geometry → Dir → ℕ → Option ℕ → Bool
 leads g d s None = true
 leads g d s (Some t) = is_next (is_down d) (row g s) (row g t) && is_next (is_right d) (column g s) (column g t)
 
-leads_table : (r p : ℕ) → r ≡ 2 * p → 2 ≤ p → p ≤ 5 → (d : Dir) → all_pass (λ k. leads (of r p) d (suc k) (step (of r p) (suc k) d)) (r * p)
-leads_table = at_boards (λ r p. (d : Dir) → all_pass (λ k. leads (of r p) d (suc k) (step (of r p) (suc k) d)) (r * p)) (elim [ UpLeft ↦ refl | UpRight ↦ refl | DownLeft ↦ refl | DownRight ↦ refl ]) (elim [ UpLeft ↦ refl | UpRight ↦ refl | DownLeft ↦ refl | DownRight ↦ refl ]) (elim [ UpLeft ↦ refl | UpRight ↦ refl | DownLeft ↦ refl | DownRight ↦ refl ]) (elim [ UpLeft ↦ refl | UpRight ↦ refl | DownLeft ↦ refl | DownRight ↦ refl ])
+leads_table : (r p : ℕ) → r ≡ 2 * p → 2 ≤ p → p ≤ 5 → (d : Dir)
+    → all_pass (λ k. leads (of r p) d (suc k) (step (of r p) (suc k) d)) (r * p)
+leads_table = at_boards (λ r p. (d : Dir) → all_pass (λ k. leads (of r p) d (suc k) (step (of r p) (suc k) d)) (r * p))
+    (elim [ UpLeft ↦ refl | UpRight ↦ refl | DownLeft ↦ refl | DownRight ↦ refl ])
+    (elim [ UpLeft ↦ refl | UpRight ↦ refl | DownLeft ↦ refl | DownRight ↦ refl ])
+    (elim [ UpLeft ↦ refl | UpRight ↦ refl | DownLeft ↦ refl | DownRight ↦ refl ])
+    (elim [ UpLeft ↦ refl | UpRight ↦ refl | DownLeft ↦ refl | DownRight ↦ refl ])
 
 -- a square's row and column lie on the board, and tell it
 abbrev placed : Geometry → ℕ → Bool
-placed g s = ltb (row g s) g.rows && (ltb (column g s) (2 * g.per_row) && eqb (row g s * g.per_row + column g s / 2 + 1) s)
+placed g s = ltb (row g s) g.rows && (ltb (column g s) (2 * g.per_row) && eqb (row g s * g.per_row + column g s / 2 + 1)
+    s)
 
 placed_table : (r p : ℕ) → r ≡ 2 * p → 2 ≤ p → p ≤ 5 → all_pass (λ k. placed (of r p) (suc k)) (r * p)
 placed_table = at_boards (λ r p. all_pass (λ k. placed (of r p) (suc k)) (r * p)) refl refl refl refl
@@ -44,37 +52,45 @@ record IsPlaced (g : Geometry) (s : ℕ) : Type 0 where
 is_placed : (g : Geometry) → IsBoard g → (s : ℕ) → OnBoard g s → IsPlaced g s
 is_placed g b zero on = absurd (omega arith)
 is_placed g b (suc k) on =
-    let a = and_parts _ _ (agree_below_at (λ k. placed g (suc k)) (λ _. true) (squares g) k (placed_table g.rows g.per_row b.even b.low b.high) (omega arith)) in
+    let a = and_parts _ _ (agree_below_at (λ k. placed g (suc k)) (λ _. true) (squares g) k
+    (placed_table g.rows g.per_row b.even b.low b.high) (omega arith)) in
     let c = and_parts _ _ a.1 in
     record { row_low = ltb-true _ _ a.0; column_low = ltb-true _ _ c.0; back = eqb-true _ _ c.1 }
 
 moved-next : (b : Bool) (n x y : ℕ) → IsNext b x y → y < n → moved b n x ≡ Some y
 moved-next true n x y e low = let t : ltb (x + 1) n ≡ true = lt-ltb (x + 1) n (omega arith) in rw t (ap Some (sym e))
-moved-next false n x y e low = let t : ltb 0 x ≡ true = lt-ltb 0 x (omega arith) in let k : x - 1 ≡ y = omega arith in rw t (ap Some k)
+moved-next false n x y e low = let t : ltb 0 x ≡ true = lt-ltb 0 x (omega arith) in let k : x - 1
+    ≡ y = omega arith in rw t (ap Some k)
 
 -- a step by the rows and columns of both squares
-step-by : (g : Geometry) (s t : ℕ) (d : Dir) → moved (is_down d) g.rows (row g s) ≡ Some (row g t) → moved (is_right d) (2 * g.per_row) (column g s) ≡ Some (column g t)
+step-by : (g : Geometry) (s t : ℕ) (d : Dir) → moved (is_down d) g.rows (row g s) ≡ Some (row g t)
+    → moved (is_right d) (2 * g.per_row) (column g s) ≡ Some (column g t)
     → row g t * g.per_row + column g t / 2 + 1 ≡ t → step g s d ≡ Some t
 step-by g s t d e f back =
-    ap (λ o. and_then o (λ r. and_then (moved (is_right d) (2 * g.per_row) (column g s)) (λ c. Some (r * g.per_row + c / 2 + 1)))) e
+    ap (λ o. and_then o (λ r. and_then (moved (is_right d) (2 * g.per_row) (column g s))
+    (λ c. Some (r * g.per_row + c / 2 + 1)))) e
     ∙ (ap (λ o. and_then o (λ c. Some (row g t * g.per_row + c / 2 + 1))) f ∙ ap Some back)
 
-step-leads : (g : Geometry) → IsBoard g → (s t : ℕ) (d : Dir) → OnBoard g s → step g s d ≡ Some t → leads g d s (Some t) ≡ true
+step-leads : (g : Geometry) → IsBoard g → (s t : ℕ) (d : Dir) → OnBoard g s → step g s d ≡ Some t → leads g d s (Some t)
+    ≡ true
 step-leads g b zero t d on e = absurd (omega arith)
 step-leads g b (suc k) t d on e =
-    subst (λ o. leads g d (suc k) o ≡ true) e (agree_below_at (λ k. leads g d (suc k) (step g (suc k) d)) (λ _. true) (squares g) k (leads_table g.rows g.per_row b.even b.low b.high d) (omega arith))
+    subst (λ o. leads g d (suc k) o ≡ true) e (agree_below_at (λ k. leads g d (suc k) (step g (suc k) d)) (λ _. true)
+    (squares g) k (leads_table g.rows g.per_row b.even b.low b.high d) (omega arith))
 
 pub steps_are_diagonal : StepsAreDiagonal
 steps_are_diagonal g b s t d on to = (
   (λ e. let h = and_parts _ _ (step-leads g b s t d on e) in (is_next-true _ _ _ h.0, is_next-true _ _ _ h.1)),
-  (λ h. let p = is_placed g b t to in step-by g s t d (moved-next (is_down d) g.rows _ _ h.0 p.row_low) (moved-next (is_right d) (2 * g.per_row) _ _ h.1 p.column_low) p.back),
+  (λ h. let p = is_placed g b t to in step-by g s t d (moved-next (is_down d) g.rows _ _ h.0 p.row_low)
+      (moved-next (is_right d) (2 * g.per_row) _ _ h.1 p.column_low) p.back),
 )
 
 pub steps_stay : StepsStay
 steps_stay g b s t d on e = step-OnBoard g b s t d on e
 
 pub places_differ : PlacesDiffer
-places_differ g b s t on to e f = sym (is_placed g b s on).back ∙ (ap (λ r. r * g.per_row + column g s / 2 + 1) e ∙ (ap (λ c. row g t * g.per_row + c / 2 + 1) f ∙ (is_placed g b t to).back))
+places_differ g b s t on to e f = sym (is_placed g b s on).back ∙ (ap (λ r. r * g.per_row + column g s / 2 + 1) e
+    ∙ (ap (λ c. row g t * g.per_row + c / 2 + 1) f ∙ (is_placed g b t to).back))
 
 pub shifts_step : ShiftsStep
 shifts_step g b = shifts_are_steps g b

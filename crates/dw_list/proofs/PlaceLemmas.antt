@@ -10,24 +10,50 @@ use Rattle.dw_list.specs.Lines.{Line, Begins, IsPlace}
 use Rattle.dw_list.proofs.DecidingLemmas.{goes_on_or_not, begin_or_not}
 
 -- the place, looked for from j + 1 on, with so many moves left
-find_place : MovesListed → WinsAreDecided → (g : Geometry) (p : Placement) (n : ℕ) (l : List Move) → (Line g p n l → ⊥) → (left j : ℕ) → left + j ≡ length l → ((i : ℕ) → 0 < i → i < j + 1 → Begins g p n (take i l)) → (k : ℕ) × IsPlace g p n l k
-find_place listed decided g p n l none zero j e so_far =
-    (j + 1, record { no_line = none; first = omega arith; last = omega arith; earlier = so_far; leaves = λ h. absurd (omega arith) })
-find_place listed decided g p n l none (suc left) j e so_far = elim (begin_or_not listed decided g true p n (take (j + 1) l) tt) [
-  | inl h ↦ find_place listed decided g p n l none left (j + 1) (omega arith) (λ i low high. elim (cases_lt i (j + 1)) [
-    | inl below ↦ so_far i low below
-    | inr k ↦ let same : j + 1 ≡ i = omega arith in subst (λ z. Begins g p n (take z l)) same h
-  ])
-  | inr h ↦ (j + 1, record { no_line = none; first = omega arith; last = omega arith; earlier = so_far; leaves = λ _. h })
-]
+find_place : MovesListed → WinsAreDecided → (g : Geometry) (p : Placement) (n : ℕ) (l : List Move) → (Line g p n l → ⊥)
+    → (left j : ℕ) → left + j ≡ length l → ((i : ℕ) → 0 < i → i < j + 1 → Begins g p n (take i l))
+    → (k : ℕ) × IsPlace g p n l k
+find_place listed decided g p n l none zero j e so_far = (
+  j + 1,
+  record {
+    no_line = none;
+    first = omega arith;
+    last = omega arith;
+    earlier = so_far;
+    leaves =
+        λ h. absurd (omega arith);
+  },
+)
+find_place listed decided g p n l none (suc left) j e so_far =
+    elim (begin_or_not listed decided g true p n (take (j + 1) l) tt) [
+      | inl h ↦ find_place listed decided g p n l none left (j + 1) (omega arith)
+          (λ i low high. elim (cases_lt i (j + 1)) [
+            | inl below ↦ so_far i low below
+            | inr k ↦ let same : j + 1 ≡ i = omega arith in subst (λ z. Begins g p n (take z l)) same h
+          ])
+      | inr h ↦ (
+        j + 1,
+        record {
+          no_line = none;
+          first = omega arith;
+          last = omega arith;
+          earlier = so_far;
+          leaves =
+              λ _. h;
+        },
+      )
+    ]
 
-pub line_or_place : MovesListed → WinsAreDecided → (g : Geometry) (p : Placement) (n : ℕ) (l : List Move) → Line g p n l ⊎ ((k : ℕ) × IsPlace g p n l k)
+pub line_or_place : MovesListed → WinsAreDecided → (g : Geometry) (p : Placement) (n : ℕ) (l : List Move) → Line g p n l
+    ⊎ ((k : ℕ) × IsPlace g p n l k)
 line_or_place listed decided g p n l = elim (goes_on_or_not listed decided g true p n l) [
   | inl h ↦ inl h
-  | inr none ↦ inr (find_place listed decided g p n l none (length l) 0 (omega arith) (λ i low high. absurd (omega arith)))
+  | inr none ↦ inr (find_place listed decided g p n l none (length l) 0 (omega arith)
+      (λ i low high. absurd (omega arith)))
 ]
 
-pub place_only : (g : Geometry) (p : Placement) (n : ℕ) (l : List Move) (j k : ℕ) → IsPlace g p n l j → IsPlace g p n l k → j ≡ k
+pub place_only : (g : Geometry) (p : Placement) (n : ℕ) (l : List Move) (j k : ℕ) → IsPlace g p n l j
+    → IsPlace g p n l k → j ≡ k
 place_only g p n l j k h i = elim (cases_order j k) [
   | inl e ↦ e
   | inr (inl less) ↦ absurd (h.leaves (omega (arith, i.last)) (i.earlier j (omega (arith, h.first)) less))

@@ -7,19 +7,25 @@ use Rattle.dw_list.specs.Standing.{Standing, AreToCome}
 use Rattle.dw_list.specs.Walking.{Gives, SameToCome, GivesFirst, GivesNext}
 use Rattle.dw_list.proofs.StepLemmas.{gives_nothing, gives_then, gives_same, none_stays, none_first}
 
-pub taken_none_yet : (g : Geometry) (s : Standing) {X : Type 0} (f : X → List Move) (xs : List X) → xs ≡ [] → Gives g s s (map f xs)
+pub taken_none_yet : (g : Geometry) (s : Standing) {X : Type 0} (f : X → List Move) (xs : List X) → xs ≡ []
+    → Gives g s s (map f xs)
 taken_none_yet g s f xs e = subst (λ z. Gives g s s (map f z)) (sym e) (gives_nothing g s)
 
 module _ (g : Geometry) (a b c : Standing) (same : b ≡ a) where
-  pub taken_same : {X : Type 0} (f : X → List Move) (s : Standing) (xs ys : List X) → ys ≡ xs → SameToCome g b c → Gives g s a (map f xs) → Gives g s c (map f ys)
+  pub taken_same : {X : Type 0} (f : X → List Move) (s : Standing) (xs ys : List X) → ys ≡ xs → SameToCome g b c
+      → Gives g s a (map f xs) → Gives g s c (map f ys)
   taken_same f s xs ys e h given =
-      subst (Gives g s c) (ap (map f) (sym e)) (gives_same g s a c (map f xs) given (subst (λ z. SameToCome g z c) same h))
+      subst (Gives g s c) (ap (map f) (sym e)) (gives_same g s a c (map f xs) given (subst (λ z. SameToCome g z c) same
+      h))
 
-  pub taken_more : {X : Type 0} (f : X → List Move) (s : Standing) (xs ys zs : List X) (x : X) (l : List Move) → ys ≡ xs → zs ≡ ys ++ x ∷ [] → f x ≡ l → l ≡ reverse c.line → GivesNext g true b c → Gives g s a (map f xs) → Gives g s c (map f zs)
+  pub taken_more : {X : Type 0} (f : X → List Move) (s : Standing) (xs ys zs : List X) (x : X) (l : List Move) → ys ≡ xs
+      → zs ≡ ys ++ x ∷ [] → f x ≡ l → l ≡ reverse c.line → GivesNext g true b c → Gives g s a (map f xs)
+      → Gives g s c (map f zs)
   taken_more f s xs ys zs x l e is line at h given =
       let all : map f zs ≡ map f xs ++ (reverse c.line ∷ []) =
       ap (map f) (is ∙ ap (λ z. z ++ x ∷ []) e) ∙ map-append f xs (x ∷ []) ∙ ap (λ z. map f xs ++ z ∷ []) (line ∙ at) in
-      subst (Gives g s c) (sym all) (gives_then g s a c (map f xs) (reverse c.line ∷ []) given (subst (λ z. GivesFirst g z c) same h))
+      subst (Gives g s c) (sym all) (gives_then g s a c (map f xs) (reverse c.line ∷ []) given
+      (subst (λ z. GivesFirst g z c) same h))
 
   pub end_same : SameToCome g b c → AreToCome g a [] → AreToCome g c []
   end_same h none = none_stays g b c (subst (λ z. AreToCome g z []) (sym same) none) h
@@ -27,7 +33,8 @@ module _ (g : Geometry) (a b c : Standing) (same : b ≡ a) where
   pub end_more : GivesNext g true b c → AreToCome g a [] → AreToCome g c []
   end_more h none = absurd (none_first g b c (subst (λ z. AreToCome g z []) (sym same) none) h)
 
-  pub taken_none : {X : Type 0} (f : X → List Move) (s : Standing) (xs ys : List X) → ys ≡ xs → GivesNext g false b c → Gives g s a (map f xs) → Gives g s c (map f ys)
+  pub taken_none : {X : Type 0} (f : X → List Move) (s : Standing) (xs ys : List X) → ys ≡ xs → GivesNext g false b c
+      → Gives g s a (map f xs) → Gives g s c (map f ys)
   taken_none f s xs ys e h given = taken_same f s xs ys e h.same given
 
   pub end_none : GivesNext g false b c → AreToCome g c []

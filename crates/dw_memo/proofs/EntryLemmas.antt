@@ -21,6 +21,9 @@ bounds_held p (d ∷ c) (inr m) = let on = bounds_held p c m in (on.0, inr on.1)
 pub one_entry : (c : Content) → IsMap c → (a b : Entry) → Member a c → Member b c → a.position ≡ b.position → a ≡ b
 one_entry [] map a b m n q = absurd m
 one_entry (d ∷ c) map a b (inl e) (inl f) q = e ∙ sym f
-one_entry (d ∷ c) map a b (inl e) (inr n) q = absurd (map.0 (subst (λ p. Member p (positions c)) (sym q ∙ ap (λ (x : Entry). x.position) e) (position_held b c n)))
-one_entry (d ∷ c) map a b (inr m) (inl f) q = absurd (map.0 (subst (λ p. Member p (positions c)) (q ∙ ap (λ (x : Entry). x.position) f) (position_held a c m)))
+one_entry (d ∷ c) map a b (inl e) (inr n) q =
+    absurd (map.0 (subst (λ p. Member p (positions c)) (sym q ∙ ap (λ (x : Entry). x.position) e)
+    (position_held b c n)))
+one_entry (d ∷ c) map a b (inr m) (inl f) q =
+    absurd (map.0 (subst (λ p. Member p (positions c)) (q ∙ ap (λ (x : Entry). x.position) f) (position_held a c m)))
 one_entry (d ∷ c) map a b (inr m) (inr n) q = one_entry c map.1 a b m n q

@@ -1,5 +1,6 @@
 -- What a slot answers of a position, by whether it keeps that position.
-use Rattle.std.proofs.Common.{◌≡◌, ◌∙◌, ◌↔◌, Bool, true, false, not, cond, Option, Some, None, is_some, refl, sym, ap, inl, inr}
+use Rattle.std.proofs.Common.{◌≡◌, ◌∙◌, ◌↔◌, Bool, true, false, not, cond, Option, Some, None, is_some, refl, sym, ap}
+use Rattle.std.proofs.Common.{inl, inr}
 use Rattle.std.specs.Prelude.{IsTrue}
 use Rattle.std.specs.Int.{from_bool}
 use Rattle.std.proofs.lemmas.Bool.{cases_Bool, true≢false}
@@ -16,7 +17,8 @@ told p q false is = elim (cases_Bool (same q p)) [
   | inr e ↦ e
 ]
 
-pub not_kept : (o : Option (Placement × Bounds)) (p : Placement) (keeps : Bool) → (IsTrue keeps ↔ (kept_position o ≡ p)) → keeps ≡ false
+pub not_kept : (o : Option (Placement × Bounds)) (p : Placement) (keeps : Bool) → (IsTrue keeps ↔ (kept_position o ≡ p))
+    → keeps ≡ false
     → None ≡ bounds_in o p
 not_kept None p keeps is not_so = refl
 not_kept (Some e) p keeps is not_so = sym (ap (λ b. cond b (Some e.1) None) (told p e.0 keeps is ∙ not_so))
@@ -26,7 +28,8 @@ pub none_lost : (q p : Placement) (b : Option Bounds) → is_some b ≡ false �
 none_lost q p None none = refl
 none_lost q p (Some b) none = absurd (true≢false none)
 
-pub one_lost : (q p : Placement) (b : Option Bounds) (keeps : Bool) → is_some b ≡ true → (IsTrue keeps ↔ (kept_position (stands q b) ≡ p))
+pub one_lost : (q p : Placement) (b : Option Bounds) (keeps : Bool) → is_some b ≡ true
+    → (IsTrue keeps ↔ (kept_position (stands q b) ≡ p))
     → lost (stands q b) p ≡ from_bool (not keeps)
 one_lost q p None keeps some is = absurd (true≢false (sym some))
 one_lost q p (Some b) keeps some is = ap (λ x. from_bool (not x)) (told p q keeps is)

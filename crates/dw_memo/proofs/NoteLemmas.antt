@@ -42,20 +42,23 @@ not_kept : (A : Type 0) → NotKept ≡ Kept → A
 not_kept A q = cc
 
 -- a memo to which nothing came: the given entry is lost
-pub unchanged : (old : Content) (p : Placement) (b : Bounds) → IsMap old → ((e : Entry) → Member e old → e.position ≢ p) → IsNote old p b NotKept old 0 1
+pub unchanged : (old : Content) (p : Placement) (b : Bounds) → IsMap old → ((e : Entry) → Member e old → e.position ≢ p)
+    → IsNote old p b NotKept old 0 1
 unchanged old p b map apart = record {
   map_before = map;
   map = map;
   only = λ e m. inr (m, apart e m);
   kept = not_kept (Member (entry p b) old);
   missing = entry p b ∷ [];
-  are_missing = one_missing old p b old (entry p b) (inl refl) (λ m. apart (entry p b) m refl) (inr refl) (λ e m. inr (inl m));
+  are_missing = one_missing old p b old (entry p b) (inl refl) (λ m. apart (entry p b) m refl) (inr refl)
+      (λ e m. inr (inl m));
   count = refl;
 }
 
 -- the count goes on from a number
 pub counted_on : (old : Content) (p : Placement) (b : Bounds) (answer : Noted) (new : Content) (lost before after : ℕ)
-    → IsNote old p b answer new 0 lost → after ≡ min (before + lost) (2 ^ 64 - 1) → IsNote old p b answer new before after
+    → IsNote old p b answer new 0 lost → after ≡ min (before + lost) (2 ^ 64 - 1)
+    → IsNote old p b answer new before after
 counted_on old p b answer new lost before after n e = record {
   map_before = n.map_before;
   map = n.map;

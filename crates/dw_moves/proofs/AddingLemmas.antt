@@ -1,5 +1,6 @@
 -- How the quiet moves are added to a list: those of men direction by direction, those of kings square by square.
-use Rattle.std.proofs.Common.{◌≡◌, ℕ, List, [], ◌∷◌, ◌++◌, map, refl, sym, ap, ◌∙◌, subst, ◌⊎◌, inl, inr, ◌↔◌, Bool, true, false, Option, Some, None, append_assoc}
+use Rattle.std.proofs.Common.{◌≡◌, ℕ, List, [], ◌∷◌, ◌++◌, map, refl, sym, ap, ◌∙◌, subst, ◌⊎◌, inl, inr, ◌↔◌, Bool}
+use Rattle.std.proofs.Common.{true, false, Option, Some, None, append_assoc}
 use Rattle.std.proofs.lemmas.Bool.{true≢false, and_parts}
 use Rattle.std.proofs.lemmas.List.{map-append}
 use Rattle.std.specs.FinSet as fin
@@ -32,10 +33,17 @@ use Rattle.dw_moves.proofs.TakesTheseLemmas.{contains-remove, not_removed}
 use Rattle.dw_moves.proofs.TakingLemmas.{out_of_rest, past_rest}
 
 -- ---- lists to which is added
-pub adds_none : {X : Type 0} (made : ℕ → ℕ → X) (P : ℕ → ℕ → Type 0) (old : List X) → ((s t : ℕ) → P s t → ⊥) → Adds made P old old
-adds_none made P old never = record { pairs = []; exactly = λ s t. ((λ m. absurd m), (λ h. absurd (never s t h))); once = tt; are = sym (append_none old) }
+pub adds_none : {X : Type 0} (made : ℕ → ℕ → X) (P : ℕ → ℕ → Type 0) (old : List X) → ((s t : ℕ) → P s t → ⊥)
+    → Adds made P old old
+adds_none made P old never = record {
+  pairs = [];
+  exactly = λ s t. ((λ m. absurd m), (λ h. absurd (never s t h)));
+  once = tt;
+  are = sym (append_none old);
+}
 
-pub adds_same : {X : Type 0} (made : ℕ → ℕ → X) (P Q : ℕ → ℕ → Type 0) (old new : List X) → ((s t : ℕ) → P s t ↔ Q s t) → Adds made P old new → Adds made Q old new
+pub adds_same : {X : Type 0} (made : ℕ → ℕ → X) (P Q : ℕ → ℕ → Type 0) (old new : List X) → ((s t : ℕ) → P s t ↔ Q s t)
+    → Adds made P old new → Adds made Q old new
 adds_same made P Q old new same h = record {
   pairs = h.pairs;
   exactly = λ s t. ((λ m. (same s t).0 ((h.exactly s t).0 m)), (λ q. (h.exactly s t).1 ((same s t).1 q)));
@@ -43,30 +51,47 @@ adds_same made P Q old new same h = record {
   are = h.are;
 }
 
-pub adds_then : {X : Type 0} (made : ℕ → ℕ → X) (P Q : ℕ → ℕ → Type 0) (old now new : List X) → ((s t : ℕ) → P s t → Q s t → ⊥) → Adds made P old now → Adds made Q now new → Adds made (λ s t. P s t ⊎ Q s t) old new
+pub adds_then : {X : Type 0} (made : ℕ → ℕ → X) (P Q : ℕ → ℕ → Type 0) (old now new : List X)
+    → ((s t : ℕ) → P s t → Q s t → ⊥) → Adds made P old now → Adds made Q now new
+    → Adds made (λ s t. P s t ⊎ Q s t) old new
 adds_then {X} made P Q old now new apart a b =
     let f : ℕ × ℕ → X = λ q. made q.0 q.1 in
     record {
       pairs = a.pairs ++ b.pairs;
       exactly = λ s t. (
-        (λ m. elim (mem_cases (s, t) a.pairs b.pairs m) [ inl l ↦ inl ((a.exactly s t).0 l) | inr r ↦ inr ((b.exactly s t).0 r) ]),
-        (λ h. elim h [ inl l ↦ mem_left (s, t) a.pairs b.pairs ((a.exactly s t).1 l) | inr r ↦ mem_right (s, t) a.pairs b.pairs ((b.exactly s t).1 r) ]),
+        (λ m. elim (mem_cases (s, t) a.pairs b.pairs m) [
+          | inl l ↦ inl ((a.exactly s t).0 l)
+          | inr r ↦
+              inr ((b.exactly s t).0 r)
+        ]),
+        (λ h. elim h [
+          | inl l ↦ mem_left (s, t) a.pairs b.pairs ((a.exactly s t).1 l)
+          | inr r ↦ mem_right (s, t) a.pairs b.pairs ((b.exactly s t).1 r)
+        ]),
       );
-      once = once_append a.pairs b.pairs a.once b.once (λ q l r. apart q.0 q.1 ((a.exactly q.0 q.1).0 l) ((b.exactly q.0 q.1).0 r));
-      are = b.are ∙ (ap (λ z. z ++ map f b.pairs) a.are ∙ (append_assoc old (map f a.pairs) (map f b.pairs) ∙ ap (λ z. old ++ z) (sym (map-append f a.pairs b.pairs))));
+      once = once_append a.pairs b.pairs a.once b.once (λ q l r. apart q.0 q.1 ((a.exactly q.0 q.1).0 l)
+          ((b.exactly q.0 q.1).0 r));
+      are = b.are ∙ (ap (λ z. z ++ map f b.pairs) a.are ∙ (append_assoc old (map f a.pairs) (map f b.pairs)
+          ∙ ap (λ z. old ++ z) (sym (map-append f a.pairs b.pairs))));
     }
 
-map_pair : {X : Type 0} (made : ℕ → ℕ → X) (s : ℕ) (ts : List ℕ) → map (made s) ts ≡ map (λ (q : ℕ × ℕ). made q.0 q.1) (map (λ t. (s, t)) ts)
+map_pair : {X : Type 0} (made : ℕ → ℕ → X) (s : ℕ) (ts : List ℕ) → map (made s) ts
+    ≡ map (λ (q : ℕ × ℕ). made q.0 q.1) (map (λ t. (s, t)) ts)
 map_pair made s [] = refl
 map_pair made s (t ∷ ts) = ap (λ z. made s t ∷ z) (map_pair made s ts)
 
 -- the moves from one square
-pub adds_from : {X : Type 0} (made : ℕ → ℕ → X) (from : ℕ) (ts : List ℕ) (old new : List X) → NoRepeat ts → new ≡ old ++ map (made from) ts → Adds made (λ s t. (s ≡ from) × Member t ts) old new
+pub adds_from : {X : Type 0} (made : ℕ → ℕ → X) (from : ℕ) (ts : List ℕ) (old new : List X) → NoRepeat ts
+    → new ≡ old ++ map (made from) ts → Adds made (λ s t. (s ≡ from) × Member t ts) old new
 adds_from made from ts old new once is = record {
   pairs = map (λ t. (from, t)) ts;
   exactly = λ s t. (
-    (λ m. let r = mem_map_back (λ t. (from, t)) (s, t) ts m in (ap (λ (q : ℕ × ℕ). q.0) r.2, subst (λ z. Member z ts) (sym (ap (λ (q : ℕ × ℕ). q.1) r.2)) r.1)),
-    (λ h. subst (λ z. Member {X = ℕ × ℕ} (z, t) (map (λ t. (from, t)) ts)) (sym h.0) (mem_map (λ t. (from, t)) t ts h.1)),
+    (λ m. let r = mem_map_back (λ t. (from, t)) (s, t) ts m in (
+      ap (λ (q : ℕ × ℕ). q.0) r.2,
+      subst (λ z. Member z ts) (sym (ap (λ (q : ℕ × ℕ). q.1) r.2)) r.1,
+    )),
+    (λ h. subst (λ z. Member {X = ℕ × ℕ} (z, t) (map (λ t. (from, t)) ts)) (sym h.0)
+        (mem_map (λ t. (from, t)) t ts h.1)),
   );
   once = once_map (λ t. (from, t)) (λ x y e. ap (λ (q : ℕ × ℕ). q.1) e) ts once;
   are = is ∙ ap (λ z. old ++ z) (map_pair made from ts);
@@ -81,28 +106,36 @@ some_inj x y e = cc
 
 -- ---- steps of men
 -- the squares still to come are reached, and the steps onto the others were added
-pub record Stepping {X : Type 0} (made : ℕ → ℕ → X) (g : Geometry) (p : Placement) (d : Dir) (left : Squares) (old now : List X) : Type 0 where
+pub record Stepping {X : Type 0} (made : ℕ → ℕ → X) (g : Geometry) (p : Placement) (d : Dir) (left : Squares)
+    (old now : List X) : Type 0 where
   pub reached : (t : ℕ) → In t left → (s : ℕ) × ManSteps g p d s t
   pub added : Adds made (λ s t. (fin.contains left t ≡ false) × ManSteps g p d s t) old now
 
-pub stepping_none : {X : Type 0} (made : ℕ → ℕ → X) (g : Geometry) (p : Placement) (d : Dir) (left : Squares) (old : List X) → ((t : ℕ) → In t left ↔ ((s : ℕ) × ManSteps g p d s t)) → Stepping made g p d left old old
+pub stepping_none : {X : Type 0} (made : ℕ → ℕ → X) (g : Geometry) (p : Placement) (d : Dir) (left : Squares)
+    (old : List X) → ((t : ℕ) → In t left ↔ ((s : ℕ) × ManSteps g p d s t)) → Stepping made g p d left old old
 stepping_none made g p d left old are = record {
   reached = λ t. (are t).0;
-  added = adds_none made (λ s t. (fin.contains left t ≡ false) × ManSteps g p d s t) old (λ s t h. true≢false (sym ((are t).1 (s, h.1)) ∙ h.0));
+  added = adds_none made (λ s t. (fin.contains left t ≡ false) × ManSteps g p d s t) old
+      (λ s t h. true≢false (sym ((are t).1 (s, h.1)) ∙ h.0));
 }
 
 -- each step can be taken back
-pub stepping_back : {X : Type 0} (made : ℕ → ℕ → X) (g : Geometry) → IsBoard g → (p : Placement) (d e : Dir) (left : Squares) (old now : List X) (to : ℕ) → e ≡ back d → In to left → Stepping made g p d left old now → step g to e ≡ None → ⊥
+pub stepping_back : {X : Type 0} (made : ℕ → ℕ → X) (g : Geometry) → IsBoard g
+    → (p : Placement) (d e : Dir) (left : Squares) (old now : List X) (to : ℕ) → e ≡ back d → In to left
+    → Stepping made g p d left old now → step g to e ≡ None → ⊥
 stepping_back made g b p d e left old now to e_is there h none =
     let r = h.reached to there in
     none_some r.0 (sym none ∙ (ap (step g to) e_is ∙ step_back g b r.0 to d r.1.on r.1.steps))
 
-pub stepping_more : {X : Type 0} (made : ℕ → ℕ → X) (g : Geometry) → IsBoard g → (p : Placement) (d e : Dir) (left rest : Squares) (old now new : List X) (from to : ℕ) → e ≡ back d → In to left → rest ≡ fin.remove left to → step g to e ≡ Some from
+pub stepping_more : {X : Type 0} (made : ℕ → ℕ → X) (g : Geometry) → IsBoard g
+    → (p : Placement) (d e : Dir) (left rest : Squares) (old now new : List X) (from to : ℕ) → e ≡ back d → In to left
+    → rest ≡ fin.remove left to → step g to e ≡ Some from
     → Stepping made g p d left old now → new ≡ now ++ made from to ∷ [] → Stepping made g p d rest old new
 stepping_more made g b p d e left rest old now new from to e_is there rest_is leads h new_is =
     let P : ℕ → ℕ → Type 0 = λ s t. (fin.contains left t ≡ false) × ManSteps g p d s t in
     let Q : ℕ → ℕ → Type 0 = λ s t. (fin.contains (fin.remove left to) t ≡ false) × ManSteps g p d s t in
-    let one : (s : ℕ) → ManSteps g p d s to → s ≡ from = λ s m. some_inj s from (sym (step_back g b s to d m.on m.steps) ∙ (ap (step g to) (sym e_is) ∙ leads)) in
+    let one : (s : ℕ) → ManSteps g p d s to → s ≡ from = λ s m. some_inj s from (sym (step_back g b s to d m.on m.steps)
+    ∙ (ap (step g to) (sym e_is) ∙ leads)) in
     let r = h.reached to there in
     let here : ManSteps g p d from to = subst (λ z. ManSteps g p d z to) (one r.0 r.1) r.1 in
     let last = adds_from made from (to ∷ []) now new ((λ m. m), tt) new_is in
@@ -116,7 +149,10 @@ stepping_more made g b p d e left rest old now new from to e_is there rest_is le
       added = adds_same made (λ s t. P s t ⊎ P' s t) Q old new (λ s t. (
         (λ x. elim x [
           | inl before ↦ (out_of_rest left to t before.0, before.1)
-          | inr (now_is, inl same) ↦ (ap (fin.contains (fin.remove left to)) same ∙ not_removed left to, subst (λ z. ManSteps g p d z t) (sym now_is) (subst (ManSteps g p d from) (sym same) here))
+          | inr (now_is, inl same) ↦ (
+            ap (fin.contains (fin.remove left to)) same ∙ not_removed left to,
+            subst (λ z. ManSteps g p d z t) (sym now_is) (subst (ManSteps g p d from) (sym same) here),
+          )
           | inr (now_is, inr none) ↦ absurd none
         ]),
         (λ q. elim (past_rest left to t q.0) [
@@ -126,15 +162,20 @@ stepping_more made g b p d e left rest old now new from to e_is there rest_is le
       )) both;
     })
 
-pub stepping_all : {X : Type 0} (made : ℕ → ℕ → X) (g : Geometry) (p : Placement) (d : Dir) (left : Squares) (old now : List X) → left ≡ fin.empty → Stepping made g p d left old now → Adds made (ManSteps g p d) old now
-stepping_all made g p d left old now none h = adds_same made (λ s t. (fin.contains left t ≡ false) × ManSteps g p d s t) (ManSteps g p d) old now (λ s t. (
-  (λ x. x.1),
-  (λ m. (ap (λ v. fin.contains v t) none ∙ fin.contains-empty nat_cmp t, m)),
-)) h.added
+pub stepping_all : {X : Type 0} (made : ℕ → ℕ → X) (g : Geometry) (p : Placement) (d : Dir) (left : Squares)
+    (old now : List X) → left ≡ fin.empty → Stepping made g p d left old now → Adds made (ManSteps g p d) old now
+stepping_all made g p d left old now none h = adds_same made (λ s t. (fin.contains left t ≡ false) × ManSteps g p d s t)
+    (ManSteps g p d) old now (λ s t. (
+      (λ x. x.1),
+      (λ m. (ap (λ v. fin.contains v t) none ∙ fin.contains-empty nat_cmp t, m)),
+    )) h.added
 
 -- the squares that men reach
-pub reach_is : (g : Geometry) → IsBoard g → (p : Placement) (d : Dir) (side : Side) (may : Bool) (men next occupied v : Squares) → side ≡ p.turn → may ≡ may_go Man side d → may ≡ true → AreKind g p side Man men → IsShifted g men d next
-    → ((s : ℕ) → In s occupied ↔ (OnBoard g s × ((q : Piece) × (at p s ≡ Some q)))) → v ≡ fin.difference next occupied → (t : ℕ) → In t v ↔ ((s : ℕ) × ManSteps g p d s t)
+pub reach_is : (g : Geometry) → IsBoard g
+    → (p : Placement) (d : Dir) (side : Side) (may : Bool) (men next occupied v : Squares) → side ≡ p.turn
+    → may ≡ may_go Man side d → may ≡ true → AreKind g p side Man men → IsShifted g men d next
+    → ((s : ℕ) → In s occupied ↔ (OnBoard g s × ((q : Piece) × (at p s ≡ Some q)))) → v ≡ fin.difference next occupied
+    → (t : ℕ) → In t v ↔ ((s : ℕ) × ManSteps g p d s t)
 reach_is g b p d side may men next occupied v side_is may_is may_true men_are shifted all v_is t = (
   (λ h.
       let out = (in_minus next occupied v t v_is).0 h in
@@ -152,30 +193,44 @@ reach_is g b p d side may men next occupied v side_is may_is may_true men_are sh
       )),
   (λ h.
       let m = h.1 in
-      let stands : at p h.0 ≡ Some (record { side = side; kind = Man }) = m.there ∙ ap (λ z. Some (record { side = z; kind = Man })) (sym side_is) in
-      (in_minus next occupied v t v_is).1 ((shifted t).1 (h.0, ((men_are h.0).1 (m.on, stands), m.steps)), λ i. let q = ((all t).0 i).1 in none_some q.0 (sym m.free ∙ q.1))),
+      let stands : at p h.0 ≡ Some (record { side = side; kind = Man }) = m.there
+      ∙ ap (λ z. Some (record { side = z; kind = Man })) (sym side_is) in
+      (in_minus next occupied v t v_is).1 (
+        (shifted t).1 (h.0, ((men_are h.0).1 (m.on, stands), m.steps)),
+        λ i. let q =
+            ((all t).0 i).1 in none_some q.0 (sym m.free ∙ q.1),
+      )),
 )
 
-pub no_reach : (g : Geometry) (p : Placement) (d : Dir) (side : Side) (may : Bool) (v : Squares) → side ≡ p.turn → may ≡ may_go Man side d → may ≡ false → v ≡ fin.empty → (t : ℕ) → In t v ↔ ((s : ℕ) × ManSteps g p d s t)
+pub no_reach : (g : Geometry) (p : Placement) (d : Dir) (side : Side) (may : Bool) (v : Squares) → side ≡ p.turn
+    → may ≡ may_go Man side d → may ≡ false → v ≡ fin.empty → (t : ℕ) → In t v ↔ ((s : ℕ) × ManSteps g p d s t)
 no_reach g p d side may v side_is may_is not v_is t = (
   (λ h. absurd (in_none v t v_is h)),
-  (λ h. absurd (true≢false (sym (may_in Man side d (λ _. subst (λ z. IsForward z d) (sym side_is) h.1.ahead)) ∙ (sym may_is ∙ not)))),
+  (λ h. absurd (true≢false (sym (may_in Man side d (λ _. subst (λ z. IsForward z d) (sym side_is) h.1.ahead))
+      ∙ (sym may_is ∙ not)))),
 )
 
 -- ---- moves of kings
 -- the kings still to come stand there, and the moves of the others were added
-pub record Going {X : Type 0} (made : ℕ → ℕ → X) (g : Geometry) (p : Placement) (left : Squares) (old now : List X) : Type 0 where
+pub record Going {X : Type 0} (made : ℕ → ℕ → X) (g : Geometry) (p : Placement) (left : Squares) (old now : List X) :
+    Type 0 where
   pub stand : (s : ℕ) → In s left → OnBoard g s × (at p s ≡ Some (record { side = p.turn; kind = King }))
   pub added : Adds made (λ s t. (fin.contains left s ≡ false) × KingGoes g p s t) old now
 
-pub going_none : {X : Type 0} (made : ℕ → ℕ → X) (g : Geometry) (p : Placement) (left : Squares) (old : List X) → ((s : ℕ) → In s left ↔ (OnBoard g s × (at p s ≡ Some (record { side = p.turn; kind = King })))) → Going made g p left old old
+pub going_none : {X : Type 0} (made : ℕ → ℕ → X) (g : Geometry) (p : Placement) (left : Squares) (old : List X)
+    → ((s : ℕ) → In s left ↔ (OnBoard g s × (at p s ≡ Some (record { side = p.turn; kind = King }))))
+    → Going made g p left old old
 going_none made g p left old are = record {
   stand = λ s. (are s).0;
-  added = adds_none made (λ s t. (fin.contains left s ≡ false) × KingGoes g p s t) old (λ s t h. true≢false (sym ((are s).1 (h.1.on, h.1.there)) ∙ h.0));
+  added = adds_none made (λ s t. (fin.contains left s ≡ false) × KingGoes g p s t) old
+      (λ s t h. true≢false (sym ((are s).1 (h.1.on, h.1.there)) ∙ h.0));
 }
 
-pub going_more : {X : Type 0} (made : ℕ → ℕ → X) (g : Geometry) → IsBoard g → (p : Placement) (left rest : Squares) (old now new : List X) (from : ℕ) → In from left → rest ≡ fin.remove left from
-    → Going made g p left old now → new ≡ now ++ map (made from) (quiet_for King g p p.turn from) → Going made g p rest old new
+pub going_more : {X : Type 0} (made : ℕ → ℕ → X) (g : Geometry) → IsBoard g
+    → (p : Placement) (left rest : Squares) (old now new : List X) (from : ℕ) → In from left
+    → rest ≡ fin.remove left from
+    → Going made g p left old now → new ≡ now ++ map (made from) (quiet_for King g p p.turn from)
+    → Going made g p rest old new
 going_more made g b p left rest old now new from there rest_is h new_is =
     let ts : List ℕ = quiet_for King g p p.turn from in
     let stands = h.stand from there in
@@ -183,13 +238,17 @@ going_more made g b p left rest old now new from there rest_is h new_is =
     let P' : ℕ → ℕ → Type 0 = λ s t. (s ≡ from) × Member t ts in
     let Q : ℕ → ℕ → Type 0 = λ s t. (fin.contains (fin.remove left from) s ≡ false) × KingGoes g p s t in
     let last = adds_from made from ts now new (quiet_for_once King g b p p.turn from stands.0) new_is in
-    let both = adds_then made P P' old now new (λ s t out k. true≢false (sym there ∙ (ap (fin.contains left) (sym k.0) ∙ out.0))) h.added last in
+    let both = adds_then made P P' old now new (λ s t out k. true≢false (sym there ∙ (ap (fin.contains left) (sym k.0)
+    ∙ out.0))) h.added last in
     subst (λ v. Going made g p v old new) (sym rest_is) (record {
       stand = λ s m. h.stand s (in_rest left from s m);
       added = adds_same made (λ s t. P s t ⊎ P' s t) Q old new (λ s t. (
         (λ x. elim x [
           | inl before ↦ (out_of_rest left from s before.0, before.1)
-          | inr now_is ↦ (ap (fin.contains (fin.remove left from)) now_is.0 ∙ not_removed left from, subst (λ z. KingGoes g p z t) (sym now_is.0) (record { on = stands.0; there = stands.1; goes = now_is.1 }))
+          | inr now_is ↦ (
+            ap (fin.contains (fin.remove left from)) now_is.0 ∙ not_removed left from,
+            subst (λ z. KingGoes g p z t) (sym now_is.0) (record { on = stands.0; there = stands.1; goes = now_is.1 }),
+          )
         ]),
         (λ q. elim (past_rest left from s q.0) [
           | inl same ↦ inr (same, (subst (λ z. KingGoes g p z t) same q.1).goes)
@@ -198,11 +257,13 @@ going_more made g b p left rest old now new from there rest_is h new_is =
       )) both;
     })
 
-pub going_all : {X : Type 0} (made : ℕ → ℕ → X) (g : Geometry) (p : Placement) (left : Squares) (old now : List X) → left ≡ fin.empty → Going made g p left old now → Adds made (KingGoes g p) old now
-going_all made g p left old now none h = adds_same made (λ s t. (fin.contains left s ≡ false) × KingGoes g p s t) (KingGoes g p) old now (λ s t. (
-  (λ x. x.1),
-  (λ m. (ap (λ v. fin.contains v s) none ∙ fin.contains-empty nat_cmp s, m)),
-)) h.added
+pub going_all : {X : Type 0} (made : ℕ → ℕ → X) (g : Geometry) (p : Placement) (left : Squares) (old now : List X)
+    → left ≡ fin.empty → Going made g p left old now → Adds made (KingGoes g p) old now
+going_all made g p left old now none h = adds_same made (λ s t. (fin.contains left s ≡ false) × KingGoes g p s t)
+    (KingGoes g p) old now (λ s t. (
+      (λ x. x.1),
+      (λ m. (ap (λ v. fin.contains v s) none ∙ fin.contains-empty nat_cmp s, m)),
+    )) h.added
 
 -- ---- all quiet moves
 man_is_quiet : (g : Geometry) → IsBoard g → (p : Placement) (d : Dir) (s t : ℕ) → ManSteps g p d s t → Quiet g p s t
@@ -218,7 +279,8 @@ man_is_quiet g b p d s t h = record {
   man = λ q. (refl, h.ahead);
 }
 
-king_targets : (g : Geometry) (p : Placement) (s : ℕ) → at p s ≡ Some (record { side = p.turn; kind = King }) → targets g p s ≡ quiet_for King g p p.turn s
+king_targets : (g : Geometry) (p : Placement) (s : ℕ) → at p s ≡ Some (record { side = p.turn; kind = King })
+    → targets g p s ≡ quiet_for King g p p.turn s
 king_targets g p s there = ap (targets_of g p s) there ∙ rw (same_side_refl p.turn, targets_of) refl
 
 king_is_quiet : (g : Geometry) (p : Placement) (s t : ℕ) → KingGoes g p s t → Quiet g p s t
@@ -226,7 +288,8 @@ king_is_quiet g p s t h = target_from g p s t h.on (subst (Member t) (sym (king_
 
 -- a man's step in one of the four directions, or a king's move
 abbrev Either : Geometry → Placement → ℕ → ℕ → Type 0
-Either g p s t = (((ManSteps g p UpLeft s t ⊎ ManSteps g p UpRight s t) ⊎ ManSteps g p DownLeft s t) ⊎ ManSteps g p DownRight s t) ⊎ KingGoes g p s t
+Either g p s t = (((ManSteps g p UpLeft s t ⊎ ManSteps g p UpRight s t) ⊎ ManSteps g p DownLeft s t)
+    ⊎ ManSteps g p DownRight s t) ⊎ KingGoes g p s t
 
 by_dir : (g : Geometry) (p : Placement) (s t : ℕ) (d : Dir) → ManSteps g p d s t → Either g p s t
 by_dir g p s t UpLeft h = inl (inl (inl (inl h)))
@@ -253,15 +316,22 @@ quiet_either g b p s t q = elim (kind_cases q.piece.kind) [
         free = q.free;
       })
   | inr king ↦
-      let there : at p s ≡ Some (record { side = p.turn; kind = King }) = q.stands.there ∙ ap Some (piece_is q.piece p.turn King q.stands.own king) in
-      inr (record { on = q.stands.on_board; there = there; goes = subst (Member t) (king_targets g p s there) (target_in g p s t q) })
+      let there : at p s ≡ Some (record { side = p.turn; kind = King }) = q.stands.there
+      ∙ ap Some (piece_is q.piece p.turn King q.stands.own king) in
+      inr (record {
+        on = q.stands.on_board;
+        there = there;
+        goes = subst (Member t) (king_targets g p s there) (target_in g p s t q);
+      })
 ]
 
 -- a step has one direction
 step_toward : (g : Geometry) → IsBoard g → (p : Placement) (d : Dir) (s t : ℕ) → ManSteps g p d s t → Toward g d s t
-step_toward g b p d s t h = ray_toward g b d s t h.on (subst (Member t) (sym (ray_some g b s t d h.on h.steps)) (inl refl))
+step_toward g b p d s t h = ray_toward g b d s t h.on (subst (Member t) (sym (ray_some g b s t d h.on h.steps))
+    (inl refl))
 
-dirs_apart : (g : Geometry) → IsBoard g → (p : Placement) (d e : Dir) → (d ≡ e → ⊥) → (s t : ℕ) → ManSteps g p d s t → ManSteps g p e s t → ⊥
+dirs_apart : (g : Geometry) → IsBoard g → (p : Placement) (d e : Dir) → (d ≡ e → ⊥) → (s t : ℕ) → ManSteps g p d s t
+    → ManSteps g p e s t → ⊥
 dirs_apart g b p d e ne s t h k = ne (one_dir g s t d e (step_toward g b p d s t h) (step_toward g b p e s t k))
 
 -- no man is a king
@@ -271,8 +341,11 @@ not_king g p d s t h k = true≢false (ap man_at (sym h.there ∙ k.there)) wher
   man_at None = false
   man_at (Some q) = is_man q.kind
 
-pub all_quiet : {X : Type 0} (made : ℕ → ℕ → X) (g : Geometry) → IsBoard g → (p : Placement) (old m1 m2 m3 m4 new : List X)
-    → Adds made (ManSteps g p UpLeft) old m1 → Adds made (ManSteps g p UpRight) m1 m2 → Adds made (ManSteps g p DownLeft) m2 m3 → Adds made (ManSteps g p DownRight) m3 m4 → Adds made (KingGoes g p) m4 new → Adds made (Quiet g p) old new
+pub all_quiet : {X : Type 0} (made : ℕ → ℕ → X) (g : Geometry) → IsBoard g
+    → (p : Placement) (old m1 m2 m3 m4 new : List X)
+    → Adds made (ManSteps g p UpLeft) old m1 → Adds made (ManSteps g p UpRight) m1 m2
+    → Adds made (ManSteps g p DownLeft) m2 m3 → Adds made (ManSteps g p DownRight) m3 m4
+    → Adds made (KingGoes g p) m4 new → Adds made (Quiet g p) old new
 all_quiet made g b p old m1 m2 m3 m4 new h1 h2 h3 h4 h5 =
     let T : Dir → ℕ → ℕ → Type 0 = ManSteps g p in
     let P2 : ℕ → ℕ → Type 0 = λ s t. T UpLeft s t ⊎ T UpRight s t in
@@ -305,11 +378,14 @@ pub record AreQuiet (g : Geometry) (p : Placement) (moves : List Move) : Type 0 
 abbrev pub move_to : ℕ × ℕ → Move
 move_to q = quiet_to q.0 q.1
 
-pub are_quiet : (g : Geometry) (p : Placement) (pairs : List (ℕ × ℕ)) → ((s t : ℕ) → Member (s, t) pairs ↔ Quiet g p s t) → NoRepeat pairs → AreQuiet g p (map move_to pairs)
+pub are_quiet : (g : Geometry) (p : Placement) (pairs : List (ℕ × ℕ))
+    → ((s t : ℕ) → Member (s, t) pairs ↔ Quiet g p s t) → NoRepeat pairs → AreQuiet g p (map move_to pairs)
 are_quiet g p pairs exactly once = record {
   exactly = λ m. (
-    (λ x. let r = mem_map_back move_to m pairs x in subst (λ (z : Move). Quiet g p z.from z.to × (z.taken ≡ fin.empty)) (sym r.2) ((exactly r.0.0 r.0.1).0 r.1, refl)),
-    (λ h. subst (λ z. Member z (map move_to pairs)) (same_move (move_to (m.from, m.to)) m refl refl (sym h.1)) (mem_map move_to (m.from, m.to) pairs ((exactly m.from m.to).1 h.0))),
+    (λ x. let r = mem_map_back move_to m pairs x in subst (λ (z : Move). Quiet g p z.from z.to × (z.taken ≡ fin.empty))
+        (sym r.2) ((exactly r.0.0 r.0.1).0 r.1, refl)),
+    (λ h. subst (λ z. Member z (map move_to pairs)) (same_move (move_to (m.from, m.to)) m refl refl (sym h.1))
+        (mem_map move_to (m.from, m.to) pairs ((exactly m.from m.to).1 h.0))),
   );
   once = once_map move_to (λ x y e. ap (λ (m : Move). (m.from, m.to)) e) pairs once;
 }

@@ -5,7 +5,9 @@ use Rattle.dw_moves.specs.Order.{LexLess, IsAscending, IsListOf}
 use Rattle.dw_moves.proofs.LexLemmas.{lex_trans, lex_cases}
 
 -- two ascending lists with the same members are one
-pub ascending_only : {X : Type 0} (R : X → X → Type 0) → ((x y : X) → R x y → R y x → ⊥) → (xs ys : List X) → IsAscending R xs → IsAscending R ys → ((z : X) → Member z xs → Member z ys) → ((z : X) → Member z ys → Member z xs) → xs ≡ ys
+pub ascending_only : {X : Type 0} (R : X → X → Type 0) → ((x y : X) → R x y → R y x → ⊥) → (xs ys : List X)
+    → IsAscending R xs → IsAscending R ys → ((z : X) → Member z xs → Member z ys)
+    → ((z : X) → Member z ys → Member z xs) → xs ≡ ys
 ascending_only R asym [] [] h k to back = refl
 ascending_only R asym [] (y ∷ ys) h k to back = absurd (back y (inl refl))
 ascending_only R asym (x ∷ xs) [] h k to back = absurd (to x (inl refl))
@@ -25,8 +27,10 @@ ascending_only {X} R asym (x ∷ xs) (y ∷ ys) h k to back =
     let tails : xs ≡ ys = ascending_only R asym xs ys h.1 k.1 to' back' in
     cc
 
-pub list_only : {X : Type 0} (R : X → X → Type 0) (P : X → Type 0) → ((x y : X) → R x y → R y x → ⊥) → (xs ys : List X) → IsListOf R P xs → IsListOf R P ys → xs ≡ ys
-list_only R P asym xs ys h k = ascending_only R asym xs ys h.ascending k.ascending (λ z m. (k.exactly z).1 ((h.exactly z).0 m)) (λ z m. (h.exactly z).1 ((k.exactly z).0 m))
+pub list_only : {X : Type 0} (R : X → X → Type 0) (P : X → Type 0) → ((x y : X) → R x y → R y x → ⊥) → (xs ys : List X)
+    → IsListOf R P xs → IsListOf R P ys → xs ≡ ys
+list_only R P asym xs ys h k = ascending_only R asym xs ys h.ascending k.ascending
+    (λ z m. (k.exactly z).1 ((h.exactly z).0 m)) (λ z m. (h.exactly z).1 ((k.exactly z).0 m))
 
 -- the order by a key
 abbrev pub ByKey : {X : Type 0} → (X → List ℕ) → X → X → Type 0
@@ -59,7 +63,11 @@ placed key x [] = record {
   here = (x, inl refl, refl);
   order = λ a. ((λ y m. absurd m), tt);
 }
-placed {X} key x (y ∷ ys) = elim (lex_cases (key x) (key y)) as (λ c. Placed key x (y ∷ ys) (elim c [ inl same ↦ y ∷ ys | inr (inl less) ↦ x ∷ y ∷ ys | inr (inr more) ↦ y ∷ place key x ys ])) [
+placed {X} key x (y ∷ ys) = elim (lex_cases (key x) (key y)) as (λ c. Placed key x (y ∷ ys) (elim c [
+  | inl same ↦ y ∷ ys
+  | inr (inl less) ↦ x ∷ y ∷ ys
+  | inr (inr more) ↦ y ∷ place key x ys
+])) [
   | inl same ↦ record { from = λ z m. inr m; kept = λ z m. m; here = (y, inl refl, sym same); order = λ a. a }
   | inr (inl less) ↦ record {
     from = λ z m. m;
@@ -76,7 +84,14 @@ placed {X} key x (y ∷ ys) = elim (lex_cases (key x) (key y)) as (λ c. Placed 
   | inr (inr more) ↦
       let h = placed key x ys in
       record {
-        from = λ z m. elim m [ inl e ↦ inr (inl e) | inr n ↦ elim (h.from z n) [ inl e ↦ inl e | inr k ↦ inr (inr k) ] ];
+        from = λ z m. elim m [
+          | inl e ↦ inr (inl e)
+          | inr n ↦ elim (h.from z n) [
+            | inl e ↦ inl e
+            | inr k ↦
+                inr (inr k)
+          ]
+        ];
         kept = λ z m. elim m [ inl e ↦ inl e | inr n ↦ inr (h.kept z n) ];
         here = (h.here.0, inr h.here.1, h.here.2);
         order = λ a. (
@@ -95,14 +110,24 @@ arranged_ascending key (x ∷ xs) = (placed key x (arranged key xs)).order (arra
 
 pub arranged_from : {X : Type 0} (key : X → List ℕ) (xs : List X) (z : X) → Member z (arranged key xs) → Member z xs
 arranged_from key [] z m = m
-arranged_from key (x ∷ xs) z m = elim ((placed key x (arranged key xs)).from z m) [ inl e ↦ inl e | inr n ↦ inr (arranged_from key xs z n) ]
+arranged_from key (x ∷ xs) z m = elim ((placed key x (arranged key xs)).from z m) [
+  | inl e ↦ inl e
+  | inr n ↦
+      inr (arranged_from key xs z n)
+]
 
-pub arranged_has : {X : Type 0} (key : X → List ℕ) (xs : List X) (z : X) → Member z xs → (y : X) × Member y (arranged key xs) × (key y ≡ key z)
+pub arranged_has : {X : Type 0} (key : X → List ℕ) (xs : List X) (z : X) → Member z xs
+    → (y : X) × Member y (arranged key xs) × (key y ≡ key z)
 arranged_has key [] z m = absurd m
 arranged_has key (x ∷ xs) z (inl e) = let h = (placed key x (arranged key xs)).here in (h.0, h.1, h.2 ∙ ap key (sym e))
-arranged_has key (x ∷ xs) z (inr m) = let k = arranged_has key xs z m in (k.0, (placed key x (arranged key xs)).kept k.0 k.1, k.2)
+arranged_has key (x ∷ xs) z (inr m) = let k = arranged_has key xs z m in
+    (k.0, (placed key x (arranged key xs)).kept k.0 k.1, k.2)
 
 -- another order that holds where the first does
-pub ascending_by : {X : Type 0} (R S : X → X → Type 0) (xs : List X) → ((x y : X) → Member x xs → Member y xs → R x y → S x y) → IsAscending R xs → IsAscending S xs
+pub ascending_by : {X : Type 0} (R S : X → X → Type 0) (xs : List X) → ((x y : X) → Member x xs → Member y xs → R x y
+    → S x y) → IsAscending R xs → IsAscending S xs
 ascending_by R S [] h a = tt
-ascending_by R S (x ∷ xs) h a = ((λ y m. h x y (inl refl) (inr m) (a.0 y m)), ascending_by R S xs (λ y z m n. h y z (inr m) (inr n)) a.1)
+ascending_by R S (x ∷ xs) h a = (
+  (λ y m. h x y (inl refl) (inr m) (a.0 y m)),
+  ascending_by R S xs (λ y z m n. h y z (inr m) (inr n)) a.1,
+)

@@ -1,5 +1,6 @@
 -- The plain lists hold exactly what the definitions say: one jump.
-use Rattle.std.proofs.Common.{◌≡◌, ℕ, List, [], ◌∷◌, ◌++◌, refl, sym, ap, ◌∙◌, subst, ◌⊎◌, inl, inr, Bool, true, false, Option, Some, None}
+use Rattle.std.proofs.Common.{◌≡◌, ℕ, List, [], ◌∷◌, ◌++◌, refl, sym, ap, ◌∙◌, subst, ◌⊎◌, inl, inr, Bool, true, false}
+use Rattle.std.proofs.Common.{Option, Some, None}
 use Rattle.dw_board.specs.declared.piece.Side.{Side}
 use Rattle.dw_board.specs.declared.piece.Side.TheVariants.{White, Black}
 use Rattle.dw_board.specs.declared.piece.Kind.{Kind}
@@ -12,7 +13,8 @@ use Rattle.dw_board.specs.Placement.{Placement, at, same_side}
 use Rattle.dw_moves.specs.Moves.{AllEmpty, Jump, ray}
 use Rattle.dw_board.specs.Lists.{Member}
 use Rattle.dw_board.specs.Placement.{other}
-use Rattle.dw_moves.specs.inner.Plain.{dirs, free_front, free_next, landings_for, over_enemy, man_takes, king_takes, takes_for, jump_list}
+use Rattle.dw_moves.specs.inner.Plain.{dirs, free_front, free_next, landings_for, over_enemy, man_takes, king_takes}
+use Rattle.dw_moves.specs.inner.Plain.{takes_for, jump_list}
 use Rattle.dw_moves.specs.inner.MemberLemmas.{mem_map, mem_map_back, mem_flat, mem_flat_back}
 
 pub option_cases : {A : Type 0} → (o : Option A) → (o ≡ None) ⊎ ((x : A) × (o ≡ Some x))
@@ -42,14 +44,31 @@ pub front_lands : (cells : Placement) (xs : List ℕ) (t : ℕ) → Member t (fr
 front_lands cells [] t m = absurd m
 front_lands cells (x ∷ xs) t m = elim (option_cases (at cells x)) [
   | inl e ↦ elim (rw (e, free_front) at m) [
-    | inl q ↦ record { before = []; beyond = xs; is = ap (λ z. z ∷ xs) (sym q); clear = tt; free = subst (λ z. at cells z ≡ None) (sym q) e; man = λ _. refl }
+    | inl q ↦ record {
+      before = [];
+      beyond = xs;
+      is = ap (λ z. z ∷ xs) (sym q);
+      clear = tt;
+      free =
+          subst (λ z. at cells z ≡ None) (sym q) e;
+      man = λ _. refl;
+    }
     | inr m' ↦ let h = front_lands cells xs t m' in
-        record { before = x ∷ h.before; beyond = h.beyond; is = ap (λ z. x ∷ z) h.is; clear = (e, h.clear); free = h.free; man = λ q. cc }
+        record {
+          before = x ∷ h.before;
+          beyond = h.beyond;
+          is = ap (λ z. x ∷ z) h.is;
+          clear = (e, h.clear);
+          free =
+              h.free;
+          man = λ q. cc;
+        }
   ]
   | inr e ↦ absurd (rw (e.1, free_front) at m)
 ]
 
-pub front_has : (cells : Placement) (l r : List ℕ) (t : ℕ) → AllEmpty cells l → at cells t ≡ None → Member t (free_front cells (l ++ t ∷ r))
+pub front_has : (cells : Placement) (l r : List ℕ) (t : ℕ) → AllEmpty cells l → at cells t ≡ None
+    → Member t (free_front cells (l ++ t ∷ r))
 front_has cells [] r t c f = rw (f, free_front) (inl refl)
 front_has cells (x ∷ l) r t c f = rw (c.0, free_front) (inr (front_has cells l r t c.1 f))
 
@@ -57,7 +76,15 @@ pub next_lands : (cells : Placement) (xs : List ℕ) (t : ℕ) → Member t (fre
 next_lands cells [] t m = absurd m
 next_lands cells (x ∷ xs) t m = elim (option_cases (at cells x)) [
   | inl e ↦ elim (rw (e, free_next) at m) [
-    | inl q ↦ record { before = []; beyond = xs; is = ap (λ z. z ∷ xs) (sym q); clear = tt; free = subst (λ z. at cells z ≡ None) (sym q) e; man = λ _. refl }
+    | inl q ↦ record {
+      before = [];
+      beyond = xs;
+      is = ap (λ z. z ∷ xs) (sym q);
+      clear = tt;
+      free =
+          subst (λ z. at cells z ≡ None) (sym q) e;
+      man = λ _. refl;
+    }
     | inr m' ↦ absurd m'
   ]
   | inr e ↦ absurd (rw (e.1, free_next) at m)
@@ -66,11 +93,13 @@ next_lands cells (x ∷ xs) t m = elim (option_cases (at cells x)) [
 pub next_has : (cells : Placement) (r : List ℕ) (t : ℕ) → at cells t ≡ None → Member t (free_next cells (t ∷ r))
 next_has cells r t f = rw (f, free_next) (inl refl)
 
-pub lands_from : (k : Kind) (cells : Placement) (xs : List ℕ) (t : ℕ) → Member t (landings_for k cells xs) → Lands k cells xs t
+pub lands_from : (k : Kind) (cells : Placement) (xs : List ℕ) (t : ℕ) → Member t (landings_for k cells xs)
+    → Lands k cells xs t
 lands_from Man = next_lands
 lands_from King = front_lands
 
-pub lands_in : (k : Kind) (cells : Placement) (xs : List ℕ) (t : ℕ) → Lands k cells xs t → Member t (landings_for k cells xs)
+pub lands_in : (k : Kind) (cells : Placement) (xs : List ℕ) (t : ℕ) → Lands k cells xs t
+    → Member t (landings_for k cells xs)
 lands_in Man cells xs t h =
     let e : xs ≡ t ∷ h.beyond = h.is ∙ ap (λ l. l ++ t ∷ h.beyond) (h.man refl) in
     rw e (next_has cells h.beyond t h.free)
@@ -89,9 +118,13 @@ pub record Takes (k : Kind) (cells : Placement) (side : Side) (xs : List ℕ) (c
   pub man : k ≡ Man → (before ≡ []) × (behind ≡ [])
 
 -- the enemy stands at the front of the list
-enemy_takes : (k : Kind) (cells : Placement) (side : Side) (x : ℕ) (xs : List ℕ) (j : ℕ × ℕ) (piece : Piece) → at cells x ≡ Some piece → Member j (over_enemy cells side k (Some piece) x xs) → Takes k cells side (x ∷ xs) j.0 j.1
+enemy_takes : (k : Kind) (cells : Placement) (side : Side) (x : ℕ) (xs : List ℕ) (j : ℕ × ℕ) (piece : Piece)
+    → at cells x ≡ Some piece → Member j (over_enemy cells side k (Some piece) x xs)
+    → Takes k cells side (x ∷ xs) j.0 j.1
 enemy_takes k cells side x xs j piece e m =
-    let go : (b : Bool) → same_side piece.side (other side) ≡ b → Takes k cells side (x ∷ xs) j.0 j.1 = λ b. elim b as (λ v. same_side piece.side (other side) ≡ v → Takes k cells side (x ∷ xs) j.0 j.1) [
+    let go : (b : Bool) → same_side piece.side (other side) ≡ b
+    → Takes k cells side (x ∷ xs) j.0 j.1 = λ b. elim b as (λ v. same_side piece.side (other side) ≡ v
+    → Takes k cells side (x ∷ xs) j.0 j.1) [
       | true ↦ λ s.
           let m' = rw (s, over_enemy) at m in
           let w = mem_map_back (λ t. (x, t)) j (landings_for k cells xs) m' in
@@ -104,7 +137,11 @@ enemy_takes k cells side x xs j piece e m =
             beyond = l.beyond;
             is = ap (λ z. x ∷ z) l.is;
             clear = tt;
-            enemy = (piece.kind, e ∙ ap (λ (q : Side). Some (record { side = q; kind = piece.kind })) (same_side_true piece.side (other side) s));
+            enemy = (
+              piece.kind,
+              e ∙ ap (λ (q : Side). Some (record { side = q; kind = piece.kind }))
+                  (same_side_true piece.side (other side) s),
+            );
             clear_behind = l.clear;
             free = l.free;
             man = λ q. (refl, l.man q);
@@ -113,42 +150,72 @@ enemy_takes k cells side x xs j piece e m =
     ] in
     go (same_side piece.side (other side)) refl
 
-enemy_in : (k : Kind) (cells : Placement) (side : Side) (x : ℕ) (xs : List ℕ) (t : ℕ) (q : Kind) → Lands k cells xs t → Member (x, t) (over_enemy cells side k (Some (record { side = other side; kind = q })) x xs)
-enemy_in k cells side x xs t q l = rw (same_side_refl (other side), over_enemy) (mem_map (λ t. (x, t)) t (landings_for k cells xs) (lands_in k cells xs t l))
+enemy_in : (k : Kind) (cells : Placement) (side : Side) (x : ℕ) (xs : List ℕ) (t : ℕ) (q : Kind) → Lands k cells xs t
+    → Member (x, t) (over_enemy cells side k (Some (record { side = other side; kind = q })) x xs)
+enemy_in k cells side x xs t q l = rw (same_side_refl (other side), over_enemy)
+    (mem_map (λ t. (x, t)) t (landings_for k cells xs) (lands_in k cells xs t l))
 
-man_from : (cells : Placement) (side : Side) (xs : List ℕ) (j : ℕ × ℕ) → Member j (man_takes cells side xs) → Takes Man cells side xs j.0 j.1
+man_from : (cells : Placement) (side : Side) (xs : List ℕ) (j : ℕ × ℕ) → Member j (man_takes cells side xs)
+    → Takes Man cells side xs j.0 j.1
 man_from cells side [] j m = absurd m
 man_from cells side (x ∷ xs) j m = elim (option_cases (at cells x)) [
   | inl e ↦ absurd (rw (e, man_takes, over_enemy) at m)
   | inr e ↦ enemy_takes Man cells side x xs j e.0 e.1 (rw (e.1, man_takes) at m)
 ]
 
-king_from : (cells : Placement) (side : Side) (xs : List ℕ) (j : ℕ × ℕ) → Member j (king_takes cells side xs) → Takes King cells side xs j.0 j.1
+king_from : (cells : Placement) (side : Side) (xs : List ℕ) (j : ℕ × ℕ) → Member j (king_takes cells side xs)
+    → Takes King cells side xs j.0 j.1
 king_from cells side [] j m = absurd m
 king_from cells side (x ∷ xs) j m = elim (option_cases (at cells x)) [
   | inl e ↦ let h = king_from cells side xs j (rw (e, king_takes) at m) in
-      record { before = x ∷ h.before; behind = h.behind; beyond = h.beyond; is = ap (λ z. x ∷ z) h.is; clear = (e, h.clear); enemy = h.enemy; clear_behind = h.clear_behind; free = h.free; man = λ q. cc }
+      record {
+        before = x ∷ h.before;
+        behind = h.behind;
+        beyond = h.beyond;
+        is = ap (λ z. x ∷ z) h.is;
+        clear =
+            (e, h.clear);
+        enemy = h.enemy;
+        clear_behind = h.clear_behind;
+        free = h.free;
+        man = λ q. cc;
+      }
   | inr e ↦ enemy_takes King cells side x xs j e.0 e.1 (rw (e.1, king_takes) at m)
 ]
 
-king_in : (cells : Placement) (side : Side) (before xs : List ℕ) (c t : ℕ) (q : Kind) → AllEmpty cells before → at cells c ≡ Some (record { side = other side; kind = q }) → Lands King cells xs t → Member (c, t) (king_takes cells side (before ++ c ∷ xs))
+king_in : (cells : Placement) (side : Side) (before xs : List ℕ) (c t : ℕ) (q : Kind) → AllEmpty cells before
+    → at cells c ≡ Some (record { side = other side; kind = q }) → Lands King cells xs t
+    → Member (c, t) (king_takes cells side (before ++ c ∷ xs))
 king_in cells side [] xs c t q clear e l = rw (e, king_takes) (enemy_in King cells side c xs t q l)
-king_in cells side (x ∷ before) xs c t q clear e l = rw (clear.0, king_takes) (king_in cells side before xs c t q clear.1 e l)
+king_in cells side (x ∷ before) xs c t q clear e l = rw (clear.0, king_takes) (king_in cells side before xs c t q
+    clear.1 e l)
 
-pub takes_from : (k : Kind) (cells : Placement) (side : Side) (xs : List ℕ) (j : ℕ × ℕ) → Member j (takes_for k cells side xs) → Takes k cells side xs j.0 j.1
+pub takes_from : (k : Kind) (cells : Placement) (side : Side) (xs : List ℕ) (j : ℕ × ℕ)
+    → Member j (takes_for k cells side xs) → Takes k cells side xs j.0 j.1
 takes_from Man = man_from
 takes_from King = king_from
 
-takes_lands : (k : Kind) (cells : Placement) (side : Side) (xs : List ℕ) (c t : ℕ) → (h : Takes k cells side xs c t) → Lands k cells (h.behind ++ t ∷ h.beyond) t
-takes_lands k cells side xs c t h = record { before = h.behind; beyond = h.beyond; is = refl; clear = h.clear_behind; free = h.free; man = λ q. (h.man q).1 }
+takes_lands : (k : Kind) (cells : Placement) (side : Side) (xs : List ℕ) (c t : ℕ) → (h : Takes k cells side xs c t)
+    → Lands k cells (h.behind ++ t ∷ h.beyond) t
+takes_lands k cells side xs c t h = record {
+  before = h.behind;
+  beyond = h.beyond;
+  is = refl;
+  clear = h.clear_behind;
+  free = h.free;
+  man = λ q. (h.man q).1;
+}
 
-pub takes_in : (k : Kind) (cells : Placement) (side : Side) (xs : List ℕ) (c t : ℕ) → Takes k cells side xs c t → Member (c, t) (takes_for k cells side xs)
+pub takes_in : (k : Kind) (cells : Placement) (side : Side) (xs : List ℕ) (c t : ℕ) → Takes k cells side xs c t
+    → Member (c, t) (takes_for k cells side xs)
 takes_in Man cells side xs c t h =
     let e : xs ≡ c ∷ (h.behind ++ t ∷ h.beyond) = h.is ∙ ap (λ l. l ++ c ∷ (h.behind ++ t ∷ h.beyond)) (h.man refl).0 in
     let m : Member (c, t) (over_enemy cells side Man (at cells c) c (h.behind ++ t ∷ h.beyond)) =
-    rw h.enemy.1 (enemy_in Man cells side c (h.behind ++ t ∷ h.beyond) t h.enemy.0 (takes_lands Man cells side xs c t h)) in
+    rw h.enemy.1 (enemy_in Man cells side c (h.behind ++ t ∷ h.beyond) t h.enemy.0 (takes_lands Man cells side xs c t
+    h)) in
     rw e m
-takes_in King cells side xs c t h = rw h.is (king_in cells side h.before (h.behind ++ t ∷ h.beyond) c t h.enemy.0 h.clear h.enemy.1 (takes_lands King cells side xs c t h))
+takes_in King cells side xs c t h = rw h.is (king_in cells side h.before (h.behind ++ t ∷ h.beyond) c t h.enemy.0
+    h.clear h.enemy.1 (takes_lands King cells side xs c t h))
 
 pub all_dirs : (d : Dir) → Member d dirs
 all_dirs UpLeft = inl refl
@@ -157,19 +224,60 @@ all_dirs DownLeft = inr (inr (inl refl))
 all_dirs DownRight = inr (inr (inr (inl refl)))
 
 -- what can be taken on a ray is a jump in its direction
-pub jump_along : (g : Geometry) (cells : Placement) (piece : Piece) (s c t : ℕ) (d : Dir) → Member (c, t) (takes_for piece.kind cells piece.side (ray g s d)) → (j : Jump g cells piece s c t) × (j.dir ≡ d)
+pub jump_along : (g : Geometry) (cells : Placement) (piece : Piece) (s c t : ℕ) (d : Dir)
+    → Member (c, t) (takes_for piece.kind cells piece.side (ray g s d)) → (j : Jump g cells piece s c t) × (j.dir ≡ d)
 jump_along g cells piece s c t d m =
-    let h = takes_from piece.kind cells piece.side (ray g s d) (c, t) m in
-    (record { dir = d; before = h.before; behind = h.behind; beyond = h.beyond; on_ray = h.is; clear = h.clear; enemy = h.enemy; clear_behind = h.clear_behind; free = h.free; man = h.man }, refl)
+    let h = takes_from piece.kind cells piece.side (ray g s d) (c, t) m in (
+      record {
+        dir = d;
+        before = h.before;
+        behind = h.behind;
+        beyond = h.beyond;
+        on_ray = h.is;
+        clear = h.clear;
+        enemy =
+            h.enemy;
+        clear_behind = h.clear_behind;
+        free = h.free;
+        man = h.man;
+      },
+      refl,
+    )
 
 -- the list of jumps holds the jumps
-pub jump_from : (g : Geometry) (cells : Placement) (piece : Piece) (s : ℕ) (j : ℕ × ℕ) → Member j (jump_list g cells piece s) → Jump g cells piece s j.0 j.1
+pub jump_from : (g : Geometry) (cells : Placement) (piece : Piece) (s : ℕ) (j : ℕ × ℕ)
+    → Member j (jump_list g cells piece s) → Jump g cells piece s j.0 j.1
 jump_from g cells piece s j m =
     let f = mem_flat_back (λ d. takes_for piece.kind cells piece.side (ray g s d)) j dirs m in
     let h = takes_from piece.kind cells piece.side (ray g s f.0) j f.2 in
-    record { dir = f.0; before = h.before; behind = h.behind; beyond = h.beyond; on_ray = h.is; clear = h.clear; enemy = h.enemy; clear_behind = h.clear_behind; free = h.free; man = h.man }
+    record {
+      dir = f.0;
+      before = h.before;
+      behind = h.behind;
+      beyond = h.beyond;
+      on_ray = h.is;
+      clear = h.clear;
+      enemy =
+          h.enemy;
+      clear_behind = h.clear_behind;
+      free = h.free;
+      man = h.man;
+    }
 
-pub jump_in : (g : Geometry) (cells : Placement) (piece : Piece) (s c t : ℕ) → Jump g cells piece s c t → Member (c, t) (jump_list g cells piece s)
+pub jump_in : (g : Geometry) (cells : Placement) (piece : Piece) (s c t : ℕ) → Jump g cells piece s c t
+    → Member (c, t) (jump_list g cells piece s)
 jump_in g cells piece s c t h =
     mem_flat (λ d. takes_for piece.kind cells piece.side (ray g s d)) h.dir (c, t) dirs (all_dirs h.dir)
-    (takes_in piece.kind cells piece.side (ray g s h.dir) c t (record { before = h.before; behind = h.behind; beyond = h.beyond; is = h.on_ray; clear = h.clear; enemy = h.enemy; clear_behind = h.clear_behind; free = h.free; man = h.man }))
+    (takes_in piece.kind cells piece.side (ray g s h.dir) c t (record {
+      before = h.before;
+      behind = h.behind;
+      beyond =
+          h.beyond;
+      is = h.on_ray;
+      clear = h.clear;
+      enemy = h.enemy;
+      clear_behind = h.clear_behind;
+      free = h.free;
+      man =
+          h.man;
+    }))

@@ -1,5 +1,6 @@
 -- Something can be taken where a single jump is there, and a first jump is found on the sets of a position.
-use Rattle.std.proofs.Common.{◌≡◌, ◌≢◌, ℕ, ◌-◌, ◌≤◌, ◌<◌, List, [], ◌∷◌, ◌++◌, length, refl, sym, ap, ◌∙◌, subst, ◌⊎◌, inl, inr, ◌↔◌, arith, Some, None, get_or-set_other}
+use Rattle.std.proofs.Common.{◌≡◌, ◌≢◌, ℕ, ◌-◌, ◌≤◌, ◌<◌, List, [], ◌∷◌, ◌++◌, length, refl, sym, ap, ◌∙◌, subst, ◌⊎◌}
+use Rattle.std.proofs.Common.{inl, inr, ◌↔◌, arith, Some, None, get_or-set_other}
 use Rattle.dw_board.specs.declared.board.Dir.{Dir}
 use Rattle.dw_board.specs.declared.piece.Side.{Side}
 use Rattle.dw_board.specs.declared.piece.Kind.{Kind}
@@ -37,14 +38,16 @@ all_still_empty p s (x ∷ xs) h = (still_empty p s x h.0, all_still_empty p s x
 
 -- another square holds what it held
 pub other_at : (p : Placement) (s t : ℕ) → 1 ≤ s → 1 ≤ t → t ≢ s → at (placed p s None) t ≡ at p t
-other_at p s t low low_too ne = let apart : t - 1 ≢ s - 1 = λ e. ne (omega arith) in get_or-set_other p.cells (s - 1) (t - 1) None None apart
+other_at p s t low low_too ne = let apart : t - 1 ≢ s - 1 = λ e. ne (omega arith) in get_or-set_other p.cells (s - 1)
+    (t - 1) None None apart
 
 -- no square of a ray is its origin
 pub apart_on_ray : (g : Geometry) → IsBoard g → (d : Dir) (s x : ℕ) → OnBoard g s → Member x (ray g s d) → x ≢ s
 apart_on_ray g b d s x on m e = not_toward g d s (subst (Toward g d s) e (ray_toward g b d s x on m))
 
 -- so it holds what it held before the origin was emptied
-pub same_on_ray : (g : Geometry) → IsBoard g → (p : Placement) (d : Dir) (s x : ℕ) → OnBoard g s → Member x (ray g s d) → at (placed p s None) x ≡ at p x
+pub same_on_ray : (g : Geometry) → IsBoard g → (p : Placement) (d : Dir) (s x : ℕ) → OnBoard g s → Member x (ray g s d)
+    → at (placed p s None) x ≡ at p x
 same_on_ray g b p d s x on m = other_at p s x on.0 (ray_of_low g g.rows s d x m) (apart_on_ray g b d s x on m)
 
 no_length : (xs : List ℕ) → length xs ≡ 0 → xs ≡ []
@@ -52,26 +55,32 @@ no_length [] e = refl
 no_length (x ∷ xs) e = absurd (omega arith)
 
 -- the first square behind an enemy is empty
-pub head_free : (p : Placement) (behind : List ℕ) (t : ℕ) (beyond : List ℕ) → AllEmpty p behind → at p t ≡ None → (x : ℕ) × (rest : List ℕ) × (behind ++ t ∷ beyond ≡ x ∷ rest) × (at p x ≡ None)
+pub head_free : (p : Placement) (behind : List ℕ) (t : ℕ) (beyond : List ℕ) → AllEmpty p behind → at p t ≡ None
+    → (x : ℕ) × (rest : List ℕ) × (behind ++ t ∷ beyond ≡ x ∷ rest) × (at p x ≡ None)
 head_free p [] t beyond clear free = (t, beyond, refl, free)
 head_free p (x ∷ behind) t beyond clear free = (x, behind ++ t ∷ beyond, refl, clear.0)
 
-pub piece_is : (piece : Piece) (side : Side) (kind_of : Kind) → piece.side ≡ side → piece.kind ≡ kind_of → piece ≡ record { side = side; kind = kind_of }
+pub piece_is : (piece : Piece) (side : Side) (kind_of : Kind) → piece.side ≡ side → piece.kind ≡ kind_of
+    → piece ≡ record { side = side; kind = kind_of }
 piece_is piece side kind_of e f = λ i. record { side = e i; kind = f i }
 
 pub kind_cases : (k : Kind) → (k ≡ Man) ⊎ (k ≡ King)
 kind_cases Man = inl refl
 kind_cases King = inr refl
 
-pub first_jump : (g : Geometry) (p : Placement) (piece : Piece) (s : ℕ) (ts cs : List ℕ) → Jumps g p piece s ts cs → 0 < length cs → (c : ℕ) × (t : ℕ) × Jump g p piece s c t
+pub first_jump : (g : Geometry) (p : Placement) (piece : Piece) (s : ℕ) (ts cs : List ℕ) → Jumps g p piece s ts cs
+    → 0 < length cs → (c : ℕ) × (t : ℕ) × Jump g p piece s c t
 first_jump g p piece s [] [] h some = absurd (omega arith)
 first_jump g p piece s [] (c ∷ cs) h some = absurd h
 first_jump g p piece s (t ∷ ts) [] h some = absurd h
 first_jump g p piece s (t ∷ ts) (c ∷ cs) h some = (c, t, h.0)
 
-module _ (g : Geometry) (b : IsBoard g) (p : Placement) (men kings enemies occupied : Squares) (sets : AreSets g p men kings enemies occupied) where
+module _ (g : Geometry) (b : IsBoard g) (p : Placement) (men kings enemies occupied : Squares)
+    (sets : AreSets g p men kings enemies occupied) where
   -- one jump behind such a run
-  jump_of : (kind : Kind) (from : Squares) (d : Dir) → ((s : ℕ) → In s from ↔ (OnBoard g s × (at p s ≡ Some (record { side = p.turn; kind = kind })))) → (n c t : ℕ) → (kind ≡ Man → n ≡ 0)
+  jump_of : (kind : Kind) (from : Squares) (d : Dir)
+      → ((s : ℕ) → In s from ↔ (OnBoard g s × (at p s ≡ Some (record { side = p.turn; kind = kind })))) → (n c t : ℕ)
+      → (kind ≡ Man → n ≡ 0)
       → MeetsBehind g from enemies occupied d n c → step g c d ≡ Some t → (In t occupied → ⊥) → CanCapture g p
   jump_of kind from d from_is n c t man m to free =
       let h = run_of g b p occupied sets.of_all from d (λ s i. ((from_is s).0 i).0) n m.0 m.1 in
@@ -80,7 +89,8 @@ module _ (g : Geometry) (b : IsBoard g) (p : Placement) (men kings enemies occup
       let c_on : OnBoard g c = (step_is g b m.0 c d h.on m.2).on in
       let t_on : OnBoard g t = (step_is g b c t d c_on to).on in
       let enemy = (sets.of_enemies c).0 m.3 in
-      let ray_is : ray g h.start d ≡ h.before ++ c ∷ ([] ++ t ∷ ray g t d) = h.on_ray ∙ ap (λ z. h.before ++ z) (ray_some g b m.0 c d h.on m.2 ∙ ap (λ z. c ∷ z) (ray_some g b c t d c_on to)) in
+      let ray_is : ray g h.start d ≡ h.before ++ c ∷ ([] ++ t ∷ ray g t d) = h.on_ray
+      ∙ ap (λ z. h.before ++ z) (ray_some g b m.0 c d h.on m.2 ∙ ap (λ z. c ∷ z) (ray_some g b c t d c_on to)) in
       let on_ray : Member c (ray g h.start d) = subst (Member c) (sym ray_is) (mem_at c h.before (t ∷ ray g t d)) in
       let jump : Jump g (placed p h.start None) piece h.start c t = record {
         dir = d;
@@ -94,7 +104,13 @@ module _ (g : Geometry) (b : IsBoard g) (p : Placement) (men kings enemies occup
         free = still_empty p h.start t (free_at g p men kings enemies occupied t sets t_on free);
         man = λ q. (no_length h.before (h.steps ∙ man q), refl);
       } in
-      let path : Path g p h.start (t ∷ []) (c ∷ []) = record { piece = piece; stands = record { on_board = own.0; there = own.1; own = refl }; jumps = (jump, tt); once = ((λ i. i), tt) } in
+      let path : Path g p h.start (t ∷ []) (c ∷ []) =
+      record {
+        piece = piece;
+        stands = record { on_board = own.0; there = own.1; own = refl };
+        jumps = (jump, tt);
+        once = ((λ i. i), tt);
+      } in
       (h.start, t ∷ [], c ∷ [], path, omega arith)
 
   pub takes_capture : (d : Dir) → Takes g men kings enemies occupied d → CanCapture g p
@@ -104,22 +120,39 @@ module _ (g : Geometry) (b : IsBoard g) (p : Placement) (men kings enemies occup
   ]
 
   -- what a jump takes is met from its start, and the next square is empty
-  pub jump_meets : (s c t : ℕ) (piece : Piece) → Stands g p s piece → (j : Jump g (placed p s None) piece s c t) → (from : Squares) → In s from
-      → (u : ℕ) × MeetsBehind g from enemies occupied j.dir (length j.before) c × (step g c j.dir ≡ Some u) × (In u occupied → ⊥)
+  pub jump_meets : (s c t : ℕ) (piece : Piece) → Stands g p s piece → (j : Jump g (placed p s None) piece s c t)
+      → (from : Squares) → In s from
+      → (u : ℕ) × MeetsBehind g from enemies occupied j.dir (length j.before) c × (step g c j.dir ≡ Some u)
+      × (In u occupied → ⊥)
   jump_meets s c t piece stands j from i =
       let d : Dir = j.dir in
       let next = head_free (placed p s None) j.behind t j.beyond j.clear_behind j.free in
       let ray_is : ray g s d ≡ j.before ++ c ∷ (next.0 ∷ next.1) = j.on_ray ∙ ap (λ z. j.before ++ c ∷ z) next.2 in
-      let empty_on : (x : ℕ) → Member x (ray g s d) → at (placed p s None) x ≡ None → In x occupied → ⊥ = λ x i e. not_taken g p men kings enemies occupied x sets (sym (same_on_ray g b p d s x stands.on_board i) ∙ e) in
-      let free : (x : ℕ) → Member x j.before → In x occupied → ⊥ = λ x i. empty_on x (subst (Member x) (sym j.on_ray) (mem_left x j.before (c ∷ (j.behind ++ t ∷ j.beyond)) i)) (empty_member (placed p s None) j.before x j.clear i) in
-      let behind : In next.0 occupied → ⊥ = empty_on next.0 (subst (Member next.0) (sym ray_is) (mem_right next.0 j.before (c ∷ (next.0 ∷ next.1)) (inr (inl refl)))) next.3 in
-      let enemy_at : at p c ≡ Some (record { side = other p.turn; kind = j.enemy.0 }) = stood p s c (record { side = other piece.side; kind = j.enemy.0 }) j.enemy.1 ∙ ap (λ z. Some (record { side = other z; kind = j.enemy.0 })) stands.own in
-      let w : Walked g from occupied d (length j.before) c (next.0 ∷ next.1) = walk g b from occupied d j.before 0 (length j.before) s c (next.0 ∷ next.1) (omega arith) i stands.on_board ray_is free in
-      (next.0, (w.last, w.runs, w.steps, (sets.of_enemies c).1 (w.on, (j.enemy.0, enemy_at))), (ray_head g b c next.0 next.1 d w.on w.ray_is).0, behind)
+      let empty_on : (x : ℕ) → Member x (ray g s d) → at (placed p s None) x ≡ None → In x occupied
+      → ⊥ = λ x i e. not_taken g p men kings enemies occupied x sets
+      (sym (same_on_ray g b p d s x stands.on_board i) ∙ e) in
+      let free : (x : ℕ) → Member x j.before → In x occupied
+      → ⊥ = λ x i. empty_on x (subst (Member x) (sym j.on_ray) (mem_left x j.before (c ∷ (j.behind ++ t ∷ j.beyond))
+      i)) (empty_member (placed p s None) j.before x j.clear i) in
+      let behind : In next.0 occupied
+      → ⊥ = empty_on next.0 (subst (Member next.0) (sym ray_is) (mem_right next.0 j.before (c ∷ (next.0 ∷ next.1))
+      (inr (inl refl)))) next.3 in
+      let enemy_at : at p c ≡ Some (record { side = other p.turn; kind = j.enemy.0 }) =
+      stood p s c (record { side = other piece.side; kind = j.enemy.0 }) j.enemy.1
+      ∙ ap (λ z. Some (record { side = other z; kind = j.enemy.0 })) stands.own in
+      let w : Walked g from occupied d (length j.before) c (next.0 ∷ next.1) = walk g b from occupied d j.before 0
+      (length j.before) s c (next.0 ∷ next.1) (omega arith) i stands.on_board ray_is free in (
+        next.0,
+        (w.last, w.runs, w.steps, (sets.of_enemies c).1 (w.on, (j.enemy.0, enemy_at))),
+        (ray_head g b c next.0 next.1 d w.on w.ray_is).0,
+        behind,
+      )
 
-  jump_takes : (s c t : ℕ) (piece : Piece) → Stands g p s piece → Jump g (placed p s None) piece s c t → (d : Dir) × Takes g men kings enemies occupied d
+  jump_takes : (s c t : ℕ) (piece : Piece) → Stands g p s piece → Jump g (placed p s None) piece s c t → (d : Dir)
+      × Takes g men kings enemies occupied d
   jump_takes s c t piece stands j =
-      let there : (kind : Kind) → piece.kind ≡ kind → at p s ≡ Some (record { side = p.turn; kind = kind }) = λ kind e. stands.there ∙ ap Some (piece_is piece p.turn kind stands.own e) in
+      let there : (kind : Kind) → piece.kind ≡ kind → at p s ≡ Some (record { side = p.turn; kind = kind }) =
+      λ kind e. stands.there ∙ ap Some (piece_is piece p.turn kind stands.own e) in
       elim (kind_cases piece.kind) [
         | inl man ↦
             let i : In s men = (sets.of_men s).1 (stands.on_board, there Man man) in

@@ -14,8 +14,11 @@ use Rattle.dw_moves.proofs.GlanceSetLemmas.{free_at, not_taken}
 use Rattle.dw_moves.proofs.SlideLemmas.{ray_head}
 use Rattle.dw_moves.proofs.FirstJumpLemmas.{head_free, piece_is, kind_cases}
 
-module _ (g : Geometry) (b : IsBoard g) (p : Placement) (men kings enemies occupied : Squares) (sets : AreSets g p men kings enemies occupied) where
-  step_of : (kind_of : Kind) (s t : ℕ) (d : Dir) → OnBoard g s → at p s ≡ Some (record { side = p.turn; kind = kind_of }) → (kind_of ≡ Man → IsForward p.turn d) → step g s d ≡ Some t → (In t occupied → ⊥) → CanStep g p
+module _ (g : Geometry) (b : IsBoard g) (p : Placement) (men kings enemies occupied : Squares)
+    (sets : AreSets g p men kings enemies occupied) where
+  step_of : (kind_of : Kind) (s t : ℕ) (d : Dir) → OnBoard g s
+      → at p s ≡ Some (record { side = p.turn; kind = kind_of }) → (kind_of ≡ Man → IsForward p.turn d)
+      → step g s d ≡ Some t → (In t occupied → ⊥) → CanStep g p
   step_of kind_of s t d on there ahead to free =
       let quiet : Quiet g p s t = record {
         piece = record { side = p.turn; kind = kind_of };
@@ -40,7 +43,8 @@ module _ (g : Geometry) (b : IsBoard g) (p : Placement) (men kings enemies occup
   quiet_steps s t q =
       let next = head_free p q.between t q.beyond q.clear q.free in
       let to = (ray_head g b s next.0 next.1 q.dir q.stands.on_board (q.on_ray ∙ next.2)).0 in
-      let there : (kind_of : Kind) → q.piece.kind ≡ kind_of → at p s ≡ Some (record { side = p.turn; kind = kind_of }) = λ kind_of e. q.stands.there ∙ ap Some (piece_is q.piece p.turn kind_of q.stands.own e) in
+      let there : (kind_of : Kind) → q.piece.kind ≡ kind_of → at p s ≡ Some (record { side = p.turn; kind = kind_of }) =
+      λ kind_of e. q.stands.there ∙ ap Some (piece_is q.piece p.turn kind_of q.stands.own e) in
       let mover : (In s men × IsForward p.turn q.dir) ⊎ In s kings = elim (kind_cases q.piece.kind) [
         | inl man ↦ inl ((sets.of_men s).1 (q.stands.on_board, there Man man), (q.man man).1)
         | inr king ↦ inr ((sets.of_kings s).1 (q.stands.on_board, there King king))

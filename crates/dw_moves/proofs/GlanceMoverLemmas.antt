@@ -21,23 +21,30 @@ use Rattle.dw_moves.proofs.SlideLemmas.{ray_head}
 use Rattle.dw_moves.proofs.FirstJumpLemmas.{piece_is, kind_cases, same_on_ray, jump_meets}
 
 -- a man that can take is found from the square behind what it takes
-pub taker_in : (g : Geometry) → IsBoard g → (men enemies occupied met next free over behind : Squares) (d e : Dir) → e ≡ back d → ((c : ℕ) → In c met ↔ MenMeet g men enemies occupied d c)
+pub taker_in : (g : Geometry) → IsBoard g → (men enemies occupied met next free over behind : Squares) (d e : Dir)
+    → e ≡ back d → ((c : ℕ) → In c met ↔ MenMeet g men enemies occupied d c)
     → IsShifted g met d next → free ≡ fin.difference next occupied → IsShifted g free e over → IsShifted g over e behind
-    → (s c t : ℕ) → OnBoard g s → In s men → step g s d ≡ Some c → In c enemies → step g c d ≡ Some t → (In t occupied → ⊥) → In s behind
-taker_in g b men enemies occupied met next free over behind d e e_is met_is next_is free_is over_is behind_is s c t on m to enemy further empty =
+    → (s c t : ℕ) → OnBoard g s → In s men → step g s d ≡ Some c → In c enemies → step g c d ≡ Some t
+    → (In t occupied → ⊥) → In s behind
+taker_in g b men enemies occupied met next free over behind d e e_is met_is next_is free_is over_is behind_is s c t on m
+    to enemy further empty =
     let c_on : OnBoard g c = (step_is g b s c d on to).on in
     let hit : In c met = (met_is c).1 (s, m, to, enemy) in
     let landed : In t free = (in_minus next occupied free t free_is).1 ((next_is t).1 (c, (hit, further)), empty) in
-    let there : In c over = (over_is c).1 (t, (landed, subst (λ z. step g t z ≡ Some c) (sym e_is) (step_back g b c t d c_on further))) in
+    let there : In c over = (over_is c).1
+    (t, (landed, subst (λ z. step g t z ≡ Some c) (sym e_is) (step_back g b c t d c_on further))) in
     (behind_is s).1 (c, (there, subst (λ z. step g c z ≡ Some s) (sym e_is) (step_back g b s c d on to)))
 
 -- one of the four sets, or the first
-pub in_five : (a u v x y two three four all : Squares) (s : ℕ) → two ≡ fin.union u v → three ≡ fin.union x y → four ≡ fin.union a two → all ≡ fin.union four three
+pub in_five : (a u v x y two three four all : Squares) (s : ℕ) → two ≡ fin.union u v → three ≡ fin.union x y
+    → four ≡ fin.union a two → all ≡ fin.union four three
     → In s a ⊎ (In s u ⊎ (In s v ⊎ (In s x ⊎ In s y))) → In s all
 in_five a u v x y two three four all s two_is three_is four_is all_is h = elim h [
   | inl l ↦ (in_or four three all s all_is).1 (inl ((in_or a two four s four_is).1 (inl l)))
-  | inr (inl l) ↦ (in_or four three all s all_is).1 (inl ((in_or a two four s four_is).1 (inr ((in_or u v two s two_is).1 (inl l)))))
-  | inr (inr (inl l)) ↦ (in_or four three all s all_is).1 (inl ((in_or a two four s four_is).1 (inr ((in_or u v two s two_is).1 (inr l)))))
+  | inr (inl l) ↦ (in_or four three all s all_is).1
+      (inl ((in_or a two four s four_is).1 (inr ((in_or u v two s two_is).1 (inl l)))))
+  | inr (inr (inl l)) ↦ (in_or four three all s all_is).1
+      (inl ((in_or a two four s four_is).1 (inr ((in_or u v two s two_is).1 (inr l)))))
   | inr (inr (inr (inl l))) ↦ (in_or four three all s all_is).1 (inr ((in_or x y three s three_is).1 (inl l)))
   | inr (inr (inr (inr l))) ↦ (in_or four three all s all_is).1 (inr ((in_or x y three s three_is).1 (inr l)))
 ]
@@ -54,25 +61,51 @@ by_dir P ul ur dl dr f DownRight h = inr (inr (inr (f.1.1.1 h)))
 
 -- a man takes from s in a direction
 abbrev pub TakesFrom : Geometry → Squares → Squares → Squares → ℕ → Dir → Type 0
-TakesFrom g men enemies occupied s d = (c : ℕ) × ((t : ℕ) × (OnBoard g s × (In s men × ((step g s d ≡ Some c) × (In c enemies × ((step g c d ≡ Some t) × (In t occupied → ⊥)))))))
+TakesFrom g men enemies occupied s d = (c : ℕ) × ((t : ℕ) × (OnBoard g s × (In s men
+    × ((step g s d ≡ Some c) × (In c enemies × ((step g c d ≡ Some t) × (In t occupied → ⊥)))))))
 
-module _ (g : Geometry) (b : IsBoard g) (p : Placement) (men kings enemies occupied : Squares) (sets : AreSets g p men kings enemies occupied) where
+module _ (g : Geometry) (b : IsBoard g) (p : Placement) (men kings enemies occupied : Squares)
+    (sets : AreSets g p men kings enemies occupied) where
   -- a jump begins with a king, or with a man next to an enemy that has an empty square behind it
-  jump_begins : (s c t : ℕ) (piece : Piece) → Stands g p s piece → (j : Jump g (placed p s None) piece s c t) → In s kings ⊎ TakesFrom g men enemies occupied s j.dir
+  jump_begins : (s c t : ℕ) (piece : Piece) → Stands g p s piece → (j : Jump g (placed p s None) piece s c t)
+      → In s kings ⊎ TakesFrom g men enemies occupied s j.dir
   jump_begins s c t piece stands j =
       let on = stands.on_board in
-      let there : (kind_of : Kind) → piece.kind ≡ kind_of → at p s ≡ Some (record { side = p.turn; kind = kind_of }) = λ kind_of e. stands.there ∙ ap Some (piece_is piece p.turn kind_of stands.own e) in
+      let there : (kind_of : Kind) → piece.kind ≡ kind_of → at p s ≡ Some (record { side = p.turn; kind = kind_of }) =
+      λ kind_of e. stands.there ∙ ap Some (piece_is piece p.turn kind_of stands.own e) in
       elim (kind_cases piece.kind) [
         | inl man ↦
-            let first : ray g s j.dir ≡ c ∷ (t ∷ j.beyond) = j.on_ray ∙ (ap (λ z. z ++ c ∷ (j.behind ++ t ∷ j.beyond)) (j.man man).0 ∙ ap (λ z. c ∷ (z ++ t ∷ j.beyond)) (j.man man).1) in
+            let first : ray g s j.dir ≡ c ∷ (t ∷ j.beyond) = j.on_ray
+            ∙ (ap (λ z. z ++ c ∷ (j.behind ++ t ∷ j.beyond)) (j.man man).0
+            ∙ ap (λ z. c ∷ (z ++ t ∷ j.beyond)) (j.man man).1) in
             let to = ray_head g b s c (t ∷ j.beyond) j.dir on first in
             let c_on : OnBoard g c = (step_is g b s c j.dir on to.0).on in
             let further = ray_head g b c t j.beyond j.dir c_on to.1 in
             let c_in : Member c (ray g s j.dir) = subst (Member c) (sym first) (inl refl) in
             let t_in : Member t (ray g s j.dir) = subst (Member t) (sym first) (inr (inl refl)) in
-            let c_at : at p c ≡ Some (record { side = other p.turn; kind = j.enemy.0 }) = sym (same_on_ray g b p j.dir s c on c_in) ∙ (j.enemy.1 ∙ ap (λ z. Some (record { side = other z; kind = j.enemy.0 })) stands.own) in
+            let c_at : at p c ≡ Some (record { side = other p.turn; kind = j.enemy.0 }) =
+            sym (same_on_ray g b p j.dir s c on c_in)
+            ∙ (j.enemy.1 ∙ ap (λ z. Some (record { side = other z; kind = j.enemy.0 })) stands.own) in
             let t_at : at p t ≡ None = sym (same_on_ray g b p j.dir s t on t_in) ∙ j.free in
-            inr (c, (t, (on, ((sets.of_men s).1 (on, there Man man), (to.0, ((sets.of_enemies c).1 (c_on, (j.enemy.0, c_at)), (further.0, not_taken g p men kings enemies occupied t sets t_at)))))))
+            inr (
+              c,
+              (
+                t,
+                (
+                  on,
+                  (
+                    (sets.of_men s).1 (on, there Man man),
+                    (
+                      to.0,
+                      (
+                        (sets.of_enemies c).1 (c_on, (j.enemy.0, c_at)),
+                        (further.0, not_taken g p men kings enemies occupied t sets t_at),
+                      ),
+                    ),
+                  ),
+                ),
+              ),
+            )
         | inr king ↦ inl ((sets.of_kings s).1 (on, there King king))
       ]
 
@@ -80,21 +113,27 @@ module _ (g : Geometry) (b : IsBoard g) (p : Placement) (men kings enemies occup
   capture_begins : (s : ℕ) → CanTakeFrom g p s → In s kings ⊎ ((d : Dir) × TakesFrom g men enemies occupied s d)
   capture_begins s h = elim (jump_begins s h.0 h.1 h.2 h.3 h.4) [ inl k ↦ inl k | inr m ↦ inr (h.4.dir, m) ]
 
-  pub towards_within : (movers towards all : Squares) (d : Dir) (s : ℕ) → (In s kings → ((u : ℕ) × KingsTake g kings enemies occupied d u) → In s movers) → (TakesFrom g men enemies occupied s d → In s towards) → all ≡ fin.union movers towards
+  pub towards_within : (movers towards all : Squares) (d : Dir) (s : ℕ)
+      → (In s kings → ((u : ℕ) × KingsTake g kings enemies occupied d u) → In s movers)
+      → (TakesFrom g men enemies occupied s d → In s towards) → all ≡ fin.union movers towards
       → CanTakeTowards g p d s → In s all
   towards_within movers towards all d s k f all_is h =
       let j = jump_along g (placed p s None) h.2 s h.0 h.1 d h.4 in
       let takes : In s kings → (u : ℕ) × KingsTake g kings enemies occupied d u = λ i.
       let m = jump_meets g b p men kings enemies occupied sets s h.0 h.1 h.2 h.3 j.0 kings i in
-      subst (λ z. (u : ℕ) × KingsTake g kings enemies occupied z u) j.1 (m.0, (h.0, (length j.0.before, m.1), m.2, m.3)) in
+      subst (λ z. (u : ℕ) × KingsTake g kings enemies occupied z u) j.1
+      (m.0, (h.0, (length j.0.before, m.1), m.2, m.3)) in
       (in_or movers towards all s all_is).1 (elim (jump_begins s h.0 h.1 h.2 h.3 j.0) [
         | inl i ↦ inl (k i (takes i))
         | inr m ↦ inr (f (subst (TakesFrom g men enemies occupied s) j.1 m))
       ])
 
-  pub captures_within : (ul ur dl dr two three four all : Squares) → (s : ℕ) → FourSets (TakesFrom g men enemies occupied s) (In s ul) (In s ur) (In s dl) (In s dr)
-      → two ≡ fin.union ul ur → three ≡ fin.union dl dr → four ≡ fin.union kings two → all ≡ fin.union four three → CanTakeFrom g p s → In s all
-  captures_within ul ur dl dr two three four all s f two_is three_is four_is all_is h = in_five kings ul ur dl dr two three four all s two_is three_is four_is all_is (elim (capture_begins s h) [
-    | inl k ↦ inl k
-    | inr m ↦ inr (by_dir (TakesFrom g men enemies occupied s) (In s ul) (In s ur) (In s dl) (In s dr) f m.0 m.1)
-  ])
+  pub captures_within : (ul ur dl dr two three four all : Squares) → (s : ℕ)
+      → FourSets (TakesFrom g men enemies occupied s) (In s ul) (In s ur) (In s dl) (In s dr)
+      → two ≡ fin.union ul ur → three ≡ fin.union dl dr → four ≡ fin.union kings two → all ≡ fin.union four three
+      → CanTakeFrom g p s → In s all
+  captures_within ul ur dl dr two three four all s f two_is three_is four_is all_is h = in_five kings ul ur dl dr two
+      three four all s two_is three_is four_is all_is (elim (capture_begins s h) [
+        | inl k ↦ inl k
+        | inr m ↦ inr (by_dir (TakesFrom g men enemies occupied s) (In s ul) (In s ur) (In s dl) (In s dr) f m.0 m.1)
+      ])

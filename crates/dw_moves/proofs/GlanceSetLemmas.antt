@@ -1,5 +1,6 @@
 -- The sets of a position.
-use Rattle.std.proofs.Common.{◌≡◌, ℕ, refl, sym, ap, ◌∙◌, subst, ◌⊎◌, inl, inr, ◌↔◌, Bool, true, false, Option, Some, None, is_some}
+use Rattle.std.proofs.Common.{◌≡◌, ℕ, refl, sym, ap, ◌∙◌, subst, ◌⊎◌, inl, inr, ◌↔◌, Bool, true, false, Option, Some}
+use Rattle.std.proofs.Common.{None, is_some}
 use Rattle.std.specs.Prelude.{IsTrue}
 use Rattle.std.proofs.lemmas.Bool.{true≢false}
 use Rattle.std.specs.FinSet as fin
@@ -23,7 +24,8 @@ abbrev pub AreKind : Geometry → Placement → Side → Kind → Squares → Ty
 AreKind g p side kind v = (s : ℕ) → In s v ↔ (OnBoard g s × (at p s ≡ Some (record { side = side; kind = kind })))
 
 -- the men and the kings of a side are its pieces
-pub both_kinds : (g : Geometry) (p : Placement) (side : Side) (men kings v : Squares) → AreKind g p side Man men → AreKind g p side King kings → v ≡ fin.union men kings → AreOf g p side v
+pub both_kinds : (g : Geometry) (p : Placement) (side : Side) (men kings v : Squares) → AreKind g p side Man men
+    → AreKind g p side King kings → v ≡ fin.union men kings → AreOf g p side v
 both_kinds g p side men kings v m k e s = (
   (λ h. elim ((in_or men kings v s e).0 h) [
     | inl a ↦ let r = (m s).0 a in (r.0, (Man, r.1))
@@ -36,17 +38,21 @@ both_kinds g p side men kings v m k e s = (
   of_kind King on there = inr ((k s).1 (on, there))
 
 -- the squares on which a piece of this side stands
-pub all_are : (g : Geometry) (p : Placement) (side : Side) (v : Squares) → ((s : ℕ) → In s v ↔ (OnBoard g s × IsTrue (is_of side (at p s)))) → AreOf g p side v
+pub all_are : (g : Geometry) (p : Placement) (side : Side) (v : Squares)
+    → ((s : ℕ) → In s v ↔ (OnBoard g s × IsTrue (is_of side (at p s)))) → AreOf g p side v
 all_are g p side v h s = (
   (λ i. let r = (h s).0 i in (r.0, of_side (at p s) r.1)),
   (λ r. (h s).1 (r.0, ap (is_of side) r.1.1 ∙ same_side_refl side)),
 ) where
   of_side : (o : Option Piece) → is_of side o ≡ true → (k : Kind) × (o ≡ Some (record { side = side; kind = k }))
   of_side None e = cc
-  of_side (Some q) e = let same : q.side ≡ side = same_side_true q.side side e in (q.kind, λ i. Some (record { side = same i; kind = q.kind }))
+  of_side (Some q) e = let same : q.side ≡ side = same_side_true q.side side e in
+      (q.kind, λ i. Some (record { side = same i; kind = q.kind }))
 
 -- the squares on which a piece stands
-pub occupied_are : (g : Geometry) (p : Placement) (v : Squares) → ((s : ℕ) → In s v ↔ (OnBoard g s × IsTrue (is_some (at p s)))) → (s : ℕ) → In s v ↔ (OnBoard g s × ((q : Piece) × (at p s ≡ Some q)))
+pub occupied_are : (g : Geometry) (p : Placement) (v : Squares)
+    → ((s : ℕ) → In s v ↔ (OnBoard g s × IsTrue (is_some (at p s)))) → (s : ℕ) → In s v
+    ↔ (OnBoard g s × ((q : Piece) × (at p s ≡ Some q)))
 occupied_are g p v h s = (
   (λ i. let r = (h s).0 i in (r.0, some_of (at p s) r.1)),
   (λ r. (h s).1 (r.0, ap is_some r.1.1)),
@@ -56,17 +62,22 @@ occupied_are g p v h s = (
   some_of (Some q) e = (q, refl)
 
 -- the next square is empty, or a piece stands there
-pub free_step_none : (g : Geometry) → IsBoard g → (p : Placement) (s : ℕ) (d : Dir) (t : ℕ) (occupied : Squares) (there : Bool) → OnBoard g s → step g s d ≡ Some t → ((s : ℕ) → In s occupied ↔ (OnBoard g s × IsTrue (is_some (at p s))))
+pub free_step_none : (g : Geometry) → IsBoard g → (p : Placement) (s : ℕ) (d : Dir) (t : ℕ) (occupied : Squares)
+    (there : Bool) → OnBoard g s → step g s d ≡ Some t
+    → ((s : ℕ) → In s occupied ↔ (OnBoard g s × IsTrue (is_some (at p s))))
     → there ≡ fin.contains occupied t → there ≡ true → free_step g p s d ≡ None
 free_step_none g b p s d t occupied there on leads are is taken =
     let q = ((occupied_are g p occupied are t).0 (sym is ∙ taken)).1 in
     ap (free_if p) leads ∙ rw (q.1, free_if) refl
 
-pub free_step_some : (g : Geometry) → IsBoard g → (p : Placement) (s : ℕ) (d : Dir) (t : ℕ) (occupied : Squares) (there : Bool) → OnBoard g s → step g s d ≡ Some t → ((s : ℕ) → In s occupied ↔ (OnBoard g s × IsTrue (is_some (at p s))))
+pub free_step_some : (g : Geometry) → IsBoard g → (p : Placement) (s : ℕ) (d : Dir) (t : ℕ) (occupied : Squares)
+    (there : Bool) → OnBoard g s → step g s d ≡ Some t
+    → ((s : ℕ) → In s occupied ↔ (OnBoard g s × IsTrue (is_some (at p s))))
     → there ≡ fin.contains occupied t → there ≡ false → free_step g p s d ≡ Some t
 free_step_some g b p s d t occupied there on leads are is out = elim (option_cases (at p t)) [
   | inl e ↦ ap (free_if p) leads ∙ rw (e, free_if) refl
-  | inr q ↦ absurd (true≢false (sym ((occupied_are g p occupied are t).1 ((step_is g b s t d on leads).on, q)) ∙ (sym is ∙ out)))
+  | inr q ↦ absurd (true≢false (sym ((occupied_are g p occupied are t).1 ((step_is g b s t d on leads).on, q))
+      ∙ (sym is ∙ out)))
 ]
 
 own_or_other : (a b : Side) → (b ≡ a) ⊎ (b ≡ other a)
@@ -75,10 +86,13 @@ own_or_other White Black = inr refl
 own_or_other Black White = inr refl
 own_or_other Black Black = inl refl
 
-pub sets_are : (g : Geometry) (p : Placement) (side against : Side) (men kings own enemies occupied : Squares) → side ≡ p.turn → against ≡ other side → AreKind g p side Man men → AreKind g p side King kings → AreOf g p against enemies
+pub sets_are : (g : Geometry) (p : Placement) (side against : Side) (men kings own enemies occupied : Squares)
+    → side ≡ p.turn → against ≡ other side → AreKind g p side Man men → AreKind g p side King kings
+    → AreOf g p against enemies
     → own ≡ fin.union men kings → occupied ≡ fin.union own enemies → AreSets g p men kings enemies occupied
 sets_are g p side against men kings own enemies occupied side_is against_is m k n own_is all_is =
-    let mover : AreOf g p p.turn own = subst (λ z. AreOf g p z own) side_is (both_kinds g p side men kings own m k own_is) in
+    let mover : AreOf g p p.turn own = subst (λ z. AreOf g p z own) side_is (both_kinds g p side men kings own m k
+    own_is) in
     let enemy : AreOf g p (other p.turn) enemies = subst (λ z. AreOf g p z enemies) (against_is ∙ ap other side_is) n in
     record {
       of_men = subst (λ z. AreKind g p z Man men) side_is m;
@@ -90,7 +104,8 @@ sets_are g p side against men kings own enemies occupied side_is against_is m k 
           | inr a ↦ let r = (enemy s).0 a in (r.0, (record { side = other p.turn; kind = r.1.0 }, r.1.1))
         ]),
         (λ h.
-            let of_side : (b : Side) → h.1.0.side ≡ b → at p s ≡ Some (record { side = b; kind = h.1.0.kind }) = λ b e. h.1.1 ∙ ap (λ z. Some (record { side = z; kind = h.1.0.kind })) e in
+            let of_side : (b : Side) → h.1.0.side ≡ b → at p s ≡ Some (record { side = b; kind = h.1.0.kind }) =
+            λ b e. h.1.1 ∙ ap (λ z. Some (record { side = z; kind = h.1.0.kind })) e in
             (in_or own enemies occupied s all_is).1 (elim (own_or_other p.turn h.1.0.side) [
               | inl e ↦ inl ((mover s).1 (h.0, (h.1.0.kind, of_side p.turn e)))
               | inr e ↦ inr ((enemy s).1 (h.0, (h.1.0.kind, of_side (other p.turn) e)))
@@ -99,11 +114,13 @@ sets_are g p side against men kings own enemies occupied side_is against_is m k 
     }
 
 -- a square of the board that is not in the set of all pieces is empty
-pub free_at : (g : Geometry) (p : Placement) (men kings enemies occupied : Squares) (t : ℕ) → AreSets g p men kings enemies occupied → OnBoard g t → (In t occupied → ⊥) → at p t ≡ None
+pub free_at : (g : Geometry) (p : Placement) (men kings enemies occupied : Squares) (t : ℕ)
+    → AreSets g p men kings enemies occupied → OnBoard g t → (In t occupied → ⊥) → at p t ≡ None
 free_at g p men kings enemies occupied t sets on out = elim (option_cases (at p t)) [
   | inl e ↦ e
   | inr q ↦ absurd (out ((sets.of_all t).1 (on, q)))
 ]
 
-pub not_taken : (g : Geometry) (p : Placement) (men kings enemies occupied : Squares) (t : ℕ) → AreSets g p men kings enemies occupied → at p t ≡ None → In t occupied → ⊥
+pub not_taken : (g : Geometry) (p : Placement) (men kings enemies occupied : Squares) (t : ℕ)
+    → AreSets g p men kings enemies occupied → at p t ≡ None → In t occupied → ⊥
 not_taken g p men kings enemies occupied t sets e h = let q = (sets.of_all t).0 h in none_some q.1.0 (sym e ∙ q.1.1)

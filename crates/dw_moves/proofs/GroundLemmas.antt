@@ -26,11 +26,15 @@ in_rest v k s h =
     (parts.1, λ same. true≢false (sym parts.0 ∙ not_from_true (eqb s k) (eq-eqb s k same)))
 
 rest_in : (v : Squares) (k s : ℕ) → In s v → s ≢ k → In s (fin.remove v k)
-rest_in v k s there ne = contains-remove v k s ∙ and_from (not (eqb s k)) (fin.contains v s) (not_from_false (eqb s k) (apart_false s k ne)) there
+rest_in v k s there ne = contains-remove v k s ∙ and_from (not (eqb s k)) (fin.contains v s)
+    (not_from_false (eqb s k) (apart_false s k ne)) there
 
 -- the sets of what stands on a board, without a piece of this side on one square
-pub ground_without : (g : Geometry) (p : Placement) (side : Side) (from : ℕ) (enemies all occupied : Squares) → OnBoard g from → IsTrue (is_of side (at p from)) → ((s : ℕ) → In s enemies ↔ (OnBoard g s × IsTrue (is_of (other side) (at p s))))
-    → ((s : ℕ) → In s all ↔ (OnBoard g s × IsTrue (is_some (at p s)))) → occupied ≡ fin.remove all from → IsGround g (placed p from None) side enemies occupied
+pub ground_without : (g : Geometry) (p : Placement) (side : Side) (from : ℕ) (enemies all occupied : Squares)
+    → OnBoard g from → IsTrue (is_of side (at p from))
+    → ((s : ℕ) → In s enemies ↔ (OnBoard g s × IsTrue (is_of (other side) (at p s))))
+    → ((s : ℕ) → In s all ↔ (OnBoard g s × IsTrue (is_some (at p s)))) → occupied ≡ fin.remove all from
+    → IsGround g (placed p from None) side enemies occupied
 ground_without g p side from enemies all occupied on own enemies_are all_is occupied_is = record {
   of_enemies = λ s. (
     (λ h.
@@ -48,7 +52,9 @@ ground_without g p side from enemies all occupied on own enemies_are all_is occu
       | inl none ↦ absurd (true≢false (sym h.1 ∙ ap is_some none))
       | inr q ↦
           let there : In s all = (all_is s).1 (h.0, ap is_some (stood p from s q.0 q.1)) in
-          subst (In s) (sym occupied_is) (rest_in all from s there (λ same. none_some q.0 (sym (ap (at (placed p from None)) same ∙ emptied p from) ∙ q.1)))
+          subst (In s) (sym occupied_is)
+          (rest_in all from s there (λ same. none_some q.0 (sym (ap (at (placed p from None)) same ∙ emptied p from)
+          ∙ q.1)))
     ]),
   );
 } where

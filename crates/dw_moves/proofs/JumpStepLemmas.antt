@@ -1,5 +1,6 @@
 -- How the jumps of a piece are found square by square.
-use Rattle.std.proofs.Common.{◌≡◌, ℕ, ◌+◌, ◌≤◌, suc, List, [], ◌∷◌, ◌++◌, length, map, refl, sym, ap, ◌∙◌, subst, inl, inr, arith, Bool, true, false, Some, None, length-append, append_assoc}
+use Rattle.std.proofs.Common.{◌≡◌, ℕ, ◌+◌, ◌≤◌, suc, List, [], ◌∷◌, ◌++◌, length, map, refl, sym, ap, ◌∙◌, subst, inl}
+use Rattle.std.proofs.Common.{inr, arith, Bool, true, false, Some, None, length-append, append_assoc}
 use Rattle.std.proofs.lemmas.List.{length-map}
 use Rattle.dw_board.specs.declared.piece.Kind.{Kind}
 use Rattle.dw_board.specs.declared.piece.Kind.TheVariants.{Man, King}
@@ -22,48 +23,86 @@ abbrev pub over_to : ℕ → ℕ → ℕ × ℕ
 over_to over t = (over, t)
 
 -- what was added for the squares reached, and what is still to come
-pub record Added {X : Type 0} (f : ℕ → X) (g : Geometry) (p : Placement) (k : Kind) (d : Dir) (from at : ℕ) (old now : List X) : Type 0 where
+pub record Added {X : Type 0} (f : ℕ → X) (g : Geometry) (p : Placement) (k : Kind) (d : Dir) (from at : ℕ)
+    (old now : List X) : Type 0 where
   pub on : OnBoard g at
   pub all : now ++ map f (landings_for k p (ray g at d)) ≡ old ++ map f (landings_for k p (ray g from d))
 
-pub added_none : {X : Type 0} (f : ℕ → X) (g : Geometry) (p : Placement) (k : Kind) (d : Dir) (from : ℕ) (old : List X) → OnBoard g from → Added f g p k d from from old old
+pub added_none : {X : Type 0} (f : ℕ → X) (g : Geometry) (p : Placement) (k : Kind) (d : Dir) (from : ℕ) (old : List X)
+    → OnBoard g from → Added f g p k d from from old old
 added_none f g p k d from old on = record { on = on; all = refl }
 
 pub append_none : {X : Type 0} (xs : List X) → xs ++ [] ≡ xs
 append_none [] = refl
 append_none (x ∷ xs) = ap (λ z. x ∷ z) (append_none xs)
 
-added_length : {X : Type 0} (f : ℕ → X) (g : Geometry) (p : Placement) (k : Kind) (d : Dir) (from s : ℕ) (old now : List X) → Added f g p k d from s old now → length now + length (landings_for k p (ray g s d)) ≡ length old + length (landings_for k p (ray g from d))
+added_length : {X : Type 0} (f : ℕ → X) (g : Geometry) (p : Placement) (k : Kind) (d : Dir) (from s : ℕ)
+    (old now : List X) → Added f g p k d from s old now → length now + length (landings_for k p (ray g s d))
+    ≡ length old + length (landings_for k p (ray g from d))
 added_length f g p k d from s old now h =
-    omega (arith, ap length h.all, length-append now (map f (landings_for k p (ray g s d))), length-append old (map f (landings_for k p (ray g from d))), length-map (landings_for k p (ray g s d)) f, length-map (landings_for k p (ray g from d)) f)
+    omega (
+      arith,
+      ap length h.all,
+      length-append now (map f (landings_for k p (ray g s d))),
+      length-append old (map f (landings_for k p (ray g from d))),
+      length-map (landings_for k p (ray g s d)) f,
+      length-map (landings_for k p (ray g from d)) f,
+    )
 
-some_more : (k : Kind) (g : Geometry) (p : Placement) (s : ℕ) (d : Dir) (t : ℕ) → Freed g p s d t → 1 ≤ length (landings_for k p (ray g s d))
-some_more Man g p s d t h = let l : length (landings_for Man p (ray g s d)) ≡ 1 = ap (λ z. length (landings_for Man p z)) h.ray_is ∙ ap length (run_man p t (ray g t d) h.free) in omega arith
-some_more King g p s d t h = let l : length (landings_for King p (ray g s d)) ≡ suc (length (landings_for King p (ray g t d))) = ap (λ z. length (landings_for King p z)) h.ray_is ∙ ap length (run_king p t (ray g t d) h.free) in omega arith
+some_more : (k : Kind) (g : Geometry) (p : Placement) (s : ℕ) (d : Dir) (t : ℕ) → Freed g p s d t
+    → 1 ≤ length (landings_for k p (ray g s d))
+some_more Man g p s d t h = let l : length (landings_for Man p (ray g s d))
+    ≡ 1 = ap (λ z. length (landings_for Man p z)) h.ray_is ∙ ap length (run_man p t (ray g t d) h.free) in omega arith
+some_more King g p s d t h = let l : length (landings_for King p (ray g s d))
+    ≡ suc (length (landings_for King p (ray g t d))) = ap (λ z. length (landings_for King p z)) h.ray_is
+    ∙ ap length (run_king p t (ray g t d) h.free) in omega arith
 
 -- there is room for one more
-pub added_room : {X : Type 0} (f : ℕ → X) (g : Geometry) → IsBoard g → (p : Placement) (k : Kind) (d : Dir) (from s t : ℕ) (old now : List X) → Added f g p k d from s old now → Freed g p s d t → length now + 1 ≤ length old + 10
-added_room f g b p k d from s t old now h e = omega (arith, added_length f g p k d from s old now h, some_more k g p s d t e, run_short g b k p from d)
+pub added_room : {X : Type 0} (f : ℕ → X) (g : Geometry) → IsBoard g
+    → (p : Placement) (k : Kind) (d : Dir) (from s t : ℕ) (old now : List X) → Added f g p k d from s old now
+    → Freed g p s d t → length now + 1 ≤ length old + 10
+added_room f g b p k d from s t old now h e = omega (
+  arith,
+  added_length f g p k d from s old now h,
+  some_more k g p s d t e,
+  run_short g b k p from d,
+)
 
-pub added_fits : {X : Type 0} (f : ℕ → X) (g : Geometry) → IsBoard g → (p : Placement) (k : Kind) (d : Dir) (from s : ℕ) (old now : List X) → Added f g p k d from s old now → length now ≤ length old + 10
-added_fits f g b p k d from s old now h = omega (arith, added_length f g p k d from s old now h, run_short g b k p from d)
+pub added_fits : {X : Type 0} (f : ℕ → X) (g : Geometry) → IsBoard g
+    → (p : Placement) (k : Kind) (d : Dir) (from s : ℕ) (old now : List X) → Added f g p k d from s old now
+    → length now ≤ length old + 10
+added_fits f g b p k d from s old now h = omega (
+  arith,
+  added_length f g p k d from s old now h,
+  run_short g b k p from d,
+)
 
-pub added_more : {X : Type 0} (f : ℕ → X) (g : Geometry) (p : Placement) (k : Kind) (d : Dir) (from s t : ℕ) (old now new : List X) → k ≡ King → Added f g p k d from s old now → Freed g p s d t → new ≡ now ++ f t ∷ [] → Added f g p k d from t old new
+pub added_more : {X : Type 0} (f : ℕ → X) (g : Geometry) (p : Placement) (k : Kind) (d : Dir) (from s t : ℕ)
+    (old now new : List X) → k ≡ King → Added f g p k d from s old now → Freed g p s d t → new ≡ now ++ f t ∷ []
+    → Added f g p k d from t old new
 added_more f g p Man d from s t old now new k h e is = cc
 added_more f g p King d from s t old now new k h e is =
-    let one : map f (landings_for King p (ray g s d)) ≡ f t ∷ map f (landings_for King p (ray g t d)) = ap (λ z. map f (landings_for King p z)) e.ray_is ∙ ap (map f) (run_king p t (ray g t d) e.free) in
+    let one : map f (landings_for King p (ray g s d)) ≡ f t ∷ map f (landings_for King p (ray g t d)) =
+    ap (λ z. map f (landings_for King p z)) e.ray_is ∙ ap (map f) (run_king p t (ray g t d) e.free) in
     record {
       on = e.on;
-      all = ap (λ z. z ++ map f (landings_for King p (ray g t d))) is ∙ (append_assoc now (f t ∷ []) (map f (landings_for King p (ray g t d))) ∙ (ap (λ z. now ++ z) (sym one) ∙ h.all));
+      all = ap (λ z. z ++ map f (landings_for King p (ray g t d))) is
+          ∙ (append_assoc now (f t ∷ []) (map f (landings_for King p (ray g t d)))
+          ∙ (ap (λ z. now ++ z) (sym one) ∙ h.all));
     }
 
-pub added_last : {X : Type 0} (f : ℕ → X) (g : Geometry) (p : Placement) (k : Kind) (d : Dir) (from s t : ℕ) (old now new : List X) → k ≡ Man → Added f g p k d from s old now → Freed g p s d t → new ≡ now ++ f t ∷ [] → new ≡ old ++ map f (landings_for k p (ray g from d))
+pub added_last : {X : Type 0} (f : ℕ → X) (g : Geometry) (p : Placement) (k : Kind) (d : Dir) (from s t : ℕ)
+    (old now new : List X) → k ≡ Man → Added f g p k d from s old now → Freed g p s d t → new ≡ now ++ f t ∷ []
+    → new ≡ old ++ map f (landings_for k p (ray g from d))
 added_last f g p Man d from s t old now new k h e is =
-    let one : map f (landings_for Man p (ray g s d)) ≡ f t ∷ [] = ap (λ z. map f (landings_for Man p z)) e.ray_is ∙ ap (map f) (run_man p t (ray g t d) e.free) in
+    let one : map f (landings_for Man p (ray g s d)) ≡ f t ∷ [] = ap (λ z. map f (landings_for Man p z)) e.ray_is
+    ∙ ap (map f) (run_man p t (ray g t d) e.free) in
     is ∙ (ap (λ z. now ++ z) (sym one) ∙ h.all)
 added_last f g p King d from s t old now new k h e is = cc
 
-pub added_stop : {X : Type 0} (f : ℕ → X) (g : Geometry) → IsBoard g → (p : Placement) (k : Kind) (d : Dir) (from s : ℕ) (old now : List X) → Added f g p k d from s old now → free_step g p s d ≡ None → now ≡ old ++ map f (landings_for k p (ray g from d))
+pub added_stop : {X : Type 0} (f : ℕ → X) (g : Geometry) → IsBoard g
+    → (p : Placement) (k : Kind) (d : Dir) (from s : ℕ) (old now : List X) → Added f g p k d from s old now
+    → free_step g p s d ≡ None → now ≡ old ++ map f (landings_for k p (ray g from d))
 added_stop f g b p k d from s old now h e =
     sym (append_none now) ∙ (ap (λ z. now ++ z) (ap (map f) (sym (run_stop g b k p s d h.on e))) ∙ h.all)
 
@@ -72,7 +111,8 @@ pub record Reached (g : Geometry) (p : Placement) (d : Dir) (from at : ℕ) : Ty
   pub on : OnBoard g at
   pub takes : (side : Side) → king_takes p side (ray g from d) ≡ king_takes p side (ray g at d)
 
-pub reached_more : (g : Geometry) (p : Placement) (d : Dir) (from s t : ℕ) → Reached g p d from s → Freed g p s d t → Reached g p d from t
+pub reached_more : (g : Geometry) (p : Placement) (d : Dir) (from s t : ℕ) → Reached g p d from s → Freed g p s d t
+    → Reached g p d from t
 reached_more g p d from s t h f = record {
   on = f.on;
   takes = λ side. h.takes side ∙ (ap (king_takes p side) f.ray_is ∙ rw (f.free, king_takes) refl);
@@ -84,7 +124,8 @@ pub record Before (g : Geometry) (p : Placement) (k : Kind) (side : Side) (d : D
   pub takes : takes_for k p side (ray g from d) ≡ takes_for k p side (ray g before d)
   pub blocked : k ≡ King → free_step g p before d ≡ None
 
-pub before_man : (g : Geometry) (p : Placement) (k : Kind) (side : Side) (d : Dir) (from before : ℕ) → OnBoard g from → k ≡ Man → before ≡ from → Before g p k side d from before
+pub before_man : (g : Geometry) (p : Placement) (k : Kind) (side : Side) (d : Dir) (from before : ℕ) → OnBoard g from
+    → k ≡ Man → before ≡ from → Before g p k side d from before
 before_man g p k side d from before on e f = record {
   on = subst (OnBoard g) (sym f) on;
   takes = ap (λ z. takes_for k p side (ray g z d)) (sym f);
@@ -95,28 +136,39 @@ no_ray : (k : Kind) (p : Placement) (side : Side) → takes_for k p side [] ≡ 
 no_ray Man p side = refl
 no_ray King p side = refl
 
-pub met_edge : (g : Geometry) (p : Placement) (k : Kind) (side : Side) (d : Dir) (from before : ℕ) → Before g p k side d from before → step g before d ≡ None → takes_for k p side (ray g from d) ≡ []
+pub met_edge : (g : Geometry) (p : Placement) (k : Kind) (side : Side) (d : Dir) (from before : ℕ)
+    → Before g p k side d from before → step g before d ≡ None → takes_for k p side (ray g from d) ≡ []
 met_edge g p k side d from before h e = h.takes ∙ (ap (takes_for k p side) (ray_none g before d e) ∙ no_ray k p side)
 
-met_piece : (k : Kind) (p : Placement) (side : Side) (c : ℕ) (cs : List ℕ) (q : Piece) → at p c ≡ Some q → takes_for k p side (c ∷ cs) ≡ over_enemy p side k (Some q) c cs
+met_piece : (k : Kind) (p : Placement) (side : Side) (c : ℕ) (cs : List ℕ) (q : Piece) → at p c ≡ Some q
+    → takes_for k p side (c ∷ cs) ≡ over_enemy p side k (Some q) c cs
 met_piece Man p side c cs q e = rw e refl
 met_piece King p side c cs q e = rw (e, king_takes) refl
 
-met_space : (k : Kind) (g : Geometry) (p : Placement) (side : Side) (d : Dir) (before c : ℕ) (cs : List ℕ) → step g before d ≡ Some c → (k ≡ King → free_step g p before d ≡ None) → at p c ≡ None → takes_for k p side (c ∷ cs) ≡ []
+met_space : (k : Kind) (g : Geometry) (p : Placement) (side : Side) (d : Dir) (before c : ℕ) (cs : List ℕ)
+    → step g before d ≡ Some c → (k ≡ King → free_step g p before d ≡ None) → at p c ≡ None
+    → takes_for k p side (c ∷ cs) ≡ []
 met_space Man g p side d before c cs s blocked e = rw (e, over_enemy) refl
 met_space King g p side d before c cs s blocked e =
     let is : free_step g p before d ≡ Some c = ap (free_if p) s ∙ rw (e, free_if) refl in
     absurd (none_some c (sym (blocked refl) ∙ is))
 
-met_empty : (g : Geometry) → IsBoard g → (p : Placement) (k : Kind) (side : Side) (d : Dir) (from before c : ℕ) → Before g p k side d from before → step g before d ≡ Some c → at p c ≡ None → takes_for k p side (ray g from d) ≡ []
-met_empty g b p k side d from before c h s e = h.takes ∙ (ap (takes_for k p side) (ray_some g b before c d h.on s) ∙ met_space k g p side d before c (ray g c d) s h.blocked e)
+met_empty : (g : Geometry) → IsBoard g → (p : Placement) (k : Kind) (side : Side) (d : Dir) (from before c : ℕ)
+    → Before g p k side d from before → step g before d ≡ Some c → at p c ≡ None → takes_for k p side (ray g from d)
+    ≡ []
+met_empty g b p k side d from before c h s e = h.takes ∙ (ap (takes_for k p side) (ray_some g b before c d h.on s)
+    ∙ met_space k g p side d before c (ray g c d) s h.blocked e)
 
-pub met_on : (g : Geometry) → IsBoard g → (p : Placement) (k : Kind) (side : Side) (d : Dir) (from before c : ℕ) → Before g p k side d from before → step g before d ≡ Some c → OnBoard g c
+pub met_on : (g : Geometry) → IsBoard g → (p : Placement) (k : Kind) (side : Side) (d : Dir) (from before c : ℕ)
+    → Before g p k side d from before → step g before d ≡ Some c → OnBoard g c
 met_on g b p k side d from before c h s = (step_is g b before c d h.on s).on
 
-met_friend : (g : Geometry) → IsBoard g → (p : Placement) (k : Kind) (side : Side) (d : Dir) (from before c : ℕ) (q : Piece) → Before g p k side d from before → step g before d ≡ Some c → at p c ≡ Some q → same_side q.side (other side) ≡ false → takes_for k p side (ray g from d) ≡ []
+met_friend : (g : Geometry) → IsBoard g → (p : Placement) (k : Kind) (side : Side) (d : Dir) (from before c : ℕ)
+    (q : Piece) → Before g p k side d from before → step g before d ≡ Some c → at p c ≡ Some q
+    → same_side q.side (other side) ≡ false → takes_for k p side (ray g from d) ≡ []
 met_friend g b p k side d from before c q h s e f =
-    h.takes ∙ (ap (takes_for k p side) (ray_some g b before c d h.on s) ∙ (met_piece k p side c (ray g c d) q e ∙ rw (f, over_enemy) refl))
+    h.takes ∙ (ap (takes_for k p side) (ray_some g b before c d h.on s) ∙ (met_piece k p side c (ray g c d) q e
+    ∙ rw (f, over_enemy) refl))
 
 piece_of : (q : Piece) (side : Side) → q.side ≡ side → q ≡ record { side = side; kind = q.kind }
 piece_of q side e = λ i. record { side = e i; kind = q.kind }
@@ -126,21 +178,29 @@ not_both true h = absurd (h refl)
 not_both false h = refl
 
 -- no enemy stands there
-pub met_other : (g : Geometry) → IsBoard g → (p : Placement) (k : Kind) (side : Side) (d : Dir) (from before c : ℕ) (against : Side) (enemies : Squares) (there : Bool) → Before g p k side d from before → step g before d ≡ Some c
-    → against ≡ other side → AreOf g p against enemies → there ≡ fin.contains enemies c → there ≡ false → takes_for k p side (ray g from d) ≡ []
-met_other g b p k side d from before c against enemies there h s against_is are there_is no_enemy = elim (option_cases (at p c)) [
-  | inl none ↦ met_empty g b p k side d from before c h s none
-  | inr q ↦
-      let enemy_in : same_side q.0.side (other side) ≡ true → In c enemies = λ e.
-      let own : q.0.side ≡ against = same_side_true q.0.side (other side) e ∙ sym against_is in
-      (are c).1 (met_on g b p k side d from before c h s, (q.0.kind, q.1 ∙ ap Some (piece_of q.0 against own))) in
-      met_friend g b p k side d from before c q.0 h s q.1 (not_both (same_side q.0.side (other side)) (λ e. true≢false (sym (enemy_in e) ∙ (sym there_is ∙ no_enemy))))
-]
+pub met_other : (g : Geometry) → IsBoard g → (p : Placement) (k : Kind) (side : Side) (d : Dir) (from before c : ℕ)
+    (against : Side) (enemies : Squares) (there : Bool) → Before g p k side d from before → step g before d ≡ Some c
+    → against ≡ other side → AreOf g p against enemies → there ≡ fin.contains enemies c → there ≡ false
+    → takes_for k p side (ray g from d) ≡ []
+met_other g b p k side d from before c against enemies there h s against_is are there_is no_enemy =
+    elim (option_cases (at p c)) [
+      | inl none ↦ met_empty g b p k side d from before c h s none
+      | inr q ↦
+          let enemy_in : same_side q.0.side (other side) ≡ true → In c enemies = λ e.
+          let own : q.0.side ≡ against = same_side_true q.0.side (other side) e ∙ sym against_is in
+          (are c).1 (met_on g b p k side d from before c h s, (q.0.kind, q.1 ∙ ap Some (piece_of q.0 against own))) in
+          met_friend g b p k side d from before c q.0 h s q.1 (not_both (same_side q.0.side (other side))
+          (λ e. true≢false (sym (enemy_in e) ∙ (sym there_is ∙ no_enemy))))
+    ]
 
 -- an enemy stands there
-pub met_enemy : (g : Geometry) → IsBoard g → (p : Placement) (k : Kind) (side : Side) (d : Dir) (from before c : ℕ) (against : Side) (enemies : Squares) (there : Bool) → Before g p k side d from before → step g before d ≡ Some c
-    → against ≡ other side → AreOf g p against enemies → there ≡ fin.contains enemies c → there ≡ true → takes_for k p side (ray g from d) ≡ map (λ t. (c, t)) (landings_for k p (ray g c d))
+pub met_enemy : (g : Geometry) → IsBoard g → (p : Placement) (k : Kind) (side : Side) (d : Dir) (from before c : ℕ)
+    (against : Side) (enemies : Squares) (there : Bool) → Before g p k side d from before → step g before d ≡ Some c
+    → against ≡ other side → AreOf g p against enemies → there ≡ fin.contains enemies c → there ≡ true
+    → takes_for k p side (ray g from d) ≡ map (λ t. (c, t)) (landings_for k p (ray g c d))
 met_enemy g b p k side d from before c against enemies there h s against_is are there_is enemy =
     let e = (are c).0 (sym there_is ∙ enemy) in
-    let f : same_side against (other side) ≡ true = ap (λ z. same_side z (other side)) against_is ∙ same_side_refl (other side) in
-    h.takes ∙ (ap (takes_for k p side) (ray_some g b before c d h.on s) ∙ (met_piece k p side c (ray g c d) (record { side = against; kind = e.1.0 }) e.1.1 ∙ rw (f, over_enemy) refl))
+    let f : same_side against (other side) ≡ true = ap (λ z. same_side z (other side)) against_is
+    ∙ same_side_refl (other side) in
+    h.takes ∙ (ap (takes_for k p side) (ray_some g b before c d h.on s)
+    ∙ (met_piece k p side c (ray g c d) (record { side = against; kind = e.1.0 }) e.1.1 ∙ rw (f, over_enemy) refl))

@@ -1,5 +1,6 @@
 -- How the list of the longest captures grows.
-use Rattle.std.proofs.Common.{◌≡◌, ℕ, ◌<◌, ◌≤◌, ◌++◌, List, [], ◌∷◌, refl, sym, ◌∙◌, subst, ◌⊎◌, inl, inr, arith, true, false}
+use Rattle.std.proofs.Common.{◌≡◌, ℕ, ◌<◌, ◌≤◌, ◌++◌, List, [], ◌∷◌, refl, sym, ◌∙◌, subst, ◌⊎◌, inl, inr, arith, true}
+use Rattle.std.proofs.Common.{false}
 use Rattle.std.specs.List.{list_any}
 use Rattle.std.proofs.lemmas.Bool.{true≢false, or_cases, or_left, or_right}
 use Rattle.dw_moves.specs.Moves.{Move}
@@ -10,7 +11,8 @@ use Rattle.dw_moves.specs.inner.MemberLemmas.{mem_left, mem_right, mem_cases}
 use Rattle.dw_moves.proofs.QuietOnceLemmas.{once_append}
 
 -- no capture was met
-pub longest_none : (E : ℕ → Move → Type 0) (k : ℕ) (ms : List Move) → ((j : ℕ) (m : Move) → E j m → ⊥) → Longest E k ms k ms
+pub longest_none : (E : ℕ → Move → Type 0) (k : ℕ) (ms : List Move) → ((j : ℕ) (m : Move) → E j m → ⊥)
+    → Longest E k ms k ms
 longest_none E k ms never = record {
   grown = omega arith;
   reached = inl refl;
@@ -20,7 +22,8 @@ longest_none E k ms never = record {
 }
 
 -- captures were met, and then others
-pub longest_then : (E F : ℕ → Move → Type 0) (k k1 k2 : ℕ) (ms ms1 ms2 : List Move) → Longest E k ms k1 ms1 → Longest F k1 ms1 k2 ms2 → Longest (λ j m. E j m ⊎ F j m) k ms k2 ms2
+pub longest_then : (E F : ℕ → Move → Type 0) (k k1 k2 : ℕ) (ms ms1 ms2 : List Move) → Longest E k ms k1 ms1
+    → Longest F k1 ms1 k2 ms2 → Longest (λ j m. E j m ⊎ F j m) k ms k2 ms2
 longest_then E F k k1 k2 ms ms1 ms2 a b = record {
   grown = omega (arith, a.grown, b.grown);
   reached = elim b.reached [
@@ -51,7 +54,8 @@ longest_then E F k k1 k2 ms ms1 ms2 a b = record {
 }
 
 -- the same captures, and some that take fewer
-pub longest_wider : (E F : ℕ → Move → Type 0) (k now : ℕ) (ms kept : List Move) → ((j : ℕ) (m : Move) → E j m → F j m) → ((j : ℕ) (m : Move) → F j m → E j m ⊎ (j < now)) → Longest E k ms now kept → Longest F k ms now kept
+pub longest_wider : (E F : ℕ → Move → Type 0) (k now : ℕ) (ms kept : List Move) → ((j : ℕ) (m : Move) → E j m → F j m)
+    → ((j : ℕ) (m : Move) → F j m → E j m ⊎ (j < now)) → Longest E k ms now kept → Longest F k ms now kept
 longest_wider E F k now ms kept up down h = record {
   grown = h.grown;
   reached = elim h.reached [ inl e ↦ inl e | inr r ↦ inr (r.0, up now r.0 r.1) ];
@@ -75,10 +79,12 @@ any_member s (m ∷ ms) e = elim (or_cases (same_moves m s) (list_any (λ y. sam
 
 member_any : (s : Move) (ms : List Move) → Member s ms → list_any (λ y. same_moves y s) ms ≡ true
 member_any s [] h = absurd h
-member_any s (m ∷ ms) (inl e) = or_left (same_moves m s) (list_any (λ y. same_moves y s) ms) ((same_moves-is m s).1 (sym e))
+member_any s (m ∷ ms) (inl e) = or_left (same_moves m s) (list_any (λ y. same_moves y s) ms)
+    ((same_moves-is m s).1 (sym e))
 member_any s (m ∷ ms) (inr h) = or_right (same_moves m s) (list_any (λ y. same_moves y s) ms) (member_any s ms h)
 
--- what is left of the list where a capture takes n pieces, and the kept ones k: nothing where it takes more, else all of it
+-- what is left of the list where a capture takes n pieces, and the kept ones k: nothing where it takes more, else all
+-- of it
 abbrev pub Left : ℕ → ℕ → List Move → List Move → Type 0
 Left k n moves left = ((k < n) × (left ≡ [])) ⊎ ((k ≡ n) × (left ≡ moves))
 
@@ -89,7 +95,8 @@ left_once : (k n : ℕ) (moves left : List Move) → Left k n moves left → NoR
 left_once k n moves left (inl l) once = subst NoRepeat (sym l.1) tt
 left_once k n moves left (inr l) once = subst NoRepeat (sym l.1) once
 
-left_from : (k n : ℕ) (moves left : List Move) → Left k n moves left → (m : Move) → Member m left → (n ≡ k) × Member m moves
+left_from : (k n : ℕ) (moves left : List Move) → Left k n moves left → (m : Move) → Member m left
+    → (n ≡ k) × Member m moves
 left_from k n moves left (inl l) m h = absurd (none_member left m l.1 h)
 left_from k n moves left (inr l) m h = (sym l.0, subst (Member m) l.1 h)
 
@@ -102,7 +109,8 @@ left_grown k n moves left (inl l) = omega (arith, l.0)
 left_grown k n moves left (inr l) = omega (arith, l.0)
 
 -- a capture that is not there yet is added
-pub offered_new : (s : Move) (n k : ℕ) (moves left now : List Move) → 0 < n → Left k n moves left → list_any (λ y. same_moves y s) left ≡ false → now ≡ left ++ s ∷ [] → Longest (Is s n) k moves n now
+pub offered_new : (s : Move) (n k : ℕ) (moves left now : List Move) → 0 < n → Left k n moves left
+    → list_any (λ y. same_moves y s) left ≡ false → now ≡ left ++ s ∷ [] → Longest (Is s n) k moves n now
 offered_new s n k moves left now some l out is = record {
   grown = left_grown k n moves left l;
   reached = inr (s, (some, (refl, refl)));
@@ -118,14 +126,16 @@ offered_new s n k moves left now some l out is = record {
       | inr e ↦ mem_right m left (s ∷ []) (inl e.1.1)
     ])),
   );
-  once = λ once. subst NoRepeat (sym is) (once_append left (s ∷ []) (left_once k n moves left l once) ((λ h. h), tt) (λ x old last. elim last [
-    | inl e ↦ true≢false (sym (member_any s left (subst (λ z. Member z left) e old)) ∙ out)
-    | inr none ↦ none
-  ]));
+  once = λ once. subst NoRepeat (sym is) (once_append left (s ∷ []) (left_once k n moves left l once) ((λ h. h), tt)
+      (λ x old last. elim last [
+        | inl e ↦ true≢false (sym (member_any s left (subst (λ z. Member z left) e old)) ∙ out)
+        | inr none ↦ none
+      ]));
 }
 
 -- a capture that is there already
-pub offered_old : (s : Move) (n k : ℕ) (moves left now : List Move) → 0 < n → Left k n moves left → list_any (λ y. same_moves y s) left ≡ true → now ≡ left → Longest (Is s n) k moves n now
+pub offered_old : (s : Move) (n k : ℕ) (moves left now : List Move) → 0 < n → Left k n moves left
+    → list_any (λ y. same_moves y s) left ≡ true → now ≡ left → Longest (Is s n) k moves n now
 offered_old s n k moves left now some l there is = record {
   grown = left_grown k n moves left l;
   reached = inr (s, (some, (refl, refl)));

@@ -1,5 +1,6 @@
 -- The enemy that a king meets is found on sets: it slides as far as it can, and the next square holds an enemy.
-use Rattle.std.proofs.Common.{◌≡◌, ℕ, ◌<◌, zero, suc, List, [], ◌∷◌, length, refl, sym, ap, ◌∙◌, subst, inl, inr, ◌↔◌, arith, Some, None, is_some}
+use Rattle.std.proofs.Common.{◌≡◌, ℕ, ◌<◌, zero, suc, List, [], ◌∷◌, length, refl, sym, ap, ◌∙◌, subst, inl, inr, ◌↔◌}
+use Rattle.std.proofs.Common.{arith, Some, None, is_some}
 use Rattle.std.proofs.lemmas.Bool.{true≢false}
 use Rattle.std.specs.FinSet as fin
 use Rattle.dw_board.specs.declared.board.Dir.{Dir}
@@ -29,7 +30,9 @@ pub record Meets (g : Geometry) (from : ℕ) (d : Dir) (enemies occupied here re
   pub next_is : IsShifted g reached d next
   pub met_is : met ≡ fin.intersection next enemies
 
-module _ (g : Geometry) (b : IsBoard g) (p : Placement) (side : Side) (from : ℕ) (d : Dir) (enemies occupied here reached next met : Squares) (on : OnBoard g from) (ground : IsGround g p side enemies occupied) (m : Meets g from d enemies occupied here reached next met) where
+module _ (g : Geometry) (b : IsBoard g) (p : Placement) (side : Side) (from : ℕ) (d : Dir)
+    (enemies occupied here reached next met : Squares) (on : OnBoard g from) (ground : IsGround g p side enemies
+    occupied) (m : Meets g from d enemies occupied here reached next met) where
   free_of : (t : ℕ) → OnBoard g t → (In t occupied → ⊥) → at p t ≡ None
   free_of t t_on out = elim (option_cases (at p t)) [
     | inl e ↦ e
@@ -44,7 +47,13 @@ module _ (g : Geometry) (b : IsBoard g) (p : Placement) (side : Side) (from : �
   slid_reaches (suc n) t r =
       let h = slid_reaches n r.0 r.1 in
       let t_on : OnBoard g t = (step_is g b r.0 t d h.on r.2).on in
-      reached_more g p d from r.0 t h (record { steps = r.2; on = t_on; ray_is = ray_some g b r.0 t d h.on r.2; free = free_of t t_on r.3 })
+      reached_more g p d from r.0 t h (record {
+        steps = r.2;
+        on = t_on;
+        ray_is = ray_some g b r.0 t d h.on r.2;
+        free =
+            free_of t t_on r.3;
+      })
 
   -- what is met is taken over
   pub king_over : (c : ℕ) → In c met → TakesOver King g p side from d c
@@ -59,21 +68,30 @@ module _ (g : Geometry) (b : IsBoard g) (p : Placement) (side : Side) (from : �
         takes = h.takes side;
         blocked = λ _. ap (free_if p) last.1.1 ∙ rw (stands.1.1, free_if) refl;
       } in
-      met_enemy g b p King side d from last.0 c (other side) enemies (fin.contains enemies c) before last.1.1 refl ground.of_enemies refl both.1
+      met_enemy g b p King side d from last.0 c (other side) enemies (fin.contains enemies c) before last.1.1 refl
+      ground.of_enemies refl both.1
 
   -- what is taken over is met
   meets : (j : ℕ × ℕ) → Member j (king_takes p side (ray g from d)) → In j.0 met
   meets j i =
       let h = takes_from King p side (ray g from d) j i in
-      let free : (x : ℕ) → Member x h.before → In x occupied → ⊥ = λ x k o. true≢false (sym ((ground.of_all x).0 o).1 ∙ ap is_some (empty_member p h.before x h.clear k)) in
+      let free : (x : ℕ) → Member x h.before → In x occupied
+      → ⊥ = λ x k o. true≢false (sym ((ground.of_all x).0 o).1
+      ∙ ap is_some (empty_member p h.before x h.clear k)) in
       let there : In from here = subst (In from) (sym m.here_is) (one_in from) in
-      let w : Walked g here occupied d (length h.before) j.0 _ = walk g b here occupied d h.before 0 (length h.before) from j.0 _ (omega arith) there on h.is free in
+      let w : Walked g here occupied d (length h.before) j.0 _ = walk g b here occupied d h.before 0 (length h.before)
+      from j.0 _ (omega arith) there on h.is free in
       let behind = head_free p h.behind j.1 h.beyond h.clear_behind h.free in
-      let further : step g j.0 d ≡ Some behind.0 = (ray_head g b j.0 behind.0 behind.1 d w.on (w.ray_is ∙ behind.2)).0 in
-      let on_here : (s : ℕ) → In s here → OnBoard g s = λ s k. subst (OnBoard g) (sym (in_one from s (subst (In s) m.here_is k))) on in
-      let few : length h.before < 8 = room_behind g b here occupied d on_here (length h.before) w.last j.0 behind.0 w.runs w.steps further in
-      (in_and next enemies met j.0 m.met_is).1
-      ((m.next_is j.0).1 (w.last, ((m.reached_is w.last).1 (length h.before, few, w.runs), w.steps)), (ground.of_enemies j.0).1 (w.on, h.enemy))
+      let further : step g j.0 d ≡ Some behind.0 = (ray_head g b j.0 behind.0 behind.1 d w.on (w.ray_is
+      ∙ behind.2)).0 in
+      let on_here : (s : ℕ) → In s here
+      → OnBoard g s = λ s k. subst (OnBoard g) (sym (in_one from s (subst (In s) m.here_is k))) on in
+      let few : length h.before < 8 = room_behind g b here occupied d on_here (length h.before) w.last j.0 behind.0
+      w.runs w.steps further in
+      (in_and next enemies met j.0 m.met_is).1 (
+        (m.next_is j.0).1 (w.last, ((m.reached_is w.last).1 (length h.before, few, w.runs), w.steps)),
+        (ground.of_enemies j.0).1 (w.on, h.enemy),
+      )
 
   -- so nothing can be taken if nothing is met
   pub king_none : ((c : ℕ) → In c met → ⊥) → king_takes p side (ray g from d) ≡ []

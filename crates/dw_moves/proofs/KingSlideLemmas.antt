@@ -1,5 +1,6 @@
 -- How the quiet moves of kings are counted: all kings slide together, and each square is reached from one king alone.
-use Rattle.std.proofs.Common.{◌≡◌, ◌≢◌, ℕ, ◌+◌, not, ◌&&◌, ◌||◌, zero, suc, List, [], ◌∷◌, ◌++◌, length, Some, None, refl, sym, ap, ◌∙◌, subst, ◌⊎◌, inl, inr, ◌↔◌, arith, length-append}
+use Rattle.std.proofs.Common.{◌≡◌, ◌≢◌, ℕ, ◌+◌, not, ◌&&◌, ◌||◌, zero, suc, List, [], ◌∷◌, ◌++◌, length, Some, None}
+use Rattle.std.proofs.Common.{refl, sym, ap, ◌∙◌, subst, ◌⊎◌, inl, inr, ◌↔◌, arith, length-append}
 use Rattle.std.proofs.lemmas.Bool.{true≢false, cases_eq, eq-eqb, ne_eqb}
 use Rattle.std.specs.FinSet as fin
 use Rattle.std.specs.Ordering.{nat_cmp}
@@ -42,13 +43,20 @@ one_in q = contains-insert fin.empty q q ∙ ap (λ z. z || fin.contains {R = na
 pub in_one : (q x : ℕ) → In x (fin.insert fin.empty q) → x ≡ q
 in_one q x h = elim (cases_eq x q) [
   | inl e ↦ e
-  | inr ne ↦ absurd (true≢false (sym h ∙ (contains-insert fin.empty q x ∙ (ap (λ z. z || fin.contains {R = nat_cmp} fin.empty x) (ne_eqb x q ne) ∙ fin.contains-empty nat_cmp x))))
+  | inr ne ↦ absurd (true≢false (sym h
+      ∙ (contains-insert fin.empty q x ∙ (ap (λ z. z || fin.contains {R = nat_cmp} fin.empty x) (ne_eqb x q ne)
+      ∙ fin.contains-empty nat_cmp x))))
 ]
 
-paired : (P : ℕ → ℕ → Type 0) → ((r s t : ℕ) → P r t → P s t → r ≡ s) → (n : ℕ) (v : Squares) → fin.len v ≡ n → ((t : ℕ) → In t v → (s : ℕ) × P s t) → Paired P v n
+paired : (P : ℕ → ℕ → Type 0) → ((r s t : ℕ) → P r t → P s t → r ≡ s) → (n : ℕ) (v : Squares) → fin.len v ≡ n
+    → ((t : ℕ) → In t v → (s : ℕ) × P s t) → Paired P v n
 paired P one zero v e from = record {
   pairs = [];
-  exactly = λ s t. ((λ m. absurd m), (λ h. absurd (true≢false (sym h.0 ∙ (ap (λ u. fin.contains u t) (fin.empty_of_len v e) ∙ fin.contains-empty nat_cmp t)))));
+  exactly = λ s t. (
+    (λ m. absurd m),
+    (λ h. absurd (true≢false (sym h.0 ∙ (ap (λ u. fin.contains u t) (fin.empty_of_len v e)
+        ∙ fin.contains-empty nat_cmp t)))),
+  );
   once = tt;
   count = refl;
 }
@@ -65,8 +73,10 @@ paired P one (suc n) v e from =
         (λ m. elim m [
           | inl same ↦
               let s_is : s ≡ first.0 = ap (λ q. q.0) same in
-              let t_is : t ≡ to = ap (λ q. q.1) same in
-              (subst (λ z. In z v) (sym t_is) some.1, subst (λ z. P z t) (sym s_is) (subst (λ z. P first.0 z) (sym t_is) first.1))
+              let t_is : t ≡ to = ap (λ q. q.1) same in (
+                subst (λ z. In z v) (sym t_is) some.1,
+                subst (λ z. P z t) (sym s_is) (subst (λ z. P first.0 z) (sym t_is) first.1),
+              )
           | inr more ↦ let k = (h.exactly s t).0 more in (in_rest v to t k.0, k.1)
         ]),
         (λ k. elim (cases_eq t to) [
@@ -80,7 +90,8 @@ paired P one (suc n) v e from =
       count = omega (arith, h.count);
     }
 
-pub counted_by : (P : ℕ → ℕ → Type 0) → ((r s t : ℕ) → P r t → P s t → r ≡ s) → (v : Squares) (n : ℕ) → ((t : ℕ) → In t v ↔ ((s : ℕ) × P s t)) → n ≡ fin.len v → Counts P n
+pub counted_by : (P : ℕ → ℕ → Type 0) → ((r s t : ℕ) → P r t → P s t → r ≡ s) → (v : Squares) (n : ℕ)
+    → ((t : ℕ) → In t v ↔ ((s : ℕ) × P s t)) → n ≡ fin.len v → Counts P n
 counted_by P one v n are n_is =
     let h = paired P one (fin.len v) v refl (λ t m. (are t).0 m) in
     record {
@@ -91,19 +102,29 @@ counted_by P one v n are n_is =
     }
 
 -- ---- two counts of pairs that have none in common
-counts_both : (P Q : ℕ → ℕ → Type 0) (n m : ℕ) → ((s t : ℕ) → P s t → Q s t → ⊥) → Counts P n → Counts Q m → Counts (λ s t. P s t ⊎ Q s t) (n + m)
+counts_both : (P Q : ℕ → ℕ → Type 0) (n m : ℕ) → ((s t : ℕ) → P s t → Q s t → ⊥) → Counts P n → Counts Q m
+    → Counts (λ s t. P s t ⊎ Q s t) (n + m)
 counts_both P Q n m apart a b = record {
   pairs = a.pairs ++ b.pairs;
   exactly = λ s t. (
-    (λ h. elim (mem_cases (s, t) a.pairs b.pairs h) [ inl l ↦ inl ((a.exactly s t).0 l) | inr r ↦ inr ((b.exactly s t).0 r) ]),
-    (λ h. elim h [ inl l ↦ mem_left (s, t) a.pairs b.pairs ((a.exactly s t).1 l) | inr r ↦ mem_right (s, t) a.pairs b.pairs ((b.exactly s t).1 r) ]),
+    (λ h. elim (mem_cases (s, t) a.pairs b.pairs h) [
+      | inl l ↦ inl ((a.exactly s t).0 l)
+      | inr r ↦
+          inr ((b.exactly s t).0 r)
+    ]),
+    (λ h. elim h [
+      | inl l ↦ mem_left (s, t) a.pairs b.pairs ((a.exactly s t).1 l)
+      | inr r ↦ mem_right (s, t) a.pairs b.pairs ((b.exactly s t).1 r)
+    ]),
   );
-  once = once_append a.pairs b.pairs a.once b.once (λ q l r. apart q.0 q.1 ((a.exactly q.0 q.1).0 l) ((b.exactly q.0 q.1).0 r));
+  once = once_append a.pairs b.pairs a.once b.once (λ q l r. apart q.0 q.1 ((a.exactly q.0 q.1).0 l)
+      ((b.exactly q.0 q.1).0 r));
   count = omega (arith, length-append a.pairs b.pairs, a.count, b.count);
 }
 
 -- ---- the four directions
-lands_toward : (g : Geometry) → IsBoard g → (p : Placement) (d e : Dir) (s t : ℕ) → KingLands g p d s t → KingLands g p e s t → d ≡ e
+lands_toward : (g : Geometry) → IsBoard g → (p : Placement) (d e : Dir) (s t : ℕ) → KingLands g p d s t
+    → KingLands g p e s t → d ≡ e
 lands_toward g b p d e s t h k =
     let a = front_lands p (ray g s d) t h.lands in
     let c = front_lands p (ray g s e) t k.lands in
@@ -112,17 +133,43 @@ lands_toward g b p d e s t h k =
     (ray_toward g b e s t h.on (subst (Member t) (sym c.is) (mem_at t c.before c.beyond)))
 
 abbrev Some_lands : Geometry → Placement → ℕ → ℕ → Type 0
-Some_lands g p s t = (KingLands g p UpLeft s t ⊎ KingLands g p UpRight s t) ⊎ (KingLands g p DownLeft s t ⊎ KingLands g p DownRight s t)
+Some_lands g p s t = (KingLands g p UpLeft s t ⊎ KingLands g p UpRight s t)
+    ⊎ (KingLands g p DownLeft s t ⊎ KingLands g p DownRight s t)
 
 lands_goes : (g : Geometry) (p : Placement) (s t : ℕ) → Some_lands g p s t → KingGoes g p s t
-lands_goes g p s t (inl (inl h)) = record { on = h.on; there = h.there; goes = mem_left t (landings_for King p (ray g s UpLeft)) _ h.lands }
-lands_goes g p s t (inl (inr h)) = record { on = h.on; there = h.there; goes = mem_right t (landings_for King p (ray g s UpLeft)) _ (mem_left t (landings_for King p (ray g s UpRight)) _ h.lands) }
-lands_goes g p s t (inr (inl h)) = record { on = h.on; there = h.there; goes = mem_right t (landings_for King p (ray g s UpLeft)) _ (mem_right t (landings_for King p (ray g s UpRight)) _ (mem_left t (landings_for King p (ray g s DownLeft)) _ h.lands)) }
-lands_goes g p s t (inr (inr h)) = record { on = h.on; there = h.there; goes = mem_right t (landings_for King p (ray g s UpLeft)) _ (mem_right t (landings_for King p (ray g s UpRight)) _ (mem_right t (landings_for King p (ray g s DownLeft)) _ (mem_left t (landings_for King p (ray g s DownRight)) [] h.lands))) }
+lands_goes g p s t (inl (inl h)) = record {
+  on = h.on;
+  there = h.there;
+  goes =
+      mem_left t (landings_for King p (ray g s UpLeft)) _ h.lands;
+}
+lands_goes g p s t (inl (inr h)) = record {
+  on = h.on;
+  there = h.there;
+  goes =
+      mem_right t (landings_for King p (ray g s UpLeft)) _ (mem_left t (landings_for King p (ray g s UpRight)) _
+      h.lands);
+}
+lands_goes g p s t (inr (inl h)) = record {
+  on = h.on;
+  there = h.there;
+  goes =
+      mem_right t (landings_for King p (ray g s UpLeft)) _ (mem_right t (landings_for King p (ray g s UpRight)) _
+      (mem_left t (landings_for King p (ray g s DownLeft)) _ h.lands));
+}
+lands_goes g p s t (inr (inr h)) = record {
+  on = h.on;
+  there = h.there;
+  goes =
+      mem_right t (landings_for King p (ray g s UpLeft)) _ (mem_right t (landings_for King p (ray g s UpRight)) _
+      (mem_right t (landings_for King p (ray g s DownLeft)) _ (mem_left t (landings_for King p (ray g s DownRight)) []
+      h.lands)));
+}
 
 goes_lands : (g : Geometry) (p : Placement) (s t : ℕ) → KingGoes g p s t → Some_lands g p s t
 goes_lands g p s t h =
-    let lands : (d : Dir) → Member t (landings_for King p (ray g s d)) → KingLands g p d s t = λ d m. record { on = h.on; there = h.there; lands = m } in
+    let lands : (d : Dir) → Member t (landings_for King p (ray g s d))
+    → KingLands g p d s t = λ d m. record { on = h.on; there = h.there; lands = m } in
     elim (mem_cases t (landings_for King p (ray g s UpLeft)) _ h.goes) [
       | inl ul ↦ inl (inl (lands UpLeft ul))
       | inr more ↦ elim (mem_cases t (landings_for King p (ray g s UpRight)) _ more) [
@@ -138,7 +185,8 @@ goes_lands g p s t h =
     ]
 
 -- without kings there are none
-pub no_kings_counted : (g : Geometry) (p : Placement) (kings : Squares) → AreKind g p p.turn King kings → kings ≡ fin.empty → Counts (KingGoes g p) 0
+pub no_kings_counted : (g : Geometry) (p : Placement) (kings : Squares) → AreKind g p p.turn King kings
+    → kings ≡ fin.empty → Counts (KingGoes g p) 0
 no_kings_counted g p kings are none = record {
   pairs = [];
   exactly = λ s t. ((λ m. absurd m), (λ h. absurd (in_none kings s none ((are s).1 (h.on, h.there)))));
@@ -146,31 +194,46 @@ no_kings_counted g p kings are none = record {
   count = refl;
 }
 
-pub kings_counted : (g : Geometry) → IsBoard g → (p : Placement) (n1 n2 n3 n4 : ℕ) → Counts (KingLands g p UpLeft) n1 → Counts (KingLands g p UpRight) n2 → Counts (KingLands g p DownLeft) n3 → Counts (KingLands g p DownRight) n4
+pub kings_counted : (g : Geometry) → IsBoard g → (p : Placement) (n1 n2 n3 n4 : ℕ) → Counts (KingLands g p UpLeft) n1
+    → Counts (KingLands g p UpRight) n2 → Counts (KingLands g p DownLeft) n3 → Counts (KingLands g p DownRight) n4
     → Counts (KingGoes g p) ((n1 + n2) + (n3 + n4))
 kings_counted g b p n1 n2 n3 n4 c1 c2 c3 c4 =
-    let apart : (d e : Dir) → (d ≡ e → ⊥) → (s t : ℕ) → KingLands g p d s t → KingLands g p e s t → ⊥ = λ d e ne s t h k. ne (lands_toward g b p d e s t h k) in
+    let apart : (d e : Dir) → (d ≡ e → ⊥) → (s t : ℕ) → KingLands g p d s t → KingLands g p e s t
+    → ⊥ = λ d e ne s t h k. ne (lands_toward g b p d e s t h k) in
     let up = counts_both (KingLands g p UpLeft) (KingLands g p UpRight) n1 n2 (apart UpLeft UpRight (λ e. cc)) c1 c2 in
-    let down = counts_both (KingLands g p DownLeft) (KingLands g p DownRight) n3 n4 (apart DownLeft DownRight (λ e. cc)) c3 c4 in
-    let all = counts_both (λ s t. KingLands g p UpLeft s t ⊎ KingLands g p UpRight s t) (λ s t. KingLands g p DownLeft s t ⊎ KingLands g p DownRight s t) (n1 + n2) (n3 + n4)
+    let down = counts_both (KingLands g p DownLeft) (KingLands g p DownRight) n3 n4 (apart DownLeft DownRight (λ e. cc))
+    c3 c4 in
+    let all = counts_both (λ s t. KingLands g p UpLeft s t ⊎ KingLands g p UpRight s t)
+    (λ s t. KingLands g p DownLeft s t ⊎ KingLands g p DownRight s t) (n1 + n2) (n3 + n4)
     (λ s t u d. elim u [
-      | inl ul ↦ elim d [ inl dl ↦ apart UpLeft DownLeft (λ e. cc) s t ul dl | inr dr ↦ apart UpLeft DownRight (λ e. cc) s t ul dr ]
-      | inr ur ↦ elim d [ inl dl ↦ apart UpRight DownLeft (λ e. cc) s t ur dl | inr dr ↦ apart UpRight DownRight (λ e. cc) s t ur dr ]
+      | inl ul ↦ elim d [
+        | inl dl ↦ apart UpLeft DownLeft (λ e. cc) s t ul dl
+        | inr dr ↦ apart UpLeft DownRight (λ e. cc) s t ul dr
+      ]
+      | inr ur ↦ elim d [
+        | inl dl ↦ apart UpRight DownLeft (λ e. cc) s t ur dl
+        | inr dr ↦ apart UpRight DownRight (λ e. cc) s t ur dr
+      ]
     ]) up down in
     record {
       pairs = all.pairs;
-      exactly = λ s t. ((λ m. lands_goes g p s t ((all.exactly s t).0 m)), (λ h. (all.exactly s t).1 (goes_lands g p s t h)));
+      exactly = λ s t. (
+        (λ m. lands_goes g p s t ((all.exactly s t).0 m)),
+        (λ h. (all.exactly s t).1 (goes_lands g p s t h)),
+      );
       once = all.once;
       count = all.count;
     }
 
 -- ---- one direction
-front_has : (p : Placement) (before : List ℕ) (t : ℕ) (beyond : List ℕ) → AllEmpty p before → at p t ≡ None → Member t (free_front p (before ++ t ∷ beyond))
+front_has : (p : Placement) (before : List ℕ) (t : ℕ) (beyond : List ℕ) → AllEmpty p before → at p t ≡ None
+    → Member t (free_front p (before ++ t ∷ beyond))
 front_has p [] t beyond clear free = rw (free, free_front) (inl refl)
 front_has p (x ∷ before) t beyond clear free = rw (clear.0, free_front) (inr (front_has p before t beyond clear.1 free))
 
 -- slides over free squares that begin on barred ones and end on one square have begun on one square
-slides_meet : (g : Geometry) → IsBoard g → (barred from other : Squares) (d : Dir) → ((s : ℕ) → In s from → OnBoard g s × In s barred) → ((s : ℕ) → In s other → OnBoard g s × In s barred)
+slides_meet : (g : Geometry) → IsBoard g → (barred from other : Squares) (d : Dir)
+    → ((s : ℕ) → In s from → OnBoard g s × In s barred) → ((s : ℕ) → In s other → OnBoard g s × In s barred)
     → (n m t : ℕ) → SlidesTo g from barred d n t → SlidesTo g other barred d m t → (s : ℕ) × (In s from × In s other)
 slides_meet g b barred from other d f o zero zero t h k = (t, (h, k))
 slides_meet g b barred from other d f o zero (suc m) t h k = absurd (k.3 (f t h).1)
@@ -186,19 +249,23 @@ slides_meet g b barred from other d f o (suc n) (suc m) t h k =
     some_same : {x y : ℕ} → Some x ≡ Some y → x ≡ y
     some_same e = cc
 
-    slide_on : (g : Geometry) → IsBoard g → (barred from : Squares) (d : Dir) → ((s : ℕ) → In s from → OnBoard g s) → (n t : ℕ) → SlidesTo g from barred d n t → OnBoard g t
+    slide_on : (g : Geometry) → IsBoard g → (barred from : Squares) (d : Dir) → ((s : ℕ) → In s from → OnBoard g s)
+        → (n t : ℕ) → SlidesTo g from barred d n t → OnBoard g t
     slide_on g b barred from d on zero t r = on t r
     slide_on g b barred from d on (suc n) t r = (step_is g b r.0 t d (slide_on g b barred from d on n r.0 r.1) r.2).on
 
-module _ (g : Geometry) (b : IsBoard g) (p : Placement) (d : Dir) (kings occupied : Squares) (kings_are : AreKind g p p.turn King kings) (all : AreAll g p occupied) where
+module _ (g : Geometry) (b : IsBoard g) (p : Placement) (d : Dir) (kings occupied : Squares)
+    (kings_are : AreKind g p p.turn King kings) (all : AreAll g p occupied) where
   king_stands : (s : ℕ) → In s kings → OnBoard g s × In s occupied
   king_stands s i = let h = (kings_are s).0 i in (h.0, (all s).1 (h.0, (record { side = p.turn; kind = King }, h.1)))
 
   -- a king that lands slides, alone or with others
-  lands_slides : (from : Squares) (s t : ℕ) → In s from → KingLands g p d s t → (n : ℕ) × SlidesTo g from occupied d (suc n) t
+  lands_slides : (from : Squares) (s t : ℕ) → In s from → KingLands g p d s t
+      → (n : ℕ) × SlidesTo g from occupied d (suc n) t
   lands_slides from s t i h =
       let l = front_lands p (ray g s d) t h.lands in
-      let w = walk g b from occupied d l.before 0 (length l.before) s t l.beyond (omega arith) i h.on l.is (λ x m. is_out g p occupied x all (empty_member p l.before x l.clear m)) in
+      let w = walk g b from occupied d l.before 0 (length l.before) s t l.beyond (omega arith) i h.on l.is
+      (λ x m. is_out g p occupied x all (empty_member p l.before x l.clear m)) in
       (length l.before, (w.last, w.runs, w.steps, is_out g p occupied t all l.free))
 
   slides_lands : (n t : ℕ) → SlidesTo g kings occupied d (suc n) t → (s : ℕ) × KingLands g p d s t
@@ -206,12 +273,14 @@ module _ (g : Geometry) (b : IsBoard g) (p : Placement) (d : Dir) (kings occupie
       let h = run_of g b p occupied all kings d (λ s i. (king_stands s i).0) n r.0 r.1 in
       let king = (kings_are h.start).0 h.begins in
       let on : OnBoard g t = (step_is g b r.0 t d h.on r.2).on in
-      let ray_is : ray g h.start d ≡ h.before ++ t ∷ ray g t d = h.on_ray ∙ ap (λ z. h.before ++ z) (ray_some g b r.0 t d h.on r.2) in (
+      let ray_is : ray g h.start d ≡ h.before ++ t ∷ ray g t d = h.on_ray
+      ∙ ap (λ z. h.before ++ z) (ray_some g b r.0 t d h.on r.2) in (
         h.start,
         record {
           on = king.0;
           there = king.1;
-          lands = subst (λ z. Member t (free_front p z)) (sym ray_is) (front_has p h.before t (ray g t d) h.clear (is_free g p occupied t all on r.3));
+          lands = subst (λ z. Member t (free_front p z)) (sym ray_is) (front_has p h.before t (ray g t d) h.clear
+              (is_free g p occupied t all on r.3));
         },
       )
 
@@ -224,10 +293,13 @@ module _ (g : Geometry) (b : IsBoard g) (p : Placement) (d : Dir) (kings occupie
       subst (λ z. OnBoard g z × In z occupied) (sym same) (king_stands q ((kings_are q).1 (w.on, w.there))) in
       let a = lands_slides (only r) r t (here r) h in
       let c = lands_slides (only s) s t (here s) k in
-      let m = slides_meet g b occupied (only r) (only s) d (λ x i. stands r x h i) (λ x i. stands s x k i) (suc a.0) (suc c.0) t a.1 c.1 in
+      let m = slides_meet g b occupied (only r) (only s) d (λ x i. stands r x h i) (λ x i. stands s x k i) (suc a.0)
+      (suc c.0) t a.1 c.1 in
       sym (in_one r m.0 m.1.0) ∙ in_one s m.0 m.1.1
 
-  pub run_counted : (reached v : Squares) (n : ℕ) → ((t : ℕ) → In t reached ↔ ((n : ℕ) × SlidesTo g kings occupied d n t)) → v ≡ fin.difference reached kings → n ≡ fin.len v → Counts (KingLands g p d) n
+  pub run_counted : (reached v : Squares) (n : ℕ)
+      → ((t : ℕ) → In t reached ↔ ((n : ℕ) × SlidesTo g kings occupied d n t)) → v ≡ fin.difference reached kings
+      → n ≡ fin.len v → Counts (KingLands g p d) n
   run_counted reached v n slid v_is n_is = counted_by (KingLands g p d) king_one v n
       (λ t. (
         (λ h.

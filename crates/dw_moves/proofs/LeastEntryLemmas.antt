@@ -1,5 +1,6 @@
 -- How a path joins a map of paths.
-use Rattle.std.proofs.Common.{◌≡◌, ℕ, List, [], ◌∷◌, refl, sym, ap, ◌∙◌, subst, inl, inr, Bool, true, false, cond, Some, None, if◌then◌else◌}
+use Rattle.std.proofs.Common.{◌≡◌, ℕ, List, [], ◌∷◌, refl, sym, ap, ◌∙◌, subst, inl, inr, Bool, true, false, cond, Some}
+use Rattle.std.proofs.Common.{None, if◌then◌else◌}
 use Rattle.std.proofs.lemmas.Bool.{true≢false}
 use Rattle.std.specs.Map.{lookup}
 use Rattle.indexmap.specs.IndexMap.{insert_entry}
@@ -19,13 +20,15 @@ abbrev pub listed_as : Move → ArrayVec ℕ → Listed
 listed_as m v = record { step = m; path = v.items }
 
 -- the path that is found is one of the entries
-found_in : (m : Move) (w : ArrayVec ℕ) (es : List (Move × ArrayVec ℕ)) → lookup (same_moves m) es ≡ Some w → Member (listed_as m w) (entries_listed es)
+found_in : (m : Move) (w : ArrayVec ℕ) (es : List (Move × ArrayVec ℕ)) → lookup (same_moves m) es ≡ Some w
+    → Member (listed_as m w) (entries_listed es)
 found_in m w [] e = absurd (none_some w e)
 found_in m w (x ∷ es) e = by (found_in m w es) (same_moves m x.0) refl where
   some_is : (u v : ArrayVec ℕ) → Some u ≡ Some v → u ≡ v
   some_is u v e = cc
 
-  by : (lookup (same_moves m) es ≡ Some w → Member (listed_as m w) (entries_listed es)) → (b : Bool) → same_moves m x.0 ≡ b → Member (listed_as m w) (entries_listed (x ∷ es))
+  by : (lookup (same_moves m) es ≡ Some w → Member (listed_as m w) (entries_listed es)) → (b : Bool) → same_moves m x.0
+      ≡ b → Member (listed_as m w) (entries_listed (x ∷ es))
   by rest true is =
       let value : x.1 ≡ w = some_is x.1 w (sym (ap (λ b. cond b (Some x.1) (lookup (same_moves m) es)) is) ∙ e) in
       let key : m ≡ x.0 = (same_moves-is m x.0).0 is in
@@ -33,7 +36,8 @@ found_in m w (x ∷ es) e = by (found_in m w es) (same_moves m x.0) refl where
   by rest false is = inr (rest (sym (ap (λ b. cond b (Some x.1) (lookup (same_moves m) es)) is) ∙ e))
 
 -- the kept path is no greater
-pub taken_old : (m : Move) (v w : ArrayVec ℕ) (es : List (Move × ArrayVec ℕ)) → lookup (same_moves m) es ≡ Some w → (LexLess v.items w.items → ⊥) → TakenIn (listed_as m v) (entries_listed es) (entries_listed es)
+pub taken_old : (m : Move) (v w : ArrayVec ℕ) (es : List (Move × ArrayVec ℕ)) → lookup (same_moves m) es ≡ Some w
+    → (LexLess v.items w.items → ⊥) → TakenIn (listed_as m v) (entries_listed es) (entries_listed es)
 taken_old m v w es found above = record {
   from = λ x h. inr h;
   least = λ x h. elim h [
@@ -48,26 +52,42 @@ covered_more : (x l : Listed) (list : List Listed) → Covered x list → Covere
 covered_more x l list h = (h.0, inr h.1, h.2, h.3)
 
 -- no path of the move is kept, or a greater one
-pub taken_new : (m : Move) (v : ArrayVec ℕ) (es : List (Move × ArrayVec ℕ)) → ((w : ArrayVec ℕ) → lookup (same_moves m) es ≡ Some w → LexLess v.items w.items) → TakenIn (listed_as m v) (entries_listed es) (entries_listed (insert_entry same_moves es m v))
+pub taken_new : (m : Move) (v : ArrayVec ℕ) (es : List (Move × ArrayVec ℕ))
+    → ((w : ArrayVec ℕ) → lookup (same_moves m) es ≡ Some w → LexLess v.items w.items)
+    → TakenIn (listed_as m v) (entries_listed es) (entries_listed (insert_entry same_moves es m v))
 taken_new m v [] below = record {
   from = λ x h. elim h [ inl e ↦ inl e | inr none ↦ absurd none ];
   least = λ x h. elim h [
-    | inl e ↦ subst (λ z. Covered z (listed_as m v ∷ [])) (sym e) (covers_itself (listed_as m v) (listed_as m v ∷ []) (inl refl))
+    | inl e ↦ subst (λ z. Covered z (listed_as m v ∷ [])) (sym e) (covers_itself (listed_as m v) (listed_as m v ∷ [])
+        (inl refl))
     | inr none ↦ absurd none
   ];
   once = λ n. ((λ h. h), tt);
 }
 taken_new m v (y ∷ es) below = by (taken_new m v es) (same_moves m y.0) refl where
-  by : (((w : ArrayVec ℕ) → lookup (same_moves m) es ≡ Some w → LexLess v.items w.items) → TakenIn (listed_as m v) (entries_listed es) (entries_listed (insert_entry same_moves es m v)))
-      → (b : Bool) → same_moves m y.0 ≡ b → TakenIn (listed_as m v) (entries_listed (y ∷ es)) (entries_listed (if b then (y.0, v) ∷ es else y ∷ insert_entry same_moves es m v))
+  by : (((w : ArrayVec ℕ) → lookup (same_moves m) es ≡ Some w → LexLess v.items w.items)
+      → TakenIn (listed_as m v) (entries_listed es) (entries_listed (insert_entry same_moves es m v)))
+      → (b : Bool) → same_moves m y.0 ≡ b
+      → TakenIn (listed_as m v) (entries_listed (y ∷ es)) (entries_listed (if b then (y.0, v) ∷ es else y
+      ∷ insert_entry same_moves es m v))
   by others true is =
       let key : m ≡ y.0 = (same_moves-is m y.0).0 is in
       let less : LexLess v.items y.1.items = below y.1 (ap (λ b. cond b (Some y.1) (lookup (same_moves m) es)) is) in
       record {
         from = λ x h. elim h [ inl e ↦ inl (e ∙ (λ i. listed_as (sym key i) v)) | inr old ↦ inr (inr old) ];
         least = λ x h. elim h [
-          | inl e ↦ subst (λ z. Covered z (listed_as y.0 v ∷ entries_listed es)) (sym e) (listed_as y.0 v, inl refl, sym key, lex_irrefl v.items)
-          | inr (inl e) ↦ subst (λ z. Covered z (listed_as y.0 v ∷ entries_listed es)) (sym e) (listed_as y.0 v, inl refl, refl, λ l. lex_asym y.1.items v.items l less)
+          | inl e ↦ subst (λ z. Covered z (listed_as y.0 v ∷ entries_listed es)) (sym e) (
+            listed_as y.0 v,
+            inl refl,
+            sym key,
+            lex_irrefl v.items,
+          )
+          | inr (inl e) ↦ subst (λ z. Covered z (listed_as y.0 v ∷ entries_listed es)) (sym e) (
+            listed_as y.0 v,
+            inl refl,
+            refl,
+            λ l. lex_asym y.1.items v.items l less,
+          )
           | inr (inr old) ↦ covers_itself x (listed_as y.0 v ∷ entries_listed es) (inr old)
         ];
         once = λ n. n;
@@ -90,17 +110,21 @@ taken_new m v (y ∷ es) below = by (taken_new m v es) (same_moves m y.0) refl w
               let f = mem_map_back (λ (l : Listed). l.step) y.0 kept h in
               elim (rest.from f.0 f.1) [
                 | inl e ↦ true≢false (sym ((same_moves-is m y.0).1 (sym (f.2 ∙ ap (λ (l : Listed). l.step) e))) ∙ is)
-                | inr old ↦ n.0 (subst (λ z. Member z (steps_of (entries_listed es))) (sym f.2) (mem_map (λ (l : Listed). l.step) f.0 (entries_listed es) old))
+                | inr old ↦ n.0 (subst (λ z. Member z (steps_of (entries_listed es))) (sym f.2)
+                    (mem_map (λ (l : Listed). l.step) f.0 (entries_listed es) old))
               ]),
           rest.once n.1,
         );
       }
 
 -- every path that is found is the one that was found
-pub below_found : (m : Move) (v u : ArrayVec ℕ) (es : List (Move × ArrayVec ℕ)) → lookup (same_moves m) es ≡ Some u → LexLess v.items u.items → (w : ArrayVec ℕ) → lookup (same_moves m) es ≡ Some w → LexLess v.items w.items
-below_found m v u es found less w e = subst (λ (z : ArrayVec ℕ). LexLess v.items z.items) (one u w (sym found ∙ e)) less where
-  one : (u w : ArrayVec ℕ) → Some u ≡ Some w → u ≡ w
-  one u w e = cc
+pub below_found : (m : Move) (v u : ArrayVec ℕ) (es : List (Move × ArrayVec ℕ)) → lookup (same_moves m) es ≡ Some u
+    → LexLess v.items u.items → (w : ArrayVec ℕ) → lookup (same_moves m) es ≡ Some w → LexLess v.items w.items
+below_found m v u es found less w e = subst (λ (z : ArrayVec ℕ). LexLess v.items z.items) (one u w (sym found ∙ e)) less
+  where
+    one : (u w : ArrayVec ℕ) → Some u ≡ Some w → u ≡ w
+    one u w e = cc
 
-pub below_none : (m : Move) (v : ArrayVec ℕ) (es : List (Move × ArrayVec ℕ)) → lookup (same_moves m) es ≡ None → (w : ArrayVec ℕ) → lookup (same_moves m) es ≡ Some w → LexLess v.items w.items
+pub below_none : (m : Move) (v : ArrayVec ℕ) (es : List (Move × ArrayVec ℕ)) → lookup (same_moves m) es ≡ None
+    → (w : ArrayVec ℕ) → lookup (same_moves m) es ≡ Some w → LexLess v.items w.items
 below_none m v es none w e = absurd (none_some w (sym none ∙ e))

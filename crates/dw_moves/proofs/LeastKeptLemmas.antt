@@ -11,11 +11,13 @@ pub covers_itself : (l : Listed) (list : List Listed) → Member l list → Cove
 covers_itself l list m = (l, m, refl, lex_irrefl l.path)
 
 -- what covers a move that covers another covers it
-covered_then : (l r : Listed) (list : List Listed) → r.step ≡ l.step → (LexLess l.path r.path → ⊥) → Covered r list → Covered l list
+covered_then : (l r : Listed) (list : List Listed) → r.step ≡ l.step → (LexLess l.path r.path → ⊥) → Covered r list
+    → Covered l list
 covered_then l r list same above h = (h.0, h.1, h.2 ∙ same, not_less l.path r.path h.0.path above h.3)
 
 -- no capture was met
-pub least_none : (E : ℕ → Listed → Type 0) (k : ℕ) (list : List Listed) → ((j : ℕ) (l : Listed) → E j l → ⊥) → LongestLeast E k list k list
+pub least_none : (E : ℕ → Listed → Type 0) (k : ℕ) (list : List Listed) → ((j : ℕ) (l : Listed) → E j l → ⊥)
+    → LongestLeast E k list k list
 least_none E k list never = record {
   grown = omega arith;
   reached = inl refl;
@@ -26,7 +28,9 @@ least_none E k list never = record {
 }
 
 -- captures were met, and then others
-pub least_then : (E F : ℕ → Listed → Type 0) (k k1 k2 : ℕ) (list list1 list2 : List Listed) → LongestLeast E k list k1 list1 → LongestLeast F k1 list1 k2 list2 → LongestLeast (λ j l. E j l ⊎ F j l) k list k2 list2
+pub least_then : (E F : ℕ → Listed → Type 0) (k k1 k2 : ℕ) (list list1 list2 : List Listed)
+    → LongestLeast E k list k1 list1 → LongestLeast F k1 list1 k2 list2
+    → LongestLeast (λ j l. E j l ⊎ F j l) k list k2 list2
 least_then E F k k1 k2 list list1 list2 a b = record {
   grown = omega (arith, a.grown, b.grown);
   reached = elim b.reached [
@@ -57,7 +61,9 @@ least_then E F k k1 k2 list list1 list2 a b = record {
 }
 
 -- the same captures, and some that take fewer
-pub least_wider : (E F : ℕ → Listed → Type 0) (k now : ℕ) (list kept : List Listed) → ((j : ℕ) (l : Listed) → E j l → F j l) → ((j : ℕ) (l : Listed) → F j l → E j l ⊎ (j < now)) → LongestLeast E k list now kept → LongestLeast F k list now kept
+pub least_wider : (E F : ℕ → Listed → Type 0) (k now : ℕ) (list kept : List Listed)
+    → ((j : ℕ) (l : Listed) → E j l → F j l) → ((j : ℕ) (l : Listed) → F j l → E j l ⊎ (j < now))
+    → LongestLeast E k list now kept → LongestLeast F k list now kept
 least_wider E F k now list kept up down h = record {
   grown = h.grown;
   reached = elim h.reached [ inl e ↦ inl e | inr r ↦ inr (r.0, up now r.0 r.1) ];
@@ -70,22 +76,26 @@ least_wider E F k now list kept up down h = record {
   once = h.once;
 }
 
--- what is left of the list where a capture takes n pieces, and the kept ones k: nothing where it takes more, else all of it
+-- what is left of the list where a capture takes n pieces, and the kept ones k: nothing where it takes more, else all
+-- of it
 abbrev pub Left : ℕ → ℕ → List Listed → List Listed → Type 0
 Left k n list left = ((k < n) × (left ≡ [])) ⊎ ((k ≡ n) × (left ≡ list))
 
 none_in : (left : List Listed) (l : Listed) → left ≡ [] → Member l left → ⊥
 none_in left l e h = rw e at h
 
-left_once : (k n : ℕ) (list left : List Listed) → Left k n list left → NoRepeat (steps_of list) → NoRepeat (steps_of left)
+left_once : (k n : ℕ) (list left : List Listed) → Left k n list left → NoRepeat (steps_of list)
+    → NoRepeat (steps_of left)
 left_once k n list left (inl e) once = subst (λ z. NoRepeat (steps_of z)) (sym e.1) tt
 left_once k n list left (inr e) once = subst (λ z. NoRepeat (steps_of z)) (sym e.1) once
 
-left_from : (k n : ℕ) (list left : List Listed) → Left k n list left → (l : Listed) → Member l left → (n ≡ k) × Member l list
+left_from : (k n : ℕ) (list left : List Listed) → Left k n list left → (l : Listed) → Member l left
+    → (n ≡ k) × Member l list
 left_from k n list left (inl e) l h = absurd (none_in left l e.1 h)
 left_from k n list left (inr e) l h = (sym e.0, subst (Member l) e.1 h)
 
-left_in : (k n : ℕ) (list left : List Listed) → Left k n list left → (l : Listed) → n ≡ k → Member l list → Member l left
+left_in : (k n : ℕ) (list left : List Listed) → Left k n list left → (l : Listed) → n ≡ k → Member l list
+    → Member l left
 left_in k n list left (inl e) l same h = absurd (omega (arith, e.0))
 left_in k n list left (inr e) l same h = subst (Member l) (sym e.1) h
 
@@ -94,7 +104,8 @@ left_grown k n list left (inl e) = omega (arith, e.0)
 left_grown k n list left (inr e) = omega (arith, e.0)
 
 -- a capture joins what is left
-pub offered : (this : Listed) (n k : ℕ) (list left now : List Listed) → 0 < n → Left k n list left → TakenIn this left now → LongestLeast (This this n) k list n now
+pub offered : (this : Listed) (n k : ℕ) (list left now : List Listed) → 0 < n → Left k n list left
+    → TakenIn this left now → LongestLeast (This this n) k list n now
 offered this n k list left now some l h = record {
   grown = left_grown k n list left l;
   reached = inr (this, (some, (refl, refl)));
@@ -105,7 +116,8 @@ offered this n k list left now some l h = record {
 }
 
 -- a capture that takes nothing, or fewer than the kept ones
-pub offered_past : (this : Listed) (n k : ℕ) (list : List Listed) → (0 < n → n < k) → LongestLeast (This this n) k list k list
+pub offered_past : (this : Listed) (n k : ℕ) (list : List Listed) → (0 < n → n < k)
+    → LongestLeast (This this n) k list k list
 offered_past this n k list few = record {
   grown = omega arith;
   reached = inl refl;

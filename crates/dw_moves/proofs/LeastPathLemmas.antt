@@ -1,5 +1,6 @@
 -- What the walks found is all legal moves with their least paths.
-use Rattle.std.proofs.Common.{◌≡◌, ℕ, ◌<◌, zero, suc, List, [], ◌∷◌, ◌++◌, length, map, refl, sym, ap, ◌∙◌, subst, inl, inr, arith}
+use Rattle.std.proofs.Common.{◌≡◌, ℕ, ◌<◌, zero, suc, List, [], ◌∷◌, ◌++◌, length, map, refl, sym, ap, ◌∙◌, subst, inl}
+use Rattle.std.proofs.Common.{inr, arith}
 use Rattle.std.proofs.lemmas.Bool.{cases_lt}
 use Rattle.std.specs.FinSet as fin
 use Rattle.std.specs.Ordering.{nat_cmp}
@@ -18,7 +19,8 @@ use Rattle.dw_moves.proofs.LexLemmas.{lex_irrefl}
 use Rattle.dw_moves.proofs.AddingLemmas.{AreQuiet, are_quiet, move_to}
 
 -- the number reached is the greatest
-best_led : (g : Geometry) (p : Placement) (k : ℕ) (list kept : List Listed) → LongestLeast (Leading g p) 0 list k kept → IsBest g p k
+best_led : (g : Geometry) (p : Placement) (k : ℕ) (list kept : List Listed) → LongestLeast (Leading g p) 0 list k kept
+    → IsBest g p k
 best_led g p k list kept h = record {
   reached = λ some. elim h.reached [
     | inl none ↦ absurd (omega arith)
@@ -27,24 +29,32 @@ best_led g p k list kept h = record {
   most = λ from ts cs path. elim (cases_lt 0 (length cs)) [
     | inl some ↦
         let step : Move = record { from = from; to = last_of from ts; taken = fin.from_list cs } in
-        h.most (length cs) (record { step = step; path = from ∷ ts }) (some, (ts, record { over = cs; path = path; count = refl; ends = refl; takes = refl }, refl))
+        h.most (length cs) (record { step = step; path = from ∷ ts })
+        (some, (ts, record { over = cs; path = path; count = refl; ends = refl; takes = refl }, refl))
     | inr none ↦ omega arith
   ];
 }
 
 -- a move stands once, and so with one path
-once_same : (list : List Listed) → NoRepeat (steps_of list) → (l r : Listed) → Member l list → Member r list → l.step ≡ r.step → l ≡ r
+once_same : (list : List Listed) → NoRepeat (steps_of list) → (l r : Listed) → Member l list → Member r list
+    → l.step ≡ r.step → l ≡ r
 once_same [] once l r hl hr e = absurd hl
 once_same (x ∷ list) once l r (inl hl) (inl hr) e = hl ∙ sym hr
-once_same (x ∷ list) once l r (inl hl) (inr hr) e = absurd (once.0 (subst (λ z. Member z (steps_of list)) (sym e ∙ ap (λ (z : Listed). z.step) hl) (mem_map (λ (z : Listed). z.step) r list hr)))
-once_same (x ∷ list) once l r (inr hl) (inl hr) e = absurd (once.0 (subst (λ z. Member z (steps_of list)) (e ∙ ap (λ (z : Listed). z.step) hr) (mem_map (λ (z : Listed). z.step) l list hl)))
+once_same (x ∷ list) once l r (inl hl) (inr hr) e =
+    absurd (once.0 (subst (λ z. Member z (steps_of list)) (sym e ∙ ap (λ (z : Listed). z.step) hl)
+    (mem_map (λ (z : Listed). z.step) r list hr)))
+once_same (x ∷ list) once l r (inr hl) (inl hr) e =
+    absurd (once.0 (subst (λ z. Member z (steps_of list)) (e ∙ ap (λ (z : Listed). z.step) hr)
+    (mem_map (λ (z : Listed). z.step) l list hl)))
 once_same (x ∷ list) once l r (inr hl) (inr hr) e = once_same list once.1 l r hl hr e
 
-lands_by : (g : Geometry) (p : Placement) (m : Move) (k : ℕ) (ts : List ℕ) → 0 < k → IsPathOf g p m k ts → LandsAt g p m k ts
+lands_by : (g : Geometry) (p : Placement) (m : Move) (k : ℕ) (ts : List ℕ) → 0 < k → IsPathOf g p m k ts
+    → LandsAt g p m k ts
 lands_by g p m zero ts some h = absurd (omega arith)
 lands_by g p m (suc k) ts some h = h
 
-path_by : (g : Geometry) (p : Placement) (m : Move) (k : ℕ) (ts : List ℕ) → 0 < k → LandsAt g p m k ts → IsPathOf g p m k ts
+path_by : (g : Geometry) (p : Placement) (m : Move) (k : ℕ) (ts : List ℕ) → 0 < k → LandsAt g p m k ts
+    → IsPathOf g p m k ts
 path_by g p m zero ts some h = absurd (omega arith)
 path_by g p m (suc k) ts some h = h
 
@@ -52,26 +62,32 @@ no_member : (list : List Listed) → list ≡ [] → (l : Listed) → Member l l
 no_member list e l h = rw e at h
 
 -- what is kept of the captures of the greatest number is the least of a move's paths
-pub kept_least : (g : Geometry) (p : Placement) (k : ℕ) (list kept : List Listed) → 0 < k → IsBest g p k → NoRepeat (steps_of kept) → LongestLeast (Leading g p) 0 list k kept → (l : Listed) → Member l kept → Leading g p k l → HasLeastPath g p l
+pub kept_least : (g : Geometry) (p : Placement) (k : ℕ) (list kept : List Listed) → 0 < k → IsBest g p k
+    → NoRepeat (steps_of kept) → LongestLeast (Leading g p) 0 list k kept → (l : Listed) → Member l kept
+    → Leading g p k l → HasLeastPath g p l
 kept_least g p k list kept some best once h l m leads = (
   leads.1.0,
   record {
     leads = (k, best, lands_by g p l.step k leads.1.0 some leads.1.1);
     least = λ others o less.
-        let path : IsPathOf g p l.step k others = path_by g p l.step k others some (subst (λ z. LandsAt g p l.step z others) (best_only g p o.0 k o.1 best) o.2) in
+        let path : IsPathOf g p l.step k others = path_by g p l.step k others some
+        (subst (λ z. LandsAt g p l.step z others) (best_only g p o.0 k o.1 best) o.2) in
         let r = h.least (record { step = l.step; path = l.step.from ∷ others }) (inr (some, (others, path, refl))) in
         let same : l ≡ r.0 = once_same kept once l r.0 m r.1 (sym r.2) in
-        r.3 (subst (LexLess (l.step.from ∷ others)) (sym leads.1.2 ∙ ap (λ (z : Listed). z.path) same) (inr (refl, less)));
+        r.3 (subst (LexLess (l.step.from ∷ others)) (sym leads.1.2 ∙ ap (λ (z : Listed). z.path) same)
+        (inr (refl, less)));
   },
   leads.1.2,
 )
 
 -- something can be taken
-pub captures_all : (g : Geometry) (p : Placement) (k : ℕ) (list kept : List Listed) → list ≡ [] → 0 < k → LongestLeast (Leading g p) 0 list k kept → HasAll g p kept
+pub captures_all : (g : Geometry) (p : Placement) (k : ℕ) (list kept : List Listed) → list ≡ [] → 0 < k
+    → LongestLeast (Leading g p) 0 list k kept → HasAll g p kept
 captures_all g p k list kept e some h =
     let best : IsBest g p k = best_led g p k list kept h in
     let once : NoRepeat (steps_of kept) = h.once (subst (λ z. NoRepeat (steps_of z)) (sym e) tt) in
-    let leads : (l : Listed) → Member l kept → Leading g p k l = λ l m. elim (h.from l m) [ inl old ↦ absurd (no_member list e l old.1) | inr f ↦ f ] in
+    let leads : (l : Listed) → Member l kept
+    → Leading g p k l = λ l m. elim (h.from l m) [ inl old ↦ absurd (no_member list e l old.1) | inr f ↦ f ] in
     record {
       legal = λ l m. legal_from_capture g p k l.step best (leading_takes g p k l (leads l m));
       paths = λ l m. kept_least g p k list kept some best once h l m (leads l m);
@@ -83,7 +99,8 @@ captures_all g p k list kept e some h =
     }
 
 -- the only path of a quiet move
-quiet_least : (g : Geometry) (p : Placement) (m : Move) → Legal g p m → fin.len m.taken ≡ 0 → IsLeastPath g p m (m.to ∷ [])
+quiet_least : (g : Geometry) (p : Placement) (m : Move) → Legal g p m → fin.len m.taken ≡ 0
+    → IsLeastPath g p m (m.to ∷ [])
 quiet_least g p m legal none = at_k legal.0 (legal_count g p legal.0 m legal.1 legal) legal.1 legal.2 where
   only : (j : ℕ) → j ≡ 0 → (others : List ℕ) → LandsAt g p m j others → LexLess others (m.to ∷ []) → ⊥
   only zero e others lands less = lex_irrefl (m.to ∷ []) (subst (λ z. LexLess z (m.to ∷ [])) lands.2 less)
@@ -104,12 +121,14 @@ steps_with_ends : (ms : List Move) → steps_of (map with_ends ms) ≡ ms
 steps_with_ends [] = refl
 steps_with_ends (m ∷ ms) = ap (λ z. m ∷ z) (steps_with_ends ms)
 
-quiet_listing : (g : Geometry) (p : Placement) (moves : List Move) → AreQuiet g p moves → IsBest g p 0 → HasAll g p (map with_ends moves)
+quiet_listing : (g : Geometry) (p : Placement) (moves : List Move) → AreQuiet g p moves → IsBest g p 0
+    → HasAll g p (map with_ends moves)
 quiet_listing g p moves quiet best =
     let steps = steps_with_ends moves in
     let legal : (m : Move) → Member m moves → Legal g p m = λ m h. (0, best, (quiet.exactly m).0 h) in
     record {
-      legal = λ l m. let f = mem_map_back with_ends l moves m in subst (λ (z : Listed). Legal g p z.step) (sym f.2) (legal f.0 f.1);
+      legal = λ l m. let f = mem_map_back with_ends l moves m in subst (λ (z : Listed). Legal g p z.step) (sym f.2)
+          (legal f.0 f.1);
       paths = λ l m.
           let f = mem_map_back with_ends l moves m in
           let none : fin.len f.0.taken ≡ 0 = ap fin.len ((quiet.exactly f.0).0 f.1).1 ∙ fin.len-empty nat_cmp in
@@ -118,7 +137,8 @@ quiet_listing g p moves quiet best =
       once = subst NoRepeat (sym steps) quiet.once;
     }
 
-made_of_moves : (pairs : List (ℕ × ℕ)) → map (λ (q : ℕ × ℕ). quietly_listed q.0 q.1) pairs ≡ map with_ends (map move_to pairs)
+made_of_moves : (pairs : List (ℕ × ℕ)) → map (λ (q : ℕ × ℕ). quietly_listed q.0 q.1) pairs
+    ≡ map with_ends (map move_to pairs)
 made_of_moves [] = refl
 made_of_moves (q ∷ pairs) = ap (λ z. quietly_listed q.0 q.1 ∷ z) (made_of_moves pairs)
 
@@ -137,14 +157,22 @@ none_led g p none = record {
   once = λ h. h;
 }
 
-pub some_led : (g : Geometry) (p : Placement) (k : ℕ) (list kept : List Listed) → CanCapture g p → LongestLeast (Leading g p) 0 list k kept → 0 < k
+pub some_led : (g : Geometry) (p : Placement) (k : ℕ) (list kept : List Listed) → CanCapture g p
+    → LongestLeast (Leading g p) 0 list k kept → 0 < k
 some_led g p k list kept can h =
-    let l : Listed = record { step = record { from = can.0; to = last_of can.0 can.1; taken = fin.from_list can.2 }; path = can.0 ∷ can.1 } in
-    let led : Leading g p (length can.2) l = (can.4, (can.1, record { over = can.2; path = can.3; count = refl; ends = refl; takes = refl }, refl)) in
+    let l : Listed = record {
+      step = record { from = can.0; to = last_of can.0 can.1; taken = fin.from_list can.2 };
+      path = can.0 ∷ can.1;
+    } in
+    let led : Leading g p (length can.2) l =
+    (can.4, (can.1, record { over = can.2; path = can.3; count = refl; ends = refl; takes = refl }, refl)) in
     omega (arith, can.4, h.most (length can.2) l led)
 
-pub quiet_all_listed : (g : Geometry) (p : Placement) (old now : List Listed) → (CanCapture g p → ⊥) → old ≡ [] → Adds quietly_listed (Quiet g p) old now → HasAll g p now
+pub quiet_all_listed : (g : Geometry) (p : Placement) (old now : List Listed) → (CanCapture g p → ⊥) → old ≡ []
+    → Adds quietly_listed (Quiet g p) old now → HasAll g p now
 quiet_all_listed g p old now none e added =
     let best : IsBest g p 0 = best_led g p 0 [] [] (none_led g p none) in
-    let whole : now ≡ map with_ends (map move_to added.pairs) = added.are ∙ (ap (λ z. z ++ map (λ (q : ℕ × ℕ). quietly_listed q.0 q.1) added.pairs) e ∙ made_of_moves added.pairs) in
-    subst (HasAll g p) (sym whole) (quiet_listing g p (map move_to added.pairs) (are_quiet g p added.pairs added.exactly added.once) best)
+    let whole : now ≡ map with_ends (map move_to added.pairs) = added.are
+    ∙ (ap (λ z. z ++ map (λ (q : ℕ × ℕ). quietly_listed q.0 q.1) added.pairs) e ∙ made_of_moves added.pairs) in
+    subst (HasAll g p) (sym whole) (quiet_listing g p (map move_to added.pairs) (are_quiet g p added.pairs added.exactly
+    added.once) best)

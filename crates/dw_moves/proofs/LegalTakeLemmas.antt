@@ -17,7 +17,8 @@ use Rattle.dw_moves.proofs.TakingLemmas.{side_fits}
 use Rattle.dw_moves.proofs.MoveKeyLemmas.{jumps_long}
 use Rattle.dw_moves.proofs.RayLemmas.{ray_of_on, landing_on_ray}
 
-jumps_land : (g : Geometry) → IsBoard g → (p : Placement) (piece : Piece) (s : ℕ) (ts cs : List ℕ) → OnBoard g s → Jumps g p piece s ts cs → (x : ℕ) → Member x ts → OnBoard g x
+jumps_land : (g : Geometry) → IsBoard g → (p : Placement) (piece : Piece) (s : ℕ) (ts cs : List ℕ) → OnBoard g s
+    → Jumps g p piece s ts cs → (x : ℕ) → Member x ts → OnBoard g x
 jumps_land g b p piece s [] cs on jumps x m = absurd m
 jumps_land g b p piece s (t ∷ ts) [] on jumps x m = absurd jumps
 jumps_land g b p piece s (t ∷ ts) (c ∷ cs) on jumps x m =
@@ -28,17 +29,28 @@ jumps_land g b p piece s (t ∷ ts) (c ∷ cs) on jumps x m =
     ]
 
 -- a legal move takes at most twenty pieces
-legal_small : (g : Geometry) → IsBoard g → (p : Placement) (m : Move) → IsPosition g p.cells → Legal g p m → fin.len m.taken ≤ 20
+legal_small : (g : Geometry) → IsBoard g → (p : Placement) (m : Move) → IsPosition g p.cells → Legal g p m
+    → fin.len m.taken ≤ 20
 legal_small g board p m pos legal = at_k legal.0 legal.2 where
   at_k : (k : ℕ) → LegalAt g p k m → fin.len m.taken ≤ 20
   at_k zero h = omega (arith, ap fin.len h.1, fin.len-empty nat_cmp)
-  at_k (suc k) h = omega (arith, ap fin.len h.1.takes, len_list h.1.over h.1.path.once, path_bound g p m.from h.0 h.1.over h.1.path, side_fits g p (other p.turn) pos, board.side_high)
+  at_k (suc k) h = omega (
+    arith,
+    ap fin.len h.1.takes,
+    len_list h.1.over h.1.path.once,
+    path_bound g p m.from h.0 h.1.over h.1.path,
+    side_fits g p (other p.turn) pos,
+    board.side_high,
+  )
 
 pub legal_moves_take : LegalMovesTake
 legal_moves_take = record {
   taken = legal_count;
   few = legal_small;
-  long = λ g p m k landings h. jumps_long g (placed p m.from None) h.path.piece m.from landings h.over h.path.jumps ∙ h.count;
-  lands = λ g b p m k landings h. jumps_land g b (placed p m.from None) h.path.piece m.from landings h.over h.path.stands.on_board h.path.jumps;
-  goes = λ g b p from to q. ray_of_on g b g.rows from q.dir to q.stands.on_board (subst (Member to) (sym q.on_ray) (mem_at to q.between q.beyond));
+  long = λ g p m k landings h. jumps_long g (placed p m.from None) h.path.piece m.from landings h.over h.path.jumps
+      ∙ h.count;
+  lands = λ g b p m k landings h. jumps_land g b (placed p m.from None) h.path.piece m.from landings h.over
+      h.path.stands.on_board h.path.jumps;
+  goes = λ g b p from to q. ray_of_on g b g.rows from q.dir to q.stands.on_board
+      (subst (Member to) (sym q.on_ray) (mem_at to q.between q.beyond));
 }

@@ -1,5 +1,6 @@
 -- The longest capture that goes on from a square.
-use Rattle.std.proofs.Common.{◌≡◌, ◌≢◌, ℕ, ◌+◌, ◌-◌, ◌≤◌, ◌<◌, ◌||◌, zero, suc, List, [], ◌∷◌, length, refl, sym, ap, ◌∙◌, subst, ◌⊎◌, inl, inr, arith, true, false, eqb, max, get_or}
+use Rattle.std.proofs.Common.{◌≡◌, ◌≢◌, ℕ, ◌+◌, ◌-◌, ◌≤◌, ◌<◌, ◌||◌, zero, suc, List, [], ◌∷◌, length, refl, sym, ap}
+use Rattle.std.proofs.Common.{◌∙◌, subst, ◌⊎◌, inl, inr, arith, true, false, eqb, max, get_or}
 use Rattle.std.proofs.lemmas.Bool.{true≢false, eq-eqb, eqb-true, or_cases, or_left, or_right, cases_Bool, cases_lt}
 use Rattle.std.proofs.lemmas.Bool.Decides.{nat_tests}
 use Rattle.std.specs.FinSet as fin
@@ -22,7 +23,10 @@ not_in : (v : Squares) (k q : ℕ) → fin.contains (fin.insert v k) q ≡ false
 not_in v k q e =
     let is : (eqb q k || fin.contains v q) ≡ false = sym (contains-insert v k q) ∙ e in (
       (λ same. true≢false (sym (or_left (eqb q k) (fin.contains v q) (eq-eqb q k same)) ∙ is)),
-      elim (cases_Bool (fin.contains v q)) [ inl t ↦ absurd (true≢false (sym (or_right (eqb q k) (fin.contains v q) t) ∙ is)) | inr f ↦ f ],
+      elim (cases_Bool (fin.contains v q)) [
+        | inl t ↦ absurd (true≢false (sym (or_right (eqb q k) (fin.contains v q) t) ∙ is))
+        | inr f ↦ f
+      ],
     )
 
 out_of : (v : Squares) (k q : ℕ) → q ≢ k → fin.contains v q ≡ false → fin.contains (fin.insert v k) q ≡ false
@@ -34,11 +38,14 @@ out_of v k q ne e = elim (cases_Bool (fin.contains (fin.insert v k) q)) [
   | inr f ↦ f
 ]
 
-pub chain_none : (g : Geometry) (p : Placement) (piece : Piece) (s : ℕ) (taken : Squares) → Chain g p piece s taken [] []
+pub chain_none : (g : Geometry) (p : Placement) (piece : Piece) (s : ℕ) (taken : Squares)
+    → Chain g p piece s taken [] []
 chain_none g p piece s taken = record { jumps = tt; once = tt; fresh = λ c m. absurd m }
 
 -- one more jump before a chain
-pub chain_more : (g : Geometry) (p : Placement) (piece : Piece) (s c t : ℕ) (taken : Squares) (ts cs : List ℕ) → Jump g p piece s c t → fin.contains taken c ≡ false → Chain g p piece t (fin.insert taken c) ts cs → Chain g p piece s taken (t ∷ ts) (c ∷ cs)
+pub chain_more : (g : Geometry) (p : Placement) (piece : Piece) (s c t : ℕ) (taken : Squares) (ts cs : List ℕ)
+    → Jump g p piece s c t → fin.contains taken c ≡ false → Chain g p piece t (fin.insert taken c) ts cs
+    → Chain g p piece s taken (t ∷ ts) (c ∷ cs)
 chain_more g p piece s c t taken ts cs j e h = record {
   jumps = (j, h.jumps);
   once = ((λ m. (not_in taken c c (h.fresh c m)).0 refl), h.once);
@@ -46,7 +53,8 @@ chain_more g p piece s c t taken ts cs j e h = record {
 }
 
 -- a chain without its first jump
-pub chain_tail : (g : Geometry) (p : Placement) (piece : Piece) (s c t : ℕ) (taken : Squares) (ts cs : List ℕ) → Chain g p piece s taken (t ∷ ts) (c ∷ cs) → Chain g p piece t (fin.insert taken c) ts cs
+pub chain_tail : (g : Geometry) (p : Placement) (piece : Piece) (s c t : ℕ) (taken : Squares) (ts cs : List ℕ)
+    → Chain g p piece s taken (t ∷ ts) (c ∷ cs) → Chain g p piece t (fin.insert taken c) ts cs
 chain_tail g p piece s c t taken ts cs h = record {
   jumps = h.jumps.1;
   once = h.once.1;
@@ -54,12 +62,19 @@ chain_tail g p piece s c t taken ts cs h = record {
 }
 
 -- the jumps at indices below i were tried
-pub record Tried (g : Geometry) (p : Placement) (piece : Piece) (s : ℕ) (taken : Squares) (items : List (ℕ × ℕ)) (i most : ℕ) : Type 0 where
+pub record Tried (g : Geometry) (p : Placement) (piece : Piece) (s : ℕ) (taken : Squares) (items : List (ℕ × ℕ))
+    (i most : ℕ) : Type 0 where
   pub reached : (ts : List ℕ) × (cs : List ℕ) × Chain g p piece s taken ts cs × (length cs ≡ most)
-  pub covered : (k c t : ℕ) → k < i → get_or items k (0, 0) ≡ (c, t) → (ts cs : List ℕ) → Chain g p piece s taken (t ∷ ts) (c ∷ cs) → length (c ∷ cs) ≤ most
+  pub covered : (k c t : ℕ) → k < i → get_or items k (0, 0) ≡ (c, t) → (ts cs : List ℕ)
+      → Chain g p piece s taken (t ∷ ts) (c ∷ cs) → length (c ∷ cs) ≤ most
 
-pub tried_none : (g : Geometry) (p : Placement) (piece : Piece) (s : ℕ) (taken : Squares) (items : List (ℕ × ℕ)) → Tried g p piece s taken items 0 0
-tried_none g p piece s taken items = record { reached = ([], [], chain_none g p piece s taken, refl); covered = λ k c t low. absurd (omega arith) }
+pub tried_none : (g : Geometry) (p : Placement) (piece : Piece) (s : ℕ) (taken : Squares) (items : List (ℕ × ℕ))
+    → Tried g p piece s taken items 0 0
+tried_none g p piece s taken items = record {
+  reached = ([], [], chain_none g p piece s taken, refl);
+  covered =
+      λ k c t low. absurd (omega arith);
+}
 
 pub here : (k n : ℕ) → k < n + 1 → (k ≡ n) ⊎ (k < n)
 here k n h = grind arith
@@ -71,7 +86,9 @@ abbrev pub landing_of : ℕ × ℕ → ℕ
 landing_of j = j.1
 
 -- the jump at i takes what was taken
-pub tried_past : (g : Geometry) (p : Placement) (piece : Piece) (s : ℕ) (taken : Squares) (items : List (ℕ × ℕ)) (i most c t : ℕ) → Tried g p piece s taken items i most → get_or items i (0, 0) ≡ (c, t) → fin.contains taken c ≡ true → Tried g p piece s taken items (i + 1) most
+pub tried_past : (g : Geometry) (p : Placement) (piece : Piece) (s : ℕ) (taken : Squares) (items : List (ℕ × ℕ))
+    (i most c t : ℕ) → Tried g p piece s taken items i most → get_or items i (0, 0) ≡ (c, t) → fin.contains taken c
+    ≡ true → Tried g p piece s taken items (i + 1) most
 tried_past g p piece s taken items i most c t h e there = record {
   reached = h.reached;
   covered = λ k c' t' low is ts cs chain. elim (here k i low) [
@@ -84,11 +101,19 @@ tried_past g p piece s taken items i most c t h e there = record {
 }
 
 -- the jump at i, and the most after it
-pub tried_more : (g : Geometry) (p : Placement) (piece : Piece) (s : ℕ) (taken : Squares) (items : List (ℕ × ℕ)) (i most c t further now : ℕ) → Tried g p piece s taken items i most → get_or items i (0, 0) ≡ (c, t) → Jump g p piece s c t → fin.contains taken c ≡ false
-    → IsLongest g p piece t (fin.insert taken c) further → now ≡ max most (further + 1) → Tried g p piece s taken items (i + 1) now
+pub tried_more : (g : Geometry) (p : Placement) (piece : Piece) (s : ℕ) (taken : Squares) (items : List (ℕ × ℕ))
+    (i most c t further now : ℕ) → Tried g p piece s taken items i most → get_or items i (0, 0) ≡ (c, t)
+    → Jump g p piece s c t → fin.contains taken c ≡ false
+    → IsLongest g p piece t (fin.insert taken c) further → now ≡ max most (further + 1)
+    → Tried g p piece s taken items (i + 1) now
 tried_more g p piece s taken items i most c t further now h e j fresh l is = record {
   reached = elim (cases_lt most (further + 1)) [
-    | inl less ↦ (t ∷ l.reached.0, c ∷ l.reached.1, chain_more g p piece s c t taken l.reached.0 l.reached.1 j fresh l.reached.2, omega (arith, l.reached.3))
+    | inl less ↦ (
+      t ∷ l.reached.0,
+      c ∷ l.reached.1,
+      chain_more g p piece s c t taken l.reached.0 l.reached.1 j fresh l.reached.2,
+      omega (arith, l.reached.3),
+    )
     | inr more ↦ (h.reached.0, h.reached.1, h.reached.2, omega (arith, h.reached.3))
   ];
   covered = λ k c' t' low is' ts cs chain. elim (here k i low) [
@@ -96,7 +121,9 @@ tried_more g p piece s taken items i most c t further now h e j fresh l is = rec
         let one : (c', t') ≡ (c, t) = sym is' ∙ (ap (λ z. get_or items z (0, 0)) same ∙ e) in
         let c_is : c' ≡ c = ap over_of one in
         let t_is : t' ≡ t = ap landing_of one in
-        let tail : Chain g p piece t (fin.insert taken c) ts cs = subst (λ z. Chain g p piece z (fin.insert taken c) ts cs) t_is (subst (λ z. Chain g p piece t' (fin.insert taken z) ts cs) c_is (chain_tail g p piece s c' t' taken ts cs chain)) in
+        let tail : Chain g p piece t (fin.insert taken c) ts cs = subst (λ z. Chain g p piece z (fin.insert taken c) ts
+        cs) t_is (subst (λ z. Chain g p piece t' (fin.insert taken z) ts cs) c_is
+        (chain_tail g p piece s c' t' taken ts cs chain)) in
         omega (arith, l.most ts cs tail)
     | inr before ↦ omega (arith, h.covered k c' t' before is' ts cs chain)
   ];
@@ -113,15 +140,19 @@ member_at (x ∷ xs) zero h = inl refl
 member_at (x ∷ xs) (suc k) h = inr (member_at xs k (omega arith))
 
 -- the jump at an index
-pub jump_at : (g : Geometry) (p : Placement) (piece : Piece) (s : ℕ) (items : List (ℕ × ℕ)) (i c t : ℕ) → items ≡ jump_list g p piece s → i < length items → get_or items i (0, 0) ≡ (c, t) → Jump g p piece s c t
+pub jump_at : (g : Geometry) (p : Placement) (piece : Piece) (s : ℕ) (items : List (ℕ × ℕ)) (i c t : ℕ)
+    → items ≡ jump_list g p piece s → i < length items → get_or items i (0, 0) ≡ (c, t) → Jump g p piece s c t
 jump_at g p piece s items i c t is low e =
     jump_from g p piece s (c, t) (subst (Member (c, t)) is (subst (λ z. Member z items) e (member_at items i low)))
 
-pub landing_on : (g : Geometry) → IsBoard g → (p : Placement) (piece : Piece) (s c t : ℕ) → OnBoard g s → Jump g p piece s c t → OnBoard g t
+pub landing_on : (g : Geometry) → IsBoard g → (p : Placement) (piece : Piece) (s c t : ℕ) → OnBoard g s
+    → Jump g p piece s c t → OnBoard g t
 landing_on g b p piece s c t on j = ray_of_on g b g.rows s j.dir t on (landing_on_ray g p piece s c t j)
 
 -- all jumps were tried
-pub tried_all : (g : Geometry) (p : Placement) (piece : Piece) (s : ℕ) (taken : Squares) (items : List (ℕ × ℕ)) (i most : ℕ) → items ≡ jump_list g p piece s → length items ≤ i → Tried g p piece s taken items i most → IsLongest g p piece s taken most
+pub tried_all : (g : Geometry) (p : Placement) (piece : Piece) (s : ℕ) (taken : Squares) (items : List (ℕ × ℕ))
+    (i most : ℕ) → items ≡ jump_list g p piece s → length items ≤ i → Tried g p piece s taken items i most
+    → IsLongest g p piece s taken most
 tried_all g p piece s taken items i most is all h = record { reached = h.reached; most = within } where
   within : ChainsFit g p piece s taken most
   within [] [] chain = omega arith
@@ -132,15 +163,29 @@ tried_all g p piece s taken items i most is all h = record { reached = h.reached
       let r = index_of (c, t) items m in
       h.covered r.0 c t (omega (arith, r.1)) r.2 ts cs chain
 
-pub tried_fits : (g : Geometry) (p : Placement) (piece : Piece) (s : ℕ) (taken : Squares) (items : List (ℕ × ℕ)) (i most n : ℕ) → ChainsFit g p piece s taken n → Tried g p piece s taken items i most → most ≤ n
-tried_fits g p piece s taken items i most n fits h = omega (arith, fits h.reached.0 h.reached.1 h.reached.2, h.reached.3)
+pub tried_fits : (g : Geometry) (p : Placement) (piece : Piece) (s : ℕ) (taken : Squares) (items : List (ℕ × ℕ))
+    (i most n : ℕ) → ChainsFit g p piece s taken n → Tried g p piece s taken items i most → most ≤ n
+tried_fits g p piece s taken items i most n fits h = omega (
+  arith,
+  fits h.reached.0 h.reached.1 h.reached.2,
+  h.reached.3,
+)
 
 -- what fits before a jump fits behind it, less one
-pub some_left : (g : Geometry) (p : Placement) (piece : Piece) (s c t : ℕ) (taken : Squares) (n : ℕ) → ChainsFit g p piece s taken n → Jump g p piece s c t → fin.contains taken c ≡ false → 1 ≤ n
-some_left g p piece s c t taken n fits j fresh = omega (arith, fits (t ∷ []) (c ∷ []) (chain_more g p piece s c t taken [] [] j fresh (chain_none g p piece t (fin.insert taken c))))
+pub some_left : (g : Geometry) (p : Placement) (piece : Piece) (s c t : ℕ) (taken : Squares) (n : ℕ)
+    → ChainsFit g p piece s taken n → Jump g p piece s c t → fin.contains taken c ≡ false → 1 ≤ n
+some_left g p piece s c t taken n fits j fresh =
+    omega (
+      arith,
+      fits (t ∷ []) (c ∷ []) (chain_more g p piece s c t taken [] [] j fresh
+          (chain_none g p piece t (fin.insert taken c))),
+    )
 
-pub fits_behind : (g : Geometry) (p : Placement) (piece : Piece) (s c t : ℕ) (taken : Squares) (n : ℕ) → ChainsFit g p piece s taken n → Jump g p piece s c t → fin.contains taken c ≡ false → ChainsFit g p piece t (fin.insert taken c) (n - 1)
-fits_behind g p piece s c t taken n fits j fresh ts cs chain = omega (arith, fits (t ∷ ts) (c ∷ cs) (chain_more g p piece s c t taken ts cs j fresh chain))
+pub fits_behind : (g : Geometry) (p : Placement) (piece : Piece) (s c t : ℕ) (taken : Squares) (n : ℕ)
+    → ChainsFit g p piece s taken n → Jump g p piece s c t → fin.contains taken c ≡ false
+    → ChainsFit g p piece t (fin.insert taken c) (n - 1)
+fits_behind g p piece s c t taken n fits j fresh ts cs chain =
+    omega (arith, fits (t ∷ ts) (c ∷ cs) (chain_more g p piece s c t taken ts cs j fresh chain))
 
 -- an item of the list does not hang on what stands past its end
 item_any : (xs : List (ℕ × ℕ)) (i : ℕ) (d e : ℕ × ℕ) → i < length xs → get_or xs i d ≡ get_or xs i e
@@ -153,7 +198,9 @@ pub record Item (g : Geometry) (p : Placement) (piece : Piece) (s : ℕ) (items 
   pub is : get_or items i (0, 0) ≡ (c, t)
   pub jump : Jump g p piece s c t
 
-pub item_of : (g : Geometry) (p : Placement) (piece : Piece) (s : ℕ) (items : List (ℕ × ℕ)) (i c t : ℕ) (j : ℕ × ℕ) → items ≡ jump_list g p piece s → i < length items → (c, t) ≡ j → j ≡ get_or items i j → Item g p piece s items i c t
+pub item_of : (g : Geometry) (p : Placement) (piece : Piece) (s : ℕ) (items : List (ℕ × ℕ)) (i c t : ℕ) (j : ℕ × ℕ)
+    → items ≡ jump_list g p piece s → i < length items → (c, t) ≡ j → j ≡ get_or items i j
+    → Item g p piece s items i c t
 item_of g p piece s items i c t j is low e f =
     let at : get_or items i (0, 0) ≡ (c, t) = item_any items i (0, 0) j low ∙ (sym f ∙ sym e) in
     record { is = at; jump = jump_at g p piece s items i c t is low at }

@@ -1,5 +1,6 @@
 -- Each legal move has a key, different ones have different keys, and the legal moves can be put in order.
-use Rattle.std.proofs.Common.{◌≡◌, ℕ, ◌<◌, zero, suc, List, [], ◌∷◌, length, map, refl, sym, ap, ◌∙◌, subst, ◌⊎◌, inl, inr, arith, Bool, true, false, None, ◌==◌, ◌&&◌}
+use Rattle.std.proofs.Common.{◌≡◌, ℕ, ◌<◌, zero, suc, List, [], ◌∷◌, length, map, refl, sym, ap, ◌∙◌, subst, ◌⊎◌, inl}
+use Rattle.std.proofs.Common.{inr, arith, Bool, true, false, None, ◌==◌, ◌&&◌}
 use Rattle.std.specs.Prelude.{filter}
 use Rattle.std.specs.FinSet as set
 use Rattle.std.proofs.lemmas.Bool.{eqb-true, eq-eqb, and_parts, and_from}
@@ -9,19 +10,22 @@ use Rattle.dw_board.specs.Placement.{Placement, placed}
 use Rattle.dw_moves.specs.Moves.{Move, Jumps, Path, Legal, LegalAt, last_of}
 use Rattle.dw_board.specs.Lists.{Member}
 use Rattle.dw_moves.specs.inner.MoveLemmas.{same_items, same_move}
-use Rattle.dw_moves.specs.Order.{LexLess, LandsAt, front, IsKey, IsLeastPath, Precedes, IsListOf, Listed, HasLeastPath, AreListed}
+use Rattle.dw_moves.specs.Order.{LexLess, LandsAt, front, IsKey, IsLeastPath, Precedes, IsListOf, Listed, HasLeastPath}
+use Rattle.dw_moves.specs.Order.{AreListed}
 use Rattle.dw_moves.proofs.PlainLemmas.{Capture, path_list, best, legal_list}
 use Rattle.dw_moves.specs.inner.MemberLemmas.{mem_map, mem_map_back, mem_filter, mem_filter_back}
 use Rattle.dw_moves.proofs.LegalMoveLemmas.{path_from, path_in, is_best, best_only, legal_from, legal_in}
 use Rattle.dw_moves.proofs.PathTellsLemmas.{path_tells}
 use Rattle.dw_moves.proofs.LexLemmas.{lex_irrefl, lex_trans, lex_asym, lex_cases}
-use Rattle.dw_moves.proofs.AscendingLemmas.{ByKey, arranged, arranged_ascending, arranged_from, arranged_has, list_only, ascending_by}
+use Rattle.dw_moves.proofs.AscendingLemmas.{ByKey, arranged, arranged_ascending, arranged_from, arranged_has, list_only}
+use Rattle.dw_moves.proofs.AscendingLemmas.{ascending_by}
 
 abbrev pub same_list : List ℕ → List ℕ → Bool
 same_list xs ys = elim (lex_cases xs ys) [ inl e ↦ true | inr l ↦ false ]
 
 same_list_true : (xs ys : List ℕ) → same_list xs ys ≡ true → xs ≡ ys
-same_list_true xs ys = elim (lex_cases xs ys) as (λ c. elim c [ inl e ↦ true | inr l ↦ false ] ≡ true → xs ≡ ys) [ inl e ↦ λ t. e | inr l ↦ λ t. cc ]
+same_list_true xs ys = elim (lex_cases xs ys) as (λ c. elim c [ inl e ↦ true | inr l ↦ false ] ≡ true
+    → xs ≡ ys) [ inl e ↦ λ t. e | inr l ↦ λ t. cc ]
 
 same_list_refl : (xs : List ℕ) → same_list xs xs ≡ true
 same_list_refl xs = elim (lex_cases xs xs) as (λ c. elim c [ inl e ↦ true | inr l ↦ false ] ≡ true) [
@@ -42,42 +46,53 @@ same_set_refl v = same_list_refl (set.items v)
 
 -- a capture is a path of this move, with so many taken
 abbrev pub leads : Geometry → Move → ℕ → Capture → Bool
-leads g m k w = (w.start == m.from) && (last_of w.start w.landings == m.to) && same_set (set.from_list w.over) m.taken && (length w.over == k)
+leads g m k w = (w.start == m.from) && (last_of w.start w.landings == m.to) && same_set (set.from_list w.over) m.taken
+    && (length w.over == k)
 
 abbrev pub landings_at : Geometry → Placement → Move → ℕ → List (List ℕ)
 landings_at g p m zero = (m.to ∷ []) ∷ []
 landings_at g p m (suc k) = map (λ (w : Capture). w.landings) (filter (leads g m (suc k)) (path_list g p))
 
-lands_in_list : (g : Geometry) (p : Placement) (m : Move) (k : ℕ) (ts : List ℕ) → LandsAt g p m k ts → Member ts (landings_at g p m k)
+lands_in_list : (g : Geometry) (p : Placement) (m : Move) (k : ℕ) (ts : List ℕ) → LandsAt g p m k ts
+    → Member ts (landings_at g p m k)
 lands_in_list g p m zero ts h = inl h.2
 lands_in_list g p m (suc k) ts h =
     let w : Capture = record { start = m.from; landings = ts; over = h.over } in
     let one = eq-eqb m.from m.from refl in
     let two = eq-eqb (last_of m.from ts) m.to h.ends in
-    let three : same_set (set.from_list h.over) m.taken ≡ true = subst (λ z. same_set (set.from_list h.over) z ≡ true) (sym h.takes) (same_set_refl (set.from_list h.over)) in
+    let three : same_set (set.from_list h.over) m.taken ≡ true = subst (λ z. same_set (set.from_list h.over) z
+    ≡ true) (sym h.takes) (same_set_refl (set.from_list h.over)) in
     let four = eq-eqb (length h.over) (suc k) h.count in
     let passes : leads g m (suc k) w ≡ true =
-    and_from ((m.from == m.from) && (last_of m.from ts == m.to) && same_set (set.from_list h.over) m.taken) (length h.over == suc k)
-    (and_from ((m.from == m.from) && (last_of m.from ts == m.to)) (same_set (set.from_list h.over) m.taken) (and_from (m.from == m.from) (last_of m.from ts == m.to) one two) three) four in
-    mem_map (λ (w : Capture). w.landings) w (filter (leads g m (suc k)) (path_list g p)) (mem_filter (leads g m (suc k)) w (path_list g p) (path_in g p m.from ts h.over h.path) passes)
+    and_from ((m.from == m.from) && (last_of m.from ts == m.to) && same_set (set.from_list h.over) m.taken)
+    (length h.over == suc k)
+    (and_from ((m.from == m.from) && (last_of m.from ts == m.to)) (same_set (set.from_list h.over) m.taken)
+    (and_from (m.from == m.from) (last_of m.from ts == m.to) one two) three) four in
+    mem_map (λ (w : Capture). w.landings) w (filter (leads g m (suc k)) (path_list g p))
+    (mem_filter (leads g m (suc k)) w (path_list g p) (path_in g p m.from ts h.over h.path) passes)
 
-lands_from_list : (g : Geometry) (p : Placement) (m : Move) (k : ℕ) (ts : List ℕ) → LegalAt g p k m → Member ts (landings_at g p m k) → LandsAt g p m k ts
+lands_from_list : (g : Geometry) (p : Placement) (m : Move) (k : ℕ) (ts : List ℕ) → LegalAt g p k m
+    → Member ts (landings_at g p m k) → LandsAt g p m k ts
 lands_from_list g p m zero ts legal (inl e) = (legal.0, legal.1, e)
 lands_from_list g p m zero ts legal (inr h) = absurd h
 lands_from_list g p m (suc k) ts legal h =
     let f = mem_map_back (λ (w : Capture). w.landings) ts (filter (leads g m (suc k)) (path_list g p)) h in
     let w : Capture = f.0 in
     let kept = mem_filter_back (leads g m (suc k)) w (path_list g p) f.1 in
-    let a = and_parts ((w.start == m.from) && (last_of w.start w.landings == m.to) && same_set (set.from_list w.over) m.taken) (length w.over == suc k) kept.1 in
-    let c = and_parts ((w.start == m.from) && (last_of w.start w.landings == m.to)) (same_set (set.from_list w.over) m.taken) a.0 in
+    let a = and_parts ((w.start == m.from) && (last_of w.start w.landings == m.to) && same_set (set.from_list w.over)
+    m.taken) (length w.over == suc k) kept.1 in
+    let c = and_parts ((w.start == m.from) && (last_of w.start w.landings == m.to))
+    (same_set (set.from_list w.over) m.taken) a.0 in
     let d = and_parts (w.start == m.from) (last_of w.start w.landings == m.to) c.0 in
     let start_is = eqb-true w.start m.from d.0 in
     let ts_is : ts ≡ w.landings = f.2 in
     record {
       over = w.over;
-      path = subst (λ z. Path g p m.from z w.over) (sym ts_is) (subst (λ z. Path g p z w.landings w.over) start_is (path_from g p w kept.0));
+      path = subst (λ z. Path g p m.from z w.over) (sym ts_is) (subst (λ z. Path g p z w.landings w.over) start_is
+          (path_from g p w kept.0));
       count = eqb-true (length w.over) (suc k) a.1;
-      ends = ap (last_of m.from) ts_is ∙ ap (λ z. last_of z w.landings) (sym start_is) ∙ eqb-true (last_of w.start w.landings) m.to d.1;
+      ends = ap (last_of m.from) ts_is ∙ ap (λ z. last_of z w.landings) (sym start_is)
+          ∙ eqb-true (last_of w.start w.landings) m.to d.1;
       takes = sym (same_set_true (set.from_list w.over) m.taken c.1);
     }
 
@@ -95,11 +110,16 @@ record Lesser (xs ys zs : List ℕ) : Type 0 where
   right : LexLess ys zs → ⊥
 
 lesser_is : (xs ys : List ℕ) → Lesser xs ys (lesser xs ys)
-lesser_is xs ys = elim (lex_cases xs ys) as (λ c. Lesser xs ys (elim c [ inl e ↦ xs | inr (inl l) ↦ xs | inr (inr g) ↦ ys ])) [
-  | inl e ↦ record { one = inl refl; left = lex_irrefl xs; right = λ h. lex_irrefl xs (subst (λ z. LexLess z xs) (sym e) h) }
-  | inr (inl l) ↦ record { one = inl refl; left = lex_irrefl xs; right = λ h. lex_asym xs ys l h }
-  | inr (inr g) ↦ record { one = inr refl; left = λ h. lex_asym xs ys h g; right = lex_irrefl ys }
-]
+lesser_is xs ys = elim (lex_cases xs ys) as
+    (λ c. Lesser xs ys (elim c [ inl e ↦ xs | inr (inl l) ↦ xs | inr (inr g) ↦ ys ])) [
+      | inl e ↦ record {
+        one = inl refl;
+        left = lex_irrefl xs;
+        right = λ h. lex_irrefl xs (subst (λ z. LexLess z xs) (sym e) h);
+      }
+      | inr (inl l) ↦ record { one = inl refl; left = lex_irrefl xs; right = λ h. lex_asym xs ys l h }
+      | inr (inr g) ↦ record { one = inr refl; left = λ h. lex_asym xs ys h g; right = lex_irrefl ys }
+    ]
 
 -- nothing in a list that isn't below a bound is below what isn't above it
 pub not_less : (x y z : List ℕ) → (LexLess x y → ⊥) → (LexLess y z → ⊥) → LexLess x z → ⊥
@@ -109,8 +129,16 @@ not_less x y z h k l = elim (lex_cases x y) [
   | inr (inr q) ↦ k (lex_trans y x z q l)
 ]
 
-least_is : (x : List ℕ) (xs : List (List ℕ)) → Member (least_of x xs) (x ∷ xs) × ((y : List ℕ) → Member y (x ∷ xs) → LexLess y (least_of x xs) → ⊥)
-least_is x [] = (inl refl, λ y m. elim m [ inl e ↦ λ l. lex_irrefl x (subst (λ w. LexLess w x) e l) | inr n ↦ absurd n ])
+least_is : (x : List ℕ) (xs : List (List ℕ)) → Member (least_of x xs) (x ∷ xs) × ((y : List ℕ) → Member y (x ∷ xs)
+    → LexLess y (least_of x xs) → ⊥)
+least_is x [] = (
+  inl refl,
+  λ y m. elim m [
+    | inl e ↦ λ l. lex_irrefl x (subst (λ w. LexLess w x) e l)
+    | inr n ↦
+        absurd n
+  ],
+)
 least_is x (y ∷ ys) =
     let c = lesser_is x y in
     let h = least_is (lesser x y) ys in
@@ -120,8 +148,10 @@ least_is x (y ∷ ys) =
         | inr m ↦ inr (inr m)
       ],
       λ z m. elim m [
-        | inl e ↦ λ l. not_less x (lesser x y) (least_of (lesser x y) ys) c.left below (subst (λ w. LexLess w (least_of (lesser x y) ys)) e l)
-        | inr (inl e) ↦ λ l. not_less y (lesser x y) (least_of (lesser x y) ys) c.right below (subst (λ w. LexLess w (least_of (lesser x y) ys)) e l)
+        | inl e ↦ λ l. not_less x (lesser x y) (least_of (lesser x y) ys) c.left below
+            (subst (λ w. LexLess w (least_of (lesser x y) ys)) e l)
+        | inr (inl e) ↦ λ l. not_less y (lesser x y) (least_of (lesser x y) ys) c.right below
+            (subst (λ w. LexLess w (least_of (lesser x y) ys)) e l)
         | inr (inr n) ↦ h.1 z (inr n)
       ],
     )
@@ -130,14 +160,16 @@ abbrev pub least_in : List (List ℕ) → List ℕ
 least_in [] = []
 least_in (x ∷ xs) = least_of x xs
 
-least_in_is : (xs : List (List ℕ)) (some : List ℕ) → Member some xs → Member (least_in xs) xs × ((y : List ℕ) → Member y xs → LexLess y (least_in xs) → ⊥)
+least_in_is : (xs : List (List ℕ)) (some : List ℕ) → Member some xs → Member (least_in xs) xs
+    × ((y : List ℕ) → Member y xs → LexLess y (least_in xs) → ⊥)
 least_in_is [] some m = absurd m
 least_in_is (x ∷ xs) some m = least_is x xs
 
 abbrev pub key_of : Geometry → Placement → Move → List ℕ
 key_of g p m = m.from ∷ m.to ∷ front (least_in (landings_at g p m (best g p)))
 
-lands_somewhere : (g : Geometry) (p : Placement) (m : Move) (k : ℕ) → LegalAt g p k m → (ts : List ℕ) × LandsAt g p m k ts
+lands_somewhere : (g : Geometry) (p : Placement) (m : Move) (k : ℕ) → LegalAt g p k m → (ts : List ℕ)
+    × LandsAt g p m k ts
 lands_somewhere g p m zero legal = (m.to ∷ [], (legal.0, legal.1, refl))
 lands_somewhere g p m (suc k) legal = legal
 
@@ -148,12 +180,15 @@ least_landings g p m = least_in (landings_at g p m (best g p))
 least_path_is : (g : Geometry) (p : Placement) (m : Move) → Legal g p m → IsLeastPath g p m (least_landings g p m)
 least_path_is g p m legal =
     let k = best g p in
-    let at_best : LegalAt g p k m = subst (λ k. LegalAt g p k m) (best_only g p legal.0 k legal.1 (is_best g p)) legal.2 in
+    let at_best : LegalAt g p k m = subst (λ k. LegalAt g p k m) (best_only g p legal.0 k legal.1 (is_best g p))
+    legal.2 in
     let some = lands_somewhere g p m k at_best in
     let h = least_in_is (landings_at g p m k) some.0 (lands_in_list g p m k some.0 some.1) in
     record {
       leads = (k, is_best g p, lands_from_list g p m k (least_in (landings_at g p m k)) at_best h.0);
-      least = λ others o. h.1 others (lands_in_list g p m k others (subst (λ k. LandsAt g p m k others) (best_only g p o.0 k o.1 (is_best g p)) o.2));
+      least = λ others o. h.1 others
+          (lands_in_list g p m k others (subst (λ k. LandsAt g p m k others) (best_only g p o.0 k o.1 (is_best g p))
+          o.2));
     }
 
 pub key_is : (g : Geometry) (p : Placement) (m : Move) → Legal g p m → IsKey g p m (key_of g p m)
@@ -168,7 +203,8 @@ one_key g p m k l h f =
     ] in
     h.2 ∙ ap (λ z. m.from ∷ m.to ∷ front z) same ∙ sym f.2
 
-front_last : (s t u : ℕ) (ts us : List ℕ) → front (t ∷ ts) ≡ front (u ∷ us) → last_of s (t ∷ ts) ≡ last_of s (u ∷ us) → t ∷ ts ≡ u ∷ us
+front_last : (s t u : ℕ) (ts us : List ℕ) → front (t ∷ ts) ≡ front (u ∷ us) → last_of s (t ∷ ts) ≡ last_of s (u ∷ us)
+    → t ∷ ts ≡ u ∷ us
 front_last s t u [] [] f l = ap (λ z. z ∷ []) l
 front_last s t u [] (v ∷ us) f l = cc
 front_last s t u (v ∷ ts) [] f l = cc
@@ -176,36 +212,43 @@ front_last s t u (v ∷ ts) (w ∷ us) f l =
     let rest : v ∷ ts ≡ w ∷ us = front_last t v w ts us (cc) l in
     let heads : t ≡ u = cc in cc
 
-pub jumps_long : (g : Geometry) (cells : Placement) (piece : Piece) (s : ℕ) (ts cs : List ℕ) → Jumps g cells piece s ts cs → length ts ≡ length cs
+pub jumps_long : (g : Geometry) (cells : Placement) (piece : Piece) (s : ℕ) (ts cs : List ℕ)
+    → Jumps g cells piece s ts cs → length ts ≡ length cs
 jumps_long g cells piece s [] [] h = refl
 jumps_long g cells piece s [] (c ∷ cs) h = absurd h
 jumps_long g cells piece s (t ∷ ts) [] h = absurd h
 jumps_long g cells piece s (t ∷ ts) (c ∷ cs) h = omega (arith, jumps_long g cells piece t ts cs h.1)
 
-same_landings : (s : ℕ) (ts us : List ℕ) → 0 < length ts → 0 < length us → front ts ≡ front us → last_of s ts ≡ last_of s us → ts ≡ us
+same_landings : (s : ℕ) (ts us : List ℕ) → 0 < length ts → 0 < length us → front ts ≡ front us
+    → last_of s ts ≡ last_of s us → ts ≡ us
 same_landings s [] us a c f l = absurd (omega arith)
 same_landings s (t ∷ ts) [] a c f l = absurd (omega arith)
 same_landings s (t ∷ ts) (u ∷ us) a c f l = front_last s t u ts us f l
 
-same_takes : (g : Geometry) → IsBoard g → (p : Placement) (m n : Move) (k : ℕ) (ts us : List ℕ) → m.from ≡ n.from → m.to ≡ n.to → front ts ≡ front us → LandsAt g p m k ts → LandsAt g p n k us → m.taken ≡ n.taken
+same_takes : (g : Geometry) → IsBoard g → (p : Placement) (m n : Move) (k : ℕ) (ts us : List ℕ) → m.from ≡ n.from
+    → m.to ≡ n.to → front ts ≡ front us → LandsAt g p m k ts → LandsAt g p n k us → m.taken ≡ n.taken
 same_takes g b p m n zero ts us from to fronts h f = h.1 ∙ sym f.1
 same_takes g b p m n (suc k) ts us from to fronts h f =
     let long_h = jumps_long g (placed p m.from None) h.path.piece m.from ts h.over h.path.jumps in
     let long_f = jumps_long g (placed p n.from None) f.path.piece n.from us f.over f.path.jumps in
     let ends : last_of m.from ts ≡ last_of m.from us = h.ends ∙ to ∙ sym f.ends ∙ ap (λ z. last_of z us) (sym from) in
-    let same : ts ≡ us = same_landings m.from ts us (omega (arith, h.count, long_h)) (omega (arith, f.count, long_f)) fronts ends in
-    let path : Path g p m.from ts f.over = subst (λ z. Path g p m.from z f.over) (sym same) (subst (λ z. Path g p z us f.over) (sym from) f.path) in
+    let same : ts ≡ us = same_landings m.from ts us (omega (arith, h.count, long_h)) (omega (arith, f.count, long_f))
+    fronts ends in
+    let path : Path g p m.from ts f.over = subst (λ z. Path g p m.from z f.over) (sym same)
+    (subst (λ z. Path g p z us f.over) (sym from) f.path) in
     h.takes ∙ ap set.from_list (path_tells g b p m.from ts h.over f.over h.path path) ∙ sym f.takes
 
 -- DIFFERENT MOVES HAVE DIFFERENT KEYS
-pub keys_differ : (g : Geometry) → IsBoard g → (p : Placement) (m n : Move) (k : List ℕ) → IsKey g p m k → IsKey g p n k → m ≡ n
+pub keys_differ : (g : Geometry) → IsBoard g → (p : Placement) (m n : Move) (k : List ℕ) → IsKey g p m k → IsKey g p n k
+    → m ≡ n
 keys_differ g b p m n k h f =
     let same : m.from ∷ m.to ∷ front h.0 ≡ n.from ∷ n.to ∷ front f.0 = sym h.2 ∙ f.2 in
     let from : m.from ≡ n.from = cc in
     let to : m.to ≡ n.to = cc in
     let fronts : front h.0 ≡ front f.0 = cc in
     let k_is = best_only g p f.1.leads.0 h.1.leads.0 f.1.leads.1 h.1.leads.1 in
-    same_move m n from to (same_takes g b p m n h.1.leads.0 h.0 f.0 from to fronts h.1.leads.2 (subst (λ z. LandsAt g p n z f.0) k_is f.1.leads.2))
+    same_move m n from to (same_takes g b p m n h.1.leads.0 h.0 f.0 from to fronts h.1.leads.2
+    (subst (λ z. LandsAt g p n z f.0) k_is f.1.leads.2))
 
 pub precedes_asym : (g : Geometry) (p : Placement) (m n : Move) → Precedes g p m n → Precedes g p n m → ⊥
 precedes_asym g p m n h f =
@@ -219,8 +262,13 @@ ordered g p = arranged (key_of g p) (legal_list g p)
 
 pub in_order : (g : Geometry) → IsBoard g → (p : Placement) → IsListOf (Precedes g p) (Legal g p) (ordered g p)
 in_order g b p = record {
-  ascending = ascending_by (ByKey (key_of g p)) (Precedes g p) (ordered g p)
-      (λ m n h f l. (key_of g p m, key_of g p n, key_is g p m (legal_from g p m (arranged_from (key_of g p) (legal_list g p) m h)), key_is g p n (legal_from g p n (arranged_from (key_of g p) (legal_list g p) n f)), l))
+  ascending = ascending_by (ByKey (key_of g p)) (Precedes g p) (ordered g p) (λ m n h f l. (
+    key_of g p m,
+    key_of g p n,
+    key_is g p m (legal_from g p m (arranged_from (key_of g p) (legal_list g p) m h)),
+    key_is g p n (legal_from g p n (arranged_from (key_of g p) (legal_list g p) n f)),
+    l,
+  ))
       (arranged_ascending (key_of g p) (legal_list g p));
   exactly = λ m. (
     (λ h. legal_from g p m (arranged_from (key_of g p) (legal_list g p) m h)),
@@ -239,7 +287,8 @@ listing_of g p m = record { step = m; path = m.from ∷ least_landings g p m }
 abbrev pub listing : Geometry → Placement → List Listed
 listing g p = map (listing_of g p) (ordered g p)
 
-listing_steps : (g : Geometry) (p : Placement) (moves : List Move) → map (λ (l : Listed). l.step) (map (listing_of g p) moves) ≡ moves
+listing_steps : (g : Geometry) (p : Placement) (moves : List Move)
+    → map (λ (l : Listed). l.step) (map (listing_of g p) moves) ≡ moves
 listing_steps g p [] = refl
 listing_steps g p (m ∷ moves) = ap (λ z. m ∷ z) (listing_steps g p moves)
 
@@ -250,11 +299,16 @@ listed_in_order g b p =
       in_order = subst (IsListOf (Precedes g p) (Legal g p)) (sym (listing_steps g p (ordered g p))) order;
       paths = λ l m.
           let f = mem_map_back (listing_of g p) l (ordered g p) m in
-          subst (HasLeastPath g p) (sym f.2) (least_landings g p f.0, least_path_is g p f.0 ((order.exactly f.0).0 f.1), refl);
+          subst (HasLeastPath g p) (sym f.2) (
+            least_landings g p f.0,
+            least_path_is g p f.0 ((order.exactly f.0).0 f.1),
+            refl,
+          );
     }
 
 -- a move has one least path
-one_path : (g : Geometry) (p : Placement) (l k : Listed) → l.step ≡ k.step → HasLeastPath g p l → HasLeastPath g p k → l ≡ k
+one_path : (g : Geometry) (p : Placement) (l k : Listed) → l.step ≡ k.step → HasLeastPath g p l → HasLeastPath g p k
+    → l ≡ k
 one_path g p l k same h f =
     let f' : IsLeastPath g p l.step f.0 = subst (λ z. IsLeastPath g p z f.0) (sym same) f.1 in
     let landings : h.0 ≡ f.0 = elim (lex_cases h.0 f.0) [
@@ -262,10 +316,13 @@ one_path g p l k same h f =
       | inr (inl less) ↦ absurd (f'.least h.0 h.1.leads less)
       | inr (inr more) ↦ absurd (h.1.least f.0 f'.leads more)
     ] in
-    let paths : l.path ≡ k.path = h.2 ∙ (ap (λ z. l.step.from ∷ z) landings ∙ (ap (λ (m : Move). m.from ∷ f.0) same ∙ sym f.2)) in
+    let paths : l.path ≡ k.path = h.2 ∙ (ap (λ z. l.step.from ∷ z) landings ∙ (ap (λ (m : Move). m.from ∷ f.0) same
+    ∙ sym f.2)) in
     λ i. record { step = same i; path = paths i }
 
-one_listing : (g : Geometry) (p : Placement) (list others : List Listed) → map (λ (l : Listed). l.step) list ≡ map (λ (l : Listed). l.step) others → ((l : Listed) → Member l list → HasLeastPath g p l) → ((l : Listed) → Member l others → HasLeastPath g p l) → list ≡ others
+one_listing : (g : Geometry) (p : Placement) (list others : List Listed) → map (λ (l : Listed). l.step) list
+    ≡ map (λ (l : Listed). l.step) others → ((l : Listed) → Member l list → HasLeastPath g p l)
+    → ((l : Listed) → Member l others → HasLeastPath g p l) → list ≡ others
 one_listing g p [] [] e h f = refl
 one_listing g p [] (k ∷ others) e h f = cc
 one_listing g p (l ∷ list) [] e h f = cc
@@ -277,9 +334,12 @@ one_listing g p (l ∷ list) (k ∷ others) e h f =
     λ i. one i ∷ rest i
 
 -- only one list has them in order
-pub one_order : (g : Geometry) (p : Placement) (moves others : List Move) → IsListOf (Precedes g p) (Legal g p) moves → IsListOf (Precedes g p) (Legal g p) others → moves ≡ others
+pub one_order : (g : Geometry) (p : Placement) (moves others : List Move) → IsListOf (Precedes g p) (Legal g p) moves
+    → IsListOf (Precedes g p) (Legal g p) others → moves ≡ others
 one_order g p = list_only (Precedes g p) (Legal g p) (precedes_asym g p)
 
 -- and with their least paths
-pub one_list : (g : Geometry) (p : Placement) (list others : List Listed) → AreListed g p list → AreListed g p others → list ≡ others
-one_list g p list others h k = one_listing g p list others (one_order g p (map (λ (l : Listed). l.step) list) (map (λ (l : Listed). l.step) others) h.in_order k.in_order) h.paths k.paths
+pub one_list : (g : Geometry) (p : Placement) (list others : List Listed) → AreListed g p list → AreListed g p others
+    → list ≡ others
+one_list g p list others h k = one_listing g p list others (one_order g p (map (λ (l : Listed). l.step) list)
+    (map (λ (l : Listed). l.step) others) h.in_order k.in_order) h.paths k.paths

@@ -26,7 +26,8 @@ in_some P UpRight h = inl (inl (inr h))
 in_some P DownLeft h = inl (inr h)
 in_some P DownRight h = inr h
 
-pub some_dir : (P : Dir → Type 0) (Q : Type 0) (r : Bool) → (IsTrue r ↔ InSome P) → ((d : Dir) → P d → Q) → (Q → (d : Dir) × P d) → IsTrue r ↔ Q
+pub some_dir : (P : Dir → Type 0) (Q : Type 0) (r : Bool) → (IsTrue r ↔ InSome P) → ((d : Dir) → P d → Q)
+    → (Q → (d : Dir) × P d) → IsTrue r ↔ Q
 some_dir P Q r h to from = (
   (λ t. elim (h.0 t) [
     | inl (inl (inl x)) ↦ to UpLeft x

@@ -9,23 +9,29 @@ use Rattle.dw_moves.specs.Laws.{PathTells}
 use Rattle.dw_moves.proofs.RayLemmas.{ray_toward, ray_of_on, one_dir, landing_on_ray}
 
 -- the first occupied square of a list
-first_occupied : (cells : Placement) (l m r q : List ℕ) (c d : ℕ) (x y : Piece) → l ++ c ∷ r ≡ m ++ d ∷ q → AllEmpty cells l → AllEmpty cells m → at cells c ≡ Some x → at cells d ≡ Some y → c ≡ d
+first_occupied : (cells : Placement) (l m r q : List ℕ) (c d : ℕ) (x y : Piece) → l ++ c ∷ r ≡ m ++ d ∷ q
+    → AllEmpty cells l → AllEmpty cells m → at cells c ≡ Some x → at cells d ≡ Some y → c ≡ d
 first_occupied cells [] [] r q c d x y e hl hm hc hd = cc
 first_occupied cells (s ∷ l) [] r q c d x y e hl hm hc hd =
     let same : s ≡ d = cc in let empty : at cells d ≡ None = subst (λ z. at cells z ≡ None) same hl.0 in absurd (cc)
 first_occupied cells [] (s ∷ m) r q c d x y e hl hm hc hd =
     let same : s ≡ c = cc in let empty : at cells c ≡ None = subst (λ z. at cells z ≡ None) same hm.0 in absurd (cc)
-first_occupied cells (s ∷ l) (t ∷ m) r q c d x y e hl hm hc hd = first_occupied cells l m r q c d x y (cc) hl.1 hm.1 hc hd
+first_occupied cells (s ∷ l) (t ∷ m) r q c d x y e hl hm hc hd = first_occupied cells l m r q c d x y (cc) hl.1 hm.1 hc
+    hd
 
 -- a jump between two squares takes one piece
-pub one_taken : (g : Geometry) → IsBoard g → (cells : Placement) (piece : Piece) (s t c d : ℕ) → OnBoard g s → Jump g cells piece s c t → Jump g cells piece s d t → c ≡ d
+pub one_taken : (g : Geometry) → IsBoard g → (cells : Placement) (piece : Piece) (s t c d : ℕ) → OnBoard g s
+    → Jump g cells piece s c t → Jump g cells piece s d t → c ≡ d
 one_taken g b cells piece s t c d on h k =
-    let same : h.dir ≡ k.dir = one_dir g s t h.dir k.dir (ray_toward g b h.dir s t on (landing_on_ray g cells piece s c t h)) (ray_toward g b k.dir s t on (landing_on_ray g cells piece s d t k)) in
+    let same : h.dir ≡ k.dir = one_dir g s t h.dir k.dir
+    (ray_toward g b h.dir s t on (landing_on_ray g cells piece s c t h))
+    (ray_toward g b k.dir s t on (landing_on_ray g cells piece s d t k)) in
     first_occupied cells h.before k.before (h.behind ++ t ∷ h.beyond) (k.behind ++ t ∷ k.beyond) c d
     (record { side = other piece.side; kind = h.enemy.0 }) (record { side = other piece.side; kind = k.enemy.0 })
     (sym h.on_ray ∙ ap (ray g s) same ∙ k.on_ray) h.clear k.clear h.enemy.1 k.enemy.1
 
-jumps_tell : (g : Geometry) → IsBoard g → (cells : Placement) (piece : Piece) (s : ℕ) (ts cs ds : List ℕ) → OnBoard g s → Jumps g cells piece s ts cs → Jumps g cells piece s ts ds → cs ≡ ds
+jumps_tell : (g : Geometry) → IsBoard g → (cells : Placement) (piece : Piece) (s : ℕ) (ts cs ds : List ℕ) → OnBoard g s
+    → Jumps g cells piece s ts cs → Jumps g cells piece s ts ds → cs ≡ ds
 jumps_tell g b cells piece s [] [] [] on h k = refl
 jumps_tell g b cells piece s [] (c ∷ cs) ds on h k = absurd h
 jumps_tell g b cells piece s [] [] (d ∷ ds) on h k = absurd k

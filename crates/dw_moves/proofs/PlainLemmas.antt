@@ -32,7 +32,8 @@ pub record Capture : Type 0 where
 abbrev pub captures_of : Geometry → Placement → ℕ → Option Piece → List Capture
 captures_of g p s None = []
 captures_of g p s (Some piece) = elim (same_side piece.side p.turn) [
-  | true ↦ map (λ q. record { start = s; landings = q.0; over = q.1 }) (captures g (placed p s None) piece (length p.cells) s [])
+  | true ↦ map (λ q. record { start = s; landings = q.0; over = q.1 }) (captures g (placed p s None) piece
+      (length p.cells) s [])
   | false ↦ []
 ]
 

@@ -22,14 +22,17 @@ pub record Passed (g : Geometry) (p : Placement) (k : Kind) (d : Dir) (from to a
   pub on : OnBoard g at
   pub same : Member to (landings_for k p (ray g from d)) ↔ Member to (landings_for k p (ray g at d))
 
-king_run : (g : Geometry) (p : Placement) (s : ℕ) (d : Dir) (t : ℕ) → Freed g p s d t → landings_for King p (ray g s d) ≡ t ∷ landings_for King p (ray g t d)
+king_run : (g : Geometry) (p : Placement) (s : ℕ) (d : Dir) (t : ℕ) → Freed g p s d t → landings_for King p (ray g s d)
+    ≡ t ∷ landings_for King p (ray g t d)
 king_run g p s d t f = ap (landings_for King p) f.ray_is ∙ run_king p t (ray g t d) f.free
 
-man_run : (g : Geometry) (p : Placement) (s : ℕ) (d : Dir) (t : ℕ) → Freed g p s d t → landings_for Man p (ray g s d) ≡ t ∷ []
+man_run : (g : Geometry) (p : Placement) (s : ℕ) (d : Dir) (t : ℕ) → Freed g p s d t → landings_for Man p (ray g s d)
+    ≡ t ∷ []
 man_run g p s d t f = ap (landings_for Man p) f.ray_is ∙ run_man p t (ray g t d) f.free
 
 -- a king goes on to a square that is not it
-pub passed_more : (g : Geometry) (p : Placement) (k : Kind) (d : Dir) (from to s t : ℕ) → k ≡ King → Passed g p k d from to s → Freed g p s d t → (t ≡ to → ⊥) → Passed g p k d from to t
+pub passed_more : (g : Geometry) (p : Placement) (k : Kind) (d : Dir) (from to s t : ℕ) → k ≡ King
+    → Passed g p k d from to s → Freed g p s d t → (t ≡ to → ⊥) → Passed g p k d from to t
 passed_more g p Man d from to s t k h f ne = cc
 passed_more g p King d from to s t k h f ne =
     let run = king_run g p s d t f in
@@ -42,25 +45,31 @@ passed_more g p King d from to s t k h f ne =
     }
 
 -- it is the next square
-pub reached_it : (g : Geometry) (p : Placement) (k : Kind) (d : Dir) (from to s t : ℕ) → Passed g p k d from to s → Freed g p s d t → t ≡ to → Member to (landings_for k p (ray g from d))
+pub reached_it : (g : Geometry) (p : Placement) (k : Kind) (d : Dir) (from to s t : ℕ) → Passed g p k d from to s
+    → Freed g p s d t → t ≡ to → Member to (landings_for k p (ray g from d))
 reached_it g p Man d from to s t h f e = h.same.1 (subst (Member to) (sym (man_run g p s d t f)) (inl (sym e)))
 reached_it g p King d from to s t h f e = h.same.1 (subst (Member to) (sym (king_run g p s d t f)) (inl (sym e)))
 
 -- a man goes no further
-pub man_missed : (g : Geometry) (p : Placement) (k : Kind) (d : Dir) (from to s t : ℕ) → k ≡ Man → Passed g p k d from to s → Freed g p s d t → (t ≡ to → ⊥) → Member to (landings_for k p (ray g from d)) → ⊥
-man_missed g p Man d from to s t k h f ne m = elim (subst (Member to) (man_run g p s d t f) (h.same.0 m)) [ inl e ↦ ne (sym e) | inr r ↦ r ]
+pub man_missed : (g : Geometry) (p : Placement) (k : Kind) (d : Dir) (from to s t : ℕ) → k ≡ Man
+    → Passed g p k d from to s → Freed g p s d t → (t ≡ to → ⊥) → Member to (landings_for k p (ray g from d)) → ⊥
+man_missed g p Man d from to s t k h f ne m = elim (subst (Member to) (man_run g p s d t f) (h.same.0 m))
+    [ inl e ↦ ne (sym e) | inr r ↦ r ]
 man_missed g p King d from to s t k h f ne m = cc
 
 -- no square comes next
-pub run_missed : (g : Geometry) → IsBoard g → (p : Placement) (k : Kind) (d : Dir) (from to s : ℕ) → Passed g p k d from to s → free_step g p s d ≡ None → Member to (landings_for k p (ray g from d)) → ⊥
+pub run_missed : (g : Geometry) → IsBoard g → (p : Placement) (k : Kind) (d : Dir) (from to s : ℕ)
+    → Passed g p k d from to s → free_step g p s d ≡ None → Member to (landings_for k p (ray g from d)) → ⊥
 run_missed g b p k d from to s h e m = subst (Member to) (run_stop g b k p s d h.on e) (h.same.0 m)
 
 -- it leads there in one of the four directions
 abbrev pub Anywhere : Kind → Geometry → Placement → Side → ℕ → ℕ → Type 0
 Anywhere k g p side from to =
-    ((Member to (goes k g p side from UpLeft) ⊎ Member to (goes k g p side from UpRight)) ⊎ Member to (goes k g p side from DownLeft)) ⊎ Member to (goes k g p side from DownRight)
+    ((Member to (goes k g p side from UpLeft) ⊎ Member to (goes k g p side from UpRight))
+    ⊎ Member to (goes k g p side from DownLeft)) ⊎ Member to (goes k g p side from DownRight)
 
-goes_any : (k : Kind) (g : Geometry) (p : Placement) (side : Side) (from to : ℕ) → Member to (quiet_for k g p side from) → Anywhere k g p side from to
+goes_any : (k : Kind) (g : Geometry) (p : Placement) (side : Side) (from to : ℕ) → Member to (quiet_for k g p side from)
+    → Anywhere k g p side from to
 goes_any k g p side from to m =
     let f = mem_flat_back (goes k g p side from) to dirs m in
     by_dir f.0 f.2 where
@@ -70,19 +79,23 @@ goes_any k g p side from to m =
       by_dir DownLeft h = inl (inr h)
       by_dir DownRight h = inr h
 
-goes_one : (k : Kind) (g : Geometry) (p : Placement) (side : Side) (from to : ℕ) (d : Dir) → Member to (goes k g p side from d) → Member to (quiet_for k g p side from)
+goes_one : (k : Kind) (g : Geometry) (p : Placement) (side : Side) (from to : ℕ) (d : Dir)
+    → Member to (goes k g p side from d) → Member to (quiet_for k g p side from)
 goes_one k g p side from to d m = mem_flat (goes k g p side from) d to dirs (all_dirs d) m
 
-any_goes : (k : Kind) (g : Geometry) (p : Placement) (side : Side) (from to : ℕ) → Anywhere k g p side from to → Member to (quiet_for k g p side from)
+any_goes : (k : Kind) (g : Geometry) (p : Placement) (side : Side) (from to : ℕ) → Anywhere k g p side from to
+    → Member to (quiet_for k g p side from)
 any_goes k g p side from to (inl (inl (inl h))) = goes_one k g p side from to UpLeft h
 any_goes k g p side from to (inl (inl (inr h))) = goes_one k g p side from to UpRight h
 any_goes k g p side from to (inl (inr h)) = goes_one k g p side from to DownLeft h
 any_goes k g p side from to (inr h) = goes_one k g p side from to DownRight h
 
 -- where a piece of the mover may go is a quiet move
-pub own_quiet : (g : Geometry) (p : Placement) (from to : ℕ) (piece : Piece) → OnBoard g from → at p from ≡ Some piece → same_side piece.side p.turn ≡ true → Anywhere piece.kind g p p.turn from to ↔ Quiet g p from to
+pub own_quiet : (g : Geometry) (p : Placement) (from to : ℕ) (piece : Piece) → OnBoard g from → at p from ≡ Some piece
+    → same_side piece.side p.turn ≡ true → Anywhere piece.kind g p p.turn from to ↔ Quiet g p from to
 own_quiet g p from to piece on e own =
-    let are : targets g p from ≡ quiet_for piece.kind g p p.turn from = ap (targets_of g p from) e ∙ rw (own, targets_of) refl in (
+    let are : targets g p from ≡ quiet_for piece.kind g p p.turn from = ap (targets_of g p from) e
+    ∙ rw (own, targets_of) refl in (
       (λ a. target_from g p from to on (subst (Member to) (sym are) (any_goes piece.kind g p p.turn from to a))),
       (λ q. goes_any piece.kind g p p.turn from to (subst (Member to) are (target_in g p from to q))),
     )

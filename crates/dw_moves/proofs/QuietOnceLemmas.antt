@@ -18,21 +18,24 @@ use Rattle.dw_moves.proofs.StepLemmas.{step_is}
 use Rattle.dw_moves.proofs.RayLemmas.{Toward, ray_of_toward, ray_of_none, ray_toward, one_dir}
 use Rattle.dw_moves.proofs.LegalMoveLemmas.{goes_from}
 
-pub once_append : {X : Type 0} → (xs ys : List X) → NoRepeat xs → NoRepeat ys → ((x : X) → Member x xs → Member x ys → ⊥) → NoRepeat (xs ++ ys)
+pub once_append : {X : Type 0} → (xs ys : List X) → NoRepeat xs → NoRepeat ys → ((x : X) → Member x xs → Member x ys
+    → ⊥) → NoRepeat (xs ++ ys)
 once_append [] ys n m apart = m
 once_append (x ∷ xs) ys n m apart = (
   (λ h. elim (mem_cases x xs ys h) [ inl l ↦ n.0 l | inr r ↦ apart x (inl refl) r ]),
   once_append xs ys n.1 m (λ y l r. apart y (inr l) r),
 )
 
-pub once_map : {X Y : Type 0} (f : X → Y) → ((x y : X) → f x ≡ f y → x ≡ y) → (xs : List X) → NoRepeat xs → NoRepeat (map f xs)
+pub once_map : {X Y : Type 0} (f : X → Y) → ((x y : X) → f x ≡ f y → x ≡ y) → (xs : List X) → NoRepeat xs
+    → NoRepeat (map f xs)
 once_map f same [] n = tt
 once_map f same (x ∷ xs) n = (
   (λ h. let k = mem_map_back f (f x) xs h in n.0 (subst (λ z. Member z xs) (sym (same x k.0 k.2)) k.1)),
   once_map f same xs n.1,
 )
 
-mem_flat_in : {X Y : Type 0} (f : X → List Y) → (y : Y) (xs : List X) → Member y (flat_map f xs) → (x : X) × Member x xs × Member y (f x)
+mem_flat_in : {X Y : Type 0} (f : X → List Y) → (y : Y) (xs : List X) → Member y (flat_map f xs) → (x : X) × Member x xs
+    × Member y (f x)
 mem_flat_in f y [] m = absurd m
 mem_flat_in f y (x ∷ xs) m = elim (mem_cases y (f x) (flat_map f xs) m) [
   | inl l ↦ (x, inl refl, l)
@@ -40,11 +43,15 @@ mem_flat_in f y (x ∷ xs) m = elim (mem_cases y (f x) (flat_map f xs) m) [
 ]
 
 -- lists without repeats that share nothing make one without repeats
-pub once_flat : {X Y : Type 0} (f : X → List Y) → (xs : List X) → NoRepeat xs → ((x : X) → Member x xs → NoRepeat (f x)) → ((x z : X) (y : Y) → Member x xs → Member z xs → Member y (f x) → Member y (f z) → x ≡ z) → NoRepeat (flat_map f xs)
+pub once_flat : {X Y : Type 0} (f : X → List Y) → (xs : List X) → NoRepeat xs → ((x : X) → Member x xs → NoRepeat (f x))
+    → ((x z : X) (y : Y) → Member x xs → Member z xs → Member y (f x) → Member y (f z) → x ≡ z)
+    → NoRepeat (flat_map f xs)
 once_flat f [] n each apart = tt
 once_flat f (x ∷ xs) n each apart =
-    once_append (f x) (flat_map f xs) (each x (inl refl)) (once_flat f xs n.1 (λ z m. each z (inr m)) (λ a b y m k. apart a b y (inr m) (inr k)))
-    (λ y l r. let k = mem_flat_in f y xs r in n.0 (subst (λ z. Member z xs) (sym (apart x k.0 y (inl refl) (inr k.1) l k.2)) k.1))
+    once_append (f x) (flat_map f xs) (each x (inl refl)) (once_flat f xs n.1 (λ z m. each z (inr m))
+    (λ a b y m k. apart a b y (inr m) (inr k)))
+    (λ y l r. let k = mem_flat_in f y xs r in
+    n.0 (subst (λ z. Member z xs) (sym (apart x k.0 y (inl refl) (inr k.1) l k.2)) k.1))
 
 dirs_once : NoRepeat dirs
 dirs_once = (
@@ -98,18 +105,22 @@ landings_once : (k : Kind) (p : Placement) (xs : List ℕ) → NoRepeat xs → N
 landings_once Man p xs n = next_once p xs
 landings_once King p xs n = front_once p xs n
 
-goes_once : (k : Kind) (g : Geometry) → IsBoard g → (p : Placement) (side : Side) (s : ℕ) (d : Dir) → OnBoard g s → NoRepeat (goes k g p side s d)
+goes_once : (k : Kind) (g : Geometry) → IsBoard g → (p : Placement) (side : Side) (s : ℕ) (d : Dir) → OnBoard g s
+    → NoRepeat (goes k g p side s d)
 goes_once k g b p side s d on = elim (cases_Bool (may_go k side d)) [
   | inl e ↦ rw e (landings_once k p (ray g s d) (ray_once g b g.rows s d on))
   | inr e ↦ rw e tt
 ]
 
 -- where a piece goes tells the direction
-goes_toward : (k : Kind) (g : Geometry) → IsBoard g → (p : Placement) (side : Side) (s t : ℕ) (d : Dir) → OnBoard g s → Member t (goes k g p side s d) → Toward g d s t
+goes_toward : (k : Kind) (g : Geometry) → IsBoard g → (p : Placement) (side : Side) (s t : ℕ) (d : Dir) → OnBoard g s
+    → Member t (goes k g p side s d) → Toward g d s t
 goes_toward k g b p side s t d on m =
     let h = (goes_from k g p side s t d m).lands in
     ray_toward g b d s t on (subst (Member t) (sym h.is) (mem_at t h.before h.beyond))
 
-pub quiet_for_once : (k : Kind) (g : Geometry) → IsBoard g → (p : Placement) (side : Side) (s : ℕ) → OnBoard g s → NoRepeat (quiet_for k g p side s)
+pub quiet_for_once : (k : Kind) (g : Geometry) → IsBoard g → (p : Placement) (side : Side) (s : ℕ) → OnBoard g s
+    → NoRepeat (quiet_for k g p side s)
 quiet_for_once k g b p side s on = once_flat (goes k g p side s) dirs dirs_once (λ d m. goes_once k g b p side s d on)
-    (λ d e t md me hd he. one_dir g s t d e (goes_toward k g b p side s t d on hd) (goes_toward k g b p side s t e on he))
+    (λ d e t md me hd he. one_dir g s t d e (goes_toward k g b p side s t d on hd) (goes_toward k g b p side s t e on
+    he))

@@ -1,5 +1,6 @@
 -- Rays: their squares lie on the board, and a square lies in at most one direction from another.
-use Rattle.std.proofs.Common.{◌≡◌, ℕ, ◌+◌, ◌*◌, ◌/◌, ◌<◌, ◌≤◌, zero, suc, refl, sym, ap, subst, inl, inr, arith, Option, Some, None, [], ◌∷◌, ◌++◌, true, false, Bool, length, ◌-◌, ◌∙◌}
+use Rattle.std.proofs.Common.{◌≡◌, ℕ, ◌+◌, ◌*◌, ◌/◌, ◌<◌, ◌≤◌, zero, suc, refl, sym, ap, subst, inl, inr, arith, Option}
+use Rattle.std.proofs.Common.{Some, None, [], ◌∷◌, ◌++◌, true, false, Bool, length, ◌-◌, ◌∙◌}
 use Rattle.dw_board.specs.declared.board.Dir.{Dir}
 use Rattle.dw_board.specs.declared.board.Dir.TheVariants.{UpLeft, UpRight, DownLeft, DownRight}
 use Rattle.dw_board.specs.declared.piece.Piece.{Piece}
@@ -12,16 +13,19 @@ use Rattle.dw_moves.proofs.StepLemmas.{IsNext, step_is, row_low, none_some}
 use Rattle.dw_moves.proofs.ExactLemmas.{option_cases}
 
 -- a step leads to a number above 0
-low_inner : (g : Geometry) (r : ℕ) (o : Option ℕ) (t : ℕ) → and_then o (λ c. Some (r * g.per_row + c / 2 + 1)) ≡ Some t → 1 ≤ t
+low_inner : (g : Geometry) (r : ℕ) (o : Option ℕ) (t : ℕ) → and_then o (λ c. Some (r * g.per_row + c / 2 + 1)) ≡ Some t
+    → 1 ≤ t
 low_inner g r None t e = absurd (none_some t e)
 low_inner g r (Some c) t e = let is : r * g.per_row + c / 2 + 1 ≡ t = cc in omega arith
 
-low_outer : (g : Geometry) (o q : Option ℕ) (t : ℕ) → and_then o (λ r. and_then q (λ c. Some (r * g.per_row + c / 2 + 1))) ≡ Some t → 1 ≤ t
+low_outer : (g : Geometry) (o q : Option ℕ) (t : ℕ)
+    → and_then o (λ r. and_then q (λ c. Some (r * g.per_row + c / 2 + 1))) ≡ Some t → 1 ≤ t
 low_outer g None q t e = absurd (none_some t e)
 low_outer g (Some r) q t e = low_inner g r q t e
 
 pub step_low : (g : Geometry) (s : ℕ) (d : Dir) (t : ℕ) → step g s d ≡ Some t → 1 ≤ t
-step_low g s d t e = low_outer g (moved (is_down d) g.rows (row g s)) (moved (is_right d) (2 * g.per_row) (column g s)) t e
+step_low g s d t e = low_outer g (moved (is_down d) g.rows (row g s)) (moved (is_right d) (2 * g.per_row) (column g s))
+    t e
 
 pub ray_of_low : (g : Geometry) (n s : ℕ) (d : Dir) (x : ℕ) → Member x (ray_of g n s d) → 1 ≤ x
 ray_of_low g zero s d x m = absurd m
@@ -34,17 +38,21 @@ ray_of_low g (suc n) s d x m = elim (option_cases (step g s d)) [
 ]
 
 -- what is jumped, and where the jump ends, lie on the ray
-pub jumped_on_ray : (g : Geometry) (p : Placement) (piece : Piece) (s c t : ℕ) → (h : Jump g p piece s c t) → Member c (ray g s h.dir)
+pub jumped_on_ray : (g : Geometry) (p : Placement) (piece : Piece) (s c t : ℕ) → (h : Jump g p piece s c t)
+    → Member c (ray g s h.dir)
 jumped_on_ray g p piece s c t h = subst (Member c) (sym h.on_ray) (mem_at c h.before (h.behind ++ t ∷ h.beyond))
 
-pub landing_on_ray : (g : Geometry) (p : Placement) (piece : Piece) (s c t : ℕ) → (h : Jump g p piece s c t) → Member t (ray g s h.dir)
-landing_on_ray g p piece s c t h = subst (Member t) (sym h.on_ray) (mem_right t h.before (c ∷ (h.behind ++ t ∷ h.beyond)) (inr (mem_at t h.behind h.beyond)))
+pub landing_on_ray : (g : Geometry) (p : Placement) (piece : Piece) (s c t : ℕ) → (h : Jump g p piece s c t)
+    → Member t (ray g s h.dir)
+landing_on_ray g p piece s c t h = subst (Member t) (sym h.on_ray)
+    (mem_right t h.before (c ∷ (h.behind ++ t ∷ h.beyond)) (inr (mem_at t h.behind h.beyond)))
 
 pub jump_low : (g : Geometry) (p : Placement) (piece : Piece) (s c t : ℕ) → Jump g p piece s c t → 1 ≤ c
 jump_low g p piece s c t h = ray_of_low g g.rows s h.dir c (jumped_on_ray g p piece s c t h)
 
 -- a ray does not leave the board
-pub ray_of_on : (g : Geometry) → IsBoard g → (n s : ℕ) (d : Dir) (x : ℕ) → OnBoard g s → Member x (ray_of g n s d) → OnBoard g x
+pub ray_of_on : (g : Geometry) → IsBoard g → (n s : ℕ) (d : Dir) (x : ℕ) → OnBoard g s → Member x (ray_of g n s d)
+    → OnBoard g x
 ray_of_on g b zero s d x on m = absurd m
 ray_of_on g b (suc n) s d x on m = elim (option_cases (step g s d)) [
   | inl e ↦ absurd (rw (e, ray_of) at m)
@@ -59,7 +67,8 @@ abbrev ahead : Bool → ℕ → ℕ → ℕ
 ahead true rows r = rows - 1 - r
 ahead false rows r = r
 
-one_less : (down : Bool) (rows r q : ℕ) → r < rows → q < rows → IsNext down r q → ahead down rows r ≡ ahead down rows q + 1
+one_less : (down : Bool) (rows r q : ℕ) → r < rows → q < rows → IsNext down r q → ahead down rows r
+    ≡ ahead down rows q + 1
 one_less true rows r q h k e = omega arith
 one_less false rows r q h k e = e
 
@@ -71,7 +80,8 @@ pub ray_of_none : (g : Geometry) (n s : ℕ) (d : Dir) → step g s d ≡ None �
 ray_of_none g zero s d e = refl
 ray_of_none g (suc n) s d e = rw (e, ray_of) refl
 
-at_edge : (g : Geometry) → IsBoard g → (s : ℕ) (d : Dir) → OnBoard g s → ahead (is_down d) g.rows (row g s) ≤ 0 → step g s d ≡ None
+at_edge : (g : Geometry) → IsBoard g → (s : ℕ) (d : Dir) → OnBoard g s → ahead (is_down d) g.rows (row g s) ≤ 0
+    → step g s d ≡ None
 at_edge g b s d on h = elim (option_cases (step g s d)) [
   | inl e ↦ e
   | inr e ↦
@@ -81,7 +91,8 @@ at_edge g b s d on h = elim (option_cases (step g s d)) [
 ]
 
 -- a ray that is long enough for the board is the whole ray
-ray_of_enough : (g : Geometry) → IsBoard g → (n m s : ℕ) (d : Dir) → OnBoard g s → ahead (is_down d) g.rows (row g s) ≤ n → ahead (is_down d) g.rows (row g s) ≤ m → ray_of g n s d ≡ ray_of g m s d
+ray_of_enough : (g : Geometry) → IsBoard g → (n m s : ℕ) (d : Dir) → OnBoard g s → ahead (is_down d) g.rows (row g s)
+    ≤ n → ahead (is_down d) g.rows (row g s) ≤ m → ray_of g n s d ≡ ray_of g m s d
 ray_of_enough g b zero m s d on h k = sym (ray_of_none g m s d (at_edge g b s d on h))
 ray_of_enough g b (suc n) zero s d on h k = ray_of_none g (suc n) s d (at_edge g b s d on k)
 ray_of_enough g b (suc n) (suc m) s d on h k = elim (option_cases (step g s d)) [
@@ -94,7 +105,8 @@ ray_of_enough g b (suc n) (suc m) s d on h k = elim (option_cases (step g s d)) 
 ]
 
 -- a ray is the next square and its ray
-pub ray_some : (g : Geometry) → IsBoard g → (s t : ℕ) (d : Dir) → OnBoard g s → step g s d ≡ Some t → ray g s d ≡ t ∷ ray g t d
+pub ray_some : (g : Geometry) → IsBoard g → (s t : ℕ) (d : Dir) → OnBoard g s → step g s d ≡ Some t
+    → ray g s d ≡ t ∷ ray g t d
 ray_some g b s t d on e =
     let far = ahead_high (is_down d) g.rows (row g s) (row_low g b s on) in
     let next : ray_of g (suc g.rows) s d ≡ t ∷ ray g t d = rw (e, ray_of) refl in
@@ -107,7 +119,8 @@ pub ray_of_length : (g : Geometry) (n s : ℕ) (d : Dir) → length (ray_of g n 
 ray_of_length g zero s d = omega arith
 ray_of_length g (suc n) s d = elim (option_cases (step g s d)) [
   | inl e ↦ let l : length (ray_of g (suc n) s d) ≡ 0 = rw (e, ray_of) refl in omega arith
-  | inr e ↦ let l : length (ray_of g (suc n) s d) ≡ suc (length (ray_of g n e.0 d)) = rw (e.1, ray_of) refl in omega (arith, ray_of_length g n e.0 d)
+  | inr e ↦ let l : length (ray_of g (suc n) s d) ≡ suc (length (ray_of g n e.0 d)) = rw (e.1, ray_of) refl in
+      omega (arith, ray_of_length g n e.0 d)
 ]
 
 -- t lies from s in this direction
@@ -117,7 +130,8 @@ Toward g UpRight s t = (row g t < row g s) × (column g s < column g t)
 Toward g DownLeft s t = (row g s < row g t) × (column g t < column g s)
 Toward g DownRight s t = (row g s < row g t) × (column g s < column g t)
 
-next_toward : (g : Geometry) (d : Dir) (s t : ℕ) → IsNext (is_down d) (row g s) (row g t) × IsNext (is_right d) (column g s) (column g t) → Toward g d s t
+next_toward : (g : Geometry) (d : Dir) (s t : ℕ) → IsNext (is_down d) (row g s) (row g t)
+    × IsNext (is_right d) (column g s) (column g t) → Toward g d s t
 next_toward g UpLeft s t h = (omega (arith, h.0), omega (arith, h.1))
 next_toward g UpRight s t h = (omega (arith, h.0), omega (arith, h.1))
 next_toward g DownLeft s t h = (omega (arith, h.0), omega (arith, h.1))
@@ -129,7 +143,8 @@ toward_trans g UpRight s t u h k = (omega (arith, h.0, k.0), omega (arith, h.1, 
 toward_trans g DownLeft s t u h k = (omega (arith, h.0, k.0), omega (arith, h.1, k.1))
 toward_trans g DownRight s t u h k = (omega (arith, h.0, k.0), omega (arith, h.1, k.1))
 
-pub ray_of_toward : (g : Geometry) → IsBoard g → (n : ℕ) (d : Dir) (s x : ℕ) → OnBoard g s → Member x (ray_of g n s d) → Toward g d s x
+pub ray_of_toward : (g : Geometry) → IsBoard g → (n : ℕ) (d : Dir) (s x : ℕ) → OnBoard g s → Member x (ray_of g n s d)
+    → Toward g d s x
 ray_of_toward g b zero d s x on m = absurd m
 ray_of_toward g b (suc n) d s x on m = elim (option_cases (step g s d)) [
   | inl e ↦ absurd (rw (e, ray_of) at m)

@@ -48,40 +48,54 @@ other_apart Black e = cc
 
 module _ (g : Geometry) (b : IsBoard g) (p : Placement) where
   -- the other side's piece stands neither where the move begins nor where it ends
-  begins_apart : (from s : ℕ) (piece : Piece) → Stands g p from piece → (q : Piece) → Stands g (passed p) s q → s ≡ from → ⊥
+  begins_apart : (from s : ℕ) (piece : Piece) → Stands g p from piece → (q : Piece) → Stands g (passed p) s q → s ≡ from
+      → ⊥
   begins_apart from s piece own q theirs e =
       let same : q ≡ piece = some_same q piece (sym theirs.there ∙ (ap (at p) e ∙ own.there)) in
       other_apart p.turn (sym theirs.own ∙ (ap (λ z. z.side) same ∙ own.own))
 
   -- a square that a move does not empty and where it does not end
-  stays_at : (m : Move) → OnBoard g m.to → (s : ℕ) → OnBoard g s → (s ≡ m.to → ⊥) → (s ≡ m.from → ⊥) → fin.contains m.taken s ≡ false → at (play g p m) s ≡ at p s
+  stays_at : (m : Move) → OnBoard g m.to → (s : ℕ) → OnBoard g s → (s ≡ m.to → ⊥) → (s ≡ m.from → ⊥)
+      → fin.contains m.taken s ≡ false → at (play g p m) s ≡ at p s
   stays_at m to s on ne ne_from out =
-      let same : fin.contains (emptied m) s ≡ false = contains-insert m.taken m.from s ∙ (ap (λ z. z || fin.contains m.taken s) (apart_false s m.from ne_from) ∙ out) in
+      let same : fin.contains (emptied m) s ≡ false = contains-insert m.taken m.from s
+      ∙ (ap (λ z. z || fin.contains m.taken s) (apart_false s m.from ne_from) ∙ out) in
       play_at g p m s on.0 (omega (arith, on.1, b.squares_high)) ne to.0 ∙ ap (λ z. cond z None (at p s)) same
 
-  pub step_stays : (m : Move) (piece : Piece) → Stands g p m.from piece → OnBoard g m.to → (s t : ℕ) → OneStep g (passed p) s t → (s ≡ m.to → ⊥) → (t ≡ m.to → ⊥) → fin.contains m.taken s ≡ false → OneStep g (play g p m) s t
+  pub step_stays : (m : Move) (piece : Piece) → Stands g p m.from piece → OnBoard g m.to → (s t : ℕ)
+      → OneStep g (passed p) s t → (s ≡ m.to → ⊥) → (t ≡ m.to → ⊥) → fin.contains m.taken s ≡ false
+      → OneStep g (play g p m) s t
   step_stays m piece own to s t h s_apart t_apart out =
       let on : OnBoard g s = h.stands.on_board in
       let t_on : OnBoard g t = (step_is g b s t h.dir on h.leads).on in
       let from_apart : s ≡ m.from → ⊥ = begins_apart m.from s piece own h.piece h.stands in
       record {
         piece = h.piece;
-        stands = record { on_board = on; there = stays_at m to s on s_apart from_apart out ∙ h.stands.there; own = h.stands.own };
+        stands = record {
+          on_board = on;
+          there = stays_at m to s on s_apart from_apart out ∙ h.stands.there;
+          own =
+              h.stands.own;
+        };
         dir = h.dir;
         leads = h.leads;
-        free = play_at g p m t t_on.0 (omega (arith, t_on.1, b.squares_high)) t_apart to.0 ∙ past_none p (emptied m) t h.free;
+        free = play_at g p m t t_on.0 (omega (arith, t_on.1, b.squares_high)) t_apart to.0
+            ∙ past_none p (emptied m) t h.free;
         man = h.man;
       }
 
   -- after a quiet move that does not end there
-  reply_there : (m : Move) → Legal g p m → Quiet g p m.from m.to → m.taken ≡ fin.empty → (s t : ℕ) → OneStep g (passed p) s t → (t ≡ m.to → ⊥) → (r : Move) × Legal g (play g p m) r
+  reply_there : (m : Move) → Legal g p m → Quiet g p m.from m.to → m.taken ≡ fin.empty → (s t : ℕ)
+      → OneStep g (passed p) s t → (t ≡ m.to → ⊥) → (r : Move) × Legal g (play g p m) r
   reply_there m legal q none s t h apart =
       let s_apart : s ≡ m.to → ⊥ = λ e. none_some h.piece (sym q.free ∙ (ap (at p) (sym e) ∙ h.stands.there)) in
       let out : fin.contains m.taken s ≡ false = ap (λ z. fin.contains z s) none ∙ fin.contains-empty nat_cmp s in
-      let after : OneStep g (play g p m) s t = step_stays m q.piece q.stands (legal_ends g b p m legal) s t h s_apart apart out in
+      let after : OneStep g (play g p m) s t = step_stays m q.piece q.stands (legal_ends g b p m legal) s t h s_apart
+      apart out in
       reply_of g (play g p m) (s, t, step_quiet g b (play g p m) s t after)
 
-  two_reply : (m : Move) → Legal g p m → Quiet g p m.from m.to → m.taken ≡ fin.empty → TwoSteps g (passed p) → (r : Move) × Legal g (play g p m) r
+  two_reply : (m : Move) → Legal g p m → Quiet g p m.from m.to → m.taken ≡ fin.empty → TwoSteps g (passed p)
+      → (r : Move) × Legal g (play g p m) r
   two_reply m legal q none h = elim (cases_eq h.to m.to) [
     | inr ne ↦ reply_there m legal q none h.from h.to h.one ne
     | inl e ↦ reply_there m legal q none h.from_too h.to_too h.two (λ f. h.apart (e ∙ sym f))

@@ -1,5 +1,6 @@
 -- Squares met one after another on a ray.
-use Rattle.std.proofs.Common.{◌≡◌, ℕ, ◌≤◌, ◌<◌, suc, List, [], ◌∷◌, length, refl, sym, ap, ◌∙◌, inl, inr, arith, Option, Some, None}
+use Rattle.std.proofs.Common.{◌≡◌, ℕ, ◌≤◌, ◌<◌, suc, List, [], ◌∷◌, length, refl, sym, ap, ◌∙◌, inl, inr, arith, Option}
+use Rattle.std.proofs.Common.{Some, None}
 use Rattle.dw_board.specs.declared.piece.Kind.{Kind}
 use Rattle.dw_board.specs.declared.piece.Kind.TheVariants.{Man, King}
 use Rattle.dw_board.specs.declared.board.Dir.{Dir}
@@ -28,7 +29,8 @@ free_if_some p (Some u) t e = elim (option_cases (at p u)) [
   | inr h ↦ absurd (none_some t (rw (h.1, free_if) at e))
 ]
 
-pub freed : (g : Geometry) → IsBoard g → (p : Placement) (s : ℕ) (d : Dir) (t : ℕ) → OnBoard g s → free_step g p s d ≡ Some t → Freed g p s d t
+pub freed : (g : Geometry) → IsBoard g → (p : Placement) (s : ℕ) (d : Dir) (t : ℕ) → OnBoard g s → free_step g p s d
+    ≡ Some t → Freed g p s d t
 freed g b p s d t on e =
     let h = free_if_some p (step g s d) t e in
     record { steps = h.0; on = (step_is g b s t d on h.0).on; ray_is = ray_some g b s t d on h.0; free = h.1 }
@@ -36,7 +38,8 @@ freed g b p s d t on e =
 pub run_man : (p : Placement) (t : ℕ) (ts : List ℕ) → at p t ≡ None → landings_for Man p (t ∷ ts) ≡ t ∷ []
 run_man p t ts e = rw (e, free_next) refl
 
-pub run_king : (p : Placement) (t : ℕ) (ts : List ℕ) → at p t ≡ None → landings_for King p (t ∷ ts) ≡ t ∷ landings_for King p ts
+pub run_king : (p : Placement) (t : ℕ) (ts : List ℕ) → at p t ≡ None → landings_for King p (t ∷ ts)
+    ≡ t ∷ landings_for King p ts
 run_king p t ts e = rw (e, free_front) refl
 
 run_blocked : (k : Kind) (p : Placement) (t : ℕ) (ts : List ℕ) → (at p t ≡ None → ⊥) → landings_for k p (t ∷ ts) ≡ []
@@ -47,17 +50,20 @@ run_empty : (k : Kind) (p : Placement) → landings_for k p [] ≡ []
 run_empty Man p = refl
 run_empty King p = refl
 
-pub run_stop : (g : Geometry) → IsBoard g → (k : Kind) (p : Placement) (s : ℕ) (d : Dir) → OnBoard g s → free_step g p s d ≡ None → landings_for k p (ray g s d) ≡ []
+pub run_stop : (g : Geometry) → IsBoard g → (k : Kind) (p : Placement) (s : ℕ) (d : Dir) → OnBoard g s
+    → free_step g p s d ≡ None → landings_for k p (ray g s d) ≡ []
 run_stop g b k p s d on e = elim (option_cases (step g s d)) [
   | inl h ↦ ap (landings_for k p) (ray_none g s d h) ∙ run_empty k p
   | inr h ↦ ap (landings_for k p) (ray_some g b s h.0 d on h.1) ∙ run_blocked k p h.0 (ray g h.0 d) (λ free.
-      let is : free_step g p s d ≡ Some h.0 = ap (free_if p) h.1 ∙ rw (free, free_if) refl in none_some h.0 (sym e ∙ is))
+      let is : free_step g p s d ≡ Some h.0 = ap (free_if p) h.1 ∙ rw (free, free_if) refl in none_some h.0 (sym e
+      ∙ is))
 ]
 
 front_length : (p : Placement) (xs : List ℕ) → length (free_front p xs) ≤ length xs
 front_length p [] = omega arith
 front_length p (x ∷ xs) = elim (option_cases (at p x)) [
-  | inl e ↦ let l : length (free_front p (x ∷ xs)) ≡ suc (length (free_front p xs)) = rw (e, free_front) refl in omega (arith, front_length p xs)
+  | inl e ↦ let l : length (free_front p (x ∷ xs)) ≡ suc (length (free_front p xs)) = rw (e, free_front) refl in
+      omega (arith, front_length p xs)
   | inr e ↦ let l : length (free_front p (x ∷ xs)) ≡ 0 = rw (e.1, free_front) refl in omega arith
 ]
 
@@ -75,8 +81,10 @@ run_length King p xs = front_length p xs
 pub ray_length : (g : Geometry) → IsBoard g → (s : ℕ) (d : Dir) → length (ray g s d) ≤ 10
 ray_length g b s d = omega (arith, ray_of_length g g.rows s d, b.even, b.high)
 
-pub run_short : (g : Geometry) → IsBoard g → (k : Kind) (p : Placement) (s : ℕ) (d : Dir) → length (landings_for k p (ray g s d)) ≤ 10
+pub run_short : (g : Geometry) → IsBoard g → (k : Kind) (p : Placement) (s : ℕ) (d : Dir)
+    → length (landings_for k p (ray g s d)) ≤ 10
 run_short g b k p s d = omega (arith, run_length k p (ray g s d), ray_length g b s d)
 
-pub ray_falls : (g : Geometry) (p : Placement) (s : ℕ) (d : Dir) (t : ℕ) → Freed g p s d t → length (ray g t d) < length (ray g s d)
+pub ray_falls : (g : Geometry) (p : Placement) (s : ℕ) (d : Dir) (t : ℕ) → Freed g p s d t
+    → length (ray g t d) < length (ray g s d)
 ray_falls g p s d t h = let l : length (ray g s d) ≡ suc (length (ray g t d)) = ap length h.ray_is in omega arith

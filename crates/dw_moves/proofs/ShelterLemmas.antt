@@ -1,5 +1,6 @@
 -- What is taken was exposed, so a step by a piece that is not exposed goes on after every move.
-use Rattle.std.proofs.Common.{◌≡◌, ℕ, zero, suc, List, [], ◌∷◌, ◌++◌, true, false, Some, None, refl, sym, ap, ◌∙◌, subst, ◌⊎◌, inl, inr}
+use Rattle.std.proofs.Common.{◌≡◌, ℕ, zero, suc, List, [], ◌∷◌, ◌++◌, true, false, Some, None, refl, sym, ap, ◌∙◌}
+use Rattle.std.proofs.Common.{subst, ◌⊎◌, inl, inr}
 use Rattle.std.specs.Prelude.{IsTrue}
 use Rattle.std.proofs.lemmas.Bool.{true≢false, cases_Bool, cases_eq}
 use Rattle.std.specs.FinSet as fin
@@ -34,12 +35,19 @@ record Met (g : Geometry) (d : Dir) (s c : ℕ) (before rest : List ℕ) : Type 
 head_is : (x y : ℕ) (xs ys : List ℕ) → x ∷ xs ≡ y ∷ ys → (x ≡ y) × (xs ≡ ys)
 head_is x y xs ys e = ((cc), (cc))
 
-met : (g : Geometry) → IsBoard g → (d : Dir) (s c : ℕ) (before rest : List ℕ) → OnBoard g s → ray g s d ≡ before ++ c ∷ rest → Met g d s c before rest
+met : (g : Geometry) → IsBoard g → (d : Dir) (s c : ℕ) (before rest : List ℕ) → OnBoard g s
+    → ray g s d ≡ before ++ c ∷ rest → Met g d s c before rest
 met g b d s c [] rest on e = elim (option_cases (step g s d)) [
   | inl none ↦ let n : [] ≡ c ∷ rest = sym (ray_none g s d none) ∙ e in absurd (cc)
   | inr some ↦
       let h = head_is some.0 c (ray g some.0 d) rest (sym (ray_some g b s some.0 d on some.1) ∙ e) in
-      record { square = s; on = on; is = inl refl; leads = some.1 ∙ ap Some h.0; behind = ap (λ x. ray g x d) (sym h.0) ∙ h.1 }
+      record {
+        square = s;
+        on = on;
+        is = inl refl;
+        leads = some.1 ∙ ap Some h.0;
+        behind = ap (λ x. ray g x d) (sym h.0) ∙ h.1;
+      }
 ]
 met g b d s c (x ∷ before) rest on e = elim (option_cases (step g s d)) [
   | inl none ↦ let n : [] ≡ x ∷ (before ++ c ∷ rest) = sym (ray_none g s d none) ∙ e in absurd (cc)
@@ -95,7 +103,10 @@ module _ (g : Geometry) (b : IsBoard g) (p : Placement) (from : ℕ) (piece : Pi
       let c_on : OnBoard g c = (step_is g b m.square c j.dir m.on m.leads).on in
       let next = head_free lifted j.behind t j.beyond j.clear_behind j.free in
       let n = met g b j.dir c next.0 [] next.1 c_on (m.behind ∙ next.2) in
-      let leads : step g c j.dir ≡ Some next.0 = (elim n.is [ inl q ↦ ap (λ z. step g z j.dir) (sym q) ∙ n.leads | inr i ↦ absurd i ]) in
+      let leads : step g c j.dir ≡ Some next.0 = (elim n.is [
+        | inl q ↦ ap (λ z. step g z j.dir) (sym q) ∙ n.leads
+        | inr i ↦ absurd i
+      ]) in
       let next_on : OnBoard g next.0 = (step_is g b c next.0 j.dir c_on leads).on in (
         j.dir,
         (next.0, leads, no_enemy next.0 next_on (inr next.3)),
@@ -105,11 +116,13 @@ module _ (g : Geometry) (b : IsBoard g) (p : Placement) (from : ℕ) (piece : Pi
   landing_on : (s c t : ℕ) → OnBoard g s → (j : Jump g lifted piece s c t) → OnBoard g t
   landing_on s c t on j = ray_of_on g b g.rows s j.dir t on (landing_on_ray g lifted piece s c t j)
 
-  jumps_expose : (s : ℕ) (ts cs : List ℕ) → OnBoard g s → IsPassed s → Jumps g lifted piece s ts cs → (c : ℕ) → Member c cs → IsExposed g p (other p.turn) c
+  jumps_expose : (s : ℕ) (ts cs : List ℕ) → OnBoard g s → IsPassed s → Jumps g lifted piece s ts cs → (c : ℕ)
+      → Member c cs → IsExposed g p (other p.turn) c
   jumps_expose s [] [] on h jumps c m = absurd m
   jumps_expose s [] (x ∷ cs) on h jumps c m = absurd jumps
   jumps_expose s (t ∷ ts) [] on h jumps c m = absurd jumps
-  jumps_expose s (t ∷ ts) (x ∷ cs) on h jumps c (inl q) = subst (IsExposed g p (other p.turn)) (sym q) (jump_exposes s x t on h jumps.0)
+  jumps_expose s (t ∷ ts) (x ∷ cs) on h jumps c (inl q) = subst (IsExposed g p (other p.turn)) (sym q)
+      (jump_exposes s x t on h jumps.0)
   jumps_expose s (t ∷ ts) (x ∷ cs) on h jumps c (inr m) =
       jumps_expose t ts cs (landing_on s x t on jumps.0) (inr jumps.0.free) jumps.1 c m
 
@@ -131,7 +144,8 @@ module _ (g : Geometry) (b : IsBoard g) (p : Placement) (m : Move) (legal : Lega
     at_k zero h = absurd (none_taken h.1 s e)
     at_k (suc k) h =
         let path = h.1.path in
-        jumps_expose g b p m.from path.piece path.stands m.from h.0 h.1.over path.stands.on_board (inl refl) path.jumps s
+        jumps_expose g b p m.from path.piece path.stands m.from h.0 h.1.over path.stands.on_board (inl refl) path.jumps
+        s
         (in_list h.1.over s (ap (λ z. fin.contains z s) (sym h.1.takes) ∙ e))
 
   -- and it does not end where a piece of the other side stands
@@ -142,7 +156,8 @@ module _ (g : Geometry) (b : IsBoard g) (p : Placement) (m : Move) (legal : Lega
     at_k (suc k) h =
         let path = h.1.path in
         no_enemy g b p m.from path.piece path.stands m.to (legal_ends g b p m legal)
-        (subst (λ z. IsPassed g b p m.from path.piece path.stands z) h.1.ends (end_passed g b p m.from path.piece path.stands m.from h.0 h.1.over (inl refl) path.jumps)) e
+        (subst (λ z. IsPassed g b p m.from path.piece path.stands z) h.1.ends (end_passed g b p m.from path.piece
+        path.stands m.from h.0 h.1.over (inl refl) path.jumps)) e
 
   mover : (piece : Piece) × Stands g p m.from piece
   mover = at_k legal.0 legal.2 where
@@ -155,13 +170,16 @@ module _ (g : Geometry) (b : IsBoard g) (p : Placement) (m : Move) (legal : Lega
   same_refl Black = refl
 
   enemy_there : (s t : ℕ) → OneStep g (passed p) s t → IsTrue (is_of (other p.turn) (at p s))
-  enemy_there s t h = ap (is_of (other p.turn)) h.stands.there ∙ (ap (λ z. same_side z (other p.turn)) h.stands.own ∙ same_refl (other p.turn))
+  enemy_there s t h = ap (is_of (other p.turn)) h.stands.there ∙ (ap (λ z. same_side z (other p.turn)) h.stands.own
+      ∙ same_refl (other p.turn))
 
   -- such a step goes on, if the move does not end where it leads
   safe_reply : (s t : ℕ) → SafeStep g p s t → (t ≡ m.to → ⊥) → (r : Move) × Legal g (play g p m) r
   safe_reply s t h apart =
-      let s_apart : s ≡ m.to → ⊥ = λ e. ends_apart (ap (λ z. is_of (other p.turn) (at p z)) (sym e) ∙ enemy_there s t h.0) in
-      let out : fin.contains m.taken s ≡ false = elim (cases_Bool (fin.contains m.taken s)) [ inl e ↦ absurd (h.1 (taken_exposed s e)) | inr e ↦ e ] in
+      let s_apart : s ≡ m.to → ⊥ = λ e. ends_apart (ap (λ z. is_of (other p.turn) (at p z)) (sym e)
+      ∙ enemy_there s t h.0) in
+      let out : fin.contains m.taken s ≡ false = elim (cases_Bool (fin.contains m.taken s))
+      [ inl e ↦ absurd (h.1 (taken_exposed s e)) | inr e ↦ e ] in
       let after = step_stays g b p m mover.0 mover.1 (legal_ends g b p m legal) s t h.0 s_apart apart out in
       reply_of g (play g p m) (s, t, step_quiet g b (play g p m) s t after)
 

@@ -1,5 +1,6 @@
 -- The captures of a position, square by square.
-use Rattle.std.proofs.Common.{◌≡◌, refl, ℕ, ◌≤◌, List, sym, ap, ◌∙◌, subst, ◌⊎◌, inl, inr, arith, ◌&&◌, not, Bool, true, false, eqb, Some, None}
+use Rattle.std.proofs.Common.{◌≡◌, refl, ℕ, ◌≤◌, List, sym, ap, ◌∙◌, subst, ◌⊎◌, inl, inr, arith, ◌&&◌, not, Bool, true}
+use Rattle.std.proofs.Common.{false, eqb, Some, None}
 use Rattle.std.proofs.lemmas.Bool.{true≢false, cases_eq}
 use Rattle.std.specs.FinSet as fin
 use Rattle.dw_board.specs.declared.piece.Side.{Side}
@@ -22,12 +23,17 @@ side_fits g p White pos = pos.white_fits
 side_fits g p Black pos = pos.black_fits
 
 -- no capture takes more than twenty pieces
-pub walk_fits : (g : Geometry) → IsBoard g → (p q : Placement) (from : ℕ) (piece : Piece) (b : Move) → IsPosition g p.cells → Stands g p from piece → q ≡ placed p from None → b ≡ start from → ChainsFit g q piece b.to b.taken 20
+pub walk_fits : (g : Geometry) → IsBoard g → (p q : Placement) (from : ℕ) (piece : Piece) (b : Move)
+    → IsPosition g p.cells → Stands g p from piece → q ≡ placed p from None → b ≡ start from
+    → ChainsFit g q piece b.to b.taken 20
 walk_fits g board p q from piece b pos s q_is b_is =
-    let fits : ChainsFit g (placed p from None) piece from fin.empty 20 = λ ts cs chain. omega (arith, chains_fit g p from piece s ts cs chain, side_fits g p (other p.turn) pos, board.side_high) in
-    subst (λ (z : Move). ChainsFit g q piece z.to z.taken 20) (sym b_is) (subst (λ z. ChainsFit g z piece from fin.empty 20) (sym q_is) fits)
+    let fits : ChainsFit g (placed p from None) piece from fin.empty 20 = λ ts cs chain. omega
+    (arith, chains_fit g p from piece s ts cs chain, side_fits g p (other p.turn) pos, board.side_high) in
+    subst (λ (z : Move). ChainsFit g q piece z.to z.taken 20) (sym b_is)
+    (subst (λ z. ChainsFit g z piece from fin.empty 20) (sym q_is) fits)
 
-pub ends_taking : (g : Geometry) (p : Placement) (from : ℕ) (piece : Piece) → Stands g p from piece → (k : ℕ) (m : Move) → EndsAs g (placed p from None) piece (start from) 0 k m → TakingFrom g p from k m
+pub ends_taking : (g : Geometry) (p : Placement) (from : ℕ) (piece : Piece) → Stands g p from piece → (k : ℕ) (m : Move)
+    → EndsAs g (placed p from None) piece (start from) 0 k m → TakingFrom g p from k m
 ends_taking g p from piece s k m h = (
   h.from,
   (
@@ -36,7 +42,8 @@ ends_taking g p from piece s k m h = (
       h.landings,
       record {
         over = h.over;
-        path = subst (λ z. Path g p z h.landings h.over) (sym h.from) (path_of g p from piece h.landings h.over s h.chain);
+        path = subst (λ z. Path g p z h.landings h.over) (sym h.from) (path_of g p from piece h.landings h.over s
+            h.chain);
         count = omega (arith, h.count);
         ends = ap (λ z. last_of z h.landings) h.from ∙ sym h.to;
         takes = h.taken ∙ union_of_none (fin.from_list h.over);
@@ -45,7 +52,8 @@ ends_taking g p from piece s k m h = (
   ),
 )
 
-pub taking_ends : (g : Geometry) (p : Placement) (from : ℕ) (piece : Piece) → Stands g p from piece → (k : ℕ) (m : Move) → TakingFrom g p from k m → EndsAs g (placed p from None) piece (start from) 0 k m
+pub taking_ends : (g : Geometry) (p : Placement) (from : ℕ) (piece : Piece) → Stands g p from piece → (k : ℕ) (m : Move)
+    → TakingFrom g p from k m → EndsAs g (placed p from None) piece (start from) 0 k m
 taking_ends g p from piece s k m h =
     let ts : List ℕ = h.1.1.0 in
     let is = h.1.1.1 in
@@ -61,15 +69,19 @@ taking_ends g p from piece s k m h =
     }
 
 -- a piece of the side to move stands where a capture begins
-pub taking_stands : (g : Geometry) (p : Placement) (from k : ℕ) (m : Move) → TakingFrom g p from k m → (piece : Piece) × Stands g p from piece
-taking_stands g p from k m h = let path : Path g p m.from h.1.1.0 h.1.1.1.over = h.1.1.1.path in (path.piece, subst (λ z. Stands g p z path.piece) h.0 path.stands)
+pub taking_stands : (g : Geometry) (p : Placement) (from k : ℕ) (m : Move) → TakingFrom g p from k m → (piece : Piece)
+    × Stands g p from piece
+taking_stands g p from k m h = let path : Path g p m.from h.1.1.0 h.1.1.1.over = h.1.1.1.path in
+    (path.piece, subst (λ z. Stands g p z path.piece) h.0 path.stands)
 
 -- nothing stands there
-pub none_takes : (g : Geometry) (p : Placement) (from : ℕ) → at p from ≡ None → (k : ℕ) (m : Move) → TakingFrom g p from k m → ⊥
+pub none_takes : (g : Geometry) (p : Placement) (from : ℕ) → at p from ≡ None → (k : ℕ) (m : Move)
+    → TakingFrom g p from k m → ⊥
 none_takes g p from e k m f = let s = taking_stands g p from k m f in none_some s.0 (sym e ∙ s.1.there)
 
 -- the other side's piece stands there
-pub enemy_takes : (g : Geometry) (p : Placement) (from : ℕ) (piece : Piece) → at p from ≡ Some piece → same_side piece.side p.turn ≡ false → (k : ℕ) (m : Move) → TakingFrom g p from k m → ⊥
+pub enemy_takes : (g : Geometry) (p : Placement) (from : ℕ) (piece : Piece) → at p from ≡ Some piece
+    → same_side piece.side p.turn ≡ false → (k : ℕ) (m : Move) → TakingFrom g p from k m → ⊥
 enemy_takes g p from piece e other_is k m f =
     let s = taking_stands g p from k m f in
     let same : s.0 ≡ piece = some_same s.0 piece (sym s.1.there ∙ e) in
@@ -81,11 +93,13 @@ abbrev pub TakingPast : Geometry → Placement → Squares → ℕ → Move → 
 TakingPast g p left k m = (fin.contains left m.from ≡ false) × Taking g p k m
 
 -- a capture begins on one of those on which one may begin
-pub begins_there : (g : Geometry) (p : Placement) (left : Squares) → ((s : ℕ) → CanTakeFrom g p s → In s left) → (k : ℕ) (m : Move) → TakingPast g p left k m → ⊥
+pub begins_there : (g : Geometry) (p : Placement) (left : Squares) → ((s : ℕ) → CanTakeFrom g p s → In s left)
+    → (k : ℕ) (m : Move) → TakingPast g p left k m → ⊥
 begins_there g p left all k m f =
     let is = f.1.1.1 in
     let path : Path g p m.from f.1.1.0 is.over = is.path in
-    let first = first_jump g (placed p m.from None) path.piece m.from f.1.1.0 is.over path.jumps (omega (arith, f.1.0, is.count)) in
+    let first = first_jump g (placed p m.from None) path.piece m.from f.1.1.0 is.over path.jumps
+    (omega (arith, f.1.0, is.count)) in
     true≢false (sym (all m.from (first.0, first.1, path.piece, path.stands, first.2)) ∙ f.0)
 
 pub out_of_rest : (left : Squares) (s t : ℕ) → fin.contains left t ≡ false → fin.contains (fin.remove left s) t ≡ false
@@ -94,8 +108,10 @@ out_of_rest left s t e = contains-remove left s t ∙ (ap (λ b. not (eqb t s) &
   none_of true = refl
   none_of false = refl
 
-pub past_rest : (left : Squares) (s t : ℕ) → fin.contains (fin.remove left s) t ≡ false → (t ≡ s) ⊎ (fin.contains left t ≡ false)
+pub past_rest : (left : Squares) (s t : ℕ) → fin.contains (fin.remove left s) t ≡ false → (t ≡ s)
+    ⊎ (fin.contains left t ≡ false)
 past_rest left s t e = elim (cases_eq t s) [
   | inl same ↦ inl same
-  | inr apart ↦ inr (sym (contains-remove left s t ∙ ap (λ b. not b && fin.contains left t) (apart_false t s apart)) ∙ e)
+  | inr apart ↦ inr (sym (contains-remove left s t ∙ ap (λ b. not b && fin.contains left t) (apart_false t s apart))
+      ∙ e)
 ]

@@ -1,5 +1,6 @@
 -- Worked positions, computed.
-use Rattle.std.proofs.Common.{◌≡◌, ◌||◌, ℕ, Bool, true, false, List, [], ◌∷◌, refl, sym, ap, ◌∙◌, subst, inl, inr, nat_eq}
+use Rattle.std.proofs.Common.{◌≡◌, ◌||◌, ℕ, Bool, true, false, List, [], ◌∷◌, refl, sym, ap, ◌∙◌, subst, inl, inr}
+use Rattle.std.proofs.Common.{nat_eq}
 use Rattle.std.specs.Ordering.{nat_cmp}
 use Rattle.std.specs.Cmp.{nat_cmp_total}
 use Rattle.std.specs.FinSet as set
@@ -39,12 +40,16 @@ reversed false false false false = refl
 same_backwards : (a b c d : ℕ) → set.from_list {R = nat_cmp} (a ∷ b ∷ c ∷ d ∷ []) ≡ set.from_list (d ∷ c ∷ b ∷ a ∷ [])
 same_backwards a b c d =
     set.same_set nat_cmp_total set.nat_cmp-IsAntisymmetric _ _
-    (λ q. set.contains-from_list_nat (a ∷ b ∷ c ∷ d ∷ []) q ∙ reversed (nat_eq a q) (nat_eq b q) (nat_eq c q) (nat_eq d q) ∙ sym (set.contains-from_list_nat (d ∷ c ∷ b ∷ a ∷ []) q))
+    (λ q. set.contains-from_list_nat (a ∷ b ∷ c ∷ d ∷ []) q ∙ reversed (nat_eq a q) (nat_eq b q) (nat_eq c q)
+    (nat_eq d q) ∙ sym (set.contains-from_list_nat (d ∷ c ∷ b ∷ a ∷ []) q))
 
 -- a capture and the one that goes round the other way are one move
-found_twice : (p : Placement) (from to a b c d : ℕ) → AreTheLegal p (move from to (a ∷ b ∷ c ∷ d ∷ []) ∷ move from to (d ∷ c ∷ b ∷ a ∷ []) ∷ []) → AreTheLegal p (move from to (a ∷ b ∷ c ∷ d ∷ []) ∷ [])
+found_twice : (p : Placement) (from to a b c d : ℕ)
+    → AreTheLegal p (move from to (a ∷ b ∷ c ∷ d ∷ []) ∷ move from to (d ∷ c ∷ b ∷ a ∷ []) ∷ [])
+    → AreTheLegal p (move from to (a ∷ b ∷ c ∷ d ∷ []) ∷ [])
 found_twice p from to a b c d h x =
-    let same = ap (λ taken. let m : Move = record { from = from; to = to; taken = taken } in m) (same_backwards a b c d) in (
+    let same = ap (λ taken. let m : Move = record { from = from; to = to; taken = taken } in m)
+    (same_backwards a b c d) in (
       (λ k. elim k [ inl e ↦ (h x).0 (inl e) | inr none ↦ absurd none ]),
       (λ l. elim ((h x).1 l) [ inl e ↦ inl e | inr (inl e) ↦ inl (e ∙ sym same) | inr (inr none) ↦ absurd none ]),
     )

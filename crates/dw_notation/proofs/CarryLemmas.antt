@@ -1,5 +1,7 @@
 -- Lemmas on reading on.
-use Rattle.std.proofs.Common.{◌≡◌, ℕ, ◌+◌, ◌*◌, ◌<◌, ◌≤◌, length, cond, MatchBool, arith, List, [], ◌++◌, Bool, true, false, Option, refl, sym, ap, ◌∙◌, append_assoc, append-nil, Result, Ok, is_err, IsErr, ◌||◌}
+use Rattle.std.proofs.Common.{◌≡◌, ℕ, ◌+◌, ◌*◌, ◌<◌, ◌≤◌, length, cond, MatchBool, arith, List, [], ◌++◌, Bool, true}
+use Rattle.std.proofs.Common.{false, Option, refl, sym, ap, ◌∙◌, append_assoc, append-nil, Result, Ok, is_err, IsErr}
+use Rattle.std.proofs.Common.{◌||◌}
 use Rattle.std.proofs.KnownBytes.{Consumes-nil, Consumes-trans}
 use Rattle.std.specs.Io.KnownBytes.{Consumes}
 use Rattle.dw_board.specs.Geometry.{Geometry}
@@ -24,7 +26,8 @@ CarriesOn-cut coming left old mid new so_far same = record {
 
 -- what was read ends one
 pub TakesPiece-cut : (coming left : Option (List ℕ)) (old mid new : Cutter) → CarriesOn coming left old mid
-    → ((g : Geometry) (at_end : Bool) (more : List ℕ) → found_ahead at_end g mid more ≡ found_cut g new ++ found_behind at_end g new more)
+    → ((g : Geometry) (at_end : Bool) (more : List ℕ) → found_ahead at_end g mid more ≡ found_cut g new
+    ++ found_behind at_end g new more)
     → TakesPiece coming left old new
 TakesPiece-cut coming left old mid new so_far same = record {
   read = so_far.read;
@@ -48,7 +51,8 @@ CarriesOn-fill coming left after old mid new so_far none pieces bytes = record {
 
 -- the end of the text
 pub TakesLast-end : (coming left : Option (List ℕ)) (old mid new : Cutter) → CarriesOn coming left old mid
-    → (rest_of mid ≡ []) → (rest_of new ≡ rest_of mid) → ((g : Geometry) → pieces_ahead true g mid.pieces [] ≡ found_cut g new) → ((g : Geometry) → pieces_behind true g new.pieces [] ≡ [])
+    → (rest_of mid ≡ []) → (rest_of new ≡ rest_of mid) → ((g : Geometry) → pieces_ahead true g mid.pieces []
+    ≡ found_cut g new) → ((g : Geometry) → pieces_behind true g new.pieces [] ≡ [])
     → TakesLast coming left old new
 TakesLast-end coming left old mid new so_far none rest found over = record {
   read = so_far.read;
@@ -63,11 +67,13 @@ TakesLast-end coming left old mid new so_far none rest found over = record {
 }
 
 -- the measure of the reads: one that gives bytes lowers the bound, and one that meets the end is the last
-pub reads-fall : (met_end : Bool) (new old : ℕ) → MatchBool met_end (new ≤ old) (new < old) → new + cond met_end 0 1 < old + 1
+pub reads-fall : (met_end : Bool) (new old : ℕ) → MatchBool met_end (new ≤ old) (new < old) → new + cond met_end 0 1
+    < old + 1
 reads-fall true new old h = omega arith
 reads-fall false new old h = omega arith
 
-pub weight-fill : (met_end : Bool) (new old : ℕ) (rest : List ℕ) → MatchBool met_end (new ≤ old) (new < old) → length rest ≤ 2048 → (met_end ≡ true → rest ≡ [])
+pub weight-fill : (met_end : Bool) (new old : ℕ) (rest : List ℕ) → MatchBool met_end (new ≤ old) (new < old)
+    → length rest ≤ 2048 → (met_end ≡ true → rest ≡ [])
     → new * 2049 + length rest ≤ old * 2049
 weight-fill true new old rest h few none = let e : length rest ≡ 0 = ap length (none refl) in omega arith
 weight-fill false new old rest h few none = omega arith

@@ -1,5 +1,6 @@
 -- Lemmas on what a line begun and the bytes behind it say.
-use Rattle.std.proofs.Common.{◌≡◌, ℕ, ◌==◌, ◌+◌, ◌-◌, ◌≤◌, List, [], ◌∷◌, ◌++◌, length, take, drop, Bool, true, false, cond, None, option_to_list, refl, sym, ap, ◌∙◌, append_assoc, append-nil, arith}
+use Rattle.std.proofs.Common.{◌≡◌, ℕ, ◌==◌, ◌+◌, ◌-◌, ◌≤◌, List, [], ◌∷◌, ◌++◌, length, take, drop, Bool, true, false}
+use Rattle.std.proofs.Common.{cond, None, option_to_list, refl, sym, ap, ◌∙◌, append_assoc, append-nil, arith}
 use Rattle.std.proofs.lemmas.List.{length-take, take-append-drop, drop-take, drop-drop}
 use Rattle.std.specs.List.{slice_range}
 use Rattle.dw_board.specs.Geometry.{Geometry}
@@ -10,41 +11,59 @@ use Rattle.dw_notation.specs.Pieces.{pieces_ahead}
 use Rattle.dw_notation.specs.inner.Pieces.{pieces_behind, pieces_cut}
 use Rattle.dw_notation.specs.declared.problems.reader.Pieces.{Pieces}
 
-pub NoLineFeed-push : (bytes : List ℕ) (byte : ℕ) → NoLineFeed bytes → (byte == 10) ≡ false → NoLineFeed (bytes ++ byte ∷ [])
+pub NoLineFeed-push : (bytes : List ℕ) (byte : ℕ) → NoLineFeed bytes → (byte == 10) ≡ false
+    → NoLineFeed (bytes ++ byte ∷ [])
 NoLineFeed-push [] byte none h = (h, tt)
 NoLineFeed-push (b ∷ bytes) byte none h = (none.0, NoLineFeed-push bytes byte none.1 h)
 
-pub found_from-piece : (at_end : Bool) (g : Geometry) (line piece more : List ℕ) → NoLineFeed piece → found_from at_end g line (piece ++ more) ≡ found_from at_end g (line ++ piece) more
+pub found_from-piece : (at_end : Bool) (g : Geometry) (line piece more : List ℕ) → NoLineFeed piece
+    → found_from at_end g line (piece ++ more) ≡ found_from at_end g (line ++ piece) more
 found_from-piece at_end g line [] more none = rw append-nil refl
-found_from-piece at_end g line (b ∷ piece) more none = rw none.0 (found_from-piece at_end g (line ++ b ∷ []) piece more none.1 ∙ rw append_assoc refl)
+found_from-piece at_end g line (b ∷ piece) more none = rw none.0 (found_from-piece at_end g (line ++ b ∷ []) piece more
+    none.1 ∙ rw append_assoc refl)
 
 line_found-same : (g : Geometry) (line other : List ℕ) → SaysSame line other → line_found g line ≡ line_found g other
-line_found-same g line other same = ap (line_found g) (sym (append-nil line)) ∙ same g [] ∙ ap (line_found g) (append-nil other)
+line_found-same g line other same = ap (line_found g) (sym (append-nil line)) ∙ same g []
+    ∙ ap (line_found g) (append-nil other)
 
-SaysSame-push : (line other : List ℕ) (byte : ℕ) → SaysSame line other → SaysSame (line ++ byte ∷ []) (other ++ byte ∷ [])
+SaysSame-push : (line other : List ℕ) (byte : ℕ) → SaysSame line other
+    → SaysSame (line ++ byte ∷ []) (other ++ byte ∷ [])
 SaysSame-push line other byte same g more =
-    ap (line_found g) (append_assoc line (byte ∷ []) more) ∙ same g (byte ∷ more) ∙ ap (line_found g) (sym (append_assoc other (byte ∷ []) more))
+    ap (line_found g) (append_assoc line (byte ∷ []) more) ∙ same g (byte ∷ more)
+    ∙ ap (line_found g) (sym (append_assoc other (byte ∷ []) more))
 
-pub found_from-same : (at_end : Bool) (g : Geometry) (line other more : List ℕ) → SaysSame line other → found_from at_end g line more ≡ found_from at_end g other more
-found_from-same at_end g line other [] same = ap (λ x. cond at_end (option_to_list x) []) (line_found-same g line other same)
+pub found_from-same : (at_end : Bool) (g : Geometry) (line other more : List ℕ) → SaysSame line other
+    → found_from at_end g line more ≡ found_from at_end g other more
+found_from-same at_end g line other [] same = ap (λ x. cond at_end (option_to_list x) [])
+    (line_found-same g line other same)
 found_from-same at_end g line other (b ∷ more) same =
     let rest : found_from at_end g (line ++ b ∷ []) more ≡ found_from at_end g (other ++ b ∷ []) more =
     found_from-same at_end g (line ++ b ∷ []) (other ++ b ∷ []) more (SaysSame-push line other b same) in
-    elim (b == 10) as (λ v. cond v (option_to_list (line_found g line) ++ found_from at_end g [] more) (found_from at_end g (line ++ b ∷ []) more)
-    ≡ cond v (option_to_list (line_found g other) ++ found_from at_end g [] more) (found_from at_end g (other ++ b ∷ []) more))
-    [ true ↦ ap (λ x. option_to_list x ++ found_from at_end g [] more) (line_found-same g line other same) | false ↦ rest ]
+    elim (b == 10) as (λ v. cond v (option_to_list (line_found g line) ++ found_from at_end g [] more)
+    (found_from at_end g (line ++ b ∷ []) more)
+    ≡ cond v (option_to_list (line_found g other) ++ found_from at_end g [] more) (found_from at_end g (other ++ b ∷ [])
+    more)) [
+      | true ↦ ap (λ x. option_to_list x ++ found_from at_end g [] more) (line_found-same g line other same)
+      | false ↦
+          rest
+    ]
 
 -- a piece with no line feed is put onto the line
-pub found_from-push : (at_end : Bool) (g : Geometry) (line piece held more : List ℕ) → NoLineFeed piece → SaysSame (line ++ piece) held
+pub found_from-push : (at_end : Bool) (g : Geometry) (line piece held more : List ℕ) → NoLineFeed piece
+    → SaysSame (line ++ piece) held
     → found_from at_end g line (piece ++ more) ≡ found_from at_end g held more
-found_from-push at_end g line piece held more none same = found_from-piece at_end g line piece more none ∙ found_from-same at_end g (line ++ piece) held more same
+found_from-push at_end g line piece held more none same = found_from-piece at_end g line piece more none
+    ∙ found_from-same at_end g (line ++ piece) held more same
 
 -- the line feed stands at a place in the bytes
-pub found_from-at : (at_end : Bool) (g : Geometry) (line bytes held more : List ℕ) (place : ℕ) → NoLineFeed (take place bytes) → drop place bytes ≡ 10 ∷ drop (place + 1) bytes
+pub found_from-at : (at_end : Bool) (g : Geometry) (line bytes held more : List ℕ) (place : ℕ)
+    → NoLineFeed (take place bytes) → drop place bytes ≡ 10 ∷ drop (place + 1) bytes
     → SaysSame (line ++ take place bytes) held
-    → found_from at_end g line (bytes ++ more) ≡ option_to_list (line_found g held) ++ found_from at_end g [] (drop (place + 1) bytes ++ more)
+    → found_from at_end g line (bytes ++ more) ≡ option_to_list (line_found g held)
+    ++ found_from at_end g [] (drop (place + 1) bytes ++ more)
 found_from-at at_end g line bytes held more place none here same =
-    let whole : bytes ≡ take place bytes ++ 10 ∷ drop (place + 1) bytes = sym (take-append-drop place bytes) ∙ ap (λ l. take place bytes ++ l) here in
+    let whole : bytes ≡ take place bytes ++ 10 ∷ drop (place + 1) bytes = sym (take-append-drop place bytes)
+    ∙ ap (λ l. take place bytes ++ l) here in
     let joined : bytes ++ more ≡ take place bytes ++ 10 ∷ (drop (place + 1) bytes ++ more) =
     ap (λ l. l ++ more) whole ∙ append_assoc (take place bytes) (10 ∷ drop (place + 1) bytes) more in
     ap (found_from at_end g line) joined
@@ -61,10 +80,13 @@ slice_range-drop xs i j k h =
 
 -- what is behind a cut in what was read
 pub found-rest : (at_end : Bool) (g : Geometry) (old new : Pieces) (buffer more : List ℕ) (i j k : ℕ) → i + k ≤ j
-    → pieces_ahead at_end g old (slice_range buffer i j ++ more) ≡ option_to_list (pieces_cut g new) ++ pieces_behind at_end g new (drop k (slice_range buffer i j) ++ more)
-    → pieces_ahead at_end g old (slice_range buffer i j ++ more) ≡ option_to_list (pieces_cut g new) ++ pieces_behind at_end g new (slice_range buffer (i + k) j ++ more)
+    → pieces_ahead at_end g old (slice_range buffer i j ++ more) ≡ option_to_list (pieces_cut g new)
+    ++ pieces_behind at_end g new (drop k (slice_range buffer i j) ++ more)
+    → pieces_ahead at_end g old (slice_range buffer i j ++ more) ≡ option_to_list (pieces_cut g new)
+    ++ pieces_behind at_end g new (slice_range buffer (i + k) j ++ more)
 found-rest at_end g old new buffer more i j k h e =
-    e ∙ ap (λ l. option_to_list (pieces_cut g new) ++ pieces_behind at_end g new (l ++ more)) (sym (slice_range-drop buffer i j k h))
+    e ∙ ap (λ l. option_to_list (pieces_cut g new) ++ pieces_behind at_end g new (l ++ more))
+    (sym (slice_range-drop buffer i j k h))
 
 pub length-slice_range-le : (xs : List ℕ) (i j : ℕ) → length (slice_range xs i j) ≤ j - i
 length-slice_range-le xs i j = omega (arith, length-take (j - i) (drop i xs))

@@ -15,7 +15,8 @@ use Rattle.dw_notation.specs.TextLaws.{EndsTell}
 use Rattle.dw_notation.proofs.LineTextLemmas.{legal_has_step}
 use Rattle.dw_notation.proofs.MoveWrittenLemmas.{Rules, shared_is_long}
 
-alone : Rules → (g : Geometry) → IsBoard g → (p : Placement) (list : List Listed) → AreListed g p list → (l : Listed) → Member l list
+alone : Rules → (g : Geometry) → IsBoard g → (p : Placement) (list : List Listed) → AreListed g p list → (l : Listed)
+    → Member l list
     → set.len l.step.taken ≡ 1 → shares_ends list l.step ≡ true → ⊥
 alone rules g b p list all l here one shared =
     let path = all.paths l here in
@@ -27,23 +28,40 @@ alone rules g b p list all l here one shared =
         omega (arith, one, none)
     by_most landings (suc k) best lands =
         let taken = rules.take.taken g p (suc k) l.step best (suc k, best, (landings, lands)) in
-        shared_is_long rules g b p list all l k best landings lands shared (omega (arith, one, taken, rules.take.long g p l.step (suc k) landings lands))
+        shared_is_long rules g b p list all l k best landings lands shared
+        (omega (arith, one, taken, rules.take.long g p l.step (suc k) landings lands))
 
 pub ends_tell : MovesInOrder → Rules → EndsTell
 ends_tell order rules = record {
   quiet = λ g b p m legal none.
       let all = order.listed g b p in
       let item = legal_has_step g p m all.0 all.1 legal in
-      let zero : eqb (set.len item.0.step.taken) 0 ≡ true = eq-eqb (set.len item.0.step.taken) 0 (ap (λ z. set.len z.taken) item.2 ∙ none) in
-      record { list = all.0; all = all.1; item = item.0; here = item.1; same = item.2; is = ap (ends_text dash) (sym item.2) ∙ sym (rw zero refl) };
+      let zero : eqb (set.len item.0.step.taken) 0 ≡ true = eq-eqb (set.len item.0.step.taken) 0
+      (ap (λ z. set.len z.taken) item.2 ∙ none) in
+      record {
+        list = all.0;
+        all = all.1;
+        item = item.0;
+        here = item.1;
+        same = item.2;
+        is = ap (ends_text dash) (sym item.2) ∙ sym (rw zero refl);
+      };
   one = λ g b p m legal one.
       let all = order.listed g b p in
       let item = legal_has_step g p m all.0 all.1 legal in
       let count : set.len item.0.step.taken ≡ 1 = ap (λ z. set.len z.taken) item.2 ∙ one in
-      let some : eqb (set.len item.0.step.taken) 0 ≡ false = ne_eqb (set.len item.0.step.taken) 0 (λ e. omega (arith, e, count)) in
+      let some : eqb (set.len item.0.step.taken) 0 ≡ false = ne_eqb (set.len item.0.step.taken) 0
+      (λ e. omega (arith, e, count)) in
       let apart : shares_ends all.0 item.0.step ≡ false = elim (cases_Bool (shares_ends all.0 item.0.step)) [
         | inl shared ↦ absurd (alone rules g b p all.0 all.1 item.0 item.1 count shared)
         | inr apart ↦ apart
       ] in
-      record { list = all.0; all = all.1; item = item.0; here = item.1; same = item.2; is = ap (ends_text cross) (sym item.2) ∙ sym (rw (some, apart) refl) };
+      record {
+        list = all.0;
+        all = all.1;
+        item = item.0;
+        here = item.1;
+        same = item.2;
+        is = ap (ends_text cross) (sym item.2) ∙ sym (rw (some, apart) refl);
+      };
 }

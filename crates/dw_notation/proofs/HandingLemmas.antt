@@ -1,5 +1,6 @@
 -- Lemmas on what is handed out.
-use Rattle.std.proofs.Common.{◌≡◌, ℕ, ◌<◌, inl, inr, List, [], ◌∷◌, ◌++◌, Bool, true, false, Option, Some, None, Ok, Err, refl, sym, ap, ◌∙◌, append_assoc, append-nil, subst, MatchBool}
+use Rattle.std.proofs.Common.{◌≡◌, ℕ, ◌<◌, inl, inr, List, [], ◌∷◌, ◌++◌, Bool, true, false, Option, Some, None, Ok}
+use Rattle.std.proofs.Common.{Err, refl, sym, ap, ◌∙◌, append_assoc, append-nil, subst, MatchBool}
 use Rattle.std.proofs.KnownBytes.{Consumes-nil, Consumes-trans}
 use Rattle.dw_board.specs.Geometry.{Geometry}
 use Rattle.dw_notation.specs.Lines.{Found}
@@ -9,7 +10,8 @@ use Rattle.dw_notation.specs.Pieces.{pieces_ahead}
 use Rattle.dw_notation.specs.inner.Pieces.{pieces_behind}
 use Rattle.dw_notation.specs.Problems.{Numbered, numbered, number_from}
 use Rattle.dw_notation.specs.Cutting.{NextGives, rest_of, found_ahead, problems_from, to_come, ended}
-use Rattle.dw_notation.specs.inner.Cutting.{CarriesOn, TakesPiece, TakesLast, HandsOut, ReadsPiece, found_behind, found_cut}
+use Rattle.dw_notation.specs.inner.Cutting.{CarriesOn, TakesPiece, TakesLast, HandsOut, ReadsPiece, found_behind}
+use Rattle.dw_notation.specs.inner.Cutting.{found_cut}
 use Rattle.dw_notation.specs.declared.problems.fens.Front.{Front}
 use Rattle.dw_notation.specs.declared.problems.fens.Front.TheVariants.{Bare, One, Two, Behind}
 use Rattle.dw_notation.specs.declared.problems.reader.Cutter.{Cutter}
@@ -21,22 +23,28 @@ use Rattle.dw_notation.proofs.NumberLemmas.{number_from-over}
 
 -- what handing out the piece did
 pub record PieceHanded (g : Geometry) (cut new : Cutter) (problems : List Numbered) : Type 0 where
-  pub ahead : (at_end : Bool) (more : List ℕ) → pieces_behind at_end g cut.pieces more ≡ pieces_ahead at_end g new.pieces more
+  pub ahead : (at_end : Bool) (more : List ℕ) → pieces_behind at_end g cut.pieces more
+      ≡ pieces_ahead at_end g new.pieces more
   pub rest : rest_of new ≡ rest_of cut
-  pub given : (found : List Found) → number_from cut.handed (found_cut g cut ++ found) ≡ problems ++ number_from new.handed found
+  pub given : (found : List Found) → number_from cut.handed (found_cut g cut ++ found)
+      ≡ problems ++ number_from new.handed found
 
-pub HandsOut-refl : (g : Geometry) (coming : Option (List ℕ)) (cutter : Cutter) → HandsOut g coming coming cutter cutter []
+pub HandsOut-refl : (g : Geometry) (coming : Option (List ℕ)) (cutter : Cutter)
+    → HandsOut g coming coming cutter cutter []
 HandsOut-refl g coming cutter = record { read = []; took = Consumes-nil coming; same = λ at_end more. refl }
 
 -- what is behind the piece is ahead
-found_ahead-behind : (at_end : Bool) (g : Geometry) (cut new : Cutter) (problems : List Numbered) (more : List ℕ) → PieceHanded g cut new problems
+found_ahead-behind : (at_end : Bool) (g : Geometry) (cut new : Cutter) (problems : List Numbered) (more : List ℕ)
+    → PieceHanded g cut new problems
     → found_behind at_end g cut more ≡ found_ahead at_end g new more
 found_ahead-behind at_end g cut new problems more handed =
     handed.ahead at_end (rest_of cut ++ more) ∙ ap (λ l. pieces_ahead at_end g new.pieces (l ++ more)) (sym handed.rest)
 
 -- nothing so far, and then a piece
-pub HandsOut-piece : (g : Geometry) (coming left after : Option (List ℕ)) (old mid cut new : Cutter) (problems : List Numbered)
-    → HandsOut g coming left old mid [] → TakesPiece left after mid cut → (cut.handed ≡ mid.handed) → PieceHanded g cut new problems
+pub HandsOut-piece : (g : Geometry) (coming left after : Option (List ℕ)) (old mid cut new : Cutter)
+    (problems : List Numbered)
+    → HandsOut g coming left old mid [] → TakesPiece left after mid cut → (cut.handed ≡ mid.handed)
+    → PieceHanded g cut new problems
     → HandsOut g coming after old new problems
 HandsOut-piece g coming left after old mid cut new problems so_far piece same_number handed = record {
   read = so_far.read ++ piece.read;
@@ -51,13 +59,15 @@ HandsOut-piece g coming left after old mid cut new problems so_far piece same_nu
 }
 
 -- a problem that was handed out
-pub NextGives-problem : {B : Type 0} (g : Geometry) (coming left : Option (List ℕ)) (old new : Cutter) (problem : Problem B)
+pub NextGives-problem : {B : Type 0} (g : Geometry) (coming left : Option (List ℕ)) (old new : Cutter)
+    (problem : Problem B)
     → HandsOut g coming left old new (numbered problem ∷ []) → NextGives g coming left old new (Ok (Some problem))
 NextGives-problem g coming left old new problem out = record {
   read = out.read;
   took = out.took;
   gives = elim new.met_end as (λ v. MatchBool v (to_come g old out.read ≡ numbered problem ∷ to_come g new [])
-      ((at_end : Bool) (bytes : List ℕ) → problems_from at_end g old (out.read ++ bytes) ≡ numbered problem ∷ problems_from at_end g new bytes))
+      ((at_end : Bool) (bytes : List ℕ) → problems_from at_end g old (out.read ++ bytes)
+      ≡ numbered problem ∷ problems_from at_end g new bytes))
       [ true ↦ ap (to_come g old) (sym (append-nil out.read)) ∙ out.same true [] | false ↦ out.same ];
 }
 
@@ -65,7 +75,8 @@ NextGives-problem g coming left old new problem out = record {
 pub NextGives-over : {B : Type 0} (g : Geometry) (coming left : Option (List ℕ)) (old new : Cutter)
     → HandsOut g coming left old new [] → 1000000 < new.handed → NextGives {B = B} g coming left old new (Ok None)
 NextGives-over g coming left old new out over =
-    let done : (more : List ℕ) → to_come g new more ≡ [] = λ more. number_from-over new.handed (found_ahead true g new more) over in
+    let done : (more : List ℕ) → to_come g new more
+    ≡ [] = λ more. number_from-over new.handed (found_ahead true g new more) over in
     let left_over : (more : List ℕ) → to_come g old (out.read ++ more) ≡ [] = λ more. out.same true more ∙ done more in
     record {
       read = out.read;
@@ -90,12 +101,14 @@ ended-none : (g : Geometry) (new : Cutter) → rest_of new ≡ [] → found_ahea
 ended-none g new none = ap (λ l. pieces_ahead false g new.pieces (l ++ [])) none ∙ ended-piece g new.pieces
 
 -- the source failed
-pub NextGives-err : {B : Type 0} (g : Geometry) (coming left after : Option (List ℕ)) (old mid new : Cutter) (fault : ReadFault)
+pub NextGives-err : {B : Type 0} (g : Geometry) (coming left after : Option (List ℕ)) (old mid new : Cutter)
+    (fault : ReadFault)
     → HandsOut g coming left old mid [] → CarriesOn left after mid new → (rest_of new ≡ []) → (new.handed ≡ mid.handed)
     → NextGives {B = B} g coming after old new (Err fault)
 NextGives-err g coming left after old mid new fault so_far on none same_number =
     let read = so_far.read ++ on.read in
-    let same : (at_end : Bool) (bytes : List ℕ) → problems_from at_end g old (read ++ bytes) ≡ problems_from at_end g new bytes =
+    let same : (at_end : Bool) (bytes : List ℕ) → problems_from at_end g old (read ++ bytes)
+    ≡ problems_from at_end g new bytes =
     λ at_end bytes.
     ap (problems_from at_end g old) (append_assoc so_far.read on.read bytes)
     ∙ so_far.same at_end (on.read ++ bytes)
@@ -104,12 +117,17 @@ NextGives-err g coming left after old mid new fault so_far on none same_number =
     record {
       read = read;
       took = Consumes-trans coming left after so_far.read on.read so_far.took on.took;
-      gives = (ap (ended g old) (sym (append-nil read)) ∙ same false [] ∙ ap (number_from new.handed) (ended-none g new none), same);
+      gives = (
+        ap (ended g old) (sym (append-nil read)) ∙ same false [] ∙ ap (number_from new.handed) (ended-none g new none),
+        same,
+      );
     }
 
 -- the last piece of the text
-pub to_come-last : (g : Geometry) (coming left after : Option (List ℕ)) (old mid cut new : Cutter) (problems : List Numbered)
-    → (so_far : HandsOut g coming left old mid []) → (last : TakesLast left after mid cut) → (cut.handed ≡ mid.handed) → PieceHanded g cut new problems
+pub to_come-last : (g : Geometry) (coming left after : Option (List ℕ)) (old mid cut new : Cutter)
+    (problems : List Numbered)
+    → (so_far : HandsOut g coming left old mid []) → (last : TakesLast left after mid cut) → (cut.handed ≡ mid.handed)
+    → PieceHanded g cut new problems
     → (to_come g old (so_far.read ++ last.read) ≡ problems ++ to_come g new []) × (to_come g new [] ≡ [])
 to_come-last g coming left after old mid cut new problems so_far last same_number handed =
     let empty : to_come g new [] ≡ [] =
@@ -127,19 +145,23 @@ to_come-last g coming left after old mid cut new problems so_far last same_numbe
       empty,
     )
 
-pub NextGives-last : {B : Type 0} (g : Geometry) (coming left after : Option (List ℕ)) (old mid cut new : Cutter) (problem : Problem B)
-    → HandsOut g coming left old mid [] → TakesLast left after mid cut → (cut.handed ≡ mid.handed) → PieceHanded g cut new (numbered problem ∷ []) → (new.met_end ≡ true)
+pub NextGives-last : {B : Type 0} (g : Geometry) (coming left after : Option (List ℕ)) (old mid cut new : Cutter)
+    (problem : Problem B)
+    → HandsOut g coming left old mid [] → TakesLast left after mid cut → (cut.handed ≡ mid.handed)
+    → PieceHanded g cut new (numbered problem ∷ []) → (new.met_end ≡ true)
     → NextGives g coming after old new (Ok (Some problem))
 NextGives-last g coming left after old mid cut new problem so_far last same_number handed met = record {
   read = so_far.read ++ last.read;
   took = Consumes-trans coming left after so_far.read last.read so_far.took last.took;
   gives = subst (λ v. MatchBool v (to_come g old (so_far.read ++ last.read) ≡ numbered problem ∷ to_come g new [])
-      ((at_end : Bool) (bytes : List ℕ) → problems_from at_end g old ((so_far.read ++ last.read) ++ bytes) ≡ numbered problem ∷ problems_from at_end g new bytes)) (sym met)
+      ((at_end : Bool) (bytes : List ℕ) → problems_from at_end g old ((so_far.read ++ last.read) ++ bytes)
+      ≡ numbered problem ∷ problems_from at_end g new bytes)) (sym met)
       (to_come-last g coming left after old mid cut new (numbered problem ∷ []) so_far last same_number handed).0;
 }
 
 pub NextGives-none : {B : Type 0} (g : Geometry) (coming left after : Option (List ℕ)) (old mid cut new : Cutter)
-    → HandsOut g coming left old mid [] → TakesLast left after mid cut → (cut.handed ≡ mid.handed) → PieceHanded g cut new [] → (new.met_end ≡ true)
+    → HandsOut g coming left old mid [] → TakesLast left after mid cut → (cut.handed ≡ mid.handed)
+    → PieceHanded g cut new [] → (new.met_end ≡ true)
     → NextGives {B = B} g coming after old new (Ok None)
 NextGives-none g coming left after old mid cut new so_far last same_number handed met =
     let end = to_come-last g coming left after old mid cut new [] so_far last same_number handed in
@@ -149,23 +171,31 @@ NextGives-none g coming left after old mid cut new so_far last same_number hande
       gives = (end.0 ∙ end.1, end.1, inl met);
     }
 
-pub NextGives-some : {B : Type 0} (g : Geometry) (coming left after : Option (List ℕ)) (old mid cut new : Cutter) (problem : Problem B) (is_whole : Bool)
-    → HandsOut g coming left old mid [] → ReadsPiece left after mid cut (Ok is_whole) → (cut.handed ≡ mid.handed) → PieceHanded g cut new (numbered problem ∷ []) → (new.met_end ≡ cut.met_end)
+pub NextGives-some : {B : Type 0} (g : Geometry) (coming left after : Option (List ℕ)) (old mid cut new : Cutter)
+    (problem : Problem B) (is_whole : Bool)
+    → HandsOut g coming left old mid [] → ReadsPiece left after mid cut (Ok is_whole) → (cut.handed ≡ mid.handed)
+    → PieceHanded g cut new (numbered problem ∷ []) → (new.met_end ≡ cut.met_end)
     → NextGives g coming after old new (Ok (Some problem))
 NextGives-some g coming left after old mid cut new problem true so_far piece same_number handed met =
-    NextGives-problem g coming after old new problem (HandsOut-piece g coming left after old mid cut new (numbered problem ∷ []) so_far piece same_number handed)
+    NextGives-problem g coming after old new problem (HandsOut-piece g coming left after old mid cut new
+    (numbered problem ∷ []) so_far piece same_number handed)
 NextGives-some g coming left after old mid cut new problem false so_far piece same_number handed met =
     NextGives-last g coming left after old mid cut new problem so_far piece.0 same_number handed (met ∙ piece.1)
 
-pub NextGives-end : {B : Type 0} (g : Geometry) (coming left after : Option (List ℕ)) (old mid cut new : Cutter) (is_whole : Bool) → is_whole ≡ false
-    → HandsOut g coming left old mid [] → ReadsPiece left after mid cut (Ok is_whole) → (cut.handed ≡ mid.handed) → PieceHanded g cut new [] → (new.met_end ≡ cut.met_end)
+pub NextGives-end : {B : Type 0} (g : Geometry) (coming left after : Option (List ℕ)) (old mid cut new : Cutter)
+    (is_whole : Bool) → is_whole ≡ false
+    → HandsOut g coming left old mid [] → ReadsPiece left after mid cut (Ok is_whole) → (cut.handed ≡ mid.handed)
+    → PieceHanded g cut new [] → (new.met_end ≡ cut.met_end)
     → NextGives {B = B} g coming after old new (Ok None)
 NextGives-end g coming left after old mid cut new true e so_far piece same_number handed met = cc
 NextGives-end g coming left after old mid cut new false e so_far piece same_number handed met =
     NextGives-none g coming left after old mid cut new so_far piece.0 same_number handed (met ∙ piece.1)
 
-pub HandsOut-blank : (g : Geometry) (coming left after : Option (List ℕ)) (old mid cut new : Cutter) (is_whole : Bool) → is_whole ≡ true
-    → HandsOut g coming left old mid [] → ReadsPiece left after mid cut (Ok is_whole) → (cut.handed ≡ mid.handed) → PieceHanded g cut new []
+pub HandsOut-blank : (g : Geometry) (coming left after : Option (List ℕ)) (old mid cut new : Cutter) (is_whole : Bool)
+    → is_whole ≡ true
+    → HandsOut g coming left old mid [] → ReadsPiece left after mid cut (Ok is_whole) → (cut.handed ≡ mid.handed)
+    → PieceHanded g cut new []
     → HandsOut g coming after old new []
 HandsOut-blank g coming left after old mid cut new false e so_far piece same_number handed = cc
-HandsOut-blank g coming left after old mid cut new true e so_far piece same_number handed = HandsOut-piece g coming left after old mid cut new [] so_far piece same_number handed
+HandsOut-blank g coming left after old mid cut new true e so_far piece same_number handed = HandsOut-piece g coming left
+    after old mid cut new [] so_far piece same_number handed

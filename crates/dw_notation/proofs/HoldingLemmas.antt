@@ -1,5 +1,7 @@
 -- What is held of a section says what the section does.
-use Rattle.std.proofs.Common.{◌≡◌, ℕ, ◌+◌, ◌-◌, ◌*◌, ◌<◌, ◌≤◌, ◌==◌, ◌&&◌, ◌||◌, inl, inr, List, [], ◌∷◌, ◌++◌, length, take, Bool, true, false, not, cond, min, refl, sym, ap, ◌∙◌, subst, arith, append_assoc, append-nil, length-append, ltb, eqb}
+use Rattle.std.proofs.Common.{◌≡◌, ℕ, ◌+◌, ◌-◌, ◌*◌, ◌<◌, ◌≤◌, ◌==◌, ◌&&◌, ◌||◌, inl, inr, List, [], ◌∷◌, ◌++◌, length}
+use Rattle.std.proofs.Common.{take, Bool, true, false, not, cond, min, refl, sym, ap, ◌∙◌, subst, arith, append_assoc}
+use Rattle.std.proofs.Common.{append-nil, length-append, ltb, eqb}
 use Rattle.std.proofs.lemmas.Bool.{cases_lt, lt-ltb, le-ltb, ne_eqb}
 use Rattle.std.proofs.lemmas.List.{take_all, length-take-le, take-append-le}
 use Rattle.std.specs.List.{list_any}
@@ -10,10 +12,12 @@ use Rattle.dw_board.specs.FenTokens.{is_blank}
 use Rattle.dw_notation.specs.Lines.{fen_found}
 use Rattle.dw_notation.specs.Sections.{step, Section, bare, kind_of, number_on, game_of, with_tag, after, is_wrong}
 use Rattle.dw_notation.specs.Sections.{fens_found, section_found, found_by, found_at_end, sections_found}
-use Rattle.dw_notation.specs.HeldSection.{Held, held_bare, counted, kept, game_on, number_held, counted_in, value_on, tag_on, held_after, is_wrong_held, fens_held, held_found, held_from}
+use Rattle.dw_notation.specs.HeldSection.{Held, held_bare, counted, kept, game_on, number_held, counted_in, value_on}
+use Rattle.dw_notation.specs.HeldSection.{tag_on, held_after, is_wrong_held, fens_held, held_found, held_from}
 use Rattle.dw_notation.specs.declared.problems.pdn.Place.{Place}
 use Rattle.dw_notation.specs.declared.problems.pdn.Deed.{Deed}
-use Rattle.dw_notation.specs.declared.problems.pdn.Deed.TheVariants.{Keep, Open, Count, AddName, OpenValue, AddValue, AddBoth, Close, Break, EndLine, NextTag, End}
+use Rattle.dw_notation.specs.declared.problems.pdn.Deed.TheVariants.{Keep, Open, Count, AddName, OpenValue, AddValue}
+use Rattle.dw_notation.specs.declared.problems.pdn.Deed.TheVariants.{AddBoth, Close, Break, EndLine, NextTag, End}
 use Rattle.dw_notation.specs.declared.problems.pdn.Kind.{Kind}
 use Rattle.dw_notation.specs.declared.problems.pdn.Kind.TheVariants.{FenTag, GameTag, OtherTag}
 use Rattle.dw_notation.specs.declared.problems.pdn.Game.{Game}
@@ -37,9 +41,14 @@ kept-take : (most : ℕ) (text : List ℕ) (byte : ℕ) → kept most (take most
 kept-take most text byte = elim (cases_lt (length text) most) [
   | inl short ↦
       let sum : length (text ++ byte ∷ []) ≡ length text + 1 = length-append text (byte ∷ []) in
-      rw (take_all most text (omega arith), take_all most (text ++ byte ∷ []) (omega arith), lt-ltb (length text) most short) refl
+      rw (
+        take_all most text (omega arith),
+        take_all most (text ++ byte ∷ []) (omega arith),
+        lt-ltb (length text) most short,
+      ) refl
   | inr long ↦
-      rw (length-take-le most text long, le-ltb most most (omega arith)) (sym (take-append-le most text (byte ∷ []) long))
+      rw (length-take-le most text long, le-ltb most most (omega arith))
+      (sym (take-append-le most text (byte ∷ []) long))
 ]
 
 over-min-above : (most n : ℕ) → most < n → ltb most (min n (most + 1)) ≡ ltb most n
@@ -51,7 +60,10 @@ over-min-below : (most n : ℕ) → n ≤ most → ltb most (min n (most + 1)) �
 over-min-below most n h = let e : min n (most + 1) ≡ n = omega arith in rw e refl
 
 over-min : (most n : ℕ) → ltb most (min n (most + 1)) ≡ ltb most n
-over-min most n = elim (cases_lt most n) [ inl above ↦ over-min-above most n above | inr below ↦ over-min-below most n below ]
+over-min most n = elim (cases_lt most n) [
+  | inl above ↦ over-min-above most n above
+  | inr below ↦ over-min-below most n below
+]
 
 fen-take : (g : Geometry) (text : List ℕ) → fen g (take 1025 text) ≡ fen g text
 fen-take g text = elim (cases_lt 1024 (length text)) [
@@ -67,7 +79,8 @@ number_on-over a b [] over other = ne_eqb a 20 (λ e. omega arith) ∙ sym (ne_e
 number_on-over a b (byte ∷ text) over other =
     let rest = number_on-over (a * 10 + (byte - 48)) (b * 10 + (byte - 48)) text (omega arith) (omega arith) in
     let here = ne_eqb a 20 (λ e. omega arith) ∙ sym (ne_eqb b 20 (λ e. omega arith)) in
-    elim (is_ascii_digit byte) as (λ v. eqb (cond v (number_on (a * 10 + (byte - 48)) text) a) 20 ≡ eqb (cond v (number_on (b * 10 + (byte - 48)) text) b) 20)
+    elim (is_ascii_digit byte) as (λ v. eqb (cond v (number_on (a * 10 + (byte - 48)) text) a) 20
+    ≡ eqb (cond v (number_on (b * 10 + (byte - 48)) text) b) 20)
     [ true ↦ rest | false ↦ here ]
 
 number_on-min : (n : ℕ) (text : List ℕ) → eqb (number_on (min n 21) text) 20 ≡ eqb (number_on n text) 20
@@ -82,17 +95,21 @@ number_then Before more = game_of more
 number_then (Within n) more = number_on n more
 number_then (Behind n) more = n
 
-number_then-on : (game : Game) (byte : ℕ) (more : List ℕ) → eqb (number_then (game_on game byte) more) 20 ≡ eqb (number_then game (byte ∷ more)) 20
+number_then-on : (game : Game) (byte : ℕ) (more : List ℕ) → eqb (number_then (game_on game byte) more) 20
+    ≡ eqb (number_then game (byte ∷ more)) 20
 number_then-on Before byte more =
-    elim (is_blank byte) as (λ v. eqb (number_then (cond v Before (cond (is_ascii_digit byte) (Within (byte - 48)) (Behind 20))) more) 20
+    elim (is_blank byte) as (λ v. eqb
+    (number_then (cond v Before (cond (is_ascii_digit byte) (Within (byte - 48)) (Behind 20))) more) 20
     ≡ eqb (cond v (game_of more) (cond (is_ascii_digit byte) (number_on (byte - 48) more) 20)) 20) [
       | true ↦ refl
-      | false ↦ elim (is_ascii_digit byte) as (λ v. eqb (number_then (cond v (Within (byte - 48)) (Behind 20)) more) 20 ≡ eqb (cond v (number_on (byte - 48) more) 20) 20)
+      | false ↦ elim (is_ascii_digit byte) as (λ v. eqb (number_then (cond v (Within (byte - 48)) (Behind 20)) more) 20
+          ≡ eqb (cond v (number_on (byte - 48) more) 20) 20)
           [ true ↦ refl | false ↦ refl ]
     ]
 number_then-on (Within n) byte more =
     let m = n * 10 + (byte - 48) in
-    elim (is_ascii_digit byte) as (λ v. eqb (number_then (cond v (Within (min m 21)) (Behind n)) more) 20 ≡ eqb (cond v (number_on m more) n) 20)
+    elim (is_ascii_digit byte) as (λ v. eqb (number_then (cond v (Within (min m 21)) (Behind n)) more) 20
+    ≡ eqb (cond v (number_on m more) n) 20)
     [ true ↦ number_on-min m more | false ↦ refl ]
 number_then-on (Behind n) byte more = refl
 
@@ -105,11 +122,14 @@ number_held-then (Behind n) = refl
 abbrev GameHeld : Game → List ℕ → Type 0
 GameHeld game value = (more : List ℕ) → eqb (number_then game more) 20 ≡ eqb (game_of (value ++ more)) 20
 
-GameHeld-on : (game : Game) (value : List ℕ) (byte : ℕ) → GameHeld game value → GameHeld (game_on game byte) (value ++ byte ∷ [])
-GameHeld-on game value byte held more = number_then-on game byte more ∙ held (byte ∷ more) ∙ ap (λ l. eqb (game_of l) 20) (sym (append_assoc value (byte ∷ []) more))
+GameHeld-on : (game : Game) (value : List ℕ) (byte : ℕ) → GameHeld game value
+    → GameHeld (game_on game byte) (value ++ byte ∷ [])
+GameHeld-on game value byte held more = number_then-on game byte more ∙ held (byte ∷ more)
+    ∙ ap (λ l. eqb (game_of l) 20) (sym (append_assoc value (byte ∷ []) more))
 
 GameHeld-end : (game : Game) (value : List ℕ) → GameHeld game value → eqb (number_held game) 20 ≡ eqb (game_of value) 20
-GameHeld-end game value held = ap (λ n. eqb n 20) (number_held-then game) ∙ held [] ∙ ap (λ l. eqb (game_of l) 20) (append-nil value)
+GameHeld-end game value held = ap (λ n. eqb n 20) (number_held-then game) ∙ held []
+    ∙ ap (λ l. eqb (game_of l) 20) (append-nil value)
 
 -- ---- the FEN tags
 abbrev FensHeld : List (List ℕ) → Kind → List ℕ → ℕ → List ℕ → Type 0
@@ -117,31 +137,40 @@ FensHeld [] kind value n text = (n ≡ 0) × (kind ≡ FenTag → text ≡ take 
 FensHeld (fen_text ∷ []) kind value n text = (n ≡ 1) × (text ≡ take 1025 fen_text)
 FensHeld (fen_text ∷ other ∷ fens) kind value n text = n ≡ 2
 
-FensHeld-value : (fens : List (List ℕ)) (value : List ℕ) (n : ℕ) (text : List ℕ) (byte : ℕ) → FensHeld fens FenTag value n text
+FensHeld-value : (fens : List (List ℕ)) (value : List ℕ) (n : ℕ) (text : List ℕ) (byte : ℕ)
+    → FensHeld fens FenTag value n text
     → FensHeld fens FenTag (value ++ byte ∷ []) n (cond (n == 0) (kept 1025 text byte) text)
-FensHeld-value [] value n text byte held = (held.0, λ is. rw held.0 (ap (λ l. kept 1025 l byte) (held.1 is) ∙ kept-take 1025 value byte))
+FensHeld-value [] value n text byte held = (
+  held.0,
+  λ is. rw held.0 (ap (λ l. kept 1025 l byte) (held.1 is) ∙ kept-take 1025 value byte),
+)
 FensHeld-value (f ∷ []) value n text byte held = (held.0, rw held.0 held.1)
 FensHeld-value (f ∷ other ∷ fens) value n text byte held = held
 
-FensHeld-open : (fens : List (List ℕ)) (kind new : Kind) (value : List ℕ) (n : ℕ) (text : List ℕ) → FensHeld fens kind value n text → FensHeld fens new [] n (cond (n == 0) [] text)
+FensHeld-open : (fens : List (List ℕ)) (kind new : Kind) (value : List ℕ) (n : ℕ) (text : List ℕ)
+    → FensHeld fens kind value n text → FensHeld fens new [] n (cond (n == 0) [] text)
 FensHeld-open [] kind new value n text held = (held.0, λ is. rw held.0 refl)
 FensHeld-open (f ∷ []) kind new value n text held = (held.0, rw held.0 held.1)
 FensHeld-open (f ∷ other ∷ fens) kind new value n text held = held
 
-FensHeld-other : (fens : List (List ℕ)) (kind : Kind) (value other : List ℕ) (n : ℕ) (text : List ℕ) → (kind ≡ FenTag → ⊥) → FensHeld fens kind value n text → FensHeld fens kind other n text
+FensHeld-other : (fens : List (List ℕ)) (kind : Kind) (value other : List ℕ) (n : ℕ) (text : List ℕ)
+    → (kind ≡ FenTag → ⊥) → FensHeld fens kind value n text → FensHeld fens kind other n text
 FensHeld-other [] kind value other n text none held = (held.0, λ is. absurd (none is))
 FensHeld-other (f ∷ []) kind value other n text none held = held
 FensHeld-other (f ∷ g ∷ fens) kind value other n text none held = held
 
-FensHeld-tag : (fens : List (List ℕ)) (kind : Kind) (value : List ℕ) (n : ℕ) (text : List ℕ) → (kind ≡ FenTag) → FensHeld fens kind value n text
+FensHeld-tag : (fens : List (List ℕ)) (kind : Kind) (value : List ℕ) (n : ℕ) (text : List ℕ) → (kind ≡ FenTag)
+    → FensHeld fens kind value n text
     → FensHeld (value ∷ fens) kind value (counted 2 n) text
 FensHeld-tag [] kind value n text is held = (rw held.0 refl, held.1 is)
 FensHeld-tag (f ∷ []) kind value n text is held = rw held.0 refl
 FensHeld-tag (f ∷ other ∷ fens) kind value n text is held = rw held refl
 
-fens_held-found : (g : Geometry) (fens : List (List ℕ)) (kind : Kind) (value : List ℕ) (n : ℕ) (text : List ℕ) → FensHeld fens kind value n text → fens_held g n text ≡ fens_found g fens
+fens_held-found : (g : Geometry) (fens : List (List ℕ)) (kind : Kind) (value : List ℕ) (n : ℕ) (text : List ℕ)
+    → FensHeld fens kind value n text → fens_held g n text ≡ fens_found g fens
 fens_held-found g [] kind value n text held = rw held.0 refl
-fens_held-found g (f ∷ []) kind value n text held = rw held.0 (ap (λ l. fen_found (fen g l)) held.1 ∙ ap fen_found (fen-take g f))
+fens_held-found g (f ∷ []) kind value n text held = rw held.0 (ap (λ l. fen_found (fen g l)) held.1
+    ∙ ap fen_found (fen-take g f))
 fens_held-found g (f ∷ other ∷ fens) kind value n text held = rw held refl
 
 -- ---- a section, and what is held of it
@@ -195,7 +224,8 @@ Holds-count s h r = record {
   wrong = r.wrong;
 }
 
-Holds-name : (s : Section) (h : Held) (byte : ℕ) → Holds s h → Holds (record s { name = s.name ++ byte ∷ [] }) (record h { name = kept 9 h.name byte })
+Holds-name : (s : Section) (h : Held) (byte : ℕ) → Holds s h
+    → Holds (record s { name = s.name ++ byte ∷ [] }) (record h { name = kept 9 h.name byte })
 Holds-name s h byte r = record {
   name = ap (λ l. kept 9 l byte) r.name ∙ kept-take 9 s.name byte;
   read = r.read;
@@ -221,8 +251,8 @@ Holds-no_name s h r = record {
   wrong = r.wrong;
 }
 
-Holds-open_value : (s : Section) (h : Held) → Holds s h
-    → Holds (record s { kind = kind_of s.name; value = [] }) (record h { kind = kind_of h.name; game = Before; fen_text = cond (h.fens == 0) [] h.fen_text })
+Holds-open_value : (s : Section) (h : Held) → Holds s h → Holds (record s { kind = kind_of s.name; value = [] })
+    (record h { kind = kind_of h.name; game = Before; fen_text = cond (h.fens == 0) [] h.fen_text })
 Holds-open_value s h r = record {
   kind = ap kind_of r.name ∙ kind_of-take s.name;
   fens = FensHeld-open s.fens s.kind (kind_of s.name) s.value h.fens h.fen_text r.fens;
@@ -235,11 +265,14 @@ Holds-open_value s h r = record {
   wrong = r.wrong;
 }
 
-Holds-value_of : (kind : Kind) (s : Section) (h : Held) (byte : ℕ) → s.kind ≡ kind → Holds s h → Holds (record s { value = s.value ++ byte ∷ [] }) (value_on kind h byte)
+Holds-value_of : (kind : Kind) (s : Section) (h : Held) (byte : ℕ) → s.kind ≡ kind → Holds s h
+    → Holds (record s { value = s.value ++ byte ∷ [] }) (value_on kind h byte)
 Holds-value_of FenTag s h byte is r =
-    let held : FensHeld s.fens FenTag s.value h.fens h.fen_text = subst (λ k. FensHeld s.fens k s.value h.fens h.fen_text) is r.fens in
+    let held : FensHeld s.fens FenTag s.value h.fens h.fen_text =
+    subst (λ k. FensHeld s.fens k s.value h.fens h.fen_text) is r.fens in
     record {
-      fens = subst (λ k. FensHeld s.fens k (s.value ++ byte ∷ []) h.fens (cond (h.fens == 0) (kept 1025 h.fen_text byte) h.fen_text)) (sym is)
+      fens = subst (λ k. FensHeld s.fens k (s.value ++ byte ∷ []) h.fens (cond (h.fens == 0) (kept 1025 h.fen_text byte)
+          h.fen_text)) (sym is)
           (FensHeld-value s.fens s.value h.fens h.fen_text byte held);
       game = λ other. absurd (let bad : FenTag ≡ GameTag = sym is ∙ other in cc);
       read = r.read;
@@ -251,7 +284,8 @@ Holds-value_of FenTag s h byte is r =
       wrong = r.wrong;
     }
 Holds-value_of GameTag s h byte is r = record {
-  fens = FensHeld-other s.fens s.kind s.value (s.value ++ byte ∷ []) h.fens h.fen_text (λ other. let bad : GameTag ≡ FenTag = sym is ∙ other in cc) r.fens;
+  fens = FensHeld-other s.fens s.kind s.value (s.value ++ byte ∷ []) h.fens h.fen_text (λ other. let bad : GameTag
+      ≡ FenTag = sym is ∙ other in cc) r.fens;
   game = λ same. GameHeld-on h.game s.value byte (r.game same);
   read = r.read;
   size = r.size;
@@ -262,7 +296,8 @@ Holds-value_of GameTag s h byte is r = record {
   wrong = r.wrong;
 }
 Holds-value_of OtherTag s h byte is r = record {
-  fens = FensHeld-other s.fens s.kind s.value (s.value ++ byte ∷ []) h.fens h.fen_text (λ other. let bad : OtherTag ≡ FenTag = sym is ∙ other in cc) r.fens;
+  fens = FensHeld-other s.fens s.kind s.value (s.value ++ byte ∷ []) h.fens h.fen_text (λ other. let bad : OtherTag
+      ≡ FenTag = sym is ∙ other in cc) r.fens;
   game = λ other. absurd (let bad : OtherTag ≡ GameTag = sym is ∙ other in cc);
   read = r.read;
   size = r.size;
@@ -273,10 +308,12 @@ Holds-value_of OtherTag s h byte is r = record {
   wrong = r.wrong;
 }
 
-Holds-value : (s : Section) (h : Held) (byte : ℕ) → Holds s h → Holds (record s { value = s.value ++ byte ∷ [] }) (value_on h.kind h byte)
+Holds-value : (s : Section) (h : Held) (byte : ℕ) → Holds s h
+    → Holds (record s { value = s.value ++ byte ∷ [] }) (value_on h.kind h byte)
 Holds-value s h byte r = Holds-value_of h.kind s h byte (sym r.kind) r
 
-Holds-tag_of : (kind : Kind) (s : Section) (h : Held) → s.kind ≡ kind → Holds s h → Holds (with_tag kind s) (tag_on kind h)
+Holds-tag_of : (kind : Kind) (s : Section) (h : Held) → s.kind ≡ kind → Holds s h
+    → Holds (with_tag kind s) (tag_on kind h)
 Holds-tag_of FenTag s h is r = record {
   fens = FensHeld-tag s.fens s.kind s.value h.fens h.fen_text is r.fens;
   read = r.read;
@@ -306,7 +343,8 @@ Holds-tag_of OtherTag s h is r = r
 Holds-tag : (s : Section) (h : Held) → Holds s h → Holds (with_tag s.kind s) (tag_on h.kind h)
 Holds-tag s h r = subst (λ k. Holds (with_tag s.kind s) (tag_on k h)) (sym r.kind) (Holds-tag_of s.kind s h refl r)
 
-Holds-size : (s : Section) (h : Held) (n m : ℕ) → m ≡ min n 65537 → Holds s h → Holds (record s { size = n }) (record h { size = m })
+Holds-size : (s : Section) (h : Held) (n m : ℕ) → m ≡ min n 65537 → Holds s h
+    → Holds (record s { size = n }) (record h { size = m })
 Holds-size s h n m e r = record {
   size = e;
   read = r.read;
@@ -319,7 +357,8 @@ Holds-size s h n m e r = record {
   wrong = r.wrong;
 }
 
-Holds-unclosed : (s : Section) (h : Held) → Holds s h → Holds (record s { is_unclosed = true }) (record h { is_unclosed = true })
+Holds-unclosed : (s : Section) (h : Held) → Holds s h
+    → Holds (record s { is_unclosed = true }) (record h { is_unclosed = true })
 Holds-unclosed s h r = record {
   unclosed = refl;
   read = r.read;
@@ -343,11 +382,14 @@ Holds-after (AddBoth byte) s h r =
     let counting = Holds-count s h r in
     let counted_s : Section = record s { read = s.read + 1 } in
     let first = Holds-value_of h.kind counted_s (counted_in h) 92 (sym r.kind) counting in
-    Holds-value_of h.kind (record counted_s { value = s.value ++ 92 ∷ [] }) (value_on h.kind (counted_in h) 92) byte (sym r.kind) first
+    Holds-value_of h.kind (record counted_s { value = s.value ++ 92 ∷ [] }) (value_on h.kind (counted_in h) 92) byte
+    (sym r.kind) first
 Holds-after Close s h r =
     let counting = Holds-count s h r in
-    Holds-tag (record s { read = s.read + 1; size = s.read + 1 }) (record (counted_in h) { size = counted 65537 h.read })
-    (Holds-size (record s { read = s.read + 1 }) (counted_in h) (s.read + 1) (counted 65537 h.read) counting.read counting)
+    Holds-tag (record s { read = s.read + 1; size = s.read + 1 })
+    (record (counted_in h) { size = counted 65537 h.read })
+    (Holds-size (record s { read = s.read + 1 }) (counted_in h) (s.read + 1) (counted 65537 h.read) counting.read
+    counting)
 Holds-after Break s h r = Holds-unclosed _ _ (Holds-count s h r)
 Holds-after EndLine s h r = Holds-unclosed _ _ (Holds-size _ _ s.read h.read r.read (Holds-count s h r))
 Holds-after NextTag s h r = Holds-no_name _ _ (Holds-count s h r)
@@ -356,20 +398,31 @@ Holds-after End s h r = r
 -- ---- what they say
 is_wrong-held : (g : Geometry) (s : Section) (h : Held) → Holds s h → is_wrong_held g h ≡ is_wrong g s.games
 is_wrong-held g s h r =
-    elim (g.rows == 10) as (λ v. cond v h.is_wrong h.has_game ≡ list_any (λ game. not (v && (game == 20))) s.games) [ true ↦ r.wrong | false ↦ r.has_game ]
+    elim (g.rows == 10) as (λ v. cond v h.is_wrong h.has_game ≡ list_any (λ game. not (v && (game == 20))) s.games)
+    [ true ↦ r.wrong | false ↦ r.has_game ]
 
 Holds-found : (g : Geometry) (s : Section) (h : Held) → Holds s h → held_found g h ≡ section_found g s
-Holds-found g s h r = rw (r.size, over-min 65536 s.size, r.unclosed, is_wrong-held g s h r, fens_held-found g s.fens s.kind s.value h.fens h.fen_text r.fens) refl
+Holds-found g s h r = rw (
+  r.size,
+  over-min 65536 s.size,
+  r.unclosed,
+  is_wrong-held g s h r,
+  fens_held-found g s.fens s.kind s.value h.fens h.fen_text r.fens,
+) refl
 
-Holds-from : (at_end : Bool) (g : Geometry) (place : Place) (s : Section) (h : Held) (bytes : List ℕ) → Holds s h → held_from at_end g place h bytes ≡ sections_found at_end g place s bytes
+Holds-from : (at_end : Bool) (g : Geometry) (place : Place) (s : Section) (h : Held) (bytes : List ℕ) → Holds s h
+    → held_from at_end g place h bytes ≡ sections_found at_end g place s bytes
 Holds-from at_end g place s h [] r =
     ap (λ f. cond at_end (found_at_end place f (held_found g (held_after EndLine h))) []) (Holds-found g s h r)
-    ∙ ap (λ f. cond at_end (found_at_end place (section_found g s) f) []) (Holds-found g (after EndLine s) (held_after EndLine h) (Holds-after EndLine s h r))
+    ∙ ap (λ f. cond at_end (found_at_end place (section_found g s) f) [])
+    (Holds-found g (after EndLine s) (held_after EndLine h) (Holds-after EndLine s h r))
 Holds-from at_end g place s h (byte ∷ bytes) r =
     let deed = (step place byte).deed in
     let next = (step place byte).place in
     ap (λ f. found_by deed f ++ held_from at_end g next (held_after deed h) bytes) (Holds-found g s h r)
-    ∙ ap (λ l. found_by deed (section_found g s) ++ l) (Holds-from at_end g next (after deed s) (held_after deed h) bytes (Holds-after deed s h r))
+    ∙ ap (λ l. found_by deed (section_found g s) ++ l) (Holds-from at_end g next (after deed s) (held_after deed h)
+    bytes (Holds-after deed s h r))
 
-pub held_from-bare : (at_end : Bool) (g : Geometry) (place : Place) (bytes : List ℕ) → held_from at_end g place held_bare bytes ≡ sections_found at_end g place bare bytes
+pub held_from-bare : (at_end : Bool) (g : Geometry) (place : Place) (bytes : List ℕ)
+    → held_from at_end g place held_bare bytes ≡ sections_found at_end g place bare bytes
 held_from-bare at_end g place bytes = Holds-from at_end g place bare held_bare bytes Holds-bare

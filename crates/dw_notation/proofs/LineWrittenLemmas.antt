@@ -1,5 +1,7 @@
 -- Lemmas on the text of a line that goes on move by move, and back.
-use Rattle.std.proofs.Common.{◌≡◌, ◌≤◌, ◌<◌, ◌+◌, ◌-◌, ◌%◌, ◌/◌, ◌*◌, ◌==◌, ◌⊎◌, ℕ, zero, suc, List, [], ◌∷◌, ◌++◌, length, length-append, append_assoc, append-nil, get_or, take, drop, map, add-one, refl, sym, ap, ◌∙◌, subst, arith, inl, inr, decimal, codes, cond, Bool, true, false}
+use Rattle.std.proofs.Common.{◌≡◌, ◌≤◌, ◌<◌, ◌+◌, ◌-◌, ◌%◌, ◌/◌, ◌*◌, ◌==◌, ◌⊎◌, ℕ, zero, suc, List, [], ◌∷◌, ◌++◌}
+use Rattle.std.proofs.Common.{length, length-append, append_assoc, append-nil, get_or, take, drop, map, add-one, refl}
+use Rattle.std.proofs.Common.{sym, ap, ◌∙◌, subst, arith, inl, inr, decimal, codes, cond, Bool, true, false}
 use Rattle.std.proofs.lemmas.List.{take_more, take_all, drop_more, take-append-drop, length-drop}
 use Rattle.std.proofs.lemmas.Bool.{cases_order}
 use Rattle.std.specs.String.Boundary.{IsSplitPoint}
@@ -17,18 +19,22 @@ abbrev pub added : ℕ → List ℕ → List ℕ
 added ply word = onto ply (numbered ply (word ∷ []))
 
 -- the text begins with what stands before the words
-written_begins : {B : Type 0} (g : Geometry) (p : Placement) (ply : ℕ) (before : List ℕ) (plies : List (Ply B)) (text : List ℕ) → AreWritten g p ply before plies text → (rest : List ℕ) × (text ≡ before ++ rest)
+written_begins : {B : Type 0} (g : Geometry) (p : Placement) (ply : ℕ) (before : List ℕ) (plies : List (Ply B))
+    (text : List ℕ) → AreWritten g p ply before plies text → (rest : List ℕ) × (text ≡ before ++ rest)
 written_begins g p ply before [] text h = ([], h ∙ sym (append-nil before))
 written_begins g p ply before (x ∷ plies) text h =
     let r = written_begins g x.after (ply + 1) (before ++ added ply h.0) plies text h.5 in
     (added ply h.0 ++ r.0, r.1 ∙ append_assoc before (added ply h.0) r.0)
 
-blank_first : (number word : List ℕ) (attacks : Bool) → (rest : List ℕ) × (spaced (cond attacks (number ∷ (word ∷ [])) (word ∷ [])) ≡ 32 ∷ rest)
+blank_first : (number word : List ℕ) (attacks : Bool) → (rest : List ℕ)
+    × (spaced (cond attacks (number ∷ (word ∷ [])) (word ∷ [])) ≡ 32 ∷ rest)
 blank_first number word true = (number ++ spaced (word ∷ []), refl)
 blank_first number word false = (word ++ spaced [], refl)
 
 -- what stands behind it begins with a blank
-written_blank : {B : Type 0} (g : Geometry) (p : Placement) (ply : ℕ) (before : List ℕ) (plies : List (Ply B)) (text : List ℕ) → 0 < ply → AreWritten g p ply before plies text → (text ≡ before) ⊎ ((rest : List ℕ) × (text ≡ before ++ (32 ∷ rest)))
+written_blank : {B : Type 0} (g : Geometry) (p : Placement) (ply : ℕ) (before : List ℕ) (plies : List (Ply B))
+    (text : List ℕ) → 0 < ply → AreWritten g p ply before plies text → (text ≡ before)
+    ⊎ ((rest : List ℕ) × (text ≡ before ++ (32 ∷ rest)))
 written_blank g p ply before [] text later h = inl h
 written_blank g p ply before (x ∷ plies) text later h =
     let r = written_begins g x.after (ply + 1) (before ++ added ply h.0) plies text h.5 in
@@ -45,67 +51,112 @@ take_front [] rest = refl
 take_front (b ∷ before) rest = ap (λ z. b ∷ z) (take_front before rest)
 
 -- the text up to the end of some moves
-kept_none : {B : Type 0} (g : Geometry) (p : Placement) (ply base : ℕ) (before : List ℕ) (plies : List (Ply B)) (text : List ℕ) → base ≡ length before → AreWritten g p ply before plies text → take base text ≡ before
+kept_none : {B : Type 0} (g : Geometry) (p : Placement) (ply base : ℕ) (before : List ℕ) (plies : List (Ply B))
+    (text : List ℕ) → base ≡ length before → AreWritten g p ply before plies text → take base text ≡ before
 kept_none g p ply base before plies text e h =
     let r = written_begins g p ply before plies text h in
     ap (λ k. take k text) e ∙ (ap (take (length before)) r.1 ∙ take_front before r.0)
 
-pub written_keep : {B : Type 0} (g : Geometry) (p : Placement) (ply base k : ℕ) (before : List ℕ) (plies : List (Ply B)) (text : List ℕ) → base ≡ length before → AreWritten g p ply before plies text → AreWritten g p ply before (take k plies) (take (len_to base k plies) text)
+pub written_keep : {B : Type 0} (g : Geometry) (p : Placement) (ply base k : ℕ) (before : List ℕ) (plies : List (Ply B))
+    (text : List ℕ) → base ≡ length before → AreWritten g p ply before plies text
+    → AreWritten g p ply before (take k plies) (take (len_to base k plies) text)
 written_keep {B} g p ply base zero before [] text e h = kept_none {B = B} g p ply base before [] text e h
-written_keep {B} g p ply base zero before (x ∷ plies) text e h = kept_none {B = B} g p ply base before (x ∷ plies) text e h
+written_keep {B} g p ply base zero before (x ∷ plies) text e h = kept_none {B = B} g p ply base before (x ∷ plies) text
+    e h
 written_keep {B} g p ply base (suc k) before [] text e h = kept_none {B = B} g p ply base before [] text e h
-written_keep {B} g p ply base (suc k) before (x ∷ plies) text e h = (h.0, h.1, h.2, h.3, h.4, written_keep g x.after (ply + 1) x.len k (before ++ added ply h.0) plies text h.4 h.5)
+written_keep {B} g p ply base (suc k) before (x ∷ plies) text e h =
+    (h.0, h.1, h.2, h.3, h.4, written_keep g x.after (ply + 1) x.len k (before ++ added ply h.0) plies text h.4 h.5)
 
 -- it may be cut there
-split_here : {B : Type 0} (g : Geometry) (p : Placement) (ply base : ℕ) (before : List ℕ) (plies : List (Ply B)) (text : List ℕ) → base ≡ length before → (0 < base → 0 < ply) → AreWritten g p ply before plies text → IsSplitPoint text base
+split_here : {B : Type 0} (g : Geometry) (p : Placement) (ply base : ℕ) (before : List ℕ) (plies : List (Ply B))
+    (text : List ℕ) → base ≡ length before → (0 < base → 0 < ply) → AreWritten g p ply before plies text
+    → IsSplitPoint text base
 split_here g p ply base before plies text e later h =
     let r = written_begins g p ply before plies text h in (
       omega (arith, e, ap length r.1, length-append before r.0),
       (λ some low high. elim (written_blank g p ply before plies text (later some) h) [
         | inl all ↦ absurd (omega (arith, e, low, ap length all))
         | inr more ↦
-            let at : get_or text base 0 ≡ 32 = ap (λ z. get_or z base 0) more.1 ∙ (ap (λ k. get_or (before ++ (32 ∷ more.0)) k 0) e ∙ index_behind before more.0 32) in
+            let at : get_or text base 0 ≡ 32 = ap (λ z. get_or z base 0) more.1
+            ∙ (ap (λ k. get_or (before ++ (32 ∷ more.0)) k 0) e ∙ index_behind before more.0 32) in
             absurd (omega (arith, at, high))
       ]),
     )
 
-pub written_split : {B : Type 0} (g : Geometry) (p : Placement) (ply base k : ℕ) (before : List ℕ) (plies : List (Ply B)) (text : List ℕ) → base ≡ length before → (0 < base → 0 < ply) → AreWritten g p ply before plies text → IsSplitPoint text (len_to base k plies)
+pub written_split : {B : Type 0} (g : Geometry) (p : Placement) (ply base k : ℕ) (before : List ℕ)
+    (plies : List (Ply B)) (text : List ℕ) → base ≡ length before → (0 < base → 0 < ply)
+    → AreWritten g p ply before plies text → IsSplitPoint text (len_to base k plies)
 written_split {B} g p ply base zero before [] text e later h = split_here {B = B} g p ply base before [] text e later h
-written_split {B} g p ply base zero before (x ∷ plies) text e later h = split_here {B = B} g p ply base before (x ∷ plies) text e later h
-written_split {B} g p ply base (suc k) before [] text e later h = split_here {B = B} g p ply base before [] text e later h
-written_split {B} g p ply base (suc k) before (x ∷ plies) text e later h = written_split g x.after (ply + 1) x.len k (before ++ added ply h.0) plies text h.4 (λ some. omega arith) h.5
+written_split {B} g p ply base zero before (x ∷ plies) text e later h = split_here {B = B} g p ply base before
+    (x ∷ plies) text e later h
+written_split {B} g p ply base (suc k) before [] text e later h = split_here {B = B} g p ply base before [] text e later
+    h
+written_split {B} g p ply base (suc k) before (x ∷ plies) text e later h = written_split g x.after (ply + 1) x.len k
+    (before ++ added ply h.0) plies text h.4 (λ some. omega arith) h.5
 
 -- it is the text of the line
-pub written_words : {B : Type 0} (g : Geometry) (p : Placement) (ply : ℕ) (before : List ℕ) (plies : List (Ply B)) (text : List ℕ) → AreWritten g p ply before plies text
-    → (words : List (List ℕ)) × AreWords g p ply (map (λ (x : Ply B). x.mv) plies) words × (text ≡ before ++ onto ply words)
-written_words g p ply before [] text h = ([], refl, h ∙ (sym (append-nil before) ∙ ap (λ z. before ++ z) (sym (onto_none ply))))
+pub written_words : {B : Type 0} (g : Geometry) (p : Placement) (ply : ℕ) (before : List ℕ) (plies : List (Ply B))
+    (text : List ℕ) → AreWritten g p ply before plies text
+    → (words : List (List ℕ)) × AreWords g p ply (map (λ (x : Ply B). x.mv) plies) words
+    × (text ≡ before ++ onto ply words)
+written_words g p ply before [] text h = (
+  [],
+  refl,
+  h ∙ (sym (append-nil before) ∙ ap (λ z. before ++ z) (sym (onto_none ply))),
+)
 written_words {B} g p ply before (x ∷ plies) text h =
     let r = written_words g x.after (ply + 1) (before ++ added ply h.0) plies text h.5 in
-    let words : AreWords g (play g p x.mv) (ply + 1) (map (λ (y : Ply B). y.mv) plies) r.0 = subst (λ z. AreWords g z (ply + 1) (map (λ (y : Ply B). y.mv) plies) r.0) h.3 r.1 in
+    let words : AreWords g (play g p x.mv) (ply + 1) (map (λ (y : Ply B). y.mv) plies) r.0 =
+    subst (λ z. AreWords g z (ply + 1) (map (λ (y : Ply B). y.mv) plies) r.0) h.3 r.1 in
     let joined : (before ++ added ply h.0) ++ onto (ply + 1) r.0 ≡ before ++ onto ply (numbered ply (h.0 ∷ r.0)) =
-    append_assoc before (added ply h.0) (onto (ply + 1) r.0) ∙ ap (λ z. before ++ z) (ap (λ z. added ply h.0 ++ z) (onto_later (ply + 1) r.0 (omega arith)) ∙ sym (numbered_onto ply h.0 r.0)) in
+    append_assoc before (added ply h.0) (onto (ply + 1) r.0)
+    ∙ ap (λ z. before ++ z) (ap (λ z. added ply h.0 ++ z) (onto_later (ply + 1) r.0 (omega arith))
+    ∙ sym (numbered_onto ply h.0 r.0)) in
     (numbered ply (h.0 ∷ r.0), (h.0, r.0, h.1, words, refl), r.2 ∙ joined)
 
-pub written_line : {B : Type 0} (g : Geometry) (p : Placement) (plies : List (Ply B)) (text : List ℕ) → AreWritten g p 0 [] plies text → IsLineText g p (map (λ (x : Ply B). x.mv) plies) text
+pub written_line : {B : Type 0} (g : Geometry) (p : Placement) (plies : List (Ply B)) (text : List ℕ)
+    → AreWritten g p 0 [] plies text → IsLineText g p (map (λ (x : Ply B). x.mv) plies) text
 written_line g p plies text h = let r = written_words g p 0 [] plies text h in (r.0, r.1, r.2)
 
 -- one move more
-pub written_push : {B : Type 0} (g : Geometry) (p q : Placement) (ply k : ℕ) (before : List ℕ) (plies : List (Ply B)) (text new word : List ℕ) (x : Ply B) → AreWritten g p ply before plies text → q ≡ end_from p plies → k ≡ ply + length plies
-    → IsMoveText g q x.mv word → length word ≤ 62 → x.after ≡ play g q x.mv → new ≡ text ++ added k word → x.len ≡ length new → AreWritten g p ply before (plies ++ x ∷ []) new
+pub written_push : {B : Type 0} (g : Geometry) (p q : Placement) (ply k : ℕ) (before : List ℕ) (plies : List (Ply B))
+    (text new word : List ℕ) (x : Ply B) → AreWritten g p ply before plies text → q ≡ end_from p plies
+    → k ≡ ply + length plies
+    → IsMoveText g q x.mv word → length word ≤ 62 → x.after ≡ play g q x.mv → new ≡ text ++ added k word
+    → x.len ≡ length new → AreWritten g p ply before (plies ++ x ∷ []) new
 written_push g p q ply k before [] text new word x h end count is short after e len =
     let same : k ≡ ply = omega (arith, count) in
-    let made : new ≡ before ++ added ply word = e ∙ (ap (λ z. z ++ added k word) h ∙ ap (λ z. before ++ added z word) same) in
-    (word, subst (λ z. IsMoveText g z x.mv word) end is, short, after ∙ ap (λ z. play g z x.mv) end, len ∙ ap length made, made)
-written_push g p q ply k before (y ∷ plies) text new word x h end count is short after e len =
-    (h.0, h.1, h.2, h.3, h.4, written_push g y.after q (ply + 1) k (before ++ added ply h.0) plies text new word x h.5 end (omega (arith, count)) is short after e len)
+    let made : new ≡ before ++ added ply word = e
+    ∙ (ap (λ z. z ++ added k word) h ∙ ap (λ z. before ++ added z word) same) in (
+      word,
+      subst (λ z. IsMoveText g z x.mv word) end is,
+      short,
+      after ∙ ap (λ z. play g z x.mv) end,
+      len ∙ ap length made,
+      made,
+    )
+written_push g p q ply k before (y ∷ plies) text new word x h end count is short after e len = (
+  h.0,
+  h.1,
+  h.2,
+  h.3,
+  h.4,
+  written_push g y.after q (ply + 1) k (before ++ added ply h.0) plies text new word x h.5
+      end (omega (arith, count)) is short after e len,
+)
 
-pub written_pushed : {B : Type 0} (g : Geometry) (p q after : Placement) (k len : ℕ) (plies now : List (Ply B)) (text new word : List ℕ) (m : Move) → AreWritten g p 0 [] plies text → q ≡ end_from p plies → k ≡ 0 + length plies
-    → IsMoveText g q m word → length word ≤ 62 → after ≡ play g q m → new ≡ text ++ added k word → len ≡ length new → now ≡ plies ++ record { mv = m; after = after; len = len } ∷ [] → AreWritten g p 0 [] now new
+pub written_pushed : {B : Type 0} (g : Geometry) (p q after : Placement) (k len : ℕ) (plies now : List (Ply B))
+    (text new word : List ℕ) (m : Move) → AreWritten g p 0 [] plies text → q ≡ end_from p plies → k ≡ 0 + length plies
+    → IsMoveText g q m word → length word ≤ 62 → after ≡ play g q m → new ≡ text ++ added k word → len ≡ length new
+    → now ≡ plies ++ record { mv = m; after = after; len = len } ∷ [] → AreWritten g p 0 [] now new
 written_pushed g p q after k len plies now text new word m h end count is short played e long made =
-    subst (λ z. AreWritten g p 0 [] z new) (sym made) (written_push g p q 0 k [] plies text new word (record { mv = m; after = after; len = len }) h end count is short played e long)
+    subst (λ z. AreWritten g p 0 [] z new) (sym made) (written_push g p q 0 k [] plies text new word
+    (record { mv = m; after = after; len = len }) h end count is short played e long)
 
 -- it is short
-pub written_room : {B : Type 0} (g : Geometry) (p : Placement) (ply k : ℕ) (before : List ℕ) (plies : List (Ply B)) (text : List ℕ) → AreWritten g p ply before plies text → k ≡ ply + length plies → k ≤ 39 → length before ≤ 65 * ply + 2 * (ply % 2) → length text ≤ 65 * k + 2 * (k % 2)
+pub written_room : {B : Type 0} (g : Geometry) (p : Placement) (ply k : ℕ) (before : List ℕ) (plies : List (Ply B))
+    (text : List ℕ) → AreWritten g p ply before plies text → k ≡ ply + length plies → k ≤ 39
+    → length before ≤ 65 * ply + 2 * (ply % 2) → length text ≤ 65 * k + 2 * (k % 2)
 written_room g p ply k before [] text h count few room =
     let same : ply ≡ k = omega (arith, count) in
     subst (λ z. length text ≤ 65 * z + 2 * (z % 2)) same (subst (λ z. length z ≤ 65 * ply + 2 * (ply % 2)) (sym h) room)
@@ -115,36 +166,41 @@ written_room g p ply k before (x ∷ plies) text h count few room =
 
 -- WHAT STANDS AT A MOVE
 
-pub end_at : {B : Type 0} (p : Placement) (plies : List (Ply B)) (i : ℕ) (d : Ply B) → i + 1 ≡ length plies → end_from p plies ≡ (get_or plies i d).after
+pub end_at : {B : Type 0} (p : Placement) (plies : List (Ply B)) (i : ℕ) (d : Ply B) → i + 1 ≡ length plies
+    → end_from p plies ≡ (get_or plies i d).after
 end_at p [] i d e = absurd (omega (arith, e))
 end_at p (x ∷ []) zero d e = refl
 end_at p (x ∷ []) (suc i) d e = absurd (omega (arith, e))
 end_at p (x ∷ y ∷ plies) zero d e = absurd (omega (arith, e))
 end_at p (x ∷ y ∷ plies) (suc i) d e = end_at x.after (y ∷ plies) i d (omega (arith, e))
 
-pub len_at : {B : Type 0} (base : ℕ) (plies : List (Ply B)) (i : ℕ) (d : Ply B) → i < length plies → len_to base (suc i) plies ≡ (get_or plies i d).len
+pub len_at : {B : Type 0} (base : ℕ) (plies : List (Ply B)) (i : ℕ) (d : Ply B) → i < length plies
+    → len_to base (suc i) plies ≡ (get_or plies i d).len
 len_at base [] i d low = absurd (omega (arith, low))
 len_at base (x ∷ []) zero d low = refl
 len_at base (x ∷ y ∷ plies) zero d low = refl
 len_at base (x ∷ plies) (suc i) d low = len_at x.len plies i d (omega (arith, low))
 
-pub len_all : {B : Type 0} (base : ℕ) (plies : List (Ply B)) (k : ℕ) → length plies ≤ k → len_to base k plies ≡ len_to base (length plies) plies
+pub len_all : {B : Type 0} (base : ℕ) (plies : List (Ply B)) (k : ℕ) → length plies ≤ k → len_to base k plies
+    ≡ len_to base (length plies) plies
 len_all base [] zero all = refl
 len_all base [] (suc k) all = refl
 len_all base (x ∷ plies) zero all = absurd (omega (arith, all))
 len_all base (x ∷ plies) (suc k) all = len_all x.len plies k (omega (arith, all))
 
 -- the length at the last move that is kept
-pub len_found : {B : Type 0} (base : ℕ) (plies : List (Ply B)) (k i : ℕ) (x : Ply B) → i < length plies → i + 1 ≤ k → (i + 1 < k → i + 1 ≡ length plies) → x ≡ get_or plies i x → x.len ≡ len_to base k plies
-len_found {B} base plies k i x low within end is = ap (λ (z : Ply B). z.len) is ∙ (sym (len_at base plies i x low) ∙ elim (cases_order k (suc i)) [
-  | inl e ↦ ap (λ z. len_to base z plies) (sym e)
-  | inr other ↦ elim other [
-    | inl less ↦ absurd (omega (arith, less, within))
-    | inr more ↦
-        let all : length plies ≡ suc i = sym (end (omega (arith, more))) ∙ add-one i in
-        ap (λ z. len_to base z plies) (sym all) ∙ sym (len_all base plies k (omega (arith, all, more)))
-  ]
-])
+pub len_found : {B : Type 0} (base : ℕ) (plies : List (Ply B)) (k i : ℕ) (x : Ply B) → i < length plies → i + 1 ≤ k
+    → (i + 1 < k → i + 1 ≡ length plies) → x ≡ get_or plies i x → x.len ≡ len_to base k plies
+len_found {B} base plies k i x low within end is = ap (λ (z : Ply B). z.len) is ∙ (sym (len_at base plies i x low)
+    ∙ elim (cases_order k (suc i)) [
+      | inl e ↦ ap (λ z. len_to base z plies) (sym e)
+      | inr other ↦ elim other [
+        | inl less ↦ absurd (omega (arith, less, within))
+        | inr more ↦
+            let all : length plies ≡ suc i = sym (end (omega (arith, more))) ∙ add-one i in
+            ap (λ z. len_to base z plies) (sym all) ∙ sym (len_all base plies k (omega (arith, all, more)))
+      ]
+    ])
 
 pub end_push : {B : Type 0} (p : Placement) (plies : List (Ply B)) (x : Ply B) → end_from p (plies ++ x ∷ []) ≡ x.after
 end_push p [] x = refl
@@ -152,21 +208,32 @@ end_push p (y ∷ plies) x = end_push y.after plies x
 
 -- A LINE SO FAR
 
-pub next_legal : (g : Geometry) (p : Placement) (moves : List Move) (i : ℕ) (m : Move) → ArePlayable g p (drop i moves) → i < length moves → m ≡ get_or moves i m → Legal g p m × ArePlayable g (play g p m) (drop (i + 1) moves)
-next_legal g p moves i m h low is = subst (ArePlayable g p) (drop_more moves i m low ∙ ap (λ z. z ∷ drop (i + 1) moves) (sym is)) h
+pub next_legal : (g : Geometry) (p : Placement) (moves : List Move) (i : ℕ) (m : Move) → ArePlayable g p (drop i moves)
+    → i < length moves → m ≡ get_or moves i m → Legal g p m × ArePlayable g (play g p m) (drop (i + 1) moves)
+next_legal g p moves i m h low is = subst (ArePlayable g p) (drop_more moves i m low
+    ∙ ap (λ z. z ∷ drop (i + 1) moves) (sym is)) h
 
-pub moves_more : (front rest taken new : List Move) (i : ℕ) (m : Move) → i < length rest → m ≡ get_or rest i m → taken ≡ front ++ take i rest → new ≡ taken ++ m ∷ [] → new ≡ front ++ take (i + 1) rest
-moves_more front rest taken new i m low is h e = e ∙ (ap (λ z. z ++ m ∷ []) h ∙ (append_assoc front (take i rest) (m ∷ []) ∙ ap (λ z. front ++ z) (ap (λ z. take i rest ++ z ∷ []) is ∙ sym (take_more rest i m low))))
+pub moves_more : (front rest taken new : List Move) (i : ℕ) (m : Move) → i < length rest → m ≡ get_or rest i m
+    → taken ≡ front ++ take i rest → new ≡ taken ++ m ∷ [] → new ≡ front ++ take (i + 1) rest
+moves_more front rest taken new i m low is h e = e
+    ∙ (ap (λ z. z ++ m ∷ []) h ∙ (append_assoc front (take i rest) (m ∷ [])
+    ∙ ap (λ z. front ++ z) (ap (λ z. take i rest ++ z ∷ []) is ∙ sym (take_more rest i m low))))
 
 -- behind the moves that are kept the rest can be played
-playable_behind : {B : Type 0} (g : Geometry) (p : Placement) (ply : ℕ) (before : List ℕ) (plies : List (Ply B)) (text : List ℕ) (rest : List Move) → AreWritten g p ply before plies text → ArePlayable g p (map (λ (x : Ply B). x.mv) plies ++ rest) → ArePlayable g (end_from p plies) rest
+playable_behind : {B : Type 0} (g : Geometry) (p : Placement) (ply : ℕ) (before : List ℕ) (plies : List (Ply B))
+    (text : List ℕ) (rest : List Move) → AreWritten g p ply before plies text
+    → ArePlayable g p (map (λ (x : Ply B). x.mv) plies ++ rest) → ArePlayable g (end_from p plies) rest
 playable_behind g p ply before [] text rest h k = k
 playable_behind {B} g p ply before (x ∷ plies) text rest h k =
-    playable_behind g x.after (ply + 1) (before ++ added ply h.0) plies text rest h.5 (subst (λ z. ArePlayable g z (map (λ (y : Ply B). y.mv) plies ++ rest)) (sym h.3) k.1)
+    playable_behind g x.after (ply + 1) (before ++ added ply h.0) plies text rest h.5
+    (subst (λ z. ArePlayable g z (map (λ (y : Ply B). y.mv) plies ++ rest)) (sym h.3) k.1)
 
-pub playable_from : {B : Type 0} (g : Geometry) (p : Placement) (plies : List (Ply B)) (text : List ℕ) (line : List Move) (shared : ℕ) → AreWritten g p 0 [] plies text → map (λ (x : Ply B). x.mv) plies ≡ take shared line → ArePlayable g p line → ArePlayable g (end_from p plies) (drop shared line)
+pub playable_from : {B : Type 0} (g : Geometry) (p : Placement) (plies : List (Ply B)) (text : List ℕ)
+    (line : List Move) (shared : ℕ) → AreWritten g p 0 [] plies text → map (λ (x : Ply B). x.mv) plies
+    ≡ take shared line → ArePlayable g p line → ArePlayable g (end_from p plies) (drop shared line)
 playable_from {B} g p plies text line shared h same k =
-    playable_behind g p 0 [] plies text (drop shared line) h (subst (ArePlayable g p) (sym (take-append-drop shared line) ∙ ap (λ z. z ++ drop shared line) (sym same)) k)
+    playable_behind g p 0 [] plies text (drop shared line) h
+    (subst (ArePlayable g p) (sym (take-append-drop shared line) ∙ ap (λ z. z ++ drop shared line) (sym same)) k)
 
 pub rest_is : (line : List Move) (shared : ℕ) → take (length line - shared) (drop shared line) ≡ drop shared line
 rest_is line shared = take_all (length line - shared) (drop shared line) (omega (arith, length-drop shared line))

@@ -1,5 +1,7 @@
 -- Lemmas on lines that are too long to be FEN texts: their length, their blankness and their last byte say all.
-use Rattle.std.proofs.Common.{◌≡◌, ℕ, ◌==◌, ◌+◌, ◌-◌, ◌<◌, ◌≤◌, ◌⊎◌, inl, inr, List, [], ◌∷◌, ◌++◌, length, take, slice_index, replicate, Bool, true, false, cond, ◌&&◌, Option, Some, Err, refl, sym, ap, ◌∙◌, append-nil, arith, length-append, min, if◌then◌else◌}
+use Rattle.std.proofs.Common.{◌≡◌, ℕ, ◌==◌, ◌+◌, ◌-◌, ◌<◌, ◌≤◌, ◌⊎◌, inl, inr, List, [], ◌∷◌, ◌++◌, length, take}
+use Rattle.std.proofs.Common.{slice_index, replicate, Bool, true, false, cond, ◌&&◌, Option, Some, Err, refl, sym, ap}
+use Rattle.std.proofs.Common.{◌∙◌, append-nil, arith, length-append, min, if◌then◌else◌}
 use Prim.Native.Nat.{zero, suc}
 use Rattle.std.proofs.lemmas.List.{length-take-le, length-replicate, get_or-append-add}
 use Rattle.std.proofs.lemmas.List.Folds.{list_all-append, list_all_more}
@@ -15,7 +17,8 @@ use Rattle.dw_notation.specs.declared.problems.ProblemFault.TheVariants.{LineToo
 
 -- what a long line says, by its length, by whether it is blank up to its last byte, and by that byte
 abbrev pub long_found : ℕ → Bool → ℕ → Option Found
-long_found n blank last = if last == 13 then long_text_found (n - 1) blank else long_text_found n (blank && is_blank last)
+long_found n blank last = if last == 13 then long_text_found (n - 1) blank else long_text_found n
+    (blank && is_blank last)
 
 abbrev pub front_of : List ℕ → List ℕ
 front_of line = take (length line - 1) line
@@ -23,29 +26,36 @@ front_of line = take (length line - 1) line
 abbrev pub last_of : List ℕ → ℕ
 last_of line = slice_index line (length line - 1)
 
-pub text_found-long : (g : Geometry) (text : List ℕ) → 1024 < length text → text_found g text ≡ long_text_found (length text) (list_all is_blank text)
+pub text_found-long : (g : Geometry) (text : List ℕ) → 1024 < length text → text_found g text
+    ≡ long_text_found (length text) (list_all is_blank text)
 text_found-long g text long = rw (lt-ltb 1024 (length text) long) refl
 
-pub list_all-last : (line : List ℕ) → 0 < length line → list_all is_blank line ≡ (list_all is_blank (front_of line) && is_blank (last_of line))
+pub list_all-last : (line : List ℕ) → 0 < length line → list_all is_blank line
+    ≡ (list_all is_blank (front_of line) && is_blank (last_of line))
 list_all-last line some =
     let e : length line - 1 + 1 ≡ length line = omega arith in
     let whole : take (length line - 1 + 1) line ≡ line = rw e (take-length line) in
     ap (list_all is_blank) (sym whole) ∙ list_all_more is_blank line (length line - 1) 0 (omega arith)
 
-pub line_found-long : (g : Geometry) (line : List ℕ) → 1026 ≤ length line → line_found g line ≡ long_found (length line) (list_all is_blank (front_of line)) (last_of line)
+pub line_found-long : (g : Geometry) (line : List ℕ) → 1026 ≤ length line → line_found g line
+    ≡ long_found (length line) (list_all is_blank (front_of line)) (last_of line)
 unfolding line_found
 line_found-long g line long =
     let short : length (front_of line) ≡ length line - 1 = length-take-le (length line - 1) line (omega arith) in
     elim (last_of line == 13) as (λ v. text_found g (cond v (front_of line) line)
-    ≡ cond v (long_text_found (length line - 1) (list_all is_blank (front_of line))) (long_text_found (length line) (list_all is_blank (front_of line) && is_blank (last_of line)))) [
-      | true ↦ text_found-long g (front_of line) (omega arith) ∙ ap (λ n. long_text_found n (list_all is_blank (front_of line))) short
-      | false ↦ text_found-long g line (omega arith) ∙ ap (long_text_found (length line)) (list_all-last line (omega arith))
+    ≡ cond v (long_text_found (length line - 1) (list_all is_blank (front_of line)))
+    (long_text_found (length line) (list_all is_blank (front_of line) && is_blank (last_of line)))) [
+      | true ↦ text_found-long g (front_of line) (omega arith)
+          ∙ ap (λ n. long_text_found n (list_all is_blank (front_of line))) short
+      | false ↦ text_found-long g line (omega arith)
+          ∙ ap (long_text_found (length line)) (list_all-last line (omega arith))
     ]
 
 -- a line so long is too long, with a carriage return at its end too
 pub long_found-over : (n : ℕ) (blank : Bool) (last : ℕ) → 4098 ≤ n → long_found n blank last ≡ Some (Err LineTooLong)
 long_found-over n blank last over =
-    elim (last == 13) as (λ v. cond v (long_text_found (n - 1) blank) (long_text_found n (blank && is_blank last)) ≡ Some (Err LineTooLong)) [
+    elim (last == 13) as (λ v. cond v (long_text_found (n - 1) blank) (long_text_found n (blank && is_blank last))
+    ≡ Some (Err LineTooLong)) [
       | true ↦ rw (lt-ltb 4096 (n - 1) (omega arith)) refl
       | false ↦ rw (lt-ltb 4096 n (omega arith)) refl
     ]
@@ -88,13 +98,15 @@ last_of-append line piece some =
 
 front_blank-append : (line piece : List ℕ) → 0 < length piece
     → list_all is_blank (front_of (line ++ piece)) ≡ (list_all is_blank line && list_all is_blank (front_of piece))
-front_blank-append line piece some = ap (list_all is_blank) (front_of-append line piece some) ∙ list_all-append is_blank line (front_of piece)
+front_blank-append line piece some = ap (list_all is_blank) (front_of-append line piece some)
+    ∙ list_all-append is_blank line (front_of piece)
 
 SameLength-append : (n m k : ℕ) → SameLength n m → SameLength (n + k) (m + k)
 SameLength-append n m k (inl same) = inl (ap (λ x. x + k) same)
 SameLength-append n m k (inr over) = inr (omega arith, omega arith)
 
-pub IsAlike-append : (line other piece : List ℕ) → 0 < length piece → IsAlike line other → IsAlike (line ++ piece) (other ++ piece)
+pub IsAlike-append : (line other piece : List ℕ) → 0 < length piece → IsAlike line other
+    → IsAlike (line ++ piece) (other ++ piece)
 IsAlike-append line other piece some alike =
     let sum = length-append line piece in
     let other_sum = length-append other piece in
@@ -107,13 +119,16 @@ IsAlike-append line other piece some alike =
       long = omega (arith, alike.long);
       other_long = omega (arith, alike.other_long);
       size = rw (sum, other_sum) (SameLength-append (length line) (length other) (length piece) alike.size);
-      blank = front_blank-append line piece some ∙ ap (λ b. b && list_all is_blank (front_of piece)) all ∙ sym (front_blank-append other piece some);
+      blank = front_blank-append line piece some ∙ ap (λ b. b && list_all is_blank (front_of piece)) all
+          ∙ sym (front_blank-append other piece some);
       last = last_of-append line piece some ∙ sym (last_of-append other piece some);
     }
 
 pub IsAlike-says : (line other : List ℕ) → IsAlike line other → SaysSame line other
-IsAlike-says line other alike g [] = ap (line_found g) (append-nil line) ∙ IsAlike-found g line other alike ∙ ap (line_found g) (sym (append-nil other))
-IsAlike-says line other alike g (byte ∷ more) = IsAlike-found g (line ++ byte ∷ more) (other ++ byte ∷ more) (IsAlike-append line other (byte ∷ more) (omega arith) alike)
+IsAlike-says line other alike g [] = ap (line_found g) (append-nil line) ∙ IsAlike-found g line other alike
+    ∙ ap (line_found g) (sym (append-nil other))
+IsAlike-says line other alike g (byte ∷ more) = IsAlike-found g (line ++ byte ∷ more) (other ++ byte ∷ more)
+    (IsAlike-append line other (byte ∷ more) (omega arith) alike)
 
 -- ---- the bytes that stand for a long line
 blanks : (n : ℕ) → list_all is_blank (replicate n 32) ≡ true
@@ -123,7 +138,8 @@ blanks (suc n) = blanks n
 pub length-padded : (blank : Bool) (past last : ℕ) → length (padded blank past last) ≡ 1026 + past
 unfolding padded
 length-padded blank past last =
-    let sum : length (replicate {A = ℕ} (1024 + past) 32 ++ last ∷ []) ≡ length (replicate {A = ℕ} (1024 + past) 32) + 1 = length-append (replicate {A = ℕ} (1024 + past) 32) (last ∷ []) in
+    let sum : length (replicate {A = ℕ} (1024 + past) 32 ++ last ∷ []) ≡ length (replicate {A = ℕ} (1024 + past) 32)
+    + 1 = length-append (replicate {A = ℕ} (1024 + past) 32) (last ∷ []) in
     let count : length (replicate {A = ℕ} (1024 + past) 32) ≡ 1024 + past = length-replicate (1024 + past) 32 in
     omega (arith, sum, count)
 
@@ -133,25 +149,33 @@ front-padded blank past last =
     let first : ℕ = cond blank 32 33 in
     let front : List ℕ = first ∷ replicate (1024 + past) 32 in
     ap (list_all is_blank) (front_of-append front (last ∷ []) (omega arith) ∙ append-nil front)
-    ∙ elim blank as (λ v. (is_blank (cond v 32 33) && list_all is_blank (replicate (1024 + past) 32)) ≡ v) [ true ↦ blanks (1024 + past) | false ↦ refl ]
+    ∙ elim blank as (λ v. (is_blank (cond v 32 33) && list_all is_blank (replicate (1024 + past) 32))
+    ≡ v) [ true ↦ blanks (1024 + past) | false ↦ refl ]
 
 pub last-padded : (blank : Bool) (past last : ℕ) → last_of (padded blank past last) ≡ last
 unfolding padded
 last-padded blank past last = last_of-append (cond blank 32 33 ∷ replicate (1024 + past) 32) (last ∷ []) (omega arith)
 
-pub found-padded : (g : Geometry) (blank : Bool) (past last : ℕ) → line_found g (padded blank past last) ≡ long_found (1026 + past) blank last
+pub found-padded : (g : Geometry) (blank : Bool) (past last : ℕ) → line_found g (padded blank past last)
+    ≡ long_found (1026 + past) blank last
 found-padded g blank past last =
     let n = length-padded blank past last in
     line_found-long g (padded blank past last) (omega arith)
-    ∙ ap (λ x. long_found x (list_all is_blank (front_of (padded blank past last))) (last_of (padded blank past last))) n
+    ∙ ap (λ x. long_found x (list_all is_blank (front_of (padded blank past last))) (last_of (padded blank past last)))
+    n
     ∙ ap (λ b. long_found (1026 + past) b (last_of (padded blank past last))) (front-padded blank past last)
     ∙ ap (long_found (1026 + past) blank) (last-padded blank past last)
 
 SameLength-min : (n m : ℕ) → 1026 ≤ n → m ≡ min (n - 1026) 3072 → SameLength n (1026 + m)
-SameLength-min n m h e = elim (cases_lt n 4098) [ inl short ↦ inl (omega arith) | inr long ↦ inr (omega arith, omega arith) ]
+SameLength-min n m h e = elim (cases_lt n 4098) [
+  | inl short ↦ inl (omega arith)
+  | inr long ↦
+      inr (omega arith, omega arith)
+]
 
 -- a line and a piece behind it, which are long together
-pub SaysSame-long : (line piece : List ℕ) (blank : Bool) (past last : ℕ) → 0 < length piece → 1026 ≤ length line + length piece
+pub SaysSame-long : (line piece : List ℕ) (blank : Bool) (past last : ℕ) → 0 < length piece
+    → 1026 ≤ length line + length piece
     → past ≡ min (length line + length piece - 1026) 3072
     → blank ≡ (list_all is_blank line && list_all is_blank (front_of piece))
     → last ≡ last_of piece
@@ -168,7 +192,8 @@ SaysSame-long line piece blank past last some enough past_is blank_is last_is =
     })
 
 -- a long line is blank where it is up to its last byte, and that is
-pub blank-padded : (blank : Bool) (past last : ℕ) → list_all is_blank (padded blank past last) ≡ (blank && is_blank last)
+pub blank-padded : (blank : Bool) (past last : ℕ) → list_all is_blank (padded blank past last)
+    ≡ (blank && is_blank last)
 blank-padded blank past last =
     let n = length-padded blank past last in
     list_all-last (padded blank past last) (omega arith)
@@ -176,8 +201,14 @@ blank-padded blank past last =
     ∙ ap (λ b. blank && is_blank b) (last-padded blank past last)
 
 -- what it says, as it is computed
-pub found-return : (g : Geometry) (blank : Bool) (past last : ℕ) → (last == 13) ≡ true → line_found g (padded blank past last) ≡ long_text_found (1026 + past - 1) blank
-found-return g blank past last is_return = found-padded g blank past last ∙ ap (λ v. cond v (long_text_found (1026 + past - 1) blank) (long_text_found (1026 + past) (blank && is_blank last))) is_return
+pub found-return : (g : Geometry) (blank : Bool) (past last : ℕ) → (last == 13) ≡ true
+    → line_found g (padded blank past last) ≡ long_text_found (1026 + past - 1) blank
+found-return g blank past last is_return = found-padded g blank past last
+    ∙ ap (λ v. cond v (long_text_found (1026 + past - 1) blank)
+    (long_text_found (1026 + past) (blank && is_blank last))) is_return
 
-pub found-other : (g : Geometry) (blank : Bool) (past last : ℕ) → (last == 13) ≡ false → line_found g (padded blank past last) ≡ long_text_found (1026 + past) (blank && is_blank last)
-found-other g blank past last no_return = found-padded g blank past last ∙ ap (λ v. cond v (long_text_found (1026 + past - 1) blank) (long_text_found (1026 + past) (blank && is_blank last))) no_return
+pub found-other : (g : Geometry) (blank : Bool) (past last : ℕ) → (last == 13) ≡ false
+    → line_found g (padded blank past last) ≡ long_text_found (1026 + past) (blank && is_blank last)
+found-other g blank past last no_return = found-padded g blank past last
+    ∙ ap (λ v. cond v (long_text_found (1026 + past - 1) blank)
+    (long_text_found (1026 + past) (blank && is_blank last))) no_return

@@ -1,5 +1,6 @@
 -- Lemmas on a byte-order mark that is read piece by piece.
-use Rattle.std.proofs.Common.{◌≡◌, ℕ, ◌+◌, ◌<◌, List, [], ◌∷◌, ◌++◌, length, slice_index, drop, Bool, true, refl, sym, ap, ◌∙◌}
+use Rattle.std.proofs.Common.{◌≡◌, ℕ, ◌+◌, ◌<◌, List, [], ◌∷◌, ◌++◌, length, slice_index, drop, Bool, true, refl, sym}
+use Rattle.std.proofs.Common.{ap, ◌∙◌}
 use Rattle.std.proofs.lemmas.List.{drop_more}
 use Rattle.dw_board.specs.Geometry.{Geometry}
 use Rattle.dw_notation.specs.inner.Lines.{NoLineFeed, SaysSame}
@@ -22,18 +23,23 @@ is_behind-true Two h = cc
 is_behind-true Behind h = refl
 
 -- one more byte of a mark is passed over
-pub ahead-mark : (at_end : Bool) (g : Geometry) (line bytes more : List ℕ) (i : ℕ) (front next : Front) → i < length bytes
+pub ahead-mark : (at_end : Bool) (g : Geometry) (line bytes more : List ℕ) (i : ℕ) (front next : Front)
+    → i < length bytes
     → ((rest : List ℕ) → behind_mark front (slice_index bytes i ∷ rest) ≡ behind_mark next rest)
-    → found_from at_end g line (behind_mark front (drop i bytes ++ more)) ≡ found_from at_end g line (behind_mark next (drop (i + 1) bytes ++ more))
+    → found_from at_end g line (behind_mark front (drop i bytes ++ more))
+    ≡ found_from at_end g line (behind_mark next (drop (i + 1) bytes ++ more))
 ahead-mark at_end g line bytes more i front next inside step =
     ap (λ l. found_from at_end g line (behind_mark front (l ++ more))) (drop_more bytes i 0 inside)
     ∙ ap (found_from at_end g line) (step (drop (i + 1) bytes ++ more))
 
 -- what was passed over is no mark, and goes onto the line
-pub ahead-leave : (at_end : Bool) (g : Geometry) (line held bytes more : List ℕ) (i : ℕ) (front : Front) → i < length bytes
-    → ((rest : List ℕ) → behind_mark front (slice_index bytes i ∷ rest) ≡ passed_over front ++ (slice_index bytes i ∷ rest))
+pub ahead-leave : (at_end : Bool) (g : Geometry) (line held bytes more : List ℕ) (i : ℕ) (front : Front)
+    → i < length bytes
+    → ((rest : List ℕ) → behind_mark front (slice_index bytes i ∷ rest) ≡ passed_over front
+    ++ (slice_index bytes i ∷ rest))
     → SaysSame (line ++ passed_over front) held
-    → found_from at_end g line (behind_mark front (drop i bytes ++ more)) ≡ found_from at_end g held (drop i bytes ++ more)
+    → found_from at_end g line (behind_mark front (drop i bytes ++ more))
+    ≡ found_from at_end g held (drop i bytes ++ more)
 ahead-leave at_end g line held bytes more i front inside step same =
     let first = drop_more bytes i 0 inside in
     ap (λ l. found_from at_end g line (behind_mark front (l ++ more))) first
@@ -42,9 +48,11 @@ ahead-leave at_end g line held bytes more i front inside step same =
     ∙ found_from-push at_end g line (passed_over front) held (drop i bytes ++ more) (passed_over-line front) same
 
 -- at the end of the text, too
-pub ahead-end : (at_end : Bool) (g : Geometry) (line held : List ℕ) (front : Front) → SaysSame (line ++ passed_over front) held
+pub ahead-end : (at_end : Bool) (g : Geometry) (line held : List ℕ) (front : Front)
+    → SaysSame (line ++ passed_over front) held
     → found_from at_end g line (behind_mark front []) ≡ found_from at_end g held []
 ahead-end at_end g line held Bare same = found_from-push at_end g line [] held [] tt same
 ahead-end at_end g line held One same = found_from-push at_end g line (0xEF ∷ []) held [] (passed_over-line One) same
-ahead-end at_end g line held Two same = found_from-push at_end g line (0xEF ∷ 0xBB ∷ []) held [] (passed_over-line Two) same
+ahead-end at_end g line held Two same = found_from-push at_end g line (0xEF ∷ 0xBB ∷ []) held [] (passed_over-line Two)
+    same
 ahead-end at_end g line held Behind same = found_from-push at_end g line [] held [] tt same

@@ -1,5 +1,7 @@
 -- Which answer is right, by what was found among the legal moves.
-use Rattle.std.proofs.Common.{◌≡◌, ℕ, ◌+◌, ◌<◌, zero, suc, true, false, List, [], ◌∷◌, ◌++◌, length, take, get_or, Option, Some, None, is_some, Result, Ok, Err, refl, sym, ap, ◌∙◌, subst, ◌⊎◌, inl, inr, arith}
+use Rattle.std.proofs.Common.{◌≡◌, ℕ, ◌+◌, ◌<◌, zero, suc, true, false, List, [], ◌∷◌, ◌++◌, length, take, get_or}
+use Rattle.std.proofs.Common.{Option, Some, None, is_some, Result, Ok, Err, refl, sym, ap, ◌∙◌, subst, ◌⊎◌, inl, inr}
+use Rattle.std.proofs.Common.{arith}
 use Rattle.std.proofs.lemmas.Bool.{true≢false}
 use Rattle.std.proofs.lemmas.List.{take_more}
 use Rattle.dw_board.specs.Geometry.{Geometry}
@@ -20,7 +22,8 @@ FoundIn moves from to None = (m : Move) → IsOneOf moves from to m → ⊥
 FoundIn moves from to (Some m) = IsOnlyOne moves from to m
 
 -- one more move, which is none
-found_past : (moves : List Move) (x : Move) (from to : ℕ) (found : Option Move) → FoundIn moves from to found → (Takes from to x → ⊥) → FoundIn (moves ++ x ∷ []) from to found
+found_past : (moves : List Move) (x : Move) (from to : ℕ) (found : Option Move) → FoundIn moves from to found
+    → (Takes from to x → ⊥) → FoundIn (moves ++ x ∷ []) from to found
 found_past moves x from to None h other = λ m k. elim (mem_cases m moves (x ∷ []) k.0) [
   | inl before ↦ h m (before, k.1)
   | inr (inl last) ↦ other (subst (Takes from to) last k.1)
@@ -36,7 +39,8 @@ found_past moves x from to (Some n) h other = record {
 }
 
 -- one more move, which is the first
-found_now : (moves : List Move) (x : Move) (from to : ℕ) → FoundIn moves from to None → Takes from to x → FoundIn (moves ++ x ∷ []) from to (Some x)
+found_now : (moves : List Move) (x : Move) (from to : ℕ) → FoundIn moves from to None → Takes from to x
+    → FoundIn (moves ++ x ∷ []) from to (Some x)
 found_now moves x from to h takes = record {
   one = (mem_right x moves (x ∷ []) (inl refl), takes);
   alone = λ m k. elim (mem_cases m moves (x ∷ []) k.0) [
@@ -59,24 +63,31 @@ member_taken (y ∷ moves) (suc i) x (inl e) = inl e
 member_taken (y ∷ moves) (suc i) x (inr h) = inr (member_taken moves i x h)
 
 -- what stands once is not before itself
-not_before : (moves : List Move) (i : ℕ) (x : Move) → NoRepeat moves → i < length moves → x ≡ get_or moves i x → Member x (take i moves) → ⊥
+not_before : (moves : List Move) (i : ℕ) (x : Move) → NoRepeat moves → i < length moves → x ≡ get_or moves i x
+    → Member x (take i moves) → ⊥
 not_before [] i x once low e h = omega arith
 not_before (y ∷ moves) zero x once low e h = h
-not_before (y ∷ moves) (suc i) x once low e (inl same) = once.0 (subst (λ z. Member z moves) same (member_at moves i x (omega arith) e))
+not_before (y ∷ moves) (suc i) x once low e (inl same) =
+    once.0 (subst (λ z. Member z moves) same (member_at moves i x (omega arith) e))
 not_before (y ∷ moves) (suc i) x once low e (inr h) = not_before moves i x once.1 (omega arith) e h
 
 module _ (moves : List Move) (from to i : ℕ) (x : Move) (low : i < length moves) (is : x ≡ get_or moves i x) where
   one_more : take (i + 1) moves ≡ take i moves ++ x ∷ []
   one_more = take_more moves i x low ∙ ap (λ z. take i moves ++ z ∷ []) (sym is)
 
-  pub passed : (found : Option Move) → FoundIn (take i moves) from to found → (Takes from to x → ⊥) → FoundIn (take (i + 1) moves) from to found
-  passed found h other = subst (λ z. FoundIn z from to found) (sym one_more) (found_past (take i moves) x from to found h other)
+  pub passed : (found : Option Move) → FoundIn (take i moves) from to found → (Takes from to x → ⊥)
+      → FoundIn (take (i + 1) moves) from to found
+  passed found h other = subst (λ z. FoundIn z from to found) (sym one_more) (found_past (take i moves) x from to found
+      h other)
 
-  pub met : (found : Option Move) → is_some found ≡ false → FoundIn (take i moves) from to found → Takes from to x → FoundIn (take (i + 1) moves) from to (Some x)
-  met None none h takes = subst (λ z. FoundIn z from to (Some x)) (sym one_more) (found_now (take i moves) x from to h takes)
+  pub met : (found : Option Move) → is_some found ≡ false → FoundIn (take i moves) from to found → Takes from to x
+      → FoundIn (take (i + 1) moves) from to (Some x)
+  met None none h takes = subst (λ z. FoundIn z from to (Some x)) (sym one_more) (found_now (take i moves) x from to h
+      takes)
   met (Some m) none h takes = absurd (true≢false none)
 
-  pub met_again : (found : Option Move) → is_some found ≡ true → NoRepeat moves → FoundIn (take i moves) from to found → Takes from to x → AreTwo moves from to
+  pub met_again : (found : Option Move) → is_some found ≡ true → NoRepeat moves → FoundIn (take i moves) from to found
+      → Takes from to x → AreTwo moves from to
   met_again None some once h takes = absurd (true≢false (sym some))
   met_again (Some m) some once h takes = record {
     first = m;
@@ -87,7 +98,8 @@ module _ (moves : List Move) (from to i : ℕ) (x : Move) (low : i < length move
   }
 
 -- among all legal moves
-pub only_answers : (g : Geometry) (p : Placement) (moves : List Move) (from to : ℕ) (answer : Result Move MoveFault) → AreLegal g p moves → IsOnly moves from to answer → IsAnswer g p (Capture (from ∷ to ∷ [])) answer
+pub only_answers : (g : Geometry) (p : Placement) (moves : List Move) (from to : ℕ) (answer : Result Move MoveFault)
+    → AreLegal g p moves → IsOnly moves from to answer → IsAnswer g p (Capture (from ∷ to ∷ [])) answer
 only_answers g p moves from to (Ok m) h k = record {
   fits = ((h.exactly m).0 k.one.0, k.one.1.0, k.one.1.1);
   alone = λ other f. k.alone other ((h.exactly other).1 f.0, (f.1, f.2));
@@ -108,11 +120,13 @@ only_answers g p moves from to (Err Memory) h k = absurd k
 abbrev Agree : Result Move MoveFault → Result Move MoveFault → Type 0
 Agree answer other = (answer ≡ other) ⊎ ((answer ≡ Err Memory) ⊎ (other ≡ Err Memory))
 
-answers_agree : (g : Geometry) (p : Placement) (named : Named) (answer other : Result Move MoveFault) → IsAnswer g p named answer → IsAnswer g p named other → Agree answer other
+answers_agree : (g : Geometry) (p : Placement) (named : Named) (answer other : Result Move MoveFault)
+    → IsAnswer g p named answer → IsAnswer g p named other → Agree answer other
 answers_agree g p named (Ok m) (Ok n) h k = inl (ap Ok (k.alone m h.fits))
 answers_agree g p named (Ok m) (Err Syntax) h k = absurd k
 answers_agree g p named (Ok m) (Err NoSuchMove) h k = absurd (k m h.fits)
-answers_agree g p named (Ok m) (Err Ambiguous) h k = absurd (k.differ (h.alone k.first k.fits ∙ sym (h.alone k.second k.fits_too)))
+answers_agree g p named (Ok m) (Err Ambiguous) h k =
+    absurd (k.differ (h.alone k.first k.fits ∙ sym (h.alone k.second k.fits_too)))
 answers_agree g p named (Ok m) (Err Memory) h k = inr (inr refl)
 answers_agree g p named (Err Syntax) other h k = absurd h
 answers_agree g p named (Err NoSuchMove) (Ok n) h k = absurd (h n k.fits)
@@ -120,7 +134,8 @@ answers_agree g p named (Err NoSuchMove) (Err Syntax) h k = absurd k
 answers_agree g p named (Err NoSuchMove) (Err NoSuchMove) h k = inl refl
 answers_agree g p named (Err NoSuchMove) (Err Ambiguous) h k = absurd (h k.first k.fits)
 answers_agree g p named (Err NoSuchMove) (Err Memory) h k = inr (inr refl)
-answers_agree g p named (Err Ambiguous) (Ok n) h k = absurd (h.differ (k.alone h.first h.fits ∙ sym (k.alone h.second h.fits_too)))
+answers_agree g p named (Err Ambiguous) (Ok n) h k =
+    absurd (h.differ (k.alone h.first h.fits ∙ sym (k.alone h.second h.fits_too)))
 answers_agree g p named (Err Ambiguous) (Err Syntax) h k = absurd k
 answers_agree g p named (Err Ambiguous) (Err NoSuchMove) h k = absurd (k h.first h.fits)
 answers_agree g p named (Err Ambiguous) (Err Ambiguous) h k = inl refl
@@ -131,14 +146,16 @@ answers_agree g p named (Err Memory) other h k = inr (inl refl)
 abbrev NamesNothing : Geometry → List ℕ → Result Move MoveFault → Type 0
 NamesNothing g text answer = (answer ≡ Err Syntax) × ((named : Named) → Names g text named → ⊥)
 
-read_cases : (g : Geometry) (p : Placement) (text : List ℕ) (answer : Result Move MoveFault) → IsRead g p text answer → NamesNothing g text answer ⊎ IsAnswered g p text answer
+read_cases : (g : Geometry) (p : Placement) (text : List ℕ) (answer : Result Move MoveFault) → IsRead g p text answer
+    → NamesNothing g text answer ⊎ IsAnswered g p text answer
 read_cases g p text (Ok m) h = inr h
 read_cases g p text (Err Syntax) h = inl (refl, h)
 read_cases g p text (Err NoSuchMove) h = inr h
 read_cases g p text (Err Ambiguous) h = inr h
 read_cases g p text (Err Memory) h = inr h
 
-pub one_answer : (g : Geometry) (p : Placement) (text : List ℕ) (answer other : Result Move MoveFault) → IsRead g p text answer → IsRead g p text other → Agree answer other
+pub one_answer : (g : Geometry) (p : Placement) (text : List ℕ) (answer other : Result Move MoveFault)
+    → IsRead g p text answer → IsRead g p text other → Agree answer other
 one_answer g p text answer other h k = elim (read_cases g p text answer h) [
   | inl a ↦ elim (read_cases g p text other k) [
     | inl b ↦ inl (a.0 ∙ sym b.0)
@@ -146,6 +163,7 @@ one_answer g p text answer other h k = elim (read_cases g p text answer h) [
   ]
   | inr a ↦ elim (read_cases g p text other k) [
     | inl b ↦ absurd (b.1 a.named a.names)
-    | inr b ↦ answers_agree g p a.named answer other a.answers (subst (λ z. IsAnswer g p z other) (names_one g text b.named a.named b.names a.names) b.answers)
+    | inr b ↦ answers_agree g p a.named answer other a.answers (subst (λ z. IsAnswer g p z other)
+        (names_one g text b.named a.named b.names a.names) b.answers)
   ]
 ]

@@ -1,10 +1,12 @@
 -- What the text of a move names, number by number from its front.
-use Rattle.std.proofs.Common.{◌≡◌, ℕ, ◌<◌, ◌≤◌, true, false, List, [], ◌∷◌, ◌++◌, length, Some, None, refl, sym, ap, ◌∙◌, subst, ◌⊎◌, inl, inr, arith, append_assoc, append-nil, length-append}
+use Rattle.std.proofs.Common.{◌≡◌, ℕ, ◌<◌, ◌≤◌, true, false, List, [], ◌∷◌, ◌++◌, length, Some, None, refl, sym, ap}
+use Rattle.std.proofs.Common.{◌∙◌, subst, ◌⊎◌, inl, inr, arith, append_assoc, append-nil, length-append}
 use Rattle.std.proofs.lemmas.Bool.{cases_Bool, true≢false, or_cases, eqb-true}
 use Rattle.dw_board.specs.Geometry.{Geometry}
 use Rattle.dw_board.specs.FenTokens.{is_digit, begins_with_digit, number_named}
 use Rattle.dw_board.specs.inner.FenBlanks.{AreDigits}
-use Rattle.dw_notation.specs.MoveReading.{IsNumber, is_cross, AreCrossed, single, more, Named, QuietMove, Capture, Names, by_dash, by_crosses}
+use Rattle.dw_notation.specs.MoveReading.{IsNumber, is_cross, AreCrossed, single, more, Named, QuietMove, Capture}
+use Rattle.dw_notation.specs.MoveReading.{Names, by_dash, by_crosses}
 use Rattle.dw_notation.specs.inner.MoveReader.{Begins, BeginsNowhere}
 
 one_number : (g : Geometry) (text : List ℕ) (s t : ℕ) → IsNumber g text s → IsNumber g text t → s ≡ t
@@ -36,7 +38,8 @@ cross_is_no_digit byte h = elim (or_cases _ _ h) [
 ]
 
 -- two texts of digits with no digit behind them, cut out of one text, are the same
-one_front : (a b rest others : List ℕ) → AreDigits a → AreDigits b → begins_with_digit rest ≡ false → begins_with_digit others ≡ false → a ++ rest ≡ b ++ others → (a ≡ b) × (rest ≡ others)
+one_front : (a b rest others : List ℕ) → AreDigits a → AreDigits b → begins_with_digit rest ≡ false
+    → begins_with_digit others ≡ false → a ++ rest ≡ b ++ others → (a ≡ b) × (rest ≡ others)
 one_front [] [] rest others ad bd re oe e = (refl, e)
 one_front [] (y ∷ b) rest others ad bd re oe e = absurd (true≢false (sym bd.0 ∙ (sym (ap begins_with_digit e) ∙ re)))
 one_front (x ∷ a) [] rest others ad bd re oe e = absurd (true≢false (sym ad.0 ∙ (ap begins_with_digit e ∙ oe)))
@@ -48,9 +51,11 @@ one_front (x ∷ a) (y ∷ b) rest others ad bd re oe e =
     (both, same.1)
 
 -- a text begins with one number at most
-pub one_begin : (g : Geometry) (text : List ℕ) (s t : ℕ) (rest others : List ℕ) → Begins g text s rest → Begins g text t others → (s ≡ t) × (rest ≡ others)
+pub one_begin : (g : Geometry) (text : List ℕ) (s t : ℕ) (rest others : List ℕ) → Begins g text s rest
+    → Begins g text t others → (s ≡ t) × (rest ≡ others)
 one_begin g text s t rest others h k =
-    let same = one_front h.front k.front rest others (number_digits g h.front s h.number) (number_digits g k.front t k.number) h.ends k.ends (sym h.joined ∙ k.joined) in
+    let same = one_front h.front k.front rest others (number_digits g h.front s h.number)
+    (number_digits g k.front t k.number) h.ends k.ends (sym h.joined ∙ k.joined) in
     (one_number g h.front s t h.number (subst (λ z. IsNumber g z t) (sym same.0) k.number), same.1)
 
 -- ---- numbers joined by crosses
@@ -81,11 +86,21 @@ crossed_front g text squares (more {s = s} {squares = others} front cross next n
   first = s;
   rest = cross ∷ next;
   begins = record { front = front; joined = refl; number = number; ends = cross_is_no_digit cross joins };
-  on = inr (record { cross = cross; next = next; others = others; behind = refl; joins = joins; crossed = crossed; all = refl });
+  on = inr (record {
+    cross = cross;
+    next = next;
+    others = others;
+    behind = refl;
+    joins = joins;
+    crossed = crossed;
+    all =
+        refl;
+  });
 }
 
 -- what follows is known from what stands behind the first number
-pub crossed_on : (g : Geometry) (text squares : List ℕ) (s : ℕ) (rest : List ℕ) → AreCrossed g text squares → Begins g text s rest → ((rest ≡ []) × (squares ≡ s ∷ [])) ⊎ GoesOn g rest s squares
+pub crossed_on : (g : Geometry) (text squares : List ℕ) (s : ℕ) (rest : List ℕ) → AreCrossed g text squares
+    → Begins g text s rest → ((rest ≡ []) × (squares ≡ s ∷ [])) ⊎ GoesOn g rest s squares
 crossed_on g text squares s rest h k =
     let f = crossed_front g text squares h in
     let same = one_begin g text f.first s f.rest rest f.begins k in
@@ -93,13 +108,16 @@ crossed_on g text squares s rest h k =
     subst (λ t. P t rest) same.0 (subst (P f.first) same.1 f.on)
 
 -- one number alone
-pub crossed_single : (g : Geometry) (text : List ℕ) (s : ℕ) (rest : List ℕ) → Begins g text s rest → rest ≡ [] → AreCrossed g text (s ∷ [])
+pub crossed_single : (g : Geometry) (text : List ℕ) (s : ℕ) (rest : List ℕ) → Begins g text s rest → rest ≡ []
+    → AreCrossed g text (s ∷ [])
 crossed_single g text s rest h none =
     let all : text ≡ h.front = h.joined ∙ (ap (λ z. h.front ++ z) none ∙ append-nil h.front) in
     subst (λ z. AreCrossed g z (s ∷ [])) (sym all) (single h.number)
 
 -- a number with a cross and others behind it
-pub crossed_more : (g : Geometry) (text : List ℕ) (s : ℕ) (rest : List ℕ) (cross : ℕ) (next squares : List ℕ) → Begins g text s rest → rest ≡ cross ∷ next → is_cross cross ≡ true → AreCrossed g next squares → AreCrossed g text (s ∷ squares)
+pub crossed_more : (g : Geometry) (text : List ℕ) (s : ℕ) (rest : List ℕ) (cross : ℕ) (next squares : List ℕ)
+    → Begins g text s rest → rest ≡ cross ∷ next → is_cross cross ≡ true → AreCrossed g next squares
+    → AreCrossed g text (s ∷ squares)
 crossed_more g text s rest cross next squares h is joins others =
     let all : text ≡ h.front ++ cross ∷ next = h.joined ∙ ap (λ z. h.front ++ z) is in
     subst (λ z. AreCrossed g z (s ∷ squares)) (sym all) (more h.front cross next h.number joins others)
@@ -108,35 +126,48 @@ crossed_more g text s rest cross next squares h is joins others =
 -- these squares are read, and the numbers of the rest are the others
 pub record Reading (g : Geometry) (text done rest : List ℕ) : Type 0 where
   pub forth : (others : List ℕ) → AreCrossed g rest others → AreCrossed g text (done ++ others)
-  pub back : (squares : List ℕ) → AreCrossed g text squares → (others : List ℕ) × (squares ≡ done ++ others) × AreCrossed g rest others
+  pub back : (squares : List ℕ) → AreCrossed g text squares → (others : List ℕ) × (squares ≡ done ++ others)
+      × AreCrossed g rest others
 
-pub reading_more : (g : Geometry) (text done rest now : List ℕ) (s : ℕ) (behind : List ℕ) (cross : ℕ) (next : List ℕ) → Reading g text done rest → now ≡ done ++ s ∷ [] → Begins g rest s behind → behind ≡ cross ∷ next → is_cross cross ≡ true → Reading g text now next
-reading_more g text done rest now s behind cross next h now_is k is joins = subst (λ z. Reading g text z next) (sym now_is) (record {
-  forth = λ others crossed. subst (AreCrossed g text) (sym (append_assoc done (s ∷ []) others)) (h.forth (s ∷ others) (crossed_more g rest s behind cross next others k is joins crossed));
-  back = λ squares crossed.
-      let b = h.back squares crossed in
-      elim (crossed_on g rest b.0 s behind b.2 k) [
-        | inl last ↦ let e : [] ≡ cross ∷ next = sym last.0 ∙ is in absurd cc
-        | inr on ↦
-            let e : on.cross ∷ on.next ≡ cross ∷ next = sym on.behind ∙ is in
-            let same : on.next ≡ next = cc in
-            (on.others, b.1 ∙ (ap (λ z. done ++ z) on.all ∙ sym (append_assoc done (s ∷ []) on.others)), subst (λ z. AreCrossed g z on.others) same on.crossed)
-      ];
-})
+pub reading_more : (g : Geometry) (text done rest now : List ℕ) (s : ℕ) (behind : List ℕ) (cross : ℕ) (next : List ℕ)
+    → Reading g text done rest → now ≡ done ++ s ∷ [] → Begins g rest s behind → behind ≡ cross ∷ next
+    → is_cross cross ≡ true → Reading g text now next
+reading_more g text done rest now s behind cross next h now_is k is joins = subst (λ z. Reading g text z next)
+    (sym now_is) (record {
+      forth = λ others crossed. subst (AreCrossed g text) (sym (append_assoc done (s ∷ []) others))
+          (h.forth (s ∷ others) (crossed_more g rest s behind cross next others k is joins crossed));
+      back = λ squares crossed.
+          let b = h.back squares crossed in
+          elim (crossed_on g rest b.0 s behind b.2 k) [
+            | inl last ↦ let e : [] ≡ cross ∷ next = sym last.0 ∙ is in absurd cc
+            | inr on ↦
+                let e : on.cross ∷ on.next ≡ cross ∷ next = sym on.behind ∙ is in
+                let same : on.next ≡ next = cc in (
+                  on.others,
+                  b.1 ∙ (ap (λ z. done ++ z) on.all ∙ sym (append_assoc done (s ∷ []) on.others)),
+                  subst (λ z. AreCrossed g z on.others) same on.crossed,
+                )
+          ];
+    })
 
 -- the last number
-pub reading_ends : (g : Geometry) (text done rest now : List ℕ) (s : ℕ) (behind : List ℕ) → Reading g text done rest → now ≡ done ++ s ∷ [] → Begins g rest s behind → behind ≡ [] → AreCrossed g text now
-reading_ends g text done rest now s behind h now_is k none = subst (AreCrossed g text) (sym now_is) (h.forth (s ∷ []) (crossed_single g rest s behind k none))
+pub reading_ends : (g : Geometry) (text done rest now : List ℕ) (s : ℕ) (behind : List ℕ) → Reading g text done rest
+    → now ≡ done ++ s ∷ [] → Begins g rest s behind → behind ≡ [] → AreCrossed g text now
+reading_ends g text done rest now s behind h now_is k none = subst (AreCrossed g text) (sym now_is)
+    (h.forth (s ∷ []) (crossed_single g rest s behind k none))
 
 -- no number stands where one must
-pub reading_nowhere : (g : Geometry) (text done rest : List ℕ) → Reading g text done rest → BeginsNowhere g rest → (squares : List ℕ) → AreCrossed g text squares → ⊥
+pub reading_nowhere : (g : Geometry) (text done rest : List ℕ) → Reading g text done rest → BeginsNowhere g rest
+    → (squares : List ℕ) → AreCrossed g text squares → ⊥
 reading_nowhere g text done rest h none squares crossed =
     let b = h.back squares crossed in
     let f = crossed_front g rest b.0 b.2 in
     none f.first f.rest f.begins
 
 -- another sign stands behind a number
-pub reading_breaks : (g : Geometry) (text done rest : List ℕ) (s : ℕ) (behind : List ℕ) (sign : ℕ) (next : List ℕ) → Reading g text done rest → Begins g rest s behind → behind ≡ sign ∷ next → is_cross sign ≡ false → (squares : List ℕ) → AreCrossed g text squares → ⊥
+pub reading_breaks : (g : Geometry) (text done rest : List ℕ) (s : ℕ) (behind : List ℕ) (sign : ℕ) (next : List ℕ)
+    → Reading g text done rest → Begins g rest s behind → behind ≡ sign ∷ next → is_cross sign ≡ false
+    → (squares : List ℕ) → AreCrossed g text squares → ⊥
 reading_breaks g text done rest s behind sign next h k is other squares crossed =
     let b = h.back squares crossed in
     elim (crossed_on g rest b.0 s behind b.2 k) [
@@ -148,23 +179,31 @@ reading_breaks g text done rest s behind sign next h k is other squares crossed 
     ]
 
 -- one number too many
-pub reading_full : (g : Geometry) (text done rest : List ℕ) → Reading g text done rest → length done ≡ 21 → (squares : List ℕ) → length squares ≤ 21 → AreCrossed g text squares → ⊥
+pub reading_full : (g : Geometry) (text done rest : List ℕ) → Reading g text done rest → length done ≡ 21
+    → (squares : List ℕ) → length squares ≤ 21 → AreCrossed g text squares → ⊥
 reading_full g text done rest h full squares short crossed =
     let b = h.back squares crossed in
     let f = crossed_front g rest b.0 b.2 in
-    let some : 0 < length b.0 = elim f.on [ inl last ↦ omega (arith, ap length last.1) | inr on ↦ omega (arith, ap length on.all) ] in
+    let some : 0 < length b.0 = elim f.on [
+      | inl last ↦ omega (arith, ap length last.1)
+      | inr on ↦
+          omega (arith, ap length on.all)
+    ] in
     let long : length squares ≡ length (done ++ b.0) = ap length b.1 in
     omega (arith, length-append done b.0)
 
 -- numbers joined by crosses are so in one way
-pub one_crossed : (g : Geometry) (text others a b : List ℕ) → text ≡ others → AreCrossed g text a → AreCrossed g others b → a ≡ b
+pub one_crossed : (g : Geometry) (text others a b : List ℕ) → text ≡ others → AreCrossed g text a
+    → AreCrossed g others b → a ≡ b
 one_crossed g text others a b same (single {s = s} number) k =
-    elim (crossed_on g text b s [] (subst (λ z. AreCrossed g z b) (sym same) k) (record { front = text; joined = sym (append-nil text); number = number; ends = refl })) [
+    elim (crossed_on g text b s [] (subst (λ z. AreCrossed g z b) (sym same) k)
+    (record { front = text; joined = sym (append-nil text); number = number; ends = refl })) [
       | inl last ↦ sym last.1
       | inr on ↦ let e : [] ≡ on.cross ∷ on.next = on.behind in absurd cc
     ]
 one_crossed g text others a b same (more {s = s} {squares = squares} front cross next number joins crossed) k =
-    elim (crossed_on g text b s (cross ∷ next) (subst (λ z. AreCrossed g z b) (sym same) k) (record { front = front; joined = refl; number = number; ends = cross_is_no_digit cross joins })) [
+    elim (crossed_on g text b s (cross ∷ next) (subst (λ z. AreCrossed g z b) (sym same) k)
+    (record { front = front; joined = refl; number = number; ends = cross_is_no_digit cross joins })) [
       | inl last ↦ let e : cross ∷ next ≡ [] = last.0 in absurd cc
       | inr on ↦
           let e : cross ∷ next ≡ on.cross ∷ on.next = on.behind in
@@ -188,26 +227,36 @@ Parts g text (QuietMove from to) = Dashed g text from to
 Parts g text (Capture squares) = AreCrossed g text squares × (2 ≤ length squares) × (length squares ≤ 21)
 
 pub parts_of : (g : Geometry) (text : List ℕ) (named : Named) → Names g text named → Parts g text named
-parts_of g text named (by_dash front back first second) = record { rest = back; begins = record { front = front; joined = refl; number = first; ends = refl }; number = second }
+parts_of g text named (by_dash front back first second) =
+    record {
+      rest = back;
+      begins = record { front = front; joined = refl; number = first; ends = refl };
+      number =
+          second;
+    }
 parts_of g text named (by_crosses crossed some few) = (crossed, some, few)
 
-pub dash_names : (g : Geometry) (text : List ℕ) (from to : ℕ) (behind rest : List ℕ) → Begins g text from behind → behind ≡ 45 ∷ rest → IsNumber g rest to → Names g text (QuietMove from to)
+pub dash_names : (g : Geometry) (text : List ℕ) (from to : ℕ) (behind rest : List ℕ) → Begins g text from behind
+    → behind ≡ 45 ∷ rest → IsNumber g rest to → Names g text (QuietMove from to)
 dash_names g text from to behind rest h is k =
     let all : text ≡ h.front ++ 45 ∷ rest = h.joined ∙ ap (λ z. h.front ++ z) is in
     subst (λ z. Names g z (QuietMove from to)) (sym all) (by_dash h.front rest h.number k)
 
 -- no number stands in front
-pub dash_nowhere : (g : Geometry) (text : List ℕ) → BeginsNowhere g text → (from to : ℕ) → Names g text (QuietMove from to) → ⊥
+pub dash_nowhere : (g : Geometry) (text : List ℕ) → BeginsNowhere g text → (from to : ℕ)
+    → Names g text (QuietMove from to) → ⊥
 dash_nowhere g text none from to h = let d = parts_of g text (QuietMove from to) h in none from (45 ∷ d.rest) d.begins
 
 -- another sign, or none, stands behind it
-pub dash_other : (g : Geometry) (text : List ℕ) (s : ℕ) (behind : List ℕ) → Begins g text s behind → ((rest : List ℕ) → behind ≡ 45 ∷ rest → ⊥) → (from to : ℕ) → Names g text (QuietMove from to) → ⊥
+pub dash_other : (g : Geometry) (text : List ℕ) (s : ℕ) (behind : List ℕ) → Begins g text s behind
+    → ((rest : List ℕ) → behind ≡ 45 ∷ rest → ⊥) → (from to : ℕ) → Names g text (QuietMove from to) → ⊥
 dash_other g text s behind k other from to h =
     let d = parts_of g text (QuietMove from to) h in
     other d.rest (sym (one_begin g text from s (45 ∷ d.rest) behind d.begins k).1)
 
 -- no number stands behind the dash
-pub dash_alone : (g : Geometry) (text : List ℕ) (s : ℕ) (behind rest : List ℕ) → Begins g text s behind → behind ≡ 45 ∷ rest → number_named g rest ≡ None → (from to : ℕ) → Names g text (QuietMove from to) → ⊥
+pub dash_alone : (g : Geometry) (text : List ℕ) (s : ℕ) (behind rest : List ℕ) → Begins g text s behind
+    → behind ≡ 45 ∷ rest → number_named g rest ≡ None → (from to : ℕ) → Names g text (QuietMove from to) → ⊥
 dash_alone g text s behind rest k is none from to h =
     let d = parts_of g text (QuietMove from to) h in
     let e : 45 ∷ d.rest ≡ 45 ∷ rest = (one_begin g text from s (45 ∷ d.rest) behind d.begins k).1 ∙ is in
@@ -215,16 +264,19 @@ dash_alone g text s behind rest k is none from to h =
     absent to (sym none ∙ (ap (number_named g) (sym same) ∙ d.number))
 
 -- a text with a dash behind its first number is not one with a cross there
-dash_is_no_cross : (g : Geometry) (text : List ℕ) (from to : ℕ) (squares : List ℕ) → Dashed g text from to → AreCrossed g text squares → ⊥
-dash_is_no_cross g text from to squares d crossed = elim (crossed_on g text squares from (45 ∷ d.rest) crossed d.begins) [
-  | inl last ↦ let e : 45 ∷ d.rest ≡ [] = last.0 in cc
-  | inr on ↦
-      let e : 45 ∷ d.rest ≡ on.cross ∷ on.next = on.behind in
-      let same : on.cross ≡ 45 = cc in
-      true≢false (sym on.joins ∙ ap is_cross same)
-]
+dash_is_no_cross : (g : Geometry) (text : List ℕ) (from to : ℕ) (squares : List ℕ) → Dashed g text from to
+    → AreCrossed g text squares → ⊥
+dash_is_no_cross g text from to squares d crossed =
+    elim (crossed_on g text squares from (45 ∷ d.rest) crossed d.begins) [
+      | inl last ↦ let e : 45 ∷ d.rest ≡ [] = last.0 in cc
+      | inr on ↦
+          let e : 45 ∷ d.rest ≡ on.cross ∷ on.next = on.behind in
+          let same : on.cross ≡ 45 = cc in
+          true≢false (sym on.joins ∙ ap is_cross same)
+    ]
 
-one_dashed : (g : Geometry) (text : List ℕ) (from to from' to' : ℕ) → Dashed g text from to → Dashed g text from' to' → QuietMove from to ≡ QuietMove from' to'
+one_dashed : (g : Geometry) (text : List ℕ) (from to from' to' : ℕ) → Dashed g text from to → Dashed g text from' to'
+    → QuietMove from to ≡ QuietMove from' to'
 one_dashed g text from to from' to' h k =
     let first = one_begin g text from from' (45 ∷ h.rest) (45 ∷ k.rest) h.begins k.begins in
     let e : 45 ∷ h.rest ≡ 45 ∷ k.rest = first.1 in
@@ -234,7 +286,8 @@ one_dashed g text from to from' to' h k =
     cc
 
 -- a text names one thing at most
-pub names_one : (g : Geometry) (text : List ℕ) (named other : Named) → Names g text named → Names g text other → named ≡ other
+pub names_one : (g : Geometry) (text : List ℕ) (named other : Named) → Names g text named → Names g text other
+    → named ≡ other
 names_one g text named other h k = by_parts named other (parts_of g text named h) (parts_of g text other k) where
   by_parts : (a b : Named) → Parts g text a → Parts g text b → a ≡ b
   by_parts (QuietMove from to) (QuietMove from' to') p q = one_dashed g text from to from' to' p q
@@ -243,15 +296,18 @@ names_one g text named other h k = by_parts named other (parts_of g text named h
   by_parts (Capture squares) (Capture others) p q = ap Capture (one_crossed g text text squares others refl p.0 q.0)
 
 -- ---- the squares of a capture
-pub capture_parts : (g : Geometry) (text squares : List ℕ) → Names g text (Capture squares) → AreCrossed g text squares × (2 ≤ length squares) × (length squares ≤ 21)
+pub capture_parts : (g : Geometry) (text squares : List ℕ) → Names g text (Capture squares) → AreCrossed g text squares
+    × (2 ≤ length squares) × (length squares ≤ 21)
 capture_parts g text squares h = parts_of g text (Capture squares) h
 
 -- no squares joined by crosses, or too many of them
-pub no_capture : (g : Geometry) (text : List ℕ) → ((squares : List ℕ) → length squares ≤ 21 → AreCrossed g text squares → ⊥) → (squares : List ℕ) → Names g text (Capture squares) → ⊥
+pub no_capture : (g : Geometry) (text : List ℕ) → ((squares : List ℕ) → length squares ≤ 21 → AreCrossed g text squares
+    → ⊥) → (squares : List ℕ) → Names g text (Capture squares) → ⊥
 no_capture g text none squares h = let k = capture_parts g text squares h in none squares k.2 k.0
 
 -- too few
-pub lone_number : (g : Geometry) (text lone : List ℕ) → AreCrossed g text lone → length lone ≤ 1 → (squares : List ℕ) → Names g text (Capture squares) → ⊥
+pub lone_number : (g : Geometry) (text lone : List ℕ) → AreCrossed g text lone → length lone ≤ 1 → (squares : List ℕ)
+    → Names g text (Capture squares) → ⊥
 lone_number g text lone crossed few squares h =
     let k = capture_parts g text squares h in
     let same : squares ≡ lone = one_crossed g text text squares lone refl k.0 crossed in

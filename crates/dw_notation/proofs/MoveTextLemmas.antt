@@ -1,5 +1,6 @@
 -- Lemmas on the texts of moves.
-use Rattle.std.proofs.Common.{◌≡◌, ◌≤◌, ◌<◌, ◌+◌, ◌*◌, ℕ, List, [], ◌∷◌, ◌++◌, length, length-append, append_assoc, append-nil, get_or, drop, sym, ap, ◌∙◌, arith, decimal}
+use Rattle.std.proofs.Common.{◌≡◌, ◌≤◌, ◌<◌, ◌+◌, ◌*◌, ℕ, List, [], ◌∷◌, ◌++◌, length, length-append, append_assoc}
+use Rattle.std.proofs.Common.{append-nil, get_or, drop, sym, ap, ◌∙◌, arith, decimal}
 use Rattle.std.proofs.lemmas.Fmt.{length-decimal-le}
 use Rattle.std.proofs.lemmas.List.{drop_more, drop_all}
 use Rattle.dw_notation.specs.Text.{squares_text}
@@ -13,7 +14,8 @@ abbrev pub behind : ℕ → List ℕ → List ℕ
 behind mark [] = []
 behind mark (s ∷ squares) = mark ∷ (decimal s ++ behind mark squares)
 
-pub first_and_behind : (mark s : ℕ) (squares : List ℕ) → squares_text mark (s ∷ squares) ≡ decimal s ++ behind mark squares
+pub first_and_behind : (mark s : ℕ) (squares : List ℕ) → squares_text mark (s ∷ squares)
+    ≡ decimal s ++ behind mark squares
 first_and_behind mark s [] = sym (append-nil (decimal s))
 first_and_behind mark s (t ∷ squares) = ap (λ l. decimal s ++ (mark ∷ l)) (first_and_behind mark t squares)
 
@@ -22,22 +24,29 @@ pub record WrittenTo (mark : ℕ) (squares rest : List ℕ) (i : ℕ) (text : Li
   pub whole : text ++ behind mark (drop i rest) ≡ squares_text mark squares
   pub short : length text ≤ 2 + 3 * i
 
-pub written_first : (mark first : ℕ) (squares rest text : List ℕ) → squares ≡ first ∷ rest → text ≡ decimal first → length (decimal first) ≤ 2 → WrittenTo mark squares rest 0 text
+pub written_first : (mark first : ℕ) (squares rest text : List ℕ) → squares ≡ first ∷ rest → text ≡ decimal first
+    → length (decimal first) ≤ 2 → WrittenTo mark squares rest 0 text
 written_first mark first squares rest text split is low = record {
-  whole = ap (λ t. t ++ behind mark rest) is ∙ (sym (first_and_behind mark first rest) ∙ ap (squares_text mark) (sym split));
+  whole = ap (λ t. t ++ behind mark rest) is ∙ (sym (first_and_behind mark first rest)
+      ∙ ap (squares_text mark) (sym split));
   short = omega (arith, ap length is, low);
 }
 
-pub written_more : (mark : ℕ) (squares rest : List ℕ) (i s : ℕ) (text new : List ℕ) → WrittenTo mark squares rest i text → i < length rest → s ≡ get_or rest i s → length (decimal s) ≤ 2
+pub written_more : (mark : ℕ) (squares rest : List ℕ) (i s : ℕ) (text new : List ℕ) → WrittenTo mark squares rest i text
+    → i < length rest → s ≡ get_or rest i s → length (decimal s) ≤ 2
     → new ≡ (text ++ mark ∷ []) ++ decimal s → WrittenTo mark squares rest (i + 1) new
 written_more mark squares rest i s text new h low is small e = record {
   whole =
       ap (λ t. t ++ behind mark (drop (i + 1) rest)) e
       ∙ (append_assoc (text ++ mark ∷ []) (decimal s) (behind mark (drop (i + 1) rest))
       ∙ (append_assoc text (mark ∷ []) (decimal s ++ behind mark (drop (i + 1) rest))
-      ∙ (ap (λ l. text ++ behind mark l) (ap (λ z. z ∷ drop (i + 1) rest) is ∙ sym (drop_more rest i s low)) ∙ h.whole)));
-  short = let long = ap length e in let a = length-append (text ++ mark ∷ []) (decimal s) in let b = length-append text (mark ∷ []) in omega (arith, long, a, b, h.short, small);
+      ∙ (ap (λ l. text ++ behind mark l) (ap (λ z. z ∷ drop (i + 1) rest) is ∙ sym (drop_more rest i s low))
+      ∙ h.whole)));
+  short = let long = ap length e in let a = length-append (text ++ mark ∷ []) (decimal s) in let b = length-append text
+      (mark ∷ []) in omega (arith, long, a, b, h.short, small);
 }
 
-pub written_all : (mark : ℕ) (squares rest : List ℕ) (i : ℕ) (text : List ℕ) → WrittenTo mark squares rest i text → length rest ≤ i → text ≡ squares_text mark squares
-written_all mark squares rest i text h all = sym (ap (λ l. text ++ behind mark l) (drop_all i rest all) ∙ append-nil text) ∙ h.whole
+pub written_all : (mark : ℕ) (squares rest : List ℕ) (i : ℕ) (text : List ℕ) → WrittenTo mark squares rest i text
+    → length rest ≤ i → text ≡ squares_text mark squares
+written_all mark squares rest i text h all = sym (ap (λ l. text ++ behind mark l) (drop_all i rest all)
+    ∙ append-nil text) ∙ h.whole

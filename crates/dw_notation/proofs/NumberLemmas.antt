@@ -14,9 +14,13 @@ number_from-full [] = refl
 number_from-full (found ∷ more) = refl
 
 pub number_from-last : (handed : ℕ) (found : Found) (more : List Found) → handed ≡ 1000000
-    → number_from handed (found ∷ more) ≡ record { number = handed + 1; found = Err TooManyProblems } ∷ number_from (handed + 1) more
+    → number_from handed (found ∷ more) ≡ record { number = handed + 1; found = Err TooManyProblems }
+    ∷ number_from (handed + 1) more
 number_from-last handed found more h = rw h (rw (number_from-full more) refl)
 
 pub number_from-over : (handed : ℕ) (found : List Found) → 1000000 < handed → number_from handed found ≡ []
 number_from-over handed [] h = refl
-number_from-over handed (f ∷ found) h = rw (le-ltb handed 1000000 (omega arith), ne_eqb handed 1000000 (λ e. omega (arith, e))) refl
+number_from-over handed (f ∷ found) h = rw (
+  le-ltb handed 1000000 (omega arith),
+  ne_eqb handed 1000000 (λ e. omega (arith, e)),
+) refl

@@ -1,5 +1,6 @@
 -- Bytes outside sections that are passed over at once.
-use Rattle.std.proofs.Common.{◌≡◌, ℕ, ◌+◌, ◌<◌, ◌==◌, List, [], ◌∷◌, ◌++◌, length, take, drop, get_or, Bool, true, not, refl, sym, ap, ◌∙◌, append_assoc}
+use Rattle.std.proofs.Common.{◌≡◌, ℕ, ◌+◌, ◌<◌, ◌==◌, List, [], ◌∷◌, ◌++◌, length, take, drop, get_or, Bool, true, not}
+use Rattle.std.proofs.Common.{refl, sym, ap, ◌∙◌, append_assoc}
 use Rattle.std.proofs.lemmas.Bool.{and_parts, and_from, not-true, or_parts}
 use Rattle.std.proofs.lemmas.List.{take-append-drop}
 use Rattle.std.proofs.lemmas.List.Folds.{list_all_more}
@@ -14,11 +15,13 @@ use Rattle.dw_notation.specs.declared.problems.pdn.Deed.TheVariants.{Keep}
 
 -- bytes that change nothing
 pass_all : (p : ℕ → Bool) (place : Place) → ((byte : ℕ) → not (p byte) ≡ true → step place byte ≡ at place Keep)
-    → (at_end : Bool) (g : Geometry) (h : Held) (text more : List ℕ) → list_all (λ byte. not (p byte)) text ≡ true → held_from at_end g place h (text ++ more) ≡ held_from at_end g place h more
+    → (at_end : Bool) (g : Geometry) (h : Held) (text more : List ℕ) → list_all (λ byte. not (p byte)) text ≡ true
+    → held_from at_end g place h (text ++ more) ≡ held_from at_end g place h more
 pass_all p place keeps at_end g h [] more all = refl
 pass_all p place keeps at_end g h (byte ∷ text) more all =
     let both = and_parts (not (p byte)) (list_all (λ b. not (p b)) text) all in
-    ap (λ t. found_by t.deed (held_found g h) ++ held_from at_end g t.place (held_after t.deed h) (text ++ more)) (keeps byte both.0)
+    ap (λ t. found_by t.deed (held_found g h) ++ held_from at_end g t.place (held_after t.deed h) (text ++ more))
+    (keeps byte both.0)
     ∙ pass_all p place keeps at_end g h text more both.1
 
 outside_keeps : (byte : ℕ) → not (opens byte) ≡ true → step Outside byte ≡ at Outside Keep
@@ -28,23 +31,29 @@ comment_keeps : (byte : ℕ) → not (closes byte) ≡ true → step Comment byt
 comment_keeps byte h = rw (not-true (byte == 125) h) refl
 
 pass_front : (p : ℕ → Bool) (place : Place) → ((byte : ℕ) → not (p byte) ≡ true → step place byte ≡ at place Keep)
-    → (at_end : Bool) (g : Geometry) (h : Held) (n : ℕ) (bytes more : List ℕ) → list_all (λ byte. not (p byte)) (take n bytes) ≡ true
+    → (at_end : Bool) (g : Geometry) (h : Held) (n : ℕ) (bytes more : List ℕ)
+    → list_all (λ byte. not (p byte)) (take n bytes) ≡ true
     → held_from at_end g place h (bytes ++ more) ≡ held_from at_end g place h (drop n bytes ++ more)
 pass_front p place keeps at_end g h n bytes more all =
     ap (λ l. held_from at_end g place h (l ++ more)) (sym (take-append-drop n bytes))
     ∙ ap (held_from at_end g place h) (append_assoc (take n bytes) (drop n bytes) more)
     ∙ pass_all p place keeps at_end g h (take n bytes) (drop n bytes ++ more) all
 
-pub pass_outside : (at_end : Bool) (g : Geometry) (place : Place) (h : Held) (n : ℕ) (bytes more : List ℕ) → (place ≡ Outside) → list_all (λ byte. not (opens byte)) (take n bytes) ≡ true
+pub pass_outside : (at_end : Bool) (g : Geometry) (place : Place) (h : Held) (n : ℕ) (bytes more : List ℕ)
+    → (place ≡ Outside) → list_all (λ byte. not (opens byte)) (take n bytes) ≡ true
     → held_from at_end g place h (bytes ++ more) ≡ held_from at_end g place h (drop n bytes ++ more)
 pass_outside at_end g place h n bytes more is all =
-    ap (λ p. held_from at_end g p h (bytes ++ more)) is ∙ pass_front opens Outside outside_keeps at_end g h n bytes more all ∙ ap (λ p. held_from at_end g p h (drop n bytes ++ more)) (sym is)
+    ap (λ p. held_from at_end g p h (bytes ++ more)) is ∙ pass_front opens Outside outside_keeps at_end g h n bytes more
+    all ∙ ap (λ p. held_from at_end g p h (drop n bytes ++ more)) (sym is)
 
-pub pass_comment : (at_end : Bool) (g : Geometry) (place : Place) (h : Held) (n : ℕ) (bytes more : List ℕ) → (place ≡ Comment) → list_all (λ byte. not (closes byte)) (take n bytes) ≡ true
+pub pass_comment : (at_end : Bool) (g : Geometry) (place : Place) (h : Held) (n : ℕ) (bytes more : List ℕ)
+    → (place ≡ Comment) → list_all (λ byte. not (closes byte)) (take n bytes) ≡ true
     → held_from at_end g place h (bytes ++ more) ≡ held_from at_end g place h (drop n bytes ++ more)
 pass_comment at_end g place h n bytes more is all =
-    ap (λ p. held_from at_end g p h (bytes ++ more)) is ∙ pass_front closes Comment comment_keeps at_end g h n bytes more all ∙ ap (λ p. held_from at_end g p h (drop n bytes ++ more)) (sym is)
+    ap (λ p. held_from at_end g p h (bytes ++ more)) is ∙ pass_front closes Comment comment_keeps at_end g h n bytes
+    more all ∙ ap (λ p. held_from at_end g p h (drop n bytes ++ more)) (sym is)
 
 -- one more byte of a kind
-pub all_more : (p : ℕ → Bool) (bytes : List ℕ) (i : ℕ) → i < length bytes → list_all p (take i bytes) ≡ true → p (get_or bytes i 0) ≡ true → list_all p (take (i + 1) bytes) ≡ true
+pub all_more : (p : ℕ → Bool) (bytes : List ℕ) (i : ℕ) → i < length bytes → list_all p (take i bytes) ≡ true
+    → p (get_or bytes i 0) ≡ true → list_all p (take (i + 1) bytes) ≡ true
 all_more p bytes i inside all here = list_all_more p bytes i 0 inside ∙ and_from _ _ all here

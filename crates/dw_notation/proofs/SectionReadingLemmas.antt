@@ -1,12 +1,16 @@
 -- How sections are read.
-use Rattle.std.proofs.Common.{◌≡◌, ℕ, ◌+◌, ◌==◌, inl, inr, List, [], ◌∷◌, ◌++◌, length, Bool, true, false, not, cond, refl, sym, ap, ◌∙◌, subst, arith, append_assoc, append-nil, length-append}
+use Rattle.std.proofs.Common.{◌≡◌, ℕ, ◌+◌, ◌==◌, inl, inr, List, [], ◌∷◌, ◌++◌, length, Bool, true, false, not, cond}
+use Rattle.std.proofs.Common.{refl, sym, ap, ◌∙◌, subst, arith, append_assoc, append-nil, length-append}
 use Rattle.std.proofs.lemmas.Bool.{or_parts, and_parts, not-true}
 use Rattle.std.specs.List.{list_all}
 use Rattle.dw_board.specs.Geometry.{Geometry}
 use Rattle.dw_notation.specs.Lines.{Found}
 use Rattle.dw_notation.specs.Sections.{step, at, Section, bare, kind_of, game_of, with_tag, after, section_found}
 use Rattle.dw_notation.specs.Sections.{found_by, sections_found}
-use Rattle.dw_notation.specs.Tags.{Tag, IsTag, IsUnclosed, is_space, IsGap, IsSection, with_fen, with_game, fens_of, games_of, tags_found, closes, SectionsAreFound, LastSectionIsFound, CommentsSayNothing, OpenCommentIsFound, OthersSayNothing, OpenCommentGivesNothing, OpenSectionGivesNothing}
+use Rattle.dw_notation.specs.Tags.{Tag, IsTag, IsUnclosed, is_space, IsGap, IsSection, with_fen, with_game, fens_of}
+use Rattle.dw_notation.specs.Tags.{games_of, tags_found, closes, SectionsAreFound, LastSectionIsFound}
+use Rattle.dw_notation.specs.Tags.{CommentsSayNothing, OpenCommentIsFound, OthersSayNothing, OpenCommentGivesNothing}
+use Rattle.dw_notation.specs.Tags.{OpenSectionGivesNothing}
 use Rattle.dw_notation.specs.Tags.IsSection.{single, broken, longer, longer_broken}
 use Rattle.dw_notation.specs.declared.problems.pdn.Place.{Place}
 use Rattle.dw_notation.specs.declared.problems.pdn.Place.TheVariants.{Outside, Comment, Between, BeforeName}
@@ -33,7 +37,8 @@ record Holds (tags : List Tag) (some : Bool) (n m : ℕ) (s : Section) : Type 0 
   pub fens : s.fens ≡ fens_of tags
   pub games : s.games ≡ games_of tags
 
-Holds-found : (g : Geometry) (tags : List Tag) (some : Bool) (size read : ℕ) (s : Section) → Holds tags some size read s → section_found g s ≡ tags_found g size some tags
+Holds-found : (g : Geometry) (tags : List Tag) (some : Bool) (size read : ℕ) (s : Section) → Holds tags some size read s
+    → section_found g s ≡ tags_found g size some tags
 Holds-found g tags some size read s h = rw (h.size, h.unclosed, h.fens, h.games) refl
 
 -- a bracket is read, with which a tag begins
@@ -46,12 +51,30 @@ pub record Begins (place : Place) (s : Section) (tags : List Tag) (some : Bool) 
   pub games : t.games ≡ games_of tags
 
 pub begins_outside : Begins Outside bare [] false 0 (record bare { read = 1 })
-begins_outside = record { reads = λ at_end g more. refl; name = refl; read = refl; unclosed = refl; fens = refl; games = refl }
+begins_outside = record {
+  reads = λ at_end g more. refl;
+  name = refl;
+  read = refl;
+  unclosed = refl;
+  fens = refl;
+  games =
+      refl;
+}
 
-begins_between : (tags : List Tag) (some : Bool) (size n : ℕ) (s : Section) → Holds tags some size n s → Begins Between s tags some n (record s { read = s.read + 1; name = [] })
-begins_between tags some size n s h = record { reads = λ at_end g more. refl; name = refl; read = ap (λ k. k + 1) h.read; unclosed = h.unclosed; fens = h.fens; games = h.games }
+begins_between : (tags : List Tag) (some : Bool) (size n : ℕ) (s : Section) → Holds tags some size n s
+    → Begins Between s tags some n (record s { read = s.read + 1; name = [] })
+begins_between tags some size n s h = record {
+  reads = λ at_end g more. refl;
+  name = refl;
+  read =
+      ap (λ k. k + 1) h.read;
+  unclosed = h.unclosed;
+  fens = h.fens;
+  games = h.games;
+}
 
-tag_length : (text : List ℕ) (tag : Tag) → (t : IsTag text tag) → length text ≡ length t.first + length tag.name + length t.middle + length t.spelling + length t.last + 4
+tag_length : (text : List ℕ) (tag : Tag) → (t : IsTag text tag)
+    → length text ≡ length t.first + length tag.name + length t.middle + length t.spelling + length t.last + 4
 tag_length text tag t =
     let l5 = length-append t.last (93 ∷ []) in
     let l4 = length-append t.spelling (34 ∷ (t.last ++ 93 ∷ [])) in
@@ -61,8 +84,10 @@ tag_length text tag t =
     let all = ap length t.joined in
     omega (arith, l1, l2, l3, l4, l5, all)
 
-with_tag_stands : (kind : Kind) (tags : List Tag) (some : Bool) (tag : Tag) (n : ℕ) (s : Section) → kind_of tag.name ≡ kind → s.is_unclosed ≡ some → s.fens ≡ fens_of tags → s.games ≡ games_of tags
-    → StandsBehind (tag ∷ tags) some false n Between (with_tag kind (record s { read = n; size = n; name = tag.name; kind = kind_of tag.name; value = tag.value }))
+with_tag_stands : (kind : Kind) (tags : List Tag) (some : Bool) (tag : Tag) (n : ℕ) (s : Section) → kind_of tag.name
+    ≡ kind → s.is_unclosed ≡ some → s.fens ≡ fens_of tags → s.games ≡ games_of tags
+    → StandsBehind (tag ∷ tags) some false n Between
+    (with_tag kind (record s { read = n; size = n; name = tag.name; kind = kind_of tag.name; value = tag.value }))
 with_tag_stands FenTag tags some tag n s is unclosed fens games = record {
   read = refl;
   fens = ap (λ l. tag.value ∷ l) fens ∙ ap (λ k. with_fen k tag.value (fens_of tags)) (sym is);
@@ -86,31 +111,43 @@ with_tag_stands OtherTag tags some tag n s is unclosed fens games = record {
 }
 
 -- reading on from a place, up to behind these tags
-pub record ReadsOn (place : Place) (s : Section) (text : List ℕ) (tags : List Tag) (some last : Bool) (n : ℕ) : Type 0 where
+pub record ReadsOn (place : Place) (s : Section) (text : List ℕ) (tags : List Tag) (some last : Bool) (n : ℕ) :
+    Type 0 where
   pub next : Place
   pub behind : Section
   pub reads : Reads place s text next behind
   pub stands : StandsBehind tags some last n next behind
 
 -- a whole tag
-pub tag_on : (place : Place) (s t : Section) (tags : List Tag) (some : Bool) (text : List ℕ) (tag : Tag) (n m : ℕ) → Begins place s tags some n t → m ≡ n + length text → IsTag text tag
+pub tag_on : (place : Place) (s t : Section) (tags : List Tag) (some : Bool) (text : List ℕ) (tag : Tag) (n m : ℕ)
+    → Begins place s tags some n t → m ≡ n + length text → IsTag text tag
     → ReadsOn place s text (tag ∷ tags) some false m
 tag_on place s t tags some text tag n m begins size is =
     let length_is = tag_length text tag is in
     let read = begins.read in
     let body = is.first ++ (tag.name ++ (is.middle ++ 34 ∷ (is.spelling ++ 34 ∷ (is.last ++ 93 ∷ [])))) in
-    let u : Section = with_tag (kind_of tag.name) (record t { read = m; size = m; name = tag.name; kind = kind_of tag.name; value = tag.value }) in
+    let u : Section = with_tag (kind_of tag.name) (record t {
+      read = m;
+      size = m;
+      name = tag.name;
+      kind =
+          kind_of tag.name;
+      value = tag.value;
+    }) in
     let reads : Reads BeforeName t body Between u =
-    tag_reads t tag is.first is.middle is.last is.spelling m begins.name is.blank_first is.blank_middle is.blank_last is.some is.named is.spells (omega arith) in
+    tag_reads t tag is.first is.middle is.last is.spelling m begins.name is.blank_first is.blank_middle is.blank_last
+    is.some is.named is.spells (omega arith) in
     record {
       next = Between;
       behind = u;
-      reads = subst (λ l. Reads place s l Between u) (sym is.joined) (join_reads place BeforeName Between s t u (91 ∷ []) body begins.reads reads);
+      reads = subst (λ l. Reads place s l Between u) (sym is.joined) (join_reads place BeforeName Between s t u
+          (91 ∷ []) body begins.reads reads);
       stands = with_tag_stands (kind_of tag.name) tags some tag m t refl begins.unclosed begins.fens begins.games;
     }
 
 -- an unclosed one
-unclosed_on : (place : Place) (s t : Section) (tags : List Tag) (some : Bool) (text : List ℕ) (n m : ℕ) → Begins place s tags some n t → m ≡ n + length text → IsUnclosed text
+unclosed_on : (place : Place) (s t : Section) (tags : List Tag) (some : Bool) (text : List ℕ) (n m : ℕ)
+    → Begins place s tags some n t → m ≡ n + length text → IsUnclosed text
     → ReadsOn place s text tags true true m
 unclosed_on place s t tags some text n m begins size is =
     let line = unclosed_reads text is t in
@@ -120,7 +157,8 @@ unclosed_on place s t tags some text n m begins size is =
     record {
       next = line.next;
       behind = line.last;
-      reads = subst (λ l. Reads place s l line.next line.last) (sym is.joined) (join_reads place BeforeName line.next s t line.last (91 ∷ []) is.line begins.reads line.reads);
+      reads = subst (λ l. Reads place s l line.next line.last) (sym is.joined) (join_reads place BeforeName line.next s
+          t line.last (91 ∷ []) is.line begins.reads line.reads);
       stands = record {
         read = omega arith;
         fens = line.fens ∙ begins.fens;
@@ -136,13 +174,23 @@ record ReadsGap (place : Place) (s : Section) (gap : List ℕ) (tags : List Tag)
   pub reads : Reads place s gap Between behind
   pub holds : Holds tags some n (n + length gap) behind
 
-gap_on : (last : Bool) (gap : List ℕ) (tags : List Tag) (some : Bool) (n : ℕ) (place : Place) (s : Section) → StandsBehind tags some last n place s → IsGap last gap → ReadsGap place s gap tags some n
+gap_on : (last : Bool) (gap : List ℕ) (tags : List Tag) (some : Bool) (n : ℕ) (place : Place) (s : Section)
+    → StandsBehind tags some last n place s → IsGap last gap → ReadsGap place s gap tags some n
 gap_on false gap tags some n place s stands spaces =
     let at_place = stands.whole refl in
     record {
       behind = record s { read = n + length gap };
-      reads = subst (λ p. Reads p s gap Between (record s { read = n + length gap })) (sym at_place.0) (run_reads is_space Between between gap spaces s (n + length gap) (ap (λ k. k + length gap) (sym stands.read)));
-      holds = record { read = refl; size = at_place.1; unclosed = at_place.2; fens = stands.fens; games = stands.games };
+      reads = subst (λ p. Reads p s gap Between (record s { read = n + length gap })) (sym at_place.0)
+          (run_reads is_space Between between gap spaces s (n + length gap)
+          (ap (λ k. k + length gap) (sym stands.read)));
+      holds = record {
+        read = refl;
+        size = at_place.1;
+        unclosed = at_place.2;
+        fens = stands.fens;
+        games =
+            stands.games;
+      };
     }
 gap_on true [] tags some n place s stands gap = absurd gap
 gap_on true (byte ∷ gap) tags some n place s stands spaces =
@@ -153,18 +201,30 @@ gap_on true (byte ∷ gap) tags some n place s stands spaces =
     record {
       behind = record t { read = n + length (byte ∷ gap) };
       reads = λ at_end g more.
-          ap (λ x. found_by x.deed (section_found g s) ++ sections_found at_end g x.place (after x.deed s) (gap ++ more)) ends
+          ap (λ x. found_by x.deed (section_found g s) ++ sections_found at_end g x.place (after x.deed s)
+          (gap ++ more)) ends
           ∙ run_reads is_space Between between gap spaces.1 t (n + length (byte ∷ gap)) (omega arith) at_end g more;
-      holds = record { read = refl; size = stands.read; unclosed = sym in_line.0; fens = stands.fens; games = stands.games };
+      holds = record {
+        read = refl;
+        size = stands.read;
+        unclosed = sym in_line.0;
+        fens = stands.fens;
+        games =
+            stands.games;
+      };
     }
 
 -- one more tag behind a gap
-join_on : (s mid : Section) (place : Place) (text gap next : List ℕ) (tags more_tags : List Tag) (some more_some last : Bool) (m : ℕ) → Reads Outside bare text place mid
-    → (read : ReadsGap place mid gap tags some (length text)) → ReadsOn Between read.behind next more_tags more_some last m → ReadsOn Outside bare (text ++ (gap ++ next)) more_tags more_some last m
+join_on : (s mid : Section) (place : Place) (text gap next : List ℕ) (tags more_tags : List Tag) (some more_some last :
+    Bool) (m : ℕ) → Reads Outside bare text place mid
+    → (read : ReadsGap place mid gap tags some (length text))
+    → ReadsOn Between read.behind next more_tags more_some last m
+    → ReadsOn Outside bare (text ++ (gap ++ next)) more_tags more_some last m
 join_on s mid place text gap next tags more_tags some more_some last m one two three = record {
   next = three.next;
   behind = three.behind;
-  reads = join_reads Outside place three.next bare mid three.behind text (gap ++ next) one (join_reads place Between three.next mid two.behind three.behind gap next two.reads three.reads);
+  reads = join_reads Outside place three.next bare mid three.behind text (gap ++ next) one
+      (join_reads place Between three.next mid two.behind three.behind gap next two.reads three.reads);
   stands = three.stands;
 }
 
@@ -174,27 +234,37 @@ joined_length text gap next =
     let two = length-append gap next in
     omega (arith, one, two)
 
-section_reads : {text : List ℕ} {tags : List Tag} {some last : Bool} → IsSection text tags some last → ReadsOn Outside bare text tags some last (length text)
-section_reads (single {text} {tag} is) = tag_on Outside bare (record bare { read = 1 }) [] false text tag 0 (length text) begins_outside (omega arith) is
-section_reads (broken {text} is) = unclosed_on Outside bare (record bare { read = 1 }) [] false text 0 (length text) begins_outside (omega arith) is
+section_reads : {text : List ℕ} {tags : List Tag} {some last : Bool} → IsSection text tags some last
+    → ReadsOn Outside bare text tags some last (length text)
+section_reads (single {text} {tag} is) = tag_on Outside bare (record bare { read = 1 }) [] false text tag 0
+    (length text) begins_outside (omega arith) is
+section_reads (broken {text} is) = unclosed_on Outside bare (record bare { read = 1 }) [] false text 0 (length text)
+    begins_outside (omega arith) is
 section_reads (longer text gap next {tags} {tag} {some} {last} is spaces is_tag) =
     let one = section_reads is in
     let two = gap_on last gap tags some (length text) one.next one.behind one.stands spaces in
     let t = two.behind in
-    join_on bare one.behind one.next text gap next tags (tag ∷ tags) some some false (length (text ++ (gap ++ next))) one.reads two
-    (tag_on Between t (record t { read = t.read + 1; name = [] }) tags some next tag (length text + length gap) (length (text ++ (gap ++ next)))
-    (begins_between tags some (length text) (length text + length gap) t two.holds) (joined_length text gap next) is_tag)
+    join_on bare one.behind one.next text gap next tags (tag ∷ tags) some some false (length (text ++ (gap ++ next)))
+    one.reads two
+    (tag_on Between t (record t { read = t.read + 1; name = [] }) tags some next tag (length text + length gap)
+    (length (text ++ (gap ++ next)))
+    (begins_between tags some (length text) (length text + length gap) t two.holds) (joined_length text gap next)
+    is_tag)
 section_reads (longer_broken text gap next {tags} {some} {last} is spaces is_unclosed) =
     let one = section_reads is in
     let two = gap_on last gap tags some (length text) one.next one.behind one.stands spaces in
     let t = two.behind in
-    join_on bare one.behind one.next text gap next tags tags some true true (length (text ++ (gap ++ next))) one.reads two
-    (unclosed_on Between t (record t { read = t.read + 1; name = [] }) tags some next (length text + length gap) (length (text ++ (gap ++ next)))
-    (begins_between tags some (length text) (length text + length gap) t two.holds) (joined_length text gap next) is_unclosed)
+    join_on bare one.behind one.next text gap next tags tags some true true (length (text ++ (gap ++ next))) one.reads
+    two
+    (unclosed_on Between t (record t { read = t.read + 1; name = [] }) tags some next (length text + length gap)
+    (length (text ++ (gap ++ next)))
+    (begins_between tags some (length text) (length text + length gap) t two.holds) (joined_length text gap next)
+    is_unclosed)
 
 -- behind the spaces that follow it, too
 whole_reads : (text gap : List ℕ) (tags : List Tag) (some last : Bool) → IsSection text tags some last → IsGap last gap
-    → (s : Section) × Reads Outside bare (text ++ gap) Between s × ((g : Geometry) → section_found g s ≡ tags_found g (length text) some tags)
+    → (s : Section) × Reads Outside bare (text ++ gap) Between s
+    × ((g : Geometry) → section_found g s ≡ tags_found g (length text) some tags)
 whole_reads text gap tags some last is spaces =
     let one = section_reads is in
     let two = gap_on last gap tags some (length text) one.next one.behind one.stands spaces in (
@@ -205,16 +275,22 @@ whole_reads text gap tags some last is spaces =
 
 -- ---- outside a section what was read of one does not count
 any_section : (at_end : Bool) (g : Geometry) (s t : Section) (bytes : List ℕ)
-    → (sections_found at_end g Outside s bytes ≡ sections_found at_end g Outside t bytes) × (sections_found at_end g Comment s bytes ≡ sections_found at_end g Comment t bytes)
+    → (sections_found at_end g Outside s bytes ≡ sections_found at_end g Outside t bytes)
+    × (sections_found at_end g Comment s bytes ≡ sections_found at_end g Comment t bytes)
 any_section at_end g s t [] = (refl, refl)
 any_section at_end g s t (byte ∷ bytes) =
     let rest = any_section at_end g s t bytes in
-    let from : Section → Step → List Found = λ u x. found_by x.deed (section_found g u) ++ sections_found at_end g x.place (after x.deed u) bytes in (
-      elim (byte == 91) as (λ v. from s (cond v (at BeforeName Open) (cond (byte == 123) (at Comment Keep) (at Outside Keep))) ≡ from t (cond v (at BeforeName Open) (cond (byte == 123) (at Comment Keep) (at Outside Keep)))) [
-        | true ↦ refl
-        | false ↦ elim (byte == 123) as (λ v. from s (cond v (at Comment Keep) (at Outside Keep)) ≡ from t (cond v (at Comment Keep) (at Outside Keep))) [ true ↦ rest.1 | false ↦ rest.0 ]
-      ],
-      elim (byte == 125) as (λ v. from s (cond v (at Outside Keep) (at Comment Keep)) ≡ from t (cond v (at Outside Keep) (at Comment Keep))) [ true ↦ rest.0 | false ↦ rest.1 ],
+    let from : Section → Step → List Found = λ u x. found_by x.deed (section_found g u)
+    ++ sections_found at_end g x.place (after x.deed u) bytes in (
+      elim (byte == 91) as (λ v. from s
+          (cond v (at BeforeName Open) (cond (byte == 123) (at Comment Keep) (at Outside Keep)))
+          ≡ from t (cond v (at BeforeName Open) (cond (byte == 123) (at Comment Keep) (at Outside Keep)))) [
+            | true ↦ refl
+            | false ↦ elim (byte == 123) as (λ v. from s (cond v (at Comment Keep) (at Outside Keep))
+                ≡ from t (cond v (at Comment Keep) (at Outside Keep))) [ true ↦ rest.1 | false ↦ rest.0 ]
+          ],
+      elim (byte == 125) as (λ v. from s (cond v (at Outside Keep) (at Comment Keep))
+          ≡ from t (cond v (at Outside Keep) (at Comment Keep))) [ true ↦ rest.0 | false ↦ rest.1 ],
     )
 
 pub sections_are_found : SectionsAreFound
@@ -223,13 +299,17 @@ sections_are_found at_end g text gap more tags some last byte is spaces ends =
     let s = whole.0 in
     let said = tags_found g (length text) some tags in
     let parts = or_parts (byte == 91) (is_space byte) (not-true _ ends) in
-    let from : Section → Step → List Found = λ u x. found_by x.deed (section_found g u) ++ sections_found at_end g x.place (after x.deed u) more in
-    let ending : step Between byte ≡ cond (byte == 123) (at Comment End) (at Outside End) = rw (parts.0, parts.1) refl in
+    let from : Section → Step → List Found = λ u x. found_by x.deed (section_found g u)
+    ++ sections_found at_end g x.place (after x.deed u) more in
+    let ending : step Between byte ≡ cond (byte == 123) (at Comment End) (at Outside End) = rw (parts.0, parts.1)
+    refl in
     let outside : step Outside byte ≡ cond (byte == 123) (at Comment Keep) (at Outside Keep) = rw parts.0 refl in
     let rest = any_section at_end g s bare more in
     let found = whole.2 g in
-    let here : from s (cond (byte == 123) (at Comment End) (at Outside End)) ≡ said ∷ from bare (cond (byte == 123) (at Comment Keep) (at Outside Keep)) =
-    elim (byte == 123) as (λ v. from s (cond v (at Comment End) (at Outside End)) ≡ said ∷ from bare (cond v (at Comment Keep) (at Outside Keep))) [
+    let here : from s (cond (byte == 123) (at Comment End) (at Outside End))
+    ≡ said ∷ from bare (cond (byte == 123) (at Comment Keep) (at Outside Keep)) =
+    elim (byte == 123) as (λ v. from s (cond v (at Comment End) (at Outside End))
+    ≡ said ∷ from bare (cond v (at Comment Keep) (at Outside Keep))) [
       | true ↦ ap (λ f. f ∷ sections_found at_end g Comment s more) found ∙ ap (λ l. said ∷ l) rest.1
       | false ↦ ap (λ f. f ∷ sections_found at_end g Outside s more) found ∙ ap (λ l. said ∷ l) rest.0
     ] in
@@ -239,11 +319,13 @@ sections_are_found at_end g text gap more tags some last byte is spaces ends =
     ∙ here
     ∙ ap (λ x. said ∷ from bare x) (sym outside)
 
-last_with_gap : (g : Geometry) (text gap : List ℕ) (tags : List Tag) (some last : Bool) → IsSection text tags some last → IsGap last gap
+last_with_gap : (g : Geometry) (text gap : List ℕ) (tags : List Tag) (some last : Bool) → IsSection text tags some last
+    → IsGap last gap
     → sections_found true g Outside bare (text ++ gap) ≡ tags_found g (length text) some tags ∷ []
 last_with_gap g text gap tags some last is spaces =
     let whole = whole_reads text gap tags some last is spaces in
-    ap (sections_found true g Outside bare) (sym (append-nil (text ++ gap))) ∙ whole.1 true g [] ∙ ap (λ f. f ∷ []) (whole.2 g)
+    ap (sections_found true g Outside bare) (sym (append-nil (text ++ gap))) ∙ whole.1 true g []
+    ∙ ap (λ f. f ∷ []) (whole.2 g)
 
 last_alone : (g : Geometry) (text : List ℕ) (tags : List Tag) (some last : Bool) → IsSection text tags some last
     → sections_found true g Outside bare (text ++ []) ≡ tags_found g (length text) some tags ∷ []
@@ -253,7 +335,14 @@ last_alone g text tags some true is =
     let in_line = one.stands.line refl in
     let s = one.behind in
     let held : Holds tags some (length text) (s.read + 1) (after EndLine s) =
-    record { read = refl; size = one.stands.read; unclosed = sym in_line.0; fens = one.stands.fens; games = one.stands.games } in
+    record {
+      read = refl;
+      size = one.stands.read;
+      unclosed = sym in_line.0;
+      fens = one.stands.fens;
+      games =
+          one.stands.games;
+    } in
     one.reads true g []
     ∙ text_ends (section_found g s) (section_found g (after EndLine s)) in_line.1.1
     ∙ ap (λ f. f ∷ []) (Holds-found g tags some (length text) (s.read + 1) (after EndLine s) held)
@@ -264,18 +353,21 @@ last_section_is_found g text gap tags some last is (inr none) =
     ap (λ l. sections_found true g Outside bare (text ++ l)) none ∙ last_alone g text tags some last is
 
 -- ---- comments
-comment_reads : (text : List ℕ) → list_all (λ byte. not (closes byte)) text ≡ true → (s : Section) → Reads Comment s text Comment s
+comment_reads : (text : List ℕ) → list_all (λ byte. not (closes byte)) text ≡ true → (s : Section)
+    → Reads Comment s text Comment s
 comment_reads [] all s at_end g more = refl
 comment_reads (byte ∷ text) all s at_end g more =
     let both = and_parts (not (closes byte)) (list_all (λ b. not (closes b)) text) all in
     let stays : step Comment byte ≡ at Comment Keep = rw (not-true (closes byte) both.0) refl in
-    ap (λ x. found_by x.deed (section_found g s) ++ sections_found at_end g x.place (after x.deed s) (text ++ more)) stays ∙ comment_reads text both.1 s at_end g more
+    ap (λ x. found_by x.deed (section_found g s) ++ sections_found at_end g x.place (after x.deed s) (text ++ more))
+    stays ∙ comment_reads text both.1 s at_end g more
 
 pub comments_say_nothing : CommentsSayNothing
 comments_say_nothing at_end g text more all = comment_reads text all bare at_end g (125 ∷ more)
 
 pub open_comment_is_found : OpenCommentIsFound
-open_comment_is_found g text all = ap (sections_found true g Comment bare) (sym (append-nil text)) ∙ comment_reads text all bare true g []
+open_comment_is_found g text all = ap (sections_found true g Comment bare) (sym (append-nil text))
+    ∙ comment_reads text all bare true g []
 
 pub others_say_nothing : OthersSayNothing
 others_say_nothing at_end g byte more h =
@@ -285,10 +377,12 @@ others_say_nothing at_end g byte more h =
 
 -- ---- what is unfinished has given nothing
 pub open_comment_gives_nothing : OpenCommentGivesNothing
-open_comment_gives_nothing g text all = ap (sections_found false g Comment bare) (sym (append-nil text)) ∙ comment_reads text all bare false g []
+open_comment_gives_nothing g text all = ap (sections_found false g Comment bare) (sym (append-nil text))
+    ∙ comment_reads text all bare false g []
 
 pub open_section_gives_nothing : OpenSectionGivesNothing
 open_section_gives_nothing g text gap tags some last is (inl spaces) =
-    ap (sections_found false g Outside bare) (sym (append-nil (text ++ gap))) ∙ (whole_reads text gap tags some last is spaces).1 false g []
+    ap (sections_found false g Outside bare) (sym (append-nil (text ++ gap)))
+    ∙ (whole_reads text gap tags some last is spaces).1 false g []
 open_section_gives_nothing g text gap tags some last is (inr none) =
     ap (λ l. sections_found false g Outside bare (text ++ l)) none ∙ (section_reads is).reads false g []

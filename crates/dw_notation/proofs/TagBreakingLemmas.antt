@@ -1,5 +1,6 @@
 -- How the line of an unclosed tag is read.
-use Rattle.std.proofs.Common.{◌≡◌, ℕ, ◌+◌, ◌<◌, ◌==◌, ◌⊎◌, inl, inr, List, [], ◌∷◌, ◌++◌, length, Bool, true, false, not, refl, sym, ap, ◌∙◌, subst, arith, append_assoc, append-nil, length-append}
+use Rattle.std.proofs.Common.{◌≡◌, ℕ, ◌+◌, ◌<◌, ◌==◌, ◌⊎◌, inl, inr, List, [], ◌∷◌, ◌++◌, length, Bool, true, false}
+use Rattle.std.proofs.Common.{not, refl, sym, ap, ◌∙◌, subst, arith, append_assoc, append-nil, length-append}
 use Rattle.std.proofs.lemmas.Bool.{cases_Bool, and_parts, and_from, or_cases, not-true, eqb-true}
 use Rattle.std.proofs.lemmas.List.Folds.{list_all-append}
 use Rattle.std.specs.List.{list_all}
@@ -11,14 +12,18 @@ use Rattle.dw_notation.specs.Tags.{Tag, Spells, IsTag, IsUnclosed}
 use Rattle.dw_notation.specs.Tags.Spells.{nothing, quotation, backslash, lone, plain}
 use Rattle.dw_notation.proofs.TagReadingLemmas.{Reads}
 use Rattle.dw_notation.specs.declared.problems.pdn.Place.{Place}
-use Rattle.dw_notation.specs.declared.problems.pdn.Place.TheVariants.{Between, BeforeName, InName, BehindName, InValue, Escaped, BehindValue, Rest}
+use Rattle.dw_notation.specs.declared.problems.pdn.Place.TheVariants.{Between, BeforeName, InName, BehindName, InValue}
+use Rattle.dw_notation.specs.declared.problems.pdn.Place.TheVariants.{Escaped, BehindValue, Rest}
 use Rattle.dw_notation.specs.declared.problems.pdn.Deed.{Deed}
-use Rattle.dw_notation.specs.declared.problems.pdn.Deed.TheVariants.{Count, AddName, OpenValue, AddValue, AddBoth, Break, EndLine}
+use Rattle.dw_notation.specs.declared.problems.pdn.Deed.TheVariants.{Count, AddName, OpenValue, AddValue, AddBoth}
+use Rattle.dw_notation.specs.declared.problems.pdn.Deed.TheVariants.{Break, EndLine}
 
-all_push : (p : ℕ → Bool) (text : List ℕ) (byte : ℕ) → list_all p text ≡ true → p byte ≡ true → list_all p (text ++ byte ∷ []) ≡ true
+all_push : (p : ℕ → Bool) (text : List ℕ) (byte : ℕ) → list_all p text ≡ true → p byte ≡ true
+    → list_all p (text ++ byte ∷ []) ≡ true
 all_push p text byte all here = list_all-append p text (byte ∷ []) ∙ and_from _ _ all (and_from _ _ here refl)
 
-spells_join : {text value other more : List ℕ} → Spells text value → Spells other more → Spells (text ++ other) (value ++ more)
+spells_join : {text value other more : List ℕ} → Spells text value → Spells other more
+    → Spells (text ++ other) (value ++ more)
 spells_join nothing two = two
 spells_join (quotation one) two = quotation (spells_join one two)
 spells_join (backslash one) two = backslash (spells_join one two)
@@ -28,15 +33,21 @@ spells_join (plain byte h one) two = plain byte h (spells_join one two)
 -- where the reading of a tag stands that was read so far
 pub data SoFar : Place → List ℕ → Type 0 where
   before : (first : List ℕ) → list_all is_blank first ≡ true → SoFar BeforeName (91 ∷ first)
-  named : (first name : List ℕ) → list_all is_blank first ≡ true → 0 < length name → list_all is_name_byte name ≡ true → SoFar InName (91 ∷ (first ++ name))
-  behind : (first name middle : List ℕ) → list_all is_blank first ≡ true → 0 < length name → list_all is_name_byte name ≡ true → list_all is_blank middle ≡ true
+  named : (first name : List ℕ) → list_all is_blank first ≡ true → 0 < length name → list_all is_name_byte name ≡ true
+      → SoFar InName (91 ∷ (first ++ name))
+  behind : (first name middle : List ℕ) → list_all is_blank first ≡ true → 0 < length name → list_all is_name_byte name
+      ≡ true → list_all is_blank middle ≡ true
       → SoFar BehindName (91 ∷ (first ++ (name ++ middle)))
-  valued : (first name middle spelling value : List ℕ) → list_all is_blank first ≡ true → 0 < length name → list_all is_name_byte name ≡ true → list_all is_blank middle ≡ true → Spells spelling value
+  valued : (first name middle spelling value : List ℕ) → list_all is_blank first ≡ true → 0 < length name
+      → list_all is_name_byte name ≡ true → list_all is_blank middle ≡ true → Spells spelling value
       → SoFar InValue (91 ∷ (first ++ (name ++ (middle ++ 34 ∷ spelling))))
-  escaped : (first name middle spelling value : List ℕ) → list_all is_blank first ≡ true → 0 < length name → list_all is_name_byte name ≡ true → list_all is_blank middle ≡ true → Spells spelling value
+  escaped : (first name middle spelling value : List ℕ) → list_all is_blank first ≡ true → 0 < length name
+      → list_all is_name_byte name ≡ true → list_all is_blank middle ≡ true → Spells spelling value
       → SoFar Escaped (91 ∷ (first ++ (name ++ (middle ++ 34 ∷ (spelling ++ 92 ∷ [])))))
-  closing : (first name middle spelling value last : List ℕ) → list_all is_blank first ≡ true → 0 < length name → list_all is_name_byte name ≡ true → list_all is_blank middle ≡ true → Spells spelling value
-      → list_all is_blank last ≡ true → SoFar BehindValue (91 ∷ (first ++ (name ++ (middle ++ 34 ∷ (spelling ++ 34 ∷ last)))))
+  closing : (first name middle spelling value last : List ℕ) → list_all is_blank first ≡ true → 0 < length name
+      → list_all is_name_byte name ≡ true → list_all is_blank middle ≡ true → Spells spelling value
+      → list_all is_blank last ≡ true
+      → SoFar BehindValue (91 ∷ (first ++ (name ++ (middle ++ 34 ∷ (spelling ++ 34 ∷ last)))))
   rest : (text : List ℕ) → SoFar Rest text
 
 -- a byte in a tag finds nothing and adds no tag
@@ -48,9 +59,11 @@ pub record IsQuiet (deed : Deed) : Type 0 where
 
 -- one more byte of the line: the tag goes on, or it is whole
 abbrev pub GoesOn : Place → List ℕ → ℕ → Type 0
-GoesOn place text byte = (SoFar (step place byte).place (text ++ byte ∷ []) × IsQuiet (step place byte).deed) ⊎ ((tag : Tag) × IsTag (text ++ byte ∷ []) tag)
+GoesOn place text byte = (SoFar (step place byte).place (text ++ byte ∷ []) × IsQuiet (step place byte).deed)
+    ⊎ ((tag : Tag) × IsTag (text ++ byte ∷ []) tag)
 
-goes_on : (place next : Place) (deed : Deed) (text other : List ℕ) (byte : ℕ) → step place byte ≡ at next deed → text ++ byte ∷ [] ≡ other → SoFar next other → IsQuiet deed → GoesOn place text byte
+goes_on : (place next : Place) (deed : Deed) (text other : List ℕ) (byte : ℕ) → step place byte ≡ at next deed
+    → text ++ byte ∷ [] ≡ other → SoFar next other → IsQuiet deed → GoesOn place text byte
 goes_on place next deed text other byte e joined so_far quiet =
     inl (
       subst (λ t. SoFar t.place (text ++ byte ∷ [])) (sym e) (subst (SoFar next) (sym joined) so_far),
@@ -76,38 +89,49 @@ quiet_break : IsQuiet Break
 quiet_break = record { found = λ f. refl; read = λ s. refl; fens = λ s. refl; games = λ s. refl }
 
 breaks : (place : Place) (text : List ℕ) (byte : ℕ) → step place byte ≡ at Rest Break → GoesOn place text byte
-breaks place text byte e = goes_on place Rest Break text (text ++ byte ∷ []) byte e refl (rest (text ++ byte ∷ [])) quiet_break
+breaks place text byte e = goes_on place Rest Break text (text ++ byte ∷ []) byte e refl (rest (text ++ byte ∷ []))
+    quiet_break
 
-pub tag_goes_on : {place : Place} {text : List ℕ} (byte : ℕ) → ends_line byte ≡ false → SoFar place text → GoesOn place text byte
+pub tag_goes_on : {place : Place} {text : List ℕ} (byte : ℕ) → ends_line byte ≡ false → SoFar place text
+    → GoesOn place text byte
 tag_goes_on byte inside (before first b1) = elim (cases_Bool (is_blank byte)) [
-  | inl blank ↦ goes_on BeforeName BeforeName Count (91 ∷ first) (91 ∷ (first ++ byte ∷ [])) byte (rw blank refl) refl (before (first ++ byte ∷ []) (all_push is_blank first byte b1 blank)) quiet_count
+  | inl blank ↦ goes_on BeforeName BeforeName Count (91 ∷ first) (91 ∷ (first ++ byte ∷ [])) byte (rw blank refl) refl
+      (before (first ++ byte ∷ []) (all_push is_blank first byte b1 blank)) quiet_count
   | inr none ↦ elim (cases_Bool (is_name_byte byte)) [
-    | inl is ↦ goes_on BeforeName InName (AddName byte) (91 ∷ first) (91 ∷ (first ++ byte ∷ [])) byte (rw (none, is) refl) refl (named first (byte ∷ []) b1 (omega arith) (and_from _ _ is refl)) (quiet_name byte)
+    | inl is ↦ goes_on BeforeName InName (AddName byte) (91 ∷ first) (91 ∷ (first ++ byte ∷ [])) byte
+        (rw (none, is) refl) refl (named first (byte ∷ []) b1 (omega arith) (and_from _ _ is refl)) (quiet_name byte)
     | inr other ↦ breaks BeforeName (91 ∷ first) byte (rw (none, other, inside) refl)
   ]
 ]
 tag_goes_on byte inside (named first name b1 some n) = elim (cases_Bool (is_name_byte byte)) [
   | inl is ↦ let more : 0 < length (name ++ byte ∷ []) = omega (arith, length-append name (byte ∷ [])) in
-      goes_on InName InName (AddName byte) (91 ∷ (first ++ name)) (91 ∷ (first ++ (name ++ byte ∷ []))) byte (rw is refl) (ap (λ l. 91 ∷ l) (append_assoc first name (byte ∷ [])))
+      goes_on InName InName (AddName byte) (91 ∷ (first ++ name)) (91 ∷ (first ++ (name ++ byte ∷ []))) byte
+      (rw is refl) (ap (λ l. 91 ∷ l) (append_assoc first name (byte ∷ [])))
       (named first (name ++ byte ∷ []) b1 more (all_push is_name_byte name byte n is)) (quiet_name byte)
   | inr none ↦ elim (cases_Bool (is_blank byte)) [
-    | inl blank ↦ goes_on InName BehindName Count (91 ∷ (first ++ name)) (91 ∷ (first ++ (name ++ byte ∷ []))) byte (rw (none, blank) refl) (ap (λ l. 91 ∷ l) (append_assoc first name (byte ∷ [])))
+    | inl blank ↦ goes_on InName BehindName Count (91 ∷ (first ++ name)) (91 ∷ (first ++ (name ++ byte ∷ []))) byte
+        (rw (none, blank) refl) (ap (λ l. 91 ∷ l) (append_assoc first name (byte ∷ [])))
         (behind first name (byte ∷ []) b1 some n (and_from _ _ blank refl)) quiet_count
     | inr other ↦ elim (cases_Bool (byte == 34)) [
-      | inl mark ↦ goes_on InName InValue OpenValue (91 ∷ (first ++ name)) (91 ∷ (first ++ (name ++ 34 ∷ []))) byte (rw (none, other, mark) refl)
-          (ap (λ l. 91 ∷ l) (append_assoc first name (byte ∷ [])) ∙ ap (λ b. 91 ∷ (first ++ (name ++ b ∷ []))) (eqb-true byte 34 mark))
+      | inl mark ↦ goes_on InName InValue OpenValue (91 ∷ (first ++ name)) (91 ∷ (first ++ (name ++ 34 ∷ []))) byte
+          (rw (none, other, mark) refl)
+          (ap (λ l. 91 ∷ l) (append_assoc first name (byte ∷ [])) ∙ ap (λ b. 91 ∷ (first ++ (name ++ b ∷ [])))
+          (eqb-true byte 34 mark))
           (valued first name [] [] [] b1 some n refl nothing) quiet_open
       | inr neither ↦ breaks InName (91 ∷ (first ++ name)) byte (rw (none, other, neither, inside) refl)
     ]
   ]
 ]
 tag_goes_on byte inside (behind first name middle b1 some n b2) =
-    let joined : (91 ∷ (first ++ (name ++ middle))) ++ byte ∷ [] ≡ 91 ∷ (first ++ (name ++ (middle ++ byte ∷ []))) = simp append_assoc in
+    let joined : (91 ∷ (first ++ (name ++ middle))) ++ byte ∷ [] ≡ 91 ∷ (first ++ (name ++ (middle ++ byte ∷ []))) =
+    simp append_assoc in
     elim (cases_Bool (is_blank byte)) [
-      | inl blank ↦ goes_on BehindName BehindName Count (91 ∷ (first ++ (name ++ middle))) (91 ∷ (first ++ (name ++ (middle ++ byte ∷ [])))) byte (rw blank refl) joined
+      | inl blank ↦ goes_on BehindName BehindName Count (91 ∷ (first ++ (name ++ middle)))
+          (91 ∷ (first ++ (name ++ (middle ++ byte ∷ [])))) byte (rw blank refl) joined
           (behind first name (middle ++ byte ∷ []) b1 some n (all_push is_blank middle byte b2 blank)) quiet_count
       | inr none ↦ elim (cases_Bool (byte == 34)) [
-        | inl mark ↦ goes_on BehindName InValue OpenValue (91 ∷ (first ++ (name ++ middle))) (91 ∷ (first ++ (name ++ (middle ++ 34 ∷ [])))) byte (rw (none, mark) refl)
+        | inl mark ↦ goes_on BehindName InValue OpenValue (91 ∷ (first ++ (name ++ middle)))
+            (91 ∷ (first ++ (name ++ (middle ++ 34 ∷ [])))) byte (rw (none, mark) refl)
             (joined ∙ ap (λ b. 91 ∷ (first ++ (name ++ (middle ++ b ∷ [])))) (eqb-true byte 34 mark))
             (valued first name middle [] [] b1 some n b2 nothing) quiet_open
         | inr neither ↦ breaks BehindName (91 ∷ (first ++ (name ++ middle))) byte (rw (none, neither, inside) refl)
@@ -115,40 +139,61 @@ tag_goes_on byte inside (behind first name middle b1 some n b2) =
     ]
 tag_goes_on byte inside (valued first name middle spelling value b1 some n b2 spells) =
     let text = 91 ∷ (first ++ (name ++ (middle ++ 34 ∷ spelling))) in
-    let joined : text ++ byte ∷ [] ≡ 91 ∷ (first ++ (name ++ (middle ++ 34 ∷ (spelling ++ byte ∷ [])))) = simp append_assoc in
+    let joined : text ++ byte ∷ [] ≡ 91 ∷ (first ++ (name ++ (middle ++ 34 ∷ (spelling ++ byte ∷ [])))) =
+    simp append_assoc in
     elim (cases_Bool (byte == 34)) [
-      | inl mark ↦ goes_on InValue BehindValue Count text (91 ∷ (first ++ (name ++ (middle ++ 34 ∷ (spelling ++ 34 ∷ []))))) byte (rw mark refl)
+      | inl mark ↦ goes_on InValue BehindValue Count text
+          (91 ∷ (first ++ (name ++ (middle ++ 34 ∷ (spelling ++ 34 ∷ []))))) byte (rw mark refl)
           (joined ∙ ap (λ b. 91 ∷ (first ++ (name ++ (middle ++ 34 ∷ (spelling ++ b ∷ []))))) (eqb-true byte 34 mark))
           (closing first name middle spelling value [] b1 some n b2 spells refl) quiet_count
       | inr none ↦ elim (cases_Bool (byte == 92)) [
-        | inl slash ↦ goes_on InValue Escaped Count text (91 ∷ (first ++ (name ++ (middle ++ 34 ∷ (spelling ++ 92 ∷ []))))) byte (rw (none, slash) refl)
-            (joined ∙ ap (λ b. 91 ∷ (first ++ (name ++ (middle ++ 34 ∷ (spelling ++ b ∷ []))))) (eqb-true byte 92 slash))
+        | inl slash ↦ goes_on InValue Escaped Count text
+            (91 ∷ (first ++ (name ++ (middle ++ 34 ∷ (spelling ++ 92 ∷ []))))) byte (rw (none, slash) refl)
+            (joined ∙ ap (λ b. 91 ∷ (first ++ (name ++ (middle ++ 34 ∷ (spelling ++ b ∷ [])))))
+            (eqb-true byte 92 slash))
             (escaped first name middle spelling value b1 some n b2 spells) quiet_count
-        | inr other ↦ goes_on InValue InValue (AddValue byte) text (91 ∷ (first ++ (name ++ (middle ++ 34 ∷ (spelling ++ byte ∷ []))))) byte (rw (none, other, inside) refl) joined
-            (valued first name middle (spelling ++ byte ∷ []) (value ++ byte ∷ []) b1 some n b2 (spells_join spells (plain byte (rw (none, other, inside) refl) nothing))) (quiet_value byte)
+        | inr other ↦ goes_on InValue InValue (AddValue byte) text
+            (91 ∷ (first ++ (name ++ (middle ++ 34 ∷ (spelling ++ byte ∷ []))))) byte (rw (none, other, inside) refl)
+            joined
+            (valued first name middle (spelling ++ byte ∷ []) (value ++ byte ∷ []) b1 some n b2
+            (spells_join spells (plain byte (rw (none, other, inside) refl) nothing))) (quiet_value byte)
       ]
     ]
 tag_goes_on byte inside (escaped first name middle spelling value b1 some n b2 spells) =
     let text = 91 ∷ (first ++ (name ++ (middle ++ 34 ∷ (spelling ++ 92 ∷ [])))) in
-    let joined : text ++ byte ∷ [] ≡ 91 ∷ (first ++ (name ++ (middle ++ 34 ∷ (spelling ++ 92 ∷ byte ∷ [])))) = simp append_assoc in
+    let joined : text ++ byte ∷ [] ≡ 91 ∷ (first ++ (name ++ (middle ++ 34 ∷ (spelling ++ 92 ∷ byte ∷ [])))) =
+    simp append_assoc in
     elim (cases_Bool (byte == 34)) [
-      | inl mark ↦ goes_on Escaped InValue (AddValue byte) text (91 ∷ (first ++ (name ++ (middle ++ 34 ∷ (spelling ++ 92 ∷ 34 ∷ []))))) byte (rw mark refl)
-          (joined ∙ ap (λ b. 91 ∷ (first ++ (name ++ (middle ++ 34 ∷ (spelling ++ 92 ∷ b ∷ []))))) (eqb-true byte 34 mark))
-          (valued first name middle (spelling ++ 92 ∷ 34 ∷ []) (value ++ 34 ∷ []) b1 some n b2 (spells_join spells (quotation nothing))) (quiet_value byte)
+      | inl mark ↦ goes_on Escaped InValue (AddValue byte) text
+          (91 ∷ (first ++ (name ++ (middle ++ 34 ∷ (spelling ++ 92 ∷ 34 ∷ []))))) byte (rw mark refl)
+          (joined ∙ ap (λ b. 91 ∷ (first ++ (name ++ (middle ++ 34 ∷ (spelling ++ 92 ∷ b ∷ [])))))
+          (eqb-true byte 34 mark))
+          (valued first name middle (spelling ++ 92 ∷ 34 ∷ []) (value ++ 34 ∷ []) b1 some n b2
+          (spells_join spells (quotation nothing))) (quiet_value byte)
       | inr none ↦ elim (cases_Bool (byte == 92)) [
-        | inl slash ↦ goes_on Escaped InValue (AddValue byte) text (91 ∷ (first ++ (name ++ (middle ++ 34 ∷ (spelling ++ 92 ∷ 92 ∷ []))))) byte (rw (none, slash) refl)
-            (joined ∙ ap (λ b. 91 ∷ (first ++ (name ++ (middle ++ 34 ∷ (spelling ++ 92 ∷ b ∷ []))))) (eqb-true byte 92 slash))
-            (valued first name middle (spelling ++ 92 ∷ 92 ∷ []) (value ++ 92 ∷ []) b1 some n b2 (spells_join spells (backslash nothing))) (quiet_value byte)
-        | inr other ↦ goes_on Escaped InValue (AddBoth byte) text (91 ∷ (first ++ (name ++ (middle ++ 34 ∷ (spelling ++ 92 ∷ byte ∷ []))))) byte (rw (none, other, inside) refl) joined
-            (valued first name middle (spelling ++ 92 ∷ byte ∷ []) (value ++ 92 ∷ byte ∷ []) b1 some n b2 (spells_join spells (lone byte (rw (none, other, inside) refl) nothing))) (quiet_both byte)
+        | inl slash ↦ goes_on Escaped InValue (AddValue byte) text
+            (91 ∷ (first ++ (name ++ (middle ++ 34 ∷ (spelling ++ 92 ∷ 92 ∷ []))))) byte (rw (none, slash) refl)
+            (joined ∙ ap (λ b. 91 ∷ (first ++ (name ++ (middle ++ 34 ∷ (spelling ++ 92 ∷ b ∷ [])))))
+            (eqb-true byte 92 slash))
+            (valued first name middle (spelling ++ 92 ∷ 92 ∷ []) (value ++ 92 ∷ []) b1 some n b2
+            (spells_join spells (backslash nothing))) (quiet_value byte)
+        | inr other ↦ goes_on Escaped InValue (AddBoth byte) text
+            (91 ∷ (first ++ (name ++ (middle ++ 34 ∷ (spelling ++ 92 ∷ byte ∷ []))))) byte
+            (rw (none, other, inside) refl) joined
+            (valued first name middle (spelling ++ 92 ∷ byte ∷ []) (value ++ 92 ∷ byte ∷ []) b1 some n b2
+            (spells_join spells (lone byte (rw (none, other, inside) refl) nothing))) (quiet_both byte)
       ]
     ]
 tag_goes_on byte inside (closing first name middle spelling value last b1 some n b2 spells b3) =
     let text = 91 ∷ (first ++ (name ++ (middle ++ 34 ∷ (spelling ++ 34 ∷ last)))) in
-    let joined : text ++ byte ∷ [] ≡ 91 ∷ (first ++ (name ++ (middle ++ 34 ∷ (spelling ++ 34 ∷ (last ++ byte ∷ []))))) = simp append_assoc in
+    let joined : text ++ byte ∷ [] ≡ 91 ∷ (first ++ (name ++ (middle ++ 34 ∷ (spelling ++ 34 ∷ (last ++ byte ∷ []))))) =
+    simp append_assoc in
     elim (cases_Bool (is_blank byte)) [
-      | inl blank ↦ goes_on BehindValue BehindValue Count text (91 ∷ (first ++ (name ++ (middle ++ 34 ∷ (spelling ++ 34 ∷ (last ++ byte ∷ [])))))) byte (rw blank refl) joined
-          (closing first name middle spelling value (last ++ byte ∷ []) b1 some n b2 spells (all_push is_blank last byte b3 blank)) quiet_count
+      | inl blank ↦ goes_on BehindValue BehindValue Count text
+          (91 ∷ (first ++ (name ++ (middle ++ 34 ∷ (spelling ++ 34 ∷ (last ++ byte ∷ [])))))) byte (rw blank refl)
+          joined
+          (closing first name middle spelling value (last ++ byte ∷ []) b1 some n b2 spells
+          (all_push is_blank last byte b3 blank)) quiet_count
       | inr none ↦ elim (cases_Bool (byte == 93)) [
         | inl close ↦ inr (
           record { name = name; value = value },
@@ -163,13 +208,15 @@ tag_goes_on byte inside (closing first name middle spelling value last b1 some n
             some = some;
             named = n;
             spells = spells;
-            joined = joined ∙ ap (λ b. 91 ∷ (first ++ (name ++ (middle ++ 34 ∷ (spelling ++ 34 ∷ (last ++ b ∷ [])))))) (eqb-true byte 93 close);
+            joined = joined ∙ ap (λ b. 91 ∷ (first ++ (name ++ (middle ++ 34 ∷ (spelling ++ 34 ∷ (last ++ b ∷ []))))))
+                (eqb-true byte 93 close);
           },
         )
         | inr other ↦ breaks BehindValue text byte (rw (none, other, inside) refl)
       ]
     ]
-tag_goes_on byte inside (rest text) = goes_on Rest Rest Count text (text ++ byte ∷ []) byte (rw inside refl) refl (rest (text ++ byte ∷ [])) quiet_count
+tag_goes_on byte inside (rest text) = goes_on Rest Rest Count text (text ++ byte ∷ []) byte (rw inside refl) refl
+    (rest (text ++ byte ∷ [])) quiet_count
 
 -- ---- the whole line
 pub record LineRead (place : Place) (text line : List ℕ) (s : Section) : Type 0 where
@@ -181,8 +228,10 @@ pub record LineRead (place : Place) (text line : List ℕ) (s : Section) : Type 
   pub games : last.games ≡ s.games
   pub reads : Reads place s line next last
 
-line_reads : (line : List ℕ) (place : Place) (text : List ℕ) → SoFar place text → list_all (λ byte. not (ends_line byte)) line ≡ true
-    → ((front back : List ℕ) (tag : Tag) → text ++ line ≡ front ++ back → IsTag front tag → ⊥) → (s : Section) → LineRead place text line s
+line_reads : (line : List ℕ) (place : Place) (text : List ℕ) → SoFar place text
+    → list_all (λ byte. not (ends_line byte)) line ≡ true
+    → ((front back : List ℕ) (tag : Tag) → text ++ line ≡ front ++ back → IsTag front tag → ⊥) → (s : Section)
+    → LineRead place text line s
 line_reads [] place text so_far in_line unbroken s = record {
   next = place;
   last = s;
@@ -198,7 +247,8 @@ line_reads (byte ∷ line) place text so_far in_line unbroken s =
     elim (tag_goes_on byte (not-true _ both.0) so_far) [
       | inl on ↦
           let t = step place byte in
-          let more_read = line_reads line t.place (text ++ byte ∷ []) on.0 both.1 (λ front back tag e is. unbroken front back tag (sym joined ∙ e) is) (after t.deed s) in
+          let more_read = line_reads line t.place (text ++ byte ∷ []) on.0 both.1 (λ front back tag e is. unbroken front
+          back tag (sym joined ∙ e) is) (after t.deed s) in
           let one = on.1.read s in
           record {
             next = more_read.next;
@@ -208,17 +258,20 @@ line_reads (byte ∷ line) place text so_far in_line unbroken s =
             fens = more_read.fens ∙ on.1.fens s;
             games = more_read.games ∙ on.1.games s;
             reads = λ at_end g more.
-                ap (λ l. l ++ sections_found at_end g t.place (after t.deed s) (line ++ more)) (on.1.found (section_found g s)) ∙ more_read.reads at_end g more;
+                ap (λ l. l ++ sections_found at_end g t.place (after t.deed s) (line ++ more))
+                (on.1.found (section_found g s)) ∙ more_read.reads at_end g more;
           }
       | inr whole ↦ absurd (unbroken (text ++ byte ∷ []) line whole.0 (sym joined) whole.1)
     ]
 
 -- behind the first bracket of an unclosed tag
 pub unclosed_reads : (text : List ℕ) → (u : IsUnclosed text) → (s : Section) → LineRead BeforeName (91 ∷ []) u.line s
-unclosed_reads text u s = line_reads u.line BeforeName (91 ∷ []) (before [] refl) u.in_line (λ front back tag e is. u.broken front back tag (u.joined ∙ e) is) s
+unclosed_reads text u s = line_reads u.line BeforeName (91 ∷ []) (before [] refl) u.in_line
+    (λ front back tag e is. u.broken front back tag (u.joined ∙ e) is) s
 
 -- the end of its line ends it
-ends_at : {place : Place} {text : List ℕ} → SoFar place text → (step place 10 ≡ at Between EndLine) × (step place 13 ≡ at Between EndLine)
+ends_at : {place : Place} {text : List ℕ} → SoFar place text → (step place 10 ≡ at Between EndLine)
+    × (step place 13 ≡ at Between EndLine)
 ends_at (before first b1) = (refl, refl)
 ends_at (named first name b1 some n) = (refl, refl)
 ends_at (behind first name middle b1 some n b2) = (refl, refl)
@@ -227,14 +280,16 @@ ends_at (escaped first name middle spelling value b1 some n b2 spells) = (refl, 
 ends_at (closing first name middle spelling value last b1 some n b2 spells b3) = (refl, refl)
 ends_at (rest text) = (refl, refl)
 
-pub line_ends : {place : Place} {text : List ℕ} (byte : ℕ) → ends_line byte ≡ true → SoFar place text → step place byte ≡ at Between EndLine
+pub line_ends : {place : Place} {text : List ℕ} (byte : ℕ) → ends_line byte ≡ true → SoFar place text → step place byte
+    ≡ at Between EndLine
 line_ends {place} byte ends so_far = elim (or_cases (byte == 10) (byte == 13) ends) [
   | inl feed ↦ ap (step place) (eqb-true byte 10 feed) ∙ (ends_at so_far).0
   | inr return ↦ ap (step place) (eqb-true byte 13 return) ∙ (ends_at so_far).1
 ]
 
 -- and so does the end of the text
-pub text_ends : {place : Place} {text : List ℕ} (whole unclosed : Found) → SoFar place text → found_at_end place whole unclosed ≡ unclosed ∷ []
+pub text_ends : {place : Place} {text : List ℕ} (whole unclosed : Found) → SoFar place text
+    → found_at_end place whole unclosed ≡ unclosed ∷ []
 text_ends whole unclosed (before first b1) = refl
 text_ends whole unclosed (named first name b1 some n) = refl
 text_ends whole unclosed (behind first name middle b1 some n b2) = refl

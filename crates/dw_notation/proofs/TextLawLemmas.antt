@@ -18,7 +18,9 @@ step_in l (x ∷ list) (inl e) = inl (ap (λ (z : Listed). z.step) e)
 step_in l (x ∷ list) (inr m) = inr (step_in l list m)
 
 -- in an ascending list a move stands once
-stands_once : MovesHaveKeys → (g : Geometry) (p : Placement) (list : List Listed) (l k : Listed) → IsAscending (Precedes g p) (map (λ (l : Listed). l.step) list) → Member l list → Member k list → l.step ≡ k.step → l ≡ k
+stands_once : MovesHaveKeys → (g : Geometry) (p : Placement) (list : List Listed) (l k : Listed)
+    → IsAscending (Precedes g p) (map (λ (l : Listed). l.step) list) → Member l list → Member k list → l.step ≡ k.step
+    → l ≡ k
 stands_once keys g p [] l k a m n e = absurd m
 stands_once keys g p (x ∷ list) l k a (inl m) (inl n) e = m ∙ sym n
 stands_once keys g p (x ∷ list) l k a (inl m) (inr n) e =
@@ -33,11 +35,22 @@ pub moves_have_texts : MovesInOrder → Rules → MovesHaveTexts
 moves_have_texts order rules = record {
   some = λ g b p m legal.
       let all = order.listed g b p in
-      let item = legal_has_step g p m all.0 all.1 legal in
-      (text_among all.0 item.0, record { list = all.0; all = all.1; item = item.0; here = item.1; same = item.2; is = refl });
+      let item = legal_has_step g p m all.0 all.1 legal in (
+        text_among all.0 item.0,
+        record {
+          list = all.0;
+          all = all.1;
+          item = item.0;
+          here = item.1;
+          same = item.2;
+          is =
+              refl;
+        },
+      );
   one = λ g p m text other h k.
       let lists = order.same g p h.list k.list h.all k.all in
-      let items = stands_once rules.keys g p k.list h.item k.item k.all.in_order.ascending (subst (Member h.item) lists h.here) k.here (h.same ∙ sym k.same) in
+      let items = stands_once rules.keys g p k.list h.item k.item k.all.in_order.ascending
+      (subst (Member h.item) lists h.here) k.here (h.same ∙ sym k.same) in
       h.is ∙ (ap (λ z. text_among z h.item) lists ∙ (ap (text_among k.list) items ∙ sym k.is));
   differ = λ g b p position m n text h k.
       let one = written_named rules g b p position m text h in

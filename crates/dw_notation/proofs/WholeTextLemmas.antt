@@ -1,12 +1,15 @@
 -- Each text of tags is a row of comments, sections and other bytes.
-use Rattle.std.proofs.Common.{◌≡◌, ℕ, zero, suc, ◌+◌, ◌≤◌, ◌==◌, ◌⊎◌, inl, inr, List, [], ◌∷◌, ◌++◌, length, Bool, true, false, Err, not, refl, sym, ap, ◌∙◌, subst, arith, append_assoc, append-nil, length-append}
+use Rattle.std.proofs.Common.{◌≡◌, ℕ, zero, suc, ◌+◌, ◌≤◌, ◌==◌, ◌⊎◌, inl, inr, List, [], ◌∷◌, ◌++◌, length, Bool, true}
+use Rattle.std.proofs.Common.{false, Err, not, refl, sym, ap, ◌∙◌, subst, arith, append_assoc, append-nil}
+use Rattle.std.proofs.Common.{length-append}
 use Rattle.std.proofs.lemmas.Bool.{cases_Bool, and_parts, and_from, not-true, eqb-true}
 use Rattle.std.specs.List.{list_all}
 use Rattle.dw_board.specs.Boards.{ten}
 use Rattle.dw_board.specs.Geometry.{Geometry}
 use Rattle.dw_notation.specs.Lines.{Found}
 use Rattle.dw_notation.specs.Sections.{step, ends_line, Section, bare, after, section_found, sections_found}
-use Rattle.dw_notation.specs.Tags.{Tag, IsTag, IsUnclosed, is_space, IsGap, IsSection, tags_found, outside_found, ends_section, closes}
+use Rattle.dw_notation.specs.Tags.{Tag, IsTag, IsUnclosed, is_space, IsGap, IsSection, tags_found, outside_found}
+use Rattle.dw_notation.specs.Tags.{ends_section, closes}
 use Rattle.dw_notation.specs.Tags.IsSection.{single, broken, longer, longer_broken}
 use Rattle.dw_notation.specs.WholeTexts.{IsOpen, if_over, Says, TextsAreRows}
 use Rattle.dw_notation.specs.WholeTexts.Says.{nothing, other, comment, last_comment, section, last_section}
@@ -16,30 +19,41 @@ use Rattle.dw_notation.specs.declared.problems.pdn.Place.TheVariants.{Outside, B
 use Rattle.dw_notation.proofs.TagReadingLemmas.{Reads, join_reads}
 use Rattle.dw_notation.proofs.TagBreakingLemmas.{SoFar, tag_goes_on}
 use Rattle.dw_notation.proofs.TagBreakingLemmas.SoFar.{before, named, behind, valued, escaped, closing, rest}
-use Rattle.dw_notation.proofs.SectionReadingLemmas.{begins_outside, tag_on, sections_are_found, last_section_is_found, comments_say_nothing, open_comment_is_found, others_say_nothing, open_comment_gives_nothing, open_section_gives_nothing}
+use Rattle.dw_notation.proofs.SectionReadingLemmas.{begins_outside, tag_on, sections_are_found, last_section_is_found}
+use Rattle.dw_notation.proofs.SectionReadingLemmas.{comments_say_nothing, open_comment_is_found, others_say_nothing}
+use Rattle.dw_notation.proofs.SectionReadingLemmas.{open_comment_gives_nothing, open_section_gives_nothing}
 
 -- ---- a row says what is found
 nothing_is_found : (over : Bool) (g : Geometry) → [] ≡ outside_found over g []
 nothing_is_found true g = refl
 nothing_is_found false g = refl
 
-last_comment_says : (over : Bool) (g : Geometry) (text : List ℕ) → IsOpen text → if_over over (Err UnclosedComment) ≡ outside_found over g (123 ∷ text)
+last_comment_says : (over : Bool) (g : Geometry) (text : List ℕ) → IsOpen text → if_over over (Err UnclosedComment)
+    ≡ outside_found over g (123 ∷ text)
 last_comment_says true g text unclosed = sym (open_comment_is_found g text unclosed)
 last_comment_says false g text unclosed = sym (open_comment_gives_nothing g text unclosed)
 
-last_section_says : (over : Bool) (g : Geometry) (text gap : List ℕ) (tags : List Tag) (some last : Bool) → IsSection text tags some last → IsGap last gap ⊎ (gap ≡ [])
+last_section_says : (over : Bool) (g : Geometry) (text gap : List ℕ) (tags : List Tag) (some last : Bool)
+    → IsSection text tags some last → IsGap last gap ⊎ (gap ≡ [])
     → if_over over (tags_found g (length text) some tags) ≡ outside_found over g (text ++ gap)
-last_section_says true g text gap tags some last is spaces = sym (last_section_is_found g text gap tags some last is spaces)
-last_section_says false g text gap tags some last is spaces = sym (open_section_gives_nothing g text gap tags some last is spaces)
+last_section_says true g text gap tags some last is spaces = sym (last_section_is_found g text gap tags some last is
+    spaces)
+last_section_says false g text gap tags some last is spaces = sym (open_section_gives_nothing g text gap tags some last
+    is spaces)
 
-says_found : {g : Geometry} {over : Bool} {text : List ℕ} {found : List Found} → Says g over text found → found ≡ outside_found over g text
+says_found : {g : Geometry} {over : Bool} {text : List ℕ} {found : List Found} → Says g over text found
+    → found ≡ outside_found over g text
 says_found (nothing {g} {over}) = nothing_is_found over g
-says_found (other {g} {over} {more} byte neither says) = says_found says ∙ sym (others_say_nothing over g byte more neither)
-says_found (comment {g} {over} {more} text unclosed says) = says_found says ∙ sym (comments_say_nothing over g text more unclosed)
+says_found (other {g} {over} {more} byte neither says) = says_found says
+    ∙ sym (others_say_nothing over g byte more neither)
+says_found (comment {g} {over} {more} text unclosed says) = says_found says
+    ∙ sym (comments_say_nothing over g text more unclosed)
 says_found (last_comment {g} {over} text unclosed) = last_comment_says over g text unclosed
 says_found (section {g} {over} {tags} {some} {last} {more} text gap byte is spaces ends says) =
-    ap (λ l. tags_found g (length text) some tags ∷ l) (says_found says) ∙ sym (sections_are_found over g text gap more tags some last byte is spaces ends)
-says_found (last_section {g} {over} {tags} {some} {last} text gap is spaces) = last_section_says over g text gap tags some last is spaces
+    ap (λ l. tags_found g (length text) some tags ∷ l) (says_found says)
+    ∙ sym (sections_are_found over g text gap more tags some last byte is spaces ends)
+says_found (last_section {g} {over} {tags} {some} {last} text gap is spaces) = last_section_says over g text gap tags
+    some last is spaces
 
 -- ---- cutting a text where bytes of one kind end
 data Stops : (ℕ → Bool) → List ℕ → Type 0 where
@@ -63,7 +77,13 @@ record Cut (p : ℕ → Bool) (text : List ℕ) : Type 0 where
 cut : (p : ℕ → Bool) (text : List ℕ) → Cut p text
 cut p [] = record { front = []; back = []; joined = refl; all = refl; stops = at_end }
 cut p (byte ∷ text) = elim (cases_Bool (p byte)) [
-  | inl is ↦ let c = cut p text in record { front = byte ∷ c.front; back = c.back; joined = ap (λ l. byte ∷ l) c.joined; all = and_from _ _ is c.all; stops = c.stops }
+  | inl is ↦ let c = cut p text in record {
+    front = byte ∷ c.front;
+    back = c.back;
+    joined = ap (λ l. byte ∷ l) c.joined;
+    all = and_from _ _ is c.all;
+    stops = c.stops;
+  }
   | inr none ↦ record { front = []; back = byte ∷ text; joined = refl; all = refl; stops = at_byte byte text none }
 ]
 
@@ -79,7 +99,8 @@ abbrev NoTag : List ℕ → Type 0
 NoTag text = (front back : List ℕ) (tag : Tag) → text ≡ front ++ back → IsTag front tag → ⊥
 
 -- in a tag, the letter x finds nothing
-in_tag : {place : Place} {text : List ℕ} → SoFar place text → (s : Section) → sections_found false ten place s (120 ∷ []) ≡ []
+in_tag : {place : Place} {text : List ℕ} → SoFar place text → (s : Section)
+    → sections_found false ten place s (120 ∷ []) ≡ []
 in_tag (before first b1) s = refl
 in_tag (named first name b1 some n) s = refl
 in_tag (behind first name middle b1 some n b2) s = refl
@@ -89,16 +110,21 @@ in_tag (closing first name middle spelling value last b1 some n b2 spells b3) s 
 in_tag (rest text) s = refl
 
 -- so what is read so far is no whole tag, for it would find something
-not_whole : {place : Place} {text : List ℕ} (s : Section) → SoFar place text → Reads Outside bare text place s → (tag : Tag) → IsTag text tag → ⊥
+not_whole : {place : Place} {text : List ℕ} (s : Section) → SoFar place text → Reads Outside bare text place s
+    → (tag : Tag) → IsTag text tag → ⊥
 not_whole {place} {text} s so_far reads tag is =
-    let whole = tag_on Outside bare (record bare { read = 1 }) [] false text tag 0 (length text) begins_outside (omega arith) is in
+    let whole = tag_on Outside bare (record bare { read = 1 }) [] false text tag 0 (length text) begins_outside
+    (omega arith) is in
     let between = (whole.stands.whole refl).0 in
-    let one : sections_found false ten whole.next whole.behind (120 ∷ []) ≡ [] = sym (whole.reads false ten (120 ∷ [])) ∙ reads false ten (120 ∷ []) ∙ in_tag so_far s in
-    let bad : section_found ten whole.behind ∷ [] ≡ [] = subst (λ p. sections_found false ten p whole.behind (120 ∷ []) ≡ []) between one in
+    let one : sections_found false ten whole.next whole.behind (120 ∷ []) ≡ [] = sym (whole.reads false ten (120 ∷ []))
+    ∙ reads false ten (120 ∷ []) ∙ in_tag so_far s in
+    let bad : section_found ten whole.behind ∷ [] ≡ [] = subst (λ p. sections_found false ten p whole.behind (120 ∷ [])
+    ≡ []) between one in
     cc
 
 -- a beginning of a text with one more byte is all of it, or one of the text
-shorter : (text front back : List ℕ) (byte : ℕ) → text ++ byte ∷ [] ≡ front ++ back → (front ≡ text ++ byte ∷ []) ⊎ ((more : List ℕ) × (text ≡ front ++ more))
+shorter : (text front back : List ℕ) (byte : ℕ) → text ++ byte ∷ [] ≡ front ++ back → (front ≡ text ++ byte ∷ [])
+    ⊎ ((more : List ℕ) × (text ≡ front ++ more))
 shorter text [] back byte e = inr (text, refl)
 shorter [] (x ∷ front) back byte e =
     let head : byte ≡ x = cc in
@@ -116,13 +142,15 @@ shorter (y ∷ text) (x ∷ front) back byte e =
       | inr part ↦ inr (part.0, ap (λ z. z ∷ text) head ∙ ap (λ l. x ∷ l) part.1)
     ]
 
-one_more : (text : List ℕ) (byte : ℕ) → NoTag text → ((tag : Tag) → IsTag (text ++ byte ∷ []) tag → ⊥) → NoTag (text ++ byte ∷ [])
+one_more : (text : List ℕ) (byte : ℕ) → NoTag text → ((tag : Tag) → IsTag (text ++ byte ∷ []) tag → ⊥)
+    → NoTag (text ++ byte ∷ [])
 one_more text byte none not_all front back tag e is = elim (shorter text front back byte e) [
   | inl all ↦ not_all tag (subst (λ l. IsTag l tag) all is)
   | inr part ↦ none front part.0 tag part.1 is
 ]
 
-find_tag : (line : List ℕ) (place : Place) (text : List ℕ) (s : Section) → SoFar place text → Reads Outside bare text place s → list_all (λ byte. not (ends_line byte)) line ≡ true → NoTag text
+find_tag : (line : List ℕ) (place : Place) (text : List ℕ) (s : Section) → SoFar place text
+    → Reads Outside bare text place s → list_all (λ byte. not (ends_line byte)) line ≡ true → NoTag text
     → HasTag (text ++ line) ⊎ NoTag (text ++ line)
 find_tag [] place text s so_far reads in_line none = inr (subst NoTag (sym (append-nil text)) none)
 find_tag (byte ∷ line) place text s so_far reads in_line none =
@@ -132,10 +160,20 @@ find_tag (byte ∷ line) place text s so_far reads in_line none =
       | inl on ↦
           let t = step place byte in
           let next = after t.deed s in
-          let one : Reads place s (byte ∷ []) t.place next = λ at_end g more. ap (λ l. l ++ sections_found at_end g t.place next more) (on.1.found (section_found g s)) in
-          let all : Reads Outside bare (text ++ byte ∷ []) t.place next = join_reads Outside place t.place bare s next text (byte ∷ []) reads one in
-          subst (λ l. HasTag l ⊎ NoTag l) (sym joined) (find_tag line t.place (text ++ byte ∷ []) next on.0 all both.1 (one_more text byte none (not_whole next on.0 all)))
-      | inr whole ↦ inl (record { front = text ++ byte ∷ []; back = line; tag = whole.0; joined = joined; is = whole.1 })
+          let one : Reads place s (byte ∷ []) t.place next = λ at_end g more. ap (λ l. l
+          ++ sections_found at_end g t.place next more) (on.1.found (section_found g s)) in
+          let all : Reads Outside bare (text ++ byte ∷ []) t.place next = join_reads Outside place t.place bare s next
+          text (byte ∷ []) reads one in
+          subst (λ l. HasTag l ⊎ NoTag l) (sym joined) (find_tag line t.place (text ++ byte ∷ []) next on.0 all both.1
+          (one_more text byte none (not_whole next on.0 all)))
+      | inr whole ↦ inl (record {
+        front = text ++ byte ∷ [];
+        back = line;
+        tag = whole.0;
+        joined = joined;
+        is =
+            whole.1;
+      })
     ]
 
 only_bracket : NoTag (91 ∷ [])
@@ -159,7 +197,8 @@ front_tag : (line : List ℕ) → FrontTag (91 ∷ line)
 front_tag line =
     let c = cut (λ byte. not (ends_line byte)) line in
     let joined : 91 ∷ line ≡ (91 ∷ c.front) ++ c.back = ap (λ l. 91 ∷ l) c.joined in
-    elim (find_tag c.front BeforeName (91 ∷ []) (record bare { read = 1 }) (before [] refl) begins_outside.reads c.all only_bracket) [
+    elim (find_tag c.front BeforeName (91 ∷ []) (record bare { read = 1 }) (before [] refl) begins_outside.reads c.all
+    only_bracket) [
       | inl has ↦ record {
         front = has.front;
         back = has.back ++ c.back;
@@ -184,8 +223,10 @@ unclosed_some text is = let size = ap length is.joined in omega (arith, size)
 section_some : {text : List ℕ} {tags : List Tag} {some last : Bool} → IsSection text tags some last → 1 ≤ length text
 section_some (single {text} {tag} is) = tag_some text tag is
 section_some (broken {text} is) = unclosed_some text is
-section_some (longer text gap next is spaces is_tag) = let size = length-append text (gap ++ next) in let front = section_some is in omega (arith, size, front)
-section_some (longer_broken text gap next is spaces is_unclosed) = let size = length-append text (gap ++ next) in let front = section_some is in omega (arith, size, front)
+section_some (longer text gap next is spaces is_tag) = let size = length-append text (gap ++ next) in let front =
+    section_some is in omega (arith, size, front)
+section_some (longer_broken text gap next is spaces is_unclosed) = let size = length-append text (gap ++ next) in
+    let front = section_some is in omega (arith, size, front)
 
 -- what may stand behind: the end of the line, if the last tag is unclosed
 abbrev MayFollow : Bool → List ℕ → Type 0
@@ -200,7 +241,8 @@ record FrontSection (text : List ℕ) : Type 0 where
   pub last : Bool
   pub joined : text ≡ front ++ (gap ++ back)
   pub is : IsSection front tags some last
-  pub ends : ((back ≡ []) × (IsGap last gap ⊎ (gap ≡ []))) ⊎ ((byte : ℕ) × (more : List ℕ) × (back ≡ byte ∷ more) × IsGap last gap × (ends_section byte ≡ true))
+  pub ends : ((back ≡ []) × (IsGap last gap ⊎ (gap ≡ []))) ⊎ ((byte : ℕ) × (more : List ℕ) × (back ≡ byte ∷ more)
+      × IsGap last gap × (ends_section byte ≡ true))
 
 record FrontGap (last : Bool) (text : List ℕ) : Type 0 where
   pub gap : List ℕ
@@ -210,53 +252,107 @@ record FrontGap (last : Bool) (text : List ℕ) : Type 0 where
   pub stops : Stops is_space back
 
 front_gap : (last : Bool) (byte : ℕ) (more : List ℕ) → MayFollow last (byte ∷ more) → FrontGap last (byte ∷ more)
-front_gap false byte more may = let c = cut is_space (byte ∷ more) in record { gap = c.front; back = c.back; joined = c.joined; spaces = c.all; stops = c.stops }
+front_gap false byte more may = let c = cut is_space (byte ∷ more) in record {
+  gap = c.front;
+  back = c.back;
+  joined =
+      c.joined;
+  spaces = c.all;
+  stops = c.stops;
+}
 front_gap true byte more may =
     let c = cut is_space more in
-    record { gap = byte ∷ c.front; back = c.back; joined = ap (λ l. byte ∷ l) c.joined; spaces = (un_not _ (stop_of (may refl)), c.all); stops = c.stops }
+    record {
+      gap = byte ∷ c.front;
+      back = c.back;
+      joined = ap (λ l. byte ∷ l) c.joined;
+      spaces =
+          (un_not _ (stop_of (may refl)), c.all);
+      stops = c.stops;
+    }
 
 -- the spaces behind a section, and what is behind them, given how a longer section goes on
-behind_gap : (n : ℕ) → ((text back : List ℕ) (tags : List Tag) (some last : Bool) → IsSection text tags some last → MayFollow last back → length back ≤ n → FrontSection (text ++ back))
-    → (text gap back : List ℕ) (tags : List Tag) (some last : Bool) → IsSection text tags some last → IsGap last gap → Stops is_space back → length back ≤ n + 1 → FrontSection (text ++ (gap ++ back))
-behind_gap n further text gap [] tags some last is spaces stops size = record { front = text; gap = gap; back = []; tags = tags; some = some; last = last; joined = refl; is = is; ends = inl (refl, inl spaces) }
+behind_gap : (n : ℕ) → ((text back : List ℕ) (tags : List Tag) (some last : Bool) → IsSection text tags some last
+    → MayFollow last back → length back ≤ n → FrontSection (text ++ back))
+    → (text gap back : List ℕ) (tags : List Tag) (some last : Bool) → IsSection text tags some last → IsGap last gap
+    → Stops is_space back → length back ≤ n + 1 → FrontSection (text ++ (gap ++ back))
+behind_gap n further text gap [] tags some last is spaces stops size = record {
+  front = text;
+  gap = gap;
+  back = [];
+  tags = tags;
+  some = some;
+  last = last;
+  joined = refl;
+  is = is;
+  ends = inl (refl, inl spaces);
+}
 behind_gap n further text gap (byte ∷ more) tags some last is spaces stops size = elim (cases_Bool (byte == 91)) [
   | inl bracket ↦
       let t = front_tag more in
       let back_is : byte ∷ more ≡ t.front ++ t.back = ap (λ b. b ∷ more) (eqb-true byte 91 bracket) ∙ t.joined in
       let longer_text = text ++ (gap ++ t.front) in
       let joined : text ++ (gap ++ byte ∷ more) ≡ longer_text ++ t.back =
-      ap (λ l. text ++ (gap ++ l)) back_is ∙ ap (λ l. text ++ l) (sym (append_assoc gap t.front t.back)) ∙ sym (append_assoc text (gap ++ t.front) t.back) in
+      ap (λ l. text ++ (gap ++ l)) back_is ∙ ap (λ l. text ++ l) (sym (append_assoc gap t.front t.back))
+      ∙ sym (append_assoc text (gap ++ t.front) t.back) in
       let sizes = ap length back_is in
       let parts = length-append t.front t.back in
       elim t.is [
         | inl whole ↦
             let front = tag_some t.front whole.0 whole.1 in
             subst FrontSection (sym joined)
-            (further longer_text t.back (whole.0 ∷ tags) some false (longer text gap t.front is spaces whole.1) (λ e. let bad : false ≡ true = e in cc) (omega (arith, sizes, parts, front, size)))
+            (further longer_text t.back (whole.0 ∷ tags) some false (longer text gap t.front is spaces whole.1)
+            (λ e. let bad : false ≡ true = e in cc) (omega (arith, sizes, parts, front, size)))
         | inr line ↦
             let front = unclosed_some t.front line.0 in
-            subst FrontSection (sym joined) (further longer_text t.back tags true true (longer_broken text gap t.front is spaces line.0) (λ e. line.1) (omega (arith, sizes, parts, front, size)))
+            subst FrontSection (sym joined) (further longer_text t.back tags true true
+            (longer_broken text gap t.front is spaces line.0) (λ e. line.1)
+            (omega (arith, sizes, parts, front, size)))
       ]
   | inr none ↦
       let space = stop_of stops in
       let last_byte : ends_section byte ≡ true = rw (none, space) refl in
-      record { front = text; gap = gap; back = byte ∷ more; tags = tags; some = some; last = last; joined = refl; is = is; ends = inr (byte, more, refl, spaces, last_byte) }
+      record {
+        front = text;
+        gap = gap;
+        back = byte ∷ more;
+        tags = tags;
+        some = some;
+        last = last;
+        joined = refl;
+        is =
+            is;
+        ends = inr (byte, more, refl, spaces, last_byte);
+      }
 ]
 
-go_on : (n : ℕ) (text back : List ℕ) (tags : List Tag) (some last : Bool) → IsSection text tags some last → MayFollow last back → length back ≤ n → FrontSection (text ++ back)
-go_on n text [] tags some last is may size = record { front = text; gap = []; back = []; tags = tags; some = some; last = last; joined = refl; is = is; ends = inl (refl, inr refl) }
+go_on : (n : ℕ) (text back : List ℕ) (tags : List Tag) (some last : Bool) → IsSection text tags some last
+    → MayFollow last back → length back ≤ n → FrontSection (text ++ back)
+go_on n text [] tags some last is may size = record {
+  front = text;
+  gap = [];
+  back = [];
+  tags = tags;
+  some = some;
+  last = last;
+  joined = refl;
+  is = is;
+  ends = inl (refl, inr refl);
+}
 go_on zero text (byte ∷ more) tags some last is may size = absurd (omega (arith, size))
 go_on (suc n) text (byte ∷ more) tags some last is may size =
     let f = front_gap last byte more may in
     let sizes = ap length f.joined in
     let parts = length-append f.gap f.back in
-    subst (λ l. FrontSection (text ++ l)) (sym f.joined) (behind_gap n (go_on n) text f.gap f.back tags some last is f.spaces f.stops (omega (arith, sizes, parts, size)))
+    subst (λ l. FrontSection (text ++ l)) (sym f.joined) (behind_gap n (go_on n) text f.gap f.back tags some last is
+    f.spaces f.stops (omega (arith, sizes, parts, size)))
 
 first_section : (more : List ℕ) → FrontSection (91 ∷ more)
 first_section more =
     let t = front_tag more in
     subst FrontSection (sym t.joined) (elim t.is [
-      | inl whole ↦ go_on (length t.back) t.front t.back (whole.0 ∷ []) false false (single whole.1) (λ e. let bad : false ≡ true = e in cc) (omega arith)
+      | inl whole ↦ go_on (length t.back) t.front t.back (whole.0 ∷ []) false false (single whole.1)
+          (λ e. let bad : false ≡ true = e in cc) (omega arith)
       | inr line ↦ go_on (length t.back) t.front t.back [] true true (broken line.0) (λ e. line.1) (omega arith)
     ])
 
@@ -264,14 +360,16 @@ first_section more =
 abbrev Row : Geometry → Bool → List ℕ → Type 0
 Row g over text = (found : List Found) × Says g over text found
 
-section_row : (n : ℕ) (g : Geometry) (over : Bool) → ((text : List ℕ) → length text ≤ n → Row g over text) → (more : List ℕ) → length more ≤ n → Row g over (91 ∷ more)
+section_row : (n : ℕ) (g : Geometry) (over : Bool) → ((text : List ℕ) → length text ≤ n → Row g over text)
+    → (more : List ℕ) → length more ≤ n → Row g over (91 ∷ more)
 section_row n g over further more size =
     let f = first_section more in
     let said = tags_found g (length f.front) f.some f.tags in
     elim f.ends [
       | inl none ↦ (
         if_over over said,
-        subst (λ l. Says g over l (if_over over said)) (sym (f.joined ∙ ap (λ b. f.front ++ (f.gap ++ b)) none.0 ∙ ap (λ l. f.front ++ l) (append-nil f.gap))) (last_section f.front f.gap f.is none.1),
+        subst (λ l. Says g over l (if_over over said)) (sym (f.joined ∙ ap (λ b. f.front ++ (f.gap ++ b)) none.0
+            ∙ ap (λ l. f.front ++ l) (append-nil f.gap))) (last_section f.front f.gap f.is none.1),
       )
       | inr next ↦
           let joined = f.joined ∙ ap (λ b. f.front ++ (f.gap ++ b)) next.2 in
@@ -279,24 +377,33 @@ section_row n g over further more size =
           let one = length-append f.front (f.gap ++ next.0 ∷ next.1) in
           let two = length-append f.gap (next.0 ∷ next.1) in
           let some = section_some f.is in
-          let r = further (next.0 ∷ next.1) (omega (arith, sizes, one, two, some, size)) in
-          (said ∷ r.0, subst (λ l. Says g over l (said ∷ r.0)) (sym joined) (section f.front f.gap next.0 f.is next.3 next.4 r.1))
+          let r = further (next.0 ∷ next.1) (omega (arith, sizes, one, two, some, size)) in (
+            said ∷ r.0,
+            subst (λ l. Says g over l (said ∷ r.0)) (sym joined) (section f.front f.gap next.0 f.is next.3 next.4 r.1),
+          )
     ]
 
 comment_behind : (n : ℕ) (g : Geometry) (over : Bool) → ((text : List ℕ) → length text ≤ n → Row g over text)
-    → (text back : List ℕ) → IsOpen text → Stops (λ byte. not (closes byte)) back → length back ≤ n → Row g over (123 ∷ (text ++ back))
-comment_behind n g over further text [] unclosed stops size = (if_over over (Err UnclosedComment), subst (λ l. Says g over (123 ∷ l) (if_over over (Err UnclosedComment))) (sym (append-nil text)) (last_comment text unclosed))
+    → (text back : List ℕ) → IsOpen text → Stops (λ byte. not (closes byte)) back → length back ≤ n
+    → Row g over (123 ∷ (text ++ back))
+comment_behind n g over further text [] unclosed stops size = (
+  if_over over (Err UnclosedComment),
+  subst (λ l. Says g over (123 ∷ l) (if_over over (Err UnclosedComment))) (sym (append-nil text))
+      (last_comment text unclosed),
+)
 comment_behind n g over further text (byte ∷ more) unclosed stops size =
     let brace : byte ≡ 125 = eqb-true byte 125 (un_not (closes byte) (stop_of stops)) in
     let r = further more (omega (arith, size)) in
     (r.0, subst (λ b. Says g over (123 ∷ (text ++ b ∷ more)) r.0) (sym brace) (comment text unclosed r.1))
 
-comment_row : (n : ℕ) (g : Geometry) (over : Bool) → ((text : List ℕ) → length text ≤ n → Row g over text) → (more : List ℕ) → length more ≤ n → Row g over (123 ∷ more)
+comment_row : (n : ℕ) (g : Geometry) (over : Bool) → ((text : List ℕ) → length text ≤ n → Row g over text)
+    → (more : List ℕ) → length more ≤ n → Row g over (123 ∷ more)
 comment_row n g over further more size =
     let c = cut (λ byte. not (closes byte)) more in
     let sizes = ap length c.joined in
     let parts = length-append c.front c.back in
-    subst (λ l. Row g over (123 ∷ l)) (sym c.joined) (comment_behind n g over further c.front c.back c.all c.stops (omega (arith, sizes, parts, size)))
+    subst (λ l. Row g over (123 ∷ l)) (sym c.joined) (comment_behind n g over further c.front c.back c.all c.stops
+    (omega (arith, sizes, parts, size)))
 
 row : (n : ℕ) (g : Geometry) (over : Bool) (text : List ℕ) → length text ≤ n → Row g over text
 row n g over [] size = ([], nothing)
@@ -304,9 +411,11 @@ row zero g over (byte ∷ more) size = absurd (omega (arith, size))
 row (suc n) g over (byte ∷ more) size =
     let less : length more ≤ n = omega (arith, size) in
     elim (cases_Bool (byte == 91)) [
-      | inl bracket ↦ subst (λ b. Row g over (b ∷ more)) (sym (eqb-true byte 91 bracket)) (section_row n g over (row n g over) more less)
+      | inl bracket ↦ subst (λ b. Row g over (b ∷ more)) (sym (eqb-true byte 91 bracket))
+          (section_row n g over (row n g over) more less)
       | inr none ↦ elim (cases_Bool (byte == 123)) [
-        | inl brace ↦ subst (λ b. Row g over (b ∷ more)) (sym (eqb-true byte 123 brace)) (comment_row n g over (row n g over) more less)
+        | inl brace ↦ subst (λ b. Row g over (b ∷ more)) (sym (eqb-true byte 123 brace))
+            (comment_row n g over (row n g over) more less)
         | inr neither ↦ let r = row n g over more less in (r.0, other byte (rw (none, neither) refl) r.1)
       ]
     ]

@@ -1,5 +1,6 @@
 -- The keys gathered from all legal moves.
-use Rattle.std.proofs.Common.{◌≡◌, ℕ, ◌-◌, ◌<◌, ◌≤◌, zero, suc, List, [], ◌∷◌, length, map, get_or, refl, subst, inl, arith}
+use Rattle.std.proofs.Common.{◌≡◌, ℕ, ◌-◌, ◌<◌, ◌≤◌, zero, suc, List, [], ◌∷◌, length, map, get_or, refl, subst, inl}
+use Rattle.std.proofs.Common.{arith}
 use Rattle.dw_board.specs.Geometry.{Geometry}
 use Rattle.dw_board.specs.Placement.{Placement}
 use Rattle.dw_moves.specs.Moves.{Move, Legal, play}
@@ -9,7 +10,9 @@ use Rattle.dw_report.specs.Verdict.{Keys}
 use Rattle.dw_report.proofs.GatheredLemmas.{GatheredTo, to_all}
 use Rattle.dw_report.proofs.VerdictLemmas.{key_wins}
 
-pub keys_whole : {V : Type 0} (step : V → Move) (g : Geometry) (p : Placement) (n : ℕ) (xs : List V) (i : ℕ) (ys : List Move) → 1 ≤ n → length xs ≤ i → IsListOf (Precedes g p) (Legal g p) (map step xs) → GatheredTo step (Precedes g p) (λ m. m) (λ m. Lost g (play g p m) (n - 1)) xs i ys → Keys g p n ys
+pub keys_whole : {V : Type 0} (step : V → Move) (g : Geometry) (p : Placement) (n : ℕ) (xs : List V) (i : ℕ)
+    (ys : List Move) → 1 ≤ n → length xs ≤ i → IsListOf (Precedes g p) (Legal g p) (map step xs)
+    → GatheredTo step (Precedes g p) (λ m. m) (λ m. Lost g (play g p m) (n - 1)) xs i ys → Keys g p n ys
 keys_whole step g p zero xs i ys some end all h = absurd (omega (arith, some))
 keys_whole step g p (suc n) xs i ys some end all h =
     let same : suc n - 1 ≡ n = omega arith in
@@ -27,7 +30,8 @@ no_keys g p n [] none keys = keys
 no_keys g p n (k ∷ ks) none keys = absurd (omega (arith, none))
 
 -- the one key of a list of one
-pub only_key : (g : Geometry) (p : Placement) (n : ℕ) (ks : List Move) (d : Move) → length ks ≡ 1 → Keys g p n ks → Keys g p n (get_or ks 0 d ∷ [])
+pub only_key : (g : Geometry) (p : Placement) (n : ℕ) (ks : List Move) (d : Move) → length ks ≡ 1 → Keys g p n ks
+    → Keys g p n (get_or ks 0 d ∷ [])
 only_key g p n [] d one keys = absurd (omega (arith, one))
 only_key g p n (k ∷ []) d one keys = keys
 only_key g p n (k ∷ l ∷ ks) d one keys = absurd (omega (arith, one))

@@ -1,5 +1,8 @@
 -- Lemmas on lists of lines that are written row by row.
-use Rattle.std.proofs.Common.{◌≡◌, ℕ, zero, suc, ◌+◌, ◌<◌, ◌≤◌, ◌-◌, ◌%◌, List, [], ◌∷◌, ◌++◌, length, reverse, take, refl, sym, ap, ◌∙◌, subst, inl, inr, arith, append_assoc, append-nil, length-append, Option, Some, None, codes, decimal, Result, Ok, Err, OnOk, OnErr, IfOk, IsTrue, ◌↔◌, Bool, true, false}
+use Rattle.std.proofs.Common.{◌≡◌, ℕ, zero, suc, ◌+◌, ◌<◌, ◌≤◌, ◌-◌, ◌%◌, List, [], ◌∷◌, ◌++◌, length, reverse, take}
+use Rattle.std.proofs.Common.{refl, sym, ap, ◌∙◌, subst, inl, inr, arith, append_assoc, append-nil, length-append}
+use Rattle.std.proofs.Common.{Option, Some, None, codes, decimal, Result, Ok, Err, OnOk, OnErr, IfOk, IsTrue, ◌↔◌, Bool}
+use Rattle.std.proofs.Common.{true, false}
 use Rattle.std.specs.Io.KnownBytes.{Appends}
 use Rattle.std.proofs.KnownBytes.{Appends-trans, Appends-nil}
 use Rattle.dw_board.specs.Geometry.{Geometry, IsBoard}
@@ -32,16 +35,19 @@ pub line_odd : (g : Geometry) (p : Placement) (n : ℕ) (l : List Move) → Line
 line_odd g p zero l h = absurd h
 line_odd g p (suc n) [] h = absurd h
 line_odd g p (suc n) (m ∷ []) h = refl
-line_odd g p (suc n) (m ∷ r ∷ l) h = let rest = line_odd g (play g (play g p m) r) n l h.3 in two_more (length l) rest where
-  two_more : (k : ℕ) → k % 2 ≡ 1 → suc (suc k) % 2 ≡ 1
-  two_more k h = omega (arith, h)
+line_odd g p (suc n) (m ∷ r ∷ l) h = let rest = line_odd g (play g (play g p m) r) n l h.3 in two_more (length l) rest
+  where
+    two_more : (k : ℕ) → k % 2 ≡ 1 → suc (suc k) % 2 ≡ 1
+    two_more k h = omega (arith, h)
 
 -- each of these lines has a text
 abbrev pub HaveTexts : Geometry → Placement → List (List Move) → Type 0
 HaveTexts g p lines = (l : List Move) → Member l lines → (text : List ℕ) × IsLineText g p l text
 
-pub lines_text : LinesHaveTexts → (g : Geometry) → IsBoard g → (s : Standing) (p : Placement) (lines : List (List Move)) → s.position ≡ p → AreToCome g s lines → HaveTexts g p lines
-lines_text laws g b s p lines e h = λ l m. laws.some g b p l (subst (λ z. ArePlayable g z l) e (line_playable g s.position s.moves l ((h.exactly l).0 m).0))
+pub lines_text : LinesHaveTexts → (g : Geometry) → IsBoard g → (s : Standing) (p : Placement) (lines : List (List Move))
+    → s.position ≡ p → AreToCome g s lines → HaveTexts g p lines
+lines_text laws g b s p lines e h = λ l m. laws.some g b p l
+    (subst (λ z. ArePlayable g z l) e (line_playable g s.position s.moves l ((h.exactly l).0 m).0))
 
 -- the last one of some
 split_last : {X : Type 0} (x : X) (xs : List X) → (earlier : List X) × (last : X) × (x ∷ xs ≡ earlier ++ last ∷ [])
@@ -55,16 +61,33 @@ last_of (x ∷ xs) h = split_last x xs
 -- ROWS
 
 -- one more row
-pub rows_more : (g : Geometry) (p : Placement) (lines : List (List Move)) (l : List Move) (texts row : List ℕ) → AreLineTexts g p lines texts → IsRow g p l row → AreLineTexts g p (lines ++ l ∷ []) (texts ++ row)
-rows_more g p [] l texts row h r = (r.0, [], r.1, refl, ap (λ z. z ++ row) h ∙ (r.2 ∙ sym (append-nil (r.0 ++ codes "\n"))))
-rows_more g p (k ∷ lines) l texts row h r = (h.0, h.1 ++ row, h.2, rows_more g p lines l h.1 row h.3 r, ap (λ z. z ++ row) h.4 ∙ append_assoc (h.0 ++ codes "\n") h.1 row)
+pub rows_more : (g : Geometry) (p : Placement) (lines : List (List Move)) (l : List Move) (texts row : List ℕ)
+    → AreLineTexts g p lines texts → IsRow g p l row → AreLineTexts g p (lines ++ l ∷ []) (texts ++ row)
+rows_more g p [] l texts row h r = (
+  r.0,
+  [],
+  r.1,
+  refl,
+  ap (λ z. z ++ row) h ∙ (r.2 ∙ sym (append-nil (r.0 ++ codes "\n"))),
+)
+rows_more g p (k ∷ lines) l texts row h r = (
+  h.0,
+  h.1 ++ row,
+  h.2,
+  rows_more g p lines l h.1 row h.3 r,
+  ap (λ z. z ++ row) h.4 ∙ append_assoc (h.0 ++ codes "\n") h.1 row,
+)
 
 -- rows are whole lines
-pub rows_whole : (g : Geometry) (p : Placement) (lines : List (List Move)) (texts : List ℕ) → AreLineTexts g p lines texts → AreWholeLines texts
+pub rows_whole : (g : Geometry) (p : Placement) (lines : List (List Move)) (texts : List ℕ)
+    → AreLineTexts g p lines texts → AreWholeLines texts
 rows_whole g p [] texts h = inl h
 rows_whole g p (l ∷ lines) texts h = elim (rows_whole g p lines h.1 h.3) [
   | inl none ↦ inr (h.0, h.4 ∙ (ap (λ z. (h.0 ++ codes "\n") ++ z) none ∙ append-nil (h.0 ++ codes "\n")))
-  | inr some ↦ inr ((h.0 ++ codes "\n") ++ some.0, h.4 ∙ (ap (λ z. (h.0 ++ codes "\n") ++ z) some.1 ∙ sym (append_assoc (h.0 ++ codes "\n") some.0 (10 ∷ []))))
+  | inr some ↦ inr (
+    (h.0 ++ codes "\n") ++ some.0,
+    h.4 ∙ (ap (λ z. (h.0 ++ codes "\n") ++ z) some.1 ∙ sym (append_assoc (h.0 ++ codes "\n") some.0 (10 ∷ []))),
+  )
 ]
 
 -- HOW A LISTING ENDS
@@ -78,10 +101,20 @@ more_line g last = codes "more after " ++ token_of g last ++ codes "\n"
 piece : (a x b c : List ℕ) → a ++ ((x ++ b) ++ c) ≡ ((a ++ x) ++ b) ++ c
 piece a x b c = simp append_assoc
 
-pub is_complete : (g : Geometry) (p : Placement) (most : ℕ) (lines : List (List Move)) (texts : List ℕ) → AreLineTexts g p lines texts → length lines ≤ most → IsListing g p most lines (texts ++ complete_line (length lines))
-is_complete g p most lines texts are few = inl (record { few = few; texts = texts; are = are; is = piece texts (codes "complete ") (decimal (length lines)) (codes "\n") })
+pub is_complete : (g : Geometry) (p : Placement) (most : ℕ) (lines : List (List Move)) (texts : List ℕ)
+    → AreLineTexts g p lines texts → length lines ≤ most
+    → IsListing g p most lines (texts ++ complete_line (length lines))
+is_complete g p most lines texts are few =
+    inl (record {
+      few = few;
+      texts = texts;
+      are = are;
+      is = piece texts (codes "complete ") (decimal (length lines)) (codes "\n");
+    })
 
-pub is_cut : (g : Geometry) (p : Placement) (most : ℕ) (earlier left : List (List Move)) (last : List Move) (texts : List ℕ) → AreLineTexts g p (earlier ++ last ∷ []) texts → length (earlier ++ last ∷ []) ≡ most → 1 ≤ length left → IsListing g p most ((earlier ++ last ∷ []) ++ left) (texts ++ more_line g last)
+pub is_cut : (g : Geometry) (p : Placement) (most : ℕ) (earlier left : List (List Move)) (last : List Move)
+    (texts : List ℕ) → AreLineTexts g p (earlier ++ last ∷ []) texts → length (earlier ++ last ∷ []) ≡ most
+    → 1 ≤ length left → IsListing g p most ((earlier ++ last ∷ []) ++ left) (texts ++ more_line g last)
 is_cut g p most earlier left last texts are many more = inr (record {
   earlier = earlier;
   last = last;
@@ -95,22 +128,32 @@ is_cut g p most earlier left last texts are many more = inr (record {
 })
 
 -- with the rows of the first lines a listing begins
-pub listing_from : (g : Geometry) (p : Placement) (most room : ℕ) → 1 ≤ most → (lines left : List (List Move)) (texts : List ℕ) → AreLineTexts g p lines texts → HaveTexts g p left → length lines + room ≡ most → (rest : List ℕ) × IsListing g p most (lines ++ left) (texts ++ rest)
-listing_from g p most room some lines [] texts are have few =
-    (complete_line (length lines), subst (λ z. IsListing g p most z (texts ++ complete_line (length lines))) (sym (append-nil lines)) (is_complete g p most lines texts are (omega (arith, few))))
+pub listing_from : (g : Geometry) (p : Placement) (most room : ℕ) → 1 ≤ most
+    → (lines left : List (List Move)) (texts : List ℕ) → AreLineTexts g p lines texts → HaveTexts g p left
+    → length lines + room ≡ most → (rest : List ℕ) × IsListing g p most (lines ++ left) (texts ++ rest)
+listing_from g p most room some lines [] texts are have few = (
+  complete_line (length lines),
+  subst (λ z. IsListing g p most z (texts ++ complete_line (length lines)))
+      (sym (append-nil lines)) (is_complete g p most lines texts are (omega (arith, few))),
+)
 listing_from g p most zero some lines (l ∷ left) texts are have few =
     let all : length lines ≡ most = omega (arith, few) in
     let s = last_of lines (omega (arith, all, some)) in (
       more_line g s.1,
       subst (λ z. IsListing g p most (z ++ l ∷ left) (texts ++ more_line g s.1)) (sym s.2)
-          (is_cut g p most s.0 (l ∷ left) s.1 texts (subst (λ z. AreLineTexts g p z texts) s.2 are) (ap length (sym s.2) ∙ all) (omega arith)),
+          (is_cut g p most s.0 (l ∷ left) s.1 texts (subst (λ z. AreLineTexts g p z texts) s.2 are) (ap length (sym s.2)
+          ∙ all) (omega arith)),
     )
 listing_from g p most (suc room) some lines (l ∷ left) texts are have few =
     let one = have l (inl refl) in
     let row = one.0 ++ codes "\n" in
     let longer : length (lines ++ l ∷ []) + room ≡ most = omega (arith, few, length-append lines (l ∷ [])) in
-    let r = listing_from g p most room some (lines ++ l ∷ []) left (texts ++ row) (rows_more g p lines l texts row are (one.0, one.1, refl)) (λ k m. have k (inr m)) longer in
-    (row ++ r.0, subst (λ z. IsListing g p most z (texts ++ (row ++ r.0))) (append_assoc lines (l ∷ []) left) (subst (IsListing g p most ((lines ++ l ∷ []) ++ left)) (append_assoc texts row r.0) r.1))
+    let r = listing_from g p most room some (lines ++ l ∷ []) left (texts ++ row) (rows_more g p lines l texts row are
+    (one.0, one.1, refl)) (λ k m. have k (inr m)) longer in (
+      row ++ r.0,
+      subst (λ z. IsListing g p most z (texts ++ (row ++ r.0))) (append_assoc lines (l ∷ []) left)
+          (subst (IsListing g p most ((lines ++ l ∷ []) ++ left)) (append_assoc texts row r.0) r.1),
+    )
 
 -- ROWS SO FAR
 
@@ -123,7 +166,8 @@ pub record Rows (g : Geometry) (p : Placement) (start now : Standing) (count : �
   pub are : AreLineTexts g p given texts
 
 -- they were written
-pub record RowsSoFar (g : Geometry) (p : Placement) (start now : Standing) (count : ℕ) (old new : Option (List ℕ)) : Type 0 where
+pub record RowsSoFar (g : Geometry) (p : Placement) (start now : Standing) (count : ℕ) (old new : Option (List ℕ)) :
+    Type 0 where
   pub texts : List ℕ
   pub rows : Rows g p start now count texts
   pub wrote : Appends old new texts
@@ -131,11 +175,20 @@ pub record RowsSoFar (g : Geometry) (p : Placement) (start now : Standing) (coun
 pub no_rows : (g : Geometry) (p : Placement) (s : Standing) (old : Option (List ℕ)) → RowsSoFar g p s s 0 old old
 no_rows g p s old = record {
   texts = [];
-  rows = record { given = []; gives = gives_nothing g s; many = refl; last = λ some. absurd (omega (arith, some)); are = refl };
+  rows = record {
+    given = [];
+    gives = gives_nothing g s;
+    many = refl;
+    last = λ some. absurd (omega (arith, some));
+    are =
+        refl;
+  };
   wrote = Appends-nil old;
 }
 
-row_given : (g : Geometry) (p : Placement) (start a b : Standing) (count : ℕ) (texts row : List ℕ) → Rows g p start a count texts → GivesFirst g a b → IsRow g p (reverse b.line) row → Rows g p start b (count + 1) (texts ++ row)
+row_given : (g : Geometry) (p : Placement) (start a b : Standing) (count : ℕ) (texts row : List ℕ)
+    → Rows g p start a count texts → GivesFirst g a b → IsRow g p (reverse b.line) row
+    → Rows g p start b (count + 1) (texts ++ row)
 row_given g p start a b count texts row h first r = record {
   given = h.given ++ reverse b.line ∷ [];
   gives = gives_then g start a b h.given (reverse b.line ∷ []) h.gives first;
@@ -144,7 +197,9 @@ row_given g p start a b count texts row h first r = record {
   are = rows_more g p h.given (reverse b.line) texts row h.are r;
 }
 
-pub row_written : (g : Geometry) (p : Placement) (start a b : Standing) (count : ℕ) (old mid new : Option (List ℕ)) → RowsSoFar g p start a count old mid → GivesFirst g a b → Writes (IsRow g p (reverse b.line)) mid new → RowsSoFar g p start b (count + 1) old new
+pub row_written : (g : Geometry) (p : Placement) (start a b : Standing) (count : ℕ) (old mid new : Option (List ℕ))
+    → RowsSoFar g p start a count old mid → GivesFirst g a b → Writes (IsRow g p (reverse b.line)) mid new
+    → RowsSoFar g p start b (count + 1) old new
 row_written g p start a b count old mid new h first w = record {
   texts = h.texts ++ w.text;
   rows = row_given g p start a b count h.texts w.text h.rows first w.is;
@@ -152,21 +207,28 @@ row_written g p start a b count old mid new h first w = record {
 }
 
 -- the line that is given is a line
-pub given_line : (g : Geometry) (p : Placement) (start a b : Standing) (count : ℕ) (texts : List ℕ) → Rows g p start a count texts → GivesFirst g a b → (lines : List (List Move)) → AreToCome g start lines → Line g start.position start.moves (reverse b.line)
+pub given_line : (g : Geometry) (p : Placement) (start a b : Standing) (count : ℕ) (texts : List ℕ)
+    → Rows g p start a count texts → GivesFirst g a b → (lines : List (List Move)) → AreToCome g start lines
+    → Line g start.position start.moves (reverse b.line)
 given_line g p start a b count texts h first lines all =
     let left = h.gives.first lines all in
     let to_come = (h.gives.rest left.0).0 (subst (AreToCome g start) left.1 all) in
     let one = first.first left.0 to_come in
-    let here : Member (reverse b.line) lines = subst (Member (reverse b.line)) (sym left.1) (mem_right (reverse b.line) h.given left.0 (subst (Member (reverse b.line)) (sym one.1) (inl refl))) in
+    let here : Member (reverse b.line) lines = subst (Member (reverse b.line)) (sym left.1)
+    (mem_right (reverse b.line) h.given left.0 (subst (Member (reverse b.line)) (sym one.1) (inl refl))) in
     ((all.exactly (reverse b.line)).0 here).0
 
 -- the last one that was given is a line
-pub last_line : (g : Geometry) (p : Placement) (start now : Standing) (count : ℕ) (texts : List ℕ) → 1 ≤ count → Rows g p start now count texts → (lines : List (List Move)) → AreToCome g start lines → Line g start.position start.moves (reverse now.line)
+pub last_line : (g : Geometry) (p : Placement) (start now : Standing) (count : ℕ) (texts : List ℕ) → 1 ≤ count
+    → Rows g p start now count texts → (lines : List (List Move)) → AreToCome g start lines
+    → Line g start.position start.moves (reverse now.line)
 last_line g p start now count texts some h lines all =
     let left = h.gives.first lines all in
     let l = h.last some in
-    let there : Member (reverse now.line) h.given = subst (Member (reverse now.line)) (sym l.1) (mem_right (reverse now.line) l.0 (reverse now.line ∷ []) (inl refl)) in
-    let here : Member (reverse now.line) lines = subst (Member (reverse now.line)) (sym left.1) (mem_left (reverse now.line) h.given left.0 there) in
+    let there : Member (reverse now.line) h.given = subst (Member (reverse now.line)) (sym l.1)
+    (mem_right (reverse now.line) l.0 (reverse now.line ∷ []) (inl refl)) in
+    let here : Member (reverse now.line) lines = subst (Member (reverse now.line)) (sym left.1)
+    (mem_left (reverse now.line) h.given left.0 there) in
     ((all.exactly (reverse now.line)).0 here).0
 
 -- whether a line was given
@@ -182,51 +244,85 @@ no_more g a (x ∷ left) h none = absurd ((none.exactly x).1 ((h.exactly x).0 (i
 
 -- HOW A WHOLE LISTING ENDS
 
-module _ (g : Geometry) (p : Placement) (most : ℕ) (some : 1 ≤ most) (start : Standing) (lines : List (List Move)) (all : AreToCome g start lines) (have : HaveTexts g p lines) where
+module _ (g : Geometry) (p : Placement) (most : ℕ) (some : 1 ≤ most) (start : Standing) (lines : List (List Move))
+    (all : AreToCome g start lines) (have : HaveTexts g p lines) where
   -- a listing begins with these rows
-  begun_by : (now : Standing) (count : ℕ) (texts : List ℕ) → Rows g p start now count texts → count ≤ most → (rest : List ℕ) × IsListing g p most lines (texts ++ rest)
+  begun_by : (now : Standing) (count : ℕ) (texts : List ℕ) → Rows g p start now count texts → count ≤ most
+      → (rest : List ℕ) × IsListing g p most lines (texts ++ rest)
   begun_by now count texts h few =
       let left = h.gives.first lines all in
       let have' : HaveTexts g p left.0 = λ l m. have l (subst (Member l) (sym left.1) (mem_right l h.given left.0 m)) in
       let r = listing_from g p most (most - count) some h.given left.0 texts h.are have' (omega (arith, h.many, few)) in
       (r.0, subst (λ z. IsListing g p most z (texts ++ r.0)) (sym left.1) r.1)
 
-  pub rows_stop : (now : Standing) (count : ℕ) (old new : Option (List ℕ)) → RowsSoFar g p start now count old new → count ≤ most → Writes (AreLinesOf (IsListing g p most lines)) old new
+  pub rows_stop : (now : Standing) (count : ℕ) (old new : Option (List ℕ)) → RowsSoFar g p start now count old new
+      → count ≤ most → Writes (AreLinesOf (IsListing g p most lines)) old new
   rows_stop now count old new h few =
       let r = begun_by now count h.texts h.rows few in
       record {
         text = h.texts;
-        is = record { text = h.texts ++ r.0; is = r.1; front = record { back = r.0; joined = refl }; whole = rows_whole g p h.rows.given h.texts h.rows.are };
+        is = record {
+          text = h.texts ++ r.0;
+          is = r.1;
+          front = record { back = r.0; joined = refl };
+          whole =
+              rows_whole g p h.rows.given h.texts h.rows.are;
+        };
         wrote = h.wrote;
       }
 
   -- a row was cut short
-  row_short : (a b : Standing) (count : ℕ) (old mid new : Option (List ℕ)) → RowsSoFar g p start a count old mid → GivesFirst g a b → count < most → WritesShort (IsRow g p (reverse b.line)) mid new → WritesShort (IsListing g p most lines) old new
+  row_short : (a b : Standing) (count : ℕ) (old mid new : Option (List ℕ)) → RowsSoFar g p start a count old mid
+      → GivesFirst g a b → count < most → WritesShort (IsRow g p (reverse b.line)) mid new
+      → WritesShort (IsListing g p most lines) old new
   row_short a b count old mid new h first few w =
-      let r = begun_by b (count + 1) (h.texts ++ w.text) (row_given g p start a b count h.texts w.text h.rows first w.is) (omega (arith, few)) in
-      record { text = (h.texts ++ w.text) ++ r.0; is = r.1; stops = stops_within old mid new h.texts w.text r.0 ((h.texts ++ w.text) ++ r.0) refl h.wrote w.stops }
+      let r = begun_by b (count + 1) (h.texts ++ w.text) (row_given g p start a b count h.texts w.text h.rows first
+      w.is) (omega (arith, few)) in
+      record {
+        text = (h.texts ++ w.text) ++ r.0;
+        is = r.1;
+        stops = stops_within old mid new h.texts w.text r.0 ((h.texts ++ w.text) ++ r.0) refl h.wrote w.stops;
+      }
 
-  nothing_more : (now : Standing) (count : ℕ) (old mid new : Option (List ℕ)) → RowsSoFar g p start now count old mid → count ≤ most → Writes IsNothing mid new → Writes (AreLinesOf (IsListing g p most lines)) old new
+  nothing_more : (now : Standing) (count : ℕ) (old mid new : Option (List ℕ)) → RowsSoFar g p start now count old mid
+      → count ≤ most → Writes IsNothing mid new → Writes (AreLinesOf (IsListing g p most lines)) old new
   nothing_more now count old mid new h few w =
       let same : h.texts ++ w.text ≡ h.texts = ap (λ z. h.texts ++ z) w.is ∙ append-nil h.texts in
-      rows_stop now count old new (record { texts = h.texts; rows = h.rows; wrote = subst (Appends old new) same (Appends-trans old mid new h.texts w.text h.wrote w.wrote) }) few
+      rows_stop now count old new (record {
+        texts = h.texts;
+        rows = h.rows;
+        wrote = subst (Appends old new) same (Appends-trans old mid new h.texts w.text h.wrote w.wrote);
+      }) few
 
   -- a row was not written to its end
-  pub row_ends : {X Y : Type 0} (a b : Standing) (count : ℕ) (old mid new : Option (List ℕ)) (r : Result X TextFault) (s : Result Y TextFault) (fault other : TextFault) → RowsSoFar g p start a count old mid → GivesFirst g a b → count < most
-      → r ≡ Err fault → s ≡ Err other → fault ≡ other → TextEnds (IsRow g p (reverse b.line)) IsNothing mid new r → TextEnds (IsListing g p most lines) (AreLinesOf (IsListing g p most lines)) old new s
-  row_ends {X} {Y} a b count old mid new r s fault other h first few was is same ends = at fault (is ∙ ap Err (sym same)) (subst (TextEnds (IsRow g p (reverse b.line)) IsNothing mid new) was ends) where
-    at : (fault : TextFault) → s ≡ Err fault → TextEnds {X = X} (IsRow g p (reverse b.line)) IsNothing mid new (Err fault) → TextEnds (IsListing g p most lines) (AreLinesOf (IsListing g p most lines)) old new s
-    at (Stopped why) e w = at_stop (IsListing g p most lines) (AreLinesOf (IsListing g p most lines)) old new s why e (nothing_more a count old mid new h (omega (arith, few)) w)
-    at Sink e w = at_sink (IsListing g p most lines) (AreLinesOf (IsListing g p most lines)) old new s e (row_short a b count old mid new h first few w)
+  pub row_ends : {X Y : Type 0} (a b : Standing) (count : ℕ) (old mid new : Option (List ℕ)) (r : Result X TextFault)
+      (s : Result Y TextFault) (fault other : TextFault) → RowsSoFar g p start a count old mid → GivesFirst g a b
+      → count < most
+      → r ≡ Err fault → s ≡ Err other → fault ≡ other → TextEnds (IsRow g p (reverse b.line)) IsNothing mid new r
+      → TextEnds (IsListing g p most lines) (AreLinesOf (IsListing g p most lines)) old new s
+  row_ends {X} {Y} a b count old mid new r s fault other h first few was is same ends = at fault (is
+      ∙ ap Err (sym same)) (subst (TextEnds (IsRow g p (reverse b.line)) IsNothing mid new) was ends) where
+        at : (fault : TextFault) → s ≡ Err fault → TextEnds {X = X} (IsRow g p (reverse b.line)) IsNothing mid new
+            (Err fault) → TextEnds (IsListing g p most lines) (AreLinesOf (IsListing g p most lines)) old new s
+        at (Stopped why) e w = at_stop (IsListing g p most lines) (AreLinesOf (IsListing g p most lines)) old new s why
+            e
+            (nothing_more a count old mid new h (omega (arith, few)) w)
+        at Sink e w = at_sink (IsListing g p most lines) (AreLinesOf (IsListing g p most lines)) old new s e
+            (row_short a b count old mid new h first few w)
 
-  all_given : (a b : Standing) (count : ℕ) (texts : List ℕ) → Rows g p start a count texts → GivesNone g a b → count ≤ most → IsListing g p most lines (texts ++ complete_line count)
+  all_given : (a b : Standing) (count : ℕ) (texts : List ℕ) → Rows g p start a count texts → GivesNone g a b
+      → count ≤ most → IsListing g p most lines (texts ++ complete_line count)
   all_given a b count texts h none few =
       let left = h.gives.first lines all in
       let to_come = (h.gives.rest left.0).0 (subst (AreToCome g start) left.1 all) in
-      let same : lines ≡ h.given = left.1 ∙ (ap (λ z. h.given ++ z) (no_more g a left.0 to_come none.none) ∙ append-nil h.given) in
-      subst (λ z. IsListing g p most z (texts ++ complete_line count)) (sym same) (subst (λ k. IsListing g p most h.given (texts ++ complete_line k)) h.many (is_complete g p most h.given texts h.are (omega (arith, h.many, few))))
+      let same : lines ≡ h.given = left.1 ∙ (ap (λ z. h.given ++ z) (no_more g a left.0 to_come none.none)
+      ∙ append-nil h.given) in
+      subst (λ z. IsListing g p most z (texts ++ complete_line count)) (sym same)
+      (subst (λ k. IsListing g p most h.given (texts ++ complete_line k)) h.many (is_complete g p most h.given texts
+      h.are (omega (arith, h.many, few))))
 
-  more_left : (a b : Standing) (count : ℕ) (texts : List ℕ) → Rows g p start a count texts → GivesFirst g a b → count ≡ most → IsListing g p most lines (texts ++ more_line g (reverse a.line))
+  more_left : (a b : Standing) (count : ℕ) (texts : List ℕ) → Rows g p start a count texts → GivesFirst g a b
+      → count ≡ most → IsListing g p most lines (texts ++ more_line g (reverse a.line))
   more_left a b count texts h first full =
       let left = h.gives.first lines all in
       let to_come = (h.gives.rest left.0).0 (subst (AreToCome g start) left.1 all) in
@@ -235,68 +331,113 @@ module _ (g : Geometry) (p : Placement) (most : ℕ) (some : 1 ≤ most) (start 
       let enough : 1 ≤ length left.0 = omega (arith, ap length one.1) in
       let split : lines ≡ (last.0 ++ reverse a.line ∷ []) ++ left.0 = left.1 ∙ ap (λ z. z ++ left.0) last.1 in
       let many : length (last.0 ++ reverse a.line ∷ []) ≡ most = ap length (sym last.1) ∙ (h.many ∙ full) in
-      subst (λ z. IsListing g p most z (texts ++ more_line g (reverse a.line))) (sym split) (is_cut g p most last.0 left.0 (reverse a.line) texts (subst (λ z. AreLineTexts g p z texts) last.1 h.are) many enough)
+      subst (λ z. IsListing g p most z (texts ++ more_line g (reverse a.line))) (sym split)
+      (is_cut g p most last.0 left.0 (reverse a.line) texts (subst (λ z. AreLineTexts g p z texts) last.1 h.are)
+      many enough)
 
-  end_written : (now : Standing) (count : ℕ) (old mid new : Option (List ℕ)) (end : List ℕ) (h : RowsSoFar g p start now count old mid) → IsListing g p most lines (h.texts ++ end) → Appends mid new end → Writes (IsListing g p most lines) old new
-  end_written now count old mid new end h is wrote = record { text = h.texts ++ end; is = is; wrote = Appends-trans old mid new h.texts end h.wrote wrote }
+  end_written : (now : Standing) (count : ℕ) (old mid new : Option (List ℕ)) (end : List ℕ)
+      (h : RowsSoFar g p start now count old mid) → IsListing g p most lines (h.texts ++ end) → Appends mid new end
+      → Writes (IsListing g p most lines) old new
+  end_written now count old mid new end h is wrote = record {
+    text = h.texts ++ end;
+    is = is;
+    wrote = Appends-trans old mid new h.texts end h.wrote wrote;
+  }
 
-  end_short : (now : Standing) (count : ℕ) (old mid new : Option (List ℕ)) (end : List ℕ) (h : RowsSoFar g p start now count old mid) → IsListing g p most lines (h.texts ++ end) → StopsShort mid new end → WritesShort (IsListing g p most lines) old new
-  end_short now count old mid new end h is stops = record { text = h.texts ++ end; is = is; stops = stops_within old mid new h.texts end [] (h.texts ++ end) (sym (append-nil (h.texts ++ end))) h.wrote stops }
+  end_short : (now : Standing) (count : ℕ) (old mid new : Option (List ℕ)) (end : List ℕ)
+      (h : RowsSoFar g p start now count old mid) → IsListing g p most lines (h.texts ++ end) → StopsShort mid new end
+      → WritesShort (IsListing g p most lines) old new
+  end_short now count old mid new end h is stops = record {
+    text = h.texts ++ end;
+    is = is;
+    stops = stops_within old mid new h.texts end [] (h.texts ++ end) (sym (append-nil (h.texts ++ end))) h.wrote stops;
+  }
 
-  pub complete_written : (a b : Standing) (count : ℕ) (old mid new : Option (List ℕ)) → RowsSoFar g p start a count old mid → GivesNone g a b → count ≤ most → Appends mid new (complete_line count) → Writes (IsListing g p most lines) old new
-  complete_written a b count old mid new h none few wrote = end_written a count old mid new (complete_line count) h (all_given a b count h.texts h.rows none few) wrote
+  pub complete_written : (a b : Standing) (count : ℕ) (old mid new : Option (List ℕ))
+      → RowsSoFar g p start a count old mid → GivesNone g a b → count ≤ most → Appends mid new (complete_line count)
+      → Writes (IsListing g p most lines) old new
+  complete_written a b count old mid new h none few wrote = end_written a count old mid new (complete_line count) h
+      (all_given a b count h.texts h.rows none few) wrote
 
-  pub complete_short : (a b : Standing) (count : ℕ) (old mid new : Option (List ℕ)) → RowsSoFar g p start a count old mid → GivesNone g a b → count ≤ most → StopsShort mid new (complete_line count) → WritesShort (IsListing g p most lines) old new
-  complete_short a b count old mid new h none few stops = end_short a count old mid new (complete_line count) h (all_given a b count h.texts h.rows none few) stops
+  pub complete_short : (a b : Standing) (count : ℕ) (old mid new : Option (List ℕ))
+      → RowsSoFar g p start a count old mid → GivesNone g a b → count ≤ most → StopsShort mid new (complete_line count)
+      → WritesShort (IsListing g p most lines) old new
+  complete_short a b count old mid new h none few stops = end_short a count old mid new (complete_line count) h
+      (all_given a b count h.texts h.rows none few) stops
 
-  pub more_written : (a b : Standing) (count : ℕ) (old mid new : Option (List ℕ)) → RowsSoFar g p start a count old mid → GivesFirst g a b → count ≡ most → Appends mid new (more_line g (reverse a.line)) → Writes (IsListing g p most lines) old new
-  more_written a b count old mid new h first full wrote = end_written a count old mid new (more_line g (reverse a.line)) h (more_left a b count h.texts h.rows first full) wrote
+  pub more_written : (a b : Standing) (count : ℕ) (old mid new : Option (List ℕ)) → RowsSoFar g p start a count old mid
+      → GivesFirst g a b → count ≡ most → Appends mid new (more_line g (reverse a.line))
+      → Writes (IsListing g p most lines) old new
+  more_written a b count old mid new h first full wrote = end_written a count old mid new (more_line g (reverse a.line))
+      h (more_left a b count h.texts h.rows first full) wrote
 
-  pub more_short : (a b : Standing) (count : ℕ) (old mid new : Option (List ℕ)) → RowsSoFar g p start a count old mid → GivesFirst g a b → count ≡ most → StopsShort mid new (more_line g (reverse a.line)) → WritesShort (IsListing g p most lines) old new
-  more_short a b count old mid new h first full stops = end_short a count old mid new (more_line g (reverse a.line)) h (more_left a b count h.texts h.rows first full) stops
+  pub more_short : (a b : Standing) (count : ℕ) (old mid new : Option (List ℕ)) → RowsSoFar g p start a count old mid
+      → GivesFirst g a b → count ≡ most → StopsShort mid new (more_line g (reverse a.line))
+      → WritesShort (IsListing g p most lines) old new
+  more_short a b count old mid new h first full stops = end_short a count old mid new (more_line g (reverse a.line)) h
+      (more_left a b count h.texts h.rows first full) stops
 
 -- THREE PIECES
 
 pub first_short : (old new : Option (List ℕ)) (x y z : List ℕ) → StopsShort old new x → StopsShort old new (x ++ y ++ z)
-first_short old new x y z h = stops_within old old new [] x (y ++ z) (x ++ y ++ z) (append_assoc x y z) (Appends-nil old) h
+first_short old new x y z h = stops_within old old new [] x (y ++ z) (x ++ y ++ z) (append_assoc x y z)
+    (Appends-nil old) h
 
-pub second_short : (old a new : Option (List ℕ)) (x y z : List ℕ) → Appends old a x → StopsShort a new y → StopsShort old new (x ++ y ++ z)
+pub second_short : (old a new : Option (List ℕ)) (x y z : List ℕ) → Appends old a x → StopsShort a new y
+    → StopsShort old new (x ++ y ++ z)
 second_short old a new x y z h k = stops_within old a new x y z (x ++ y ++ z) refl h k
 
-pub last_written : {X E : Type 0} (old a b new : Option (List ℕ)) (x y z : List ℕ) (r : Result X E) → Appends old a x → Appends a b y → OnOk r (Appends b new z) → OnOk r (Appends old new (x ++ y ++ z))
+pub last_written : {X E : Type 0} (old a b new : Option (List ℕ)) (x y z : List ℕ) (r : Result X E) → Appends old a x
+    → Appends a b y → OnOk r (Appends b new z) → OnOk r (Appends old new (x ++ y ++ z))
 last_written old a b new x y z (Ok _) h k l = Appends-trans old b new (x ++ y) z (Appends-trans old a b x y h k) l
 last_written old a b new x y z (Err _) h k l = tt
 
-pub last_short : {X E : Type 0} (old a b new : Option (List ℕ)) (x y z : List ℕ) (r : Result X E) → Appends old a x → Appends a b y → OnErr r (StopsShort b new z) → OnErr r (StopsShort old new (x ++ y ++ z))
+pub last_short : {X E : Type 0} (old a b new : Option (List ℕ)) (x y z : List ℕ) (r : Result X E) → Appends old a x
+    → Appends a b y → OnErr r (StopsShort b new z) → OnErr r (StopsShort old new (x ++ y ++ z))
 last_short old a b new x y z (Ok _) h k l = tt
-last_short old a b new x y z (Err _) h k l = stops_within old b new (x ++ y) z [] (x ++ y ++ z) (sym (append-nil (x ++ y ++ z))) (Appends-trans old a b x y h k) l
+last_short old a b new x y z (Err _) h k l = stops_within old b new (x ++ y) z [] (x ++ y ++ z)
+    (sym (append-nil (x ++ y ++ z))) (Appends-trans old a b x y h k) l
 
 -- THE LINES THAT ARE ASKED FOR
 
-abbrev pub EndsListed : {X : Type 0} → Geometry → Placement → ℕ → ℕ → Option (List Move) → Option (List ℕ) → Option (List ℕ) → Result X TextFault → Type 0
-EndsListed g p n most after old new r = TextEnds (IsListedText g p n most after) (AreLinesOf (IsListedText g p n most after)) old new r
+abbrev pub EndsListed : {X : Type 0} → Geometry → Placement → ℕ → ℕ → Option (List Move) → Option (List ℕ)
+    → Option (List ℕ) → Result X TextFault → Type 0
+EndsListed g p n most after old new r = TextEnds (IsListedText g p n most after)
+    (AreLinesOf (IsListedText g p n most after)) old new r
 
 -- a listing that is part of what is asked for
-module _ (g : Geometry) (p : Placement) (n most : ℕ) (after : Option (List Move)) (lines : List (List Move)) (to : (text : List ℕ) → IsListing g p most lines text → IsListedText g p n most after text) (old new : Option (List ℕ)) where
+module _ (g : Geometry) (p : Placement) (n most : ℕ) (after : Option (List Move)) (lines : List (List Move))
+    (to : (text : List ℕ) → IsListing g p most lines text → IsListedText g p n most after text)
+    (old new : Option (List ℕ)) where
   pub listed_written : Writes (IsListing g p most lines) old new → Writes (IsListedText g p n most after) old new
   listed_written h = record { text = h.text; is = to h.text h.is; wrote = h.wrote }
 
-  pub listed_fault : {X Y : Type 0} (r : Result X TextFault) (s : Result Y TextFault) (fault other : TextFault) → r ≡ Err fault → s ≡ Err other → fault ≡ other → TextEnds (IsListing g p most lines) (AreLinesOf (IsListing g p most lines)) old new r → EndsListed g p n most after old new s
+  pub listed_fault : {X Y : Type 0} (r : Result X TextFault) (s : Result Y TextFault) (fault other : TextFault)
+      → r ≡ Err fault → s ≡ Err other → fault ≡ other
+      → TextEnds (IsListing g p most lines) (AreLinesOf (IsListing g p most lines)) old new r
+      → EndsListed g p n most after old new s
   listed_fault r s fault other was is same h =
-      fault_stays (IsListing g p most lines) (IsListedText g p n most after) (AreLinesOf (IsListing g p most lines)) (AreLinesOf (IsListedText g p n most after)) old new r s fault other was is same to
+      fault_stays (IsListing g p most lines) (IsListedText g p n most after) (AreLinesOf (IsListing g p most lines))
+      (AreLinesOf (IsListedText g p n most after)) old new r s fault other was is same to
       (λ text k. record { text = k.text; is = to k.text k.is; front = k.front; whole = k.whole }) h
 
 -- the lines of a position
-pub listed_all : (g : Geometry) (p : Placement) (n most : ℕ) (lines : List (List Move)) → Lines g p n lines → (text : List ℕ) → IsListing g p most lines text → IsListedText g p n most None text
+pub listed_all : (g : Geometry) (p : Placement) (n most : ℕ) (lines : List (List Move)) → Lines g p n lines
+    → (text : List ℕ) → IsListing g p most lines text → IsListedText g p n most None text
 listed_all g p n most lines h text k = (lines, h, k)
 
 -- those after one of them
-pub listed_after : (g : Geometry) (p : Placement) (n most : ℕ) (l : List Move) (lines rest : List (List Move)) → Lines g p n lines → After lines l rest → (text : List ℕ) → IsListing g p most rest text → IsListedText g p n most (Some l) text
+pub listed_after : (g : Geometry) (p : Placement) (n most : ℕ) (l : List Move) (lines rest : List (List Move))
+    → Lines g p n lines → After lines l rest → (text : List ℕ) → IsListing g p most rest text
+    → IsListedText g p n most (Some l) text
 listed_after g p n most l lines rest h after text k = inl (lines, rest, h, after, k)
 
 -- the same, asked for otherwise
-pub refused_as : {E : Type 0} (g : Geometry) (p : Placement) (n k : ℕ) (after other : Option (List Move)) (r : Result Bool E) → k ≡ n → other ≡ after → IfOk r (λ refused. IsTrue refused ↔ IsNoLine g p k other) → IfOk r (λ refused. IsTrue refused ↔ IsNoLine g p n after)
-refused_as g p n k after other r e f h = subst (λ z. IfOk r (λ refused. IsTrue refused ↔ IsNoLine g p n z)) f (subst (λ z. IfOk r (λ refused. IsTrue refused ↔ IsNoLine g p z other)) e h)
+pub refused_as : {E : Type 0} (g : Geometry) (p : Placement) (n k : ℕ) (after other : Option (List Move))
+    (r : Result Bool E) → k ≡ n → other ≡ after → IfOk r (λ refused. IsTrue refused ↔ IsNoLine g p k other)
+    → IfOk r (λ refused. IsTrue refused ↔ IsNoLine g p n after)
+refused_as g p n k after other r e f h = subst (λ z. IfOk r (λ refused. IsTrue refused ↔ IsNoLine g p n z)) f
+    (subst (λ z. IfOk r (λ refused. IsTrue refused ↔ IsNoLine g p z other)) e h)
 
 -- a lister that keeps no move comes from no move
 no_first : (l : List Move) → take 0 l ≡ take 0 []

@@ -1,5 +1,7 @@
 -- Each list of lines has a text, and only one.
-use Rattle.std.proofs.Common.{◌≡◌, ℕ, ◌+◌, ◌-◌, ◌<◌, ◌≤◌, ◌⊎◌, zero, suc, Option, Some, None, List, [], ◌∷◌, ◌++◌, length, refl, sym, ap, ◌∙◌, subst, inl, inr, codes, decimal, arith, append_assoc, length-append}
+use Rattle.std.proofs.Common.{◌≡◌, ℕ, ◌+◌, ◌-◌, ◌<◌, ◌≤◌, ◌⊎◌, zero, suc, Option, Some, None, List, [], ◌∷◌, ◌++◌}
+use Rattle.std.proofs.Common.{length, refl, sym, ap, ◌∙◌, subst, inl, inr, codes, decimal, arith, append_assoc}
+use Rattle.std.proofs.Common.{length-append}
 use Rattle.std.proofs.lemmas.Bool.{cases_order}
 use Rattle.dw_board.specs.Geometry.{Geometry, IsBoard}
 use Rattle.dw_board.specs.Placement.{Placement}
@@ -19,22 +21,26 @@ use Rattle.dw_report.proofs.JudgedTextLemmas.{line_playable}
 
 -- TEXTS OF LINES
 
-pub line_texts_some : LinesHaveTexts → (g : Geometry) → IsBoard g → (p : Placement) (n : ℕ) (lines : List (List Move)) → ((l : List Move) → Member l lines → Line g p n l) → (text : List ℕ) × AreLineTexts g p lines text
+pub line_texts_some : LinesHaveTexts → (g : Geometry) → IsBoard g → (p : Placement) (n : ℕ) (lines : List (List Move))
+    → ((l : List Move) → Member l lines → Line g p n l) → (text : List ℕ) × AreLineTexts g p lines text
 line_texts_some law g b p n [] are = ([], refl)
 line_texts_some law g b p n (l ∷ lines) are =
     let one = law.some g b p l (line_playable g p n l (are l (inl refl))) in
     let rest = line_texts_some law g b p n lines (λ x h. are x (inr h)) in
     (one.0 ++ codes "\n" ++ rest.0, (one.0, rest.0, one.1, rest.1, refl))
 
-line_texts_only : LinesHaveTexts → (g : Geometry) (p : Placement) (lines : List (List Move)) (text other : List ℕ) → AreLineTexts g p lines text → AreLineTexts g p lines other → text ≡ other
+line_texts_only : LinesHaveTexts → (g : Geometry) (p : Placement) (lines : List (List Move)) (text other : List ℕ)
+    → AreLineTexts g p lines text → AreLineTexts g p lines other → text ≡ other
 line_texts_only law g p [] text other h k = h ∙ sym k
 line_texts_only law g p (l ∷ lines) text other (t, r, is, are, e) (t', r', is', are', e') =
-    e ∙ (ap (λ z. z ++ codes "\n" ++ r) (law.one g p l t t' is is') ∙ (ap (λ z. t' ++ codes "\n" ++ z) (line_texts_only law g p lines r r' are are') ∙ sym e'))
+    e ∙ (ap (λ z. z ++ codes "\n" ++ r) (law.one g p l t t' is is')
+    ∙ (ap (λ z. t' ++ codes "\n" ++ z) (line_texts_only law g p lines r r' are are') ∙ sym e'))
 
 -- PARTS OF LISTS
 
 -- a list in three parts, the middle one at a place
-split_at : {X : Type 0} (k : ℕ) (xs : List X) → k < length xs → (front : List X) × (x : X) × (back : List X) × (xs ≡ front ++ x ∷ back) × (length front ≡ k)
+split_at : {X : Type 0} (k : ℕ) (xs : List X) → k < length xs → (front : List X) × (x : X) × (back : List X)
+    × (xs ≡ front ++ x ∷ back) × (length front ≡ k)
 split_at k [] low = absurd (omega (arith, low))
 split_at zero (x ∷ xs) low = ([], x, xs, refl, refl)
 split_at (suc k) (x ∷ xs) low =
@@ -62,7 +68,8 @@ lasts_same (y ∷ xs) (v ∷ us) x u e =
     lasts_same xs us x u tails
 
 -- in an ascending list what comes after an element is one list
-after_only : {X : Type 0} (R : X → X → Type 0) → ((x y : X) → R x y → R y x → ⊥) → (x : X) (xs us ys vs : List X) → IsAscending R (xs ++ x ∷ ys) → xs ++ x ∷ ys ≡ us ++ x ∷ vs → ys ≡ vs
+after_only : {X : Type 0} (R : X → X → Type 0) → ((x y : X) → R x y → R y x → ⊥) → (x : X) (xs us ys vs : List X)
+    → IsAscending R (xs ++ x ∷ ys) → xs ++ x ∷ ys ≡ us ++ x ∷ vs → ys ≡ vs
 after_only R asym x [] [] ys vs a e = cc
 after_only R asym x [] (u ∷ us) ys vs a e =
     let same : u ≡ x = cc in
@@ -78,7 +85,8 @@ after_only R asym x (y ∷ xs) (u ∷ us) ys vs a e =
     let tails : xs ++ x ∷ ys ≡ us ++ x ∷ vs = cc in
     after_only R asym x xs us ys vs a.1 tails
 
-member_splits : {X : Type 0} (x : X) (xs : List X) → Member x xs → (front : List X) × (back : List X) × (xs ≡ front ++ x ∷ back)
+member_splits : {X : Type 0} (x : X) (xs : List X) → Member x xs → (front : List X) × (back : List X)
+    × (xs ≡ front ++ x ∷ back)
 member_splits x [] h = absurd h
 member_splits x (y ∷ xs) (inl e) = ([], xs, ap (λ z. z ∷ xs) (sym e))
 member_splits x (y ∷ xs) (inr h) = let r = member_splits x xs h in (y ∷ r.0, r.1, ap (λ z. y ∷ z) r.2)
@@ -86,20 +94,26 @@ member_splits x (y ∷ xs) (inr h) = let r = member_splits x xs h in (y ∷ r.0,
 -- LISTS
 
 -- a list of lines, cut where it is too long
-pub listing_some : LinesHaveTexts → (g : Geometry) → IsBoard g → (p : Placement) (n most : ℕ) (lines : List (List Move)) → 1 ≤ most → ((l : List Move) → Member l lines → Line g p n l) → (text : List ℕ) × IsListing g p most lines text
+pub listing_some : LinesHaveTexts → (g : Geometry) → IsBoard g → (p : Placement) (n most : ℕ) (lines : List (List Move))
+    → 1 ≤ most → ((l : List Move) → Member l lines → Line g p n l) → (text : List ℕ) × IsListing g p most lines text
 listing_some law g b p n most lines some are = by_order (cases_order (length lines) most) where
   complete : length lines ≤ most → (text : List ℕ) × IsListing g p most lines text
   complete few =
-      let texts = line_texts_some law g b p n lines are in
-      (texts.0 ++ codes "complete " ++ decimal (length lines) ++ codes "\n", inl (record { few = few; texts = texts.0; are = texts.1; is = refl }))
+      let texts = line_texts_some law g b p n lines are in (
+        texts.0 ++ codes "complete " ++ decimal (length lines) ++ codes "\n",
+        inl (record { few = few; texts = texts.0; are = texts.1; is = refl }),
+      )
 
   cut : most < length lines → (text : List ℕ) × IsListing g p most lines text
   cut long =
       let parts = split_at (most - 1) lines (omega (arith, long, some)) in
-      let split : lines ≡ (parts.0 ++ parts.1 ∷ []) ++ parts.2 = parts.3 ∙ sym (append_assoc parts.0 (parts.1 ∷ []) parts.2) in
+      let split : lines ≡ (parts.0 ++ parts.1 ∷ []) ++ parts.2 = parts.3
+      ∙ sym (append_assoc parts.0 (parts.1 ∷ []) parts.2) in
       let count : length (parts.0 ++ parts.1 ∷ []) ≡ length parts.0 + 1 = length-append parts.0 (parts.1 ∷ []) in
-      let all : length lines ≡ length (parts.0 ++ parts.1 ∷ []) + length parts.2 = ap length split ∙ length-append (parts.0 ++ parts.1 ∷ []) parts.2 in
-      let texts = line_texts_some law g b p n (parts.0 ++ parts.1 ∷ []) (λ l h. are l (subst (Member l) (sym split) (mem_left l (parts.0 ++ parts.1 ∷ []) parts.2 h))) in (
+      let all : length lines ≡ length (parts.0 ++ parts.1 ∷ []) + length parts.2 = ap length split
+      ∙ length-append (parts.0 ++ parts.1 ∷ []) parts.2 in
+      let texts = line_texts_some law g b p n (parts.0 ++ parts.1 ∷ [])
+      (λ l h. are l (subst (Member l) (sym split) (mem_left l (parts.0 ++ parts.1 ∷ []) parts.2 h))) in (
         texts.0 ++ codes "more after " ++ token_of g parts.1 ++ codes "\n",
         inr (record {
           earlier = parts.0;
@@ -114,30 +128,40 @@ listing_some law g b p n most lines some are = by_order (cases_order (length lin
         }),
       )
 
-  by_order : (length lines ≡ most) ⊎ ((length lines < most) ⊎ (most < length lines)) → (text : List ℕ) × IsListing g p most lines text
+  by_order : (length lines ≡ most) ⊎ ((length lines < most) ⊎ (most < length lines)) → (text : List ℕ)
+      × IsListing g p most lines text
   by_order (inl e) = complete (omega (arith, e))
   by_order (inr (inl l)) = complete (omega (arith, l))
   by_order (inr (inr l)) = cut l
 
-too_many : (g : Geometry) (p : Placement) (most : ℕ) (lines : List (List Move)) (text other : List ℕ) → IsComplete g p most lines text → IsCut g p most lines other → ⊥
+too_many : (g : Geometry) (p : Placement) (most : ℕ) (lines : List (List Move)) (text other : List ℕ)
+    → IsComplete g p most lines text → IsCut g p most lines other → ⊥
 too_many g p most lines text other h k =
-    let all : length lines ≡ length (k.earlier ++ k.last ∷ []) + length k.left = ap length k.split ∙ length-append (k.earlier ++ k.last ∷ []) k.left in
+    let all : length lines ≡ length (k.earlier ++ k.last ∷ []) + length k.left = ap length k.split
+    ∙ length-append (k.earlier ++ k.last ∷ []) k.left in
     omega (arith, all, k.many, k.more, h.few)
 
-pub listing_only : LinesHaveTexts → (g : Geometry) (p : Placement) (most : ℕ) (lines : List (List Move)) (text other : List ℕ) → IsListing g p most lines text → IsListing g p most lines other → text ≡ other
+pub listing_only : LinesHaveTexts → (g : Geometry) (p : Placement) (most : ℕ) (lines : List (List Move))
+    (text other : List ℕ) → IsListing g p most lines text → IsListing g p most lines other → text ≡ other
 listing_only law g p most lines text other (inl h) (inl k) =
-    h.is ∙ (ap (λ z. z ++ codes "complete " ++ decimal (length lines) ++ codes "\n") (line_texts_only law g p lines h.texts k.texts h.are k.are) ∙ sym k.is)
+    h.is ∙ (ap (λ z. z ++ codes "complete " ++ decimal (length lines) ++ codes "\n")
+    (line_texts_only law g p lines h.texts k.texts h.are k.are) ∙ sym k.is)
 listing_only law g p most lines text other (inl h) (inr k) = absurd (too_many g p most lines text other h k)
 listing_only law g p most lines text other (inr h) (inl k) = absurd (too_many g p most lines other text k h)
 listing_only law g p most lines text other (inr h) (inr k) =
-    let fronts : h.earlier ++ h.last ∷ [] ≡ k.earlier ++ k.last ∷ [] = fronts_same (h.earlier ++ h.last ∷ []) h.left (k.earlier ++ k.last ∷ []) k.left (h.many ∙ sym k.many) (sym h.split ∙ k.split) in
-    let texts : h.texts ≡ k.texts = line_texts_only law g p (k.earlier ++ k.last ∷ []) h.texts k.texts (subst (λ z. AreLineTexts g p z h.texts) fronts h.are) k.are in
+    let fronts : h.earlier ++ h.last ∷ [] ≡ k.earlier ++ k.last ∷ [] = fronts_same (h.earlier ++ h.last ∷ []) h.left
+    (k.earlier ++ k.last ∷ []) k.left (h.many ∙ sym k.many) (sym h.split ∙ k.split) in
+    let texts : h.texts ≡ k.texts = line_texts_only law g p (k.earlier ++ k.last ∷ []) h.texts k.texts
+    (subst (λ z. AreLineTexts g p z h.texts) fronts h.are) k.are in
     let lasts : h.last ≡ k.last = lasts_same h.earlier k.earlier h.last k.last fronts in
-    h.is ∙ (ap (λ z. z ++ codes "more after " ++ token_of g h.last ++ codes "\n") texts ∙ (ap (λ z. k.texts ++ codes "more after " ++ token_of g z ++ codes "\n") lasts ∙ sym k.is))
+    h.is ∙ (ap (λ z. z ++ codes "more after " ++ token_of g h.last ++ codes "\n") texts
+    ∙ (ap (λ z. k.texts ++ codes "more after " ++ token_of g z ++ codes "\n") lasts ∙ sym k.is))
 
 -- THE LINES THAT ARE ASKED FOR
 
-pub listed_some : LinesExist → LineOrPlace → LinesHaveTexts → (g : Geometry) → IsBoard g → (p : Placement) (n most : ℕ) (after : Option (List Move)) → 1 ≤ most → (text : List ℕ) × IsListedText g p n most after text
+pub listed_some : LinesExist → LineOrPlace → LinesHaveTexts → (g : Geometry) → IsBoard g
+    → (p : Placement) (n most : ℕ) (after : Option (List Move)) → 1 ≤ most → (text : List ℕ)
+    × IsListedText g p n most after text
 listed_some exist place law g b p n most None some =
     let lines = exist.some g b p n in
     let text = listing_some law g b p n most lines.0 some (λ l h. (lines.1.exactly l).0 h) in
@@ -146,23 +170,34 @@ listed_some exist place law g b p n most (Some l) some = elim (place.some g p n 
   | inl line ↦
       let lines = exist.some g b p n in
       let parts = member_splits l lines.0 ((lines.1.exactly l).1 line) in
-      let text = listing_some law g b p n most parts.1 some (λ x h. (lines.1.exactly x).0 (subst (Member x) (sym parts.2) (mem_right x parts.0 (l ∷ parts.1) (inr h)))) in
+      let text = listing_some law g b p n most parts.1 some
+      (λ x h. (lines.1.exactly x).0 (subst (Member x) (sym parts.2) (mem_right x parts.0 (l ∷ parts.1) (inr h)))) in
       (text.0, inl (lines.0, parts.1, lines.1, (parts.0, parts.2), text.1))
   | inr none ↦ (refused_line none.0, inr (none.0, none.1, refl))
 ]
 
 -- a list of moves after which lines come is a line
-pub after_line : (g : Geometry) (p : Placement) (n : ℕ) (lines rest : List (List Move)) (l : List Move) → Lines g p n lines → After lines l rest → Line g p n l
-after_line g p n lines rest l are (earlier, split) = (are.exactly l).0 (subst (Member l) (sym split) (mem_right l earlier (l ∷ rest) (inl refl)))
+pub after_line : (g : Geometry) (p : Placement) (n : ℕ) (lines rest : List (List Move)) (l : List Move)
+    → Lines g p n lines → After lines l rest → Line g p n l
+after_line g p n lines rest l are (earlier, split) = (are.exactly l).0
+    (subst (Member l) (sym split) (mem_right l earlier (l ∷ rest) (inl refl)))
 
-pub listed_only : LinesExist → LineOrPlace → LinesHaveTexts → MovesHaveKeys → (g : Geometry) (p : Placement) (n most : ℕ) (after : Option (List Move)) (text other : List ℕ) → IsListedText g p n most after text → IsListedText g p n most after other → text ≡ other
+pub listed_only : LinesExist → LineOrPlace → LinesHaveTexts → MovesHaveKeys
+    → (g : Geometry) (p : Placement) (n most : ℕ) (after : Option (List Move)) (text other : List ℕ)
+    → IsListedText g p n most after text → IsListedText g p n most after other → text ≡ other
 listed_only exist place law keys g p n most None text other (lines, are, is) (others, are', is') =
-    listing_only law g p most others text other (subst (λ (z : List (List Move)). IsListing g p most z text) (exist.only g p n lines others are are') is) is'
-listed_only exist place law keys g p n most (Some l) text other (inl (lines, rest, are, after, is)) (inl (others, rest', are', after', is')) =
+    listing_only law g p most others text other (subst (λ (z : List (List Move)). IsListing g p most z text)
+    (exist.only g p n lines others are are') is) is'
+listed_only exist place law keys g p n most (Some l) text other (inl (lines, rest, are, after, is))
+    (inl (others, rest', are', after', is')) =
     let same : lines ≡ others = exist.only g p n lines others are are' in
-    let rests : rest ≡ rest' = after_only (Before g p) (before_asym keys g p) l after.0 after'.0 rest rest' (subst (IsAscending (Before g p)) after.1 are.ascending) (sym after.1 ∙ (same ∙ after'.1)) in
-    listing_only law g p most rest' text other (subst (λ (z : List (List Move)). IsListing g p most z text) rests is) is'
-listed_only exist place law keys g p n most (Some l) text other (inl (lines, rest, are, after, is)) (inr (k, none, is')) = absurd (none.no_line (after_line g p n lines rest l are after))
-listed_only exist place law keys g p n most (Some l) text other (inr (k, none, is')) (inl (lines, rest, are, after, is)) = absurd (none.no_line (after_line g p n lines rest l are after))
+    let rests : rest ≡ rest' = after_only (Before g p) (before_asym keys g p) l after.0 after'.0 rest rest'
+    (subst (IsAscending (Before g p)) after.1 are.ascending) (sym after.1 ∙ (same ∙ after'.1)) in
+    listing_only law g p most rest' text other (subst (λ (z : List (List Move)). IsListing g p most z text) rests is)
+    is'
+listed_only exist place law keys g p n most (Some l) text other (inl (lines, rest, are, after, is))
+    (inr (k, none, is')) = absurd (none.no_line (after_line g p n lines rest l are after))
+listed_only exist place law keys g p n most (Some l) text other (inr (k, none, is'))
+    (inl (lines, rest, are, after, is)) = absurd (none.no_line (after_line g p n lines rest l are after))
 listed_only exist place law keys g p n most (Some l) text other (inr (j, none, is)) (inr (k, none', is')) =
     is ∙ (ap refused_line (place.only g p n l j k none none') ∙ sym is')

@@ -14,40 +14,58 @@ use Rattle.dw_report.specs.declared.settings.Command.{Command}
 use Rattle.dw_report.specs.declared.settings.Command.TheVariants.{Show, Moves, Judge, List as Lists}
 
 -- nothing was searched, and nothing stopped it
-pub searches_none : {M X : Type 0} (command : Command) (old new : Solving M) (r : Result X TextFault) → new ≡ old → old.expanded ≤ old.limit → ((why : Stop) → r ≡ Err (Stopped why) → ⊥) → SearchesFor command old new r
-searches_none {M} {X} command old new r same within none = subst (λ (z : Solving M). SearchesFor {M = M} {X = X} command old z r) (sym same) (at command) where
-  at : (command : Command) → SearchesFor {M = M} {X = X} command old old r
-  at Show = (refl, none)
-  at Moves = (refl, λ why e. absurd (none why e))
-  at Judge = record { count = record { rises = omega arith; within = within; same = refl }; limit = λ e. absurd (none stops.Limit e) }
-  at Lists = record { count = record { rises = omega arith; within = within; same = refl }; limit = λ e. absurd (none stops.Limit e) }
+pub searches_none : {M X : Type 0} (command : Command) (old new : Solving M) (r : Result X TextFault) → new ≡ old
+    → old.expanded ≤ old.limit → ((why : Stop) → r ≡ Err (Stopped why) → ⊥) → SearchesFor command old new r
+searches_none {M} {X} command old new r same within none = subst (λ (z : Solving M). SearchesFor {M = M} {X = X} command
+    old z r) (sym same) (at command) where
+      at : (command : Command) → SearchesFor {M = M} {X = X} command old old r
+      at Show = (refl, none)
+      at Moves = (refl, λ why e. absurd (none why e))
+      at Judge = record {
+        count = record { rises = omega arith; within = within; same = refl };
+        limit =
+            λ e. absurd (none stops.Limit e);
+      }
+      at Lists = record {
+        count = record { rises = omega arith; within = within; same = refl };
+        limit =
+            λ e. absurd (none stops.Limit e);
+      }
 
 pub sink_not_stopped : {X : Type 0} (r : Result X TextFault) → r ≡ Err Sink → (why : Stop) → r ≡ Err (Stopped why) → ⊥
 sink_not_stopped r e why f = cc
 
 -- what ends in the same way, or without a stop, was searched in the same way
-pub searches_as : {M X Y : Type 0} (command : Command) (old new : Solving M) (r : Result X TextFault) (s : Result Y TextFault) → ((why : Stop) → s ≡ Err (Stopped why) → r ≡ Err (Stopped why)) → SearchesFor command old new r → SearchesFor command old new s
+pub searches_as : {M X Y : Type 0} (command : Command) (old new : Solving M) (r : Result X TextFault)
+    (s : Result Y TextFault) → ((why : Stop) → s ≡ Err (Stopped why) → r ≡ Err (Stopped why))
+    → SearchesFor command old new r → SearchesFor command old new s
 searches_as Show old new r s to h = (h.0, λ why e. h.1 why (to why e))
 searches_as Moves old new r s to h = (h.0, λ why e. h.1 why (to why e))
 searches_as Judge old new r s to h = record { count = h.count; limit = λ e. h.limit (to stops.Limit e) }
 searches_as Lists old new r s to h = record { count = h.count; limit = λ e. h.limit (to stops.Limit e) }
 
 -- a fault that is handed on
-pub same_fault : {X Y : Type 0} (r : Result X TextFault) (s : Result Y TextFault) (fault other : TextFault) → r ≡ Err fault → s ≡ Err other → fault ≡ other → (why : Stop) → s ≡ Err (Stopped why) → r ≡ Err (Stopped why)
-same_fault r s fault other was is same why e = let stopped : other ≡ Stopped why = cc in was ∙ (ap Err same ∙ ap Err stopped)
+pub same_fault : {X Y : Type 0} (r : Result X TextFault) (s : Result Y TextFault) (fault other : TextFault)
+    → r ≡ Err fault → s ≡ Err other → fault ≡ other → (why : Stop) → s ≡ Err (Stopped why) → r ≡ Err (Stopped why)
+same_fault r s fault other was is same why e = let stopped : other ≡ Stopped why = cc in was
+    ∙ (ap Err same ∙ ap Err stopped)
 
 -- the limit stays, and where moves are listed the count does
-pub searches_keep : {M X : Type 0} (command : Command) (old new : Solving M) (r : Result X TextFault) → SearchesFor command old new r → (new.limit ≡ old.limit) × (command ≡ Moves → new.expanded ≡ old.expanded)
+pub searches_keep : {M X : Type 0} (command : Command) (old new : Solving M) (r : Result X TextFault)
+    → SearchesFor command old new r → (new.limit ≡ old.limit) × (command ≡ Moves → new.expanded ≡ old.expanded)
 searches_keep {M} Show old new r h = (ap (λ (s : Solving M). s.limit) h.0, λ e. ap (λ (s : Solving M). s.expanded) h.0)
 searches_keep {M} Moves old new r h = (ap (λ (s : Solving M). s.limit) h.0, λ e. ap (λ (s : Solving M). s.expanded) h.0)
 searches_keep Judge old new r h = (h.count.same, λ e. absurd (let bad : Judge ≡ Moves = e in cc))
 searches_keep Lists old new r h = (h.count.same, λ e. absurd (let bad : Lists ≡ Moves = e in cc))
 
-stops_search : {M X : Type 0} (old new : Solving M) (r : Result X TextFault) (why : Stop) → r ≡ Err (Stopped why) → Spends old new r → StopsSearch old.limit why new.expanded
+stops_search : {M X : Type 0} (old new : Solving M) (r : Result X TextFault) (why : Stop) → r ≡ Err (Stopped why)
+    → Spends old new r → StopsSearch old.limit why new.expanded
 stops_search old new r stops.Limit e h = h.limit e ∙ h.count.same
 stops_search old new r stops.Memory e h = h.count.within
 
-may_stop : {M X : Type 0} (command : Command) (old new : Solving M) (r : Result X TextFault) (why : Stop) → r ≡ Err (Stopped why) → SearchesFor command old new r → (command ≡ Moves → old.expanded ≡ 0) → MayStop command old.limit why new.expanded
+may_stop : {M X : Type 0} (command : Command) (old new : Solving M) (r : Result X TextFault) (why : Stop)
+    → r ≡ Err (Stopped why) → SearchesFor command old new r → (command ≡ Moves → old.expanded ≡ 0)
+    → MayStop command old.limit why new.expanded
 may_stop Show old new r why e h still = h.1 why e
 may_stop {M} Moves old new r why e h still = (h.1 why e, ap (λ (s : Solving M). s.expanded) h.0 ∙ still refl)
 may_stop Judge old new r why e h still = stops_search old new r why e h
@@ -56,13 +74,17 @@ may_stop Lists old new r why e h still = stops_search old new r why e h
 ends_apart : (r : Result Summary RunFault) (why : Stop) (n : ℕ) → r ≡ Err ends.Write → r ≡ Err (ends.Stopped why n) → ⊥
 ends_apart r why n e f = cc
 
-ends_same : (r : Result Summary RunFault) (w why : Stop) (n expanded : ℕ) → r ≡ Err (ends.Stopped w n) → r ≡ Err (ends.Stopped why expanded) → (w ≡ why) × (n ≡ expanded)
+ends_same : (r : Result Summary RunFault) (w why : Stop) (n expanded : ℕ) → r ≡ Err (ends.Stopped w n)
+    → r ≡ Err (ends.Stopped why expanded) → (w ≡ why) × (n ≡ expanded)
 ends_same r w why n expanded e f = let one : w ≡ why = cc in let two : n ≡ expanded = cc in (one, two)
 
 -- a run that ends with a fault stops rightly
-pub stops_rightly : {M X : Type 0} (command : Command) (limit : ℕ) (old new : Solving M) (r : Result X TextFault) (fault : TextFault) → r ≡ Err fault → SearchesFor command old new r → old.limit ≡ limit → (command ≡ Moves → old.expanded ≡ 0)
+pub stops_rightly : {M X : Type 0} (command : Command) (limit : ℕ) (old new : Solving M) (r : Result X TextFault)
+    (fault : TextFault) → r ≡ Err fault → SearchesFor command old new r → old.limit ≡ limit
+    → (command ≡ Moves → old.expanded ≡ 0)
     → StopsRightly command limit (Err (ended_by fault new.expanded))
-stops_rightly command limit old new r Sink e h same still = λ why expanded bad. absurd (ends_apart (Err ends.Write) why expanded refl bad)
+stops_rightly command limit old new r Sink e h same still = λ why expanded bad. absurd
+    (ends_apart (Err ends.Write) why expanded refl bad)
 stops_rightly command limit old new r (Stopped w) e h same still = λ why expanded is.
     let parts = ends_same (Err (ends.Stopped w new.expanded)) w why new.expanded expanded refl is in
     let may = subst (λ z. MayStop command z w new.expanded) same (may_stop command old new r w e h still) in

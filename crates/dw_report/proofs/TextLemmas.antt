@@ -11,7 +11,8 @@ use Rattle.dw_notation.specs.Problems.{Numbered}
 use Rattle.dw_notation.specs.TextLaws.{MovesHaveTexts, LinesHaveTexts}
 use Rattle.dw_list.specs.Laws.{LinesExist, LineOrPlace}
 use Rattle.dw_report.specs.Request.{Request}
-use Rattle.dw_report.specs.Report.{IsMovesText, IsSaid, IsFurther, IsProblemText, AreTexts, first_line, move_line, count_line}
+use Rattle.dw_report.specs.Report.{IsMovesText, IsSaid, IsFurther, IsProblemText, AreTexts, first_line, move_line}
+use Rattle.dw_report.specs.Report.{count_line}
 use Rattle.dw_report.specs.VerdictLaws.{OneVerdict, TriesAreListed}
 use Rattle.dw_report.specs.declared.settings.Command.{Command}
 use Rattle.dw_report.specs.declared.settings.Command.TheVariants.{Show, Moves, Judge, List as Lists}
@@ -30,53 +31,82 @@ pub record Laws : Type 0 where
   pub moves : MovesHaveTexts
   pub lines : LinesHaveTexts
 
-moves_some : MovesInOrder → OneBest → (g : Geometry) → IsBoard g → (p : Placement) → (text : List ℕ) × IsMovesText g p text
+moves_some : MovesInOrder → OneBest → (g : Geometry) → IsBoard g → (p : Placement) → (text : List ℕ)
+    × IsMovesText g p text
 moves_some order best g b p =
     let all = order.listed g b p in
-    let most = best.some g p in
-    (flat_map (move_line g p all.0) all.0 ++ count_line (length all.0) most.0, record { list = all.0; all = all.1; most = most.0; best = most.1; is = refl })
+    let most = best.some g p in (
+      flat_map (move_line g p all.0) all.0 ++ count_line (length all.0) most.0,
+      record {
+        list = all.0;
+        all = all.1;
+        most = most.0;
+        best = most.1;
+        is = refl;
+      },
+    )
 
-said_some : Laws → (g : Geometry) → IsBoard g → (command : Command) (request : Request) → 1 ≤ request.lines → (p : Placement) → (text : List ℕ) × IsSaid g command request p text
+said_some : Laws → (g : Geometry) → IsBoard g → (command : Command) (request : Request) → 1 ≤ request.lines
+    → (p : Placement) → (text : List ℕ) × IsSaid g command request p text
 said_some laws g b Show request some p = (diagram_text g p, refl)
 said_some laws g b Moves request some p = moves_some laws.order laws.best g b p
 said_some laws g b Judge request some p = judged_some laws.verdicts laws.tries laws.moves laws.lines g b p request.moves
-said_some laws g b Lists request some p = listed_some laws.exist laws.place laws.lines g b p request.moves request.lines request.after some
+said_some laws g b Lists request some p = listed_some laws.exist laws.place laws.lines g b p request.moves request.lines
+    request.after some
 
-further_some : Laws → (g : Geometry) → IsBoard g → (request : Request) → 1 ≤ request.lines → (found : Found) → (text : List ℕ) × IsFurther g request found text
+further_some : Laws → (g : Geometry) → IsBoard g → (request : Request) → 1 ≤ request.lines → (found : Found)
+    → (text : List ℕ) × IsFurther g request found text
 further_some laws g b request some (Ok p) = said_some laws g b request.command request some p
 further_some laws g b request some (Err fault) = ([], refl)
 
-problem_some : Laws → (g : Geometry) → IsBoard g → (request : Request) → 1 ≤ request.lines → (problem : Numbered) → (text : List ℕ) × IsProblemText g request problem text
+problem_some : Laws → (g : Geometry) → IsBoard g → (request : Request) → 1 ≤ request.lines → (problem : Numbered)
+    → (text : List ℕ) × IsProblemText g request problem text
 problem_some laws g b request some problem =
     let f = further_some laws g b request some problem.found in
     (first_line g problem ++ f.0, record { further = f.0; follows = f.1; is = refl })
 
-pub texts_some : Laws → (g : Geometry) → IsBoard g → (request : Request) → 1 ≤ request.lines → (problems : List Numbered) → (text : List ℕ) × AreTexts g request problems text
+pub texts_some : Laws → (g : Geometry) → IsBoard g → (request : Request) → 1 ≤ request.lines
+    → (problems : List Numbered) → (text : List ℕ) × AreTexts g request problems text
 texts_some laws g b request some [] = ([], refl)
 texts_some laws g b request some (problem ∷ problems) =
     let one = problem_some laws g b request some problem in
     let rest = texts_some laws g b request some problems in
     (one.0 ++ rest.0, (one.0, rest.0, one.1, rest.1, refl))
 
-moves_only : MovesInOrder → OneBest → (g : Geometry) (p : Placement) (text other : List ℕ) → IsMovesText g p text → IsMovesText g p other → text ≡ other
+moves_only : MovesInOrder → OneBest → (g : Geometry) (p : Placement) (text other : List ℕ) → IsMovesText g p text
+    → IsMovesText g p other → text ≡ other
 moves_only order best g p text other h k =
     let lists = order.same g p h.list k.list h.all k.all in
     let mosts = best.only g p h.most k.most h.best k.best in
-    h.is ∙ (ap (λ (z : List Listed). flat_map (move_line g p z) z ++ count_line (length z) h.most) lists ∙ (ap (λ n. flat_map (move_line g p k.list) k.list ++ count_line (length k.list) n) mosts ∙ sym k.is))
+    h.is ∙ (ap (λ (z : List Listed). flat_map (move_line g p z) z ++ count_line (length z) h.most) lists
+    ∙ (ap (λ n. flat_map (move_line g p k.list) k.list ++ count_line (length k.list) n) mosts ∙ sym k.is))
 
-said_only : Laws → (g : Geometry) → IsBoard g → (command : Command) (request : Request) (p : Placement) (text other : List ℕ) → IsSaid g command request p text → IsSaid g command request p other → text ≡ other
+said_only : Laws → (g : Geometry) → IsBoard g
+    → (command : Command) (request : Request) (p : Placement) (text other : List ℕ) → IsSaid g command request p text
+    → IsSaid g command request p other → text ≡ other
 said_only laws g b Show request p text other h k = h ∙ sym k
 said_only laws g b Moves request p text other h k = moves_only laws.order laws.best g p text other h k
-said_only laws g b Judge request p text other h k = judged_only laws.verdicts laws.tries laws.moves laws.lines g b p request.moves text other h k
-said_only laws g b Lists request p text other h k = listed_only laws.exist laws.place laws.lines laws.keys g p request.moves request.lines request.after text other h k
+said_only laws g b Judge request p text other h k = judged_only laws.verdicts laws.tries laws.moves laws.lines g b p
+    request.moves text other h k
+said_only laws g b Lists request p text other h k = listed_only laws.exist laws.place laws.lines laws.keys g p
+    request.moves request.lines request.after text other h k
 
-further_only : Laws → (g : Geometry) → IsBoard g → (request : Request) (found : Found) (text other : List ℕ) → IsFurther g request found text → IsFurther g request found other → text ≡ other
+further_only : Laws → (g : Geometry) → IsBoard g → (request : Request) (found : Found) (text other : List ℕ)
+    → IsFurther g request found text → IsFurther g request found other → text ≡ other
 further_only laws g b request (Ok p) text other h k = said_only laws g b request.command request p text other h k
 further_only laws g b request (Err fault) text other h k = h ∙ sym k
 
-pub texts_only : Laws → (g : Geometry) → IsBoard g → (request : Request) (problems : List Numbered) (text other : List ℕ) → AreTexts g request problems text → AreTexts g request problems other → text ≡ other
+pub texts_only : Laws → (g : Geometry) → IsBoard g
+    → (request : Request) (problems : List Numbered) (text other : List ℕ) → AreTexts g request problems text
+    → AreTexts g request problems other → text ≡ other
 texts_only laws g b request [] text other h k = h ∙ sym k
-texts_only laws g b request (problem ∷ problems) text other (one, rest, is, are, joined) (one', rest', is', are', joined') =
+texts_only laws g b request (problem ∷ problems) text other (one, rest, is, are, joined) (
+  one',
+  rest',
+  is',
+  are',
+  joined',
+) =
     let further = further_only laws g b request problem.found is.further is'.further is.follows is'.follows in
     let ones : one ≡ one' = is.is ∙ (ap (λ z. first_line g problem ++ z) further ∙ sym is'.is) in
     let rests = texts_only laws g b request problems rest rest' are are' in

@@ -1,5 +1,6 @@
 -- Lemmas on texts that are written piece by piece.
-use Rattle.std.proofs.Common.{◌≡◌, ℕ, List, [], ◌∷◌, ◌++◌, refl, sym, ap, ◌∙◌, subst, inl, append_assoc, append-nil, Option, Result, Ok, Err, true, false}
+use Rattle.std.proofs.Common.{◌≡◌, ℕ, List, [], ◌∷◌, ◌++◌, refl, sym, ap, ◌∙◌, subst, inl, append_assoc, append-nil}
+use Rattle.std.proofs.Common.{Option, Result, Ok, Err, true, false}
 use Rattle.std.specs.Io.KnownBytes.{Appends}
 use Rattle.std.proofs.KnownBytes.{Appends-trans, Appends-nil}
 use Rattle.dw_board.specs.Geometry.{Geometry}
@@ -20,14 +21,17 @@ use Rattle.dw_solve.specs.declared.stop.Stop.{Stop}
 use Rattle.dw_report.specs.declared.problem.TextFault.{TextFault}
 use Rattle.dw_report.specs.declared.problem.TextFault.TheVariants.{Stopped, Sink}
 
-pub at_stop : {X : Type 0} (P Part : List ℕ → Type 0) (old new : Option (List ℕ)) (result : Result X TextFault) (why : Stop) → result ≡ Err (Stopped why) → Writes Part old new → TextEnds P Part old new result
+pub at_stop : {X : Type 0} (P Part : List ℕ → Type 0) (old new : Option (List ℕ)) (result : Result X TextFault)
+    (why : Stop) → result ≡ Err (Stopped why) → Writes Part old new → TextEnds P Part old new result
 at_stop P Part old new result why e h = subst (TextEnds P Part old new) (sym e) h
 
-pub at_sink : {X : Type 0} (P Part : List ℕ → Type 0) (old new : Option (List ℕ)) (result : Result X TextFault) → result ≡ Err Sink → WritesShort P old new → TextEnds P Part old new result
+pub at_sink : {X : Type 0} (P Part : List ℕ → Type 0) (old new : Option (List ℕ)) (result : Result X TextFault)
+    → result ≡ Err Sink → WritesShort P old new → TextEnds P Part old new result
 at_sink P Part old new result e h = subst (TextEnds P Part old new) (sym e) h
 
 -- nothing is whole lines at the front of any text
-pub no_lines : (P : List ℕ → Type 0) → (text : List ℕ) × P text → (old : Option (List ℕ)) → Writes (AreLinesOf P) old old
+pub no_lines : (P : List ℕ → Type 0) → (text : List ℕ) × P text → (old : Option (List ℕ))
+    → Writes (AreLinesOf P) old old
 no_lines P some old = record {
   text = [];
   is = record { text = some.0; is = some.1; front = record { back = some.0; joined = refl }; whole = inl refl };
@@ -35,7 +39,8 @@ no_lines P some old = record {
 }
 
 -- a beginning of a piece inside a text
-pub begins_within : (before out piece after : List ℕ) → IsBeginning out piece → IsBeginning (before ++ out) ((before ++ piece) ++ after)
+pub begins_within : (before out piece after : List ℕ) → IsBeginning out piece
+    → IsBeginning (before ++ out) ((before ++ piece) ++ after)
 begins_within before out piece after h = record {
   back = h.back ++ after;
   joined =
@@ -45,7 +50,8 @@ begins_within before out piece after h = record {
 }
 
 -- a piece inside a text was cut short
-pub stops_within : (old mid new : Option (List ℕ)) (before piece after whole : List ℕ) → whole ≡ (before ++ piece) ++ after → Appends old mid before → StopsShort mid new piece → StopsShort old new whole
+pub stops_within : (old mid new : Option (List ℕ)) (before piece after whole : List ℕ)
+    → whole ≡ (before ++ piece) ++ after → Appends old mid before → StopsShort mid new piece → StopsShort old new whole
 stops_within old mid new before piece after whole split wrote stop = record {
   out = before ++ stop.out;
   taken = Appends-trans old mid new before stop.out wrote stop.taken;
@@ -53,15 +59,21 @@ stops_within old mid new before piece after whole split wrote stop = record {
 }
 
 -- what is known at once is the front of what follows a first line
-known_front : (g : Geometry) (request : Request) (found : Found) (command : Command) (text : List ℕ) → request.command ≡ command → IsFurther g request found text → (back : List ℕ) × (text ≡ at_once g found command ++ back)
+known_front : (g : Geometry) (request : Request) (found : Found) (command : Command) (text : List ℕ) → request.command
+    ≡ command → IsFurther g request found text → (back : List ℕ) × (text ≡ at_once g found command ++ back)
 known_front g request (Err fault) command text e h = (text, refl)
-known_front g request (Ok p) Show text e h = ([], subst (λ (c : Command). IsSaid g c request p text) e h ∙ sym (append-nil (diagram_text g p)))
+known_front g request (Ok p) Show text e h = (
+  [],
+  subst (λ (c : Command). IsSaid g c request p text) e h ∙ sym (append-nil (diagram_text g p)),
+)
 known_front g request (Ok p) Moves text e h = (text, refl)
 known_front g request (Ok p) Judge text e h = (text, refl)
 known_front g request (Ok p) Lists text e h = (text, refl)
 
 -- what is known at once was cut short
-pub known_short : (g : Geometry) (request : Request) (problem : Numbered) (old new : Option (List ℕ)) → (text : List ℕ) × AreTexts g request (problem ∷ []) text → StopsShort old new (first_line g problem ++ at_once g problem.found request.command)
+pub known_short : (g : Geometry) (request : Request) (problem : Numbered) (old new : Option (List ℕ)) → (text : List ℕ)
+    × AreTexts g request (problem ∷ []) text
+    → StopsShort old new (first_line g problem ++ at_once g problem.found request.command)
     → WritesShort (IsProblemText g request problem) old new
 known_short g request problem old new some stop =
     let one = some.1.0 in
@@ -69,7 +81,8 @@ known_short g request problem old new some stop =
     let line = first_line g problem in
     let known = at_once g problem.found request.command in
     let front = known_front g request problem.found request.command is.further refl is.follows in
-    let whole : one ≡ (line ++ known) ++ front.0 = is.is ∙ (ap (λ z. line ++ z) front.1 ∙ sym (append_assoc line known front.0)) in
+    let whole : one ≡ (line ++ known) ++ front.0 = is.is
+    ∙ (ap (λ z. line ++ z) front.1 ∙ sym (append_assoc line known front.0)) in
     record {
       text = one;
       is = is;
@@ -77,28 +90,39 @@ known_short g request problem old new some stop =
     }
 
 -- what is known at once, and what is said behind that
-said_all : (g : Geometry) (request : Request) (p : Placement) (command : Command) (text : List ℕ) → IsSaidThen g command request p text → IsSaid g command request p (at_once g (Ok p) command ++ text)
+said_all : (g : Geometry) (request : Request) (p : Placement) (command : Command) (text : List ℕ)
+    → IsSaidThen g command request p text → IsSaid g command request p (at_once g (Ok p) command ++ text)
 said_all g request p Show text h = ap (λ z. diagram_text g p ++ z) h ∙ append-nil (diagram_text g p)
 said_all g request p Moves text h = h
 said_all g request p Judge text h = h
 said_all g request p Lists text h = h
 
-part_all : (g : Geometry) (request : Request) (p : Placement) (command : Command) (lines : List ℕ) → (command ≡ Show → ⊥) → AreLinesOf (IsSaidThen g command request p) lines → AreLinesOf (IsSaid g command request p) (at_once g (Ok p) command ++ lines)
+part_all : (g : Geometry) (request : Request) (p : Placement) (command : Command) (lines : List ℕ)
+    → (command ≡ Show → ⊥) → AreLinesOf (IsSaidThen g command request p) lines
+    → AreLinesOf (IsSaid g command request p) (at_once g (Ok p) command ++ lines)
 part_all g request p Show lines other h = absurd (other refl)
 part_all g request p Moves lines other h = h
 part_all g request p Judge lines other h = h
 part_all g request p Lists lines other h = h
 
 -- behind what is known at once the rest is written
-rest_behind : {X : Type 0} (g : Geometry) (request : Request) (problem : Numbered) (p : Placement) (old mid new : Option (List ℕ)) (result : Result X TextFault) → problem.found ≡ Ok p
-    → Appends old mid (first_line g problem ++ at_once g (Ok p) request.command) → (request.command ≡ Show → (why : Stop) → result ≡ Err (Stopped why) → ⊥)
-    → TextEnds (IsRest g request p) (AreLinesOf (IsRest g request p)) mid new result → TextEnds (IsProblemText g request problem) (IsProblemPart g request problem) old new result
+rest_behind : {X : Type 0} (g : Geometry) (request : Request) (problem : Numbered) (p : Placement)
+    (old mid new : Option (List ℕ)) (result : Result X TextFault) → problem.found ≡ Ok p
+    → Appends old mid (first_line g problem ++ at_once g (Ok p) request.command)
+    → (request.command ≡ Show → (why : Stop) → result ≡ Err (Stopped why) → ⊥)
+    → TextEnds (IsRest g request p) (AreLinesOf (IsRest g request p)) mid new result
+    → TextEnds (IsProblemText g request problem) (IsProblemPart g request problem) old new result
 rest_behind g request problem p old mid new (Ok x) found first goes h =
     let line = first_line g problem in
     let known = at_once g (Ok p) request.command in
     record {
       text = (line ++ known) ++ h.text;
-      is = record { further = known ++ h.text; follows = subst (λ f. IsFurther g request f (known ++ h.text)) (sym found) (said_all g request p request.command h.text h.is); is = append_assoc line known h.text };
+      is = record {
+        further = known ++ h.text;
+        follows = subst (λ f. IsFurther g request f (known ++ h.text))
+            (sym found) (said_all g request p request.command h.text h.is);
+        is = append_assoc line known h.text;
+      };
       wrote = Appends-trans old mid new (line ++ known) h.text first h.wrote;
     }
 rest_behind g request problem p old mid new (Err (Stopped why)) found first goes h =
@@ -106,7 +130,12 @@ rest_behind g request problem p old mid new (Err (Stopped why)) found first goes
     let known = at_once g (Ok p) request.command in
     record {
       text = (line ++ known) ++ h.text;
-      is = record { lines = known ++ h.text; are = subst (λ f. AreLinesOf (IsFurther g request f) (known ++ h.text)) (sym found) (part_all g request p request.command h.text (λ e. goes e why refl) h.is); is = append_assoc line known h.text };
+      is = record {
+        lines = known ++ h.text;
+        are = subst (λ f. AreLinesOf (IsFurther g request f) (known ++ h.text))
+            (sym found) (part_all g request p request.command h.text (λ e. goes e why refl) h.is);
+        is = append_assoc line known h.text;
+      };
       wrote = Appends-trans old mid new (line ++ known) h.text first h.wrote;
     }
 rest_behind g request problem p old mid new (Err Sink) found first goes h =
@@ -114,41 +143,88 @@ rest_behind g request problem p old mid new (Err Sink) found first goes h =
     let known = at_once g (Ok p) request.command in
     record {
       text = (line ++ known) ++ h.text;
-      is = record { further = known ++ h.text; follows = subst (λ f. IsFurther g request f (known ++ h.text)) (sym found) (said_all g request p request.command h.text h.is); is = append_assoc line known h.text };
-      stops = stops_within old mid new (line ++ known) h.text [] ((line ++ known) ++ h.text) (sym (append-nil ((line ++ known) ++ h.text))) first h.stops;
+      is = record {
+        further = known ++ h.text;
+        follows = subst (λ f. IsFurther g request f (known ++ h.text))
+            (sym found) (said_all g request p request.command h.text h.is);
+        is = append_assoc line known h.text;
+      };
+      stops = stops_within old mid new (line ++ known) h.text [] ((line ++ known) ++ h.text)
+          (sym (append-nil ((line ++ known) ++ h.text))) first h.stops;
     }
 
 -- the same of the command that is asked for, which does not stop where positions are shown
-pub problem_ends : {M X : Type 0} (g : Geometry) (request : Request) (problem : Numbered) (p : Placement) (old mid new : Option (List ℕ)) (was now : Solving M) (result : Result X TextFault) → problem.found ≡ Ok p
-    → Appends old mid (first_line g problem ++ at_once g problem.found request.command) → SearchesFor request.command was now result
-    → TextEnds (IsRest g request p) (AreLinesOf (IsRest g request p)) mid new result → TextEnds (IsProblemText g request problem) (IsProblemPart g request problem) old new result
+pub problem_ends : {M X : Type 0} (g : Geometry) (request : Request) (problem : Numbered) (p : Placement)
+    (old mid new : Option (List ℕ)) (was now : Solving M) (result : Result X TextFault) → problem.found ≡ Ok p
+    → Appends old mid (first_line g problem ++ at_once g problem.found request.command)
+    → SearchesFor request.command was now result
+    → TextEnds (IsRest g request p) (AreLinesOf (IsRest g request p)) mid new result
+    → TextEnds (IsProblemText g request problem) (IsProblemPart g request problem) old new result
 problem_ends {M = M} {X = X} g request problem p old mid new was now result found first searches h =
-    rest_behind g request problem p old mid new result found (subst (λ f. Appends old mid (first_line g problem ++ at_once g f request.command)) found first)
+    rest_behind g request problem p old mid new result found
+    (subst (λ f. Appends old mid (first_line g problem ++ at_once g f request.command)) found first)
     (λ e. (subst (λ (c : Command). SearchesFor {M = M} {X = X} c was now result) e searches).1) h
 
 -- a fault handed on says the same of a text that this one makes up
-pub fault_stays : {X Y : Type 0} (P Q Part Piece : List ℕ → Type 0) (old new : Option (List ℕ)) (r : Result X TextFault) (s : Result Y TextFault) (fault other : TextFault) → r ≡ Err fault → s ≡ Err other → fault ≡ other
-    → ((text : List ℕ) → P text → Q text) → ((text : List ℕ) → Part text → Piece text) → TextEnds P Part old new r → TextEnds Q Piece old new s
-fault_stays {X = X} P Q Part Piece old new r s fault other was is same to part h = at_fault fault (is ∙ ap Err (sym same)) (subst (TextEnds P Part old new) was h) where
-  at_fault : (fault : TextFault) → s ≡ Err fault → TextEnds {X = X} P Part old new (Err fault) → TextEnds Q Piece old new s
-  at_fault (Stopped why) e h = at_stop Q Piece old new s why e (record { text = h.text; is = part h.text h.is; wrote = h.wrote })
-  at_fault Sink e h = at_sink Q Piece old new s e (record { text = h.text; is = to h.text h.is; stops = h.stops })
+pub fault_stays : {X Y : Type 0} (P Q Part Piece : List ℕ → Type 0) (old new : Option (List ℕ)) (r : Result X TextFault)
+    (s : Result Y TextFault) (fault other : TextFault) → r ≡ Err fault → s ≡ Err other → fault ≡ other
+    → ((text : List ℕ) → P text → Q text) → ((text : List ℕ) → Part text → Piece text) → TextEnds P Part old new r
+    → TextEnds Q Piece old new s
+fault_stays {X = X} P Q Part Piece old new r s fault other was is same to part h = at_fault fault (is
+    ∙ ap Err (sym same)) (subst (TextEnds P Part old new) was h) where
+      at_fault : (fault : TextFault) → s ≡ Err fault → TextEnds {X = X} P Part old new (Err fault)
+          → TextEnds Q Piece old new s
+      at_fault (Stopped why) e h = at_stop Q Piece old new s why e (record {
+        text = h.text;
+        is = part h.text h.is;
+        wrote =
+            h.wrote;
+      })
+      at_fault Sink e h = at_sink Q Piece old new s e (record { text = h.text; is = to h.text h.is; stops = h.stops })
 
 -- the problem is chosen
-pub chosen_one : (only : Option ℕ) (problem : Numbered) → number_is_chosen only problem.number ≡ true → chosen only (problem ∷ []) ≡ problem ∷ []
+pub chosen_one : (only : Option ℕ) (problem : Numbered) → number_is_chosen only problem.number ≡ true
+    → chosen only (problem ∷ []) ≡ problem ∷ []
 chosen_one only problem e = rw e refl
 
-pub chosen_none : (only : Option ℕ) (problem : Numbered) → number_is_chosen only problem.number ≡ false → chosen only (problem ∷ []) ≡ []
+pub chosen_none : (only : Option ℕ) (problem : Numbered) → number_is_chosen only problem.number ≡ false
+    → chosen only (problem ∷ []) ≡ []
 chosen_none only problem e = rw e refl
 
-pub one_report_on : (g : Geometry) (request : Request) (problem : Numbered) → number_is_chosen request.only problem.number ≡ true → (text : List ℕ) → IsProblemText g request problem text → IsReportOn g request (problem ∷ []) text
-one_report_on g request problem e text h = subst (λ l. AreTexts g request l text) (sym (chosen_one request.only problem e)) (text, [], h, refl, sym (append-nil text))
+pub one_report_on : (g : Geometry) (request : Request) (problem : Numbered)
+    → number_is_chosen request.only problem.number ≡ true → (text : List ℕ) → IsProblemText g request problem text
+    → IsReportOn g request (problem ∷ []) text
+one_report_on g request problem e text h = subst (λ l. AreTexts g request l text)
+    (sym (chosen_one request.only problem e)) (text, [], h, refl, sym (append-nil text))
 
-pub one_part_on : (g : Geometry) (request : Request) (problem : Numbered) → number_is_chosen request.only problem.number ≡ true → (text : List ℕ) → IsProblemPart g request problem text → IsPartOn g request (problem ∷ []) text
-one_part_on g request problem e text h = record { before = []; problem = problem; behind = []; are = chosen_one request.only problem e; texts = []; whole = refl; last = text; part = h; is = refl }
+pub one_part_on : (g : Geometry) (request : Request) (problem : Numbered) → number_is_chosen request.only problem.number
+    ≡ true → (text : List ℕ) → IsProblemPart g request problem text → IsPartOn g request (problem ∷ []) text
+one_part_on g request problem e text h = record {
+  before = [];
+  problem = problem;
+  behind = [];
+  are =
+      chosen_one request.only problem e;
+  texts = [];
+  whole = refl;
+  last = text;
+  part = h;
+  is = refl;
+}
 
-pub no_report_on : (g : Geometry) (request : Request) (problem : Numbered) (old : Option (List ℕ)) → number_is_chosen request.only problem.number ≡ false → Writes (IsReportOn g request (problem ∷ [])) old old
-no_report_on g request problem old e = record { text = []; is = subst (λ l. AreTexts g request l []) (sym (chosen_none request.only problem e)) refl; wrote = Appends-nil old }
+pub no_report_on : (g : Geometry) (request : Request) (problem : Numbered) (old : Option (List ℕ))
+    → number_is_chosen request.only problem.number ≡ false → Writes (IsReportOn g request (problem ∷ [])) old old
+no_report_on g request problem old e = record {
+  text = [];
+  is = subst (λ l. AreTexts g request l []) (sym (chosen_none request.only problem e)) refl;
+  wrote = Appends-nil old;
+}
 
-pub chosen_report_on : (g : Geometry) (request : Request) (problem : Numbered) (old new : Option (List ℕ)) → number_is_chosen request.only problem.number ≡ true → Writes (IsProblemText g request problem) old new → Writes (IsReportOn g request (problem ∷ [])) old new
-chosen_report_on g request problem old new e h = record { text = h.text; is = one_report_on g request problem e h.text h.is; wrote = h.wrote }
+pub chosen_report_on : (g : Geometry) (request : Request) (problem : Numbered) (old new : Option (List ℕ))
+    → number_is_chosen request.only problem.number ≡ true → Writes (IsProblemText g request problem) old new
+    → Writes (IsReportOn g request (problem ∷ [])) old new
+chosen_report_on g request problem old new e h = record {
+  text = h.text;
+  is = one_report_on g request problem e h.text h.is;
+  wrote = h.wrote;
+}

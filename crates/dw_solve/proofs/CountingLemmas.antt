@@ -1,5 +1,6 @@
 -- How many positions a content decides.
-use Rattle.std.proofs.Common.{◌≡◌, ℕ, ◌+◌, ◌≤◌, zero, suc, List, [], ◌∷◌, length, map, refl, sym, subst, inl, inr, arith, true, ◌↔◌}
+use Rattle.std.proofs.Common.{◌≡◌, ℕ, ◌+◌, ◌≤◌, zero, suc, List, [], ◌∷◌, length, map, refl, sym, subst, inl, inr}
+use Rattle.std.proofs.Common.{arith, true, ◌↔◌}
 use Rattle.std.specs.Prelude.{filter}
 use Rattle.std.proofs.lemmas.Bool.{cases_Bool, le-leb, or_cases, or_left, or_right}
 use Rattle.dw_board.specs.Placement.{Placement}
@@ -43,12 +44,14 @@ decided_from c p n m =
     let k = mem_filter_back (λ (e : Entry). decides e.bounds n) w.0 c w.1 in
     let e : Entry = w.0 in
     let held : Member (entry e.position e.bounds) c = k.0 in
-    subst (λ q. IsDecided c q n) (sym w.2) (elim (or_cases (wins_decide e.bounds.wins n) (fails_decide e.bounds.fails n) k.1) [
+    subst (λ q. IsDecided c q n) (sym w.2) (elim (or_cases (wins_decide e.bounds.wins n) (fails_decide e.bounds.fails n)
+    k.1) [
       | inl t ↦ inl (wins_known c e.position e.bounds n held t)
       | inr t ↦ inr (fails_known c e.position e.bounds n held t)
     ])
 
-held_decides : (c : Content) (e : Entry) (p : Placement) (n : ℕ) → Member e c → e.position ≡ p → decides e.bounds n ≡ true → Member p (decided_list c n)
+held_decides : (c : Content) (e : Entry) (p : Placement) (n : ℕ) → Member e c → e.position ≡ p → decides e.bounds n
+    ≡ true → Member p (decided_list c n)
 held_decides c e p n m about t =
     subst (λ z. Member z (decided_list c n)) about
     (mem_map (λ (e : Entry). e.position) e (deciding c n) (mem_filter (λ (e : Entry). decides e.bounds n) e c m t))
@@ -63,7 +66,8 @@ decided_in c p n (inr h) =
     let t : fails_decide e.bounds.fails n ≡ true = rw h.is (le-leb n h.bound h.enough) in
     held_decides c e p n h.held h.about (or_right (wins_decide e.bounds.wins n) (fails_decide e.bounds.fails n) t)
 
-pub decided_counted : (c : Content) (n : ℕ) → IsMap c → (ps : List Placement) × NoRepeat ps × ((p : Placement) → Member p ps ↔ IsDecided c p n) × (length ps ≡ decided_at c n)
+pub decided_counted : (c : Content) (n : ℕ) → IsMap c → (ps : List Placement) × NoRepeat ps
+    × ((p : Placement) → Member p ps ↔ IsDecided c p n) × (length ps ≡ decided_at c n)
 decided_counted c n u =
     let ps = decided_list c n in (
       ps,
@@ -88,9 +92,13 @@ decided_grows old new n u s =
     )
 
 -- and more, where one more position is decided
-pub decided_rises : (old new : Content) (p : Placement) (n : ℕ) → IsMap old → Stronger old new → (IsDecided old p n → ⊥) → IsDecided new p n → 1 + decided_at old n ≤ decided_at new n
+pub decided_rises : (old new : Content) (p : Placement) (n : ℕ) → IsMap old → Stronger old new → (IsDecided old p n → ⊥)
+    → IsDecided new p n → 1 + decided_at old n ≤ decided_at new n
 decided_rises old new p n u s unknown known =
-    let longer = no_more (p ∷ decided_list old n) (decided_list new n) ((λ m. unknown (decided_from old p n m)), decided_once old n u)
+    let longer = no_more (p ∷ decided_list old n) (decided_list new n) (
+      (λ m. unknown (decided_from old p n m)),
+      decided_once old n u,
+    )
     (λ q m. elim m [
       | inl e ↦ subst (λ z. Member z (decided_list new n)) (sym e) (decided_in new p n known)
       | inr m' ↦ decided_in new q n (stays_decided old new q n s (decided_from old q n m'))

@@ -1,5 +1,6 @@
 -- The last move of the attacker: it wins if it leaves no reply.
-use Rattle.std.proofs.Common.{◌≡◌, ℕ, ◌+◌, ◌≤◌, ◌<◌, List, length, get_or, refl, sym, ◌∙◌, subst, inl, inr, ◌↔◌, arith, Bool, true, false}
+use Rattle.std.proofs.Common.{◌≡◌, ℕ, ◌+◌, ◌≤◌, ◌<◌, List, length, get_or, refl, sym, ◌∙◌, subst, inl, inr, ◌↔◌, arith}
+use Rattle.std.proofs.Common.{Bool, true, false}
 use Rattle.std.specs.Prelude.{IsTrue}
 use Rattle.std.proofs.lemmas.Bool.{true≢false}
 use Rattle.dw_board.specs.Geometry.{Geometry}
@@ -15,7 +16,9 @@ use Rattle.dw_solve.proofs.RankLemmas.{get_same, index_of, split}
 abbrev pub Replied : Geometry → Placement → List Move → ℕ → Type 0
 Replied g p moves i = (k : ℕ) (m : Move) → k < i → m ≡ get_or moves k m → (r : Move) × Legal g (play g p m) r
 
-pub replied_more : (g : Geometry) (p q : Placement) (moves : List Move) (i : ℕ) (m : Move) (has : Bool) → Replied g p moves i → i < length moves → m ≡ get_or moves i m → q ≡ play g p m → IsTrue has ↔ ((r : Move) × Legal g q r) → has ≡ true
+pub replied_more : (g : Geometry) (p q : Placement) (moves : List Move) (i : ℕ) (m : Move) (has : Bool)
+    → Replied g p moves i → i < length moves → m ≡ get_or moves i m → q ≡ play g p m → IsTrue has
+    ↔ ((r : Move) × Legal g q r) → has ≡ true
     → Replied g p moves (i + 1)
 replied_more g p q moves i m has h low is q_is some there k n under e = elim (split k i under) [
   | inl at ↦
@@ -25,13 +28,15 @@ replied_more g p q moves i m has h low is q_is some there k n under e = elim (sp
   | inr less ↦ h k n less e
 ]
 
-pub last_lost : (g : Geometry) (p : Placement) (moves : List Move) (i : ℕ) → AreLegal g p moves → length moves ≤ i → Replied g p moves i → IsLastWin g p false
+pub last_lost : (g : Geometry) (p : Placement) (moves : List Move) (i : ℕ) → AreLegal g p moves → length moves ≤ i
+    → Replied g p moves i → IsLastWin g p false
 last_lost g p moves i legal end h = record {
   when = λ e. absurd (true≢false (sym e));
   unless = λ _ m l. let k = index_of m moves ((legal.exactly m).1 l) in h k.0 m (omega (arith, k.1, end)) k.2;
 }
 
-pub last_won : (g : Geometry) (p q : Placement) (m : Move) (has : Bool) → Legal g p m → q ≡ play g p m → IsTrue has ↔ ((r : Move) × Legal g q r) → has ≡ false → IsLastWin g p true
+pub last_won : (g : Geometry) (p q : Placement) (m : Move) (has : Bool) → Legal g p m → q ≡ play g p m → IsTrue has
+    ↔ ((r : Move) × Legal g q r) → has ≡ false → IsLastWin g p true
 last_won g p q m has l q_is some none = record {
   when = λ _. (m, l, λ r reply. true≢false (sym (some.1 (r, subst (λ z. Legal g z r) (sym q_is) reply)) ∙ none));
   unless = λ e. absurd (e refl);
@@ -45,7 +50,8 @@ last_answer g p false h = (
   (λ w. let r = h.unless (λ e. true≢false (sym e)) w.0 w.1 in absurd (w.2 r.0 r.1)),
 )
 
-pub says_last : (g : Geometry) (c : Content) (p : Placement) (answer : Bool) → IsLastWin g p answer → SaysMove g c p 0 answer
+pub says_last : (g : Geometry) (c : Content) (p : Placement) (answer : Bool) → IsLastWin g p answer
+    → SaysMove g c p 0 answer
 says_last g c p answer h = record {
   when = λ e. let w = h.when e in (w.0, w.1, λ r l. absurd (w.2 r l));
   unless = λ e m l. let r = h.unless e m l in (r.0, r.1, inl refl);

@@ -1,5 +1,6 @@
 -- Lists of ranked moves.
-use Rattle.std.proofs.Common.{◌≡◌, ℕ, ◌+◌, ◌≤◌, ◌<◌, zero, suc, List, [], ◌∷◌, ◌++◌, length, map, take, get_or, refl, sym, ap, ◌∙◌, subst, ◌⊎◌, ◌↔◌, false, inl, inr, arith}
+use Rattle.std.proofs.Common.{◌≡◌, ℕ, ◌+◌, ◌≤◌, ◌<◌, zero, suc, List, [], ◌∷◌, ◌++◌, length, map, take, get_or, refl}
+use Rattle.std.proofs.Common.{sym, ap, ◌∙◌, subst, ◌⊎◌, ◌↔◌, false, inl, inr, arith}
 use Rattle.std.specs.Prelude.{Contains}
 use Rattle.std.specs.List.Sorted.{IsPermutation}
 use Rattle.std.specs.List.{IsDistinct, AllByRecursion}
@@ -39,22 +40,28 @@ abbrev pub steps : List (ℕ × Move) → List Move
 steps ranked = map (λ r. r.1) ranked
 
 -- the legal moves are those that stand there with some rank
-ranked_members : (g : Geometry) (p : Placement) (ranked : List (ℕ × Move)) → AreRanked g p ranked → (m : Move) → Legal g p m ↔ ((rank : ℕ) × Contains ranked (rank, m))
+ranked_members : (g : Geometry) (p : Placement) (ranked : List (ℕ × Move)) → AreRanked g p ranked → (m : Move)
+    → Legal g p m ↔ ((rank : ℕ) × Contains ranked (rank, m))
 ranked_members g p ranked all m = (
   (λ l.
       let f = mem_map_back (λ (r : ℕ × Move). r.1) m ranked ((all.exactly m).1 l) in
       let k = index_of f.0 ranked f.1 in
       (f.0.0, subst (λ z. Contains ranked (f.0.0, z)) (sym f.2) (k.0, k.1, sym k.2))),
-  (λ c. (all.exactly m).0 (mem_map (λ (r : ℕ × Move). r.1) (c.0, m) ranked (member_at ranked c.1.0 (c.0, m) c.1.1 (sym c.1.2)))),
+  (λ c. (all.exactly m).0 (mem_map (λ (r : ℕ × Move). r.1) (c.0, m) ranked (member_at ranked c.1.0 (c.0, m) c.1.1
+      (sym c.1.2)))),
 )
 
 -- one more move, with its rank
-pub ranked_more : (moves : List Move) (ranked : List (ℕ × Move)) (i rank : ℕ) (m : Move) → steps ranked ≡ take i moves → i < length moves → m ≡ get_or moves i m → steps (ranked ++ (rank, m) ∷ []) ≡ take (i + 1) moves
+pub ranked_more : (moves : List Move) (ranked : List (ℕ × Move)) (i rank : ℕ) (m : Move) → steps ranked ≡ take i moves
+    → i < length moves → m ≡ get_or moves i m → steps (ranked ++ (rank, m) ∷ []) ≡ take (i + 1) moves
 ranked_more moves ranked i rank m h low is =
     let next = take-suc moves i m low in
-    map-append (λ (r : ℕ × Move). r.1) ranked ((rank, m) ∷ []) ∙ (ap (λ z. z ++ m ∷ []) h ∙ (ap (λ z. take i moves ++ z ∷ []) is ∙ (sym next ∙ ap (λ n. take n moves) (sym (add-one i)))))
+    map-append (λ (r : ℕ × Move). r.1) ranked ((rank, m) ∷ [])
+    ∙ (ap (λ z. z ++ m ∷ []) h ∙ (ap (λ z. take i moves ++ z ∷ []) is
+    ∙ (sym next ∙ ap (λ n. take n moves) (sym (add-one i)))))
 
-pub ranked_all : (g : Geometry) (p : Placement) (moves : List Move) (ranked : List (ℕ × Move)) (i : ℕ) → AreLegal g p moves → steps ranked ≡ take i moves → length moves ≤ i → AreRanked g p ranked
+pub ranked_all : (g : Geometry) (p : Placement) (moves : List Move) (ranked : List (ℕ × Move)) (i : ℕ)
+    → AreLegal g p moves → steps ranked ≡ take i moves → length moves ≤ i → AreRanked g p ranked
 ranked_all g p moves ranked i legal h end = subst (AreLegal g p) (sym (h ∙ take_all i moves end)) legal
 
 -- ---- another order
@@ -96,19 +103,23 @@ still_there xs ys moved x m =
     member_at ys c.0 x c.1 (sym c.2)
 
 -- they may stand in any order
-pub ranked_anyhow : (g : Geometry) (p : Placement) (ranked sorted : List (ℕ × Move)) → AreRanked g p ranked → IsPermutation ranked sorted → AreRanked g p sorted
+pub ranked_anyhow : (g : Geometry) (p : Placement) (ranked sorted : List (ℕ × Move)) → AreRanked g p ranked
+    → IsPermutation ranked sorted → AreRanked g p sorted
 ranked_anyhow g p ranked sorted all moved =
     let there = IsPermutation-map (λ (r : ℕ × Move). r.1) ranked sorted moved in
     record {
       exactly = λ m. (
-        (λ k. (all.exactly m).0 (still_there (steps sorted) (steps ranked) (IsPermutation-sym (steps ranked) (steps sorted) there) m k)),
+        (λ k. (all.exactly m).0 (still_there (steps sorted) (steps ranked)
+            (IsPermutation-sym (steps ranked) (steps sorted) there) m k)),
         (λ l. still_there (steps ranked) (steps sorted) there m ((all.exactly m).1 l)),
       );
-      once = no_repeat (steps sorted) (IsDistinct-IsPermutation same_moves same_flip (steps ranked) (steps sorted) there (distinct (steps ranked) all.once));
+      once = no_repeat (steps sorted) (IsDistinct-IsPermutation same_moves same_flip (steps ranked) (steps sorted) there
+          (distinct (steps ranked) all.once));
     }
 
 -- what stands at an index is a legal move
-pub ranked_legal : (g : Geometry) (p : Placement) (ranked : List (ℕ × Move)) (i : ℕ) (x : ℕ × Move) → AreRanked g p ranked → i < length ranked → x ≡ get_or ranked i x → Legal g p x.1
+pub ranked_legal : (g : Geometry) (p : Placement) (ranked : List (ℕ × Move)) (i : ℕ) (x : ℕ × Move)
+    → AreRanked g p ranked → i < length ranked → x ≡ get_or ranked i x → Legal g p x.1
 ranked_legal g p ranked i x all low is = (ranked_members g p ranked all x.1).1 (x.0, (i, low, sym is))
 
 pub split : (k i : ℕ) → k < i + 1 → (k ≡ i) ⊎ (k < i)
@@ -121,7 +132,8 @@ Below P ranked i = (k : ℕ) (x : ℕ × Move) → k < i → x ≡ get_or ranked
 pub below_none : (P : Move → Type 0) (ranked : List (ℕ × Move)) → Below P ranked 0
 below_none P ranked k x low e = absurd (omega (arith, low))
 
-pub below_more : (P : Move → Type 0) (ranked : List (ℕ × Move)) (i : ℕ) (x : ℕ × Move) → Below P ranked i → i < length ranked → x ≡ get_or ranked i x → P x.1 → Below P ranked (i + 1)
+pub below_more : (P : Move → Type 0) (ranked : List (ℕ × Move)) (i : ℕ) (x : ℕ × Move) → Below P ranked i
+    → i < length ranked → x ≡ get_or ranked i x → P x.1 → Below P ranked (i + 1)
 below_more P ranked i x h low is here k y under e = elim (split k i under) [
   | inl q ↦
       let at_i : y ≡ get_or ranked i y = subst (λ z. y ≡ get_or ranked z y) q e in
@@ -131,7 +143,8 @@ below_more P ranked i x h low is here k y under e = elim (split k i under) [
 ]
 
 -- and so of each legal move
-pub below_all : (g : Geometry) (p : Placement) (P : Move → Type 0) (ranked : List (ℕ × Move)) (i : ℕ) → AreRanked g p ranked → length ranked ≤ i → Below P ranked i → (m : Move) → Legal g p m → P m
+pub below_all : (g : Geometry) (p : Placement) (P : Move → Type 0) (ranked : List (ℕ × Move)) (i : ℕ)
+    → AreRanked g p ranked → length ranked ≤ i → Below P ranked i → (m : Move) → Legal g p m → P m
 below_all g p P ranked i all end h m legal =
     let c = (ranked_members g p ranked all m).0 legal in
     h c.1.0 (c.0, m) (omega (arith, c.1.1, end)) (sym c.1.2)
@@ -146,7 +159,8 @@ AllWon g q n ranked i = Below (λ r. Win g (play g q r) n) ranked i
 pub win_by : (g : Geometry) (p : Placement) (n : ℕ) (m : Move) → Legal g p m → Lost g (play g p m) n → Win g p (n + 1)
 win_by g p n m legal lost = rw add-one (m, legal, lost)
 
-pub never_won : (g : Geometry) (p : Placement) (n : ℕ) (ranked : List (ℕ × Move)) (i : ℕ) → AreRanked g p ranked → length ranked ≤ i → NoneLost g p n ranked i → Win g p (n + 1) → ⊥
+pub never_won : (g : Geometry) (p : Placement) (n : ℕ) (ranked : List (ℕ × Move)) (i : ℕ) → AreRanked g p ranked
+    → length ranked ≤ i → NoneLost g p n ranked i → Win g p (n + 1) → ⊥
 never_won g p n ranked i all end none w =
     let w' : Win g p (suc n) = rw add-one at w in
     below_all g p (λ m. Lost g (play g p m) n → ⊥) ranked i all end none w'.0 w'.1 w'.2

@@ -1,5 +1,6 @@
 -- Steps of a search.
-use Rattle.std.proofs.Common.{◌≡◌, ℕ, ◌+◌, ◌≤◌, ◌<◌, ◌⊎◌, inl, inr, Bool, true, false, refl, sym, ◌∙◌, subst, ◌↔◌, arith, IsTrue, Ok, Err}
+use Rattle.std.proofs.Common.{◌≡◌, ℕ, ◌+◌, ◌≤◌, ◌<◌, ◌⊎◌, inl, inr, Bool, true, false, refl, sym, ◌∙◌, subst, ◌↔◌}
+use Rattle.std.proofs.Common.{arith, IsTrue, Ok, Err}
 use Rattle.std.specs.Prelude.{not}
 use Rattle.std.proofs.lemmas.Bool.{true≢false}
 use Rattle.dw_board.specs.Geometry.{Geometry}
@@ -16,7 +17,12 @@ pub counted_none : (a l : ℕ) → a ≤ l → IsCounted a l a l
 counted_none a l h = record { rises = omega arith; within = h; same = refl }
 
 pub counted_then : (a l b l' c l'' : ℕ) → IsCounted a l b l' → IsCounted b l' c l'' → IsCounted a l c l''
-counted_then a l b l' c l'' h k = record { rises = omega (arith, h.rises, k.rises); within = omega (arith, k.within, h.same); same = k.same ∙ h.same }
+counted_then a l b l' c l'' h k = record {
+  rises = omega (arith, h.rises, k.rises);
+  within =
+      omega (arith, k.within, h.same);
+  same = k.same ∙ h.same;
+}
 
 pub is_so : (b : Bool) (P : Type 0) → (IsTrue b ↔ P) → b ≡ true → P
 is_so b P h e = h.0 e
@@ -31,9 +37,14 @@ pub answer_yes : (P : Type 0) → P → IsTrue true ↔ P
 answer_yes P p = ((λ _. p), (λ _. refl))
 
 -- what isn't known in a memo isn't in one with the same entries, so an answer has counted one
-pub spent_later : (c d : Content) (p : Placement) (n a b e : ℕ) → SameEntries c d → b ≡ a → (1 ≤ n → (IsDecided d p n → ⊥) → b < e) → 1 ≤ n → (IsDecided c p n → ⊥) → a < e
+pub spent_later : (c d : Content) (p : Placement) (n a b e : ℕ) → SameEntries c d → b ≡ a
+    → (1 ≤ n → (IsDecided d p n → ⊥) → b < e) → 1 ≤ n → (IsDecided c p n → ⊥) → a < e
 spent_later c d p n a b e same is h some none =
-    let less = h some (λ k. none (elim k [ inl w ↦ inl (same_win c d same p n w) | inr f ↦ inr (same_fail c d same p n f) ])) in
+    let less = h some (λ k. none (elim k [
+      | inl w ↦ inl (same_win c d same p n w)
+      | inr f ↦
+          inr (same_fail c d same p n f)
+    ])) in
     omega (arith, less, is)
 
 -- no win within any number below i
@@ -52,11 +63,16 @@ none_below_more g p i h none j low w = elim (split j i low) [
   split j i low = grind arith
 
 -- where no move of the attacker is left, a side has lost if it has no move
-pub lost_at_none : (g : Geometry) (q : Placement) (n : ℕ) (has : Bool) → n ≡ 0 → (IsTrue has ↔ ((m : Move) × Legal g q m)) → IsTrue (not has) ↔ Lost g q n
-lost_at_none g q n true none h = ((λ e. absurd (true≢false (sym e))), (λ lost. let m = h.0 refl in absurd (subst (λ k. Lost g q k) none lost m.0 m.1)))
+pub lost_at_none : (g : Geometry) (q : Placement) (n : ℕ) (has : Bool) → n ≡ 0
+    → (IsTrue has ↔ ((m : Move) × Legal g q m)) → IsTrue (not has) ↔ Lost g q n
+lost_at_none g q n true none h = (
+  (λ e. absurd (true≢false (sym e))),
+  (λ lost. let m = h.0 refl in absurd (subst (λ k. Lost g q k) none lost m.0 m.1)),
+)
 lost_at_none g q n false none h = ((λ e r legal. absurd (true≢false (sym (h.1 (r, legal))))), (λ lost. refl))
 
-pub says_at_none : (g : Geometry) (c : Content) (q : Placement) (n : ℕ) (has : Bool) → n ≡ 0 → (IsTrue has ↔ ((m : Move) × Legal g q m)) → SaysLost g c q n (not has)
+pub says_at_none : (g : Geometry) (c : Content) (q : Placement) (n : ℕ) (has : Bool) → n ≡ 0
+    → (IsTrue has ↔ ((m : Move) × Legal g q m)) → SaysLost g c q n (not has)
 says_at_none g c q n true none h = record {
   when = λ e. absurd (true≢false (sym e));
   unless = λ e. let m = h.0 refl in (m.0, m.1, inl none);
@@ -82,7 +98,8 @@ pub unchanged_then : (a b c : Content) (e f h : ℕ) → Unchanged a e b f → U
 unchanged_then a b c e f h u v = (v.0 ∙ u.0, λ x. ((λ m. (v.1 x).0 ((u.1 x).0 m)), (λ m. (u.1 x).1 ((v.1 x).1 m))))
 
 -- a reply is asked about that is decided
-pub reply_decided : (g : Geometry) (c d : Content) (q p : Placement) (r : Move) (n e f : ℕ) → RepliesAreDecided g c q n → Unchanged c e d f → Legal g q r → p ≡ play g q r → (n ≡ 0) ⊎ IsDecided d p n
+pub reply_decided : (g : Geometry) (c d : Content) (q p : Placement) (r : Move) (n e f : ℕ) → RepliesAreDecided g c q n
+    → Unchanged c e d f → Legal g q r → p ≡ play g q r → (n ≡ 0) ⊎ IsDecided d p n
 reply_decided g c d q p r n e f all u legal at = elim (all r legal) [
   | inl none ↦ inl none
   | inr k ↦ inr (subst (λ z. IsDecided d z n) (sym at) (decided_same c d (play g q r) n u.1 k))

@@ -24,7 +24,8 @@ Win-le g p m (suc n) h w = elim (split m n h) [
   split : (m n : ℕ) → m ≤ suc n → (m ≡ suc n) ⊎ (m ≤ n)
   split m n h = grind arith
 
-all_or_not : {X : Type 0} (P : X → Type 0) → ((x : X) → P x ⊎ (P x → ⊥)) → (xs : List X) → ((x : X) → Member x xs → P x) ⊎ ((x : X) × Member x xs × (P x → ⊥))
+all_or_not : {X : Type 0} (P : X → Type 0) → ((x : X) → P x ⊎ (P x → ⊥)) → (xs : List X) → ((x : X) → Member x xs → P x)
+    ⊎ ((x : X) × Member x xs × (P x → ⊥))
 all_or_not P each [] = inl (λ x m. absurd m)
 all_or_not P each (x ∷ xs) = elim (each x) [
   | inr n ↦ inr (x, inl refl, n)
@@ -34,7 +35,8 @@ all_or_not P each (x ∷ xs) = elim (each x) [
   ]
 ]
 
-some_or_not : {X : Type 0} (P : X → Type 0) → ((x : X) → P x ⊎ (P x → ⊥)) → (xs : List X) → ((x : X) × Member x xs × P x) ⊎ ((x : X) → Member x xs → P x → ⊥)
+some_or_not : {X : Type 0} (P : X → Type 0) → ((x : X) → P x ⊎ (P x → ⊥)) → (xs : List X)
+    → ((x : X) × Member x xs × P x) ⊎ ((x : X) → Member x xs → P x → ⊥)
 some_or_not P each [] = inr (λ x m. absurd m)
 some_or_not P each (x ∷ xs) = elim (each x) [
   | inl here ↦ inl (x, inl refl, here)
@@ -48,7 +50,8 @@ some_or_not P each (x ∷ xs) = elim (each x) [
 abbrev Wins : Geometry → Placement → ℕ → Move → Type 0
 Wins g p n m = (r : Move) → Legal g (play g p m) r → Win g (play g (play g p m) r) n
 
-wins_or_not : MovesListed → (g : Geometry) (p : Placement) (n : ℕ) → ((q : Placement) → Win g q n ⊎ (Win g q n → ⊥)) → (m : Move) → Wins g p n m ⊎ (Wins g p n m → ⊥)
+wins_or_not : MovesListed → (g : Geometry) (p : Placement) (n : ℕ) → ((q : Placement) → Win g q n ⊎ (Win g q n → ⊥))
+    → (m : Move) → Wins g p n m ⊎ (Wins g p n m → ⊥)
 wins_or_not listed g p n each m =
     let replies = listed g (play g p m) in
     elim (all_or_not (λ r. Win g (play g (play g p m) r) n) (λ r. each (play g (play g p m) r)) replies.0) [
@@ -73,7 +76,8 @@ replied_no_win g p always w = let r = always w.0 w.1 in w.2 r.0 r.1
 pub hopeless_is : (g : Geometry) (p : Placement) (n : ℕ) → n ≡ 1 → AlwaysReply g p → Win g p n → ⊥
 hopeless_is g p n one always w = replied_no_win g p always (subst (Win g p) one w)
 
-pub says_hopeless : (g : Geometry) (c : Content) (p : Placement) (n : ℕ) → n ≡ 1 → AlwaysReply g p → SaysMove g c p (n - 1) false
+pub says_hopeless : (g : Geometry) (c : Content) (p : Placement) (n : ℕ) → n ≡ 1 → AlwaysReply g p
+    → SaysMove g c p (n - 1) false
 says_hopeless g c p n one always = record {
   when = λ t. absurd (true≢false (sym t));
   unless = λ _ m legal. let r = always m legal in (r.0, r.1, inl (omega arith));

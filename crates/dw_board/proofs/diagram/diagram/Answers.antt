@@ -8,7 +8,8 @@ use Rattle.dw_board.proofs.diagram.diagram.Goals as goal
 
 rows_more : (f : ℕ → List ℕ) (n : ℕ) → flat_map f (range_with_len 0 (n + 1)) ≡ flat_map f (range_with_len 0 n) ++ f n
 rows_more f n = ap (λ k. flat_map f (range_with_len 0 k)) (add-one n) ∙ (ap (flat_map f) (range_more 0 n)
-    ∙ (flat_map-append f (range_with_len 0 n) ((0 + n) ∷ []) ∙ ap (λ t. flat_map f (range_with_len 0 n) ++ t) (append-nil (f (0 + n)) ∙ ap f (zero-add n))))
+    ∙ (flat_map-append f (range_with_len 0 n) ((0 + n) ∷ []) ∙ ap (λ t. flat_map f (range_with_len 0 n) ++ t)
+    (append-nil (f (0 + n)) ∙ ap f (zero-add n))))
 
 pub rows-preserved : goal.rows-preserved
 rows-preserved g c = record {

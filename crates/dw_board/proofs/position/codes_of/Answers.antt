@@ -10,7 +10,8 @@ loop-i-preserved g c =
     let f : ℕ → ℕ = λ k. of.cell_code (get_or c.args.position.now.cells k None) in
     record {
       len = length-set c.loop-i.codes c.loop-i.i c.cell_code.result ∙ c.loop-i.invariant.len;
-      written = rw (c.cell_code.ensures, c.cell_behind.ensures) (fill_by_more f c.loop-i.codes c.loop-i.i 0 (omega arith) c.loop-i.invariant.written);
+      written = rw (c.cell_code.ensures, c.cell_behind.ensures) (fill_by_more f c.loop-i.codes c.loop-i.i 0
+          (omega arith) c.loop-i.invariant.written);
     }
 
 pub returns : goal.returns

@@ -21,7 +21,8 @@ pub returns-then-not-went-clause-found : goal.returns-then-not-went-clause-found
 returns-then-not-went-clause-found g c =
     let geo = g.B.Board.geometry in
     subst (IsPlace geo c.args.position.now c.args.moves c.args.line.now) (sym c.line.invariant.place)
-    (follows_place c.moves_listed.ensures geo c.args.position.now c.args.moves c.args.line.now c.line.mv-index c.mv-item.result c.line.stack c.line.invariant.follows c.line-test.true c.mv-item.is
+    (follows_place c.moves_listed.ensures geo c.args.position.now c.args.moves c.args.line.now c.line.mv-index
+    c.mv-item.result c.line.stack c.line.invariant.follows c.line-test.true c.mv-item.is
     (c.in_ok-went.ensures.barred (λ yes. let not_so = c.if-not-went.true in cc)))
 
 pub returns-then-not-went-clause-asked : goal.returns-then-not-went-clause-asked
@@ -31,7 +32,8 @@ returns-then-not-went-clause-asked g c =
     let lost = g.M.Memo.dropped in
     let n = c.args.moves in
     asked_then geo content lost c.searches_add_up.ensures n _ _ _ _ c.line.invariant.asked
-    (asked_for geo content lost _ n _ _ _ c.line.invariant.follows.moves (asked_ok geo content lost _ _ _ _ _ c.in_ok-went.ensures.asked))
+    (asked_for geo content lost _ n _ _ _ c.line.invariant.follows.moves (asked_ok geo content lost _ _ _ _ _
+    c.in_ok-went.ensures.asked))
 
 pub line-preserved : goal.line-preserved
 line-preserved g c =
@@ -40,24 +42,33 @@ line-preserved g c =
     let lost = g.M.Memo.dropped in
     let n = c.args.moves in
     record {
-      follows = follows_more geo c.args.position.now c.args.moves c.args.line.now c.line.mv-index c.mv-item.result c.line.stack c.follow.new.stack c.line.invariant.follows c.line-test.true c.mv-item.is
+      follows = follows_more geo c.args.position.now c.args.moves c.args.line.now c.line.mv-index c.mv-item.result
+          c.line.stack c.follow.new.stack c.line.invariant.follows c.line-test.true c.mv-item.is
           (c.in_ok-went.ensures.went c.if-not-went.false) c.follow.ensures.levels;
       place = ap (λ z. z + 1) c.line.invariant.place;
       asked = asked_then geo content lost c.searches_add_up.ensures n _ _ _ answered c.line.invariant.asked
-          (asked_for geo content lost _ n _ _ _ c.line.invariant.follows.moves (asked_ok geo content lost _ _ _ _ 0 c.in_ok-went.ensures.asked));
+          (asked_for geo content lost _ n _ _ _ c.line.invariant.follows.moves (asked_ok geo content lost _ _ _ _ 0
+          c.in_ok-went.ensures.asked));
     }
 
 pub returns-then-is_end-clause-found : goal.returns-then-is_end-clause-found
 returns-then-is_end-clause-found g c =
     let geo = g.B.Board.geometry in
-    let at_end : c.line.mv-index ≡ length c.args.line.now = omega (arith, c.line-test.false, c.line.auto.mv-index-end) in
-    follows_line c.moves_have_keys.ensures geo c.args.position.now c.args.moves c.args.line.now c.line.stack c.list.new.self c.in_ok-is_end.is_end
-    (subst (λ z. Follows geo c.args.position.now c.args.moves c.args.line.now z c.line.stack) at_end c.line.invariant.follows) c.in_ok-is_end.ensures.listed c.if-is_end.true
+    let at_end : c.line.mv-index ≡ length c.args.line.now =
+    omega (arith, c.line-test.false, c.line.auto.mv-index-end) in
+    follows_line c.moves_have_keys.ensures geo c.args.position.now c.args.moves c.args.line.now c.line.stack
+    c.list.new.self c.in_ok-is_end.is_end
+    (subst (λ z. Follows geo c.args.position.now c.args.moves c.args.line.now z c.line.stack) at_end
+    c.line.invariant.follows) c.in_ok-is_end.ensures.listed c.if-is_end.true
 
 pub returns-else-is_end-clause-found : goal.returns-else-is_end-clause-found
 returns-else-is_end-clause-found g c =
     let geo = g.B.Board.geometry in
-    let at_end : c.line.mv-index ≡ length c.args.line.now = omega (arith, c.line-test.false, c.line.auto.mv-index-end) in
-    subst (IsPlace geo c.args.position.now c.args.moves c.args.line.now) (sym (c.line.invariant.place ∙ ap (λ z. z + 1) at_end))
-    (follows_short c.moves_listed.ensures geo c.args.position.now c.args.moves c.args.line.now c.line.stack c.list.new.self c.in_ok-is_end.is_end
-    (subst (λ z. Follows geo c.args.position.now c.args.moves c.args.line.now z c.line.stack) at_end c.line.invariant.follows) c.in_ok-is_end.ensures.listed c.if-is_end.false)
+    let at_end : c.line.mv-index ≡ length c.args.line.now =
+    omega (arith, c.line-test.false, c.line.auto.mv-index-end) in
+    subst (IsPlace geo c.args.position.now c.args.moves c.args.line.now) (sym (c.line.invariant.place
+    ∙ ap (λ z. z + 1) at_end))
+    (follows_short c.moves_listed.ensures geo c.args.position.now c.args.moves c.args.line.now c.line.stack
+    c.list.new.self c.in_ok-is_end.is_end
+    (subst (λ z. Follows geo c.args.position.now c.args.moves c.args.line.now z c.line.stack) at_end
+    c.line.invariant.follows) c.in_ok-is_end.ensures.listed c.if-is_end.false)

@@ -6,5 +6,6 @@ returns-then-same_move-clause-found g c = (c.in-Try.ensures.task, c.same_move.en
 
 pub moves-preserved : goal.moves-preserved
 moves-preserved g c =
-    seeks_more g.B.Board.geometry c.args.stack.now c.moves.stack c.pass.new.self c.args.mv.now c.in-Try.trial c.moves.invariant c.in-Try.ensures.task
+    seeks_more g.B.Board.geometry c.args.stack.now c.moves.stack c.pass.new.self c.args.mv.now c.in-Try.trial
+    c.moves.invariant c.in-Try.ensures.task
     (λ e. let yes = c.same_move.ensures.1 e in let not_so = c.if-same_move.false in cc) c.pass.ensures

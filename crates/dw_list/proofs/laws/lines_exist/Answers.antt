@@ -19,7 +19,8 @@ returns c =
     let listed = c.moves_listed.ensures in
     record {
       some = λ g board p n. ways_exist listed c.wins_are_decided.ensures c.moves_in_order.ensures g board n p;
-      only = λ g p n lines others. list_only (Before g p) (Line g p n) (before_asym c.moves_have_keys.ensures g p) lines others;
+      only = λ g p n lines others. list_only (Before g p) (Line g p n) (before_asym c.moves_have_keys.ensures g p) lines
+          others;
       empty = λ g p n lines all. (
         (λ e w. let k = win_line listed g n p w in subst (Member k.0) e ((all.exactly k.0).1 k.1)),
         (λ none. lines_none g p n lines all none),

@@ -11,9 +11,11 @@ returns-in_default g c =
 pub returns-then-are_moves : goal.returns-then-are_moves
 returns-then-are_moves g c =
     let is : c.args.bytes.now ≡ c.in-Some.count.now ∷ c.in-Some.moves.now = search rules in
-    counted_read g.B.Board.geometry c.args.bytes.now c.in-Some.moves.now c.in-Some.count.now c.read_moves.result is (sym c.are_moves.ensures ∙ c.if-are_moves.true) c.read_moves.ensures
+    counted_read g.B.Board.geometry c.args.bytes.now c.in-Some.moves.now c.in-Some.count.now c.read_moves.result is
+    (sym c.are_moves.ensures ∙ c.if-are_moves.true) c.read_moves.ensures
 
 pub returns-else-are_moves : goal.returns-else-are_moves
 returns-else-are_moves g c =
     let is : c.args.bytes.now ≡ c.in-Some.count.now ∷ c.in-Some.moves.now = search rules in
-    ap (counted_fault g.B.Board.geometry) is ∙ counted_wrong g.B.Board.geometry c.in-Some.count.now c.in-Some.moves.now (sym c.are_moves.ensures ∙ c.if-are_moves.false)
+    ap (counted_fault g.B.Board.geometry) is ∙ counted_wrong g.B.Board.geometry c.in-Some.count.now c.in-Some.moves.now
+    (sym c.are_moves.ensures ∙ c.if-are_moves.false)

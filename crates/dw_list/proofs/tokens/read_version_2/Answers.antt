@@ -11,9 +11,11 @@ returns-in_default g c =
 pub returns-then-names_board : goal.returns-then-names_board
 returns-then-names_board g c =
     let is : c.args.bytes.now ≡ c.in-Some.rows.now ∷ c.in-Some.rest.now = search rules in
-    version_2_read g.B.Board.geometry c.args.bytes.now c.in-Some.rest.now c.in-Some.rows.now c.read_counted.result is (sym c.names_board.ensures ∙ c.if-names_board.true) c.read_counted.ensures
+    version_2_read g.B.Board.geometry c.args.bytes.now c.in-Some.rest.now c.in-Some.rows.now c.read_counted.result is
+    (sym c.names_board.ensures ∙ c.if-names_board.true) c.read_counted.ensures
 
 pub returns-else-names_board : goal.returns-else-names_board
 returns-else-names_board g c =
     let is : c.args.bytes.now ≡ c.in-Some.rows.now ∷ c.in-Some.rest.now = search rules in
-    ap (board_fault g.B.Board.geometry) is ∙ board_other g.B.Board.geometry c.in-Some.rows.now c.in-Some.rest.now (sym c.names_board.ensures ∙ c.if-names_board.false)
+    ap (board_fault g.B.Board.geometry) is ∙ board_other g.B.Board.geometry c.in-Some.rows.now c.in-Some.rest.now
+    (sym c.names_board.ensures ∙ c.if-names_board.false)

@@ -18,7 +18,8 @@ returns-in_err-take_step-clause-asked g c =
 pub returns-in-Over-clause-next : goal.returns-in-Over-clause-next
 returns-in-Over-clause-next g c =
     let geo = g.B.Board.geometry in
-    let met = subst (λ z. HasStepped geo z c.steps.stack c.take_step.new.stack) c.in-Over.is c.in_ok-take_step.ensures.stepped in
+    let met = subst (λ z. HasStepped geo z c.steps.stack c.take_step.new.stack) c.in-Over.is
+    c.in_ok-take_step.ensures.stepped in
     gives_none geo c.args.stack.now c.steps.stack c.take_step.new.stack c.steps.invariant.same met.0 met.1
 
 pub returns-in-Over-clause-asked : goal.returns-in-Over-clause-asked
@@ -34,8 +35,10 @@ returns-in-Over-clause-asked g c =
 pub returns-in-Given-clause-next : goal.returns-in-Given-clause-next
 returns-in-Given-clause-next g c =
     let geo = g.B.Board.geometry in
-    let met = subst (λ z. HasStepped geo z c.steps.stack c.take_step.new.stack) c.in-Given.is c.in_ok-take_step.ensures.stepped in
-    gives_first c.moves_have_keys.ensures geo c.args.stack.now c.steps.stack c.take_step.new.stack c.steps.invariant.same met
+    let met = subst (λ z. HasStepped geo z c.steps.stack c.take_step.new.stack) c.in-Given.is
+    c.in_ok-take_step.ensures.stepped in
+    gives_first c.moves_have_keys.ensures geo c.args.stack.now c.steps.stack c.take_step.new.stack
+    c.steps.invariant.same met
 
 pub returns-in-Given-clause-asked : goal.returns-in-Given-clause-asked
 returns-in-Given-clause-asked g c =
@@ -53,10 +56,13 @@ steps-preserved g c =
     let content = g.M.Memo.content in
     let lost = g.M.Memo.dropped in
     let n = c.args.stack.now.moves in
-    let met = subst (λ z. HasStepped geo z c.steps.stack c.take_step.new.stack) c.in-On.is c.in_ok-take_step.ensures.stepped in
+    let met = subst (λ z. HasStepped geo z c.steps.stack c.take_step.new.stack) c.in-On.is
+    c.in_ok-take_step.ensures.stepped in
     record {
       same = same_then geo c.args.stack.now c.steps.stack c.take_step.new.stack c.steps.invariant.same met;
-      keeps = keeps_step c.args.stack.now c.steps.stack c.take_step.new.stack c.args.kept.now c.steps.kept c.min.result c.line.result.now c.steps.invariant.keeps c.line.ensures.line c.min.ensures c.in_ok-take_step.field-0 c.in_ok-take_step.ensures.line;
+      keeps = keeps_step c.args.stack.now c.steps.stack c.take_step.new.stack c.args.kept.now c.steps.kept c.min.result
+          c.line.result.now c.steps.invariant.keeps c.line.ensures.line c.min.ensures c.in_ok-take_step.field-0
+          c.in_ok-take_step.ensures.line;
       asked = asked_then geo content lost c.searches_add_up.ensures n _ _ _ answered c.steps.invariant.asked
           (asked_ok geo content lost n _ _ c.in_ok-take_step.field-0 0
           (asked_for geo content lost _ n _ _ _ c.steps.invariant.same.moves c.in_ok-take_step.ensures.asked));

@@ -10,7 +10,8 @@ abbrev pub invariant-steps : goal.invariant-steps
 invariant-steps g l = record {
   same : SameLines g.B.Board.geometry l.initial.stack l.stack;
   keeps : KeepsFirst l.initial.stack l.stack l.initial.kept l.kept;
-  asked : Asked g.B.Board.geometry g.M.Memo.content g.M.Memo.dropped l.initial.stack.moves l.initial.solver l.solver answered;
+  asked : Asked g.B.Board.geometry g.M.Memo.content g.M.Memo.dropped l.initial.stack.moves l.initial.solver l.solver
+      answered;
 }
 
 abbrev pub decreases-steps : goal.decreases-steps

@@ -4,7 +4,8 @@ use Rattle.dw_memo.proofs.RecentLemmas.{recent_after, note_some, note_none, note
 use Rattle.dw_memo.proofs.lru_memo.push.Goals as goal
 
 pub returns-in-Ok-Some-clause-recent : goal.returns-in-Ok-Some-clause-recent
-returns-in-Ok-Some-clause-recent g c = recent_after c.args.cache.now c.push.new.self c.args.position c.args.bounds c.requires c.in-Ok-Some.ensures.entries
+returns-in-Ok-Some-clause-recent g c = recent_after c.args.cache.now c.push.new.self c.args.position c.args.bounds
+    c.requires c.in-Ok-Some.ensures.entries
 
 pub returns-in-Ok-Some-clause-note : goal.returns-in-Ok-Some-clause-note
 returns-in-Ok-Some-clause-note g c =
@@ -14,7 +15,8 @@ returns-in-Ok-Some-clause-note g c =
     (c.from.ensures ∙ ap from_bool c.ne.ensures)
 
 pub returns-in-Ok-None-clause-recent : goal.returns-in-Ok-None-clause-recent
-returns-in-Ok-None-clause-recent g c = recent_after c.args.cache.now c.push.new.self c.args.position c.args.bounds c.requires c.in-Ok-None.ensures.entries
+returns-in-Ok-None-clause-recent g c = recent_after c.args.cache.now c.push.new.self c.args.position c.args.bounds
+    c.requires c.in-Ok-None.ensures.entries
 
 pub returns-in-Ok-None-clause-note : goal.returns-in-Ok-None-clause-note
 returns-in-Ok-None-clause-note g c =
@@ -22,4 +24,5 @@ returns-in-Ok-None-clause-note g c =
     (sym c.in-Ok-None.ensures.old ∙ c.in-Ok-None.field-0-is)
 
 pub returns-in-Err-clause-note : goal.returns-in-Err-clause-note
-returns-in-Err-clause-note g c = note_refused c.args.cache.now c.push.new.self c.args.position c.args.bounds c.requires c.in-Err.ensures.err c.in-Err.ensures.succeeds
+returns-in-Err-clause-note g c = note_refused c.args.cache.now c.push.new.self c.args.position c.args.bounds c.requires
+    c.in-Err.ensures.err c.in-Err.ensures.succeeds

@@ -10,7 +10,8 @@ abbrev pub decreases-walk_towards : goal.decreases-walk_towards
 decreases-walk_towards g l = 2 * (20 - l.count)
 
 abbrev pub invariant-walk_towards-landings : goal.invariant-walk_towards-landings
-invariant-walk_towards-landings g l = Landed g.B.Board.geometry l.position l.piece l.fn.begun l.count l.initial.at l.piece.kind l.direction l.at l.initial.most l.initial.moves.items l.longest l.moves.items
+invariant-walk_towards-landings g l = Landed g.B.Board.geometry l.position l.piece l.fn.begun l.count l.initial.at
+    l.piece.kind l.direction l.at l.initial.most l.initial.moves.items l.longest l.moves.items
 
 abbrev pub decreases-walk_towards-landings : goal.decreases-walk_towards-landings
 decreases-walk_towards-landings g l = length (ray g.B.Board.geometry l.at l.direction)

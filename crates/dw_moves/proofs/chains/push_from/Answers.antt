@@ -10,38 +10,65 @@ use Rattle.dw_moves.proofs.TakingTowardsLemmas.{walked_from}
 use Rattle.dw_moves.proofs.chains.push_from.Goals as goal
 
 pub without-ground-requires : goal.without-ground-requires
-without-ground-requires g c = record { on_board = c.requires; own = ap (is_of c.in-Some.piece.side) (sym c.at.ensures.value ∙ c.in-Some.is) ∙ same_side_refl c.in-Some.piece.side }
+without-ground-requires g c = record {
+  on_board = c.requires;
+  own = ap (is_of c.in-Some.piece.side) (sym c.at.ensures.value ∙ c.in-Some.is) ∙ same_side_refl c.in-Some.piece.side;
+}
 
 pub walk_on-requires-clause-ground : goal.walk_on-requires-clause-ground
 walk_on-requires-clause-ground g c =
-    subst (λ q. IsGround g.B.Board.geometry q c.in-Some.piece.side c.without-ground.result.enemies c.without-ground.result.occupied) (sym c.clear.ensures.after) c.without-ground.ensures
+    subst (λ q. IsGround g.B.Board.geometry q c.in-Some.piece.side c.without-ground.result.enemies
+    c.without-ground.result.occupied) (sym c.clear.ensures.after) c.without-ground.ensures
 
 pub walk_towards-requires-clause-ground : goal.walk_towards-requires-clause-ground
 walk_towards-requires-clause-ground g c =
-    subst (λ q. IsGround g.B.Board.geometry q c.in-Some.piece.side c.without-ground.result.enemies c.without-ground.result.occupied) (sym c.clear.ensures.after) c.without-ground.ensures
+    subst (λ q. IsGround g.B.Board.geometry q c.in-Some.piece.side c.without-ground.result.enemies
+    c.without-ground.result.occupied) (sym c.clear.ensures.after) c.without-ground.ensures
 
 pub walk_on-requires-clause-fits : goal.walk_on-requires-clause-fits
 walk_on-requires-clause-fits g c =
-    let own : same_side c.in-Some.piece.side c.args.position.now.turn ≡ true = ap (same_side c.in-Some.piece.side) (sym c.turn.ensures.value) ∙ (sym c.is_own.ensures ∙ c.if-not-is_own.false) in
-    let stands = stands_own g.B.Board.geometry c.args.position.now c.args.from c.in-Some.piece c.requires (sym c.at.ensures.value ∙ c.in-Some.is) own in
-    walk_fits g.B.Board.geometry g.met.B.Board.numbers c.args.position.now c.clear.new.self c.args.from c.in-Some.piece c.quiet-begun.result c.turn.ensures.position stands c.clear.ensures.after c.quiet-begun.ensures
+    let own : same_side c.in-Some.piece.side c.args.position.now.turn
+    ≡ true = ap (same_side c.in-Some.piece.side) (sym c.turn.ensures.value)
+    ∙ (sym c.is_own.ensures ∙ c.if-not-is_own.false) in
+    let stands = stands_own g.B.Board.geometry c.args.position.now c.args.from c.in-Some.piece c.requires
+    (sym c.at.ensures.value ∙ c.in-Some.is) own in
+    walk_fits g.B.Board.geometry g.met.B.Board.numbers c.args.position.now c.clear.new.self c.args.from c.in-Some.piece
+    c.quiet-begun.result c.turn.ensures.position stands c.clear.ensures.after c.quiet-begun.ensures
 
 pub walk_towards-requires-clause-fits : goal.walk_towards-requires-clause-fits
 walk_towards-requires-clause-fits g c =
-    let own : same_side c.in-Some.piece.side c.args.position.now.turn ≡ true = ap (same_side c.in-Some.piece.side) (sym c.turn.ensures.value) ∙ (sym c.is_own.ensures ∙ c.if-not-is_own.false) in
-    let stands = stands_own g.B.Board.geometry c.args.position.now c.args.from c.in-Some.piece c.requires (sym c.at.ensures.value ∙ c.in-Some.is) own in
-    walk_fits g.B.Board.geometry g.met.B.Board.numbers c.args.position.now c.clear.new.self c.args.from c.in-Some.piece c.quiet-begun.result c.turn.ensures.position stands c.clear.ensures.after c.quiet-begun.ensures
+    let own : same_side c.in-Some.piece.side c.args.position.now.turn
+    ≡ true = ap (same_side c.in-Some.piece.side) (sym c.turn.ensures.value)
+    ∙ (sym c.is_own.ensures ∙ c.if-not-is_own.false) in
+    let stands = stands_own g.B.Board.geometry c.args.position.now c.args.from c.in-Some.piece c.requires
+    (sym c.at.ensures.value ∙ c.in-Some.is) own in
+    walk_fits g.B.Board.geometry g.met.B.Board.numbers c.args.position.now c.clear.new.self c.args.from c.in-Some.piece
+    c.quiet-begun.result c.turn.ensures.position stands c.clear.ensures.after c.quiet-begun.ensures
 
 pub returns-in-Man : goal.returns-in-Man
 returns-in-Man g c =
-    let own : same_side c.in-Some.piece.side c.args.position.now.turn ≡ true = ap (same_side c.in-Some.piece.side) (sym c.turn.ensures.value) ∙ (sym c.is_own.ensures ∙ c.if-not-is_own.false) in
-    let stands = stands_own g.B.Board.geometry c.args.position.now c.args.from c.in-Some.piece c.requires (sym c.at.ensures.value ∙ c.in-Some.is) own in
-    IfOk-weaker c.walk_on.result (λ k. Longest (EndsTowards g.B.Board.geometry c.clear.new.self c.in-Some.piece c.quiet-begun.result 0 c.args.direction) c.args.most c.args.moves.now.items k c.walk_on.new.moves.items) _ (λ k h.
-    walked_from g.B.Board.geometry c.args.position.now c.clear.new.self c.args.from c.args.direction c.in-Some.piece c.quiet-begun.result c.args.most k c.args.moves.now.items c.walk_on.new.moves.items stands c.clear.ensures.after c.quiet-begun.ensures h) c.walk_on.ensures
+    let own : same_side c.in-Some.piece.side c.args.position.now.turn
+    ≡ true = ap (same_side c.in-Some.piece.side) (sym c.turn.ensures.value)
+    ∙ (sym c.is_own.ensures ∙ c.if-not-is_own.false) in
+    let stands = stands_own g.B.Board.geometry c.args.position.now c.args.from c.in-Some.piece c.requires
+    (sym c.at.ensures.value ∙ c.in-Some.is) own in
+    IfOk-weaker c.walk_on.result (λ k. Longest (EndsTowards g.B.Board.geometry c.clear.new.self c.in-Some.piece
+    c.quiet-begun.result 0 c.args.direction) c.args.most c.args.moves.now.items k c.walk_on.new.moves.items) _
+    (λ k h.
+    walked_from g.B.Board.geometry c.args.position.now c.clear.new.self c.args.from c.args.direction c.in-Some.piece
+    c.quiet-begun.result c.args.most k c.args.moves.now.items c.walk_on.new.moves.items stands c.clear.ensures.after
+    c.quiet-begun.ensures h) c.walk_on.ensures
 
 pub returns-in-King : goal.returns-in-King
 returns-in-King g c =
-    let own : same_side c.in-Some.piece.side c.args.position.now.turn ≡ true = ap (same_side c.in-Some.piece.side) (sym c.turn.ensures.value) ∙ (sym c.is_own.ensures ∙ c.if-not-is_own.false) in
-    let stands = stands_own g.B.Board.geometry c.args.position.now c.args.from c.in-Some.piece c.requires (sym c.at.ensures.value ∙ c.in-Some.is) own in
-    IfOk-weaker c.walk_towards.result (λ k. Longest (EndsTowards g.B.Board.geometry c.clear.new.self c.in-Some.piece c.quiet-begun.result 0 c.args.direction) c.args.most c.args.moves.now.items k c.walk_towards.new.moves.items) _ (λ k h.
-    walked_from g.B.Board.geometry c.args.position.now c.clear.new.self c.args.from c.args.direction c.in-Some.piece c.quiet-begun.result c.args.most k c.args.moves.now.items c.walk_towards.new.moves.items stands c.clear.ensures.after c.quiet-begun.ensures h) c.walk_towards.ensures
+    let own : same_side c.in-Some.piece.side c.args.position.now.turn
+    ≡ true = ap (same_side c.in-Some.piece.side) (sym c.turn.ensures.value)
+    ∙ (sym c.is_own.ensures ∙ c.if-not-is_own.false) in
+    let stands = stands_own g.B.Board.geometry c.args.position.now c.args.from c.in-Some.piece c.requires
+    (sym c.at.ensures.value ∙ c.in-Some.is) own in
+    IfOk-weaker c.walk_towards.result (λ k. Longest (EndsTowards g.B.Board.geometry c.clear.new.self c.in-Some.piece
+    c.quiet-begun.result 0 c.args.direction) c.args.most c.args.moves.now.items k c.walk_towards.new.moves.items) _
+    (λ k h.
+    walked_from g.B.Board.geometry c.args.position.now c.clear.new.self c.args.from c.args.direction c.in-Some.piece
+    c.quiet-begun.result c.args.most k c.args.moves.now.items c.walk_towards.new.moves.items stands
+    c.clear.ensures.after c.quiet-begun.ensures h) c.walk_towards.ensures

@@ -8,8 +8,10 @@ use Rattle.dw_moves.proofs.glance.count_if_quiet.Goals as goal
 pub returns-then-men_take-clause-none : goal.returns-then-men_take-clause-none
 returns-then-men_take-clause-none g c =
     let f = c.of-field.result in
-    let h = men_take_is g.B.Board.geometry f.men f.kings f.enemies f.occupied (c.men_take.ensures.0 c.if-men_take.true) in (
-      (λ _. takes_capture g.B.Board.geometry g.met.B.Board.numbers c.args.position.now f.men f.kings f.enemies f.occupied c.of-field.ensures h.0 h.1),
+    let h = men_take_is g.B.Board.geometry f.men f.kings f.enemies f.occupied
+    (c.men_take.ensures.0 c.if-men_take.true) in (
+      (λ _. takes_capture g.B.Board.geometry g.met.B.Board.numbers c.args.position.now f.men f.kings f.enemies
+          f.occupied c.of-field.ensures h.0 h.1),
       (λ _. refl),
     )
 
@@ -17,8 +19,11 @@ pub returns-then-is_empty-clause-none : goal.returns-then-is_empty-clause-none
 returns-then-is_empty-clause-none g c =
     let f = c.of-field.result in (
       (λ e. absurd (true≢false e)),
-      (λ h. elim (takes_by g.B.Board.geometry f.men f.kings f.enemies f.occupied (capture_takes g.B.Board.geometry g.met.B.Board.numbers c.args.position.now f.men f.kings f.enemies f.occupied c.of-field.ensures h)) [
-        | inl m ↦ absurd (true≢false (sym (c.men_take.ensures.1 m) ∙ c.if-men_take.false))
-        | inr k ↦ absurd (no_kings_take g.B.Board.geometry f.kings f.enemies f.occupied (λ s i. in_none f.kings s (c.is_empty.ensures.0 c.if-is_empty.true) i) k)
-      ]),
+      (λ h. elim (takes_by g.B.Board.geometry f.men f.kings f.enemies f.occupied
+          (capture_takes g.B.Board.geometry g.met.B.Board.numbers c.args.position.now f.men f.kings f.enemies f.occupied
+          c.of-field.ensures h)) [
+            | inl m ↦ absurd (true≢false (sym (c.men_take.ensures.1 m) ∙ c.if-men_take.false))
+            | inr k ↦ absurd (no_kings_take g.B.Board.geometry f.kings f.enemies f.occupied
+                (λ s i. in_none f.kings s (c.is_empty.ensures.0 c.if-is_empty.true) i) k)
+          ]),
     )

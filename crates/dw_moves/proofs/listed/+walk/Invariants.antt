@@ -12,7 +12,9 @@ decreases-walk_towards g l = 2 * (20 - l.count)
 
 abbrev pub invariant-walk_towards-landings : goal.invariant-walk_towards-landings
 invariant-walk_towards-landings g l =
-    Gone g.B.Board.geometry l.position l.piece (record { step = l.fn.begun; path = l.initial.path.items }) l.count l.initial.at l.piece.kind l.direction l.at l.initial.most (entries_listed l.initial.paths.entries) l.longest (entries_listed l.paths.entries)
+    Gone g.B.Board.geometry l.position l.piece (record { step = l.fn.begun; path = l.initial.path.items }) l.count
+    l.initial.at l.piece.kind l.direction l.at l.initial.most (entries_listed l.initial.paths.entries) l.longest
+    (entries_listed l.paths.entries)
     × (l.path.items ≡ l.initial.path.items)
 
 abbrev pub decreases-walk_towards-landings : goal.decreases-walk_towards-landings

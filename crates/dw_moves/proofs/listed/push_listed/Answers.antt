@@ -9,12 +9,19 @@ pub paths-init : goal.paths-init
 paths-init g c =
     let rest = entries_listed c.into_iter-mv-iterator.result in
     let kept = entries_listed c.keep_captures.new.paths.entries in
-    let whole : c.args.list.now.items ++ rest ≡ kept = ap (λ z. z ++ rest) c.requires ∙ ap entries_listed c.into_iter-mv-iterator.ensures.into_iter_gives.0 in
-    let some = some_led g.B.Board.geometry c.args.position.now c.in_ok-keep_captures.field-0 (entries_listed c.new-paths.result.entries) kept (c.can_capture.ensures.0 c.if-not-can_capture.false) c.in_ok-keep_captures.ensures in
+    let whole : c.args.list.now.items ++ rest ≡ kept = ap (λ z. z ++ rest) c.requires
+    ∙ ap entries_listed c.into_iter-mv-iterator.ensures.into_iter_gives.0 in
+    let some = some_led g.B.Board.geometry c.args.position.now c.in_ok-keep_captures.field-0
+    (entries_listed c.new-paths.result.entries) kept (c.can_capture.ensures.0 c.if-not-can_capture.false)
+    c.in_ok-keep_captures.ensures in
     subst (HasAll g.B.Board.geometry c.args.position.now) (sym whole)
-    (captures_all g.B.Board.geometry c.args.position.now c.in_ok-keep_captures.field-0 (entries_listed c.new-paths.result.entries) kept (ap entries_listed c.new-paths.ensures.empty) some c.in_ok-keep_captures.ensures)
+    (captures_all g.B.Board.geometry c.args.position.now c.in_ok-keep_captures.field-0
+    (entries_listed c.new-paths.result.entries) kept (ap entries_listed c.new-paths.ensures.empty) some
+    c.in_ok-keep_captures.ensures)
 
 pub returns-then-not-can_capture : goal.returns-then-not-can_capture
 returns-then-not-can_capture g c =
-    on_ok_weaker c.push_quiet.result (λ added. quiet_all_listed g.B.Board.geometry c.args.position.now c.args.list.now.items c.push_quiet.new.moves.items
-    (λ can. true≢false (sym (c.can_capture.ensures.1 can) ∙ c.if-not-can_capture.true)) c.requires added) c.push_quiet.ensures
+    on_ok_weaker c.push_quiet.result (λ added. quiet_all_listed g.B.Board.geometry c.args.position.now
+    c.args.list.now.items c.push_quiet.new.moves.items
+    (λ can. true≢false (sym (c.can_capture.ensures.1 can) ∙ c.if-not-can_capture.true)) c.requires added)
+    c.push_quiet.ensures

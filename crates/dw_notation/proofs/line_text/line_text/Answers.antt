@@ -9,4 +9,5 @@ returns g c =
     let t = c.follow.new.self in
     let moves = c.args.moves.now in
     subst (λ z. IsLineText geo z moves t.text.bytes) (c.follow.ensures.start ∙ c.new-text.ensures.start)
-    (subst (λ z. IsLineText geo t.start z t.text.bytes) c.in_ok-follow.ensures.moves (written_line geo t.start t.plies.items t.text.bytes c.follow.ensures.text))
+    (subst (λ z. IsLineText geo t.start z t.text.bytes) c.in_ok-follow.ensures.moves
+    (written_line geo t.start t.plies.items t.text.bytes c.follow.ensures.text))

@@ -11,5 +11,6 @@ one_more (b ∷ bytes) byte are h = (are.0, one_more bytes byte are.1 h)
 pub digits-preserved : goal.digits-preserved
 digits-preserved c = record {
   within = omega arith;
-  digits = subst AreDigits (sym (take_more c.args.text.now c.digits.count 0 (omega arith))) (one_more _ _ c.digits.invariant.digits (sym c.is_ascii_digit.ensures.value ∙ c.if-is_ascii_digit.true));
+  digits = subst AreDigits (sym (take_more c.args.text.now c.digits.count 0 (omega arith)))
+      (one_more _ _ c.digits.invariant.digits (sym c.is_ascii_digit.ensures.value ∙ c.if-is_ascii_digit.true));
 }

@@ -11,7 +11,8 @@ pub returns-in_err-sign : goal.returns-in_err-sign
 returns-in_err-sign g c =
     let none : length c.in-Some.behind.now ≡ 0 = search rules in
     let nothing : (from to : ℕ) → Names g.B.Board.geometry c.args.text.now (QuietMove from to) → ⊥ =
-    dash_other g.B.Board.geometry c.args.text.now c.in-Some.from c.in-Some.behind.now c.in-Some.ensures (λ rest e. omega (arith, ap length e)) in
+    dash_other g.B.Board.geometry c.args.text.now c.in-Some.from c.in-Some.behind.now c.in-Some.ensures
+    (λ rest e. omega (arith, ap length e)) in
     search (rules, nothing)
 
 pub returns-then-sign-ne45 : goal.returns-then-sign-ne45
@@ -27,13 +28,17 @@ returns-in_err-square_named g c =
     let is : c.in-Some.behind.now ≡ c.in_ok-sign.sign.now ∷ c.in_ok-sign.rest.now = search rules in
     let none : number_named g.B.Board.geometry c.in_ok-sign.rest.now ≡ None = search rules in
     let nothing : (from to : ℕ) → Names g.B.Board.geometry c.args.text.now (QuietMove from to) → ⊥ =
-    dash_alone g.B.Board.geometry c.args.text.now c.in-Some.from c.in-Some.behind.now c.in_ok-sign.rest.now c.in-Some.ensures (is ∙ ap (λ (z : ℕ). z ∷ c.in_ok-sign.rest.now) c.if-sign-ne45.false) none in
+    dash_alone g.B.Board.geometry c.args.text.now c.in-Some.from c.in-Some.behind.now c.in_ok-sign.rest.now
+    c.in-Some.ensures (is ∙ ap (λ (z : ℕ). z ∷ c.in_ok-sign.rest.now) c.if-sign-ne45.false) none in
     search (rules, nothing)
 
 pub returns : goal.returns
 returns g c =
     let is : c.in-Some.behind.now ≡ c.in_ok-sign.sign.now ∷ c.in_ok-sign.rest.now = search rules in
-    let number : number_named g.B.Board.geometry c.in_ok-sign.rest.now ≡ Some c.in_ok-square_named.field-0 = search rules in
+    let number : number_named g.B.Board.geometry c.in_ok-sign.rest.now ≡ Some c.in_ok-square_named.field-0 =
+    search rules in
     let names : Names g.B.Board.geometry c.args.text.now (QuietMove c.in-Some.from c.in_ok-square_named.field-0) =
-    dash_names g.B.Board.geometry c.args.text.now c.in-Some.from c.in_ok-square_named.field-0 c.in-Some.behind.now c.in_ok-sign.rest.now c.in-Some.ensures (is ∙ ap (λ (z : ℕ). z ∷ c.in_ok-sign.rest.now) c.if-sign-ne45.false) number in
+    dash_names g.B.Board.geometry c.args.text.now c.in-Some.from c.in_ok-square_named.field-0 c.in-Some.behind.now
+    c.in_ok-sign.rest.now c.in-Some.ensures (is ∙ ap (λ (z : ℕ). z ∷ c.in_ok-sign.rest.now) c.if-sign-ne45.false)
+    number in
     search (rules, names)

@@ -12,7 +12,8 @@ pieces-preserved g c =
     let some : 0 < c.in-Some.count = omega (arith, c.in-Some.count-test.1) in
     record {
       inside = omega (arith, bytes.0, length-drop c.pieces.at c.args.piece.now);
-      taken = subst (Appends _ _) (sym (take-add c.pieces.at c.in-Some.count c.args.piece.now)) (Appends-trans _ _ _ _ _ so_far.taken bytes.1);
+      taken = subst (Appends _ _) (sym (take-add c.pieces.at c.in-Some.count c.args.piece.now))
+          (Appends-trans _ _ _ _ _ so_far.taken bytes.1);
       failed = c.in-Some.ensures.failed.0 some ∙ so_far.failed;
     }
 
@@ -26,6 +27,7 @@ returns-in-None-clause-err g c = record {
 pub returns-in-Some-eq0-clause-err : goal.returns-in-Some-eq0-clause-err
 returns-in-Some-eq0-clause-err g c = record {
   out = take c.pieces.at c.args.piece.now;
-  taken = subst (Appends _ _) (append-nil _) (Appends-trans _ _ _ _ [] c.pieces.invariant.taken (rw c.in-Some-eq0.field-0-test at c.in-Some-eq0.ensures.bytes.1));
+  taken = subst (Appends _ _) (append-nil _) (Appends-trans _ _ _ _ [] c.pieces.invariant.taken
+      (rw c.in-Some-eq0.field-0-test at c.in-Some-eq0.ensures.bytes.1));
   front = record { back = drop c.pieces.at c.args.piece.now; joined = take-append-drop _ _ };
 }

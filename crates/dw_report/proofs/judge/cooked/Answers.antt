@@ -11,5 +11,6 @@ unreachable-requires g c =
 
 pub returns-clause-verdict : goal.returns-clause-verdict
 returns-clause-verdict g c =
-    let least = subst (IsLeast g.B.Board.geometry c.args.position.now c.args.moves) c.in-Some.is c.in_ok-shortest.ensures.answer in
+    let least = subst (IsLeast g.B.Board.geometry c.args.position.now c.args.moves) c.in-Some.is
+    c.in_ok-shortest.ensures.answer in
     (c.requires.keys, c.requires.some, c.requires.more, record { wins = least.2; none_less = least.3 })

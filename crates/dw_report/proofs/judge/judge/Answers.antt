@@ -9,7 +9,8 @@ returns-in_err-tries-clause-searched g c =
     let law = c.searches_add_up.ensures in
     let n = c.args.moves in
     (asked_then geo content lost law n _ _ _ _ (asked_ok geo content lost n _ _ _ 0 c.in_ok-verdict.ensures.asked)
-    (asked_stop geo content lost n _ _ c.in_err-tries.field-0.0 _ c.from_residual-in_err-tries.ensures.1 c.in_err-tries.ensures.asked)).searched
+    (asked_stop geo content lost n _ _ c.in_err-tries.field-0.0 _ c.from_residual-in_err-tries.ensures.1
+    c.in_err-tries.ensures.asked)).searched
 
 pub returns-clause-searched : goal.returns-clause-searched
 returns-clause-searched g c =
@@ -18,5 +19,6 @@ returns-clause-searched g c =
     let lost = g.M.Memo.dropped in
     let law = c.searches_add_up.ensures in
     let n = c.args.moves in
-    (asked_then geo content lost law n _ _ _ answered (asked_ok geo content lost n _ _ _ 0 c.in_ok-verdict.ensures.asked)
+    (asked_then geo content lost law n _ _ _ answered (asked_ok geo content lost n _ _ _ 0
+    c.in_ok-verdict.ensures.asked)
     (asked_ok geo content lost n _ _ _ 0 c.in_ok-tries.ensures.asked)).searched

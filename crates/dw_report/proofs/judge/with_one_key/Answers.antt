@@ -33,17 +33,21 @@ returns-in_err-dual-clause-asked g c =
     let first = asked_wider geo content lost law (n - 1) n _ _ answered less
     (asked_ok geo content lost (n - 1) _ _ _ 0 c.in_ok-wins.ensures.asked) in
     asked_then geo content lost law n _ _ _ _ first
-    (asked_stop geo content lost n _ _ c.in_err-dual.field-0.0 _ c.from_residual-in_err-dual.ensures.1 c.in_err-dual.ensures.asked)
+    (asked_stop geo content lost n _ _ c.in_err-dual.field-0.0 _ c.from_residual-in_err-dual.ensures.1
+    c.in_err-dual.ensures.asked)
 
 pub returns-in-Some-clause-verdict : goal.returns-in-Some-clause-verdict
 returns-in-Some-clause-verdict g c =
     let geo = g.B.Board.geometry in
     let p = c.args.position.now in
     let n = c.args.moves in
-    let none : Win geo p (n - 1) → ⊥ = λ w. let yes = c.in_ok-wins.ensures.answer.1 w in let not_so = c.if-branch.false in cc in
+    let none : Win geo p (n - 1) → ⊥ = λ w. let yes = c.in_ok-wins.ensures.answer.1 w in let not_so =
+    c.if-branch.false in cc in
     let keys = only_key geo p n c.args.keys.items no_move.step c.requires.one c.requires.keys in
-    let found = subst (λ z. FindsLeast (Before geo p) (LeadsToChoices geo n p) (option_map parts_of z)) c.in-Some.is c.in_ok-dual.ensures.found in
-    dual_found c.lines_exist.ensures geo g.met.B.Board.numbers p n (get_or c.args.keys.items 0 no_move.step) c.in-Some.dual.at.items c.in-Some.dual.choices.items (keys, none) found
+    let found = subst (λ z. FindsLeast (Before geo p) (LeadsToChoices geo n p) (option_map parts_of z)) c.in-Some.is
+    c.in_ok-dual.ensures.found in
+    dual_found c.lines_exist.ensures geo g.met.B.Board.numbers p n (get_or c.args.keys.items 0 no_move.step)
+    c.in-Some.dual.at.items c.in-Some.dual.choices.items (keys, none) found
 
 pub returns-in-Some-clause-asked : goal.returns-in-Some-clause-asked
 returns-in-Some-clause-asked g c =
@@ -62,11 +66,14 @@ returns-clause-verdict g c =
     let geo = g.B.Board.geometry in
     let p = c.args.position.now in
     let n = c.args.moves in
-    let none : Win geo p (n - 1) → ⊥ = λ w. let yes = c.in_ok-wins.ensures.answer.1 w in let not_so = c.if-branch.false in cc in
+    let none : Win geo p (n - 1) → ⊥ = λ w. let yes = c.in_ok-wins.ensures.answer.1 w in let not_so =
+    c.if-branch.false in cc in
     let m = c.index-as_slice-0.result in
     let at = c.index-as_slice-0.is ∙ ap (λ z. get_or z 0 m) c.as_slice-in-None.ensures.value in
-    let keys = subst (λ z. Keys geo p n (z ∷ [])) (sym at) (only_key geo p n c.args.keys.items m c.requires.one c.requires.keys) in
-    let found = subst (λ z. FindsLeast (Before geo p) (LeadsToChoices geo n p) (option_map parts_of z)) c.in-None.is c.in_ok-dual.ensures.found in
+    let keys = subst (λ z. Keys geo p n (z ∷ [])) (sym at) (only_key geo p n c.args.keys.items m c.requires.one
+    c.requires.keys) in
+    let found = subst (λ z. FindsLeast (Before geo p) (LeadsToChoices geo n p) (option_map parts_of z)) c.in-None.is
+    c.in_ok-dual.ensures.found in
     sound_found geo p n m (keys, none) found
 
 pub returns-clause-asked : goal.returns-clause-asked

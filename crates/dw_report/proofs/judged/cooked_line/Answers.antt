@@ -10,5 +10,7 @@ joined-requires g c = keys_legal g.B.Board.geometry c.args.position.now c.args.m
 pub returns : goal.returns
 returns g c =
     ok_map _ _ c.concat.result
-    (λ line e. cooked_made g.B.Board.geometry c.args.position.now c.args.moves c.args.shortest c.args.keys.now (string_bytes c.in_ok-keys.keys) c.format.result.now c.format-2.result.now c.as_str.result.now (string_bytes line)
+    (λ line e. cooked_made g.B.Board.geometry c.args.position.now c.args.moves c.args.shortest c.args.keys.now
+    (string_bytes c.in_ok-keys.keys) c.format.result.now c.format-2.result.now c.as_str.result.now
+    (string_bytes line)
     c.in_ok-keys.ensures c.format.ensures.text c.format-2.ensures.text c.as_str.ensures.value e) c.concat.ensures.ok

@@ -12,7 +12,8 @@ dual_line-requires-clause-verdict g c =
     let geo = g.B.Board.geometry in
     let p = c.args.position.now in
     let n = c.args.moves in
-    dual_is geo p n c.in-Dual.at.items c.in-Dual.choices.items c.as_slice-in-Dual.result.now c.as_slice-in-Dual-2.result.now c.as_slice-in-Dual.ensures.value c.as_slice-in-Dual-2.ensures.value
+    dual_is geo p n c.in-Dual.at.items c.in-Dual.choices.items c.as_slice-in-Dual.result.now
+    c.as_slice-in-Dual-2.result.now c.as_slice-in-Dual.ensures.value c.as_slice-in-Dual-2.ensures.value
     (subst (λ v. IsVerdict geo p n (said_by v)) c.in-Dual.is c.requires)
 
 pub text_in-requires : goal.text_in-requires
@@ -29,4 +30,6 @@ returns-in_ok-key-in-Sound g c =
     let n = c.args.moves in
     ok_map _ _ c.concat-in-Sound.result
     (λ line e. subst (λ v. IsVerdictText geo p n (said_by v) (string_bytes line)) (sym c.in-Sound.is)
-    (sound_made geo p n c.in-Sound.key c.in_ok-key-in-Sound.key.bytes c.format-in-Sound.result.now c.as_str.result.now (string_bytes line) c.in_ok-key-in-Sound.ensures.text c.format-in-Sound.ensures.text c.as_str.ensures.value e)) c.concat-in-Sound.ensures.ok
+    (sound_made geo p n c.in-Sound.key c.in_ok-key-in-Sound.key.bytes c.format-in-Sound.result.now c.as_str.result.now
+    (string_bytes line) c.in_ok-key-in-Sound.ensures.text c.format-in-Sound.ensures.text c.as_str.ensures.value e))
+    c.concat-in-Sound.ensures.ok

@@ -13,11 +13,15 @@ use Rattle.dw_report.proofs.judged.write_tries.Goals as goal
 pub returns-in_err-list-clause-text : goal.returns-in_err-list-clause-text
 returns-in_err-list-clause-text g c =
     let why = err_from_is_err_and c.from_residual.result c.from_residual.ensures.1 in
-    none_written c.wins_are_decided.ensures c.moves_in_order.ensures c.moves_have_keys.ensures c.moves_have_texts.ensures g.B.Board.geometry g.met.B.Board.numbers c.args.position.now c.args.moves (g.K.Sink.taken c.args.sink.now) c.from_residual.result _ _ why.1 why.2
+    none_written c.wins_are_decided.ensures c.moves_in_order.ensures c.moves_have_keys.ensures
+    c.moves_have_texts.ensures g.B.Board.geometry g.met.B.Board.numbers c.args.position.now c.args.moves
+    (g.K.Sink.taken c.args.sink.now) c.from_residual.result _ _ why.1 why.2
 
 pub moves-init : goal.moves-init
 moves-init g c = record {
-  wrote = at_first c.wins_are_decided.ensures c.moves_in_order.ensures c.moves_have_keys.ensures c.moves_have_texts.ensures g.B.Board.geometry g.met.B.Board.numbers c.args.position.now c.args.moves (λ item. item.step) c.as_slice-item-items.result.now (g.K.Sink.taken c.args.sink.now);
+  wrote = at_first c.wins_are_decided.ensures c.moves_in_order.ensures c.moves_have_keys.ensures
+      c.moves_have_texts.ensures g.B.Board.geometry g.met.B.Board.numbers c.args.position.now c.args.moves
+      (λ item. item.step) c.as_slice-item-items.result.now (g.K.Sink.taken c.args.sink.now);
   sink = refl;
   counted = counted_none c.args.solver.now c.limit.ensures.within;
 }
@@ -26,9 +30,11 @@ pub write_try-requires-clause-legal : goal.write_try-requires-clause-legal
 write_try-requires-clause-legal g c =
     let geo = g.B.Board.geometry in
     let p = c.args.position.now in
-    let all = subst (λ z. IsListOf (Precedes geo p) (Legal geo p) (map (λ item. item.step) z)) (sym c.as_slice-item-items.ensures.value) c.in_ok-list.ensures.in_order in
+    let all = subst (λ z. IsListOf (Precedes geo p) (Legal geo p) (map (λ item. item.step) z))
+    (sym c.as_slice-item-items.ensures.value) c.in_ok-list.ensures.in_order in
     subst (Legal geo p) (sym (ap (λ l. l.step) c.item.view_is))
-    (item_among (λ item. item.step) (Precedes geo p) (Legal geo p) c.as_slice-item-items.result.now c.moves.item-index c.item-item.result all c.moves-test.true c.item-item.is)
+    (item_among (λ item. item.step) (Precedes geo p) (Legal geo p) c.as_slice-item-items.result.now c.moves.item-index
+    c.item-item.result all c.moves-test.true c.item-item.is)
 
 pub returns-in_err-write_try-clause-text : goal.returns-in_err-write_try-clause-text
 returns-in_err-write_try-clause-text g c =
@@ -39,11 +45,15 @@ returns-in_err-write_try-clause-text g c =
     let old = g.K.Sink.taken c.args.sink.now in
     let mid = g.K.Sink.taken c.moves.sink in
     let new = g.K.Sink.taken c.write_try.new.sink in
-    let all = subst (λ z. IsListOf (Precedes geo p) (Legal geo p) (map (λ item. item.step) z)) (sym c.as_slice-item-items.ensures.value) c.in_ok-list.ensures.in_order in
-    let one = subst (λ m. TextEnds (IsTryText geo p n m) (λ out. out ≡ []) mid new c.write_try.result) (ap (λ l. l.step) c.item.view_is) c.write_try.ensures.text in
+    let all = subst (λ z. IsListOf (Precedes geo p) (Legal geo p) (map (λ item. item.step) z))
+    (sym c.as_slice-item-items.ensures.value) c.in_ok-list.ensures.in_order in
+    let one = subst (λ m. TextEnds (IsTryText geo p n m) (λ out. out ≡ []) mid new c.write_try.result)
+    (ap (λ l. l.step) c.item.view_is) c.write_try.ensures.text in
     let why = err_from_is_err_and c.from_residual-in_err-write_try.result c.from_residual-in_err-write_try.ensures.1 in
-    at_fault c.wins_are_decided.ensures c.moves_in_order.ensures c.moves_have_keys.ensures c.moves_have_texts.ensures geo g.met.B.Board.numbers p n (λ item. item.step) items c.moves.item-index c.item-item.result old mid new
-    c.write_try.result c.from_residual-in_err-write_try.result c.in_err-write_try.field-0.0 why.0 all c.moves-test.true c.item-item.is c.moves.invariant.wrote c.in_err-write_try.was why.1 (sym why.2) one
+    at_fault c.wins_are_decided.ensures c.moves_in_order.ensures c.moves_have_keys.ensures c.moves_have_texts.ensures
+    geo g.met.B.Board.numbers p n (λ item. item.step) items c.moves.item-index c.item-item.result old mid new
+    c.write_try.result c.from_residual-in_err-write_try.result c.in_err-write_try.field-0.0 why.0 all c.moves-test.true
+    c.item-item.is c.moves.invariant.wrote c.in_err-write_try.was why.1 (sym why.2) one
 
 pub moves-preserved : goal.moves-preserved
 moves-preserved g c =
@@ -54,12 +64,17 @@ moves-preserved g c =
     let old = g.K.Sink.taken c.args.sink.now in
     let mid = g.K.Sink.taken c.moves.sink in
     let new = g.K.Sink.taken c.write_try.new.sink in
-    let all = subst (λ z. IsListOf (Precedes geo p) (Legal geo p) (map (λ item. item.step) z)) (sym c.as_slice-item-items.ensures.value) c.in_ok-list.ensures.in_order in
-    let one = subst (λ m. Writes (IsTryText geo p n m) mid new) (ap (λ l. l.step) c.item.view_is) c.in_ok-write_try.ensures.text in
+    let all = subst (λ z. IsListOf (Precedes geo p) (Legal geo p) (map (λ item. item.step) z))
+    (sym c.as_slice-item-items.ensures.value) c.in_ok-list.ensures.in_order in
+    let one = subst (λ m. Writes (IsTryText geo p n m) mid new) (ap (λ l. l.step) c.item.view_is)
+    c.in_ok-write_try.ensures.text in
     record {
-      wrote = at_next c.wins_are_decided.ensures c.moves_in_order.ensures c.moves_have_keys.ensures c.moves_have_texts.ensures geo g.met.B.Board.numbers p n (λ item. item.step) items c.moves.item-index c.item-item.result old mid new all c.moves-test.true c.item-item.is c.moves.invariant.wrote one;
+      wrote = at_next c.wins_are_decided.ensures c.moves_in_order.ensures c.moves_have_keys.ensures
+          c.moves_have_texts.ensures geo g.met.B.Board.numbers p n (λ item. item.step) items c.moves.item-index
+          c.item-item.result old mid new all c.moves-test.true c.item-item.is c.moves.invariant.wrote one;
       sink = c.in_ok-write_try.ensures.sink ∙ c.moves.invariant.sink;
-      counted = counted_then c.args.solver.now c.moves.solver c.write_try.new.solver c.moves.invariant.counted c.in_ok-write_try.ensures.spends.count;
+      counted = counted_then c.args.solver.now c.moves.solver c.write_try.new.solver c.moves.invariant.counted
+          c.in_ok-write_try.ensures.spends.count;
     }
 
 pub returns-clause-text : goal.returns-clause-text
@@ -68,5 +83,8 @@ returns-clause-text g c =
     let p = c.args.position.now in
     let n = c.args.moves in
     let items = c.as_slice-item-items.result.now in
-    let all = subst (λ z. IsListOf (Precedes geo p) (Legal geo p) (map (λ item. item.step) z)) (sym c.as_slice-item-items.ensures.value) c.in_ok-list.ensures.in_order in
-    at_end c.wins_are_decided.ensures c.moves_in_order.ensures c.moves_have_keys.ensures c.moves_have_texts.ensures geo g.met.B.Board.numbers p n (λ item. item.step) items c.moves.item-index (g.K.Sink.taken c.args.sink.now) (g.K.Sink.taken c.moves.sink) all c.moves-test.false c.moves.invariant.wrote
+    let all = subst (λ z. IsListOf (Precedes geo p) (Legal geo p) (map (λ item. item.step) z))
+    (sym c.as_slice-item-items.ensures.value) c.in_ok-list.ensures.in_order in
+    at_end c.wins_are_decided.ensures c.moves_in_order.ensures c.moves_have_keys.ensures c.moves_have_texts.ensures geo
+    g.met.B.Board.numbers p n (λ item. item.step) items c.moves.item-index (g.K.Sink.taken c.args.sink.now)
+    (g.K.Sink.taken c.moves.sink) all c.moves-test.false c.moves.invariant.wrote

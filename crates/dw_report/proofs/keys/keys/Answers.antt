@@ -12,9 +12,11 @@ pub play-after-requires : goal.play-after-requires
 play-after-requires g c =
     let geo = g.B.Board.geometry in
     let p = c.args.position.now in
-    let all = subst (λ z. IsListOf (Precedes geo p) (Legal geo p) (map (λ item. item.step) z)) (sym c.as_slice-item-items.ensures.value) c.in_ok-list.ensures.in_order in
+    let all = subst (λ z. IsListOf (Precedes geo p) (Legal geo p) (map (λ item. item.step) z))
+    (sym c.as_slice-item-items.ensures.value) c.in_ok-list.ensures.in_order in
     subst (Legal geo p) (sym (ap (λ l. l.step) c.item.view_is))
-    (item_among (λ item. item.step) (Precedes geo p) (Legal geo p) c.as_slice-item-items.result.now c.moves.item-index c.item-item.result all c.moves-test.true c.item-item.is)
+    (item_among (λ item. item.step) (Precedes geo p) (Legal geo p) c.as_slice-item-items.result.now c.moves.item-index
+    c.item-item.result all c.moves-test.true c.item-item.is)
 
 pub returns-in_err-loses-clause-asked : goal.returns-in_err-loses-clause-asked
 returns-in_err-loses-clause-asked g c =
@@ -25,7 +27,8 @@ returns-in_err-loses-clause-asked g c =
     let less : c.args.moves - 1 ≤ c.args.moves = omega arith in
     asked_then geo content lost law c.args.moves _ _ _ _ c.moves.invariant.asked
     (asked_wider geo content lost law (c.args.moves - 1) c.args.moves _ _ _ less
-    (asked_stop geo content lost (c.args.moves - 1) _ _ c.in_err-loses.field-0.0 _ c.from_residual-in_err-loses.ensures.1
+    (asked_stop geo content lost (c.args.moves - 1) _ _ c.in_err-loses.field-0.0 _
+    c.from_residual-in_err-loses.ensures.1
     c.in_err-loses.ensures.asked))
 
 pub returns-in_err-push-clause-asked : goal.returns-in_err-push-clause-asked
@@ -50,20 +53,29 @@ moves-preserved g c =
     let p = c.args.position.now in
     let n = c.args.moves in
     let less : n - 1 ≤ n = omega arith in
-    let all = subst (λ z. IsListOf (Precedes geo p) (Legal geo p) (map (λ item. item.step) z)) (sym c.as_slice-item-items.ensures.value) c.in_ok-list.ensures.in_order in
+    let all = subst (λ z. IsListOf (Precedes geo p) (Legal geo p) (map (λ item. item.step) z))
+    (sym c.as_slice-item-items.ensures.value) c.in_ok-list.ensures.in_order in
     let is = ap (λ l. l.step) c.item.view_is in
     record {
       keys = elim c.if-branch.branch [
         | then-branch+in_ok-push w ↦
-            subst (λ z. GatheredTo (λ item. item.step) (Precedes geo p) (λ m. m) (λ m. Lost geo (play geo p m) (n - 1)) c.as_slice-item-items.result.now (c.moves.item-index + 1) z)
+            subst (λ z. GatheredTo (λ item. item.step) (Precedes geo p) (λ m. m) (λ m. Lost geo (play geo p m) (n - 1))
+            c.as_slice-item-items.result.now (c.moves.item-index + 1) z)
             (sym (ap (λ v. v.items) w.keys-is ∙ w.in_ok-push.ensures))
-            (to_more (λ item. item.step) (Precedes geo p) (λ m. m) (λ m. Lost geo (play geo p m) (n - 1)) c.as_slice-item-items.result.now c.moves.item-index c.item-item.result c.moves.keys.items c.item.inside.step
-            all.ascending c.moves-test.true c.item-item.is is (subst (λ z. Lost geo z (n - 1)) c.play-after.ensures (c.in_ok-loses.ensures.answer.0 w.if-branch.true)) (λ z e h. e ∙ sym is) c.moves.invariant.keys)
+            (to_more (λ item. item.step) (Precedes geo p) (λ m. m) (λ m. Lost geo (play geo p m) (n - 1))
+            c.as_slice-item-items.result.now c.moves.item-index c.item-item.result c.moves.keys.items
+            c.item.inside.step
+            all.ascending c.moves-test.true c.item-item.is is (subst (λ z. Lost geo z (n - 1)) c.play-after.ensures
+            (c.in_ok-loses.ensures.answer.0 w.if-branch.true)) (λ z e h. e ∙ sym is) c.moves.invariant.keys)
         | else-branch w ↦
-            subst (λ z. GatheredTo (λ item. item.step) (Precedes geo p) (λ m. m) (λ m. Lost geo (play geo p m) (n - 1)) c.as_slice-item-items.result.now (c.moves.item-index + 1) z)
+            subst (λ z. GatheredTo (λ item. item.step) (Precedes geo p) (λ m. m) (λ m. Lost geo (play geo p m) (n - 1))
+            c.as_slice-item-items.result.now (c.moves.item-index + 1) z)
             (sym (ap (λ v. v.items) w.keys-is))
-            (to_same (λ item. item.step) (Precedes geo p) (λ m. m) (λ m. Lost geo (play geo p m) (n - 1)) c.as_slice-item-items.result.now c.moves.item-index c.item-item.result c.moves.keys.items
-            c.moves-test.true c.item-item.is (λ z e h. let yes = c.in_ok-loses.ensures.answer.1 (subst (λ z. Lost geo z (n - 1)) (ap (play geo p) (e ∙ sym is) ∙ sym c.play-after.ensures) h) in let not_so = w.if-branch.false in cc) c.moves.invariant.keys)
+            (to_same (λ item. item.step) (Precedes geo p) (λ m. m) (λ m. Lost geo (play geo p m) (n - 1))
+            c.as_slice-item-items.result.now c.moves.item-index c.item-item.result c.moves.keys.items
+            c.moves-test.true c.item-item.is (λ z e h. let yes = c.in_ok-loses.ensures.answer.1
+            (subst (λ z. Lost geo z (n - 1)) (ap (play geo p) (e ∙ sym is) ∙ sym c.play-after.ensures) h) in
+            let not_so = w.if-branch.false in cc) c.moves.invariant.keys)
       ];
       asked = asked_then geo content lost law n _ _ _ answered c.moves.invariant.asked
           (asked_wider geo content lost law (n - 1) n _ _ answered less
@@ -75,6 +87,8 @@ pub returns-clause-keys : goal.returns-clause-keys
 returns-clause-keys g c =
     let geo = g.B.Board.geometry in
     let p = c.args.position.now in
-    let all = subst (λ z. IsListOf (Precedes geo p) (Legal geo p) (map (λ item. item.step) z)) (sym c.as_slice-item-items.ensures.value) c.in_ok-list.ensures.in_order in
+    let all = subst (λ z. IsListOf (Precedes geo p) (Legal geo p) (map (λ item. item.step) z))
+    (sym c.as_slice-item-items.ensures.value) c.in_ok-list.ensures.in_order in
     let some : 1 ≤ c.args.moves = omega (arith, c.if-moves-eq0.false) in
-    keys_whole (λ item. item.step) geo p c.args.moves c.as_slice-item-items.result.now c.moves.item-index c.moves.keys.items some (omega (arith, c.moves-test.false)) all c.moves.invariant.keys
+    keys_whole (λ item. item.step) geo p c.args.moves c.as_slice-item-items.result.now c.moves.item-index
+    c.moves.keys.items some (omega (arith, c.moves-test.false)) all c.moves.invariant.keys

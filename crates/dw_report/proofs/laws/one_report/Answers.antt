@@ -18,6 +18,7 @@ returns c =
     } in
     record {
       texts = texts_some laws;
-      some = λ g b request some bytes. texts_some laws g b request some (chosen request.only (problems_of g request.form bytes));
+      some = λ g b request some bytes. texts_some laws g b request some
+          (chosen request.only (problems_of g request.form bytes));
       only = λ g b request bytes. texts_only laws g b request (chosen request.only (problems_of g request.form bytes));
     }

@@ -12,8 +12,22 @@ pub write_listing-requires : goal.write_listing-requires
 write_listing-requires g c =
     let old = stack_of c.args.lister.now in
     let all = c.lines_exist.ensures.some g.B.Board.geometry g.met.B.Board.numbers old.position old.moves in
-    let rest = c.in-Ok.ensures.after.rest all.0 all.1 in
-    (omega arith, (c.requires.works, (c.requires.some, (c.requires.rows, (c.in-Ok.ensures.after.position ∙ c.requires.position, (c.in-Ok.ensures.none_kept, (rest.0, rest.2)))))))
+    let rest = c.in-Ok.ensures.after.rest all.0 all.1 in (
+      omega arith,
+      (
+        c.requires.works,
+        (
+          c.requires.some,
+          (
+            c.requires.rows,
+            (
+              c.in-Ok.ensures.after.position ∙ c.requires.position,
+              (c.in-Ok.ensures.none_kept, (rest.0, rest.2)),
+            ),
+          ),
+        ),
+      ),
+    )
 
 pub returns-in_err-write_listing-in-Ok-clause-text : goal.returns-in_err-write_listing-in-Ok-clause-text
 returns-in_err-write_listing-in-Ok-clause-text g c =
@@ -23,9 +37,12 @@ returns-in_err-write_listing-in-Ok-clause-text g c =
     let all = c.lines_exist.ensures.some geo g.met.B.Board.numbers old.position old.moves in
     let rest = c.in-Ok.ensures.after.rest all.0 all.1 in
     let here = subst (λ z. Lines geo z old.moves all.0) c.requires.position all.1 in
-    let why = err_from_is_err_and c.from_residual-in_err-write_listing-in-Ok.result c.from_residual-in_err-write_listing-in-Ok.ensures.1 in
-    listed_fault geo p old.moves c.args.most (Some c.args.line.now) rest.0 (listed_after geo p old.moves c.args.most c.args.line.now all.0 rest.0 here rest.1) _ _
-    c.write_listing.result c.from_residual-in_err-write_listing-in-Ok.result c.in_err-write_listing-in-Ok.field-0.0 why.0 c.in_err-write_listing-in-Ok.was why.1 (sym why.2) (c.write_listing.ensures.text rest.0 rest.2)
+    let why = err_from_is_err_and c.from_residual-in_err-write_listing-in-Ok.result
+    c.from_residual-in_err-write_listing-in-Ok.ensures.1 in
+    listed_fault geo p old.moves c.args.most (Some c.args.line.now) rest.0 (listed_after geo p old.moves c.args.most
+    c.args.line.now all.0 rest.0 here rest.1) _ _
+    c.write_listing.result c.from_residual-in_err-write_listing-in-Ok.result c.in_err-write_listing-in-Ok.field-0.0
+    why.0 c.in_err-write_listing-in-Ok.was why.1 (sym why.2) (c.write_listing.ensures.text rest.0 rest.2)
 
 pub returns-in-Err-Stopped-clause-text : goal.returns-in-Err-Stopped-clause-text
 returns-in-Err-Stopped-clause-text g c =
@@ -33,7 +50,8 @@ returns-in-Err-Stopped-clause-text g c =
     let p = c.args.position.now in
     let old = stack_of c.args.lister.now in
     no_lines (IsListedText geo p old.moves c.args.most (Some c.args.line.now))
-    (listed_some c.lines_exist.ensures c.line_or_place.ensures c.lines_have_texts.ensures geo g.met.B.Board.numbers p old.moves c.args.most (Some c.args.line.now) c.requires.some) (g.K.Sink.taken c.args.sink.now)
+    (listed_some c.lines_exist.ensures c.line_or_place.ensures c.lines_have_texts.ensures geo g.met.B.Board.numbers p
+    old.moves c.args.most (Some c.args.line.now) c.requires.some) (g.K.Sink.taken c.args.sink.now)
 
 pub returns-in_ok-write_listing-in-Ok-clause-text : goal.returns-in_ok-write_listing-in-Ok-clause-text
 returns-in_ok-write_listing-in-Ok-clause-text g c =
@@ -43,4 +61,5 @@ returns-in_ok-write_listing-in-Ok-clause-text g c =
     let all = c.lines_exist.ensures.some geo g.met.B.Board.numbers old.position old.moves in
     let rest = c.in-Ok.ensures.after.rest all.0 all.1 in
     let here = subst (λ z. Lines geo z old.moves all.0) c.requires.position all.1 in
-    listed_written geo p old.moves c.args.most (Some c.args.line.now) rest.0 (listed_after geo p old.moves c.args.most c.args.line.now all.0 rest.0 here rest.1) _ _ (c.in_ok-write_listing-in-Ok.ensures.text rest.0 rest.2)
+    listed_written geo p old.moves c.args.most (Some c.args.line.now) rest.0 (listed_after geo p old.moves c.args.most
+    c.args.line.now all.0 rest.0 here rest.1) _ _ (c.in_ok-write_listing-in-Ok.ensures.text rest.0 rest.2)

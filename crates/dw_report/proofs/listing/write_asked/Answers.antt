@@ -10,8 +10,20 @@ use Rattle.dw_report.proofs.listing.write_asked.Goals as goal
 
 pub write_listing-requires : goal.write_listing-requires
 write_listing-requires g c =
-    let all = c.lines_exist.ensures.some g.B.Board.geometry g.met.B.Board.numbers c.args.position.now c.args.settings.now.n in
-    (omega arith, (c.requires.works, (c.requires.most, (c.requires.rows, (c.requires.position, (c.requires.kept, (all.0, (c.requires.to_come all.0).0 all.1)))))))
+    let all = c.lines_exist.ensures.some g.B.Board.geometry g.met.B.Board.numbers c.args.position.now
+    c.args.settings.now.n in (
+      omega arith,
+      (
+        c.requires.works,
+        (
+          c.requires.most,
+          (
+            c.requires.rows,
+            (c.requires.position, (c.requires.kept, (all.0, (c.requires.to_come all.0).0 all.1))),
+          ),
+        ),
+      ),
+    )
 
 pub returns-in_err-write_listing-in-None-clause-text : goal.returns-in_err-write_listing-in-None-clause-text
 returns-in_err-write_listing-in-None-clause-text g c =
@@ -22,8 +34,11 @@ returns-in_err-write_listing-in-None-clause-text g c =
     let all = c.lines_exist.ensures.some geo g.met.B.Board.numbers p n in
     let none : (request_of c.args.settings.now).after ≡ None = ap (option_map (λ line. line.items)) c.in-None.is in
     let why = err_from_is_err_and c.from_residual.result c.from_residual.ensures.1 in
-    subst (λ o. EndsListed geo p n most o (g.K.Sink.taken c.args.sink.now) (g.K.Sink.taken c.write_listing.new.sink) c.from_residual.result) (sym none)
-    (listed_fault geo p n most None all.0 (listed_all geo p n most all.0 all.1) _ _ c.write_listing.result c.from_residual.result c.in_err-write_listing-in-None.field-0.0 why.0 c.in_err-write_listing-in-None.was why.1 (sym why.2)
+    subst (λ o. EndsListed geo p n most o (g.K.Sink.taken c.args.sink.now) (g.K.Sink.taken c.write_listing.new.sink)
+    c.from_residual.result) (sym none)
+    (listed_fault geo p n most None all.0 (listed_all geo p n most all.0 all.1) _ _ c.write_listing.result
+    c.from_residual.result c.in_err-write_listing-in-None.field-0.0 why.0 c.in_err-write_listing-in-None.was why.1
+    (sym why.2)
     (c.write_listing.ensures.text all.0 ((c.requires.to_come all.0).0 all.1)))
 
 pub returns-in_ok-write_listing-in-None-clause-text : goal.returns-in_ok-write_listing-in-None-clause-text
@@ -34,10 +49,15 @@ returns-in_ok-write_listing-in-None-clause-text g c =
     let most = c.args.settings.now.lines in
     let all = c.lines_exist.ensures.some geo g.met.B.Board.numbers p n in
     let none : (request_of c.args.settings.now).after ≡ None = ap (option_map (λ line. line.items)) c.in-None.is in
-    subst (λ o. Writes (IsListedText geo p n most o) (g.K.Sink.taken c.args.sink.now) (g.K.Sink.taken c.write_listing.new.sink)) (sym none)
-    (listed_written geo p n most None all.0 (listed_all geo p n most all.0 all.1) _ _ (c.in_ok-write_listing-in-None.ensures.text all.0 ((c.requires.to_come all.0).0 all.1)))
+    subst (λ o. Writes (IsListedText geo p n most o) (g.K.Sink.taken c.args.sink.now)
+    (g.K.Sink.taken c.write_listing.new.sink)) (sym none)
+    (listed_written geo p n most None all.0 (listed_all geo p n most all.0 all.1) _ _
+    (c.in_ok-write_listing-in-None.ensures.text all.0 ((c.requires.to_come all.0).0 all.1)))
 
 pub returns-in-Some-clause-refused : goal.returns-in-Some-clause-refused
 returns-in-Some-clause-refused g c =
-    let line : (request_of c.args.settings.now).after ≡ Some c.as_slice.result.now = ap (option_map (λ line. line.items)) c.in-Some.is ∙ ap Some (sym c.as_slice.ensures.value) in
-    refused_as g.B.Board.geometry c.args.position.now c.args.settings.now.n (stack_of c.args.lister.now).moves (request_of c.args.settings.now).after (Some c.as_slice.result.now) c.write_after.result c.requires.moves (sym line) c.write_after.ensures.refused
+    let line : (request_of c.args.settings.now).after ≡ Some c.as_slice.result.now =
+    ap (option_map (λ line. line.items)) c.in-Some.is ∙ ap Some (sym c.as_slice.ensures.value) in
+    refused_as g.B.Board.geometry c.args.position.now c.args.settings.now.n (stack_of c.args.lister.now).moves
+    (request_of c.args.settings.now).after (Some c.as_slice.result.now) c.write_after.result c.requires.moves
+    (sym line) c.write_after.ensures.refused

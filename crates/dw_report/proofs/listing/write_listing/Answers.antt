@@ -11,7 +11,9 @@ use Rattle.dw_report.specs.inner.Rows.{IsRow, IsNothing}
 use Rattle.dw_report.specs.Running.{AreLinesOf}
 use Rattle.dw_report.specs.inner.Running.{TextEnds}
 use Rattle.dw_report.proofs.JudgedTextLemmas.{line_playable}
-use Rattle.dw_report.proofs.LineRowLemmas.{line_odd, comes_first, lines_text, no_rows, row_written, given_line, last_line, line_next, none_next, rows_stop, row_ends, more_line, complete_written, complete_short, more_written, more_short}
+use Rattle.dw_report.proofs.LineRowLemmas.{line_odd, comes_first, lines_text, no_rows, row_written, given_line}
+use Rattle.dw_report.proofs.LineRowLemmas.{last_line, line_next, none_next, rows_stop, row_ends, more_line}
+use Rattle.dw_report.proofs.LineRowLemmas.{complete_written, complete_short, more_written, more_short}
 use Rattle.dw_report.proofs.WritingLemmas.{at_stop, at_sink}
 use Rattle.dw_report.proofs.listing.write_listing.Goals as goal
 
@@ -21,7 +23,8 @@ lines-init g c = record {
   rows = no_rows g.B.Board.geometry c.args.position.now (stack_of c.args.lister.now) (g.K.Sink.taken c.args.sink.now);
   text = c.new-text.ensures.text;
   start = c.new-text.ensures.start;
-  comes = comes_first (kept_of c.args.lister.now) (reverse (stack_of c.args.lister.now).line) (moves_of c.new-text.result) c.requires.kept c.new-text.ensures.moves;
+  comes = comes_first (kept_of c.args.lister.now) (reverse (stack_of c.args.lister.now).line)
+      (moves_of c.new-text.result) c.requires.kept c.new-text.ensures.moves;
   few = omega arith;
   sink = refl;
   rises = omega arith;
@@ -35,8 +38,11 @@ returns-in_err-advance-clause-text g c =
     let most = c.args.most in
     let start = stack_of c.args.lister.now in
     let why = err_from_is_err_and c.from_residual.result c.from_residual.ensures.1 in
-    λ lines all. at_stop (IsListing geo p most lines) (AreLinesOf (IsListing geo p most lines)) _ _ c.from_residual.result c.in_err-advance.field-0.0 (why.1 ∙ ap Err why.2)
-    (rows_stop geo p most c.requires.some start lines all (lines_text c.lines_have_texts.ensures geo g.met.B.Board.numbers start p lines c.requires.position all) (stack_of c.lines.lister) c.lines.written _ _ c.lines.invariant.rows c.lines.invariant.few)
+    λ lines all. at_stop (IsListing geo p most lines) (AreLinesOf (IsListing geo p most lines)) _ _
+    c.from_residual.result c.in_err-advance.field-0.0 (why.1 ∙ ap Err why.2)
+    (rows_stop geo p most c.requires.some start lines all (lines_text c.lines_have_texts.ensures geo
+    g.met.B.Board.numbers start p lines c.requires.position all) (stack_of c.lines.lister) c.lines.written _ _
+    c.lines.invariant.rows c.lines.invariant.few)
 
 pub returns-in_err-write_all-clause-text : goal.returns-in_err-write_all-clause-text
 returns-in_err-write_all-clause-text g c =
@@ -45,10 +51,14 @@ returns-in_err-write_all-clause-text g c =
     let most = c.args.most in
     let start = stack_of c.args.lister.now in
     let why = err_from_is_err_and c.from_residual-in_err-write_all.result c.from_residual-in_err-write_all.ensures.1 in
-    let none = none_next geo c.in_ok-advance.field-0 (stack_of c.lines.lister) (stack_of c.advance.new.self) c.in_ok-advance.ensures.next c.if-not-branch.true in
+    let none = none_next geo c.in_ok-advance.field-0 (stack_of c.lines.lister) (stack_of c.advance.new.self)
+    c.in_ok-advance.ensures.next c.if-not-branch.true in
     let row = c.as_bytes.ensures.value ∙ (c.as_str.ensures.value ∙ c.complete_row.ensures) in
-    λ lines all. at_sink (IsListing geo p most lines) (AreLinesOf (IsListing geo p most lines)) _ _ c.from_residual-in_err-write_all.result (why.1 ∙ ap Err why.2)
-    (complete_short geo p most c.requires.some start lines all (lines_text c.lines_have_texts.ensures geo g.met.B.Board.numbers start p lines c.requires.position all) (stack_of c.lines.lister) (stack_of c.advance.new.self) c.lines.written _ _ _ c.lines.invariant.rows none c.lines.invariant.few
+    λ lines all. at_sink (IsListing geo p most lines) (AreLinesOf (IsListing geo p most lines)) _ _
+    c.from_residual-in_err-write_all.result (why.1 ∙ ap Err why.2)
+    (complete_short geo p most c.requires.some start lines all (lines_text c.lines_have_texts.ensures geo
+    g.met.B.Board.numbers start p lines c.requires.position all) (stack_of c.lines.lister)
+    (stack_of c.advance.new.self) c.lines.written _ _ _ c.lines.invariant.rows none c.lines.invariant.few
     (subst (StopsShort _ _) row c.in_err-write_all.ensures.err))
 
 pub returns-then-not-branch-clause-text : goal.returns-then-not-branch-clause-text
@@ -57,9 +67,12 @@ returns-then-not-branch-clause-text g c =
     let p = c.args.position.now in
     let most = c.args.most in
     let start = stack_of c.args.lister.now in
-    let none = none_next geo c.in_ok-advance.field-0 (stack_of c.lines.lister) (stack_of c.advance.new.self) c.in_ok-advance.ensures.next c.if-not-branch.true in
+    let none = none_next geo c.in_ok-advance.field-0 (stack_of c.lines.lister) (stack_of c.advance.new.self)
+    c.in_ok-advance.ensures.next c.if-not-branch.true in
     let row = c.as_bytes.ensures.value ∙ (c.as_str.ensures.value ∙ c.complete_row.ensures) in
-    λ lines all. complete_written geo p most c.requires.some start lines all (lines_text c.lines_have_texts.ensures geo g.met.B.Board.numbers start p lines c.requires.position all) (stack_of c.lines.lister) (stack_of c.advance.new.self) c.lines.written _ _ _ c.lines.invariant.rows none c.lines.invariant.few
+    λ lines all. complete_written geo p most c.requires.some start lines all (lines_text c.lines_have_texts.ensures geo
+    g.met.B.Board.numbers start p lines c.requires.position all) (stack_of c.lines.lister)
+    (stack_of c.advance.new.self) c.lines.written _ _ _ c.lines.invariant.rows none c.lines.invariant.few
     (subst (Appends _ _) row c.in_ok-write_all.ensures.ok)
 
 pub write_row-requires : goal.write_row-requires
@@ -67,16 +80,36 @@ write_row-requires g c =
     let geo = g.B.Board.geometry in
     let p = c.args.position.now in
     let start = stack_of c.args.lister.now in
-    let first = line_next geo c.in_ok-advance.field-0 (stack_of c.lines.lister) (stack_of c.advance.new.self) c.in_ok-advance.ensures.next c.if-not-branch.false in
-    let line = given_line geo p start (stack_of c.lines.lister) (stack_of c.advance.new.self) c.lines.written c.lines.invariant.rows.texts c.lines.invariant.rows.rows first c.requires.to_come.0 c.requires.to_come.1 in
-    let playable = subst (λ z. ArePlayable geo z (reverse (stack_of c.advance.new.self).line)) c.requires.position (line_playable geo start.position start.moves (reverse (stack_of c.advance.new.self).line) line) in
-    let legal = subst (λ z. ArePlayable geo z c.line.result.now) (sym c.lines.invariant.start) (subst (ArePlayable geo p) (sym c.line.ensures.line) playable) in
+    let first = line_next geo c.in_ok-advance.field-0 (stack_of c.lines.lister) (stack_of c.advance.new.self)
+    c.in_ok-advance.ensures.next c.if-not-branch.false in
+    let line = given_line geo p start (stack_of c.lines.lister) (stack_of c.advance.new.self) c.lines.written
+    c.lines.invariant.rows.texts c.lines.invariant.rows.rows first c.requires.to_come.0 c.requires.to_come.1 in
+    let playable = subst (λ z. ArePlayable geo z (reverse (stack_of c.advance.new.self).line)) c.requires.position
+    (line_playable geo start.position start.moves (reverse (stack_of c.advance.new.self).line) line) in
+    let legal = subst (λ z. ArePlayable geo z c.line.result.now) (sym c.lines.invariant.start)
+    (subst (ArePlayable geo p) (sym c.line.ensures.line) playable) in
     let shared = c.in_ok-advance.ensures.shared c.if-not-branch.false in
     let moves = moves_of c.lines.text in
     let most = shared_of c.advance.new.self in
-    let fits : c.shared.result ≤ length c.line.result.now = omega (arith, c.shared.ensures, ap length c.line.ensures.line, shared.fits) in
-    let same = subst (λ z. take most z ≡ take most moves) (sym c.line.ensures.line) (shared.first moves c.lines.invariant.comes) in
-    (omega arith, (c.lines.invariant.text, (c.line.ensures.few, (legal, (fits, subst (λ k. take k c.line.result.now ≡ take k moves) (sym c.shared.ensures) same)))))
+    let fits : c.shared.result ≤ length c.line.result.now =
+    omega (arith, c.shared.ensures, ap length c.line.ensures.line, shared.fits) in
+    let same = subst (λ z. take most z ≡ take most moves) (sym c.line.ensures.line)
+    (shared.first moves c.lines.invariant.comes) in (
+      omega arith,
+      (
+        c.lines.invariant.text,
+        (
+          c.line.ensures.few,
+          (
+            legal,
+            (
+              fits,
+              subst (λ k. take k c.line.result.now ≡ take k moves) (sym c.shared.ensures) same,
+            ),
+          ),
+        ),
+      ),
+    )
 
 pub returns-in_err-write_row-clause-text : goal.returns-in_err-write_row-clause-text
 returns-in_err-write_row-clause-text g c =
@@ -85,11 +118,17 @@ returns-in_err-write_row-clause-text g c =
     let most = c.args.most in
     let start = stack_of c.args.lister.now in
     let why = err_from_is_err_and c.from_residual-in_err-write_row.result c.from_residual-in_err-write_row.ensures.1 in
-    let first = line_next geo c.in_ok-advance.field-0 (stack_of c.lines.lister) (stack_of c.advance.new.self) c.in_ok-advance.ensures.next c.if-not-branch.false in
-    λ lines all. row_ends geo p most c.requires.some start lines all (lines_text c.lines_have_texts.ensures geo g.met.B.Board.numbers start p lines c.requires.position all) (stack_of c.lines.lister) (stack_of c.advance.new.self) c.lines.written _ _ _ c.write_row.result c.from_residual-in_err-write_row.result c.in_err-write_row.field-0.0 why.0
+    let first = line_next geo c.in_ok-advance.field-0 (stack_of c.lines.lister) (stack_of c.advance.new.self)
+    c.in_ok-advance.ensures.next c.if-not-branch.false in
+    λ lines all. row_ends geo p most c.requires.some start lines all (lines_text c.lines_have_texts.ensures geo
+    g.met.B.Board.numbers start p lines c.requires.position all) (stack_of c.lines.lister)
+    (stack_of c.advance.new.self) c.lines.written _ _ _ c.write_row.result c.from_residual-in_err-write_row.result
+    c.in_err-write_row.field-0.0 why.0
     c.lines.invariant.rows first c.lines-test.true c.in_err-write_row.was why.1 (sym why.2)
-    (subst (λ z. TextEnds (IsRow geo p z) IsNothing (g.K.Sink.taken c.lines.sink) (g.K.Sink.taken c.write_row.new.sink) c.write_row.result) c.line.ensures.line
-    (subst (λ z. TextEnds (IsRow geo z c.line.result.now) IsNothing (g.K.Sink.taken c.lines.sink) (g.K.Sink.taken c.write_row.new.sink) c.write_row.result) c.lines.invariant.start c.write_row.ensures.text))
+    (subst (λ z. TextEnds (IsRow geo p z) IsNothing (g.K.Sink.taken c.lines.sink) (g.K.Sink.taken c.write_row.new.sink)
+    c.write_row.result) c.line.ensures.line
+    (subst (λ z. TextEnds (IsRow geo z c.line.result.now) IsNothing (g.K.Sink.taken c.lines.sink)
+    (g.K.Sink.taken c.write_row.new.sink) c.write_row.result) c.lines.invariant.start c.write_row.ensures.text))
 
 pub lines-preserved : goal.lines-preserved
 lines-preserved g c =
@@ -97,14 +136,18 @@ lines-preserved g c =
     let p = c.args.position.now in
     let most = c.args.most in
     let start = stack_of c.args.lister.now in
-    let first = line_next geo c.in_ok-advance.field-0 (stack_of c.lines.lister) (stack_of c.advance.new.self) c.in_ok-advance.ensures.next c.if-not-branch.false in
-    let here = subst (λ z. Writes (IsRow geo z c.line.result.now) (g.K.Sink.taken c.lines.sink) (g.K.Sink.taken c.write_row.new.sink)) c.lines.invariant.start c.in_ok-write_row.ensures.text in
-    let row = subst (λ z. Writes (IsRow geo p z) (g.K.Sink.taken c.lines.sink) (g.K.Sink.taken c.write_row.new.sink)) c.line.ensures.line here in
+    let first = line_next geo c.in_ok-advance.field-0 (stack_of c.lines.lister) (stack_of c.advance.new.self)
+    c.in_ok-advance.ensures.next c.if-not-branch.false in
+    let here = subst (λ z. Writes (IsRow geo z c.line.result.now) (g.K.Sink.taken c.lines.sink)
+    (g.K.Sink.taken c.write_row.new.sink)) c.lines.invariant.start c.in_ok-write_row.ensures.text in
+    let row = subst (λ z. Writes (IsRow geo p z) (g.K.Sink.taken c.lines.sink) (g.K.Sink.taken c.write_row.new.sink))
+    c.line.ensures.line here in
     let shared = c.in_ok-advance.ensures.shared c.if-not-branch.false in
     let moves = c.in_ok-write_row.ensures.moves ∙ c.line.ensures.line in
     record {
       lender = c.advance.ensures.lender ∙ c.lines.invariant.lender;
-      rows = row_written geo p start (stack_of c.lines.lister) (stack_of c.advance.new.self) c.lines.written _ _ _ c.lines.invariant.rows first row;
+      rows = row_written geo p start (stack_of c.lines.lister) (stack_of c.advance.new.self) c.lines.written _ _ _
+          c.lines.invariant.rows first row;
       text = c.write_row.ensures.of;
       start = c.write_row.ensures.start ∙ c.lines.invariant.start;
       comes = subst (ComesFrom c.advance.new.self) (sym moves) shared.next;
@@ -121,8 +164,11 @@ returns-in_err-advance-2-clause-text g c =
     let most = c.args.most in
     let start = stack_of c.args.lister.now in
     let why = err_from_is_err_and c.from_residual-in_err-advance-2.result c.from_residual-in_err-advance-2.ensures.1 in
-    λ lines all. at_stop (IsListing geo p most lines) (AreLinesOf (IsListing geo p most lines)) _ _ c.from_residual-in_err-advance-2.result c.in_err-advance-2.field-0.0 (why.1 ∙ ap Err why.2)
-    (rows_stop geo p most c.requires.some start lines all (lines_text c.lines_have_texts.ensures geo g.met.B.Board.numbers start p lines c.requires.position all) (stack_of c.lines.lister) c.lines.written _ _ c.lines.invariant.rows c.lines.invariant.few)
+    λ lines all. at_stop (IsListing geo p most lines) (AreLinesOf (IsListing geo p most lines)) _ _
+    c.from_residual-in_err-advance-2.result c.in_err-advance-2.field-0.0 (why.1 ∙ ap Err why.2)
+    (rows_stop geo p most c.requires.some start lines all (lines_text c.lines_have_texts.ensures geo
+    g.met.B.Board.numbers start p lines c.requires.position all) (stack_of c.lines.lister) c.lines.written _ _
+    c.lines.invariant.rows c.lines.invariant.few)
 
 pub write_more-requires-clause-odd : goal.write_more-requires-clause-odd
 write_more-requires-clause-odd g c =
@@ -132,8 +178,10 @@ write_more-requires-clause-odd g c =
     let start = stack_of c.args.lister.now in
     let last = c.as_slice.ensures.value ∙ (c.kept-last.ensures ∙ c.line-2.ensures.line) in
     let some : 1 ≤ c.lines.written = omega (arith, c.requires.some, c.lines-test.false) in
-    let line = last_line geo p start (stack_of c.lines.lister) c.lines.written c.lines.invariant.rows.texts some c.lines.invariant.rows.rows c.requires.to_come.0 c.requires.to_come.1 in
-    subst (λ (z : List Move). length z % 2 ≡ 1) (sym last) (line_odd geo start.position start.moves (reverse (stack_of c.lines.lister).line) line)
+    let line = last_line geo p start (stack_of c.lines.lister) c.lines.written c.lines.invariant.rows.texts some
+    c.lines.invariant.rows.rows c.requires.to_come.0 c.requires.to_come.1 in
+    subst (λ (z : List Move). length z % 2 ≡ 1) (sym last) (line_odd geo start.position start.moves
+    (reverse (stack_of c.lines.lister).line) line)
 
 pub returns-in_err-write_more-clause-text : goal.returns-in_err-write_more-clause-text
 returns-in_err-write_more-clause-text g c =
@@ -141,13 +189,19 @@ returns-in_err-write_more-clause-text g c =
     let p = c.args.position.now in
     let most = c.args.most in
     let start = stack_of c.args.lister.now in
-    let why = err_from_is_err_and c.from_residual-in_err-write_more.result c.from_residual-in_err-write_more.ensures.1 in
-    let first = line_next geo c.in_ok-advance-2.field-0 (stack_of c.lines.lister) (stack_of c.advance-2.new.self) c.in_ok-advance-2.ensures.next c.if-branch.true in
+    let why = err_from_is_err_and c.from_residual-in_err-write_more.result
+    c.from_residual-in_err-write_more.ensures.1 in
+    let first = line_next geo c.in_ok-advance-2.field-0 (stack_of c.lines.lister) (stack_of c.advance-2.new.self)
+    c.in_ok-advance-2.ensures.next c.if-branch.true in
     let full : c.lines.written ≡ most = omega (arith, c.lines.invariant.few, c.lines-test.false) in
     let last = c.as_slice.ensures.value ∙ (c.kept-last.ensures ∙ c.line-2.ensures.line) in
-    λ lines all. at_sink (IsListing geo p most lines) (AreLinesOf (IsListing geo p most lines)) _ _ c.from_residual-in_err-write_more.result (why.1 ∙ ap Err why.2)
-    (more_short geo p most c.requires.some start lines all (lines_text c.lines_have_texts.ensures geo g.met.B.Board.numbers start p lines c.requires.position all) (stack_of c.lines.lister) (stack_of c.advance-2.new.self) c.lines.written _ _ _ c.lines.invariant.rows first full
-    (subst (λ z. StopsShort (g.K.Sink.taken c.lines.sink) (g.K.Sink.taken c.write_more.new.sink) (more_line geo z)) last c.in_err-write_more.ensures.err))
+    λ lines all. at_sink (IsListing geo p most lines) (AreLinesOf (IsListing geo p most lines)) _ _
+    c.from_residual-in_err-write_more.result (why.1 ∙ ap Err why.2)
+    (more_short geo p most c.requires.some start lines all (lines_text c.lines_have_texts.ensures geo
+    g.met.B.Board.numbers start p lines c.requires.position all) (stack_of c.lines.lister)
+    (stack_of c.advance-2.new.self) c.lines.written _ _ _ c.lines.invariant.rows first full
+    (subst (λ z. StopsShort (g.K.Sink.taken c.lines.sink) (g.K.Sink.taken c.write_more.new.sink) (more_line geo z)) last
+    c.in_err-write_more.ensures.err))
 
 pub returns-in_err-write_all-2-clause-text : goal.returns-in_err-write_all-2-clause-text
 returns-in_err-write_all-2-clause-text g c =
@@ -155,11 +209,17 @@ returns-in_err-write_all-2-clause-text g c =
     let p = c.args.position.now in
     let most = c.args.most in
     let start = stack_of c.args.lister.now in
-    let why = err_from_is_err_and c.from_residual-in_err-write_all-2.result c.from_residual-in_err-write_all-2.ensures.1 in
-    let none = none_next geo c.in_ok-advance-2.field-0 (stack_of c.lines.lister) (stack_of c.advance-2.new.self) c.in_ok-advance-2.ensures.next c.if-branch.false in
-    let row = c.as_bytes-else-branch.ensures.value ∙ (c.as_str-else-branch.ensures.value ∙ c.complete_row-else-branch.ensures) in
-    λ lines all. at_sink (IsListing geo p most lines) (AreLinesOf (IsListing geo p most lines)) _ _ c.from_residual-in_err-write_all-2.result (why.1 ∙ ap Err why.2)
-    (complete_short geo p most c.requires.some start lines all (lines_text c.lines_have_texts.ensures geo g.met.B.Board.numbers start p lines c.requires.position all) (stack_of c.lines.lister) (stack_of c.advance-2.new.self) c.lines.written _ _ _ c.lines.invariant.rows none c.lines.invariant.few
+    let why = err_from_is_err_and c.from_residual-in_err-write_all-2.result
+    c.from_residual-in_err-write_all-2.ensures.1 in
+    let none = none_next geo c.in_ok-advance-2.field-0 (stack_of c.lines.lister) (stack_of c.advance-2.new.self)
+    c.in_ok-advance-2.ensures.next c.if-branch.false in
+    let row = c.as_bytes-else-branch.ensures.value ∙ (c.as_str-else-branch.ensures.value
+    ∙ c.complete_row-else-branch.ensures) in
+    λ lines all. at_sink (IsListing geo p most lines) (AreLinesOf (IsListing geo p most lines)) _ _
+    c.from_residual-in_err-write_all-2.result (why.1 ∙ ap Err why.2)
+    (complete_short geo p most c.requires.some start lines all (lines_text c.lines_have_texts.ensures geo
+    g.met.B.Board.numbers start p lines c.requires.position all) (stack_of c.lines.lister)
+    (stack_of c.advance-2.new.self) c.lines.written _ _ _ c.lines.invariant.rows none c.lines.invariant.few
     (subst (StopsShort _ _) row c.in_err-write_all-2.ensures.err))
 
 pub returns-in_ok-write_more-clause-text : goal.returns-in_ok-write_more-clause-text
@@ -168,11 +228,15 @@ returns-in_ok-write_more-clause-text g c =
     let p = c.args.position.now in
     let most = c.args.most in
     let start = stack_of c.args.lister.now in
-    let first = line_next geo c.in_ok-advance-2.field-0 (stack_of c.lines.lister) (stack_of c.advance-2.new.self) c.in_ok-advance-2.ensures.next c.if-branch.true in
+    let first = line_next geo c.in_ok-advance-2.field-0 (stack_of c.lines.lister) (stack_of c.advance-2.new.self)
+    c.in_ok-advance-2.ensures.next c.if-branch.true in
     let full : c.lines.written ≡ most = omega (arith, c.lines.invariant.few, c.lines-test.false) in
     let last = c.as_slice.ensures.value ∙ (c.kept-last.ensures ∙ c.line-2.ensures.line) in
-    λ lines all. more_written geo p most c.requires.some start lines all (lines_text c.lines_have_texts.ensures geo g.met.B.Board.numbers start p lines c.requires.position all) (stack_of c.lines.lister) (stack_of c.advance-2.new.self) c.lines.written _ _ _ c.lines.invariant.rows first full
-    (subst (λ z. Appends (g.K.Sink.taken c.lines.sink) (g.K.Sink.taken c.write_more.new.sink) (more_line geo z)) last c.in_ok-write_more.ensures.ok)
+    λ lines all. more_written geo p most c.requires.some start lines all (lines_text c.lines_have_texts.ensures geo
+    g.met.B.Board.numbers start p lines c.requires.position all) (stack_of c.lines.lister)
+    (stack_of c.advance-2.new.self) c.lines.written _ _ _ c.lines.invariant.rows first full
+    (subst (λ z. Appends (g.K.Sink.taken c.lines.sink) (g.K.Sink.taken c.write_more.new.sink) (more_line geo z)) last
+    c.in_ok-write_more.ensures.ok)
 
 pub returns-in_ok-write_all-2-clause-text : goal.returns-in_ok-write_all-2-clause-text
 returns-in_ok-write_all-2-clause-text g c =
@@ -180,7 +244,11 @@ returns-in_ok-write_all-2-clause-text g c =
     let p = c.args.position.now in
     let most = c.args.most in
     let start = stack_of c.args.lister.now in
-    let none = none_next geo c.in_ok-advance-2.field-0 (stack_of c.lines.lister) (stack_of c.advance-2.new.self) c.in_ok-advance-2.ensures.next c.if-branch.false in
-    let row = c.as_bytes-else-branch.ensures.value ∙ (c.as_str-else-branch.ensures.value ∙ c.complete_row-else-branch.ensures) in
-    λ lines all. complete_written geo p most c.requires.some start lines all (lines_text c.lines_have_texts.ensures geo g.met.B.Board.numbers start p lines c.requires.position all) (stack_of c.lines.lister) (stack_of c.advance-2.new.self) c.lines.written _ _ _ c.lines.invariant.rows none c.lines.invariant.few
+    let none = none_next geo c.in_ok-advance-2.field-0 (stack_of c.lines.lister) (stack_of c.advance-2.new.self)
+    c.in_ok-advance-2.ensures.next c.if-branch.false in
+    let row = c.as_bytes-else-branch.ensures.value ∙ (c.as_str-else-branch.ensures.value
+    ∙ c.complete_row-else-branch.ensures) in
+    λ lines all. complete_written geo p most c.requires.some start lines all (lines_text c.lines_have_texts.ensures geo
+    g.met.B.Board.numbers start p lines c.requires.position all) (stack_of c.lines.lister)
+    (stack_of c.advance-2.new.self) c.lines.written _ _ _ c.lines.invariant.rows none c.lines.invariant.few
     (subst (Appends _ _) row c.in_ok-write_all-2.ensures.ok)

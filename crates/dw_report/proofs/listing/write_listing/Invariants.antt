@@ -7,7 +7,8 @@ use Rattle.dw_report.proofs.listing.write_listing.Given as goal
 abbrev pub invariant-lines : goal.invariant-lines
 invariant-lines g l = record {
   lender : lender l.lister ≡ lender l.initial.lister;
-  rows : RowsSoFar g.B.Board.geometry l.position (stack_of l.initial.lister) (stack_of l.lister) l.written (g.K.Sink.taken l.initial.sink) (g.K.Sink.taken l.sink);
+  rows : RowsSoFar g.B.Board.geometry l.position (stack_of l.initial.lister) (stack_of l.lister) l.written
+      (g.K.Sink.taken l.initial.sink) (g.K.Sink.taken l.sink);
   text : IsTextOf g.B.Board.geometry l.text;
   start : start_of l.text ≡ l.position;
   comes : ComesFrom l.lister (moves_of l.text);

@@ -17,21 +17,27 @@ returns-in_err-write_all-clause-text g c =
     let problem = numbered c.args.problem.now in
     let why = err_from_is_err_and c.from_residual.result c.from_residual.ensures.1 in
     let line = c.as_bytes.ensures.value ∙ (c.as_str.ensures.value ∙ c.known_text-known.ensures) in
-    at_sink (IsProblemText geo request problem) (IsProblemPart geo request problem) _ _ c.from_residual.result (why.1 ∙ ap Err why.2)
-    (known_short geo request problem _ _ (c.one_report.ensures.texts geo g.met.B.Board.numbers request c.requires.lines (problem ∷ [])) (subst (StopsShort _ _) line c.in_err-write_all.ensures.err))
+    at_sink (IsProblemText geo request problem) (IsProblemPart geo request problem) _ _ c.from_residual.result (why.1
+    ∙ ap Err why.2)
+    (known_short geo request problem _ _ (c.one_report.ensures.texts geo g.met.B.Board.numbers request c.requires.lines
+    (problem ∷ [])) (subst (StopsShort _ _) line c.in_err-write_all.ensures.err))
 
 pub returns-in_err-write_all-clause-searches : goal.returns-in_err-write_all-clause-searches
 returns-in_err-write_all-clause-searches g c =
     let why = err_from_is_err_and c.from_residual.result c.from_residual.ensures.1 in
-    searches_none c.args.settings.now.command _ _ c.from_residual.result refl c.limit.ensures.within (sink_not_stopped c.from_residual.result (why.1 ∙ ap Err why.2))
+    searches_none c.args.settings.now.command _ _ c.from_residual.result refl c.limit.ensures.within
+    (sink_not_stopped c.from_residual.result (why.1 ∙ ap Err why.2))
 
 pub returns-in-Ok-clause-text : goal.returns-in-Ok-clause-text
 returns-in-Ok-clause-text g c =
     let line = c.as_bytes.ensures.value ∙ (c.as_str.ensures.value ∙ c.known_text-known.ensures) in
-    problem_ends g.B.Board.geometry (request_of c.args.settings.now) (numbered c.args.problem.now) c.in-Ok.position _ _ _ _ _ c.write_rest.result c.in-Ok.is (subst (Appends _ _) line c.in_ok-write_all.ensures.ok) c.write_rest.ensures.searches c.write_rest.ensures.text
+    problem_ends g.B.Board.geometry (request_of c.args.settings.now) (numbered c.args.problem.now) c.in-Ok.position _ _
+    _ _ _ c.write_rest.result c.in-Ok.is (subst (Appends _ _) line c.in_ok-write_all.ensures.ok)
+    c.write_rest.ensures.searches c.write_rest.ensures.text
 
 pub returns-in-Ok-clause-refused : goal.returns-in-Ok-clause-refused
 returns-in-Ok-clause-refused g c = rw c.in-Ok.is c.write_rest.ensures.refused
 
 pub returns-in-Err-clause-searches : goal.returns-in-Err-clause-searches
-returns-in-Err-clause-searches g c = searches_none c.args.settings.now.command _ _ _ refl c.limit.ensures.within (λ why e. cc)
+returns-in-Err-clause-searches g c = searches_none c.args.settings.now.command _ _ _ refl c.limit.ensures.within
+    (λ why e. cc)

@@ -16,11 +16,15 @@ returns-in_err-refused-clause-text g c =
     let problem = numbered c.args.problem.now in
     let chosen = sym c.chooses.ensures ∙ c.if-not-chooses.false in
     let why = err_from_is_err_and c.from_residual.result c.from_residual.ensures.1 in
-    fault_stays (IsProblemText geo request problem) (IsReportOn geo request (problem ∷ [])) (IsProblemPart geo request problem) (IsPartOn geo request (problem ∷ [])) _ _ c.write_problem.result c.from_residual.result c.in_err-refused.field-0.0 why.0 c.in_err-refused.was why.1 (sym why.2)
+    fault_stays (IsProblemText geo request problem) (IsReportOn geo request (problem ∷ []))
+    (IsProblemPart geo request problem) (IsPartOn geo request (problem ∷ [])) _ _ c.write_problem.result
+    c.from_residual.result c.in_err-refused.field-0.0 why.0 c.in_err-refused.was why.1 (sym why.2)
     (one_report_on geo request problem chosen) (one_part_on geo request problem chosen) c.write_problem.ensures.text
 
 pub returns-clause-counts : goal.returns-clause-counts
 returns-clause-counts g c =
     let made = c.with_shown.ensures in
-    counts_chosen g.B.Board.geometry (request_of c.args.settings.now) c.args.summary c.with_shown.result (numbered c.args.problem.now) c.in_ok-refused.refused (sym c.chooses.ensures ∙ c.if-not-chooses.false)
-    c.in_ok-refused.ensures.refused (ap (λ (s : Summary). s.problems) made) (ap (λ (s : Summary). s.shown) made) (ap (λ (s : Summary). s.refused) made)
+    counts_chosen g.B.Board.geometry (request_of c.args.settings.now) c.args.summary c.with_shown.result
+    (numbered c.args.problem.now) c.in_ok-refused.refused (sym c.chooses.ensures ∙ c.if-not-chooses.false)
+    c.in_ok-refused.ensures.refused (ap (λ (s : Summary). s.problems) made) (ap (λ (s : Summary). s.shown) made)
+    (ap (λ (s : Summary). s.refused) made)

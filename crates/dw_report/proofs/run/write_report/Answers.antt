@@ -5,7 +5,8 @@ use Rattle.dw_report.specs.Request.{request_of}
 use Rattle.dw_report.specs.Report.{IsReportOn, chosen}
 use Rattle.dw_report.specs.Running.{IsPartOn}
 use Rattle.dw_report.specs.inner.Running.{TextEnds, CountsOne}
-use Rattle.dw_report.proofs.RunLemmas.{SoFar-start, SoFar-more, SoFar-next, SoFar-asked, SoFar-end, SoFar-read, unmet_before, SoFar-fault, failed-at_ok, refused-le, length-chosen-le}
+use Rattle.dw_report.proofs.RunLemmas.{SoFar-start, SoFar-more, SoFar-next, SoFar-asked, SoFar-end, SoFar-read}
+use Rattle.dw_report.proofs.RunLemmas.{unmet_before, SoFar-fault, failed-at_ok, refused-le, length-chosen-le}
 use Rattle.dw_report.proofs.SearchLemmas.{searches_keep, stops_rightly}
 use Rattle.dw_report.proofs.run.write_report.Goals as goal
 
@@ -15,7 +16,8 @@ problems-init g c =
     let zero = c.default-summary.ensures in
     record {
       lender = search rules;
-      so_far = SoFar-start _ _ _ _ (cutter_of c.new-problems.result) c.default-summary.result new.met_end new.to_come new.ended new.handed zero.0 zero.1.0 zero.1.1;
+      so_far = SoFar-start _ _ _ _ (cutter_of c.new-problems.result) c.default-summary.result new.met_end new.to_come
+          new.ended new.handed zero.0 zero.1.0 zero.1.1;
       end = λ met. let bad : true ≡ false = sym met ∙ new.met_end in cc;
       source = search rules;
       sink = search rules;
@@ -32,7 +34,8 @@ returns-in-Ok-None-clause-report g c =
     let so_far = c.problems.invariant in
     let given = rw c.in-Ok-None.field-0-is at c.in-Ok-None.ensures.given in
     let counted = rw c.in-Ok-None.field-0-is at c.in-Ok-None.ensures.counted in
-    let ends = SoFar-end _ _ _ _ _ _ _ (cutter_of c.problems.problems) (cutter_of c.next.new.self) c.problems.summary given.read so_far.so_far given.took
+    let ends = SoFar-end _ _ _ _ _ _ _ (cutter_of c.problems.problems) (cutter_of c.next.new.self) c.problems.summary
+    given.read so_far.so_far given.took
     (record { none = given.gives.0; why = given.gives.2 }) (c.next.ensures.end so_far.end) (counted.0 ∙ add-zero _) in
     search rules
 
@@ -41,14 +44,29 @@ returns-in-Err-clause-report g c =
     let so_far = c.problems.invariant in
     let given = rw c.in-Err.is at c.next.ensures.given in
     let stopped = (rw c.in-Err.is at c.next.ensures.stopped) refl in
-    let ends = SoFar-read _ _ _ _ _ _ _ (cutter_of c.problems.problems) (cutter_of c.next.new.self) c.problems.summary given.read so_far.so_far given.took given.gives.0
+    let ends = SoFar-read _ _ _ _ _ _ _ (cutter_of c.problems.problems) (cutter_of c.next.new.self) c.problems.summary
+    given.read so_far.so_far given.took given.gives.0
     (unmet_before (cutter_of c.problems.problems) (cutter_of c.next.new.self) c.next.ensures.stays stopped.starved.1) in
     search rules
 
 pub report_problem-requires : goal.report_problem-requires
 report_problem-requires g c =
-    let so_far = c.problems.invariant in
-    (omega arith, (so_far.sink, (c.requires.some, (c.requires.few, (c.requires.lines, (c.requires.rows, (omega (arith, so_far.read, so_far.bound), (so_far.shown, so_far.refused))))))))
+    let so_far = c.problems.invariant in (
+      omega arith,
+      (
+        so_far.sink,
+        (
+          c.requires.some,
+          (
+            c.requires.few,
+            (
+              c.requires.lines,
+              (c.requires.rows, (omega (arith, so_far.read, so_far.bound), (so_far.shown, so_far.refused))),
+            ),
+          ),
+        ),
+      ),
+    )
 
 pub returns-in-Err-report_problem-clause-report : goal.returns-in-Err-report_problem-clause-report
 returns-in-Err-report_problem-clause-report g c =
@@ -56,15 +74,20 @@ returns-in-Err-report_problem-clause-report g c =
     let given = rw c.in-Ok-Some.field-0-is at c.in-Ok-Some.ensures.given in
     let request = request_of c.args.settings.now in
     let one : Numbered = numbered c.in-Ok-Some.problem in
-    let text = subst (TextEnds (IsReportOn g.B.Board.geometry request (one ∷ [])) (IsPartOn g.B.Board.geometry request (one ∷ [])) (g.K.Sink.taken c.problems.sink) (g.K.Sink.taken c.report_problem.new.sink)) c.in-Err-report_problem.is c.report_problem.ensures.text in
-    let stops = SoFar-fault _ _ _ _ _ _ _ _ (cutter_of c.problems.problems) (cutter_of c.next.new.self) c.problems.summary one given.read c.expanded.result c.in-Err-report_problem.fault so_far.so_far given.took
-    given.gives (c.next.ensures.end so_far.end) c.next.ensures.stays (c.one_report.ensures.texts g.B.Board.geometry g.met.B.Board.numbers request c.requires.lines) text in
+    let text = subst (TextEnds (IsReportOn g.B.Board.geometry request (one ∷ [])) (IsPartOn g.B.Board.geometry request
+    (one ∷ [])) (g.K.Sink.taken c.problems.sink) (g.K.Sink.taken c.report_problem.new.sink))
+    c.in-Err-report_problem.is c.report_problem.ensures.text in
+    let stops = SoFar-fault _ _ _ _ _ _ _ _ (cutter_of c.problems.problems) (cutter_of c.next.new.self)
+    c.problems.summary one given.read c.expanded.result c.in-Err-report_problem.fault so_far.so_far given.took
+    given.gives (c.next.ensures.end so_far.end) c.next.ensures.stays (c.one_report.ensures.texts g.B.Board.geometry
+    g.met.B.Board.numbers request c.requires.lines) text in
     rw c.ended.ensures (search rules)
 
 pub returns-in-Err-report_problem-clause-stopped : goal.returns-in-Err-report_problem-clause-stopped
 returns-in-Err-report_problem-clause-stopped g c =
     let so_far = c.problems.invariant in
-    rw (c.ended.ensures, c.expanded.ensures) (stops_rightly c.args.settings.now.command c.args.solver.now.limit c.problems.solver c.report_problem.new.solver c.report_problem.result c.in-Err-report_problem.fault
+    rw (c.ended.ensures, c.expanded.ensures) (stops_rightly c.args.settings.now.command c.args.solver.now.limit
+    c.problems.solver c.report_problem.new.solver c.report_problem.result c.in-Err-report_problem.fault
     c.in-Err-report_problem.is c.report_problem.ensures.searches so_far.limit so_far.still)
 
 pub returns-then-asks_for-clause-report : goal.returns-then-asks_for-clause-report
@@ -72,9 +95,12 @@ returns-then-asks_for-clause-report g c =
     let so_far = c.problems.invariant in
     let given = rw c.in-Ok-Some.field-0-is at c.in-Ok-Some.ensures.given in
     let counted = rw c.in-Ok-Some.field-0-is at c.in-Ok-Some.ensures.counted in
-    let more = SoFar-more _ _ _ _ _ _ _ _ (cutter_of c.problems.problems) (cutter_of c.next.new.self) c.problems.summary c.in-Ok.counted (numbered c.in-Ok-Some.problem) given.read
-    so_far.so_far given.took given.gives (c.next.ensures.end so_far.end) c.next.ensures.stays counted.0 c.in-Ok.ensures.text c.in-Ok.ensures.counts in
-    let ends = SoFar-asked _ _ _ _ _ _ (cutter_of c.next.new.self) c.in-Ok.counted (numbered c.in-Ok-Some.problem) more (sym c.asks_for.ensures ∙ c.if-asks_for.true) in
+    let more = SoFar-more _ _ _ _ _ _ _ _ (cutter_of c.problems.problems) (cutter_of c.next.new.self) c.problems.summary
+    c.in-Ok.counted (numbered c.in-Ok-Some.problem) given.read
+    so_far.so_far given.took given.gives (c.next.ensures.end so_far.end) c.next.ensures.stays counted.0
+    c.in-Ok.ensures.text c.in-Ok.ensures.counts in
+    let ends = SoFar-asked _ _ _ _ _ _ (cutter_of c.next.new.self) c.in-Ok.counted (numbered c.in-Ok-Some.problem) more
+    (sym c.asks_for.ensures ∙ c.if-asks_for.true) in
     search rules
 
 pub problems-preserved : goal.problems-preserved
@@ -87,14 +113,18 @@ problems-preserved g c =
     let one : Numbered = numbered c.in-Ok-Some.problem in
     let counts : CountsOne g.B.Board.geometry request c.problems.summary c.in-Ok.counted one = c.in-Ok.ensures.counts in
     let end = c.next.ensures.end so_far.end in
-    let more = SoFar-more _ _ _ _ _ _ _ _ (cutter_of c.problems.problems) (cutter_of c.next.new.self) c.problems.summary c.in-Ok.counted one given.read
+    let more = SoFar-more _ _ _ _ _ _ _ _ (cutter_of c.problems.problems) (cutter_of c.next.new.self) c.problems.summary
+    c.in-Ok.counted one given.read
     so_far.so_far given.took given.gives end c.next.ensures.stays counted.0 c.in-Ok.ensures.text counts in
     let few = length-chosen-le request.only one in
-    let refused = refused-le g.B.Board.geometry request (chosen request.only (one ∷ [])) counts.refused.0 counts.refused.1 in
-    let keep = searches_keep settings.command c.problems.solver c.report_problem.new.solver c.report_problem.result c.report_problem.ensures.searches in
+    let refused = refused-le g.B.Board.geometry request (chosen request.only (one ∷ [])) counts.refused.0
+    counts.refused.1 in
+    let keep = searches_keep settings.command c.problems.solver c.report_problem.new.solver c.report_problem.result
+    c.report_problem.ensures.searches in
     record {
       lender = search rules;
-      so_far = SoFar-next _ _ _ _ _ _ (cutter_of c.next.new.self) c.in-Ok.counted one more (sym c.asks_for.ensures ∙ c.if-asks_for.false);
+      so_far = SoFar-next _ _ _ _ _ _ (cutter_of c.next.new.self) c.in-Ok.counted one more (sym c.asks_for.ensures
+          ∙ c.if-asks_for.false);
       end = end;
       source = failed-at_ok _ _ _ _ c.next.ensures.failed c.in-Ok-Some.is so_far.source;
       sink = c.in-Ok.ensures.sink ∙ so_far.sink;

@@ -12,7 +12,8 @@ invariant-problems g l =
     let sink = g.K.Sink in
     record {
       lender : lender l.problems ≡ lender l.initial.problems;
-      so_far : SoFar g.B.Board.geometry (request_of l.settings) (source.coming (source_of l.initial.problems)) (source.coming (source_of l.problems))
+      so_far : SoFar g.B.Board.geometry (request_of l.settings) (source.coming (source_of l.initial.problems))
+          (source.coming (source_of l.problems))
           (sink.taken l.initial.sink) (sink.taken l.sink) (cutter_of l.problems) l.summary;
       end : EndIsTrue (source.coming (source_of l.problems)) (cutter_of l.problems);
       source : source.is_failed (source_of l.problems) ≡ false;

@@ -12,7 +12,8 @@ play-after-requires g c =
     let geo = g.B.Board.geometry in
     let q = c.args.position.now in
     let all = subst (AreRanked geo q) (sym c.moves-reply-items.ensures) c.in_ok-line_up.ensures.ranked in
-    legal_at (λ r. r.1) geo q c.moves-reply-items.result.now c.replies.reply-index c.reply-item.result all c.replies-test.true c.reply-item.is
+    legal_at (λ r. r.1) geo q c.moves-reply-items.result.now c.replies.reply-index c.reply-item.result all
+    c.replies-test.true c.reply-item.is
 
 pub returns-in_err-wins-clause-asked : goal.returns-in_err-wins-clause-asked
 returns-in_err-wins-clause-asked g c =
@@ -30,9 +31,15 @@ returns-in-Some-clause-found g c =
     let n = c.args.left in
     let items = c.moves-reply-items.result.now in
     let all = subst (AreRanked geo q) (sym c.moves-reply-items.ensures) c.in_ok-line_up.ensures.ranked in
-    let legal = legal_at (λ r. r.1) geo q items c.replies.reply-index c.reply-item.result all c.replies-test.true c.reply-item.is in
-    let here : Refutes geo q n c.reply-item.result.1 = (legal, λ w. let yes = c.in_ok-wins.ensures.answer.1 (subst (λ z. Win geo z n) (sym c.play-after.ensures) w) in let not_so = c.if-not-branch.true in cc) in
-    found_second (λ r. r.1) geo q n items c.replies.reply-index c.reply-item.result _ c.reply-item.result.1 all.once c.replies-test.true c.reply-item.is refl here
+    let legal = legal_at (λ r. r.1) geo q items c.replies.reply-index c.reply-item.result all c.replies-test.true
+    c.reply-item.is in
+    let here : Refutes geo q n c.reply-item.result.1 = (
+      legal,
+      λ w. let yes = c.in_ok-wins.ensures.answer.1
+          (subst (λ z. Win geo z n) (sym c.play-after.ensures) w) in let not_so = c.if-not-branch.true in cc,
+    ) in
+    found_second (λ r. r.1) geo q n items c.replies.reply-index c.reply-item.result _ c.reply-item.result.1 all.once
+    c.replies-test.true c.reply-item.is refl here
     (subst (FoundTo (λ r. r.1) geo q n items c.replies.reply-index) c.in-Some.is c.replies.invariant.found)
 
 pub returns-in-Some-clause-asked : goal.returns-in-Some-clause-asked
@@ -53,18 +60,26 @@ replies-preserved g c =
     let n = c.args.left in
     let items = c.moves-reply-items.result.now in
     let all = subst (AreRanked geo q) (sym c.moves-reply-items.ensures) c.in_ok-line_up.ensures.ranked in
-    let legal = legal_at (λ r. r.1) geo q items c.replies.reply-index c.reply-item.result all c.replies-test.true c.reply-item.is in
+    let legal = legal_at (λ r. r.1) geo q items c.replies.reply-index c.reply-item.result all c.replies-test.true
+    c.reply-item.is in
     record {
       found = elim c.if-not-branch.branch [
         | then-not-branch+in-None w ↦
-            let here : Refutes geo q n c.reply-item.result.1 = (legal, λ won. let yes = c.in_ok-wins.ensures.answer.1 (subst (λ z. Win geo z n) (sym c.play-after.ensures) won) in let not_so = w.if-not-branch.true in cc) in
+            let here : Refutes geo q n c.reply-item.result.1 = (
+              legal,
+              λ won. let yes = c.in_ok-wins.ensures.answer.1
+                  (subst (λ z. Win geo z n) (sym c.play-after.ensures) won) in let not_so = w.if-not-branch.true in cc,
+            ) in
             subst (FoundTo (λ r. r.1) geo q n items (c.replies.reply-index + 1)) (sym w.found-is)
-            (found_first (λ r. r.1) geo q n items c.replies.reply-index c.reply-item.result c.reply-item.result.1 c.replies-test.true c.reply-item.is refl here
+            (found_first (λ r. r.1) geo q n items c.replies.reply-index c.reply-item.result c.reply-item.result.1
+            c.replies-test.true c.reply-item.is refl here
             (subst (FoundTo (λ r. r.1) geo q n items c.replies.reply-index) w.in-None.is c.replies.invariant.found))
         | else-not-branch w ↦
             subst (FoundTo (λ r. r.1) geo q n items (c.replies.reply-index + 1)) (sym w.found-is)
-            (found_same (λ r. r.1) geo q n items c.replies.reply-index c.reply-item.result c.replies.found c.replies-test.true c.reply-item.is
-            (λ h. h.1 (subst (λ z. Win geo z n) c.play-after.ensures (c.in_ok-wins.ensures.answer.0 w.if-not-branch.false))) c.replies.invariant.found)
+            (found_same (λ r. r.1) geo q n items c.replies.reply-index c.reply-item.result c.replies.found
+            c.replies-test.true c.reply-item.is
+            (λ h. h.1 (subst (λ z. Win geo z n) c.play-after.ensures
+            (c.in_ok-wins.ensures.answer.0 w.if-not-branch.false))) c.replies.invariant.found)
       ];
       asked = asked_then geo content lost c.searches_add_up.ensures n _ _ _ answered c.replies.invariant.asked
           (asked_ok geo content lost n _ _ _ 0
@@ -76,4 +91,5 @@ returns-clause-found g c =
     let geo = g.B.Board.geometry in
     let q = c.args.position.now in
     let all = subst (AreRanked geo q) (sym c.moves-reply-items.ensures) c.in_ok-line_up.ensures.ranked in
-    found_all (λ r. r.1) geo q c.args.left c.moves-reply-items.result.now c.replies.reply-index c.replies.found (omega (arith, c.replies-test.false)) all c.replies.invariant.found
+    found_all (λ r. r.1) geo q c.args.left c.moves-reply-items.result.now c.replies.reply-index c.replies.found
+    (omega (arith, c.replies-test.false)) all c.replies.invariant.found

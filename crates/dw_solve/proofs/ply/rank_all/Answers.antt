@@ -7,12 +7,15 @@ pub moves-init : goal.moves-init
 moves-init g c = ap steps c.requires.empty
 
 pub rank-requires : goal.rank-requires
-rank-requires g c = listed_is_legal g.B.Board.geometry c.args.position.now c.args.moves.now c.moves.mv-index c.mv-item.result c.requires.legal c.moves-test.true c.mv-item.is
+rank-requires g c = listed_is_legal g.B.Board.geometry c.args.position.now c.args.moves.now c.moves.mv-index
+    c.mv-item.result c.requires.legal c.moves-test.true c.mv-item.is
 
 pub moves-preserved : goal.moves-preserved
 moves-preserved g c =
     subst (λ z. steps z ≡ take (c.moves.mv-index + 1) c.args.moves.now) (sym c.in_ok-push.ensures.items)
-    (ranked_more c.args.moves.now c.moves.ranked.items c.moves.mv-index c.rank.result c.mv-item.result c.moves.invariant c.moves-test.true c.mv-item.is)
+    (ranked_more c.args.moves.now c.moves.ranked.items c.moves.mv-index c.rank.result c.mv-item.result c.moves.invariant
+    c.moves-test.true c.mv-item.is)
 
 pub returns : goal.returns
-returns g c = ranked_all g.B.Board.geometry c.args.position.now c.args.moves.now c.moves.ranked.items c.moves.mv-index c.requires.legal c.moves.invariant (omega (arith, c.moves-test.false))
+returns g c = ranked_all g.B.Board.geometry c.args.position.now c.args.moves.now c.moves.ranked.items c.moves.mv-index
+    c.requires.legal c.moves.invariant (omega (arith, c.moves-test.false))

@@ -13,10 +13,12 @@ items-preserved g c = record {
       let list = listing c.args.side second c.read_item.new.position in
       let item = c.in_ok-read_item.ensures.item second in
       c.items.invariant.same second
-      ∙ (ap (λ e. read_from b e (AfterComma (listing c.args.side second c.items.position)) (tokens_of c.items.tokens)) (sym c.items.invariant.end)
+      ∙ (ap (λ e. read_from b e (AfterComma (listing c.args.side second c.items.position)) (tokens_of c.items.tokens))
+      (sym c.items.invariant.end)
       ∙ (item
       ∙ (ap (λ e. read_from b e (AfterItem list) (tokens_of now)) c.items.invariant.end
       ∙ (comma_read b (end_of c.args.tokens.now) list (tokens_of now) (sym c.take.ensures.taken ∙ c.if-not-take.false)
-      ∙ ap (read_from b (end_of c.args.tokens.now) (AfterComma list)) (sym (c.take.ensures.left ∙ ap (λ t. left_of t (tokens_of now)) c.if-not-take.false))))));
+      ∙ ap (read_from b (end_of c.args.tokens.now) (AfterComma list))
+      (sym (c.take.ensures.left ∙ ap (λ t. left_of t (tokens_of now)) c.if-not-take.false))))));
   end = c.take.ensures.end ∙ (c.in_ok-read_item.ensures.end ∙ c.items.invariant.end);
 }

@@ -6,8 +6,10 @@ use Rattle.dw_board.proofs.fen.read.read_items.Given as goal
 
 abbrev pub invariant-items : goal.invariant-items
 invariant-items g l = record {
-  same : (second : Bool) → read_from g.B.Board.geometry (end_of l.initial.tokens) (AfterComma (listing l.side second l.initial.position)) (tokens_of l.initial.tokens)
-      ≡ read_from g.B.Board.geometry (end_of l.initial.tokens) (AfterComma (listing l.side second l.position)) (tokens_of l.tokens);
+  same : (second : Bool) → read_from g.B.Board.geometry (end_of l.initial.tokens)
+      (AfterComma (listing l.side second l.initial.position)) (tokens_of l.initial.tokens)
+      ≡ read_from g.B.Board.geometry (end_of l.initial.tokens) (AfterComma (listing l.side second l.position))
+      (tokens_of l.tokens);
   end : end_of l.tokens ≡ end_of l.initial.tokens;
 }
 

@@ -5,7 +5,8 @@ use Rattle.dw_board.specs.FenReader.{tokens_of, end_of, behind, left_of, first_n
 use Rattle.dw_board.specs.Fen.{read_from, AfterColour, AfterItem}
 use Rattle.dw_board.specs.inner.FenReading.{listing}
 use Rattle.dw_board.specs.declared.fen.fault.FenFaultKind.TheVariants.{Colour}
-use Rattle.dw_board.proofs.FenStageLemmas.{colour_fault, second_fault, second_read, list_colon, lists_read, same_read, fault_here}
+use Rattle.dw_board.proofs.FenStageLemmas.{colour_fault, second_fault, second_read, list_colon, lists_read, same_read}
+use Rattle.dw_board.proofs.FenStageLemmas.{fault_here}
 use Rattle.dw_board.proofs.fen.read.read_second.Goals as goal
 
 pub returns-in_default : goal.returns-in_default
@@ -14,9 +15,11 @@ returns-in_default g c =
     let ts = tokens_of c.args.tokens.now in
     let end = end_of c.args.tokens.now in
     let none : first_named side_named ts ≡ None = sym c.take_side.ensures.taken ∙ c.in_default.is in
-    let same : tokens_of c.take_side.new.self ≡ ts = c.take_side.ensures.left ∙ ap (λ o. left_of (is_some o) ts) c.in_default.is in
+    let same : tokens_of c.take_side.new.self ≡ ts = c.take_side.ensures.left
+    ∙ ap (λ o. left_of (is_some o) ts) c.in_default.is in
     sym (colour_fault b end (Some c.args.first) c.args.position ts none
-    ∙ fault_here b 0 c.fault.result Colour (end_of c.take_side.new.self) end ts (tokens_of c.take_side.new.self) c.fault.ensures c.take_side.ensures.end same)
+    ∙ fault_here b 0 c.fault.result Colour (end_of c.take_side.new.self) end ts (tokens_of c.take_side.new.self)
+    c.fault.ensures c.take_side.ensures.end same)
 
 pub returns-then-is_same_side : goal.returns-then-is_same_side
 returns-then-is_same_side g c =
@@ -24,7 +27,8 @@ returns-then-is_same_side g c =
     let ts = tokens_of c.args.tokens.now in
     let end = end_of c.args.tokens.now in
     let named : first_named side_named ts ≡ Some c.in-Some.second = sym c.take_side.ensures.taken ∙ c.in-Some.is in
-    sym (second_fault b end c.args.first c.args.position ts c.in-Some.second named (sym c.is_same_side.ensures ∙ c.if-is_same_side.true)
+    sym (second_fault b end c.args.first c.args.position ts c.in-Some.second named (sym c.is_same_side.ensures
+    ∙ c.if-is_same_side.true)
     ∙ ap Err (sym c.fault-same_colour.ensures))
 
 pub returns-in_err-read_list : goal.returns-in_err-read_list
@@ -34,9 +38,12 @@ returns-in_err-read_list g c =
     let end = end_of c.args.tokens.now in
     let p = err_from_is_err_and c.from_residual.result c.from_residual.ensures.1 in
     let named : first_named side_named ts ≡ Some c.in-Some.second = sym c.take_side.ensures.taken ∙ c.in-Some.is in
-    let rest : tokens_of c.take_side.new.self ≡ behind ts = c.take_side.ensures.left ∙ ap (λ o. left_of (is_some o) ts) c.in-Some.is in
-    p.1 ∙ sym (second_read b end c.args.first c.args.position ts c.in-Some.second named (sym c.is_same_side.ensures ∙ c.if-is_same_side.false)
-    ∙ (sym (same_read b 0 (AfterColour (listing c.in-Some.second true c.args.position)) (end_of c.take_side.new.self) end _ (tokens_of c.take_side.new.self) c.take_side.ensures.end rest)
+    let rest : tokens_of c.take_side.new.self ≡ behind ts = c.take_side.ensures.left
+    ∙ ap (λ o. left_of (is_some o) ts) c.in-Some.is in
+    p.1 ∙ sym (second_read b end c.args.first c.args.position ts c.in-Some.second named (sym c.is_same_side.ensures
+    ∙ c.if-is_same_side.false)
+    ∙ (sym (same_read b 0 (AfterColour (listing c.in-Some.second true c.args.position)) (end_of c.take_side.new.self)
+    end _ (tokens_of c.take_side.new.self) c.take_side.ensures.end rest)
     ∙ (c.in_err-read_list.ensures.list true ∙ ap Err (sym p.2))))
 
 pub returns-then-take : goal.returns-then-take
@@ -47,11 +54,15 @@ returns-then-take g c =
     let list = listing c.in-Some.second true c.read_list.new.position in
     let now = c.read_list.new.tokens in
     let named : first_named side_named ts ≡ Some c.in-Some.second = sym c.take_side.ensures.taken ∙ c.in-Some.is in
-    let rest : tokens_of c.take_side.new.self ≡ behind ts = c.take_side.ensures.left ∙ ap (λ o. left_of (is_some o) ts) c.in-Some.is in
+    let rest : tokens_of c.take_side.new.self ≡ behind ts = c.take_side.ensures.left
+    ∙ ap (λ o. left_of (is_some o) ts) c.in-Some.is in
     let same_end : end_of now ≡ end = c.read_list.ensures.end ∙ c.take_side.ensures.end in
-    let left : tokens_of c.take.new.self ≡ behind (tokens_of now) = c.take.ensures.left ∙ ap (λ t. left_of t (tokens_of now)) c.if-take.true in
-    sym (second_read b end c.args.first c.args.position ts c.in-Some.second named (sym c.is_same_side.ensures ∙ c.if-is_same_side.false)
-    ∙ (sym (same_read b 0 (AfterColour (listing c.in-Some.second true c.args.position)) (end_of c.take_side.new.self) end _ (tokens_of c.take_side.new.self) c.take_side.ensures.end rest)
+    let left : tokens_of c.take.new.self ≡ behind (tokens_of now) = c.take.ensures.left
+    ∙ ap (λ t. left_of t (tokens_of now)) c.if-take.true in
+    sym (second_read b end c.args.first c.args.position ts c.in-Some.second named (sym c.is_same_side.ensures
+    ∙ c.if-is_same_side.false)
+    ∙ (sym (same_read b 0 (AfterColour (listing c.in-Some.second true c.args.position)) (end_of c.take_side.new.self)
+    end _ (tokens_of c.take_side.new.self) c.take_side.ensures.end rest)
     ∙ (c.in_ok-read_list.ensures.list true
     ∙ (ap (λ e. read_from b e (AfterItem list) (tokens_of now)) c.take_side.ensures.end
     ∙ (list_colon b end list (tokens_of now) (sym c.take.ensures.taken ∙ c.if-take.true)
@@ -65,18 +76,25 @@ returns g c =
     let list = listing c.in-Some.second true c.read_list.new.position in
     let now = c.read_list.new.tokens in
     let named : first_named side_named ts ≡ Some c.in-Some.second = sym c.take_side.ensures.taken ∙ c.in-Some.is in
-    let rest : tokens_of c.take_side.new.self ≡ behind ts = c.take_side.ensures.left ∙ ap (λ o. left_of (is_some o) ts) c.in-Some.is in
-    let same_end : end_of c.take.new.self ≡ end = c.take.ensures.end ∙ (c.read_list.ensures.end ∙ c.take_side.ensures.end) in
-    let left : tokens_of c.take.new.self ≡ tokens_of now = c.take.ensures.left ∙ ap (λ t. left_of t (tokens_of now)) c.if-take.false in
-    c.read_end.ensures list refl ∙ sym (second_read b end c.args.first c.args.position ts c.in-Some.second named (sym c.is_same_side.ensures ∙ c.if-is_same_side.false)
-    ∙ (sym (same_read b 0 (AfterColour (listing c.in-Some.second true c.args.position)) (end_of c.take_side.new.self) end _ (tokens_of c.take_side.new.self) c.take_side.ensures.end rest)
+    let rest : tokens_of c.take_side.new.self ≡ behind ts = c.take_side.ensures.left
+    ∙ ap (λ o. left_of (is_some o) ts) c.in-Some.is in
+    let same_end : end_of c.take.new.self ≡ end = c.take.ensures.end
+    ∙ (c.read_list.ensures.end ∙ c.take_side.ensures.end) in
+    let left : tokens_of c.take.new.self ≡ tokens_of now = c.take.ensures.left
+    ∙ ap (λ t. left_of t (tokens_of now)) c.if-take.false in
+    c.read_end.ensures list refl ∙ sym (second_read b end c.args.first c.args.position ts c.in-Some.second named
+    (sym c.is_same_side.ensures ∙ c.if-is_same_side.false)
+    ∙ (sym (same_read b 0 (AfterColour (listing c.in-Some.second true c.args.position)) (end_of c.take_side.new.self)
+    end _ (tokens_of c.take_side.new.self) c.take_side.ensures.end rest)
     ∙ (c.in_ok-read_list.ensures.list true
     ∙ (ap (λ e. read_from b e (AfterItem list) (tokens_of now)) c.take_side.ensures.end
-    ∙ sym (same_read b 0 (AfterItem list) (end_of c.take.new.self) end (tokens_of now) (tokens_of c.take.new.self) same_end left)))))
+    ∙ sym (same_read b 0 (AfterItem list) (end_of c.take.new.self) end (tokens_of now) (tokens_of c.take.new.self)
+    same_end left)))))
 
 pub read_end-requires-clause-comma : goal.read_end-requires-clause-comma
 read_end-requires-clause-comma g c =
-    ap (first_is (is_sign 44)) (c.take.ensures.left ∙ ap (λ t. left_of t (tokens_of c.read_list.new.tokens)) c.if-take.false) ∙ c.in_ok-read_list.ensures.no_comma
+    ap (first_is (is_sign 44)) (c.take.ensures.left ∙ ap (λ t. left_of t (tokens_of c.read_list.new.tokens))
+    c.if-take.false) ∙ c.in_ok-read_list.ensures.no_comma
 
 pub read_end-requires-clause-colon : goal.read_end-requires-clause-colon
 read_end-requires-clause-colon g c =

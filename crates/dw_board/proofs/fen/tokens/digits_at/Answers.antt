@@ -7,5 +7,6 @@ use Rattle.dw_board.proofs.fen.tokens.digits_at.Goals as goal
 pub digits-preserved : goal.digits-preserved
 digits-preserved c = record {
   within = omega arith;
-  digits = subst AreDigits (sym (take_more c.args.bytes.now c.digits.count 0 (omega arith))) (AreDigits-push _ _ c.digits.invariant.digits (sym c.is_ascii_digit.ensures.value ∙ c.if-is_ascii_digit.true));
+  digits = subst AreDigits (sym (take_more c.args.bytes.now c.digits.count 0 (omega arith)))
+      (AreDigits-push _ _ c.digits.invariant.digits (sym c.is_ascii_digit.ensures.value ∙ c.if-is_ascii_digit.true));
 }

@@ -8,7 +8,8 @@ use Rattle.dw_board.proofs.position.Position.all_of.Goals as goal
 pub returns : goal.returns
 returns g c = λ s.
     let sets = set_of c.self.inside.held in
-    let members = side-members g.B.Board.geometry g.met.B.Board.numbers (cells_of sets) sets c.self.invariant c.args.side s in
+    let members = side-members g.B.Board.geometry g.met.B.Board.numbers (cells_of sets) sets c.self.invariant
+    c.args.side s in
     let same = ap (λ v. set.contains v s) c.all_of.ensures in
     let cell = ap (λ v. of.is_of c.args.side (of.at v s)) c.self.view_is in (
       (λ e. let h = members.0 (sym same ∙ e) in (h.0, sym cell ∙ h.1)),

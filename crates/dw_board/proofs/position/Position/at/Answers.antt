@@ -8,4 +8,5 @@ pub returns-clause-value : goal.returns-clause-value
 returns-clause-value g c =
     let on = c.is_on_board.ensures in
     let few = g.met.B.Board.numbers.squares_high in
-    c.at.ensures ∙ (sym (cell_of (set_of c.self.inside.held) c.args.square on.0 (let high = on.1 in omega arith)) ∙ ap (λ v. of.at v c.args.square) c.self.view_is)
+    c.at.ensures ∙ (sym (cell_of (set_of c.self.inside.held) c.args.square on.0 (let high = on.1 in omega arith))
+    ∙ ap (λ v. of.at v c.args.square) c.self.view_is)

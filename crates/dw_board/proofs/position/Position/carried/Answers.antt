@@ -18,14 +18,19 @@ invariant_of-result g c =
     let before = kept_placement c.self.inside.held c.self.inside.turn in
     let sets = set_of c.self.inside.held in
     let cells = (carried board before from to c.args.taken).cells in
-    let goes : (side : Side) (k : Kind) → set_of c.without-left.result side k ≡ set.remove (set.difference (sets side k) (set.insert c.args.taken from)) to =
-    λ side k. c.without-left.ensures side k ∙ ap (λ v. set.remove v to) (c.minus.ensures side k ∙ ap (set.difference (sets side k)) c.with.ensures) in
-    let there = cell_of sets from c.is_on_board.ensures.0 (let few = g.met.B.Board.numbers.squares_high in omega (arith, c.is_on_board.ensures.1)) in
+    let goes : (side : Side) (k : Kind) → set_of c.without-left.result side k
+    ≡ set.remove (set.difference (sets side k) (set.insert c.args.taken from)) to =
+    λ side k. c.without-left.ensures side k ∙ ap (λ v. set.remove v to) (c.minus.ensures side k
+    ∙ ap (set.difference (sets side k)) c.with.ensures) in
+    let there = cell_of sets from c.is_on_board.ensures.0 (let few = g.met.B.Board.numbers.squares_high in
+    omega (arith, c.is_on_board.ensures.1)) in
     let kept : IsKept board cells (set_of c.match-at.held) = elim c.match-at.branch [
       | in-Some w ↦ subst (λ h. IsKept board cells (set_of h)) (sym w.held-is)
-          (kept-carried board g.met.B.Board.numbers before sets (set_of c.without-left.result) (set_of w.with-held.result) from to c.args.taken w.in-Some.piece
+          (kept-carried board g.met.B.Board.numbers before sets (set_of c.without-left.result)
+          (set_of w.with-held.result) from to c.args.taken w.in-Some.piece
           c.self.invariant c.is_on_board.ensures c.is_on_board-2.ensures (there ∙ sym w.in-Some.ensures) goes
-          (λ side k. w.with-held.ensures side k ∙ ap (entered side k (set_of c.without-left.result side k) to) w.crowned.ensures))
+          (λ side k. w.with-held.ensures side k ∙ ap (entered side k (set_of c.without-left.result side k) to)
+          w.crowned.ensures))
       | in-None w ↦ subst (λ h. IsKept board cells (set_of h)) (sym w.held-is)
           (kept-none board g.met.B.Board.numbers before sets (set_of c.without-left.result) from to c.args.taken
           c.self.invariant c.is_on_board-2.ensures (there ∙ sym w.in-None.ensures) goes)
@@ -40,17 +45,23 @@ returns g c =
     let before = kept_placement c.self.inside.held c.self.inside.turn in
     let sets = set_of c.self.inside.held in
     let cells = (carried board before from to c.args.taken).cells in
-    let goes : (side : Side) (k : Kind) → set_of c.without-left.result side k ≡ set.remove (set.difference (sets side k) (set.insert c.args.taken from)) to =
-    λ side k. c.without-left.ensures side k ∙ ap (λ v. set.remove v to) (c.minus.ensures side k ∙ ap (set.difference (sets side k)) c.with.ensures) in
-    let there = cell_of sets from c.is_on_board.ensures.0 (let few = g.met.B.Board.numbers.squares_high in omega (arith, c.is_on_board.ensures.1)) in
+    let goes : (side : Side) (k : Kind) → set_of c.without-left.result side k
+    ≡ set.remove (set.difference (sets side k) (set.insert c.args.taken from)) to =
+    λ side k. c.without-left.ensures side k ∙ ap (λ v. set.remove v to) (c.minus.ensures side k
+    ∙ ap (set.difference (sets side k)) c.with.ensures) in
+    let there = cell_of sets from c.is_on_board.ensures.0 (let few = g.met.B.Board.numbers.squares_high in
+    omega (arith, c.is_on_board.ensures.1)) in
     let kept : IsKept board cells (set_of c.match-at.held) = elim c.match-at.branch [
       | in-Some w ↦ subst (λ h. IsKept board cells (set_of h)) (sym w.held-is)
-          (kept-carried board g.met.B.Board.numbers before sets (set_of c.without-left.result) (set_of w.with-held.result) from to c.args.taken w.in-Some.piece
+          (kept-carried board g.met.B.Board.numbers before sets (set_of c.without-left.result)
+          (set_of w.with-held.result) from to c.args.taken w.in-Some.piece
           c.self.invariant c.is_on_board.ensures c.is_on_board-2.ensures (there ∙ sym w.in-Some.ensures) goes
-          (λ side k. w.with-held.ensures side k ∙ ap (entered side k (set_of c.without-left.result side k) to) w.crowned.ensures))
+          (λ side k. w.with-held.ensures side k ∙ ap (entered side k (set_of c.without-left.result side k) to)
+          w.crowned.ensures))
       | in-None w ↦ subst (λ h. IsKept board cells (set_of h)) (sym w.held-is)
           (kept-none board g.met.B.Board.numbers before sets (set_of c.without-left.result) from to c.args.taken
           c.self.invariant c.is_on_board-2.ensures (there ∙ sym w.in-None.ensures) goes)
     ] in
     let again = cells_again board cells (set_of c.match-at.held) kept in
-    (λ i. record { cells = again i; turn = c.self.inside.turn }) ∙ ap (λ v. carried board v from to c.args.taken) c.self.view_is
+    (λ i. record { cells = again i; turn = c.self.inside.turn }) ∙ ap (λ v. carried board v from to c.args.taken)
+    c.self.view_is

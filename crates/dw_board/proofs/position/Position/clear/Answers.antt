@@ -10,7 +10,8 @@ invariant_of-self g c =
     let cells = cells_of (set_of c.self.inside.held) in
     let now = set_of c.without-self-inside.result in
     kept-again board (put_at cells (c.args.square - 1) None) now
-    (kept-left board g.met.B.Board.numbers cells (set_of c.self.inside.held) now c.args.square c.self.invariant c.at-stood.ensures.on_board c.without-self-inside.ensures)
+    (kept-left board g.met.B.Board.numbers cells (set_of c.self.inside.held) now c.args.square c.self.invariant
+    c.at-stood.ensures.on_board c.without-self-inside.ensures)
 
 pub returns-clause-after : goal.returns-clause-after
 returns-clause-after g c =
@@ -18,5 +19,7 @@ returns-clause-after g c =
     let cells = cells_of (set_of c.self.inside.held) in
     let now = set_of c.without-self-inside.result in
     let again = cells_again board (put_at cells (c.args.square - 1) None) now
-    (kept-left board g.met.B.Board.numbers cells (set_of c.self.inside.held) now c.args.square c.self.invariant c.at-stood.ensures.on_board c.without-self-inside.ensures) in
-    (λ i. record { cells = again i; turn = c.self.inside.turn }) ∙ ap (λ v. of.placed v c.args.square None) c.self.view_is
+    (kept-left board g.met.B.Board.numbers cells (set_of c.self.inside.held) now c.args.square c.self.invariant
+    c.at-stood.ensures.on_board c.without-self-inside.ensures) in
+    (λ i. record { cells = again i; turn = c.self.inside.turn }) ∙ ap (λ v. of.placed v c.args.square None)
+    c.self.view_is

@@ -11,7 +11,8 @@ invariant_of-self g c =
     let before = kept_placement c.self.inside.held c.self.inside.turn in
     let now = set_of c.minus-self-inside.result in
     kept-again board (without before c.args.squares).cells now
-    (kept-without board before (set_of c.self.inside.held) now c.args.squares c.self.invariant c.minus-self-inside.ensures)
+    (kept-without board before (set_of c.self.inside.held) now c.args.squares c.self.invariant
+    c.minus-self-inside.ensures)
 
 pub returns : goal.returns
 returns g c =
@@ -19,5 +20,6 @@ returns g c =
     let before = kept_placement c.self.inside.held c.self.inside.turn in
     let now = set_of c.minus-self-inside.result in
     let again = cells_again board (without before c.args.squares).cells now
-    (kept-without board before (set_of c.self.inside.held) now c.args.squares c.self.invariant c.minus-self-inside.ensures) in
+    (kept-without board before (set_of c.self.inside.held) now c.args.squares c.self.invariant
+    c.minus-self-inside.ensures) in
     (λ i. record { cells = again i; turn = c.self.inside.turn }) ∙ ap (λ v. without v c.args.squares) c.self.view_is

@@ -17,11 +17,20 @@ returns-clause-fits g c =
     let is = count-kept g.B.Board.geometry (cells_of (set_of c.self.inside.held)) _ c.self.invariant c.args.side _ _
     (c.count.ensures.value ∙ ap set.len c.of.ensures)
     (c.count-2.ensures.value ∙ ap set.len c.of-2.ensures) in
-    omega (arith, is, count-fits g.B.Board.geometry (cells_of (set_of c.self.inside.held)) c.self.invariant.position c.args.side)
+    omega (
+      arith,
+      is,
+      count-fits g.B.Board.geometry (cells_of (set_of c.self.inside.held)) c.self.invariant.position c.args.side,
+    )
 
 pub returns-clause-small : goal.returns-clause-small
 returns-clause-small g c =
     let is = count-kept g.B.Board.geometry (cells_of (set_of c.self.inside.held)) _ c.self.invariant c.args.side _ _
     (c.count.ensures.value ∙ ap set.len c.of.ensures)
     (c.count-2.ensures.value ∙ ap set.len c.of-2.ensures) in
-    omega (arith, is, count-fits g.B.Board.geometry (cells_of (set_of c.self.inside.held)) c.self.invariant.position c.args.side, g.met.B.Board.numbers.side_high)
+    omega (
+      arith,
+      is,
+      count-fits g.B.Board.geometry (cells_of (set_of c.self.inside.held)) c.self.invariant.position c.args.side,
+      g.met.B.Board.numbers.side_high,
+    )

@@ -13,9 +13,11 @@ pub returns : goal.returns
 returns g c =
     let board = g.B.Board.geometry in
     let before = kept_placement c.self.inside.held c.self.inside.turn in
-    let stands : (side : Side) (k : Kind) → word_of board (set_of c.self.inside.held side k) ≡ standing_word board before side k =
+    let stands : (side : Side) (k : Kind) → word_of board (set_of c.self.inside.held side k)
+    ≡ standing_word board before side k =
     λ side k. ap (word_of board) (sym (c.self.invariant.standing_is side k)) in
-    mixed-is board before c.mixed-turned.result c.mixed-men.result c.mixed-white.result c.mixed-others.result c.mixed.result c.from-turn.result
+    mixed-is board before c.mixed-turned.result c.mixed-men.result c.mixed-white.result c.mixed-others.result
+    c.mixed.result c.from-turn.result
     c.word-white_men.result c.word-white_kings.result c.word-black_men.result c.word-black_kings.result
     (c.from-turn.ensures ∙ c.side_number.ensures) c.mixed-turned.ensures
     (c.word-white_men.ensures.value ∙ (ap (word_of board) c.of.ensures ∙ stands White Man)) c.mixed-men.ensures

@@ -9,7 +9,8 @@ invariant_of-result g c =
     let geo = g.B.Board.geometry in
     let sets = set_of c.self.inside.held in
     packed-again geo (cells_of sets) c.all_of.result c.all_of-2.result c.or.result
-    (packed geo (cells_of sets) sets c.all_of.result c.all_of-2.result c.or.result c.self.invariant c.all_of.ensures c.all_of-2.ensures
+    (packed geo (cells_of sets) sets c.all_of.result c.all_of-2.result c.or.result c.self.invariant c.all_of.ensures
+    c.all_of-2.ensures
     (c.or.ensures ∙ (λ i. set.union (c.of.ensures i) (c.of-2.ensures i))))
 
 pub returns : goal.returns
@@ -17,5 +18,6 @@ returns g c =
     let geo = g.B.Board.geometry in
     let sets = set_of c.self.inside.held in
     packed_again geo (cells_of sets) c.all_of.result c.all_of-2.result c.or.result
-    (packed geo (cells_of sets) sets c.all_of.result c.all_of-2.result c.or.result c.self.invariant c.all_of.ensures c.all_of-2.ensures
+    (packed geo (cells_of sets) sets c.all_of.result c.all_of-2.result c.or.result c.self.invariant c.all_of.ensures
+    c.all_of-2.ensures
     (c.or.ensures ∙ (λ i. set.union (c.of.ensures i) (c.of-2.ensures i)))) ∙ ap (λ v. v.cells) c.self.view_is

@@ -8,7 +8,8 @@ use Rattle.dw_board.proofs.position.Position.squares.Goals as goal
 pub returns : goal.returns
 returns g c = λ s.
     let is = c.self.invariant in
-    let here = standing-members g.B.Board.geometry g.met.B.Board.numbers (cells_of (set_of c.self.inside.held)) is.position c.args.side c.args.kind s in
+    let here = standing-members g.B.Board.geometry g.met.B.Board.numbers (cells_of (set_of c.self.inside.held))
+    is.position c.args.side c.args.kind s in
     let same = ap (λ v. set.contains v s) (is.standing_is c.args.side c.args.kind ∙ sym c.of.ensures) in
     let cell = ap (λ v. of.at v s) c.self.view_is in (
       (λ e. let h = here.0 (same ∙ e) in (h.0, sym cell ∙ h.1)),

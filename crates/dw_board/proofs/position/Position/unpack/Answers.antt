@@ -11,7 +11,8 @@ invariant_of-result g c =
     let now = set_of c.parted-held.result in
     let of = c.packed.inside in
     let cells = packed_cells of.white of.black of.kings in
-    kept-again geo cells now (parted_kept geo cells now of.white of.black of.kings c.packed.invariant c.parted-held.ensures)
+    kept-again geo cells now (parted_kept geo cells now of.white of.black of.kings c.packed.invariant
+    c.parted-held.ensures)
 
 pub returns : goal.returns
 returns g c =
@@ -19,5 +20,6 @@ returns g c =
     let now = set_of c.parted-held.result in
     let of = c.packed.inside in
     let cells = packed_cells of.white of.black of.kings in
-    let again = cells_again geo cells now (parted_kept geo cells now of.white of.black of.kings c.packed.invariant c.parted-held.ensures) in
+    let again = cells_again geo cells now (parted_kept geo cells now of.white of.black of.kings c.packed.invariant
+    c.parted-held.ensures) in
     λ i. record { cells = (again ∙ c.packed.view_is) i; turn = c.args.turn }

@@ -4,4 +4,5 @@ use Rattle.dw_board.proofs.square.SquareOrd.cmp.Goals as goal
 
 pub returns : goal.returns
 returns g c = c.cmp.ensures
-    ∙ same_order g.B.Board.geometry g.met.B.Board.numbers c.self.inside.place c.other.inside.place c.args.self.now c.args.other.now c.self.invariant c.other.invariant c.self.view_is c.other.view_is
+    ∙ same_order g.B.Board.geometry g.met.B.Board.numbers c.self.inside.place c.other.inside.place c.args.self.now
+    c.args.other.now c.self.invariant c.other.invariant c.self.view_is c.other.view_is

@@ -4,7 +4,13 @@ use Rattle.dw_board.proofs.CountingLemmas.{ones-is, len-squares_of}
 use Rattle.dw_board.proofs.squares.Squares.count.Goals as goal
 
 pub returns-clause-value : goal.returns-clause-value
-returns-clause-value g c = ones-is g.B.Board.geometry c.self.invariant.board c.self.inside.word c.self.invariant.only ∙ ap set.len c.self.view_is
+returns-clause-value g c = ones-is g.B.Board.geometry c.self.invariant.board c.self.inside.word c.self.invariant.only
+    ∙ ap set.len c.self.view_is
 
 pub returns-clause-small : goal.returns-clause-small
-returns-clause-small g c = omega (arith, ones-is g.B.Board.geometry c.self.invariant.board c.self.inside.word c.self.invariant.only, len-squares_of g.B.Board.geometry c.self.inside.word, c.self.invariant.board.squares_high)
+returns-clause-small g c = omega (
+  arith,
+  ones-is g.B.Board.geometry c.self.invariant.board c.self.inside.word c.self.invariant.only,
+  len-squares_of g.B.Board.geometry c.self.inside.word,
+  c.self.invariant.board.squares_high,
+)

@@ -8,5 +8,6 @@ pub returns : goal.returns
 returns g c =
     let board = g.B.Board.geometry in (
       (λ e. sym c.self.view_is ∙ (ap (squares_of board) (eqb-true _ _ e) ∙ squares_of-empty board)),
-      (λ h. eq-eqb _ _ (word-zero board c.self.invariant.board c.self.inside.word c.self.invariant.only (c.self.view_is ∙ h))),
+      (λ h. eq-eqb _ _ (word-zero board c.self.invariant.board c.self.inside.word c.self.invariant.only (c.self.view_is
+          ∙ h))),
     )

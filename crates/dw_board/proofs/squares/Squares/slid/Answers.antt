@@ -15,9 +15,13 @@ invariant_of-result g c =
     let free : ℕ = bit_and c.WORD.result (bit_not w64 c.barred.inside.word) in
     record {
       board = c.self.invariant.board;
-      only = rw c.slid_word.ensures (OnlySquares-slid g.B.Board.geometry c.self.invariant.board g.met.B.Board.shifts c.WORD.result whole c.args.direction c.args.barred free
-          (free_squares g.B.Board.geometry c.self.invariant.board c.WORD.result c.barred.inside.word c.args.barred whole (word-fits g.B.Board.geometry c.barred.invariant.board c.barred.inside.word c.barred.invariant.only) c.barred.view_is)
-          c.self.inside.word c.self.invariant.only (OnlySquares-and_left g.B.Board.geometry c.WORD.result (bit_not w64 c.barred.inside.word) whole.only));
+      only = rw c.slid_word.ensures (OnlySquares-slid g.B.Board.geometry c.self.invariant.board g.met.B.Board.shifts
+          c.WORD.result whole c.args.direction c.args.barred free
+          (free_squares g.B.Board.geometry c.self.invariant.board c.WORD.result c.barred.inside.word c.args.barred whole
+          (word-fits g.B.Board.geometry c.barred.invariant.board c.barred.inside.word c.barred.invariant.only)
+          c.barred.view_is)
+          c.self.inside.word c.self.invariant.only (OnlySquares-and_left g.B.Board.geometry c.WORD.result
+          (bit_not w64 c.barred.inside.word) whole.only));
     }
 
 pub returns : goal.returns
@@ -25,10 +29,17 @@ returns g c = λ t.
     let whole : WholeBoard g.B.Board.geometry c.WORD.result = rw c.WORD.ensures g.met.B.Board.word_is in
     let free : ℕ = bit_and c.WORD.result (bit_not w64 c.barred.inside.word) in
     let e = ap (λ n. set.contains (squares_of g.B.Board.geometry n) t) c.slid_word.ensures in
-    let h = contains-slid g.B.Board.geometry c.self.invariant.board g.met.B.Board.shifts c.WORD.result whole c.args.direction c.args.barred free
-    (free_squares g.B.Board.geometry c.self.invariant.board c.WORD.result c.barred.inside.word c.args.barred whole (word-fits g.B.Board.geometry c.barred.invariant.board c.barred.inside.word c.barred.invariant.only) c.barred.view_is)
-    c.self.inside.word c.self.invariant.only (OnlySquares-and_left g.B.Board.geometry c.WORD.result (bit_not w64 c.barred.inside.word) whole.only) t in
-    let same : (v : Squares) → squares_of g.B.Board.geometry c.self.inside.word ≡ v → (set.contains (squares_of g.B.Board.geometry c.slid_word.result) t ≡ true) ↔ ((n : ℕ) × SlidesTo g.B.Board.geometry v c.args.barred c.args.direction n t) =
-    λ v is. subst (λ u. (set.contains (squares_of g.B.Board.geometry c.slid_word.result) t ≡ true) ↔ ((n : ℕ) × SlidesTo g.B.Board.geometry u c.args.barred c.args.direction n t)) is
+    let h = contains-slid g.B.Board.geometry c.self.invariant.board g.met.B.Board.shifts c.WORD.result whole
+    c.args.direction c.args.barred free
+    (free_squares g.B.Board.geometry c.self.invariant.board c.WORD.result c.barred.inside.word c.args.barred whole
+    (word-fits g.B.Board.geometry c.barred.invariant.board c.barred.inside.word c.barred.invariant.only)
+    c.barred.view_is)
+    c.self.inside.word c.self.invariant.only (OnlySquares-and_left g.B.Board.geometry c.WORD.result
+    (bit_not w64 c.barred.inside.word) whole.only) t in
+    let same : (v : Squares) → squares_of g.B.Board.geometry c.self.inside.word ≡ v
+    → (set.contains (squares_of g.B.Board.geometry c.slid_word.result) t ≡ true)
+    ↔ ((n : ℕ) × SlidesTo g.B.Board.geometry v c.args.barred c.args.direction n t) =
+    λ v is. subst (λ u. (set.contains (squares_of g.B.Board.geometry c.slid_word.result) t ≡ true)
+    ↔ ((n : ℕ) × SlidesTo g.B.Board.geometry u c.args.barred c.args.direction n t)) is
     (λ k. h.0 (sym e ∙ k), λ k. e ∙ h.1 k) in
     same c.args.self c.self.view_is

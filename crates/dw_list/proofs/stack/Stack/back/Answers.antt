@@ -4,12 +4,21 @@ use Rattle.dw_list.proofs.stack.Stack.back.Goals as goal
 
 pub invariant_of-self : goal.invariant_of-self
 invariant_of-self g c =
-    let frames = back_of c.self.inside.frames.items c.leave_last.new.frames.items (length c.self.inside.frames.items - 1) refl c.leave_last.ensures in
-    let line = back_of c.self.inside.line.items c.truncate.new.self.items c.saturating_sub.result (c.saturating_sub.ensures ∙ ap (λ z. z - 1) c.len-played.ensures.value) c.truncate.ensures.items in
-    inside_back g.B.Board.geometry c.self.inside.position c.self.inside.moves _ _ _ _ frames line (omega (arith, ap length c.leave_last.ensures, length-take (length c.self.inside.frames.items - 1) c.self.inside.frames.items)) c.self.invariant
+    let frames = back_of c.self.inside.frames.items c.leave_last.new.frames.items (length c.self.inside.frames.items
+    - 1) refl c.leave_last.ensures in
+    let line = back_of c.self.inside.line.items c.truncate.new.self.items c.saturating_sub.result
+    (c.saturating_sub.ensures ∙ ap (λ z. z - 1) c.len-played.ensures.value) c.truncate.ensures.items in
+    inside_back g.B.Board.geometry c.self.inside.position c.self.inside.moves _ _ _ _ frames line
+    (omega (
+      arith,
+      ap length c.leave_last.ensures,
+      length-take (length c.self.inside.frames.items - 1) c.self.inside.frames.items,
+    )) c.self.invariant
 
 pub returns : goal.returns
 returns g c =
-    let frames = back_of c.self.inside.frames.items c.leave_last.new.frames.items (length c.self.inside.frames.items - 1) refl c.leave_last.ensures in
-    let line = back_of c.self.inside.line.items c.truncate.new.self.items c.saturating_sub.result (c.saturating_sub.ensures ∙ ap (λ z. z - 1) c.len-played.ensures.value) c.truncate.ensures.items in
+    let frames = back_of c.self.inside.frames.items c.leave_last.new.frames.items (length c.self.inside.frames.items
+    - 1) refl c.leave_last.ensures in
+    let line = back_of c.self.inside.line.items c.truncate.new.self.items c.saturating_sub.result
+    (c.saturating_sub.ensures ∙ ap (λ z. z - 1) c.len-played.ensures.value) c.truncate.ensures.items in
     with_both c.args.self.now _ _ _ _ _ _ c.self.view_is line frames

@@ -8,10 +8,14 @@ pub push-requires-2 : goal.push-requires-2
 push-requires-2 g c =
     let geo = g.B.Board.geometry in
     let was = end_of _ _ c.pop.result c.unwrap-frame.result c.pop.ensures.items c.unwrap-frame.ensures in
-    let trial = same_trial geo c.args.self.now.levels (reverse c.pop.new.self.items) c.unwrap-frame.result c.args.trial.now (ap (λ (s : Standing). s.levels) (sym c.self.view_is) ∙ end_first _ _ _ was) c.requires.first in
-    let room = inside_first geo c.self.inside.position c.self.inside.moves _ c.pop.new.self.items c.unwrap-frame.result _ c.args.trial.now.mv was trial.0 c.self.invariant in
+    let trial = same_trial geo c.args.self.now.levels (reverse c.pop.new.self.items) c.unwrap-frame.result
+    c.args.trial.now (ap (λ (s : Standing). s.levels) (sym c.self.view_is) ∙ end_first _ _ _ was)
+    c.requires.first in
+    let room = inside_first geo c.self.inside.position c.self.inside.moves _ c.pop.new.self.items c.unwrap-frame.result
+    _ c.args.trial.now.mv was trial.0 c.self.invariant in
     let few = c.self.invariant.2.1 in
-    let long : length c.push.new.self.items ≡ length c.pop.new.self.items + 1 = ap length c.push.ensures.items ∙ length-append c.pop.new.self.items _ in
+    let long : length c.push.new.self.items ≡ length c.pop.new.self.items + 1 = ap length c.push.ensures.items
+    ∙ length-append c.pop.new.self.items _ in
     let fits : length c.push.new.self.items < 40 = omega (arith, room.1, few, long) in
     (lit< tt, fits)
 
@@ -19,17 +23,26 @@ pub push-requires-3 : goal.push-requires-3
 push-requires-3 g c =
     let geo = g.B.Board.geometry in
     let was = end_of _ _ c.pop.result c.unwrap-frame.result c.pop.ensures.items c.unwrap-frame.ensures in
-    let trial = same_trial geo c.args.self.now.levels (reverse c.pop.new.self.items) c.unwrap-frame.result c.args.trial.now (ap (λ (s : Standing). s.levels) (sym c.self.view_is) ∙ end_first _ _ _ was) c.requires.first in
-    let room = inside_first geo c.self.inside.position c.self.inside.moves _ c.pop.new.self.items c.unwrap-frame.result (reverse c.self.inside.line.items) c.args.trial.now.mv was trial.0 c.self.invariant in
+    let trial = same_trial geo c.args.self.now.levels (reverse c.pop.new.self.items) c.unwrap-frame.result
+    c.args.trial.now (ap (λ (s : Standing). s.levels) (sym c.self.view_is) ∙ end_first _ _ _ was)
+    c.requires.first in
+    let room = inside_first geo c.self.inside.position c.self.inside.moves _ c.pop.new.self.items c.unwrap-frame.result
+    (reverse c.self.inside.line.items) c.args.trial.now.mv was trial.0 c.self.invariant in
     let few = c.self.invariant.2.1 in
-    let fits : length c.self.inside.line.items < 39 = omega (arith, room.0, few, length-reverse c.self.inside.line.items) in
+    let fits : length c.self.inside.line.items
+    < 39 = omega (arith, room.0, few, length-reverse c.self.inside.line.items) in
     (lit< tt, fits)
 
 pub invariant_of-self : goal.invariant_of-self
 invariant_of-self g c =
     let geo = g.B.Board.geometry in
     let was = end_of _ _ c.pop.result c.unwrap-frame.result c.pop.ensures.items c.unwrap-frame.ensures in
-    let trial = same_trial geo c.args.self.now.levels (reverse c.pop.new.self.items) c.unwrap-frame.result c.args.trial.now (ap (λ (s : Standing). s.levels) (sym c.self.view_is) ∙ end_first _ _ _ was) c.requires.first in
-    inside_entered geo c.self.inside.position c.self.inside.moves _ c.pop.new.self.items c.push-2.new.self.items c.unwrap-frame.result c.pass.new.self c.frame_at-next.result (reverse c.self.inside.line.items) _
-    c.args.trial.now.mv c.args.trial.now.after c.args.trial.now.attacks c.args.trial.now.left was (c.push-2.ensures.items ∙ ap (λ z. z ++ c.frame_at-next.result ∷ []) c.push.ensures.items) c.pass.ensures
-    (end_first _ _ _ c.push-3.ensures.items) trial.0 trial.1 trial.2 trial.3 c.frame_at-next.ensures c.requires.keeps c.self.invariant
+    let trial = same_trial geo c.args.self.now.levels (reverse c.pop.new.self.items) c.unwrap-frame.result
+    c.args.trial.now (ap (λ (s : Standing). s.levels) (sym c.self.view_is) ∙ end_first _ _ _ was)
+    c.requires.first in
+    inside_entered geo c.self.inside.position c.self.inside.moves _ c.pop.new.self.items c.push-2.new.self.items
+    c.unwrap-frame.result c.pass.new.self c.frame_at-next.result (reverse c.self.inside.line.items) _
+    c.args.trial.now.mv c.args.trial.now.after c.args.trial.now.attacks c.args.trial.now.left was
+    (c.push-2.ensures.items ∙ ap (λ z. z ++ c.frame_at-next.result ∷ []) c.push.ensures.items) c.pass.ensures
+    (end_first _ _ _ c.push-3.ensures.items) trial.0 trial.1 trial.2 trial.3 c.frame_at-next.ensures c.requires.keeps
+    c.self.invariant

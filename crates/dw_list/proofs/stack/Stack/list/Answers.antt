@@ -5,12 +5,15 @@ use Rattle.dw_list.proofs.stack.Stack.list.Goals as goal
 
 pub invariant_of-self-2 : goal.invariant_of-self-2
 invariant_of-self-2 g c =
-    inside_listed g.B.Board.geometry c.self.inside.position c.self.inside.moves _ c.pop.new.self.items _ c.unwrap-frame.result c.list-listing.new.self _
-    (end_of _ _ c.pop.result c.unwrap-frame.result c.pop.ensures.items c.unwrap-frame.ensures) c.push.ensures.items c.in_ok-listing.ensures.ok c.self.invariant
+    inside_listed g.B.Board.geometry c.self.inside.position c.self.inside.moves _ c.pop.new.self.items _
+    c.unwrap-frame.result c.list-listing.new.self _
+    (end_of _ _ c.pop.result c.unwrap-frame.result c.pop.ensures.items c.unwrap-frame.ensures) c.push.ensures.items
+    c.in_ok-listing.ensures.ok c.self.invariant
 
 pub returns-clause-listed : goal.returns-clause-listed
 returns-clause-listed g c =
-    let was = end_first _ _ _ (end_of _ _ c.pop.result c.unwrap-frame.result c.pop.ensures.items c.unwrap-frame.ensures) in
+    let was = end_first _ _ _ (end_of _ _ c.pop.result c.unwrap-frame.result c.pop.ensures.items
+    c.unwrap-frame.ensures) in
     record {
       last = c.unwrap-frame.result;
       outer = reverse c.pop.new.self.items;
@@ -18,5 +21,6 @@ returns-clause-listed g c =
       listed = c.list-listing.new.self;
       listing = c.in_ok-listing.ensures.ok;
       is = with_levels c.args.self.now _ _ _ _ _ _ c.self.view_is (end_first _ _ _ c.push.ensures.items);
-      end = listing_ends g.B.Board.geometry c.unwrap-frame.result c.list-listing.new.self c.ends_line-is_end.result c.in_ok-listing.ensures.ok c.ends_line-is_end.ensures;
+      end = listing_ends g.B.Board.geometry c.unwrap-frame.result c.list-listing.new.self c.ends_line-is_end.result
+          c.in_ok-listing.ensures.ok c.ends_line-is_end.ensures;
     }

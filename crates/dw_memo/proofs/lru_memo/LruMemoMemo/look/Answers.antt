@@ -26,5 +26,6 @@ returns-clause-map_after g c =
 pub returns-clause-same : goal.returns-clause-same
 returns-clause-same g c =
     subst (λ (h : Holding). SameEntries h.content (content_of c.get.follows.lender-at-none.entries)) c.self.view_is
-    (subst (λ (z : LruCache Placement Bounds). SameEntries (content_of c.self.inside.cache.entries) (content_of z.entries)) (sym c.get.follows.holds-at-none)
+    (subst (λ (z : LruCache Placement Bounds). SameEntries (content_of c.self.inside.cache.entries)
+    (content_of z.entries)) (sym c.get.follows.holds-at-none)
     (promoted_same c.args.position.now c.self.inside.cache.entries c.self.invariant.map))

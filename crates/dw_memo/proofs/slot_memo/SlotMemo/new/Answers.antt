@@ -11,5 +11,9 @@ abbrev holding : Content → Holding
 holding c = record { content = c; dropped = 0 }
 
 pub returns : goal.returns
-returns g c = ap holding (new_held c.first_size.result (c.first_size.result - vec_len c.in_ok-table.table) c.in_ok-table.table.items c.resize.new.self.items (is_ok c.resize.result) c.in_ok-table.ensures.items
-    (subst (λ x. c.resize.new.self.items ≡ (if is_ok c.resize.result then take c.first_size.result c.in_ok-table.table.items ++ replicate (c.first_size.result - vec_len c.in_ok-table.table) x else c.in_ok-table.table.items)) c.empty.ensures c.resize.ensures.items))
+returns g c = ap holding (new_held c.first_size.result (c.first_size.result - vec_len c.in_ok-table.table)
+    c.in_ok-table.table.items c.resize.new.self.items (is_ok c.resize.result) c.in_ok-table.ensures.items
+    (subst (λ x. c.resize.new.self.items
+    ≡ (if is_ok c.resize.result then take c.first_size.result c.in_ok-table.table.items
+    ++ replicate (c.first_size.result - vec_len c.in_ok-table.table) x else c.in_ok-table.table.items))
+    c.empty.ensures c.resize.ensures.items))

@@ -18,5 +18,6 @@ pub returns-clause-found : goal.returns-clause-found
 returns-clause-found g c =
     let n : c.len.result ≡ length c.self.inside.slots.items = omega (arith, c.len.ensures, c.self.inside.slots.ok) in
     subst (λ (h : Holding). IsFound h.content c.args.position.now c.bounds_of.result) c.self.view_is
-    (found_in g.B.Board.geometry c.self.inside.slots.items c.len.result c.slot_of-slot.result c.args.position.now c.index.result.now c.bounds_of.result
+    (found_in g.B.Board.geometry c.self.inside.slots.items c.len.result c.slot_of-slot.result c.args.position.now
+    c.index.result.now c.bounds_of.result
     c.self.invariant n c.slot_of-slot.ensures.slot c.slot_of-slot.ensures.within c.index.ensures c.bounds_of.ensures)

@@ -6,4 +6,5 @@ use Rattle.dw_moves.proofs.glance.Field.of.Goals as goal
 pub returns : goal.returns
 returns g c =
     let f = c.given.result in
-    subst (λ side. AreSets g.B.Board.geometry (given c.args.position.now side) f.men f.kings f.enemies f.occupied) c.turn.ensures.value c.given.ensures
+    subst (λ side. AreSets g.B.Board.geometry (given c.args.position.now side) f.men f.kings f.enemies f.occupied)
+    c.turn.ensures.value c.given.ensures

@@ -9,5 +9,8 @@ use Rattle.dw_moves.proofs.ground.Ground.without.Goals as goal
 
 pub returns : goal.returns
 returns g c =
-    ground_without g.B.Board.geometry c.args.position.now c.args.side c.args.from c.all_of.result c.occupied.result c.without.result c.requires.on_board c.requires.own
-    (subst (λ (side : Side). (s : ℕ) → In s c.all_of.result ↔ (OnBoard g.B.Board.geometry s × IsTrue (is_of side (at c.args.position.now s)))) c.other.ensures c.all_of.ensures) c.occupied.ensures c.without.ensures
+    ground_without g.B.Board.geometry c.args.position.now c.args.side c.args.from c.all_of.result c.occupied.result
+    c.without.result c.requires.on_board c.requires.own
+    (subst (λ (side : Side). (s : ℕ) → In s c.all_of.result
+    ↔ (OnBoard g.B.Board.geometry s × IsTrue (is_of side (at c.args.position.now s)))) c.other.ensures
+    c.all_of.ensures) c.occupied.ensures c.without.ensures

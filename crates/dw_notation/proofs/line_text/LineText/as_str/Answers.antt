@@ -8,4 +8,5 @@ pub returns-clause-text : goal.returns-clause-text
 returns-clause-text g c =
     let geo = g.B.Board.geometry in
     let t = c.args.self.now in
-    subst (IsLineText geo (start_of t) (moves_of t)) (sym c.as_str.ensures.value) (written_line geo t.start t.plies.items t.text.bytes c.requires)
+    subst (IsLineText geo (start_of t) (moves_of t)) (sym c.as_str.ensures.value)
+    (written_line geo t.start t.plies.items t.text.bytes c.requires)

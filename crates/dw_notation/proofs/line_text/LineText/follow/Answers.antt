@@ -15,7 +15,8 @@ moves-init g c =
       text = c.keep.ensures.text;
       start = refl;
       taken = sym (append-nil (moves_of t));
-      playable = subst (ArePlayable geo (end_of t)) (sym (rest_is line shared)) (playable_from geo t.start t.plies.items t.text.bytes line shared c.keep.ensures.text (c.keep.ensures.moves ∙ sym c.requires.shared) legal);
+      playable = subst (ArePlayable geo (end_of t)) (sym (rest_is line shared)) (playable_from geo t.start t.plies.items
+          t.text.bytes line shared c.keep.ensures.text (c.keep.ensures.moves ∙ sym c.requires.shared) legal);
     }
 
 pub moves-preserved : goal.moves-preserved
@@ -24,10 +25,12 @@ moves-preserved g c =
     let rest = take (length c.args.line.now - c.args.shared) (drop c.args.shared c.args.line.now) in
     let i = c.moves.mv-index in
     let m = c.mv-item.result in
-    let next = next_legal geo (end_of c.moves.self) rest i m c.moves.invariant.playable c.moves-test.true c.mv-item.is in
+    let next = next_legal geo (end_of c.moves.self) rest i m c.moves.invariant.playable c.moves-test.true
+    c.mv-item.is in
     record {
       text = c.push.ensures.text;
       start = c.push.ensures.start ∙ c.moves.invariant.start;
-      taken = moves_more (moves_of c.keep.new.self) rest (moves_of c.moves.self) (moves_of c.push.new.self) i m c.moves-test.true c.mv-item.is c.moves.invariant.taken c.in_ok-push.ensures.moves;
+      taken = moves_more (moves_of c.keep.new.self) rest (moves_of c.moves.self) (moves_of c.push.new.self) i m
+          c.moves-test.true c.mv-item.is c.moves.invariant.taken c.in_ok-push.ensures.moves;
       playable = subst (λ z. ArePlayable geo z (drop (i + 1) rest)) (sym c.in_ok-push.ensures.end) next.1;
     }

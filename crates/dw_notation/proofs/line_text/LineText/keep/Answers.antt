@@ -7,8 +7,12 @@ use Rattle.dw_notation.proofs.line_text.LineText.keep.Goals as goal
 
 pub truncate-requires-2 : goal.truncate-requires-2
 truncate-requires-2 g c =
-    let t = c.args.self.now in
-    (omega arith, λ low. subst (IsSplitPoint t.text.bytes) (sym c.len_to-len.ensures) (written_split g.B.Board.geometry t.start 0 0 c.args.moves [] t.plies.items t.text.bytes refl (λ some. some) c.requires))
+    let t = c.args.self.now in (
+      omega arith,
+      λ low. subst (IsSplitPoint t.text.bytes) (sym c.len_to-len.ensures)
+          (written_split g.B.Board.geometry t.start 0 0 c.args.moves [] t.plies.items t.text.bytes refl (λ some. some)
+          c.requires),
+    )
 
 pub returns-clause-text : goal.returns-clause-text
 returns-clause-text g c =
@@ -16,7 +20,9 @@ returns-clause-text g c =
     let t = c.args.self.now in
     let bytes = c.truncate-2.ensures ∙ ap (λ k. take k t.text.bytes) c.len_to-len.ensures in
     subst (λ z. AreWritten geo t.start 0 [] z c.truncate-2.new.self.bytes) (sym c.truncate.ensures.items)
-    (subst (λ z. AreWritten geo t.start 0 [] (take c.args.moves t.plies.items) z) (sym bytes) (written_keep geo t.start 0 0 c.args.moves [] t.plies.items t.text.bytes refl c.requires))
+    (subst (λ z. AreWritten geo t.start 0 [] (take c.args.moves t.plies.items) z) (sym bytes)
+    (written_keep geo t.start 0 0 c.args.moves [] t.plies.items t.text.bytes refl c.requires))
 
 pub returns-clause-moves : goal.returns-clause-moves
-returns-clause-moves g c = ap (map (λ x. x.mv)) c.truncate.ensures.items ∙ sym (take-map (λ x. x.mv) c.args.moves c.args.self.now.plies.items)
+returns-clause-moves g c = ap (map (λ x. x.mv)) c.truncate.ensures.items
+    ∙ sym (take-map (λ x. x.mv) c.args.moves c.args.self.now.plies.items)

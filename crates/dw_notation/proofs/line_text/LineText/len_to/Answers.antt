@@ -7,5 +7,6 @@ returns-else-count-eq0 g c =
     let plies = c.args.self.now.plies.items in
     let count = c.min-count.result in
     let x = c.index-as_slice-count.result in
-    let at : x ≡ get_or plies (count - 1) x = c.index-as_slice-count.is ∙ ap (λ z. get_or z (count - 1) x) c.as_slice.ensures.value in
+    let at : x ≡ get_or plies (count - 1) x = c.index-as_slice-count.is
+    ∙ ap (λ z. get_or z (count - 1) x) c.as_slice.ensures.value in
     len_found 0 plies c.args.moves (count - 1) x (omega arith) (omega arith) (λ more. omega arith) at

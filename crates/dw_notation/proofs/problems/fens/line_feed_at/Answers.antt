@@ -6,4 +6,5 @@ use Rattle.dw_notation.proofs.CutLemmas.{NoLineFeed-push}
 use Rattle.dw_notation.proofs.problems.fens.line_feed_at.Goals as goal
 
 pub bytes-preserved : goal.bytes-preserved
-bytes-preserved c = subst NoLineFeed (sym (take_more c.args.bytes.now c.bytes.i 0 (omega arith))) (NoLineFeed-push _ _ c.bytes.invariant (ne_eqb _ _ c.if-byte-eq10.false))
+bytes-preserved c = subst NoLineFeed (sym (take_more c.args.bytes.now c.bytes.i 0 (omega arith)))
+    (NoLineFeed-push _ _ c.bytes.invariant (ne_eqb _ _ c.if-byte-eq10.false))

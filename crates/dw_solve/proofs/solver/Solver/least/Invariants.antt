@@ -16,4 +16,5 @@ invariant-moves g l =
     (moment g.M.Memo.content g.M.Memo.dropped l.initial.self.memo l.initial.self.expanded)
     (moment g.M.Memo.content g.M.Memo.dropped l.self.memo l.self.expanded)
     × (SaysLeast (g.M.Memo.content l.initial.self.memo) l.position l.most
-    → Unchanged (g.M.Memo.content l.initial.self.memo) l.initial.self.expanded (g.M.Memo.content l.self.memo) l.self.expanded)))
+    → Unchanged (g.M.Memo.content l.initial.self.memo) l.initial.self.expanded (g.M.Memo.content l.self.memo)
+    l.self.expanded)))

@@ -13,7 +13,8 @@ returns-clause-known g c decided =
     let idle = subst
     (λ (s : Solving g.row.M.Denot).
     RepliesAreDecided g.B.Board.geometry (content s.memo) c.args.position.now c.args.moves →
-    (IsErrOf c.ask_loses-answer.result Limit → ⊥) × (after.expanded ≡ s.expanded) × SameEntries (content s.memo) (content after.memo))
+    (IsErrOf c.ask_loses-answer.result Limit → ⊥) × (after.expanded ≡ s.expanded)
+    × SameEntries (content s.memo) (content after.memo))
     c.self.view_is c.ask_loses-answer.ensures.known decided in
     (idle.0, (idle.1, idle.2))
 
@@ -23,5 +24,11 @@ returns-clause-asked g c =
     let after = asked.new.search in
     subst
     (λ (s : Solving g.row.M.Denot).
-    Asked g.B.Board.geometry g.M.Memo.content g.M.Memo.dropped c.args.moves s (record { memo = after.memo; expanded = after.expanded; limit = after.limit }) asked.result)
-    c.self.view_is (record { count = asked.ensures.count; stop = asked.ensures.stop; searched = asked.ensures.searched })
+    Asked g.B.Board.geometry g.M.Memo.content g.M.Memo.dropped c.args.moves s
+    (record { memo = after.memo; expanded = after.expanded; limit = after.limit }) asked.result)
+    c.self.view_is (record {
+      count = asked.ensures.count;
+      stop = asked.ensures.stop;
+      searched =
+          asked.ensures.searched;
+    })

@@ -22,7 +22,8 @@ returns-clause-spent g c =
     let after = c.ask_wins-answer.new.search in
     subst
     (λ (s : Solving g.row.M.Denot).
-    OnOk c.ask_wins-answer.result (1 ≤ c.args.moves → (IsDecided (content s.memo) c.args.position.now c.args.moves → ⊥) → s.expanded < after.expanded))
+    OnOk c.ask_wins-answer.result (1 ≤ c.args.moves → (IsDecided (content s.memo) c.args.position.now c.args.moves → ⊥)
+    → s.expanded < after.expanded))
     c.self.view_is c.ask_wins-answer.ensures.spent
 
 pub returns-clause-asked : goal.returns-clause-asked
@@ -31,5 +32,11 @@ returns-clause-asked g c =
     let after = asked.new.search in
     subst
     (λ (s : Solving g.row.M.Denot).
-    Asked g.B.Board.geometry g.M.Memo.content g.M.Memo.dropped c.args.moves s (record { memo = after.memo; expanded = after.expanded; limit = after.limit }) asked.result)
-    c.self.view_is (record { count = asked.ensures.count; stop = asked.ensures.stop; searched = asked.ensures.searched })
+    Asked g.B.Board.geometry g.M.Memo.content g.M.Memo.dropped c.args.moves s
+    (record { memo = after.memo; expanded = after.expanded; limit = after.limit }) asked.result)
+    c.self.view_is (record {
+      count = asked.ensures.count;
+      stop = asked.ensures.stop;
+      searched =
+          asked.ensures.searched;
+    })

@@ -8,4 +8,5 @@ returns c =
     let text = c.args.self.now.text.now in
     let rest = length-drop at text in
     let inside = c.args.self.now.inside in
-    same_test at (length text) (length (drop at text)) 0 (λ (e : at ≡ length text). omega arith) (λ (e : length (drop at text) ≡ 0). omega arith) ∙ sym (is_empty-here (at + 1) _ c.args.self.now.at_token)
+    same_test at (length text) (length (drop at text)) 0 (λ (e : at ≡ length text). omega arith)
+    (λ (e : length (drop at text) ≡ 0). omega arith) ∙ sym (is_empty-here (at + 1) _ c.args.self.now.at_token)

@@ -14,7 +14,8 @@ returns-in_err-square-clause-taken g c =
     let digits = c.digits_at-digits in
     c.from_residual.ensures ∙ (sym (c.in_err-square.was) ∙ (c.square_named.ensures
     ∙ (ap (number_named g.B.Board.geometry) (same_run now.at digits.result now.text.now)
-    ∙ sym (first_named-cut g.B.Board.geometry (now.at + 1) digits.result (drop now.at now.text.now) (rw take_rest at digits.ensures.digits) (rw take_rest at digits.ensures.all) now.at_token))))
+    ∙ sym (first_named-cut g.B.Board.geometry (now.at + 1) digits.result (drop now.at now.text.now)
+    (rw take_rest at digits.ensures.digits) (rw take_rest at digits.ensures.all) now.at_token))))
 
 pub returns-clause-taken : goal.returns-clause-taken
 returns-clause-taken g c =
@@ -22,16 +23,21 @@ returns-clause-taken g c =
     let digits = c.digits_at-digits in
     sym (c.in_ok-square.was) ∙ (c.square_named.ensures
     ∙ (ap (number_named g.B.Board.geometry) (same_run now.at digits.result now.text.now)
-    ∙ sym (first_named-cut g.B.Board.geometry (now.at + 1) digits.result (drop now.at now.text.now) (rw take_rest at digits.ensures.digits) (rw take_rest at digits.ensures.all) now.at_token)))
+    ∙ sym (first_named-cut g.B.Board.geometry (now.at + 1) digits.result (drop now.at now.text.now)
+    (rw take_rest at digits.ensures.digits) (rw take_rest at digits.ensures.all) now.at_token)))
 
 pub returns-clause-left : goal.returns-clause-left
 returns-clause-left g c =
     let now = c.args.self.now in
     let digits = c.digits_at-digits in
-    let named : number_named g.B.Board.geometry (take digits.result (drop now.at now.text.now)) ≡ Some c.in_ok-square.square =
-    ap (number_named g.B.Board.geometry) (sym (same_run now.at digits.result now.text.now)) ∙ (sym c.square_named.ensures ∙ c.in_ok-square.was) in
+    let named : number_named g.B.Board.geometry (take digits.result (drop now.at now.text.now))
+    ≡ Some c.in_ok-square.square =
+    ap (number_named g.B.Board.geometry) (sym (same_run now.at digits.result now.text.now))
+    ∙ (sym c.square_named.ensures ∙ c.in_ok-square.was) in
     let sum : now.at + 1 + digits.result ≡ now.at + digits.result + 1 = omega arith in
     c.pass.ensures.tokens
     ∙ (ap (tokens_from (now.at + digits.result + 1)) (sym (drop-drop digits.result now.at now.text.now))
     ∙ (ap (λ n. tokens_from n (drop digits.result (drop now.at now.text.now))) (sym sum)
-    ∙ sym (behind-cut g.B.Board.geometry (now.at + 1) digits.result (drop now.at now.text.now) (rw take_rest at digits.ensures.digits) (rw take_rest at digits.ensures.all) now.at_token c.in_ok-square.square (rw take_rest at digits.ensures.within) named)))
+    ∙ sym (behind-cut g.B.Board.geometry (now.at + 1) digits.result (drop now.at now.text.now)
+    (rw take_rest at digits.ensures.digits) (rw take_rest at digits.ensures.all) now.at_token c.in_ok-square.square
+    (rw take_rest at digits.ensures.within) named)))

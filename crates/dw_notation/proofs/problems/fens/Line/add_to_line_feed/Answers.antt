@@ -7,4 +7,5 @@ returns-in-Some-clause-some c =
     (found.0, λ g at_end more. found_from-at at_end g _ _ _ more _ found.1 found.2 c.push.ensures)
 
 pub returns-in-None-clause-none : goal.returns-in-None-clause-none
-returns-in-None-clause-none c = λ g at_end more. found_from-push at_end g _ _ _ more c.in-None.ensures.none c.push-in-None.ensures
+returns-in-None-clause-none c = λ g at_end more. found_from-push at_end g _ _ _ more c.in-None.ensures.none
+    c.push-in-None.ensures

@@ -11,4 +11,5 @@ returns-clause-found c = λ g.
     ahead-end true g (held_line old.line) (held_line c.leave_front.new.self.line) old.front c.leave_front.ensures.line
 
 pub returns-clause-over : goal.returns-clause-over
-returns-clause-over c = λ g. ap (λ f. found_from true g [] (behind_mark f [])) c.leave_front.ensures.front ∙ ap option_to_list (line_found-nil g)
+returns-clause-over c = λ g. ap (λ f. found_from true g [] (behind_mark f [])) c.leave_front.ensures.front
+    ∙ ap option_to_list (line_found-nil g)

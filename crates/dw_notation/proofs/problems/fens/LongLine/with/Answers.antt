@@ -9,7 +9,9 @@ pub returns : goal.returns
 returns c =
     let long = c.args.self in
     let blank : (long.is_blank && is_blank long.last) ≡ c.if-self.is_blank = elim c.if-self.branch [
-      | then-self w ↦ ap (λ b. b && is_blank long.last) w.if-self.true ∙ sym (w.is_blank-is ∙ w.is_blank_byte-is_blank.ensures)
+      | then-self w ↦ ap (λ b. b && is_blank long.last) w.if-self.true
+          ∙ sym (w.is_blank-is ∙ w.is_blank_byte-is_blank.ensures)
       | else-self w ↦ ap (λ b. b && is_blank long.last) w.if-self.false ∙ sym (w.is_blank-is ∙ w.if-self.false)
     ] in
-    c.new.ensures (padded long.is_blank long.past long.last) (length-padded long.is_blank long.past long.last) (blank-padded long.is_blank long.past long.last ∙ blank)
+    c.new.ensures (padded long.is_blank long.past long.last) (length-padded long.is_blank long.past long.last)
+    (blank-padded long.is_blank long.past long.last ∙ blank)

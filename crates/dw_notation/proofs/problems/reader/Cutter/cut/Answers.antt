@@ -8,4 +8,5 @@ returns-in-Some-clause-found c = λ _ g at_end more.
     let old = c.args.self.now in
     let bound = length-slice_range-le old.buffer old.start old.end in
     let inside : old.start + (c.in-Some.place + 1) ≤ old.end = omega (arith, h.0, bound) in
-    found-rest at_end g old.pieces c.cut.new.self old.buffer more old.start old.end (c.in-Some.place + 1) inside (h.1 g at_end more)
+    found-rest at_end g old.pieces c.cut.new.self old.buffer more old.start old.end (c.in-Some.place + 1) inside
+    (h.1 g at_end more)

@@ -1,14 +1,17 @@
 use Rattle.std.proofs.Common.{◌≡◌, true, false, rules, arith, ◌∙◌, sym}
 use Rattle.dw_notation.proofs.CutLemmas.{length-slice_range-le}
-use Rattle.dw_notation.proofs.CarryLemmas.{CarriesOn-cut, CarriesOn-fill, TakesLast-end, weight-fill, not_err, or-not_err}
+use Rattle.dw_notation.proofs.CarryLemmas.{CarriesOn-cut, CarriesOn-fill, TakesLast-end, weight-fill, not_err}
+use Rattle.dw_notation.proofs.CarryLemmas.{or-not_err}
 use Rattle.dw_notation.proofs.problems.reader.Problems.next_piece.Goals as goal
 
 pub returns-then-met_end-clause-piece : goal.returns-then-met_end-clause-piece
 returns-then-met_end-clause-piece g c =
     let end = c.finish.ensures in
     let cut = c.cut.ensures in
-    let so_far = CarriesOn-cut _ _ c.args.self.now.cutter c.reads.self.cutter c.cut.new.self c.reads.invariant.carried (cut.same c.if-cut.false) in (
-      TakesLast-end _ _ c.args.self.now.cutter c.cut.new.self c.finish.new.self so_far (cut.none c.if-cut.false) end.rest end.found end.over,
+    let so_far = CarriesOn-cut _ _ c.args.self.now.cutter c.reads.self.cutter c.cut.new.self c.reads.invariant.carried
+    (cut.same c.if-cut.false) in (
+      TakesLast-end _ _ c.args.self.now.cutter c.cut.new.self c.finish.new.self so_far (cut.none c.if-cut.false)
+          end.rest end.found end.over,
       end.met_end ∙ sym c.met_end.ensures ∙ c.if-met_end.true,
     )
 
@@ -20,7 +23,8 @@ reads-preserved g c =
     let new = c.fill.new.self in
     let none = cut.none c.if-cut.false in
     let unmet : c.cut.new.self.met_end ≡ false = sym c.met_end.ensures ∙ c.if-met_end.false in
-    let carried = CarriesOn-cut _ _ c.args.self.now.cutter c.reads.self.cutter c.cut.new.self so_far.carried (cut.same c.if-cut.false) in
+    let carried = CarriesOn-cut _ _ c.args.self.now.cutter c.reads.self.cutter c.cut.new.self so_far.carried
+    (cut.same c.if-cut.false) in
     let short = length-slice_range-le new.buffer new.start new.end in
     let light = weight-fill new.met_end _ _ _ c.in-Ok.ensures.more (omega (arith, short, new.in_buffer)) fill.none in
     record {

@@ -8,13 +8,17 @@ invariant-reads g l =
     let source = g.S.Source in
     record {
       lender : l.self.source.ghost_name ≡ l.initial.self.source.ghost_name;
-      carried : CarriesOn (source.coming l.initial.self.source.now) (source.coming l.self.source.now) l.initial.self.cutter l.self.cutter;
+      carried : CarriesOn (source.coming l.initial.self.source.now) (source.coming l.self.source.now)
+          l.initial.self.cutter l.self.cutter;
       handed : l.self.cutter.handed ≡ l.initial.self.cutter.handed;
       stays : l.initial.self.cutter.met_end ≡ true → l.self.cutter.met_end ≡ true;
-      end : EndIsTrue (source.coming l.initial.self.source.now) l.initial.self.cutter → EndIsTrue (source.coming l.self.source.now) l.self.cutter;
+      end : EndIsTrue (source.coming l.initial.self.source.now) l.initial.self.cutter
+          → EndIsTrue (source.coming l.self.source.now) l.self.cutter;
       failed : source.is_failed l.self.source.now ≡ source.is_failed l.initial.self.source.now;
-      again : source.is_failed l.initial.self.source.now ≡ true → IsStarved l.initial.self.cutter → IsStarved l.self.cutter;
-      lighter : weight (source.pulls_left l.self.source.now) l.self.cutter ≤ weight (source.pulls_left l.initial.self.source.now) l.initial.self.cutter;
+      again : source.is_failed l.initial.self.source.now ≡ true → IsStarved l.initial.self.cutter
+          → IsStarved l.self.cutter;
+      lighter : weight (source.pulls_left l.self.source.now) l.self.cutter
+          ≤ weight (source.pulls_left l.initial.self.source.now) l.initial.self.cutter;
     }
 
 abbrev pub decreases-reads : goal.decreases-reads
