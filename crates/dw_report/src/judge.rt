@@ -1,12 +1,12 @@
 //! The verdict on a problem, and its tries.
-ghost use Rattle.std.specs.Prelude.{◌≡◌, ◌≤◌, ◌<◌, ◌-◌, ◌⊎◌, length, IfOk, IsErrOf};
+ghost use Rattle.std.specs.Prelude.{◌≡◌, ◌≤◌, IfOk, IsErrOf};
 ghost use Rattle.dw_solve.specs.declared.stop.Stop.TheVariants.{Limit};
-ghost use Rattle.dw_solve.specs.Wins.{Win};
 ghost use Rattle.dw_solve.specs.Searching.{IsCounted};
 ghost use Rattle.dw_solve.specs.Work.{moment, Searched, cut_off};
 ghost use Rattle.dw_solve.specs.Asking.{Asked};
-ghost use Rattle.dw_report.specs.Verdict.{Keys, IsVerdict, Tries};
+ghost use Rattle.dw_report.specs.Verdict.{IsVerdict, Tries};
 ghost use Rattle.dw_report.specs.Judging.{said_by};
+ghost use Rattle.dw_report.specs.inner.Judging.{AreOneKey, AreCooked};
 
 use crate::dual::first_choice;
 use crate::keys::keys;
@@ -16,7 +16,6 @@ use dw_board::board::Board;
 use dw_board::position::Position;
 use dw_list::laws::lines_exist;
 use dw_memo::memo::Memo;
-use dw_moves::laws::moves_have_keys;
 use dw_moves::moves::Move;
 use dw_solve::guide::Guide;
 use dw_solve::laws::searches_add_up;
@@ -82,8 +81,7 @@ fn with_one_key<B: Board, M: Memo<B>, G: Guide<B>>(
 ) -> Result<Verdict<B>, Stop>
     requires some { 1 ≤ moves }
     requires few { moves ≤ 20 }
-    requires keys { Keys B.geometry position.now moves keys.items }
-    requires one { length keys.items ≡ 1 }
+    requires one { AreOneKey B.geometry position.now moves keys.items }
     ensures verdict { IfOk result (λ verdict. IsVerdict B.geometry position.now moves (said_by verdict)) }
     ensures asked { Asked B.geometry M.content M.dropped moves solver.old solver.new result }
 {
@@ -112,9 +110,7 @@ fn cooked<B: Board, M: Memo<B>, G: Guide<B>>(
     keys: Vec<Move<B>>,
 ) -> Result<Verdict<B>, Stop>
     requires few { moves ≤ 20 }
-    requires keys { Keys B.geometry position.now moves keys.items }
-    requires some { 0 < length keys.items }
-    requires more { (2 ≤ length keys.items) ⊎ Win B.geometry position.now (moves - 1) }
+    requires keys { AreCooked B.geometry position.now moves keys.items }
     ensures verdict { IfOk result (λ verdict. IsVerdict B.geometry position.now moves (said_by verdict)) }
     ensures asked { Asked B.geometry M.content M.dropped moves solver.old solver.new result }
 {

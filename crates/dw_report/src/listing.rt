@@ -8,18 +8,17 @@ ghost use Rattle.dw_notation.specs.LineTexts.{IsTextOf, start_of, moves_of};
 ghost use Rattle.dw_notation.specs.Text.{ArePlayable};
 ghost use Rattle.dw_notation.specs.Writes.{StopsShort};
 ghost use Rattle.dw_list.specs.Listing.{lender, solver_of, stack_of, kept_of};
-ghost use Rattle.dw_list.specs.Lines.{Lines};
 ghost use Rattle.dw_list.specs.Standing.{AreToCome};
 ghost use Rattle.dw_list.specs.Tokens as tokens;
 ghost use Rattle.dw_report.specs.Request.{request_of};
 ghost use Rattle.dw_report.specs.ListedText.{IsListing, IsListedText, refused_line};
-ghost use Rattle.dw_report.specs.inner.Rows.{IsRow, IsNothing};
+ghost use Rattle.dw_report.specs.inner.Rows.{IsRow, IsNothing, CanList, StandsBefore, HasLines};
 ghost use Rattle.dw_report.specs.Running.{AreLinesOf, IsNoLine};
-ghost use Rattle.dw_report.specs.inner.Running.{TextEnds, SinkEnds, Spends};
+ghost use Rattle.dw_report.specs.inner.Running.{TextEnds, SinkEnds, Spends, IsSound};
 ghost use Rattle.dw_report.specs.declared.problem.TextFault.TheVariants as because;
 
 use crate::problem::TextFault;
-use crate::settings::Settings;
+use crate::settings::{Command, Settings};
 use arrayvec::{ArrayString, ArrayVec};
 use dw_board::board::Board;
 use dw_board::position::Position;
@@ -53,10 +52,8 @@ pub(crate) fn write_lines<B: Board, K: Sink, M: Memo<B>, G: Guide<B>>(
     position: &Position<B>,
 ) -> Result<bool, TextFault>
     requires works { K.is_failed sink.old ≡ false }
-    requires some { 1 ≤ settings.now.n }
-    requires few { settings.now.n ≤ 20 }
-    requires lines { 1 ≤ settings.now.lines }
-    requires rows { (B.geometry.rows ≡ 10) ⊎ (B.geometry.rows ≡ 8) }
+    requires lists { settings.now.command ≡ Command.List }
+    requires sound { IsSound B.geometry (request_of settings.now) }
     ensures text { TextEnds (IsListedText B.geometry position.now settings.now.n settings.now.lines
         (request_of settings.now).after) (AreLinesOf
         (IsListedText B.geometry position.now settings.now.n settings.now.lines (request_of settings.now).after))
@@ -81,13 +78,9 @@ fn write_asked<B: Board, K: Sink, M: Memo<B>, G: Guide<B>>(
     position: &Position<B>,
 ) -> Result<bool, TextFault>
     requires works { K.is_failed sink.old ≡ false }
-    requires most { 1 ≤ settings.now.lines }
-    requires rows { (B.geometry.rows ≡ 10) ⊎ (B.geometry.rows ≡ 8) }
-    requires position { (stack_of lister.old).position ≡ position.now }
-    requires moves { (stack_of lister.old).moves ≡ settings.now.n }
-    requires kept { kept_of lister.old ≡ 0 }
-    requires to_come { (lines : List (List AnyMove)) → Lines B.geometry position.now settings.now.n lines
-        ↔ AreToCome B.geometry (stack_of lister.old) lines }
+    requires list { CanList B.geometry settings.now.lines }
+    requires before { StandsBefore B.geometry position.now settings.now.n (stack_of lister.old)
+        (kept_of lister.old) }
     ensures lender { lender lister.new ≡ lender lister.old }
     ensures text { TextEnds (IsListedText B.geometry position.now settings.now.n settings.now.lines
         (request_of settings.now).after) (AreLinesOf
@@ -125,8 +118,7 @@ fn write_after<B: Board, K: Sink, M: Memo<B>, G: Guide<B>>(
     most: u64,
 ) -> Result<bool, TextFault>
     requires works { K.is_failed sink.old ≡ false }
-    requires some { 1 ≤ most }
-    requires rows { (B.geometry.rows ≡ 10) ⊎ (B.geometry.rows ≡ 8) }
+    requires list { CanList B.geometry most }
     requires position { (stack_of lister.old).position ≡ position.now }
     ensures lender { lender lister.new ≡ lender lister.old }
     ensures text { TextEnds (IsListedText B.geometry position.now (stack_of lister.old).moves most (Some line.now))
@@ -162,11 +154,8 @@ fn write_listing<B: Board, K: Sink, M: Memo<B>, G: Guide<B>>(
     most: u64,
 ) -> Result<(), TextFault>
     requires works { K.is_failed sink.old ≡ false }
-    requires some { 1 ≤ most }
-    requires rows { (B.geometry.rows ≡ 10) ⊎ (B.geometry.rows ≡ 8) }
-    requires position { (stack_of lister.old).position ≡ position.now }
-    requires kept { kept_of lister.old ≡ 0 }
-    requires to_come { (lines : List (List AnyMove)) × AreToCome B.geometry (stack_of lister.old) lines }
+    requires list { CanList B.geometry most }
+    requires ahead { HasLines B.geometry position.now (stack_of lister.old) (kept_of lister.old) }
     ensures lender { lender lister.new ≡ lender lister.old }
     ensures text { (lines : List (List AnyMove)) → AreToCome B.geometry (stack_of lister.old) lines
         → TextEnds (IsListing B.geometry position.now most lines)

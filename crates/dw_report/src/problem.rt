@@ -1,12 +1,12 @@
 //! The text of a problem, written line by line.
-ghost use Rattle.std.specs.Prelude.{◌≡◌, ◌≤◌, ◌⊎◌, ◌↔◌, ◌≢◌, false, Ok, Err, IfOk, IsTrue, Option, Some};
+ghost use Rattle.std.specs.Prelude.{◌≡◌, ◌↔◌, false, Ok, Err, IfOk, IsTrue};
 ghost use Rattle.dw_notation.specs.Problems.{numbered};
 ghost use Rattle.dw_report.specs.Request.{request_of};
 ghost use Rattle.dw_report.specs.Report.{IsProblemText, IsMovesText};
 ghost use Rattle.dw_report.specs.declared.problem.TextFault.TheVariants as because;
 ghost use Rattle.dw_solve.specs.declared.stop.Stop.TheVariants as stops;
 ghost use Rattle.dw_report.specs.Running.{IsProblemPart, AreLinesOf, IsRefused};
-ghost use Rattle.dw_report.specs.inner.Running.{TextEnds, SinkEnds, SearchesFor, IsRest};
+ghost use Rattle.dw_report.specs.inner.Running.{TextEnds, SinkEnds, SearchesFor, IsRest, IsSound};
 ghost use Rattle.dw_report.specs.Running.{IsNoLine};
 
 use crate::judged::write_judged;
@@ -77,10 +77,7 @@ pub(crate) fn write_problem<B: Board, K: Sink, M: Memo<B>, G: Guide<B>>(
     problem: &Problem<B>,
 ) -> Result<bool, TextFault>
     requires works { K.is_failed sink.old ≡ false }
-    requires some { 1 ≤ settings.now.n }
-    requires few { settings.now.n ≤ 20 }
-    requires lines { 1 ≤ settings.now.lines }
-    requires rows { settings.now.command ≡ Command.List → (B.geometry.rows ≡ 10) ⊎ (B.geometry.rows ≡ 8) }
+    requires sound { IsSound B.geometry (request_of settings.now) }
     ensures text { TextEnds (IsProblemText B.geometry (request_of settings.now) (numbered problem.now))
         (IsProblemPart B.geometry (request_of settings.now) (numbered problem.now)) (K.taken sink.old)
         (K.taken sink.new) result }
@@ -109,10 +106,7 @@ fn write_rest<B: Board, K: Sink, M: Memo<B>, G: Guide<B>>(
     position: &Position<B>,
 ) -> Result<bool, TextFault>
     requires works { K.is_failed sink.old ≡ false }
-    requires some { 1 ≤ settings.now.n }
-    requires few { settings.now.n ≤ 20 }
-    requires lines { 1 ≤ settings.now.lines }
-    requires rows { settings.now.command ≡ Command.List → (B.geometry.rows ≡ 10) ⊎ (B.geometry.rows ≡ 8) }
+    requires sound { IsSound B.geometry (request_of settings.now) }
     ensures text { TextEnds (IsRest B.geometry (request_of settings.now) position.now)
         (AreLinesOf (IsRest B.geometry (request_of settings.now) position.now)) (K.taken sink.old) (K.taken sink.new)
         result }

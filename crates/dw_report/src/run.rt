@@ -1,11 +1,11 @@
 //! A run: bytes in, the report out.
-ghost use Rattle.std.specs.Prelude.{◌≡◌, ◌+◌, ◌<◌, ◌≤◌, ◌⊎◌, true, false, Err, [], ◌∷◌, length, IfOk, if◌then◌else◌};
+ghost use Rattle.std.specs.Prelude.{◌≡◌, ◌+◌, ◌<◌, ◌≤◌, ◌⊎◌, true, false, Err, [], ◌∷◌, IfOk, if◌then◌else◌};
 ghost use Rattle.dw_notation.specs.Problems.{numbered};
 ghost use Rattle.dw_solve.specs.Facts.{AreTrue};
 ghost use Rattle.dw_report.specs.Request.{request_of};
 ghost use Rattle.dw_report.specs.Report.{chosen, IsReportOn};
 ghost use Rattle.dw_report.specs.Running.{RunEnds, StopsRightly, IsPartOn};
-ghost use Rattle.dw_report.specs.inner.Running.{TextEnds, SinkEnds, SearchesFor, CountsOne};
+ghost use Rattle.dw_report.specs.inner.Running.{TextEnds, SinkEnds, SearchesFor, CountsOne, IsSound, HasRoom};
 ghost use Rattle.dw_report.specs.inner.Running.{ended_by};
 
 use crate::laws::one_report;
@@ -68,10 +68,7 @@ fn write_report<B: Board, S: Source, K: Sink, M: Memo<B>, G: Guide<B>>(
 ) -> Result<Summary, RunFault>
     requires source { S.is_failed source.old ≡ false }
     requires sink { K.is_failed sink.old ≡ false }
-    requires some { 1 ≤ settings.now.n }
-    requires few { settings.now.n ≤ 20 }
-    requires lines { 1 ≤ settings.now.lines }
-    requires rows { settings.now.command ≡ Command.List → (B.geometry.rows ≡ 10) ⊎ (B.geometry.rows ≡ 8) }
+    requires sound { IsSound B.geometry (request_of settings.now) }
     requires fresh { solver.old.expanded ≡ 0 }
     ensures report { RunEnds B.geometry (request_of settings.now) (S.coming source.old) (S.coming source.new)
         (K.taken sink.old) (K.taken sink.new) result }
@@ -119,13 +116,8 @@ fn report_problem<B: Board, K: Sink, M: Memo<B>, G: Guide<B>>(
     summary: Summary,
 ) -> Result<Summary, TextFault>
     requires works { K.is_failed sink.old ≡ false }
-    requires some { 1 ≤ settings.now.n }
-    requires few { settings.now.n ≤ 20 }
-    requires lines { 1 ≤ settings.now.lines }
-    requires rows { settings.now.command ≡ Command.List → (B.geometry.rows ≡ 10) ⊎ (B.geometry.rows ≡ 8) }
-    requires room { summary.problems < 4000000 }
-    requires shown { summary.shown ≤ summary.problems }
-    requires refused { summary.refused ≤ summary.shown }
+    requires sound { IsSound B.geometry (request_of settings.now) }
+    requires room { HasRoom summary }
     ensures text { TextEnds (IsReportOn B.geometry (request_of settings.now) (numbered problem.now ∷ []))
         (IsPartOn B.geometry (request_of settings.now) (numbered problem.now ∷ [])) (K.taken sink.old)
         (K.taken sink.new) result }

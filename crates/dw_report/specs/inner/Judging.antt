@@ -1,12 +1,23 @@
 -- How keys, duals and tries are looked for.
-use Rattle.std.specs.Prelude.{ℕ, ◌≤◌, List, [], ◌∷◌, length, Option, Some, None}
+use Rattle.std.specs.Prelude.{◌≡◌, ℕ, ◌-◌, ◌≤◌, ◌<◌, ◌⊎◌, List, [], ◌∷◌, length, Option, Some, None}
 use Rattle.std.proofs.Common.{zero, suc}
 use Rattle.dw_board.specs.Geometry.{Geometry}
 use Rattle.dw_board.specs.Placement.{Placement}
 use Rattle.dw_moves.specs.Moves.{Move, Legal, play}
-use Rattle.dw_solve.specs.Wins.{Lost}
+use Rattle.dw_solve.specs.Wins.{Win, Lost}
 use Rattle.dw_report.specs.Verdict.{Keys, IsRefutation}
 use Rattle.dw_report.specs.declared.dual.Dual as found
+
+-- these are the first moves that win within n moves, and there is just one
+pub record AreOneKey (g : Geometry) (p : Placement) (n : ℕ) (keys : List Move) : Type 0 where
+  pub are : Keys g p n keys
+  pub one : length keys ≡ 1
+
+-- these are the first moves that win within n moves, and there are several, or one while fewer moves are enough
+pub record AreCooked (g : Geometry) (p : Placement) (n : ℕ) (keys : List Move) : Type 0 where
+  pub are : Keys g p n keys
+  pub some : 0 < length keys
+  pub more : (2 ≤ length keys) ⊎ Win g p (n - 1)
 
 -- moves lead from p to choices of the attacker, who has n moves left at p
 abbrev pub LeadsToChoices : Geometry → ℕ → Placement → List Move → List Move → Type 0

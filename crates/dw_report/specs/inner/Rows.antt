@@ -1,9 +1,11 @@
--- The text of a line on a line of its own.
-use Rattle.std.specs.Prelude.{◌≡◌, ℕ, List, [], ◌++◌, codes}
+-- The text of a line on a line of its own, and what a list of lines begins with.
+use Rattle.std.specs.Prelude.{◌≡◌, ℕ, ◌≤◌, ◌⊎◌, ◌↔◌, List, [], ◌++◌, codes}
 use Rattle.dw_board.specs.Geometry.{Geometry}
 use Rattle.dw_board.specs.Placement.{Placement}
 use Rattle.dw_moves.specs.Moves.{Move}
 use Rattle.dw_notation.specs.Text.{IsLineText}
+use Rattle.dw_list.specs.Lines.{Lines}
+use Rattle.dw_list.specs.Standing.{Standing, AreToCome}
 
 -- the text of a line of play and a line feed
 abbrev pub IsRow : Geometry → Placement → List Move → List ℕ → Type 0
@@ -12,3 +14,22 @@ IsRow g p l text = (line : List ℕ) × IsLineText g p l line × (text ≡ line 
 -- nothing was written
 abbrev pub IsNothing : List ℕ → Type 0
 IsNothing text = text ≡ []
+
+-- at least one line is asked for, on a board whose lines have tokens
+pub record CanList (g : Geometry) (most : ℕ) : Type 0 where
+  pub some : 1 ≤ most
+  pub rows : (g.rows ≡ 10) ⊎ (g.rows ≡ 8)
+
+-- a lister stands before the lines of a position within n moves, and has given none
+pub record StandsBefore (g : Geometry) (p : Placement) (n : ℕ) (stack : Standing) (kept : ℕ) : Type 0 where
+  pub position : stack.position ≡ p
+  pub moves : stack.moves ≡ n
+  pub fresh : kept ≡ 0
+  pub to_come : (lines : List (List Move)) → Lines g p n lines ↔ AreToCome g stack lines
+
+-- a lister has lines of a position to come, and has given none of them
+pub record HasLines (g : Geometry) (p : Placement) (stack : Standing) (kept : ℕ) : Type 0 where
+  pub position : stack.position ≡ p
+  pub fresh : kept ≡ 0
+  pub lines : List (List Move)
+  pub to_come : AreToCome g stack lines

@@ -305,3 +305,19 @@ first_choice-returns-clause-found g t c =
     let all = subst (IsListOf (Precedes geo p) (IsWinning geo p n)) (sym (map_same keys)) c.requires.keys in
     none_to_all (λ m. m) (LeadsToChoices geo n p) keys c.keys.key-index (omega (arith, c.keys-test.false))
     (leads_begin geo n p _ all) c.keys.invariant.none
+
+pub choice_after_reply-returns-clause-asked : goal.choice_after_reply-returns-clause-asked
+choice_after_reply-returns-clause-asked g t c = asked_ok g.B.Board.geometry g.M.Memo.content g.M.Memo.dropped
+    c.args.left _ _ 0 _ c.replies.invariant.asked
+
+pub choice_from-returns-in_err-choices-clause-asked : goal.choice_from-returns-in_err-choices-clause-asked
+choice_from-returns-in_err-choices-clause-asked g t c = asked_stop g.B.Board.geometry g.M.Memo.content g.M.Memo.dropped
+    c.args.left _ _ c.in_err-choices.field-0.0 _ c.from_residual.ensures.1 c.in_err-choices.ensures.asked
+
+pub choice_from-returns-then-len-ge2-clause-asked : goal.choice_from-returns-then-len-ge2-clause-asked
+choice_from-returns-then-len-ge2-clause-asked g t c = asked_ok g.B.Board.geometry g.M.Memo.content g.M.Memo.dropped
+    c.args.left _ _ _ _ c.in_ok-choices.ensures.asked
+
+pub first_choice-returns-clause-asked : goal.first_choice-returns-clause-asked
+first_choice-returns-clause-asked g t c = asked_ok g.B.Board.geometry g.M.Memo.content g.M.Memo.dropped c.args.moves _ _
+    0 _ c.keys.invariant.asked

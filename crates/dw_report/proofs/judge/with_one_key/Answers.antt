@@ -1,4 +1,4 @@
-use Rattle.std.proofs.Common.{◌-◌, ◌≤◌, [], ◌∷◌, get_or, sym, ap, ◌∙◌, subst, arith}
+use Rattle.std.proofs.Common.{◌-◌, ◌≤◌, [], ◌∷◌, get_or, sym, ap, ◌∙◌, subst, arith, inr}
 use Rattle.std.specs.Prelude.{option_map}
 use Rattle.dw_solve.specs.Wins.{Win}
 use Rattle.dw_list.specs.Lines.{Before}
@@ -43,7 +43,7 @@ returns-in-Some-clause-verdict g c =
     let n = c.args.moves in
     let none : Win geo p (n - 1) → ⊥ = λ w. let yes = c.in_ok-wins.ensures.answer.1 w in let not_so =
     c.if-branch.false in cc in
-    let keys = only_key geo p n c.args.keys.items no_move.step c.requires.one c.requires.keys in
+    let keys = only_key geo p n c.args.keys.items no_move.step c.requires.one.one c.requires.one.are in
     let found = subst (λ z. FindsLeast (Before geo p) (LeadsToChoices geo n p) (option_map parts_of z)) c.in-Some.is
     c.in_ok-dual.ensures.found in
     dual_found c.lines_exist.ensures geo g.met.B.Board.numbers p n (get_or c.args.keys.items 0 no_move.step)
@@ -70,8 +70,8 @@ returns-clause-verdict g c =
     c.if-branch.false in cc in
     let m = c.index-as_slice-0.result in
     let at = c.index-as_slice-0.is ∙ ap (λ z. get_or z 0 m) c.as_slice-in-None.ensures.value in
-    let keys = subst (λ z. Keys geo p n (z ∷ [])) (sym at) (only_key geo p n c.args.keys.items m c.requires.one
-    c.requires.keys) in
+    let keys = subst (λ z. Keys geo p n (z ∷ [])) (sym at) (only_key geo p n c.args.keys.items m c.requires.one.one
+    c.requires.one.are) in
     let found = subst (λ z. FindsLeast (Before geo p) (LeadsToChoices geo n p) (option_map parts_of z)) c.in-None.is
     c.in_ok-dual.ensures.found in
     sound_found geo p n m (keys, none) found
@@ -87,3 +87,20 @@ returns-clause-asked g c =
     let first = asked_wider geo content lost law (n - 1) n _ _ answered less
     (asked_ok geo content lost (n - 1) _ _ _ 0 c.in_ok-wins.ensures.asked) in
     asked_then geo content lost law n _ _ _ _ first (asked_ok geo content lost n _ _ _ _ c.in_ok-dual.ensures.asked)
+
+pub cooked-requires : goal.cooked-requires
+cooked-requires g c =
+    let one = c.requires.one in
+    let wins = c.in_ok-wins.ensures.answer.0 c.if-branch.true in
+    (omega arith, (c.requires.few, record { are = one.are; some = omega (arith, one.one); more = inr wins; }))
+
+pub returns-in_err-wins-clause-asked : goal.returns-in_err-wins-clause-asked
+returns-in_err-wins-clause-asked g c =
+    let geo = g.B.Board.geometry in
+    let content = g.M.Memo.content in
+    let lost = g.M.Memo.dropped in
+    let n = c.args.moves in
+    let less : n - 1 ≤ n = omega arith in
+    asked_wider geo content lost c.searches_add_up.ensures (n - 1) n _ _ _ less
+    (asked_stop geo content lost (n - 1) _ _ c.in_err-wins.field-0.0 _ c.from_residual.ensures.1
+    c.in_err-wins.ensures.asked)

@@ -2,7 +2,8 @@ use Rattle.std.proofs.Common.{◌+◌, ◌-◌, ◌≤◌, map, sym, ap, ◌∙�
 use Rattle.dw_moves.specs.Moves.{Legal, play}
 use Rattle.dw_moves.specs.Order.{Precedes, IsListOf}
 use Rattle.dw_solve.specs.Wins.{Lost}
-use Rattle.dw_list.specs.inner.AskingLemmas.{answered, asked_then, asked_wider, asked_ok, asked_stop, asked_memory}
+use Rattle.dw_list.specs.inner.AskingLemmas.{answered, asked_none, asked_then, asked_wider, asked_ok, asked_stop}
+use Rattle.dw_list.specs.inner.AskingLemmas.{asked_memory}
 use Rattle.dw_report.proofs.GatheredLemmas.{GatheredTo, to_more, to_same, item_among}
 use Rattle.dw_report.proofs.KeyListLemmas.{keys_whole}
 use Rattle.dw_report.proofs.keys.keys.Goals.{then-branch+in_ok-push, else-branch}
@@ -92,3 +93,25 @@ returns-clause-keys g c =
     let some : 1 ≤ c.args.moves = omega (arith, c.if-moves-eq0.false) in
     keys_whole (λ item. item.step) geo p c.args.moves c.as_slice-item-items.result.now c.moves.item-index
     c.moves.keys.items some (omega (arith, c.moves-test.false)) all c.moves.invariant.keys
+
+pub returns-then-moves-eq0-clause-asked : goal.returns-then-moves-eq0-clause-asked
+returns-then-moves-eq0-clause-asked g c =
+    let geo = g.B.Board.geometry in
+    let content = g.M.Memo.content in
+    let lost = g.M.Memo.dropped in
+    let none = asked_none geo content lost c.searches_add_up.ensures c.args.moves c.args.solver.now
+    c.limit.ensures.within in
+    asked_ok geo content lost c.args.moves _ _ 0 _ none
+
+pub returns-in_err-list-clause-asked : goal.returns-in_err-list-clause-asked
+returns-in_err-list-clause-asked g c =
+    let geo = g.B.Board.geometry in
+    let content = g.M.Memo.content in
+    let lost = g.M.Memo.dropped in
+    let none = asked_none geo content lost c.searches_add_up.ensures c.args.moves c.args.solver.now
+    c.limit.ensures.within in
+    asked_memory geo content lost c.args.moves _ _ _ c.from_residual.ensures.1 none
+
+pub returns-clause-asked : goal.returns-clause-asked
+returns-clause-asked g c = asked_ok g.B.Board.geometry g.M.Memo.content g.M.Memo.dropped c.args.moves _ _ 0 _
+    c.moves.invariant.asked

@@ -1,8 +1,9 @@
 use Rattle.std.proofs.Common.{◌∙◌, sym, subst, arith, Some}
 use Rattle.std.proofs.lemmas.Result.{err_from_is_err_and}
-use Rattle.dw_list.specs.Listing.{stack_of}
+use Rattle.dw_list.specs.Listing.{stack_of, kept_of}
 use Rattle.dw_list.specs.Lines.{Lines}
 use Rattle.dw_report.specs.ListedText.{IsListedText}
+use Rattle.dw_report.specs.inner.Rows.{HasLines}
 use Rattle.dw_report.proofs.LineRowLemmas.{listed_after, listed_written, listed_fault}
 use Rattle.dw_report.proofs.ListedTextLemmas.{listed_some}
 use Rattle.dw_report.proofs.WritingLemmas.{no_lines}
@@ -12,22 +13,15 @@ pub write_listing-requires : goal.write_listing-requires
 write_listing-requires g c =
     let old = stack_of c.args.lister.now in
     let all = c.lines_exist.ensures.some g.B.Board.geometry g.met.B.Board.numbers old.position old.moves in
-    let rest = c.in-Ok.ensures.after.rest all.0 all.1 in (
-      omega arith,
-      (
-        c.requires.works,
-        (
-          c.requires.some,
-          (
-            c.requires.rows,
-            (
-              c.in-Ok.ensures.after.position ∙ c.requires.position,
-              (c.in-Ok.ensures.none_kept, (rest.0, rest.2)),
-            ),
-          ),
-        ),
-      ),
-    )
+    let rest = c.in-Ok.ensures.after.rest all.0 all.1 in
+    let lister = c.after.new.self in
+    let ahead : HasLines g.B.Board.geometry c.args.position.now (stack_of lister) (kept_of lister) = record {
+      position = c.in-Ok.ensures.after.position ∙ c.requires.position;
+      fresh = c.in-Ok.ensures.none_kept;
+      lines = rest.0;
+      to_come = rest.2;
+    } in
+    (omega arith, (c.requires.works, (c.requires.list, ahead)))
 
 pub returns-in_err-write_listing-in-Ok-clause-text : goal.returns-in_err-write_listing-in-Ok-clause-text
 returns-in_err-write_listing-in-Ok-clause-text g c =
@@ -51,7 +45,7 @@ returns-in-Err-Stopped-clause-text g c =
     let old = stack_of c.args.lister.now in
     no_lines (IsListedText geo p old.moves c.args.most (Some c.args.line.now))
     (listed_some c.lines_exist.ensures c.line_or_place.ensures c.lines_have_texts.ensures geo g.met.B.Board.numbers p
-    old.moves c.args.most (Some c.args.line.now) c.requires.some) (g.K.Sink.taken c.args.sink.now)
+    old.moves c.args.most (Some c.args.line.now) c.requires.list.some) (g.K.Sink.taken c.args.sink.now)
 
 pub returns-in_ok-write_listing-in-Ok-clause-text : goal.returns-in_ok-write_listing-in-Ok-clause-text
 returns-in_ok-write_listing-in-Ok-clause-text g c =

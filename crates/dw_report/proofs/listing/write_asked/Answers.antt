@@ -2,28 +2,26 @@ use Rattle.std.proofs.Common.{◌≡◌, ◌∙◌, sym, ap, subst, arith, Some,
 use Rattle.std.specs.Prelude.{option_map}
 use Rattle.std.proofs.lemmas.Result.{err_from_is_err_and}
 use Rattle.dw_notation.specs.Writes.{Writes}
-use Rattle.dw_list.specs.Listing.{stack_of}
+use Rattle.dw_list.specs.Listing.{stack_of, kept_of}
 use Rattle.dw_report.specs.ListedText.{IsListedText}
+use Rattle.dw_report.specs.inner.Rows.{HasLines}
 use Rattle.dw_report.specs.Request.{request_of}
 use Rattle.dw_report.proofs.LineRowLemmas.{EndsListed, listed_all, listed_written, listed_fault, refused_as}
 use Rattle.dw_report.proofs.listing.write_asked.Goals as goal
 
 pub write_listing-requires : goal.write_listing-requires
 write_listing-requires g c =
+    let before = c.requires.before in
     let all = c.lines_exist.ensures.some g.B.Board.geometry g.met.B.Board.numbers c.args.position.now
-    c.args.settings.now.n in (
-      omega arith,
-      (
-        c.requires.works,
-        (
-          c.requires.most,
-          (
-            c.requires.rows,
-            (c.requires.position, (c.requires.kept, (all.0, (c.requires.to_come all.0).0 all.1))),
-          ),
-        ),
-      ),
-    )
+    c.args.settings.now.n in
+    let ahead : HasLines g.B.Board.geometry c.args.position.now (stack_of c.args.lister.now)
+    (kept_of c.args.lister.now) = record {
+      position = before.position;
+      fresh = before.fresh;
+      lines = all.0;
+      to_come = (before.to_come all.0).0 all.1;
+    } in
+    (omega arith, (c.requires.works, (c.requires.list, ahead)))
 
 pub returns-in_err-write_listing-in-None-clause-text : goal.returns-in_err-write_listing-in-None-clause-text
 returns-in_err-write_listing-in-None-clause-text g c =
@@ -39,7 +37,7 @@ returns-in_err-write_listing-in-None-clause-text g c =
     (listed_fault geo p n most None all.0 (listed_all geo p n most all.0 all.1) _ _ c.write_listing.result
     c.from_residual.result c.in_err-write_listing-in-None.field-0.0 why.0 c.in_err-write_listing-in-None.was why.1
     (sym why.2)
-    (c.write_listing.ensures.text all.0 ((c.requires.to_come all.0).0 all.1)))
+    (c.write_listing.ensures.text all.0 ((c.requires.before.to_come all.0).0 all.1)))
 
 pub returns-in_ok-write_listing-in-None-clause-text : goal.returns-in_ok-write_listing-in-None-clause-text
 returns-in_ok-write_listing-in-None-clause-text g c =
@@ -52,12 +50,12 @@ returns-in_ok-write_listing-in-None-clause-text g c =
     subst (λ o. Writes (IsListedText geo p n most o) (g.K.Sink.taken c.args.sink.now)
     (g.K.Sink.taken c.write_listing.new.sink)) (sym none)
     (listed_written geo p n most None all.0 (listed_all geo p n most all.0 all.1) _ _
-    (c.in_ok-write_listing-in-None.ensures.text all.0 ((c.requires.to_come all.0).0 all.1)))
+    (c.in_ok-write_listing-in-None.ensures.text all.0 ((c.requires.before.to_come all.0).0 all.1)))
 
 pub returns-in-Some-clause-refused : goal.returns-in-Some-clause-refused
 returns-in-Some-clause-refused g c =
     let line : (request_of c.args.settings.now).after ≡ Some c.as_slice.result.now =
     ap (option_map (λ line. line.items)) c.in-Some.is ∙ ap Some (sym c.as_slice.ensures.value) in
     refused_as g.B.Board.geometry c.args.position.now c.args.settings.now.n (stack_of c.args.lister.now).moves
-    (request_of c.args.settings.now).after (Some c.as_slice.result.now) c.write_after.result c.requires.moves
+    (request_of c.args.settings.now).after (Some c.as_slice.result.now) c.write_after.result c.requires.before.moves
     (sym line) c.write_after.ensures.refused

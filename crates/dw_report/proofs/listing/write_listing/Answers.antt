@@ -24,7 +24,7 @@ lines-init g c = record {
   text = c.new-text.ensures.text;
   start = c.new-text.ensures.start;
   comes = comes_first (kept_of c.args.lister.now) (reverse (stack_of c.args.lister.now).line)
-      (moves_of c.new-text.result) c.requires.kept c.new-text.ensures.moves;
+      (moves_of c.new-text.result) c.requires.ahead.fresh c.new-text.ensures.moves;
   few = omega arith;
   sink = refl;
   rises = omega arith;
@@ -40,8 +40,8 @@ returns-in_err-advance-clause-text g c =
     let why = err_from_is_err_and c.from_residual.result c.from_residual.ensures.1 in
     λ lines all. at_stop (IsListing geo p most lines) (AreLinesOf (IsListing geo p most lines)) _ _
     c.from_residual.result c.in_err-advance.field-0.0 (why.1 ∙ ap Err why.2)
-    (rows_stop geo p most c.requires.some start lines all (lines_text c.lines_have_texts.ensures geo
-    g.met.B.Board.numbers start p lines c.requires.position all) (stack_of c.lines.lister) c.lines.written _ _
+    (rows_stop geo p most c.requires.list.some start lines all (lines_text c.lines_have_texts.ensures geo
+    g.met.B.Board.numbers start p lines c.requires.ahead.position all) (stack_of c.lines.lister) c.lines.written _ _
     c.lines.invariant.rows c.lines.invariant.few)
 
 pub returns-in_err-write_all-clause-text : goal.returns-in_err-write_all-clause-text
@@ -56,8 +56,8 @@ returns-in_err-write_all-clause-text g c =
     let row = c.as_bytes.ensures.value ∙ (c.as_str.ensures.value ∙ c.complete_row.ensures) in
     λ lines all. at_sink (IsListing geo p most lines) (AreLinesOf (IsListing geo p most lines)) _ _
     c.from_residual-in_err-write_all.result (why.1 ∙ ap Err why.2)
-    (complete_short geo p most c.requires.some start lines all (lines_text c.lines_have_texts.ensures geo
-    g.met.B.Board.numbers start p lines c.requires.position all) (stack_of c.lines.lister)
+    (complete_short geo p most c.requires.list.some start lines all (lines_text c.lines_have_texts.ensures geo
+    g.met.B.Board.numbers start p lines c.requires.ahead.position all) (stack_of c.lines.lister)
     (stack_of c.advance.new.self) c.lines.written _ _ _ c.lines.invariant.rows none c.lines.invariant.few
     (subst (StopsShort _ _) row c.in_err-write_all.ensures.err))
 
@@ -70,8 +70,9 @@ returns-then-not-branch-clause-text g c =
     let none = none_next geo c.in_ok-advance.field-0 (stack_of c.lines.lister) (stack_of c.advance.new.self)
     c.in_ok-advance.ensures.next c.if-not-branch.true in
     let row = c.as_bytes.ensures.value ∙ (c.as_str.ensures.value ∙ c.complete_row.ensures) in
-    λ lines all. complete_written geo p most c.requires.some start lines all (lines_text c.lines_have_texts.ensures geo
-    g.met.B.Board.numbers start p lines c.requires.position all) (stack_of c.lines.lister)
+    λ lines all. complete_written geo p most c.requires.list.some start lines all
+    (lines_text c.lines_have_texts.ensures geo g.met.B.Board.numbers start p lines c.requires.ahead.position all)
+    (stack_of c.lines.lister)
     (stack_of c.advance.new.self) c.lines.written _ _ _ c.lines.invariant.rows none c.lines.invariant.few
     (subst (Appends _ _) row c.in_ok-write_all.ensures.ok)
 
@@ -83,8 +84,8 @@ write_row-requires g c =
     let first = line_next geo c.in_ok-advance.field-0 (stack_of c.lines.lister) (stack_of c.advance.new.self)
     c.in_ok-advance.ensures.next c.if-not-branch.false in
     let line = given_line geo p start (stack_of c.lines.lister) (stack_of c.advance.new.self) c.lines.written
-    c.lines.invariant.rows.texts c.lines.invariant.rows.rows first c.requires.to_come.0 c.requires.to_come.1 in
-    let playable = subst (λ z. ArePlayable geo z (reverse (stack_of c.advance.new.self).line)) c.requires.position
+    c.lines.invariant.rows.texts c.lines.invariant.rows.rows first c.requires.ahead.lines c.requires.ahead.to_come in
+    let playable = subst (λ z. ArePlayable geo z (reverse (stack_of c.advance.new.self).line)) c.requires.ahead.position
     (line_playable geo start.position start.moves (reverse (stack_of c.advance.new.self).line) line) in
     let legal = subst (λ z. ArePlayable geo z c.line.result.now) (sym c.lines.invariant.start)
     (subst (ArePlayable geo p) (sym c.line.ensures.line) playable) in
@@ -120,8 +121,8 @@ returns-in_err-write_row-clause-text g c =
     let why = err_from_is_err_and c.from_residual-in_err-write_row.result c.from_residual-in_err-write_row.ensures.1 in
     let first = line_next geo c.in_ok-advance.field-0 (stack_of c.lines.lister) (stack_of c.advance.new.self)
     c.in_ok-advance.ensures.next c.if-not-branch.false in
-    λ lines all. row_ends geo p most c.requires.some start lines all (lines_text c.lines_have_texts.ensures geo
-    g.met.B.Board.numbers start p lines c.requires.position all) (stack_of c.lines.lister)
+    λ lines all. row_ends geo p most c.requires.list.some start lines all (lines_text c.lines_have_texts.ensures geo
+    g.met.B.Board.numbers start p lines c.requires.ahead.position all) (stack_of c.lines.lister)
     (stack_of c.advance.new.self) c.lines.written _ _ _ c.write_row.result c.from_residual-in_err-write_row.result
     c.in_err-write_row.field-0.0 why.0
     c.lines.invariant.rows first c.lines-test.true c.in_err-write_row.was why.1 (sym why.2)
@@ -166,8 +167,8 @@ returns-in_err-advance-2-clause-text g c =
     let why = err_from_is_err_and c.from_residual-in_err-advance-2.result c.from_residual-in_err-advance-2.ensures.1 in
     λ lines all. at_stop (IsListing geo p most lines) (AreLinesOf (IsListing geo p most lines)) _ _
     c.from_residual-in_err-advance-2.result c.in_err-advance-2.field-0.0 (why.1 ∙ ap Err why.2)
-    (rows_stop geo p most c.requires.some start lines all (lines_text c.lines_have_texts.ensures geo
-    g.met.B.Board.numbers start p lines c.requires.position all) (stack_of c.lines.lister) c.lines.written _ _
+    (rows_stop geo p most c.requires.list.some start lines all (lines_text c.lines_have_texts.ensures geo
+    g.met.B.Board.numbers start p lines c.requires.ahead.position all) (stack_of c.lines.lister) c.lines.written _ _
     c.lines.invariant.rows c.lines.invariant.few)
 
 pub write_more-requires-clause-odd : goal.write_more-requires-clause-odd
@@ -177,9 +178,9 @@ write_more-requires-clause-odd g c =
     let most = c.args.most in
     let start = stack_of c.args.lister.now in
     let last = c.as_slice.ensures.value ∙ (c.kept-last.ensures ∙ c.line-2.ensures.line) in
-    let some : 1 ≤ c.lines.written = omega (arith, c.requires.some, c.lines-test.false) in
+    let some : 1 ≤ c.lines.written = omega (arith, c.requires.list.some, c.lines-test.false) in
     let line = last_line geo p start (stack_of c.lines.lister) c.lines.written c.lines.invariant.rows.texts some
-    c.lines.invariant.rows.rows c.requires.to_come.0 c.requires.to_come.1 in
+    c.lines.invariant.rows.rows c.requires.ahead.lines c.requires.ahead.to_come in
     subst (λ (z : List Move). length z % 2 ≡ 1) (sym last) (line_odd geo start.position start.moves
     (reverse (stack_of c.lines.lister).line) line)
 
@@ -197,8 +198,8 @@ returns-in_err-write_more-clause-text g c =
     let last = c.as_slice.ensures.value ∙ (c.kept-last.ensures ∙ c.line-2.ensures.line) in
     λ lines all. at_sink (IsListing geo p most lines) (AreLinesOf (IsListing geo p most lines)) _ _
     c.from_residual-in_err-write_more.result (why.1 ∙ ap Err why.2)
-    (more_short geo p most c.requires.some start lines all (lines_text c.lines_have_texts.ensures geo
-    g.met.B.Board.numbers start p lines c.requires.position all) (stack_of c.lines.lister)
+    (more_short geo p most c.requires.list.some start lines all (lines_text c.lines_have_texts.ensures geo
+    g.met.B.Board.numbers start p lines c.requires.ahead.position all) (stack_of c.lines.lister)
     (stack_of c.advance-2.new.self) c.lines.written _ _ _ c.lines.invariant.rows first full
     (subst (λ z. StopsShort (g.K.Sink.taken c.lines.sink) (g.K.Sink.taken c.write_more.new.sink) (more_line geo z)) last
     c.in_err-write_more.ensures.err))
@@ -217,8 +218,8 @@ returns-in_err-write_all-2-clause-text g c =
     ∙ c.complete_row-else-branch.ensures) in
     λ lines all. at_sink (IsListing geo p most lines) (AreLinesOf (IsListing geo p most lines)) _ _
     c.from_residual-in_err-write_all-2.result (why.1 ∙ ap Err why.2)
-    (complete_short geo p most c.requires.some start lines all (lines_text c.lines_have_texts.ensures geo
-    g.met.B.Board.numbers start p lines c.requires.position all) (stack_of c.lines.lister)
+    (complete_short geo p most c.requires.list.some start lines all (lines_text c.lines_have_texts.ensures geo
+    g.met.B.Board.numbers start p lines c.requires.ahead.position all) (stack_of c.lines.lister)
     (stack_of c.advance-2.new.self) c.lines.written _ _ _ c.lines.invariant.rows none c.lines.invariant.few
     (subst (StopsShort _ _) row c.in_err-write_all-2.ensures.err))
 
@@ -232,8 +233,8 @@ returns-in_ok-write_more-clause-text g c =
     c.in_ok-advance-2.ensures.next c.if-branch.true in
     let full : c.lines.written ≡ most = omega (arith, c.lines.invariant.few, c.lines-test.false) in
     let last = c.as_slice.ensures.value ∙ (c.kept-last.ensures ∙ c.line-2.ensures.line) in
-    λ lines all. more_written geo p most c.requires.some start lines all (lines_text c.lines_have_texts.ensures geo
-    g.met.B.Board.numbers start p lines c.requires.position all) (stack_of c.lines.lister)
+    λ lines all. more_written geo p most c.requires.list.some start lines all (lines_text c.lines_have_texts.ensures geo
+    g.met.B.Board.numbers start p lines c.requires.ahead.position all) (stack_of c.lines.lister)
     (stack_of c.advance-2.new.self) c.lines.written _ _ _ c.lines.invariant.rows first full
     (subst (λ z. Appends (g.K.Sink.taken c.lines.sink) (g.K.Sink.taken c.write_more.new.sink) (more_line geo z)) last
     c.in_ok-write_more.ensures.ok)
@@ -248,7 +249,8 @@ returns-in_ok-write_all-2-clause-text g c =
     c.in_ok-advance-2.ensures.next c.if-branch.false in
     let row = c.as_bytes-else-branch.ensures.value ∙ (c.as_str-else-branch.ensures.value
     ∙ c.complete_row-else-branch.ensures) in
-    λ lines all. complete_written geo p most c.requires.some start lines all (lines_text c.lines_have_texts.ensures geo
-    g.met.B.Board.numbers start p lines c.requires.position all) (stack_of c.lines.lister)
+    λ lines all. complete_written geo p most c.requires.list.some start lines all
+    (lines_text c.lines_have_texts.ensures geo g.met.B.Board.numbers start p lines c.requires.ahead.position all)
+    (stack_of c.lines.lister)
     (stack_of c.advance-2.new.self) c.lines.written _ _ _ c.lines.invariant.rows none c.lines.invariant.few
     (subst (Appends _ _) row c.in_ok-write_all-2.ensures.ok)

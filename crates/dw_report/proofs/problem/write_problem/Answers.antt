@@ -19,8 +19,8 @@ returns-in_err-write_all-clause-text g c =
     let line = c.as_bytes.ensures.value ∙ (c.as_str.ensures.value ∙ c.known_text-known.ensures) in
     at_sink (IsProblemText geo request problem) (IsProblemPart geo request problem) _ _ c.from_residual.result (why.1
     ∙ ap Err why.2)
-    (known_short geo request problem _ _ (c.one_report.ensures.texts geo g.met.B.Board.numbers request c.requires.lines
-    (problem ∷ [])) (subst (StopsShort _ _) line c.in_err-write_all.ensures.err))
+    (known_short geo request problem _ _ (c.one_report.ensures.texts geo g.met.B.Board.numbers request
+    c.requires.sound.lines (problem ∷ [])) (subst (StopsShort _ _) line c.in_err-write_all.ensures.err))
 
 pub returns-in_err-write_all-clause-searches : goal.returns-in_err-write_all-clause-searches
 returns-in_err-write_all-clause-searches g c =

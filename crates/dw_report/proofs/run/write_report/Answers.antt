@@ -1,10 +1,10 @@
-use Rattle.std.proofs.Common.{◌≡◌, refl, true, false, rules, arith, sym, subst, [], ◌∷◌, ◌∙◌, add-zero}
+use Rattle.std.proofs.Common.{◌≡◌, refl, true, false, rules, arith, sym, ap, subst, [], ◌∷◌, ◌∙◌, add-zero}
 use Rattle.dw_notation.specs.Problems.{Numbered, numbered}
 use Rattle.dw_notation.specs.Reading.{cutter_of}
 use Rattle.dw_report.specs.Request.{request_of}
 use Rattle.dw_report.specs.Report.{IsReportOn, chosen}
 use Rattle.dw_report.specs.Running.{IsPartOn}
-use Rattle.dw_report.specs.inner.Running.{TextEnds, CountsOne}
+use Rattle.dw_report.specs.inner.Running.{TextEnds, CountsOne, HasRoom}
 use Rattle.dw_report.proofs.RunLemmas.{SoFar-start, SoFar-more, SoFar-next, SoFar-asked, SoFar-end, SoFar-read}
 use Rattle.dw_report.proofs.RunLemmas.{unmet_before, SoFar-fault, failed-at_ok, refused-le, length-chosen-le}
 use Rattle.dw_report.proofs.SearchLemmas.{searches_keep, stops_rightly}
@@ -15,15 +15,15 @@ problems-init g c =
     let new = c.new-problems.ensures in
     let zero = c.default-summary.ensures in
     record {
-      lender = search rules;
+      lender = refl;
       so_far = SoFar-start _ _ _ _ (cutter_of c.new-problems.result) c.default-summary.result new.met_end new.to_come
           new.ended new.handed zero.0 zero.1.0 zero.1.1;
       end = λ met. let bad : true ≡ false = sym met ∙ new.met_end in cc;
-      source = search rules;
-      sink = search rules;
-      limit = search rules;
-      still = search rules;
-      read = search rules;
+      source = ap g.S.Source.is_failed new.source ∙ c.requires.source;
+      sink = c.requires.sink;
+      limit = refl;
+      still = λ _. c.requires.fresh;
+      read = zero.0 ∙ sym new.handed;
       shown = omega (arith, zero.1.0);
       refused = omega (arith, zero.1.1);
       bound = omega (arith, new.handed);
@@ -51,22 +51,13 @@ returns-in-Err-clause-report g c =
 
 pub report_problem-requires : goal.report_problem-requires
 report_problem-requires g c =
-    let so_far = c.problems.invariant in (
-      omega arith,
-      (
-        so_far.sink,
-        (
-          c.requires.some,
-          (
-            c.requires.few,
-            (
-              c.requires.lines,
-              (c.requires.rows, (omega (arith, so_far.read, so_far.bound), (so_far.shown, so_far.refused))),
-            ),
-          ),
-        ),
-      ),
-    )
+    let so_far = c.problems.invariant in
+    let room : HasRoom c.problems.summary = record {
+      problems = omega (arith, so_far.read, so_far.bound);
+      shown = so_far.shown;
+      refused = so_far.refused;
+    } in
+    (omega arith, (so_far.sink, (c.requires.sound, room)))
 
 pub returns-in-Err-report_problem-clause-report : goal.returns-in-Err-report_problem-clause-report
 returns-in-Err-report_problem-clause-report g c =
@@ -80,7 +71,7 @@ returns-in-Err-report_problem-clause-report g c =
     let stops = SoFar-fault _ _ _ _ _ _ _ _ (cutter_of c.problems.problems) (cutter_of c.next.new.self)
     c.problems.summary one given.read c.expanded.result c.in-Err-report_problem.fault so_far.so_far given.took
     given.gives (c.next.ensures.end so_far.end) c.next.ensures.stays (c.one_report.ensures.texts g.B.Board.geometry
-    g.met.B.Board.numbers request c.requires.lines) text in
+    g.met.B.Board.numbers request c.requires.sound.lines) text in
     rw c.ended.ensures (search rules)
 
 pub returns-in-Err-report_problem-clause-stopped : goal.returns-in-Err-report_problem-clause-stopped
@@ -122,7 +113,7 @@ problems-preserved g c =
     let keep = searches_keep settings.command c.problems.solver c.report_problem.new.solver c.report_problem.result
     c.report_problem.ensures.searches in
     record {
-      lender = search rules;
+      lender = c.next.ensures.lender ∙ so_far.lender;
       so_far = SoFar-next _ _ _ _ _ _ (cutter_of c.next.new.self) c.in-Ok.counted one more (sym c.asks_for.ensures
           ∙ c.if-asks_for.false);
       end = end;

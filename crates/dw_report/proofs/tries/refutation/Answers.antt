@@ -1,7 +1,7 @@
 use Rattle.std.proofs.Common.{◌+◌, sym, subst, refl, arith}
 use Rattle.dw_solve.specs.Wins.{Win}
 use Rattle.dw_solve.specs.Ranking.{AreRanked}
-use Rattle.dw_list.specs.inner.AskingLemmas.{answered, asked_then, asked_ok, asked_stop}
+use Rattle.dw_list.specs.inner.AskingLemmas.{answered, asked_then, asked_ok, asked_stop, asked_memory, asked_none}
 use Rattle.dw_report.specs.Verdict.{Refutes}
 use Rattle.dw_report.proofs.RefutingLemmas.{FoundTo, found_first, found_same, found_second, found_all, legal_at}
 use Rattle.dw_report.proofs.tries.refutation.Goals.{then-not-branch+in-None, else-not-branch}
@@ -93,3 +93,16 @@ returns-clause-found g c =
     let all = subst (AreRanked geo q) (sym c.moves-reply-items.ensures) c.in_ok-line_up.ensures.ranked in
     found_all (λ r. r.1) geo q c.args.left c.moves-reply-items.result.now c.replies.reply-index c.replies.found
     (omega (arith, c.replies-test.false)) all c.replies.invariant.found
+
+pub returns-in_err-line_up-clause-asked : goal.returns-in_err-line_up-clause-asked
+returns-in_err-line_up-clause-asked g c =
+    let geo = g.B.Board.geometry in
+    let content = g.M.Memo.content in
+    let lost = g.M.Memo.dropped in
+    let none = asked_none geo content lost c.searches_add_up.ensures c.args.left c.args.solver.now
+    c.limit.ensures.within in
+    asked_memory geo content lost c.args.left _ _ _ c.from_residual.ensures.1 none
+
+pub returns-clause-asked : goal.returns-clause-asked
+returns-clause-asked g c = asked_ok g.B.Board.geometry g.M.Memo.content g.M.Memo.dropped c.args.left _ _ 0 _
+    c.replies.invariant.asked

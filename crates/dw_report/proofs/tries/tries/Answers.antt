@@ -1,7 +1,8 @@
 use Rattle.std.proofs.Common.{◌+◌, ◌-◌, ◌≤◌, map, sym, ap, ◌∙◌, subst, arith}
 use Rattle.dw_moves.specs.Moves.{Legal, play}
 use Rattle.dw_moves.specs.Order.{Precedes, IsListOf}
-use Rattle.dw_list.specs.inner.AskingLemmas.{answered, asked_then, asked_wider, asked_ok, asked_stop, asked_memory}
+use Rattle.dw_list.specs.inner.AskingLemmas.{answered, asked_none, asked_then, asked_wider, asked_ok, asked_stop}
+use Rattle.dw_list.specs.inner.AskingLemmas.{asked_memory}
 use Rattle.dw_report.proofs.GatheredLemmas.{item_among, to_more, to_same}
 use Rattle.dw_report.specs.Verdict.{IsRefutation}
 use Rattle.dw_report.specs.inner.Judging.{FindsRefutation}
@@ -94,3 +95,16 @@ returns-clause-tries g c =
     (sym c.as_slice-item-items.ensures.value) c.in_ok-list.ensures.in_order in
     tries_whole (λ item. item.step) geo p c.args.moves c.as_slice-item-items.result.now c.moves.item-index
     c.moves.tries.items (omega (arith, c.moves-test.false)) all c.moves.invariant.tries
+
+pub returns-in_err-list-clause-asked : goal.returns-in_err-list-clause-asked
+returns-in_err-list-clause-asked g c =
+    let geo = g.B.Board.geometry in
+    let content = g.M.Memo.content in
+    let lost = g.M.Memo.dropped in
+    let none = asked_none geo content lost c.searches_add_up.ensures c.args.moves c.args.solver.now
+    c.limit.ensures.within in
+    asked_memory geo content lost c.args.moves _ _ _ c.from_residual.ensures.1 none
+
+pub returns-clause-asked : goal.returns-clause-asked
+returns-clause-asked g c = asked_ok g.B.Board.geometry g.M.Memo.content g.M.Memo.dropped c.args.moves _ _ 0 _
+    c.moves.invariant.asked
