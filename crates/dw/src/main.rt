@@ -31,20 +31,21 @@ use std::process::ExitCode;
 use words::{BoardSize, MemoKind, Request, command, requested};
 
 fn main(rt: HostRuntime) -> ExitCode {
-    let alloc = rt.alloc();
-    let Ok(args) = env::args(&rt) else {
+    let Some(words) = words_given(&rt) else {
         return end_with(&rt, Ending::Memory, None);
     };
-    let Ok(words) = args.collect::<Vec<String>>(alloc) else {
-        return end_with(&rt, Ending::Memory, None);
-    };
-    let Ok(command) = command(alloc) else {
+    let Ok(command) = command(rt.alloc()) else {
         return end_with(&rt, Ending::Memory, None);
     };
     match command.try_get_matches_from(words.as_slice()) {
         Err(error) => end_without_words(&rt, &error),
         Ok(matches) => obey(&rt, &matches),
     }
+}
+
+/// The words of the command line, or nothing if out of memory.
+fn words_given(rt: &HostRuntime) -> Option<Vec<String>> {
+    env::args(rt).ok()?.collect::<Vec<String>>(rt.alloc()).ok()
 }
 
 /// Ends if help was asked for or the arguments are no command.

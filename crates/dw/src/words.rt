@@ -154,16 +154,33 @@ fn subcommands<'a>(alloc: Global) -> Result<Vec<Words<'a>>, AllocError> {
 
 /// A command with its arguments: it reads problems, and may search for wins too, and list lines as well.
 fn subcommand<'a>(alloc: Global, command: Command) -> Result<Words<'a>, AllocError> {
+    match command {
+        Command::Show | Command::Moves => reader(alloc, command),
+        Command::Judge => searcher(alloc, command),
+        Command::List => lister(alloc),
+    }
+}
+
+/// A command that reads problems, with the arguments of every command.
+fn reader<'a>(alloc: Global, command: Command) -> Result<Words<'a>, AllocError> {
+    let arguments = reading(alloc)?;
     let [name, about, examples] = texts(command);
-    let words = Words::new(alloc, name)
+    Words::new(alloc, name)
         .about(about)
         .after_help(examples)
-        .args(reading(alloc)?)?;
-    match command {
-        Command::Show | Command::Moves => Ok(words),
-        Command::Judge => words.args(searching(alloc)?),
-        Command::List => words.args(searching(alloc)?)?.args(listing(alloc)?),
-    }
+        .args(arguments)
+}
+
+/// A command that searches for wins too.
+fn searcher<'a>(alloc: Global, command: Command) -> Result<Words<'a>, AllocError> {
+    let arguments = searching(alloc)?;
+    reader(alloc, command)?.args(arguments)
+}
+
+/// The command that lists lines as well.
+fn lister<'a>(alloc: Global) -> Result<Words<'a>, AllocError> {
+    let arguments = listing(alloc)?;
+    searcher(alloc, Command::List)?.args(arguments)
 }
 
 /// The name of a command, what it does, and how it is used.

@@ -1,9 +1,9 @@
 //! Lines of forced wins, listed and timed.
 ghost use Rattle.std.specs.Prelude.{◌≤◌};
 
-use anyhow::Context;
+use crate::timing::{micros_since, speed};
+use crate::written_position;
 use dw_board::board::Ten;
-use dw_board::fen::read::read_fen;
 use dw_board::position::Position;
 use dw_list::lister::Lister;
 use dw_memo::slot_memo::SlotMemo;
@@ -37,8 +37,7 @@ fn list_text(rt: &HostRuntime, text: &str, moves: u8, lines: u64) -> anyhow::Res
     requires some { 1 ≤ moves }
     requires few { moves ≤ 20 }
 {
-    let position = read_fen::<Ten>(text.as_bytes()).context("no FEN text")?;
-    println!(rt; "{text}")?;
+    let position = written_position(rt, text)?;
     list_all(rt, &position, moves, lines)?;
     go_on_after(rt, &position, moves, lines.saturating_sub(1))
 }
@@ -50,10 +49,10 @@ fn list_all(rt: &HostRuntime, position: &Position<Ten>, moves: u8, lines: u64) -
 {
     let start = Instant::now(rt)?;
     let (count, expanded) = all_lines(rt.alloc(), position, moves)?;
-    let micros = start.elapsed(rt)?.as_micros().max(1);
+    let micros = micros_since(rt, &start)?;
     println!(rt; "within {moves}: {count} lines")?;
     anyhow::ensure!(count == lines, "{lines} lines are wanted");
-    let speed = u128::from(count) * 1_000_000 / micros;
+    let speed = speed(count, micros);
     eprintln!(rt; "{count} lines in {micros} microseconds: {speed} a second, {expanded} expanded")?;
     Ok(())
 }
@@ -63,16 +62,21 @@ fn all_lines(alloc: Global, position: &Position<Ten>, moves: u8) -> anyhow::Resu
     requires some { 1 ≤ moves }
     requires few { moves ≤ 20 }
 {
-    let mut solver = Solver::new(SlotMemo::new(alloc, HELD)?, ByTrial, LIMIT);
+    let mut solver = new_solver(alloc)?;
     let mut lister = Lister::start(&mut solver, position, moves);
-    Ok((count_lines(alloc, &mut lister)?, lister.expanded()))
+    count_lines(alloc, &mut lister)
 }
 
-/// The number of lines that are still to come.
-fn count_lines(alloc: Global, lister: &mut Slots<'_>) -> anyhow::Result<u64> {
+/// A solver with a fixed table in which nothing is noted yet.
+fn new_solver(alloc: Global) -> anyhow::Result<Solver<Ten, SlotMemo<Ten>, ByTrial>> {
+    Ok(Solver::new(SlotMemo::new(alloc, HELD)?, ByTrial, LIMIT))
+}
+
+/// The number of lines that are still to come, and how many positions were expanded by then.
+fn count_lines(alloc: Global, lister: &mut Slots<'_>) -> anyhow::Result<(u64, u64)> {
     for count in 0..MOST_LINES {
         if !lister.advance(alloc)? {
-            return Ok(count);
+            return Ok((count, lister.expanded()));
         }
     }
     anyhow::bail!("too many lines")
@@ -92,7 +96,7 @@ fn go_on_after(
     eprintln!(rt; "{lists} lists of moves up to line {number}")?;
     let start = Instant::now(rt)?;
     let (left, expanded) = lines_after(rt.alloc(), position, moves, line.as_slice())?;
-    let micros = start.elapsed(rt)?.as_micros().max(1);
+    let micros = micros_since(rt, &start)?;
     eprintln!(rt; "after the last but one: {expanded} expanded in {micros} microseconds")?;
     anyhow::ensure!(left == 1, "{left} lines follow the last but one");
     Ok(())
@@ -109,21 +113,24 @@ fn line_at(
     requires some { 1 ≤ moves }
     requires few { moves ≤ 20 }
 {
-    let mut solver = Solver::new(SlotMemo::new(alloc, HELD)?, ByTrial, LIMIT);
+    let mut solver = new_solver(alloc)?;
     let mut lister = Lister::start(&mut solver, position, moves);
-    let lists = lists_up_to(alloc, &mut lister, number)?;
-    Ok((lister.line().to_vec(alloc)?, lists))
+    walk_to(alloc, &mut lister, number)
 }
 
-/// Goes on by so many lines, and answers from how many lists of moves they were taken.
-fn lists_up_to(alloc: Global, lister: &mut Slots<'_>, number: u64) -> anyhow::Result<usize> {
+/// Goes on by so many lines, and answers the last of them, and from how many lists of moves they were taken.
+fn walk_to(
+    alloc: Global,
+    lister: &mut Slots<'_>,
+    number: u64,
+) -> anyhow::Result<(Vec<Move<Ten>>, usize)> {
     let mut lists = 1_usize;
     for _ in 0..number {
         anyhow::ensure!(lister.advance(alloc)?, "no such line");
         let others = lister.line().len().saturating_sub(lister.shared());
         lists = lists.saturating_add(others);
     }
-    Ok(lists)
+    Ok((lister.line().to_vec(alloc)?, lists))
 }
 
 /// The number of lines after this one, and how many positions were expanded for them.
@@ -136,8 +143,8 @@ fn lines_after(
     requires some { 1 ≤ moves }
     requires few { moves ≤ 20 }
 {
-    let mut solver = Solver::new(SlotMemo::new(alloc, HELD)?, ByTrial, LIMIT);
+    let mut solver = new_solver(alloc)?;
     let mut lister = Lister::start(&mut solver, position, moves);
     lister.after(alloc, line)?;
-    Ok((count_lines(alloc, &mut lister)?, lister.expanded()))
+    count_lines(alloc, &mut lister)
 }

@@ -9,6 +9,7 @@ mod lines;
 mod perft;
 mod problems;
 mod solving;
+mod timing;
 
 use anyhow::Context;
 use dw_board::board::Ten;
@@ -20,6 +21,7 @@ use perft::{moves_made, perft};
 use solving::solve_problems;
 use std::env;
 use std::time::Instant;
+use timing::{micros_since, speed};
 
 /// A position, to how many plies its lines are counted, and to how many where many are asked for.
 type Case = (&'static str, usize, usize);
@@ -81,25 +83,45 @@ fn count_all(rt: &HostRuntime, added: usize) -> anyhow::Result<()> {
 /// Counts the lines of all cases to many plies, and says how long it took.
 fn count_deep(rt: &HostRuntime) -> anyhow::Result<()> {
     for (text, _, plies) in CASES {
-        let start = Instant::now(rt)?;
-        let position = read_fen::<Ten>(text.as_bytes()).context("no FEN text")?;
-        println!(rt; "{text}")?;
-        count_plies(rt, &position, plies)?;
-        let millis = start.elapsed(rt)?.as_millis();
-        eprintln!(rt; "{plies} plies in {millis} milliseconds")?;
+        count_many(rt, text, plies)?;
     }
     Ok(())
 }
 
-/// Writes the number of lines of each length, and how fast all moves of the longest ones are made.
-fn count_lines(rt: &HostRuntime, text: &str, plies: usize) -> anyhow::Result<()> {
+/// Writes the number of lines of each length, and how long it took.
+fn count_many(rt: &HostRuntime, text: &str, plies: usize) -> anyhow::Result<()> {
+    let start = Instant::now(rt)?;
+    let position = written_position(rt, text)?;
+    count_plies(rt, &position, plies)?;
+    let millis = start.elapsed(rt)?.as_millis();
+    eprintln!(rt; "{plies} plies in {millis} milliseconds")?;
+    Ok(())
+}
+
+/// Writes a FEN text, and answers its position.
+pub(crate) fn written_position(rt: &HostRuntime, text: &str) -> anyhow::Result<Position<Ten>> {
     let position = read_fen::<Ten>(text.as_bytes()).context("no FEN text")?;
     println!(rt; "{text}")?;
+    Ok(position)
+}
+
+/// Writes the number of lines of each length, and how fast all moves of the longest ones are made.
+fn count_lines(rt: &HostRuntime, text: &str, plies: usize) -> anyhow::Result<()> {
+    let position = written_position(rt, text)?;
     let mut lists = count_plies(rt, &position, plies)?;
+    time_moves(rt, &position, lists.as_mut_slice())
+}
+
+/// Writes how fast all moves are made on the lines of as many moves as there are lists.
+fn time_moves(
+    rt: &HostRuntime,
+    position: &Position<Ten>,
+    lists: &mut [Vec<Move<Ten>>],
+) -> anyhow::Result<()> {
     let start = Instant::now(rt)?;
-    let moves = moves_made(&position, &mut lists)?;
-    let micros = start.elapsed(rt)?.as_micros().max(1);
-    let speed = u128::from(moves) * 1_000_000 / micros;
+    let moves = moves_made(position, lists)?;
+    let micros = micros_since(rt, &start)?;
+    let speed = speed(moves, micros);
     eprintln!(rt; "{moves} moves made in {micros} microseconds: {speed} a second")?;
     Ok(())
 }

@@ -2,9 +2,9 @@
 ghost use Rattle.dw_solve.specs.Facts.{AreTrue};
 
 use crate::problems::PROBLEMS;
-use anyhow::Context;
-use dw_board::board::{Board, Ten};
-use dw_board::fen::read::read_fen;
+use crate::timing::{micros_since, speed};
+use crate::written_position;
+use dw_board::board::Board;
 use dw_board::position::Position;
 use dw_memo::lru_memo::LruMemo;
 use dw_memo::memo::Memo;
@@ -28,18 +28,23 @@ const LIMIT: u64 = 500_000;
 pub(crate) fn solve_problems(rt: &HostRuntime, moves: u8) -> anyhow::Result<()> {
     for (least, texts) in PROBLEMS {
         if least <= moves {
-            for text in texts {
-                solve_problem(rt, text)?;
-            }
+            solve_each(rt, texts)?;
         }
+    }
+    Ok(())
+}
+
+/// Solves some problems, one after another.
+fn solve_each(rt: &HostRuntime, texts: [&str; 8]) -> anyhow::Result<()> {
+    for text in texts {
+        solve_problem(rt, text)?;
     }
     Ok(())
 }
 
 /// Writes a problem, and what is found with each memo.
 fn solve_problem(rt: &HostRuntime, text: &str) -> anyhow::Result<()> {
-    let position = read_fen::<Ten>(text.as_bytes()).context("no FEN text")?;
-    println!(rt; "{text}")?;
+    let position = written_position(rt, text)?;
     solve_with(rt, "NoMemo", NoMemo::new(), &position)?;
     let recent = LruMemo::new(rt.alloc(), HELD)?;
     solve_with(rt, "LruMemo", recent, &position)?;
@@ -47,7 +52,7 @@ fn solve_problem(rt: &HostRuntime, text: &str) -> anyhow::Result<()> {
     solve_with(rt, "SlotMemo", slots, &position)
 }
 
-/// Writes the least number of moves within which the side to move wins, and how fast that was found.
+/// Solves a problem with a solver over a memo.
 fn solve_with<B: Board, M: Memo<B> + Drop>(
     rt: &HostRuntime,
     name: &str,
@@ -56,18 +61,38 @@ fn solve_with<B: Board, M: Memo<B> + Drop>(
 ) -> anyhow::Result<()>
     requires { AreTrue B.geometry (M.content memo) }
 {
-    let start = Instant::now(rt)?;
     let mut solver = Solver::new(memo, ByTrial, LIMIT);
+    solve(rt, name, &mut solver, position)
+}
+
+/// Writes the least number of moves within which the side to move wins, and how fast that was found.
+fn solve<B: Board, M: Memo<B>>(
+    rt: &HostRuntime,
+    name: &str,
+    solver: &mut Solver<B, M, ByTrial>,
+    position: &Position<B>,
+) -> anyhow::Result<()> {
+    let start = Instant::now(rt)?;
     let answer = solver.least(rt.alloc(), position, MOST_MOVES);
-    let micros = start.elapsed(rt)?.as_micros().max(1);
+    let micros = micros_since(rt, &start)?;
+    write_answer(rt, name, answer)?;
+    let expanded = solver.expanded();
+    let speed = speed(expanded, micros);
+    eprintln!(rt; "{name}: {expanded} expanded in {micros} microseconds: {speed} a second")?;
+    Ok(())
+}
+
+/// Writes the least number of moves that was found with a memo, or that there is none or the limit was reached.
+fn write_answer(
+    rt: &HostRuntime,
+    name: &str,
+    answer: Result<Option<u8>, Stop>,
+) -> anyhow::Result<()> {
     match answer {
         Ok(Some(least)) => println!(rt; "{name} {least}")?,
         Ok(None) => println!(rt; "{name} none")?,
         Err(Stop::Limit) => println!(rt; "{name} limit")?,
         Err(stop) => return Err(stop.into()),
     }
-    let expanded = solver.expanded();
-    let speed = u128::from(expanded) * 1_000_000 / micros;
-    eprintln!(rt; "{name}: {expanded} expanded in {micros} microseconds: {speed} a second")?;
     Ok(())
 }

@@ -147,6 +147,21 @@ fn fails_at_writes<B: Board>(
     if ended { Some(()) } else { None }
 }
 
+/// Nothing, unless a run fails whose sink takes nothing.
+fn fails_at_once<B: Board>(alloc: Global, settings: &Settings<B>, text: &[u8]) -> Option<()>
+    requires rows { (B.geometry.rows ≡ 10) ⊎ (B.geometry.rows ≡ 8) }
+    requires some { 1 ≤ settings.now.n }
+    requires few { settings.now.n ≤ 20 }
+    requires lines { 1 ≤ settings.now.lines }
+    requires limit { 1 ≤ settings.now.limit }
+{
+    if narrowed(alloc, settings, text, 0, 0)?.answer == Err(RunFault::Write) {
+        Some(())
+    } else {
+        None
+    }
+}
+
 /// The report and the answer, if each write fails as it should, and a sink that takes nothing.
 pub fn writes<B: Board>(alloc: Global, asked: &Asked<'_>, found: &mut Found) -> Option<()>
     requires { (B.geometry.rows ≡ 10) ⊎ (B.geometry.rows ≡ 8) }
@@ -157,8 +172,6 @@ pub fn writes<B: Board>(alloc: Global, asked: &Asked<'_>, found: &mut Found) -> 
     for step in [1, 5] {
         fails_at_writes(alloc, &settings, text.as_slice(), &whole, step)?;
     }
-    if narrowed(alloc, &settings, text.as_slice(), 0, 0)?.answer != Err(RunFault::Write) {
-        return None;
-    }
+    fails_at_once(alloc, &settings, text.as_slice())?;
     whole.say(found)
 }

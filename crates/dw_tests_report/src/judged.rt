@@ -1,7 +1,9 @@
 //! Verdicts and tries of worked problems.
+ghost use Rattle.std.specs.Prelude.{◌≤◌, IfSome};
 
 use crate::asked::{AMPLE, Asked};
 use dw_board::board::Board;
+use dw_board::position::Position;
 use dw_memo::any_memo::AnyMemo;
 use dw_memo::lru_memo::LruMemo;
 use dw_memo::no_memo::NoMemo;
@@ -56,35 +58,71 @@ fn add_judged<B: Board>(judged: &Judged<B>, found: &mut Found) {
     }
 }
 
+/// Adds what a solver judges of a position. The answer is false, and nothing is added, if it is stopped at its limit.
+fn add_answer<B: Board>(
+    alloc: Global,
+    solver: &mut Solver<B, AnyMemo<B>, ByTrial>,
+    position: &Position<B>,
+    moves: u8,
+    found: &mut Found,
+) -> Option<bool>
+    requires some { 1 ≤ moves }
+    requires few { moves ≤ 20 }
+{
+    match judge(alloc, solver, position, moves) {
+        Ok(judged) => {
+            add_judged(&judged, found);
+            Some(true)
+        }
+        Err(Stop::Limit) => Some(false),
+        Err(Stop::Memory) => None,
+    }
+}
+
+/// The position of a row, and within how many moves a win is looked for.
+fn question<B: Board>(asked: &Asked<'_>) -> Option<(Position<B>, u8)>
+    ensures some { IfSome result (λ read. 1 ≤ read.1) }
+    ensures few { IfSome result (λ read. read.1 ≤ 20) }
+{
+    let position = read_position(asked.column(0))?;
+    Some((position, asked.moves()?))
+}
+
 /// What is judged of a position, with no cache.
 pub fn judged<B: Board>(alloc: Global, asked: &Asked<'_>, found: &mut Found) -> Option<()> {
-    let position = read_position::<B>(asked.column(0))?;
-    let mut solver = Solver::<B, AnyMemo<B>, ByTrial>::new(
-        AnyMemo::None(NoMemo::new()),
-        ByTrial,
-        AMPLE,
-    );
-    let judged = judge(alloc, &mut solver, &position, asked.moves()?).ok()?;
-    add_judged(&judged, found);
-    Some(())
+    let (position, moves) = question::<B>(asked)?;
+    let memo = AnyMemo::None(NoMemo::new());
+    let mut solver = Solver::<B, AnyMemo<B>, ByTrial>::new(memo, ByTrial, AMPLE);
+    if add_answer(alloc, &mut solver, &position, moves, found)? {
+        Some(())
+    } else {
+        None
+    }
 }
 
 /// What is judged under limits that rise by one, with a cache: the solver is asked again until it has an answer.
 pub fn stopped<B: Board>(alloc: Global, asked: &Asked<'_>, found: &mut Found) -> Option<()> {
-    let position = read_position::<B>(asked.column(0))?;
-    let moves = asked.moves()?;
+    let (position, moves) = question::<B>(asked)?;
     let memo = AnyMemo::Lru(LruMemo::new(alloc, 1_000).ok()?);
     let mut solver = Solver::<B, AnyMemo<B>, ByTrial>::new(memo, ByTrial, 1);
+    add_at_last(alloc, &mut solver, &position, moves, found)
+}
+
+/// Adds what a solver judges of a position once its limit, which rises by one, is high enough.
+fn add_at_last<B: Board>(
+    alloc: Global,
+    solver: &mut Solver<B, AnyMemo<B>, ByTrial>,
+    position: &Position<B>,
+    moves: u8,
+    found: &mut Found,
+) -> Option<()>
+    requires some { 1 ≤ moves }
+    requires few { moves ≤ 20 }
+{
     for limit in 1..1_000 {
-        let limit = solver.expanded().max(limit);
-        solver.set_limit(limit);
-        match judge(alloc, &mut solver, &position, moves) {
-            Err(Stop::Limit) => {}
-            Err(Stop::Memory) => return None,
-            Ok(judged) => {
-                add_judged(&judged, found);
-                return Some(());
-            }
+        solver.set_limit(solver.expanded().max(limit));
+        if add_answer(alloc, solver, position, moves, found)? {
+            return Some(());
         }
     }
     None

@@ -19,22 +19,28 @@ use dw_board::board::{Board, Eight, Ten};
 use dw_tests_common::rows::{Section, input_sections, word};
 use dw_tests_common::tally::{Found, Tally};
 use kind::Kind;
-use std::alloc::Global;
+use std::alloc::{AllocError, Global};
 use std::io;
 
 fn main(rt: HostRuntime) -> io::Result<()> {
     for section in input_sections(&rt)?.as_slice() {
-        let mut tally = Tally::new(rt.alloc())?;
-        for kind in word(section.head.as_str(), 0).split(',') {
-            ask_section(rt.alloc(), Kind::named(kind), section, &mut tally);
-        }
+        let tally = ask_section(rt.alloc(), section)?;
         tally.report(&rt, section.head.as_str())?;
     }
     Ok(())
 }
 
+/// Asks all rows of a section, in each way that its head names.
+fn ask_section(alloc: Global, section: &Section) -> Result<Tally, AllocError> {
+    let mut tally = Tally::new(alloc)?;
+    for kind in word(section.head.as_str(), 0).split(',') {
+        ask_rows(alloc, Kind::named(kind), section, &mut tally);
+    }
+    Ok(tally)
+}
+
 /// Asks all rows of a section, on its board.
-fn ask_section(alloc: Global, kind: Option<Kind>, section: &Section, tally: &mut Tally) {
+fn ask_rows(alloc: Global, kind: Option<Kind>, section: &Section, tally: &mut Tally) {
     for row in section.rows.as_slice() {
         let asked = Asked::new(section, row);
         let found = &mut tally.found;

@@ -45,7 +45,7 @@ fn same_with<B: Board>(
 {
     for step in [1, 2, 3, 4096] {
         let ran = in_pieces(alloc, settings, memo, text, step)?;
-        if ran.answer != first.answer || ran.written.as_slice() != first.written.as_slice() {
+        if !ran.is_same(first) {
             return None;
         }
     }
@@ -81,23 +81,32 @@ fn is_stopped(ran: &Ran, whole: &[u8], limit: u64, most: usize) -> bool {
         && taken.len() >= most
 }
 
+/// A run with no cache, under this limit of expansions.
+fn limited<B: Board>(alloc: Global, asked: &Asked<'_>, text: &[u8], limit: u64) -> Option<Ran>
+    requires { (B.geometry.rows ≡ 10) ⊎ (B.geometry.rows ≡ 8) }
+{
+    let settings = asked.settings::<B>(limit)?;
+    in_pieces(alloc, &settings, "none", text, 4096)
+}
+
 /// The report and the answer, if under limits that rise by one from 1 a run is stopped, or it is whole, and then it is
 /// so with each higher limit.
 pub fn limits<B: Board>(alloc: Global, asked: &Asked<'_>, found: &mut Found) -> Option<()>
     requires { (B.geometry.rows ≡ 10) ⊎ (B.geometry.rows ≡ 8) }
 {
     let text = unescaped(alloc, asked.column(0))?;
-    let settings = asked.settings::<B>(AMPLE)?;
-    let whole = in_pieces(alloc, &settings, "none", text.as_slice(), 4096)?;
+    let whole = limited::<B>(alloc, asked, text.as_slice(), AMPLE)?;
     let mut ended = false;
     let mut most = 0;
     for limit in 1..200 {
-        let settings = asked.settings::<B>(limit)?;
-        let ran = in_pieces(alloc, &settings, "none", text.as_slice(), 4096)?;
+        let ran = limited::<B>(alloc, asked, text.as_slice(), limit)?;
         ended = ended || ran.answer.is_ok();
-        let is_same = ran.answer == whole.answer
-            && ran.written.as_slice() == whole.written.as_slice();
-        if ended && !is_same || !ended && !is_stopped(&ran, whole.written.as_slice(), limit, most) {
+        let is_right = if ended {
+            ran.is_same(&whole)
+        } else {
+            is_stopped(&ran, whole.written.as_slice(), limit, most)
+        };
+        if !is_right {
             return None;
         }
         most = ran.written.len();
@@ -115,10 +124,33 @@ fn reported<B: Board>(alloc: Global, settings: &Settings<B>, text: &[u8]) -> Opt
 {
     let ran = in_pieces(alloc, settings, "none", text, 4096)?;
     let chopped = in_pieces(alloc, settings, "none", text, 1)?;
-    let is_same = ran.answer == chopped.answer
-        && ran.written.as_slice() == chopped.written.as_slice();
     let is_one = ran.answer.is_ok() && ran.written.as_slice().starts_with(b"problem 1: ");
-    if is_same && is_one { Some(()) } else { None }
+    if ran.is_same(&chopped) && is_one {
+        Some(())
+    } else {
+        None
+    }
+}
+
+/// Nothing, unless a text has a report while this byte is changed to a mark.
+fn reported_with<B: Board>(
+    alloc: Global,
+    settings: &Settings<B>,
+    text: &mut [u8],
+    place: usize,
+    mark: u8,
+) -> Option<()>
+    requires rows { (B.geometry.rows ≡ 10) ⊎ (B.geometry.rows ≡ 8) }
+    requires some { 1 ≤ settings.now.n }
+    requires few { settings.now.n ≤ 20 }
+    requires lines { 1 ≤ settings.now.lines }
+    requires limit { 1 ≤ settings.now.limit }
+{
+    let before = text.get(place).copied()?;
+    *text.get_mut(place)? = mark;
+    reported(alloc, settings, text)?;
+    *text.get_mut(place)? = before;
+    Some(())
 }
 
 /// How many texts have a report, if each byte of a text is changed in turn to each mark of the form.
@@ -130,10 +162,7 @@ pub fn changed<B: Board>(alloc: Global, asked: &Asked<'_>, found: &mut Found) ->
     let mut count = 0_u32;
     for place in 0..text.len() {
         for mark in [b'[', b']', b'{', b'}', b'"', b'\\'] {
-            let before = text.get(place).copied()?;
-            *text.get_mut(place)? = mark;
-            reported(alloc, &settings, text.as_slice())?;
-            *text.get_mut(place)? = before;
+            reported_with(alloc, &settings, text.as_mut_slice(), place, mark)?;
             count = count.wrapping_add(1);
         }
     }

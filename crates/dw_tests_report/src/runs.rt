@@ -24,6 +24,11 @@ pub struct Ran {
 }
 
 impl Ran {
+    /// Whether another run answered and wrote the same.
+    pub fn is_same(&self, other: &Ran) -> bool {
+        self.answer == other.answer && self.written.as_slice() == other.written.as_slice()
+    }
+
     /// Writes what was written, and below it how the run ended.
     pub fn say(&self, found: &mut Found) -> Option<()> {
         found.add(str::from_utf8(self.written.as_slice()).ok()?);

@@ -67,20 +67,26 @@ pub fn line<B: Board>(alloc: Global, asked: &str, found: &mut Found) -> Option<(
         return three::<B>(alloc, &position, words, found);
     }
     if words.is_empty() {
-        let none = Vec::new(alloc);
-        let text = line_text(alloc, &position, none.as_slice()).ok()?;
-        found.add(if text.is_empty() {
-            "empty"
-        } else {
-            "not empty"
-        });
-        return Some(());
+        return none::<B>(alloc, &position, found);
     }
     let first = read_legal(alloc, &position, words)?;
     found.add(line_text(alloc, &position, &[first]).ok()?.as_str());
     Some(())
 }
 
+/// Whether the text of a line of no move is empty.
+fn none<B: Board>(alloc: Global, position: &Position<B>, found: &mut Found) -> Option<()> {
+    let none = Vec::new(alloc);
+    let text = line_text(alloc, position, none.as_slice()).ok()?;
+    found.add(if text.is_empty() {
+        "empty"
+    } else {
+        "not empty"
+    });
+    Some(())
+}
+
+/// The text of a line of three moves.
 fn three<B: Board>(
     alloc: Global,
     position: &Position<B>,

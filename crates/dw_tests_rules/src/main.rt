@@ -19,18 +19,24 @@ use dw_tests_common::rows::{Section, input_sections, word};
 use dw_tests_common::six::Six;
 use dw_tests_common::tally::{Found, Tally};
 use kind::Kind;
-use std::alloc::Global;
+use std::alloc::{AllocError, Global};
 use std::io;
 
 fn main(rt: HostRuntime) -> io::Result<()> {
     for section in input_sections(&rt)?.as_slice() {
-        let mut tally = Tally::new(rt.alloc())?;
-        for board in word(section.head.as_str(), 1).split(',') {
-            ask_rows(rt.alloc(), section, board, &mut tally);
-        }
+        let tally = ask_section(rt.alloc(), section)?;
         tally.report(&rt, section.head.as_str())?;
     }
     Ok(())
+}
+
+/// Asks all rows of a section, on each board that its head names.
+fn ask_section(alloc: Global, section: &Section) -> Result<Tally, AllocError> {
+    let mut tally = Tally::new(alloc)?;
+    for board in word(section.head.as_str(), 1).split(',') {
+        ask_rows(alloc, section, board, &mut tally);
+    }
+    Ok(tally)
 }
 
 /// Asks all rows of a section, on the board with so many rows.

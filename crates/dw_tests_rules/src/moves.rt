@@ -2,6 +2,8 @@
 
 use dw_board::board::Board;
 use dw_board::fen::write::fen_text;
+use dw_board::position::Position;
+use dw_board::square::Square;
 use dw_moves::best::{best, has_move};
 use dw_moves::follow::follow;
 use dw_moves::glance::{can_capture, count_if_quiet, other_steps};
@@ -82,13 +84,19 @@ pub fn same<B: Board>(asked: &str, found: &mut Found) -> Option<()> {
     Some(())
 }
 
+/// The squares of these numbers in order, with blanks between them.
+fn squares_of<B: Board>(alloc: Global, text: &str) -> Option<Vec<Square<B>>> {
+    let mut squares = Vec::new(alloc);
+    for number in text.split_whitespace() {
+        squares.push(square_of(number)?).ok()?;
+    }
+    Some(squares)
+}
+
 /// What the move takes that has these squares as its path.
 pub fn path<B: Board>(alloc: Global, asked: &str, found: &mut Found) -> Option<()> {
     let position = read_position::<B>(column(asked, 0))?;
-    let mut squares = Vec::new(alloc);
-    for number in column(asked, 1).split_whitespace() {
-        squares.push(square_of(number)?).ok()?;
-    }
+    let squares = squares_of(alloc, column(asked, 1))?;
     match follow(&position, squares.as_slice()) {
         Some(step) => add_set(step.taken, found),
         None => found.add("no path"),
@@ -117,18 +125,27 @@ pub fn list<B: Board>(alloc: Global, asked: &str, found: &mut Found) -> Option<(
     Some(())
 }
 
+/// Fills lists with the moves of a position, and adds how many each has.
+fn fill<B: Board>(
+    position: &Position<B>,
+    moves: &mut Vec<Move<B>>,
+    list: &mut Vec<Listed<B>>,
+    found: &mut Found,
+) -> Option<()> {
+    legal_into(position, moves).ok()?;
+    listed_into(position, list).ok()?;
+    found.show(&(moves.len(), list.len()));
+    Some(())
+}
+
 /// Fills lists with the moves of one position and then of another, which takes no more memory.
 pub fn again<B: Board>(alloc: Global, asked: &str, found: &mut Found) -> Option<()> {
     let first = read_position::<B>(column(asked, 0))?;
     let second = read_position::<B>(column(asked, 1))?;
     let (mut moves, mut list) = (Vec::new(alloc), Vec::new(alloc));
-    legal_into(&first, &mut moves).ok()?;
-    listed_into(&first, &mut list).ok()?;
-    found.show(&(moves.len(), list.len()));
+    fill(&first, &mut moves, &mut list, found)?;
     let (room, listed_room) = (moves.capacity(), list.capacity());
-    legal_into(&second, &mut moves).ok()?;
-    listed_into(&second, &mut list).ok()?;
-    found.show(&(moves.len(), list.len()));
+    fill(&second, &mut moves, &mut list, found)?;
     let is_same = moves.capacity() == room && list.capacity() == listed_room;
     found.add(if is_same {
         " in the same memory\n"

@@ -23,6 +23,12 @@ fn add_problem<B: Board>(problem: &Problem<B>, found: &mut Found) {
     found.add("; ");
 }
 
+/// Adds whether the problems have come to their end, and stay there.
+fn add_end<B: Board, S: Source>(problems: &mut Problems<'_, B, S>, found: &mut Found) {
+    let is_end = matches!(problems.next(), Ok(None));
+    found.add(if is_end { "end" } else { "no end" });
+}
+
 /// Adds what the problems of a text say; `failed` for a failure. What has ended stays so, and problems are numbered
 /// from 1.
 fn add_said<B: Board, R: io::Read + Drop>(reader: R, form: Form, found: &mut Found) -> Option<()> {
@@ -34,8 +40,7 @@ fn add_said<B: Board, R: io::Read + Drop>(reader: R, form: Form, found: &mut Fou
             Ok(Some(problem)) if problem.number == number => add_problem(&problem, found),
             Ok(Some(_)) => return None,
             Ok(None) => {
-                let is_end = matches!(problems.next(), Ok(None));
-                found.add(if is_end { "end" } else { "no end" });
+                add_end(&mut problems, found);
                 return Some(());
             }
         }
@@ -103,8 +108,7 @@ pub fn many<B: Board>(asked: &str, found: &mut Found) -> Option<()> {
             found.say(&problem.number);
             found.add(": ");
             add_problem(&problem, found);
-            let is_end = matches!(problems.next(), Ok(None));
-            found.add(if is_end { "end" } else { "no end" });
+            add_end(&mut problems, found);
             return Some(());
         }
     }

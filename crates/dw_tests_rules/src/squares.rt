@@ -50,17 +50,33 @@ pub fn set<B: Board>(asked: &str, found: &mut Found) -> Option<()> {
     Some(())
 }
 
+/// Two sets joined.
+fn joined<B: Board>(left: Squares<B>, how: &str, right: Squares<B>) -> Option<Squares<B>> {
+    match how {
+        "or" => Some(left.or(right)),
+        "and" => Some(left.and(right)),
+        "minus" => Some(left.minus(right)),
+        _ => None,
+    }
+}
+
+/// A set shifted one step, or slid over an empty board.
+fn moved<B: Board>(squares: Squares<B>, how: &str, direction: Dir) -> Option<Squares<B>> {
+    match how {
+        "shifted" => Some(squares.shifted(direction)),
+        "slid" => Some(squares.slid(Squares::none(), direction)),
+        "slid-near" => Some(squares.slid_near(Squares::none(), direction)),
+        _ => None,
+    }
+}
+
 /// Two sets joined, or a set shifted one step, or slid over an empty board.
 pub fn sets<B: Board>(asked: &str, found: &mut Found) -> Option<()> {
-    let (left, right) = (set_of::<B>(column(asked, 0))?, column(asked, 2));
-    let squares = match column(asked, 1) {
-        "or" => left.or(set_of(right)?),
-        "and" => left.and(set_of(right)?),
-        "minus" => left.minus(set_of(right)?),
-        "shifted" => left.shifted(direction(right)?),
-        "slid" => left.slid(Squares::none(), direction(right)?),
-        "slid-near" => left.slid_near(Squares::none(), direction(right)?),
-        _ => return None,
+    let left = set_of::<B>(column(asked, 0))?;
+    let (how, right) = (column(asked, 1), column(asked, 2));
+    let squares = match direction(right) {
+        Some(direction) => moved(left, how, direction)?,
+        None => joined(left, how, set_of(right)?)?,
     };
     add_set(squares, found);
     Some(())

@@ -64,7 +64,7 @@ fn ask_with<B: Board>(
     }
 }
 
-/// Asks rows of a cache, `none`, `lru:SIZE` or `slots:SIZE`; a spare one is made with it.
+/// Asks rows of a cache; a spare one is made with it.
 fn ask_memo<B: Board>(
     alloc: Global,
     kind: Kind,
@@ -73,21 +73,17 @@ fn ask_memo<B: Board>(
     rows: &[Row],
     tally: &mut Tally,
 ) -> Option<()> {
-    let (name, size) = memo.split_once(':').unwrap_or((memo, "1"));
-    let size = size.parse::<usize>().ok()?.clamp(1, 4_000_000);
-    let (memo, spare) = (
-        new_memo::<B>(alloc, name, size)?,
-        new_memo(alloc, name, size)?,
-    );
+    let spare = new_memo::<B>(alloc, memo)?;
+    let memo = new_memo(alloc, memo)?;
     ask_kind(alloc, kind, memo, spare, guide, rows, tally)
 }
 
-/// A new cache, `none`, `lru` or `slots`.
-fn new_memo<B: Board>(alloc: Global, name: &str, size: usize) -> Option<AnyMemo<B>>
-    requires some { 1 ≤ size }
-    requires most { size ≤ 4_000_000 }
+/// A new cache, `none`, `lru:SIZE` or `slots:SIZE`.
+fn new_memo<B: Board>(alloc: Global, text: &str) -> Option<AnyMemo<B>>
     ensures { IfSome result (λ m. content_of m ≡ []) }
 {
+    let (name, size) = text.split_once(':').unwrap_or((text, "1"));
+    let size = size.parse::<usize>().ok()?.clamp(1, 4_000_000);
     match name {
         "none" => Some(AnyMemo::None(NoMemo::new())),
         "lru" => Some(AnyMemo::Lru(latest(alloc, size)?)),

@@ -1,7 +1,7 @@
 //! Limits on how many positions may be expanded, and what is counted.
 ghost use Rattle.std.specs.Prelude.{◌≤◌};
 
-use crate::solve::moves_of;
+use crate::solve::question;
 use dw_board::board::Board;
 use dw_board::position::Position;
 use dw_memo::memo::Memo;
@@ -10,7 +10,6 @@ use dw_solve::solver::Solver;
 use dw_solve::stop::Stop;
 use dw_tests_common::rows::word;
 use dw_tests_common::tally::Found;
-use dw_tests_common::texts::read_position;
 use std::alloc::Global;
 
 /// A limit that no question here reaches.
@@ -41,33 +40,59 @@ pub fn limited<B: Board, M: Memo<B>, G: Guide<B>>(
     asked: &str,
     found: &mut Found,
 ) -> Option<()> {
-    let position = read_position::<B>(word(asked, 0))?;
-    let moves = moves_of(word(asked, 1))?;
-    let (before, answer, needed) = ask_both(alloc, whole, &position, moves);
-    found.show(&before);
-    found.show(&answer);
-    if other.expanded() != 0 || needed < 2 {
+    let (position, moves) = question::<B>(asked)?;
+    let both = ask_both(alloc, whole, &position, moves);
+    found.show(&both.0);
+    found.show(&both.1);
+    if other.expanded() != 0 || both.2 < 2 {
         return None;
     }
-    other.set_limit(needed - 1);
-    let first = ask_both(alloc, other, &position, moves);
-    let again = ask_both(alloc, other, &position, moves);
-    let stopped = (before, Err(Stop::Limit), needed - 1);
-    found.add(if first == stopped && again == stopped {
+    found.add(if stops(alloc, other, &position, moves, &both) {
         " stops"
     } else {
         " does not stop"
     });
-    other.set_limit(other.expanded().max(HIGH));
-    let last = ask_both(alloc, other, &position, moves);
-    let known = ask_both(alloc, other, &position, moves);
-    let is_right = last.0 == before && last.1 == answer && last.2 >= needed && known == last;
-    found.add(if is_right && other.dropped() == 0 {
+    found.add(if goes_on(alloc, other, &position, moves, &both) {
         ", goes on"
     } else {
         ", does not go on"
     });
     Some(())
+}
+
+/// Whether the search stops with one expansion too few, and stops there again.
+fn stops<B: Board, M: Memo<B>, G: Guide<B>>(
+    alloc: Global,
+    solver: &mut Solver<B, M, G>,
+    position: &Position<B>,
+    moves: u8,
+    both: &Both,
+) -> bool
+    requires { moves ≤ 20 }
+{
+    let limit = both.2.saturating_sub(1);
+    solver.set_limit(solver.expanded().max(limit).max(1));
+    let first = ask_both(alloc, solver, position, moves);
+    let again = ask_both(alloc, solver, position, moves);
+    let stopped = (both.0, Err(Stop::Limit), limit);
+    first == stopped && again == stopped
+}
+
+/// Whether the search goes on under a high limit to these answers, which are known from then on.
+fn goes_on<B: Board, M: Memo<B>, G: Guide<B>>(
+    alloc: Global,
+    solver: &mut Solver<B, M, G>,
+    position: &Position<B>,
+    moves: u8,
+    both: &Both,
+) -> bool
+    requires { moves ≤ 20 }
+{
+    solver.set_limit(solver.expanded().max(HIGH));
+    let last = ask_both(alloc, solver, position, moves);
+    let known = ask_both(alloc, solver, position, moves);
+    let is_found = last.0 == both.0 && last.1 == both.1 && last.2 >= both.2;
+    is_found && known == last && solver.dropped() == 0
 }
 
 /// The answer under a limit, and whether as many positions were expanded.
@@ -77,8 +102,7 @@ pub fn limit<B: Board, M: Memo<B>, G: Guide<B>>(
     asked: &str,
     found: &mut Found,
 ) -> Option<()> {
-    let position = read_position::<B>(word(asked, 0))?;
-    let moves = moves_of(word(asked, 1))?;
+    let (position, moves) = question::<B>(asked)?;
     let limit = word(asked, 2).parse::<u64>().ok()?.max(1);
     solver.set_limit(solver.expanded().max(limit));
     found.show(&solver.wins(alloc, &position, moves));
@@ -97,8 +121,7 @@ pub fn known<B: Board, M: Memo<B>, G: Guide<B>>(
     asked: &str,
     found: &mut Found,
 ) -> Option<()> {
-    let position = read_position::<B>(word(asked, 0))?;
-    let moves = moves_of(word(asked, 1))?;
+    let (position, moves) = question::<B>(asked)?;
     found.show(&solver.wins(alloc, &position, moves));
     let expanded = solver.expanded();
     found.show(&solver.wins(alloc, &position, moves));

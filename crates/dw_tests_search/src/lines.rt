@@ -4,11 +4,13 @@ ghost use Rattle.dw_solve.specs.Facts.{AreTrue};
 
 use crate::kind::Kind;
 use crate::listers::{add_line, ended, gives, lines_of, moves_in};
+use crate::solve::question;
 use dw_board::board::Board;
+use dw_board::position::Position;
 use dw_list::all_lines::all_lines;
 use dw_list::fault::AfterFault;
 use dw_list::lister::Lister;
-use dw_list::portions::in_portions;
+use dw_list::portions::{Portions, in_portions};
 use dw_memo::memo::Memo;
 use dw_memo::no_memo::NoMemo;
 use dw_moves::moves::Move;
@@ -19,19 +21,30 @@ use dw_tests_common::rows::{Row, column, word};
 use dw_tests_common::tally::{Found, Tally};
 use dw_tests_common::texts::read_position;
 use std::alloc::Global;
+use std::slice;
 
 /// How many positions may be expanded where nothing else is asked.
 const AMPLE: u64 = 1_000_000_000;
 
-/// A number of moves, 1 to 20.
-fn some_moves(text: &str) -> Option<u8>
-    ensures some { IfSome result (λ moves. 1 ≤ moves) }
-    ensures few { IfSome result (λ moves. moves ≤ 20) }
+/// The list that is asked for: a position and a number of moves, 1 to 20.
+fn list_asked<B: Board>(text: &str) -> Option<(Position<B>, u8)>
+    ensures some { IfSome result (λ read. 1 ≤ read.1) }
+    ensures few { IfSome result (λ read. read.1 ≤ 20) }
 {
-    match text.parse::<u8>() {
-        Ok(moves) if 1 <= moves && moves <= 20 => Some(moves),
-        _ => None,
+    let (position, moves) = question(text)?;
+    if moves == 0 {
+        return None;
     }
+    Some((position, moves))
+}
+
+/// A lister of the lines at a position within a number of moves, which a text names.
+fn lister_of<'s, B: Board, M: Memo<B>>(
+    solver: &'s mut Solver<B, M, ByTrial>,
+    text: &str,
+) -> Option<Lister<'s, B, M, ByTrial>> {
+    let (position, moves) = list_asked(text)?;
+    Some(Lister::start(solver, &position, moves))
 }
 
 /// All rows are asked of one solver.
@@ -70,8 +83,8 @@ fn lines<B: Board, M: Memo<B>>(
     asked: &str,
     found: &mut Found,
 ) -> Option<()> {
-    let position = read_position::<B>(word(asked, 0))?;
-    let lines = lines_of(alloc, solver, &position, some_moves(word(asked, 1))?)?;
+    let (position, moves) = list_asked(asked)?;
+    let lines = lines_of(alloc, solver, &position, moves)?;
     for line in lines.as_slice() {
         add_line(line.as_slice(), found);
     }
@@ -105,16 +118,21 @@ fn place<B: Board, M: Memo<B>>(
     asked: &str,
     found: &mut Found,
 ) -> Option<()> {
-    let position = read_position::<B>(word(column(asked, 0), 0))?;
-    let moves = some_moves(word(column(asked, 0), 1))?;
-    let line = moves_in(column(asked, 1))?;
+    let (position, moves) = list_asked(column(asked, 0))?;
     let whole = all_lines(alloc, solver, &position, moves).ok()?;
     let mut lister = Lister::start(solver, &position, moves);
-    match lister.after(alloc, line.as_slice()) {
-        Ok(()) => return None,
-        Err(fault) => found.say(&fault),
-    }
+    found.say(&fault_after(alloc, &mut lister, column(asked, 1))?);
     gives(alloc, &mut lister, whole.as_slice())
+}
+
+/// Why a lister can not go on after a list of moves.
+fn fault_after<B: Board, M: Memo<B>>(
+    alloc: Global,
+    lister: &mut Lister<'_, B, M, ByTrial>,
+    text: &str,
+) -> Option<AfterFault> {
+    let line = moves_in(text)?;
+    lister.after(alloc, line.as_slice()).err()
 }
 
 /// The lines under some limits, how often there was a stop or an end, and whether there was each of them.
@@ -124,15 +142,23 @@ fn portions<B: Board, M: Memo<B>>(
     asked: &str,
     found: &mut Found,
 ) -> Option<()> {
-    let position = read_position::<B>(word(column(asked, 0), 0))?;
-    let moves = some_moves(word(column(asked, 0), 1))?;
-    let mut limits = Vec::new(alloc);
-    for limit in column(asked, 1).split_whitespace() {
-        limits.push(limit.parse::<u64>().ok()?).ok()?;
+    let limits = numbers(alloc, column(asked, 1))?;
+    let mut lister = lister_of(solver, column(asked, 0))?;
+    add_portions(&in_portions(alloc, &mut lister, limits.as_slice()), found);
+    Some(())
+}
+
+/// Numbers with blanks between them.
+fn numbers(alloc: Global, text: &str) -> Option<Vec<u64>> {
+    let mut numbers = Vec::new(alloc);
+    for number in text.split_whitespace() {
+        numbers.push(number.parse::<u64>().ok()?).ok()?;
     }
-    solver.set_limit(solver.expanded().max(1));
-    let mut lister = Lister::start(solver, &position, moves);
-    let portions = in_portions(alloc, &mut lister, limits.as_slice());
+    Some(numbers)
+}
+
+/// Adds the lines of portions, and whether there was each of a stop and an end, three in all.
+fn add_portions<B: Board>(portions: &Portions<B>, found: &mut Found) {
     for line in portions.lines.as_slice() {
         add_line(line.as_slice(), found);
     }
@@ -143,7 +169,6 @@ fn portions<B: Board, M: Memo<B>>(
     } else {
         "no stops or no ends\n"
     });
-    Some(())
 }
 
 /// How many lines come after a given one: under so many expansions to find it, and so many more.
@@ -153,22 +178,47 @@ fn behind<B: Board, M: Memo<B>>(
     asked: &str,
     found: &mut Found,
 ) -> Option<()> {
-    let position = read_position::<B>(word(column(asked, 0), 0))?;
-    let moves = some_moves(word(column(asked, 0), 1))?;
-    let line = moves_in(column(asked, 1))?;
     solver.set_limit(solver.expanded().max(50));
-    let mut lister = Lister::start(solver, &position, moves);
-    lister.after(alloc, line.as_slice()).ok()?;
-    let limit = lister.expanded().max(1_000_000);
+    let mut lister = lister_of(solver, column(asked, 0))?;
+    go_after(alloc, &mut lister, column(asked, 1))?;
+    limit_to(&mut lister, 1_000_000);
+    found.say(&count(alloc, &mut lister)?);
+    Some(())
+}
+
+/// Sets the limit of a lister to so many expansions, or to what was expanded if that is more.
+fn limit_to<B: Board, M: Memo<B>>(lister: &mut Lister<'_, B, M, ByTrial>, limit: u64)
+    requires { 1 ≤ limit }
+{
+    let limit = lister.expanded().max(limit);
     lister.set_limit(limit);
+}
+
+/// Goes on after a line. Where the lister is refused memory it says so, and then it can be asked again.
+fn go_after<B: Board, M: Memo<B>>(
+    alloc: Global,
+    lister: &mut Lister<'_, B, M, ByTrial>,
+    text: &str,
+) -> Option<()> {
+    let line = moves_in(text)?;
+    match lister.after(alloc, line.as_slice()) {
+        Err(AfterFault::Stopped(Stop::Memory)) => lister.after(alloc, line.as_slice()).ok(),
+        answer => answer.ok(),
+    }
+}
+
+/// How many lines are still to come; a lister that has come to its end is asked again. There are at most 10.
+fn count<B: Board, M: Memo<B>>(
+    alloc: Global,
+    lister: &mut Lister<'_, B, M, ByTrial>,
+) -> Option<u32> {
     let mut count = 0_u32;
     for _ in 0..10 {
         if lister.advance(alloc).ok()? {
             count = count.wrapping_add(1);
         }
     }
-    found.say(&count);
-    Some(())
+    Some(count)
 }
 
 /// The last line but one and the last of a list of so many lines, which is walked to its end.
@@ -200,29 +250,41 @@ fn given<B: Board, M: Memo<B>>(
     }
 }
 
-/// A list of so many lines is walked to its end. A new lister that goes on after the last but one gives the last, and
-/// expands few positions for that.
+/// A list of so many lines is walked to its end. Of its last two lines the last comes alone after the other.
 fn long<B: Board, M: Memo<B>>(
     alloc: Global,
     solver: &mut Solver<B, M, ByTrial>,
     asked: &str,
     found: &mut Found,
 ) -> Option<()> {
-    let position = read_position::<B>(word(asked, 0))?;
-    let moves = some_moves(word(asked, 1))?;
     let lines = word(asked, 2).parse::<usize>().ok()?;
+    let (position, moves) = list_asked(asked)?;
     solver.set_limit(solver.expanded().max(1_000_000));
     let mut lister = Lister::start(solver, &position, moves);
-    let (last_but_one, last) = last_two(alloc, &mut lister, lines)?;
-    let mut fresh = Solver::<B, NoMemo, ByTrial>::new(NoMemo::new(), ByTrial, 1_000);
-    let mut lister = Lister::start(&mut fresh, &position, moves);
+    let two = last_two(alloc, &mut lister, lines)?;
+    comes_alone(alloc, &position, moves, &two.0, &two.1)?;
+    found.add("the last one comes alone");
+    Some(())
+}
+
+/// Nothing, unless a new lister that goes on after the last line but one gives the last, and expands few positions for
+/// that.
+fn comes_alone<B: Board>(
+    alloc: Global,
+    position: &Position<B>,
+    moves: u8,
+    last_but_one: &Vec<Move<B>>,
+    last: &Vec<Move<B>>,
+) -> Option<()>
+    requires some { 1 ≤ moves }
+    requires few { moves ≤ 20 }
+{
+    let mut solver = Solver::<B, NoMemo, ByTrial>::new(NoMemo::new(), ByTrial, 1_000);
+    let mut lister = Lister::start(&mut solver, position, moves);
     lister.after(alloc, last_but_one.as_slice()).ok()?;
     let limit = lister.expanded().saturating_add(1_999);
     lister.set_limit(limit);
-    let list = vec![in alloc; last].ok()?;
-    gives(alloc, &mut lister, list.as_slice())?;
-    found.add("the last one comes alone");
-    Some(())
+    gives(alloc, &mut lister, slice::from_ref(last))
 }
 
 /// All lines under limits that rise by one: the search is stopped again and again, and no line is lost.
@@ -232,23 +294,44 @@ fn stopped<B: Board, M: Memo<B>>(
     asked: &str,
     found: &mut Found,
 ) -> Option<()> {
-    let position = read_position::<B>(word(asked, 0))?;
-    solver.set_limit(solver.expanded().max(1));
-    let mut lister = Lister::start(solver, &position, some_moves(word(asked, 1))?);
+    let mut lister = lister_of(solver, asked)?;
     for limit in 1..10_000 {
-        let limit = lister.expanded().max(limit);
-        lister.set_limit(limit);
-        match lister.next(alloc) {
-            Err(Stop::Limit) => {}
-            Err(Stop::Memory) => return None,
-            Ok(Some(line)) => add_line(line, found),
-            Ok(None) => {
-                found.add("end\n");
-                return Some(());
-            }
+        if !add_within(alloc, &mut lister, limit, found)? {
+            return Some(());
         }
     }
     None
+}
+
+/// Adds the next line, or the end, unless the search is stopped at this limit. The answer is false at the end.
+fn add_within<B: Board, M: Memo<B>>(
+    alloc: Global,
+    lister: &mut Lister<'_, B, M, ByTrial>,
+    limit: u64,
+    found: &mut Found,
+) -> Option<bool>
+    requires { 1 ≤ limit }
+{
+    limit_to(lister, limit);
+    match lister.advance(alloc) {
+        Ok(more) => Some(add_given(lister, more, found)),
+        Err(Stop::Limit) => Some(true),
+        Err(Stop::Memory) => None,
+    }
+}
+
+/// Adds the line that was given, or the end if there was no more; and whether there was one.
+fn add_given<B: Board, M: Memo<B>>(
+    lister: &Lister<'_, B, M, ByTrial>,
+    more: bool,
+    found: &mut Found,
+) -> bool {
+    if more {
+        add_line(lister.line(), found);
+    } else {
+        found.add("end\n");
+    }
+    more
 }
 
 /// Adds the next line, or the end. Where the lister is refused memory it says so, and then it can be asked again.
@@ -261,12 +344,21 @@ fn add_next<B: Board, M: Memo<B>>(
         Err(Stop::Memory) => lister.advance(alloc).ok()?,
         answer => answer.ok()?,
     };
-    if more {
-        add_line(lister.line(), found);
-    } else {
-        found.add("end\n");
+    Some(add_given(lister, more, found))
+}
+
+/// Adds the lines still to come and the end, in at most 10 steps.
+fn add_rest<B: Board, M: Memo<B>>(
+    alloc: Global,
+    lister: &mut Lister<'_, B, M, ByTrial>,
+    found: &mut Found,
+) -> Option<()> {
+    for _ in 0..10 {
+        if !add_next(alloc, lister, found)? {
+            break;
+        }
     }
-    Some(more)
+    Some(())
 }
 
 /// All lines, and then what follows each line that is given in a column. Only the lister takes memory.
@@ -276,27 +368,26 @@ fn refused<B: Board, M: Memo<B>>(
     asked: &str,
     found: &mut Found,
 ) -> Option<()> {
-    let position = read_position::<B>(word(column(asked, 0), 0))?;
-    let moves = some_moves(word(column(asked, 0), 1))?;
-    let mut lister = Lister::start(solver, &position, moves);
-    for _ in 0..10 {
-        if !add_next(alloc, &mut lister, found)? {
-            break;
-        }
-    }
+    let mut lister = lister_of(solver, column(asked, 0))?;
+    add_rest(alloc, &mut lister, found)?;
+    add_behind(alloc, &mut lister, asked, found)
+}
+
+/// Adds what follows each line that is given in a column, from the second one on.
+fn add_behind<B: Board, M: Memo<B>>(
+    alloc: Global,
+    lister: &mut Lister<'_, B, M, ByTrial>,
+    asked: &str,
+    found: &mut Found,
+) -> Option<()> {
     for place in 1..10 {
         let text = column(asked, place);
         if text.is_empty() {
             return Some(());
         }
-        let line = moves_in(text)?;
-        let mut answer = lister.after(alloc, line.as_slice());
-        if answer == Err(AfterFault::Stopped(Stop::Memory)) {
-            answer = lister.after(alloc, line.as_slice());
-        }
-        answer.ok()?;
+        go_after(alloc, lister, text)?;
         found.add("after: ");
-        let _ = add_next(alloc, &mut lister, found)?;
+        let _ = add_next(alloc, lister, found)?;
     }
     None
 }

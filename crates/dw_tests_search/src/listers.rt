@@ -95,13 +95,14 @@ fn gives_next<B: Board, M: Memo<B>>(
     }
 }
 
-/// Nothing, unless after each of these lines, which are all of a position, the lister gives those after it and no
-/// other.
-fn goes_on<B: Board, M: Memo<B>>(
+/// Nothing, unless the lister gives these lines, which are all of a position, and no other, and after each of them
+/// those after it and no other.
+fn gives_all<B: Board, M: Memo<B>>(
     alloc: Global,
     lister: &mut Lister<'_, B, M, ByTrial>,
     lines: &[Vec<Move<B>>],
 ) -> Option<()> {
+    gives(alloc, lister, lines)?;
     for (place, line) in lines.iter().enumerate() {
         lister.after(alloc, line.as_slice()).ok()?;
         let behind = &lines[place + 1..];
@@ -125,7 +126,6 @@ pub fn lines_of<B: Board, M: Memo<B>>(
 {
     let whole = all_lines(alloc, solver, position, moves).ok()?;
     let mut lister = Lister::start(solver, position, moves);
-    gives(alloc, &mut lister, whole.as_slice())?;
-    goes_on(alloc, &mut lister, whole.as_slice())?;
+    gives_all(alloc, &mut lister, whole.as_slice())?;
     Some(whole)
 }

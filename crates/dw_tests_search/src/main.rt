@@ -24,31 +24,37 @@ use dw_tests_common::six::Six;
 use dw_tests_common::tally::Tally;
 use kind::Kind;
 use plain::ask_plain;
-use std::alloc::Global;
+use std::alloc::{AllocError, Global};
 use std::io;
 
 fn main(rt: HostRuntime) -> io::Result<()> {
     for section in input_sections(&rt)?.as_slice() {
-        let mut tally = Tally::new(rt.alloc())?;
-        for kind in word(section.head.as_str(), 0).split(',') {
-            ask_section(rt.alloc(), kind, section, &mut tally);
-        }
+        let tally = ask_section(rt.alloc(), section)?;
         tally.report(&rt, section.head.as_str())?;
     }
     Ok(())
 }
 
-/// Asks all rows of a section, on each board.
-fn ask_section(alloc: Global, kind: &str, section: &Section, tally: &mut Tally) {
-    let rows = section.rows.as_slice();
-    for board in word(section.head.as_str(), 1).split(',') {
-        match (Kind::named(kind), board) {
-            (Some(kind), "10") => ask_on::<Ten>(alloc, kind, section, tally),
-            (Some(kind), "8") => ask_on::<Eight>(alloc, kind, section, tally),
-            (Some(kind), "6") => ask_on::<Six>(alloc, kind, section, tally),
-            (None, "10") => ask_plain::<Ten>(alloc, kind, rows, tally),
-            (None, "8") => ask_plain::<Eight>(alloc, kind, rows, tally),
-            _ => tally.lose(rows),
+/// Asks all rows of a section, in each way that its head names.
+fn ask_section(alloc: Global, section: &Section) -> Result<Tally, AllocError> {
+    let mut tally = Tally::new(alloc)?;
+    for kind in word(section.head.as_str(), 0).split(',') {
+        for board in word(section.head.as_str(), 1).split(',') {
+            ask_at(alloc, kind, board, section, &mut tally);
         }
+    }
+    Ok(tally)
+}
+
+/// Asks all rows of a section, at one board.
+fn ask_at(alloc: Global, kind: &str, board: &str, section: &Section, tally: &mut Tally) {
+    let rows = section.rows.as_slice();
+    match (Kind::named(kind), board) {
+        (Some(kind), "10") => ask_on::<Ten>(alloc, kind, section, tally),
+        (Some(kind), "8") => ask_on::<Eight>(alloc, kind, section, tally),
+        (Some(kind), "6") => ask_on::<Six>(alloc, kind, section, tally),
+        (None, "10") => ask_plain::<Ten>(alloc, kind, rows, tally),
+        (None, "8") => ask_plain::<Eight>(alloc, kind, rows, tally),
+        _ => tally.lose(rows),
     }
 }

@@ -70,8 +70,32 @@ pub fn notes<B: Board, M: Memo<B> + Drop>(
     Some(())
 }
 
-/// How many of the entries held before are lost after that of this number was noted. Each row is a position with its
-/// number; nothing else is found again than what was held, and the entry itself is.
+/// The position of a row, and its number.
+fn numbered<B: Board>(row: &Row) -> Option<(Position<B>, u8)> {
+    let position = read_position(word(row.asked.as_str(), 0))?;
+    let number = word(row.asked.as_str(), 1).parse::<u8>().ok()?;
+    Some((position, number))
+}
+
+/// Whether the entry of a row is held after that of this number was noted. Nothing else is found again than what was
+/// held, and the entry itself is.
+fn held_after<B: Board, M: Memo<B>>(
+    memo: &mut M,
+    row: &Row,
+    was_held: bool,
+    number: u8,
+) -> Option<bool> {
+    let (position, own) = numbered(row)?;
+    let found = memo.look(&position);
+    let is_held = found == Some(Bounds::default().with_fail(own));
+    let may_be_held = was_held || own == number;
+    if !is_held && (found.is_some() || own == number) || is_held && !may_be_held {
+        return None;
+    }
+    Some(is_held)
+}
+
+/// How many of the entries held before are lost after that of this number was noted.
 fn lost_after<B: Board, M: Memo<B>>(
     memo: &mut M,
     rows: &[Row],
@@ -80,13 +104,7 @@ fn lost_after<B: Board, M: Memo<B>>(
 ) -> Option<u64> {
     let mut lost = 0u64;
     for (row, was_held) in rows.iter().zip(held.iter_mut()) {
-        let own = word(row.asked.as_str(), 1).parse::<u8>().ok()?;
-        let found = memo.look(&read_position(word(row.asked.as_str(), 0))?);
-        let is_held = found == Some(Bounds::default().with_fail(own));
-        let may_be_held = *was_held || own == number;
-        if !is_held && (found.is_some() || own == number) || is_held && !may_be_held {
-            return None;
-        }
+        let is_held = held_after(memo, row, *was_held, number)?;
         lost = lost.wrapping_add(u64::from(*was_held && !is_held));
         *was_held = is_held;
     }
@@ -104,19 +122,29 @@ pub fn crowded<B: Board, M: Memo<B> + Drop>(
     let mut held = Vec::new(alloc);
     held.resize(rows.len(), false).ok()?;
     for row in rows {
-        let number = word(row.asked.as_str(), 1).parse::<u8>().ok()?;
-        let position = read_position::<B>(word(row.asked.as_str(), 0))?;
-        let before = memo.dropped();
-        let own = Bounds::default().with_fail(number);
-        let is_kept = memo.note(position, own) == Noted::Kept;
-        let lost = lost_after(&mut memo, rows, held.as_mut_slice(), number)?;
-        let is_counted = memo.dropped().wrapping_sub(before) == lost;
-        let is_enough = memo.dropped() >= u64::from(number.saturating_sub(7));
-        let is_right = is_kept && lost <= 1 && is_counted && is_enough;
+        let (position, number) = numbered(row)?;
+        let is_right = note_loses_one(&mut memo, rows, held.as_mut_slice(), position, number)?;
         tally
             .found
             .add(if is_right { "one lost at most" } else { "lost" });
         tally.end(row, Some(()));
     }
     Some(())
+}
+
+/// Whether the note of a position with its number is kept and loses one entry at most, and that is counted.
+fn note_loses_one<B: Board, M: Memo<B>>(
+    memo: &mut M,
+    rows: &[Row],
+    held: &mut [bool],
+    position: Position<B>,
+    number: u8,
+) -> Option<bool> {
+    let before = memo.dropped();
+    let own = Bounds::default().with_fail(number);
+    let is_kept = memo.note(position, own) == Noted::Kept;
+    let lost = lost_after(memo, rows, held, number)?;
+    let is_counted = memo.dropped().wrapping_sub(before) == lost;
+    let is_enough = memo.dropped() >= u64::from(number.saturating_sub(7));
+    Some(is_kept && lost <= 1 && is_counted && is_enough)
 }

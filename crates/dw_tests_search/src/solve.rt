@@ -30,13 +30,21 @@ impl<B: Board> Guide<B> for ByEnd {
 }
 
 /// A number of moves, at most 20.
-pub fn moves_of(text: &str) -> Option<u8>
+fn moves_of(text: &str) -> Option<u8>
     ensures { IfSome result (λ moves. moves ≤ 20) }
 {
     match text.parse::<u8>() {
         Ok(moves) if moves <= 20 => Some(moves),
         _ => None,
     }
+}
+
+/// A position and a number of moves, at most 20.
+pub fn question<B: Board>(text: &str) -> Option<(Position<B>, u8)>
+    ensures { IfSome result (λ read. read.1 ≤ 20) }
+{
+    let position = read_position(word(text, 0))?;
+    Some((position, moves_of(word(text, 1))?))
 }
 
 /// All rows are asked of one solver.
@@ -56,15 +64,7 @@ pub fn ask_rows<B: Board, M: Memo<B> + Drop, G: Guide<B> + Copy>(
     let mut other = Solver::new(spare, guide, 1);
     for row in rows {
         let (asked, found) = (row.asked.as_str(), &mut tally.found);
-        let answered = match kind {
-            Kind::Ask => ask(alloc, &mut solver, asked, found),
-            Kind::Least => least(alloc, &mut solver, asked, found),
-            Kind::Refused => refused(alloc, &mut solver, asked, found),
-            Kind::Limited => limited(alloc, &mut solver, &mut other, asked, found),
-            Kind::Limit => limit(alloc, &mut other, asked, found),
-            Kind::Known => known(alloc, &mut solver, asked, found),
-            _ => None,
-        };
+        let answered = ask_row(alloc, kind, &mut solver, &mut other, asked, found);
         tally.end(row, answered);
     }
     let dropped = solver.dropped();
@@ -72,6 +72,26 @@ pub fn ask_rows<B: Board, M: Memo<B> + Drop, G: Guide<B> + Copy>(
         Some(())
     } else {
         None
+    }
+}
+
+/// A row is asked of the first solver, or where a limit is asked for of the other.
+fn ask_row<B: Board, M: Memo<B>, G: Guide<B>>(
+    alloc: Global,
+    kind: Kind,
+    solver: &mut Solver<B, M, G>,
+    other: &mut Solver<B, M, G>,
+    asked: &str,
+    found: &mut Found,
+) -> Option<()> {
+    match kind {
+        Kind::Ask => ask(alloc, solver, asked, found),
+        Kind::Least => least(alloc, solver, asked, found),
+        Kind::Refused => refused(alloc, solver, asked, found),
+        Kind::Limited => limited(alloc, solver, other, asked, found),
+        Kind::Limit => limit(alloc, other, asked, found),
+        Kind::Known => known(alloc, solver, asked, found),
+        _ => None,
     }
 }
 
@@ -122,8 +142,7 @@ fn refused<B: Board, M: Memo<B>, G: Guide<B>>(
     asked: &str,
     found: &mut Found,
 ) -> Option<()> {
-    let position = read_position::<B>(word(asked, 0))?;
-    let moves = moves_of(word(asked, 1))?;
+    let (position, moves) = question::<B>(asked)?;
     let mut answer = solver.wins(alloc, &position, moves);
     if answer == Err(Stop::Memory) {
         answer = solver.wins(alloc, &position, moves);

@@ -1,9 +1,10 @@
 //! Tokens of lines: read, refused, and written.
-ghost use Rattle.std.specs.Prelude.{◌≡◌, ◌⊎◌};
+ghost use Rattle.std.specs.Prelude.{◌≡◌, ◌⊎◌, ◌≤◌, ◌%◌, length};
 
 use crate::listers::{add_line, moves_in};
 use dw_board::board::Board;
 use dw_list::tokens::{MAX_MOVES, read_token, write_token};
+use dw_moves::moves::Move;
 use dw_notation::streams::Writing;
 use dw_tests_common::rows::{column, word};
 use dw_tests_common::streams::Narrow;
@@ -32,12 +33,26 @@ pub fn written<B: Board>(alloc: Global, asked: &str, found: &mut Found) -> Optio
     if line.len() % 2 != 1 || line.len() > MAX_MOVES {
         return None;
     }
-    let step = word(column(asked, 1), 0).parse::<usize>().ok()?;
-    let fails_at = word(column(asked, 1), 1).parse::<u64>().ok()?;
-    let mut sink = Writing::new(Narrow::new(alloc, step, fails_at));
-    let is_written = write_token(line.as_slice(), &mut sink).is_ok();
+    add_written(line.as_slice(), narrow(alloc, column(asked, 1))?, found)
+}
+
+/// Adds what a sink takes of the token of a line, and whether that is all.
+fn add_written<B: Board>(line: &[Move<B>], sink: Narrow, found: &mut Found) -> Option<()>
+    requires odd { length line.now % 2 ≡ 1 }
+    requires most { length line.now ≤ 39 }
+    requires rows { (B.geometry.rows ≡ 10) ⊎ (B.geometry.rows ≡ 8) }
+{
+    let mut sink = Writing::new(sink);
+    let is_written = write_token(line, &mut sink).is_ok();
     let Narrow { taken, .. } = sink.into_inner();
     found.add(str::from_utf8(taken.as_slice()).ok()?);
     found.add(if is_written { ", written" } else { ", failed" });
     Some(())
+}
+
+/// A sink that takes so many bytes a write and fails at this write: two numbers.
+fn narrow(alloc: Global, text: &str) -> Option<Narrow> {
+    let step = word(text, 0).parse::<usize>().ok()?;
+    let fails_at = word(text, 1).parse::<u64>().ok()?;
+    Some(Narrow::new(alloc, step, fails_at))
 }
