@@ -150,3 +150,15 @@ ways-returns-clause-ways g t c =
     c.moves.invariant.among c.moves.invariant.none
     (λ e k. c.in_ok-lists.ensures.none e (subst (λ z. length z ≡ 0) (c.as_slice-item-items.ensures.value
     ∙ sym c.as_slice.ensures.value) k))
+
+pub push_ways-returns-in_err-keeps-clause-asked : goal.push_ways-returns-in_err-keeps-clause-asked
+push_ways-returns-in_err-keeps-clause-asked g t c = asked_stop g.B.Board.geometry g.M.Memo.content g.M.Memo.dropped
+    c.args.left _ _ c.in_err-keeps.field-0.0 _ c.from_residual.ensures.1 c.in_err-keeps.ensures.asked
+
+pub push_ways-returns-else-branch-clause-asked : goal.push_ways-returns-else-branch-clause-asked
+push_ways-returns-else-branch-clause-asked g t c = asked_ok g.B.Board.geometry g.M.Memo.content g.M.Memo.dropped
+    c.args.left _ _ _ tt c.in_ok-keeps.ensures.asked
+
+pub ways-returns-clause-asked : goal.ways-returns-clause-asked
+ways-returns-clause-asked g t c = asked_ok g.B.Board.geometry g.M.Memo.content g.M.Memo.dropped c.args.moves _ _ 0 _
+    c.moves.invariant.asked

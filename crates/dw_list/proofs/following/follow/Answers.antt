@@ -1,5 +1,5 @@
 use Rattle.std.proofs.Common.{arith}
-use Rattle.dw_list.specs.inner.AskingLemmas.{asked_wider, asked_stop, asked_for}
+use Rattle.dw_list.specs.inner.AskingLemmas.{asked_none, asked_wider, asked_ok, asked_stop, asked_memory, asked_for}
 use Rattle.dw_list.proofs.StepLemmas.{trial_few}
 use Rattle.dw_list.proofs.FollowLemmas.{follow_barred, follow_moves, follow_lost}
 use Rattle.dw_list.proofs.following.follow.Goals as goal
@@ -56,3 +56,17 @@ returns-else-kept-clause-asked g c =
     asked_for geo g.M.Memo.content g.M.Memo.dropped _ c.args.stack.now.moves _ _ _ same
     (asked_wider geo g.M.Memo.content g.M.Memo.dropped c.searches_add_up.ensures c.in-Some.trial.left
     c.seek.new.stack.moves _ _ _ few c.in_ok-kept.ensures.asked)
+
+pub returns-in_default-clause-asked : goal.returns-in_default-clause-asked
+returns-in_default-clause-asked g c =
+    let geo = g.B.Board.geometry in
+    let n = c.args.stack.now.moves in
+    asked_ok geo g.M.Memo.content g.M.Memo.dropped n _ _ 0 _
+    (asked_none geo g.M.Memo.content g.M.Memo.dropped c.searches_add_up.ensures n _ c.limit.ensures.within)
+
+pub returns-in_err-listing-clause-asked : goal.returns-in_err-listing-clause-asked
+returns-in_err-listing-clause-asked g c =
+    let geo = g.B.Board.geometry in
+    let n = c.args.stack.now.moves in
+    asked_memory geo g.M.Memo.content g.M.Memo.dropped n _ _ _ c.from_residual.ensures.1
+    (asked_none geo g.M.Memo.content g.M.Memo.dropped c.searches_add_up.ensures n _ c.limit.ensures.within)

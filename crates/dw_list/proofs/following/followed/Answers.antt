@@ -1,6 +1,6 @@
 use Rattle.std.proofs.Common.{◌≡◌, ◌+◌, length, sym, subst, ap, ◌∙◌, arith, lit<}
 use Rattle.dw_list.specs.Lines.{IsPlace}
-use Rattle.dw_list.specs.inner.AskingLemmas.{answered, asked_then, asked_ok, asked_stop, asked_for}
+use Rattle.dw_list.specs.inner.AskingLemmas.{answered, asked_then, asked_ok, asked_stop, asked_memory, asked_for}
 use Rattle.dw_list.proofs.FollowLemmas.{Follows, follows_more, follows_place, follows_short, follows_line}
 use Rattle.dw_list.proofs.following.followed.Goals as goal
 
@@ -72,3 +72,15 @@ returns-else-is_end-clause-found g c =
     c.list.new.self c.in_ok-is_end.is_end
     (subst (λ z. Follows geo c.args.position.now c.args.moves c.args.line.now z c.line.stack) at_end
     c.line.invariant.follows) c.in_ok-is_end.ensures.listed c.if-is_end.false)
+
+pub returns-in_err-is_end-clause-asked : goal.returns-in_err-is_end-clause-asked
+returns-in_err-is_end-clause-asked g c = asked_memory g.B.Board.geometry g.M.Memo.content g.M.Memo.dropped c.args.moves
+    _ _ _ c.from_residual-in_err-is_end.ensures.1 c.line.invariant.asked
+
+pub returns-then-is_end-clause-asked : goal.returns-then-is_end-clause-asked
+returns-then-is_end-clause-asked g c =
+    asked_ok g.B.Board.geometry g.M.Memo.content g.M.Memo.dropped c.args.moves _ _ 0 _ c.line.invariant.asked
+
+pub returns-else-is_end-clause-asked : goal.returns-else-is_end-clause-asked
+returns-else-is_end-clause-asked g c =
+    asked_ok g.B.Board.geometry g.M.Memo.content g.M.Memo.dropped c.args.moves _ _ 0 _ c.line.invariant.asked

@@ -1,6 +1,6 @@
 use Rattle.std.proofs.Common.{ap, inr, arith}
 use Rattle.dw_list.specs.Standing.{Standing}
-use Rattle.dw_list.specs.inner.AskingLemmas.{asked_wider, asked_ok, asked_stop}
+use Rattle.dw_list.specs.inner.AskingLemmas.{asked_none, asked_wider, asked_ok, asked_stop, asked_memory}
 use Rattle.dw_list.proofs.StepLemmas.{trial_few, walk_met, walk_listed, walk_given, walk_back, walk_passed}
 use Rattle.dw_list.proofs.StepLemmas.{walk_entered}
 use Rattle.dw_list.proofs.walk.take_step.Goals as goal
@@ -69,3 +69,31 @@ returns-in-Passed-clause-stepped g c =
     let task = c.in-Passed.ensures.task in
     walk_back g.B.Board.geometry c.args.stack.now c.in-Passed.ensures.levels c.in-Passed.ensures.fits c.back.new.self
     task.0 task.1 task.2 task.3 c.back.ensures
+
+pub returns-in-Over-clause-asked : goal.returns-in-Over-clause-asked
+returns-in-Over-clause-asked g c =
+    let geo = g.B.Board.geometry in
+    let n = c.args.stack.now.moves in
+    asked_ok geo g.M.Memo.content g.M.Memo.dropped n _ _ 0 _
+    (asked_none geo g.M.Memo.content g.M.Memo.dropped c.searches_add_up.ensures n _ c.limit.ensures.within)
+
+pub returns-in-Passed-clause-asked : goal.returns-in-Passed-clause-asked
+returns-in-Passed-clause-asked g c =
+    let geo = g.B.Board.geometry in
+    let n = c.args.stack.now.moves in
+    asked_ok geo g.M.Memo.content g.M.Memo.dropped n _ _ 0 _
+    (asked_none geo g.M.Memo.content g.M.Memo.dropped c.searches_add_up.ensures n _ c.limit.ensures.within)
+
+pub returns-in_ok-is_end-in-Unlisted-clause-asked : goal.returns-in_ok-is_end-in-Unlisted-clause-asked
+returns-in_ok-is_end-in-Unlisted-clause-asked g c =
+    let geo = g.B.Board.geometry in
+    let n = c.args.stack.now.moves in
+    asked_ok geo g.M.Memo.content g.M.Memo.dropped n _ _ 0 _
+    (asked_none geo g.M.Memo.content g.M.Memo.dropped c.searches_add_up.ensures n _ c.limit.ensures.within)
+
+pub returns-in_err-is_end-in-Unlisted-clause-asked : goal.returns-in_err-is_end-in-Unlisted-clause-asked
+returns-in_err-is_end-in-Unlisted-clause-asked g c =
+    let geo = g.B.Board.geometry in
+    let n = c.args.stack.now.moves in
+    asked_memory geo g.M.Memo.content g.M.Memo.dropped n _ _ _ c.from_residual.ensures.1
+    (asked_none geo g.M.Memo.content g.M.Memo.dropped c.searches_add_up.ensures n _ c.limit.ensures.within)
