@@ -35,16 +35,15 @@ pub with_one_key-requires : goal.with_one_key-requires
 with_one_key-requires g c =
     let keys = c.in_ok-keys.keys in
     let one : length keys.items ≡ 1 = omega (arith, keys.ok.0, c.len.ensures, c.if-len-eq1.true) in
-    (omega arith, (c.requires.some, (c.requires.few, record { are = c.in_ok-keys.ensures.keys; one = one; })))
+    (omega arith, (c.requires.some, (c.requires.few, record { are = c.in_ok-keys.ensures.keys; one = one })))
 
 pub cooked-requires : goal.cooked-requires
 cooked-requires g c =
     let keys = c.in_ok-keys.keys in
     let no_zero = eqb-false keys.len 0 (sym c.is_empty.ensures ∙ c.if-is_empty.false) in
-    let more : 2 ≤ length keys.items = omega (arith, keys.ok.0, c.len.ensures, no_zero, c.if-len-eq1.false) in
-    (
+    let more : 2 ≤ length keys.items = omega (arith, keys.ok.0, c.len.ensures, no_zero, c.if-len-eq1.false) in (
       omega arith,
-      (c.requires.few, record { are = c.in_ok-keys.ensures.keys; some = omega (arith, more); more = inl more; }),
+      (c.requires.few, record { are = c.in_ok-keys.ensures.keys; some = omega (arith, more); more = inl more }),
     )
 
 pub returns-in_err-keys-clause-asked : goal.returns-in_err-keys-clause-asked

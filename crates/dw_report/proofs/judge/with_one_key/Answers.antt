@@ -92,7 +92,7 @@ pub cooked-requires : goal.cooked-requires
 cooked-requires g c =
     let one = c.requires.one in
     let wins = c.in_ok-wins.ensures.answer.0 c.if-branch.true in
-    (omega arith, (c.requires.few, record { are = one.are; some = omega (arith, one.one); more = inr wins; }))
+    (omega arith, (c.requires.few, record { are = one.are; some = omega (arith, one.one); more = inr wins }))
 
 pub returns-in_err-wins-clause-asked : goal.returns-in_err-wins-clause-asked
 returns-in_err-wins-clause-asked g c =
