@@ -208,3 +208,9 @@ same_trial g levels outer f t are trial =
     ) where
       heads : (x y : Level) (xs ys : List Level) → x ∷ xs ≡ y ∷ ys → x ≡ y
       heads x y xs ys e = cc
+
+-- what a stack keeps to inside holds of what is seen of it
+pub seen_levels : (g : Geometry) (inside seen : Standing) → inside ≡ seen
+    → AreLevels g inside.position inside.moves inside.levels inside.line
+    → AreLevels g seen.position seen.moves seen.levels seen.line
+seen_levels g inside seen is levels = subst (λ (s : Standing). AreLevels g s.position s.moves s.levels s.line) is levels

@@ -1,7 +1,7 @@
 -- The steps of a stack, and the line that it gives.
 use Rattle.std.proofs.Common.{◌≡◌, ℕ, ◌+◌, ◌-◌, ◌*◌, ◌^◌, ◌≤◌, ◌<◌, ◌↔◌, zero, suc, Bool, true, false, Some, None}
 use Rattle.std.proofs.Common.{Option, List, [], ◌∷◌, ◌++◌, length, drop, reverse, refl, sym, ap, ◌∙◌, subst, inl, inr}
-use Rattle.std.proofs.Common.{append_assoc, arith}
+use Rattle.std.proofs.Common.{append_assoc, arith, Result, Ok, Err, OnErr}
 use Rattle.std.specs.Prelude.{not, if◌then◌else◌}
 use Rattle.std.proofs.lemmas.Bool.{true≢false}
 use Rattle.std.proofs.lemmas.List.{append-nil}
@@ -260,6 +260,11 @@ same_to_come g a b h = record {
   first = λ lines all. (lines, refl);
   rest = λ rest. ((λ all. same_listed g a b h rest all), (λ all. same_listed g b a (same_back g a b h) rest all));
 }
+
+-- what holds whatever the answer is holds after a stop
+pub if_stopped : {T E : Type 0} (r : Result T E) (P : Type 0) → P → OnErr r P
+if_stopped (Ok x) P h = tt
+if_stopped (Err e) P h = h
 
 pub gives_none : (g : Geometry) (a b c : Standing) → SameLines g a b → b.levels ≡ [] → c ≡ b → GivesNone g a c
 gives_none g a b c h none is = record {

@@ -36,6 +36,14 @@ pub append_none : {X : Type 0} (xs : List X) → xs ++ [] ≡ xs
 append_none [] = refl
 append_none (x ∷ xs) = ap (λ z. x ∷ z) (append_none xs)
 
+-- four lists are added to an empty one
+pub four_added : {A : Type 0} (none one two three four a b c d : List A) → none ≡ [] → one ≡ none ++ a → two ≡ one ++ b
+    → three ≡ two ++ c → four ≡ three ++ d → four ≡ a ++ (b ++ (c ++ (d ++ [])))
+four_added none one two three four a b c d e e1 e2 e3 e4 =
+    e4 ∙ (ap (λ z. z ++ d) (e3 ∙ ap (λ z. z ++ c) (e2 ∙ ap (λ z. z ++ b) (e1 ∙ ap (λ z. z ++ a) e)))
+    ∙ (append_assoc (a ++ b) c d
+    ∙ (append_assoc a b (c ++ d) ∙ ap (λ z. a ++ (b ++ (c ++ z))) (sym (append_none d)))))
+
 added_length : {X : Type 0} (f : ℕ → X) (g : Geometry) (p : Placement) (k : Kind) (d : Dir) (from s : ℕ)
     (old now : List X) → Added f g p k d from s old now → length now + length (landings_for k p (ray g s d))
     ≡ length old + length (landings_for k p (ray g from d))

@@ -232,7 +232,7 @@ goes_onward g p piece b n k l h = by_chain h.landings h.over h.chain h.count h.t
       inr (
         h.some,
         (
-          omega arith,
+          omega (arith, count),
           same_listed_parts l b (same_move l.step b.step h.from to (taken
               ∙ union_none b.step.taken)) (path ∙ append_none b.path),
         ),
@@ -252,7 +252,7 @@ goes_onward g p piece b n k l h = by_chain h.landings h.over h.chain h.count h.t
           over = cs;
           chain = chain_tail g p piece b.step.to c t b.step.taken ts cs chain;
           some = h.some;
-          count = omega arith;
+          count = omega (arith, count);
           from = h.from;
           to = to;
           taken = taken ∙ union_more b.step.taken c cs;

@@ -7,3 +7,4 @@ pub mod WorkLemmas
 pub mod RankLemmas
 pub mod TriedLemmas
 pub mod SearchLemmas
+pub mod StepLemmas

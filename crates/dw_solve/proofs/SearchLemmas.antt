@@ -1,7 +1,7 @@
 -- Steps of a search.
 use Rattle.std.proofs.Common.{◌≡◌, ℕ, ◌+◌, ◌≤◌, ◌<◌, ◌⊎◌, inl, inr, Bool, true, false, refl, sym, ◌∙◌, subst, ◌↔◌}
 use Rattle.std.proofs.Common.{arith, IsTrue, Ok, Err}
-use Rattle.std.specs.Prelude.{not}
+use Rattle.std.specs.Prelude.{not, Option, Some, None, IsSome, MatchOption}
 use Rattle.std.proofs.lemmas.Bool.{true≢false}
 use Rattle.dw_board.specs.Geometry.{Geometry}
 use Rattle.dw_board.specs.Placement.{Placement}
@@ -112,3 +112,8 @@ answered x e q = cc
 pub never_known : (Q : Type 0) (n : ℕ) (P : Type 0) → 1 ≤ n → (P → ⊥) → (n ≡ 0) ⊎ P → Q
 never_known Q n P some unknown (inl none) = absurd (omega (arith, some, none))
 never_known Q n P some unknown (inr known) = absurd (unknown known)
+
+-- of a list that is not empty there is a first item
+pub some_first : {X : Type 0} (o : Option X) (n : ℕ) (Q : X → Type 0) → MatchOption o (n ≡ 0) Q → 1 ≤ n → IsSome o
+some_first (Some x) n Q cases some = refl
+some_first None n Q cases some = absurd (omega (arith, cases, some))

@@ -587,6 +587,11 @@ pub begun_is : {M : Type 0} (content : M → Content) (lost : M → ℕ) (memo m
 begun_is content lost memo memo' e e' same more = subst (λ z. moment content lost z e'
     ≡ begun (moment content lost memo e)) (sym same) (ap (λ z. moment content lost memo z) more)
 
+pub moment_is : {M : Type 0} (content : M → Content) (lost : M → ℕ) (memo memo' : M) (e e' : ℕ) → memo' ≡ memo → e' ≡ e
+    → moment content lost memo' e' ≡ moment content lost memo e
+moment_is content lost memo memo' e e' same is = subst (λ z. moment content lost z e' ≡ moment content lost memo e)
+    (sym same) (ap (λ z. moment content lost memo z) is)
+
 pub wins_stopped : (g : Geometry) (n cut : ℕ) (a b b' c : Moment) → 1 ≤ n → cut ≤ n - 1 → b' ≡ begun b
     → Searched g 0 0 a b → Searched g (n - 1) cut b' c → Searched g n n a c
 wins_stopped g zero cut a b b' c some less is v w = absurd (omega (arith, some))

@@ -8,12 +8,10 @@ ghost use Rattle.dw_moves.specs.Replies.{AlwaysReply};
 ghost use Rattle.dw_solve.specs.declared.stop.Stop.TheVariants.{Limit};
 ghost use Rattle.dw_solve.specs.Wins.{Win, Lost};
 ghost use Rattle.dw_solve.specs.Facts.{AreTrue, IsDecided, RepliesAreDecided};
-ghost use Rattle.dw_solve.specs.inner.Searching.{HasBounds};
-ghost use Rattle.dw_solve.specs.Searching.{IsCounted};
-ghost use Rattle.dw_solve.specs.inner.Searching.{IsNoted};
-ghost use Rattle.dw_solve.specs.Work.{moment, NothingLost, Searched, cut_off};
+ghost use Rattle.dw_solve.specs.inner.Searching.{at_time, CanSearch, HasSearched, LosesNothing, StaysIdle};
+ghost use Rattle.dw_solve.specs.inner.Searching.{HasBounds, IsNoted, SaysMove};
+ghost use Rattle.dw_solve.specs.Work.{Searched};
 ghost use Rattle.dw_solve.specs.Saying.{SaysWin, SaysLost};
-ghost use Rattle.dw_solve.specs.inner.Searching.{SaysMove};
 ghost use Rattle.dw_solve.specs.Ranking.{AreRanked};
 ghost use Rattle.dw_solve.specs.inner.Ranking.{IsSureReply};
 
@@ -48,26 +46,17 @@ pub(crate) fn wins<B: Board, M: Memo<B>, G: Guide<B>>(
     position: &Position<B>,
     moves: u8,
 ) -> Result<bool, Stop>
-    requires right { AreTrue B.geometry (M.content search.old.memo) }
-    requires within { search.old.expanded ≤ search.old.limit }
+    requires ready { CanSearch B.geometry M.content search.old }
     requires room { 2 * moves ≤ length plies.old }
     ensures answer { IfOk result (λ yes. IsTrue yes ↔ Win B.geometry position.now moves) }
-    ensures right { AreTrue B.geometry (M.content search.new.memo) }
-    ensures count { IsCounted search.old.expanded search.old.limit
-        search.new.expanded search.new.limit }
-    ensures stop { IsErrOf result Limit → search.new.expanded ≡ search.new.limit }
     ensures spent { OnOk result (1 ≤ moves →
         (IsDecided (M.content search.old.memo) position.now moves → ⊥)
         → search.old.expanded < search.new.expanded) }
-    ensures searched { Searched B.geometry moves (cut_off result moves)
-        (moment M.content M.dropped search.old.memo search.old.expanded)
-        (moment M.content M.dropped search.new.memo search.new.expanded) }
-    ensures says { NothingLost (moment M.content M.dropped search.old.memo search.old.expanded)
-        (moment M.content M.dropped search.new.memo search.new.expanded)
+    ensures searched { HasSearched B.geometry M.content M.dropped moves search.old search.new result }
+    ensures says { LosesNothing M.content M.dropped search.old search.new
         → IfOk result (SaysWin (M.content search.new.memo) position.now moves) }
     ensures known { (moves ≡ 0) ⊎ IsDecided (M.content search.old.memo) position.now moves
-        → IsOk result × (search.new.expanded ≡ search.old.expanded)
-        × SameEntries (M.content search.old.memo) (M.content search.new.memo) }
+        → IsOk result × StaysIdle M.content search.old search.new }
 {
     if moves == 1 {
         let (last, _) = plies.split_first_mut().unwrap();
@@ -94,19 +83,11 @@ fn some_move_wins<B: Board, M: Memo<B>, G: Guide<B>>(
     moves: u8,
 ) -> Result<bool, Stop>
     requires ranked { AreRanked B.geometry position.now ranked.now }
-    requires right { AreTrue B.geometry (M.content search.old.memo) }
-    requires within { search.old.expanded ≤ search.old.limit }
+    requires ready { CanSearch B.geometry M.content search.old }
     requires room { 2 * moves + 1 ≤ length plies.old }
     ensures answer { IfOk result (λ yes. IsTrue yes ↔ Win B.geometry position.now (moves + 1)) }
-    ensures right { AreTrue B.geometry (M.content search.new.memo) }
-    ensures count { IsCounted search.old.expanded search.old.limit
-        search.new.expanded search.new.limit }
-    ensures stop { IsErrOf result Limit → search.new.expanded ≡ search.new.limit }
-    ensures searched { Searched B.geometry moves (cut_off result moves)
-        (moment M.content M.dropped search.old.memo search.old.expanded)
-        (moment M.content M.dropped search.new.memo search.new.expanded) }
-    ensures says { NothingLost (moment M.content M.dropped search.old.memo search.old.expanded)
-        (moment M.content M.dropped search.new.memo search.new.expanded)
+    ensures searched { HasSearched B.geometry M.content M.dropped moves search.old search.new result }
+    ensures says { LosesNothing M.content M.dropped search.old search.new
         → IfOk result (SaysMove B.geometry (M.content search.new.memo) position.now moves) }
 {
     'moves: for candidate in ranked {
@@ -126,23 +107,14 @@ pub(crate) fn loses<B: Board, M: Memo<B>, G: Guide<B>>(
     position: &Position<B>,
     moves: u8,
 ) -> Result<bool, Stop>
-    requires right { AreTrue B.geometry (M.content search.old.memo) }
-    requires within { search.old.expanded ≤ search.old.limit }
+    requires ready { CanSearch B.geometry M.content search.old }
     requires room { 0 < moves → 2 * moves + 1 ≤ length plies.old }
     ensures answer { IfOk result (λ yes. IsTrue yes ↔ Lost B.geometry position.now moves) }
-    ensures right { AreTrue B.geometry (M.content search.new.memo) }
-    ensures count { IsCounted search.old.expanded search.old.limit
-        search.new.expanded search.new.limit }
-    ensures stop { IsErrOf result Limit → search.new.expanded ≡ search.new.limit }
-    ensures searched { Searched B.geometry moves (cut_off result moves)
-        (moment M.content M.dropped search.old.memo search.old.expanded)
-        (moment M.content M.dropped search.new.memo search.new.expanded) }
-    ensures says { NothingLost (moment M.content M.dropped search.old.memo search.old.expanded)
-        (moment M.content M.dropped search.new.memo search.new.expanded)
+    ensures searched { HasSearched B.geometry M.content M.dropped moves search.old search.new result }
+    ensures says { LosesNothing M.content M.dropped search.old search.new
         → IfOk result (SaysLost B.geometry (M.content search.new.memo) position.now moves) }
     ensures known { RepliesAreDecided B.geometry (M.content search.old.memo) position.now moves
-        → (IsErrOf result Limit → ⊥) × (search.new.expanded ≡ search.old.expanded)
-        × SameEntries (M.content search.old.memo) (M.content search.new.memo) }
+        → (IsErrOf result Limit → ⊥) × StaysIdle M.content search.old search.new }
 {
     if moves == 0 {
         return Ok(!has_move(position));
@@ -219,22 +191,13 @@ fn refute<B: Board, M: Memo<B>, G>(
     search: &mut Search<M, G>,
     position: &Position<B>,
 ) -> Result<(), Stop>
-    requires right { AreTrue B.geometry (M.content search.old.memo) }
-    requires within { search.old.expanded ≤ search.old.limit }
+    requires ready { CanSearch B.geometry M.content search.old }
     requires lost { AlwaysReply B.geometry position.now }
-    ensures right { AreTrue B.geometry (M.content search.new.memo) }
-    ensures count { IsCounted search.old.expanded search.old.limit
-        search.new.expanded search.new.limit }
-    ensures stop { IsErrOf result Limit → search.new.expanded ≡ search.new.limit }
-    ensures searched { Searched B.geometry 1 (cut_off result 1)
-        (moment M.content M.dropped search.old.memo search.old.expanded)
-        (moment M.content M.dropped search.new.memo search.new.expanded) }
-    ensures says { NothingLost (moment M.content M.dropped search.old.memo search.old.expanded)
-        (moment M.content M.dropped search.new.memo search.new.expanded)
+    ensures searched { HasSearched B.geometry M.content M.dropped 1 search.old search.new result }
+    ensures says { LosesNothing M.content M.dropped search.old search.new
         → OnOk result (SaysWin (M.content search.new.memo) position.now 1 false) }
     ensures known { IsDecided (M.content search.old.memo) position.now 1
-        → IsOk result × (search.new.expanded ≡ search.old.expanded)
-        × SameEntries (M.content search.old.memo) (M.content search.new.memo) }
+        → IsOk result × StaysIdle M.content search.old search.new }
 {
     let bounds = bounds_now(&mut search.memo, position);
     if bounds.decide(1).is_some() {
@@ -252,24 +215,15 @@ fn wins_at_once<B: Board, M: Memo<B>, G>(
     ply: &mut Ply<B>,
     position: &Position<B>,
 ) -> Result<bool, Stop>
-    requires right { AreTrue B.geometry (M.content search.old.memo) }
-    requires within { search.old.expanded ≤ search.old.limit }
+    requires ready { CanSearch B.geometry M.content search.old }
     ensures answer { IfOk result (λ yes. IsTrue yes ↔ Win B.geometry position.now 1) }
-    ensures right { AreTrue B.geometry (M.content search.new.memo) }
-    ensures count { IsCounted search.old.expanded search.old.limit
-        search.new.expanded search.new.limit }
-    ensures stop { IsErrOf result Limit → search.new.expanded ≡ search.new.limit }
     ensures spent { OnOk result ((IsDecided (M.content search.old.memo) position.now 1 → ⊥)
         → search.old.expanded < search.new.expanded) }
-    ensures searched { Searched B.geometry 1 (cut_off result 1)
-        (moment M.content M.dropped search.old.memo search.old.expanded)
-        (moment M.content M.dropped search.new.memo search.new.expanded) }
-    ensures says { NothingLost (moment M.content M.dropped search.old.memo search.old.expanded)
-        (moment M.content M.dropped search.new.memo search.new.expanded)
+    ensures searched { HasSearched B.geometry M.content M.dropped 1 search.old search.new result }
+    ensures says { LosesNothing M.content M.dropped search.old search.new
         → IfOk result (SaysWin (M.content search.new.memo) position.now 1) }
     ensures known { IsDecided (M.content search.old.memo) position.now 1
-        → IsOk result × (search.new.expanded ≡ search.old.expanded)
-        × SameEntries (M.content search.old.memo) (M.content search.new.memo) }
+        → IsOk result × StaysIdle M.content search.old search.new }
 {
     let bounds = bounds_now(&mut search.memo, position);
     if let Some(answer) = bounds.decide(1) {
@@ -299,8 +253,7 @@ pub(crate) fn known<B: Board, M: Memo<B>, G>(
     ensures open { IsNone result → IsDecided (M.content search.old.memo) position.now moves → ⊥ }
     ensures map { IsNone result → IsMap (M.content search.old.memo) }
     ensures searched { Searched B.geometry 0 0
-        (moment M.content M.dropped search.old.memo search.old.expanded)
-        (moment M.content M.dropped search.new.memo search.new.expanded) }
+        (at_time M.content M.dropped search.old) (at_time M.content M.dropped search.new) }
     ensures says { IfSome result (SaysWin (M.content search.new.memo) position.now moves) }
 {
     if moves == 0 {
@@ -343,8 +296,7 @@ fn note<B: Board, M: Memo<B>, G>(
     ensures count { search.new.expanded ≡ search.old.expanded }
     ensures limit { search.new.limit ≡ search.old.limit }
     ensures noted { IsNoted position.now moves won
-        (moment M.content M.dropped search.old.memo search.old.expanded)
-        (moment M.content M.dropped search.new.memo search.new.expanded) }
+        (at_time M.content M.dropped search.old) (at_time M.content M.dropped search.new) }
 {
     let bounds = bounds_now(&mut search.memo, position);
     search.memo.note(*position, joined(bounds, moves, won));

@@ -3,13 +3,12 @@ ghost use Rattle.std.specs.Prelude.{◌≡◌, ℕ, ◌≤◌, ◌<◌, ◌↔�
 ghost use Rattle.std.specs.List.Sorted.{IsNonDecreasingBy};
 ghost use Rattle.dw_solve.specs.declared.stop.Stop.TheVariants.{Limit};
 ghost use Rattle.dw_solve.specs.Wins.{Win, Lost};
-ghost use Rattle.dw_memo.specs.Content.{IsMap, SameEntries};
+ghost use Rattle.dw_memo.specs.Content.{IsMap};
 ghost use Rattle.dw_solve.specs.Facts.{AreTrue, IsDecided, RepliesAreDecided};
 ghost use Rattle.dw_solve.specs.Ranking.{AreRanked};
-ghost use Rattle.dw_solve.specs.Searching.{IsCounted};
 ghost use Rattle.dw_solve.specs.Solving.{IsLeast};
 ghost use Rattle.dw_solve.specs.Asking.{Asked, Idle, LostNothing};
-ghost use Rattle.dw_solve.specs.Work.{moment, NothingLost, Searched, cut_off};
+ghost use Rattle.dw_solve.specs.inner.Searching.{CanSearch, HasSearched, LosesNothing, StaysIdle};
 ghost use Rattle.dw_solve.specs.Saying.{SaysWin, SaysLost, SaysLeast};
 
 use crate::guide::Guide;
@@ -215,24 +214,15 @@ fn ask_wins<B: Board, M: Memo<B>, G: Guide<B>>(
     moves: u8,
 ) -> Result<bool, Stop>
     requires few { moves ≤ 20 }
-    requires right { AreTrue B.geometry (M.content search.old.memo) }
-    requires within { search.old.expanded ≤ search.old.limit }
+    requires ready { CanSearch B.geometry M.content search.old }
     ensures answer { IfOk result (λ yes. IsTrue yes ↔ Win B.geometry position.now moves) }
-    ensures right { AreTrue B.geometry (M.content search.new.memo) }
-    ensures count { IsCounted search.old.expanded search.old.limit
-        search.new.expanded search.new.limit }
-    ensures stop { IsErrOf result Limit → search.new.expanded ≡ search.new.limit }
     ensures known { (moves ≡ 0) ⊎ IsDecided (M.content search.old.memo) position.now moves
-        → IsOk result × (search.new.expanded ≡ search.old.expanded)
-        × SameEntries (M.content search.old.memo) (M.content search.new.memo) }
+        → IsOk result × StaysIdle M.content search.old search.new }
     ensures spent { OnOk result (1 ≤ moves →
         (IsDecided (M.content search.old.memo) position.now moves → ⊥)
         → search.old.expanded < search.new.expanded) }
-    ensures searched { Searched B.geometry moves (cut_off result moves)
-        (moment M.content M.dropped search.old.memo search.old.expanded)
-        (moment M.content M.dropped search.new.memo search.new.expanded) }
-    ensures says { NothingLost (moment M.content M.dropped search.old.memo search.old.expanded)
-        (moment M.content M.dropped search.new.memo search.new.expanded)
+    ensures searched { HasSearched B.geometry M.content M.dropped moves search.old search.new result }
+    ensures says { LosesNothing M.content M.dropped search.old search.new
         → IfOk result (SaysWin (M.content search.new.memo) position.now moves) }
 {
     if let Some(answer) = known(search, position, moves) {
@@ -253,22 +243,13 @@ fn ask_loses<B: Board, M: Memo<B>, G: Guide<B>>(
     moves: u8,
 ) -> Result<bool, Stop>
     requires few { moves ≤ 20 }
-    requires right { AreTrue B.geometry (M.content search.old.memo) }
-    requires within { search.old.expanded ≤ search.old.limit }
+    requires ready { CanSearch B.geometry M.content search.old }
     ensures answer { IfOk result (λ yes. IsTrue yes ↔ Lost B.geometry position.now moves) }
-    ensures right { AreTrue B.geometry (M.content search.new.memo) }
-    ensures count { IsCounted search.old.expanded search.old.limit
-        search.new.expanded search.new.limit }
-    ensures stop { IsErrOf result Limit → search.new.expanded ≡ search.new.limit }
-    ensures searched { Searched B.geometry moves (cut_off result moves)
-        (moment M.content M.dropped search.old.memo search.old.expanded)
-        (moment M.content M.dropped search.new.memo search.new.expanded) }
-    ensures says { NothingLost (moment M.content M.dropped search.old.memo search.old.expanded)
-        (moment M.content M.dropped search.new.memo search.new.expanded)
+    ensures searched { HasSearched B.geometry M.content M.dropped moves search.old search.new result }
+    ensures says { LosesNothing M.content M.dropped search.old search.new
         → IfOk result (SaysLost B.geometry (M.content search.new.memo) position.now moves) }
     ensures known { RepliesAreDecided B.geometry (M.content search.old.memo) position.now moves
-        → (IsErrOf result Limit → ⊥) × (search.new.expanded ≡ search.old.expanded)
-        × SameEntries (M.content search.old.memo) (M.content search.new.memo) }
+        → (IsErrOf result Limit → ⊥) × StaysIdle M.content search.old search.new }
 {
     let needed = if moves == 0 { 0 } else { PLIES };
     let mut plies = prepared(alloc, kept.take(), needed)?;

@@ -74,9 +74,9 @@ fn moved<B: Board>(squares: Squares<B>, how: &str, direction: Dir) -> Option<Squ
 pub fn sets<B: Board>(asked: &str, found: &mut Found) -> Option<()> {
     let left = set_of::<B>(column(asked, 0))?;
     let (how, right) = (column(asked, 1), column(asked, 2));
-    let squares = match direction(right) {
-        Some(direction) => moved(left, how, direction)?,
-        None => joined(left, how, set_of(right)?)?,
+    let squares = match how {
+        "or" | "and" | "minus" => joined(left, how, set_of(right)?)?,
+        _ => moved(left, how, direction(right)?)?,
     };
     add_set(squares, found);
     Some(())

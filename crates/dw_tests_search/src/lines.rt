@@ -180,17 +180,16 @@ fn behind<B: Board, M: Memo<B>>(
 ) -> Option<()> {
     solver.set_limit(solver.expanded().max(50));
     let mut lister = lister_of(solver, column(asked, 0))?;
-    go_after(alloc, &mut lister, column(asked, 1))?;
+    let line = moves_in(column(asked, 1))?;
+    lister.after(alloc, line.as_slice()).ok()?;
     limit_to(&mut lister, 1_000_000);
     found.say(&count(alloc, &mut lister)?);
     Some(())
 }
 
-/// Sets the limit of a lister to so many expansions, or to what was expanded if that is more.
-fn limit_to<B: Board, M: Memo<B>>(lister: &mut Lister<'_, B, M, ByTrial>, limit: u64)
-    requires { 1 ≤ limit }
-{
-    let limit = lister.expanded().max(limit);
+/// Sets the limit of a lister to so many expansions, but to one at least, and not to fewer than there were.
+fn limit_to<B: Board, M: Memo<B>>(lister: &mut Lister<'_, B, M, ByTrial>, limit: u64) {
+    let limit = lister.expanded().max(limit).max(1);
     lister.set_limit(limit);
 }
 
@@ -309,9 +308,7 @@ fn add_within<B: Board, M: Memo<B>>(
     lister: &mut Lister<'_, B, M, ByTrial>,
     limit: u64,
     found: &mut Found,
-) -> Option<bool>
-    requires { 1 ≤ limit }
-{
+) -> Option<bool> {
     limit_to(lister, limit);
     match lister.advance(alloc) {
         Ok(more) => Some(add_given(lister, more, found)),

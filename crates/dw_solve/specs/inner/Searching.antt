@@ -1,17 +1,47 @@
 -- What the parts of a search do.
-use Rattle.std.specs.Prelude.{◌≡◌, ◌⊎◌, ℕ, Bool, cond, IsTrue}
+use Rattle.std.specs.Prelude.{◌≡◌, ◌⊎◌, ℕ, ◌≤◌, Bool, cond, IsTrue, Result, IsErrOf}
 use Rattle.dw_memo.specs.declared.bounds.Bounds.{Bounds}
 use Rattle.dw_memo.specs.inner.Keeping.{nothing}
 use Rattle.dw_board.specs.Placement.{Placement}
-use Rattle.dw_memo.specs.Content.{entry, Content, positions}
+use Rattle.dw_memo.specs.Content.{entry, Content, positions, SameEntries}
 use Rattle.dw_board.specs.Lists.{Member}
 use Rattle.dw_memo.specs.declared.memo.Noted.{Noted}
 use Rattle.dw_memo.specs.Bounding.{with_win, with_fail}
 use Rattle.dw_memo.specs.Noting.{IsNote}
-use Rattle.dw_solve.specs.Work.{Moment}
+use Rattle.dw_solve.specs.Work.{Moment, moment, NothingLost, Searched, cut_off}
 use Rattle.dw_board.specs.Geometry.{Geometry}
 use Rattle.dw_moves.specs.Moves.{Move, Legal, play}
-use Rattle.dw_solve.specs.Facts.{KnownWin, KnownFail}
+use Rattle.dw_solve.specs.Facts.{KnownWin, KnownFail, AreTrue}
+use Rattle.dw_solve.specs.Searching.{IsCounted}
+use Rattle.dw_solve.specs.declared.search.Search.{Search}
+use Rattle.dw_solve.specs.declared.stop.Stop.{Stop}
+use Rattle.dw_solve.specs.declared.stop.Stop.TheVariants.{Limit}
+
+-- a search at one time
+abbrev pub at_time : {M G : Type 0} → (M → Content) → (M → ℕ) → Search M G → Moment
+at_time content lost s = moment content lost s.memo s.expanded
+
+-- it can go on: all bounds in its cache are right, and it has expanded no more positions than it may
+pub record CanSearch {M G : Type 0} (g : Geometry) (content : M → Content) (s : Search M G) : Type 0 where
+  pub right : AreTrue g (content s.memo)
+  pub within : s.expanded ≤ s.limit
+
+-- It went on for wins within n moves: all bounds are still right, each expansion is counted, up to the limit, and the
+-- cache is as searches leave it.
+pub record HasSearched {M G A : Type 0} (g : Geometry) (content : M → Content) (lost : M → ℕ) (n : ℕ)
+    (old new : Search M G) (answer : Result A Stop) : Type 0 where
+  pub right : AreTrue g (content new.memo)
+  pub count : IsCounted old.expanded old.limit new.expanded new.limit
+  pub stop : IsErrOf answer Limit → new.expanded ≡ new.limit
+  pub work : Searched g n (cut_off answer n) (at_time content lost old) (at_time content lost new)
+
+-- the cache lost nothing meanwhile
+abbrev pub LosesNothing : {M G : Type 0} → (M → Content) → (M → ℕ) → Search M G → Search M G → Type 0
+LosesNothing content lost old new = NothingLost (at_time content lost old) (at_time content lost new)
+
+-- nothing was expanded, and the cache holds what it held
+abbrev pub StaysIdle : {M G : Type 0} → (M → Content) → Search M G → Search M G → Type 0
+StaysIdle content old new = (new.expanded ≡ old.expanded) × SameEntries (content old.memo) (content new.memo)
 
 -- the bounds of a position: those that it has in the memo, or none
 abbrev pub HasBounds : Content → Placement → Bounds → Type 0

@@ -1,4 +1,5 @@
-use Rattle.std.proofs.Common.{arith}
+use Rattle.std.proofs.Common.{arith, sym, ◌∙◌}
+use Rattle.std.proofs.lemmas.Bool.{true≢false}
 use Rattle.dw_list.specs.inner.AskingLemmas.{asked_none, asked_wider, asked_ok, asked_stop, asked_memory, asked_for}
 use Rattle.dw_list.proofs.StepLemmas.{trial_few}
 use Rattle.dw_list.proofs.FollowLemmas.{follow_barred, follow_moves, follow_lost}
@@ -70,3 +71,34 @@ returns-in_err-listing-clause-asked g c =
     let n = c.args.stack.now.moves in
     asked_memory geo g.M.Memo.content g.M.Memo.dropped n _ _ _ c.from_residual.ensures.1
     (asked_none geo g.M.Memo.content g.M.Memo.dropped c.searches_add_up.ensures n _ c.limit.ensures.within)
+
+pub returns-else-kept-clause-went : goal.returns-else-kept-clause-went
+returns-else-kept-clause-went g c kept = absurd (true≢false (sym kept ∙ c.if-kept.false))
+
+pub returns-else-kept-clause-next : goal.returns-else-kept-clause-next
+returns-else-kept-clause-next g c kept = absurd (true≢false (sym kept ∙ c.if-kept.false))
+
+pub returns-then-kept-clause-barred : goal.returns-then-kept-clause-barred
+returns-then-kept-clause-barred g c barred on = barred c.if-kept.true
+
+pub returns-in_default-clause-went : goal.returns-in_default-clause-went
+returns-in_default-clause-went g c kept = absurd (true≢false (sym kept))
+
+pub returns-in_default-clause-next : goal.returns-in_default-clause-next
+returns-in_default-clause-next g c kept = absurd (true≢false (sym kept))
+
+pub returns-then-kept-clause-levels : goal.returns-then-kept-clause-levels
+returns-then-kept-clause-levels g c = c.moves-then-kept.ensures.levels
+
+pub returns-else-kept-clause-levels : goal.returns-else-kept-clause-levels
+returns-else-kept-clause-levels g c = c.moves-3.ensures.levels
+
+pub returns-in_err-kept-clause-levels : goal.returns-in_err-kept-clause-levels
+returns-in_err-kept-clause-levels g c = c.moves-3.ensures.levels
+
+pub returns-in_default-clause-levels : goal.returns-in_default-clause-levels
+returns-in_default-clause-levels g c = c.moves-in_default.ensures.levels
+
+pub enter-requires : goal.enter-requires
+enter-requires g c =
+    (omega arith, (c.in-Some.ensures.found.0, c.in_ok-kept.ensures.answer.0 c.if-kept.true))

@@ -1,7 +1,8 @@
-use Rattle.std.proofs.Common.{◌≡◌, ◌+◌, length, sym, subst, ap, ◌∙◌, arith, lit<}
+use Rattle.std.proofs.Common.{◌≡◌, ◌+◌, length, sym, subst, ap, ◌∙◌, arith, lit<, refl}
 use Rattle.dw_list.specs.Lines.{IsPlace}
-use Rattle.dw_list.specs.inner.AskingLemmas.{answered, asked_then, asked_ok, asked_stop, asked_memory, asked_for}
-use Rattle.dw_list.proofs.FollowLemmas.{Follows, follows_more, follows_place, follows_short, follows_line}
+use Rattle.dw_list.specs.inner.AskingLemmas.{answered, asked_none, asked_then, asked_ok, asked_stop, asked_memory}
+use Rattle.dw_list.specs.inner.AskingLemmas.{asked_for}
+use Rattle.dw_list.proofs.FollowLemmas.{Follows, follows_init, follows_more, follows_place, follows_short, follows_line}
 use Rattle.dw_list.proofs.following.followed.Goals as goal
 
 pub follow-requires : goal.follow-requires
@@ -84,3 +85,12 @@ returns-then-is_end-clause-asked g c =
 pub returns-else-is_end-clause-asked : goal.returns-else-is_end-clause-asked
 returns-else-is_end-clause-asked g c =
     asked_ok g.B.Board.geometry g.M.Memo.content g.M.Memo.dropped c.args.moves _ _ 0 _ c.line.invariant.asked
+
+pub line-init : goal.line-init
+line-init g c = record {
+  follows = follows_init g.B.Board.geometry c.args.position.now c.args.moves c.args.line.now c.new-stack.result
+      c.new-stack.ensures c.moves.ensures.levels;
+  place = refl;
+  asked = asked_none g.B.Board.geometry g.M.Memo.content g.M.Memo.dropped c.searches_add_up.ensures c.args.moves
+      c.args.solver.now c.limit.ensures.within;
+}

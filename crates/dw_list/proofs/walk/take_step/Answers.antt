@@ -1,4 +1,4 @@
-use Rattle.std.proofs.Common.{ap, inr, arith}
+use Rattle.std.proofs.Common.{ap, inl, inr, arith, refl}
 use Rattle.dw_list.specs.Standing.{Standing}
 use Rattle.dw_list.specs.inner.AskingLemmas.{asked_none, asked_wider, asked_ok, asked_stop, asked_memory}
 use Rattle.dw_list.proofs.StepLemmas.{trial_few, walk_met, walk_listed, walk_given, walk_back, walk_passed}
@@ -97,3 +97,13 @@ returns-in_err-is_end-in-Unlisted-clause-asked g c =
     let n = c.args.stack.now.moves in
     asked_memory geo g.M.Memo.content g.M.Memo.dropped n _ _ _ c.from_residual.ensures.1
     (asked_none geo g.M.Memo.content g.M.Memo.dropped c.searches_add_up.ensures n _ c.limit.ensures.within)
+
+pub enter-requires : goal.enter-requires
+enter-requires g c =
+    (omega arith, (c.in-Try.ensures.task, c.in_ok-kept-in-Try.ensures.answer.0 c.if-kept.true))
+
+pub returns-else-kept-clause-line : goal.returns-else-kept-clause-line
+returns-else-kept-clause-line g c = inl (ap (λ (s : Standing). s.line) c.pass.ensures)
+
+pub returns-in-Over-clause-stepped : goal.returns-in-Over-clause-stepped
+returns-in-Over-clause-stepped g c = (c.in-Over.ensures.task, refl)

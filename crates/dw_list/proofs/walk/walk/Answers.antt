@@ -1,8 +1,11 @@
-use Rattle.std.proofs.Common.{subst}
+use Rattle.std.proofs.Common.{ap, subst, sym}
+use Rattle.dw_list.specs.declared.walk.Step.TheVariants.{On}
+use Rattle.dw_list.specs.Standing.{Standing}
+use Rattle.dw_list.specs.Walking.{SameToCome}
 use Rattle.dw_list.specs.inner.Walking.{HasStepped}
-use Rattle.dw_list.specs.inner.AskingLemmas.{answered, asked_then, asked_ok, asked_stop, asked_for}
-use Rattle.dw_list.proofs.StepLemmas.{same_then, gives_none, gives_first}
-use Rattle.dw_list.proofs.KeepingLemmas.{keeps_step}
+use Rattle.dw_list.specs.inner.AskingLemmas.{answered, asked_none, asked_then, asked_ok, asked_stop, asked_for}
+use Rattle.dw_list.proofs.StepLemmas.{same_none, same_then, same_to_come, if_stopped, gives_none, gives_first}
+use Rattle.dw_list.proofs.KeepingLemmas.{keeps_all, keeps_step, near_same}
 use Rattle.dw_list.proofs.walk.walk.Goals as goal
 
 pub returns-in_err-take_step-clause-asked : goal.returns-in_err-take_step-clause-asked
@@ -67,3 +70,35 @@ steps-preserved g c =
           (asked_ok geo content lost n _ _ c.in_ok-take_step.field-0 0
           (asked_for geo content lost _ n _ _ _ c.steps.invariant.same.moves c.in_ok-take_step.ensures.asked));
     }
+
+pub steps-init : goal.steps-init
+steps-init g c = record {
+  same = same_none g.B.Board.geometry c.args.stack.now;
+  keeps = keeps_all c.args.stack.now c.args.kept.now;
+  asked = asked_none g.B.Board.geometry g.M.Memo.content g.M.Memo.dropped c.searches_add_up.ensures
+      c.args.stack.now.moves c.args.solver.now c.limit.ensures.within;
+}
+
+pub returns-in_err-take_step-clause-stopped : goal.returns-in_err-take_step-clause-stopped
+returns-in_err-take_step-clause-stopped g c =
+    let geo = g.B.Board.geometry in
+    if_stopped c.from_residual.result _ (subst (SameToCome geo c.args.stack.now)
+    (sym c.in_err-take_step.ensures.stopped) (same_to_come geo c.args.stack.now c.steps.stack c.steps.invariant.same))
+
+pub returns-in_err-take_step-clause-kept : goal.returns-in_err-take_step-clause-kept
+returns-in_err-take_step-clause-kept g c =
+    let same = ap (λ (s : Standing). s.line) c.in_err-take_step.ensures.stopped in
+    keeps_step c.args.stack.now c.steps.stack c.take_step.new.stack c.args.kept.now c.steps.kept c.min.result
+    c.line.result.now c.steps.invariant.keeps c.line.ensures.line c.min.ensures On (near_same On _ _ same)
+
+pub returns-in-Over-clause-kept : goal.returns-in-Over-clause-kept
+returns-in-Over-clause-kept g c =
+    keeps_step c.args.stack.now c.steps.stack c.take_step.new.stack c.args.kept.now c.steps.kept c.min.result
+    c.line.result.now c.steps.invariant.keeps c.line.ensures.line c.min.ensures c.in_ok-take_step.field-0
+    c.in_ok-take_step.ensures.line
+
+pub returns-in-Given-clause-kept : goal.returns-in-Given-clause-kept
+returns-in-Given-clause-kept g c =
+    keeps_step c.args.stack.now c.steps.stack c.take_step.new.stack c.args.kept.now c.steps.kept c.min.result
+    c.line.result.now c.steps.invariant.keeps c.line.ensures.line c.min.ensures c.in_ok-take_step.field-0
+    c.in_ok-take_step.ensures.line

@@ -10,6 +10,30 @@ use Rattle.dw_moves.proofs.WalkedLemmas.{TakesOver, landed_none, landed_more, la
 use Rattle.dw_moves.proofs.WalkedLemmas.{towards_taken, walked_all, count_fits, chains_fit_behind}
 use Rattle.dw_moves.proofs.chains.+walk_king.Goals as goal
 
+pub walk_king-walk_towards-requires : goal.walk_king-walk_towards-requires
+walk_king-walk_towards-requires g t c κs within =
+    let falls = c.decreases in
+    let r = c.requires in
+    (omega (arith, falls), (within, (r.king, (r.on_board, (r.ground, (r.few, r.fits))))))
+
+pub walk_king-walk_towards-requires-2 : goal.walk_king-walk_towards-requires-2
+walk_king-walk_towards-requires-2 g t c κs within =
+    let falls = c.decreases in
+    let r = c.requires in
+    (omega (arith, falls), (within, (r.king, (r.on_board, (r.ground, (r.few, r.fits))))))
+
+pub walk_king-walk_towards-requires-3 : goal.walk_king-walk_towards-requires-3
+walk_king-walk_towards-requires-3 g t c κs within =
+    let falls = c.decreases in
+    let r = c.requires in
+    (omega (arith, falls), (within, (r.king, (r.on_board, (r.ground, (r.few, r.fits))))))
+
+pub walk_king-walk_towards-requires-4 : goal.walk_king-walk_towards-requires-4
+walk_king-walk_towards-requires-4 g t c κs within =
+    let falls = c.decreases in
+    let r = c.requires in
+    (omega (arith, falls), (within, (r.king, (r.on_board, (r.ground, (r.few, r.fits))))))
+
 pub walk_king-returns : goal.walk_king-returns
 walk_king-returns g t c =
     IfOk-weaker c.offer.result (λ k. Longest (Is c.args.begun c.args.count) c.in_ok-four.four

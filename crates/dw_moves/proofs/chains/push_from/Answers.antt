@@ -1,12 +1,14 @@
 use Rattle.std.proofs.Common.{◌≡◌, true, sym, ap, ◌∙◌, subst}
 use Rattle.std.proofs.lemmas.Result.{IfOk-weaker}
+use Rattle.dw_board.specs.Geometry.{OnBoard}
 use Rattle.dw_board.specs.Placement.{same_side, is_of}
+use Rattle.dw_moves.specs.Moves.{Move}
 use Rattle.dw_moves.specs.inner.Chains.{EndsTowards, Longest}
 use Rattle.dw_moves.specs.inner.Glance.{IsGround}
 use Rattle.dw_moves.proofs.ExactLemmas.{same_side_refl}
 use Rattle.dw_moves.proofs.BestFromLemmas.{stands_own}
 use Rattle.dw_moves.proofs.TakingLemmas.{walk_fits}
-use Rattle.dw_moves.proofs.TakingTowardsLemmas.{walked_from}
+use Rattle.dw_moves.proofs.TakingTowardsLemmas.{none_there, enemy_there, walked_from}
 use Rattle.dw_moves.proofs.chains.push_from.Goals as goal
 
 pub without-ground-requires : goal.without-ground-requires
@@ -72,3 +74,21 @@ returns-in-King g c =
     walked_from g.B.Board.geometry c.args.position.now c.clear.new.self c.args.from c.args.direction c.in-Some.piece
     c.quiet-begun.result c.args.most k c.args.moves.now.items c.walk_towards.new.moves.items stands
     c.clear.ensures.after c.quiet-begun.ensures h) c.walk_towards.ensures
+
+pub returns-in_default : goal.returns-in_default
+returns-in_default g c = none_there g.B.Board.geometry c.args.position.now c.args.from c.args.direction c.args.most
+    c.args.moves.now.items (sym c.at.ensures.value ∙ c.in_default.is)
+
+pub returns-then-not-is_own : goal.returns-then-not-is_own
+returns-then-not-is_own g c =
+    enemy_there g.B.Board.geometry c.args.position.now c.args.from c.args.direction c.args.most c.args.moves.now.items
+    c.in-Some.piece (sym c.at.ensures.value ∙ c.in-Some.is)
+    (ap (same_side c.in-Some.piece.side) (sym c.turn.ensures.value) ∙ (sym c.is_own.ensures ∙ c.if-not-is_own.true))
+
+pub walk_on-requires-clause-on_board : goal.walk_on-requires-clause-on_board
+walk_on-requires-clause-on_board g c = subst (OnBoard g.B.Board.geometry)
+    (sym (ap (λ (m : Move). m.to) c.quiet-begun.ensures)) c.requires
+
+pub walk_towards-requires-clause-on_board : goal.walk_towards-requires-clause-on_board
+walk_towards-requires-clause-on_board g c = subst (OnBoard g.B.Board.geometry)
+    (sym (ap (λ (m : Move). m.to) c.quiet-begun.ensures)) c.requires

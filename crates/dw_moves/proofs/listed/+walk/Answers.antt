@@ -19,6 +19,51 @@ use Rattle.dw_moves.proofs.listed.+walk.Goals as goal
 use Rattle.dw_moves.proofs.listed.+walk.Goals.{walk_towards-then-goes_on+in_ok-longest}
 use Rattle.dw_moves.proofs.listed.+walk.Goals.{walk_towards-else-goes_on+in_ok-longest-2}
 
+pub walk-walk_towards-requires : goal.walk-walk_towards-requires
+walk-walk_towards-requires g t c κs within =
+    let falls = c.decreases in
+    let long = c.requires.long in (
+      omega (arith, falls),
+      (
+        within,
+        (omega arith, (c.requires.on_board, (c.requires.ground, (c.requires.few, (c.requires.fits, long))))),
+      ),
+    )
+
+pub walk-walk_towards-requires-2 : goal.walk-walk_towards-requires-2
+walk-walk_towards-requires-2 g t c κs within =
+    let falls = c.decreases in
+    let long = ap length c.in_ok-one.ensures.path ∙ c.requires.long in (
+      omega (arith, falls),
+      (
+        within,
+        (omega arith, (c.requires.on_board, (c.requires.ground, (c.requires.few, (c.requires.fits, long))))),
+      ),
+    )
+
+pub walk-walk_towards-requires-3 : goal.walk-walk_towards-requires-3
+walk-walk_towards-requires-3 g t c κs within =
+    let falls = c.decreases in
+    let long = ap length (c.in_ok-two.ensures.path ∙ c.in_ok-one.ensures.path) ∙ c.requires.long in (
+      omega (arith, falls),
+      (
+        within,
+        (omega arith, (c.requires.on_board, (c.requires.ground, (c.requires.few, (c.requires.fits, long))))),
+      ),
+    )
+
+pub walk-walk_towards-requires-4 : goal.walk-walk_towards-requires-4
+walk-walk_towards-requires-4 g t c κs within =
+    let falls = c.decreases in
+    let long = ap length (c.in_ok-three.ensures.path ∙ (c.in_ok-two.ensures.path ∙ c.in_ok-one.ensures.path)) ∙
+    c.requires.long in (
+      omega (arith, falls),
+      (
+        within,
+        (omega arith, (c.requires.on_board, (c.requires.ground, (c.requires.few, (c.requires.fits, long))))),
+      ),
+    )
+
 pub walk-returns-clause-kept : goal.walk-returns-clause-kept
 walk-returns-clause-kept g t c =
     let geo = g.B.Board.geometry in

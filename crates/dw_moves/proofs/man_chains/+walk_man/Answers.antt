@@ -10,6 +10,30 @@ use Rattle.dw_moves.proofs.WalkedLemmas.{walked_all, count_fits, chains_fit_behi
 use Rattle.dw_moves.proofs.ManChainLemmas.{man_ends, man_edge, man_passes, over_left, man_stops, man_jumps, man_lands}
 use Rattle.dw_moves.proofs.man_chains.+walk_man.Goals as goal
 
+pub walk_man-walk_on-requires : goal.walk_man-walk_on-requires
+walk_man-walk_on-requires g t c κs within =
+    let falls = c.decreases in
+    let r = c.requires in
+    (omega (arith, falls), (within, (r.man, (r.on_board, (r.ground, (r.few, r.fits))))))
+
+pub walk_man-walk_on-requires-2 : goal.walk_man-walk_on-requires-2
+walk_man-walk_on-requires-2 g t c κs within =
+    let falls = c.decreases in
+    let r = c.requires in
+    (omega (arith, falls), (within, (r.man, (r.on_board, (r.ground, (r.few, r.fits))))))
+
+pub walk_man-walk_on-requires-3 : goal.walk_man-walk_on-requires-3
+walk_man-walk_on-requires-3 g t c κs within =
+    let falls = c.decreases in
+    let r = c.requires in
+    (omega (arith, falls), (within, (r.man, (r.on_board, (r.ground, (r.few, r.fits))))))
+
+pub walk_man-walk_on-requires-4 : goal.walk_man-walk_on-requires-4
+walk_man-walk_on-requires-4 g t c κs within =
+    let falls = c.decreases in
+    let r = c.requires in
+    (omega (arith, falls), (within, (r.man, (r.on_board, (r.ground, (r.few, r.fits))))))
+
 pub walk_man-returns : goal.walk_man-returns
 walk_man-returns g t c =
     IfOk-weaker c.offer.result (λ k. Longest (Is c.args.begun c.args.count) c.in_ok-four.four

@@ -1,4 +1,5 @@
-use Rattle.std.proofs.Common.{◌≡◌, ◌+◌, ◌-◌, false, length, refl, sym, ap, subst, arith, inl, inr, ◌↔◌, is_some, IfSome}
+use Rattle.std.proofs.Common.{◌≡◌, ◌∙◌, ◌+◌, ◌-◌, false, length, refl, sym, ap, subst, arith, inl, inr, ◌↔◌, is_some}
+use Rattle.std.proofs.Common.{IfSome}
 use Rattle.std.specs.Prelude.{IsTrue, IfOk}
 use Rattle.std.proofs.lemmas.Result.{on_ok_weaker}
 use Rattle.std.proofs.lemmas.Bool.{true≢false}
@@ -8,17 +9,21 @@ use Rattle.dw_solve.specs.Wins.{Win, Lost}
 use Rattle.dw_solve.specs.Facts.{AreTrue, IsDecided}
 use Rattle.dw_solve.specs.Ranking.{AreRanked}
 use Rattle.dw_solve.specs.inner.Ranking.{IsSureReply}
-use Rattle.dw_solve.specs.Work.{moment}
+use Rattle.dw_solve.specs.Work.{moment, Searched}
+use Rattle.dw_solve.specs.inner.Searching.{at_time, HasSearched}
 use Rattle.dw_solve.specs.Saying.{SaysWin}
 use Rattle.dw_moves.specs.Moves.{play}
 use Rattle.dw_solve.proofs.RankLemmas.{ranked_legal, below_more, below_all, win_by, never_won}
-use Rattle.dw_solve.proofs.WorkLemmas.{searched_none, searched_wider, searched_stop, begun_is, wins_stopped, wins_ended}
-use Rattle.dw_solve.proofs.TriedLemmas.{Refuted, Answered, tried_none, refuted_more, answered_more, searched_after}
+use Rattle.dw_solve.proofs.WorkLemmas.{searched_none, searched_wider, searched_looser, searched_stop, stop_passed}
+use Rattle.dw_solve.proofs.WorkLemmas.{moment_is, begun_is, wins_stopped, wins_ended}
+use Rattle.dw_solve.proofs.StepLemmas.{searched_nothing, searched_on, searched_for_fewer, searched_ok, searched_err}
+use Rattle.dw_solve.proofs.StepLemmas.{searched_memory, searched_looked, memory_is_no_limit, counted_one}
+use Rattle.dw_solve.proofs.TriedLemmas.{Refuted, Answered, tried_none, refuted_more, answered_more}
 use Rattle.dw_solve.proofs.TriedLemmas.{says_winning, says_none, says_refuted, says_all}
 use Rattle.dw_solve.proofs.WinLemmas.{hopeless_is}
 use Rattle.dw_solve.proofs.SearchLemmas.{answered, never_known, unchanged_none, unchanged_then, reply_decided}
 use Rattle.dw_solve.proofs.SearchLemmas.{lost_at_none, says_at_none, counted_none, counted_then, is_so, is_not}
-use Rattle.dw_solve.proofs.SearchLemmas.{answer_no, answer_yes}
+use Rattle.dw_solve.proofs.SearchLemmas.{answer_no, answer_yes, some_first}
 use Rattle.dw_solve.proofs.search.+search.Goals as goal
 
 pub loses-play-requires : goal.loses-play-requires
@@ -43,15 +48,12 @@ loses-wins-requires g t c κs within =
           (
             within.1.1,
             (
-              c.replies.invariant.0,
-              (
-                omega (arith, k.within, k.same),
-                omega (
-                  arith,
-                  rest,
-                  c.replies.auto.rest,
-                  c.requires.room (omega (arith, c.if-moves-eq0.false)),
-                ),
+              record { right = c.replies.invariant.0; within = omega (arith, k.within, k.same) },
+              omega (
+                arith,
+                rest,
+                c.replies.auto.rest,
+                c.requires.room (omega (arith, c.if-moves-eq0.false)),
               ),
             ),
           ),
@@ -61,9 +63,9 @@ loses-wins-requires g t c κs within =
 
 pub loses-replies-init : goal.loses-replies-init
 loses-replies-init g t c = (
-  c.requires.right,
+  c.requires.ready.right,
   (
-    counted_none c.args.search.now.expanded c.args.search.now.limit c.requires.within,
+    counted_none c.args.search.now.expanded c.args.search.now.limit c.requires.ready.within,
     (
       (λ k x low e. absurd (omega (arith, low))),
       tried_none _ _ (Answered g.B.Board.geometry c.args.position.now c.args.moves) _ _,
@@ -75,35 +77,40 @@ loses-replies-init g t c = (
 pub loses-replies-preserved : goal.loses-replies-preserved
 loses-replies-preserved g t c =
     let geo = g.B.Board.geometry in
+    let content = g.M.Memo.content in
+    let lost = g.M.Memo.dropped in
     let legal = ranked_legal geo c.args.position.now c.as_slice-candidate-items.result.now c.replies.candidate-index
     c.candidate-item.result
     (subst (AreRanked geo c.args.position.now) (sym c.as_slice-candidate-items.ensures.value)
     (c.in_ok-found.ensures.all (ap is_some c.in_default.is))) c.replies-test.true c.candidate-item.is in
     let won = subst (λ q. Win geo q c.args.moves) c.play.ensures
     (is_so c.in_ok-wins.field-0 _ c.in_ok-wins.ensures.answer c.if-not-branch.false) in (
-      c.in_ok-wins.ensures.right,
+      c.in_ok-wins.ensures.searched.right,
       (
-        counted_then _ _ _ _ _ _ c.replies.invariant.1.0 c.in_ok-wins.ensures.count,
+        counted_then c.args.search.now.expanded c.args.search.now.limit c.replies.search.expanded c.replies.search.limit
+            c.wins.new.search.expanded c.wins.new.search.limit c.replies.invariant.1.0
+            c.in_ok-wins.ensures.searched.count,
         (
           below_more (λ r. Win geo (play geo c.args.position.now r) c.args.moves) c.as_slice-candidate-items.result.now
               c.replies.candidate-index c.candidate-item.result c.replies.invariant.1.1.0 c.replies-test.true
               c.candidate-item.is won,
           answered_more geo c.args.moves c.args.position.now c.as_slice-candidate-items.result.now
-              c.replies.candidate-index c.candidate-item.result c.play.result c.in_ok-wins.field-0 _ _ _
+              c.replies.candidate-index c.candidate-item.result c.play.result c.in_ok-wins.field-0
+              (at_time content lost c.args.search.now) (at_time content lost c.replies.search)
+              (at_time content lost c.wins.new.search)
               c.replies.invariant.1.1.1 c.replies-test.true c.candidate-item.is c.play.ensures c.if-not-branch.false
-              c.in_ok-wins.ensures.searched c.in_ok-wins.ensures.says,
+              c.in_ok-wins.ensures.searched.work c.in_ok-wins.ensures.says,
           λ all.
               let before = c.replies.invariant.1.1.2 all in
-              let here = c.in_ok-wins.ensures.known (reply_decided geo _ _ c.args.position.now c.play.result
-              c.candidate-item.result.1 c.args.moves _ _ all before legal c.play.ensures) in
-              unchanged_then _ _ _ _ _ _ before (here.1, here.2),
+              let here = c.in_ok-wins.ensures.known (reply_decided geo (content c.args.search.now.memo)
+              (content c.replies.search.memo) c.args.position.now c.play.result c.candidate-item.result.1 c.args.moves
+              c.args.search.now.expanded c.replies.search.expanded all before legal c.play.ensures) in
+              unchanged_then (content c.args.search.now.memo) (content c.replies.search.memo)
+              (content c.wins.new.search.memo) c.args.search.now.expanded c.replies.search.expanded
+              c.wins.new.search.expanded before here.1,
         ),
       ),
     )
-
-pub loses-returns-in_err-wins-clause-count : goal.loses-returns-in_err-wins-clause-count
-loses-returns-in_err-wins-clause-count g t c = counted_then _ _ _ _ _ _ c.replies.invariant.1.0
-    c.in_err-wins.ensures.count
 
 pub loses-returns-then-not-branch-clause-answer : goal.loses-returns-then-not-branch-clause-answer
 loses-returns-then-not-branch-clause-answer g t c =
@@ -116,10 +123,6 @@ loses-returns-then-not-branch-clause-answer g t c =
     is_not c.in_ok-wins.field-0 _ c.in_ok-wins.ensures.answer c.if-not-branch.true
     (subst (λ q. Win geo q c.args.moves) (sym c.play.ensures) (lost c.candidate-item.result.1 legal)))
 
-pub loses-returns-then-not-branch-clause-count : goal.loses-returns-then-not-branch-clause-count
-loses-returns-then-not-branch-clause-count g t c = counted_then _ _ _ _ _ _ c.replies.invariant.1.0
-    c.in_ok-wins.ensures.count
-
 pub loses-returns-clause-answer : goal.loses-returns-clause-answer
 loses-returns-clause-answer g t c =
     let geo = g.B.Board.geometry in
@@ -128,12 +131,6 @@ loses-returns-clause-answer g t c =
     c.as_slice-candidate-items.result.now c.replies.candidate-index
     (subst (AreRanked geo c.args.position.now) (sym c.as_slice-candidate-items.ensures.value)
     (c.in_ok-found.ensures.all (ap is_some c.in_default.is))) c.replies-test.false c.replies.invariant.1.1.0)
-
-pub loses-returns-clause-right : goal.loses-returns-clause-right
-loses-returns-clause-right g t c = c.replies.invariant.0
-
-pub loses-returns-clause-count : goal.loses-returns-clause-count
-loses-returns-clause-count g t c = c.replies.invariant.1.0
 
 pub some_move_wins-play-requires : goal.some_move_wins-play-requires
 some_move_wins-play-requires g t c =
@@ -152,14 +149,11 @@ some_move_wins-loses-requires g t c κs within =
           (
             within.1.1,
             (
-              c.moves.invariant.0,
-              (
-                omega (arith, k.within, k.same),
-                λ _. omega (
-                  arith,
-                  c.moves.auto.plies,
-                  c.requires.room,
-                ),
+              record { right = c.moves.invariant.0; within = omega (arith, k.within, k.same) },
+              λ _. omega (
+                arith,
+                c.moves.auto.plies,
+                c.requires.room,
               ),
             ),
           ),
@@ -169,9 +163,9 @@ some_move_wins-loses-requires g t c κs within =
 
 pub some_move_wins-moves-init : goal.some_move_wins-moves-init
 some_move_wins-moves-init g t c = (
-  c.requires.right,
+  c.requires.ready.right,
   (
-    counted_none c.args.search.now.expanded c.args.search.now.limit c.requires.within,
+    counted_none c.args.search.now.expanded c.args.search.now.limit c.requires.ready.within,
     (
       (λ k x low e lost. absurd (omega (arith, low))),
       tried_none _ _ (Refuted g.B.Board.geometry c.args.position.now c.args.moves) _ _,
@@ -182,9 +176,9 @@ some_move_wins-moves-init g t c = (
 pub some_move_wins-moves-preserved : goal.some_move_wins-moves-preserved
 some_move_wins-moves-preserved g t c =
     let geo = g.B.Board.geometry in (
-      c.in_ok-loses.ensures.right,
+      c.in_ok-loses.ensures.searched.right,
       (
-        counted_then _ _ _ _ _ _ c.moves.invariant.1.0 c.in_ok-loses.ensures.count,
+        counted_then _ _ _ _ _ _ c.moves.invariant.1.0 c.in_ok-loses.ensures.searched.count,
         (
           below_more (λ m. Lost geo (play geo c.args.position.now m) c.args.moves
               → ⊥) c.args.ranked.now c.moves.candidate-index c.candidate-item.result c.moves.invariant.1.1.0
@@ -194,14 +188,10 @@ some_move_wins-moves-preserved g t c =
           refuted_more geo c.args.moves c.args.position.now c.args.ranked.now c.moves.candidate-index
               c.candidate-item.result c.play.result c.in_ok-loses.field-0 _ _ _
               c.moves.invariant.1.1.1 c.moves-test.true c.candidate-item.is c.play.ensures c.if-branch.false
-              c.in_ok-loses.ensures.searched c.in_ok-loses.ensures.says,
+              c.in_ok-loses.ensures.searched.work c.in_ok-loses.ensures.says,
         ),
       ),
     )
-
-pub some_move_wins-returns-in_err-loses-clause-count : goal.some_move_wins-returns-in_err-loses-clause-count
-some_move_wins-returns-in_err-loses-clause-count g t c = counted_then _ _ _ _ _ _ c.moves.invariant.1.0
-    c.in_err-loses.ensures.count
 
 pub some_move_wins-returns-then-branch-clause-answer : goal.some_move_wins-returns-then-branch-clause-answer
 some_move_wins-returns-then-branch-clause-answer g t c =
@@ -213,21 +203,11 @@ some_move_wins-returns-then-branch-clause-answer g t c =
     (subst (λ q. Lost geo q c.args.moves) c.play.ensures (is_so c.in_ok-loses.field-0 _ c.in_ok-loses.ensures.answer
     c.if-branch.true)))
 
-pub some_move_wins-returns-then-branch-clause-count : goal.some_move_wins-returns-then-branch-clause-count
-some_move_wins-returns-then-branch-clause-count g t c = counted_then _ _ _ _ _ _ c.moves.invariant.1.0
-    c.in_ok-loses.ensures.count
-
 pub some_move_wins-returns-clause-answer : goal.some_move_wins-returns-clause-answer
 some_move_wins-returns-clause-answer g t c =
     answer_no (Win g.B.Board.geometry c.args.position.now (c.args.moves + 1))
     (never_won g.B.Board.geometry c.args.position.now c.args.moves c.args.ranked.now c.moves.candidate-index
     c.requires.ranked c.moves-test.false c.moves.invariant.1.1.0)
-
-pub some_move_wins-returns-clause-right : goal.some_move_wins-returns-clause-right
-some_move_wins-returns-clause-right g t c = c.moves.invariant.0
-
-pub some_move_wins-returns-clause-count : goal.some_move_wins-returns-clause-count
-some_move_wins-returns-clause-count g t c = c.moves.invariant.1.0
 
 pub wins-returns-in-Some-clause-spent : goal.wins-returns-in-Some-clause-spent
 wins-returns-in-Some-clause-spent g t c some undecided =
@@ -253,8 +233,12 @@ wins-some_move_wins-requires g t c κs within =
             (
               subst (AreRanked geo c.args.position.now) (sym c.as_slice.ensures.value) c.in_ok-line_up.ensures,
               (
-                subst (λ m. AreTrue geo (g.M.Memo.content m)) (sym c.count.ensures.memo) c.known.ensures.right,
-                (c.count.ensures.within, omega (arith, some, rest, c.requires.room)),
+                record {
+                  right = subst (λ m. AreTrue geo (g.M.Memo.content m)) (sym c.count.ensures.memo)
+                      c.known.ensures.right;
+                  within = c.count.ensures.within;
+                },
+                omega (arith, some, rest, c.requires.room),
               ),
             ),
           ),
@@ -267,7 +251,12 @@ loses-returns-then-moves-eq0-clause-answer g t c = lost_at_none g.B.Board.geomet
     c.has_move.result c.if-moves-eq0.true c.has_move.ensures
 
 pub loses-returns-then-moves-eq0-clause-searched : goal.loses-returns-then-moves-eq0-clause-searched
-loses-returns-then-moves-eq0-clause-searched g t c = searched_none g.B.Board.geometry c.args.moves 0 _
+loses-returns-then-moves-eq0-clause-searched g t c =
+    let geo = g.B.Board.geometry in
+    let content = g.M.Memo.content in
+    let lost = g.M.Memo.dropped in
+    searched_ok geo content lost c.args.moves _ _ 0 _ (searched_nothing geo content lost c.args.moves c.args.search.now
+    c.requires.ready)
 
 pub loses-returns-then-moves-eq0-clause-says : goal.loses-returns-then-moves-eq0-clause-says
 loses-returns-then-moves-eq0-clause-says g t c kept =
@@ -275,17 +264,38 @@ loses-returns-then-moves-eq0-clause-says g t c kept =
     c.has_move.result c.if-moves-eq0.true c.has_move.ensures
 
 pub loses-returns-in_err-found-clause-searched : goal.loses-returns-in_err-found-clause-searched
-loses-returns-in_err-found-clause-searched g t c = searched_none _ _ _ _
+loses-returns-in_err-found-clause-searched g t c =
+    let geo = g.B.Board.geometry in
+    let content = g.M.Memo.content in
+    let lost = g.M.Memo.dropped in
+    searched_memory geo content lost c.args.moves _ _ _ c.from_residual.ensures.1
+    (searched_nothing geo content lost c.args.moves c.args.search.now c.requires.ready)
 
 pub loses-returns-in_err-wins-clause-searched : goal.loses-returns-in_err-wins-clause-searched
 loses-returns-in_err-wins-clause-searched g t c =
-    searched_stop g.B.Board.geometry c.args.moves c.from_residual-in_err-wins.result _ _
-    c.from_residual-in_err-wins.ensures.0
-    (searched_after _ _ c.args.moves _ _ _ c.replies.invariant.1.1.1.0 c.in_err-wins.ensures.searched)
+    let geo = g.B.Board.geometry in
+    let content = g.M.Memo.content in
+    let lost = g.M.Memo.dropped in
+    searched_err geo content lost c.args.moves _ _ c.in_err-wins.field-0.0 _ c.from_residual-in_err-wins.ensures.1
+    (searched_on geo content lost c.args.moves _ _ _ _ (record {
+      right = c.replies.invariant.0;
+      count = c.replies.invariant.1.0;
+      stop = λ e. cc;
+      work = c.replies.invariant.1.1.1.0;
+    }) c.in_err-wins.ensures.searched)
 
 pub loses-returns-then-not-branch-clause-searched : goal.loses-returns-then-not-branch-clause-searched
-loses-returns-then-not-branch-clause-searched g t c = searched_after _ _ _ _ _ _ c.replies.invariant.1.1.1.0
-    c.in_ok-wins.ensures.searched
+loses-returns-then-not-branch-clause-searched g t c =
+    let geo = g.B.Board.geometry in
+    let content = g.M.Memo.content in
+    let lost = g.M.Memo.dropped in
+    searched_ok geo content lost c.args.moves _ _ _ _
+    (searched_on geo content lost c.args.moves _ _ _ _ (record {
+      right = c.replies.invariant.0;
+      count = c.replies.invariant.1.0;
+      stop = λ e. cc;
+      work = c.replies.invariant.1.1.1.0;
+    }) c.in_ok-wins.ensures.searched)
 
 pub loses-returns-then-not-branch-clause-says : goal.loses-returns-then-not-branch-clause-says
 loses-returns-then-not-branch-clause-says g t c =
@@ -295,11 +305,16 @@ loses-returns-then-not-branch-clause-says g t c =
     (subst (AreRanked geo c.args.position.now) (sym c.as_slice-candidate-items.ensures.value)
     (c.in_ok-found.ensures.all (ap is_some c.in_default.is))) c.replies-test.true c.candidate-item.is in
     says_refuted geo c.args.moves c.args.position.now c.candidate-item.result.1 c.play.result c.in_ok-wins.field-0 _ _ _
-    c.replies.invariant.1.1.1.0 c.in_ok-wins.ensures.searched legal c.play.ensures c.if-not-branch.true
+    c.replies.invariant.1.1.1.0 c.in_ok-wins.ensures.searched.work legal c.play.ensures c.if-not-branch.true
     c.in_ok-wins.ensures.says
 
 pub loses-returns-clause-searched : goal.loses-returns-clause-searched
-loses-returns-clause-searched g t c = c.replies.invariant.1.1.1.0
+loses-returns-clause-searched g t c = record {
+  right = c.replies.invariant.0;
+  count = c.replies.invariant.1.0;
+  stop = λ e. cc;
+  work = c.replies.invariant.1.1.1.0;
+}
 
 pub loses-returns-clause-says : goal.loses-returns-clause-says
 loses-returns-clause-says g t c =
@@ -310,12 +325,29 @@ loses-returns-clause-says g t c =
 
 pub some_move_wins-returns-in_err-loses-clause-searched : goal.some_move_wins-returns-in_err-loses-clause-searched
 some_move_wins-returns-in_err-loses-clause-searched g t c =
-    searched_stop g.B.Board.geometry c.args.moves c.from_residual.result _ _ c.from_residual.ensures.0
-    (searched_after _ _ c.args.moves _ _ _ c.moves.invariant.1.1.1.0 c.in_err-loses.ensures.searched)
+    let geo = g.B.Board.geometry in
+    let content = g.M.Memo.content in
+    let lost = g.M.Memo.dropped in
+    searched_err geo content lost c.args.moves _ _ c.in_err-loses.field-0.0 _ c.from_residual.ensures.1
+    (searched_on geo content lost c.args.moves _ _ _ _ (record {
+      right = c.moves.invariant.0;
+      count = c.moves.invariant.1.0;
+      stop = λ e. cc;
+      work = c.moves.invariant.1.1.1.0;
+    }) c.in_err-loses.ensures.searched)
 
 pub some_move_wins-returns-then-branch-clause-searched : goal.some_move_wins-returns-then-branch-clause-searched
-some_move_wins-returns-then-branch-clause-searched g t c = searched_after _ _ _ _ _ _ c.moves.invariant.1.1.1.0
-    c.in_ok-loses.ensures.searched
+some_move_wins-returns-then-branch-clause-searched g t c =
+    let geo = g.B.Board.geometry in
+    let content = g.M.Memo.content in
+    let lost = g.M.Memo.dropped in
+    searched_ok geo content lost c.args.moves _ _ _ _
+    (searched_on geo content lost c.args.moves _ _ _ _ (record {
+      right = c.moves.invariant.0;
+      count = c.moves.invariant.1.0;
+      stop = λ e. cc;
+      work = c.moves.invariant.1.1.1.0;
+    }) c.in_ok-loses.ensures.searched)
 
 pub some_move_wins-returns-then-branch-clause-says : goal.some_move_wins-returns-then-branch-clause-says
 some_move_wins-returns-then-branch-clause-says g t c =
@@ -323,11 +355,16 @@ some_move_wins-returns-then-branch-clause-says g t c =
     let legal = ranked_legal geo c.args.position.now c.args.ranked.now c.moves.candidate-index c.candidate-item.result
     c.requires.ranked c.moves-test.true c.candidate-item.is in
     says_winning geo c.args.moves c.args.position.now c.candidate-item.result.1 c.play.result c.in_ok-loses.field-0 _ _
-    _ c.moves.invariant.1.1.1.0 c.in_ok-loses.ensures.searched legal c.play.ensures c.if-branch.true
+    _ c.moves.invariant.1.1.1.0 c.in_ok-loses.ensures.searched.work legal c.play.ensures c.if-branch.true
     c.in_ok-loses.ensures.says
 
 pub some_move_wins-returns-clause-searched : goal.some_move_wins-returns-clause-searched
-some_move_wins-returns-clause-searched g t c = c.moves.invariant.1.1.1.0
+some_move_wins-returns-clause-searched g t c = record {
+  right = c.moves.invariant.0;
+  count = c.moves.invariant.1.0;
+  stop = λ e. cc;
+  work = c.moves.invariant.1.1.1.0;
+}
 
 pub some_move_wins-returns-clause-says : goal.some_move_wins-returns-clause-says
 some_move_wins-returns-clause-says g t c =
@@ -335,38 +372,76 @@ some_move_wins-returns-clause-says g t c =
     c.requires.ranked c.moves-test.false c.moves.invariant.1.1.1
 
 pub wins-returns-in-Some-clause-searched : goal.wins-returns-in-Some-clause-searched
-wins-returns-in-Some-clause-searched g t c = searched_wider _ 0 c.args.moves 0 _ _ (omega arith)
-    c.known.ensures.searched
+wins-returns-in-Some-clause-searched g t c =
+    let geo = g.B.Board.geometry in
+    let content = g.M.Memo.content in
+    let lost = g.M.Memo.dropped in
+    searched_ok geo content lost c.args.moves _ _ 0 _ (searched_looked geo content lost c.args.moves _
+    c.known.new.search c.requires.ready
+    c.known.ensures.right c.known.ensures.count c.known.ensures.limit c.known.ensures.searched)
 
 pub wins-returns-in_err-line_up-clause-searched : goal.wins-returns-in_err-line_up-clause-searched
-wins-returns-in_err-line_up-clause-searched g t c =
-    let geo = g.B.Board.geometry in
-    searched_stop geo c.args.moves c.from_residual-in_err-line_up.result _ _ c.from_residual-in_err-line_up.ensures.0
-    (wins_stopped geo c.args.moves 0 _ (moment g.M.Memo.content g.M.Memo.dropped c.known.new.search.memo
-    c.known.new.search.expanded) _ _ (c.in_default.ensures.some refl) (omega arith)
-    (begun_is g.M.Memo.content g.M.Memo.dropped _ _ _ _ c.count.ensures.memo c.in_ok-count.ensures.more)
-    c.known.ensures.searched (searched_none _ _ _ _))
+wins-returns-in_err-line_up-clause-searched g t c = record {
+  right = subst (λ m. AreTrue g.B.Board.geometry (g.M.Memo.content m)) (sym c.count.ensures.memo) c.known.ensures.right;
+  count = counted_one c.args.search.now.expanded c.args.search.now.limit c.known.new.search.expanded
+      c.known.new.search.limit c.count.new.search.expanded c.count.new.search.limit c.requires.ready.within
+      c.known.ensures.count c.known.ensures.limit c.count.ensures.rises c.count.ensures.limit c.count.ensures.within;
+  stop = memory_is_no_limit c.from_residual-in_err-line_up.result _ c.from_residual-in_err-line_up.ensures.1;
+  work =
+      let geo = g.B.Board.geometry in
+      searched_stop geo c.args.moves c.from_residual-in_err-line_up.result _ _ c.from_residual-in_err-line_up.ensures.0
+      (wins_stopped geo c.args.moves 0 _ (moment g.M.Memo.content g.M.Memo.dropped c.known.new.search.memo
+      c.known.new.search.expanded) _ _ (c.in_default.ensures.some refl) (omega arith)
+      (begun_is g.M.Memo.content g.M.Memo.dropped _ _ _ _ c.count.ensures.memo c.in_ok-count.ensures.more)
+      c.known.ensures.searched (searched_none _ _ _ _));
+}
 
 pub wins-returns-in_err-won-clause-searched : goal.wins-returns-in_err-won-clause-searched
-wins-returns-in_err-won-clause-searched g t c =
-    let geo = g.B.Board.geometry in
-    let some = c.in_default.ensures.some refl in
-    searched_stop geo c.args.moves c.from_residual-in_err-won.result _ _ c.from_residual-in_err-won.ensures.0
-    (wins_stopped geo c.args.moves (c.args.moves - 1) _ (moment g.M.Memo.content g.M.Memo.dropped
-    c.known.new.search.memo c.known.new.search.expanded) _ _ some (omega arith)
-    (begun_is g.M.Memo.content g.M.Memo.dropped _ _ _ _ c.count.ensures.memo c.in_ok-count.ensures.more)
-    c.known.ensures.searched c.in_err-won.ensures.searched)
+wins-returns-in_err-won-clause-searched g t c = record {
+  right = c.in_err-won.ensures.searched.right;
+  count = counted_then _ _ _ _ _ _ (counted_one c.args.search.now.expanded c.args.search.now.limit
+      c.known.new.search.expanded
+      c.known.new.search.limit c.count.new.search.expanded c.count.new.search.limit c.requires.ready.within
+      c.known.ensures.count c.known.ensures.limit c.count.ensures.rises c.count.ensures.limit c.count.ensures.within)
+      c.in_err-won.ensures.searched.count;
+  stop = stop_passed c.in_err-won.field-0.0 c.from_residual-in_err-won.result _ c.from_residual-in_err-won.ensures.1
+      c.in_err-won.ensures.searched.stop;
+  work =
+      let geo = g.B.Board.geometry in
+      let some = c.in_default.ensures.some refl in
+      searched_stop geo c.args.moves c.from_residual-in_err-won.result _ _ c.from_residual-in_err-won.ensures.0
+      (wins_stopped geo c.args.moves (c.args.moves - 1) _ (moment g.M.Memo.content g.M.Memo.dropped
+      c.known.new.search.memo c.known.new.search.expanded) _ _ some (omega arith)
+      (begun_is g.M.Memo.content g.M.Memo.dropped _ _ _ _ c.count.ensures.memo c.in_ok-count.ensures.more)
+      c.known.ensures.searched c.in_err-won.ensures.searched.work);
+}
 
 pub wins-returns-clause-searched : goal.wins-returns-clause-searched
-wins-returns-clause-searched g t c =
-    let geo = g.B.Board.geometry in
-    let some = c.in_default.ensures.some refl in
-    (wins_ended geo c.args.moves c.args.position.now c.in_ok-won.won _ (moment g.M.Memo.content g.M.Memo.dropped
-    c.known.new.search.memo c.known.new.search.expanded) _ (moment g.M.Memo.content g.M.Memo.dropped
-    c.some_move_wins.new.search.memo c.some_move_wins.new.search.expanded) _ some
-    (begun_is g.M.Memo.content g.M.Memo.dropped _ _ _ _ c.count.ensures.memo c.in_ok-count.ensures.more)
-    (c.in_default.ensures.open refl) (c.in_default.ensures.map refl)
-    c.known.ensures.searched c.in_ok-won.ensures.searched c.in_ok-won.ensures.says c.note.ensures.noted).searched
+wins-returns-clause-searched g t c = record {
+  right = c.note.ensures.right;
+  count =
+      let found = counted_then _ _ _ _ _ _ (counted_one c.args.search.now.expanded c.args.search.now.limit
+      c.known.new.search.expanded
+      c.known.new.search.limit c.count.new.search.expanded c.count.new.search.limit c.requires.ready.within
+      c.known.ensures.count c.known.ensures.limit c.count.ensures.rises c.count.ensures.limit c.count.ensures.within)
+      c.in_ok-won.ensures.searched.count in
+      record {
+        rises = omega (arith, found.rises, c.note.ensures.count);
+        within = omega (arith, found.within, c.note.ensures.count);
+        same = c.note.ensures.limit ∙ found.same;
+      };
+  stop = λ e. cc;
+  work =
+      let geo = g.B.Board.geometry in
+      let some = c.in_default.ensures.some refl in
+      (wins_ended geo c.args.moves c.args.position.now c.in_ok-won.won _ (moment g.M.Memo.content g.M.Memo.dropped
+      c.known.new.search.memo c.known.new.search.expanded) _ (moment g.M.Memo.content g.M.Memo.dropped
+      c.some_move_wins.new.search.memo c.some_move_wins.new.search.expanded) _ some
+      (begun_is g.M.Memo.content g.M.Memo.dropped _ _ _ _ c.count.ensures.memo c.in_ok-count.ensures.more)
+      (c.in_default.ensures.open refl) (c.in_default.ensures.map refl)
+      c.known.ensures.searched c.in_ok-won.ensures.searched.work c.in_ok-won.ensures.says
+      c.note.ensures.noted).searched;
+}
 
 pub wins-returns-clause-says : goal.wins-returns-clause-says
 wins-returns-clause-says g t c =
@@ -377,7 +452,7 @@ wins-returns-clause-says g t c =
     c.some_move_wins.new.search.memo c.some_move_wins.new.search.expanded) _ some
     (begun_is g.M.Memo.content g.M.Memo.dropped _ _ _ _ c.count.ensures.memo c.in_ok-count.ensures.more)
     (c.in_default.ensures.open refl) (c.in_default.ensures.map refl)
-    c.known.ensures.searched c.in_ok-won.ensures.searched c.in_ok-won.ensures.says c.note.ensures.noted).says
+    c.known.ensures.searched c.in_ok-won.ensures.searched.work c.in_ok-won.ensures.says c.note.ensures.noted).says
 
 pub loses-returns-in_err-wins-clause-known : goal.loses-returns-in_err-wins-clause-known
 loses-returns-in_err-wins-clause-known g t c all =
@@ -401,11 +476,11 @@ loses-returns-then-not-branch-clause-known g t c all =
     let before = c.replies.invariant.1.1.2 all in
     let here = c.in_ok-wins.ensures.known (reply_decided geo _ _ c.args.position.now c.play.result
     c.candidate-item.result.1 c.args.moves _ _ all before legal c.play.ensures) in
-    let after = unchanged_then _ _ _ _ _ _ before (here.1, here.2) in
-    ((λ none. answered _ _ none), after.0, after.1)
+    let after = unchanged_then _ _ _ _ _ _ before here.1 in
+    ((λ none. answered _ _ none), after)
 
 pub loses-returns-clause-known : goal.loses-returns-clause-known
-loses-returns-clause-known g t c all = let u = c.replies.invariant.1.1.2 all in ((λ none. answered _ _ none), u.0, u.1)
+loses-returns-clause-known g t c all = let u = c.replies.invariant.1.1.2 all in ((λ none. answered _ _ none), u)
 
 pub wins-returns-in_err-won-clause-known : goal.wins-returns-in_err-won-clause-known
 wins-returns-in_err-won-clause-known g t c = never_known _ c.args.moves _ (c.in_default.ensures.some refl)
@@ -415,49 +490,8 @@ pub wins-returns-clause-known : goal.wins-returns-clause-known
 wins-returns-clause-known g t c = never_known _ c.args.moves _ (c.in_default.ensures.some refl)
     (c.in_default.ensures.open refl)
 
-pub loses-returns-then-moves-eq0-clause-right : goal.loses-returns-then-moves-eq0-clause-right
-loses-returns-then-moves-eq0-clause-right g t c = c.requires.right
-
-pub loses-returns-then-moves-eq0-clause-count : goal.loses-returns-then-moves-eq0-clause-count
-loses-returns-then-moves-eq0-clause-count g t c = counted_none _ _ c.requires.within
-
-pub loses-returns-in_err-found-clause-right : goal.loses-returns-in_err-found-clause-right
-loses-returns-in_err-found-clause-right g t c = c.requires.right
-
-pub loses-returns-in_err-found-clause-count : goal.loses-returns-in_err-found-clause-count
-loses-returns-in_err-found-clause-count g t c = counted_none _ _ c.requires.within
-
-pub loses-returns-in_err-wins-clause-right : goal.loses-returns-in_err-wins-clause-right
-loses-returns-in_err-wins-clause-right g t c = c.in_err-wins.ensures.right
-
-pub loses-returns-then-not-branch-clause-right : goal.loses-returns-then-not-branch-clause-right
-loses-returns-then-not-branch-clause-right g t c = c.in_ok-wins.ensures.right
-
-pub some_move_wins-returns-in_err-loses-clause-right : goal.some_move_wins-returns-in_err-loses-clause-right
-some_move_wins-returns-in_err-loses-clause-right g t c = c.in_err-loses.ensures.right
-
-pub some_move_wins-returns-then-branch-clause-right : goal.some_move_wins-returns-then-branch-clause-right
-some_move_wins-returns-then-branch-clause-right g t c = c.in_ok-loses.ensures.right
-
-pub wins-returns-in-Some-clause-right : goal.wins-returns-in-Some-clause-right
-wins-returns-in-Some-clause-right g t c = c.known.ensures.right
-
 pub wins-returns-in-Some-clause-answer : goal.wins-returns-in-Some-clause-answer
 wins-returns-in-Some-clause-answer g t c = c.in-Some.ensures.answer
-
-pub wins-returns-in_err-count-clause-right : goal.wins-returns-in_err-count-clause-right
-wins-returns-in_err-count-clause-right g t c = subst (λ m. AreTrue g.B.Board.geometry (g.M.Memo.content m))
-    (sym c.count.ensures.memo) c.known.ensures.right
-
-pub wins-returns-in_err-line_up-clause-right : goal.wins-returns-in_err-line_up-clause-right
-wins-returns-in_err-line_up-clause-right g t c = subst (λ m. AreTrue g.B.Board.geometry (g.M.Memo.content m))
-    (sym c.count.ensures.memo) c.known.ensures.right
-
-pub wins-returns-in_err-won-clause-right : goal.wins-returns-in_err-won-clause-right
-wins-returns-in_err-won-clause-right g t c = c.in_err-won.ensures.right
-
-pub wins-returns-clause-right : goal.wins-returns-clause-right
-wins-returns-clause-right g t c = c.note.ensures.right
 
 pub loses-returns-in_err-refute-clause-known : goal.loses-returns-in_err-refute-clause-known
 loses-returns-in_err-refute-clause-known g t c all =
@@ -488,7 +522,7 @@ loses-returns-in-Some-clause-says g t c kept =
     let after = moment g.M.Memo.content g.M.Memo.dropped c.refute.new.search.memo c.refute.new.search.expanded in
     says_refuted geo c.args.moves c.args.position.now reply.0 c.in-Some.after false before before after
     (searched_none geo c.args.moves 0 before)
-    (searched_wider geo 1 c.args.moves 0 before after (omega (arith, one)) c.in_ok-refute.ensures.searched) reply.1
+    (searched_wider geo 1 c.args.moves 0 before after (omega (arith, one)) c.in_ok-refute.ensures.searched.work) reply.1
     reply.2 refl
     (λ k. subst (λ n. SaysWin after.content c.in-Some.after n false) (sym one) (c.in_ok-refute.ensures.says k)) kept
 
@@ -502,7 +536,7 @@ loses-returns-in-Some-clause-known g t c all =
       | inr known ↦ subst (λ n. IsDecided (g.M.Memo.content c.args.search.now.memo) c.in-Some.after n) one
           (subst (λ q. IsDecided (g.M.Memo.content c.args.search.now.memo) q c.args.moves) (sym reply.2) known)
     ]) in
-    ((λ none. answered _ _ none), here.1, here.2)
+    ((λ none. answered _ _ none), here.1)
 
 pub wins-returns-then-moves-eq1-clause-answer : goal.wins-returns-then-moves-eq1-clause-answer
 wins-returns-then-moves-eq1-clause-answer g t c =
@@ -521,3 +555,124 @@ wins-returns-then-moves-eq1-clause-known g t c h = elim h [
   | inr known ↦ c.wins_at_once.ensures.known
       (subst (IsDecided (g.M.Memo.content c.args.search.now.memo) c.args.position.now) c.if-moves-eq1.true known)
 ]
+
+pub loses-returns-in_err-refute-clause-searched : goal.loses-returns-in_err-refute-clause-searched
+loses-returns-in_err-refute-clause-searched g t c =
+    let geo = g.B.Board.geometry in
+    let content = g.M.Memo.content in
+    let lost = g.M.Memo.dropped in
+    let one = c.in_ok-found.ensures.last (ap is_some c.in-Some.is) in
+    searched_err geo content lost c.args.moves _ _ c.in_err-refute.field-0.0 _ c.from_residual-in_err-refute.ensures.1
+    (searched_for_fewer geo content lost 1 c.args.moves _ _ _ (omega (arith, one)) c.in_err-refute.ensures.searched)
+
+pub loses-returns-in-Some-clause-searched : goal.loses-returns-in-Some-clause-searched
+loses-returns-in-Some-clause-searched g t c =
+    let geo = g.B.Board.geometry in
+    let content = g.M.Memo.content in
+    let lost = g.M.Memo.dropped in
+    let one = c.in_ok-found.ensures.last (ap is_some c.in-Some.is) in
+    searched_ok geo content lost c.args.moves _ _ _ _
+    (searched_for_fewer geo content lost 1 c.args.moves _ _ _ (omega (arith, one)) c.in_ok-refute.ensures.searched)
+
+pub wins-returns-then-moves-eq1-clause-searched : goal.wins-returns-then-moves-eq1-clause-searched
+wins-returns-then-moves-eq1-clause-searched g t c =
+    subst
+    (λ n. HasSearched g.B.Board.geometry g.M.Memo.content g.M.Memo.dropped n c.args.search.now c.wins_at_once.new.search
+    c.wins_at_once.result)
+    (sym c.if-moves-eq1.true) c.wins_at_once.ensures.searched
+
+pub wins-returns-then-moves-eq1-clause-says : goal.wins-returns-then-moves-eq1-clause-says
+wins-returns-then-moves-eq1-clause-says g t c kept =
+    subst
+    (λ n. IfOk c.wins_at_once.result (SaysWin (g.M.Memo.content c.wins_at_once.new.search.memo) c.args.position.now n))
+    (sym c.if-moves-eq1.true) (c.wins_at_once.ensures.says kept)
+
+pub wins-returns-in_err-count-clause-searched : goal.wins-returns-in_err-count-clause-searched
+wins-returns-in_err-count-clause-searched g t c =
+    let geo = g.B.Board.geometry in
+    let content = g.M.Memo.content in
+    let lost = g.M.Memo.dropped in
+    let same = moment_is content lost c.known.new.search.memo c.count.new.search.memo c.known.new.search.expanded
+    c.count.new.search.expanded c.count.ensures.memo (c.in_err-count.ensures.same refl) in
+    record {
+      right = subst (λ m. AreTrue geo (content m)) (sym c.count.ensures.memo) c.known.ensures.right;
+      count = counted_one c.args.search.now.expanded c.args.search.now.limit c.known.new.search.expanded
+          c.known.new.search.limit c.count.new.search.expanded c.count.new.search.limit c.requires.ready.within
+          c.known.ensures.count c.known.ensures.limit c.count.ensures.rises c.count.ensures.limit
+          c.count.ensures.within;
+      stop = stop_passed c.in_err-count.field-0.0 c.from_residual.result _ c.from_residual.ensures.1
+          c.in_err-count.ensures.stop;
+      work = searched_stop geo c.args.moves c.from_residual.result _ _ c.from_residual.ensures.0
+          (subst (Searched geo c.args.moves c.args.moves (at_time content lost c.args.search.now)) (sym same)
+          (searched_looser geo c.args.moves 0 c.args.moves _ _ (omega arith) (searched_wider geo 0 c.args.moves 0 _ _
+          (omega arith) c.known.ensures.searched)));
+    }
+
+pub wins-returns-clause-spent : goal.wins-returns-clause-spent
+wins-returns-clause-spent g t c some undecided = omega (
+  arith,
+  c.known.ensures.count,
+  c.in_ok-count.ensures.more,
+  c.in_ok-won.ensures.searched.count.rises,
+  c.note.ensures.count,
+)
+
+pub wins-note-requires-clause-right : goal.wins-note-requires-clause-right
+wins-note-requires-clause-right g t c = c.in_ok-won.ensures.searched.right
+
+pub wins-note-requires-clause-answer : goal.wins-note-requires-clause-answer
+wins-note-requires-clause-answer g t c =
+    let all : c.args.moves - 1 + 1 ≡ c.args.moves = omega (arith, c.in_default.ensures.some refl) in
+    subst (λ n. IsTrue c.in_ok-won.won ↔ Win g.B.Board.geometry c.args.position.now n) all c.in_ok-won.ensures.answer
+
+pub wins-returns-clause-answer : goal.wins-returns-clause-answer
+wins-returns-clause-answer g t c =
+    let all : c.args.moves - 1 + 1 ≡ c.args.moves = omega (arith, c.in_default.ensures.some refl) in
+    subst (λ n. IsTrue c.in_ok-won.won ↔ Win g.B.Board.geometry c.args.position.now n) all c.in_ok-won.ensures.answer
+
+pub wins-returns-in-Some-clause-says : goal.wins-returns-in-Some-clause-says
+wins-returns-in-Some-clause-says g t c kept = c.in-Some.ensures.says
+
+pub wins-returns-in-Some-clause-known : goal.wins-returns-in-Some-clause-known
+wins-returns-in-Some-clause-known g t c decided = (refl, (c.known.ensures.count, c.known.ensures.same))
+
+pub wins-returns-in_err-count-clause-known : goal.wins-returns-in_err-count-clause-known
+wins-returns-in_err-count-clause-known g t c = never_known _ c.args.moves _ (c.in_default.ensures.some refl)
+    (c.in_default.ensures.open refl)
+
+pub wins-returns-in_err-line_up-clause-known : goal.wins-returns-in_err-line_up-clause-known
+wins-returns-in_err-line_up-clause-known g t c = never_known _ c.args.moves _ (c.in_default.ensures.some refl)
+    (c.in_default.ensures.open refl)
+
+pub loses-returns-then-moves-eq0-clause-known : goal.loses-returns-then-moves-eq0-clause-known
+loses-returns-then-moves-eq0-clause-known g t c all = ((λ none. answered _ _ none), unchanged_none _ _)
+
+pub loses-returns-in_err-found-clause-known : goal.loses-returns-in_err-found-clause-known
+loses-returns-in_err-found-clause-known g t c all =
+    ((λ e. memory_is_no_limit c.from_residual.result _ c.from_residual.ensures.1 e), unchanged_none _ _)
+
+pub wins-known-requires : goal.wins-known-requires
+wins-known-requires g t c = c.requires.ready.right
+
+pub wins-count-requires : goal.wins-count-requires
+wins-count-requires g t c = omega (
+  arith,
+  c.requires.ready.within,
+  c.known.ensures.count,
+  c.known.ensures.limit,
+)
+
+pub loses-unwrap-requires : goal.loses-unwrap-requires
+loses-unwrap-requires g t c =
+    some_first c.split_first_mut.result (length c.args.plies.now) _ c.split_first_mut.ensures.cases
+    (omega (arith, c.requires.room (omega (arith, c.if-moves-eq0.false))))
+
+pub wins-unwrap-requires : goal.wins-unwrap-requires
+wins-unwrap-requires g t c =
+    some_first c.split_first_mut.result (length c.args.plies.now) _ c.split_first_mut.ensures.cases
+    (omega (arith, c.requires.room, c.if-moves-eq1.true))
+
+pub wins-unwrap-requires-2 : goal.wins-unwrap-requires-2
+wins-unwrap-requires-2 g t c =
+    some_first c.split_first_mut-2.result (length c.args.plies.now) _ c.split_first_mut-2.ensures.cases
+    (omega (arith, c.requires.room, c.in_default.ensures.some refl))

@@ -1,8 +1,11 @@
-use Rattle.std.proofs.Common.{inr, refl, sym}
+use Rattle.std.proofs.Common.{inl, inr, refl, subst, sym}
+use Rattle.std.proofs.lemmas.Bool.{true≢false}
 use Rattle.dw_memo.specs.Content.{entry}
+use Rattle.dw_solve.specs.Wins.{Win}
 use Rattle.dw_solve.proofs.MemoLemmas.{decided_known, decided_right, decided_says, same_true, undecided_open}
 use Rattle.dw_solve.proofs.MemoLemmas.{unheld_open}
-use Rattle.dw_solve.proofs.WorkLemmas.{searched_same}
+use Rattle.dw_solve.proofs.SearchLemmas.{answer_no}
+use Rattle.dw_solve.proofs.WorkLemmas.{searched_none, searched_same}
 use Rattle.dw_solve.proofs.search.known.Goals as goal
 
 pub returns-in-Some-clause-answer : goal.returns-in-Some-clause-answer
@@ -44,3 +47,17 @@ returns-in-Some-clause-says g c =
 pub returns-in-None-clause-searched : goal.returns-in-None-clause-searched
 returns-in-None-clause-searched g c = searched_same g.B.Board.geometry 0 0 _ _ c.look.ensures.map c.look.ensures.same
     (sym c.look.ensures.dropped) refl
+
+pub returns-then-moves-eq0-clause-answer : goal.returns-then-moves-eq0-clause-answer
+returns-then-moves-eq0-clause-answer g c =
+    answer_no (Win g.B.Board.geometry c.args.position.now c.args.moves) (λ win.
+    subst (Win g.B.Board.geometry c.args.position.now) c.if-moves-eq0.true win)
+
+pub returns-then-moves-eq0-clause-searched : goal.returns-then-moves-eq0-clause-searched
+returns-then-moves-eq0-clause-searched g c = searched_none g.B.Board.geometry 0 0 _
+
+pub returns-then-moves-eq0-clause-says : goal.returns-then-moves-eq0-clause-says
+returns-then-moves-eq0-clause-says g c = record {
+  when = λ won. absurd (true≢false (sym won));
+  unless = λ lost. inl c.if-moves-eq0.true;
+}

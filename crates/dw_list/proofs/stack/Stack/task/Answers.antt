@@ -3,7 +3,7 @@ use Rattle.dw_moves.specs.Moves.{play}
 use Rattle.dw_list.specs.Standing.{Standing}
 use Rattle.dw_list.specs.inner.Levels.{AreLevels}
 use Rattle.dw_list.proofs.StackLemmas.{behind_first}
-use Rattle.dw_list.proofs.StackViewLemmas.{at_last, not_listed, all_passed}
+use Rattle.dw_list.proofs.StackViewLemmas.{at_last, not_listed, all_passed, seen_levels}
 use Rattle.dw_list.proofs.stack.Stack.task.Goals as goal
 
 pub returns-then-not-is_listed-clause-task : goal.returns-then-not-is_listed-clause-task
@@ -56,3 +56,15 @@ returns-in-Some-clause-task g c =
       attacks = c.trial_of.ensures.attacks;
       left = c.trial_of.ensures.left;
     }
+
+pub returns-then-is_empty-clause-levels : goal.returns-then-is_empty-clause-levels
+returns-then-is_empty-clause-levels g c = seen_levels g.B.Board.geometry _ _ c.self.view_is c.self.invariant.0
+
+pub returns-then-not-is_listed-clause-levels : goal.returns-then-not-is_listed-clause-levels
+returns-then-not-is_listed-clause-levels g c = seen_levels g.B.Board.geometry _ _ c.self.view_is c.self.invariant.0
+
+pub returns-in-None-clause-levels : goal.returns-in-None-clause-levels
+returns-in-None-clause-levels g c = seen_levels g.B.Board.geometry _ _ c.self.view_is c.self.invariant.0
+
+pub returns-in-Some-clause-levels : goal.returns-in-Some-clause-levels
+returns-in-Some-clause-levels g c = seen_levels g.B.Board.geometry _ _ c.self.view_is c.self.invariant.0
