@@ -180,11 +180,20 @@ fn behind<B: Board, M: Memo<B>>(
 ) -> Option<()> {
     solver.set_limit(solver.expanded().max(50));
     let mut lister = lister_of(solver, column(asked, 0))?;
-    let line = moves_in(column(asked, 1))?;
-    lister.after(alloc, line.as_slice()).ok()?;
-    limit_to(&mut lister, 1_000_000);
-    found.say(&count(alloc, &mut lister)?);
+    found.say(&count_after(alloc, &mut lister, column(asked, 1))?);
     Some(())
+}
+
+/// How many lines come after a given one, with a limit that is ample for them.
+fn count_after<B: Board, M: Memo<B>>(
+    alloc: Global,
+    lister: &mut Lister<'_, B, M, ByTrial>,
+    text: &str,
+) -> Option<u32> {
+    let line = moves_in(text)?;
+    lister.after(alloc, line.as_slice()).ok()?;
+    limit_to(lister, 1_000_000);
+    count(alloc, lister)
 }
 
 /// Sets the limit of a lister to so many expansions, but to one at least, and not to fewer than there were.
