@@ -9,7 +9,7 @@ use Rattle.dw_moves.specs.Order.{Precedes, IsAscending}
 use Rattle.dw_moves.specs.Laws.{MovesHaveKeys}
 use Rattle.dw_list.specs.Lines.{Before}
 use Rattle.dw_list.specs.inner.ListLemmas.{at_item}
-use Rattle.dw_report.specs.Verdict.{IsWinning}
+use Rattle.dw_report.specs.Verdict.{IsWinning, Keys}
 use Rattle.dw_report.specs.inner.Judging.{LeadsToChoices, ComesToChoices, RepliesToChoices, IsLeast, FindsLeast}
 use Rattle.dw_report.proofs.ChoiceLemmas.{NoneThrough, BeginWith, found_through, none_more, none_at_all, leads_as}
 use Rattle.dw_report.proofs.ChoiceLemmas.{replies_as, leads_short, replies_short}
@@ -86,3 +86,12 @@ least_is Less P l cs k ds e f h = subst (λ z. IsLeast Less P z cs) (sym e) (sub
 pub ok_map : {T E : Type 0} (P Q : T → Type 0) (r : Result T E) → ((x : T) → P x → Q x) → IfOk r P → IfOk r Q
 ok_map P Q (Ok x) f h = f x h
 ok_map P Q (Err e) f h = tt
+
+-- several moves that win here are the first choice
+pub first_here : (g : Geometry) (n : ℕ) (p : Placement) (at choices : List Move) → at ≡ [] → Keys g p n choices
+    → 2 ≤ length choices → IsLeast (Before g p) (ComesToChoices g n p) at choices
+first_here g n p at choices e keys two = subst (λ z. IsLeast (Before g p) (ComesToChoices g n p) z choices) (sym e)
+    (record { is = (keys, two); least = λ other others h before. none_before other before }) where
+      none_before : (other : List Move) → Before g p other [] → ⊥
+      none_before [] before = absurd before
+      none_before (m ∷ l) before = absurd before

@@ -56,6 +56,10 @@ abbrev pub GatheredTo : {V Y : Type 0} → (V → Move) → (Move → Move → T
     → List Y → Type 0
 GatheredTo step R of P xs i ys = AreGathered R of P (map step (take i xs)) ys
 
+pub to_none : {V Y : Type 0} (step : V → Move) (R : Move → Move → Type 0) (of : Y → Move) (P : Y → Type 0)
+    (xs : List V) (ys : List Y) → ys ≡ [] → GatheredTo step R of P xs 0 ys
+to_none step R of P xs ys e = subst (AreGathered R of P []) (sym e) (gathered_none R of P)
+
 pub to_more : {V Y : Type 0} (step : V → Move) (R : Move → Move → Type 0) (of : Y → Move) (P : Y
     → Type 0) (xs : List V) (i : ℕ) (x : V) (ys : List Y) (y : Y) → IsAscending R (map step xs) → i < length xs
     → x ≡ get_or xs i x → of y ≡ step x → P y → ((z : Y) → of z ≡ step x → P z → z ≡ y) → GatheredTo step R of P xs i ys

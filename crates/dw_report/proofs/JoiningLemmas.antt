@@ -101,3 +101,9 @@ pub joined_all : (g : Geometry) (p : Placement) (mark : List ℕ) (moves rest : 
 joined_all g p mark moves rest i text h end =
     subst (λ (z : List Move). AreJoined g p mark z text) (sym h.split)
     (subst (λ (z : List Move). AreJoined g p mark (h.first ∷ z) text) (take_all i rest end) h.are)
+
+-- no moves give no text
+pub joined_none : (g : Geometry) (p : Placement) (mark : List ℕ) (moves : List Move) (text : List ℕ)
+    → length moves ≡ 0 → text ≡ [] → AreJoined g p mark moves text
+joined_none g p mark [] text none e = ([], refl, e)
+joined_none g p mark (m ∷ moves) text none e = absurd (omega (arith, none))

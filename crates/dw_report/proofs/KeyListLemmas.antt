@@ -1,6 +1,6 @@
 -- The keys gathered from all legal moves.
 use Rattle.std.proofs.Common.{◌≡◌, ℕ, ◌-◌, ◌<◌, ◌≤◌, zero, suc, List, [], ◌∷◌, length, map, get_or, refl, subst, inl}
-use Rattle.std.proofs.Common.{arith}
+use Rattle.std.proofs.Common.{arith, sym, ap, ◌∙◌, Bool, false, IsTrue, ◌↔◌}
 use Rattle.dw_board.specs.Geometry.{Geometry}
 use Rattle.dw_board.specs.Placement.{Placement}
 use Rattle.dw_moves.specs.Moves.{Move, Legal, play}
@@ -35,3 +35,15 @@ pub only_key : (g : Geometry) (p : Placement) (n : ℕ) (ks : List Move) (d : Mo
 only_key g p n [] d one keys = absurd (omega (arith, one))
 only_key g p n (k ∷ []) d one keys = keys
 only_key g p n (k ∷ l ∷ ks) d one keys = absurd (omega (arith, one))
+
+-- a move after which the answer is that its side does not lose
+pub not_lost : (g : Geometry) (p after : Placement) (n : ℕ) (m z : Move) (lost : Bool) → after ≡ play g p m
+    → (IsTrue lost ↔ Lost g after n) → lost ≡ false → z ≡ m → Lost g (play g p z) n → ⊥
+not_lost g p after n m z lost there tells fails same h =
+    let holds = tells.1 (subst (λ k. Lost g k n) (ap (play g p) same ∙ sym there) h) in cc
+
+-- no move wins within no moves
+pub keys_within_none : (g : Geometry) (p : Placement) (n : ℕ) (ks : List Move) → n ≡ 0 → ks ≡ []
+    → Keys g p n ks
+keys_within_none g p n ks none e = subst (λ k. Keys g p k ks) (sym none) (subst (Keys g p 0) (sym e)
+    (record { ascending = tt; exactly = λ m. (λ h. absurd h, λ w. absurd w) }))

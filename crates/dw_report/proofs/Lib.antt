@@ -19,3 +19,5 @@ pub mod VerdictTextLemmas
 pub mod TryTextLemmas
 pub mod SpendingLemmas
 pub mod JudgedWriteLemmas
+pub mod FaultLemmas
+pub mod RunStepLemmas

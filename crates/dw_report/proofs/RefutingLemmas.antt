@@ -1,10 +1,11 @@
 -- The only reply that refutes, looked for reply by reply.
 use Rattle.std.proofs.Common.{◌≡◌, ℕ, ◌+◌, ◌<◌, ◌≤◌, suc, List, [], ◌∷◌, ◌++◌, length, map, take, drop, get_or, refl}
-use Rattle.std.proofs.Common.{sym, ◌∙◌, subst, inl, inr, arith, Option, Some, None}
+use Rattle.std.proofs.Common.{sym, ◌∙◌, subst, inl, inr, arith, Option, Some, None, Bool, true, false, ◌↔◌, IsTrue}
 use Rattle.std.proofs.lemmas.List.{take_all}
 use Rattle.dw_board.specs.Geometry.{Geometry}
 use Rattle.dw_board.specs.Placement.{Placement}
-use Rattle.dw_moves.specs.Moves.{Move, Legal, AreLegal}
+use Rattle.dw_moves.specs.Moves.{Move, Legal, AreLegal, play}
+use Rattle.dw_solve.specs.Wins.{Win}
 use Rattle.dw_board.specs.Lists.{Member, NoRepeat}
 use Rattle.dw_moves.specs.inner.MemberLemmas.{mem_left, mem_right, mem_cases}
 use Rattle.dw_list.specs.inner.ListLemmas.{at_item}
@@ -96,3 +97,16 @@ legal_at step g q xs i x all low at =
     let parts = at_item step xs i x low at in
     (all.exactly (step x)).0 (subst (Member (step x)) (sym parts.0) (mem_right (step x) (map step (take i xs))
     (step x ∷ map step (drop (suc i) xs)) (inl refl)))
+
+-- a reply after which the answer is that there is no win
+pub refutes_if : (g : Geometry) (q after : Placement) (n : ℕ) (r : Move) (won : Bool) → Legal g q r
+    → after ≡ play g q r → (IsTrue won ↔ Win g after n) → won ≡ false → Refutes g q n r
+refutes_if g q after n r won legal there tells fails = (
+  legal,
+  λ w. let holds = tells.1 (subst (λ z. Win g z n) (sym there) w) in cc,
+)
+
+-- and one after which there is
+pub refutes_not : (g : Geometry) (q after : Placement) (n : ℕ) (r : Move) (won : Bool) → after ≡ play g q r
+    → (IsTrue won ↔ Win g after n) → won ≡ true → Refutes g q n r → ⊥
+refutes_not g q after n r won there tells holds h = h.1 (subst (λ z. Win g z n) there (tells.0 holds))

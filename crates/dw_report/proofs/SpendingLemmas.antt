@@ -1,5 +1,5 @@
 -- What is spent on a text, part by part.
-use Rattle.std.proofs.Common.{◌≤◌, refl, subst, ◌∙◌, arith}
+use Rattle.std.proofs.Common.{◌≡◌, ◌≤◌, refl, subst, ◌∙◌, arith}
 use Rattle.dw_solve.specs.Searching.{IsCounted}
 use Rattle.dw_solve.specs.Solving.{Solving}
 
@@ -17,4 +17,13 @@ counted_then a b c h k = record {
   rises = omega (arith, h.rises, k.rises);
   within = subst (λ z. c.expanded ≤ z) h.same k.within;
   same = k.same ∙ h.same;
+}
+
+-- and after what went before
+pub counted_further : {M : Type 0} (a b c : Solving M) → a.expanded ≤ b.expanded → b.limit ≡ a.limit → Counted b c
+    → Counted a c
+counted_further a b c rises same h = record {
+  rises = omega (arith, rises, h.rises);
+  within = subst (λ z. c.expanded ≤ z) same h.within;
+  same = h.same ∙ same;
 }

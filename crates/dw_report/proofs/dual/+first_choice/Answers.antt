@@ -5,13 +5,13 @@ use Rattle.dw_moves.specs.Order.{Precedes, IsListOf}
 use Rattle.dw_list.specs.Lines.{Before}
 use Rattle.dw_list.specs.inner.AskingLemmas.{answered, asked_none, asked_then, asked_wider, asked_ok, asked_stop}
 use Rattle.dw_list.specs.inner.AskingLemmas.{asked_memory}
-use Rattle.dw_report.specs.Verdict.{IsWinning}
+use Rattle.dw_report.specs.Verdict.{IsWinning, Keys}
 use Rattle.dw_report.specs.inner.Judging.{LeadsToChoices, ComesToChoices, RepliesToChoices, FindsLeast, parts_of}
 use Rattle.dw_report.proofs.GatheredLemmas.{item_among}
 use Rattle.dw_report.proofs.ChoiceLemmas.{leads_begin, replies_begin, comes_later}
 use Rattle.dw_report.proofs.ChoiceLoopLemmas.{none_to_more, none_to_all, found_at, map_same, after_key, some_left}
 use Rattle.dw_report.proofs.ChoiceLoopLemmas.{room_for_key, room_for_reply, after_reply, winning_legal, least_is}
-use Rattle.dw_report.proofs.ChoiceLoopLemmas.{ok_map}
+use Rattle.dw_report.proofs.ChoiceLoopLemmas.{ok_map, first_here}
 use Rattle.dw_report.proofs.dual.+first_choice.Goals as goal
 
 pub choice_after_reply-returns-in_err-list-clause-asked : goal.choice_after_reply-returns-in_err-list-clause-asked
@@ -50,8 +50,10 @@ choice_after_reply-returns-in_err-found-clause-asked g t c =
     let content = g.M.Memo.content in
     let lost = g.M.Memo.dropped in
     let law = c.searches_add_up.ensures in
-    asked_then geo content lost law c.args.left _ _ _ _ c.replies.invariant.asked
-    (asked_stop geo content lost c.args.left _ _ c.in_err-found.field-0.0 _ c.from_residual-in_err-found.ensures.1
+    asked_then geo content lost law c.args.left c.args.solver.now c.replies.solver c.choice_from.new.solver
+    c.from_residual-in_err-found.result c.replies.invariant.asked
+    (asked_stop geo content lost c.args.left c.replies.solver c.choice_from.new.solver c.in_err-found.field-0.0
+    c.from_residual-in_err-found.result c.from_residual-in_err-found.ensures.1
     c.in_err-found.ensures.asked)
 
 pub choice_after_reply-with_first-requires : goal.choice_after_reply-with_first-requires
@@ -104,8 +106,9 @@ choice_after_reply-returns-in-Some-clause-asked g t c =
     let content = g.M.Memo.content in
     let lost = g.M.Memo.dropped in
     let law = c.searches_add_up.ensures in
-    asked_then geo content lost law c.args.left _ _ _ _ c.replies.invariant.asked
-    (asked_ok geo content lost c.args.left _ _ _ _ c.in_ok-found.ensures.asked)
+    asked_then geo content lost law c.args.left c.args.solver.now c.replies.solver c.choice_from.new.solver _
+    c.replies.invariant.asked
+    (asked_ok geo content lost c.args.left c.replies.solver c.choice_from.new.solver _ _ c.in_ok-found.ensures.asked)
 
 pub choice_after_reply-replies-preserved : goal.choice_after_reply-replies-preserved
 choice_after_reply-replies-preserved g t c =
@@ -128,8 +131,9 @@ choice_after_reply-replies-preserved g t c =
           c.replies-test.true c.item-item.is
           (after_reply geo n q c.play-after.result c.item-item.result.step None there legal found)
           c.replies.invariant.none;
-      asked = asked_then geo content lost c.searches_add_up.ensures n _ _ _ answered c.replies.invariant.asked
-          (asked_ok geo content lost n _ _ _ 0 c.in_ok-found.ensures.asked);
+      asked = asked_then geo content lost c.searches_add_up.ensures n c.args.solver.now c.replies.solver
+          c.choice_from.new.solver answered c.replies.invariant.asked
+          (asked_ok geo content lost n c.replies.solver c.choice_from.new.solver _ 0 c.in_ok-found.ensures.asked);
     }
 
 pub choice_after_reply-returns-clause-found : goal.choice_after_reply-returns-clause-found
@@ -160,7 +164,8 @@ choice_from-returns-clause-asked g t c =
     let content = g.M.Memo.content in
     let lost = g.M.Memo.dropped in
     let law = c.searches_add_up.ensures in
-    asked_then geo content lost law c.args.left _ _ _ _ (asked_ok geo content lost c.args.left _ _ _ 0
+    asked_then geo content lost law c.args.left c.args.solver.now c.keys.new.solver c.first_choice.new.solver
+    c.first_choice.result (asked_ok geo content lost c.args.left c.args.solver.now c.keys.new.solver _ 0
     c.in_ok-choices.ensures.asked) c.first_choice.ensures.asked
 
 pub first_choice-keys-init : goal.first_choice-keys-init
@@ -206,9 +211,12 @@ first_choice-returns-in_err-found-clause-asked g t c =
     let law = c.searches_add_up.ensures in
     let sub = c.saturating_sub.ensures in
     let less : c.saturating_sub.result ≤ c.args.moves = omega (arith, sub) in
-    asked_then geo content lost law c.args.moves _ _ _ _ c.keys.invariant.asked
-    (asked_wider geo content lost law c.saturating_sub.result c.args.moves _ _ _ less
-    (asked_stop geo content lost c.saturating_sub.result _ _ c.in_err-found.field-0.0 _ c.from_residual.ensures.1
+    asked_then geo content lost law c.args.moves c.args.solver.now c.keys.solver c.choice_after_reply.new.solver
+    c.from_residual.result c.keys.invariant.asked
+    (asked_wider geo content lost law c.saturating_sub.result c.args.moves c.keys.solver
+    c.choice_after_reply.new.solver c.from_residual.result less
+    (asked_stop geo content lost c.saturating_sub.result c.keys.solver c.choice_after_reply.new.solver
+    c.in_err-found.field-0.0 c.from_residual.result c.from_residual.ensures.1
     c.in_err-found.ensures.asked))
 
 pub first_choice-with_first-requires : goal.first_choice-with_first-requires
@@ -264,9 +272,12 @@ first_choice-returns-in-Some-clause-asked g t c =
     let law = c.searches_add_up.ensures in
     let sub = c.saturating_sub.ensures in
     let less : c.saturating_sub.result ≤ c.args.moves = omega (arith, sub) in
-    asked_then geo content lost law c.args.moves _ _ _ _ c.keys.invariant.asked
-    (asked_wider geo content lost law c.saturating_sub.result c.args.moves _ _ _ less
-    (asked_ok geo content lost c.saturating_sub.result _ _ _ _ c.in_ok-found.ensures.asked))
+    asked_then geo content lost law c.args.moves c.args.solver.now c.keys.solver c.choice_after_reply.new.solver _
+    c.keys.invariant.asked
+    (asked_wider geo content lost law c.saturating_sub.result c.args.moves c.keys.solver
+    c.choice_after_reply.new.solver _ less
+    (asked_ok geo content lost c.saturating_sub.result c.keys.solver c.choice_after_reply.new.solver _ _
+    c.in_ok-found.ensures.asked))
 
 pub first_choice-keys-preserved : goal.first_choice-keys-preserved
 first_choice-keys-preserved g t c =
@@ -291,9 +302,12 @@ first_choice-keys-preserved g t c =
           c.key-item.is
           (after_key geo n p c.play-after.result c.key-item.result None c.play-after.ensures key found)
           c.keys.invariant.none;
-      asked = asked_then geo content lost c.searches_add_up.ensures n _ _ _ answered c.keys.invariant.asked
-          (asked_wider geo content lost c.searches_add_up.ensures c.saturating_sub.result n _ _ answered less
-          (asked_ok geo content lost c.saturating_sub.result _ _ _ 0 c.in_ok-found.ensures.asked));
+      asked = asked_then geo content lost c.searches_add_up.ensures n c.args.solver.now c.keys.solver
+          c.choice_after_reply.new.solver answered c.keys.invariant.asked
+          (asked_wider geo content lost c.searches_add_up.ensures c.saturating_sub.result n c.keys.solver
+          c.choice_after_reply.new.solver answered less
+          (asked_ok geo content lost c.saturating_sub.result c.keys.solver c.choice_after_reply.new.solver _ 0
+          c.in_ok-found.ensures.asked));
     }
 
 pub first_choice-returns-clause-found : goal.first_choice-returns-clause-found
@@ -321,3 +335,20 @@ choice_from-returns-then-len-ge2-clause-asked g t c = asked_ok g.B.Board.geometr
 pub first_choice-returns-clause-asked : goal.first_choice-returns-clause-asked
 first_choice-returns-clause-asked g t c = asked_ok g.B.Board.geometry g.M.Memo.content g.M.Memo.dropped c.args.moves _ _
     0 _ c.keys.invariant.asked
+
+pub choice_from-returns-then-len-ge2-clause-found : goal.choice_from-returns-then-len-ge2-clause-found
+choice_from-returns-then-len-ge2-clause-found g t c = first_here g.B.Board.geometry c.args.left c.args.position.now
+    c.new-at.result.items c.in_ok-choices.choices.items c.new-at.ensures c.in_ok-choices.ensures.keys
+    (omega (arith, c.if-len-ge2.true, c.len.ensures))
+
+pub choice_from-first_choice-requires : goal.choice_from-first_choice-requires
+choice_from-first_choice-requires g t c κs within =
+    let keys = subst (Keys g.B.Board.geometry c.args.position.now c.args.left) (sym c.as_slice.ensures.value)
+    c.in_ok-choices.ensures.keys in (
+      omega (arith, c.decreases),
+      (within.0, (within.1.0, (within.1.1, (omega arith, (omega (arith, c.requires), keys))))),
+    )
+
+pub choice_after_reply-choice_from-requires : goal.choice_after_reply-choice_from-requires
+choice_after_reply-choice_from-requires g t c κs within =
+    (omega (arith, c.decreases), (within.0, (within.1.0, (within.1.1, (omega arith, c.requires)))))

@@ -1,4 +1,5 @@
 use Rattle.dw_list.specs.inner.AskingLemmas.{answered, asked_then, asked_ok, asked_stop}
+use Rattle.dw_report.proofs.SpendingLemmas.{counted_then}
 use Rattle.dw_report.proofs.judge.judge.Goals as goal
 
 pub returns-in_err-tries-clause-searched : goal.returns-in_err-tries-clause-searched
@@ -22,3 +23,13 @@ returns-clause-searched g c =
     (asked_then geo content lost law n _ _ _ answered (asked_ok geo content lost n _ _ _ 0
     c.in_ok-verdict.ensures.asked)
     (asked_ok geo content lost n _ _ _ 0 c.in_ok-tries.ensures.asked)).searched
+
+pub returns-in_err-tries-clause-count : goal.returns-in_err-tries-clause-count
+returns-in_err-tries-clause-count g c =
+    counted_then c.args.solver.now c.verdict.new.solver c.tries.new.solver c.verdict.ensures.asked.count
+    c.tries.ensures.asked.count
+
+pub returns-clause-count : goal.returns-clause-count
+returns-clause-count g c =
+    counted_then c.args.solver.now c.verdict.new.solver c.tries.new.solver c.verdict.ensures.asked.count
+    c.tries.ensures.asked.count

@@ -18,9 +18,10 @@ returns-then-branch-clause-asked g c =
     let law = c.searches_add_up.ensures in
     let n = c.args.moves in
     let less : n - 1 ≤ n = omega arith in
-    let first = asked_wider geo content lost law (n - 1) n _ _ answered less
-    (asked_ok geo content lost (n - 1) _ _ _ 0 c.in_ok-wins.ensures.asked) in
-    asked_then geo content lost law n _ _ _ _ first c.cooked.ensures.asked
+    let first = asked_wider geo content lost law (n - 1) n c.args.solver.now c.wins.new.self answered less
+    (asked_ok geo content lost (n - 1) c.args.solver.now c.wins.new.self _ 0 c.in_ok-wins.ensures.asked) in
+    asked_then geo content lost law n c.args.solver.now c.wins.new.self c.cooked.new.solver c.cooked.result first
+    c.cooked.ensures.asked
 
 pub returns-in_err-dual-clause-asked : goal.returns-in_err-dual-clause-asked
 returns-in_err-dual-clause-asked g c =
@@ -30,10 +31,12 @@ returns-in_err-dual-clause-asked g c =
     let law = c.searches_add_up.ensures in
     let n = c.args.moves in
     let less : n - 1 ≤ n = omega arith in
-    let first = asked_wider geo content lost law (n - 1) n _ _ answered less
-    (asked_ok geo content lost (n - 1) _ _ _ 0 c.in_ok-wins.ensures.asked) in
-    asked_then geo content lost law n _ _ _ _ first
-    (asked_stop geo content lost n _ _ c.in_err-dual.field-0.0 _ c.from_residual-in_err-dual.ensures.1
+    let first = asked_wider geo content lost law (n - 1) n c.args.solver.now c.wins.new.self answered less
+    (asked_ok geo content lost (n - 1) c.args.solver.now c.wins.new.self _ 0 c.in_ok-wins.ensures.asked) in
+    asked_then geo content lost law n c.args.solver.now c.wins.new.self c.first_choice.new.solver
+    c.from_residual-in_err-dual.result first
+    (asked_stop geo content lost n c.wins.new.self c.first_choice.new.solver c.in_err-dual.field-0.0
+    c.from_residual-in_err-dual.result c.from_residual-in_err-dual.ensures.1
     c.in_err-dual.ensures.asked)
 
 pub returns-in-Some-clause-verdict : goal.returns-in-Some-clause-verdict
@@ -57,9 +60,10 @@ returns-in-Some-clause-asked g c =
     let law = c.searches_add_up.ensures in
     let n = c.args.moves in
     let less : n - 1 ≤ n = omega arith in
-    let first = asked_wider geo content lost law (n - 1) n _ _ answered less
-    (asked_ok geo content lost (n - 1) _ _ _ 0 c.in_ok-wins.ensures.asked) in
-    asked_then geo content lost law n _ _ _ _ first (asked_ok geo content lost n _ _ _ _ c.in_ok-dual.ensures.asked)
+    let first = asked_wider geo content lost law (n - 1) n c.args.solver.now c.wins.new.self answered less
+    (asked_ok geo content lost (n - 1) c.args.solver.now c.wins.new.self _ 0 c.in_ok-wins.ensures.asked) in
+    asked_then geo content lost law n c.args.solver.now c.wins.new.self c.first_choice.new.solver _ first
+    (asked_ok geo content lost n c.wins.new.self c.first_choice.new.solver _ _ c.in_ok-dual.ensures.asked)
 
 pub returns-clause-verdict : goal.returns-clause-verdict
 returns-clause-verdict g c =
@@ -84,9 +88,10 @@ returns-clause-asked g c =
     let law = c.searches_add_up.ensures in
     let n = c.args.moves in
     let less : n - 1 ≤ n = omega arith in
-    let first = asked_wider geo content lost law (n - 1) n _ _ answered less
-    (asked_ok geo content lost (n - 1) _ _ _ 0 c.in_ok-wins.ensures.asked) in
-    asked_then geo content lost law n _ _ _ _ first (asked_ok geo content lost n _ _ _ _ c.in_ok-dual.ensures.asked)
+    let first = asked_wider geo content lost law (n - 1) n c.args.solver.now c.wins.new.self answered less
+    (asked_ok geo content lost (n - 1) c.args.solver.now c.wins.new.self _ 0 c.in_ok-wins.ensures.asked) in
+    asked_then geo content lost law n c.args.solver.now c.wins.new.self c.first_choice.new.solver _ first
+    (asked_ok geo content lost n c.wins.new.self c.first_choice.new.solver _ _ c.in_ok-dual.ensures.asked)
 
 pub cooked-requires : goal.cooked-requires
 cooked-requires g c =
@@ -101,6 +106,17 @@ returns-in_err-wins-clause-asked g c =
     let lost = g.M.Memo.dropped in
     let n = c.args.moves in
     let less : n - 1 ≤ n = omega arith in
-    asked_wider geo content lost c.searches_add_up.ensures (n - 1) n _ _ _ less
-    (asked_stop geo content lost (n - 1) _ _ c.in_err-wins.field-0.0 _ c.from_residual.ensures.1
+    asked_wider geo content lost c.searches_add_up.ensures (n - 1) n c.args.solver.now c.wins.new.self
+    c.from_residual.result less
+    (asked_stop geo content lost (n - 1) c.args.solver.now c.wins.new.self c.in_err-wins.field-0.0
+    c.from_residual.result c.from_residual.ensures.1
     c.in_err-wins.ensures.asked)
+
+pub first_choice-requires : goal.first_choice-requires
+first_choice-requires g c =
+    let keys = subst (Keys g.B.Board.geometry c.args.position.now c.args.moves) (sym c.as_slice.ensures.value)
+    c.requires.one.are in
+    (omega arith, (c.requires.few, keys))
+
+pub returns-then-branch-clause-verdict : goal.returns-then-branch-clause-verdict
+returns-then-branch-clause-verdict g c = c.cooked.ensures.verdict

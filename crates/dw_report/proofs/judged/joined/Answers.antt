@@ -1,7 +1,7 @@
 use Rattle.std.proofs.Common.{◌++◌, sym, ap, ◌∙◌, subst, inr}
 use Rattle.std.specs.String.{string_bytes}
 use Rattle.dw_board.specs.Lists.{Member}
-use Rattle.dw_report.proofs.JoiningLemmas.{one_of_them, joined_one, joined_more, joined_all}
+use Rattle.dw_report.proofs.JoiningLemmas.{one_of_them, joined_one, joined_more, joined_all, joined_none}
 use Rattle.dw_report.proofs.judged.joined.Goals as goal
 
 pub rest-init : goal.rest-init
@@ -30,3 +30,8 @@ rest-preserved g c =
 pub returns : goal.returns
 returns g c = joined_all g.B.Board.geometry c.args.position.now c.args.mark.now c.args.moves.now c.in-Some.rest.now
     c.rest.mv-index (string_bytes c.rest.text) c.rest.invariant c.rest-test.false
+
+pub returns-in_default : goal.returns-in_default
+returns-in_default g c =
+    joined_none g.B.Board.geometry c.args.position.now c.args.mark.now c.args.moves.now (string_bytes c.new-text.result)
+    c.in_default.ensures.cases c.new-text.ensures.bytes

@@ -1,12 +1,14 @@
-use Rattle.std.proofs.Common.{◌≡◌, [], map, refl, sym, ap, ◌∙◌, subst}
+use Rattle.std.proofs.Common.{◌≡◌, [], map, refl, sym, ap, ◌∙◌, subst, Err}
 use Rattle.std.proofs.lemmas.Result.{err_from_is_err_and}
 use Rattle.dw_moves.specs.Moves.{Legal}
 use Rattle.dw_moves.specs.Order.{Precedes, IsListOf}
 use Rattle.dw_notation.specs.Writes.{Writes}
 use Rattle.dw_report.specs.inner.JudgedText.{IsTryText}
-use Rattle.dw_report.specs.inner.Running.{TextEnds}
+use Rattle.dw_report.specs.inner.Running.{TextEnds, SinkEnds}
 use Rattle.dw_report.proofs.GatheredLemmas.{item_among}
 use Rattle.dw_report.proofs.SpendingLemmas.{counted_none, counted_then}
+use Rattle.dw_report.proofs.FaultLemmas.{sink_same, sink_stopped, spends_same, spends_done, spends_no_memory}
+use Rattle.dw_report.proofs.FaultLemmas.{spends_further}
 use Rattle.dw_report.proofs.TryTextLemmas.{none_written, at_first, at_next, at_fault, at_end}
 use Rattle.dw_report.proofs.judged.write_tries.Goals as goal
 
@@ -88,3 +90,37 @@ returns-clause-text g c =
     at_end c.wins_are_decided.ensures c.moves_in_order.ensures c.moves_have_keys.ensures c.moves_have_texts.ensures geo
     g.met.B.Board.numbers p n (λ item. item.step) items c.moves.item-index (g.K.Sink.taken c.args.sink.now)
     (g.K.Sink.taken c.moves.sink) all c.moves-test.false c.moves.invariant.wrote
+
+pub returns-in_err-list-clause-sink : goal.returns-in_err-list-clause-sink
+returns-in_err-list-clause-sink g c =
+    let why = err_from_is_err_and c.from_residual.result c.from_residual.ensures.1 in
+    let sink = g.K.Sink.is_failed c.args.sink.now in
+    sink_stopped sink sink c.from_residual.result _ (why.1 ∙ ap Err why.2) refl
+
+pub returns-in_err-list-clause-spends : goal.returns-in_err-list-clause-spends
+returns-in_err-list-clause-spends g c =
+    let why = err_from_is_err_and c.from_residual.result c.from_residual.ensures.1 in
+    spends_no_memory c.args.solver.now c.args.solver.now c.from_residual.result why.0 why.1 why.2
+    (counted_none c.args.solver.now c.limit.ensures.within)
+
+pub returns-in_err-write_try-clause-sink : goal.returns-in_err-write_try-clause-sink
+returns-in_err-write_try-clause-sink g c =
+    let end = c.from_residual-in_err-write_try in
+    let why = err_from_is_err_and end.result end.ensures.1 in
+    let new = g.K.Sink.is_failed c.write_try.new.sink in
+    subst (λ z. SinkEnds z new end.result) c.moves.invariant.sink (sink_same (g.K.Sink.is_failed c.moves.sink) new
+    c.write_try.result end.result c.in_err-write_try.field-0.0 why.0 c.in_err-write_try.was why.1 (sym why.2)
+    c.write_try.ensures.sink)
+
+pub returns-in_err-write_try-clause-spends : goal.returns-in_err-write_try-clause-spends
+returns-in_err-write_try-clause-spends g c =
+    let end = c.from_residual-in_err-write_try in
+    let why = err_from_is_err_and end.result end.ensures.1 in
+    let new = c.write_try.new.solver in
+    spends_same c.args.solver.now new c.write_try.result end.result c.in_err-write_try.field-0.0 why.0
+    c.in_err-write_try.was why.1 (sym why.2) (spends_further c.args.solver.now c.moves.solver new c.write_try.result
+    c.moves.invariant.counted c.write_try.ensures.spends)
+
+pub returns-clause-spends : goal.returns-clause-spends
+returns-clause-spends g c =
+    spends_done c.args.solver.now c.moves.solver _ c.moves.invariant.counted

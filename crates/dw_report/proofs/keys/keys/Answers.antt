@@ -4,8 +4,8 @@ use Rattle.dw_moves.specs.Order.{Precedes, IsListOf}
 use Rattle.dw_solve.specs.Wins.{Lost}
 use Rattle.dw_list.specs.inner.AskingLemmas.{answered, asked_none, asked_then, asked_wider, asked_ok, asked_stop}
 use Rattle.dw_list.specs.inner.AskingLemmas.{asked_memory}
-use Rattle.dw_report.proofs.GatheredLemmas.{GatheredTo, to_more, to_same, item_among}
-use Rattle.dw_report.proofs.KeyListLemmas.{keys_whole}
+use Rattle.dw_report.proofs.GatheredLemmas.{GatheredTo, to_none, to_more, to_same, item_among}
+use Rattle.dw_report.proofs.KeyListLemmas.{keys_whole, not_lost, keys_within_none}
 use Rattle.dw_report.proofs.keys.keys.Goals.{then-branch+in_ok-push, else-branch}
 use Rattle.dw_report.proofs.keys.keys.Goals as goal
 
@@ -26,9 +26,12 @@ returns-in_err-loses-clause-asked g c =
     let lost = g.M.Memo.dropped in
     let law = c.searches_add_up.ensures in
     let less : c.args.moves - 1 ≤ c.args.moves = omega arith in
-    asked_then geo content lost law c.args.moves _ _ _ _ c.moves.invariant.asked
-    (asked_wider geo content lost law (c.args.moves - 1) c.args.moves _ _ _ less
-    (asked_stop geo content lost (c.args.moves - 1) _ _ c.in_err-loses.field-0.0 _
+    asked_then geo content lost law c.args.moves c.args.solver.now c.moves.solver c.loses.new.self
+    c.from_residual-in_err-loses.result c.moves.invariant.asked
+    (asked_wider geo content lost law (c.args.moves - 1) c.args.moves c.moves.solver c.loses.new.self
+    c.from_residual-in_err-loses.result less
+    (asked_stop geo content lost (c.args.moves - 1) c.moves.solver c.loses.new.self c.in_err-loses.field-0.0
+    c.from_residual-in_err-loses.result
     c.from_residual-in_err-loses.ensures.1
     c.in_err-loses.ensures.asked))
 
@@ -39,10 +42,12 @@ returns-in_err-push-clause-asked g c =
     let lost = g.M.Memo.dropped in
     let law = c.searches_add_up.ensures in
     let less : c.args.moves - 1 ≤ c.args.moves = omega arith in
-    asked_memory geo content lost c.args.moves _ _ _ c.from_residual-in_err-push.ensures.1
-    (asked_then geo content lost law c.args.moves _ _ _ answered c.moves.invariant.asked
-    (asked_wider geo content lost law (c.args.moves - 1) c.args.moves _ _ answered less
-    (asked_ok geo content lost (c.args.moves - 1) _ _ _ 0
+    asked_memory geo content lost c.args.moves c.args.solver.now c.loses.new.self c.from_residual-in_err-push.result
+    c.from_residual-in_err-push.ensures.1
+    (asked_then geo content lost law c.args.moves c.args.solver.now c.moves.solver c.loses.new.self answered
+    c.moves.invariant.asked
+    (asked_wider geo content lost law (c.args.moves - 1) c.args.moves c.moves.solver c.loses.new.self answered less
+    (asked_ok geo content lost (c.args.moves - 1) c.moves.solver c.loses.new.self _ 0
     c.in_ok-loses.ensures.asked)))
 
 pub moves-preserved : goal.moves-preserved
@@ -74,13 +79,14 @@ moves-preserved g c =
             (sym (ap (λ v. v.items) w.keys-is))
             (to_same (λ item. item.step) (Precedes geo p) (λ m. m) (λ m. Lost geo (play geo p m) (n - 1))
             c.as_slice-item-items.result.now c.moves.item-index c.item-item.result c.moves.keys.items
-            c.moves-test.true c.item-item.is (λ z e h. let yes = c.in_ok-loses.ensures.answer.1
-            (subst (λ z. Lost geo z (n - 1)) (ap (play geo p) (e ∙ sym is) ∙ sym c.play-after.ensures) h) in
-            let not_so = w.if-branch.false in cc) c.moves.invariant.keys)
+            c.moves-test.true c.item-item.is (λ z e h. not_lost geo p c.play-after.result (n - 1)
+            c.item.inside.step z c.in_ok-loses.field-0 c.play-after.ensures c.in_ok-loses.ensures.answer
+            w.if-branch.false (e ∙ sym is) h) c.moves.invariant.keys)
       ];
-      asked = asked_then geo content lost law n _ _ _ answered c.moves.invariant.asked
-          (asked_wider geo content lost law (n - 1) n _ _ answered less
-          (asked_ok geo content lost (n - 1) _ _ _ 0
+      asked = asked_then geo content lost law n c.args.solver.now c.moves.solver c.loses.new.self answered
+          c.moves.invariant.asked
+          (asked_wider geo content lost law (n - 1) n c.moves.solver c.loses.new.self answered less
+          (asked_ok geo content lost (n - 1) c.moves.solver c.loses.new.self _ 0
           c.in_ok-loses.ensures.asked));
     }
 
@@ -115,3 +121,20 @@ returns-in_err-list-clause-asked g c =
 pub returns-clause-asked : goal.returns-clause-asked
 returns-clause-asked g c = asked_ok g.B.Board.geometry g.M.Memo.content g.M.Memo.dropped c.args.moves _ _ 0 _
     c.moves.invariant.asked
+
+pub returns-then-moves-eq0-clause-keys : goal.returns-then-moves-eq0-clause-keys
+returns-then-moves-eq0-clause-keys g c =
+    keys_within_none g.B.Board.geometry c.args.position.now c.args.moves c.new-keys.result.items
+    (omega (arith, c.if-moves-eq0.true)) c.new-keys.ensures.items
+
+pub moves-init : goal.moves-init
+moves-init g c =
+    let geo = g.B.Board.geometry in
+    let p = c.args.position.now in
+    let n = c.args.moves in
+    record {
+      keys = to_none (λ item. item.step) (Precedes geo p) (λ m. m) (λ m. Lost geo (play geo p m) (n - 1))
+          c.as_slice-item-items.result.now c.new-keys.result.items c.new-keys.ensures.items;
+      asked = asked_none geo g.M.Memo.content g.M.Memo.dropped c.searches_add_up.ensures n c.args.solver.now
+          c.limit.ensures.within;
+    }

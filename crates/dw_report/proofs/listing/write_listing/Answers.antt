@@ -5,16 +5,20 @@ use Rattle.dw_moves.specs.Moves.{Move}
 use Rattle.dw_notation.specs.LineTexts.{moves_of}
 use Rattle.dw_notation.specs.Text.{ArePlayable}
 use Rattle.dw_notation.specs.Writes.{StopsShort, Writes}
-use Rattle.dw_list.specs.Listing.{stack_of, kept_of, shared_of, ComesFrom}
+use Rattle.dw_list.specs.Listing.{stack_of, kept_of, shared_of, solver_of, ComesFrom}
 use Rattle.dw_report.specs.ListedText.{IsListing}
 use Rattle.dw_report.specs.inner.Rows.{IsRow, IsNothing}
 use Rattle.dw_report.specs.Running.{AreLinesOf}
-use Rattle.dw_report.specs.inner.Running.{TextEnds}
+use Rattle.dw_report.specs.inner.Running.{TextEnds, SinkEnds}
+use Rattle.dw_report.proofs.SearchLemmas.{same_fault}
 use Rattle.dw_report.proofs.JudgedTextLemmas.{line_playable}
 use Rattle.dw_report.proofs.LineRowLemmas.{line_odd, comes_first, lines_text, no_rows, row_written, given_line}
 use Rattle.dw_report.proofs.LineRowLemmas.{last_line, line_next, none_next, rows_stop, row_ends, more_line}
 use Rattle.dw_report.proofs.LineRowLemmas.{complete_written, complete_short, more_written, more_short}
 use Rattle.dw_report.proofs.WritingLemmas.{at_stop, at_sink}
+use Rattle.dw_report.proofs.SpendingLemmas.{counted_further}
+use Rattle.dw_report.proofs.FaultLemmas.{sink_same, sink_stopped, sink_failed}
+use Rattle.dw_report.proofs.FaultLemmas.{spends_done, spends_memory, spends_sink, spends_stopped}
 use Rattle.dw_report.proofs.listing.write_listing.Goals as goal
 
 pub lines-init : goal.lines-init
@@ -254,3 +258,129 @@ returns-in_ok-write_all-2-clause-text g c =
     (stack_of c.lines.lister)
     (stack_of c.advance-2.new.self) c.lines.written _ _ _ c.lines.invariant.rows none c.lines.invariant.few
     (subst (Appends _ _) row c.in_ok-write_all-2.ensures.ok)
+
+pub returns-in_err-advance-clause-sink : goal.returns-in_err-advance-clause-sink
+returns-in_err-advance-clause-sink g c =
+    let why = err_from_is_err_and c.from_residual.result c.from_residual.ensures.1 in
+    sink_stopped (g.K.Sink.is_failed c.args.sink.now) (g.K.Sink.is_failed c.lines.sink) c.from_residual.result
+    c.in_err-advance.field-0.0 (why.1 ∙ ap Err why.2) c.lines.invariant.sink
+
+pub returns-in_err-advance-clause-spends : goal.returns-in_err-advance-clause-spends
+returns-in_err-advance-clause-spends g c =
+    let old = solver_of c.args.lister.now in
+    let new = solver_of c.advance.new.self in
+    let count = counted_further old (solver_of c.lines.lister) new c.lines.invariant.rises c.lines.invariant.limit
+    c.advance.ensures.count in
+    let why = err_from_is_err_and c.from_residual.result c.from_residual.ensures.1 in
+    spends_stopped old new c.advance.result c.from_residual.result c.in_err-advance.field-0.0
+    c.in_err-advance.was (why.1 ∙ ap Err why.2) c.advance.ensures.stop count
+
+pub returns-in_err-advance-2-clause-sink : goal.returns-in_err-advance-2-clause-sink
+returns-in_err-advance-2-clause-sink g c =
+    let why = err_from_is_err_and c.from_residual-in_err-advance-2.result c.from_residual-in_err-advance-2.ensures.1 in
+    sink_stopped (g.K.Sink.is_failed c.args.sink.now) (g.K.Sink.is_failed c.lines.sink)
+    c.from_residual-in_err-advance-2.result
+    c.in_err-advance-2.field-0.0 (why.1 ∙ ap Err why.2) c.lines.invariant.sink
+
+pub returns-in_err-advance-2-clause-spends : goal.returns-in_err-advance-2-clause-spends
+returns-in_err-advance-2-clause-spends g c =
+    let old = solver_of c.args.lister.now in
+    let new = solver_of c.advance-2.new.self in
+    let count = counted_further old (solver_of c.lines.lister) new c.lines.invariant.rises c.lines.invariant.limit
+    c.advance-2.ensures.count in
+    let why = err_from_is_err_and c.from_residual-in_err-advance-2.result c.from_residual-in_err-advance-2.ensures.1 in
+    spends_stopped old new c.advance-2.result c.from_residual-in_err-advance-2.result c.in_err-advance-2.field-0.0
+    c.in_err-advance-2.was (why.1 ∙ ap Err why.2) c.advance-2.ensures.stop count
+
+pub returns-in_err-write_all-clause-sink : goal.returns-in_err-write_all-clause-sink
+returns-in_err-write_all-clause-sink g c =
+    let why = err_from_is_err_and c.from_residual-in_err-write_all.result c.from_residual-in_err-write_all.ensures.1 in
+    sink_failed (g.K.Sink.is_failed c.args.sink.now) (g.K.Sink.is_failed c.write_all.new.sink)
+    c.from_residual-in_err-write_all.result (why.1 ∙ ap Err why.2) (c.in_err-write_all.ensures.failed refl)
+
+pub returns-in_err-write_all-clause-spends : goal.returns-in_err-write_all-clause-spends
+returns-in_err-write_all-clause-spends g c =
+    let old = solver_of c.args.lister.now in
+    let new = solver_of c.advance.new.self in
+    let count = counted_further old (solver_of c.lines.lister) new c.lines.invariant.rises c.lines.invariant.limit
+    c.advance.ensures.count in
+    let why = err_from_is_err_and c.from_residual-in_err-write_all.result c.from_residual-in_err-write_all.ensures.1 in
+    spends_sink old new c.from_residual-in_err-write_all.result (why.1 ∙ ap Err why.2) count
+
+pub returns-in_err-write_more-clause-sink : goal.returns-in_err-write_more-clause-sink
+returns-in_err-write_more-clause-sink g c =
+    let why = err_from_is_err_and c.from_residual-in_err-write_more.result
+    c.from_residual-in_err-write_more.ensures.1 in
+    sink_failed (g.K.Sink.is_failed c.args.sink.now) (g.K.Sink.is_failed c.write_more.new.sink)
+    c.from_residual-in_err-write_more.result (why.1 ∙ ap Err why.2) (c.in_err-write_more.ensures.failed refl)
+
+pub returns-in_err-write_more-clause-spends : goal.returns-in_err-write_more-clause-spends
+returns-in_err-write_more-clause-spends g c =
+    let old = solver_of c.args.lister.now in
+    let new = solver_of c.advance-2.new.self in
+    let count = counted_further old (solver_of c.lines.lister) new c.lines.invariant.rises c.lines.invariant.limit
+    c.advance-2.ensures.count in
+    let why = err_from_is_err_and c.from_residual-in_err-write_more.result
+    c.from_residual-in_err-write_more.ensures.1 in
+    spends_sink old new c.from_residual-in_err-write_more.result (why.1 ∙ ap Err why.2) count
+
+pub returns-in_err-write_all-2-clause-sink : goal.returns-in_err-write_all-2-clause-sink
+returns-in_err-write_all-2-clause-sink g c =
+    let why = err_from_is_err_and c.from_residual-in_err-write_all-2.result
+    c.from_residual-in_err-write_all-2.ensures.1 in
+    sink_failed (g.K.Sink.is_failed c.args.sink.now) (g.K.Sink.is_failed c.write_all-else-branch.new.sink)
+    c.from_residual-in_err-write_all-2.result (why.1 ∙ ap Err why.2) (c.in_err-write_all-2.ensures.failed refl)
+
+pub returns-in_err-write_all-2-clause-spends : goal.returns-in_err-write_all-2-clause-spends
+returns-in_err-write_all-2-clause-spends g c =
+    let old = solver_of c.args.lister.now in
+    let new = solver_of c.advance-2.new.self in
+    let count = counted_further old (solver_of c.lines.lister) new c.lines.invariant.rises c.lines.invariant.limit
+    c.advance-2.ensures.count in
+    let why = err_from_is_err_and c.from_residual-in_err-write_all-2.result
+    c.from_residual-in_err-write_all-2.ensures.1 in
+    spends_sink old new c.from_residual-in_err-write_all-2.result (why.1 ∙ ap Err why.2) count
+
+pub returns-then-not-branch-clause-spends : goal.returns-then-not-branch-clause-spends
+returns-then-not-branch-clause-spends g c =
+    let old = solver_of c.args.lister.now in
+    let new = solver_of c.advance.new.self in
+    let count = counted_further old (solver_of c.lines.lister) new c.lines.invariant.rises c.lines.invariant.limit
+    c.advance.ensures.count in
+    spends_done old new _ count
+
+pub returns-in_ok-write_more-clause-spends : goal.returns-in_ok-write_more-clause-spends
+returns-in_ok-write_more-clause-spends g c =
+    let old = solver_of c.args.lister.now in
+    let new = solver_of c.advance-2.new.self in
+    let count = counted_further old (solver_of c.lines.lister) new c.lines.invariant.rises c.lines.invariant.limit
+    c.advance-2.ensures.count in
+    spends_done old new _ count
+
+pub returns-in_ok-write_all-2-clause-spends : goal.returns-in_ok-write_all-2-clause-spends
+returns-in_ok-write_all-2-clause-spends g c =
+    let old = solver_of c.args.lister.now in
+    let new = solver_of c.advance-2.new.self in
+    let count = counted_further old (solver_of c.lines.lister) new c.lines.invariant.rises c.lines.invariant.limit
+    c.advance-2.ensures.count in
+    spends_done old new _ count
+
+pub returns-in_err-write_row-clause-sink : goal.returns-in_err-write_row-clause-sink
+returns-in_err-write_row-clause-sink g c =
+    let end = c.from_residual-in_err-write_row in
+    let why = err_from_is_err_and end.result end.ensures.1 in
+    let new = g.K.Sink.is_failed c.write_row.new.sink in
+    subst (λ z. SinkEnds z new end.result) c.lines.invariant.sink (sink_same (g.K.Sink.is_failed c.lines.sink) new
+    c.write_row.result end.result c.in_err-write_row.field-0.0 why.0 c.in_err-write_row.was why.1 (sym why.2)
+    c.write_row.ensures.sink)
+
+pub returns-in_err-write_row-clause-spends : goal.returns-in_err-write_row-clause-spends
+returns-in_err-write_row-clause-spends g c =
+    let old = solver_of c.args.lister.now in
+    let new = solver_of c.advance.new.self in
+    let count = counted_further old (solver_of c.lines.lister) new c.lines.invariant.rises c.lines.invariant.limit
+    c.advance.ensures.count in
+    let end = c.from_residual-in_err-write_row in
+    let why = err_from_is_err_and end.result end.ensures.1 in
+    spends_memory old new end.result (λ stop e. c.write_row.ensures.memory stop (same_fault c.write_row.result
+    end.result c.in_err-write_row.field-0.0 why.0 c.in_err-write_row.was why.1 (sym why.2) stop e)) count

@@ -1,4 +1,4 @@
-use Rattle.std.proofs.Common.{[], ◌∷◌, refl, ap, ◌∙◌, subst, Err}
+use Rattle.std.proofs.Common.{[], ◌∷◌, refl, ap, ◌∙◌, subst, arith, Err}
 use Rattle.std.specs.Io.KnownBytes.{Appends}
 use Rattle.std.proofs.lemmas.Result.{err_from_is_err_and}
 use Rattle.dw_notation.specs.Problems.{numbered}
@@ -6,8 +6,10 @@ use Rattle.dw_notation.specs.Writes.{StopsShort}
 use Rattle.dw_report.specs.Request.{request_of}
 use Rattle.dw_report.specs.Report.{IsProblemText}
 use Rattle.dw_report.specs.Running.{IsProblemPart}
+use Rattle.dw_report.specs.inner.Running.{SinkEnds}
 use Rattle.dw_report.proofs.SearchLemmas.{searches_none, sink_not_stopped}
 use Rattle.dw_report.proofs.WritingLemmas.{at_sink, known_short, problem_ends}
+use Rattle.dw_report.proofs.FaultLemmas.{sink_failed, ok_not_stopped}
 use Rattle.dw_report.proofs.problem.write_problem.Goals as goal
 
 pub returns-in_err-write_all-clause-text : goal.returns-in_err-write_all-clause-text
@@ -40,4 +42,23 @@ returns-in-Ok-clause-refused g c = rw c.in-Ok.is c.write_rest.ensures.refused
 
 pub returns-in-Err-clause-searches : goal.returns-in-Err-clause-searches
 returns-in-Err-clause-searches g c = searches_none c.args.settings.now.command _ _ _ refl c.limit.ensures.within
-    (λ why e. cc)
+    (ok_not_stopped _)
+
+pub returns-in_err-write_all-clause-sink : goal.returns-in_err-write_all-clause-sink
+returns-in_err-write_all-clause-sink g c =
+    let why = err_from_is_err_and c.from_residual.result c.from_residual.ensures.1 in
+    sink_failed (g.K.Sink.is_failed c.args.sink.now) (g.K.Sink.is_failed c.write_all.new.sink) c.from_residual.result
+    (why.1 ∙ ap Err why.2) (c.in_err-write_all.ensures.failed refl)
+
+pub write_rest-requires : goal.write_rest-requires
+write_rest-requires g c =
+    (omega arith, (c.in_ok-write_all.ensures.kept ∙ c.requires.works, c.requires.sound))
+
+pub returns-in-Ok-clause-sink : goal.returns-in-Ok-clause-sink
+returns-in-Ok-clause-sink g c =
+    subst (λ z. SinkEnds z (g.K.Sink.is_failed c.write_rest.new.sink) c.write_rest.result)
+    c.in_ok-write_all.ensures.kept
+    c.write_rest.ensures.sink
+
+pub returns-in-Ok-clause-searches : goal.returns-in-Ok-clause-searches
+returns-in-Ok-clause-searches g c = c.write_rest.ensures.searches

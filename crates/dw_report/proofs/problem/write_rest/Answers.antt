@@ -1,9 +1,15 @@
-use Rattle.std.proofs.Common.{List, ℕ, sym, subst}
+use Rattle.std.proofs.Common.{◌≡◌, ◌∙◌, List, [], ℕ, sym, subst, arith, refl}
+use Rattle.std.proofs.KnownBytes.{Appends-nil}
+use Rattle.std.proofs.lemmas.Result.{err_from_is_err_and}
 use Rattle.dw_notation.specs.Writes.{Writes}
 use Rattle.dw_report.specs.Request.{request_of}
 use Rattle.dw_report.specs.declared.settings.Command.{Command}
 use Rattle.dw_report.specs.Running.{AreLinesOf}
 use Rattle.dw_report.specs.inner.Running.{TextEnds, IsSaidThen}
+use Rattle.dw_report.specs.declared.settings.Command.TheVariants.{Moves, Judge, Show, List as Lists}
+use Rattle.dw_report.proofs.SearchLemmas.{same_fault, searches_none}
+use Rattle.dw_report.proofs.FaultLemmas.{fault_same, sink_same, spends_same, ok_not_stopped, spends_ok}
+use Rattle.dw_report.proofs.FaultLemmas.{searches_moves, searches_judge, searches_lists, refused_none, refused_lists}
 use Rattle.dw_report.proofs.problem.write_rest.Goals as goal
 
 pub returns-in_ok-write_moves-in-Moves-clause-text : goal.returns-in_ok-write_moves-in-Moves-clause-text
@@ -26,3 +32,110 @@ returns-in-List-clause-text g c =
     let said : Command → List ℕ → Type 0 = λ z. IsSaidThen g.B.Board.geometry z request c.args.position.now in
     subst (λ z. TextEnds (said z) (AreLinesOf (said z)) (g.K.Sink.taken c.args.sink.now)
     (g.K.Sink.taken c.write_lines.new.sink) c.write_lines.result) (sym c.in-List.is) c.write_lines.ensures.text
+
+pub returns-in_err-write_moves-in-Moves-clause-text : goal.returns-in_err-write_moves-in-Moves-clause-text
+returns-in_err-write_moves-in-Moves-clause-text g c =
+    let request = request_of c.args.settings.now in
+    let said : Command → List ℕ → Type 0 = λ z. IsSaidThen g.B.Board.geometry z request c.args.position.now in
+    let old = g.K.Sink.taken c.args.sink.now in
+    let new = g.K.Sink.taken c.write_moves.new.sink in
+    let why = err_from_is_err_and c.from_residual.result c.from_residual.ensures.1 in
+    subst (λ z. TextEnds (said z) (AreLinesOf (said z)) old new c.from_residual.result) (sym c.in-Moves.is)
+    (fault_same (said Moves) (AreLinesOf (said Moves)) old new c.write_moves.result c.from_residual.result
+    c.in_err-write_moves-in-Moves.field-0.0 why.0 c.in_err-write_moves-in-Moves.was why.1 (sym why.2)
+    c.write_moves.ensures.text)
+
+pub returns-in_err-write_moves-in-Moves-clause-sink : goal.returns-in_err-write_moves-in-Moves-clause-sink
+returns-in_err-write_moves-in-Moves-clause-sink g c =
+    let why = err_from_is_err_and c.from_residual.result c.from_residual.ensures.1 in
+    sink_same (g.K.Sink.is_failed c.args.sink.now) (g.K.Sink.is_failed c.write_moves.new.sink) c.write_moves.result
+    c.from_residual.result c.in_err-write_moves-in-Moves.field-0.0 why.0 c.in_err-write_moves-in-Moves.was why.1 (sym
+    why.2)
+    c.write_moves.ensures.sink
+
+pub returns-in_err-write_judged-in-Judge-clause-text : goal.returns-in_err-write_judged-in-Judge-clause-text
+returns-in_err-write_judged-in-Judge-clause-text g c =
+    let request = request_of c.args.settings.now in
+    let said : Command → List ℕ → Type 0 = λ z. IsSaidThen g.B.Board.geometry z request c.args.position.now in
+    let old = g.K.Sink.taken c.args.sink.now in
+    let new = g.K.Sink.taken c.write_judged.new.sink in
+    let why = err_from_is_err_and c.from_residual-in_err-write_judged-in-Judge.result
+    c.from_residual-in_err-write_judged-in-Judge.ensures.1 in
+    subst (λ z. TextEnds (said z) (AreLinesOf (said z)) old new c.from_residual-in_err-write_judged-in-Judge.result)
+    (sym c.in-Judge.is)
+    (fault_same (said Judge) (AreLinesOf (said Judge)) old new c.write_judged.result
+    c.from_residual-in_err-write_judged-in-Judge.result
+    c.in_err-write_judged-in-Judge.field-0.0 why.0 c.in_err-write_judged-in-Judge.was why.1 (sym why.2)
+    c.write_judged.ensures.text)
+
+pub returns-in_err-write_judged-in-Judge-clause-sink : goal.returns-in_err-write_judged-in-Judge-clause-sink
+returns-in_err-write_judged-in-Judge-clause-sink g c =
+    let why = err_from_is_err_and c.from_residual-in_err-write_judged-in-Judge.result
+    c.from_residual-in_err-write_judged-in-Judge.ensures.1 in
+    sink_same (g.K.Sink.is_failed c.args.sink.now) (g.K.Sink.is_failed c.write_judged.new.sink) c.write_judged.result
+    c.from_residual-in_err-write_judged-in-Judge.result c.in_err-write_judged-in-Judge.field-0.0 why.0
+    c.in_err-write_judged-in-Judge.was why.1 (sym why.2)
+    c.write_judged.ensures.sink
+
+pub returns-in_err-write_moves-in-Moves-clause-searches : goal.returns-in_err-write_moves-in-Moves-clause-searches
+returns-in_err-write_moves-in-Moves-clause-searches g c =
+    let why = err_from_is_err_and c.from_residual.result c.from_residual.ensures.1 in
+    searches_moves c.args.settings.now.command c.args.solver.now c.from_residual.result c.in-Moves.is
+    (λ stop e. c.write_moves.ensures.memory stop (same_fault c.write_moves.result c.from_residual.result
+    c.in_err-write_moves-in-Moves.field-0.0 why.0 c.in_err-write_moves-in-Moves.was why.1 (sym why.2) stop e))
+
+pub returns-in_err-write_judged-in-Judge-clause-searches : goal.returns-in_err-write_judged-in-Judge-clause-searches
+returns-in_err-write_judged-in-Judge-clause-searches g c =
+    let end = c.from_residual-in_err-write_judged-in-Judge in
+    let why = err_from_is_err_and end.result end.ensures.1 in
+    searches_judge c.args.settings.now.command c.args.solver.now c.write_judged.new.solver end.result c.in-Judge.is
+    (spends_same c.args.solver.now c.write_judged.new.solver c.write_judged.result end.result
+    c.in_err-write_judged-in-Judge.field-0.0 why.0 c.in_err-write_judged-in-Judge.was why.1 (sym why.2)
+    c.write_judged.ensures.spends)
+
+pub write_lines-requires : goal.write_lines-requires
+write_lines-requires g c = (omega arith, (c.requires.works, (c.in-List.is, c.requires.sound)))
+
+pub returns-in_ok-write_moves-in-Moves-clause-searches : goal.returns-in_ok-write_moves-in-Moves-clause-searches
+returns-in_ok-write_moves-in-Moves-clause-searches g c =
+    searches_moves c.args.settings.now.command c.args.solver.now _ c.in-Moves.is
+    (λ why e. absurd (ok_not_stopped _ why e))
+
+pub returns-in_ok-write_judged-in-Judge-clause-searches : goal.returns-in_ok-write_judged-in-Judge-clause-searches
+returns-in_ok-write_judged-in-Judge-clause-searches g c =
+    searches_judge c.args.settings.now.command c.args.solver.now c.write_judged.new.solver _ c.in-Judge.is
+    (spends_ok c.args.solver.now c.write_judged.new.solver c.write_judged.result _ c.write_judged.ensures.spends)
+
+pub returns-in-List-clause-searches : goal.returns-in-List-clause-searches
+returns-in-List-clause-searches g c =
+    searches_lists c.args.settings.now.command c.args.solver.now c.write_lines.new.solver c.write_lines.result
+    c.in-List.is c.write_lines.ensures.spends
+
+pub returns-in-Show-clause-text : goal.returns-in-Show-clause-text
+returns-in-Show-clause-text g c =
+    let request = request_of c.args.settings.now in
+    let old = g.K.Sink.taken c.args.sink.now in
+    let said : Command → List ℕ → Type 0 = λ z. IsSaidThen g.B.Board.geometry z request c.args.position.now in
+    subst (λ z. Writes (said z) old old) (sym c.in-Show.is)
+    (record { text = []; is = refl; wrote = Appends-nil old })
+
+pub returns-in-Show-clause-searches : goal.returns-in-Show-clause-searches
+returns-in-Show-clause-searches g c =
+    searches_none c.args.settings.now.command c.args.solver.now c.args.solver.now _ refl c.limit.ensures.within
+    (ok_not_stopped _)
+
+pub returns-in-Show-clause-refused : goal.returns-in-Show-clause-refused
+returns-in-Show-clause-refused g c =
+    refused_none c.args.settings.now.command (λ e. let bad : Show ≡ Lists = sym c.in-Show.is ∙ e in cc)
+
+pub returns-in_ok-write_moves-in-Moves-clause-refused : goal.returns-in_ok-write_moves-in-Moves-clause-refused
+returns-in_ok-write_moves-in-Moves-clause-refused g c =
+    refused_none c.args.settings.now.command (λ e. let bad : Moves ≡ Lists = sym c.in-Moves.is ∙ e in cc)
+
+pub returns-in_ok-write_judged-in-Judge-clause-refused : goal.returns-in_ok-write_judged-in-Judge-clause-refused
+returns-in_ok-write_judged-in-Judge-clause-refused g c =
+    refused_none c.args.settings.now.command (λ e. let bad : Judge ≡ Lists = sym c.in-Judge.is ∙ e in cc)
+
+pub returns-in-List-clause-refused : goal.returns-in-List-clause-refused
+returns-in-List-clause-refused g c =
+    refused_lists _ c.args.settings.now.command c.write_lines.result c.in-List.is c.write_lines.ensures.refused

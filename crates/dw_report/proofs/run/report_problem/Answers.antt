@@ -1,4 +1,4 @@
-use Rattle.std.proofs.Common.{[], ◌∷◌, sym, ap, ◌∙◌}
+use Rattle.std.proofs.Common.{[], ◌∷◌, refl, sym, ap, ◌∙◌, arith}
 use Rattle.std.proofs.lemmas.Result.{err_from_is_err_and}
 use Rattle.dw_notation.specs.Problems.{numbered}
 use Rattle.dw_report.specs.Request.{request_of}
@@ -6,7 +6,11 @@ use Rattle.dw_report.specs.Report.{IsProblemText, IsReportOn}
 use Rattle.dw_report.specs.Running.{IsProblemPart, IsPartOn}
 use Rattle.dw_report.specs.declared.settings.Summary.{Summary}
 use Rattle.dw_report.proofs.RunLemmas.{counts_chosen}
-use Rattle.dw_report.proofs.WritingLemmas.{fault_stays, one_report_on, one_part_on}
+use Rattle.dw_report.proofs.RunStepLemmas.{counts_passed}
+use Rattle.dw_report.proofs.SearchLemmas.{searches_none, searches_as, same_fault}
+use Rattle.dw_report.proofs.FaultLemmas.{sink_same, ok_not_stopped}
+use Rattle.dw_report.proofs.WritingLemmas.{fault_stays, one_report_on, one_part_on, no_report_on}
+use Rattle.dw_report.proofs.WritingLemmas.{chosen_report_on}
 use Rattle.dw_report.proofs.run.report_problem.Goals as goal
 
 pub returns-in_err-refused-clause-text : goal.returns-in_err-refused-clause-text
@@ -28,3 +32,47 @@ returns-clause-counts g c =
     (numbered c.args.problem.now) c.in_ok-refused.refused (sym c.chooses.ensures ∙ c.if-not-chooses.false)
     c.in_ok-refused.ensures.refused (ap (λ (s : Summary). s.problems) made) (ap (λ (s : Summary). s.shown) made)
     (ap (λ (s : Summary). s.refused) made)
+
+pub returns-in_err-refused-clause-sink : goal.returns-in_err-refused-clause-sink
+returns-in_err-refused-clause-sink g c =
+    let why = err_from_is_err_and c.from_residual.result c.from_residual.ensures.1 in
+    sink_same (g.K.Sink.is_failed c.args.sink.now) (g.K.Sink.is_failed c.write_problem.new.sink)
+    c.write_problem.result c.from_residual.result c.in_err-refused.field-0.0 why.0 c.in_err-refused.was why.1
+    (sym why.2) c.write_problem.ensures.sink
+
+pub returns-in_err-refused-clause-searches : goal.returns-in_err-refused-clause-searches
+returns-in_err-refused-clause-searches g c =
+    let why = err_from_is_err_and c.from_residual.result c.from_residual.ensures.1 in
+    searches_as c.args.settings.now.command c.args.solver.now c.write_problem.new.solver c.write_problem.result
+    c.from_residual.result (same_fault c.write_problem.result c.from_residual.result c.in_err-refused.field-0.0 why.0
+    c.in_err-refused.was why.1 (sym why.2)) c.write_problem.ensures.searches
+
+pub returns-clause-searches : goal.returns-clause-searches
+returns-clause-searches g c =
+    searches_as c.args.settings.now.command c.args.solver.now c.write_problem.new.solver c.write_problem.result _
+    (λ why e. absurd (ok_not_stopped _ why e)) c.write_problem.ensures.searches
+
+pub returns-clause-text : goal.returns-clause-text
+returns-clause-text g c =
+    chosen_report_on g.B.Board.geometry (request_of c.args.settings.now) (numbered c.args.problem.now)
+    (g.K.Sink.taken c.args.sink.now) (g.K.Sink.taken c.write_problem.new.sink)
+    (sym c.chooses.ensures ∙ c.if-not-chooses.false) c.in_ok-refused.ensures.text
+
+pub returns-then-not-chooses-clause-text : goal.returns-then-not-chooses-clause-text
+returns-then-not-chooses-clause-text g c =
+    no_report_on g.B.Board.geometry (request_of c.args.settings.now) (numbered c.args.problem.now)
+    (g.K.Sink.taken c.args.sink.now) (sym c.chooses.ensures ∙ c.if-not-chooses.true)
+
+pub returns-then-not-chooses-clause-searches : goal.returns-then-not-chooses-clause-searches
+returns-then-not-chooses-clause-searches g c =
+    searches_none c.args.settings.now.command c.args.solver.now c.args.solver.now _ refl c.limit.ensures.within
+    (ok_not_stopped _)
+
+pub returns-then-not-chooses-clause-counts : goal.returns-then-not-chooses-clause-counts
+returns-then-not-chooses-clause-counts g c =
+    counts_passed g.B.Board.geometry (request_of c.args.settings.now) c.args.summary _ (numbered c.args.problem.now)
+    (sym c.chooses.ensures ∙ c.if-not-chooses.true) refl refl refl
+
+pub write_problem-requires : goal.write_problem-requires
+write_problem-requires g c =
+    (omega arith, (c.requires.works, c.requires.sound))

@@ -1,12 +1,12 @@
-use Rattle.std.proofs.Common.{◌≡◌, refl, true, false, rules, arith, sym, ap, subst, [], ◌∷◌, ◌∙◌, add-zero}
+use Rattle.std.proofs.Common.{◌≡◌, refl, true, false, rules, arith, sym, ap, [], ◌∷◌, ◌∙◌}
 use Rattle.dw_notation.specs.Problems.{Numbered, numbered}
-use Rattle.dw_notation.specs.Reading.{cutter_of}
+use Rattle.dw_notation.specs.Reading.{cutter_of, source_of}
 use Rattle.dw_report.specs.Request.{request_of}
-use Rattle.dw_report.specs.Report.{IsReportOn, chosen}
-use Rattle.dw_report.specs.Running.{IsPartOn}
-use Rattle.dw_report.specs.inner.Running.{TextEnds, CountsOne, HasRoom}
-use Rattle.dw_report.proofs.RunLemmas.{SoFar-start, SoFar-more, SoFar-next, SoFar-asked, SoFar-end, SoFar-read}
-use Rattle.dw_report.proofs.RunLemmas.{unmet_before, SoFar-fault, failed-at_ok, refused-le, length-chosen-le}
+use Rattle.dw_report.specs.Report.{chosen}
+use Rattle.dw_report.specs.inner.Running.{CountsOne, HasRoom}
+use Rattle.dw_report.proofs.RunLemmas.{SoFar-start, SoFar-next, SoFar-asked}
+use Rattle.dw_report.proofs.RunLemmas.{failed-at_ok, refused-le, length-chosen-le}
+use Rattle.dw_report.proofs.RunStepLemmas.{next_none, next_failed, counted_one, next_more, next_fault}
 use Rattle.dw_report.proofs.SearchLemmas.{searches_keep, stops_rightly}
 use Rattle.dw_report.proofs.run.write_report.Goals as goal
 
@@ -31,22 +31,22 @@ problems-init g c =
 
 pub returns-in-Ok-None-clause-report : goal.returns-in-Ok-None-clause-report
 returns-in-Ok-None-clause-report g c =
-    let so_far = c.problems.invariant in
-    let given = rw c.in-Ok-None.field-0-is at c.in-Ok-None.ensures.given in
-    let counted = rw c.in-Ok-None.field-0-is at c.in-Ok-None.ensures.counted in
-    let ends = SoFar-end _ _ _ _ _ _ _ (cutter_of c.problems.problems) (cutter_of c.next.new.self) c.problems.summary
-    given.read so_far.so_far given.took
-    (record { none = given.gives.0; why = given.gives.2 }) (c.next.ensures.end so_far.end) (counted.0 ∙ add-zero _) in
+    let ends = next_none g.B.Board.geometry (request_of c.args.settings.now)
+    (g.S.Source.coming (source_of c.new-problems.result)) (g.S.Source.coming (source_of c.problems.problems))
+    (g.S.Source.coming (source_of c.next.new.self)) (g.K.Sink.taken c.args.sink.now) (g.K.Sink.taken c.problems.sink)
+    (cutter_of c.problems.problems) (cutter_of c.next.new.self)
+    c.problems.summary c.in-Ok-None.field-0 c.in-Ok-None.field-0-is c.in-Ok-None.ensures.given
+    c.in-Ok-None.ensures.counted c.problems.invariant.so_far (c.next.ensures.end c.problems.invariant.end) in
     search rules
 
 pub returns-in-Err-clause-report : goal.returns-in-Err-clause-report
 returns-in-Err-clause-report g c =
-    let so_far = c.problems.invariant in
-    let given = rw c.in-Err.is at c.next.ensures.given in
-    let stopped = (rw c.in-Err.is at c.next.ensures.stopped) refl in
-    let ends = SoFar-read _ _ _ _ _ _ _ (cutter_of c.problems.problems) (cutter_of c.next.new.self) c.problems.summary
-    given.read so_far.so_far given.took given.gives.0
-    (unmet_before (cutter_of c.problems.problems) (cutter_of c.next.new.self) c.next.ensures.stays stopped.starved.1) in
+    let ends = next_failed g.B.Board.geometry (request_of c.args.settings.now)
+    (g.S.Source.coming (source_of c.new-problems.result)) (g.S.Source.coming (source_of c.problems.problems))
+    (g.S.Source.coming (source_of c.next.new.self)) (g.K.Sink.taken c.args.sink.now) (g.K.Sink.taken c.problems.sink)
+    (cutter_of c.problems.problems) (cutter_of c.next.new.self)
+    c.problems.summary c.next.result c.in-Err.field-0 (g.S.Source.is_failed (source_of c.next.new.self))
+    c.in-Err.is c.next.ensures.given c.next.ensures.stopped c.next.ensures.stays c.problems.invariant.so_far in
     search rules
 
 pub report_problem-requires : goal.report_problem-requires
@@ -61,17 +61,15 @@ report_problem-requires g c =
 
 pub returns-in-Err-report_problem-clause-report : goal.returns-in-Err-report_problem-clause-report
 returns-in-Err-report_problem-clause-report g c =
-    let so_far = c.problems.invariant in
-    let given = rw c.in-Ok-Some.field-0-is at c.in-Ok-Some.ensures.given in
-    let request = request_of c.args.settings.now in
-    let one : Numbered = numbered c.in-Ok-Some.problem in
-    let text = subst (TextEnds (IsReportOn g.B.Board.geometry request (one ∷ [])) (IsPartOn g.B.Board.geometry request
-    (one ∷ [])) (g.K.Sink.taken c.problems.sink) (g.K.Sink.taken c.report_problem.new.sink))
-    c.in-Err-report_problem.is c.report_problem.ensures.text in
-    let stops = SoFar-fault _ _ _ _ _ _ _ _ (cutter_of c.problems.problems) (cutter_of c.next.new.self)
-    c.problems.summary one given.read c.expanded.result c.in-Err-report_problem.fault so_far.so_far given.took
-    given.gives (c.next.ensures.end so_far.end) c.next.ensures.stays (c.one_report.ensures.texts g.B.Board.geometry
-    g.met.B.Board.numbers request c.requires.sound.lines) text in
+    let stops = next_fault g.B.Board.geometry (request_of c.args.settings.now)
+    (g.S.Source.coming (source_of c.new-problems.result)) (g.S.Source.coming (source_of c.problems.problems))
+    (g.S.Source.coming (source_of c.next.new.self)) (g.K.Sink.taken c.args.sink.now) (g.K.Sink.taken c.problems.sink)
+    (g.K.Sink.taken c.report_problem.new.sink) (cutter_of c.problems.problems) (cutter_of c.next.new.self)
+    c.problems.summary c.in-Ok-Some.field-0 c.in-Ok-Some.problem c.expanded.result c.report_problem.result
+    c.in-Err-report_problem.fault c.in-Ok-Some.field-0-is c.in-Err-report_problem.is c.in-Ok-Some.ensures.given
+    c.problems.invariant.so_far (c.next.ensures.end c.problems.invariant.end) c.next.ensures.stays
+    (c.one_report.ensures.texts g.B.Board.geometry g.met.B.Board.numbers (request_of c.args.settings.now)
+    c.requires.sound.lines) c.report_problem.ensures.text in
     rw c.ended.ensures (search rules)
 
 pub returns-in-Err-report_problem-clause-stopped : goal.returns-in-Err-report_problem-clause-stopped
@@ -83,30 +81,36 @@ returns-in-Err-report_problem-clause-stopped g c =
 
 pub returns-then-asks_for-clause-report : goal.returns-then-asks_for-clause-report
 returns-then-asks_for-clause-report g c =
-    let so_far = c.problems.invariant in
-    let given = rw c.in-Ok-Some.field-0-is at c.in-Ok-Some.ensures.given in
-    let counted = rw c.in-Ok-Some.field-0-is at c.in-Ok-Some.ensures.counted in
-    let more = SoFar-more _ _ _ _ _ _ _ _ (cutter_of c.problems.problems) (cutter_of c.next.new.self) c.problems.summary
-    c.in-Ok.counted (numbered c.in-Ok-Some.problem) given.read
-    so_far.so_far given.took given.gives (c.next.ensures.end so_far.end) c.next.ensures.stays counted.0
-    c.in-Ok.ensures.text c.in-Ok.ensures.counts in
-    let ends = SoFar-asked _ _ _ _ _ _ (cutter_of c.next.new.self) c.in-Ok.counted (numbered c.in-Ok-Some.problem) more
+    let more = next_more g.B.Board.geometry (request_of c.args.settings.now)
+    (g.S.Source.coming (source_of c.new-problems.result)) (g.S.Source.coming (source_of c.problems.problems))
+    (g.S.Source.coming (source_of c.next.new.self)) (g.K.Sink.taken c.args.sink.now) (g.K.Sink.taken c.problems.sink)
+    (g.K.Sink.taken c.report_problem.new.sink) (cutter_of c.problems.problems) (cutter_of c.next.new.self)
+    c.problems.summary c.in-Ok.counted c.in-Ok-Some.field-0 c.in-Ok-Some.problem c.in-Ok-Some.field-0-is
+    c.in-Ok-Some.ensures.given c.in-Ok-Some.ensures.counted c.problems.invariant.so_far
+    (c.next.ensures.end c.problems.invariant.end) c.next.ensures.stays c.in-Ok.ensures.text c.in-Ok.ensures.counts in
+    let ends = SoFar-asked g.B.Board.geometry (request_of c.args.settings.now)
+    (g.S.Source.coming (source_of c.new-problems.result)) (g.S.Source.coming (source_of c.next.new.self))
+    (g.K.Sink.taken c.args.sink.now) (g.K.Sink.taken c.report_problem.new.sink)
+    (cutter_of c.next.new.self) c.in-Ok.counted (numbered c.in-Ok-Some.problem) more
     (sym c.asks_for.ensures ∙ c.if-asks_for.true) in
     search rules
 
 pub problems-preserved : goal.problems-preserved
 problems-preserved g c =
     let so_far = c.problems.invariant in
-    let given = rw c.in-Ok-Some.field-0-is at c.in-Ok-Some.ensures.given in
-    let counted = rw c.in-Ok-Some.field-0-is at c.in-Ok-Some.ensures.counted in
+    let counted = counted_one (cutter_of c.problems.problems) (cutter_of c.next.new.self) c.in-Ok-Some.field-0
+    c.in-Ok-Some.problem c.in-Ok-Some.field-0-is c.in-Ok-Some.ensures.counted in
     let settings = c.args.settings.now in
     let request = request_of settings in
     let one : Numbered = numbered c.in-Ok-Some.problem in
     let counts : CountsOne g.B.Board.geometry request c.problems.summary c.in-Ok.counted one = c.in-Ok.ensures.counts in
-    let end = c.next.ensures.end so_far.end in
-    let more = SoFar-more _ _ _ _ _ _ _ _ (cutter_of c.problems.problems) (cutter_of c.next.new.self) c.problems.summary
-    c.in-Ok.counted one given.read
-    so_far.so_far given.took given.gives end c.next.ensures.stays counted.0 c.in-Ok.ensures.text counts in
+    let more = next_more g.B.Board.geometry (request_of c.args.settings.now)
+    (g.S.Source.coming (source_of c.new-problems.result)) (g.S.Source.coming (source_of c.problems.problems))
+    (g.S.Source.coming (source_of c.next.new.self)) (g.K.Sink.taken c.args.sink.now) (g.K.Sink.taken c.problems.sink)
+    (g.K.Sink.taken c.report_problem.new.sink) (cutter_of c.problems.problems) (cutter_of c.next.new.self)
+    c.problems.summary c.in-Ok.counted c.in-Ok-Some.field-0 c.in-Ok-Some.problem c.in-Ok-Some.field-0-is
+    c.in-Ok-Some.ensures.given c.in-Ok-Some.ensures.counted c.problems.invariant.so_far
+    (c.next.ensures.end c.problems.invariant.end) c.next.ensures.stays c.in-Ok.ensures.text c.in-Ok.ensures.counts in
     let few = length-chosen-le request.only one in
     let refused = refused-le g.B.Board.geometry request (chosen request.only (one ∷ [])) counts.refused.0
     counts.refused.1 in
@@ -114,15 +118,20 @@ problems-preserved g c =
     c.report_problem.ensures.searches in
     record {
       lender = c.next.ensures.lender ∙ so_far.lender;
-      so_far = SoFar-next _ _ _ _ _ _ (cutter_of c.next.new.self) c.in-Ok.counted one more (sym c.asks_for.ensures
-          ∙ c.if-asks_for.false);
-      end = end;
-      source = failed-at_ok _ _ _ _ c.next.ensures.failed c.in-Ok-Some.is so_far.source;
+      so_far = SoFar-next g.B.Board.geometry (request_of c.args.settings.now)
+          (g.S.Source.coming (source_of c.new-problems.result)) (g.S.Source.coming (source_of c.next.new.self))
+          (g.K.Sink.taken c.args.sink.now) (g.K.Sink.taken c.report_problem.new.sink)
+          (cutter_of c.next.new.self) c.in-Ok.counted (numbered c.in-Ok-Some.problem) more
+          (sym c.asks_for.ensures ∙ c.if-asks_for.false);
+      end = c.next.ensures.end so_far.end;
+      source = failed-at_ok (g.S.Source.is_failed (source_of c.next.new.self))
+          (g.S.Source.is_failed (source_of c.problems.problems)) c.next.result c.in-Ok-Some.field-0
+          c.next.ensures.failed c.in-Ok-Some.is so_far.source;
       sink = c.in-Ok.ensures.sink ∙ so_far.sink;
       limit = keep.0 ∙ so_far.limit;
       still = λ moves. keep.1 moves ∙ so_far.still moves;
       read = omega (arith, counts.read, so_far.read, counted.0);
       shown = omega (arith, counts.read, counts.shown, so_far.shown, few);
       refused = omega (arith, counts.shown, counts.refused.2, so_far.refused, refused);
-      bound = omega (arith, counted.0, counted.1.1);
+      bound = omega (arith, counted.0, counted.1);
     }

@@ -1,4 +1,4 @@
-use Rattle.std.proofs.Common.{◌≡◌, sym, ap, ◌∙◌, ◌++◌, subst, get_or}
+use Rattle.std.proofs.Common.{◌≡◌, sym, ap, ◌∙◌, ◌++◌, subst, get_or, length, arith}
 use Rattle.std.proofs.lemmas.List.{get_or_read}
 use Rattle.dw_moves.specs.Moves.{Legal, play}
 use Rattle.dw_moves.specs.Order.{Listed}
@@ -24,3 +24,55 @@ returns g c = λ d.
     (c.push_str.ensures.bytes ∙ (ap (λ z. z ++ c.as_str.result.now) c.new-line.ensures ∙ c.as_str.ensures.value))
     c.push_str-2.ensures.bytes (c.push_str-3.ensures.bytes ∙ ap (λ z. c.push_str-2.new.self.bytes ++ z)
     c.as_str-2.ensures.value) c.push_str-4.ensures.bytes
+
+pub push_str-requires : goal.push_str-requires
+push_str-requires g c = (
+  omega arith,
+  omega (
+    arith,
+    ap length c.new-line.ensures,
+    ap length c.as_str.ensures.value,
+    c.move_text.ensures.short,
+  ),
+)
+
+pub push_str-requires-2 : goal.push_str-requires-2
+push_str-requires-2 g c = (
+  omega arith,
+  omega (
+    arith,
+    c.push_str.ensures.len,
+    ap length c.new-line.ensures,
+    ap length c.as_str.ensures.value,
+    c.move_text.ensures.short,
+  ),
+)
+
+pub push_str-requires-3 : goal.push_str-requires-3
+push_str-requires-3 g c = (
+  omega arith,
+  omega (
+    arith,
+    c.push_str-2.ensures.len,
+    c.as_str-2.ensures.fits,
+    c.push_str.ensures.len,
+    ap length c.new-line.ensures,
+    ap length c.as_str.ensures.value,
+    c.move_text.ensures.short,
+  ),
+)
+
+pub push_str-requires-4 : goal.push_str-requires-4
+push_str-requires-4 g c = (
+  omega arith,
+  omega (
+    arith,
+    c.push_str-3.ensures.len,
+    c.push_str-2.ensures.len,
+    c.as_str-2.ensures.fits,
+    c.push_str.ensures.len,
+    ap length c.new-line.ensures,
+    ap length c.as_str.ensures.value,
+    c.move_text.ensures.short,
+  ),
+)

@@ -1,9 +1,8 @@
 use Rattle.std.proofs.Common.{◌+◌, sym, subst, refl, arith}
-use Rattle.dw_solve.specs.Wins.{Win}
 use Rattle.dw_solve.specs.Ranking.{AreRanked}
 use Rattle.dw_list.specs.inner.AskingLemmas.{answered, asked_then, asked_ok, asked_stop, asked_memory, asked_none}
-use Rattle.dw_report.specs.Verdict.{Refutes}
 use Rattle.dw_report.proofs.RefutingLemmas.{FoundTo, found_first, found_same, found_second, found_all, legal_at}
+use Rattle.dw_report.proofs.RefutingLemmas.{refutes_if, refutes_not}
 use Rattle.dw_report.proofs.tries.refutation.Goals.{then-not-branch+in-None, else-not-branch}
 use Rattle.dw_report.proofs.tries.refutation.Goals as goal
 
@@ -20,8 +19,10 @@ returns-in_err-wins-clause-asked g c =
     let geo = g.B.Board.geometry in
     let content = g.M.Memo.content in
     let lost = g.M.Memo.dropped in
-    asked_then geo content lost c.searches_add_up.ensures c.args.left _ _ _ _ c.replies.invariant.asked
-    (asked_stop geo content lost c.args.left _ _ c.in_err-wins.field-0.0 _ c.from_residual-in_err-wins.ensures.1
+    asked_then geo content lost c.searches_add_up.ensures c.args.left c.args.solver.now c.replies.solver
+    c.wins.new.self c.from_residual-in_err-wins.result c.replies.invariant.asked
+    (asked_stop geo content lost c.args.left c.replies.solver c.wins.new.self c.in_err-wins.field-0.0
+    c.from_residual-in_err-wins.result c.from_residual-in_err-wins.ensures.1
     c.in_err-wins.ensures.asked)
 
 pub returns-in-Some-clause-found : goal.returns-in-Some-clause-found
@@ -33,11 +34,8 @@ returns-in-Some-clause-found g c =
     let all = subst (AreRanked geo q) (sym c.moves-reply-items.ensures) c.in_ok-line_up.ensures.ranked in
     let legal = legal_at (λ r. r.1) geo q items c.replies.reply-index c.reply-item.result all c.replies-test.true
     c.reply-item.is in
-    let here : Refutes geo q n c.reply-item.result.1 = (
-      legal,
-      λ w. let yes = c.in_ok-wins.ensures.answer.1
-          (subst (λ z. Win geo z n) (sym c.play-after.ensures) w) in let not_so = c.if-not-branch.true in cc,
-    ) in
+    let here = refutes_if geo q c.play-after.result n c.reply-item.result.1 c.in_ok-wins.field-0 legal
+    c.play-after.ensures c.in_ok-wins.ensures.answer c.if-not-branch.true in
     found_second (λ r. r.1) geo q n items c.replies.reply-index c.reply-item.result _ c.reply-item.result.1 all.once
     c.replies-test.true c.reply-item.is refl here
     (subst (FoundTo (λ r. r.1) geo q n items c.replies.reply-index) c.in-Some.is c.replies.invariant.found)
@@ -47,8 +45,9 @@ returns-in-Some-clause-asked g c =
     let geo = g.B.Board.geometry in
     let content = g.M.Memo.content in
     let lost = g.M.Memo.dropped in
-    asked_then geo content lost c.searches_add_up.ensures c.args.left _ _ _ _ c.replies.invariant.asked
-    (asked_ok geo content lost c.args.left _ _ _ _
+    asked_then geo content lost c.searches_add_up.ensures c.args.left c.args.solver.now c.replies.solver
+    c.wins.new.self _ c.replies.invariant.asked
+    (asked_ok geo content lost c.args.left c.replies.solver c.wins.new.self c.in_ok-wins.field-0 _
     c.in_ok-wins.ensures.asked)
 
 pub replies-preserved : goal.replies-preserved
@@ -65,11 +64,8 @@ replies-preserved g c =
     record {
       found = elim c.if-not-branch.branch [
         | then-not-branch+in-None w ↦
-            let here : Refutes geo q n c.reply-item.result.1 = (
-              legal,
-              λ won. let yes = c.in_ok-wins.ensures.answer.1
-                  (subst (λ z. Win geo z n) (sym c.play-after.ensures) won) in let not_so = w.if-not-branch.true in cc,
-            ) in
+            let here = refutes_if geo q c.play-after.result n c.reply-item.result.1 c.in_ok-wins.field-0 legal
+            c.play-after.ensures c.in_ok-wins.ensures.answer w.if-not-branch.true in
             subst (FoundTo (λ r. r.1) geo q n items (c.replies.reply-index + 1)) (sym w.found-is)
             (found_first (λ r. r.1) geo q n items c.replies.reply-index c.reply-item.result c.reply-item.result.1
             c.replies-test.true c.reply-item.is refl here
@@ -78,11 +74,12 @@ replies-preserved g c =
             subst (FoundTo (λ r. r.1) geo q n items (c.replies.reply-index + 1)) (sym w.found-is)
             (found_same (λ r. r.1) geo q n items c.replies.reply-index c.reply-item.result c.replies.found
             c.replies-test.true c.reply-item.is
-            (λ h. h.1 (subst (λ z. Win geo z n) c.play-after.ensures
-            (c.in_ok-wins.ensures.answer.0 w.if-not-branch.false))) c.replies.invariant.found)
+            (refutes_not geo q c.play-after.result n c.reply-item.result.1 c.in_ok-wins.field-0
+            c.play-after.ensures c.in_ok-wins.ensures.answer w.if-not-branch.false) c.replies.invariant.found)
       ];
-      asked = asked_then geo content lost c.searches_add_up.ensures n _ _ _ answered c.replies.invariant.asked
-          (asked_ok geo content lost n _ _ _ 0
+      asked = asked_then geo content lost c.searches_add_up.ensures n c.args.solver.now c.replies.solver
+          c.wins.new.self answered c.replies.invariant.asked
+          (asked_ok geo content lost n c.replies.solver c.wins.new.self c.in_ok-wins.field-0 0
           c.in_ok-wins.ensures.asked);
     }
 

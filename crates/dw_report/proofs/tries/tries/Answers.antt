@@ -1,9 +1,9 @@
 use Rattle.std.proofs.Common.{◌+◌, ◌-◌, ◌≤◌, map, sym, ap, ◌∙◌, subst, arith}
-use Rattle.dw_moves.specs.Moves.{Legal, play}
+use Rattle.dw_moves.specs.Moves.{Move, Legal, play}
 use Rattle.dw_moves.specs.Order.{Precedes, IsListOf}
 use Rattle.dw_list.specs.inner.AskingLemmas.{answered, asked_none, asked_then, asked_wider, asked_ok, asked_stop}
 use Rattle.dw_list.specs.inner.AskingLemmas.{asked_memory}
-use Rattle.dw_report.proofs.GatheredLemmas.{item_among, to_more, to_same}
+use Rattle.dw_report.proofs.GatheredLemmas.{item_among, to_none, to_more, to_same}
 use Rattle.dw_report.specs.Verdict.{IsRefutation}
 use Rattle.dw_report.specs.inner.Judging.{FindsRefutation}
 use Rattle.dw_report.proofs.TryListLemmas.{TriesTo, tries_whole}
@@ -108,3 +108,16 @@ returns-in_err-list-clause-asked g c =
 pub returns-clause-asked : goal.returns-clause-asked
 returns-clause-asked g c = asked_ok g.B.Board.geometry g.M.Memo.content g.M.Memo.dropped c.args.moves _ _ 0 _
     c.moves.invariant.asked
+
+pub moves-init : goal.moves-init
+moves-init g c =
+    let geo = g.B.Board.geometry in
+    let p = c.args.position.now in
+    let n = c.args.moves in
+    record {
+      tries = to_none (λ item. item.step) (Precedes geo p) (λ (t : Move × Move). t.0)
+          (λ (t : Move × Move). IsRefutation geo (play geo p t.0) (n - 1) t.1) c.as_slice-item-items.result.now
+          c.new-tries.result.items c.new-tries.ensures.items;
+      asked = asked_none geo g.M.Memo.content g.M.Memo.dropped c.searches_add_up.ensures n c.args.solver.now
+          c.limit.ensures.within;
+    }

@@ -1,0 +1,98 @@
+-- Lemmas on what a call for the next problem makes of a run so far.
+use Rattle.std.proofs.Common.{◌≡◌, ◌∙◌, ℕ, ◌+◌, ◌≤◌, List, [], ◌∷◌, length, refl}
+use Rattle.std.proofs.Common.{sym, ap, subst, true, false, Bool, add-zero}
+use Rattle.std.proofs.Common.{Option, Some, None, Result, Ok, Err}
+use Rattle.std.specs.Result.{IsErr}
+use Rattle.dw_board.specs.Geometry.{Geometry}
+use Rattle.dw_notation.specs.Problems.{Numbered, numbered}
+use Rattle.dw_notation.specs.Cutting.{NextGives, IsCounted, HasStopped, EndIsTrue, has_met_end, handed_count}
+use Rattle.dw_notation.specs.declared.problems.Problem.{Problem}
+use Rattle.dw_notation.specs.declared.problems.ReadFault.{ReadFault}
+use Rattle.dw_notation.specs.declared.problems.reader.Cutter.{Cutter}
+use Rattle.dw_notation.specs.declared.problems.TheConstants.{MAX_PROBLEMS}
+use Rattle.dw_notation.specs.Writes.{Writes}
+use Rattle.dw_report.specs.Request.{number_is_chosen, Request}
+use Rattle.dw_report.specs.Report.{IsReportOn}
+use Rattle.dw_report.specs.Running.{RunEnds, IsPartOn, AreRefused}
+use Rattle.dw_report.specs.inner.Running.{TextEnds, CountsOne, ended_by}
+use Rattle.dw_report.specs.declared.problem.TextFault.{TextFault}
+use Rattle.dw_report.specs.declared.settings.Summary.{Summary}
+use Rattle.dw_report.specs.declared.settings.RunFault.TheVariants.{Read}
+use Rattle.dw_report.proofs.RunLemmas.{SoFar, SoFar-more, SoFar-end, SoFar-read, SoFar-fault, More}
+use Rattle.dw_report.proofs.RunLemmas.{HaveTexts, unmet_before}
+use Rattle.dw_report.proofs.WritingLemmas.{chosen_none}
+
+-- no problem is left
+pub next_none : {B : Type 0} (g : Geometry) (request : Request) (coming left after taken mid : Option (List ℕ))
+    (old new : Cutter) (summary : Summary) (o : Option (Problem B)) → o ≡ None
+    → NextGives g left after old new (Ok o) → IsCounted old new (Ok o)
+    → SoFar g request coming left taken mid old summary → EndIsTrue after new
+    → RunEnds g request coming after taken mid (Ok summary)
+next_none {B} g request coming left after taken mid old new summary o e given counted so_far end =
+    let now = subst (λ (z : Option (Problem B)). NextGives {B = B} g left after old new (Ok z)) e given in
+    let same = subst (λ (z : Option (Problem B)). IsCounted {B = B} old new (Ok z)) e counted in
+    SoFar-end g request coming left after taken mid old new summary now.read so_far now.took
+    (record { none = now.gives.0; why = now.gives.2 }) end (same.0 ∙ add-zero (handed_count old))
+
+-- the source failed
+pub next_failed : {B : Type 0} (g : Geometry) (request : Request) (coming left after taken mid : Option (List ℕ))
+    (old new : Cutter) (summary : Summary) (r : Result (Option (Problem B)) ReadFault) (fault : ReadFault)
+    (is_failed : Bool) → r ≡ Err fault → NextGives g left after old new r → (IsErr r → HasStopped is_failed new)
+    → (has_met_end old ≡ true → has_met_end new ≡ true) → SoFar g request coming left taken mid old summary
+    → RunEnds g request coming after taken mid (Err Read)
+next_failed {B} g request coming left after taken mid old new summary r fault is_failed e given stopped stays so_far =
+    let now = subst (NextGives {B = B} g left after old new) e given in
+    let stop = subst (λ (z : Result (Option (Problem B)) ReadFault). IsErr z → HasStopped is_failed new) e stopped
+    refl in
+    SoFar-read g request coming left after taken mid old new summary now.read so_far now.took now.gives.0
+    (unmet_before old new stays stop.starved.1)
+
+-- a problem was handed out
+pub counted_one : {B : Type 0} (old new : Cutter) (o : Option (Problem B)) (p : Problem B) → o ≡ Some p
+    → IsCounted old new (Ok o) → (handed_count new ≡ handed_count old + 1) × (handed_count old ≤ MAX_PROBLEMS)
+counted_one {B} old new o p e counted =
+    let one = subst (λ (z : Option (Problem B)). IsCounted {B = B} old new (Ok z)) e counted in (one.0, one.1.1)
+
+-- and its text was written
+pub next_more : {B : Type 0} (g : Geometry) (request : Request)
+    (coming left after taken mid written : Option (List ℕ))
+    (old new : Cutter) (summary counted : Summary) (o : Option (Problem B)) (p : Problem B) → o ≡ Some p
+    → NextGives g left after old new (Ok o) → IsCounted old new (Ok o)
+    → SoFar g request coming left taken mid old summary → EndIsTrue after new
+    → (has_met_end old ≡ true → has_met_end new ≡ true)
+    → Writes (IsReportOn g request (numbered p ∷ [])) mid written → CountsOne g request summary counted (numbered p)
+    → More g request coming after taken written new counted (numbered p)
+next_more {B} g request coming left after taken mid written old new summary counted o p e given count so_far end stays
+    wrote counts =
+    let now = subst (λ (z : Option (Problem B)). NextGives {B = B} g left after old new (Ok z)) e given in
+    SoFar-more g request coming left after taken mid written old new summary counted (numbered p) now.read so_far
+    now.took now.gives end stays (counted_one old new o p e count).0 wrote counts
+
+-- or not to its end
+pub next_fault : {B : Type 0} (g : Geometry) (request : Request)
+    (coming left after taken mid written : Option (List ℕ))
+    (old new : Cutter) (summary : Summary) (o : Option (Problem B)) (p : Problem B) (expanded : ℕ)
+    (r : Result Summary TextFault) (fault : TextFault) → o ≡ Some p → r ≡ Err fault
+    → NextGives g left after old new (Ok o) → SoFar g request coming left taken mid old summary
+    → EndIsTrue after new → (has_met_end old ≡ true → has_met_end new ≡ true) → HaveTexts g request
+    → TextEnds (IsReportOn g request (numbered p ∷ [])) (IsPartOn g request (numbered p ∷ [])) mid written r
+    → RunEnds g request coming after taken written (Err (ended_by fault expanded))
+next_fault {B} g request coming left after taken mid written old new summary o p expanded r fault e is given so_far end
+    stays exist text =
+    let now = subst (λ (z : Option (Problem B)). NextGives {B = B} g left after old new (Ok z)) e given in
+    SoFar-fault g request coming left after taken mid written old new summary (numbered p) now.read expanded fault
+    so_far now.took now.gives end stays exist (subst (TextEnds (IsReportOn g request (numbered p ∷ []))
+    (IsPartOn g request (numbered p ∷ [])) mid written) is text)
+
+-- a problem more that is not chosen
+pub counts_passed : (g : Geometry) (request : Request) (old new : Summary) (p : Numbered)
+    → number_is_chosen request.only p.number ≡ false → new.problems ≡ old.problems + 1 → new.shown ≡ old.shown
+    → new.refused ≡ old.refused → CountsOne g request old new p
+counts_passed g request old new p pass read shown count =
+    let none = chosen_none request.only p pass in
+    record {
+      read = read;
+      shown =
+          shown ∙ (sym (add-zero old.shown) ∙ sym (ap (λ (z : List Numbered). old.shown + length z) none));
+      refused = (0, subst (λ z. AreRefused g request z 0) (sym none) refl, count ∙ sym (add-zero old.refused));
+    }
