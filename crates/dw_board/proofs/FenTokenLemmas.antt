@@ -1,8 +1,9 @@
 -- Lemmas on the tokens of a text.
 use Rattle.std.proofs.Common.{◌≡◌, ℕ, suc, zero, ◌+◌, ◌≤◌, Bool, true, false, ◌&&◌, ◌||◌, cond, eqb, List, [], ◌∷◌}
-use Rattle.std.proofs.Common.{◌++◌, length, take, drop, Some, None, refl, sym, ap, ◌∙◌, arith, inl, inr, slice_get}
+use Rattle.std.proofs.Common.{◌++◌, length, take, drop, get_or, Some, None, refl, sym, ap, ◌∙◌, arith, inl, inr}
+use Rattle.std.proofs.Common.{slice_get}
 use Rattle.std.specs.Option.{option_eq}
-use Rattle.std.proofs.lemmas.Bool.{cases_Bool, and_parts, eqb-true, eq-eqb, ne_eqb, cases_eq}
+use Rattle.std.proofs.lemmas.Bool.{cases_Bool, and_parts, eqb-true, eq-eqb, ne_eqb, cases_eq, leb-true}
 use Rattle.std.proofs.lemmas.Bool.Decides.{nat_tests}
 use Rattle.std.proofs.lemmas.List.{take-append-drop, length-take-le}
 use Rattle.dw_board.specs.Geometry.{Geometry}
@@ -23,6 +24,20 @@ tokens_from-sign place byte bytes h k = rw (h, k) refl
 
 pub digit-not_blank : (byte : ℕ) → is_digit byte ≡ true → is_blank byte ≡ false
 digit-not_blank byte h = grind (arith, nat_tests)
+
+-- the byte of a digit is 48 to 57
+pub digit_byte : (byte : ℕ) → is_digit byte ≡ true → (48 ≤ byte) × (byte ≤ 57)
+digit_byte byte h = let parts = and_parts _ _ h in (leb-true _ _ parts.0, leb-true _ _ parts.1)
+
+-- the first byte of digits is 48 to 57
+pub first_digit : (ds : List ℕ) → AreDigits ds → 1 ≤ length ds → (48 ≤ get_or ds 0 0) × (get_or ds 0 0 ≤ 57)
+first_digit [] are some = absurd (omega (arith, some))
+first_digit (d ∷ ds) are some = digit_byte d are.0
+
+-- the second byte of digits is 48 to 57
+pub second_digit : (ds : List ℕ) → AreDigits ds → 2 ≤ length ds → (48 ≤ get_or ds 1 0) × (get_or ds 1 0 ≤ 57)
+second_digit [] are some = absurd (omega (arith, some))
+second_digit (d ∷ ds) are some = first_digit ds are.1 (omega (arith, some))
 
 with_byte-joined : (byte place : ℕ) (joins : Bool) (tokens : List Token) → is_blank byte ≡ false → is_digit byte ≡ true
     → joins ≡ true

@@ -1,9 +1,10 @@
 -- The sets that tell the signs of squares are those of a position's pieces.
 use Rattle.std.proofs.Common.{◌≡◌, ◌∙◌, ℕ, ◌↔◌, ◌⊎◌, Bool, true, false, Option, Some, None, is_some, refl, sym, ap, inl}
-use Rattle.std.proofs.Common.{inr}
+use Rattle.std.proofs.Common.{inr, ◌+◌, ◌*◌, ◌/◌, ◌%◌, ◌≢◌, List, ◌++◌, codes, map, append_assoc, if◌then◌else◌}
+use Rattle.std.specs.List.{range_with_len}
 use Rattle.std.specs.FinSet as set
 use Rattle.std.specs.Cmp.{nat_cmp_total}
-use Rattle.std.proofs.lemmas.Bool.{or_cases, or_left, or_right}
+use Rattle.std.proofs.lemmas.Bool.{or_cases, or_left, or_right, ne_eqb}
 use Rattle.dw_board.specs.declared.piece.Side.{Side}
 use Rattle.dw_board.specs.declared.piece.Side.TheVariants.{White, Black}
 use Rattle.dw_board.specs.declared.piece.Kind.{Kind}
@@ -11,7 +12,7 @@ use Rattle.dw_board.specs.declared.piece.Kind.TheVariants.{Man, King}
 use Rattle.dw_board.specs.declared.piece.Piece.{Piece}
 use Rattle.dw_board.specs.Geometry.{Geometry, OnBoard, Squares}
 use Rattle.dw_board.specs.Placement.{Placement, at, is_of}
-use Rattle.dw_board.specs.Diagram.{square_sign}
+use Rattle.dw_board.specs.Diagram.{square_sign, sign_at, row_text}
 use Rattle.dw_board.specs.inner.Drawing.{sign_by, AreSigns}
 use Rattle.dw_board.proofs.SetLemmas.{same_tests}
 
@@ -88,3 +89,22 @@ signs-are g p occupied white whites blacks kings all of_white white_kings black_
     let either = kings_where g p whites blacks white_kings black_kings in
     let c = ap (λ v. set.contains v s) is ∙ has_where g p is_king (set.union whites blacks) either s on in
     (λ i. sign_by (a i) (b i) (c i)) ∙ sign_of (at p s)
+
+-- the sign of a dark square, by its row and column
+pub dark_sign : (g : Geometry) (p : Placement) (occupied white kings : Squares) (r c s sign : ℕ)
+    → AreSigns g p occupied white kings → OnBoard g s
+    → sign ≡ sign_by (set.contains occupied s) (set.contains white s) (set.contains kings s)
+    → s ≡ r * g.per_row + c / 2 + 1 → (r + c) % 2 ≢ 0 → sign ≡ sign_at g p r c
+dark_sign g p occupied white kings r c s sign are on is place dark =
+    is ∙ (are s on ∙ (ap (λ q. square_sign (at p q)) place
+    ∙ sym (ap (λ b. if b then 32 else square_sign (at p (r * g.per_row + c / 2 + 1))) (ne_eqb _ _ dark))))
+
+-- a row is its signs between two bars
+pub row_drawn : (g : Geometry) (p : Placement) (row n : ℕ) (old begun drawn ended : List ℕ)
+    → begun ≡ old ++ codes "|" → drawn ≡ begun ++ map (sign_at g p row) (range_with_len 0 n) → n ≡ g.rows
+    → ended ≡ drawn ++ codes "|\n" → ended ≡ old ++ row_text g p row
+row_drawn g p row n old begun drawn ended bar signs all end =
+    let line = map (sign_at g p row) (range_with_len 0 n) in
+    end ∙ (ap (λ t. t ++ codes "|\n") (signs ∙ (ap (λ t. t ++ line) bar ∙ append_assoc old (codes "|") line))
+    ∙ (append_assoc old (codes "|" ++ line) (codes "|\n")
+    ∙ ap (λ k. old ++ (codes "|" ++ map (sign_at g p row) (range_with_len 0 k) ++ codes "|\n")) all))

@@ -1,7 +1,9 @@
 -- Steps by rows and columns: for each board a table.
-use Rattle.std.proofs.Common.{◌≡◌, ℕ, suc, zero, ◌+◌, ◌-◌, ◌*◌, ◌/◌, ◌≤◌, ◌<◌, Bool, true, false, ◌&&◌, eqb, ltb}
-use Rattle.std.proofs.Common.{Option, Some, None, refl, sym, ap, ◌∙◌, subst, arith}
+use Rattle.std.proofs.Common.{◌≡◌, ℕ, suc, zero, ◌+◌, ◌-◌, ◌*◌, ◌/◌, ◌%◌, ◌≤◌, ◌<◌, Bool, true, false, ◌&&◌, eqb, ltb}
+use Rattle.std.proofs.Common.{Option, Some, None, refl, sym, ap, ◌∙◌, subst, arith, nat_lt}
+use Rattle.std.specs.Ordering.{nat_cmp, is_le}
 use Rattle.std.proofs.lemmas.Bool.{agree_below, agree_below_at, eqb-true, and_parts, ltb-true, lt-ltb}
+use Rattle.std.proofs.lemmas.Bool.Decides.{nat_tests}
 use Rattle.dw_board.specs.declared.board.Dir.{Dir}
 use Rattle.dw_board.specs.declared.board.Dir.TheVariants.{UpLeft, UpRight, DownLeft, DownRight}
 use Rattle.dw_board.specs.Geometry.{Geometry, IsBoard, squares, step, OnBoard, row, column, is_down, is_right, moved}
@@ -22,6 +24,15 @@ is_next false x y = eqb x (y + 1)
 is_next-true : (b : Bool) (x y : ℕ) → is_next b x y ≡ true → IsNext b x y
 is_next-true true x y e = eqb-true _ _ e
 is_next-true false x y e = eqb-true _ _ e
+
+-- a board has all squares of a row
+pub row_fits : (g : Geometry) → IsBoard g → g.per_row ≤ squares g
+row_fits g b = at_boards (λ r p. p ≤ r * p) (omega arith) (omega arith) (omega arith) (omega arith) g.rows g.per_row
+    b.even b.low b.high
+
+-- whether a square is in the last row, by the first square there
+pub in_last_row : (first s all p : ℕ) → first + p ≡ all + 1 → is_le (nat_cmp first s) ≡ nat_lt all (s + p)
+in_last_row first s all p e = grind (arith, nat_tests)
 
 -- where a step leads
 abbrev leads : Geometry → Dir → ℕ → Option ℕ → Bool
@@ -70,6 +81,41 @@ step-by g s t d e f back =
     ap (λ o. and_then o (λ r. and_then (moved (is_right d) (2 * g.per_row) (column g s))
     (λ c. Some (r * g.per_row + c / 2 + 1)))) e
     ∙ (ap (λ o. and_then o (λ c. Some (row g t * g.per_row + c / 2 + 1))) f ∙ ap Some back)
+
+-- the next row, by numbers that are those of the board
+pub same_row : (g : Geometry) (s rows p : ℕ) (d : Dir) (down : Bool) (found next : Option ℕ) → down ≡ is_down d
+    → rows ≡ g.rows → p ≡ g.per_row → found ≡ next → found ≡ moved down rows ((s - 1) / p)
+    → next ≡ moved (is_down d) g.rows (row g s)
+same_row g s rows p d down found next way all few was is =
+    sym was ∙ (is ∙ (ap (λ b. moved b rows ((s - 1) / p)) way ∙ (ap (λ n. moved (is_down d) n ((s - 1) / p)) all
+    ∙ ap (λ n. moved (is_down d) g.rows ((s - 1) / n)) few)))
+
+-- the next column
+pub same_column : (g : Geometry) (s p q u : ℕ) (d : Dir) (right : Bool) (found next : Option ℕ) → right ≡ is_right d
+    → p ≡ g.per_row → q ≡ g.per_row → u ≡ g.per_row → found ≡ next
+    → found ≡ moved right (2 * u) (2 * ((s - 1) % q) + (1 - (s - 1) / p % 2))
+    → next ≡ moved (is_right d) (2 * g.per_row) (column g s)
+same_column g s p q u d right found next way few as_few all was is =
+    sym was ∙ (is ∙ (ap (λ b. moved b (2 * u) (2 * ((s - 1) % q) + (1 - (s - 1) / p % 2))) way
+    ∙ (ap (λ n. moved (is_right d) (2 * n) (2 * ((s - 1) % q) + (1 - (s - 1) / p % 2))) all
+    ∙ (ap (λ n. moved (is_right d) (2 * g.per_row) (2 * ((s - 1) % n) + (1 - (s - 1) / p % 2))) as_few
+    ∙ ap (λ n. moved (is_right d) (2 * g.per_row) (2 * ((s - 1) % g.per_row) + (1 - (s - 1) / n % 2))) few))))
+
+-- no step past the last row
+pub past_rows : (g : Geometry) (s : ℕ) (d : Dir) → None ≡ moved (is_down d) g.rows (row g s) → None ≡ step g s d
+past_rows g s d e =
+    ap (λ o. and_then o (λ r. and_then (moved (is_right d) (2 * g.per_row) (column g s))
+    (λ c. Some (r * g.per_row + c / 2 + 1)))) e
+
+-- a step to the next row and the next column
+pub next_of_both : (g : Geometry) (s r c p t : ℕ) (d : Dir) → Some r ≡ moved (is_down d) g.rows (row g s)
+    → Some c ≡ moved (is_right d) (2 * g.per_row) (column g s) → p ≡ g.per_row → t ≡ r * p + c / 2 + 1
+    → Some t ≡ step g s d
+next_of_both g s r c p t d e f few is =
+    ap Some (is ∙ ap (λ n. r * n + c / 2 + 1) few)
+    ∙ (ap (λ o. and_then o (λ c. Some (r * g.per_row + c / 2 + 1))) f
+    ∙ ap (λ o. and_then o (λ r. and_then (moved (is_right d) (2 * g.per_row) (column g s))
+    (λ c. Some (r * g.per_row + c / 2 + 1)))) e)
 
 step-leads : (g : Geometry) → IsBoard g → (s t : ℕ) (d : Dir) → OnBoard g s → step g s d ≡ Some t → leads g d s (Some t)
     ≡ true

@@ -88,5 +88,9 @@ found-rest at_end g old new buffer more i j k h e =
     e ∙ ap (λ l. option_to_list (pieces_cut g new) ++ pieces_behind at_end g new (l ++ more))
     (sym (slice_range-drop buffer i j k h))
 
+-- a range from a place to the same one is empty
+pub slice_range-none : (xs : List ℕ) (i : ℕ) → slice_range xs i i ≡ []
+slice_range-none xs i = let e : i - i ≡ 0 = omega arith in ap (λ n. take n (drop i xs)) e
+
 pub length-slice_range-le : (xs : List ℕ) (i j : ℕ) → length (slice_range xs i j) ≤ j - i
 length-slice_range-le xs i j = omega (arith, length-take (j - i) (drop i xs))

@@ -1,8 +1,8 @@
 -- Lemmas on the text of a line that goes on move by move, and back.
 use Rattle.std.proofs.Common.{◌≡◌, ◌≤◌, ◌<◌, ◌+◌, ◌-◌, ◌%◌, ◌/◌, ◌*◌, ◌==◌, ◌⊎◌, ℕ, zero, suc, List, [], ◌∷◌, ◌++◌}
 use Rattle.std.proofs.Common.{length, length-append, append_assoc, append-nil, get_or, take, drop, map, add-one, refl}
-use Rattle.std.proofs.Common.{sym, ap, ◌∙◌, subst, arith, inl, inr, decimal, codes, cond, Bool, true, false}
-use Rattle.std.proofs.lemmas.List.{take_more, take_all, drop_more, take-append-drop, length-drop}
+use Rattle.std.proofs.Common.{sym, ap, ◌∙◌, subst, arith, inl, inr, decimal, codes, cond, Bool, true, false, min}
+use Rattle.std.proofs.lemmas.List.{take_more, take_all, drop_more, take-append-drop, length-drop, length-take-le}
 use Rattle.std.proofs.lemmas.Bool.{cases_order}
 use Rattle.std.specs.String.Boundary.{IsSplitPoint}
 use Rattle.dw_board.specs.Geometry.{Geometry}
@@ -188,6 +188,14 @@ len_all base [] (suc k) all = refl
 len_all base (x ∷ plies) zero all = absurd (omega (arith, all))
 len_all base (x ∷ plies) (suc k) all = len_all x.len plies k (omega (arith, all))
 
+-- where none of the moves is taken, the text is as long as before
+pub len_none : {B : Type 0} (base : ℕ) (plies : List (Ply B)) (k : ℕ) → min k (length plies) ≡ 0
+    → base ≡ len_to base k plies
+len_none base [] zero none = refl
+len_none base [] (suc k) none = refl
+len_none base (x ∷ plies) zero none = refl
+len_none base (x ∷ plies) (suc k) none = absurd (omega (arith, none))
+
 -- the length at the last move that is kept
 pub len_found : {B : Type 0} (base : ℕ) (plies : List (Ply B)) (k i : ℕ) (x : Ply B) → i < length plies → i + 1 ≤ k
     → (i + 1 < k → i + 1 ≡ length plies) → x ≡ get_or plies i x → x.len ≡ len_to base k plies
@@ -212,6 +220,19 @@ pub next_legal : (g : Geometry) (p : Placement) (moves : List Move) (i : ℕ) (m
     → i < length moves → m ≡ get_or moves i m → Legal g p m × ArePlayable g (play g p m) (drop (i + 1) moves)
 next_legal g p moves i m h low is = subst (ArePlayable g p) (drop_more moves i m low
     ∙ ap (λ z. z ∷ drop (i + 1) moves) (sym is)) h
+
+-- before its last move, less of a line is played than all of it
+pub played_short : (line front taken : List Move) (shared i : ℕ)
+    → (let rest = take (length line - shared) (drop shared line) in
+    shared ≤ length line → front ≡ take shared line → taken ≡ front ++ take i rest → i < length rest
+    → length taken < length line)
+played_short line front taken shared i fits kept played more =
+    let rest = take (length line - shared) (drop shared line) in
+    let all = length-take-le (length line - shared) (drop shared line) (omega (arith, length-drop shared line)) in
+    let so_far = ap length played ∙ length-append front (take i rest) in
+    let now = length-take-le i rest (omega (arith, more)) in
+    let before = ap length kept ∙ length-take-le shared line fits in
+    omega (arith, all, so_far, now, before, more, fits)
 
 pub moves_more : (front rest taken new : List Move) (i : ℕ) (m : Move) → i < length rest → m ≡ get_or rest i m
     → taken ≡ front ++ take i rest → new ≡ taken ++ m ∷ [] → new ≡ front ++ take (i + 1) rest

@@ -1,12 +1,13 @@
 -- Which answer is right, by what was found among the legal moves.
 use Rattle.std.proofs.Common.{◌≡◌, ℕ, ◌+◌, ◌<◌, zero, suc, true, false, List, [], ◌∷◌, ◌++◌, length, take, get_or}
 use Rattle.std.proofs.Common.{Option, Some, None, is_some, Result, Ok, Err, refl, sym, ap, ◌∙◌, subst, ◌⊎◌, inl, inr}
-use Rattle.std.proofs.Common.{arith}
+use Rattle.std.proofs.Common.{arith, ◌≤◌, ◌↔◌, ok_or}
 use Rattle.std.proofs.lemmas.Bool.{true≢false}
 use Rattle.std.proofs.lemmas.List.{take_more}
 use Rattle.dw_board.specs.Geometry.{Geometry}
 use Rattle.dw_board.specs.Placement.{Placement}
 use Rattle.dw_moves.specs.Moves.{Move, AreLegal}
+use Rattle.dw_moves.specs.Order.{IsPathFor}
 use Rattle.dw_board.specs.Lists.{Member, NoRepeat}
 use Rattle.dw_moves.specs.inner.MemberLemmas.{mem_left, mem_right, mem_cases}
 use Rattle.dw_notation.specs.MoveReading.{Named, Capture, IsAnswer, Names, IsAnswered, IsRead}
@@ -114,6 +115,46 @@ only_answers g p moves from to (Err Ambiguous) h k = record {
   differ = k.differ;
 }
 only_answers g p moves from to (Err Memory) h k = absurd k
+
+-- a list of two is its first element and its second
+two_are : (squares : List ℕ) (a b : ℕ) → 2 ≤ length squares → length squares < 3 → a ≡ get_or squares 0 a
+    → b ≡ get_or squares 1 b → a ∷ b ∷ [] ≡ squares
+two_are [] a b low high first second = absurd (omega (arith, low))
+two_are (x ∷ []) a b low high first second = absurd (omega (arith, low))
+two_are (x ∷ y ∷ []) a b low high first second = ap (λ z. z ∷ b ∷ []) first ∙ ap (λ z. x ∷ z ∷ []) second
+two_are (x ∷ y ∷ z ∷ squares) a b low high first second = absurd (omega (arith, high))
+
+-- a capture by two squares is answered as the one between them
+pub between_answers : (g : Geometry) (p : Placement) (squares : List ℕ) (from to : ℕ) (answer : Result Move MoveFault)
+    → 2 ≤ length squares → length squares < 3 → from ≡ get_or squares 0 from → to ≡ get_or squares 1 to
+    → IsAnswer g p (Capture (from ∷ to ∷ [])) answer → IsAnswer g p (Capture squares) answer
+between_answers g p squares from to answer low high first second h =
+    subst (λ s. IsAnswer g p (Capture s) answer) (two_are squares from to low high first second) h
+
+none_is : (m : Move) → None ≡ Some m → ⊥
+none_is m e = cc
+
+same_one : (m other : Move) → Some m ≡ Some other → other ≡ m
+same_one m other e = cc
+
+path_answers : (g : Geometry) (p : Placement) (squares : List ℕ) (found : Option Move) → 3 ≤ length squares
+    → ((m : Move) → (found ≡ Some m) ↔ IsPathFor g p m squares)
+    → IsAnswer g p (Capture squares) (ok_or found NoSuchMove)
+path_answers g p [] found long path = absurd (omega (arith, long))
+path_answers g p (s ∷ []) found long path = absurd (omega (arith, long))
+path_answers g p (s ∷ t ∷ []) found long path = absurd (omega (arith, long))
+path_answers g p (s ∷ t ∷ u ∷ squares) None long path = λ m fits. none_is m ((path m).1 fits)
+path_answers g p (s ∷ t ∷ u ∷ squares) (Some m) long path = record {
+  fits = (path m).0 refl;
+  alone = λ other fits. same_one m other ((path other).1 fits);
+}
+
+-- a capture by three squares or more is the one that was found to have this path
+pub followed_answers : (g : Geometry) (p : Placement) (squares : List ℕ) (found : Option Move)
+    (answer : Result Move MoveFault) → answer ≡ ok_or found NoSuchMove → 3 ≤ length squares
+    → ((m : Move) → (found ≡ Some m) ↔ IsPathFor g p m squares) → IsAnswer g p (Capture squares) answer
+followed_answers g p squares found answer is long path =
+    subst (IsAnswer g p (Capture squares)) (sym is) (path_answers g p squares found long path)
 
 -- ---- one answer
 -- two answers are the same, or memory was refused

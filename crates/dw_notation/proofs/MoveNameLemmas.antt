@@ -312,3 +312,9 @@ lone_number g text lone crossed few squares h =
     let k = capture_parts g text squares h in
     let same : squares ≡ lone = one_crossed g text text squares lone refl k.0 crossed in
     omega (arith, k.1, ap length same)
+
+-- a text that names no quiet move and no capture names nothing
+pub names_nothing : (g : Geometry) (text : List ℕ) → ((from to : ℕ) → Names g text (QuietMove from to) → ⊥)
+    → ((squares : List ℕ) → Names g text (Capture squares) → ⊥) → (named : Named) → Names g text named → ⊥
+names_nothing g text quiet capture (QuietMove from to) h = quiet from to h
+names_nothing g text quiet capture (Capture squares) h = capture squares h

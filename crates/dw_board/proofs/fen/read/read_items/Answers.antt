@@ -1,8 +1,8 @@
-use Rattle.std.proofs.Common.{sym, ◌∙◌, ap}
+use Rattle.std.proofs.Common.{sym, ◌∙◌, ap, arith}
 use Rattle.dw_board.specs.FenReader.{tokens_of, end_of, left_of}
 use Rattle.dw_board.specs.Fen.{read_from, AfterComma, AfterItem}
 use Rattle.dw_board.specs.inner.FenReading.{listing}
-use Rattle.dw_board.proofs.FenStageLemmas.{comma_read}
+use Rattle.dw_board.proofs.FenStageLemmas.{comma_read, length-left}
 use Rattle.dw_board.proofs.fen.read.read_items.Goals as goal
 
 pub items-preserved : goal.items-preserved
@@ -22,3 +22,8 @@ items-preserved g c = record {
       (sym (c.take.ensures.left ∙ ap (λ t. left_of t (tokens_of now)) c.if-not-take.false))))));
   end = c.take.ensures.end ∙ (c.in_ok-read_item.ensures.end ∙ c.items.invariant.end);
 }
+
+pub items-smaller : goal.items-smaller
+items-smaller g c =
+    let few = length-left g.B.Board.geometry 0 (tokens_of c.read_item.new.tokens) _ _ c.take.ensures.left in
+    omega (arith, few, c.in_ok-read_item.ensures.shorter)

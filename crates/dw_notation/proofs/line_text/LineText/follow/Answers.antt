@@ -1,7 +1,7 @@
-use Rattle.std.proofs.Common.{◌+◌, ◌-◌, ◌∙◌, sym, refl, length, subst, take, drop, append-nil}
+use Rattle.std.proofs.Common.{◌+◌, ◌-◌, ◌∙◌, sym, refl, length, subst, take, drop, append-nil, arith}
 use Rattle.dw_notation.specs.Text.{ArePlayable}
 use Rattle.dw_notation.specs.LineTexts.{end_of, moves_of}
-use Rattle.dw_notation.proofs.LineWrittenLemmas.{next_legal, moves_more, playable_from, rest_is}
+use Rattle.dw_notation.proofs.LineWrittenLemmas.{next_legal, moves_more, playable_from, rest_is, played_short}
 use Rattle.dw_notation.proofs.line_text.LineText.follow.Goals as goal
 
 pub moves-init : goal.moves-init
@@ -34,3 +34,14 @@ moves-preserved g c =
           c.moves-test.true c.mv-item.is c.moves.invariant.taken c.in_ok-push.ensures.moves;
       playable = subst (λ z. ArePlayable geo z (drop (i + 1) rest)) (sym c.in_ok-push.ensures.end) next.1;
     }
+
+pub push-requires : goal.push-requires
+push-requires g c =
+    let line = c.args.line.now in
+    let shared = c.args.shared in
+    let rest = take (length line - shared) (drop shared line) in
+    let next = next_legal g.B.Board.geometry (end_of c.moves.self) rest c.moves.mv-index c.mv-item.result
+    c.moves.invariant.playable c.moves-test.true c.mv-item.is in
+    let short = played_short line (moves_of c.keep.new.self) (moves_of c.moves.self) shared c.moves.mv-index
+    c.requires.fits (c.keep.ensures.moves ∙ sym c.requires.shared) c.moves.invariant.taken c.moves-test.true in
+    (omega arith, (c.moves.invariant.text, (omega (arith, short, c.requires.few), next.0)))

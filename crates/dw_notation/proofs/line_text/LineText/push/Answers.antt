@@ -1,5 +1,5 @@
-use Rattle.std.proofs.Common.{◌≡◌, ◌≤◌, ◌+◌, ◌∙◌, ap, length, arith, []}
-use Rattle.std.proofs.lemmas.List.{length-map}
+use Rattle.std.proofs.Common.{◌≡◌, ◌≤◌, ◌+◌, ◌∙◌, ap, length, map, arith, []}
+use Rattle.std.proofs.lemmas.List.{length-map, map-append}
 use Rattle.dw_moves.specs.Moves.{play}
 use Rattle.dw_notation.specs.LineTexts.{end_from}
 use Rattle.dw_notation.proofs.LineWrittenLemmas.{written_room, written_pushed, end_push}
@@ -34,3 +34,15 @@ returns-clause-end g c =
     let t = c.args.self.now in
     ap (end_from t.start) c.push.ensures.items ∙ (end_push t.start t.plies.items _
     ∙ (c.play.ensures ∙ ap (λ z. play g.B.Board.geometry z c.args.mv.now) c.position-current.ensures))
+
+pub push-requires : goal.push-requires
+push-requires g c =
+    (omega arith, omega (arith, c.requires.few, length-map c.args.self.now.plies.items (λ x. x.mv)))
+
+pub returns-clause-moves : goal.returns-clause-moves
+returns-clause-moves g c =
+    ap (map (λ x. x.mv)) c.push.ensures.items ∙ map-append (λ x. x.mv) c.args.self.now.plies.items _
+
+pub push_words-requires-clause-few : goal.push_words-requires-clause-few
+push_words-requires-clause-few g c =
+    omega (arith, c.len.ensures.value, c.requires.few, length-map c.args.self.now.plies.items (λ x. x.mv))
