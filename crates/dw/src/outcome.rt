@@ -4,6 +4,7 @@ ghost use Rattle.dw.specs.Outcome.{outcome_of, done_of};
 
 use dw_list::tokens::TokenFault;
 use dw_report::settings::{RunFault, Stop, Summary};
+use std::alloc::AllocError;
 use std::fmt;
 use std::fmt::{Display, Formatter};
 
@@ -15,7 +16,7 @@ const NO_MEMORY: RunFault = RunFault::Stopped {
 
 /// How the program ended. `T` is the type of the texts that its line names.
 /// See [`outcome`] for an example.
-#[derive(Clone, Copy)]
+#[derive(Copy)]
 pub enum Ending<T> {
     /// Help was asked for, and written.
     Help,
@@ -33,9 +34,16 @@ pub enum Ending<T> {
     Ran(Result<Summary, RunFault>),
 }
 
+// A copy is the whole clone. The derived one goes variant by variant, and takes the prover ten times as long.
+impl<T: Copy> Clone for Ending<T> {
+    fn clone(&self) -> Result<Self, AllocError> {
+        Ok(*self)
+    }
+}
+
 /// What is written on standard error.
 /// Example: `Message::NoProblem(7)` is written `dw: no problem 7`, with a line end.
-#[derive(Clone, Copy)]
+#[derive(Copy)]
 pub enum Message<T> {
     /// Why the arguments are no command, with its own line ends.
     Words(T),
@@ -45,6 +53,12 @@ pub enum Message<T> {
     Failed(RunFault),
     NotOpened(T),
     NoProblem(u32),
+}
+
+impl<T: Copy> Clone for Message<T> {
+    fn clone(&self) -> Result<Self, AllocError> {
+        Ok(*self)
+    }
 }
 
 impl<T: Display> Display for Message<T> {
@@ -75,10 +89,16 @@ fn number_of(fault: TokenFault) -> u8 {
 
 /// The exit status, 0 to 3, and what is written on standard error.
 /// See [`outcome`] for an example.
-#[derive(Clone, Copy)]
+#[derive(Copy)]
 pub struct Exit<T> {
     pub status: u8,
     pub message: Option<Message<T>>,
+}
+
+impl<T: Copy> Clone for Exit<T> {
+    fn clone(&self) -> Result<Self, AllocError> {
+        Ok(*self)
+    }
 }
 
 /// The status and the message for an ending; `only` is the number of the problem that was asked for.
