@@ -1,6 +1,6 @@
 -- Steps of a search.
-use Rattle.std.proofs.Common.{◌≡◌, ℕ, ◌+◌, ◌≤◌, ◌<◌, ◌⊎◌, inl, inr, Bool, true, false, refl, sym, ◌∙◌, subst, ◌↔◌}
-use Rattle.std.proofs.Common.{arith, IsTrue, Ok, Err}
+use Rattle.std.proofs.Common.{◌≡◌, ℕ, ◌+◌, ◌-◌, ◌*◌, ◌≤◌, ◌<◌, ◌⊎◌, inl, inr, Bool, true, false, refl, sym, ◌∙◌, subst}
+use Rattle.std.proofs.Common.{◌↔◌, arith, IsTrue, Ok, Err}
 use Rattle.std.specs.Prelude.{not, Option, Some, None, IsSome, MatchOption}
 use Rattle.std.proofs.lemmas.Bool.{true≢false}
 use Rattle.dw_board.specs.Geometry.{Geometry}
@@ -105,8 +105,9 @@ reply_decided g c d q p r n e f all u legal at = elim (all r legal) [
   | inr k ↦ inr (subst (λ z. IsDecided d z n) (sym at) (decided_same c d (play g q r) n u.1 k))
 ]
 
-pub answered : {A E : Type 0} (x : A) (e : E) → Ok x ≡ Err e → ⊥
-answered x e q = cc
+-- an answer is no stop
+pub ok_is_no_err : {A E : Type 0} (x : A) (e : E) → Ok x ≡ Err e → ⊥
+ok_is_no_err x e q = cc
 
 -- what is searched is not decided
 pub never_known : (Q : Type 0) (n : ℕ) (P : Type 0) → 1 ≤ n → (P → ⊥) → (n ≡ 0) ⊎ P → Q
@@ -117,3 +118,46 @@ never_known Q n P some unknown (inr known) = absurd (unknown known)
 pub some_first : {X : Type 0} (o : Option X) (n : ℕ) (Q : X → Type 0) → MatchOption o (n ≡ 0) Q → 1 ≤ n → IsSome o
 some_first (Some x) n Q cases some = refl
 some_first None n Q cases some = absurd (omega (arith, cases, some))
+
+-- arithmetic of a search, apart from what else is known in it
+pub none_below_none : (k : ℕ) → k < 0 → ⊥
+none_below_none k low = omega (arith, low)
+
+pub none_or_one : (n : ℕ) → n ≡ 0 → n ≡ 1 → ⊥
+none_or_one n none one = omega (arith, none, one)
+
+pub none_or_some : (n : ℕ) → n ≡ 0 → 1 ≤ n → ⊥
+none_or_some n none some = omega (arith, none, some)
+
+pub one_at_most : (n : ℕ) → n ≡ 1 → 1 ≤ n
+one_at_most n one = omega (arith, one)
+
+pub one_less : (n : ℕ) → 1 ≤ n → n - 1 + 1 ≡ n
+one_less n some = omega (arith, some)
+
+pub counted_within : (a l b l' : ℕ) → IsCounted a l b l' → b ≤ l'
+counted_within a l b l' k = omega (arith, k.within, k.same)
+
+pub one_spent : (a b c d e : ℕ) → b ≡ a → c ≡ b + 1 → c ≤ d → e ≡ d → a < e
+one_spent a b c d e same more rises count = omega (arith, same, more, rises, count)
+
+pub same_within : (a l b l' : ℕ) → a ≤ l → b ≡ a → l' ≡ l → b ≤ l'
+same_within a l b l' low count limit = omega (arith, low, count, limit)
+
+pub room_for_replies : (n p : ℕ) → (0 < n → 2 * n + 1 ≤ p) → (n ≡ 0 → ⊥) → 1 ≤ p
+room_for_replies n p room some = omega (arith, room (omega (arith, some)))
+
+pub room_for_moves : (n p : ℕ) → 2 * n ≤ p → 1 ≤ n → 1 ≤ p
+room_for_moves n p room some = omega (arith, room, some)
+
+pub room_left : (n p r s : ℕ) → (0 < n → 2 * n + 1 ≤ p) → (n ≡ 0 → ⊥) → r + 1 ≡ p → s ≡ r → 2 * n ≤ s
+room_left n p r s room some rest same = omega (arith, rest, same, room (omega (arith, some)))
+
+pub room_after : (n p r : ℕ) → 1 ≤ n → r + 1 ≡ p → 2 * n ≤ p → 2 * (n - 1) + 1 ≤ r
+room_after n p r some rest room = omega (arith, some, rest, room)
+
+pub none_at_most : (n : ℕ) → 0 ≤ n
+none_at_most n = omega arith
+
+pub same_at_most : (n : ℕ) → n ≤ n
+same_at_most n = omega arith

@@ -11,14 +11,11 @@ use Rattle.dw_solve.specs.Searching.{IsCounted}
 use Rattle.dw_solve.specs.Work.{Searched, cut_off}
 use Rattle.dw_solve.specs.inner.Searching.{at_time, CanSearch, HasSearched}
 use Rattle.dw_solve.proofs.SearchLemmas.{counted_none, counted_then}
-use Rattle.dw_solve.proofs.WorkLemmas.{searched_none, searched_then, searched_wider, searched_looser}
+use Rattle.dw_solve.proofs.WorkLemmas.{err_is, searched_none, searched_then, searched_wider, searched_looser}
 
 -- an answer, whatever it is
 abbrev pub answered : Result ℕ Stop
 answered = Ok 0
-
-err_is : {B : Type 0} (d : Stop) → IsErrOf {T = B} (Err d) Limit → d ≡ Limit
-err_is d same = cc
 
 -- a stop for want of memory is none at the limit
 pub memory_is_no_limit : {B : Type 0} (r : Result B Stop) (P : Type 0) → IsErrAnd r (λ d. d ≡ Memory) → IsErrOf r

@@ -119,7 +119,8 @@ searched_looser g n cut more a c less s = record {
   };
 }
 
-err_is : {B : Type 0} (d : Stop) → IsErrOf {T = B} (Err d) Limit → d ≡ Limit
+-- which stop it is
+pub err_is : {B : Type 0} (d : Stop) → IsErrOf {T = B} (Err d) Limit → d ≡ Limit
 err_is d same = cc
 
 -- at a stop

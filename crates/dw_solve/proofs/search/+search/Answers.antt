@@ -1,7 +1,7 @@
-use Rattle.std.proofs.Common.{◌≡◌, ◌∙◌, ◌+◌, ◌-◌, false, length, refl, sym, ap, subst, arith, inl, inr, ◌↔◌, is_some}
-use Rattle.std.proofs.Common.{IfSome}
+use Rattle.std.proofs.Common.{◌≡◌, ◌∙◌, ◌+◌, ◌-◌, ◌*◌, ◌≤◌, false, length, refl, sym, ap, subst, arith, inl, inr, ◌↔◌}
+use Rattle.std.proofs.Common.{is_some, IfSome}
 use Rattle.std.specs.Prelude.{IsTrue, IfOk}
-use Rattle.std.proofs.lemmas.Result.{on_ok_weaker}
+use Rattle.std.proofs.lemmas.Result.{on_ok_weaker, IfOk-from_err}
 use Rattle.std.proofs.lemmas.Bool.{true≢false}
 use Rattle.std.specs.List.{IsFirstAndRest}
 use Rattle.std.proofs.lemmas.Option.{MatchOption-at_some}
@@ -21,9 +21,12 @@ use Rattle.dw_solve.proofs.StepLemmas.{searched_memory, searched_looked, memory_
 use Rattle.dw_solve.proofs.TriedLemmas.{Refuted, Answered, tried_none, refuted_more, answered_more}
 use Rattle.dw_solve.proofs.TriedLemmas.{says_winning, says_none, says_refuted, says_all}
 use Rattle.dw_solve.proofs.WinLemmas.{hopeless_is}
-use Rattle.dw_solve.proofs.SearchLemmas.{answered, never_known, unchanged_none, unchanged_then, reply_decided}
+use Rattle.dw_solve.proofs.SearchLemmas.{ok_is_no_err, never_known, unchanged_none, unchanged_then, reply_decided}
 use Rattle.dw_solve.proofs.SearchLemmas.{lost_at_none, says_at_none, counted_none, counted_then, is_so, is_not}
-use Rattle.dw_solve.proofs.SearchLemmas.{answer_no, answer_yes, some_first}
+use Rattle.dw_solve.proofs.SearchLemmas.{answer_no, answer_yes, some_first, counted_within, same_within, one_spent}
+use Rattle.dw_solve.proofs.SearchLemmas.{none_below_none, none_or_one, none_or_some, one_at_most, one_less}
+use Rattle.dw_solve.proofs.SearchLemmas.{room_for_replies, room_for_moves}
+use Rattle.dw_solve.proofs.SearchLemmas.{room_left, room_after, none_at_most, same_at_most}
 use Rattle.dw_solve.proofs.search.+search.Goals as goal
 
 pub loses-play-requires : goal.loses-play-requires
@@ -48,13 +51,13 @@ loses-wins-requires g t c κs within =
           (
             within.1.1,
             (
-              record { right = c.replies.invariant.0; within = omega (arith, k.within, k.same) },
-              omega (
-                arith,
-                rest,
-                c.replies.auto.rest,
-                c.requires.room (omega (arith, c.if-moves-eq0.false)),
-              ),
+              record {
+                right = c.replies.invariant.0;
+                within = counted_within c.args.search.now.expanded c.args.search.now.limit
+                    c.replies.search.expanded c.replies.search.limit k;
+              },
+              room_left c.args.moves (length c.args.plies.now) (length c.unwrap.result.1.now) (length c.replies.rest)
+                  c.requires.room c.if-moves-eq0.false rest c.replies.auto.rest,
             ),
           ),
         ),
@@ -67,7 +70,7 @@ loses-replies-init g t c = (
   (
     counted_none c.args.search.now.expanded c.args.search.now.limit c.requires.ready.within,
     (
-      (λ k x low e. absurd (omega (arith, low))),
+      (λ k x low e. absurd (none_below_none k low)),
       tried_none _ _ (Answered g.B.Board.geometry c.args.position.now c.args.moves) _ _,
       λ all. unchanged_none _ _,
     ),
@@ -149,12 +152,12 @@ some_move_wins-loses-requires g t c κs within =
           (
             within.1.1,
             (
-              record { right = c.moves.invariant.0; within = omega (arith, k.within, k.same) },
-              λ _. omega (
-                arith,
-                c.moves.auto.plies,
-                c.requires.room,
-              ),
+              record {
+                right = c.moves.invariant.0;
+                within = counted_within c.args.search.now.expanded c.args.search.now.limit
+                    c.moves.search.expanded c.moves.search.limit k;
+              },
+              λ _. subst (λ k. 2 * c.args.moves + 1 ≤ k) (sym c.moves.auto.plies) c.requires.room,
             ),
           ),
         ),
@@ -167,7 +170,7 @@ some_move_wins-moves-init g t c = (
   (
     counted_none c.args.search.now.expanded c.args.search.now.limit c.requires.ready.within,
     (
-      (λ k x low e lost. absurd (omega (arith, low))),
+      (λ k x low e lost. absurd (none_below_none k low)),
       tried_none _ _ (Refuted g.B.Board.geometry c.args.position.now c.args.moves) _ _,
     ),
   ),
@@ -212,7 +215,7 @@ some_move_wins-returns-clause-answer g t c =
 pub wins-returns-in-Some-clause-spent : goal.wins-returns-in-Some-clause-spent
 wins-returns-in-Some-clause-spent g t c some undecided =
     absurd (elim (c.in-Some.ensures.sure refl) [
-      | inl none ↦ omega (arith, none, some)
+      | inl none ↦ none_or_some c.args.moves none some
       | inr known ↦ undecided known
     ])
 
@@ -238,7 +241,8 @@ wins-some_move_wins-requires g t c κs within =
                       c.known.ensures.right;
                   within = c.count.ensures.within;
                 },
-                omega (arith, some, rest, c.requires.room),
+                room_after c.args.moves (length c.args.plies.now) (length c.unwrap-2.result.1.now) some rest
+                    c.requires.room,
               ),
             ),
           ),
@@ -280,7 +284,7 @@ loses-returns-in_err-wins-clause-searched g t c =
     (searched_on geo content lost c.args.moves _ _ _ _ (record {
       right = c.replies.invariant.0;
       count = c.replies.invariant.1.0;
-      stop = λ e. cc;
+      stop = λ e. absurd (ok_is_no_err _ _ e);
       work = c.replies.invariant.1.1.1.0;
     }) c.in_err-wins.ensures.searched)
 
@@ -293,7 +297,7 @@ loses-returns-then-not-branch-clause-searched g t c =
     (searched_on geo content lost c.args.moves _ _ _ _ (record {
       right = c.replies.invariant.0;
       count = c.replies.invariant.1.0;
-      stop = λ e. cc;
+      stop = λ e. absurd (ok_is_no_err _ _ e);
       work = c.replies.invariant.1.1.1.0;
     }) c.in_ok-wins.ensures.searched)
 
@@ -312,7 +316,7 @@ pub loses-returns-clause-searched : goal.loses-returns-clause-searched
 loses-returns-clause-searched g t c = record {
   right = c.replies.invariant.0;
   count = c.replies.invariant.1.0;
-  stop = λ e. cc;
+  stop = λ e. absurd (ok_is_no_err _ _ e);
   work = c.replies.invariant.1.1.1.0;
 }
 
@@ -332,7 +336,7 @@ some_move_wins-returns-in_err-loses-clause-searched g t c =
     (searched_on geo content lost c.args.moves _ _ _ _ (record {
       right = c.moves.invariant.0;
       count = c.moves.invariant.1.0;
-      stop = λ e. cc;
+      stop = λ e. absurd (ok_is_no_err _ _ e);
       work = c.moves.invariant.1.1.1.0;
     }) c.in_err-loses.ensures.searched)
 
@@ -345,7 +349,7 @@ some_move_wins-returns-then-branch-clause-searched g t c =
     (searched_on geo content lost c.args.moves _ _ _ _ (record {
       right = c.moves.invariant.0;
       count = c.moves.invariant.1.0;
-      stop = λ e. cc;
+      stop = λ e. absurd (ok_is_no_err _ _ e);
       work = c.moves.invariant.1.1.1.0;
     }) c.in_ok-loses.ensures.searched)
 
@@ -362,7 +366,7 @@ pub some_move_wins-returns-clause-searched : goal.some_move_wins-returns-clause-
 some_move_wins-returns-clause-searched g t c = record {
   right = c.moves.invariant.0;
   count = c.moves.invariant.1.0;
-  stop = λ e. cc;
+  stop = λ e. absurd (ok_is_no_err _ _ e);
   work = c.moves.invariant.1.1.1.0;
 }
 
@@ -391,7 +395,7 @@ wins-returns-in_err-line_up-clause-searched g t c = record {
       let geo = g.B.Board.geometry in
       searched_stop geo c.args.moves c.from_residual-in_err-line_up.result _ _ c.from_residual-in_err-line_up.ensures.0
       (wins_stopped geo c.args.moves 0 _ (moment g.M.Memo.content g.M.Memo.dropped c.known.new.search.memo
-      c.known.new.search.expanded) _ _ (c.in_default.ensures.some refl) (omega arith)
+      c.known.new.search.expanded) _ _ (c.in_default.ensures.some refl) (none_at_most (c.args.moves - 1))
       (begun_is g.M.Memo.content g.M.Memo.dropped _ _ _ _ c.count.ensures.memo c.in_ok-count.ensures.more)
       c.known.ensures.searched (searched_none _ _ _ _));
 }
@@ -411,7 +415,7 @@ wins-returns-in_err-won-clause-searched g t c = record {
       let some = c.in_default.ensures.some refl in
       searched_stop geo c.args.moves c.from_residual-in_err-won.result _ _ c.from_residual-in_err-won.ensures.0
       (wins_stopped geo c.args.moves (c.args.moves - 1) _ (moment g.M.Memo.content g.M.Memo.dropped
-      c.known.new.search.memo c.known.new.search.expanded) _ _ some (omega arith)
+      c.known.new.search.memo c.known.new.search.expanded) _ _ some (same_at_most (c.args.moves - 1))
       (begun_is g.M.Memo.content g.M.Memo.dropped _ _ _ _ c.count.ensures.memo c.in_ok-count.ensures.more)
       c.known.ensures.searched c.in_err-won.ensures.searched.work);
 }
@@ -426,11 +430,11 @@ wins-returns-clause-searched g t c = record {
       c.known.ensures.count c.known.ensures.limit c.count.ensures.rises c.count.ensures.limit c.count.ensures.within)
       c.in_ok-won.ensures.searched.count in
       record {
-        rises = omega (arith, found.rises, c.note.ensures.count);
-        within = omega (arith, found.within, c.note.ensures.count);
+        rises = subst (λ e. c.args.search.now.expanded ≤ e) (sym c.note.ensures.count) found.rises;
+        within = subst (λ e. e ≤ c.args.search.now.limit) (sym c.note.ensures.count) found.within;
         same = c.note.ensures.limit ∙ found.same;
       };
-  stop = λ e. cc;
+  stop = λ e. absurd (ok_is_no_err _ _ e);
   work =
       let geo = g.B.Board.geometry in
       let some = c.in_default.ensures.some refl in
@@ -477,10 +481,10 @@ loses-returns-then-not-branch-clause-known g t c all =
     let here = c.in_ok-wins.ensures.known (reply_decided geo _ _ c.args.position.now c.play.result
     c.candidate-item.result.1 c.args.moves _ _ all before legal c.play.ensures) in
     let after = unchanged_then _ _ _ _ _ _ before here.1 in
-    ((λ none. answered _ _ none), after)
+    ((λ none. ok_is_no_err _ _ none), after)
 
 pub loses-returns-clause-known : goal.loses-returns-clause-known
-loses-returns-clause-known g t c all = let u = c.replies.invariant.1.1.2 all in ((λ none. answered _ _ none), u)
+loses-returns-clause-known g t c all = let u = c.replies.invariant.1.1.2 all in ((λ none. ok_is_no_err _ _ none), u)
 
 pub wins-returns-in_err-won-clause-known : goal.wins-returns-in_err-won-clause-known
 wins-returns-in_err-won-clause-known g t c = never_known _ c.args.moves _ (c.in_default.ensures.some refl)
@@ -499,7 +503,7 @@ loses-returns-in_err-refute-clause-known g t c all =
     let reply = subst (λ o. IfSome o (IsSureReply geo c.args.position.now)) c.in-Some.is c.in_ok-found.ensures.reply in
     let one = c.in_ok-found.ensures.last (ap is_some c.in-Some.is) in
     let here = c.in_err-refute.ensures.known (elim (all reply.0 reply.1) [
-      | inl none ↦ absurd (omega (arith, none, one))
+      | inl none ↦ absurd (none_or_one c.args.moves none one)
       | inr known ↦ subst (λ n. IsDecided (g.M.Memo.content c.args.search.now.memo) c.in-Some.after n) one
           (subst (λ q. IsDecided (g.M.Memo.content c.args.search.now.memo) q c.args.moves) (sym reply.2) known)
     ]) in
@@ -522,8 +526,8 @@ loses-returns-in-Some-clause-says g t c kept =
     let after = moment g.M.Memo.content g.M.Memo.dropped c.refute.new.search.memo c.refute.new.search.expanded in
     says_refuted geo c.args.moves c.args.position.now reply.0 c.in-Some.after false before before after
     (searched_none geo c.args.moves 0 before)
-    (searched_wider geo 1 c.args.moves 0 before after (omega (arith, one)) c.in_ok-refute.ensures.searched.work) reply.1
-    reply.2 refl
+    (searched_wider geo 1 c.args.moves 0 before after (one_at_most c.args.moves one)
+    c.in_ok-refute.ensures.searched.work) reply.1 reply.2 refl
     (λ k. subst (λ n. SaysWin after.content c.in-Some.after n false) (sym one) (c.in_ok-refute.ensures.says k)) kept
 
 pub loses-returns-in-Some-clause-known : goal.loses-returns-in-Some-clause-known
@@ -532,11 +536,11 @@ loses-returns-in-Some-clause-known g t c all =
     let reply = subst (λ o. IfSome o (IsSureReply geo c.args.position.now)) c.in-Some.is c.in_ok-found.ensures.reply in
     let one = c.in_ok-found.ensures.last (ap is_some c.in-Some.is) in
     let here = c.in_ok-refute.ensures.known (elim (all reply.0 reply.1) [
-      | inl none ↦ absurd (omega (arith, none, one))
+      | inl none ↦ absurd (none_or_one c.args.moves none one)
       | inr known ↦ subst (λ n. IsDecided (g.M.Memo.content c.args.search.now.memo) c.in-Some.after n) one
           (subst (λ q. IsDecided (g.M.Memo.content c.args.search.now.memo) q c.args.moves) (sym reply.2) known)
     ]) in
-    ((λ none. answered _ _ none), here.1)
+    ((λ none. ok_is_no_err _ _ none), here.1)
 
 pub wins-returns-then-moves-eq1-clause-answer : goal.wins-returns-then-moves-eq1-clause-answer
 wins-returns-then-moves-eq1-clause-answer g t c =
@@ -551,7 +555,7 @@ wins-returns-then-moves-eq1-clause-spent g t c =
 
 pub wins-returns-then-moves-eq1-clause-known : goal.wins-returns-then-moves-eq1-clause-known
 wins-returns-then-moves-eq1-clause-known g t c h = elim h [
-  | inl none ↦ absurd (omega (arith, none, c.if-moves-eq1.true))
+  | inl none ↦ absurd (none_or_one c.args.moves none c.if-moves-eq1.true)
   | inr known ↦ c.wins_at_once.ensures.known
       (subst (IsDecided (g.M.Memo.content c.args.search.now.memo) c.args.position.now) c.if-moves-eq1.true known)
 ]
@@ -563,7 +567,8 @@ loses-returns-in_err-refute-clause-searched g t c =
     let lost = g.M.Memo.dropped in
     let one = c.in_ok-found.ensures.last (ap is_some c.in-Some.is) in
     searched_err geo content lost c.args.moves _ _ c.in_err-refute.field-0.0 _ c.from_residual-in_err-refute.ensures.1
-    (searched_for_fewer geo content lost 1 c.args.moves _ _ _ (omega (arith, one)) c.in_err-refute.ensures.searched)
+    (searched_for_fewer geo content lost 1 c.args.moves _ _ _ (one_at_most c.args.moves one)
+    c.in_err-refute.ensures.searched)
 
 pub loses-returns-in-Some-clause-searched : goal.loses-returns-in-Some-clause-searched
 loses-returns-in-Some-clause-searched g t c =
@@ -572,7 +577,8 @@ loses-returns-in-Some-clause-searched g t c =
     let lost = g.M.Memo.dropped in
     let one = c.in_ok-found.ensures.last (ap is_some c.in-Some.is) in
     searched_ok geo content lost c.args.moves _ _ _ _
-    (searched_for_fewer geo content lost 1 c.args.moves _ _ _ (omega (arith, one)) c.in_ok-refute.ensures.searched)
+    (searched_for_fewer geo content lost 1 c.args.moves _ _ _ (one_at_most c.args.moves one)
+    c.in_ok-refute.ensures.searched)
 
 pub wins-returns-then-moves-eq1-clause-searched : goal.wins-returns-then-moves-eq1-clause-searched
 wins-returns-then-moves-eq1-clause-searched g t c =
@@ -604,30 +610,27 @@ wins-returns-in_err-count-clause-searched g t c =
           c.in_err-count.ensures.stop;
       work = searched_stop geo c.args.moves c.from_residual.result _ _ c.from_residual.ensures.0
           (subst (Searched geo c.args.moves c.args.moves (at_time content lost c.args.search.now)) (sym same)
-          (searched_looser geo c.args.moves 0 c.args.moves _ _ (omega arith) (searched_wider geo 0 c.args.moves 0 _ _
-          (omega arith) c.known.ensures.searched)));
+          (searched_looser geo c.args.moves 0 c.args.moves _ _ (none_at_most c.args.moves)
+          (searched_wider geo 0 c.args.moves 0 _ _ (none_at_most c.args.moves) c.known.ensures.searched)));
     }
 
 pub wins-returns-clause-spent : goal.wins-returns-clause-spent
-wins-returns-clause-spent g t c some undecided = omega (
-  arith,
-  c.known.ensures.count,
-  c.in_ok-count.ensures.more,
-  c.in_ok-won.ensures.searched.count.rises,
-  c.note.ensures.count,
-)
+wins-returns-clause-spent g t c some undecided =
+    one_spent c.args.search.now.expanded c.known.new.search.expanded c.count.new.search.expanded
+    c.some_move_wins.new.search.expanded c.note.new.search.expanded c.known.ensures.count c.in_ok-count.ensures.more
+    c.in_ok-won.ensures.searched.count.rises c.note.ensures.count
 
 pub wins-note-requires-clause-right : goal.wins-note-requires-clause-right
 wins-note-requires-clause-right g t c = c.in_ok-won.ensures.searched.right
 
 pub wins-note-requires-clause-answer : goal.wins-note-requires-clause-answer
 wins-note-requires-clause-answer g t c =
-    let all : c.args.moves - 1 + 1 ≡ c.args.moves = omega (arith, c.in_default.ensures.some refl) in
+    let all = one_less c.args.moves (c.in_default.ensures.some refl) in
     subst (λ n. IsTrue c.in_ok-won.won ↔ Win g.B.Board.geometry c.args.position.now n) all c.in_ok-won.ensures.answer
 
 pub wins-returns-clause-answer : goal.wins-returns-clause-answer
 wins-returns-clause-answer g t c =
-    let all : c.args.moves - 1 + 1 ≡ c.args.moves = omega (arith, c.in_default.ensures.some refl) in
+    let all = one_less c.args.moves (c.in_default.ensures.some refl) in
     subst (λ n. IsTrue c.in_ok-won.won ↔ Win g.B.Board.geometry c.args.position.now n) all c.in_ok-won.ensures.answer
 
 pub wins-returns-in-Some-clause-says : goal.wins-returns-in-Some-clause-says
@@ -645,7 +648,7 @@ wins-returns-in_err-line_up-clause-known g t c = never_known _ c.args.moves _ (c
     (c.in_default.ensures.open refl)
 
 pub loses-returns-then-moves-eq0-clause-known : goal.loses-returns-then-moves-eq0-clause-known
-loses-returns-then-moves-eq0-clause-known g t c all = ((λ none. answered _ _ none), unchanged_none _ _)
+loses-returns-then-moves-eq0-clause-known g t c all = ((λ none. ok_is_no_err _ _ none), unchanged_none _ _)
 
 pub loses-returns-in_err-found-clause-known : goal.loses-returns-in_err-found-clause-known
 loses-returns-in_err-found-clause-known g t c all =
@@ -655,24 +658,85 @@ pub wins-known-requires : goal.wins-known-requires
 wins-known-requires g t c = c.requires.ready.right
 
 pub wins-count-requires : goal.wins-count-requires
-wins-count-requires g t c = omega (
-  arith,
-  c.requires.ready.within,
-  c.known.ensures.count,
-  c.known.ensures.limit,
-)
+wins-count-requires g t c =
+    same_within c.args.search.now.expanded c.args.search.now.limit c.known.new.search.expanded c.known.new.search.limit
+    c.requires.ready.within c.known.ensures.count c.known.ensures.limit
 
 pub loses-unwrap-requires : goal.loses-unwrap-requires
 loses-unwrap-requires g t c =
     some_first c.split_first_mut.result (length c.args.plies.now) _ c.split_first_mut.ensures.cases
-    (omega (arith, c.requires.room (omega (arith, c.if-moves-eq0.false))))
+    (room_for_replies c.args.moves (length c.args.plies.now) c.requires.room c.if-moves-eq0.false)
 
 pub wins-unwrap-requires : goal.wins-unwrap-requires
 wins-unwrap-requires g t c =
     some_first c.split_first_mut.result (length c.args.plies.now) _ c.split_first_mut.ensures.cases
-    (omega (arith, c.requires.room, c.if-moves-eq1.true))
+    (room_for_moves c.args.moves (length c.args.plies.now) c.requires.room
+    (one_at_most c.args.moves c.if-moves-eq1.true))
 
 pub wins-unwrap-requires-2 : goal.wins-unwrap-requires-2
 wins-unwrap-requires-2 g t c =
     some_first c.split_first_mut-2.result (length c.args.plies.now) _ c.split_first_mut-2.ensures.cases
-    (omega (arith, c.requires.room, c.in_default.ensures.some refl))
+    (room_for_moves c.args.moves (length c.args.plies.now) c.requires.room (c.in_default.ensures.some refl))
+
+pub loses-returns-in_err-found-clause-answer : goal.loses-returns-in_err-found-clause-answer
+loses-returns-in_err-found-clause-answer g t c = IfOk-from_err c.from_residual.result _ c.from_residual.ensures.0
+
+pub loses-returns-in_err-found-clause-says : goal.loses-returns-in_err-found-clause-says
+loses-returns-in_err-found-clause-says g t c kept = IfOk-from_err c.from_residual.result _ c.from_residual.ensures.0
+
+pub loses-returns-in_err-refute-clause-answer : goal.loses-returns-in_err-refute-clause-answer
+loses-returns-in_err-refute-clause-answer g t c =
+    IfOk-from_err c.from_residual-in_err-refute.result _ c.from_residual-in_err-refute.ensures.0
+
+pub loses-returns-in_err-refute-clause-says : goal.loses-returns-in_err-refute-clause-says
+loses-returns-in_err-refute-clause-says g t c kept =
+    IfOk-from_err c.from_residual-in_err-refute.result _ c.from_residual-in_err-refute.ensures.0
+
+pub loses-returns-in_err-wins-clause-answer : goal.loses-returns-in_err-wins-clause-answer
+loses-returns-in_err-wins-clause-answer g t c =
+    IfOk-from_err c.from_residual-in_err-wins.result _ c.from_residual-in_err-wins.ensures.0
+
+pub loses-returns-in_err-wins-clause-says : goal.loses-returns-in_err-wins-clause-says
+loses-returns-in_err-wins-clause-says g t c kept =
+    IfOk-from_err c.from_residual-in_err-wins.result _ c.from_residual-in_err-wins.ensures.0
+
+pub some_move_wins-returns-in_err-loses-clause-answer : goal.some_move_wins-returns-in_err-loses-clause-answer
+some_move_wins-returns-in_err-loses-clause-answer g t c =
+    IfOk-from_err c.from_residual.result _ c.from_residual.ensures.0
+
+pub some_move_wins-returns-in_err-loses-clause-says : goal.some_move_wins-returns-in_err-loses-clause-says
+some_move_wins-returns-in_err-loses-clause-says g t c kept =
+    IfOk-from_err c.from_residual.result _ c.from_residual.ensures.0
+
+pub wins-returns-in_err-count-clause-answer : goal.wins-returns-in_err-count-clause-answer
+wins-returns-in_err-count-clause-answer g t c = IfOk-from_err c.from_residual.result _ c.from_residual.ensures.0
+
+pub wins-returns-in_err-count-clause-says : goal.wins-returns-in_err-count-clause-says
+wins-returns-in_err-count-clause-says g t c kept = IfOk-from_err c.from_residual.result _ c.from_residual.ensures.0
+
+pub wins-returns-in_err-count-clause-spent : goal.wins-returns-in_err-count-clause-spent
+wins-returns-in_err-count-clause-spent g t c = IfOk-from_err c.from_residual.result _ c.from_residual.ensures.0
+
+pub wins-returns-in_err-line_up-clause-answer : goal.wins-returns-in_err-line_up-clause-answer
+wins-returns-in_err-line_up-clause-answer g t c =
+    IfOk-from_err c.from_residual-in_err-line_up.result _ c.from_residual-in_err-line_up.ensures.0
+
+pub wins-returns-in_err-line_up-clause-says : goal.wins-returns-in_err-line_up-clause-says
+wins-returns-in_err-line_up-clause-says g t c kept =
+    IfOk-from_err c.from_residual-in_err-line_up.result _ c.from_residual-in_err-line_up.ensures.0
+
+pub wins-returns-in_err-line_up-clause-spent : goal.wins-returns-in_err-line_up-clause-spent
+wins-returns-in_err-line_up-clause-spent g t c =
+    IfOk-from_err c.from_residual-in_err-line_up.result _ c.from_residual-in_err-line_up.ensures.0
+
+pub wins-returns-in_err-won-clause-answer : goal.wins-returns-in_err-won-clause-answer
+wins-returns-in_err-won-clause-answer g t c =
+    IfOk-from_err c.from_residual-in_err-won.result _ c.from_residual-in_err-won.ensures.0
+
+pub wins-returns-in_err-won-clause-says : goal.wins-returns-in_err-won-clause-says
+wins-returns-in_err-won-clause-says g t c kept =
+    IfOk-from_err c.from_residual-in_err-won.result _ c.from_residual-in_err-won.ensures.0
+
+pub wins-returns-in_err-won-clause-spent : goal.wins-returns-in_err-won-clause-spent
+wins-returns-in_err-won-clause-spent g t c =
+    IfOk-from_err c.from_residual-in_err-won.result _ c.from_residual-in_err-won.ensures.0
