@@ -13,7 +13,7 @@ use Rattle.dw_list.specs.Standing.{Level, Standing}
 use Rattle.dw_list.specs.inner.Levels.{AreLevels, IsFew}
 use Rattle.dw_list.specs.declared.stack.Trial.{Trial}
 use Rattle.dw_list.specs.inner.Tasks.{IsTrial}
-use Rattle.dw_list.specs.inner.Steps.{begun, first_ahead, passed, IsListing}
+use Rattle.dw_list.specs.inner.Steps.{begun, first_ahead, passed, passed_last, IsListing}
 use Rattle.dw_list.proofs.StackLemmas.{levels_passed, levels_listed, levels_entered, levels_back, room_entered}
 
 abbrev pub standing : Placement → ℕ → List Move → List Level → Standing
@@ -214,3 +214,38 @@ pub seen_levels : (g : Geometry) (inside seen : Standing) → inside ≡ seen
     → AreLevels g inside.position inside.moves inside.levels inside.line
     → AreLevels g seen.position seen.moves seen.levels seen.line
 seen_levels g inside seen is levels = subst (λ (s : Standing). AreLevels g s.position s.moves s.levels s.line) is levels
+
+-- the number of levels is what is seen of it
+pub seen_fits : (p : Placement) (n : ℕ) (line : List Move) (items : List Level) (seen : Standing)
+    → standing p n line (reverse items) ≡ seen → length items ≤ 2 * n → length seen.levels ≤ 2 * seen.moves
+seen_fits p n line items seen is few = subst (λ (s : Standing). length s.levels ≤ 2 * s.moves) is
+    (subst (λ z. z ≤ 2 * n) (sym (length-reverse items)) few)
+
+pub some_levels : (xs : List Level) (b : Bool) → b ≡ (length xs == 0) → b ≡ false → 1 ≤ length xs
+some_levels [] b empty not_so = absurd (true≢false (sym empty ∙ not_so))
+some_levels (y ∷ xs) b empty not_so = omega arith
+
+-- what is seen of a stack whose last level passed a move
+pub seen_passed : (s : Standing) (p : Placement) (n : ℕ) (line : List Move) (old popped new : List Level) (f h : Level)
+    → standing p n line (reverse old) ≡ s → old ≡ popped ++ f ∷ [] → new ≡ popped ++ h ∷ [] → h ≡ passed f
+    → standing p n line (reverse new) ≡ record s { levels = passed_last s.levels }
+seen_passed s p n line old popped new f h seen was is passes =
+    let levels : reverse new ≡ passed_last (reverse old) = end_first new popped h is
+    ∙ ap (λ z. z ∷ reverse popped) passes ∙ sym (ap passed_last (end_first old popped f was)) in
+    subst (λ (z : Standing). standing p n line (reverse new) ≡ record z { levels = passed_last z.levels }) seen
+    (λ i. standing p n line (levels i))
+
+-- what is seen of a stack that went on with a move
+pub seen_entered : (s : Standing) (p : Placement) (n : ℕ) (line line' : List Move) (m : Move)
+    (old popped new : List Level) (f h c k : Level) → standing p n (reverse line) (reverse old) ≡ s
+    → line' ≡ line ++ m ∷ [] → old ≡ popped ++ f ∷ [] → new ≡ (popped ++ h ∷ []) ++ c ∷ [] → h ≡ passed f → c ≡ k
+    → standing p n (reverse line') (reverse new)
+    ≡ record s { line = m ∷ s.line; levels = k ∷ passed_last s.levels }
+seen_entered s p n line line' m old popped new f h c k seen played was is passes begins =
+    let line_is : reverse line' ≡ m ∷ reverse line = end_first line' line m played in
+    let levels : reverse new ≡ k ∷ passed_last (reverse old) = end_first new (popped ++ h ∷ []) c is
+    ∙ ap (λ z. z ∷ reverse (popped ++ h ∷ [])) begins ∙ ap (λ z. k ∷ z) (end_first (popped ++ h ∷ []) popped h refl
+    ∙ ap (λ z. z ∷ reverse popped) passes ∙ sym (ap passed_last (end_first old popped f was))) in
+    subst (λ (z : Standing). standing p n (reverse line') (reverse new)
+    ≡ record z { line = m ∷ z.line; levels = k ∷ passed_last z.levels }) seen
+    (λ i. standing p n (line_is i) (levels i))

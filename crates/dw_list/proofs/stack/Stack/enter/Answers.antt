@@ -1,7 +1,7 @@
 use Rattle.std.proofs.Common.{◌<◌, ◌+◌, ◌≡◌, [], ◌∷◌, ◌++◌, sym, ap, ◌∙◌, reverse, arith, length, length-append, lit<}
 use Rattle.std.proofs.lemmas.List.{length-reverse}
 use Rattle.dw_list.specs.Standing.{Standing}
-use Rattle.dw_list.proofs.StackViewLemmas.{end_of, end_first, inside_first, inside_entered, same_trial}
+use Rattle.dw_list.proofs.StackViewLemmas.{end_of, end_first, inside_first, inside_entered, same_trial, seen_entered}
 use Rattle.dw_list.proofs.stack.Stack.enter.Goals as goal
 
 pub push-requires-2 : goal.push-requires-2
@@ -46,3 +46,21 @@ invariant_of-self g c =
     (c.push-2.ensures.items ∙ ap (λ z. z ++ c.frame_at-next.result ∷ []) c.push.ensures.items) c.pass.ensures
     (end_first _ _ _ c.push-3.ensures.items) trial.0 trial.1 trial.2 trial.3 c.frame_at-next.ensures c.requires.keeps
     c.self.invariant
+
+pub pop-requires : goal.pop-requires
+pop-requires g c = lit< tt
+
+pub frame_at-next-requires : goal.frame_at-next-requires
+frame_at-next-requires g c = lit< tt
+
+pub pass-requires : goal.pass-requires
+pass-requires g c κs = λ live. live
+
+pub returns : goal.returns
+returns g c =
+    let was = end_of _ _ c.pop.result c.unwrap-frame.result c.pop.ensures.items c.unwrap-frame.ensures in
+    seen_entered c.args.self.now c.self.inside.position c.self.inside.moves c.self.inside.line.items
+    c.push-3.new.self.items c.args.trial.now.mv c.self.inside.frames.items c.pop.new.self.items c.push-2.new.self.items
+    c.unwrap-frame.result c.pass.new.self c.frame_at-next.result _ c.self.view_is c.push-3.ensures.items was
+    (c.push-2.ensures.items ∙ ap (λ z. z ++ c.frame_at-next.result ∷ []) c.push.ensures.items) c.pass.ensures
+    c.frame_at-next.ensures

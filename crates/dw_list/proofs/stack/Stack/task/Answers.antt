@@ -1,10 +1,13 @@
-use Rattle.std.proofs.Common.{Some, refl, sym, ap, ◌∙◌, subst, reverse}
+use Rattle.std.proofs.Common.{ℕ, ◌-◌, ◌≤◌, ◌<◌, Some, refl, sym, ap, ◌∙◌, subst, reverse, length, arith, lit<}
 use Rattle.dw_moves.specs.Moves.{play}
 use Rattle.dw_list.specs.Standing.{Standing}
 use Rattle.dw_list.specs.inner.Levels.{AreLevels}
 use Rattle.dw_list.proofs.StackLemmas.{behind_first}
-use Rattle.dw_list.proofs.StackViewLemmas.{at_last, not_listed, all_passed, seen_levels}
+use Rattle.dw_list.proofs.StackViewLemmas.{at_last, not_listed, all_passed, seen_levels, seen_fits, some_levels}
 use Rattle.dw_list.proofs.stack.Stack.task.Goals as goal
+
+below : (n : ℕ) → 1 ≤ n → n - 1 < n
+below n some = omega arith
 
 pub returns-then-not-is_listed-clause-task : goal.returns-then-not-is_listed-clause-task
 returns-then-not-is_listed-clause-task g c =
@@ -68,3 +71,41 @@ returns-in-None-clause-levels g c = seen_levels g.B.Board.geometry _ _ c.self.vi
 
 pub returns-in-Some-clause-levels : goal.returns-in-Some-clause-levels
 returns-in-Some-clause-levels g c = seen_levels g.B.Board.geometry _ _ c.self.view_is c.self.invariant.0
+
+pub returns-then-is_empty-clause-fits : goal.returns-then-is_empty-clause-fits
+returns-then-is_empty-clause-fits g c =
+    seen_fits c.self.inside.position c.self.inside.moves (reverse c.self.inside.line.items) c.self.inside.frames.items
+    c.args.self.now c.self.view_is c.self.invariant.1
+
+pub returns-then-not-is_listed-clause-fits : goal.returns-then-not-is_listed-clause-fits
+returns-then-not-is_listed-clause-fits g c =
+    seen_fits c.self.inside.position c.self.inside.moves (reverse c.self.inside.line.items) c.self.inside.frames.items
+    c.args.self.now c.self.view_is c.self.invariant.1
+
+pub returns-in-None-clause-fits : goal.returns-in-None-clause-fits
+returns-in-None-clause-fits g c =
+    seen_fits c.self.inside.position c.self.inside.moves (reverse c.self.inside.line.items) c.self.inside.frames.items
+    c.args.self.now c.self.view_is c.self.invariant.1
+
+pub returns-in-Some-clause-fits : goal.returns-in-Some-clause-fits
+returns-in-Some-clause-fits g c =
+    seen_fits c.self.inside.position c.self.inside.moves (reverse c.self.inside.line.items) c.self.inside.frames.items
+    c.args.self.now c.self.view_is c.self.invariant.1
+
+pub as_slice-frames-requires : goal.as_slice-frames-requires
+as_slice-frames-requires g c = lit< tt
+
+pub is_listed-requires : goal.is_listed-requires
+is_listed-requires g c κs = λ live. live
+
+pub first-requires : goal.first-requires
+first-requires g c κs = λ live. live
+
+pub overflow_sub-frame : goal.overflow_sub-frame
+overflow_sub-frame g c =
+    some_levels c.as_slice-frames.result.now c.is_empty.result c.is_empty.ensures c.if-is_empty.false
+
+pub bounds-frames-frames : goal.bounds-frames-frames
+bounds-frames-frames g c =
+    below (length c.as_slice-frames.result.now)
+    (some_levels c.as_slice-frames.result.now c.is_empty.result c.is_empty.ensures c.if-is_empty.false)
