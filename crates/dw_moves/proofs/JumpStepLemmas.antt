@@ -1,7 +1,7 @@
 -- How the jumps of a piece are found square by square.
 use Rattle.std.proofs.Common.{◌≡◌, ℕ, ◌+◌, ◌≤◌, suc, List, [], ◌∷◌, ◌++◌, length, map, refl, sym, ap, ◌∙◌, subst, inl}
 use Rattle.std.proofs.Common.{inr, arith, Bool, true, false, Some, None, length-append, append_assoc}
-use Rattle.std.proofs.lemmas.List.{length-map}
+use Rattle.std.proofs.lemmas.List.{length-map, map-append}
 use Rattle.dw_board.specs.declared.piece.Kind.{Kind}
 use Rattle.dw_board.specs.declared.piece.Kind.TheVariants.{Man, King}
 use Rattle.dw_board.specs.declared.piece.Side.{Side}
@@ -212,3 +212,15 @@ met_enemy g b p k side d from before c against enemies there h s against_is are 
     ∙ same_side_refl (other side) in
     h.takes ∙ (ap (takes_for k p side) (ray_some g b before c d h.on s)
     ∙ (met_piece k p side c (ray g c d) (record { side = against; kind = e.1.0 }) e.1.1 ∙ rw (f, over_enemy) refl))
+
+-- what is added one after another
+added_both : {X : Type 0} (f : ℕ → X) (a b : List ℕ) (old now new : List X) → now ≡ old ++ map f a
+    → new ≡ now ++ map f b → new ≡ old ++ map f (a ++ b)
+added_both f a b old now new ha hb = hb ∙ (ap (λ z. z ++ map f b) ha ∙ (append_assoc old (map f a) (map f b)
+    ∙ ap (λ z. old ++ z) (sym (map-append f a b))))
+
+pub added_four : {X : Type 0} (f : ℕ → X) (a b c d : List ℕ) (l0 l1 l2 l3 l4 : List X) → l1 ≡ l0 ++ map f a
+    → l2 ≡ l1 ++ map f b → l3 ≡ l2 ++ map f c → l4 ≡ l3 ++ map f d → l4 ≡ l0 ++ map f (a ++ (b ++ (c ++ (d ++ []))))
+added_four f a b c d l0 l1 l2 l3 l4 ha hb hc hd =
+    added_both f a (b ++ (c ++ (d ++ []))) l0 l1 l4 ha (added_both f b (c ++ (d ++ [])) l1 l2 l4 hb
+    (added_both f c (d ++ []) l2 l3 l4 hc (added_both f d [] l3 l4 l4 hd (sym (append_none l4)))))

@@ -93,12 +93,15 @@ by_more g p piece b n c passed t most list longest now next k new h next_is rest
     ]))
     (least_then E F most longest k list now new h behind)
 
+man_king : Man ≡ King → ⊥
+man_king e = cc
+
 -- a king goes on from there
 pub gone_more : (g : Geometry) (p : Placement) (piece : Piece) (b : Listed) (n c : ℕ) (kind : Kind) (d : Dir)
     (at t most : ℕ) (list : List Listed) (longest : ℕ) (now : List Listed) (next : Listed) (k : ℕ) (new : List Listed)
     → kind ≡ King → Gone g p piece b n c kind d at most list longest now → Freed g p at d t → next ≡ onward b c t
     → LongestLeast (GoesBy g p piece next (n + 1)) longest now k new → Gone g p piece b n c kind d t most list k new
-gone_more g p piece b n c Man d at t most list longest now next k new e h f next_is rest = cc
+gone_more g p piece b n c Man d at t most list longest now next k new e h f next_is rest = absurd (man_king e)
 gone_more g p piece b n c King d at t most list longest now next k new e h f next_is rest =
     let one : landings_for King p (ray g at d) ≡ t ∷ landings_for King p (ray g t d) = ap (landings_for King p) f.ray_is
     ∙ run_king p t (ray g t d) f.free in
@@ -121,7 +124,7 @@ gone_last g p piece b n c Man d at t most list longest now next k new e h f next
     ∙ run_man p t (ray g t d) f.free in
     subst (λ z. LongestLeast (By g p piece b n c z) most list k new) (ap (λ z. h.passed ++ z) (sym one) ∙ h.all)
     (by_more g p piece b n c h.passed t most list longest now next k new h.walked next_is rest)
-gone_last g p piece b n c King d at t most list longest now next k new e h f next_is rest = cc
+gone_last g p piece b n c King d at t most list longest now next k new e h f next_is rest = absurd (man_king (sym e))
 
 -- no square comes next
 pub gone_stop : (g : Geometry) → IsBoard g → (p : Placement) (piece : Piece) (b : Listed) (n c : ℕ) (kind : Kind)

@@ -46,6 +46,7 @@ pub mod AscendingLemmas
 pub mod MoveKeyLemmas
 pub mod LeastKeptLemmas
 pub mod LeastEntryLemmas
+pub mod MeasureLemmas
 pub mod LeastWalkedLemmas
 pub mod LeastTakingLemmas
 pub mod LeastPathLemmas

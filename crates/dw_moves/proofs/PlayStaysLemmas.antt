@@ -171,6 +171,20 @@ play_to g p m low high = get_or-set_same (without p (emptied m)).cells (m.to - 1
 pub past_none : (p : Placement) (ss : Squares) (s : ℕ) → at p s ≡ None → left p ss s ≡ None
 past_none p ss s e = elim (left_cases p ss s) [ inl h ↦ h | inr h ↦ h ∙ e ]
 
+-- numbers, as they are compared here
+fits_still : (a b n : ℕ) → a ≤ b → b ≤ n → a ≤ n
+fits_still a b n h k = omega (arith, h, k)
+
+past_apart : (n s t : ℕ) → n < t → s ≤ n → t ≡ s → ⊥
+past_apart n s t past within e = absurd (omega (arith, past, within, e))
+
+past_low : (n t : ℕ) → n < t → 1 ≤ t
+past_low n t past = omega (arith, past)
+
+-- nothing stands past the squares
+cells_past : (p : Placement) (t : ℕ) → length p.cells ≡ 50 → 50 < t → at p t ≡ None
+cells_past p t len past = get_or_past p.cells (t - 1) None (omega (arith, len, past))
+
 pub play_stays : PlayStays
 play_stays g b p m pos legal =
     let s = legal_stands g p m legal in
@@ -178,25 +192,31 @@ play_stays g b p m pos legal =
     let from : OnBoard g m.from = s.1.on_board in
     let to : OnBoard g m.to = legal_ends g b p m legal in
     let fifty : squares g ≤ 50 = b.squares_high in
+    let to_fifty : m.to ≤ 50 = fits_still m.to (squares g) 50 to.1 fifty in
+    let q : Placement = play g p m in
     let o : Option Piece = landed g m.to (at p m.from) in
     let o_is : o ≡ Some (crowned g m.to piece) = ap (landed g m.to) s.1.there in
-    let len : length (play g p m).cells ≡ 50 = length-set (without p (emptied m)).cells (m.to - 1) o
+    let len : length q.cells ≡ 50 = length-set (without p (emptied m)).cells (m.to - 1) o
     ∙ without_length p (emptied m) in
     record {
       fifty = len;
       on_board = λ t past. elim (cases_lt 50 t) [
-        | inl beyond ↦ get_or_past (play g p m).cells (t - 1) None (omega arith)
-        | inr within ↦ play_at g p m t (omega arith) within (λ e. absurd (omega (arith, to.1))) to.0
+        | inl beyond ↦ cells_past q t len beyond
+        | inr within ↦
+            play_at g p m t (past_low (squares g) t past) within (past_apart (squares g) m.to t past to.1) to.0
             ∙ past_none p (emptied m) t (pos.on_board t past)
       ];
-      white_fits = omega (arith, side_stays g p m White piece pos.fifty from fifty to s.1.there, pos.white_fits);
-      black_fits = omega (arith, side_stays g p m Black piece pos.fifty from fifty to s.1.there, pos.black_fits);
+      white_fits = fits_still (count_by (is_of White) q.cells) (count_by (is_of White) p.cells) g.side
+          (side_stays g p m White piece pos.fifty from fifty to s.1.there) pos.white_fits;
+      black_fits = fits_still (count_by (is_of Black) q.cells) (count_by (is_of Black) p.cells) g.side
+          (side_stays g p m Black piece pos.fifty from fifty to s.1.there) pos.black_fits;
       no_stuck_man = λ t low. elim (cases_eq t m.to) [
-        | inl e ↦ rw e (rw (play_to g p m to.0 (omega (arith, to.1)), o_is) (crowned_fits g m.to piece))
+        | inl e ↦ subst (λ z. is_stuck g z (at q z) ≡ false) (sym e)
+            (ap (is_stuck g m.to) (play_to g p m to.0 to_fifty ∙ o_is) ∙ crowned_fits g m.to piece)
         | inr ne ↦ elim (cases_lt 50 t) [
-          | inl beyond ↦ let none : get_or (play g p m).cells (t - 1) None
-              ≡ None = get_or_past (play g p m).cells (t - 1) None (omega arith) in rw none refl
-          | inr within ↦ rw (play_at g p m t low within ne to.0) (left_stuck g p m t (pos.no_stuck_man t low))
+          | inl beyond ↦ ap (is_stuck g t) (cells_past q t len beyond)
+          | inr within ↦ ap (is_stuck g t) (play_at g p m t low within ne to.0)
+              ∙ left_stuck g p m t (pos.no_stuck_man t low)
         ]
       ];
     }

@@ -1,38 +1,35 @@
-use Rattle.std.proofs.Common.{◌≡◌, ◌≤◌, ◌+◌, ◌-◌, false, sym, ap, ◌∙◌, subst, arith, refl}
+use Rattle.std.proofs.Common.{◌≡◌, ◌≤◌, ◌+◌, ◌-◌, false, sym, ap, ◌∙◌, subst, refl}
 use Rattle.std.specs.FinSet as fin
-use Rattle.std.proofs.lemmas.Result.{IfOk-weaker}
+use Rattle.std.proofs.lemmas.Result.{IfOk-weaker, IfOk-from_err}
 use Rattle.dw_moves.specs.Moves.{Move}
 use Rattle.dw_moves.specs.inner.MoveLemmas.{same_move}
 use Rattle.dw_moves.specs.inner.Chains.{ChainsFit, Is, Longest, further}
 use Rattle.dw_moves.specs.inner.Plain as over
 use Rattle.dw_moves.proofs.RunLemmas.{freed, ray_falls}
+use Rattle.dw_moves.proofs.MeasureLemmas.{towards_falls, walk_falls, count_fits_byte}
 use Rattle.dw_moves.proofs.WalkedLemmas.{TakesOver, landed_none, landed_more, landed_stop, jump_onto, onto_towards}
 use Rattle.dw_moves.proofs.WalkedLemmas.{towards_taken, walked_all, count_fits, chains_fit_behind}
 use Rattle.dw_moves.proofs.chains.+walk_king.Goals as goal
 
 pub walk_king-walk_towards-requires : goal.walk_king-walk_towards-requires
 walk_king-walk_towards-requires g t c κs within =
-    let falls = c.decreases in
     let r = c.requires in
-    (omega (arith, falls), (within, (r.king, (r.on_board, (r.ground, (r.few, r.fits))))))
+    (towards_falls c.args.count t c.decreases, (within, (r.king, (r.on_board, (r.ground, (r.few, r.fits))))))
 
 pub walk_king-walk_towards-requires-2 : goal.walk_king-walk_towards-requires-2
 walk_king-walk_towards-requires-2 g t c κs within =
-    let falls = c.decreases in
     let r = c.requires in
-    (omega (arith, falls), (within, (r.king, (r.on_board, (r.ground, (r.few, r.fits))))))
+    (towards_falls c.args.count t c.decreases, (within, (r.king, (r.on_board, (r.ground, (r.few, r.fits))))))
 
 pub walk_king-walk_towards-requires-3 : goal.walk_king-walk_towards-requires-3
 walk_king-walk_towards-requires-3 g t c κs within =
-    let falls = c.decreases in
     let r = c.requires in
-    (omega (arith, falls), (within, (r.king, (r.on_board, (r.ground, (r.few, r.fits))))))
+    (towards_falls c.args.count t c.decreases, (within, (r.king, (r.on_board, (r.ground, (r.few, r.fits))))))
 
 pub walk_king-walk_towards-requires-4 : goal.walk_king-walk_towards-requires-4
 walk_king-walk_towards-requires-4 g t c κs within =
-    let falls = c.decreases in
     let r = c.requires in
-    (omega (arith, falls), (within, (r.king, (r.on_board, (r.ground, (r.few, r.fits))))))
+    (towards_falls c.args.count t c.decreases, (within, (r.king, (r.on_board, (r.ground, (r.few, r.fits))))))
 
 pub walk_king-returns : goal.walk_king-returns
 walk_king-returns g t c =
@@ -43,6 +40,22 @@ walk_king-returns g t c =
     c.args.moves.now.items c.walk_towards.new.moves.items c.walk_towards-2.new.moves.items
     c.walk_towards-3.new.moves.items c.walk_towards-4.new.moves.items c.offer.new.moves.items
     c.in_ok-one.ensures c.in_ok-two.ensures c.in_ok-three.ensures c.in_ok-four.ensures h) c.offer.ensures
+
+pub walk_king-returns-in_err-one : goal.walk_king-returns-in_err-one
+walk_king-returns-in_err-one g t c =
+    IfOk-from_err c.from_residual.result _ c.from_residual.ensures.0
+
+pub walk_king-returns-in_err-two : goal.walk_king-returns-in_err-two
+walk_king-returns-in_err-two g t c =
+    IfOk-from_err c.from_residual-in_err-two.result _ c.from_residual-in_err-two.ensures.0
+
+pub walk_king-returns-in_err-three : goal.walk_king-returns-in_err-three
+walk_king-returns-in_err-three g t c =
+    IfOk-from_err c.from_residual-in_err-three.result _ c.from_residual-in_err-three.ensures.0
+
+pub walk_king-returns-in_err-four : goal.walk_king-returns-in_err-four
+walk_king-returns-in_err-four g t c =
+    IfOk-from_err c.from_residual-in_err-four.result _ c.from_residual-in_err-four.ensures.0
 
 pub walk_towards-returns-then-has : goal.walk_towards-returns-then-has
 walk_towards-returns-then-has g t c =
@@ -81,9 +94,8 @@ walk_towards-walk_king-requires g t c κs within =
     let small : c.args.count + 1 ≤ 20 = count_fits geo c.args.position.now c.args.piece c.args.begun.to c.in-Some.over
     c.in-Some-free_step.landing c.args.begun.taken c.args.count c.requires.few c.requires.fits jump fresh in
     let taken_is : c.with-taken.result ≡ fin.insert c.args.begun.taken c.in-Some.over = c.with-taken.ensures
-    ∙ ap (λ (m : Move). fin.insert m.taken c.in-Some.over) c.begun.view_is in
-    let falls = c.decreases in (
-      omega (arith, falls, small),
+    ∙ ap (λ (m : Move). fin.insert m.taken c.in-Some.over) c.begun.view_is in (
+      walk_falls c.args.count t c.decreases small,
       (
         within,
         (
@@ -149,3 +161,6 @@ walk_towards-returns g t c =
     c.args.piece.kind c.args.direction c.landings.at c.args.most c.args.moves.now.items c.landings.longest
     c.landings.moves.items
     c.landings.invariant (sym c.free_step.ensures ∙ c.in_default-free_step.is))
+
+pub walk_towards-overflow_add-count : goal.walk_towards-overflow_add-count
+walk_towards-overflow_add-count g t c = count_fits_byte c.args.count c.requires.few

@@ -1,4 +1,4 @@
-use Rattle.std.proofs.Common.{◌≡◌, ◌≤◌, ◌+◌, ◌-◌, ◌∷◌, [], ◌++◌, List, false, length, sym, ap, ◌∙◌, subst, arith, refl}
+use Rattle.std.proofs.Common.{◌≡◌, ◌≤◌, ◌+◌, ◌-◌, ◌∷◌, [], ◌++◌, List, false, length, sym, ap, ◌∙◌, subst, refl}
 use Rattle.std.specs.Prelude.{ℕ}
 use Rattle.std.specs.FinSet as fin
 use Rattle.std.proofs.lemmas.Bool.{true≢false}
@@ -12,6 +12,8 @@ use Rattle.dw_moves.specs.Order.{Listed}
 use Rattle.dw_moves.specs.inner.Listing.{entries_listed, GoesBy, GoesTowards, This, LongestLeast, onward}
 use Rattle.dw_moves.proofs.RunLemmas.{freed, ray_falls}
 use Rattle.dw_moves.proofs.WalkedLemmas.{TakesOver, count_fits, chains_fit_behind}
+use Rattle.dw_moves.proofs.MeasureLemmas.{towards_falls, walk_falls, count_fits_byte, entry_fits, path_room}
+use Rattle.dw_moves.proofs.MeasureLemmas.{path_longer}
 use Rattle.dw_moves.proofs.LeastWalkedLemmas.{same_listed_parts, gone_none, gone_more, gone_last, gone_stop, jump_by}
 use Rattle.dw_moves.proofs.LeastWalkedLemmas.{by_towards, towards_none, towards_taken, gone_all, ends_there, least_as}
 use Rattle.dw_moves.proofs.LeastWalkedLemmas.{popped}
@@ -21,46 +23,42 @@ use Rattle.dw_moves.proofs.listed.+walk.Goals.{walk_towards-else-goes_on+in_ok-l
 
 pub walk-walk_towards-requires : goal.walk-walk_towards-requires
 walk-walk_towards-requires g t c κs within =
-    let falls = c.decreases in
     let long = c.requires.long in (
-      omega (arith, falls),
+      towards_falls c.args.count t c.decreases,
       (
         within,
-        (omega arith, (c.requires.on_board, (c.requires.ground, (c.requires.few, (c.requires.fits, long))))),
+        (entry_fits, (c.requires.on_board, (c.requires.ground, (c.requires.few, (c.requires.fits, long))))),
       ),
     )
 
 pub walk-walk_towards-requires-2 : goal.walk-walk_towards-requires-2
 walk-walk_towards-requires-2 g t c κs within =
-    let falls = c.decreases in
     let long = ap length c.in_ok-one.ensures.path ∙ c.requires.long in (
-      omega (arith, falls),
+      towards_falls c.args.count t c.decreases,
       (
         within,
-        (omega arith, (c.requires.on_board, (c.requires.ground, (c.requires.few, (c.requires.fits, long))))),
+        (entry_fits, (c.requires.on_board, (c.requires.ground, (c.requires.few, (c.requires.fits, long))))),
       ),
     )
 
 pub walk-walk_towards-requires-3 : goal.walk-walk_towards-requires-3
 walk-walk_towards-requires-3 g t c κs within =
-    let falls = c.decreases in
     let long = ap length (c.in_ok-two.ensures.path ∙ c.in_ok-one.ensures.path) ∙ c.requires.long in (
-      omega (arith, falls),
+      towards_falls c.args.count t c.decreases,
       (
         within,
-        (omega arith, (c.requires.on_board, (c.requires.ground, (c.requires.few, (c.requires.fits, long))))),
+        (entry_fits, (c.requires.on_board, (c.requires.ground, (c.requires.few, (c.requires.fits, long))))),
       ),
     )
 
 pub walk-walk_towards-requires-4 : goal.walk-walk_towards-requires-4
 walk-walk_towards-requires-4 g t c κs within =
-    let falls = c.decreases in
     let long = ap length (c.in_ok-three.ensures.path ∙ (c.in_ok-two.ensures.path ∙ c.in_ok-one.ensures.path)) ∙
     c.requires.long in (
-      omega (arith, falls),
+      towards_falls c.args.count t c.decreases,
       (
         within,
-        (omega arith, (c.requires.on_board, (c.requires.ground, (c.requires.few, (c.requires.fits, long))))),
+        (entry_fits, (c.requires.on_board, (c.requires.ground, (c.requires.few, (c.requires.fits, long))))),
       ),
     )
 
@@ -91,6 +89,12 @@ walk-returns-clause-kept g t c =
     (subst (λ z. LongestLeast (GoesTowards geo c.args.position.now c.args.piece (on z) c.args.count DownRight)
     c.in_ok-three.three l3 c.in_ok-four.four l4) three c.in_ok-four.ensures.kept)
     (subst (λ z. LongestLeast (This (on z) c.args.count) c.in_ok-four.four l4 k new) four h)) c.keep.ensures
+
+pub walk-returns-clause-path : goal.walk-returns-clause-path
+walk-returns-clause-path g t c =
+    let two = c.in_ok-two.ensures.path ∙ c.in_ok-one.ensures.path in
+    let four = c.in_ok-four.ensures.path ∙ (c.in_ok-three.ensures.path ∙ two) in
+    IfOk-weaker c.keep.result _ _ (λ k h. four) c.keep.ensures
 
 pub walk_towards-returns-in_default-clause-kept : goal.walk_towards-returns-in_default-clause-kept
 walk_towards-returns-in_default-clause-kept g t c =
@@ -145,8 +149,10 @@ walk_towards-push-requires g t c =
     c.in-Some-free_step.landing c.args.most old c.landings.longest now takes c.landings.invariant.0 f in
     let small : c.args.count + 1 ≤ 20 = count_fits geo c.args.position.now c.args.piece c.args.begun.to c.in-Some.over
     c.in-Some-free_step.landing c.args.begun.taken c.args.count c.requires.few c.requires.fits jump fresh in
-    let long : length c.landings.path.items ≡ c.args.count + 1 = ap length c.landings.invariant.1 ∙ c.requires.long in
-    (omega arith, omega (arith, small, long))
+    let long : length c.landings.path.items ≡ c.args.count + 1 = ap length c.landings.invariant.1 ∙ c.requires.long in (
+      entry_fits,
+      path_room c.args.count (length c.landings.path.items) long small,
+    )
 
 pub walk_towards-walk-requires : goal.walk_towards-walk-requires
 walk_towards-walk-requires g t c κs within =
@@ -169,13 +175,15 @@ walk_towards-walk-requires g t c κs within =
     let long : length c.landings.path.items ≡ c.args.count + 1 = ap length c.landings.invariant.1 ∙ c.requires.long in
     let taken_is : c.with-taken.result ≡ fin.insert c.args.begun.taken c.in-Some.over = c.with-taken.ensures
     ∙ ap (λ (m : Move). fin.insert m.taken c.in-Some.over) c.begun.view_is in
-    let longer : length c.push.new.self.items ≡ c.args.count + 1 + 1 = omega (arith, c.push.ensures.len, long) in
+    let longer : length c.push.new.self.items ≡ c.args.count + 1 + 1 = path_longer c.args.count
+    (length c.landings.path.items) (length c.push.new.self.items) c.push.ensures.len long in
     let fits = subst (λ v. ChainsFit geo c.args.position.now c.args.piece c.in-Some-free_step.landing v
     (20 - (c.args.count + 1))) (sym taken_is)
     (chains_fit_behind geo c.args.position.now c.args.piece c.args.begun.to c.in-Some.over c.in-Some-free_step.landing
-    c.args.begun.taken c.args.count c.requires.fits jump fresh) in
-    let falls = c.decreases in
-    (omega (arith, falls, small), (within, (omega arith, (f.on, (c.requires.ground, (small, (fits, longer)))))))
+    c.args.begun.taken c.args.count c.requires.fits jump fresh) in (
+      walk_falls c.args.count t c.decreases small,
+      (within, (entry_fits, (f.on, (c.requires.ground, (small, (fits, longer)))))),
+    )
 
 pub walk_towards-landings-smaller : goal.walk_towards-landings-smaller
 walk_towards-landings-smaller g t c =
@@ -313,3 +321,6 @@ walk_towards-returns-in-Man-clause-path g t c =
       | walk_towards-else-goes_on+in_ok-longest-2 w ↦ ap (λ z. z.items) w.path-is ∙ longer
     ] in
     c.pop.ensures.rest ∙ popped c.args.path.now.items c.if-goes_on.path.items c.in-Some-free_step.landing same
+
+pub walk_towards-overflow_add-count : goal.walk_towards-overflow_add-count
+walk_towards-overflow_add-count g t c = count_fits_byte c.args.count c.requires.few

@@ -1,4 +1,4 @@
-use Rattle.std.proofs.Common.{◌≡◌, ◌≤◌, ◌+◌, ◌-◌, Some, sym, ap, ◌∙◌, subst, arith, refl}
+use Rattle.std.proofs.Common.{◌≡◌, ◌≤◌, ◌+◌, ◌-◌, Some, sym, ap, ◌∙◌, subst, refl}
 use Rattle.std.specs.FinSet as fin
 use Rattle.std.proofs.lemmas.Result.{IfOk-weaker}
 use Rattle.dw_board.specs.Geometry.{step}
@@ -6,33 +6,30 @@ use Rattle.dw_moves.specs.Moves.{Move}
 use Rattle.dw_moves.specs.inner.MoveLemmas.{same_move}
 use Rattle.dw_moves.specs.inner.Chains.{ChainsFit, EndsAs, Is, Longest, further}
 use Rattle.dw_moves.proofs.RunLemmas.{freed}
+use Rattle.dw_moves.proofs.MeasureLemmas.{towards_falls, walk_falls}
 use Rattle.dw_moves.proofs.WalkedLemmas.{walked_all, count_fits, chains_fit_behind}
 use Rattle.dw_moves.proofs.ManChainLemmas.{man_ends, man_edge, man_passes, over_left, man_stops, man_jumps, man_lands}
 use Rattle.dw_moves.proofs.man_chains.+walk_man.Goals as goal
 
 pub walk_man-walk_on-requires : goal.walk_man-walk_on-requires
 walk_man-walk_on-requires g t c κs within =
-    let falls = c.decreases in
     let r = c.requires in
-    (omega (arith, falls), (within, (r.man, (r.on_board, (r.ground, (r.few, r.fits))))))
+    (towards_falls c.args.count t c.decreases, (within, (r.man, (r.on_board, (r.ground, (r.few, r.fits))))))
 
 pub walk_man-walk_on-requires-2 : goal.walk_man-walk_on-requires-2
 walk_man-walk_on-requires-2 g t c κs within =
-    let falls = c.decreases in
     let r = c.requires in
-    (omega (arith, falls), (within, (r.man, (r.on_board, (r.ground, (r.few, r.fits))))))
+    (towards_falls c.args.count t c.decreases, (within, (r.man, (r.on_board, (r.ground, (r.few, r.fits))))))
 
 pub walk_man-walk_on-requires-3 : goal.walk_man-walk_on-requires-3
 walk_man-walk_on-requires-3 g t c κs within =
-    let falls = c.decreases in
     let r = c.requires in
-    (omega (arith, falls), (within, (r.man, (r.on_board, (r.ground, (r.few, r.fits))))))
+    (towards_falls c.args.count t c.decreases, (within, (r.man, (r.on_board, (r.ground, (r.few, r.fits))))))
 
 pub walk_man-walk_on-requires-4 : goal.walk_man-walk_on-requires-4
 walk_man-walk_on-requires-4 g t c κs within =
-    let falls = c.decreases in
     let r = c.requires in
-    (omega (arith, falls), (within, (r.man, (r.on_board, (r.ground, (r.few, r.fits))))))
+    (towards_falls c.args.count t c.decreases, (within, (r.man, (r.on_board, (r.ground, (r.few, r.fits))))))
 
 pub walk_man-returns : goal.walk_man-returns
 walk_man-returns g t c =
@@ -96,9 +93,8 @@ walk_on-walk_man-requires g t c κs within =
     let jump = man_jumps geo c.args.position.now c.args.piece c.args.begun c.args.count c.in-Some.over
     c.in-Some-free_step.landing c.args.direction c.args.most c.args.moves.now.items over f in
     let small : c.args.count + 1 ≤ 20 = count_fits geo c.args.position.now c.args.piece c.args.begun.to c.in-Some.over
-    c.in-Some-free_step.landing c.args.begun.taken c.args.count c.requires.few c.requires.fits jump over.fresh in
-    let falls = c.decreases in (
-      omega (arith, falls, small),
+    c.in-Some-free_step.landing c.args.begun.taken c.args.count c.requires.few c.requires.fits jump over.fresh in (
+      walk_falls c.args.count t c.decreases small,
       (
         within,
         (
