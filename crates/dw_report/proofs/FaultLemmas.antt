@@ -9,7 +9,7 @@ use Rattle.dw_report.specs.inner.Running.{TextEnds, SinkEnds, SearchesFor, Spend
 use Rattle.dw_report.specs.declared.problem.TextFault.{TextFault}
 use Rattle.dw_report.specs.declared.problem.TextFault.TheVariants.{Stopped, Sink}
 use Rattle.dw_report.specs.declared.settings.Command.{Command}
-use Rattle.dw_report.specs.declared.settings.Command.TheVariants.{Moves, Judge, List as Lists}
+use Rattle.dw_report.specs.declared.settings.Command.TheVariants.{Moves, List as Lists}
 use Rattle.dw_report.proofs.SearchLemmas.{same_fault, sink_not_stopped}
 use Rattle.dw_report.proofs.SpendingLemmas.{Counted, counted_then}
 use Rattle.dw_report.proofs.WritingLemmas.{fault_stays}
@@ -48,22 +48,16 @@ pub spends_ok : {M X Y : Type 0} (old new : Solving M) (r : Result X TextFault) 
     → Spends {M = M} {X = Y} old new (Ok y)
 spends_ok old new r y h = record { count = h.count; limit = λ e. absurd (ok_not_stopped y stops.Limit e) }
 
+-- what is told of a command is told of the one asked for, if it is the same
+pub searches_for : {M X : Type 0} (command told : Command) (old new : Solving M) (r : Result X TextFault)
+    → command ≡ told → SearchesFor told old new r → SearchesFor command old new r
+searches_for {M} {X} command told old new r e h = subst (λ (c : Command). SearchesFor {M = M} {X = X} c old new r)
+    (sym e) h
+
 -- where moves are listed nothing is searched
 pub searches_moves : {M X : Type 0} (command : Command) (old : Solving M) (r : Result X TextFault) → command ≡ Moves
     → ((why : Stop) → r ≡ Err (Stopped why) → why ≡ stops.Memory) → SearchesFor command old old r
-searches_moves {M} {X} command old r e h = subst (λ (c : Command). SearchesFor {M = M} {X = X} c old old r) (sym e)
-    (refl, h)
-
--- else what was spent is told
-pub searches_judge : {M X : Type 0} (command : Command) (old new : Solving M) (r : Result X TextFault)
-    → command ≡ Judge → Spends old new r → SearchesFor command old new r
-searches_judge {M} {X} command old new r e h = subst (λ (c : Command). SearchesFor {M = M} {X = X} c old new r) (sym e)
-    h
-
-pub searches_lists : {M X : Type 0} (command : Command) (old new : Solving M) (r : Result X TextFault)
-    → command ≡ Lists → Spends old new r → SearchesFor command old new r
-searches_lists {M} {X} command old new r e h = subst (λ (c : Command). SearchesFor {M = M} {X = X} c old new r) (sym e)
-    h
+searches_moves command old r e h = searches_for command Moves old old r e (refl, h)
 
 -- a stop is no fault of the sink
 pub sink_stopped : {X : Type 0} (old new : Bool) (s : Result X TextFault) (why : Stop) → s ≡ Err (Stopped why)

@@ -9,7 +9,7 @@ use Rattle.dw_report.specs.inner.Running.{TextEnds, IsSaidThen}
 use Rattle.dw_report.specs.declared.settings.Command.TheVariants.{Moves, Judge, Show, List as Lists}
 use Rattle.dw_report.proofs.SearchLemmas.{same_fault, searches_none}
 use Rattle.dw_report.proofs.FaultLemmas.{fault_same, sink_same, spends_same, ok_not_stopped, spends_ok}
-use Rattle.dw_report.proofs.FaultLemmas.{searches_moves, searches_judge, searches_lists, refused_none, refused_lists}
+use Rattle.dw_report.proofs.FaultLemmas.{searches_for, searches_moves, refused_none, refused_lists}
 use Rattle.dw_report.proofs.problem.write_rest.Goals as goal
 
 pub returns-in_ok-write_moves-in-Moves-clause-text : goal.returns-in_ok-write_moves-in-Moves-clause-text
@@ -88,7 +88,7 @@ pub returns-in_err-write_judged-in-Judge-clause-searches : goal.returns-in_err-w
 returns-in_err-write_judged-in-Judge-clause-searches g c =
     let end = c.from_residual-in_err-write_judged-in-Judge in
     let why = err_from_is_err_and end.result end.ensures.1 in
-    searches_judge c.args.settings.now.command c.args.solver.now c.write_judged.new.solver end.result c.in-Judge.is
+    searches_for c.args.settings.now.command Judge c.args.solver.now c.write_judged.new.solver end.result c.in-Judge.is
     (spends_same c.args.solver.now c.write_judged.new.solver c.write_judged.result end.result
     c.in_err-write_judged-in-Judge.field-0.0 why.0 c.in_err-write_judged-in-Judge.was why.1 (sym why.2)
     c.write_judged.ensures.spends)
@@ -103,12 +103,12 @@ returns-in_ok-write_moves-in-Moves-clause-searches g c =
 
 pub returns-in_ok-write_judged-in-Judge-clause-searches : goal.returns-in_ok-write_judged-in-Judge-clause-searches
 returns-in_ok-write_judged-in-Judge-clause-searches g c =
-    searches_judge c.args.settings.now.command c.args.solver.now c.write_judged.new.solver _ c.in-Judge.is
+    searches_for c.args.settings.now.command Judge c.args.solver.now c.write_judged.new.solver _ c.in-Judge.is
     (spends_ok c.args.solver.now c.write_judged.new.solver c.write_judged.result _ c.write_judged.ensures.spends)
 
 pub returns-in-List-clause-searches : goal.returns-in-List-clause-searches
 returns-in-List-clause-searches g c =
-    searches_lists c.args.settings.now.command c.args.solver.now c.write_lines.new.solver c.write_lines.result
+    searches_for c.args.settings.now.command Lists c.args.solver.now c.write_lines.new.solver c.write_lines.result
     c.in-List.is c.write_lines.ensures.spends
 
 pub returns-in-Show-clause-text : goal.returns-in-Show-clause-text
