@@ -211,6 +211,16 @@ def inputs(folder):
         pipe.unlink()
 
 
+def open_pipes():
+    for words in COMMANDS:
+        process = subprocess.Popen([DW, *words, "--problem", "1"], stdin=subprocess.PIPE, stdout=subprocess.DEVNULL)
+        process.stdin.write(FEN)
+        process.stdin.flush()
+        assert process.wait(timeout=120) == 0, words
+        process.stdin.close()
+        print(f"a problem alone, after which the pipe stays open, {words[0]}: as stated")
+
+
 def outputs(folder):
     file = folder / "four"
     file.write_bytes(FOUR)
@@ -299,6 +309,11 @@ def words():
         assert ran.returncode == 2 and ran.stdout == b"" and ran.stderr, (given, ran)
         count += 1
     print(f"words that are no command, {count} of them: as stated")
+    for given in ([b"\xff"], ["show", b"p\xe9.fen"], ["judge", "-n", b"\xc0"],
+                  ["list", "-n", "1", "--after", b"0\xff"]):
+        ran = run(given, FEN)
+        assert ran.returncode == 2 and ran.stdout == b"" and b"invalid UTF-8" in ran.stderr, (given, ran)
+    print("words that are not UTF-8: as stated")
     for given in (["--help"], *([command, "--help"] for command in ("show", "moves", "judge", "list"))):
         ran = run(given)
         assert ran.returncode == 0 and b"Example" in ran.stdout and ran.stderr == b"", (given, ran)
@@ -315,6 +330,7 @@ def main():
         limits()
         tokens()
         inputs(folder)
+        open_pipes()
         outputs(folder)
         example()
         words()

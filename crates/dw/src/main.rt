@@ -23,16 +23,26 @@ use dw_report::streams::{Reading, Writing};
 use dw_solve::guide::ByTrial;
 use outcome::{Ending, outcome};
 use std::alloc::{AllocError, Global};
-use std::env;
 use std::fmt::Display;
 use std::fs::File;
 use std::io::Read;
 use std::process::ExitCode;
+use std::{env, io};
 use words::{BoardSize, MemoKind, Request, command, requested};
 
+/// What is said of arguments that are not UTF-8, in the form of what is said of others that are no command.
+const NOT_UTF8: &str = "\
+error: invalid UTF-8 was detected in one or more arguments
+
+Usage: dw <COMMAND>
+
+For more information, try '--help'.
+";
+
 fn main(rt: HostRuntime) -> ExitCode {
-    let Some(words) = words_given(&rt) else {
-        return end_with(&rt, Ending::Memory, None);
+    let words = match words_given(&rt) {
+        Ok(words) => words,
+        Err(error) => return end_unread(&rt, &error),
     };
     let Ok(command) = command(rt.alloc()) else {
         return end_with(&rt, Ending::Memory, None);
@@ -43,9 +53,17 @@ fn main(rt: HostRuntime) -> ExitCode {
     }
 }
 
-/// The words of the command line, or nothing if out of memory.
-fn words_given(rt: &HostRuntime) -> Option<Vec<String>> {
-    env::args(rt).ok()?.collect::<Vec<String>>(rt.alloc()).ok()
+/// The words of the command line, the program's name first.
+fn words_given(rt: &HostRuntime) -> io::Result<Vec<String>> {
+    Ok(env::args(rt)?.collect::<Vec<String>>(rt.alloc())?)
+}
+
+/// Ends if the words can not be read: one of them is not UTF-8, or else the program is out of memory.
+fn end_unread(rt: &HostRuntime, error: &io::Error) -> ExitCode {
+    match error.kind() {
+        io::ErrorKind::InvalidData => end_with(rt, Ending::Words(NOT_UTF8), None),
+        _ => end_with(rt, Ending::Memory, None),
+    }
 }
 
 /// Ends if help was asked for or the arguments are no command.
