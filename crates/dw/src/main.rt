@@ -1,7 +1,7 @@
 //! `dw`: problems of international draughts.
 #![tactic(auto)]
 
-ghost use Rattle.std.specs.Prelude.{◌≡◌, ◌≤◌, ◌⊎◌, [], IfOk};
+ghost use Rattle.std.specs.Prelude.{◌≡◌, ◌≤◌, [], IfOk};
 ghost use Rattle.dw_memo.specs.Choice.{content_of};
 
 mod outcome;
@@ -95,9 +95,7 @@ fn obey(rt: &HostRuntime, matches: &ArgMatches<'_>) -> ExitCode {
 }
 
 /// Reads the token, if there is one, and then makes the memo, and with it the report.
-fn obey_on<B: Board>(rt: &HostRuntime, request: &Request<'_>) -> ExitCode
-    requires { (B.geometry.rows ≡ 10) ⊎ (B.geometry.rows ≡ 8) }
-{
+fn obey_on<B: Board>(rt: &HostRuntime, request: &Request<'_>) -> ExitCode {
     let after = match request.after.map(|token| read_token::<B>(token.as_bytes())) {
         None => None,
         Some(Ok(line)) => Some(line),
@@ -149,7 +147,6 @@ fn report_with<B: Board>(
     settings: &Settings<B>,
     memo: AnyMemo<B>,
 ) -> ExitCode
-    requires rows { (B.geometry.rows ≡ 10) ⊎ (B.geometry.rows ≡ 8) }
     requires empty { content_of memo ≡ [] }
     requires some { 1 ≤ settings.now.n }
     requires few { settings.now.n ≤ 20 }
@@ -174,7 +171,6 @@ fn report_on<B: Board>(
     settings: &Settings<B>,
     memo: AnyMemo<B>,
 ) -> Result<Summary, RunFault>
-    requires rows { (B.geometry.rows ≡ 10) ⊎ (B.geometry.rows ≡ 8) }
     requires empty { content_of memo ≡ [] }
     requires some { 1 ≤ settings.now.n }
     requires few { settings.now.n ≤ 20 }

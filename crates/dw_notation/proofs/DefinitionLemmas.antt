@@ -122,7 +122,7 @@ outside-mark at_end g a b c bytes h =
     ∙ ap (λ x. sections_found at_end g Outside bare (x ∷ c ∷ bytes)) (eqb-true b 0xBB both.1)
     ∙ ap (λ x. sections_found at_end g Outside bare (x ∷ bytes)) (eqb-true c 0xBF all.1)
 
-sections-mark : (at_end : Bool) (g : Geometry) (bytes : List ℕ) → sections_found at_end g Outside bare bytes
+pub sections-mark : (at_end : Bool) (g : Geometry) (bytes : List ℕ) → sections_found at_end g Outside bare bytes
     ≡ sections_found at_end g Outside bare (without_mark bytes)
 sections-mark at_end g [] = refl
 sections-mark at_end g (a ∷ []) = refl

@@ -4,6 +4,7 @@ pub mod NumberLemmas
 pub mod MarkLemmas
 pub mod CarryLemmas
 pub mod DefinitionLemmas
+pub mod EndedLemmas
 pub mod EndsTellLemmas
 pub mod HandingLemmas
 pub mod NameLemmas

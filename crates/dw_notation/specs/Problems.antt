@@ -1,5 +1,5 @@
 -- The problems of a byte text.
-use Rattle.std.specs.Prelude.{ℕ, ◌==◌, ◌+◌, if◌then◌else◌, List, [], ◌∷◌, true, false, Err, nat_lt}
+use Rattle.std.specs.Prelude.{◌≡◌, ℕ, ◌==◌, ◌+◌, if◌then◌else◌, List, [], ◌∷◌, ◌++◌, true, false, Err, nat_lt}
 use Rattle.dw_board.specs.Geometry.{Geometry}
 use Rattle.dw_notation.specs.Lines.{lines_of, whole_lines_of, without_mark, Found, all_found}
 use Rattle.dw_notation.specs.Sections.{bare, sections_found}
@@ -43,3 +43,10 @@ problems_of g form bytes = number_from 0 (found_of g form bytes)
 -- those of them that end in it, whatever follows
 abbrev pub ended_problems_of : Geometry → Form → List ℕ → List Numbered
 ended_problems_of g form bytes = number_from 0 (ended_of g form bytes)
+
+-- they come first among the problems of each text that begins so, and among those that end in it
+pub record EndedComeFirst : Type 0 where
+  pub found : (g : Geometry) (form : Form) (bytes more : List ℕ) → (later : List Numbered)
+      × (problems_of g form (bytes ++ more) ≡ ended_problems_of g form bytes ++ later)
+  pub ended : (g : Geometry) (form : Form) (bytes more : List ℕ) → (later : List Numbered)
+      × (ended_problems_of g form (bytes ++ more) ≡ ended_problems_of g form bytes ++ later)

@@ -2,6 +2,7 @@
 ghost use Rattle.dw_notation.specs.Tags.{SectionsAreFound, LastSectionIsFound, CommentsSayNothing, OpenCommentIsFound};
 ghost use Rattle.dw_notation.specs.Tags.{OthersSayNothing, OpenCommentGivesNothing, OpenSectionGivesNothing};
 ghost use Rattle.dw_notation.specs.WholeTexts.{TextsAreRows};
+ghost use Rattle.dw_notation.specs.Problems.{EndedComeFirst};
 ghost use Rattle.dw_notation.specs.TextLaws.{MovesHaveTexts, EndsTell, LinesHaveTexts};
 ghost use Rattle.dw_notation.specs.MoveReadingLaws.{NamesOneThing, HasOneAnswer, WrittenMoveIsNamed, WrittenMoveIsRead};
 
@@ -40,6 +41,12 @@ pub fn texts_are_rows()
 pub fn unfinished_give_nothing()
     ensures comment { OpenCommentGivesNothing }
     ensures section { OpenSectionGivesNothing }
+{}
+
+/// The problems that end in a text come first among those of each text that begins so, under the same numbers.
+/// Example: a line that ends is problem 1 of `W:W32:B28` and a line feed, whatever follows.
+pub fn ended_come_first()
+    ensures { EndedComeFirst }
 {}
 
 /// Each legal move of a position has a text, and only one; different moves have different texts.

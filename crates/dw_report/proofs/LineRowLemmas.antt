@@ -3,6 +3,7 @@ use Rattle.std.proofs.Common.{◌≡◌, ℕ, zero, suc, ◌+◌, ◌<◌, ◌�
 use Rattle.std.proofs.Common.{refl, sym, ap, ◌∙◌, subst, inl, inr, arith, append_assoc, append-nil, length-append}
 use Rattle.std.proofs.Common.{Option, Some, None, codes, decimal, Result, Ok, Err, OnOk, OnErr, IfOk, IsTrue, ◌↔◌, Bool}
 use Rattle.std.proofs.Common.{true, false}
+use Rattle.std.proofs.lemmas.Bool.{cond-true, cond-false}
 use Rattle.std.specs.Io.KnownBytes.{Appends}
 use Rattle.std.proofs.KnownBytes.{Appends-trans, Appends-nil}
 use Rattle.dw_board.specs.Geometry.{Geometry, IsBoard}
@@ -17,9 +18,9 @@ use Rattle.dw_notation.specs.inner.Writes.{WritesShort}
 use Rattle.dw_list.specs.Lines.{Line, Lines, After}
 use Rattle.dw_list.specs.Standing.{Standing, AreToCome}
 use Rattle.dw_list.specs.Walking.{Gives, GivesFirst, GivesNone, GivesNext, BeginsAs}
-use Rattle.dw_list.proofs.StepLemmas.{gives_nothing, gives_then}
 use Rattle.dw_list.specs.Tokens.{token_of}
-use Rattle.dw_report.specs.ListedText.{AreLineTexts, IsListing, IsListedText}
+use Rattle.dw_list.proofs.StepLemmas.{gives_nothing, gives_then}
+use Rattle.dw_report.specs.ListedText.{AreLineTexts, IsListing, IsListedText, has_tokens, more_after}
 use Rattle.dw_report.specs.inner.Rows.{IsRow, IsNothing}
 use Rattle.dw_report.specs.Running.{AreLinesOf, AreWholeLines, IsNoLine}
 use Rattle.dw_report.specs.inner.Running.{TextEnds}
@@ -95,8 +96,16 @@ rows_whole g p (l ∷ lines) texts h = elim (rows_whole g p lines h.1 h.3) [
 abbrev pub complete_line : ℕ → List ℕ
 complete_line count = codes "complete " ++ decimal count ++ codes "\n"
 
-abbrev pub more_line : Geometry → List Move → List ℕ
-more_line g last = codes "more after " ++ token_of g last ++ codes "\n"
+pub tells_after : (g : Geometry) (last : List Move) → has_tokens g ≡ true
+    → codes "more after " ++ token_of g last ++ codes "\n" ≡ more_after g last
+unfolding more_after
+tells_after g last h = sym (cond-true (has_tokens g) (codes "more after " ++ token_of g last ++ codes "\n")
+    (codes "more\n") h)
+
+pub tells_none : (g : Geometry) (last : List Move) → has_tokens g ≡ false → codes "more\n" ≡ more_after g last
+unfolding more_after
+tells_none g last h = sym (cond-false (has_tokens g) (codes "more after " ++ token_of g last ++ codes "\n")
+    (codes "more\n") h)
 
 piece : (a x b c : List ℕ) → a ++ ((x ++ b) ++ c) ≡ ((a ++ x) ++ b) ++ c
 piece a x b c = simp append_assoc
@@ -114,7 +123,7 @@ is_complete g p most lines texts are few =
 
 pub is_cut : (g : Geometry) (p : Placement) (most : ℕ) (earlier left : List (List Move)) (last : List Move)
     (texts : List ℕ) → AreLineTexts g p (earlier ++ last ∷ []) texts → length (earlier ++ last ∷ []) ≡ most
-    → 1 ≤ length left → IsListing g p most ((earlier ++ last ∷ []) ++ left) (texts ++ more_line g last)
+    → 1 ≤ length left → IsListing g p most ((earlier ++ last ∷ []) ++ left) (texts ++ more_after g last)
 is_cut g p most earlier left last texts are many more = inr (record {
   earlier = earlier;
   last = last;
@@ -124,7 +133,7 @@ is_cut g p most earlier left last texts are many more = inr (record {
   more = more;
   texts = texts;
   are = are;
-  is = piece texts (codes "more after ") (token_of g last) (codes "\n");
+  is = refl;
 })
 
 -- with the rows of the first lines a listing begins
@@ -139,8 +148,8 @@ listing_from g p most room some lines [] texts are have few = (
 listing_from g p most zero some lines (l ∷ left) texts are have few =
     let all : length lines ≡ most = omega (arith, few) in
     let s = last_of lines (omega (arith, all, some)) in (
-      more_line g s.1,
-      subst (λ z. IsListing g p most (z ++ l ∷ left) (texts ++ more_line g s.1)) (sym s.2)
+      more_after g s.1,
+      subst (λ z. IsListing g p most (z ++ l ∷ left) (texts ++ more_after g s.1)) (sym s.2)
           (is_cut g p most s.0 (l ∷ left) s.1 texts (subst (λ z. AreLineTexts g p z texts) s.2 are) (ap length (sym s.2)
           ∙ all) (omega arith)),
     )
@@ -322,7 +331,7 @@ module _ (g : Geometry) (p : Placement) (most : ℕ) (some : 1 ≤ most) (start 
       h.are (omega (arith, h.many, few))))
 
   more_left : (a b : Standing) (count : ℕ) (texts : List ℕ) → Rows g p start a count texts → GivesFirst g a b
-      → count ≡ most → IsListing g p most lines (texts ++ more_line g (reverse a.line))
+      → count ≡ most → IsListing g p most lines (texts ++ more_after g (reverse a.line))
   more_left a b count texts h first full =
       let left = h.gives.first lines all in
       let to_come = (h.gives.rest left.0).0 (subst (AreToCome g start) left.1 all) in
@@ -331,7 +340,7 @@ module _ (g : Geometry) (p : Placement) (most : ℕ) (some : 1 ≤ most) (start 
       let enough : 1 ≤ length left.0 = omega (arith, ap length one.1) in
       let split : lines ≡ (last.0 ++ reverse a.line ∷ []) ++ left.0 = left.1 ∙ ap (λ z. z ++ left.0) last.1 in
       let many : length (last.0 ++ reverse a.line ∷ []) ≡ most = ap length (sym last.1) ∙ (h.many ∙ full) in
-      subst (λ z. IsListing g p most z (texts ++ more_line g (reverse a.line))) (sym split)
+      subst (λ z. IsListing g p most z (texts ++ more_after g (reverse a.line))) (sym split)
       (is_cut g p most last.0 left.0 (reverse a.line) texts (subst (λ z. AreLineTexts g p z texts) last.1 h.are)
       many enough)
 
@@ -366,15 +375,17 @@ module _ (g : Geometry) (p : Placement) (most : ℕ) (some : 1 ≤ most) (start 
       (all_given a b count h.texts h.rows none few) stops
 
   pub more_written : (a b : Standing) (count : ℕ) (old mid new : Option (List ℕ)) → RowsSoFar g p start a count old mid
-      → GivesFirst g a b → count ≡ most → Appends mid new (more_line g (reverse a.line))
+      → GivesFirst g a b → count ≡ most → Appends mid new (more_after g (reverse a.line))
       → Writes (IsListing g p most lines) old new
-  more_written a b count old mid new h first full wrote = end_written a count old mid new (more_line g (reverse a.line))
-      h (more_left a b count h.texts h.rows first full) wrote
+  more_written a b count old mid new h first full wrote =
+      end_written a count old mid new (more_after g (reverse a.line)) h
+      (more_left a b count h.texts h.rows first full) wrote
 
   pub more_short : (a b : Standing) (count : ℕ) (old mid new : Option (List ℕ)) → RowsSoFar g p start a count old mid
-      → GivesFirst g a b → count ≡ most → StopsShort mid new (more_line g (reverse a.line))
+      → GivesFirst g a b → count ≡ most → StopsShort mid new (more_after g (reverse a.line))
       → WritesShort (IsListing g p most lines) old new
-  more_short a b count old mid new h first full stops = end_short a count old mid new (more_line g (reverse a.line)) h
+  more_short a b count old mid new h first full stops =
+      end_short a count old mid new (more_after g (reverse a.line)) h
       (more_left a b count h.texts h.rows first full) stops
 
 -- THREE PIECES

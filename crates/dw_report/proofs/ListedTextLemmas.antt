@@ -15,8 +15,8 @@ use Rattle.dw_list.specs.Lines.{Line, Lines, Before, After}
 use Rattle.dw_list.specs.Laws.{LinesExist, LineOrPlace}
 use Rattle.dw_list.specs.inner.LineOrderLemmas.{before_asym}
 use Rattle.dw_list.specs.inner.ListLemmas.{ascending_parts}
-use Rattle.dw_list.specs.Tokens.{token_of}
-use Rattle.dw_report.specs.ListedText.{AreLineTexts, IsComplete, IsCut, IsListing, IsListedText, refused_line}
+use Rattle.dw_report.specs.ListedText.{AreLineTexts, IsComplete, IsCut, IsListing, IsListedText, more_after}
+use Rattle.dw_report.specs.ListedText.{refused_line}
 use Rattle.dw_report.proofs.JudgedTextLemmas.{line_playable}
 
 -- TEXTS OF LINES
@@ -114,7 +114,7 @@ listing_some law g b p n most lines some are = by_order (cases_order (length lin
       ∙ length-append (parts.0 ++ parts.1 ∷ []) parts.2 in
       let texts = line_texts_some law g b p n (parts.0 ++ parts.1 ∷ [])
       (λ l h. are l (subst (Member l) (sym split) (mem_left l (parts.0 ++ parts.1 ∷ []) parts.2 h))) in (
-        texts.0 ++ codes "more after " ++ token_of g parts.1 ++ codes "\n",
+        texts.0 ++ more_after g parts.1,
         inr (record {
           earlier = parts.0;
           last = parts.1;
@@ -154,8 +154,7 @@ listing_only law g p most lines text other (inr h) (inr k) =
     let texts : h.texts ≡ k.texts = line_texts_only law g p (k.earlier ++ k.last ∷ []) h.texts k.texts
     (subst (λ z. AreLineTexts g p z h.texts) fronts h.are) k.are in
     let lasts : h.last ≡ k.last = lasts_same h.earlier k.earlier h.last k.last fronts in
-    h.is ∙ (ap (λ z. z ++ codes "more after " ++ token_of g h.last ++ codes "\n") texts
-    ∙ (ap (λ z. k.texts ++ codes "more after " ++ token_of g z ++ codes "\n") lasts ∙ sym k.is))
+    h.is ∙ (ap (λ z. z ++ more_after g h.last) texts ∙ (ap (λ z. k.texts ++ more_after g z) lasts ∙ sym k.is))
 
 -- THE LINES THAT ARE ASKED FOR
 

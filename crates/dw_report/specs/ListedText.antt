@@ -1,5 +1,6 @@
 -- What is written of the lines of a position.
 use Rattle.std.specs.Prelude.{◌≡◌, ℕ, ◌≤◌, ◌⊎◌, Option, Some, None, List, [], ◌∷◌, ◌++◌, length, codes, decimal}
+use Rattle.std.specs.Prelude.{Bool, ◌||◌, ◌==◌, if◌then◌else◌}
 use Rattle.dw_board.specs.Geometry.{Geometry}
 use Rattle.dw_board.specs.Placement.{Placement}
 use Rattle.dw_moves.specs.Moves.{Move}
@@ -22,7 +23,15 @@ pub record IsComplete (g : Geometry) (p : Placement) (most : ℕ) (lines : List 
   pub are : AreLineTexts g p lines texts
   pub is : text ≡ texts ++ codes "complete " ++ decimal (length lines) ++ codes "\n"
 
--- so many of them, the first ones, and the token of the last that is written, if more are left
+-- lines have tokens on boards of 10 and 8 rows
+abbrev pub has_tokens : Geometry → Bool
+has_tokens g = g.rows == 10 || g.rows == 8
+
+-- that more lines are left, and after which one, if it has a token
+unfoldable pub more_after : Geometry → List Move → List ℕ
+more_after g last = if has_tokens g then codes "more after " ++ token_of g last ++ codes "\n" else codes "more\n"
+
+-- so many of them, the first ones, and that more are left
 pub record IsCut (g : Geometry) (p : Placement) (most : ℕ) (lines : List (List Move)) (text : List ℕ) : Type 0 where
   pub earlier : List (List Move)
   pub last : List Move
@@ -32,7 +41,7 @@ pub record IsCut (g : Geometry) (p : Placement) (most : ℕ) (lines : List (List
   pub more : 1 ≤ length left
   pub texts : List ℕ
   pub are : AreLineTexts g p (earlier ++ last ∷ []) texts
-  pub is : text ≡ texts ++ codes "more after " ++ token_of g last ++ codes "\n"
+  pub is : text ≡ texts ++ more_after g last
 
 -- these lines, or so many of them
 abbrev pub IsListing : Geometry → Placement → ℕ → List (List Move) → List ℕ → Type 0

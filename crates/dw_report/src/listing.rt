@@ -1,5 +1,5 @@
 //! The text of a list of lines.
-ghost use Rattle.std.specs.Prelude.{◌≡◌, ◌≤◌, ◌<◌, ◌%◌, ◌⊎◌, ◌↔◌, ◌++◌, true, false, Err, List, length, take, codes};
+ghost use Rattle.std.specs.Prelude.{◌≡◌, ◌≤◌, ◌<◌, ◌%◌, ◌↔◌, ◌++◌, true, false, Err, List, length, take, codes};
 ghost use Rattle.std.specs.Prelude.{decimal};
 ghost use Rattle.std.specs.Prelude.{IfOk, IsErr, IsTrue, OnOk, OnErr, Some};
 ghost use Rattle.std.specs.Io.KnownBytes.{Appends};
@@ -11,8 +11,8 @@ ghost use Rattle.dw_list.specs.Listing.{lender, solver_of, stack_of, kept_of};
 ghost use Rattle.dw_list.specs.Standing.{AreToCome};
 ghost use Rattle.dw_list.specs.Tokens as tokens;
 ghost use Rattle.dw_report.specs.Request.{request_of};
-ghost use Rattle.dw_report.specs.ListedText.{IsListing, IsListedText, refused_line};
-ghost use Rattle.dw_report.specs.inner.Rows.{IsRow, IsNothing, CanList, StandsBefore, HasLines};
+ghost use Rattle.dw_report.specs.ListedText.{IsListing, IsListedText, has_tokens, more_after, refused_line};
+ghost use Rattle.dw_report.specs.inner.Rows.{IsRow, IsNothing, StandsBefore, HasLines};
 ghost use Rattle.dw_report.specs.Running.{AreLinesOf, IsNoLine};
 ghost use Rattle.dw_report.specs.inner.Running.{TextEnds, SinkEnds, Spends, IsSound};
 ghost use Rattle.dw_report.specs.declared.problem.TextFault.TheVariants as because;
@@ -78,7 +78,7 @@ fn write_asked<B: Board, K: Sink, M: Memo<B>, G: Guide<B>>(
     position: &Position<B>,
 ) -> Result<bool, TextFault>
     requires works { K.is_failed sink.old ≡ false }
-    requires list { CanList B.geometry settings.now.lines }
+    requires some { 1 ≤ settings.now.lines }
     requires before { StandsBefore B.geometry position.now settings.now.n (stack_of lister.old)
         (kept_of lister.old) }
     ensures lender { lender lister.new ≡ lender lister.old }
@@ -118,7 +118,7 @@ fn write_after<B: Board, K: Sink, M: Memo<B>, G: Guide<B>>(
     most: u64,
 ) -> Result<bool, TextFault>
     requires works { K.is_failed sink.old ≡ false }
-    requires list { CanList B.geometry most }
+    requires some { 1 ≤ most }
     requires position { (stack_of lister.old).position ≡ position.now }
     ensures lender { lender lister.new ≡ lender lister.old }
     ensures text { TextEnds (IsListedText B.geometry position.now (stack_of lister.old).moves most (Some line.now))
@@ -154,7 +154,7 @@ fn write_listing<B: Board, K: Sink, M: Memo<B>, G: Guide<B>>(
     most: u64,
 ) -> Result<(), TextFault>
     requires works { K.is_failed sink.old ≡ false }
-    requires list { CanList B.geometry most }
+    requires some { 1 ≤ most }
     requires ahead { HasLines B.geometry position.now (stack_of lister.old) (kept_of lister.old) }
     ensures lender { lender lister.new ≡ lender lister.old }
     ensures text { (lines : List (List AnyMove)) → AreToCome B.geometry (stack_of lister.old) lines
@@ -242,11 +242,35 @@ fn complete_row(count: u64) -> ArrayString<32>
     row
 }
 
-/// Writes that more lines come after this one, which is told by its token.
+/// Writes that more lines are left, and after which one, if it has a token.
 fn write_more<B: Board, K: Sink>(sink: &mut K, last: &[Move<B>]) -> Result<(), WriteFault>
     requires odd { length last.now % 2 ≡ 1 }
     requires most { length last.now ≤ 39 }
-    requires rows { (B.geometry.rows ≡ 10) ⊎ (B.geometry.rows ≡ 8) }
+    requires works { K.is_failed sink.old ≡ false }
+    ensures ok { OnOk result (Appends (K.taken sink.old) (K.taken sink.new) (more_after B.geometry last.now)) }
+    ensures err { OnErr result (StopsShort (K.taken sink.old) (K.taken sink.new) (more_after B.geometry last.now)) }
+    ensures failed { IsErr result → K.is_failed sink.new ≡ true }
+    ensures kept { OnOk result (K.is_failed sink.new ≡ K.is_failed sink.old) }
+{
+    if has_tokens::<B>() {
+        write_more_after(sink, last)
+    } else {
+        write_all(sink, "more\n".as_bytes())
+    }
+}
+
+/// Whether lines have tokens on this board.
+fn has_tokens<B: Board>() -> bool
+    ensures { result ≡ has_tokens B.geometry }
+{
+    B::ROWS == 10 || B::ROWS == 8
+}
+
+/// Writes that more lines come after this one, which is told by its token.
+fn write_more_after<B: Board, K: Sink>(sink: &mut K, last: &[Move<B>]) -> Result<(), WriteFault>
+    requires odd { length last.now % 2 ≡ 1 }
+    requires most { length last.now ≤ 39 }
+    requires tokens { has_tokens B.geometry ≡ true }
     requires works { K.is_failed sink.old ≡ false }
     ensures ok { OnOk result (Appends (K.taken sink.old) (K.taken sink.new)
         (codes "more after " ++ tokens.token_of B.geometry last.now ++ codes "\n")) }

@@ -1,5 +1,5 @@
 //! A run: bytes in, the report out.
-ghost use Rattle.std.specs.Prelude.{◌≡◌, ◌+◌, ◌<◌, ◌≤◌, ◌⊎◌, true, false, Err, [], ◌∷◌, IfOk, if◌then◌else◌};
+ghost use Rattle.std.specs.Prelude.{◌≡◌, ◌+◌, ◌<◌, ◌≤◌, true, false, Err, [], ◌∷◌, IfOk, if◌then◌else◌};
 ghost use Rattle.dw_notation.specs.Problems.{numbered};
 ghost use Rattle.dw_solve.specs.Facts.{AreTrue};
 ghost use Rattle.dw_report.specs.Request.{request_of};
@@ -10,7 +10,7 @@ ghost use Rattle.dw_report.specs.inner.Running.{ended_by};
 
 use crate::laws::one_report;
 use crate::problem::{TextFault, write_problem};
-use crate::settings::{Command, RunFault, Settings, Summary};
+use crate::settings::{RunFault, Settings, Summary};
 use dw_board::board::Board;
 use dw_memo::memo::Memo;
 use dw_notation::problems::{Problem, Problems};
@@ -21,9 +21,8 @@ use std::alloc::Global;
 
 /// Writes the report on the problems of the source: of each chosen problem its whole text, in order. One solver over
 /// the memo, all of whose bounds are right, serves the whole run; the report depends neither on the memo nor on the
-/// guide.
-///
-/// Lines are listed on boards of 10 and 8 rows, which have tokens.
+/// guide. A list that is cut tells the token of its last line on the boards that have tokens, those of 10 and 8 rows;
+/// on another it tells only that there are more.
 ///
 /// Reading ends at the end of the source, or after the problem that was asked for. `Read` and `Write` come only
 /// if that stream failed: after `Read` the sink has the whole texts of the chosen problems that end in
@@ -47,7 +46,6 @@ pub fn run<B: Board, S: Source, K: Sink, M: Memo<B> + Drop, G: Guide<B> + Drop>(
     requires few { settings.now.n ≤ 20 }
     requires lines { 1 ≤ settings.now.lines }
     requires limit { 1 ≤ settings.now.limit }
-    requires rows { settings.now.command ≡ Command.List → (B.geometry.rows ≡ 10) ⊎ (B.geometry.rows ≡ 8) }
     ensures report { RunEnds B.geometry (request_of settings.now) (S.coming source.old) (S.coming source.new)
         (K.taken sink.old) (K.taken sink.new) result }
     ensures read { result ≡ Err RunFault.Read → S.is_failed source.new ≡ true }

@@ -1,5 +1,5 @@
 //! Each read and each write failing in turn.
-ghost use Rattle.std.specs.Prelude.{◌≡◌, ◌≤◌, ◌⊎◌};
+ghost use Rattle.std.specs.Prelude.{◌≤◌};
 
 use crate::asked::{AMPLE, Asked};
 use crate::runs::{Ran, ran_with};
@@ -45,9 +45,7 @@ fn fails_at_reads<B: Board>(
     text: &[u8],
     whole: &Ran,
     step: usize,
-) -> Option<()>
-    requires { (B.geometry.rows ≡ 10) ⊎ (B.geometry.rows ≡ 8) }
-{
+) -> Option<()> {
     let settings = asked.settings::<B>(AMPLE)?;
     let mut ended = false;
     for reads in 0..200_u16 {
@@ -75,9 +73,7 @@ fn fails_at_reads<B: Board>(
 }
 
 /// The report and the answer, if each read fails as it should.
-pub fn reads<B: Board>(alloc: Global, asked: &Asked<'_>, found: &mut Found) -> Option<()>
-    requires { (B.geometry.rows ≡ 10) ⊎ (B.geometry.rows ≡ 8) }
-{
+pub fn reads<B: Board>(alloc: Global, asked: &Asked<'_>, found: &mut Found) -> Option<()> {
     let text = unescaped(alloc, asked.column(0))?;
     let settings = asked.settings::<B>(AMPLE)?;
     let (reader, writer) = (
@@ -99,7 +95,6 @@ fn narrowed<B: Board>(
     step: usize,
     fails_at: u64,
 ) -> Option<Ran>
-    requires rows { (B.geometry.rows ≡ 10) ⊎ (B.geometry.rows ≡ 8) }
     requires some { 1 ≤ settings.now.n }
     requires few { settings.now.n ≤ 20 }
     requires lines { 1 ≤ settings.now.lines }
@@ -124,7 +119,6 @@ fn fails_at_writes<B: Board>(
     whole: &Ran,
     step: usize,
 ) -> Option<()>
-    requires rows { (B.geometry.rows ≡ 10) ⊎ (B.geometry.rows ≡ 8) }
     requires some { 1 ≤ settings.now.n }
     requires few { settings.now.n ≤ 20 }
     requires lines { 1 ≤ settings.now.lines }
@@ -149,7 +143,6 @@ fn fails_at_writes<B: Board>(
 
 /// Nothing, unless a run fails whose sink takes nothing.
 fn fails_at_once<B: Board>(alloc: Global, settings: &Settings<B>, text: &[u8]) -> Option<()>
-    requires rows { (B.geometry.rows ≡ 10) ⊎ (B.geometry.rows ≡ 8) }
     requires some { 1 ≤ settings.now.n }
     requires few { settings.now.n ≤ 20 }
     requires lines { 1 ≤ settings.now.lines }
@@ -163,9 +156,7 @@ fn fails_at_once<B: Board>(alloc: Global, settings: &Settings<B>, text: &[u8]) -
 }
 
 /// The report and the answer, if each write fails as it should, and a sink that takes nothing.
-pub fn writes<B: Board>(alloc: Global, asked: &Asked<'_>, found: &mut Found) -> Option<()>
-    requires { (B.geometry.rows ≡ 10) ⊎ (B.geometry.rows ≡ 8) }
-{
+pub fn writes<B: Board>(alloc: Global, asked: &Asked<'_>, found: &mut Found) -> Option<()> {
     let text = unescaped(alloc, asked.column(0))?;
     let settings = asked.settings::<B>(AMPLE)?;
     let whole = narrowed(alloc, &settings, text.as_slice(), 4096, 0)?;

@@ -1,5 +1,5 @@
-//! Tests of verdicts and of whole runs, over public calls: at the boards of ten and of eight rows. Each row of standard
-//! input is asked, and of each section it is said how many rows were right.
+//! Tests of verdicts and of whole runs, over public calls: at the boards of ten, of eight and of six rows. Each row of
+//! standard input is asked, and of each section it is said how many rows were right.
 //!
 //! The rows hold what no clause says: worked reports, and each read and each write failing in turn.
 #![tactic(auto)]
@@ -12,11 +12,10 @@ mod plain;
 mod reports;
 mod runs;
 
-ghost use Rattle.std.specs.Prelude.{◌≡◌, ◌⊎◌};
-
 use asked::Asked;
 use dw_board::board::{Board, Eight, Ten};
 use dw_tests_common::rows::{Section, input_sections, word};
+use dw_tests_common::six::Six;
 use dw_tests_common::tally::{Found, Tally};
 use kind::Kind;
 use std::alloc::{AllocError, Global};
@@ -47,6 +46,7 @@ fn ask_rows(alloc: Global, kind: Option<Kind>, section: &Section, tally: &mut Ta
         let answered = match (kind, word(asked.head, 1)) {
             (Some(kind), "10") => answer::<Ten>(alloc, kind, &asked, found),
             (Some(kind), "8") => answer::<Eight>(alloc, kind, &asked, found),
+            (Some(kind), "6") => answer::<Six>(alloc, kind, &asked, found),
             _ => None,
         };
         tally.end(row, answered);
@@ -54,9 +54,7 @@ fn ask_rows(alloc: Global, kind: Option<Kind>, section: &Section, tally: &mut Ta
 }
 
 /// Writes what is found for a row.
-fn answer<B: Board>(alloc: Global, kind: Kind, asked: &Asked<'_>, found: &mut Found) -> Option<()>
-    requires { (B.geometry.rows ≡ 10) ⊎ (B.geometry.rows ≡ 8) }
-{
+fn answer<B: Board>(alloc: Global, kind: Kind, asked: &Asked<'_>, found: &mut Found) -> Option<()> {
     match kind {
         Kind::Judge => judged::judged::<B>(alloc, asked, found),
         Kind::Stopped => judged::stopped::<B>(alloc, asked, found),

@@ -1,5 +1,4 @@
 //! A run over too many problems; which problems are chosen; the laws.
-ghost use Rattle.std.specs.Prelude.{◌≡◌, ◌⊎◌};
 
 use crate::asked::{AMPLE, Asked};
 use crate::runs::Ran;
@@ -15,9 +14,7 @@ use dw_tests_common::tally::Found;
 use std::alloc::Global;
 
 /// The report on a text of so many lines, each of one letter that names no position.
-pub fn many<B: Board>(alloc: Global, asked: &Asked<'_>, found: &mut Found) -> Option<()>
-    requires { (B.geometry.rows ≡ 10) ⊎ (B.geometry.rows ≡ 8) }
-{
+pub fn many<B: Board>(alloc: Global, asked: &Asked<'_>, found: &mut Found) -> Option<()> {
     let lines = asked.column(0).parse::<u32>().ok()?;
     let settings = asked.settings::<B>(AMPLE)?;
     let mut source = Reading::new(Repeated::new(b"a\n", lines));

@@ -1,5 +1,5 @@
 //! Worked reports: in whatever pieces, with each memo, under each limit, and of texts that are changed.
-ghost use Rattle.std.specs.Prelude.{◌≡◌, ◌≤◌, ◌⊎◌};
+ghost use Rattle.std.specs.Prelude.{◌≤◌};
 
 use crate::asked::{AMPLE, Asked};
 use crate::runs::{Ran, ran_with};
@@ -19,7 +19,6 @@ fn in_pieces<B: Board>(
     text: &[u8],
     step: usize,
 ) -> Option<Ran>
-    requires rows { (B.geometry.rows ≡ 10) ⊎ (B.geometry.rows ≡ 8) }
     requires some { 1 ≤ settings.now.n }
     requires few { settings.now.n ≤ 20 }
     requires lines { 1 ≤ settings.now.lines }
@@ -37,7 +36,6 @@ fn same_with<B: Board>(
     text: &[u8],
     first: &Ran,
 ) -> Option<()>
-    requires rows { (B.geometry.rows ≡ 10) ⊎ (B.geometry.rows ≡ 8) }
     requires some { 1 ≤ settings.now.n }
     requires few { settings.now.n ≤ 20 }
     requires lines { 1 ≤ settings.now.lines }
@@ -53,9 +51,7 @@ fn same_with<B: Board>(
 }
 
 /// The report, and what the run answers, which are the same with each memo and in whatever pieces.
-pub fn whole<B: Board>(alloc: Global, asked: &Asked<'_>, found: &mut Found) -> Option<()>
-    requires { (B.geometry.rows ≡ 10) ⊎ (B.geometry.rows ≡ 8) }
-{
+pub fn whole<B: Board>(alloc: Global, asked: &Asked<'_>, found: &mut Found) -> Option<()> {
     let text = unescaped(alloc, asked.column(0))?;
     let settings = asked.settings::<B>(AMPLE)?;
     let first = in_pieces(alloc, &settings, "none", text.as_slice(), 4096)?;
@@ -82,18 +78,14 @@ fn is_stopped(ran: &Ran, whole: &[u8], limit: u64, most: usize) -> bool {
 }
 
 /// A run with no cache, under this limit of expansions.
-fn limited<B: Board>(alloc: Global, asked: &Asked<'_>, text: &[u8], limit: u64) -> Option<Ran>
-    requires { (B.geometry.rows ≡ 10) ⊎ (B.geometry.rows ≡ 8) }
-{
+fn limited<B: Board>(alloc: Global, asked: &Asked<'_>, text: &[u8], limit: u64) -> Option<Ran> {
     let settings = asked.settings::<B>(limit)?;
     in_pieces(alloc, &settings, "none", text, 4096)
 }
 
 /// The report and the answer, if under limits that rise by one from 1 a run is stopped, or it is whole, and then it is
 /// so with each higher limit.
-pub fn limits<B: Board>(alloc: Global, asked: &Asked<'_>, found: &mut Found) -> Option<()>
-    requires { (B.geometry.rows ≡ 10) ⊎ (B.geometry.rows ≡ 8) }
-{
+pub fn limits<B: Board>(alloc: Global, asked: &Asked<'_>, found: &mut Found) -> Option<()> {
     let text = unescaped(alloc, asked.column(0))?;
     let whole = limited::<B>(alloc, asked, text.as_slice(), AMPLE)?;
     let mut ended = false;
@@ -116,7 +108,6 @@ pub fn limits<B: Board>(alloc: Global, asked: &Asked<'_>, found: &mut Found) -> 
 
 /// Nothing, unless the report on a text is the same in whatever pieces, and begins with a problem.
 fn reported<B: Board>(alloc: Global, settings: &Settings<B>, text: &[u8]) -> Option<()>
-    requires rows { (B.geometry.rows ≡ 10) ⊎ (B.geometry.rows ≡ 8) }
     requires some { 1 ≤ settings.now.n }
     requires few { settings.now.n ≤ 20 }
     requires lines { 1 ≤ settings.now.lines }
@@ -140,7 +131,6 @@ fn reported_with<B: Board>(
     place: usize,
     mark: u8,
 ) -> Option<()>
-    requires rows { (B.geometry.rows ≡ 10) ⊎ (B.geometry.rows ≡ 8) }
     requires some { 1 ≤ settings.now.n }
     requires few { settings.now.n ≤ 20 }
     requires lines { 1 ≤ settings.now.lines }
@@ -154,9 +144,7 @@ fn reported_with<B: Board>(
 }
 
 /// How many texts have a report, if each byte of a text is changed in turn to each mark of the form.
-pub fn changed<B: Board>(alloc: Global, asked: &Asked<'_>, found: &mut Found) -> Option<()>
-    requires { (B.geometry.rows ≡ 10) ⊎ (B.geometry.rows ≡ 8) }
-{
+pub fn changed<B: Board>(alloc: Global, asked: &Asked<'_>, found: &mut Found) -> Option<()> {
     let mut text = unescaped(alloc, asked.column(0))?;
     let settings = asked.settings::<B>(AMPLE)?;
     let mut count = 0_u32;

@@ -1,5 +1,5 @@
 //! Runs over streams in memory.
-ghost use Rattle.std.specs.Prelude.{◌≡◌, ◌≤◌, ◌⊎◌, [], IfSome};
+ghost use Rattle.std.specs.Prelude.{◌≡◌, ◌≤◌, [], IfSome};
 ghost use Rattle.dw_memo.specs.Choice.{content_of};
 
 use dw_board::board::Board;
@@ -49,7 +49,6 @@ fn run_over<B: Board>(
     reader: Chopped<'_>,
     writer: Narrow,
 ) -> Ran
-    requires rows { (B.geometry.rows ≡ 10) ⊎ (B.geometry.rows ≡ 8) }
     requires empty { content_of memo ≡ [] }
     requires some { 1 ≤ settings.now.n }
     requires few { settings.now.n ≤ 20 }
@@ -71,7 +70,6 @@ pub fn ran_with<B: Board>(
     reader: Chopped<'_>,
     writer: Narrow,
 ) -> Option<Ran>
-    requires rows { (B.geometry.rows ≡ 10) ⊎ (B.geometry.rows ≡ 8) }
     requires some { 1 ≤ settings.now.n }
     requires few { settings.now.n ≤ 20 }
     requires lines { 1 ≤ settings.now.lines }

@@ -1,5 +1,5 @@
 -- The text of a line on a line of its own, and what a list of lines begins with.
-use Rattle.std.specs.Prelude.{◌≡◌, ℕ, ◌≤◌, ◌⊎◌, ◌↔◌, List, [], ◌++◌, codes}
+use Rattle.std.specs.Prelude.{◌≡◌, ℕ, ◌↔◌, List, [], ◌++◌, codes}
 use Rattle.dw_board.specs.Geometry.{Geometry}
 use Rattle.dw_board.specs.Placement.{Placement}
 use Rattle.dw_moves.specs.Moves.{Move}
@@ -14,11 +14,6 @@ IsRow g p l text = (line : List ℕ) × IsLineText g p l line × (text ≡ line 
 -- nothing was written
 abbrev pub IsNothing : List ℕ → Type 0
 IsNothing text = text ≡ []
-
--- at least one line is asked for, on a board whose lines have tokens
-pub record CanList (g : Geometry) (most : ℕ) : Type 0 where
-  pub some : 1 ≤ most
-  pub rows : (g.rows ≡ 10) ⊎ (g.rows ≡ 8)
 
 -- a lister stands before the lines of a position within n moves, and has given none
 pub record StandsBefore (g : Geometry) (p : Placement) (n : ℕ) (stack : Standing) (kept : ℕ) : Type 0 where

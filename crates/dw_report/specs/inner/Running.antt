@@ -1,5 +1,5 @@
 -- What the parts of a run do.
-use Rattle.std.specs.Prelude.{◌≡◌, ℕ, ◌+◌, ◌≤◌, ◌<◌, ◌⊎◌, List, [], ◌∷◌, length, Bool, true, Option, Result, Ok, Err}
+use Rattle.std.specs.Prelude.{◌≡◌, ℕ, ◌+◌, ◌≤◌, ◌<◌, List, [], ◌∷◌, length, Bool, true, Option, Result, Ok, Err}
 use Rattle.dw_board.specs.Geometry.{Geometry}
 use Rattle.dw_board.specs.Placement.{Placement}
 use Rattle.dw_board.specs.Diagram.{diagram_text}
@@ -22,12 +22,11 @@ use Rattle.dw_report.specs.declared.problem.TextFault.{TextFault}
 use Rattle.dw_report.specs.declared.problem.TextFault.TheVariants.{Stopped, Sink}
 use Rattle.dw_report.specs.Running.{AreRefused}
 
--- what a run can be asked for: 1 to 20 moves, at least one line, and lines on a board whose moves have tokens
+-- what a run can be asked for: 1 to 20 moves, and at least one line
 pub record IsSound (g : Geometry) (request : Request) : Type 0 where
   pub some : 1 ≤ request.moves
   pub few : request.moves ≤ 20
   pub lines : 1 ≤ request.lines
-  pub rows : request.command ≡ asked.List → (g.rows ≡ 10) ⊎ (g.rows ≡ 8)
 
 -- of the problems read some were shown, and of those some refused; there is room to count one more
 pub record HasRoom (summary : Summary) : Type 0 where

@@ -23,7 +23,7 @@ write_listing-requires g c =
       lines = rest.0;
       to_come = rest.2;
     } in
-    (omega arith, (c.requires.works, (c.requires.list, ahead)))
+    (omega arith, (c.requires.works, (c.requires.some, ahead)))
 
 pub returns-in_err-write_listing-in-Ok-clause-text : goal.returns-in_err-write_listing-in-Ok-clause-text
 returns-in_err-write_listing-in-Ok-clause-text g c =
@@ -47,7 +47,7 @@ returns-in-Err-Stopped-clause-text g c =
     let old = stack_of c.args.lister.now in
     no_lines (IsListedText geo p old.moves c.args.most (Some c.args.line.now))
     (listed_some c.lines_exist.ensures c.line_or_place.ensures c.lines_have_texts.ensures geo g.met.B.Board.numbers p
-    old.moves c.args.most (Some c.args.line.now) c.requires.list.some) (g.K.Sink.taken c.args.sink.now)
+    old.moves c.args.most (Some c.args.line.now) c.requires.some) (g.K.Sink.taken c.args.sink.now)
 
 pub returns-in_ok-write_listing-in-Ok-clause-text : goal.returns-in_ok-write_listing-in-Ok-clause-text
 returns-in_ok-write_listing-in-Ok-clause-text g c =

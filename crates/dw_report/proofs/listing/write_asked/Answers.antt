@@ -23,7 +23,7 @@ write_listing-requires g c =
       lines = all.0;
       to_come = (before.to_come all.0).0 all.1;
     } in
-    (omega arith, (c.requires.works, (c.requires.list, ahead)))
+    (omega arith, (c.requires.works, (c.requires.some, ahead)))
 
 pub returns-in_err-write_listing-in-None-clause-text : goal.returns-in_err-write_listing-in-None-clause-text
 returns-in_err-write_listing-in-None-clause-text g c =

@@ -13,7 +13,8 @@ use Rattle.dw_report.specs.inner.Running.{TextEnds, SinkEnds}
 use Rattle.dw_report.proofs.SearchLemmas.{same_fault}
 use Rattle.dw_report.proofs.JudgedTextLemmas.{line_playable}
 use Rattle.dw_report.proofs.LineRowLemmas.{line_odd, comes_first, lines_text, no_rows, row_written, given_line}
-use Rattle.dw_report.proofs.LineRowLemmas.{last_line, line_next, none_next, rows_stop, row_ends, more_line}
+use Rattle.dw_report.proofs.LineRowLemmas.{last_line, line_next, none_next, rows_stop, row_ends}
+use Rattle.dw_report.specs.ListedText.{more_after}
 use Rattle.dw_report.proofs.LineRowLemmas.{complete_written, complete_short, more_written, more_short}
 use Rattle.dw_report.proofs.WritingLemmas.{at_stop, at_sink}
 use Rattle.dw_report.proofs.SpendingLemmas.{counted_further}
@@ -44,7 +45,7 @@ returns-in_err-advance-clause-text g c =
     let why = err_from_is_err_and c.from_residual.result c.from_residual.ensures.1 in
     λ lines all. at_stop (IsListing geo p most lines) (AreLinesOf (IsListing geo p most lines)) _ _
     c.from_residual.result c.in_err-advance.field-0.0 (why.1 ∙ ap Err why.2)
-    (rows_stop geo p most c.requires.list.some start lines all (lines_text c.lines_have_texts.ensures geo
+    (rows_stop geo p most c.requires.some start lines all (lines_text c.lines_have_texts.ensures geo
     g.met.B.Board.numbers start p lines c.requires.ahead.position all) (stack_of c.lines.lister) c.lines.written _ _
     c.lines.invariant.rows c.lines.invariant.few)
 
@@ -60,7 +61,7 @@ returns-in_err-write_all-clause-text g c =
     let row = c.as_bytes.ensures.value ∙ (c.as_str.ensures.value ∙ c.complete_row.ensures) in
     λ lines all. at_sink (IsListing geo p most lines) (AreLinesOf (IsListing geo p most lines)) _ _
     c.from_residual-in_err-write_all.result (why.1 ∙ ap Err why.2)
-    (complete_short geo p most c.requires.list.some start lines all (lines_text c.lines_have_texts.ensures geo
+    (complete_short geo p most c.requires.some start lines all (lines_text c.lines_have_texts.ensures geo
     g.met.B.Board.numbers start p lines c.requires.ahead.position all) (stack_of c.lines.lister)
     (stack_of c.advance.new.self) c.lines.written _ _ _ c.lines.invariant.rows none c.lines.invariant.few
     (subst (StopsShort _ _) row c.in_err-write_all.ensures.err))
@@ -74,7 +75,7 @@ returns-then-not-branch-clause-text g c =
     let none = none_next geo c.in_ok-advance.field-0 (stack_of c.lines.lister) (stack_of c.advance.new.self)
     c.in_ok-advance.ensures.next c.if-not-branch.true in
     let row = c.as_bytes.ensures.value ∙ (c.as_str.ensures.value ∙ c.complete_row.ensures) in
-    λ lines all. complete_written geo p most c.requires.list.some start lines all
+    λ lines all. complete_written geo p most c.requires.some start lines all
     (lines_text c.lines_have_texts.ensures geo g.met.B.Board.numbers start p lines c.requires.ahead.position all)
     (stack_of c.lines.lister)
     (stack_of c.advance.new.self) c.lines.written _ _ _ c.lines.invariant.rows none c.lines.invariant.few
@@ -125,7 +126,7 @@ returns-in_err-write_row-clause-text g c =
     let why = err_from_is_err_and c.from_residual-in_err-write_row.result c.from_residual-in_err-write_row.ensures.1 in
     let first = line_next geo c.in_ok-advance.field-0 (stack_of c.lines.lister) (stack_of c.advance.new.self)
     c.in_ok-advance.ensures.next c.if-not-branch.false in
-    λ lines all. row_ends geo p most c.requires.list.some start lines all (lines_text c.lines_have_texts.ensures geo
+    λ lines all. row_ends geo p most c.requires.some start lines all (lines_text c.lines_have_texts.ensures geo
     g.met.B.Board.numbers start p lines c.requires.ahead.position all) (stack_of c.lines.lister)
     (stack_of c.advance.new.self) c.lines.written _ _ _ c.write_row.result c.from_residual-in_err-write_row.result
     c.in_err-write_row.field-0.0 why.0
@@ -171,7 +172,7 @@ returns-in_err-advance-2-clause-text g c =
     let why = err_from_is_err_and c.from_residual-in_err-advance-2.result c.from_residual-in_err-advance-2.ensures.1 in
     λ lines all. at_stop (IsListing geo p most lines) (AreLinesOf (IsListing geo p most lines)) _ _
     c.from_residual-in_err-advance-2.result c.in_err-advance-2.field-0.0 (why.1 ∙ ap Err why.2)
-    (rows_stop geo p most c.requires.list.some start lines all (lines_text c.lines_have_texts.ensures geo
+    (rows_stop geo p most c.requires.some start lines all (lines_text c.lines_have_texts.ensures geo
     g.met.B.Board.numbers start p lines c.requires.ahead.position all) (stack_of c.lines.lister) c.lines.written _ _
     c.lines.invariant.rows c.lines.invariant.few)
 
@@ -182,7 +183,7 @@ write_more-requires-clause-odd g c =
     let most = c.args.most in
     let start = stack_of c.args.lister.now in
     let last = c.as_slice.ensures.value ∙ (c.kept-last.ensures ∙ c.line-2.ensures.line) in
-    let some : 1 ≤ c.lines.written = omega (arith, c.requires.list.some, c.lines-test.false) in
+    let some : 1 ≤ c.lines.written = omega (arith, c.requires.some, c.lines-test.false) in
     let line = last_line geo p start (stack_of c.lines.lister) c.lines.written c.lines.invariant.rows.texts some
     c.lines.invariant.rows.rows c.requires.ahead.lines c.requires.ahead.to_come in
     subst (λ (z : List Move). length z % 2 ≡ 1) (sym last) (line_odd geo start.position start.moves
@@ -202,11 +203,11 @@ returns-in_err-write_more-clause-text g c =
     let last = c.as_slice.ensures.value ∙ (c.kept-last.ensures ∙ c.line-2.ensures.line) in
     λ lines all. at_sink (IsListing geo p most lines) (AreLinesOf (IsListing geo p most lines)) _ _
     c.from_residual-in_err-write_more.result (why.1 ∙ ap Err why.2)
-    (more_short geo p most c.requires.list.some start lines all (lines_text c.lines_have_texts.ensures geo
+    (more_short geo p most c.requires.some start lines all (lines_text c.lines_have_texts.ensures geo
     g.met.B.Board.numbers start p lines c.requires.ahead.position all) (stack_of c.lines.lister)
     (stack_of c.advance-2.new.self) c.lines.written _ _ _ c.lines.invariant.rows first full
-    (subst (λ z. StopsShort (g.K.Sink.taken c.lines.sink) (g.K.Sink.taken c.write_more.new.sink) (more_line geo z)) last
-    c.in_err-write_more.ensures.err))
+    (subst (λ z. StopsShort (g.K.Sink.taken c.lines.sink) (g.K.Sink.taken c.write_more.new.sink) (more_after geo z))
+    last c.in_err-write_more.ensures.err))
 
 pub returns-in_err-write_all-2-clause-text : goal.returns-in_err-write_all-2-clause-text
 returns-in_err-write_all-2-clause-text g c =
@@ -222,7 +223,7 @@ returns-in_err-write_all-2-clause-text g c =
     ∙ c.complete_row-else-branch.ensures) in
     λ lines all. at_sink (IsListing geo p most lines) (AreLinesOf (IsListing geo p most lines)) _ _
     c.from_residual-in_err-write_all-2.result (why.1 ∙ ap Err why.2)
-    (complete_short geo p most c.requires.list.some start lines all (lines_text c.lines_have_texts.ensures geo
+    (complete_short geo p most c.requires.some start lines all (lines_text c.lines_have_texts.ensures geo
     g.met.B.Board.numbers start p lines c.requires.ahead.position all) (stack_of c.lines.lister)
     (stack_of c.advance-2.new.self) c.lines.written _ _ _ c.lines.invariant.rows none c.lines.invariant.few
     (subst (StopsShort _ _) row c.in_err-write_all-2.ensures.err))
@@ -237,11 +238,11 @@ returns-in_ok-write_more-clause-text g c =
     c.in_ok-advance-2.ensures.next c.if-branch.true in
     let full : c.lines.written ≡ most = omega (arith, c.lines.invariant.few, c.lines-test.false) in
     let last = c.as_slice.ensures.value ∙ (c.kept-last.ensures ∙ c.line-2.ensures.line) in
-    λ lines all. more_written geo p most c.requires.list.some start lines all (lines_text c.lines_have_texts.ensures geo
+    λ lines all. more_written geo p most c.requires.some start lines all (lines_text c.lines_have_texts.ensures geo
     g.met.B.Board.numbers start p lines c.requires.ahead.position all) (stack_of c.lines.lister)
     (stack_of c.advance-2.new.self) c.lines.written _ _ _ c.lines.invariant.rows first full
-    (subst (λ z. Appends (g.K.Sink.taken c.lines.sink) (g.K.Sink.taken c.write_more.new.sink) (more_line geo z)) last
-    c.in_ok-write_more.ensures.ok)
+    (subst (λ z. Appends (g.K.Sink.taken c.lines.sink) (g.K.Sink.taken c.write_more.new.sink) (more_after geo z))
+    last c.in_ok-write_more.ensures.ok)
 
 pub returns-in_ok-write_all-2-clause-text : goal.returns-in_ok-write_all-2-clause-text
 returns-in_ok-write_all-2-clause-text g c =
@@ -253,7 +254,7 @@ returns-in_ok-write_all-2-clause-text g c =
     c.in_ok-advance-2.ensures.next c.if-branch.false in
     let row = c.as_bytes-else-branch.ensures.value ∙ (c.as_str-else-branch.ensures.value
     ∙ c.complete_row-else-branch.ensures) in
-    λ lines all. complete_written geo p most c.requires.list.some start lines all
+    λ lines all. complete_written geo p most c.requires.some start lines all
     (lines_text c.lines_have_texts.ensures geo g.met.B.Board.numbers start p lines c.requires.ahead.position all)
     (stack_of c.lines.lister)
     (stack_of c.advance-2.new.self) c.lines.written _ _ _ c.lines.invariant.rows none c.lines.invariant.few

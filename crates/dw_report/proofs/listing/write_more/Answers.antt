@@ -1,36 +1,35 @@
-use Rattle.std.proofs.Common.{codes, subst, OnOk, OnErr}
+use Rattle.std.proofs.Common.{◌∙◌, sym, subst, OnOk, OnErr}
 use Rattle.std.specs.Io.KnownBytes.{Appends}
-use Rattle.std.proofs.lemmas.Result.{err_from_is_err_and}
-use Rattle.dw_list.specs.Tokens.{token_of}
 use Rattle.dw_notation.specs.Writes.{StopsShort}
-use Rattle.dw_report.proofs.LineRowLemmas.{first_short, second_short, last_written, last_short}
+use Rattle.dw_report.proofs.LineRowLemmas.{tells_after, tells_none}
 use Rattle.dw_report.proofs.listing.write_more.Goals as goal
 
-pub returns-in_err-write_all-clause-err : goal.returns-in_err-write_all-clause-err
-returns-in_err-write_all-clause-err g c =
-    let why = err_from_is_err_and c.from_residual.result c.from_residual.ensures.1 in
-    rw why.1 (first_short _ _ (codes "more after ") (token_of g.B.Board.geometry c.args.last.now) (codes "\n")
-    (subst (StopsShort _ _) c.as_bytes.ensures.value c.in_err-write_all.ensures.err))
+pub returns-then-has_tokens-clause-ok : goal.returns-then-has_tokens-clause-ok
+returns-then-has_tokens-clause-ok g c =
+    subst (λ z. OnOk c.write_more_after.result (Appends (g.K.Sink.taken c.args.sink.now)
+    (g.K.Sink.taken c.write_more_after.new.sink) z))
+    (tells_after g.B.Board.geometry c.args.last.now (sym c.has_tokens.ensures ∙ c.if-has_tokens.true))
+    c.write_more_after.ensures.ok
 
-pub returns-in_err-write_token-clause-err : goal.returns-in_err-write_token-clause-err
-returns-in_err-write_token-clause-err g c =
-    let why = err_from_is_err_and c.from_residual-in_err-write_token.result
-    c.from_residual-in_err-write_token.ensures.1 in
-    rw why.1 (second_short _ _ _ (codes "more after ") (token_of g.B.Board.geometry c.args.last.now) (codes "\n")
-    (subst (Appends _ _) c.as_bytes.ensures.value c.in_ok-write_all.ensures.ok) c.in_err-write_token.ensures.err)
+pub returns-then-has_tokens-clause-err : goal.returns-then-has_tokens-clause-err
+returns-then-has_tokens-clause-err g c =
+    subst (λ z. OnErr c.write_more_after.result (StopsShort (g.K.Sink.taken c.args.sink.now)
+    (g.K.Sink.taken c.write_more_after.new.sink) z))
+    (tells_after g.B.Board.geometry c.args.last.now (sym c.has_tokens.ensures ∙ c.if-has_tokens.true))
+    c.write_more_after.ensures.err
 
-pub returns-clause-ok : goal.returns-clause-ok
-returns-clause-ok g c =
-    last_written _ _ _ _ (codes "more after ") (token_of g.B.Board.geometry c.args.last.now) (codes "\n")
-    c.write_all-2.result (subst (Appends _ _) c.as_bytes.ensures.value c.in_ok-write_all.ensures.ok)
-    c.in_ok-write_token.ensures.ok
-    (subst (λ z. OnOk c.write_all-2.result (Appends (g.K.Sink.taken c.write_token.new.sink)
-    (g.K.Sink.taken c.write_all-2.new.sink) z)) c.as_bytes-2.ensures.value c.write_all-2.ensures.ok)
+pub returns-else-has_tokens-clause-ok : goal.returns-else-has_tokens-clause-ok
+returns-else-has_tokens-clause-ok g c =
+    subst (λ z. OnOk c.write_all.result (Appends (g.K.Sink.taken c.args.sink.now)
+    (g.K.Sink.taken c.write_all.new.sink) z))
+    (c.as_bytes.ensures.value
+    ∙ tells_none g.B.Board.geometry c.args.last.now (sym c.has_tokens.ensures ∙ c.if-has_tokens.false))
+    c.write_all.ensures.ok
 
-pub returns-clause-err : goal.returns-clause-err
-returns-clause-err g c =
-    last_short _ _ _ _ (codes "more after ") (token_of g.B.Board.geometry c.args.last.now) (codes "\n")
-    c.write_all-2.result (subst (Appends _ _) c.as_bytes.ensures.value c.in_ok-write_all.ensures.ok)
-    c.in_ok-write_token.ensures.ok
-    (subst (λ z. OnErr c.write_all-2.result (StopsShort (g.K.Sink.taken c.write_token.new.sink)
-    (g.K.Sink.taken c.write_all-2.new.sink) z)) c.as_bytes-2.ensures.value c.write_all-2.ensures.err)
+pub returns-else-has_tokens-clause-err : goal.returns-else-has_tokens-clause-err
+returns-else-has_tokens-clause-err g c =
+    subst (λ z. OnErr c.write_all.result (StopsShort (g.K.Sink.taken c.args.sink.now)
+    (g.K.Sink.taken c.write_all.new.sink) z))
+    (c.as_bytes.ensures.value
+    ∙ tells_none g.B.Board.geometry c.args.last.now (sym c.has_tokens.ensures ∙ c.if-has_tokens.false))
+    c.write_all.ensures.err

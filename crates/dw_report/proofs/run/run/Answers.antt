@@ -11,7 +11,6 @@ write_report-requires g c =
       some = c.requires.some;
       few = c.requires.few;
       lines = c.requires.lines;
-      rows = c.requires.rows;
     } in
     let fresh = ap (λ (s : Solving g.row.M.Denot). s.expanded) c.new-solver.ensures in
     (omega arith, (c.requires.source, (c.requires.sink, (sound, fresh))))

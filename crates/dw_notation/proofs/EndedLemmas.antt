@@ -1,0 +1,148 @@
+-- The problems that end in a text come first, whatever follows.
+use Rattle.std.proofs.Common.{◌≡◌, ℕ, ◌==◌, ◌&&◌, ◌+◌, List, [], ◌∷◌, ◌++◌, Bool, true, false, cond, option_to_list}
+use Rattle.std.proofs.Common.{nat_lt, Err, ◌⊎◌, inl, inr, refl, sym, ap, subst, ◌∙◌, append_assoc}
+use Rattle.std.proofs.lemmas.Bool.{cases_Bool, cond-false, and_parts, eqb-true}
+use Rattle.dw_board.specs.Geometry.{Geometry}
+use Rattle.dw_notation.specs.Ahead.{found_from}
+use Rattle.dw_notation.specs.Lines.{Found, line_found, without_mark}
+use Rattle.dw_notation.specs.Sections.{Section, step, after, section_found, found_by, sections_found, bare}
+use Rattle.dw_notation.specs.Problems.{Numbered, number_from, found_of, ended_of}
+use Rattle.dw_notation.specs.Problems.{EndedComeFirst}
+use Rattle.dw_notation.specs.declared.problems.TheConstants.{MAX_PROBLEMS}
+use Rattle.dw_notation.specs.declared.problems.ProblemFault.TheVariants.{TooManyProblems}
+use Rattle.dw_notation.specs.declared.problems.Form.{Form}
+use Rattle.dw_notation.specs.declared.problems.Form.TheVariants.{Fens, Pdn}
+use Rattle.dw_notation.specs.declared.problems.pdn.Place.{Place}
+use Rattle.dw_notation.specs.declared.problems.pdn.Place.TheVariants.{Outside}
+use Rattle.dw_notation.proofs.DefinitionLemmas.{found_from-lines, found_from-whole_lines, sections-mark}
+
+-- one list comes first in another
+abbrev First : {X : Type 0} → List X → List X → Type 0
+First {X} list longer = (later : List X) × (longer ≡ list ++ later)
+
+-- behind the same beginning
+behind : {X : Type 0} (front list longer : List X) → First list longer → First (front ++ list) (front ++ longer)
+behind front list longer h = (h.0, ap (λ l. front ++ l) h.1 ∙ sym (append_assoc front list h.0))
+
+-- NUMBERS
+
+first_numbered : (handed : ℕ) (list later : List Found) → First (number_from handed list)
+    (number_from handed (list ++ later))
+first_numbered handed [] later = (number_from handed later, refl)
+first_numbered handed (found ∷ list) later =
+    let one : Numbered = record { number = handed + 1; found = found } in
+    let last : Numbered = record { number = handed + 1; found = Err TooManyProblems } in
+    let rest = first_numbered (handed + 1) list later in
+    elim (nat_lt handed MAX_PROBLEMS) as (λ v. First
+    (cond v (one ∷ number_from (handed + 1) list) (cond (handed == MAX_PROBLEMS) (last ∷ []) []))
+    (cond v (one ∷ number_from (handed + 1) (list ++ later)) (cond (handed == MAX_PROBLEMS) (last ∷ []) []))) [
+      | true ↦ (rest.0, ap (λ l. one ∷ l) rest.1)
+      | false ↦ elim (handed == MAX_PROBLEMS) as (λ v. First (cond v (last ∷ []) []) (cond v (last ∷ []) [])) [
+        | true ↦ ([], refl)
+        | false ↦ ([], refl)
+      ]
+    ]
+
+numbered_first : (list longer : List Found) → First list longer → First (number_from 0 list) (number_from 0 longer)
+numbered_first list longer h = subst (λ l. First (number_from 0 list) (number_from 0 l)) (sym h.1)
+    (first_numbered 0 list h.0)
+
+-- LINES
+
+first_lines : (at_end : Bool) (g : Geometry) (line bytes more : List ℕ) → First (found_from false g line bytes)
+    (found_from at_end g line (bytes ++ more))
+first_lines at_end g line [] more = (found_from at_end g line more, refl)
+first_lines at_end g line (byte ∷ bytes) more =
+    let here = option_to_list (line_found g line) in
+    elim (byte == 10) as (λ v. First
+    (cond v (here ++ found_from false g [] bytes) (found_from false g (line ++ byte ∷ []) bytes))
+    (cond v (here ++ found_from at_end g [] (bytes ++ more))
+    (found_from at_end g (line ++ byte ∷ []) (bytes ++ more)))) [
+      | true ↦ behind here _ _ (first_lines at_end g [] bytes more)
+      | false ↦ first_lines at_end g (line ++ byte ∷ []) bytes more
+    ]
+
+-- what follows leaves a mark as it was, or the text is a part of one and no line has ended
+mark_stays : (bytes more : List ℕ) → (without_mark (bytes ++ more) ≡ without_mark bytes ++ more)
+    ⊎ ((g : Geometry) → found_from false g [] (without_mark bytes) ≡ [])
+mark_stays [] more = inr (λ g. refl)
+mark_stays (a ∷ []) [] = inl refl
+mark_stays (a ∷ []) (b ∷ []) = inl refl
+mark_stays (a ∷ []) (b ∷ c ∷ more) = elim (cases_Bool ((a == 0xEF) && (b == 0xBB) && (c == 0xBF))) [
+  | inl mark ↦
+      let both = and_parts (a == 0xEF) (b == 0xBB) (and_parts ((a == 0xEF) && (b == 0xBB)) (c == 0xBF) mark).0 in
+      inr (λ g. ap (λ x. found_from false g [] (x ∷ [])) (eqb-true a 0xEF both.0))
+  | inr none ↦ inl (cond-false _ more (a ∷ b ∷ c ∷ more) none)
+]
+mark_stays (a ∷ b ∷ []) [] = inl refl
+mark_stays (a ∷ b ∷ []) (c ∷ more) = elim (cases_Bool ((a == 0xEF) && (b == 0xBB) && (c == 0xBF))) [
+  | inl mark ↦
+      let both = and_parts (a == 0xEF) (b == 0xBB) (and_parts ((a == 0xEF) && (b == 0xBB)) (c == 0xBF) mark).0 in
+      inr (λ g. ap (λ x. found_from false g [] (x ∷ b ∷ [])) (eqb-true a 0xEF both.0)
+      ∙ ap (λ x. found_from false g [] (0xEF ∷ x ∷ [])) (eqb-true b 0xBB both.1))
+  | inr none ↦ inl (cond-false _ more (a ∷ b ∷ c ∷ more) none)
+]
+mark_stays (a ∷ b ∷ c ∷ bytes) more =
+    inl (elim ((a == 0xEF) && (b == 0xBB) && (c == 0xBF)) as (λ v. cond v (bytes ++ more) (a ∷ b ∷ c ∷ (bytes ++ more))
+    ≡ cond v bytes (a ∷ b ∷ c ∷ bytes) ++ more) [
+      | true ↦ refl
+      | false ↦ refl
+    ])
+
+lines_first : (at_end : Bool) (g : Geometry) (bytes more : List ℕ) → First (found_from false g [] (without_mark bytes))
+    (found_from at_end g [] (without_mark (bytes ++ more)))
+lines_first at_end g bytes more = elim (mark_stays bytes more) [
+  | inl same ↦ subst (λ z. First (found_from false g [] (without_mark bytes)) (found_from at_end g [] z)) (sym same)
+      (first_lines at_end g [] (without_mark bytes) more)
+  | inr none ↦ (
+    found_from at_end g [] (without_mark (bytes ++ more)),
+    ap (λ z. z ++ found_from at_end g [] (without_mark (bytes ++ more))) (sym (none g)),
+  )
+]
+
+-- SECTIONS
+
+first_sections : (at_end : Bool) (g : Geometry) (place : Place) (s : Section) (bytes more : List ℕ)
+    → First (sections_found false g place s bytes) (sections_found at_end g place s (bytes ++ more))
+first_sections at_end g place s [] more = (sections_found at_end g place s more, refl)
+first_sections at_end g place s (byte ∷ bytes) more =
+    let to = step place byte in
+    behind (found_by to.deed (section_found g s)) _ _
+    (first_sections at_end g to.place (after to.deed s) bytes more)
+
+sections_first : (at_end : Bool) (g : Geometry) (bytes more : List ℕ)
+    → First (sections_found false g Outside bare (without_mark bytes))
+    (sections_found at_end g Outside bare (without_mark (bytes ++ more)))
+sections_first at_end g bytes more =
+    let h = first_sections at_end g Outside bare bytes more in (
+      h.0,
+      sym (sections-mark at_end g (bytes ++ more)) ∙ (h.1 ∙ ap (λ l. l ++ h.0) (sections-mark false g bytes)),
+    )
+
+-- PROBLEMS
+
+found_first : (g : Geometry) (form : Form) (bytes more : List ℕ) → First (ended_of g form bytes)
+    (found_of g form (bytes ++ more))
+found_first g Fens bytes more =
+    let h = lines_first true g bytes more in (
+      h.0,
+      sym (found_from-lines g (without_mark (bytes ++ more)))
+          ∙ (h.1 ∙ ap (λ l. l ++ h.0) (found_from-whole_lines g (without_mark bytes))),
+    )
+found_first g Pdn bytes more = sections_first true g bytes more
+
+ended_first : (g : Geometry) (form : Form) (bytes more : List ℕ) → First (ended_of g form bytes)
+    (ended_of g form (bytes ++ more))
+ended_first g Fens bytes more =
+    let h = lines_first false g bytes more in (
+      h.0,
+      sym (found_from-whole_lines g (without_mark (bytes ++ more)))
+          ∙ (h.1 ∙ ap (λ l. l ++ h.0) (found_from-whole_lines g (without_mark bytes))),
+    )
+ended_first g Pdn bytes more = sections_first false g bytes more
+
+pub ended_come_first : EndedComeFirst
+ended_come_first = record {
+  found = λ g form bytes more. numbered_first _ _ (found_first g form bytes more);
+  ended = λ g form bytes more. numbered_first _ _ (ended_first g form bytes more);
+}
