@@ -124,10 +124,17 @@ fn settings_of<B: Board>(
     request: &Request<'_>,
     after: Option<ArrayVec<Move<B>, MAX_MOVES>>,
 ) -> Settings<B>
+    ensures command { result.command ≡ request.now.command }
+    ensures form { result.form ≡ request.now.form }
+    ensures only { result.only ≡ request.now.only }
+    ensures after { result.after ≡ after }
     ensures some { 1 ≤ result.n }
     ensures few { result.n ≤ 20 }
+    ensures same_n { 1 ≤ request.now.n → request.now.n ≤ 20 → result.n ≡ request.now.n }
     ensures lines { 1 ≤ result.lines }
+    ensures same_lines { 1 ≤ request.now.lines → result.lines ≡ request.now.lines }
     ensures limit { 1 ≤ result.limit }
+    ensures same_limit { 1 ≤ request.now.positions → result.limit ≡ request.now.positions }
 {
     Settings {
         command: request.command,

@@ -1,5 +1,5 @@
 //! The arguments of the command line.
-ghost use Rattle.std.specs.Prelude.{◌≤◌};
+ghost use Rattle.std.specs.Prelude.{◌≡◌, ◌≤◌};
 
 use clap::builder::ValueParser;
 use clap::{Arg, ArgAction, ArgMatches, Command as Words, value_parser};
@@ -23,7 +23,7 @@ pub enum BoardSize {
 pub enum MemoKind {
     /// Nothing.
     None,
-    /// A cache that loses the position used longest ago.
+    /// A cache of the positions used last, an `LruMemo`.
     Lru,
     /// A table in which each position has its one place.
     Slots,
@@ -366,6 +366,7 @@ impl Request<'_> {
     pub fn kept(&self) -> usize
         ensures some { 1 ≤ result }
         ensures most { result ≤ 4_000_000 }
+        ensures same { 1 ≤ self.now.cache → self.now.cache ≤ 4_000_000 → result ≡ self.now.cache }
     {
         self.cache.clamp(1, MOST_KEPT)
     }

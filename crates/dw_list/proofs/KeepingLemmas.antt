@@ -1,19 +1,23 @@
 -- How many first moves of a line a walk never leaves.
-use Rattle.std.proofs.Common.{◌≡◌, ℕ, ◌≤◌, List, [], ◌∷◌, length, drop, reverse, take, sym, ap, ◌∙◌, subst, inl, inr}
-use Rattle.std.proofs.Common.{arith}
+use Rattle.std.proofs.Common.{◌≡◌, ℕ, zero, suc, ◌≤◌, ◌-◌, List, [], ◌∷◌, ◌++◌, length, drop, reverse, take, refl, sym}
+use Rattle.std.proofs.Common.{ap, ◌∙◌, subst, inl, inr, arith}
 use Rattle.std.specs.Prelude.{min}
-use Rattle.std.proofs.lemmas.List.{reverse-append, length-reverse, take-append-le}
+use Rattle.std.proofs.lemmas.Bool.{cases_lt}
+use Rattle.std.proofs.lemmas.List.{reverse-append, length-reverse, length-drop}
+use Rattle.std.proofs.lemmas.List.{take-append-le, take-append-drop}
+use Rattle.std.proofs.Math.Seq.{take-length}
+use Rattle.dw_board.specs.Geometry.{Geometry}
 use Rattle.dw_moves.specs.Moves.{Move}
-use Rattle.dw_list.specs.Standing.{Standing}
+use Rattle.dw_moves.specs.Laws.{MovesHaveKeys}
+use Rattle.dw_list.specs.Lines.{Line, Before}
+use Rattle.dw_list.specs.Standing.{Standing, IsStillAhead}
 use Rattle.dw_list.specs.declared.walk.Step.{Step}
 use Rattle.dw_list.specs.declared.walk.Step.TheVariants.{Over, Given, On}
-use Rattle.dw_list.specs.Walking.{BeginsAs}
-use Rattle.dw_list.specs.inner.Walking.{IsNear, KeepsFirst}
-
-pub near_same : (met : Step) (old new : List Move) → new ≡ old → IsNear met old new
-near_same Over old new e = e
-near_same Given old new e = e
-near_same On old new e = inl e
+use Rattle.dw_list.specs.Walking.{Share, ShareNoMore, Comes}
+use Rattle.dw_list.specs.inner.LineOrderLemmas.{before_asym}
+use Rattle.dw_list.specs.inner.Steps.{IsGiven}
+use Rattle.dw_list.specs.inner.Walking.{HasStepped, IsBack, IsNear, KeepsFirst, IsParted}
+use Rattle.dw_list.proofs.StepLemmas.{line_at}
 
 -- the first moves of a line with one move more
 first_of_more : (m : Move) (line : List Move) (j : ℕ) → j ≤ length line → take j (reverse (m ∷ line))
@@ -22,58 +26,156 @@ first_of_more m line j few =
     let long = length-reverse line in
     ap (take j) (reverse-append (m ∷ []) line) ∙ take-append-le j (reverse line) (m ∷ []) (omega arith)
 
-begins_more : (m : Move) (line given : List Move) (k : ℕ) → k ≤ length line → BeginsAs k (reverse line) given
-    → BeginsAs k (reverse (m ∷ line)) given
-begins_more m line given k few h j small fits =
-    let long = length-reverse line in
-    first_of_more m line j (omega arith) ∙ h j small (omega arith)
+-- WHAT TWO LISTS OF MOVES HAVE IN COMMON
 
-begins_fewer : (line given : List Move) (k : ℕ) → BeginsAs k (reverse line) given
-    → BeginsAs k (reverse (drop 1 line)) given
-begins_fewer [] given k h = h
-begins_fewer (m ∷ line) given k h = λ j small fits.
-    let long = length-reverse line in
-    let longer = length-reverse (m ∷ line) in
-    sym (first_of_more m line j (omega arith)) ∙ h j small (omega arith)
+take_first : (i j : ℕ) (l : List Move) → i ≤ j → take i (take j l) ≡ take i l
+take_first zero j l few = refl
+take_first (suc i) zero l few = absurd (omega arith)
+take_first (suc i) (suc j) [] few = refl
+take_first (suc i) (suc j) (m ∷ l) few = ap (λ z. m ∷ z) (take_first i j l (omega arith))
 
-begins_near : (met : Step) (old new given : List Move) (k : ℕ) → k ≤ length old → IsNear met old new
-    → BeginsAs k (reverse old) given → BeginsAs k (reverse new) given
-begins_near Over old new given k few e h = subst (λ z. BeginsAs k (reverse z) given) (sym e) h
-begins_near Given old new given k few e h = subst (λ z. BeginsAs k (reverse z) given) (sym e) h
-begins_near On old new given k few e h = elim e [
-  | inl same ↦ subst (λ z. BeginsAs k (reverse z) given) (sym same) h
+share_less : (i j : ℕ) (l k : List Move) → i ≤ j → Share j l k → Share i l k
+share_less i j l k less s = (
+  omega (arith, s.0),
+  omega (arith, s.1),
+  sym (take_first i j l less) ∙ ap (take i) s.2 ∙ take_first i j k less,
+)
+
+-- so do a line with one move more and a line with one less, as far as it goes
+share_more : (m : Move) (line given : List Move) (i : ℕ) → i ≤ length line → Share i (reverse line) given
+    → Share i (reverse (m ∷ line)) given
+share_more m line given i few s = (
+  omega (arith, few, length-reverse (m ∷ line)),
+  s.1,
+  first_of_more m line i few ∙ s.2,
+)
+
+share_fewer : (line given : List Move) (i : ℕ) → i ≤ length (drop 1 line) → Share i (reverse line) given
+    → Share i (reverse (drop 1 line)) given
+share_fewer [] given i few s = s
+share_fewer (m ∷ line) given i few s = (
+  omega (arith, few, length-reverse line),
+  s.1,
+  sym (first_of_more m line i few) ∙ s.2,
+)
+
+share_near : (g : Geometry) (met : Step) (old new : Standing) (given : List Move) (i : ℕ) → i ≤ length old.line
+    → i ≤ length new.line → IsNear g met old new → Share i (reverse old.line) given → Share i (reverse new.line) given
+share_near g Over old new given i few fits e s = subst (λ z. Share i (reverse z) given) (sym e) s
+share_near g Given old new given i few fits e s = subst (λ z. Share i (reverse z) given) (sym e) s
+share_near g On old new given i few fits e s = elim e [
+  | inl same ↦ subst (λ z. Share i (reverse z) given) (sym same) s
   | inr other ↦ elim other [
-    | inl fewer ↦ subst (λ z. BeginsAs k (reverse z) given) (sym fewer) (begins_fewer old given k h)
-    | inr more ↦ subst (λ z. BeginsAs k (reverse z) given) (sym more.1) (begins_more more.0 old given k few h)
+    | inl back ↦ subst (λ z. Share i (reverse z) given) (sym back.line)
+        (share_fewer old.line given i (subst (λ (z : List Move). i ≤ length z) back.line fits) s)
+    | inr more ↦ subst (λ z. Share i (reverse z) given) (sym more.1) (share_more more.0 old.line given i few s)
   ]
 ]
 
-begins_less : (line given : List Move) (j k : ℕ) → j ≤ k → BeginsAs k line given → BeginsAs j line given
-begins_less line given j k less h i small fits = h i (omega arith) fits
+-- what shares a whole line with a list of moves begins with that line
+begins_whole : (line given l : List Move) (j : ℕ) → j ≡ length line → Share j line given → Share j l given
+    → l ≡ line ++ drop j l
+begins_whole line given l j whole h s =
+    let all : take j line ≡ line = ap (λ n. take n line) whole ∙ take-length line in
+    sym (take-append-drop j l) ∙ ap (λ z. z ++ drop j l) (s.2 ∙ sym h.2 ∙ all)
 
-pub keeps_all : (s : Standing) (k : ℕ) → KeepsFirst s s k k
-keeps_all s k = record { few = omega arith; first = λ given h. h }
+-- WHAT THE LINES STILL TO COME SHARE
+
+-- the lines still to come after a step were still to come before it
+among_stepped : (g : Geometry) (met : Step) (old new : Standing) → HasStepped g met old new → (l : List Move)
+    → Line g new.position new.moves l → IsStillAhead new.levels new.line l
+    → Line g old.position old.moves l × IsStillAhead old.levels old.line l
+among_stepped g Over old new h l here ahead =
+    subst (λ (z : Standing). Line g z.position z.moves l × IsStillAhead z.levels z.line l) h.1 (here, ahead)
+among_stepped g Given old new h l here ahead =
+    let was = line_at g new old (sym h.position) (sym h.moves) l here in (was, (h.later l was ahead).0)
+among_stepped g On old new h l here ahead =
+    let was = line_at g new old (sym h.position) (sym h.moves) l here in (was, (h.same l was).1 ahead)
+
+pub keeps_all : (g : Geometry) (s : Standing) (k : ℕ) → KeepsFirst g s s k k
+keeps_all g s k given comes =
+    let whole : k ≡ min k (length s.line) = omega (arith, comes.share.0, length-reverse s.line) in
+    subst (λ z. Comes g s z given) whole comes
+
+pub keeps_comes : (g : Geometry) (s : Standing) (k : ℕ) (given : List Move) → k ≤ length s.line
+    → Comes g s (min k (length s.line)) given → Comes g s k given
+keeps_comes g s k given fits comes =
+    let whole : min k (length s.line) ≡ k = omega (arith, fits) in subst (λ z. Comes g s z given) whole comes
 
 -- the number is lowered to the length of the line
-module _ (a b c : Standing) (n k j : ℕ) (line : List Move) (so_far : KeepsFirst a b n k) (at : line ≡ reverse b.line)
-    (is : j ≡ min k (length line)) where
-  lowered : (j ≤ k) × (j ≤ length b.line)
+module _ (g : Geometry) (a b c : Standing) (n k j : ℕ) (line : List Move) (so_far : KeepsFirst g a b n k)
+    (at : line ≡ reverse b.line) (is : j ≡ min k (length line)) where
+  lowered : (min k (length b.line) ≡ j) × (j ≤ length b.line)
   lowered = let long = ap length at ∙ length-reverse b.line in (omega arith, omega arith)
 
-  pub keeps_lowered : KeepsFirst a b n j
-  keeps_lowered = record {
-    few = let less = so_far.few in let lower = lowered.0 in omega arith;
-    first = λ given h. begins_less (reverse b.line) given j k lowered.0 (so_far.first given h);
-  }
+  comes_here : (given : List Move) → Comes g a n given → Comes g b j given
+  comes_here given comes = subst (λ z. Comes g b z given) lowered.0 (so_far given comes)
 
-  pub keeps_step : (met : Step) → IsNear met b.line c.line → KeepsFirst a c n j
-  keeps_step met near = record {
-    few = keeps_lowered.few;
-    first = λ given h. begins_near met b.line c.line given j lowered.1 near (keeps_lowered.first given h);
-  }
-
-  pub keeps_stop : c ≡ b → KeepsFirst a c n j
-  keeps_stop e = subst (λ z. KeepsFirst a z n j) (sym e) keeps_lowered
+  pub keeps_stop : c ≡ b → KeepsFirst g a c n j
+  keeps_stop e = subst (λ z. KeepsFirst g a z n j) (sym e) (λ given comes.
+      let whole : j ≡ min j (length b.line) = let short = lowered.1 in omega arith in
+      subst (λ z. Comes g b z given) whole (comes_here given comes))
 
   pub keeps_fits : c.line ≡ b.line → j ≤ length c.line
   keeps_fits e = subst (λ z. j ≤ length z) (sym e) lowered.1
+
+  pub keeps_given : IsGiven g b c → IsParted g a c n j
+  keeps_given here given comes i s = (comes_here given comes).most (reverse c.line) here.line here.here i s
+
+  module _ (keys : MovesHaveKeys) (met : Step) (stepped : HasStepped g met b c) (given : List Move)
+      (comes : Comes g b j given) where
+    -- as long as the line is not shorter
+    most_on : length b.line ≤ length c.line → ShareNoMore g c (min j (length c.line)) given
+    most_on long l here ahead i s =
+        let was = among_stepped g met b c stepped l here ahead in
+        let few = comes.most l was.0 was.1 i s in
+        let short = lowered.1 in
+        omega arith
+
+    -- one move less is in common once the last one is taken off
+    most_back : IsBack g b c → ShareNoMore g c (min j (length c.line)) given
+    most_back back l here ahead i s =
+        let was = among_stepped g met b c stepped l here ahead in
+        let few = comes.most l was.0 was.1 i s in
+        let short = lowered.1 in
+        let less : length c.line ≡ length b.line - 1 = ap length back.line ∙ length-drop 1 b.line in
+        elim (cases_lt (length c.line) i) [
+          | inl high ↦
+              let whole : i ≡ length (reverse b.line) = omega (arith, length-reverse b.line) in
+              let begins = begins_whole (reverse b.line) given l i whole
+              (share_less i j (reverse b.line) given few comes.share) s in
+              let after = subst (λ z. Before g b.position z l) (sym begins) (back.later l was.1 (drop i l)) in
+              absurd (before_asym keys g b.position l l after after)
+          | inr low ↦ omega arith
+        ]
+
+    most_near : (m : Step) → IsNear g m b c → ShareNoMore g c (min j (length c.line)) given
+    most_near Over near = most_on (omega (arith, ap length near))
+    most_near Given near = most_on (omega (arith, ap length near))
+    most_near On near = elim near [
+      | inl same ↦ most_on (omega (arith, ap length same))
+      | inr other ↦ elim other [
+        | inl back ↦ most_back back
+        | inr more ↦ most_on (omega (arith, ap length more.1))
+      ]
+    ]
+
+    comes_on : (m : Step) → IsNear g m b c → Comes g c (min j (length c.line)) given
+    comes_on m near = record {
+      share =
+          let short = lowered.1 in
+          share_near g m b c given (min j (length c.line)) (omega arith) (omega arith) near
+          (share_less (min j (length c.line)) j (reverse b.line) given (omega arith) comes.share);
+      most = most_near m near;
+    }
+
+  pub keeps_step : MovesHaveKeys → (met : Step) → HasStepped g met b c → IsNear g met b c → KeepsFirst g a c n j
+  keeps_step keys met stepped near given comes = comes_on keys met stepped given (comes_here given comes) met near
+
+-- a stack that stands at a line that was given comes from that line, and shares all of it
+pub comes_given : (g : Geometry) (s : Standing) (line : List Move) → line ≡ reverse s.line
+    → Comes g s (length line) (reverse s.line)
+comes_given g s line is = record {
+  share = (omega (arith, ap length is), omega (arith, ap length is), refl);
+  most = λ l here ahead j common. omega (arith, common.1, ap length is);
+}

@@ -1,11 +1,12 @@
 -- What a lister shows its caller.
-use Rattle.std.specs.Prelude.{◌≡◌, ℕ, ◌≤◌, List, length, reverse, take}
+use Rattle.std.specs.Prelude.{◌≡◌, ℕ, List, reverse}
 use Rattle.std.specs.Borrow.{GName}
+use Rattle.dw_board.specs.Geometry.{Geometry}
 use Rattle.dw_moves.specs.Moves.{Move}
 use Rattle.dw_solve.specs.Solving.{Solving}
 use Rattle.dw_list.specs.declared.lister.Lister.{Lister}
 use Rattle.dw_list.specs.Standing.{Standing}
-use Rattle.dw_list.specs.Walking.{BeginsAs}
+use Rattle.dw_list.specs.Walking.{ShareJust, Comes}
 
 -- the name of the reference to the solver that the lister holds
 abbrev pub lender : {B M G : Type 0} → Lister B M G → GName
@@ -27,20 +28,18 @@ shared_of lister = lister.shared
 abbrev pub kept_of : {B M G : Type 0} → Lister B M G → ℕ
 kept_of lister = lister.kept
 
--- the moves that were never left are the first ones of this line
-abbrev pub ComesFrom : {B M G : Type 0} → Lister B M G → List Move → Type 0
-ComesFrom lister given = BeginsAs (kept_of lister) (reverse (stack_of lister).line) given
+-- the lister comes from a line that was given, or at the start from no moves: it shares those that were never left
+abbrev pub ComesFrom : {B M G : Type 0} → Geometry → Lister B M G → List Move → Type 0
+ComesFrom g lister given = Comes g (stack_of lister) (kept_of lister) given
 
--- Another line is given: its first moves are those of the line from which the lister comes, and from now on it comes
--- from this one.
-pub record IsShared {B M G : Type 0} (old new : Lister B M G) : Type 0 where
-  pub first : (given : List Move) → ComesFrom old given →
-      take (shared_of new) (reverse (stack_of new).line) ≡ take (shared_of new) given
-  pub few : shared_of new ≤ kept_of old
-  pub fits : shared_of new ≤ length (reverse (stack_of new).line)
-  pub next : ComesFrom new (reverse (stack_of new).line)
+-- Another line is given. It has just so many first moves in common with the line from which the lister comes, and from
+-- now on the lister comes from it.
+pub record IsShared {B M G : Type 0} (g : Geometry) (old new : Lister B M G) : Type 0 where
+  pub common : (given : List Move) → ComesFrom g old given →
+      ShareJust (shared_of new) (reverse (stack_of new).line) given
+  pub next : ComesFrom g new (reverse (stack_of new).line)
 
--- the lister comes from the same lines as before
-pub record IsOnTheWay {B M G : Type 0} (old new : Lister B M G) : Type 0 where
-  pub first : (given : List Move) → ComesFrom old given → ComesFrom new given
-  pub few : kept_of new ≤ kept_of old
+-- the lister comes from the same line as before, and tells of the same one
+pub record IsOnTheWay {B M G : Type 0} (g : Geometry) (old new : Lister B M G) : Type 0 where
+  pub comes : (given : List Move) → ComesFrom g old given → ComesFrom g new given
+  pub shared : shared_of new ≡ shared_of old

@@ -3,7 +3,8 @@ use Rattle.std.specs.Prelude.{◌≡◌, ℕ, ◌≤◌, ◌↔◌, Bool, true, 
 use Rattle.std.specs.Prelude.{take}
 use Rattle.dw_board.specs.Geometry.{Geometry}
 use Rattle.dw_moves.specs.Moves.{Move}
-use Rattle.dw_list.specs.Standing.{Standing, AreToCome}
+use Rattle.dw_list.specs.Lines.{Line}
+use Rattle.dw_list.specs.Standing.{Standing, AreToCome, IsStillAhead}
 
 -- these lines were the first of those still to come, and the others still are
 pub record Gives (g : Geometry) (old new : Standing) (given : List (List Move)) : Type 0 where
@@ -31,6 +32,22 @@ abbrev pub GivesNext : Geometry → Bool → Standing → Standing → Type 0
 GivesNext g true old new = GivesFirst g old new
 GivesNext g false old new = GivesNone g old new
 
--- as far as a list of moves goes, and for so many moves at most, it is as the other
-abbrev pub BeginsAs : ℕ → List Move → List Move → Type 0
-BeginsAs kept line given = (j : ℕ) → j ≤ kept → j ≤ length line → take j line ≡ take j given
+-- two lists of moves have so many first moves in common
+abbrev pub Share : ℕ → List Move → List Move → Type 0
+Share j l k = (j ≤ length l) × (j ≤ length k) × (take j l ≡ take j k)
+
+-- so many, and no more
+pub record ShareJust (n : ℕ) (l k : List Move) : Type 0 where
+  pub share : Share n l k
+  pub most : (j : ℕ) → Share j l k → j ≤ n
+
+-- no line still to come shares more first moves with a list of moves
+abbrev pub ShareNoMore : Geometry → Standing → ℕ → List Move → Type 0
+ShareNoMore g s most given = (l : List Move) → Line g s.position s.moves l → IsStillAhead s.levels s.line l
+    → (j : ℕ) → Share j l given → j ≤ most
+
+-- A stack comes from a list of moves: the moves at which it stands share so many first ones with it, and no line still to
+-- come shares more.
+pub record Comes (g : Geometry) (s : Standing) (kept : ℕ) (given : List Move) : Type 0 where
+  pub share : Share kept (reverse s.line) given
+  pub most : ShareNoMore g s kept given

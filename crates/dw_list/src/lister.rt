@@ -1,5 +1,5 @@
 //! The lines of a position one by one.
-ghost use Rattle.std.specs.Prelude.{◌≡◌, ◌≤◌, ◌↔◌, List, IfOk, IfErr, OnOk, OnErr, IsErrOf, IsTrue, length, reverse};
+ghost use Rattle.std.specs.Prelude.{◌≡◌, ◌≤◌, ◌↔◌, List, false, IfOk, IfErr, OnOk, OnErr, IsErrOf, IsTrue, length, reverse};
 ghost use Rattle.dw_solve.specs.declared.stop.Stop.TheVariants.{Limit};
 ghost use Rattle.dw_list.specs.declared.fault.AfterFault.TheVariants.{Stopped};
 ghost use Rattle.dw_solve.specs.Searching.{IsCounted};
@@ -115,8 +115,9 @@ impl<'a, B: Board, M: Memo<B>, G: Guide<B>> Lister<'a, B, M, G> {
         ensures lender { lender self.new ≡ lender self.old }
         ensures next { IfOk result (λ more. GivesNext B.geometry more (stack_of self.old) (stack_of self.new)) }
         ensures stopped { OnErr result (SameToCome B.geometry (stack_of self.old) (stack_of self.new)) }
-        ensures shared { IfOk result (λ more. IsTrue more → IsShared self.old self.new) }
-        ensures on_the_way { OnErr result (IsOnTheWay self.old self.new) }
+        ensures shared { IfOk result (λ more. IsTrue more → IsShared B.geometry self.old self.new) }
+        ensures last_shared { IfOk result (λ more. more ≡ false → shared_of self.new ≡ shared_of self.old) }
+        ensures on_the_way { OnErr result (IsOnTheWay B.geometry self.old self.new) }
         ensures count { IsCounted (solver_of self.old).expanded (solver_of self.old).limit (solver_of self.new).expanded
             (solver_of self.new).limit }
         ensures stop { IsErrOf result Limit → (solver_of self.new).expanded ≡ (solver_of self.new).limit }

@@ -1,8 +1,8 @@
 //! The walk over a stack, from line to line.
-ghost use Rattle.std.specs.Prelude.{◌≡◌, ◌≤◌, length, IfOk, OnOk, OnErr, if◌then◌else◌};
+ghost use Rattle.std.specs.Prelude.{◌≡◌, ◌≤◌, length, IfOk, OnErr, IsTrue, if◌then◌else◌};
 ghost use Rattle.dw_solve.specs.Asking.{Asked};
 ghost use Rattle.dw_list.specs.Walking.{SameToCome, GivesNext};
-ghost use Rattle.dw_list.specs.inner.Walking.{HasStepped, IsNear, KeepsFirst};
+ghost use Rattle.dw_list.specs.inner.Walking.{HasStepped, IsNear, KeepsFirst, IsParted};
 
 use crate::going::keeps;
 use crate::stack::{Stack, Task};
@@ -36,8 +36,9 @@ pub(crate) fn walk<B: Board, M: Memo<B>, G: Guide<B>>(
 ) -> Result<bool, Stop>
     ensures next { IfOk result (λ more. GivesNext B.geometry more stack.old stack.new) }
     ensures stopped { OnErr result (SameToCome B.geometry stack.old stack.new) }
-    ensures kept { KeepsFirst stack.old stack.new kept.old kept.new }
-    ensures fits { OnOk result (kept.new ≤ length stack.new.line) }
+    ensures kept { KeepsFirst B.geometry stack.old stack.new kept.old kept.new }
+    ensures fits { kept.new ≤ length stack.new.line }
+    ensures parted { IfOk result (λ more. IsTrue more → IsParted B.geometry stack.old stack.new kept.old kept.new) }
     ensures asked { Asked B.geometry M.content M.dropped stack.old.moves solver.old solver.new result }
 {
     searches_add_up();
@@ -60,7 +61,7 @@ fn take_step<B: Board, M: Memo<B>, G: Guide<B>>(
     stack: &mut Stack<B>,
 ) -> Result<Step, Stop>
     ensures stepped { IfOk result (λ met. HasStepped B.geometry met stack.old stack.new) }
-    ensures line { IfOk result (λ met. IsNear met stack.old.line stack.new.line) }
+    ensures line { IfOk result (λ met. IsNear B.geometry met stack.old stack.new) }
     ensures stopped { OnErr result (stack.new ≡ stack.old) }
     ensures asked { Asked B.geometry M.content M.dropped stack.old.moves solver.old solver.new result }
 {

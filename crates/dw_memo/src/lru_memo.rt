@@ -1,4 +1,4 @@
-//! A memo that forgets what was asked for longest ago.
+//! A memo that forgets what was used longest ago, or what is soon found again.
 ghost use Rattle.std.specs.Prelude.{◌≡◌, ◌≤◌, [], IfOk, ⊤};
 ghost use Rattle.dw_memo.specs.Noting.{IsNote};
 ghost use Rattle.dw_memo.specs.Recent.{content_of, IsRecent};
@@ -12,8 +12,9 @@ use std::alloc::{AllocError, Global};
 use std::marker::Model;
 use std::num::NonZeroUsize;
 
-/// Holds at most so many positions. One more pushes out that which was looked up or noted longest ago.
-/// Example: with room for two positions, three that are noted one after another leave the second and the third.
+/// Holds at most so many positions. If it is full, a new one pushes out that which was looked up or noted longest ago.
+/// But a new one whose bounds tell of one move alone is then not kept: they are soon found again.
+/// Example: with room for two positions, three that fail in 2 moves leave the second and the third.
 #[derive(Drop)]
 pub struct LruMemo<B: Board> {
     cache: LruCache<Position<B>, Bounds>,
@@ -41,7 +42,7 @@ impl<B: Board> LruMemo<B> {
     {
         let capacity = NonZeroUsize::new(capacity).unwrap();
         Ok(LruMemo {
-            cache: LruCache::new(alloc, capacity)?,
+            cache: LruCache::sparse(alloc, capacity)?,
             dropped: 0,
         })
     }
@@ -80,6 +81,10 @@ fn push<B: Board>(
     ensures note { IsNote (content_of cache.old.entries) position bounds result.0 (content_of cache.new.entries) 0
         result.1 }
 {
+    let is_full = cache.len() == cache.cap().get();
+    if is_full && bounds.fails.max(bounds.wins) <= Some(1) && !cache.contains(&position) {
+        return (Noted::NotKept, 1);
+    }
     match cache.push(position, bounds) {
         // Either what this position had comes back, or what was pushed out.
         Ok(Some((other, _))) => (Noted::Kept, u64::from(other != position)),

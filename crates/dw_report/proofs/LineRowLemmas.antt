@@ -15,9 +15,11 @@ use Rattle.dw_notation.specs.Text.{IsLineText, ArePlayable}
 use Rattle.dw_notation.specs.TextLaws.{LinesHaveTexts}
 use Rattle.dw_notation.specs.Writes.{StopsShort, Writes}
 use Rattle.dw_notation.specs.inner.Writes.{WritesShort}
+use Rattle.dw_list.specs.declared.lister.Lister.{Lister}
 use Rattle.dw_list.specs.Lines.{Line, Lines, After}
+use Rattle.dw_list.specs.Listing.{stack_of, kept_of, ComesFrom}
 use Rattle.dw_list.specs.Standing.{Standing, AreToCome}
-use Rattle.dw_list.specs.Walking.{Gives, GivesFirst, GivesNone, GivesNext, BeginsAs}
+use Rattle.dw_list.specs.Walking.{Gives, GivesFirst, GivesNone, GivesNext}
 use Rattle.dw_list.specs.Tokens.{token_of}
 use Rattle.dw_list.proofs.StepLemmas.{gives_nothing, gives_then}
 use Rattle.dw_report.specs.ListedText.{AreLineTexts, IsListing, IsListedText, has_tokens, more_after}
@@ -451,11 +453,15 @@ refused_as g p n k after other r e f h = subst (λ z. IfOk r (λ refused. IsTrue
     (subst (λ z. IfOk r (λ refused. IsTrue refused ↔ IsNoLine g p z other)) e h)
 
 -- a lister that keeps no move comes from no move
-no_first : (l : List Move) → take 0 l ≡ take 0 []
-no_first [] = refl
-no_first (m ∷ l) = refl
-
-pub comes_first : (kept : ℕ) (line given : List Move) → kept ≡ 0 → given ≡ [] → BeginsAs kept line given
-comes_first kept line given none e j few low =
-    let here : j ≡ 0 = omega (arith, none, few) in
-    subst (λ z. take j line ≡ take j z) (sym e) (subst (λ z. take z line ≡ take z []) (sym here) (no_first line))
+pub comes_first : {B M G : Type 0} (g : Geometry) (lister : Lister B M G) (given : List Move) → kept_of lister ≡ 0
+    → given ≡ [] → ComesFrom g lister given
+comes_first g lister given none e =
+    let line = reverse (stack_of lister).line in
+    record {
+      share = (
+        omega (arith, none),
+        omega (arith, none),
+        subst (λ z. take z line ≡ take z given) (sym none) refl,
+      );
+      most = λ l here ahead j common. omega (arith, common.1, ap length e);
+    }

@@ -1,8 +1,8 @@
 use Rattle.std.proofs.Common.{ap, inl, inr, arith, refl}
 use Rattle.dw_list.specs.Standing.{Standing}
 use Rattle.dw_list.specs.inner.AskingLemmas.{asked_none, asked_wider, asked_ok, asked_stop, asked_memory}
-use Rattle.dw_list.proofs.StepLemmas.{trial_few, walk_met, walk_listed, walk_given, walk_back, walk_passed}
-use Rattle.dw_list.proofs.StepLemmas.{walk_entered}
+use Rattle.dw_list.proofs.StepLemmas.{trial_few, walk_met, walk_listed, walk_given, walk_back, walk_left}
+use Rattle.dw_list.proofs.StepLemmas.{walk_passed, walk_entered}
 use Rattle.dw_list.proofs.walk.take_step.Goals as goal
 
 pub keeps-requires : goal.keeps-requires
@@ -39,6 +39,12 @@ returns-then-kept-clause-stepped g c =
 
 pub returns-then-kept-clause-line : goal.returns-then-kept-clause-line
 returns-then-kept-clause-line g c = inr (inr (c.in-Try.trial.mv, ap (λ (s : Standing). s.line) c.enter.ensures))
+
+pub returns-in-Passed-clause-line : goal.returns-in-Passed-clause-line
+returns-in-Passed-clause-line g c =
+    let task = c.in-Passed.ensures.task in
+    inr (inl (walk_left g.B.Board.geometry c.args.stack.now c.in-Passed.ensures.levels c.in-Passed.ensures.fits
+    c.back.new.self task.0 task.1 task.2 task.3 c.back.ensures))
 
 pub returns-then-kept-clause-asked : goal.returns-then-kept-clause-asked
 returns-then-kept-clause-asked g c =

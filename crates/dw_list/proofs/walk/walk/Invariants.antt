@@ -9,7 +9,7 @@ use Rattle.dw_list.proofs.walk.walk.Given as goal
 abbrev pub invariant-steps : goal.invariant-steps
 invariant-steps g l = record {
   same : SameLines g.B.Board.geometry l.initial.stack l.stack;
-  keeps : KeepsFirst l.initial.stack l.stack l.initial.kept l.kept;
+  keeps : KeepsFirst g.B.Board.geometry l.initial.stack l.stack l.initial.kept l.kept;
   asked : Asked g.B.Board.geometry g.M.Memo.content g.M.Memo.dropped l.initial.stack.moves l.initial.solver l.solver
       answered;
 }

@@ -1,4 +1,4 @@
-use Rattle.std.proofs.Common.{sym, ap, ◌∙◌}
+use Rattle.std.proofs.Common.{refl, sym, ap, ◌∙◌}
 use Rattle.std.specs.Int.{from_bool}
 use Rattle.dw_memo.proofs.RecentLemmas.{recent_after, note_some, note_none, note_refused}
 use Rattle.dw_memo.proofs.lru_memo.push.Goals as goal
@@ -26,3 +26,7 @@ returns-in-Ok-None-clause-note g c =
 pub returns-in-Err-clause-note : goal.returns-in-Err-clause-note
 returns-in-Err-clause-note g c = note_refused c.args.cache.now c.push.new.self c.args.position c.args.bounds c.requires
     c.in-Err.ensures.err c.in-Err.ensures.succeeds
+
+pub returns-then-not-contains-clause-note : goal.returns-then-not-contains-clause-note
+returns-then-not-contains-clause-note g c = note_refused c.args.cache.now c.args.cache.now c.args.position c.args.bounds
+    c.requires refl (λ s. absurd (cc (c.contains.ensures, c.if-not-contains.ensures, s)))

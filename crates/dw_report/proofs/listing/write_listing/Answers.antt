@@ -5,7 +5,7 @@ use Rattle.dw_moves.specs.Moves.{Move}
 use Rattle.dw_notation.specs.LineTexts.{moves_of}
 use Rattle.dw_notation.specs.Text.{ArePlayable}
 use Rattle.dw_notation.specs.Writes.{StopsShort, Writes}
-use Rattle.dw_list.specs.Listing.{stack_of, kept_of, shared_of, solver_of, ComesFrom}
+use Rattle.dw_list.specs.Listing.{stack_of, shared_of, solver_of, ComesFrom}
 use Rattle.dw_report.specs.ListedText.{IsListing}
 use Rattle.dw_report.specs.inner.Rows.{IsRow, IsNothing}
 use Rattle.dw_report.specs.Running.{AreLinesOf}
@@ -28,8 +28,8 @@ lines-init g c = record {
   rows = no_rows g.B.Board.geometry c.args.position.now (stack_of c.args.lister.now) (g.K.Sink.taken c.args.sink.now);
   text = c.new-text.ensures.text;
   start = c.new-text.ensures.start;
-  comes = comes_first (kept_of c.args.lister.now) (reverse (stack_of c.args.lister.now).line)
-      (moves_of c.new-text.result) c.requires.ahead.fresh c.new-text.ensures.moves;
+  comes = comes_first g.B.Board.geometry c.args.lister.now (moves_of c.new-text.result) c.requires.ahead.fresh
+      c.new-text.ensures.moves;
   few = omega arith;
   sink = refl;
   rises = omega arith;
@@ -97,10 +97,10 @@ write_row-requires g c =
     let shared = c.in_ok-advance.ensures.shared c.if-not-branch.false in
     let moves = moves_of c.lines.text in
     let most = shared_of c.advance.new.self in
+    let common = (shared.common moves c.lines.invariant.comes).share in
     let fits : c.shared.result ≤ length c.line.result.now =
-    omega (arith, c.shared.ensures, ap length c.line.ensures.line, shared.fits) in
-    let same = subst (λ z. take most z ≡ take most moves) (sym c.line.ensures.line)
-    (shared.first moves c.lines.invariant.comes) in (
+    omega (arith, c.shared.ensures, ap length c.line.ensures.line, common.0) in
+    let same = subst (λ z. take most z ≡ take most moves) (sym c.line.ensures.line) common.2 in (
       omega arith,
       (
         c.lines.invariant.text,
@@ -156,7 +156,7 @@ lines-preserved g c =
           c.lines.invariant.rows first row;
       text = c.write_row.ensures.of;
       start = c.write_row.ensures.start ∙ c.lines.invariant.start;
-      comes = subst (ComesFrom c.advance.new.self) (sym moves) shared.next;
+      comes = subst (ComesFrom geo c.advance.new.self) (sym moves) shared.next;
       few = omega (arith, c.lines-test.true);
       sink = c.in_ok-write_row.ensures.sink ∙ c.lines.invariant.sink;
       rises = omega (arith, c.advance.ensures.count.rises, c.lines.invariant.rises);

@@ -11,7 +11,7 @@ invariant-lines g l = record {
       (g.K.Sink.taken l.initial.sink) (g.K.Sink.taken l.sink);
   text : IsTextOf g.B.Board.geometry l.text;
   start : start_of l.text ≡ l.position;
-  comes : ComesFrom l.lister (moves_of l.text);
+  comes : ComesFrom g.B.Board.geometry l.lister (moves_of l.text);
   few : l.written ≤ l.most;
   sink : g.K.Sink.is_failed l.sink ≡ g.K.Sink.is_failed l.initial.sink;
   rises : (solver_of l.initial.lister).expanded ≤ (solver_of l.lister).expanded;
