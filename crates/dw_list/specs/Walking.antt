@@ -46,8 +46,8 @@ abbrev pub ShareNoMore : Geometry → Standing → ℕ → List Move → Type 0
 ShareNoMore g s most given = (l : List Move) → Line g s.position s.moves l → IsStillAhead s.levels s.line l
     → (j : ℕ) → Share j l given → j ≤ most
 
--- A stack comes from a list of moves: the moves at which it stands share so many first ones with it, and no line still to
--- come shares more.
+-- A stack comes from a list of moves: the moves at which it stands share so many first ones with it, and no line still
+-- to come shares more.
 pub record Comes (g : Geometry) (s : Standing) (kept : ℕ) (given : List Move) : Type 0 where
   pub share : Share kept (reverse s.line) given
   pub most : ShareNoMore g s kept given

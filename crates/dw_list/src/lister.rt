@@ -1,5 +1,6 @@
 //! The lines of a position one by one.
-ghost use Rattle.std.specs.Prelude.{◌≡◌, ◌≤◌, ◌↔◌, List, false, IfOk, IfErr, OnOk, OnErr, IsErrOf, IsTrue, length, reverse};
+ghost use Rattle.std.specs.Prelude.{◌≡◌, ◌≤◌, ◌↔◌, List, false, IfOk, IfErr, OnOk, OnErr, IsErrOf, IsTrue};
+ghost use Rattle.std.specs.Prelude.{length, reverse};
 ghost use Rattle.dw_solve.specs.declared.stop.Stop.TheVariants.{Limit};
 ghost use Rattle.dw_list.specs.declared.fault.AfterFault.TheVariants.{Stopped};
 ghost use Rattle.dw_solve.specs.Searching.{IsCounted};
