@@ -13,7 +13,7 @@ use Rattle.dw_list.specs.Lines.{Line, Before}
 use Rattle.dw_list.specs.Standing.{Standing, IsStillAhead}
 use Rattle.dw_list.specs.declared.walk.Step.{Step}
 use Rattle.dw_list.specs.declared.walk.Step.TheVariants.{Over, Given, On}
-use Rattle.dw_list.specs.Walking.{Share, ShareNoMore, Comes}
+use Rattle.dw_list.specs.Walking.{Share, BeginsAs, ShareNoMore, Comes}
 use Rattle.dw_list.specs.inner.LineOrderLemmas.{before_asym}
 use Rattle.dw_list.specs.inner.Steps.{IsGiven}
 use Rattle.dw_list.specs.inner.Walking.{HasStepped, IsBack, IsNear, KeepsFirst, IsParted}
@@ -93,9 +93,20 @@ among_stepped g On old new h l here ahead =
     let was = line_at g new old (sym h.position) (sym h.moves) l here in (was, (h.same l was).1 ahead)
 
 pub keeps_all : (g : Geometry) (s : Standing) (k : ℕ) → KeepsFirst g s s k k
-keeps_all g s k given comes =
-    let whole : k ≡ min k (length s.line) = omega (arith, comes.share.0, length-reverse s.line) in
-    subst (λ z. Comes g s z given) whole comes
+keeps_all g s k = record {
+  few = omega arith;
+  first = λ given h. h;
+  comes = λ given comes.
+      let whole : k ≡ min k (length s.line) = omega (arith, comes.share.0, length-reverse s.line) in
+      subst (λ z. Comes g s z given) whole comes;
+}
+
+-- as many moves as the line has are the first ones of it
+pub begins_share : (k : ℕ) (line given : List Move) → k ≤ length line → BeginsAs k (reverse line) given
+    → Share k (reverse line) given
+begins_share k line given fits h =
+    let whole : min k (length (reverse line)) ≡ k = omega (arith, fits, length-reverse line) in
+    subst (λ z. Share z (reverse line) given) whole h
 
 pub keeps_comes : (g : Geometry) (s : Standing) (k : ℕ) (given : List Move) → k ≤ length s.line
     → Comes g s (min k (length s.line)) given → Comes g s k given
@@ -109,12 +120,25 @@ module _ (g : Geometry) (a b c : Standing) (n k j : ℕ) (line : List Move) (so_
   lowered = let long = ap length at ∙ length-reverse b.line in (omega arith, omega arith)
 
   comes_here : (given : List Move) → Comes g a n given → Comes g b j given
-  comes_here given comes = subst (λ z. Comes g b z given) lowered.0 (so_far given comes)
+  comes_here given comes = subst (λ z. Comes g b z given) lowered.0 (so_far.comes given comes)
+
+  few_here : j ≤ n
+  few_here = let few = so_far.few in let whole = lowered.0 in omega arith
+
+  share_here : (given : List Move) → BeginsAs n (reverse a.line) given → Share j (reverse b.line) given
+  share_here given h =
+      let least : j ≡ min k (length (reverse b.line)) = omega (arith, is, ap length at) in
+      subst (λ z. Share z (reverse b.line) given) (sym least) (so_far.first given h)
 
   pub keeps_stop : c ≡ b → KeepsFirst g a c n j
-  keeps_stop e = subst (λ z. KeepsFirst g a z n j) (sym e) (λ given comes.
-      let whole : j ≡ min j (length b.line) = let short = lowered.1 in omega arith in
-      subst (λ z. Comes g b z given) whole (comes_here given comes))
+  keeps_stop e = subst (λ z. KeepsFirst g a z n j) (sym e) (record {
+    few = few_here;
+    first = λ given h.
+        share_less (min j (length (reverse b.line))) j (reverse b.line) given (omega arith) (share_here given h);
+    comes = λ given comes.
+        let whole : j ≡ min j (length b.line) = let short = lowered.1 in omega arith in
+        subst (λ z. Comes g b z given) whole (comes_here given comes);
+  })
 
   pub keeps_fits : c.line ≡ b.line → j ≤ length c.line
   keeps_fits e = subst (λ z. j ≤ length z) (sym e) lowered.1
@@ -169,8 +193,20 @@ module _ (g : Geometry) (a b c : Standing) (n k j : ℕ) (line : List Move) (so_
       most = most_near m near;
     }
 
+  begins_on : (met : Step) → IsNear g met b c → (given : List Move) → Share j (reverse b.line) given
+      → BeginsAs j (reverse c.line) given
+  begins_on met near given s =
+      let short = lowered.1 in
+      let i = min j (length (reverse c.line)) in
+      share_near g met b c given i (omega arith) (omega (arith, length-reverse c.line)) near
+      (share_less i j (reverse b.line) given (omega arith) s)
+
   pub keeps_step : MovesHaveKeys → (met : Step) → HasStepped g met b c → IsNear g met b c → KeepsFirst g a c n j
-  keeps_step keys met stepped near given comes = comes_on keys met stepped given (comes_here given comes) met near
+  keeps_step keys met stepped near = record {
+    few = few_here;
+    first = λ given h. begins_on met near given (share_here given h);
+    comes = λ given comes. comes_on keys met stepped given (comes_here given comes) met near;
+  }
 
 -- a stack that stands at a line that was given comes from that line, and shares all of it
 pub comes_given : (g : Geometry) (s : Standing) (line : List Move) → line ≡ reverse s.line

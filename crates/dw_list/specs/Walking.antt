@@ -1,5 +1,5 @@
 -- What a walk over a stack does.
-use Rattle.std.specs.Prelude.{◌≡◌, ℕ, ◌≤◌, ◌↔◌, Bool, true, false, List, [], ◌∷◌, ◌++◌, length, reverse}
+use Rattle.std.specs.Prelude.{◌≡◌, ℕ, ◌≤◌, ◌↔◌, min, Bool, true, false, List, [], ◌∷◌, ◌++◌, length, reverse}
 use Rattle.std.specs.Prelude.{take}
 use Rattle.dw_board.specs.Geometry.{Geometry}
 use Rattle.dw_moves.specs.Moves.{Move}
@@ -35,6 +35,10 @@ GivesNext g false old new = GivesNone g old new
 -- two lists of moves have so many first moves in common
 abbrev pub Share : ℕ → List Move → List Move → Type 0
 Share j l k = (j ≤ length l) × (j ≤ length k) × (take j l ≡ take j k)
+
+-- as far as a list of moves goes, and for so many moves at most, the other begins as it does
+abbrev pub BeginsAs : ℕ → List Move → List Move → Type 0
+BeginsAs most line given = Share (min most (length line)) line given
 
 -- so many, and no more
 pub record ShareJust (n : ℕ) (l k : List Move) : Type 0 where

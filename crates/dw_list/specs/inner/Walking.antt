@@ -7,7 +7,7 @@ use Rattle.dw_list.specs.declared.walk.Step.TheVariants.{Over, Given, On}
 use Rattle.dw_list.specs.Lines.{Before}
 use Rattle.dw_list.specs.Standing.{Standing, IsStillAhead}
 use Rattle.dw_list.specs.inner.Steps.{IsStep, IsGiven}
-use Rattle.dw_list.specs.Walking.{Share, Comes}
+use Rattle.dw_list.specs.Walking.{Share, BeginsAs, Comes}
 
 -- what one step does
 abbrev pub HasStepped : Geometry → Step → Standing → Standing → Type 0
@@ -28,10 +28,12 @@ IsNear g Over old new = new.line ≡ old.line
 IsNear g Given old new = new.line ≡ old.line
 IsNear g On old new = (new.line ≡ old.line) ⊎ (IsBack g old new ⊎ ((m : Move) × (new.line ≡ m ∷ old.line)))
 
--- From whatever the stack came, it still comes from there, as far as moves were kept.
-abbrev pub KeepsFirst : Geometry → Standing → Standing → ℕ → ℕ → Type 0
-KeepsFirst g old new kept kept' =
-    (given : List Move) → Comes g old kept given → Comes g new (min kept' (length new.line)) given
+-- Of the moves kept none is added, and those that still are kept are the first ones as before. From whatever the stack
+-- came, it still comes from there, as far as moves were kept.
+pub record KeepsFirst (g : Geometry) (old new : Standing) (kept kept' : ℕ) : Type 0 where
+  pub few : kept' ≤ kept
+  pub first : (given : List Move) → BeginsAs kept (reverse old.line) given → BeginsAs kept' (reverse new.line) given
+  pub comes : (given : List Move) → Comes g old kept given → Comes g new (min kept' (length new.line)) given
 
 -- the line that is given shares no more with what the stack came from than was kept
 abbrev pub IsParted : Geometry → Standing → Standing → ℕ → ℕ → Type 0
