@@ -37,8 +37,8 @@ KeptFrom lister given = BeginsAs (kept_of lister) (reverse (stack_of lister).lin
 abbrev pub ComesFrom : {B M G : Type 0} → Geometry → Lister B M G → List Move → Type 0
 ComesFrom g lister given = Comes g (stack_of lister) (kept_of lister) given
 
--- Another line is given. Of the moves that were never left it has its first ones. It has just so many in common with
--- the line from which the lister comes, and from now on the lister comes from it.
+-- Another line is given. It begins with so many of the moves that were never left until then. It has just as many in
+-- common with the line from which the lister comes, and from now on the lister comes from it.
 pub record IsShared {B M G : Type 0} (g : Geometry) (old new : Lister B M G) : Type 0 where
   pub few : shared_of new ≤ kept_of old
   pub first : (given : List Move) → KeptFrom old given → Share (shared_of new) (reverse (stack_of new).line) given

@@ -28,8 +28,8 @@ IsNear g Over old new = new.line ≡ old.line
 IsNear g Given old new = new.line ≡ old.line
 IsNear g On old new = (new.line ≡ old.line) ⊎ (IsBack g old new ⊎ ((m : Move) × (new.line ≡ m ∷ old.line)))
 
--- Of the moves kept none is added, and those that still are kept are the first ones as before. From whatever the stack
--- came, it still comes from there, as far as moves were kept.
+-- No more moves are kept than before, and those that still are begin whatever they began. From whatever the stack came,
+-- it still comes from there, as far as moves were kept.
 pub record KeepsFirst (g : Geometry) (old new : Standing) (kept kept' : ℕ) : Type 0 where
   pub few : kept' ≤ kept
   pub first : (given : List Move) → BeginsAs kept (reverse old.line) given → BeginsAs kept' (reverse new.line) given
