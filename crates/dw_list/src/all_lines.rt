@@ -56,7 +56,7 @@ fn ways<B: Board, M: Memo<B>, G: Guide<B>>(
     ensures asked { Asked B.geometry M.content M.dropped moves solver.old solver.new result }
 {
     searches_add_up();
-    let _ = solver.limit();
+    solver.keeps_its_limit();
     if !may_move(attacks, moves) {
         return Ok(Vec::new(alloc));
     }

@@ -1,7 +1,6 @@
 //! Going along a given list of moves.
 ghost use Rattle.std.specs.Prelude.{◌≡◌, ◌≤◌, IfOk, IfSome, IfNone, IsTrue};
 ghost use Rattle.dw_solve.specs.Asking.{Asked};
-ghost use Rattle.dw_list.specs.inner.Levels.{AreLevels};
 ghost use Rattle.dw_list.specs.inner.Tasks.{IsTrial};
 ghost use Rattle.dw_list.specs.inner.Seeking.{SomePassed, IsNotAhead, IsUnlisted, WentOn, GoOnWith, IsFound};
 
@@ -43,20 +42,20 @@ pub(crate) fn followed<B: Board, M: Memo<B>, G: Guide<B>>(
     searches_add_up();
     moves_listed();
     moves_have_keys();
-    let _ = solver.limit();
+    solver.keeps_its_limit();
     let mut stack = Stack::new(position, moves);
-    let _ = stack.moves();
+    stack.keeps_its_levels();
     let mut place: usize = 1;
     'line: for mv in line {
         let went = follow(alloc, solver, &mut stack, mv)?;
         if !went {
             return Ok(Found::Place(place));
         }
+        stack.keeps_its_levels();
         place += 1;
     }
     let is_end = stack.list(alloc)?;
     if is_end {
-        let _ = stack.moves();
         Ok(Found::Along(stack))
     } else {
         Ok(Found::Place(place))
@@ -72,26 +71,21 @@ fn follow<B: Board, M: Memo<B>, G: Guide<B>>(
 ) -> Result<bool, Stop>
     requires { IsUnlisted stack.old.levels }
     ensures went { IfOk result (λ yes. IsTrue yes → WentOn stack.old stack.new mv.now) }
-    ensures levels { AreLevels B.geometry stack.new.position stack.new.moves stack.new.levels stack.new.line }
     ensures next { IfOk result (λ yes. IsTrue yes → GoOnWith B.geometry stack.old.levels mv.now) }
     ensures barred { IfOk result (λ yes. (IsTrue yes → ⊥) → GoOnWith B.geometry stack.old.levels mv.now → ⊥) }
     ensures asked { Asked B.geometry M.content M.dropped stack.old.moves solver.old solver.new result }
 {
     searches_add_up();
-    let _ = solver.limit();
-    let _ = stack.moves();
-    let listing = stack.list(alloc);
-    let _ = stack.moves();
-    let _ = listing?;
+    solver.keeps_its_limit();
+    stack.list(alloc)?;
     let Some(trial) = seek(stack, mv) else {
-        let _ = stack.moves();
         return Ok(false);
     };
-    let _ = stack.moves();
+    stack.keeps_its_levels();
     let kept = keeps(alloc, solver, &trial.after, trial.attacks, trial.left)?;
     if kept {
         stack.enter(&trial);
-        let _ = stack.moves();
+        stack.keeps_its_levels();
     }
     Ok(kept)
 }

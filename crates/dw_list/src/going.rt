@@ -25,7 +25,7 @@ pub(crate) fn keeps<B: Board, M: Memo<B>, G: Guide<B>>(
     ensures asked { Asked B.geometry M.content M.dropped left solver.old solver.new result }
 {
     if !attacks {
-        let _ = solver.limit();
+        solver.keeps_its_limit();
         return Ok(true);
     }
     solver.loses(alloc, after, left)

@@ -99,13 +99,21 @@ impl<B: Board> Stack<B> {
         }
     }
 
+    /// The levels of a stack are those of its line, and not too many: a law, which does nothing.
+    #[inline]
+    pub(crate) fn keeps_its_levels(&self)
+        ensures levels { AreLevels B.geometry self.now.position self.now.moves self.now.levels self.now.line }
+        ensures fits { length self.now.levels ≤ 2 * self.now.moves }
+        ensures few { self.now.moves ≤ 20 }
+    {
+        let _ = &self.moves;
+    }
+
     /// Within how many moves the attacker wins.
     pub(crate) fn moves(&self) -> u8
         ensures moves { result ≡ self.now.moves }
         ensures some { 1 ≤ result }
         ensures few { result ≤ 20 }
-        ensures levels { AreLevels B.geometry self.now.position self.now.moves self.now.levels self.now.line }
-        ensures fits { length self.now.levels ≤ 2 * self.now.moves }
     {
         self.moves
     }
@@ -127,9 +135,7 @@ impl<B: Board> Stack<B> {
 
     /// What is to be done next.
     pub(crate) fn task(&self) -> Task<B>
-        ensures task { IsTask B.geometry self.now.levels result }
-        ensures levels { AreLevels B.geometry self.now.position self.now.moves self.now.levels self.now.line }
-        ensures fits { length self.now.levels ≤ 2 * self.now.moves }
+        ensures { IsTask B.geometry self.now.levels result }
     {
         let frames = self.frames.as_slice();
         if frames.is_empty() {

@@ -43,7 +43,7 @@ pub(crate) fn walk<B: Board, M: Memo<B>, G: Guide<B>>(
 {
     searches_add_up();
     moves_have_keys();
-    let _ = solver.limit();
+    solver.keeps_its_limit();
     'steps: loop {
         *kept = (*kept).min(stack.line().len());
         match take_step(alloc, solver, stack)? {
@@ -66,8 +66,8 @@ fn take_step<B: Board, M: Memo<B>, G: Guide<B>>(
     ensures asked { Asked B.geometry M.content M.dropped stack.old.moves solver.old solver.new result }
 {
     searches_add_up();
-    let _ = solver.limit();
-    let _ = stack.moves();
+    solver.keeps_its_limit();
+    stack.keeps_its_levels();
     match stack.task() {
         Task::Over => Ok(Step::Over),
         Task::Unlisted => {

@@ -46,7 +46,7 @@ pub(crate) fn first_choice<B: Board, M: Memo<B>, G: Guide<B>>(
 {
     searches_add_up();
     moves_have_keys();
-    let _ = solver.limit();
+    solver.keeps_its_limit();
     'keys: for key in keys {
         let after = play(position, key);
         let found = choice_after_reply(alloc, solver, &after, moves.saturating_sub(1))?;
@@ -73,7 +73,7 @@ fn choice_after_reply<B: Board, M: Memo<B>, G: Guide<B>>(
 {
     searches_add_up();
     moves_have_keys();
-    let _ = solver.limit();
+    solver.keeps_its_limit();
     let list = listed(alloc, position)?;
     'replies: for item in list.as_slice() {
         let after = play(position, &item.step);

@@ -101,7 +101,7 @@ fn write_tries<B: Board, K: Sink, M: Memo<B>, G: Guide<B>>(
     moves_in_order();
     moves_have_keys();
     moves_have_texts();
-    let _ = solver.limit();
+    solver.keeps_its_limit();
     let mut lineup = Lineup::new(alloc);
     let list = listed(alloc, position)?;
     'moves: for item in list.as_slice() {

@@ -27,7 +27,7 @@ pub(crate) fn keys<B: Board, M: Memo<B>, G: Guide<B>>(
     ensures asked { Asked B.geometry M.content M.dropped moves solver.old solver.new result }
 {
     searches_add_up();
-    let _ = solver.limit();
+    solver.keeps_its_limit();
     let mut keys = Vec::new(alloc);
     if moves == 0 {
         return Ok(keys);

@@ -65,6 +65,7 @@ pub(crate) fn write_lines<B: Board, K: Sink, M: Memo<B>, G: Guide<B>>(
 {
     let mut lister = Lister::start(solver, position, settings.n);
     let result = write_asked(alloc, sink, &mut lister, settings, position);
+    // A lister that is only let go would not tell what its solver has spent.
     let _ = lister.into_solver();
     result
 }

@@ -87,7 +87,7 @@ pub(crate) fn write_problem<B: Board, K: Sink, M: Memo<B>, G: Guide<B>>(
         ↔ IsRefused B.geometry (request_of settings.now) (numbered problem.now).found) }
 {
     one_report();
-    let _ = solver.limit();
+    solver.keeps_its_limit();
     let known = known_text(problem, settings.command);
     write_all(sink, known.as_str().as_bytes())?;
     match &problem.found {
@@ -116,7 +116,7 @@ fn write_rest<B: Board, K: Sink, M: Memo<B>, G: Guide<B>>(
         ↔ (settings.now.command ≡ Command.List)
         × IsNoLine B.geometry position.now settings.now.n (request_of settings.now).after) }
 {
-    let _ = solver.limit();
+    solver.keeps_its_limit();
     match settings.command {
         Command::Show => Ok(false),
         Command::Moves => {

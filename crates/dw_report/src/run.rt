@@ -124,7 +124,7 @@ fn report_problem<B: Board, K: Sink, M: Memo<B>, G: Guide<B>>(
     ensures counts { IfOk result (λ counted.
         CountsOne B.geometry (request_of settings.now) summary counted (numbered problem.now)) }
 {
-    let _ = solver.limit();
+    solver.keeps_its_limit();
     let read = Summary {
         problems: summary.problems + 1,
         ..summary

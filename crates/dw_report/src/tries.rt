@@ -32,7 +32,7 @@ pub(crate) fn tries<B: Board, M: Memo<B>, G: Guide<B>>(
     ensures asked { Asked B.geometry M.content M.dropped moves solver.old solver.new result }
 {
     searches_add_up();
-    let _ = solver.limit();
+    solver.keeps_its_limit();
     let mut tries = Vec::new(alloc);
     let mut lineup = Lineup::new(alloc);
     let list = listed(alloc, position)?;
@@ -59,7 +59,7 @@ pub(crate) fn refutation<B: Board, M: Memo<B>, G: Guide<B>>(
     ensures asked { Asked B.geometry M.content M.dropped left solver.old solver.new result }
 {
     searches_add_up();
-    let _ = solver.limit();
+    solver.keeps_its_limit();
     solver.line_up(position, lineup)?;
     let mut found = None;
     'replies: for reply in lineup.moves() {

@@ -88,6 +88,15 @@ impl<B: Board, M: Memo<B>, G: Guide<B>> Solver<B, M, G> {
         self.search.limit
     }
 
+    /// A solver never expands more positions than it may: a law, which does nothing.
+    /// Example: of a new solver it says that 0 is at most its limit.
+    #[inline]
+    pub fn keeps_its_limit(&self)
+        ensures { self.now.expanded ≤ self.now.limit }
+    {
+        let _ = &self.search;
+    }
+
     /// How many entries the cache has lost so far.
     /// Example: over a new memo it is 0 at the start.
     pub fn dropped(&self) -> u64

@@ -56,7 +56,7 @@ ways-returns-then-not-may_move-clause-asked g t c =
     let geo = g.B.Board.geometry in
     asked_ok geo g.M.Memo.content g.M.Memo.dropped c.args.moves _ _ 0 _
     (asked_none geo g.M.Memo.content g.M.Memo.dropped c.searches_add_up.ensures c.args.moves _
-    c.limit.ensures.within)
+    c.keeps_its_limit.ensures)
 
 pub ways-returns-then-not-may_move-clause-ways : goal.ways-returns-then-not-may_move-clause-ways
 ways-returns-then-not-may_move-clause-ways g t c =
@@ -71,14 +71,14 @@ ways-returns-in_err-list-clause-asked g t c =
     let geo = g.B.Board.geometry in
     asked_memory geo g.M.Memo.content g.M.Memo.dropped c.args.moves _ _ _ c.from_residual.ensures.1
     (asked_none geo g.M.Memo.content g.M.Memo.dropped c.searches_add_up.ensures c.args.moves _
-    c.limit.ensures.within)
+    c.keeps_its_limit.ensures)
 
 pub ways-returns-in_err-lists-clause-asked : goal.ways-returns-in_err-lists-clause-asked
 ways-returns-in_err-lists-clause-asked g t c =
     let geo = g.B.Board.geometry in
     asked_memory geo g.M.Memo.content g.M.Memo.dropped c.args.moves _ _ _ c.from_residual-in_err-lists.ensures.1
     (asked_none geo g.M.Memo.content g.M.Memo.dropped c.searches_add_up.ensures c.args.moves _
-    c.limit.ensures.within)
+    c.keeps_its_limit.ensures)
 
 pub ways-moves-init : goal.ways-moves-init
 ways-moves-init g t c =
@@ -90,7 +90,7 @@ ways-moves-init g t c =
           (no_ways geo c.args.attacks c.args.position.now c.args.moves);
       none = λ e. refl;
       asked = asked_none geo g.M.Memo.content g.M.Memo.dropped c.searches_add_up.ensures c.args.moves _
-          c.limit.ensures.within;
+          c.keeps_its_limit.ensures;
     }
 
 pub ways-push_ways-requires : goal.ways-push_ways-requires

@@ -7,22 +7,22 @@ use Rattle.dw_list.proofs.following.follow.Goals as goal
 
 pub returns-in_default-clause-barred : goal.returns-in_default-clause-barred
 returns-in_default-clause-barred g c _ on =
-    follow_barred g.B.Board.geometry c.args.stack.now c.list-listing.new.self c.in_ok-listing.field-0
-    c.in_ok-listing.ensures.listed c.args.mv.now c.in_default.ensures.none on
+    follow_barred g.B.Board.geometry c.args.stack.now c.list.new.self c.in_ok-list.field-0
+    c.in_ok-list.ensures.listed c.args.mv.now c.in_default.ensures.none on
 
 pub keeps-requires : goal.keeps-requires
 keeps-requires g c =
-    let few = trial_few g.B.Board.geometry c.seek.new.stack c.moves-3.ensures.levels c.moves-3.ensures.fits
+    let few = trial_few g.B.Board.geometry c.seek.new.stack c.keeps_its_levels.ensures.levels c.keeps_its_levels.ensures.fits
     c.in-Some.trial c.in-Some.ensures.found.0 in
-    omega (arith, few, c.moves-3.ensures.moves, c.moves-3.ensures.few)
+    omega (arith, few, c.keeps_its_levels.ensures.few)
 
 pub returns-in_err-kept-clause-asked : goal.returns-in_err-kept-clause-asked
 returns-in_err-kept-clause-asked g c =
     let geo = g.B.Board.geometry in
-    let few = trial_few geo c.seek.new.stack c.moves-3.ensures.levels c.moves-3.ensures.fits c.in-Some.trial
+    let few = trial_few geo c.seek.new.stack c.keeps_its_levels.ensures.levels c.keeps_its_levels.ensures.fits c.in-Some.trial
     c.in-Some.ensures.found.0 in
-    let same = follow_moves geo c.args.stack.now c.list-listing.new.self c.in_ok-listing.field-0
-    c.in_ok-listing.ensures.listed c.seek.new.stack c.in-Some.ensures.passed in
+    let same = follow_moves geo c.args.stack.now c.list.new.self c.in_ok-list.field-0
+    c.in_ok-list.ensures.listed c.seek.new.stack c.in-Some.ensures.passed in
     asked_for geo g.M.Memo.content g.M.Memo.dropped _ c.args.stack.now.moves _ _ _ same
     (asked_wider geo g.M.Memo.content g.M.Memo.dropped c.searches_add_up.ensures c.in-Some.trial.left
     c.seek.new.stack.moves _ _ _ few
@@ -32,28 +32,28 @@ returns-in_err-kept-clause-asked g c =
 pub returns-then-kept-clause-asked : goal.returns-then-kept-clause-asked
 returns-then-kept-clause-asked g c =
     let geo = g.B.Board.geometry in
-    let few = trial_few geo c.seek.new.stack c.moves-3.ensures.levels c.moves-3.ensures.fits c.in-Some.trial
+    let few = trial_few geo c.seek.new.stack c.keeps_its_levels.ensures.levels c.keeps_its_levels.ensures.fits c.in-Some.trial
     c.in-Some.ensures.found.0 in
-    let same = follow_moves geo c.args.stack.now c.list-listing.new.self c.in_ok-listing.field-0
-    c.in_ok-listing.ensures.listed c.seek.new.stack c.in-Some.ensures.passed in
+    let same = follow_moves geo c.args.stack.now c.list.new.self c.in_ok-list.field-0
+    c.in_ok-list.ensures.listed c.seek.new.stack c.in-Some.ensures.passed in
     asked_for geo g.M.Memo.content g.M.Memo.dropped _ c.args.stack.now.moves _ _ _ same
     (asked_wider geo g.M.Memo.content g.M.Memo.dropped c.searches_add_up.ensures c.in-Some.trial.left
     c.seek.new.stack.moves _ _ _ few c.in_ok-kept.ensures.asked)
 
 pub returns-else-kept-clause-barred : goal.returns-else-kept-clause-barred
 returns-else-kept-clause-barred g c _ on =
-    follow_lost g.B.Board.geometry c.args.stack.now c.list-listing.new.self c.in_ok-listing.field-0
-    c.in_ok-listing.ensures.listed c.seek.new.stack c.in-Some.trial c.args.mv.now c.in-Some.ensures.passed
+    follow_lost g.B.Board.geometry c.args.stack.now c.list.new.self c.in_ok-list.field-0
+    c.in_ok-list.ensures.listed c.seek.new.stack c.in-Some.trial c.args.mv.now c.in-Some.ensures.passed
     c.in-Some.ensures.found.0 c.in-Some.ensures.found.1 (λ keeps. let yes = c.in_ok-kept.ensures.answer.1 keeps in
     let not_so = c.if-kept.false in cc) on
 
 pub returns-else-kept-clause-asked : goal.returns-else-kept-clause-asked
 returns-else-kept-clause-asked g c =
     let geo = g.B.Board.geometry in
-    let few = trial_few geo c.seek.new.stack c.moves-3.ensures.levels c.moves-3.ensures.fits c.in-Some.trial
+    let few = trial_few geo c.seek.new.stack c.keeps_its_levels.ensures.levels c.keeps_its_levels.ensures.fits c.in-Some.trial
     c.in-Some.ensures.found.0 in
-    let same = follow_moves geo c.args.stack.now c.list-listing.new.self c.in_ok-listing.field-0
-    c.in_ok-listing.ensures.listed c.seek.new.stack c.in-Some.ensures.passed in
+    let same = follow_moves geo c.args.stack.now c.list.new.self c.in_ok-list.field-0
+    c.in_ok-list.ensures.listed c.seek.new.stack c.in-Some.ensures.passed in
     asked_for geo g.M.Memo.content g.M.Memo.dropped _ c.args.stack.now.moves _ _ _ same
     (asked_wider geo g.M.Memo.content g.M.Memo.dropped c.searches_add_up.ensures c.in-Some.trial.left
     c.seek.new.stack.moves _ _ _ few c.in_ok-kept.ensures.asked)
@@ -63,14 +63,14 @@ returns-in_default-clause-asked g c =
     let geo = g.B.Board.geometry in
     let n = c.args.stack.now.moves in
     asked_ok geo g.M.Memo.content g.M.Memo.dropped n _ _ 0 _
-    (asked_none geo g.M.Memo.content g.M.Memo.dropped c.searches_add_up.ensures n _ c.limit.ensures.within)
+    (asked_none geo g.M.Memo.content g.M.Memo.dropped c.searches_add_up.ensures n _ c.keeps_its_limit.ensures)
 
-pub returns-in_err-listing-clause-asked : goal.returns-in_err-listing-clause-asked
-returns-in_err-listing-clause-asked g c =
+pub returns-in_err-list-clause-asked : goal.returns-in_err-list-clause-asked
+returns-in_err-list-clause-asked g c =
     let geo = g.B.Board.geometry in
     let n = c.args.stack.now.moves in
     asked_memory geo g.M.Memo.content g.M.Memo.dropped n _ _ _ c.from_residual.ensures.1
-    (asked_none geo g.M.Memo.content g.M.Memo.dropped c.searches_add_up.ensures n _ c.limit.ensures.within)
+    (asked_none geo g.M.Memo.content g.M.Memo.dropped c.searches_add_up.ensures n _ c.keeps_its_limit.ensures)
 
 pub returns-else-kept-clause-went : goal.returns-else-kept-clause-went
 returns-else-kept-clause-went g c kept = absurd (true≢false (sym kept ∙ c.if-kept.false))
@@ -86,18 +86,6 @@ returns-in_default-clause-went g c kept = absurd (true≢false (sym kept))
 
 pub returns-in_default-clause-next : goal.returns-in_default-clause-next
 returns-in_default-clause-next g c kept = absurd (true≢false (sym kept))
-
-pub returns-then-kept-clause-levels : goal.returns-then-kept-clause-levels
-returns-then-kept-clause-levels g c = c.moves-then-kept.ensures.levels
-
-pub returns-else-kept-clause-levels : goal.returns-else-kept-clause-levels
-returns-else-kept-clause-levels g c = c.moves-3.ensures.levels
-
-pub returns-in_err-kept-clause-levels : goal.returns-in_err-kept-clause-levels
-returns-in_err-kept-clause-levels g c = c.moves-3.ensures.levels
-
-pub returns-in_default-clause-levels : goal.returns-in_default-clause-levels
-returns-in_default-clause-levels g c = c.moves-in_default.ensures.levels
 
 pub enter-requires : goal.enter-requires
 enter-requires g c =

@@ -45,7 +45,7 @@ line-preserved g c =
     record {
       follows = follows_more geo c.args.position.now c.args.moves c.args.line.now c.line.mv-index c.mv-item.result
           c.line.stack c.follow.new.stack c.line.invariant.follows c.line-test.true c.mv-item.is
-          (c.in_ok-went.ensures.went c.if-not-went.false) c.follow.ensures.levels;
+          (c.in_ok-went.ensures.went c.if-not-went.false) c.keeps_its_levels-in-line.ensures.levels;
       place = ap (λ z. z + 1) c.line.invariant.place;
       asked = asked_then geo content lost c.searches_add_up.ensures n _ _ _ answered c.line.invariant.asked
           (asked_for geo content lost _ n _ _ _ c.line.invariant.follows.moves (asked_ok geo content lost _ _ _ _ 0
@@ -89,8 +89,8 @@ returns-else-is_end-clause-asked g c =
 pub line-init : goal.line-init
 line-init g c = record {
   follows = follows_init g.B.Board.geometry c.args.position.now c.args.moves c.args.line.now c.new-stack.result
-      c.new-stack.ensures c.moves.ensures.levels;
+      c.new-stack.ensures c.keeps_its_levels.ensures.levels;
   place = refl;
   asked = asked_none g.B.Board.geometry g.M.Memo.content g.M.Memo.dropped c.searches_add_up.ensures c.args.moves
-      c.args.solver.now c.limit.ensures.within;
+      c.args.solver.now c.keeps_its_limit.ensures;
 }

@@ -76,7 +76,7 @@ steps-init g c = record {
   same = same_none g.B.Board.geometry c.args.stack.now;
   keeps = keeps_all g.B.Board.geometry c.args.stack.now c.args.kept.now;
   asked = asked_none g.B.Board.geometry g.M.Memo.content g.M.Memo.dropped c.searches_add_up.ensures
-      c.args.stack.now.moves c.args.solver.now c.limit.ensures.within;
+      c.args.stack.now.moves c.args.solver.now c.keeps_its_limit.ensures;
 }
 
 pub returns-in_err-take_step-clause-stopped : goal.returns-in_err-take_step-clause-stopped

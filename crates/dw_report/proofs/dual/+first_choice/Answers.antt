@@ -21,7 +21,7 @@ choice_after_reply-returns-in_err-list-clause-asked g t c =
     let lost = g.M.Memo.dropped in
     let law = c.searches_add_up.ensures in
     asked_memory geo content lost c.args.left _ _ _ c.from_residual.ensures.1
-    (asked_none geo content lost law c.args.left _ c.limit.ensures.within)
+    (asked_none geo content lost law c.args.left _ c.keeps_its_limit.ensures)
 
 pub choice_after_reply-replies-init : goal.choice_after_reply-replies-init
 choice_after_reply-replies-init g t c =
@@ -29,7 +29,7 @@ choice_after_reply-replies-init g t c =
     let content = g.M.Memo.content in
     let lost = g.M.Memo.dropped in
     let law = c.searches_add_up.ensures in
-    record { none = λ m k. absurd k; asked = asked_none geo content lost law c.args.left _ c.limit.ensures.within }
+    record { none = λ m k. absurd k; asked = asked_none geo content lost law c.args.left _ c.keeps_its_limit.ensures }
 
 pub choice_after_reply-play-after-requires : goal.choice_after_reply-play-after-requires
 choice_after_reply-play-after-requires g t c =
@@ -174,7 +174,7 @@ first_choice-keys-init g t c =
     let content = g.M.Memo.content in
     let lost = g.M.Memo.dropped in
     let law = c.searches_add_up.ensures in
-    record { none = λ m k. absurd k; asked = asked_none geo content lost law c.args.moves _ c.limit.ensures.within }
+    record { none = λ m k. absurd k; asked = asked_none geo content lost law c.args.moves _ c.keeps_its_limit.ensures }
 
 pub first_choice-play-after-requires : goal.first_choice-play-after-requires
 first_choice-play-after-requires g t c =

@@ -25,7 +25,7 @@ moves-init g c = record {
       c.moves_have_texts.ensures g.B.Board.geometry g.met.B.Board.numbers c.args.position.now c.args.moves
       (λ item. item.step) c.as_slice-item-items.result.now (g.K.Sink.taken c.args.sink.now);
   sink = refl;
-  counted = counted_none c.args.solver.now c.limit.ensures.within;
+  counted = counted_none c.args.solver.now c.keeps_its_limit.ensures;
 }
 
 pub write_try-requires-clause-legal : goal.write_try-requires-clause-legal
@@ -101,7 +101,7 @@ pub returns-in_err-list-clause-spends : goal.returns-in_err-list-clause-spends
 returns-in_err-list-clause-spends g c =
     let why = err_from_is_err_and c.from_residual.result c.from_residual.ensures.1 in
     spends_no_memory c.args.solver.now c.args.solver.now c.from_residual.result why.0 why.1 why.2
-    (counted_none c.args.solver.now c.limit.ensures.within)
+    (counted_none c.args.solver.now c.keeps_its_limit.ensures)
 
 pub returns-in_err-write_try-clause-sink : goal.returns-in_err-write_try-clause-sink
 returns-in_err-write_try-clause-sink g c =

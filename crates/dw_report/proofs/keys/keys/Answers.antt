@@ -106,7 +106,7 @@ returns-then-moves-eq0-clause-asked g c =
     let content = g.M.Memo.content in
     let lost = g.M.Memo.dropped in
     let none = asked_none geo content lost c.searches_add_up.ensures c.args.moves c.args.solver.now
-    c.limit.ensures.within in
+    c.keeps_its_limit.ensures in
     asked_ok geo content lost c.args.moves _ _ 0 _ none
 
 pub returns-in_err-list-clause-asked : goal.returns-in_err-list-clause-asked
@@ -115,7 +115,7 @@ returns-in_err-list-clause-asked g c =
     let content = g.M.Memo.content in
     let lost = g.M.Memo.dropped in
     let none = asked_none geo content lost c.searches_add_up.ensures c.args.moves c.args.solver.now
-    c.limit.ensures.within in
+    c.keeps_its_limit.ensures in
     asked_memory geo content lost c.args.moves _ _ _ c.from_residual.ensures.1 none
 
 pub returns-clause-asked : goal.returns-clause-asked
@@ -136,5 +136,5 @@ moves-init g c =
       keys = to_none (λ item. item.step) (Precedes geo p) (λ m. m) (λ m. Lost geo (play geo p m) (n - 1))
           c.as_slice-item-items.result.now c.new-keys.result.items c.new-keys.ensures.items;
       asked = asked_none geo g.M.Memo.content g.M.Memo.dropped c.searches_add_up.ensures n c.args.solver.now
-          c.limit.ensures.within;
+          c.keeps_its_limit.ensures;
     }

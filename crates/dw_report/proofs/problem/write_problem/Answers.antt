@@ -27,7 +27,7 @@ returns-in_err-write_all-clause-text g c =
 pub returns-in_err-write_all-clause-searches : goal.returns-in_err-write_all-clause-searches
 returns-in_err-write_all-clause-searches g c =
     let why = err_from_is_err_and c.from_residual.result c.from_residual.ensures.1 in
-    searches_none c.args.settings.now.command _ _ c.from_residual.result refl c.limit.ensures.within
+    searches_none c.args.settings.now.command _ _ c.from_residual.result refl c.keeps_its_limit.ensures
     (sink_not_stopped c.from_residual.result (why.1 ∙ ap Err why.2))
 
 pub returns-in-Ok-clause-text : goal.returns-in-Ok-clause-text
@@ -41,7 +41,7 @@ pub returns-in-Ok-clause-refused : goal.returns-in-Ok-clause-refused
 returns-in-Ok-clause-refused g c = rw c.in-Ok.is c.write_rest.ensures.refused
 
 pub returns-in-Err-clause-searches : goal.returns-in-Err-clause-searches
-returns-in-Err-clause-searches g c = searches_none c.args.settings.now.command _ _ _ refl c.limit.ensures.within
+returns-in-Err-clause-searches g c = searches_none c.args.settings.now.command _ _ _ refl c.keeps_its_limit.ensures
     (ok_not_stopped _)
 
 pub returns-in_err-write_all-clause-sink : goal.returns-in_err-write_all-clause-sink

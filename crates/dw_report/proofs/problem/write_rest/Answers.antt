@@ -121,7 +121,7 @@ returns-in-Show-clause-text g c =
 
 pub returns-in-Show-clause-searches : goal.returns-in-Show-clause-searches
 returns-in-Show-clause-searches g c =
-    searches_none c.args.settings.now.command c.args.solver.now c.args.solver.now _ refl c.limit.ensures.within
+    searches_none c.args.settings.now.command c.args.solver.now c.args.solver.now _ refl c.keeps_its_limit.ensures
     (ok_not_stopped _)
 
 pub returns-in-Show-clause-refused : goal.returns-in-Show-clause-refused

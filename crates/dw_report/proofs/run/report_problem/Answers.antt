@@ -65,7 +65,7 @@ returns-then-not-chooses-clause-text g c =
 
 pub returns-then-not-chooses-clause-searches : goal.returns-then-not-chooses-clause-searches
 returns-then-not-chooses-clause-searches g c =
-    searches_none c.args.settings.now.command c.args.solver.now c.args.solver.now _ refl c.limit.ensures.within
+    searches_none c.args.settings.now.command c.args.solver.now c.args.solver.now _ refl c.keeps_its_limit.ensures
     (ok_not_stopped _)
 
 pub returns-then-not-chooses-clause-counts : goal.returns-then-not-chooses-clause-counts

@@ -97,7 +97,7 @@ returns-in_err-line_up-clause-asked g c =
     let content = g.M.Memo.content in
     let lost = g.M.Memo.dropped in
     let none = asked_none geo content lost c.searches_add_up.ensures c.args.left c.args.solver.now
-    c.limit.ensures.within in
+    c.keeps_its_limit.ensures in
     asked_memory geo content lost c.args.left _ _ _ c.from_residual.ensures.1 none
 
 pub returns-clause-asked : goal.returns-clause-asked

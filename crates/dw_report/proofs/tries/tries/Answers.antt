@@ -102,7 +102,7 @@ returns-in_err-list-clause-asked g c =
     let content = g.M.Memo.content in
     let lost = g.M.Memo.dropped in
     let none = asked_none geo content lost c.searches_add_up.ensures c.args.moves c.args.solver.now
-    c.limit.ensures.within in
+    c.keeps_its_limit.ensures in
     asked_memory geo content lost c.args.moves _ _ _ c.from_residual.ensures.1 none
 
 pub returns-clause-asked : goal.returns-clause-asked
@@ -119,5 +119,5 @@ moves-init g c =
           (λ (t : Move × Move). IsRefutation geo (play geo p t.0) (n - 1) t.1) c.as_slice-item-items.result.now
           c.new-tries.result.items c.new-tries.ensures.items;
       asked = asked_none geo g.M.Memo.content g.M.Memo.dropped c.searches_add_up.ensures n c.args.solver.now
-          c.limit.ensures.within;
+          c.keeps_its_limit.ensures;
     }

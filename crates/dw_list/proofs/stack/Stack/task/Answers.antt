@@ -3,14 +3,14 @@ use Rattle.dw_moves.specs.Moves.{play}
 use Rattle.dw_list.specs.Standing.{Standing}
 use Rattle.dw_list.specs.inner.Levels.{AreLevels}
 use Rattle.dw_list.proofs.StackLemmas.{behind_first}
-use Rattle.dw_list.proofs.StackViewLemmas.{at_last, not_listed, all_passed, seen_levels, seen_fits, some_levels}
+use Rattle.dw_list.proofs.StackViewLemmas.{at_last, not_listed, all_passed, some_levels}
 use Rattle.dw_list.proofs.stack.Stack.task.Goals as goal
 
 below : (n : ℕ) → 1 ≤ n → n - 1 < n
 below n some = omega arith
 
-pub returns-then-not-is_listed-clause-task : goal.returns-then-not-is_listed-clause-task
-returns-then-not-is_listed-clause-task g c =
+pub returns-then-not-is_listed : goal.returns-then-not-is_listed
+returns-then-not-is_listed g c =
     let here = at_last c.args.self.now.levels c.self.inside.frames.items c.as_slice-frames.result.now _
     c.index-frames-frames.result c.is_empty.result (ap (λ (s : Standing). s.levels) c.self.view_is)
     c.as_slice-frames.ensures.value c.is_empty.ensures c.if-is_empty.false refl c.index-frames-frames.is in (
@@ -32,8 +32,8 @@ trial_of-requires g c =
     (behind_first geo c.index-frames-frames.result.position c.in-Some.mv c.index-frames-frames.result.ahead
     (sym c.first.ensures ∙ c.in-Some.is) levels.1).1
 
-pub returns-in-None-clause-task : goal.returns-in-None-clause-task
-returns-in-None-clause-task g c =
+pub returns-in-None : goal.returns-in-None
+returns-in-None g c =
     let here = at_last c.args.self.now.levels c.self.inside.frames.items c.as_slice-frames.result.now _
     c.index-frames-frames.result c.is_empty.result (ap (λ (s : Standing). s.levels) c.self.view_is)
     c.as_slice-frames.ensures.value c.is_empty.ensures c.if-is_empty.false refl c.index-frames-frames.is in (
@@ -44,8 +44,8 @@ returns-in-None-clause-task g c =
           c.is_listed.ensures c.if-not-is_listed.false (sym c.first.ensures ∙ c.in-None.is),
     )
 
-pub returns-in-Some-clause-task : goal.returns-in-Some-clause-task
-returns-in-Some-clause-task g c =
+pub returns-in-Some : goal.returns-in-Some
+returns-in-Some g c =
     let here = at_last c.args.self.now.levels c.self.inside.frames.items c.as_slice-frames.result.now _
     c.index-frames-frames.result c.is_empty.result (ap (λ (s : Standing). s.levels) c.self.view_is)
     c.as_slice-frames.ensures.value c.is_empty.ensures c.if-is_empty.false refl c.index-frames-frames.is in
@@ -59,38 +59,6 @@ returns-in-Some-clause-task g c =
       attacks = c.trial_of.ensures.attacks;
       left = c.trial_of.ensures.left;
     }
-
-pub returns-then-is_empty-clause-levels : goal.returns-then-is_empty-clause-levels
-returns-then-is_empty-clause-levels g c = seen_levels g.B.Board.geometry _ _ c.self.view_is c.self.invariant.0
-
-pub returns-then-not-is_listed-clause-levels : goal.returns-then-not-is_listed-clause-levels
-returns-then-not-is_listed-clause-levels g c = seen_levels g.B.Board.geometry _ _ c.self.view_is c.self.invariant.0
-
-pub returns-in-None-clause-levels : goal.returns-in-None-clause-levels
-returns-in-None-clause-levels g c = seen_levels g.B.Board.geometry _ _ c.self.view_is c.self.invariant.0
-
-pub returns-in-Some-clause-levels : goal.returns-in-Some-clause-levels
-returns-in-Some-clause-levels g c = seen_levels g.B.Board.geometry _ _ c.self.view_is c.self.invariant.0
-
-pub returns-then-is_empty-clause-fits : goal.returns-then-is_empty-clause-fits
-returns-then-is_empty-clause-fits g c =
-    seen_fits c.self.inside.position c.self.inside.moves (reverse c.self.inside.line.items) c.self.inside.frames.items
-    c.args.self.now c.self.view_is c.self.invariant.1
-
-pub returns-then-not-is_listed-clause-fits : goal.returns-then-not-is_listed-clause-fits
-returns-then-not-is_listed-clause-fits g c =
-    seen_fits c.self.inside.position c.self.inside.moves (reverse c.self.inside.line.items) c.self.inside.frames.items
-    c.args.self.now c.self.view_is c.self.invariant.1
-
-pub returns-in-None-clause-fits : goal.returns-in-None-clause-fits
-returns-in-None-clause-fits g c =
-    seen_fits c.self.inside.position c.self.inside.moves (reverse c.self.inside.line.items) c.self.inside.frames.items
-    c.args.self.now c.self.view_is c.self.invariant.1
-
-pub returns-in-Some-clause-fits : goal.returns-in-Some-clause-fits
-returns-in-Some-clause-fits g c =
-    seen_fits c.self.inside.position c.self.inside.moves (reverse c.self.inside.line.items) c.self.inside.frames.items
-    c.args.self.now c.self.view_is c.self.invariant.1
 
 pub as_slice-frames-requires : goal.as_slice-frames-requires
 as_slice-frames-requires g c = lit< tt
