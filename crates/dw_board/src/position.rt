@@ -344,6 +344,7 @@ fn cell_behind<B: Board>(position: &Position<B>, index: u8) -> Option<Piece>
 fn codes_of<B: Board>(position: &Position<B>) -> [u8; 50]
     ensures { result ≡ cell_codes position.now }
 {
+    // The check learns here what every position keeps to, for the loop below.
     let _ = &position.held;
     let mut codes = [0; 50];
     for i in 0..50 {
