@@ -6,9 +6,13 @@ docs/PROVED.md.
 
 A contract names definitions of specs/, these name others, and so on: all of them count, with their comments, without
 imports and blank lines. The table in docs/PROVED.md has to give the same numbers. The files of one contract are told
-by their lines, too. No contract of a public item of a layer may lead to a definition of specs/inner, and each other
-definition has to be one that some public contract leads to. Beside that no line in src and specs of any crate may have
-more than 120 columns.
+by their lines, too.
+
+No contract of a public item of a layer may lead to a definition of specs/inner, and each other definition has to be one
+that some public contract leads to. The exception is a definition that is sealed, as its comment says: contracts name
+it, but say themselves all that is to be known of it, and so it is not followed; no other crate may unfold it. What
+public contracts lead to names no type of the code that is not public, and no crate cites the proofs of another one.
+Beside that no line in src and specs of any crate may have more than 120 columns.
 """
 import dataclasses
 import pathlib
@@ -21,7 +25,7 @@ MOST = 120
 NAME = r"[\w'◌>=-]+"
 USE = re.compile(r"(?:ghost )?use (Rattle\.[\w.]+)\.\{(.*)\};?$")
 ALIAS = re.compile(r"(?:ghost )?use (Rattle\.[\w.]+) as (\w+);?$")
-BLOCK = re.compile(r"impl(?:<.*?>)? (?:(\w+).*? for )?(\w+)|(?:pub(?:\(crate\))? )?(?:struct|enum|trait) (\w+)")
+BLOCK = re.compile(r"impl(?:<.*?>)? (?:(\w+).*? for )?(\w+)|(?:pub(?:\(\w+\))? )?(?:struct|enum|trait) (\w+)")
 STARTS = re.compile(rf"(?:(?:abbrev|unfoldable) )?pub (?:(record|data) )?({NAME})(?: |$)")
 
 
@@ -31,6 +35,9 @@ class Definition:
     kind: str  # "record", "data" or ""
     lines: list  # with the comment above it
     file: "File"
+
+    def is_sealed(self):
+        return any(line.startswith("-- Sealed: ") for line in self.lines)
 
     def text(self):
         """Without comments, and without the names of fields, which are no definitions."""
@@ -116,7 +123,7 @@ def reached(texts):
     seen = []
     while waiting:
         definition = waiting.pop()
-        if definition not in seen:
+        if definition not in seen and not definition.is_sealed():
             seen.append(definition)
             bound = definition.bound()
             waiting += [found for head, found in named(definition.text(), definition.file) if head not in bound]
@@ -135,21 +142,21 @@ def contract(file, start, clause=""):
 def public_text(path):
     """What the contracts of a file's public items say: no private functions, no methods of private types, no proofs."""
     text = path.read_text()
-    private = set(re.findall(r"^(?:pub\(crate\) )?(?:struct|enum|trait) (\w+)", text, re.MULTILINE)) | PRIVATE_TRAITS
+    private = set(re.findall(r"^(?:pub\((?:crate|super)\) )?(?:struct|enum|trait) (\w+)", text, re.MULTILINE)) | PRIVATE_TRAITS
     kept, impl, lines = [], "", iter(text.splitlines())
     for line in lines:
         start = BLOCK.match(line)
         impl = line if start else impl
         if start and private & set(start.groups()):
             skip(lines, line, "}")
-        elif function := re.match(r"( *)(pub |pub\(crate\) |)(?:const )?fn ", line):
+        elif function := re.match(r"( *)(pub |pub\((?:crate|super)\) |)(?:const )?fn ", line):
             head = list(function_head(function[1], line, lines))
             skip(lines, head[-1], function[1] + "}")
             if function[2] == "pub " or function[1] and (" for " in impl or "trait" in impl):
                 kept += head
         elif re.match(PROOF, line):
             skip(lines, line, "};", str.endswith)
-        elif not re.match(r"\s*((ghost )?use |//)", line):
+        elif not re.match(r"\s*((ghost )?use |//|#\[)", line):
             kept.append(line)
     return "\n".join(kept), Imports(text)
 
@@ -178,14 +185,42 @@ SOURCES = [path for layer in LAYERS for path in sorted((CRATES / layer).glob("sr
 PRIVATE_TRAITS = {name for path in SOURCES for name in re.findall(r"^pub\(crate\) trait (\w+)", path.read_text(), re.M)}
 
 
+def private_types(definition):
+    """The types of the code that a definition names and that are not public, each by its module."""
+    for word in set(re.findall(r"[\w'][\w'.]*", definition.text())) - definition.bound():
+        module, name = definition.file.names.get(word) or (definition.file.modules.get(word.split(".")[0], ""), "")
+        parts = module.removesuffix(".TheVariants").split(".")
+        if "declared" not in parts or parts[-1] == "TheConstants" or not (CRATES / parts[1]).is_dir():
+            continue
+        inside = parts[parts.index("declared") + 1 : -1]
+        source = CRATES / parts[1] / "src" / "/".join(inside or ["lib"])
+        if not re.search(rf"^pub (struct|enum|trait) {parts[-1]}\b", source.with_suffix(".rt").read_text(), re.M):
+            yield f"{module} in {definition.name}"
+
+
+def check_citations():
+    """No crate cites the proofs of another crate of the repository, or unfolds what is sealed there."""
+    sealed = {d.name: d.file.module.split(".")[1] for f in FILES.values() for d in f.definitions.values() if d.is_sealed()}
+    crates = {path.name for path in CRATES.iterdir()}
+    for path in sorted([*CRATES.glob("*/specs/**/*.antt"), *CRATES.glob("*/proofs/**/*.antt"), *CRATES.glob("*/src/**/*.rt")]):
+        crate, text = path.relative_to(CRATES).parts[0], path.read_text()
+        cited = set(re.findall(r"Rattle\.(\w+)\.proofs\b", text)) & crates - {crate}
+        opened = {name for name in re.findall(r"unfolding[ (:\w]*\b(\w+)", text) if sealed.get(name, crate) != crate}
+        assert not cited | opened, f"{path.relative_to(TOP)}: cites the proofs of {cited}, or unfolds {opened}"
+    print("specs and proofs: no crate cites the proofs of another one")
+
+
 def check_inner():
     """specs/inner has what no public contract leads to, and the rest of specs nothing else."""
-    seen = {id(definition) for definition in reached([public_text(path) for path in SOURCES])}
+    seen = reached([public_text(path) for path in SOURCES])
+    known = {id(definition) for definition in seen}
     for file in FILES.values():
         if file.path.relative_to(CRATES).parts[0] in LAYERS:
-            wrong = [n for n, d in file.definitions.items() if (id(d) in seen) == ("inner" in file.path.parts)]
+            wrong = [n for n, d in file.definitions.items() if (id(d) in known) == ("inner" in file.path.parts)]
             assert not wrong, f"{file.path.relative_to(TOP)}: {' '.join(wrong)}"
     print(f"specs: the public contracts lead to {len(seen)} definitions, none of them in specs/inner")
+    private = sorted({name for definition in seen for name in private_types(definition)})
+    assert not private, f"definitions of public contracts name types that are not public: {' '.join(private)}"
 
 
 def rows():
@@ -214,6 +249,7 @@ def main(words):
             whole = sum(len(path.read_text().splitlines()) for path in files)
             assert f"those of `run` have {whole:,} lines in all" in " ".join(told.split()), f"{whole:,} lines in all"
     check_inner()
+    check_citations()
     for path in sorted([*CRATES.glob("*/src/**/*.rt"), *CRATES.glob("*/specs/**/*.antt")]):
         wide = [number for number, line in enumerate(path.read_text().splitlines(), 1) if len(line) > MOST]
         assert not wide, f"{path.relative_to(TOP)}: over {MOST} columns in line {wide}"

@@ -2,19 +2,22 @@
 use Rattle.std.proofs.Common.{◌≡◌, ℕ, ◌==◌, ◌&&◌, ◌+◌, List, [], ◌∷◌, ◌++◌, Bool, true, false, cond, option_to_list}
 use Rattle.std.proofs.Common.{nat_lt, Err, ◌⊎◌, inl, inr, refl, sym, ap, subst, ◌∙◌, append_assoc}
 use Rattle.std.proofs.lemmas.Bool.{cases_Bool, cond-false, and_parts, eqb-true}
+use Rattle.dw_board.specs.FenLaws.{ReadingIsGrammar}
 use Rattle.dw_board.specs.Geometry.{Geometry}
-use Rattle.dw_notation.specs.Ahead.{found_from}
-use Rattle.dw_notation.specs.Lines.{Found, line_found, without_mark}
-use Rattle.dw_notation.specs.Sections.{Section, step, after, section_found, found_by, sections_found, bare}
-use Rattle.dw_notation.specs.Problems.{Numbered, number_from, found_of, ended_of}
-use Rattle.dw_notation.specs.Problems.{EndedComeFirst}
+use Rattle.dw_notation.specs.Lines.{Found, without_mark}
+use Rattle.dw_notation.specs.Problems.{Numbered, number_from, EndedComeFirst}
+use Rattle.dw_notation.specs.inner.Lines.{line_found}
+use Rattle.dw_notation.specs.inner.Ahead.{found_from}
+use Rattle.dw_notation.specs.inner.Sections.{Section, step, after, section_found, found_by, sections_found, bare}
+use Rattle.dw_notation.specs.inner.Problems.{found_of}
 use Rattle.dw_notation.specs.declared.problems.TheConstants.{MAX_PROBLEMS}
 use Rattle.dw_notation.specs.declared.problems.ProblemFault.TheVariants.{TooManyProblems}
 use Rattle.dw_notation.specs.declared.problems.Form.{Form}
 use Rattle.dw_notation.specs.declared.problems.Form.TheVariants.{Fens, Pdn}
 use Rattle.dw_notation.specs.declared.problems.pdn.Place.{Place}
 use Rattle.dw_notation.specs.declared.problems.pdn.Place.TheVariants.{Outside}
-use Rattle.dw_notation.proofs.DefinitionLemmas.{found_from-lines, found_from-whole_lines, sections-mark}
+use Rattle.dw_notation.proofs.DefinitionLemmas.{sections-mark}
+use Rattle.dw_notation.proofs.ProblemLemmas.{text_says-only}
 
 -- one list comes first in another
 abbrev First : {X : Type 0} → List X → List X → Type 0
@@ -121,28 +124,18 @@ sections_first at_end g bytes more =
 
 -- PROBLEMS
 
-found_first : (g : Geometry) (form : Form) (bytes more : List ℕ) → First (ended_of g form bytes)
-    (found_of g form (bytes ++ more))
-found_first g Fens bytes more =
-    let h = lines_first true g bytes more in (
-      h.0,
-      sym (found_from-lines g (without_mark (bytes ++ more)))
-          ∙ (h.1 ∙ ap (λ l. l ++ h.0) (found_from-whole_lines g (without_mark bytes))),
-    )
-found_first g Pdn bytes more = sections_first true g bytes more
+found_first : (over : Bool) (g : Geometry) (form : Form) (bytes more : List ℕ) → First (found_of false g form bytes)
+    (found_of over g form (bytes ++ more))
+found_first over g Fens bytes more = lines_first over g bytes more
+found_first over g Pdn bytes more = sections_first over g bytes more
 
-ended_first : (g : Geometry) (form : Form) (bytes more : List ℕ) → First (ended_of g form bytes)
-    (ended_of g form (bytes ++ more))
-ended_first g Fens bytes more =
-    let h = lines_first false g bytes more in (
-      h.0,
-      sym (found_from-whole_lines g (without_mark (bytes ++ more)))
-          ∙ (h.1 ∙ ap (λ l. l ++ h.0) (found_from-whole_lines g (without_mark bytes))),
-    )
-ended_first g Pdn bytes more = sections_first false g bytes more
-
-pub ended_come_first : EndedComeFirst
-ended_come_first = record {
-  found = λ g form bytes more. numbered_first _ _ (found_first g form bytes more);
-  ended = λ g form bytes more. numbered_first _ _ (ended_first g form bytes more);
-}
+pub ended_come_first : ReadingIsGrammar → EndedComeFirst
+ended_come_first law g form over bytes more ended problems e p =
+    let list = found_of false g form bytes in
+    let longer = found_of over g form (bytes ++ more) in
+    let first = numbered_first list longer (found_first over g form bytes more) in
+    let ends : ended ≡ number_from 0 list = e.numbers ∙ ap (number_from 0) (text_says-only law g form false bytes e.found
+    e.said) in
+    let all : problems ≡ number_from 0 longer = p.numbers ∙ ap (number_from 0) (text_says-only law g form over
+    (bytes ++ more) p.found p.said) in
+    (first.0, all ∙ first.1 ∙ ap (λ l. l ++ first.0) (sym ends))

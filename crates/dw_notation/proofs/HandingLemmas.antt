@@ -1,25 +1,21 @@
 -- Lemmas on what is handed out.
-use Rattle.std.proofs.Common.{◌≡◌, ℕ, ◌<◌, inl, inr, List, [], ◌∷◌, ◌++◌, Bool, true, false, Option, Some, None, Ok}
+use Rattle.std.proofs.Common.{◌≡◌, ℕ, ◌<◌, ◌≤◌, inl, inr, List, [], ◌∷◌, ◌++◌, Bool, true, false, Option, Some, None, Ok}
 use Rattle.std.proofs.Common.{Err, refl, sym, ap, ◌∙◌, append_assoc, append-nil, subst, MatchBool}
 use Rattle.std.proofs.KnownBytes.{Consumes-nil, Consumes-trans}
 use Rattle.dw_board.specs.Geometry.{Geometry}
 use Rattle.dw_notation.specs.Lines.{Found}
-use Rattle.dw_notation.specs.Ahead.{found_from, behind_mark}
-use Rattle.dw_notation.specs.Held.{held_line}
-use Rattle.dw_notation.specs.Pieces.{pieces_ahead}
-use Rattle.dw_notation.specs.inner.Pieces.{pieces_behind}
 use Rattle.dw_notation.specs.Problems.{Numbered, numbered, number_from}
-use Rattle.dw_notation.specs.Cutting.{NextGives, rest_of, found_ahead, problems_from, to_come, ended}
-use Rattle.dw_notation.specs.inner.Cutting.{CarriesOn, TakesPiece, TakesLast, HandsOut, ReadsPiece, found_behind}
+use Rattle.dw_notation.specs.Reading.{NextGives, ReadsAtNeed}
+use Rattle.dw_notation.specs.inner.Pieces.{pieces_ahead, pieces_behind}
+use Rattle.dw_notation.specs.inner.Cutting.{rest_of, found_ahead, problems_from, to_come, ended, reader_at, CarriesOn}
+use Rattle.dw_notation.specs.inner.Cutting.{ReadsOnAtNeed, TakesPiece, TakesLast, HandsOut, ReadsPiece, found_behind}
 use Rattle.dw_notation.specs.inner.Cutting.{found_cut}
-use Rattle.dw_notation.specs.declared.problems.fens.Front.{Front}
-use Rattle.dw_notation.specs.declared.problems.fens.Front.TheVariants.{Bare, One, Two, Behind}
+use Rattle.dw_notation.specs.declared.problems.TheConstants.{MAX_PROBLEMS}
 use Rattle.dw_notation.specs.declared.problems.reader.Cutter.{Cutter}
-use Rattle.dw_notation.specs.declared.problems.reader.Pieces.{Pieces}
-use Rattle.dw_notation.specs.declared.problems.reader.Pieces.TheVariants.{InLines, InSections}
 use Rattle.dw_notation.specs.declared.problems.Problem.{Problem}
 use Rattle.dw_notation.specs.declared.problems.ReadFault.{ReadFault}
 use Rattle.dw_notation.proofs.NumberLemmas.{number_from-over}
+use Rattle.dw_notation.proofs.CarryLemmas.{ended-none}
 
 -- what handing out the piece did
 pub record PieceHanded (g : Geometry) (cut new : Cutter) (problems : List Numbered) : Type 0 where
@@ -31,7 +27,12 @@ pub record PieceHanded (g : Geometry) (cut new : Cutter) (problems : List Number
 
 pub HandsOut-refl : (g : Geometry) (coming : Option (List ℕ)) (cutter : Cutter)
     → HandsOut g coming coming cutter cutter []
-HandsOut-refl g coming cutter = record { read = []; took = Consumes-nil coming; same = λ at_end more. refl }
+HandsOut-refl g coming cutter = record {
+  read = [];
+  took = Consumes-nil coming;
+  need = inl refl;
+  same = λ at_end more. refl;
+}
 
 -- what is behind the piece is ahead
 found_ahead-behind : (at_end : Bool) (g : Geometry) (cut new : Cutter) (problems : List Numbered) (more : List ℕ)
@@ -40,15 +41,32 @@ found_ahead-behind : (at_end : Bool) (g : Geometry) (cut new : Cutter) (problems
 found_ahead-behind at_end g cut new problems more handed =
     handed.ahead at_end (rest_of cut ++ more) ∙ ap (λ l. pieces_ahead at_end g new.pieces (l ++ more)) (sym handed.rest)
 
+-- what was read at need, and then more at need
+need-join : (g : Geometry) (old mid : Cutter) (read more : List ℕ) → old.handed ≤ MAX_PROBLEMS
+    → ReadsAtNeed g (reader_at old) read
+    → ((rest : List ℕ) → ended g old (read ++ rest) ≡ ended g mid rest) → ReadsOnAtNeed mid more
+    → ReadsAtNeed g (reader_at old) (read ++ more)
+need-join g old mid read more room need same (inl none) = subst (ReadsAtNeed g (reader_at old))
+    (sym (ap (λ l. read ++ l) none ∙ append-nil read)) need
+need-join g old mid read more room need same (inr (before, last, split, few, none)) = inr (
+  room,
+  read ++ before,
+  last,
+  ap (λ l. read ++ l) split ∙ sym (append_assoc read before last),
+  few,
+  same before ∙ ap (number_from mid.handed) (none g),
+)
+
 -- nothing so far, and then a piece
 pub HandsOut-piece : (g : Geometry) (coming left after : Option (List ℕ)) (old mid cut new : Cutter)
     (problems : List Numbered)
-    → HandsOut g coming left old mid [] → TakesPiece left after mid cut → (cut.handed ≡ mid.handed)
+    → old.handed ≤ MAX_PROBLEMS → HandsOut g coming left old mid [] → TakesPiece left after mid cut → (cut.handed ≡ mid.handed)
     → PieceHanded g cut new problems
     → HandsOut g coming after old new problems
-HandsOut-piece g coming left after old mid cut new problems so_far piece same_number handed = record {
+HandsOut-piece g coming left after old mid cut new problems room so_far piece same_number handed = record {
   read = so_far.read ++ piece.read;
   took = Consumes-trans coming left after so_far.read piece.read so_far.took piece.took;
+  need = need-join g old mid so_far.read piece.read room so_far.need (so_far.same false) piece.need;
   same = λ at_end more.
       ap (problems_from at_end g old) (append_assoc so_far.read piece.read more)
       ∙ so_far.same at_end (piece.read ++ more)
@@ -61,10 +79,11 @@ HandsOut-piece g coming left after old mid cut new problems so_far piece same_nu
 -- a problem that was handed out
 pub NextGives-problem : {B : Type 0} (g : Geometry) (coming left : Option (List ℕ)) (old new : Cutter)
     (problem : Problem B)
-    → HandsOut g coming left old new (numbered problem ∷ []) → NextGives g coming left old new (Ok (Some problem))
+    → HandsOut g coming left old new (numbered problem ∷ []) → NextGives g coming left (reader_at old) (reader_at new) (Ok (Some problem))
 NextGives-problem g coming left old new problem out = record {
   read = out.read;
   took = out.took;
+  need = out.need;
   gives = elim new.met_end as (λ v. MatchBool v (to_come g old out.read ≡ numbered problem ∷ to_come g new [])
       ((at_end : Bool) (bytes : List ℕ) → problems_from at_end g old (out.read ++ bytes)
       ≡ numbered problem ∷ problems_from at_end g new bytes))
@@ -73,7 +92,7 @@ NextGives-problem g coming left old new problem out = record {
 
 -- all problems are handed out
 pub NextGives-over : {B : Type 0} (g : Geometry) (coming left : Option (List ℕ)) (old new : Cutter)
-    → HandsOut g coming left old new [] → 1000000 < new.handed → NextGives {B = B} g coming left old new (Ok None)
+    → HandsOut g coming left old new [] → 1000000 < new.handed → NextGives {B = B} g coming left (reader_at old) (reader_at new) (Ok None)
 NextGives-over g coming left old new out over =
     let done : (more : List ℕ) → to_come g new more
     ≡ [] = λ more. number_from-over new.handed (found_ahead true g new more) over in
@@ -81,31 +100,16 @@ NextGives-over g coming left old new out over =
     record {
       read = out.read;
       took = out.took;
+      need = out.need;
       gives = (ap (to_come g old) (sym (append-nil out.read)) ∙ left_over [], done [], inr (over, left_over));
     }
-
--- the front alone ends no line
-ended-front : (g : Geometry) (line : List ℕ) (front : Front) → found_from false g line (behind_mark front []) ≡ []
-ended-front g line Bare = refl
-ended-front g line One = refl
-ended-front g line Two = refl
-ended-front g line Behind = refl
-
--- nor does any piece begun
-ended-piece : (g : Geometry) (pieces : Pieces) → pieces_ahead false g pieces [] ≡ []
-ended-piece g (InLines lines) = ended-front g (held_line lines.line) lines.front
-ended-piece g (InSections sections) = refl
-
--- nothing more ends, where all that was read belongs to the piece begun
-ended-none : (g : Geometry) (new : Cutter) → rest_of new ≡ [] → found_ahead false g new [] ≡ []
-ended-none g new none = ap (λ l. pieces_ahead false g new.pieces (l ++ [])) none ∙ ended-piece g new.pieces
 
 -- the source failed
 pub NextGives-err : {B : Type 0} (g : Geometry) (coming left after : Option (List ℕ)) (old mid new : Cutter)
     (fault : ReadFault)
-    → HandsOut g coming left old mid [] → CarriesOn left after mid new → (rest_of new ≡ []) → (new.handed ≡ mid.handed)
-    → NextGives {B = B} g coming after old new (Err fault)
-NextGives-err g coming left after old mid new fault so_far on none same_number =
+    → old.handed ≤ MAX_PROBLEMS → HandsOut g coming left old mid [] → CarriesOn left after mid new → (rest_of new ≡ []) → (new.handed ≡ mid.handed)
+    → NextGives {B = B} g coming after (reader_at old) (reader_at new) (Err fault)
+NextGives-err g coming left after old mid new fault room so_far on none same_number =
     let read = so_far.read ++ on.read in
     let same : (at_end : Bool) (bytes : List ℕ) → problems_from at_end g old (read ++ bytes)
     ≡ problems_from at_end g new bytes =
@@ -117,6 +121,7 @@ NextGives-err g coming left after old mid new fault so_far on none same_number =
     record {
       read = read;
       took = Consumes-trans coming left after so_far.read on.read so_far.took on.took;
+      need = need-join g old mid so_far.read on.read room so_far.need (so_far.same false) on.need;
       gives = (
         ap (ended g old) (sym (append-nil read)) ∙ same false [] ∙ ap (number_from new.handed) (ended-none g new none),
         same,
@@ -147,12 +152,13 @@ to_come-last g coming left after old mid cut new problems so_far last same_numbe
 
 pub NextGives-last : {B : Type 0} (g : Geometry) (coming left after : Option (List ℕ)) (old mid cut new : Cutter)
     (problem : Problem B)
-    → HandsOut g coming left old mid [] → TakesLast left after mid cut → (cut.handed ≡ mid.handed)
+    → old.handed ≤ MAX_PROBLEMS → HandsOut g coming left old mid [] → TakesLast left after mid cut → (cut.handed ≡ mid.handed)
     → PieceHanded g cut new (numbered problem ∷ []) → (new.met_end ≡ true)
-    → NextGives g coming after old new (Ok (Some problem))
-NextGives-last g coming left after old mid cut new problem so_far last same_number handed met = record {
+    → NextGives g coming after (reader_at old) (reader_at new) (Ok (Some problem))
+NextGives-last g coming left after old mid cut new problem room so_far last same_number handed met = record {
   read = so_far.read ++ last.read;
   took = Consumes-trans coming left after so_far.read last.read so_far.took last.took;
+  need = need-join g old mid so_far.read last.read room so_far.need (so_far.same false) last.need;
   gives = subst (λ v. MatchBool v (to_come g old (so_far.read ++ last.read) ≡ numbered problem ∷ to_come g new [])
       ((at_end : Bool) (bytes : List ℕ) → problems_from at_end g old ((so_far.read ++ last.read) ++ bytes)
       ≡ numbered problem ∷ problems_from at_end g new bytes)) (sym met)
@@ -160,42 +166,43 @@ NextGives-last g coming left after old mid cut new problem so_far last same_numb
 }
 
 pub NextGives-none : {B : Type 0} (g : Geometry) (coming left after : Option (List ℕ)) (old mid cut new : Cutter)
-    → HandsOut g coming left old mid [] → TakesLast left after mid cut → (cut.handed ≡ mid.handed)
+    → old.handed ≤ MAX_PROBLEMS → HandsOut g coming left old mid [] → TakesLast left after mid cut → (cut.handed ≡ mid.handed)
     → PieceHanded g cut new [] → (new.met_end ≡ true)
-    → NextGives {B = B} g coming after old new (Ok None)
-NextGives-none g coming left after old mid cut new so_far last same_number handed met =
+    → NextGives {B = B} g coming after (reader_at old) (reader_at new) (Ok None)
+NextGives-none g coming left after old mid cut new room so_far last same_number handed met =
     let end = to_come-last g coming left after old mid cut new [] so_far last same_number handed in
     record {
       read = so_far.read ++ last.read;
       took = Consumes-trans coming left after so_far.read last.read so_far.took last.took;
+      need = need-join g old mid so_far.read last.read room so_far.need (so_far.same false) last.need;
       gives = (end.0 ∙ end.1, end.1, inl met);
     }
 
 pub NextGives-some : {B : Type 0} (g : Geometry) (coming left after : Option (List ℕ)) (old mid cut new : Cutter)
     (problem : Problem B) (is_whole : Bool)
-    → HandsOut g coming left old mid [] → ReadsPiece left after mid cut (Ok is_whole) → (cut.handed ≡ mid.handed)
+    → old.handed ≤ MAX_PROBLEMS → HandsOut g coming left old mid [] → ReadsPiece left after mid cut (Ok is_whole) → (cut.handed ≡ mid.handed)
     → PieceHanded g cut new (numbered problem ∷ []) → (new.met_end ≡ cut.met_end)
-    → NextGives g coming after old new (Ok (Some problem))
-NextGives-some g coming left after old mid cut new problem true so_far piece same_number handed met =
+    → NextGives g coming after (reader_at old) (reader_at new) (Ok (Some problem))
+NextGives-some g coming left after old mid cut new problem true room so_far piece same_number handed met =
     NextGives-problem g coming after old new problem (HandsOut-piece g coming left after old mid cut new
-    (numbered problem ∷ []) so_far piece same_number handed)
-NextGives-some g coming left after old mid cut new problem false so_far piece same_number handed met =
-    NextGives-last g coming left after old mid cut new problem so_far piece.0 same_number handed (met ∙ piece.1)
+    (numbered problem ∷ []) room so_far piece same_number handed)
+NextGives-some g coming left after old mid cut new problem false room so_far piece same_number handed met =
+    NextGives-last g coming left after old mid cut new problem room so_far piece.0 same_number handed (met ∙ piece.1)
 
 pub NextGives-end : {B : Type 0} (g : Geometry) (coming left after : Option (List ℕ)) (old mid cut new : Cutter)
     (is_whole : Bool) → is_whole ≡ false
-    → HandsOut g coming left old mid [] → ReadsPiece left after mid cut (Ok is_whole) → (cut.handed ≡ mid.handed)
+    → old.handed ≤ MAX_PROBLEMS → HandsOut g coming left old mid [] → ReadsPiece left after mid cut (Ok is_whole) → (cut.handed ≡ mid.handed)
     → PieceHanded g cut new [] → (new.met_end ≡ cut.met_end)
-    → NextGives {B = B} g coming after old new (Ok None)
-NextGives-end g coming left after old mid cut new true e so_far piece same_number handed met = cc
-NextGives-end g coming left after old mid cut new false e so_far piece same_number handed met =
-    NextGives-none g coming left after old mid cut new so_far piece.0 same_number handed (met ∙ piece.1)
+    → NextGives {B = B} g coming after (reader_at old) (reader_at new) (Ok None)
+NextGives-end g coming left after old mid cut new true e room so_far piece same_number handed met = cc
+NextGives-end g coming left after old mid cut new false e room so_far piece same_number handed met =
+    NextGives-none g coming left after old mid cut new room so_far piece.0 same_number handed (met ∙ piece.1)
 
 pub HandsOut-blank : (g : Geometry) (coming left after : Option (List ℕ)) (old mid cut new : Cutter) (is_whole : Bool)
     → is_whole ≡ true
-    → HandsOut g coming left old mid [] → ReadsPiece left after mid cut (Ok is_whole) → (cut.handed ≡ mid.handed)
+    → old.handed ≤ MAX_PROBLEMS → HandsOut g coming left old mid [] → ReadsPiece left after mid cut (Ok is_whole) → (cut.handed ≡ mid.handed)
     → PieceHanded g cut new []
     → HandsOut g coming after old new []
-HandsOut-blank g coming left after old mid cut new false e so_far piece same_number handed = cc
-HandsOut-blank g coming left after old mid cut new true e so_far piece same_number handed = HandsOut-piece g coming left
-    after old mid cut new [] so_far piece same_number handed
+HandsOut-blank g coming left after old mid cut new false e room so_far piece same_number handed = cc
+HandsOut-blank g coming left after old mid cut new true e room so_far piece same_number handed = HandsOut-piece g coming left
+    after old mid cut new [] room so_far piece same_number handed

@@ -9,11 +9,12 @@ use Rattle.std.specs.Char.{is_ascii_digit}
 use Rattle.dw_board.specs.Geometry.{Geometry}
 use Rattle.dw_board.specs.Fen.{fen}
 use Rattle.dw_board.specs.FenTokens.{is_blank}
-use Rattle.dw_notation.specs.Lines.{fen_found}
-use Rattle.dw_notation.specs.Sections.{step, Section, bare, kind_of, number_on, game_of, with_tag, after, is_wrong}
-use Rattle.dw_notation.specs.Sections.{fens_found, section_found, found_by, found_at_end, sections_found}
-use Rattle.dw_notation.specs.HeldSection.{Held, held_bare, counted, kept, game_on, number_held, counted_in, value_on}
-use Rattle.dw_notation.specs.HeldSection.{tag_on, held_after, is_wrong_held, fens_held, held_found, held_from}
+use Rattle.dw_notation.specs.inner.Lines.{fen_found}
+use Rattle.dw_notation.specs.inner.Sections.{step, Section, bare, kind_of, with_tag, after}
+use Rattle.dw_notation.specs.Tags.{number_on, game_of, is_wrong}
+use Rattle.dw_notation.specs.inner.Sections.{fens_found, section_found, found_by, found_at_end, sections_found}
+use Rattle.dw_notation.specs.inner.HeldSection.{Held, held_bare, counted, kept, game_on, number_held, counted_in, value_on}
+use Rattle.dw_notation.specs.inner.HeldSection.{tag_on, held_after, is_wrong_held, fens_held, held_found, held_from}
 use Rattle.dw_notation.specs.declared.problems.pdn.Place.{Place}
 use Rattle.dw_notation.specs.declared.problems.pdn.Deed.{Deed}
 use Rattle.dw_notation.specs.declared.problems.pdn.Deed.TheVariants.{Keep, Open, Count, AddName, OpenValue, AddValue}

@@ -4,6 +4,7 @@ pub mod NumberLemmas
 pub mod MarkLemmas
 pub mod CarryLemmas
 pub mod DefinitionLemmas
+pub mod ProblemLemmas
 pub mod EndedLemmas
 pub mod EndsTellLemmas
 pub mod HandingLemmas
@@ -21,4 +22,5 @@ pub mod MoveTextLemmas
 pub mod LineTextLemmas
 pub mod LineWrittenLemmas
 pub mod WholeLineLemmas
+pub mod TextSaysLemmas
 pub mod TextLawLemmas

@@ -4,7 +4,8 @@ use Rattle.std.proofs.Common.{IsTrue, ◌↔◌, refl, sym, ap, ◌∙◌, arith
 use Rattle.std.proofs.lemmas.Bool.{eqb-true, eq-eqb, and_parts, and_from, cases_Bool}
 use Rattle.std.specs.Char.{to_ascii_lowercase}
 use Rattle.std.specs.Prelude.{codes}
-use Rattle.dw_notation.specs.Sections.{same_name, kind_of}
+use Rattle.dw_notation.specs.Tags.{same_name}
+use Rattle.dw_notation.specs.inner.Sections.{kind_of}
 use Rattle.dw_notation.specs.declared.problems.pdn.Kind.TheVariants.{FenTag, GameTag, OtherTag}
 
 same_name-maps : (name other : List ℕ) → same_name name other ≡ true → map to_ascii_lowercase name

@@ -6,9 +6,10 @@ use Rattle.std.proofs.lemmas.List.{take-append-drop}
 use Rattle.std.proofs.lemmas.List.Folds.{list_all_more}
 use Rattle.std.specs.List.{list_all}
 use Rattle.dw_board.specs.Geometry.{Geometry}
-use Rattle.dw_notation.specs.Sections.{step, at, found_by}
-use Rattle.dw_notation.specs.HeldSection.{Held, held_after, held_found, held_from}
-use Rattle.dw_notation.specs.Tags.{opens, closes}
+use Rattle.dw_notation.specs.inner.Sections.{step, at, found_by}
+use Rattle.dw_notation.specs.inner.HeldSection.{Held, held_after, held_found, held_from}
+use Rattle.dw_notation.specs.inner.Tags.{opens}
+use Rattle.dw_notation.specs.inner.Tags.{closes}
 use Rattle.dw_notation.specs.declared.problems.pdn.Place.{Place}
 use Rattle.dw_notation.specs.declared.problems.pdn.Place.TheVariants.{Outside, Comment}
 use Rattle.dw_notation.specs.declared.problems.pdn.Deed.TheVariants.{Keep}

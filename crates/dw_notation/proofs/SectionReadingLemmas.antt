@@ -5,12 +5,14 @@ use Rattle.std.proofs.lemmas.Bool.{or_parts, and_parts, not-true}
 use Rattle.std.specs.List.{list_all}
 use Rattle.dw_board.specs.Geometry.{Geometry}
 use Rattle.dw_notation.specs.Lines.{Found}
-use Rattle.dw_notation.specs.Sections.{step, at, Section, bare, kind_of, game_of, with_tag, after, section_found}
-use Rattle.dw_notation.specs.Sections.{found_by, sections_found}
-use Rattle.dw_notation.specs.Tags.{Tag, IsTag, IsUnclosed, is_space, IsGap, IsSection, with_fen, with_game, fens_of}
-use Rattle.dw_notation.specs.Tags.{games_of, tags_found, closes, SectionsAreFound, LastSectionIsFound}
-use Rattle.dw_notation.specs.Tags.{CommentsSayNothing, OpenCommentIsFound, OthersSayNothing, OpenCommentGivesNothing}
-use Rattle.dw_notation.specs.Tags.{OpenSectionGivesNothing}
+use Rattle.dw_notation.specs.inner.Sections.{step, at, Section, bare, kind_of, with_tag, after, section_found}
+use Rattle.dw_notation.specs.Tags.{game_of}
+use Rattle.dw_notation.specs.inner.Sections.{found_by, sections_found}
+use Rattle.dw_notation.specs.Tags.{Tag, IsTag, IsUnclosed, is_space, IsGap, IsSection}
+use Rattle.dw_notation.specs.inner.Tags.{with_fen, with_game, fens_of}
+use Rattle.dw_notation.specs.inner.Tags.{games_of, tags_found, closes, SectionsAreFound, LastSectionIsFound}
+use Rattle.dw_notation.specs.inner.Tags.{CommentsSayNothing, OpenCommentIsFound, OthersSayNothing, OpenCommentGivesNothing}
+use Rattle.dw_notation.specs.inner.Tags.{OpenSectionGivesNothing}
 use Rattle.dw_notation.specs.Tags.IsSection.{single, broken, longer, longer_broken}
 use Rattle.dw_notation.specs.declared.problems.pdn.Place.{Place}
 use Rattle.dw_notation.specs.declared.problems.pdn.Place.TheVariants.{Outside, Comment, Between, BeforeName}

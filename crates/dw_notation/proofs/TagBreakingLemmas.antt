@@ -6,8 +6,9 @@ use Rattle.std.proofs.lemmas.List.Folds.{list_all-append}
 use Rattle.std.specs.List.{list_all}
 use Rattle.dw_board.specs.FenTokens.{is_blank}
 use Rattle.dw_notation.specs.Lines.{Found}
-use Rattle.dw_notation.specs.Sections.{step, at, is_name_byte, ends_line, Section, after, section_found, found_by}
-use Rattle.dw_notation.specs.Sections.{found_at_end, sections_found}
+use Rattle.dw_notation.specs.inner.Sections.{step, at, Section, after, section_found, found_by}
+use Rattle.dw_notation.specs.Tags.{is_name_byte, ends_line}
+use Rattle.dw_notation.specs.inner.Sections.{found_at_end, sections_found}
 use Rattle.dw_notation.specs.Tags.{Tag, Spells, IsTag, IsUnclosed}
 use Rattle.dw_notation.specs.Tags.Spells.{nothing, quotation, backslash, lone, plain}
 use Rattle.dw_notation.proofs.TagReadingLemmas.{Reads}

@@ -5,8 +5,9 @@ use Rattle.std.proofs.lemmas.Bool.{ne_eqb, cases_Bool, or_parts, and_parts, not-
 use Rattle.std.specs.List.{list_all}
 use Rattle.dw_board.specs.Geometry.{Geometry}
 use Rattle.dw_board.specs.FenTokens.{is_blank}
-use Rattle.dw_notation.specs.Sections.{step, at, is_name_byte, ends_line, Section, kind_of, with_tag, after}
-use Rattle.dw_notation.specs.Sections.{section_found, found_by, sections_found}
+use Rattle.dw_notation.specs.inner.Sections.{step, at, Section, kind_of, with_tag, after}
+use Rattle.dw_notation.specs.Tags.{is_name_byte, ends_line}
+use Rattle.dw_notation.specs.inner.Sections.{section_found, found_by, sections_found}
 use Rattle.dw_notation.specs.Tags.{Tag, is_plain, Spells, is_space}
 use Rattle.dw_notation.specs.Tags.Spells.{nothing, quotation, backslash, lone, plain}
 use Rattle.dw_notation.specs.declared.problems.pdn.Place.{Place}

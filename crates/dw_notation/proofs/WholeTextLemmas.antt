@@ -7,15 +7,20 @@ use Rattle.std.specs.List.{list_all}
 use Rattle.dw_board.specs.Boards.{ten}
 use Rattle.dw_board.specs.Geometry.{Geometry}
 use Rattle.dw_notation.specs.Lines.{Found}
-use Rattle.dw_notation.specs.Sections.{step, ends_line, Section, bare, after, section_found, sections_found}
-use Rattle.dw_notation.specs.Tags.{Tag, IsTag, IsUnclosed, is_space, IsGap, IsSection, tags_found, outside_found}
-use Rattle.dw_notation.specs.Tags.{ends_section, closes}
+use Rattle.dw_notation.specs.inner.Sections.{step, Section, bare, after, section_found, sections_found}
+use Rattle.dw_notation.specs.Tags.{ends_line}
+use Rattle.dw_notation.specs.Tags.{Tag, IsTag, IsUnclosed, is_space, IsGap, IsSection}
+use Rattle.dw_notation.specs.inner.Tags.{tags_found, outside_found}
+use Rattle.dw_notation.specs.inner.Tags.{ends_section}
 use Rattle.dw_notation.specs.Tags.IsSection.{single, broken, longer, longer_broken}
-use Rattle.dw_notation.specs.WholeTexts.{IsOpen, if_over, Says, TextsAreRows}
-use Rattle.dw_notation.specs.WholeTexts.Says.{nothing, other, comment, last_comment, section, last_section}
+use Rattle.dw_notation.specs.Lines.{if_over}
+use Rattle.dw_notation.specs.WholeTexts.{IsOpen, SectionsSay}
+use Rattle.dw_notation.specs.WholeTexts.SectionsSay.{nothing, other, comment, last_comment, section, last_section}
 use Rattle.dw_notation.specs.declared.problems.ProblemFault.TheVariants.{UnclosedComment}
 use Rattle.dw_notation.specs.declared.problems.pdn.Place.{Place}
 use Rattle.dw_notation.specs.declared.problems.pdn.Place.TheVariants.{Outside, BeforeName}
+use Rattle.dw_board.specs.FenLaws.{ReadingIsGrammar}
+use Rattle.dw_notation.proofs.TextSaysLemmas.{section_says, section_says-only}
 use Rattle.dw_notation.proofs.TagReadingLemmas.{Reads, join_reads}
 use Rattle.dw_notation.proofs.TagBreakingLemmas.{SoFar, tag_goes_on}
 use Rattle.dw_notation.proofs.TagBreakingLemmas.SoFar.{before, named, behind, valued, escaped, closing, rest}
@@ -28,32 +33,35 @@ nothing_is_found : (over : Bool) (g : Geometry) → [] ≡ outside_found over g 
 nothing_is_found true g = refl
 nothing_is_found false g = refl
 
-last_comment_says : (over : Bool) (g : Geometry) (text : List ℕ) → IsOpen text → if_over over (Err UnclosedComment)
-    ≡ outside_found over g (123 ∷ text)
+last_comment_says : (over : Bool) (g : Geometry) (text : List ℕ) → IsOpen text
+    → if_over over (Err UnclosedComment ∷ []) ≡ outside_found over g (123 ∷ text)
 last_comment_says true g text unclosed = sym (open_comment_is_found g text unclosed)
 last_comment_says false g text unclosed = sym (open_comment_gives_nothing g text unclosed)
 
 last_section_says : (over : Bool) (g : Geometry) (text gap : List ℕ) (tags : List Tag) (some last : Bool)
     → IsSection text tags some last → IsGap last gap ⊎ (gap ≡ [])
-    → if_over over (tags_found g (length text) some tags) ≡ outside_found over g (text ++ gap)
+    → if_over over (tags_found g (length text) some tags ∷ []) ≡ outside_found over g (text ++ gap)
 last_section_says true g text gap tags some last is spaces = sym (last_section_is_found g text gap tags some last is
     spaces)
 last_section_says false g text gap tags some last is spaces = sym (open_section_gives_nothing g text gap tags some last
     is spaces)
 
-says_found : {g : Geometry} {over : Bool} {text : List ℕ} {found : List Found} → Says g over text found
-    → found ≡ outside_found over g text
-says_found (nothing {g} {over}) = nothing_is_found over g
-says_found (other {g} {over} {more} byte neither says) = says_found says
+pub sections_say-only : ReadingIsGrammar → {g : Geometry} {over : Bool} {text : List ℕ} {found : List Found}
+    → SectionsSay g over text found → found ≡ outside_found over g text
+sections_say-only law (nothing {g} {over}) = nothing_is_found over g
+sections_say-only law (other {g} {over} {more} byte neither says) = sections_say-only law says
     ∙ sym (others_say_nothing over g byte more neither)
-says_found (comment {g} {over} {more} text unclosed says) = says_found says
+sections_say-only law (comment {g} {over} {more} text unclosed says) = sections_say-only law says
     ∙ sym (comments_say_nothing over g text more unclosed)
-says_found (last_comment {g} {over} text unclosed) = last_comment_says over g text unclosed
-says_found (section {g} {over} {tags} {some} {last} {more} text gap byte is spaces ends says) =
-    ap (λ l. tags_found g (length text) some tags ∷ l) (says_found says)
+sections_say-only law (last_comment {g} {over} text unclosed) = last_comment_says over g text unclosed
+sections_say-only law (section {g} {over} {tags} {some} {last} {more} {found} text gap byte said is spaces ends here
+    says) =
+    ap (λ x. x ∷ found) (section_says-only law g (length text) some tags said here)
+    ∙ ap (λ l. tags_found g (length text) some tags ∷ l) (sections_say-only law says)
     ∙ sym (sections_are_found over g text gap more tags some last byte is spaces ends)
-says_found (last_section {g} {over} {tags} {some} {last} text gap is spaces) = last_section_says over g text gap tags
-    some last is spaces
+sections_say-only law (last_section {g} {over} {tags} {some} {last} text gap said is spaces here) =
+    ap (λ x. if_over over (x ∷ [])) (section_says-only law g (length text) some tags said here)
+    ∙ last_section_says over g text gap tags some last is spaces
 
 -- ---- cutting a text where bytes of one kind end
 data Stops : (ℕ → Bool) → List ℕ → Type 0 where
@@ -357,71 +365,74 @@ first_section more =
     ])
 
 -- ---- the row
-abbrev Row : Geometry → Bool → List ℕ → Type 0
-Row g over text = (found : List Found) × Says g over text found
+module _ (law : ReadingIsGrammar) where
+  abbrev Row : Geometry → Bool → List ℕ → Type 0
+  Row g over text = (found : List Found) × SectionsSay g over text found
 
-section_row : (n : ℕ) (g : Geometry) (over : Bool) → ((text : List ℕ) → length text ≤ n → Row g over text)
-    → (more : List ℕ) → length more ≤ n → Row g over (91 ∷ more)
-section_row n g over further more size =
-    let f = first_section more in
-    let said = tags_found g (length f.front) f.some f.tags in
-    elim f.ends [
-      | inl none ↦ (
-        if_over over said,
-        subst (λ l. Says g over l (if_over over said)) (sym (f.joined ∙ ap (λ b. f.front ++ (f.gap ++ b)) none.0
-            ∙ ap (λ l. f.front ++ l) (append-nil f.gap))) (last_section f.front f.gap f.is none.1),
-      )
-      | inr next ↦
-          let joined = f.joined ∙ ap (λ b. f.front ++ (f.gap ++ b)) next.2 in
-          let sizes = ap length joined in
-          let one = length-append f.front (f.gap ++ next.0 ∷ next.1) in
-          let two = length-append f.gap (next.0 ∷ next.1) in
-          let some = section_some f.is in
-          let r = further (next.0 ∷ next.1) (omega (arith, sizes, one, two, some, size)) in (
-            said ∷ r.0,
-            subst (λ l. Says g over l (said ∷ r.0)) (sym joined) (section f.front f.gap next.0 f.is next.3 next.4 r.1),
-          )
-    ]
-
-comment_behind : (n : ℕ) (g : Geometry) (over : Bool) → ((text : List ℕ) → length text ≤ n → Row g over text)
-    → (text back : List ℕ) → IsOpen text → Stops (λ byte. not (closes byte)) back → length back ≤ n
-    → Row g over (123 ∷ (text ++ back))
-comment_behind n g over further text [] unclosed stops size = (
-  if_over over (Err UnclosedComment),
-  subst (λ l. Says g over (123 ∷ l) (if_over over (Err UnclosedComment))) (sym (append-nil text))
-      (last_comment text unclosed),
-)
-comment_behind n g over further text (byte ∷ more) unclosed stops size =
-    let brace : byte ≡ 125 = eqb-true byte 125 (un_not (closes byte) (stop_of stops)) in
-    let r = further more (omega (arith, size)) in
-    (r.0, subst (λ b. Says g over (123 ∷ (text ++ b ∷ more)) r.0) (sym brace) (comment text unclosed r.1))
-
-comment_row : (n : ℕ) (g : Geometry) (over : Bool) → ((text : List ℕ) → length text ≤ n → Row g over text)
-    → (more : List ℕ) → length more ≤ n → Row g over (123 ∷ more)
-comment_row n g over further more size =
-    let c = cut (λ byte. not (closes byte)) more in
-    let sizes = ap length c.joined in
-    let parts = length-append c.front c.back in
-    subst (λ l. Row g over (123 ∷ l)) (sym c.joined) (comment_behind n g over further c.front c.back c.all c.stops
-    (omega (arith, sizes, parts, size)))
-
-row : (n : ℕ) (g : Geometry) (over : Bool) (text : List ℕ) → length text ≤ n → Row g over text
-row n g over [] size = ([], nothing)
-row zero g over (byte ∷ more) size = absurd (omega (arith, size))
-row (suc n) g over (byte ∷ more) size =
-    let less : length more ≤ n = omega (arith, size) in
-    elim (cases_Bool (byte == 91)) [
-      | inl bracket ↦ subst (λ b. Row g over (b ∷ more)) (sym (eqb-true byte 91 bracket))
-          (section_row n g over (row n g over) more less)
-      | inr none ↦ elim (cases_Bool (byte == 123)) [
-        | inl brace ↦ subst (λ b. Row g over (b ∷ more)) (sym (eqb-true byte 123 brace))
-            (comment_row n g over (row n g over) more less)
-        | inr neither ↦ let r = row n g over more less in (r.0, other byte (rw (none, neither) refl) r.1)
+  section_row : (n : ℕ) (g : Geometry) (over : Bool) → ((text : List ℕ) → length text ≤ n → Row g over text)
+      → (more : List ℕ) → length more ≤ n → Row g over (91 ∷ more)
+  section_row n g over further more size =
+      let f = first_section more in
+      let said = tags_found g (length f.front) f.some f.tags in
+      let here = section_says law g (length f.front) f.some f.tags in
+      elim f.ends [
+        | inl none ↦ (
+          if_over over (said ∷ []),
+          subst (λ l. SectionsSay g over l (if_over over (said ∷ []))) (sym (f.joined ∙ ap (λ b. f.front ++ (f.gap ++ b)) none.0
+              ∙ ap (λ l. f.front ++ l) (append-nil f.gap))) (last_section f.front f.gap said
+              f.is none.1 here),
+        )
+        | inr next ↦
+            let joined = f.joined ∙ ap (λ b. f.front ++ (f.gap ++ b)) next.2 in
+            let sizes = ap length joined in
+            let one = length-append f.front (f.gap ++ next.0 ∷ next.1) in
+            let two = length-append f.gap (next.0 ∷ next.1) in
+            let some = section_some f.is in
+            let r = further (next.0 ∷ next.1) (omega (arith, sizes, one, two, some, size)) in (
+              said ∷ r.0,
+              subst (λ l. SectionsSay g over l (said ∷ r.0)) (sym joined) (section f.front f.gap next.0 said f.is next.3 next.4 here
+                  r.1),
+            )
       ]
-    ]
 
-pub texts_are_rows : TextsAreRows
-texts_are_rows g over text found = (
-  says_found,
-  λ e. let r = row (length text) g over text (omega arith) in subst (Says g over text) (says_found r.1 ∙ sym e) r.1,
-)
+  comment_behind : (n : ℕ) (g : Geometry) (over : Bool) → ((text : List ℕ) → length text ≤ n → Row g over text)
+      → (text back : List ℕ) → IsOpen text → Stops (λ byte. not (byte == 125)) back → length back ≤ n
+      → Row g over (123 ∷ (text ++ back))
+  comment_behind n g over further text [] unclosed stops size = (
+    if_over over (Err UnclosedComment ∷ []),
+    subst (λ l. SectionsSay g over (123 ∷ l) (if_over over (Err UnclosedComment ∷ []))) (sym (append-nil text))
+        (last_comment text unclosed),
+  )
+  comment_behind n g over further text (byte ∷ more) unclosed stops size =
+      let brace : byte ≡ 125 = eqb-true byte 125 (un_not (byte == 125) (stop_of stops)) in
+      let r = further more (omega (arith, size)) in
+      (r.0, subst (λ b. SectionsSay g over (123 ∷ (text ++ b ∷ more)) r.0) (sym brace) (comment text unclosed r.1))
+
+  comment_row : (n : ℕ) (g : Geometry) (over : Bool) → ((text : List ℕ) → length text ≤ n → Row g over text)
+      → (more : List ℕ) → length more ≤ n → Row g over (123 ∷ more)
+  comment_row n g over further more size =
+      let c = cut (λ byte. not (byte == 125)) more in
+      let sizes = ap length c.joined in
+      let parts = length-append c.front c.back in
+      subst (λ l. Row g over (123 ∷ l)) (sym c.joined) (comment_behind n g over further c.front c.back c.all c.stops
+      (omega (arith, sizes, parts, size)))
+
+  row : (n : ℕ) (g : Geometry) (over : Bool) (text : List ℕ) → length text ≤ n → Row g over text
+  row n g over [] size = ([], nothing)
+  row zero g over (byte ∷ more) size = absurd (omega (arith, size))
+  row (suc n) g over (byte ∷ more) size =
+      let less : length more ≤ n = omega (arith, size) in
+      elim (cases_Bool (byte == 91)) [
+        | inl bracket ↦ subst (λ b. Row g over (b ∷ more)) (sym (eqb-true byte 91 bracket))
+            (section_row n g over (row n g over) more less)
+        | inr none ↦ elim (cases_Bool (byte == 123)) [
+          | inl brace ↦ subst (λ b. Row g over (b ∷ more)) (sym (eqb-true byte 123 brace))
+              (comment_row n g over (row n g over) more less)
+          | inr neither ↦ let r = row n g over more less in (r.0, other byte (rw (none, neither) refl) r.1)
+        ]
+      ]
+
+  pub sections_say : (g : Geometry) (over : Bool) (text : List ℕ) → SectionsSay g over text (outside_found over g text)
+  sections_say g over text =
+      let r = row (length text) g over text (omega arith) in
+      subst (SectionsSay g over text) (sections_say-only law r.1) r.1

@@ -6,15 +6,9 @@ pub mod TextLaws
 pub mod LineWords
 pub mod LineTexts
 pub mod Lines
-pub mod Sections
 pub mod Tags
 pub mod WholeTexts
-pub mod HeldSection
 pub mod Problems
-pub mod Held
-pub mod Ahead
-pub mod Pieces
-pub mod Cutting
 pub mod Reading
 pub mod MoveReading
 pub mod MoveReadingLaws

@@ -1,15 +1,15 @@
 -- The lines of a byte text, and what they say.
-use Rattle.std.specs.Prelude.{ℕ, ◌==◌, ◌-◌, ◌&&◌, if◌then◌else◌, List, [], ◌∷◌, length, take, slice_index}
-use Rattle.std.specs.Prelude.{◌++◌, Option, Some, None, option_to_list, Result, Ok, Err, nat_lt}
+use Rattle.std.specs.Prelude.{◌≡◌, ℕ, ◌==◌, ◌-◌, ◌&&◌, if◌then◌else◌, List, [], ◌∷◌, ◌++◌, length, take, slice_index}
+use Rattle.std.specs.Prelude.{Bool, false, Result, Ok, Err, nat_lt, MatchBool}
 use Rattle.std.specs.List.{list_all}
 use Rattle.dw_board.specs.Geometry.{Geometry}
 use Rattle.dw_board.specs.Placement.{Placement}
 use Rattle.dw_board.specs.FenTokens.{is_blank}
-use Rattle.dw_board.specs.Fen.{fen}
-use Rattle.dw_board.specs.declared.fen.fault.FenFault.{FenFault}
+use Rattle.dw_board.specs.FenGrammar.{Fen}
+use Rattle.dw_board.specs.FenLaws.{IsFirstFault}
 use Rattle.dw_notation.specs.declared.problems.TheConstants.{MAX_LINE}
 use Rattle.dw_notation.specs.declared.problems.ProblemFault.{ProblemFault}
-use Rattle.dw_notation.specs.declared.problems.ProblemFault.TheVariants.{Fen, LineTooLong}
+use Rattle.dw_notation.specs.declared.problems.ProblemFault.TheVariants as why
 
 -- the text without a byte-order mark, the three bytes EF BB BF at its very front
 abbrev pub without_mark : List ℕ → List ℕ
@@ -24,26 +24,10 @@ line_feed = 10
 abbrev pub carriage_return : ℕ
 carriage_return = 13
 
--- a byte goes onto the front of the first line
-abbrev pub onto_line : ℕ → List (List ℕ) → List (List ℕ)
-onto_line byte [] = (byte ∷ []) ∷ []
-onto_line byte (line ∷ lines) = (byte ∷ line) ∷ lines
-
--- the same, if what has no line feed after it is no line
-abbrev pub onto_whole_line : ℕ → List (List ℕ) → List (List ℕ)
-onto_whole_line byte [] = []
-onto_whole_line byte (line ∷ lines) = (byte ∷ line) ∷ lines
-
--- the text cut at line feeds: the last line needs none, and nothing after the last line feed is no line
-abbrev pub lines_of : List ℕ → List (List ℕ)
-lines_of [] = []
-lines_of (byte ∷ bytes) = if byte == line_feed then [] ∷ lines_of bytes else onto_line byte (lines_of bytes)
-
--- the lines that a line feed ends
-abbrev pub whole_lines_of : List ℕ → List (List ℕ)
-whole_lines_of [] = []
-whole_lines_of (byte ∷ bytes) =
-    if byte == line_feed then [] ∷ whole_lines_of bytes else onto_whole_line byte (whole_lines_of bytes)
+-- no line feed is among them
+abbrev pub NoLineFeed : List ℕ → Type 0
+NoLineFeed [] = Unit {0}
+NoLineFeed (byte ∷ bytes) = ((byte == line_feed) ≡ false) × NoLineFeed bytes
 
 -- the line without one carriage return at its end
 abbrev pub without_return : List ℕ → List ℕ
@@ -54,22 +38,26 @@ without_return line =
 abbrev pub Found : Type 0
 Found = Result Placement ProblemFault
 
--- what the reading of a FEN text gave
-abbrev pub fen_found : Result Placement FenFault → Found
-fen_found (Ok position) = Ok position
-fen_found (Err fault) = Err (Fen fault)
+-- a FEN text says the position that it names, or its earliest fault
+abbrev pub FenSays : Geometry → List ℕ → Found → Type 0
+FenSays g text (Ok position) = Fen g text position
+FenSays g text (Err (why.Fen fault)) = IsFirstFault g text fault
+FenSays g text (Err other) = ⊥
 
 -- a line's length is tested before its blankness, and a line of blanks alone says nothing
-abbrev pub text_found : Geometry → List ℕ → Option Found
-text_found g text =
-    if nat_lt MAX_LINE (length text) then Some (Err LineTooLong)
-    else (if list_all is_blank text then None else Some (fen_found (fen g text)))
+abbrev pub LineSays : Geometry → List ℕ → List Found → Type 0
+LineSays g line said =
+    MatchBool (nat_lt MAX_LINE (length line)) (said ≡ Err why.LineTooLong ∷ [])
+    (MatchBool (list_all is_blank line) (said ≡ []) ((found : Found) × FenSays g line found × (said ≡ found ∷ [])))
 
--- what a line says
-unfoldable pub line_found : Geometry → List ℕ → Option Found
-line_found g line = text_found g (without_return line)
+-- what stands unfinished where the text ends says something only if no more can come
+abbrev pub if_over : Bool → List Found → List Found
+if_over over said = if over then said else []
 
--- what the lines say, in turn
-abbrev pub all_found : Geometry → List (List ℕ) → List Found
-all_found g [] = []
-all_found g (line ∷ lines) = option_to_list (line_found g line) ++ all_found g lines
+-- a text is a row of lines, and says what they say, one after another; the last one needs no line feed
+pub data LinesSay : Geometry → Bool → List ℕ → List Found → Type 0 where
+  last : {g : Geometry} {over : Bool} (line : List ℕ) (said : List Found) → NoLineFeed line
+      → LineSays g (without_return line) said → LinesSay g over line (if_over over said)
+  one_more : {g : Geometry} {over : Bool} {more : List ℕ} {found : List Found} (line : List ℕ) (said : List Found)
+      → NoLineFeed line → LineSays g (without_return line) said → LinesSay g over more found
+      → LinesSay g over (line ++ line_feed ∷ more) (said ++ found)

@@ -1,9 +1,8 @@
 -- The problems of a byte text.
-use Rattle.std.specs.Prelude.{◌≡◌, ℕ, ◌==◌, ◌+◌, if◌then◌else◌, List, [], ◌∷◌, ◌++◌, true, false, Err, nat_lt}
+use Rattle.std.specs.Prelude.{◌≡◌, ℕ, ◌==◌, ◌+◌, if◌then◌else◌, List, [], ◌∷◌, ◌++◌, Bool, false, Err, nat_lt}
 use Rattle.dw_board.specs.Geometry.{Geometry}
-use Rattle.dw_notation.specs.Lines.{lines_of, whole_lines_of, without_mark, Found, all_found}
-use Rattle.dw_notation.specs.Sections.{bare, sections_found}
-use Rattle.dw_notation.specs.declared.problems.pdn.Place.TheVariants.{Outside}
+use Rattle.dw_notation.specs.Lines.{without_mark, Found, LinesSay}
+use Rattle.dw_notation.specs.WholeTexts.{SectionsSay}
 use Rattle.dw_notation.specs.declared.problems.TheConstants.{MAX_PROBLEMS}
 use Rattle.dw_notation.specs.declared.problems.Problem.{Problem}
 use Rattle.dw_notation.specs.declared.problems.Form.{Form}
@@ -26,27 +25,28 @@ number_from handed (found ∷ more) =
     if nat_lt handed MAX_PROBLEMS then record { number = handed + 1; found = found } ∷ number_from (handed + 1) more
     else (if handed == MAX_PROBLEMS then record { number = handed + 1; found = Err TooManyProblems } ∷ [] else [])
 
--- what the problems of a text are found to be
-abbrev pub found_of : Geometry → Form → List ℕ → List Found
-found_of g Fens bytes = all_found g (lines_of (without_mark bytes))
-found_of g Pdn bytes = sections_found true g Outside bare (without_mark bytes)
+-- what a text says, by its form
+abbrev pub TextSays : Geometry → Form → Bool → List ℕ → List Found → Type 0
+TextSays g Fens over bytes found = LinesSay g over (without_mark bytes) found
+TextSays g Pdn over bytes found = SectionsSay g over (without_mark bytes) found
 
--- the same for those that a line feed ends, or a byte after their section
-abbrev pub ended_of : Geometry → Form → List ℕ → List Found
-ended_of g Fens bytes = all_found g (whole_lines_of (without_mark bytes))
-ended_of g Pdn bytes = sections_found false g Outside bare (without_mark bytes)
+-- The problems of a text that is over; of one that is not, those of them that end in it, whatever follows: by a line
+-- feed, or by a byte after their section.
+pub record AreProblems (g : Geometry) (form : Form) (over : Bool) (bytes : List ℕ) (problems : List Numbered) :
+    Type 0 where
+  pub found : List Found
+  pub said : TextSays g form over bytes found
+  pub numbers : problems ≡ number_from 0 found
 
--- the problems of a text
-abbrev pub problems_of : Geometry → Form → List ℕ → List Numbered
-problems_of g form bytes = number_from 0 (found_of g form bytes)
+-- each text has its problems, and no others, be it over or not
+pub record TextsHaveProblems : Type 0 where
+  pub some : (g : Geometry) (form : Form) (over : Bool) (bytes : List ℕ) → (problems : List Numbered)
+      × AreProblems g form over bytes problems
+  pub only : (g : Geometry) (form : Form) (over : Bool) (bytes : List ℕ) (problems others : List Numbered)
+      → AreProblems g form over bytes problems → AreProblems g form over bytes others → problems ≡ others
 
--- those of them that end in it, whatever follows
-abbrev pub ended_problems_of : Geometry → Form → List ℕ → List Numbered
-ended_problems_of g form bytes = number_from 0 (ended_of g form bytes)
-
--- they come first among the problems of each text that begins so, and among those that end in it
-pub record EndedComeFirst : Type 0 where
-  pub found : (g : Geometry) (form : Form) (bytes more : List ℕ) → (later : List Numbered)
-      × (problems_of g form (bytes ++ more) ≡ ended_problems_of g form bytes ++ later)
-  pub ended : (g : Geometry) (form : Form) (bytes more : List ℕ) → (later : List Numbered)
-      × (ended_problems_of g form (bytes ++ more) ≡ ended_problems_of g form bytes ++ later)
+-- the problems that end in a text come first among the problems of each text that begins so
+abbrev pub EndedComeFirst : Type 0
+EndedComeFirst = (g : Geometry) (form : Form) (over : Bool) (bytes more : List ℕ) (ended problems : List Numbered)
+    → AreProblems g form false bytes ended → AreProblems g form over (bytes ++ more) problems
+    → (later : List Numbered) × (problems ≡ ended ++ later)

@@ -1,7 +1,14 @@
--- What a reader of problems shows its caller.
+-- What a reader of problems shows its caller, and what a call for the next problem does.
+use Rattle.std.specs.Prelude.{◌≡◌, ℕ, ◌+◌, ◌<◌, ◌≤◌, ◌⊎◌, List, [], ◌∷◌, ◌++◌, length, Bool, true, false, Option}
+use Rattle.std.specs.Prelude.{Some, None, option_to_list, Result, Ok, Err, MatchBool, IfOk, IfSome}
 use Rattle.std.specs.Borrow.{GName}
+use Rattle.std.specs.Io.KnownBytes.{Consumes, IsAtEnd}
+use Rattle.dw_board.specs.Geometry.{Geometry}
+use Rattle.dw_notation.specs.Problems.{Numbered, numbered}
+use Rattle.dw_notation.specs.declared.problems.TheConstants.{MAX_PROBLEMS, MAX_READ}
+use Rattle.dw_notation.specs.declared.problems.Problem.{Problem}
+use Rattle.dw_notation.specs.declared.problems.ReadFault.{ReadFault}
 use Rattle.dw_notation.specs.declared.problems.reader.Problems.{Problems}
-use Rattle.dw_notation.specs.declared.problems.reader.Cutter.{Cutter}
 
 -- the name of the reference to the source that the reader holds
 abbrev pub lender : {B S : Type 0} → Problems B S → GName
@@ -11,6 +18,56 @@ lender problems = problems.source.ghost_name
 abbrev pub source_of : {B S : Type 0} → Problems B S → S
 source_of problems = problems.source.now
 
--- what was read of the text and not handed out
-abbrev pub cutter_of : {B S : Type 0} → Problems B S → Cutter
-cutter_of problems = problems.cutter
+-- How far a reader has come. Callers know of it what the clauses say, and nothing else.
+pub record Reader : Type 0 where
+  -- the problems not yet handed out, if these bytes are still to be read: all of them if the text is over then, else
+  -- those that end in these bytes
+  pub ahead : Geometry → Bool → List ℕ → List Numbered
+  -- how many were handed out
+  pub handed : ℕ
+  -- whether the source's end was met
+  pub met_end : Bool
+  -- whether the next problem needs a read
+  pub waits : Bool
+
+-- what a call of `next` that read these bytes did
+abbrev pub Gives : {B : Type 0} → Geometry → Reader → Reader → List ℕ → Result (Option (Problem B)) ReadFault → Type 0
+Gives g old new read (Ok (Some problem)) =
+    MatchBool new.met_end (old.ahead g true read ≡ numbered problem ∷ new.ahead g true [])
+    ((over : Bool) (bytes : List ℕ) → old.ahead g over (read ++ bytes) ≡ numbered problem ∷ new.ahead g over bytes)
+Gives g old new read (Ok None) =
+    (old.ahead g true read ≡ []) × (new.ahead g true [] ≡ [])
+    × ((new.met_end ≡ true) ⊎ ((MAX_PROBLEMS < new.handed) × ((more : List ℕ) → old.ahead g true (read ++ more) ≡ [])))
+Gives g old new read (Err fault) =
+    (old.ahead g false read ≡ [])
+    × ((over : Bool) (bytes : List ℕ) → old.ahead g over (read ++ bytes) ≡ new.ahead g over bytes)
+
+-- bytes are read only if there may be a problem more, and only until one has ended: none had before the last read
+abbrev pub ReadsAtNeed : Geometry → Reader → List ℕ → Type 0
+ReadsAtNeed g old read =
+    (read ≡ []) ⊎ ((old.handed ≤ MAX_PROBLEMS) × (before : List ℕ) × (last : List ℕ) × (read ≡ before ++ last)
+    × (length last ≤ MAX_READ) × (old.ahead g false before ≡ []))
+
+-- a call that took these bytes off the source gave this
+pub record NextGives {B : Type 0} (g : Geometry) (coming left : Option (List ℕ)) (old new : Reader)
+    (result : Result (Option (Problem B)) ReadFault) : Type 0 where
+  pub read : List ℕ
+  pub took : Consumes coming left read
+  pub need : ReadsAtNeed g old read
+  pub gives : Gives g old new read result
+
+-- each problem handed out is counted, and has the number of those handed out with it
+abbrev pub IsCounted : {B : Type 0} → Reader → Reader → Result (Option (Problem B)) ReadFault → Type 0
+IsCounted old new result = IfOk result (λ found.
+    (new.handed ≡ old.handed + length (option_to_list found))
+    × IfSome found (λ problem. (problem.number ≡ new.handed) × (old.handed ≤ MAX_PROBLEMS)))
+
+-- the end was met only if the source has nothing left
+abbrev pub EndIsTrue : Option (List ℕ) → Reader → Type 0
+EndIsTrue coming reader = reader.met_end ≡ true → IsAtEnd coming
+
+-- the next problem needs a read, and the source has failed before its end was met
+pub record HasStopped (is_failed : Bool) (reader : Reader) : Type 0 where
+  pub failed : is_failed ≡ true
+  pub unmet : reader.met_end ≡ false
+  pub waits : reader.waits ≡ true

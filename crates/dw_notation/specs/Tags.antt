@@ -1,18 +1,44 @@
--- The grammar of tags and sections, and what sections of whole tags say.
-use Rattle.std.specs.Prelude.{◌≡◌, ◌⊎◌, ℕ, ◌==◌, ◌<◌, ◌||◌, if◌then◌else◌, not, List, [], ◌∷◌, ◌++◌, length, Bool, true}
-use Rattle.std.specs.Prelude.{false, Err, nat_lt}
-use Rattle.std.specs.List.{list_all}
+-- The grammar of tags and sections, and what a section says.
+use Rattle.std.specs.Prelude.{◌≡◌, ℕ, ◌==◌, ◌+◌, ◌-◌, ◌*◌, ◌<◌, ◌||◌, ◌&&◌, if◌then◌else◌, not, List, [], ◌∷◌}
+use Rattle.std.specs.Prelude.{◌++◌, length, map, codes, Bool, true, false, Err, nat_lt, MatchBool}
+use Rattle.std.specs.List.{list_all, list_any}
+use Rattle.std.specs.Char.{to_ascii_lowercase, is_ascii_digit, is_ascii_alphanumeric}
 use Rattle.dw_board.specs.Geometry.{Geometry}
 use Rattle.dw_board.specs.FenTokens.{is_blank}
-use Rattle.dw_notation.specs.Lines.{Found}
-use Rattle.dw_notation.specs.Sections.{is_name_byte, ends_line, kind_of, game_of, is_wrong, fens_found, bare}
-use Rattle.dw_notation.specs.Sections.{sections_found}
+use Rattle.dw_notation.specs.Lines.{line_feed, carriage_return, Found, FenSays}
 use Rattle.dw_notation.specs.declared.problems.TheConstants.{MAX_SECTION}
-use Rattle.dw_notation.specs.declared.problems.ProblemFault.TheVariants.{WrongGame, SectionTooLong, UnclosedTag}
-use Rattle.dw_notation.specs.declared.problems.ProblemFault.TheVariants.{UnclosedComment}
-use Rattle.dw_notation.specs.declared.problems.pdn.Place.TheVariants.{Outside}
-use Rattle.dw_notation.specs.declared.problems.pdn.Kind.{Kind}
-use Rattle.dw_notation.specs.declared.problems.pdn.Kind.TheVariants.{FenTag, GameTag, OtherTag}
+use Rattle.dw_notation.specs.declared.problems.ProblemFault.TheVariants.{NoFen, TwoFens, WrongGame, SectionTooLong}
+use Rattle.dw_notation.specs.declared.problems.ProblemFault.TheVariants.{UnclosedTag}
+
+-- the bytes with a meaning in such a text
+abbrev pub open_bracket : ℕ
+open_bracket = 91
+
+abbrev pub close_bracket : ℕ
+close_bracket = 93
+
+abbrev pub open_brace : ℕ
+open_brace = 123
+
+abbrev pub close_brace : ℕ
+close_brace = 125
+
+abbrev pub quotation_mark : ℕ
+quotation_mark = 34
+
+abbrev pub back_slash : ℕ
+back_slash = 92
+
+abbrev pub underscore : ℕ
+underscore = 95
+
+-- an ASCII letter, a digit or an underscore
+abbrev pub is_name_byte : ℕ → Bool
+is_name_byte byte = is_ascii_alphanumeric byte || (byte == underscore)
+
+-- a line feed or a carriage return
+abbrev pub ends_line : ℕ → Bool
+ends_line byte = (byte == line_feed) || (byte == carriage_return)
 
 pub record Tag : Type 0 where
   pub name : List ℕ
@@ -20,15 +46,16 @@ pub record Tag : Type 0 where
 
 -- any byte but a quotation mark, a backslash or the end of a line
 abbrev pub is_plain : ℕ → Bool
-is_plain byte = not ((byte == 34) || ((byte == 92) || ends_line byte))
+is_plain byte = not ((byte == quotation_mark) || ((byte == back_slash) || ends_line byte))
 
 -- the bytes between the quotation marks of a tag, and the value that they stand for
 pub data Spells : List ℕ → List ℕ → Type 0 where
   nothing : Spells [] []
-  quotation : {text value : List ℕ} → Spells text value → Spells (92 ∷ 34 ∷ text) (34 ∷ value)
-  backslash : {text value : List ℕ} → Spells text value → Spells (92 ∷ 92 ∷ text) (92 ∷ value)
+  quotation : {text value : List ℕ} → Spells text value
+      → Spells (back_slash ∷ quotation_mark ∷ text) (quotation_mark ∷ value)
+  backslash : {text value : List ℕ} → Spells text value → Spells (back_slash ∷ back_slash ∷ text) (back_slash ∷ value)
   lone : {text value : List ℕ} (byte : ℕ) → is_plain byte ≡ true → Spells text value
-      → Spells (92 ∷ byte ∷ text) (92 ∷ byte ∷ value)
+      → Spells (back_slash ∷ byte ∷ text) (back_slash ∷ byte ∷ value)
   plain : {text value : List ℕ} (byte : ℕ) → is_plain byte ≡ true → Spells text value
       → Spells (byte ∷ text) (byte ∷ value)
 
@@ -44,13 +71,14 @@ pub record IsTag (text : List ℕ) (tag : Tag) : Type 0 where
   pub some : 0 < length tag.name
   pub named : list_all is_name_byte tag.name ≡ true
   pub spells : Spells spelling tag.value
-  pub joined : text ≡ 91 ∷ (first ++ (tag.name ++ (middle ++ 34 ∷ (spelling ++ 34 ∷ (last ++ 93 ∷ [])))))
+  pub joined : text ≡ open_bracket ∷ (first ++ (tag.name ++ (middle ++ quotation_mark ∷ (spelling
+      ++ quotation_mark ∷ (last ++ close_bracket ∷ [])))))
 
 -- a bracket and the bytes after it in its line, no beginning of which is a whole tag
 pub record IsUnclosed (text : List ℕ) : Type 0 where
   pub line : List ℕ
   pub in_line : list_all (λ byte. not (ends_line byte)) line ≡ true
-  pub joined : text ≡ 91 ∷ line
+  pub joined : text ≡ open_bracket ∷ line
   pub broken : (front back : List ℕ) (tag : Tag) → text ≡ front ++ back → IsTag front tag → ⊥
 
 -- a blank or the end of a line
@@ -75,86 +103,44 @@ pub data IsSection : List ℕ → List Tag → Bool → Bool → Type 0 where
       → IsGap last gap → IsUnclosed next
       → IsSection (text ++ (gap ++ next)) tags true true
 
-abbrev pub with_fen : Kind → List ℕ → List (List ℕ) → List (List ℕ)
-with_fen FenTag value fens = value ∷ fens
-with_fen GameTag value fens = fens
-with_fen OtherTag value fens = fens
+-- two names, without regard to the case of their letters
+abbrev pub same_name : List ℕ → List ℕ → Bool
+same_name [] [] = true
+same_name [] (b ∷ other) = false
+same_name (a ∷ name) [] = false
+same_name (a ∷ name) (b ∷ other) = (to_ascii_lowercase a == to_ascii_lowercase b) && same_name name other
 
--- the values of the FEN tags
-abbrev pub fens_of : List Tag → List (List ℕ)
-fens_of [] = []
-fens_of (tag ∷ tags) = with_fen (kind_of tag.name) tag.value (fens_of tags)
+-- the values of the tags of a name
+abbrev pub values_named : List ℕ → List Tag → List (List ℕ)
+values_named name [] = []
+values_named name (tag ∷ tags) =
+    if same_name tag.name name then tag.value ∷ values_named name tags else values_named name tags
 
-abbrev pub with_game : Kind → List ℕ → List ℕ → List ℕ
-with_game FenTag value games = games
-with_game GameTag value games = game_of value ∷ games
-with_game OtherTag value games = games
+-- a number goes on with the digits in front of the text
+abbrev pub number_on : ℕ → List ℕ → ℕ
+number_on n [] = n
+number_on n (byte ∷ text) = if is_ascii_digit byte then number_on (n * 10 + (byte - 48)) text else n
 
--- the games of the GameType tags
-abbrev pub games_of : List Tag → List ℕ
-games_of [] = []
-games_of (tag ∷ tags) = with_game (kind_of tag.name) tag.value (games_of tags)
+-- the game that a value names: the number at its front, blanks aside; 20, international draughts, if there is none
+abbrev pub game_of : List ℕ → ℕ
+game_of [] = 20
+game_of (byte ∷ text) = if is_blank byte then game_of text
+    else (if is_ascii_digit byte then number_on (byte - 48) text else 20)
+
+-- international draughts is game 20, on ten rows; a tag of any other game is wrong, and on any other board each
+abbrev pub is_wrong : Geometry → List ℕ → Bool
+is_wrong g games = list_any (λ game. not ((g.rows == 10) && (game == 20))) games
+
+-- what the values of the FEN tags say
+abbrev pub FensSay : Geometry → List (List ℕ) → Found → Type 0
+FensSay g [] found = found ≡ Err NoFen
+FensSay g (text ∷ []) found = FenSays g text found
+FensSay g (text ∷ other ∷ fens) found = found ≡ Err TwoFens
 
 -- what a section of these tags says that has so many bytes, by whether a tag of it is unclosed
-abbrev pub tags_found : Geometry → ℕ → Bool → List Tag → Found
-tags_found g size some tags =
-    if nat_lt MAX_SECTION size then Err SectionTooLong
-    else (if some then Err UnclosedTag
-    else (if is_wrong g (games_of tags) then Err WrongGame else fens_found g (fens_of tags)))
-
--- what a text says from outside any section
-abbrev pub outside_found : Bool → Geometry → List ℕ → List Found
-outside_found at_end g bytes = sections_found at_end g Outside bare bytes
-
--- any byte that neither opens a tag nor stands between two
-abbrev pub ends_section : ℕ → Bool
-ends_section byte = not ((byte == 91) || is_space byte)
-
--- a section says what its tags say, and the byte that ends it is outside
-abbrev pub SectionsAreFound : Type 0
-SectionsAreFound =
-    (at_end : Bool) (g : Geometry) (text gap more : List ℕ) (tags : List Tag) (some last : Bool) (byte : ℕ)
-    → IsSection text tags some last → IsGap last gap → ends_section byte ≡ true
-    → outside_found at_end g (text ++ (gap ++ byte ∷ more))
-    ≡ tags_found g (length text) some tags ∷ outside_found at_end g (byte ∷ more)
-
--- at the end of the text it needs no byte after it, and an unclosed tag no end of its line
-abbrev pub LastSectionIsFound : Type 0
-LastSectionIsFound =
-    (g : Geometry) (text gap : List ℕ) (tags : List Tag) (some last : Bool) → IsSection text tags some last
-    → IsGap last gap ⊎ (gap ≡ []) → outside_found true g (text ++ gap) ≡ tags_found g (length text) some tags ∷ []
-
--- opens a tag or a comment
-abbrev pub opens : ℕ → Bool
-opens byte = (byte == 91) || (byte == 123)
-
--- closes a comment
-abbrev pub closes : ℕ → Bool
-closes byte = byte == 125
-
--- a comment says nothing, whatever stands in it up to the first closing brace
-abbrev pub CommentsSayNothing : Type 0
-CommentsSayNothing =
-    (at_end : Bool) (g : Geometry) (text more : List ℕ) → list_all (λ byte. not (closes byte)) text ≡ true
-    → outside_found at_end g (123 ∷ (text ++ 125 ∷ more)) ≡ outside_found at_end g more
-
--- but a fault is found if the text ends in it
-abbrev pub OpenCommentIsFound : Type 0
-OpenCommentIsFound = (g : Geometry) (text : List ℕ) → list_all (λ byte. not (closes byte)) text ≡ true
-    → outside_found true g (123 ∷ text) ≡ Err UnclosedComment ∷ []
-
--- any other byte outside says nothing
-abbrev pub OthersSayNothing : Type 0
-OthersSayNothing = (at_end : Bool) (g : Geometry) (byte : ℕ) (more : List ℕ) → opens byte ≡ false
-    → outside_found at_end g (byte ∷ more) ≡ outside_found at_end g more
-
--- while more bytes may come, a comment that is still open has given nothing
-abbrev pub OpenCommentGivesNothing : Type 0
-OpenCommentGivesNothing = (g : Geometry) (text : List ℕ) → list_all (λ byte. not (closes byte)) text ≡ true
-    → outside_found false g (123 ∷ text) ≡ []
-
--- nor has a section that more tags may follow
-abbrev pub OpenSectionGivesNothing : Type 0
-OpenSectionGivesNothing =
-    (g : Geometry) (text gap : List ℕ) (tags : List Tag) (some last : Bool) → IsSection text tags some last
-    → IsGap last gap ⊎ (gap ≡ []) → outside_found false g (text ++ gap) ≡ []
+abbrev pub SectionSays : Geometry → ℕ → Bool → List Tag → Found → Type 0
+SectionSays g size some tags found =
+    MatchBool (nat_lt MAX_SECTION size) (found ≡ Err SectionTooLong)
+    (MatchBool some (found ≡ Err UnclosedTag)
+    (MatchBool (is_wrong g (map game_of (values_named (codes "GameType") tags))) (found ≡ Err WrongGame)
+    (FensSay g (values_named (codes "FEN") tags) found)))

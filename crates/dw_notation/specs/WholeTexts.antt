@@ -1,37 +1,31 @@
 -- A text of tags as a whole: a row of comments, sections and other bytes, and what they say.
-use Rattle.std.specs.Prelude.{◌≡◌, ◌↔◌, ◌⊎◌, ℕ, if◌then◌else◌, not, List, [], ◌∷◌, ◌++◌, length, Bool, true, false, Err}
+use Rattle.std.specs.Prelude.{◌≡◌, ◌==◌, ◌||◌, ◌⊎◌, ℕ, not, List, [], ◌∷◌, ◌++◌, length, Bool, true, false, Err}
 use Rattle.std.specs.List.{list_all}
 use Rattle.dw_board.specs.Geometry.{Geometry}
-use Rattle.dw_notation.specs.Lines.{Found}
-use Rattle.dw_notation.specs.Tags.{Tag, IsGap, IsSection, tags_found, outside_found, ends_section, opens, closes}
+use Rattle.dw_notation.specs.Lines.{Found, if_over}
+use Rattle.dw_notation.specs.Tags.{open_bracket, open_brace, close_brace, is_space, Tag, IsGap, IsSection, SectionSays}
 use Rattle.dw_notation.specs.declared.problems.ProblemFault.TheVariants.{UnclosedComment}
 
 -- no closing brace
 abbrev pub IsOpen : List ℕ → Type 0
-IsOpen text = list_all (λ byte. not (closes byte)) text ≡ true
+IsOpen text = list_all (λ byte. not (byte == close_brace)) text ≡ true
 
--- what stands unfinished where the text ends says something only if no more can come
-abbrev pub if_over : Bool → Found → List Found
-if_over over found = if over then found ∷ [] else []
-
--- a text is a row of comments, sections and other bytes, and says what its sections say, one after another
-pub data Says : Geometry → Bool → List ℕ → List Found → Type 0 where
-  nothing : {g : Geometry} {over : Bool} → Says g over [] []
-  other : {g : Geometry} {over : Bool} {more : List ℕ} {found : List Found} (byte : ℕ) → opens byte ≡ false
-      → Says g over more found → Says g over (byte ∷ more) found
+-- a text is a row of comments, sections and other bytes, and says what its sections say, one after another; a comment
+-- that the text leaves open is a fault
+pub data SectionsSay : Geometry → Bool → List ℕ → List Found → Type 0 where
+  nothing : {g : Geometry} {over : Bool} → SectionsSay g over [] []
+  other : {g : Geometry} {over : Bool} {more : List ℕ} {found : List Found} (byte : ℕ)
+      → ((byte == open_bracket) || (byte == open_brace)) ≡ false
+      → SectionsSay g over more found → SectionsSay g over (byte ∷ more) found
   comment : {g : Geometry} {over : Bool} {more : List ℕ} {found : List Found} (text : List ℕ) → IsOpen text
-      → Says g over more found → Says g over (123 ∷ (text ++ 125 ∷ more)) found
+      → SectionsSay g over more found → SectionsSay g over (open_brace ∷ (text ++ close_brace ∷ more)) found
   last_comment : {g : Geometry} {over : Bool} (text : List ℕ) → IsOpen text
-      → Says g over (123 ∷ text) (if_over over (Err UnclosedComment))
+      → SectionsSay g over (open_brace ∷ text) (if_over over (Err UnclosedComment ∷ []))
   section : {g : Geometry} {over : Bool} {tags : List Tag} {some last : Bool} {more : List ℕ} {found : List Found}
-      (text gap : List ℕ) (byte : ℕ)
-      → IsSection text tags some last → IsGap last gap → ends_section byte ≡ true → Says g over (byte ∷ more) found
-      → Says g over (text ++ (gap ++ byte ∷ more)) (tags_found g (length text) some tags ∷ found)
-  last_section : {g : Geometry} {over : Bool} {tags : List Tag} {some last : Bool} (text gap : List ℕ)
-      → IsSection text tags some last → IsGap last gap
-      ⊎ (gap ≡ []) → Says g over (text ++ gap) (if_over over (tags_found g (length text) some tags))
-
--- each text is such a row, and what it says is what is found in it byte by byte
-abbrev pub TextsAreRows : Type 0
-TextsAreRows = (g : Geometry) (over : Bool) (text : List ℕ) (found : List Found) → Says g over text found
-    ↔ (found ≡ outside_found over g text)
+      (text gap : List ℕ) (byte : ℕ) (said : Found)
+      → IsSection text tags some last → IsGap last gap → not ((byte == open_bracket) || is_space byte) ≡ true
+      → SectionSays g (length text) some tags said → SectionsSay g over (byte ∷ more) found
+      → SectionsSay g over (text ++ (gap ++ byte ∷ more)) (said ∷ found)
+  last_section : {g : Geometry} {over : Bool} {tags : List Tag} {some last : Bool} (text gap : List ℕ) (said : Found)
+      → IsSection text tags some last → IsGap last gap ⊎ (gap ≡ []) → SectionSays g (length text) some tags said
+      → SectionsSay g over (text ++ gap) (if_over over (said ∷ []))

@@ -1,9 +1,14 @@
--- What only relates the code to the definitions: no contract of a public call names it.
+-- What only relates the code to the definitions: no contract of a public call names it, but for what is sealed.
 pub mod MoveReader
-pub mod Ahead
-pub mod Cutting
 pub mod Lines
-pub mod LineWords
+pub mod Ahead
+pub mod Held
+pub mod Sections
+pub mod HeldSection
+pub mod Tags
 pub mod Pieces
 pub mod Problems
+pub mod Cutting
+pub mod Readers
+pub mod LineWords
 pub mod Writes

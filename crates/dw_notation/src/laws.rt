@@ -1,53 +1,26 @@
 //! Laws of the definitions, each the contract of a function that does nothing.
-ghost use Rattle.dw_notation.specs.Tags.{SectionsAreFound, LastSectionIsFound, CommentsSayNothing, OpenCommentIsFound};
-ghost use Rattle.dw_notation.specs.Tags.{OthersSayNothing, OpenCommentGivesNothing, OpenSectionGivesNothing};
-ghost use Rattle.dw_notation.specs.WholeTexts.{TextsAreRows};
-ghost use Rattle.dw_notation.specs.Problems.{EndedComeFirst};
+ghost use Rattle.dw_notation.specs.Problems.{TextsHaveProblems, EndedComeFirst};
 ghost use Rattle.dw_notation.specs.TextLaws.{MovesHaveTexts, EndsTell, LinesHaveTexts};
 ghost use Rattle.dw_notation.specs.MoveReadingLaws.{NamesOneThing, HasOneAnswer, WrittenMoveIsNamed, WrittenMoveIsRead};
 
+use dw_board::laws::reading_is_grammar;
 use dw_moves::laws::{legal_moves_take, moves_have_keys, moves_in_order, one_best, path_tells};
 
-/// A row of tags, whole or unclosed, is one problem, which says what its tags say, and the byte that ends it
-/// is outside. At the end of the text it needs no byte after it.
-/// Example: `[FEN "W:W32:B28"]*[FEN "W:W27:B28"]` is two problems, and `*` is outside.
-pub fn sections_are_found()
-    ensures found { SectionsAreFound }
-    ensures last { LastSectionIsFound }
-{}
-
-/// A comment up to its first closing brace says nothing, and one that the text's end leaves open is a fault.
-/// Example: `{ { }` says nothing, and `{x` at the end of a text is refused as `unclosed comment`.
-pub fn comments_say_nothing()
-    ensures closed { CommentsSayNothing }
-    ensures open { OpenCommentIsFound }
-{}
-
-/// Movetext and whatever else stands outside says nothing.
-/// Example: `1. 32-28 *` has no problem.
-pub fn others_say_nothing()
-    ensures { OthersSayNothing }
-{}
-
-/// Each text of tags is one row of comments, sections and other bytes, and says what these say, in order.
+/// Each text has its problems, and no others.
 /// Example: `{x}*[FEN "W:W32:B28"]` is a comment, another byte and a section, and has the problem of the section.
-pub fn texts_are_rows()
-    ensures { TextsAreRows }
-{}
-
-/// While more bytes may come, a comment that is still open has given nothing, nor has a section that more tags may
-/// follow.
-/// Example: `[FEN "W:W32:B28"]` gives nothing as long as more tags may follow.
-pub fn unfinished_give_nothing()
-    ensures comment { OpenCommentGivesNothing }
-    ensures section { OpenSectionGivesNothing }
-{}
+pub fn texts_have_problems()
+    ensures { TextsHaveProblems }
+{
+    reading_is_grammar();
+}
 
 /// The problems that end in a text come first among those of each text that begins so, under the same numbers.
 /// Example: a line that ends is problem 1 of `W:W32:B28` and a line feed, whatever follows.
 pub fn ended_come_first()
     ensures { EndedComeFirst }
-{}
+{
+    reading_is_grammar();
+}
 
 /// Each legal move of a position has a text, and only one; different moves have different texts.
 /// Example: at `W:W27,45:B16` they are `27-21`, `27-22` and `45-40`.

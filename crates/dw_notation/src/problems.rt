@@ -25,6 +25,10 @@ pub const MAX_LINE: usize = 4096;
 /// Example: a section of 65,537 bytes is refused as `section too long`.
 pub const MAX_SECTION: usize = 65536;
 
+/// The most bytes of one read.
+/// Example: of a file of 5,000 bytes, whose first line has 10, at most the first 2,048 are read for problem 1.
+pub const MAX_READ: usize = 2048;
+
 /// How a text holds its problems.
 /// Example: the line `W:W32:B28` is a problem by `Form::Fens`, and the section `[FEN "W:W32:B28"]` by `Form::Pdn`.
 #[derive(Clone, Copy, Debug, PartialEq, Eq)]

@@ -8,13 +8,17 @@ use Rattle.std.proofs.lemmas.List.Folds.{list_any-append}
 use Rattle.std.proofs.lemmas.Bool.{cases_Bool, eqb-true, ne_eqb, true≢false, or_left, or_right}
 use Rattle.dw_board.specs.Geometry.{Geometry}
 use Rattle.dw_notation.specs.Lines.{Found}
-use Rattle.dw_notation.specs.Problems.{Numbered, number_from, problems_of}
+use Rattle.dw_notation.specs.Problems.{Numbered, number_from, AreProblems}
 use Rattle.dw_notation.specs.declared.problems.TheConstants.{MAX_PROBLEMS}
 use Rattle.dw_notation.specs.declared.problems.ProblemFault.TheVariants.{TooManyProblems}
 use Rattle.dw_notation.specs.declared.problems.Form.{Form}
-use Rattle.dw_report.specs.Request.{number_is_chosen, Request}
+use Rattle.dw_report.specs.Request.{number_is_chosen, number_is_asked, Request}
 use Rattle.dw_report.specs.Report.{chosen, AreTexts, IsReportOn}
-use Rattle.dw_report.specs.Running.{is_asked, up_to_asked, AreRefused, IsPartOn}
+use Rattle.dw_report.specs.Running.{up_to_asked, AreRefused, IsPartOn}
+
+-- the problem that was asked for by its number
+abbrev pub is_asked : Option ℕ → Numbered → Bool
+is_asked only problem = number_is_asked only problem.number
 
 -- problems are numbered one by one, behind so many
 abbrev pub AreNumbered : ℕ → List Numbered → Type 0
@@ -35,13 +39,22 @@ number_from-AreNumbered handed (f ∷ found) =
     (record { number = handed + 1; found = f }) (record { number = handed + 1; found = Err TooManyProblems })
     (number_from (handed + 1) found) (number_from-AreNumbered (handed + 1) found) refl refl
 
-pub problems_of-AreNumbered : (g : Geometry) (form : Form) (bytes : List ℕ) → AreNumbered 0 (problems_of g form bytes)
-problems_of-AreNumbered g form bytes = number_from-AreNumbered 0 _
+pub problems-AreNumbered : (g : Geometry) (form : Form) (over : Bool) (bytes : List ℕ) (problems : List Numbered)
+    → AreProblems g form over bytes problems → AreNumbered 0 problems
+problems-AreNumbered g form over bytes problems h = subst (AreNumbered 0) (sym h.numbers)
+    (number_from-AreNumbered 0 h.found)
 
 pub AreNumbered-behind : (n : ℕ) (xs ys : List Numbered) → AreNumbered n (xs ++ ys) → AreNumbered (n + length xs) ys
 AreNumbered-behind n [] ys h = let e : n ≡ n + 0 = omega arith in subst (λ k. AreNumbered k ys) e h
 AreNumbered-behind n (x ∷ xs) ys h = let e : n + 1 + length xs ≡ n + suc (length xs) = omega arith in
     subst (λ k. AreNumbered k ys) e (AreNumbered-behind (n + 1) xs ys h.1)
+
+-- a problem behind others has the number that follows theirs
+pub number_here : (front back : List Numbered) (problem : Numbered) → AreNumbered 0 (front ++ problem ∷ back)
+    → problem.number ≡ length front + 1
+number_here front back problem are =
+    let here = AreNumbered-behind 0 front (problem ∷ back) are in
+    omega (arith, here.0)
 
 -- behind a number no problem has it
 pub none_behind : (only n : ℕ) (problems : List Numbered) → only ≤ n → AreNumbered n problems
@@ -114,9 +127,10 @@ report_on-append g s front back text behind h k = subst (λ l. AreTexts g s l (t
     k)
 
 -- a part of the text of one of some problems, behind the texts of those before them
-pub part_on-behind : (g : Geometry) (s : Request) (front mid back all : List Numbered) (text out : List ℕ)
-    → all ≡ (front ++ mid) ++ back → IsReportOn g s front text → IsPartOn g s mid out → IsPartOn g s all (text ++ out)
-part_on-behind g s front mid back all text out split h part = record {
+pub part_on-behind : (g : Geometry) (s : Request) (number : ℕ) (front mid back all : List Numbered)
+    (text out : List ℕ) → all ≡ (front ++ mid) ++ back → IsReportOn g s front text → IsPartOn g s number mid out
+    → IsPartOn g s number all (text ++ out)
+part_on-behind g s number front mid back all text out split h part = record {
   before = chosen s.only front ++ part.before;
   problem = part.problem;
   behind = part.behind ++ chosen s.only back;
@@ -126,6 +140,7 @@ part_on-behind g s front mid back all text out split h part = record {
       ∙ (ap (λ l. chosen s.only front ++ l) part.are
       ∙ sym (append_assoc (chosen s.only front) part.before (part.problem ∷ part.behind))))
       ∙ append_assoc (chosen s.only front ++ part.before) (part.problem ∷ part.behind) (chosen s.only back)));
+  here = part.here;
   texts = text ++ part.texts;
   whole = texts-append g s (chosen s.only front) part.before text part.texts h part.whole;
   last = part.last;

@@ -2,6 +2,7 @@ pub mod ChosenLemmas
 pub mod LineRowLemmas
 pub mod MoveLineLemmas
 pub mod SearchLemmas
+pub mod HandedLemmas
 pub mod RunLemmas
 pub mod JudgedTextLemmas
 pub mod ListedTextLemmas

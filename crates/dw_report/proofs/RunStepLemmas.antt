@@ -5,10 +5,9 @@ use Rattle.std.proofs.Common.{Option, Some, None, Result, Ok, Err}
 use Rattle.std.specs.Result.{IsErr}
 use Rattle.dw_board.specs.Geometry.{Geometry}
 use Rattle.dw_notation.specs.Problems.{Numbered, numbered}
-use Rattle.dw_notation.specs.Cutting.{NextGives, IsCounted, HasStopped, EndIsTrue, has_met_end, handed_count}
+use Rattle.dw_notation.specs.Reading.{Reader, NextGives, IsCounted, HasStopped, EndIsTrue}
 use Rattle.dw_notation.specs.declared.problems.Problem.{Problem}
 use Rattle.dw_notation.specs.declared.problems.ReadFault.{ReadFault}
-use Rattle.dw_notation.specs.declared.problems.reader.Cutter.{Cutter}
 use Rattle.dw_notation.specs.declared.problems.TheConstants.{MAX_PROBLEMS}
 use Rattle.dw_notation.specs.Writes.{Writes}
 use Rattle.dw_report.specs.Request.{number_is_chosen, Request}
@@ -24,65 +23,65 @@ use Rattle.dw_report.proofs.WritingLemmas.{chosen_none}
 
 -- no problem is left
 pub next_none : {B : Type 0} (g : Geometry) (request : Request) (coming left after taken mid : Option (List ℕ))
-    (old new : Cutter) (summary : Summary) (o : Option (Problem B)) → o ≡ None
+    (old new : Reader) (summary : Summary) (o : Option (Problem B)) → o ≡ None
     → NextGives g left after old new (Ok o) → IsCounted old new (Ok o)
-    → SoFar g request coming left taken mid old summary → EndIsTrue after new
+    → SoFar g request coming left taken mid old summary → EndIsTrue after new → old.handed ≤ MAX_PROBLEMS + 1
     → RunEnds g request coming after taken mid (Ok summary)
-next_none {B} g request coming left after taken mid old new summary o e given counted so_far end =
+next_none {B} g request coming left after taken mid old new summary o e given counted so_far end bound =
     let now = subst (λ (z : Option (Problem B)). NextGives {B = B} g left after old new (Ok z)) e given in
     let same = subst (λ (z : Option (Problem B)). IsCounted {B = B} old new (Ok z)) e counted in
-    SoFar-end g request coming left after taken mid old new summary now.read so_far now.took
-    (record { none = now.gives.0; why = now.gives.2 }) end (same.0 ∙ add-zero (handed_count old))
+    SoFar-end g request coming left after taken mid old new summary now.read so_far now.took now.need
+    (record { none = now.gives.0; why = now.gives.2 }) end (same.0 ∙ add-zero old.handed) bound
 
 -- the source failed
 pub next_failed : {B : Type 0} (g : Geometry) (request : Request) (coming left after taken mid : Option (List ℕ))
-    (old new : Cutter) (summary : Summary) (r : Result (Option (Problem B)) ReadFault) (fault : ReadFault)
+    (old new : Reader) (summary : Summary) (r : Result (Option (Problem B)) ReadFault) (fault : ReadFault)
     (is_failed : Bool) → r ≡ Err fault → NextGives g left after old new r → (IsErr r → HasStopped is_failed new)
-    → (has_met_end old ≡ true → has_met_end new ≡ true) → SoFar g request coming left taken mid old summary
+    → (old.met_end ≡ true → new.met_end ≡ true) → SoFar g request coming left taken mid old summary
     → RunEnds g request coming after taken mid (Err Read)
 next_failed {B} g request coming left after taken mid old new summary r fault is_failed e given stopped stays so_far =
     let now = subst (NextGives {B = B} g left after old new) e given in
     let stop = subst (λ (z : Result (Option (Problem B)) ReadFault). IsErr z → HasStopped is_failed new) e stopped
     refl in
     SoFar-read g request coming left after taken mid old new summary now.read so_far now.took now.gives.0
-    (unmet_before old new stays stop.starved.1)
+    (unmet_before old new stays stop.unmet)
 
 -- a problem was handed out
-pub counted_one : {B : Type 0} (old new : Cutter) (o : Option (Problem B)) (p : Problem B) → o ≡ Some p
-    → IsCounted old new (Ok o) → (handed_count new ≡ handed_count old + 1) × (handed_count old ≤ MAX_PROBLEMS)
+pub counted_one : {B : Type 0} (old new : Reader) (o : Option (Problem B)) (p : Problem B) → o ≡ Some p
+    → IsCounted old new (Ok o) → (new.handed ≡ old.handed + 1) × (old.handed ≤ MAX_PROBLEMS)
 counted_one {B} old new o p e counted =
     let one = subst (λ (z : Option (Problem B)). IsCounted {B = B} old new (Ok z)) e counted in (one.0, one.1.1)
 
 -- and its text was written
 pub next_more : {B : Type 0} (g : Geometry) (request : Request)
     (coming left after taken mid written : Option (List ℕ))
-    (old new : Cutter) (summary counted : Summary) (o : Option (Problem B)) (p : Problem B) → o ≡ Some p
+    (old new : Reader) (summary counted : Summary) (o : Option (Problem B)) (p : Problem B) → o ≡ Some p
     → NextGives g left after old new (Ok o) → IsCounted old new (Ok o)
     → SoFar g request coming left taken mid old summary → EndIsTrue after new
-    → (has_met_end old ≡ true → has_met_end new ≡ true)
+    → (old.met_end ≡ true → new.met_end ≡ true)
     → Writes (IsReportOn g request (numbered p ∷ [])) mid written → CountsOne g request summary counted (numbered p)
     → More g request coming after taken written new counted (numbered p)
 next_more {B} g request coming left after taken mid written old new summary counted o p e given count so_far end stays
     wrote counts =
     let now = subst (λ (z : Option (Problem B)). NextGives {B = B} g left after old new (Ok z)) e given in
     SoFar-more g request coming left after taken mid written old new summary counted (numbered p) now.read so_far
-    now.took now.gives end stays (counted_one old new o p e count).0 wrote counts
+    now.took now.need now.gives end stays (counted_one old new o p e count).0 wrote counts
 
 -- or not to its end
 pub next_fault : {B : Type 0} (g : Geometry) (request : Request)
     (coming left after taken mid written : Option (List ℕ))
-    (old new : Cutter) (summary : Summary) (o : Option (Problem B)) (p : Problem B) (expanded : ℕ)
+    (old new : Reader) (summary : Summary) (o : Option (Problem B)) (p : Problem B) (expanded : ℕ)
     (r : Result Summary TextFault) (fault : TextFault) → o ≡ Some p → r ≡ Err fault
     → NextGives g left after old new (Ok o) → SoFar g request coming left taken mid old summary
-    → EndIsTrue after new → (has_met_end old ≡ true → has_met_end new ≡ true) → HaveTexts g request
-    → TextEnds (IsReportOn g request (numbered p ∷ [])) (IsPartOn g request (numbered p ∷ [])) mid written r
+    → EndIsTrue after new → (old.met_end ≡ true → new.met_end ≡ true) → HaveTexts g request
+    → TextEnds (IsReportOn g request (numbered p ∷ [])) (IsPartOn g request p.number (numbered p ∷ [])) mid written r
     → RunEnds g request coming after taken written (Err (ended_by fault expanded))
 next_fault {B} g request coming left after taken mid written old new summary o p expanded r fault e is given so_far end
     stays exist text =
     let now = subst (λ (z : Option (Problem B)). NextGives {B = B} g left after old new (Ok z)) e given in
     SoFar-fault g request coming left after taken mid written old new summary (numbered p) now.read expanded fault
-    so_far now.took now.gives end stays exist (subst (TextEnds (IsReportOn g request (numbered p ∷ []))
-    (IsPartOn g request (numbered p ∷ [])) mid written) is text)
+    so_far now.took now.need now.gives end stays exist (subst (TextEnds (IsReportOn g request (numbered p ∷ []))
+    (IsPartOn g request p.number (numbered p ∷ [])) mid written) is text)
 
 -- a problem more that is not chosen
 pub counts_passed : (g : Geometry) (request : Request) (old new : Summary) (p : Numbered)

@@ -1,5 +1,5 @@
 -- Each problem has a text, and only one.
-use Rattle.std.proofs.Common.{◌≡◌, ℕ, ◌≤◌, List, [], ◌∷◌, ◌++◌, length, refl, sym, ap, ◌∙◌, Ok, Err}
+use Rattle.std.proofs.Common.{◌≡◌, ℕ, ◌≤◌, List, [], ◌∷◌, ◌++◌, length, refl, sym, ap, ◌∙◌, Ok, Err, true, subst}
 use Rattle.std.specs.List.{flat_map}
 use Rattle.dw_board.specs.Geometry.{Geometry, IsBoard}
 use Rattle.dw_board.specs.Placement.{Placement}
@@ -7,12 +7,12 @@ use Rattle.dw_board.specs.Diagram.{diagram_text}
 use Rattle.dw_moves.specs.Laws.{MovesInOrder, OneBest, MovesHaveKeys}
 use Rattle.dw_moves.specs.Order.{Listed}
 use Rattle.dw_notation.specs.Lines.{Found}
-use Rattle.dw_notation.specs.Problems.{Numbered}
+use Rattle.dw_notation.specs.Problems.{Numbered, TextsHaveProblems}
 use Rattle.dw_notation.specs.TextLaws.{MovesHaveTexts, LinesHaveTexts}
 use Rattle.dw_list.specs.Laws.{LinesExist, LineOrPlace}
 use Rattle.dw_report.specs.Request.{Request}
 use Rattle.dw_report.specs.Report.{IsMovesText, IsSaid, IsFurther, IsProblemText, AreTexts, first_line, move_line}
-use Rattle.dw_report.specs.Report.{count_line}
+use Rattle.dw_report.specs.Report.{count_line, chosen, IsReport}
 use Rattle.dw_report.specs.VerdictLaws.{OneVerdict, TriesAreListed}
 use Rattle.dw_report.specs.declared.settings.Command.{Command}
 use Rattle.dw_report.specs.declared.settings.Command.TheVariants.{Show, Moves, Judge, List as Lists}
@@ -111,3 +111,19 @@ texts_only laws g b request (problem ∷ problems) text other (one, rest, is, ar
     let ones : one ≡ one' = is.is ∙ (ap (λ z. first_line g problem ++ z) further ∙ sym is'.is) in
     let rests = texts_only laws g b request problems rest rest' are are' in
     joined ∙ (ap (λ z. z ++ rest) ones ∙ (ap (λ z. one' ++ z) rests ∙ sym joined'))
+
+-- a byte text has a report
+pub report_some : Laws → TextsHaveProblems → (g : Geometry) → IsBoard g → (request : Request) → 1 ≤ request.lines
+    → (bytes : List ℕ) → (text : List ℕ) × IsReport g request bytes text
+report_some laws have g b request some bytes =
+    let problems = have.some g request.form true bytes in
+    let text = texts_some laws g b request some (chosen request.only problems.0) in
+    (text.0, (problems.0, problems.1, text.1))
+
+-- and only one
+pub report_only : Laws → TextsHaveProblems → (g : Geometry) → IsBoard g → (request : Request)
+    → (bytes text other : List ℕ) → IsReport g request bytes text → IsReport g request bytes other → text ≡ other
+report_only laws have g b request bytes text other h k =
+    let same = have.only g request.form true bytes h.0 k.0 h.1 k.1 in
+    texts_only laws g b request (chosen request.only k.0) text other
+    (subst (λ l. AreTexts g request (chosen request.only l) text) same h.2) k.2

@@ -198,13 +198,14 @@ one_report_on g request problem e text h = subst (λ l. AreTexts g request l tex
     (sym (chosen_one request.only problem e)) (text, [], h, refl, sym (append-nil text))
 
 pub one_part_on : (g : Geometry) (request : Request) (problem : Numbered) → number_is_chosen request.only problem.number
-    ≡ true → (text : List ℕ) → IsProblemPart g request problem text → IsPartOn g request (problem ∷ []) text
+    ≡ true → (text : List ℕ) → IsProblemPart g request problem text → IsPartOn g request problem.number (problem ∷ []) text
 one_part_on g request problem e text h = record {
   before = [];
   problem = problem;
   behind = [];
   are =
       chosen_one request.only problem e;
+  here = refl;
   texts = [];
   whole = refl;
   last = text;

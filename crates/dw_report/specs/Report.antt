@@ -1,5 +1,5 @@
 -- The report: for each chosen problem, in order, its text.
-use Rattle.std.specs.Prelude.{◌≡◌, ℕ, Option, Ok, Err, List, [], ◌∷◌, ◌++◌, length, filter, codes, decimal}
+use Rattle.std.specs.Prelude.{◌≡◌, ℕ, Option, Ok, Err, List, [], ◌∷◌, ◌++◌, length, filter, codes, decimal, true}
 use Rattle.std.specs.List.{flat_map}
 use Rattle.dw_board.specs.Geometry.{Geometry}
 use Rattle.dw_board.specs.Placement.{Placement}
@@ -12,7 +12,7 @@ use Rattle.dw_moves.specs.Moves.{IsBest, play}
 use Rattle.dw_moves.specs.Order.{Listed, AreListed}
 use Rattle.dw_notation.specs.Text.{text_among}
 use Rattle.dw_notation.specs.Lines.{Found}
-use Rattle.dw_notation.specs.Problems.{Numbered, problems_of}
+use Rattle.dw_notation.specs.Problems.{Numbered, AreProblems}
 use Rattle.dw_notation.specs.declared.problems.ProblemFault.{ProblemFault}
 use Rattle.dw_notation.specs.declared.problems.ProblemFault.TheVariants.{Fen, NoFen, TwoFens, WrongGame, LineTooLong}
 use Rattle.dw_notation.specs.declared.problems.ProblemFault.TheVariants.{SectionTooLong, UnclosedTag, UnclosedComment}
@@ -81,13 +81,9 @@ IsSaid g Moves request p text = IsMovesText g p text
 IsSaid g Judge request p text = IsJudgedText g p request.moves text
 IsSaid g Lists request p text = IsListedText g p request.moves request.lines request.after text
 
--- what the command says of a position
-abbrev pub IsAnswer : Geometry → Request → Placement → List ℕ → Type 0
-IsAnswer g request p text = IsSaid g request.command request p text
-
--- what follows a first line: the answer, and nothing after a refusal
+-- what follows a first line: what the command says of the position, and nothing after a refusal
 abbrev pub IsFurther : Geometry → Request → Found → List ℕ → Type 0
-IsFurther g request (Ok p) text = IsAnswer g request p text
+IsFurther g request (Ok p) text = IsSaid g request.command request p text
 IsFurther g request (Err fault) text = text ≡ []
 
 -- the text of a problem: its first line, and what follows it
@@ -112,4 +108,5 @@ IsReportOn g request problems text = AreTexts g request (chosen request.only pro
 
 -- the report on a byte text
 abbrev pub IsReport : Geometry → Request → List ℕ → List ℕ → Type 0
-IsReport g request bytes text = IsReportOn g request (problems_of g request.form bytes) text
+IsReport g request bytes text =
+    (problems : List Numbered) × AreProblems g request.form true bytes problems × IsReportOn g request problems text

@@ -1,15 +1,16 @@
 -- What a run writes, what it counts, and what stands where a stream failed or the run was stopped.
-use Rattle.std.specs.Prelude.{◌≡◌, ℕ, ◌+◌, ◌≤◌, ◌<◌, ◌⊎◌, if◌then◌else◌, List, [], ◌∷◌, ◌++◌, length, Bool, true, false}
-use Rattle.std.specs.Prelude.{IsTrue, Option, Some, None, Result, Ok, Err}
+use Rattle.std.specs.Prelude.{◌≡◌, ℕ, ◌+◌, ◌≤◌, ◌<◌, ◌⊎◌, if◌then◌else◌, List, [], ◌∷◌, ◌++◌, length, true, false}
+use Rattle.std.specs.Prelude.{Option, Some, None, Result, Ok, Err}
 use Rattle.std.specs.List.{list_any}
 use Rattle.std.specs.Io.KnownBytes.{Consumes, Appends, IsAtEnd}
 use Rattle.dw_board.specs.Geometry.{Geometry}
 use Rattle.dw_board.specs.Placement.{Placement}
 use Rattle.dw_moves.specs.Moves.{Move}
 use Rattle.dw_notation.specs.Lines.{line_feed, Found}
-use Rattle.dw_notation.specs.Problems.{Numbered, problems_of, ended_problems_of}
+use Rattle.dw_notation.specs.Problems.{Numbered, AreProblems}
 use Rattle.dw_notation.specs.Writes.{IsBeginning, Writes}
-use Rattle.dw_notation.specs.declared.problems.TheConstants.{MAX_PROBLEMS}
+use Rattle.dw_notation.specs.declared.problems.TheConstants.{MAX_PROBLEMS, MAX_READ}
+use Rattle.dw_notation.specs.declared.problems.Form.{Form}
 use Rattle.dw_solve.specs.declared.stop.Stop.{Stop}
 use Rattle.dw_solve.specs.declared.stop.Stop.TheVariants.{Memory, Limit}
 use Rattle.dw_list.specs.Lines.{Line}
@@ -21,14 +22,10 @@ use Rattle.dw_report.specs.declared.settings.RunFault.TheVariants as ends
 use Rattle.dw_report.specs.declared.settings.Command.{Command}
 use Rattle.dw_report.specs.declared.settings.Command.TheVariants as asked
 
--- the problem that was asked for by its number
-abbrev pub is_asked : Option ℕ → Numbered → Bool
-is_asked only problem = number_is_asked only problem.number
-
 -- the problems up to the one asked for
 abbrev pub up_to_asked : Option ℕ → List Numbered → List Numbered
 up_to_asked only [] = []
-up_to_asked only (problem ∷ problems) = problem ∷ (if is_asked only problem then [] else up_to_asked only problems)
+up_to_asked only (problem ∷ problems) = problem ∷ (if number_is_asked only problem.number then [] else up_to_asked only problems)
 
 -- a list of moves is given, and it is no line of the position
 abbrev pub IsNoLine : Geometry → Placement → ℕ → Option (List Move) → Type 0
@@ -53,17 +50,33 @@ pub record Counts (g : Geometry) (request : Request) (summary : Summary) (proble
   pub shown : summary.shown ≡ length (chosen request.only problems)
   pub refusals : AreRefused g request (chosen request.only problems) summary.refused
 
--- the source was read to its end, unless the problem asked for or one too many came first
-abbrev pub IsReadThrough : Request → List Numbered → Option (List ℕ) → Type 0
-IsReadThrough request problems left =
-    IsAtEnd left ⊎ (IsTrue (list_any (is_asked request.only) problems) ⊎ (MAX_PROBLEMS < length problems))
+-- No more was read than the problem of this number asks for: of the bytes read, those after the byte that ended it are
+-- fewer than one read gives, for without the bytes of the last read it had not ended.
+pub record ReadsUpTo (g : Geometry) (form : Form) (number : ℕ) (read : List ℕ) : Type 0 where
+  pub before : List ℕ
+  pub last : List ℕ
+  pub split : read ≡ before ++ last
+  pub few : length last ≤ MAX_READ
+  pub ended : List Numbered
+  pub are : AreProblems g form false before ended
+  pub fewer : length ended < number
+
+-- the source was read to its end, or up to the problem with which the run ends: the one asked for, or one too many
+abbrev pub IsReadThrough : Geometry → Request → List Numbered → Option (List ℕ) → List ℕ → Type 0
+IsReadThrough g request problems left read =
+    IsAtEnd left ⊎ ((number : ℕ) × ((request.only ≡ Some number) ⊎ (number ≡ MAX_PROBLEMS + 1))
+    × (number ≤ length problems) × ReadsUpTo g request.form number read)
 
 -- the whole report on these bytes was written, and nothing else
 pub record Finishes (g : Geometry) (request : Request) (bytes : List ℕ) (left taken after : Option (List ℕ))
     (summary : Summary) : Type 0 where
-  pub wrote : Writes (IsReport g request bytes) taken after
-  pub counts : Counts g request summary (problems_of g request.form bytes)
-  pub through : IsReadThrough request (problems_of g request.form bytes) left
+  pub problems : List Numbered
+  pub are : AreProblems g request.form true bytes problems
+  pub wrote : Writes (IsReportOn g request problems) taken after
+  pub counts : Counts g request summary problems
+  pub read : List ℕ
+  pub took : Consumes (Some bytes) left read
+  pub through : IsReadThrough g request problems left read
 
 -- After a failed read the sink has taken the whole texts of just the chosen problems that end in the bytes read. The
 -- problem that was asked for is none of those: reading ends after it.
@@ -71,19 +84,10 @@ pub record StopsReading (g : Geometry) (request : Request) (bytes : List ℕ)
     (left taken after : Option (List ℕ)) : Type 0 where
   pub read : List ℕ
   pub took : Consumes (Some bytes) left read
-  pub wrote : Writes (IsReportOn g request (ended_problems_of g request.form read)) taken after
-  pub unasked : list_any (is_asked request.only) (ended_problems_of g request.form read) ≡ false
-
--- the sink has taken a beginning of some kind, whatever bytes follow those read; none do if the end was met
-pub record StopsAhead (P : List ℕ → List ℕ → Type 0) (bytes : List ℕ)
-    (left taken after : Option (List ℕ)) : Type 0 where
-  pub read : List ℕ
-  pub took : Consumes (Some bytes) left read
-  pub met_end : Bool
-  pub end : met_end ≡ true → IsAtEnd left
-  pub out : List ℕ
-  pub wrote : Appends taken after out
-  pub front : (more : List ℕ) → (met_end ≡ true → more ≡ []) → P (read ++ more) out
+  pub ended : List Numbered
+  pub are : AreProblems g request.form false read ended
+  pub wrote : Writes (IsReportOn g request ended) taken after
+  pub unasked : list_any (λ problem. number_is_asked request.only problem.number) ended ≡ false
 
 -- some beginning of the report, byte for byte
 pub record BeginsReport (g : Geometry) (request : Request) (bytes out : List ℕ) : Type 0 where
@@ -108,20 +112,37 @@ pub record IsProblemPart (g : Geometry) (request : Request) (problem : Numbered)
   pub are : AreLinesOf (IsFurther g request problem.found) lines
   pub is : out ≡ first_line g problem ++ lines
 
--- the whole texts of the chosen problems before one of them, and a part of that one's text
-pub record IsPartOn (g : Geometry) (request : Request) (problems : List Numbered) (out : List ℕ) : Type 0 where
+-- the whole texts of the chosen problems before the one of this number, and a part of that one's text
+pub record IsPartOn (g : Geometry) (request : Request) (number : ℕ) (problems : List Numbered) (out : List ℕ) :
+    Type 0 where
   pub before : List Numbered
   pub problem : Numbered
   pub behind : List Numbered
   pub are : chosen request.only problems ≡ before ++ problem ∷ behind
+  pub here : problem.number ≡ number
   pub texts : List ℕ
   pub whole : AreTexts g request before texts
   pub last : List ℕ
   pub part : IsProblemPart g request problem last
   pub is : out ≡ texts ++ last
 
-abbrev pub IsPart : Geometry → Request → List ℕ → List ℕ → Type 0
-IsPart g request bytes out = IsPartOn g request (problems_of g request.form bytes) out
+-- such a part of the report on some bytes, of which no more were read than that problem asks for
+pub record IsPart (g : Geometry) (request : Request) (read bytes out : List ℕ) : Type 0 where
+  pub problems : List Numbered
+  pub are : AreProblems g request.form true bytes problems
+  pub number : ℕ
+  pub need : ReadsUpTo g request.form number read
+  pub part : IsPartOn g request number problems out
+
+-- what the sink has taken is such a beginning whatever bytes follow those read; or the source's end was met, and it is
+-- one of the bytes read
+pub record StopsAhead (P : (read text out : List ℕ) → Type 0) (bytes : List ℕ)
+    (left taken after : Option (List ℕ)) : Type 0 where
+  pub read : List ℕ
+  pub took : Consumes (Some bytes) left read
+  pub out : List ℕ
+  pub wrote : Appends taken after out
+  pub front : ((more : List ℕ) → P read (read ++ more) out) ⊎ (IsAtEnd left × P read read out)
 
 -- what a run did, if the source tells its bytes
 abbrev pub RunEnds : Geometry → Request → Option (List ℕ) → Option (List ℕ) → Option (List ℕ) → Option (List ℕ)
@@ -132,7 +153,7 @@ RunEnds g request (Some bytes) left taken after (Err (ends.Stopped why expanded)
     StopsAhead (IsPart g request) bytes left taken after
 RunEnds g request (Some bytes) left taken after (Err ends.Read) = StopsReading g request bytes left taken after
 RunEnds g request (Some bytes) left taken after (Err ends.Write) =
-    StopsAhead (BeginsReport g request) bytes left taken after
+    StopsAhead (λ read text out. BeginsReport g request text out) bytes left taken after
 
 -- a search is stopped at the limit, or out of memory before it
 abbrev pub StopsSearch : ℕ → Stop → ℕ → Type 0

@@ -4,7 +4,7 @@ ghost use Rattle.dw_report.specs.VerdictLaws.{OneVerdict, TriesAreListed};
 
 use dw_list::laws::{line_or_place, lines_exist};
 use dw_moves::laws::{moves_have_keys, moves_in_order, moves_listed, one_best};
-use dw_notation::laws::{lines_have_texts, moves_have_texts};
+use dw_notation::laws::{lines_have_texts, moves_have_texts, texts_have_problems};
 use dw_solve::laws::{wins_are_decided, wins_stay};
 
 /// If a line at least is asked for, each byte text has a report, and only one.
@@ -21,6 +21,7 @@ pub fn one_report()
     line_or_place();
     moves_have_texts();
     lines_have_texts();
+    texts_have_problems();
 }
 
 /// Each problem has a verdict, and only one.

@@ -117,8 +117,8 @@ fn report_problem<B: Board, K: Sink, M: Memo<B>, G: Guide<B>>(
     requires sound { IsSound B.geometry (request_of settings.now) }
     requires room { HasRoom summary }
     ensures text { TextEnds (IsReportOn B.geometry (request_of settings.now) (numbered problem.now ∷ []))
-        (IsPartOn B.geometry (request_of settings.now) (numbered problem.now ∷ [])) (K.taken sink.old)
-        (K.taken sink.new) result }
+        (IsPartOn B.geometry (request_of settings.now) problem.now.number (numbered problem.now ∷ []))
+        (K.taken sink.old) (K.taken sink.new) result }
     ensures sink { SinkEnds (K.is_failed sink.old) (K.is_failed sink.new) result }
     ensures searches { SearchesFor settings.now.command solver.old solver.new result }
     ensures counts { IfOk result (λ counted.

@@ -1,20 +1,35 @@
--- Lines that say the same, whatever follows.
-use Rattle.std.specs.Prelude.{◌≡◌, ℕ, List, ◌++◌, ◌==◌, if◌then◌else◌, [], ◌∷◌, length, false, Bool}
+-- What lines are found to say, as it is computed, and lines that say the same, whatever follows.
+use Rattle.std.specs.Prelude.{◌≡◌, ℕ, if◌then◌else◌, List, ◌++◌, length, Bool, Option, Some, None, Result, Ok, Err}
+use Rattle.std.specs.Prelude.{nat_lt}
+use Rattle.std.specs.List.{list_all}
 use Rattle.dw_board.specs.Geometry.{Geometry}
-use Rattle.dw_notation.specs.Lines.{line_found, line_feed, Found}
-use Rattle.std.specs.Prelude.{Option, Some, None, Err, nat_lt}
+use Rattle.dw_board.specs.Placement.{Placement}
+use Rattle.dw_board.specs.FenTokens.{is_blank}
+use Rattle.dw_board.specs.Fen.{fen}
+use Rattle.dw_board.specs.declared.fen.fault.FenFault.{FenFault}
 use Rattle.dw_board.specs.declared.fen.fault.FenFaultKind.TheVariants.{TooLong}
+use Rattle.dw_notation.specs.Lines.{without_return, Found}
 use Rattle.dw_notation.specs.declared.problems.TheConstants.{MAX_LINE}
 use Rattle.dw_notation.specs.declared.problems.ProblemFault.TheVariants.{Fen, LineTooLong}
+
+-- what the reading of a FEN text gave
+abbrev pub fen_found : Result Placement FenFault → Found
+fen_found (Ok position) = Ok position
+fen_found (Err fault) = Err (Fen fault)
+
+-- what a line without its carriage return says, if it is no blank one
+abbrev pub text_found : Geometry → List ℕ → Option Found
+text_found g text =
+    if nat_lt MAX_LINE (length text) then Some (Err LineTooLong)
+    else (if list_all is_blank text then None else Some (fen_found (fen g text)))
+
+-- what a line says
+unfoldable pub line_found : Geometry → List ℕ → Option Found
+line_found g line = text_found g (without_return line)
 
 -- two beginnings of a line say the same, whatever follows
 abbrev pub SaysSame : List ℕ → List ℕ → Type 0
 SaysSame line other = (g : Geometry) (more : List ℕ) → line_found g (line ++ more) ≡ line_found g (other ++ more)
-
--- no line feed is among them
-abbrev pub NoLineFeed : List ℕ → Type 0
-NoLineFeed [] = Unit {0}
-NoLineFeed (byte ∷ bytes) = ((byte == line_feed) ≡ false) × NoLineFeed bytes
 
 -- what a text says that is too long for a FEN text, by its length and by whether it is blank
 abbrev pub long_text_found : ℕ → Bool → Option Found

@@ -1,11 +1,31 @@
 -- The pieces of a text that are problems, by its form.
-use Rattle.std.specs.Prelude.{ℕ, List, Bool, Option}
+use Rattle.std.specs.Prelude.{ℕ, List, [], Bool, Option}
 use Rattle.dw_board.specs.Geometry.{Geometry}
 use Rattle.dw_notation.specs.Lines.{Found}
-use Rattle.dw_notation.specs.HeldSection.{sections_ahead, sections_cut}
+use Rattle.dw_notation.specs.inner.Lines.{line_found}
+use Rattle.dw_notation.specs.inner.Ahead.{found_from, behind_mark}
+use Rattle.dw_notation.specs.inner.Held.{held_line}
+use Rattle.dw_notation.specs.inner.HeldSection.{sections_ahead, sections_cut}
+use Rattle.dw_notation.specs.declared.problems.fens.Lines.{Lines}
 use Rattle.dw_notation.specs.declared.problems.reader.Pieces.{Pieces}
 use Rattle.dw_notation.specs.declared.problems.reader.Pieces.TheVariants.{InLines, InSections}
-use Rattle.dw_notation.specs.Pieces.{lines_behind, lines_cut}
+
+-- what the line begun and then the bytes say
+abbrev pub lines_ahead : Bool → Geometry → Lines → List ℕ → List Found
+lines_ahead at_end g lines bytes = found_from at_end g (held_line lines.line) (behind_mark lines.front bytes)
+
+-- what the bytes say after the line that was cut off
+abbrev pub lines_behind : Bool → Geometry → Lines → List ℕ → List Found
+lines_behind at_end g lines bytes = found_from at_end g [] (behind_mark lines.front bytes)
+
+-- what the line that was cut off says
+abbrev pub lines_cut : Geometry → Lines → Option Found
+lines_cut g lines = line_found g (held_line lines.line)
+
+-- what the piece begun and then the bytes say
+abbrev pub pieces_ahead : Bool → Geometry → Pieces → List ℕ → List Found
+pieces_ahead at_end g (InLines lines) bytes = lines_ahead at_end g lines bytes
+pieces_ahead at_end g (InSections sections) bytes = sections_ahead at_end g sections bytes
 
 -- what the bytes say after the piece that was cut off
 abbrev pub pieces_behind : Bool → Geometry → Pieces → List ℕ → List Found

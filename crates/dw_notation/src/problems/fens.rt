@@ -4,10 +4,12 @@ ghost use Rattle.std.specs.Prelude.{◌≡◌, ℕ, ◌+◌, ◌<◌, ◌≤◌,
 ghost use Rattle.std.specs.Prelude.{List, [], ◌∷◌, ◌++◌, length, take, drop, option_to_list};
 ghost use Rattle.std.specs.List.{list_all};
 ghost use Rattle.dw_board.specs.FenTokens.{is_blank};
-ghost use Rattle.dw_notation.specs.Lines.{without_return, line_found};
-ghost use Rattle.dw_notation.specs.inner.Lines.{NoLineFeed, long_text_found};
+ghost use Rattle.dw_notation.specs.Lines.{without_return};
+ghost use Rattle.dw_notation.specs.inner.Lines.{line_found};
+ghost use Rattle.dw_notation.specs.Lines.{NoLineFeed};
+ghost use Rattle.dw_notation.specs.inner.Lines.{long_text_found};
 ghost use Rattle.dw_board.specs.Geometry.{Geometry};
-ghost use Rattle.dw_notation.specs.Ahead.{found_from, behind_mark};
+ghost use Rattle.dw_notation.specs.inner.Ahead.{found_from, behind_mark};
 ghost use Rattle.dw_notation.specs.inner.Ahead.{passed_over, is_behind};
 
 use super::{MAX_LINE, ProblemFault};
@@ -43,7 +45,7 @@ fn text_of(line: &[u8]) -> &[u8]
 }
 
 /// What a line says, if it is no blank one.
-#[tactic(auto, unfolding(crate::specs::Lines::line_found))]
+#[tactic(auto, unfolding(crate::specs::inner::Lines::line_found))]
 fn read_line<B: Board>(line: &[u8]) -> Option<Result<Position<B>, ProblemFault>>
     ensures { result ≡ line_found B.geometry line.now }
 {
@@ -111,7 +113,7 @@ struct LongLine {
 }
 
 impl LongLine {
-    ghost use Rattle.dw_notation.specs.Held.{long_bytes};
+    ghost use Rattle.dw_notation.specs.inner.Held.{long_bytes};
     ghost use Rattle.dw_notation.specs.inner.Lines.{SaysSame};
 
     /// A line of so many bytes, all of them blank or not, and then a piece.
@@ -160,7 +162,7 @@ struct Line {
 }
 
 impl Line {
-    ghost use Rattle.dw_notation.specs.Held.{held_line};
+    ghost use Rattle.dw_notation.specs.inner.Held.{held_line};
     ghost use Rattle.dw_notation.specs.inner.Lines.{SaysSame};
 
     fn new() -> Line
@@ -284,9 +286,9 @@ pub(super) struct Lines {
 }
 
 impl Lines {
-    ghost use Rattle.dw_notation.specs.Held.{held_line};
+    ghost use Rattle.dw_notation.specs.inner.Held.{held_line};
     ghost use Rattle.dw_notation.specs.inner.Lines.{SaysSame};
-    ghost use Rattle.dw_notation.specs.Pieces.{lines_ahead, lines_behind, lines_cut};
+    ghost use Rattle.dw_notation.specs.inner.Pieces.{lines_ahead, lines_behind, lines_cut};
 
     /// Nothing was read.
     pub(super) fn new() -> Lines

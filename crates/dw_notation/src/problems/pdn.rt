@@ -8,11 +8,13 @@
 //! it stands for itself.
 ghost use Rattle.std.specs.Prelude.{◌≡◌, ◌==◌, ℕ, ◌+◌, ◌<◌, ◌≤◌, Bool, true, false, not, if◌then◌else◌, IfSome, IfNone};
 ghost use Rattle.std.specs.Prelude.{List, [], ◌∷◌, ◌++◌, length, take, drop, codes, option_to_list};
-ghost use Rattle.dw_notation.specs.Sections.{step, is_name_byte, ends_line, broken_by, kind_of, same_name};
-ghost use Rattle.dw_notation.specs.HeldSection.{game_on, number_held, counted};
+ghost use Rattle.dw_notation.specs.inner.Sections.{step, broken_by, kind_of};
+ghost use Rattle.dw_notation.specs.Tags.{is_name_byte, ends_line, same_name};
+ghost use Rattle.dw_notation.specs.inner.HeldSection.{game_on, number_held, counted};
 ghost use Rattle.std.specs.List.{list_all};
 ghost use Rattle.dw_board.specs.Geometry.{Geometry};
-ghost use Rattle.dw_notation.specs.Tags.{opens, closes};
+ghost use Rattle.dw_notation.specs.inner.Tags.{opens};
+ghost use Rattle.dw_notation.specs.inner.Tags.{closes};
 
 use super::fens::is_blank_byte;
 use super::{MAX_SECTION, ProblemFault};
@@ -363,8 +365,8 @@ struct HeldSection {
 }
 
 impl HeldSection {
-    ghost use Rattle.dw_notation.specs.HeldSection.{held_of, held_bare, held_after, held_found, value_on, tag_on};
-    ghost use Rattle.dw_notation.specs.HeldSection.{counted_in, kept, is_wrong_held, fens_held};
+    ghost use Rattle.dw_notation.specs.inner.HeldSection.{held_of, held_bare, held_after, held_found, value_on, tag_on};
+    ghost use Rattle.dw_notation.specs.inner.HeldSection.{counted_in, kept, is_wrong_held, fens_held};
 
     fn new() -> HeldSection
         ensures { held_of result ≡ held_bare }
@@ -591,7 +593,7 @@ pub(super) struct Sections {
 }
 
 impl Sections {
-    ghost use Rattle.dw_notation.specs.HeldSection.{sections_ahead, sections_cut, held_of, held_bare};
+    ghost use Rattle.dw_notation.specs.inner.HeldSection.{sections_ahead, sections_cut, held_of, held_bare};
 
     pub(super) fn new() -> Sections
         ensures place { result.place ≡ Place.Outside }

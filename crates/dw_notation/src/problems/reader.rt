@@ -7,9 +7,10 @@ ghost use Rattle.std.specs.Io.KnownBytes.{Consumes, IsAtEnd};
 
 use super::fens::Lines;
 use super::pdn::Sections;
-use super::{Form, MAX_PROBLEMS, Problem, ProblemFault, ReadFault};
+use super::{Form, MAX_PROBLEMS, MAX_READ, Problem, ProblemFault, ReadFault};
 use crate::streams::Source;
 use dw_board::board::Board;
+use dw_board::laws::reading_is_grammar;
 use dw_board::position::Position;
 use std::marker::PhantomData;
 
@@ -21,14 +22,13 @@ enum Pieces {
 }
 
 impl Pieces {
-    ghost use Rattle.dw_notation.specs.Problems.{found_of, ended_of};
-    ghost use Rattle.dw_notation.specs.Pieces.{pieces_ahead};
-    ghost use Rattle.dw_notation.specs.inner.Pieces.{pieces_behind, pieces_cut};
+    ghost use Rattle.dw_notation.specs.inner.Problems.{found_of};
+    ghost use Rattle.dw_notation.specs.inner.Pieces.{pieces_ahead, pieces_behind, pieces_cut};
 
     /// Nothing was read.
     fn new(form: Form) -> Pieces
-        ensures all { (g : Geometry) (bytes : List ℕ) → pieces_ahead true g result bytes ≡ found_of g form bytes }
-        ensures ended { (g : Geometry) (bytes : List ℕ) → pieces_ahead false g result bytes ≡ ended_of g form bytes }
+        ensures { (over : Bool) (g : Geometry) (bytes : List ℕ)
+            → pieces_ahead over g result bytes ≡ found_of over g form bytes }
     {
         match form {
             Form::Fens => Pieces::InLines(Lines::new()),
@@ -84,13 +84,10 @@ impl Pieces {
     }
 }
 
-/// How many bytes one read may give.
-const BUFFER: usize = 2048;
-
 /// What was read of a text and not yet handed out. It holds 2,048 bytes of input and those of its piece.
 #[derive(Drop)]
 struct Cutter {
-    buffer: [u8; BUFFER],
+    buffer: [u8; MAX_READ],
     start: usize,
     end: usize,
     pieces: Pieces,
@@ -101,22 +98,20 @@ struct Cutter {
 }
 
 impl Cutter {
-    ghost use Rattle.dw_notation.specs.Problems.{number_from, found_of, ended_of};
-    ghost use Rattle.dw_notation.specs.inner.Problems.{numbered_in};
-    ghost use Rattle.dw_notation.specs.Pieces.{pieces_ahead};
-    ghost use Rattle.dw_notation.specs.inner.Pieces.{pieces_behind};
-    ghost use Rattle.dw_notation.specs.Cutting.{rest_of, found_ahead};
-    ghost use Rattle.dw_notation.specs.inner.Cutting.{found_behind, found_cut};
+    ghost use Rattle.dw_notation.specs.Problems.{number_from};
+    ghost use Rattle.dw_notation.specs.inner.Problems.{found_of, numbered_in};
+    ghost use Rattle.dw_notation.specs.inner.Pieces.{pieces_ahead, pieces_behind};
+    ghost use Rattle.dw_notation.specs.inner.Cutting.{rest_of, found_ahead, found_behind, found_cut};
 
     /// Nothing was read.
     fn new(form: Form) -> Cutter
-        ensures all { (g : Geometry) (bytes : List ℕ) → found_ahead true g result bytes ≡ found_of g form bytes }
-        ensures ended { (g : Geometry) (bytes : List ℕ) → found_ahead false g result bytes ≡ ended_of g form bytes }
+        ensures ahead { (over : Bool) (g : Geometry) (bytes : List ℕ)
+            → found_ahead over g result bytes ≡ found_of over g form bytes }
         ensures handed { result.handed ≡ 0 }
         ensures met_end { result.met_end ≡ false }
     {
         Cutter {
-            buffer: [0; BUFFER],
+            buffer: [0; MAX_READ],
             start: 0,
             end: 0,
             pieces: Pieces::new(form),
@@ -246,25 +241,24 @@ pub struct Problems<'a, B: Board, S> {
 }
 
 impl<'a, B: Board, S: Source> Problems<'a, B, S> {
-    ghost use Rattle.dw_notation.specs.Problems.{problems_of, ended_problems_of};
-    ghost use Rattle.dw_notation.specs.Cutting.{to_come, ended, has_met_end, handed_count};
-    ghost use Rattle.dw_notation.specs.Cutting.{NextGives, EndIsTrue, IsStarved, HasStopped, IsCounted};
-    ghost use Rattle.dw_notation.specs.inner.Cutting.{ReadsPiece, weight};
-    ghost use Rattle.dw_notation.specs.Reading.{lender, source_of, cutter_of};
+    ghost use Rattle.dw_notation.specs.Problems.{AreProblems};
+    ghost use Rattle.dw_notation.specs.Reading.{lender, source_of, NextGives, EndIsTrue, HasStopped, IsCounted};
+    ghost use Rattle.dw_notation.specs.inner.Cutting.{IsStarved, ReadsPiece, EndIsKnown, weight};
+    ghost use Rattle.dw_notation.specs.inner.Readers.{reader_of};
 
     /// A reader of all problems that the source has still to give.
     /// See [`Problems::next`] for an example.
+    #[tactic(auto, unfolding(crate::specs::inner::Readers::reader_of))]
     pub fn new(source: &'a mut S, form: Form) -> Problems<'a, B, S>
         requires { S.is_failed source.old ≡ false }
         ensures lender { lender result ≡ source.entry.ghost_name }
         ensures source { source_of result ≡ source.old }
-        ensures to_come { (bytes : List ℕ)
-            → to_come B.geometry (cutter_of result) bytes ≡ problems_of B.geometry form bytes }
-        ensures ended { (bytes : List ℕ)
-            → ended B.geometry (cutter_of result) bytes ≡ ended_problems_of B.geometry form bytes }
-        ensures met_end { has_met_end (cutter_of result) ≡ false }
-        ensures handed { handed_count (cutter_of result) ≡ 0 }
+        ensures ahead { (over : Bool) (bytes : List ℕ)
+            → AreProblems B.geometry form over bytes ((reader_of result).ahead B.geometry over bytes) }
+        ensures met_end { (reader_of result).met_end ≡ false }
+        ensures handed { (reader_of result).handed ≡ 0 }
     {
+        reading_is_grammar();
         Problems {
             source,
             cutter: Cutter::new(form),
@@ -278,8 +272,8 @@ impl<'a, B: Board, S: Source> Problems<'a, B, S> {
         ensures handed { self.new.cutter.handed ≡ self.old.cutter.handed }
         ensures piece { ReadsPiece (S.coming (source_of self.old)) (S.coming (source_of self.new))
             self.old.cutter self.new.cutter result }
-        ensures end { EndIsTrue (S.coming (source_of self.old)) self.old.cutter
-            → EndIsTrue (S.coming (source_of self.new)) self.new.cutter }
+        ensures end { EndIsKnown (S.coming (source_of self.old)) self.old.cutter
+            → EndIsKnown (S.coming (source_of self.new)) self.new.cutter }
         ensures failed { S.is_failed (source_of self.new) ≡ (S.is_failed (source_of self.old) || is_err result) }
         ensures stays { self.old.cutter.met_end ≡ true → self.new.cutter.met_end ≡ true }
         ensures again { S.is_failed (source_of self.old) ≡ true → IsStarved self.old.cutter
@@ -306,21 +300,21 @@ impl<'a, B: Board, S: Source> Problems<'a, B, S> {
     /// The next problem, or `None` if the text has no more. `Failed` is the source's fault: no problem
     /// that was read whole is lost by it, and each later call answers `Failed` too.
     /// Example: of the lines `W:W32:B28` and `x` it gives a position, then a problem that was refused, and then `None`.
+    #[tactic(auto, unfolding(crate::specs::inner::Readers::reader_of))]
     pub fn next(&mut self) -> Result<Option<Problem<B>>, ReadFault>
         ensures lender { lender self.new ≡ lender self.old }
         ensures given { NextGives B.geometry
             (S.coming (source_of self.old)) (S.coming (source_of self.new))
-            (cutter_of self.old) (cutter_of self.new) result }
-        ensures end { EndIsTrue (S.coming (source_of self.old)) (cutter_of self.old)
-            → EndIsTrue (S.coming (source_of self.new)) (cutter_of self.new) }
+            (reader_of self.old) (reader_of self.new) result }
+        ensures end { EndIsTrue (S.coming (source_of self.old)) (reader_of self.old)
+            → EndIsTrue (S.coming (source_of self.new)) (reader_of self.new) }
         ensures failed { S.is_failed (source_of self.new) ≡ (S.is_failed (source_of self.old) || is_err result) }
         ensures stopped { IsErr result
-            → HasStopped (S.is_failed (source_of self.new)) (cutter_of self.new) }
-        ensures again { HasStopped (S.is_failed (source_of self.old)) (cutter_of self.old)
+            → HasStopped (S.is_failed (source_of self.new)) (reader_of self.new) }
+        ensures again { HasStopped (S.is_failed (source_of self.old)) (reader_of self.old)
             → IsErr result }
-        ensures stays { has_met_end (cutter_of self.old) ≡ true
-            → has_met_end (cutter_of self.new) ≡ true }
-        ensures counted { IsCounted (cutter_of self.old) (cutter_of self.new) result }
+        ensures stays { (reader_of self.old).met_end ≡ true → (reader_of self.new).met_end ≡ true }
+        ensures counted { IsCounted (reader_of self.old) (reader_of self.new) result }
     {
         'pieces: loop {
             if self.cutter.handed() > MAX_PROBLEMS {

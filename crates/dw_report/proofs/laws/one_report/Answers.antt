@@ -1,6 +1,4 @@
-use Rattle.dw_report.specs.Report.{chosen}
-use Rattle.dw_notation.specs.Problems.{problems_of}
-use Rattle.dw_report.proofs.TextLemmas.{Laws, texts_some, texts_only}
+use Rattle.dw_report.proofs.TextLemmas.{Laws, texts_some, report_some, report_only}
 use Rattle.dw_report.proofs.laws.one_report.Goals as goal
 
 pub returns : goal.returns
@@ -16,9 +14,9 @@ returns c =
       moves = c.moves_have_texts.ensures;
       lines = c.lines_have_texts.ensures;
     } in
+    let problems = c.texts_have_problems.ensures in
     record {
       texts = texts_some laws;
-      some = λ g b request some bytes. texts_some laws g b request some
-          (chosen request.only (problems_of g request.form bytes));
-      only = λ g b request bytes. texts_only laws g b request (chosen request.only (problems_of g request.form bytes));
+      some = report_some laws problems;
+      only = report_only laws problems;
     }

@@ -21,7 +21,7 @@ returns-in_err-refused-clause-text g c =
     let chosen = sym c.chooses.ensures ∙ c.if-not-chooses.false in
     let why = err_from_is_err_and c.from_residual.result c.from_residual.ensures.1 in
     fault_stays (IsProblemText geo request problem) (IsReportOn geo request (problem ∷ []))
-    (IsProblemPart geo request problem) (IsPartOn geo request (problem ∷ [])) _ _ c.write_problem.result
+    (IsProblemPart geo request problem) (IsPartOn geo request problem.number (problem ∷ [])) _ _ c.write_problem.result
     c.from_residual.result c.in_err-refused.field-0.0 why.0 c.in_err-refused.was why.1 (sym why.2)
     (one_report_on geo request problem chosen) (one_part_on geo request problem chosen) c.write_problem.ensures.text
 

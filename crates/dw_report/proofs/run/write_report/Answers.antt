@@ -1,6 +1,7 @@
 use Rattle.std.proofs.Common.{◌≡◌, refl, true, false, rules, arith, sym, ap, [], ◌∷◌, ◌∙◌}
 use Rattle.dw_notation.specs.Problems.{Numbered, numbered}
-use Rattle.dw_notation.specs.Reading.{cutter_of, source_of}
+use Rattle.dw_notation.specs.Reading.{source_of}
+use Rattle.dw_notation.specs.inner.Readers.{reader_of}
 use Rattle.dw_report.specs.Request.{request_of}
 use Rattle.dw_report.specs.Report.{chosen}
 use Rattle.dw_report.specs.inner.Running.{CountsOne, HasRoom}
@@ -16,8 +17,8 @@ problems-init g c =
     let zero = c.default-summary.ensures in
     record {
       lender = refl;
-      so_far = SoFar-start _ _ _ _ (cutter_of c.new-problems.result) c.default-summary.result new.met_end new.to_come
-          new.ended new.handed zero.0 zero.1.0 zero.1.1;
+      so_far = SoFar-start _ _ _ _ (reader_of c.new-problems.result) c.default-summary.result new.met_end new.ahead
+          new.handed zero.0 zero.1.0 zero.1.1;
       end = λ met. let bad : true ≡ false = sym met ∙ new.met_end in cc;
       source = ap g.S.Source.is_failed new.source ∙ c.requires.source;
       sink = c.requires.sink;
@@ -34,9 +35,10 @@ returns-in-Ok-None-clause-report g c =
     let ends = next_none g.B.Board.geometry (request_of c.args.settings.now)
     (g.S.Source.coming (source_of c.new-problems.result)) (g.S.Source.coming (source_of c.problems.problems))
     (g.S.Source.coming (source_of c.next.new.self)) (g.K.Sink.taken c.args.sink.now) (g.K.Sink.taken c.problems.sink)
-    (cutter_of c.problems.problems) (cutter_of c.next.new.self)
+    (reader_of c.problems.problems) (reader_of c.next.new.self)
     c.problems.summary c.in-Ok-None.field-0 c.in-Ok-None.field-0-is c.in-Ok-None.ensures.given
-    c.in-Ok-None.ensures.counted c.problems.invariant.so_far (c.next.ensures.end c.problems.invariant.end) in
+    c.in-Ok-None.ensures.counted c.problems.invariant.so_far (c.next.ensures.end c.problems.invariant.end)
+    c.problems.invariant.bound in
     search rules
 
 pub returns-in-Err-clause-report : goal.returns-in-Err-clause-report
@@ -44,7 +46,7 @@ returns-in-Err-clause-report g c =
     let ends = next_failed g.B.Board.geometry (request_of c.args.settings.now)
     (g.S.Source.coming (source_of c.new-problems.result)) (g.S.Source.coming (source_of c.problems.problems))
     (g.S.Source.coming (source_of c.next.new.self)) (g.K.Sink.taken c.args.sink.now) (g.K.Sink.taken c.problems.sink)
-    (cutter_of c.problems.problems) (cutter_of c.next.new.self)
+    (reader_of c.problems.problems) (reader_of c.next.new.self)
     c.problems.summary c.next.result c.in-Err.field-0 (g.S.Source.is_failed (source_of c.next.new.self))
     c.in-Err.is c.next.ensures.given c.next.ensures.stopped c.next.ensures.stays c.problems.invariant.so_far in
     search rules
@@ -64,7 +66,7 @@ returns-in-Err-report_problem-clause-report g c =
     let stops = next_fault g.B.Board.geometry (request_of c.args.settings.now)
     (g.S.Source.coming (source_of c.new-problems.result)) (g.S.Source.coming (source_of c.problems.problems))
     (g.S.Source.coming (source_of c.next.new.self)) (g.K.Sink.taken c.args.sink.now) (g.K.Sink.taken c.problems.sink)
-    (g.K.Sink.taken c.report_problem.new.sink) (cutter_of c.problems.problems) (cutter_of c.next.new.self)
+    (g.K.Sink.taken c.report_problem.new.sink) (reader_of c.problems.problems) (reader_of c.next.new.self)
     c.problems.summary c.in-Ok-Some.field-0 c.in-Ok-Some.problem c.expanded.result c.report_problem.result
     c.in-Err-report_problem.fault c.in-Ok-Some.field-0-is c.in-Err-report_problem.is c.in-Ok-Some.ensures.given
     c.problems.invariant.so_far (c.next.ensures.end c.problems.invariant.end) c.next.ensures.stays
@@ -84,21 +86,21 @@ returns-then-asks_for-clause-report g c =
     let more = next_more g.B.Board.geometry (request_of c.args.settings.now)
     (g.S.Source.coming (source_of c.new-problems.result)) (g.S.Source.coming (source_of c.problems.problems))
     (g.S.Source.coming (source_of c.next.new.self)) (g.K.Sink.taken c.args.sink.now) (g.K.Sink.taken c.problems.sink)
-    (g.K.Sink.taken c.report_problem.new.sink) (cutter_of c.problems.problems) (cutter_of c.next.new.self)
+    (g.K.Sink.taken c.report_problem.new.sink) (reader_of c.problems.problems) (reader_of c.next.new.self)
     c.problems.summary c.in-Ok.counted c.in-Ok-Some.field-0 c.in-Ok-Some.problem c.in-Ok-Some.field-0-is
     c.in-Ok-Some.ensures.given c.in-Ok-Some.ensures.counted c.problems.invariant.so_far
     (c.next.ensures.end c.problems.invariant.end) c.next.ensures.stays c.in-Ok.ensures.text c.in-Ok.ensures.counts in
     let ends = SoFar-asked g.B.Board.geometry (request_of c.args.settings.now)
     (g.S.Source.coming (source_of c.new-problems.result)) (g.S.Source.coming (source_of c.next.new.self))
     (g.K.Sink.taken c.args.sink.now) (g.K.Sink.taken c.report_problem.new.sink)
-    (cutter_of c.next.new.self) c.in-Ok.counted (numbered c.in-Ok-Some.problem) more
+    (reader_of c.next.new.self) c.in-Ok.counted (numbered c.in-Ok-Some.problem) more
     (sym c.asks_for.ensures ∙ c.if-asks_for.true) in
     search rules
 
 pub problems-preserved : goal.problems-preserved
 problems-preserved g c =
     let so_far = c.problems.invariant in
-    let counted = counted_one (cutter_of c.problems.problems) (cutter_of c.next.new.self) c.in-Ok-Some.field-0
+    let counted = counted_one (reader_of c.problems.problems) (reader_of c.next.new.self) c.in-Ok-Some.field-0
     c.in-Ok-Some.problem c.in-Ok-Some.field-0-is c.in-Ok-Some.ensures.counted in
     let settings = c.args.settings.now in
     let request = request_of settings in
@@ -107,7 +109,7 @@ problems-preserved g c =
     let more = next_more g.B.Board.geometry (request_of c.args.settings.now)
     (g.S.Source.coming (source_of c.new-problems.result)) (g.S.Source.coming (source_of c.problems.problems))
     (g.S.Source.coming (source_of c.next.new.self)) (g.K.Sink.taken c.args.sink.now) (g.K.Sink.taken c.problems.sink)
-    (g.K.Sink.taken c.report_problem.new.sink) (cutter_of c.problems.problems) (cutter_of c.next.new.self)
+    (g.K.Sink.taken c.report_problem.new.sink) (reader_of c.problems.problems) (reader_of c.next.new.self)
     c.problems.summary c.in-Ok.counted c.in-Ok-Some.field-0 c.in-Ok-Some.problem c.in-Ok-Some.field-0-is
     c.in-Ok-Some.ensures.given c.in-Ok-Some.ensures.counted c.problems.invariant.so_far
     (c.next.ensures.end c.problems.invariant.end) c.next.ensures.stays c.in-Ok.ensures.text c.in-Ok.ensures.counts in
@@ -121,7 +123,7 @@ problems-preserved g c =
       so_far = SoFar-next g.B.Board.geometry (request_of c.args.settings.now)
           (g.S.Source.coming (source_of c.new-problems.result)) (g.S.Source.coming (source_of c.next.new.self))
           (g.K.Sink.taken c.args.sink.now) (g.K.Sink.taken c.report_problem.new.sink)
-          (cutter_of c.next.new.self) c.in-Ok.counted (numbered c.in-Ok-Some.problem) more
+          (reader_of c.next.new.self) c.in-Ok.counted (numbered c.in-Ok-Some.problem) more
           (sym c.asks_for.ensures ∙ c.if-asks_for.false);
       end = c.next.ensures.end so_far.end;
       source = failed-at_ok (g.S.Source.is_failed (source_of c.next.new.self))

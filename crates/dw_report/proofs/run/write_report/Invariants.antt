@@ -1,6 +1,7 @@
 use Rattle.std.proofs.Common.{◌≡◌, ◌≤◌, ◌-◌, false}
-use Rattle.dw_notation.specs.Cutting.{EndIsTrue, handed_count}
-use Rattle.dw_notation.specs.Reading.{lender, source_of, cutter_of}
+use Rattle.dw_notation.specs.Reading.{EndIsTrue}
+use Rattle.dw_notation.specs.Reading.{lender, source_of}
+use Rattle.dw_notation.specs.inner.Readers.{reader_of}
 use Rattle.dw_report.specs.Request.{request_of}
 use Rattle.dw_report.specs.declared.settings.Command.TheVariants.{Moves}
 use Rattle.dw_report.proofs.RunLemmas.{SoFar}
@@ -14,17 +15,17 @@ invariant-problems g l =
       lender : lender l.problems ≡ lender l.initial.problems;
       so_far : SoFar g.B.Board.geometry (request_of l.settings) (source.coming (source_of l.initial.problems))
           (source.coming (source_of l.problems))
-          (sink.taken l.initial.sink) (sink.taken l.sink) (cutter_of l.problems) l.summary;
-      end : EndIsTrue (source.coming (source_of l.problems)) (cutter_of l.problems);
+          (sink.taken l.initial.sink) (sink.taken l.sink) (reader_of l.problems) l.summary;
+      end : EndIsTrue (source.coming (source_of l.problems)) (reader_of l.problems);
       source : source.is_failed (source_of l.problems) ≡ false;
       sink : sink.is_failed l.sink ≡ false;
       limit : l.solver.limit ≡ l.initial.solver.limit;
       still : l.settings.command ≡ Moves → l.solver.expanded ≡ 0;
-      read : l.summary.problems ≡ handed_count (cutter_of l.problems);
+      read : l.summary.problems ≡ (reader_of l.problems).handed;
       shown : l.summary.shown ≤ l.summary.problems;
       refused : l.summary.refused ≤ l.summary.shown;
-      bound : handed_count (cutter_of l.problems) ≤ 1000001;
+      bound : (reader_of l.problems).handed ≤ 1000001;
     }
 
 abbrev pub decreases-problems : goal.decreases-problems
-decreases-problems g l = 1000001 - handed_count (cutter_of l.problems)
+decreases-problems g l = 1000001 - (reader_of l.problems).handed

@@ -1,6 +1,6 @@
 use Rattle.std.proofs.Common.{true, option_to_list, [], ap, ◌∙◌}
-use Rattle.dw_notation.specs.Ahead.{found_from, behind_mark}
-use Rattle.dw_notation.specs.Held.{held_line}
+use Rattle.dw_notation.specs.inner.Ahead.{found_from, behind_mark}
+use Rattle.dw_notation.specs.inner.Held.{held_line}
 use Rattle.dw_notation.proofs.CutLemmas.{line_found-nil}
 use Rattle.dw_notation.proofs.MarkLemmas.{ahead-end}
 use Rattle.dw_notation.proofs.problems.fens.Lines.finish.Goals as goal

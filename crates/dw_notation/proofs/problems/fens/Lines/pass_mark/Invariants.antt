@@ -1,6 +1,6 @@
 use Rattle.std.proofs.Common.{◌≡◌, ◌++◌, List, ℕ, Bool, drop}
 use Rattle.dw_board.specs.Geometry.{Geometry}
-use Rattle.dw_notation.specs.Pieces.{lines_ahead}
+use Rattle.dw_notation.specs.inner.Pieces.{lines_ahead}
 use Rattle.dw_notation.proofs.problems.fens.Lines.pass_mark.Given as goal
 
 abbrev pub invariant-bytes : goal.invariant-bytes

@@ -1,6 +1,6 @@
 use Rattle.std.proofs.Common.{◌≡◌, ◌&&◌, sym, ap, ◌∙◌}
 use Rattle.dw_board.specs.FenTokens.{is_blank}
-use Rattle.dw_notation.specs.Held.{padded}
+use Rattle.dw_notation.specs.inner.Held.{padded}
 use Rattle.dw_notation.proofs.LongLineLemmas.{length-padded, blank-padded}
 use Rattle.dw_notation.proofs.problems.fens.LongLine.with.Goals as goal
 use Rattle.dw_notation.proofs.problems.fens.LongLine.with.Goals.{then-self, else-self}

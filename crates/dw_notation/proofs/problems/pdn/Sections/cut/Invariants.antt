@@ -1,6 +1,6 @@
 use Rattle.std.proofs.Common.{◌≡◌, ◌≤◌, ◌-◌, ℕ, List, ◌++◌, Bool, length, drop}
 use Rattle.dw_board.specs.Geometry.{Geometry}
-use Rattle.dw_notation.specs.HeldSection.{sections_ahead}
+use Rattle.dw_notation.specs.inner.HeldSection.{sections_ahead}
 use Rattle.dw_notation.proofs.problems.pdn.Sections.cut.Given as goal
 
 abbrev pub invariant-bytes : goal.invariant-bytes

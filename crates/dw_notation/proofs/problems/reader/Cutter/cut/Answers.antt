@@ -1,5 +1,5 @@
 use Rattle.std.proofs.Common.{◌+◌, ◌++◌, ◌≤◌, ◌∙◌, ap, sym, arith}
-use Rattle.dw_notation.specs.Pieces.{pieces_ahead}
+use Rattle.dw_notation.specs.inner.Pieces.{pieces_ahead}
 use Rattle.dw_notation.proofs.CutLemmas.{found-rest, length-slice_range-le, slice_range-none}
 use Rattle.dw_notation.proofs.problems.reader.Cutter.cut.Goals as goal
 

@@ -1,5 +1,6 @@
 use Rattle.std.proofs.Common.{◌≡◌, true, []}
-use Rattle.dw_notation.specs.Cutting.{EndIsTrue, IsStarved}
+use Rattle.dw_notation.specs.inner.Cutting.{EndIsKnown}
+use Rattle.dw_notation.specs.inner.Cutting.{IsStarved}
 use Rattle.dw_notation.specs.inner.Cutting.{HandsOut, weight}
 use Rattle.dw_notation.proofs.problems.reader.Problems.next.Given as goal
 
@@ -10,8 +11,8 @@ invariant-pieces g l =
       lender : l.self.source.ghost_name ≡ l.initial.self.source.ghost_name;
       nothing : HandsOut g.B.Board.geometry (source.coming l.initial.self.source.now) (source.coming l.self.source.now)
           l.initial.self.cutter l.self.cutter [];
-      end : EndIsTrue (source.coming l.initial.self.source.now) l.initial.self.cutter
-          → EndIsTrue (source.coming l.self.source.now) l.self.cutter;
+      end : EndIsKnown (source.coming l.initial.self.source.now) l.initial.self.cutter
+          → EndIsKnown (source.coming l.self.source.now) l.self.cutter;
       handed : l.self.cutter.handed ≡ l.initial.self.cutter.handed;
       stays : l.initial.self.cutter.met_end ≡ true → l.self.cutter.met_end ≡ true;
       failed : source.is_failed l.self.source.now ≡ source.is_failed l.initial.self.source.now;

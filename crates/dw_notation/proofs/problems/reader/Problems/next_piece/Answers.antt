@@ -29,7 +29,8 @@ reads-preserved g c =
     let light = weight-fill new.met_end _ _ _ c.in-Ok.ensures.more (omega (arith, short, new.in_buffer)) fill.none in
     record {
       lender = search rules;
-      carried = CarriesOn-fill _ _ _ _ c.cut.new.self new carried none fill.pieces fill.bytes;
+      carried = CarriesOn-fill _ _ _ _ c.cut.new.self new carried none fill.pieces fill.bytes
+          (omega (arith, short, new.in_buffer));
       handed = fill.handed ∙ cut.handed ∙ so_far.handed;
       stays = λ was. let bad : true ≡ false = sym (so_far.stays was) ∙ sym cut.met_end ∙ unmet in cc;
       end = λ _. fill.end;

@@ -1,5 +1,6 @@
 use Rattle.std.proofs.Common.{◌≡◌, ◌≤◌, ◌+◌, true, cond}
-use Rattle.dw_notation.specs.Cutting.{EndIsTrue, IsStarved}
+use Rattle.dw_notation.specs.inner.Cutting.{EndIsKnown}
+use Rattle.dw_notation.specs.inner.Cutting.{IsStarved}
 use Rattle.dw_notation.specs.inner.Cutting.{CarriesOn, weight}
 use Rattle.dw_notation.proofs.problems.reader.Problems.next_piece.Given as goal
 
@@ -12,8 +13,8 @@ invariant-reads g l =
           l.initial.self.cutter l.self.cutter;
       handed : l.self.cutter.handed ≡ l.initial.self.cutter.handed;
       stays : l.initial.self.cutter.met_end ≡ true → l.self.cutter.met_end ≡ true;
-      end : EndIsTrue (source.coming l.initial.self.source.now) l.initial.self.cutter
-          → EndIsTrue (source.coming l.self.source.now) l.self.cutter;
+      end : EndIsKnown (source.coming l.initial.self.source.now) l.initial.self.cutter
+          → EndIsKnown (source.coming l.self.source.now) l.self.cutter;
       failed : source.is_failed l.self.source.now ≡ source.is_failed l.initial.self.source.now;
       again : source.is_failed l.initial.self.source.now ≡ true → IsStarved l.initial.self.cutter
           → IsStarved l.self.cutter;

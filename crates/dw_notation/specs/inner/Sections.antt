@@ -1,12 +1,14 @@
--- The sections of a text of tags: where such a text stands, what its next byte does, and what sections say.
-use Rattle.std.specs.Prelude.{ℕ, ◌==◌, ◌+◌, ◌-◌, ◌*◌, ◌&&◌, if◌then◌else◌, not, List, [], ◌∷◌, ◌++◌, Bool, true, false}
-use Rattle.std.specs.Prelude.{Err, nat_lt, codes, ◌||◌}
-use Rattle.std.specs.List.{list_any}
-use Rattle.std.specs.Char.{to_ascii_lowercase, is_ascii_digit, is_ascii_alphanumeric}
+-- The sections of a text of tags, byte by byte: where the text stands, what its next byte does, what a section is found
+-- to say.
+use Rattle.std.specs.Prelude.{ℕ, ◌==◌, ◌+◌, ◌||◌, if◌then◌else◌, List, [], ◌∷◌, ◌++◌, Bool, true, false, Err, nat_lt}
+use Rattle.std.specs.Prelude.{codes}
 use Rattle.dw_board.specs.Geometry.{Geometry}
 use Rattle.dw_board.specs.Fen.{fen}
 use Rattle.dw_board.specs.FenTokens.{is_blank}
-use Rattle.dw_notation.specs.Lines.{line_feed, carriage_return, Found, fen_found}
+use Rattle.dw_notation.specs.Lines.{Found}
+use Rattle.dw_notation.specs.Tags.{open_bracket, close_bracket, open_brace, close_brace, quotation_mark, back_slash}
+use Rattle.dw_notation.specs.Tags.{is_name_byte, ends_line, same_name, game_of, is_wrong}
+use Rattle.dw_notation.specs.inner.Lines.{fen_found}
 use Rattle.dw_notation.specs.declared.problems.TheConstants.{MAX_SECTION}
 use Rattle.dw_notation.specs.declared.problems.ProblemFault.TheVariants.{NoFen, TwoFens, WrongGame, SectionTooLong}
 use Rattle.dw_notation.specs.declared.problems.ProblemFault.TheVariants.{UnclosedTag, UnclosedComment}
@@ -19,36 +21,6 @@ use Rattle.dw_notation.specs.declared.problems.pdn.Deed.TheVariants.{AddBoth, Cl
 use Rattle.dw_notation.specs.declared.problems.pdn.Kind.{Kind}
 use Rattle.dw_notation.specs.declared.problems.pdn.Kind.TheVariants.{FenTag, GameTag, OtherTag}
 use Rattle.dw_notation.specs.declared.problems.pdn.Step.{Step}
-
--- the bytes with a meaning in such a text
-abbrev pub open_bracket : ℕ
-open_bracket = 91
-
-abbrev pub close_bracket : ℕ
-close_bracket = 93
-
-abbrev pub open_brace : ℕ
-open_brace = 123
-
-abbrev pub close_brace : ℕ
-close_brace = 125
-
-abbrev pub quotation_mark : ℕ
-quotation_mark = 34
-
-abbrev pub back_slash : ℕ
-back_slash = 92
-
-abbrev pub underscore : ℕ
-underscore = 95
-
--- an ASCII letter, a digit or an underscore
-abbrev pub is_name_byte : ℕ → Bool
-is_name_byte byte = is_ascii_alphanumeric byte || (byte == underscore)
-
--- a line feed or a carriage return
-abbrev pub ends_line : ℕ → Bool
-ends_line byte = (byte == line_feed) || (byte == carriage_return)
 
 abbrev pub at : Place → Deed → Step
 at place deed = record { place = place; deed = deed }
@@ -88,27 +60,9 @@ step BehindValue byte =
     else (if byte == close_bracket then at Between Close else broken_by byte)
 step Rest byte = if ends_line byte then at Between EndLine else at Rest Count
 
--- two names, without regard to the case of their letters
-abbrev pub same_name : List ℕ → List ℕ → Bool
-same_name [] [] = true
-same_name [] (b ∷ other) = false
-same_name (a ∷ name) [] = false
-same_name (a ∷ name) (b ∷ other) = (to_ascii_lowercase a == to_ascii_lowercase b) && same_name name other
-
 abbrev pub kind_of : List ℕ → Kind
 kind_of name = if same_name name (codes "FEN") then FenTag
     else (if same_name name (codes "GameType") then GameTag else OtherTag)
-
--- a number goes on with the digits in front of the text
-abbrev pub number_on : ℕ → List ℕ → ℕ
-number_on n [] = n
-number_on n (byte ∷ text) = if is_ascii_digit byte then number_on (n * 10 + (byte - 48)) text else n
-
--- the game that a value names: the number at its front, blanks aside; 20, international draughts, if there is none
-abbrev pub game_of : List ℕ → ℕ
-game_of [] = 20
-game_of (byte ∷ text) = if is_blank byte then game_of text
-    else (if is_ascii_digit byte then number_on (byte - 48) text else 20)
 
 -- a section, as far as it was read
 pub record Section : Type 0 where
@@ -148,10 +102,6 @@ after Break s = record s { read = s.read + 1; is_unclosed = true }
 after EndLine s = record s { read = s.read + 1; size = s.read; is_unclosed = true }
 after NextTag s = record s { read = s.read + 1; name = [] }
 after End s = s
-
--- international draughts is game 20, on ten rows; a tag of any other game is wrong, and on any other board each
-abbrev pub is_wrong : Geometry → List ℕ → Bool
-is_wrong g games = list_any (λ game. not ((g.rows == 10) && (game == 20))) games
 
 -- what the values of the FEN tags say
 abbrev pub fens_found : Geometry → List (List ℕ) → Found

@@ -5,8 +5,9 @@ use Rattle.std.specs.Char.{is_ascii_digit}
 use Rattle.dw_board.specs.Geometry.{Geometry}
 use Rattle.dw_board.specs.Fen.{fen}
 use Rattle.dw_board.specs.FenTokens.{is_blank}
-use Rattle.dw_notation.specs.Lines.{Found, fen_found}
-use Rattle.dw_notation.specs.Sections.{step, kind_of, found_by, found_at_end}
+use Rattle.dw_notation.specs.Lines.{Found}
+use Rattle.dw_notation.specs.inner.Lines.{fen_found}
+use Rattle.dw_notation.specs.inner.Sections.{step, kind_of, found_by, found_at_end}
 use Rattle.dw_notation.specs.declared.problems.TheConstants.{MAX_SECTION}
 use Rattle.dw_notation.specs.declared.problems.ProblemFault.TheVariants.{NoFen, TwoFens, WrongGame, SectionTooLong}
 use Rattle.dw_notation.specs.declared.problems.ProblemFault.TheVariants.{UnclosedTag, UnclosedComment}

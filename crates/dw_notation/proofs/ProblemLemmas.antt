@@ -1,0 +1,50 @@
+-- The problems of a text are what is found in it.
+use Rattle.std.proofs.Common.{◌≡◌, ℕ, List, Bool, refl, sym, ap, ◌∙◌}
+use Rattle.dw_board.specs.FenLaws.{ReadingIsGrammar}
+use Rattle.dw_board.specs.Geometry.{Geometry}
+use Rattle.dw_notation.specs.Lines.{Found, without_mark}
+use Rattle.dw_notation.specs.Problems.{number_from, TextSays, AreProblems, TextsHaveProblems}
+use Rattle.dw_notation.specs.inner.Cutting.{found_ahead, problems_from}
+use Rattle.dw_notation.specs.inner.Problems.{found_of}
+use Rattle.dw_notation.specs.declared.problems.Form.{Form}
+use Rattle.dw_notation.specs.declared.problems.Form.TheVariants.{Fens, Pdn}
+use Rattle.dw_notation.specs.declared.problems.reader.Cutter.{Cutter}
+use Rattle.dw_notation.proofs.TextSaysLemmas.{lines_say, lines_say-only}
+use Rattle.dw_notation.proofs.WholeTextLemmas.{sections_say, sections_say-only}
+
+module _ (law : ReadingIsGrammar) where
+  text_says : (g : Geometry) (form : Form) (over : Bool) (bytes : List ℕ)
+      → TextSays g form over bytes (found_of over g form bytes)
+  text_says g Fens over bytes = lines_say law g over (without_mark bytes)
+  text_says g Pdn over bytes = sections_say law g over (without_mark bytes)
+
+  pub text_says-only : (g : Geometry) (form : Form) (over : Bool) (bytes : List ℕ) (found : List Found)
+      → TextSays g form over bytes found → found ≡ found_of over g form bytes
+  text_says-only g Fens over bytes found h = lines_say-only law h
+  text_says-only g Pdn over bytes found h = sections_say-only law h
+
+  found_problems : (g : Geometry) (form : Form) (over : Bool) (bytes : List ℕ)
+      → AreProblems g form over bytes (number_from 0 (found_of over g form bytes))
+  found_problems g form over bytes = record {
+    found = found_of over g form bytes;
+    said = text_says g form over bytes;
+    numbers = refl;
+  }
+
+  pub texts_have_problems : TextsHaveProblems
+  texts_have_problems = record {
+    some = λ g form over bytes. (number_from 0 (found_of over g form bytes), found_problems g form over bytes);
+    only = λ g form over bytes problems others p q.
+        p.numbers ∙ ap (number_from 0) (text_says-only g form over bytes p.found p.said
+        ∙ sym (text_says-only g form over bytes q.found q.said)) ∙ sym q.numbers;
+  }
+
+  -- what a reader will hand out that has read nothing
+  pub fresh_ahead : (g : Geometry) (form : Form) (over : Bool) (bytes : List ℕ) (cutter : Cutter) → cutter.handed ≡ 0
+      → found_ahead over g cutter bytes ≡ found_of over g form bytes
+      → AreProblems g form over bytes (problems_from over g cutter bytes)
+  fresh_ahead g form over bytes cutter none found = record {
+    found = found_of over g form bytes;
+    said = text_says g form over bytes;
+    numbers = ap (λ n. number_from n (found_ahead over g cutter bytes)) none ∙ ap (number_from 0) found;
+  }
