@@ -1,11 +1,11 @@
 -- Following a list of moves, level by level.
 use Rattle.std.proofs.Common.{◌≡◌, ℕ, ◌+◌, ◌≤◌, ◌<◌, zero, suc, Bool, true, false, Some, None, Option, List, [], ◌∷◌}
-use Rattle.std.proofs.Common.{◌++◌, length, take, get_or, reverse, refl, sym, ap, ◌∙◌, subst, inl, inr, arith}
+use Rattle.std.proofs.Common.{◌++◌, length, take, get_or, reverse, refl, sym, ap, ◌∙◌, subst, ◌⊎◌, inl, inr, arith}
 use mathlib.Core.List.{reverse_aux}
 use Rattle.std.specs.Prelude.{not}
-use Rattle.std.proofs.lemmas.Bool.{true≢false}
+use Rattle.std.proofs.lemmas.Bool.{true≢false, cases_lt}
 use Rattle.std.proofs.lemmas.Grind.{reverse_onto}
-use Rattle.std.proofs.lemmas.List.{reverse-reverse, reverse-append, length-reverse}
+use Rattle.std.proofs.lemmas.List.{take_all, reverse-reverse, reverse-append, length-reverse}
 use Rattle.dw_board.specs.Geometry.{Geometry}
 use Rattle.dw_board.specs.Placement.{Placement}
 use Rattle.dw_moves.specs.Moves.{Move, Legal, play}
@@ -14,6 +14,7 @@ use Rattle.dw_moves.specs.inner.MemberLemmas.{mem_cases, mem_split, mem_right}
 use Rattle.dw_moves.specs.Order.{Precedes, IsListOf}
 use Rattle.dw_moves.specs.Laws.{MovesHaveKeys, MovesListed}
 use Rattle.dw_solve.specs.Wins.{Win}
+use Rattle.dw_list.specs.Lines.IsPlace.{lacks, leaves}
 use Rattle.dw_list.specs.Lines.{Line, Before, Lines, After, Begins, IsPlace}
 use Rattle.dw_list.specs.Standing.{BeginsAmong, Level, Standing, IsAhead, IsBehind, Remains, IsStillAhead}
 use Rattle.dw_list.specs.inner.Going.{GoesOn, IsNext, left_after, Keeps}
@@ -233,7 +234,7 @@ take_length zero xs low = refl
 take_length (suc i) [] low = absurd (omega arith)
 take_length (suc i) (x ∷ xs) low = let e = take_length i xs (omega arith) in omega arith
 
-take_whole : {X : Type 0} (xs : List X) → take (length xs) xs ≡ xs
+pub take_whole : {X : Type 0} (xs : List X) → take (length xs) xs ≡ xs
 take_whole [] = refl
 take_whole (x ∷ xs) = ap (λ z. x ∷ z) (take_whole xs)
 
@@ -272,10 +273,63 @@ begins_so_far listed g p n l i s h fits j some low =
     let line = leads_line g p n h.unlisted.outer (reverse (take i l)) f.attacks f.position f.left leads t.0 t.1 in
     begins_less g p n l j i low (t.0, subst (Line g p n) (onto_reverse (take i l) t.0) line)
 
+-- THE PLACE OF A LIST THAT IS NO LINE
+
+pub record LeavesAt (g : Geometry) (p : Placement) (n : ℕ) (l : List Move) (place : ℕ) : Type 0 where
+  pub no_line : Line g p n l → ⊥
+  pub first : 1 ≤ place
+  pub last : place ≤ length l + 1
+  pub earlier : (j : ℕ) → 0 < j → j < place → Begins g p n (take j l)
+  pub leaves : place ≤ length l → Begins g p n (take place l) → ⊥
+
+begins_all : (g : Geometry) (p : Placement) (n : ℕ) (l : List Move) → ((j : ℕ) → 0 < j → j < length l + 1
+    → Begins g p n (take j l)) → (l ≡ []) ⊎ Begins g p n l
+begins_all g p n [] h = inl refl
+begins_all g p n (m ∷ l) h = inr (subst (Begins g p n) (take_whole (m ∷ l)) (h (length (m ∷ l)) (omega arith) (omega
+    arith)))
+
+pub place_of : (g : Geometry) (p : Placement) (n : ℕ) (l : List Move) (place : ℕ) → LeavesAt g p n l place
+    → IsPlace g p n l place
+place_of g p n l place h = elim (cases_lt (length l) place) [
+  | inl beyond ↦
+      let last = h.last in
+      let e : place ≡ length l + 1 = omega (arith, beyond, last) in
+      subst (IsPlace g p n l) (sym e) (lacks h.no_line (begins_all g p n l (λ j some less. h.earlier j some
+      (omega (arith, e, less)))))
+  | inr within ↦ leaves h.first (h.leaves within) h.earlier
+]
+
+pub leaves_at : (g : Geometry) (p : Placement) (n : ℕ) (l : List Move) (place : ℕ) → IsPlace g p n l place
+    → LeavesAt g p n l place
+leaves_at g p n l place (lacks none begins) = record {
+  no_line = none;
+  first = omega arith;
+  last = omega arith;
+  earlier = λ j some less. elim begins [
+    | inl e ↦ let size = ap length e in absurd (omega (arith, size, some, less))
+    | inr whole ↦ begins_less g p n l j (length l) (omega (arith, less)) (subst (Begins g p n) (sym (take_whole l))
+        whole)
+  ];
+  leaves = λ within. absurd (omega (arith, within));
+}
+leaves_at g p n l place (leaves first none earlier) = record {
+  no_line = λ line. let rest = take_rest place l in none (rest.0, subst (Line g p n) rest.1 line);
+  first = first;
+  last = elim (cases_lt (length l + 1) place) [
+    | inl beyond ↦
+        let all : take (length l + 1) l ≡ take place l = take_all (length l + 1) l (omega arith)
+        ∙ sym (take_all place l (omega (arith, beyond))) in
+        absurd (none (subst (Begins g p n) all (earlier (length l + 1) (omega arith) beyond)))
+    | inr within ↦ within
+  ];
+  earlier = earlier;
+  leaves = λ _. none;
+}
+
 -- no line goes on with the next move
 pub follows_place : MovesListed → (g : Geometry) (p : Placement) (n : ℕ) (l : List Move) (i : ℕ) (m : Move)
     (s : Standing) → Follows g p n l i s → i < length l → m ≡ get_or l i m → (GoOnWith g s.levels m → ⊥)
-    → IsPlace g p n l (i + 1)
+    → LeavesAt g p n l (i + 1)
 follows_place listed g p n l i m s h low at barred =
     let leads = follows_leads g p n l i s h in
     let f = h.unlisted.last in
@@ -303,7 +357,7 @@ follows_place listed g p n l i m s h low at barred =
 
 -- the list lacks a move
 pub follows_short : MovesListed → (g : Geometry) (p : Placement) (n : ℕ) (l : List Move) (s new : Standing) (end : Bool)
-    → Follows g p n l (length l) s → IsListed g s new end → end ≡ false → IsPlace g p n l (length l + 1)
+    → Follows g p n l (length l) s → IsListed g s new end → end ≡ false → LeavesAt g p n l (length l + 1)
 follows_short listed g p n l s new end h k no_end =
     let leads = follows_leads g p n l (length l) s h in
     let f = h.unlisted.last in

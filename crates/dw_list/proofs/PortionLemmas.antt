@@ -1,8 +1,11 @@
 -- What one turn of taking lines in portions does.
+use Rattle.std.proofs.Common.{ℕ, ◌≤◌, max, refl}
 use Rattle.std.proofs.Common.{◌≡◌, true, false, List, [], ◌∷◌, ◌++◌, map, reverse, sym, ap, ◌∙◌, subst}
 use Rattle.std.proofs.lemmas.List.{map-append}
 use Rattle.dw_board.specs.Geometry.{Geometry}
 use Rattle.dw_moves.specs.Moves.{Move}
+use Rattle.dw_solve.specs.Solving.{Solving}
+use Rattle.dw_list.specs.Listing.{last_of, LimitIsLast}
 use Rattle.dw_list.specs.Standing.{Standing, AreToCome}
 use Rattle.dw_list.specs.Walking.{Gives, SameToCome, GivesFirst, GivesNext}
 use Rattle.dw_list.proofs.StepLemmas.{gives_nothing, gives_then, gives_same, none_stays, none_first}
@@ -39,3 +42,19 @@ module _ (g : Geometry) (a b c : Standing) (same : b ≡ a) where
 
   pub end_none : GivesNext g false b c → AreToCome g c []
   end_none h = none_stays g b c h.none h.same
+
+-- THE LIMIT OF THE LAST TURN
+
+last_push : (first : ℕ) (limits : List ℕ) (x : ℕ) → last_of first (limits ++ x ∷ []) ≡ x
+last_push first [] x = refl
+last_push first (next ∷ limits) x = last_push next limits x
+
+pub limit_push : {M : Type 0} (limits : List ℕ) (x : ℕ) (old mid new : Solving M) → old.expanded ≤ mid.expanded
+    → mid.expanded ≤ new.expanded → new.limit ≡ max (max x 1) mid.expanded → LimitIsLast (limits ++ x ∷ []) old new
+limit_push [] x old mid new before after is = (mid.expanded, before, after, is)
+limit_push (first ∷ limits) x old mid new before after is = (
+  mid.expanded,
+  before,
+  after,
+  is ∙ ap (λ z. max (max z 1) mid.expanded) (sym (last_push first limits x)),
+)

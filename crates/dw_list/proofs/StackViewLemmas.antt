@@ -249,3 +249,9 @@ seen_entered s p n line line' m old popped new f h c k seen played was is passes
     subst (λ (z : Standing). standing p n (reverse line') (reverse new)
     ≡ record z { line = m ∷ z.line; levels = k ∷ passed_last z.levels }) seen
     (λ i. standing p n (line_is i) (levels i))
+
+-- the last one is taken off, and another put there
+pub same_count : {X : Type 0} (xs ys zs : List X) (x z : X) → xs ≡ ys ++ x ∷ [] → zs ≡ ys ++ z ∷ []
+    → length zs ≡ length xs
+same_count xs ys zs x z e f = ap length f ∙ length-append ys (z ∷ []) ∙ sym (length-append ys (x ∷ [])) ∙ sym (ap length
+    e)

@@ -35,11 +35,9 @@ After lines l rest = (earlier : List (List Move)) × (lines ≡ earlier ++ l ∷
 abbrev pub Begins : Geometry → Placement → ℕ → List Move → Type 0
 Begins g p n l = (rest : List Move) × Line g p n (l ++ rest)
 
--- The place of a list that is no line: that of the first move with which it leaves all lines, counted from 1, or of the
--- move that it lacks.
-pub record IsPlace (g : Geometry) (p : Placement) (n : ℕ) (l : List Move) (place : ℕ) : Type 0 where
-  pub no_line : Line g p n l → ⊥
-  pub first : 1 ≤ place
-  pub last : place ≤ length l + 1
-  pub earlier : (j : ℕ) → 0 < j → j < place → Begins g p n (take j l)
-  pub leaves : place ≤ length l → Begins g p n (take place l) → ⊥
+-- The place of a list that is no line: if the list is empty or begins a line, that of the move which it lacks; else that of
+-- the first move, counted from 1, with which no line begins any more.
+pub data IsPlace (g : Geometry) (p : Placement) (n : ℕ) (l : List Move) : ℕ → Type 0 where
+  lacks : (Line g p n l → ⊥) → (l ≡ []) ⊎ Begins g p n l → IsPlace g p n l (length l + 1)
+  leaves : {place : ℕ} → 1 ≤ place → (Begins g p n (take place l) → ⊥)
+      → ((j : ℕ) → 1 ≤ j → j < place → Begins g p n (take j l)) → IsPlace g p n l place

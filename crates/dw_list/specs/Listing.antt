@@ -1,5 +1,5 @@
 -- What a lister shows its caller.
-use Rattle.std.specs.Prelude.{◌≡◌, ℕ, ◌≤◌, List, reverse}
+use Rattle.std.specs.Prelude.{◌≡◌, ℕ, ◌≤◌, max, List, [], ◌∷◌, reverse}
 use Rattle.std.specs.Borrow.{GName}
 use Rattle.dw_board.specs.Geometry.{Geometry}
 use Rattle.dw_moves.specs.Moves.{Move}
@@ -52,3 +52,16 @@ pub record IsOnTheWay {B M G : Type 0} (g : Geometry) (old new : Lister B M G) :
   pub first : (given : List Move) → KeptFrom old given → KeptFrom new given
   pub comes : (given : List Move) → ComesFrom g old given → ComesFrom g new given
   pub shared : shared_of new ≡ shared_of old
+
+-- the last of some numbers
+abbrev pub last_of : ℕ → List ℕ → ℕ
+last_of first [] = first
+last_of first (next ∷ more) = last_of next more
+
+-- After turns under these limits the last one stands, raised to 1 and to what was expanded by then; without a turn the
+-- limit is what it was.
+abbrev pub LimitIsLast : {M : Type 0} → List ℕ → Solving M → Solving M → Type 0
+LimitIsLast [] old new = new.limit ≡ old.limit
+LimitIsLast (first ∷ limits) old new =
+    (spent : ℕ) × (old.expanded ≤ spent) × (spent ≤ new.expanded)
+    × (new.limit ≡ max (max (last_of first limits) 1) spent)

@@ -1,5 +1,5 @@
 //! Laws of lines, each the contract of a function that does nothing.
-ghost use Rattle.dw_list.specs.Laws.{NoneBegins, LinesExist, LineOrPlace};
+ghost use Rattle.dw_list.specs.Laws.{NoneBegins, LinesExist, LineOrPlace, GivenInTurn};
 
 pub mod tokens;
 
@@ -31,3 +31,10 @@ pub fn line_or_place()
     moves_listed();
     wins_are_decided();
 }
+
+/// Lines that a lister gives in one call and then in another are given one after another; a call that gives none leaves
+/// those still to come.
+/// Example: at `W:W28:B`, within 1 move, two calls of `next` give `28-22` and `28-23`, which are all lines.
+pub fn given_in_turn()
+    ensures { GivenInTurn }
+{}

@@ -1,6 +1,6 @@
 //! The lines of a position one by one.
 ghost use Rattle.std.specs.Prelude.{◌≡◌, ◌≤◌, ◌↔◌, List, false, IfOk, IfErr, OnOk, OnErr, IsErrOf, IsTrue};
-ghost use Rattle.std.specs.Prelude.{length, reverse};
+ghost use Rattle.std.specs.Prelude.{length, reverse, IfSome};
 ghost use Rattle.dw_solve.specs.declared.stop.Stop.TheVariants.{Limit};
 ghost use Rattle.dw_list.specs.declared.fault.AfterFault.TheVariants.{Stopped};
 ghost use Rattle.dw_solve.specs.Searching.{IsCounted};
@@ -136,6 +136,7 @@ impl<'a, B: Board, M: Memo<B>, G: Guide<B>> Lister<'a, B, M, G> {
     /// The next line, lent as it stands in the lister's own array, or `None` if no line is still to come.
     /// Example: at `W:W28:B`, within 1 move, it gives the line `28-22`, then `28-23`, and then `None`.
     pub fn next(&mut self, alloc: Global) -> Result<Option<&[Move<B>]>, Stop>
+        ensures few { IfOk result (λ given. IfSome given (λ line. length line.now ≤ 39)) }
         ensures* after { sem 𝓛 (follows_so
             (the_row (record { mir = named 1; lft = [] }) B.row M.row G.row B.Board M.Memo)
             (the_row (record { mir = named 1; lft = [] }) B.row M.row G.row B.Board M.Memo)

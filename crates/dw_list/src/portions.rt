@@ -1,6 +1,6 @@
 //! Lines of a lister taken in portions, under one limit after another.
-ghost use Rattle.std.specs.Prelude.{◌≡◌, ◌+◌, ◌^◌, ◌<◌, ◌≤◌, [], length, map};
-ghost use Rattle.dw_list.specs.Listing.{lender, solver_of, stack_of};
+ghost use Rattle.std.specs.Prelude.{◌≡◌, ◌+◌, ◌^◌, ◌<◌, ◌≤◌, [], length, map, max};
+ghost use Rattle.dw_list.specs.Listing.{lender, solver_of, stack_of, LimitIsLast};
 ghost use Rattle.dw_list.specs.Standing.{Standing, AreToCome};
 ghost use Rattle.dw_list.specs.Walking.{Gives};
 
@@ -26,6 +26,7 @@ pub struct Portions<B: Board> {
 
 /// Asks a lister for the next line once under each of these limits. A limit below 1 or below what was expanded is
 /// raised to that. Where there is no memory for one more line, the lister is not asked, and that counts as a stop.
+/// Afterwards the limit is that of the last turn.
 /// Example: at `W:W28:B`, within 1 move, three ample limits give the lines `28-22` and `28-23` and one end.
 pub fn in_portions<B: Board, M: Memo<B>, G: Guide<B>>(
     alloc: Global,
@@ -38,6 +39,7 @@ pub fn in_portions<B: Board, M: Memo<B>, G: Guide<B>>(
     ensures turns { length result.lines.items + result.stops + result.ends ≡ length limits.now }
     ensures end { 0 < result.ends → AreToCome B.geometry (stack_of lister.new) [] }
     ensures count { (solver_of lister.old).expanded ≤ (solver_of lister.new).expanded }
+    ensures limit { LimitIsLast limits.now (solver_of lister.old) (solver_of lister.new) }
 {
     let mut portions = Portions {
         lines: Vec::new(alloc),
@@ -67,16 +69,17 @@ fn take_turn<B: Board, M: Memo<B>, G: Guide<B>>(
     ensures end { (0 < portions.old.ends → AreToCome B.geometry (stack_of lister.old) []) → 0 < portions.new.ends
         → AreToCome B.geometry (stack_of lister.new) [] }
     ensures count { (solver_of lister.old).expanded ≤ (solver_of lister.new).expanded }
+    ensures limit { (solver_of lister.new).limit ≡ max (max limit 1) (solver_of lister.old).expanded }
 {
+    lister.set_limit(limit.max(1).max(lister.expanded()));
     if portions.lines.reserve(1).is_err() {
         portions.stops += 1;
         return;
     }
-    lister.set_limit(limit.max(1).max(lister.expanded()));
-    match lister.advance(alloc) {
+    match lister.next(alloc) {
         Err(_) => portions.stops += 1,
-        Ok(false) => portions.ends += 1,
-        Ok(true) => portions.lines.push_reserved(kept(lister.line())),
+        Ok(None) => portions.ends += 1,
+        Ok(Some(line)) => portions.lines.push_reserved(kept(line)),
     }
 }
 

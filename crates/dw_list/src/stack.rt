@@ -1,5 +1,5 @@
 //! The stack of a lister: the levels of the line at which it stands.
-ghost use Rattle.std.specs.Prelude.{◌≡◌, ◌≤◌, ◌<◌, ◌*◌, ◌-◌, [], ◌∷◌, drop, take, reverse, length, IfOk, OnErr, not};
+ghost use Rattle.std.specs.Prelude.{◌≡◌, ◌≤◌, ◌<◌, ◌+◌, ◌*◌, ◌-◌, ◌⊎◌, [], ◌∷◌, drop, take, reverse, length, IfOk, OnErr, not};
 ghost use Rattle.std.specs.Prelude.{true};
 ghost use Rattle.dw_moves.specs.Moves.{Legal, play};
 ghost use Rattle.dw_list.specs.inner.Going.{left_after};
@@ -46,12 +46,13 @@ pub(crate) struct Stack<B: Board> {
     moves: u8,
     frames: ArrayVec<Frame<B>, 40>,
     line: ArrayVec<Move<B>, 39>,
-    /// Frames that were left, kept for the memory of their lists.
+    /// Frames that were left, kept for the memory of their lists. With those in use they are two for each move of the
+    /// attacker at most.
     spare: ArrayVec<Frame<B>, 40>,
 }
 
 impl<B: Board> Model for Stack<B> {
-    ghost use Rattle.std.specs.Prelude.{reverse, length, ◌≤◌, ◌*◌};
+    ghost use Rattle.std.specs.Prelude.{reverse, length, ◌≤◌, ◌+◌, ◌*◌};
     ghost use Rattle.dw_list.specs.Standing.{Standing};
     ghost use Rattle.dw_list.specs.inner.StandingCodes.{standing_code};
     ghost use Rattle.dw_list.specs.inner.Levels.{AreLevels, IsFew};
@@ -67,8 +68,9 @@ impl<B: Board> Model for Stack<B> {
       levels = reverse s.frames.items;
     } };
 
-    ghost invariant = { λ s. AreLevels B.geometry s.position s.moves (reverse s.frames.items) (reverse s.line.items)
-        × (length s.frames.items ≤ 2 * s.moves) × IsFew s.moves };
+    ghost invariant = { λ s. (AreLevels B.geometry s.position s.moves (reverse s.frames.items) (reverse s.line.items)
+        × (length s.frames.items ≤ 2 * s.moves) × IsFew s.moves)
+        × (length s.frames.items + length s.spare.items ≤ 2 * s.moves) };
 }
 
 impl<B: Board> Stack<B> {
@@ -209,7 +211,9 @@ fn frame_at<B: Board>(
     attacks: bool,
     left: u8,
 ) -> Frame<B>
-    ensures { result ≡ begun position attacks left }
+    ensures frame { result ≡ begun position attacks left }
+    ensures spare { ((length spare.old.items ≡ 0) × (length spare.new.items ≡ 0))
+        ⊎ (length spare.old.items ≡ length spare.new.items + 1) }
 {
     match spare.pop() {
         Some(mut frame) => {
@@ -220,14 +224,15 @@ fn frame_at<B: Board>(
     }
 }
 
-/// Takes the last frame off, and keeps it if there is room.
+/// Takes the last frame off, and keeps it.
 fn leave_last<B: Board>(frames: &mut ArrayVec<Frame<B>, 40>, spare: &mut ArrayVec<Frame<B>, 40>)
-    ensures { frames.new.items ≡ take (length frames.old.items - 1) frames.old.items }
+    requires { length frames.old.items + length spare.old.items ≤ 40 }
+    ensures frames { frames.new.items ≡ take (length frames.old.items - 1) frames.old.items }
+    ensures spare { length frames.new.items + length spare.new.items
+        ≡ length frames.old.items + length spare.old.items }
 {
     if let Some(frame) = frames.pop() {
-        if !spare.is_full() {
-            spare.push(frame);
-        }
+        spare.push(frame);
     }
 }
 

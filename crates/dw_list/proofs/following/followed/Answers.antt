@@ -2,7 +2,7 @@ use Rattle.std.proofs.Common.{◌≡◌, ◌+◌, length, sym, subst, ap, ◌∙
 use Rattle.dw_list.specs.Lines.{IsPlace}
 use Rattle.dw_list.specs.inner.AskingLemmas.{answered, asked_none, asked_then, asked_ok, asked_stop, asked_memory}
 use Rattle.dw_list.specs.inner.AskingLemmas.{asked_for}
-use Rattle.dw_list.proofs.FollowLemmas.{Follows, follows_init, follows_more, follows_place, follows_short, follows_line}
+use Rattle.dw_list.proofs.FollowLemmas.{place_of, Follows, follows_init, follows_more, follows_place, follows_short, follows_line}
 use Rattle.dw_list.proofs.following.followed.Goals as goal
 
 pub follow-requires : goal.follow-requires
@@ -22,9 +22,10 @@ pub returns-then-not-went-clause-found : goal.returns-then-not-went-clause-found
 returns-then-not-went-clause-found g c =
     let geo = g.B.Board.geometry in
     subst (IsPlace geo c.args.position.now c.args.moves c.args.line.now) (sym c.line.invariant.place)
+    (place_of geo c.args.position.now c.args.moves c.args.line.now (c.line.mv-index + 1)
     (follows_place c.moves_listed.ensures geo c.args.position.now c.args.moves c.args.line.now c.line.mv-index
     c.mv-item.result c.line.stack c.line.invariant.follows c.line-test.true c.mv-item.is
-    (c.in_ok-went.ensures.barred (λ yes. let not_so = c.if-not-went.true in cc)))
+    (c.in_ok-went.ensures.barred (λ yes. let not_so = c.if-not-went.true in cc))))
 
 pub returns-then-not-went-clause-asked : goal.returns-then-not-went-clause-asked
 returns-then-not-went-clause-asked g c =
@@ -69,10 +70,11 @@ returns-else-is_end-clause-found g c =
     omega (arith, c.line-test.false, c.line.auto.mv-index-end) in
     subst (IsPlace geo c.args.position.now c.args.moves c.args.line.now) (sym (c.line.invariant.place
     ∙ ap (λ z. z + 1) at_end))
+    (place_of geo c.args.position.now c.args.moves c.args.line.now (length c.args.line.now + 1)
     (follows_short c.moves_listed.ensures geo c.args.position.now c.args.moves c.args.line.now c.line.stack
     c.list.new.self c.in_ok-is_end.is_end
     (subst (λ z. Follows geo c.args.position.now c.args.moves c.args.line.now z c.line.stack) at_end
-    c.line.invariant.follows) c.in_ok-is_end.ensures.listed c.if-is_end.false)
+    c.line.invariant.follows) c.in_ok-is_end.ensures.listed c.if-is_end.false))
 
 pub returns-in_err-is_end-clause-asked : goal.returns-in_err-is_end-clause-asked
 returns-in_err-is_end-clause-asked g c = asked_memory g.B.Board.geometry g.M.Memo.content g.M.Memo.dropped c.args.moves

@@ -1,5 +1,5 @@
-use Rattle.std.proofs.Common.{◌≡◌, ◌+◌, ◌<◌, ◌≤◌, [], length, map}
-use Rattle.dw_list.specs.Listing.{lender, solver_of, stack_of}
+use Rattle.std.proofs.Common.{◌≡◌, ◌+◌, ◌<◌, ◌≤◌, [], length, map, take}
+use Rattle.dw_list.specs.Listing.{lender, solver_of, stack_of, LimitIsLast}
 use Rattle.dw_list.specs.Standing.{AreToCome}
 use Rattle.dw_list.specs.Walking.{Gives}
 use Rattle.dw_list.proofs.portions.in_portions.Given as goal
@@ -12,4 +12,5 @@ invariant-limits g l = record {
   turns : length l.portions.lines.items + l.portions.stops + l.portions.ends ≡ l.limit-index;
   end : 0 < l.portions.ends → AreToCome g.B.Board.geometry (stack_of l.lister) [];
   count : (solver_of l.initial.lister).expanded ≤ (solver_of l.lister).expanded;
+  limit : LimitIsLast (take l.limit-index l.limits) (solver_of l.initial.lister) (solver_of l.lister);
 }

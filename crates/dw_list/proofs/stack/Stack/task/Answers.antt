@@ -28,7 +28,7 @@ trial_of-requires g c =
     c.as_slice-frames.ensures.value c.is_empty.ensures c.if-is_empty.false refl c.index-frames-frames.is in
     let levels = subst (λ z. AreLevels geo c.self.inside.position c.self.inside.moves z
     (reverse c.self.inside.line.items)) (ap (λ (s : Standing). s.levels) c.self.view_is ∙ here.1)
-    c.self.invariant.0 in
+    c.self.invariant.0.0 in
     (behind_first geo c.index-frames-frames.result.position c.in-Some.mv c.index-frames-frames.result.ahead
     (sym c.first.ensures ∙ c.in-Some.is) levels.1).1
 
