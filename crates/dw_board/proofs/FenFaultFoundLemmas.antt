@@ -1,7 +1,7 @@
 -- A fault that is found is one that the grammar gives.
 use Rattle.std.proofs.Common.{◌≡◌, ℕ, suc, zero, ◌+◌, ◌-◌, ◌≤◌, ◌<◌, Bool, true, false, ◌||◌, cond, ltb, List, [], ◌∷◌}
 use Rattle.std.proofs.Common.{◌++◌, map, length, Option, Some, None, Result, Ok, Err, refl, sym, ap, ◌∙◌, subst, arith}
-use Rattle.std.proofs.Common.{◌⊎◌, inl, inr, append_assoc, append-nil}
+use Rattle.std.proofs.Common.{◌⊎◌, inl, inr, append_assoc, append-nil, ◌≢◌}
 use Rattle.std.specs.List.{range_with_len}
 use Rattle.std.proofs.lemmas.Bool.{ltb-true, ltb-false}
 use Rattle.std.proofs.lemmas.List.{map-append}
@@ -13,9 +13,9 @@ use Rattle.dw_board.specs.FenReader.{first_is, is_empty, no_item, place_of}
 use Rattle.dw_board.specs.inner.FenReading.{listing}
 use Rattle.dw_board.specs.FenGrammar.{Word, texts, Placing, IsRange, IsItem, IsItems, IsList, named, all_named, Sets}
 use Rattle.dw_board.specs.FenGrammar.{number, range, men, kings, single, more, bare, full}
-use Rattle.dw_board.specs.FenFaults.{put_kind, Listed, first, second, ItemNext, behind_colour, behind_comma, NumberNext}
-use Rattle.dw_board.specs.FenFaults.{of_man, of_king, RangeNext, whole, FaultAt, no_turn, no_colon, no_colour}
-use Rattle.dw_board.specs.FenFaults.{no_second_colour, same_colour, no_number, no_last_number, backwards, not_put}
+use Rattle.dw_board.specs.FenFaults.{put_kind, ListNext, first, second, Listed, listed, ItemNext, behind_colour}
+use Rattle.dw_board.specs.FenFaults.{behind_comma, NumberNext, of_men, of_kings, of_range, RangeNext, whole, FaultAt}
+use Rattle.dw_board.specs.FenFaults.{no_turn, no_colon, no_colour, same_colour, no_number, backwards, not_put}
 use Rattle.dw_board.specs.FenFaults.{behind_item, behind_stop}
 use Rattle.dw_board.specs.Fen.{fault, ◌>>=◌, Listing, Item, Stage, Start, AfterTurn, AfterColon, AfterColour, AfterComma}
 use Rattle.dw_board.specs.Fen.{AfterKing, AfterNumber, AfterDash, AfterItem, AfterStop, AfterLists, next_stage, at_end}
@@ -53,6 +53,15 @@ same_side-is White White e = refl
 same_side-is White Black e = cc
 same_side-is Black White e = cc
 same_side-is Black Black e = refl
+
+same_side-refl : (a : Side) → same_side a a ≡ true
+same_side-refl White = refl
+same_side-refl Black = refl
+
+not_same : (a b : Side) → same_side a b ≡ false → Some a ≢ Some b
+not_same a b h = λ e.
+    let same : a ≡ b = cc in
+    true-false (sym (same_side-refl a) ∙ (ap (same_side a) same ∙ h))
 
 -- the first piece that can't be put
 record Unput (g : Geometry) (pieces : List (ℕ × Piece)) (place : ℕ) (p : Placement) (f : FenFault) : Type 0 where
@@ -113,14 +122,17 @@ items_grow {g} ws is c vs j (more {i = i} {is = js} front d us item sign items) 
     subst (λ l. IsItems g l (i ∷ (js ++ j ∷ []))) (sym (append_assoc front (d ∷ us) (c ∷ vs)))
     (more front d (us ++ c ∷ vs) item sign (items_grow us js c vs j items comma last))
 
-none-some : {A : Type 0} {g : Geometry} (ws : List Word) (is : List Placing) → IsItems g ws is → is ≡ [] → A
-none-some ws is (single item) e = cc
-none-some ws is (more front c vs item sign items) e = cc
+none-some : {A B : Type 0} (x : A) → None ≡ Some x → B
+none-some x e = cc
+
+has_one : {A : Type 0} {g : Geometry} (ws : List Word) (is : List Placing) → IsItems g ws is → is ≡ [] → A
+has_one ws is (single item) e = cc
+has_one ws is (more front c vs item sign items) e = cc
 
 bare_grow : {g : Geometry} (ws : List Word) (side : Side) (is : List Placing) (vs : List Word) (j : Placing)
     → IsList g ws side is → is ≡ [] → IsItem g vs j → IsList g (ws ++ vs) side (is ++ j ∷ [])
 bare_grow ws side is vs j (bare h) e item = full h (single item)
-bare_grow ws side is vs j (full {ws = us} h items) e item = none-some us is items e
+bare_grow ws side is vs j (full {ws = us} h items) e item = has_one us is items e
 
 full_grow : {g : Geometry} (ws : List Word) (side : Side) (i : Placing) (is js : List Placing) (c : Word)
     (vs : List Word) (j : Placing)
@@ -140,26 +152,54 @@ module _ (g : Geometry) where
       (Sets-append g p q r (all_named side is) (named side j ++ []) h
       (Sets-append g q r r (named side j) [] k refl))
 
-  listed_grow : (before : List Token) (is_second : Bool) (side : Side) (is : List Placing) (p : Placement)
-      → Listed g before is_second side is p → (vs : List Token) (j : Placing) (q : Placement)
+  -- tokens up to and with a list, of which it is known whether it is the second one
+  pub record ListRead (before : List Token) (is_second : Bool) (side : Side) (is : List Placing) (q : Placement) :
+      Type 0 where
+    pub front : List Token
+    pub ws : List Token
+    pub earlier : Option Side
+    pub start : Placement
+    pub split : before ≡ front ++ ws
+    pub lead : ListNext g front earlier start
+    pub list : IsList g (texts ws) side is
+    pub other : earlier ≢ Some side
+    pub sets : Sets g start (all_named side is) q
+    pub is_first : is_second ≡ false → earlier ≡ None
+
+  is_listed : (before : List Token) (is_second : Bool) (side : Side) (is : List Placing) (p : Placement)
+      → ListRead before is_second side is p → Listed g before side is p
+  is_listed before is_second side is p l = subst (λ l. Listed g l side is p) (sym l.split)
+      (listed l.ws l.lead l.list l.other l.sets)
+
+  colon_next : (before : List Token) (side : Side) (is : List Placing) (p : Placement) (c : Token)
+      → ListRead before false side is p → is_sign 58 c.text ≡ true → ListNext g (before ++ c ∷ []) (Some side) p
+  colon_next before side is p c l sign = subst (λ b. ListNext g (b ++ c ∷ []) (Some side) p) (sym l.split)
+      (second l.ws c (subst (λ o. ListNext g l.front o l.start) (l.is_first refl) l.lead) l.list l.sets sign)
+
+  list_grow : (before : List Token) (is_second : Bool) (side : Side) (is : List Placing) (p : Placement)
+      → ListRead before is_second side is p → (vs : List Token) (j : Placing) (q : Placement)
       → ((ws : List Word) → IsList g ws side is → IsList g (ws ++ texts vs) side (is ++ j ∷ []))
-      → Sets g p (named side j) q → Listed g (before ++ vs) is_second side (is ++ j ∷ []) q
-  listed_grow before is_second side is p (first {ws = ws} {mover = mover} turn sign list sets) vs j q grow put =
-      first turn sign (subst (λ l. IsList g l side (is ++ j ∷ [])) (sym (map-append (λ t. t.text) ws vs))
-      (grow (texts ws) list)) (sets_grow side is j (empty mover) p q sets put)
-  listed_grow before is_second side is p (second {p = start} {before = front} c ws l sign list other sets) vs j q grow
-      put =
-      subst (λ l. Listed g l true side (is ++ j ∷ []) q) (sym (append_assoc front (c ∷ ws) vs))
-      (second c (ws ++ vs) l sign
-      (subst (λ l. IsList g l side (is ++ j ∷ [])) (sym (map-append (λ t. t.text) ws vs)) (grow (texts ws) list)) other
-      (sets_grow side is j start p q sets put))
+      → Sets g p (named side j) q → ListRead (before ++ vs) is_second side (is ++ j ∷ []) q
+  list_grow before is_second side is p l vs j q grow put = record {
+    front = l.front;
+    ws = l.ws ++ vs;
+    earlier = l.earlier;
+    start = l.start;
+    split = ap (λ b. b ++ vs) l.split ∙ append_assoc l.front l.ws vs;
+    lead = l.lead;
+    list = subst (λ b. IsList g b side (is ++ j ∷ [])) (sym (map-append (λ t. t.text) l.ws vs))
+        (grow (texts l.ws) l.list);
+    other = l.other;
+    sets = sets_grow side is j l.start p q l.sets put;
+    is_first = l.is_first;
+  }
 
   -- a list that has items
   HasItems : List Token → Bool → Side → Placement → Type 0
-  HasItems before is_second side p = (i : Placing) × (is : List Placing) × Listed g before is_second side (i ∷ is) p
+  HasItems before is_second side p = (i : Placing) × (is : List Placing) × ListRead before is_second side (i ∷ is) p
 
   has_items : (before : List Token) (is_second : Bool) (side : Side) (is : List Placing) (j : Placing) (p : Placement)
-      → Listed g before is_second side (is ++ j ∷ []) p → HasItems before is_second side p
+      → ListRead before is_second side (is ++ j ∷ []) p → HasItems before is_second side p
   unfolding HasItems
   has_items before is_second side [] j p l = (j, [], l)
   has_items before is_second side (i ∷ is) j p l = (i, is ++ j ∷ [], l)
@@ -174,19 +214,19 @@ module _ (g : Geometry) where
       → Sets g list.placed (named list.side (record { is_king = is_king; from = m; to = n })) q
       → HasItems (before ++ ws) list.is_second list.side q
 
-  colour_takes : (before : List Token) (list : Listing) → Listed g before list.is_second list.side [] list.placed
+  colour_takes : (before : List Token) (list : Listing) → ListRead before list.is_second list.side [] list.placed
       → TakesItem before list
   colour_takes before list l = λ ws i q item sets. has_items (before ++ ws) list.is_second list.side [] i q
-      (listed_grow before list.is_second list.side [] list.placed l ws i q
+      (list_grow before list.is_second list.side [] list.placed l ws i q
       (λ us h. bare_grow us list.side [] (texts ws) i h refl item) sets)
 
   comma_takes : (before : List Token) (c : Token) (list : Listing) (i : Placing) (is : List Placing)
-      → Listed g before list.is_second list.side (i ∷ is) list.placed → is_sign 44 c.text ≡ true
+      → ListRead before list.is_second list.side (i ∷ is) list.placed → is_sign 44 c.text ≡ true
       → TakesItem (before ++ c ∷ []) list
   comma_takes before c list i is l comma = λ ws j q item sets.
       subst (λ l. HasItems l list.is_second list.side q) (sym (append_assoc before (c ∷ []) ws))
       (has_items (before ++ c ∷ ws) list.is_second list.side (i ∷ is) j q
-      (listed_grow before list.is_second list.side (i ∷ is) list.placed l (c ∷ ws) j q
+      (list_grow before list.is_second list.side (i ∷ is) list.placed l (c ∷ ws) j q
       (λ us h. full_grow us list.side i is (i ∷ is) c.text (texts ws) j h refl comma item) sets))
 
   -- ---- what was read, stage by stage
@@ -197,7 +237,7 @@ module _ (g : Geometry) where
     pub is : before ≡ front ++ first ∷ []
     pub names : number_named g first.text ≡ Some item.from
     pub place : item.place ≡ first.place
-    pub next : (after : List Token) → NumberNext g front (first ∷ after) item.is_king list.side list.placed
+    pub next : (after : List Token) → NumberNext g front (first ∷ after) None item.is_king list.side list.placed
     pub takes : TakesRange front item.is_king list
 
   record Dashed (before : List Token) (list : Listing) (item : Item) : Type 0 where
@@ -210,14 +250,11 @@ module _ (g : Geometry) where
   Read : List Token → Stage → Type 0
   Read before Start = before ≡ []
   Read before (AfterTurn turn) = (t : Token) × (before ≡ t ∷ []) × (side_named t.text ≡ Some turn)
-  Read before (AfterColon None p) = (t : Token) × (c : Token) × (mover : Side) × (before ≡ t ∷ c ∷ [])
-      × (side_named t.text ≡ Some mover) × (is_sign 58 c.text ≡ true) × (p ≡ empty mover)
-  Read before (AfterColon (Some one) p) = (front : List Token) × (c : Token) × (is : List Placing)
-      × (before ≡ front ++ c ∷ []) × (is_sign 58 c.text ≡ true) × Listed g front false one is p
-  Read before (AfterColour list) = Listed g before list.is_second list.side [] list.placed
+  Read before (AfterColon earlier p) = ListNext g before earlier p
+  Read before (AfterColour list) = ListRead before list.is_second list.side [] list.placed
   Read before (AfterComma list) = ((after : List Token) → ItemNext g before after list.side list.placed)
       × TakesItem before list
-  Read before (AfterKing list) = ((after : List Token) → NumberNext g before after true list.side list.placed)
+  Read before (AfterKing list) = ((after : List Token) → NumberNext g before after None true list.side list.placed)
       × TakesRange before true list
   Read before (AfterNumber list item) = Numbered before list item
   Read before (AfterDash list item) = Dashed before list item
@@ -257,6 +294,15 @@ module _ (g : Geometry) where
       → tokens ++ after ≡ d.number.front ++ d.number.first ∷ d.dash ∷ after
   dash_split tokens list item d after = ap (λ l. l ++ after) d.is
       ∙ (append_assoc d.numbered (d.dash ∷ []) after ∙ number_split d.numbered list item d.number (d.dash ∷ after))
+
+  -- behind a dash the last number of a range has to stand
+  last_next : (tokens : List Token) (list : Listing) (item : Item) (d : Dashed tokens list item) (after : List Token)
+      → NumberNext g tokens after (Some item.from) item.is_king list.side list.placed
+  last_next tokens list item d after =
+      let n = d.number in
+      let split : tokens ≡ n.front ++ n.first ∷ d.dash ∷ [] = d.is ∙ number_split d.numbered list item n (d.dash ∷ []) in
+      subst (λ l. NumberNext g l after (Some item.from) item.is_king list.side list.placed) (sym split)
+      (of_range (n.next (d.dash ∷ after)) n.names d.sign)
 
   -- a range whose pieces can't all be put
   put_found : (end : ℕ) (tokens front ts rest : List Token) (list : Listing) (item : Item) (to : ℕ) (f : FenFault)
@@ -326,30 +372,32 @@ module _ (g : Geometry) where
   at_stage tokens x s r is e read = subst (Read tokens) (sym (same_ok x s r is e)) read
 
   ended_read : (tokens : List Token) (list : Listing) (is : List Placing) (t : Token) (s : Stage)
-      → Listed g tokens list.is_second list.side is list.placed
+      → ListRead tokens list.is_second list.side is list.placed
       → (is_sign 44 t.text ≡ true → HasItems tokens list.is_second list.side list.placed)
       → item_ended list t ≡ Ok s → Read (tokens ++ t ∷ []) s
   unfolding Read HasItems
   ended_read tokens list is t s l items e = elim (chosen (is_sign 44 t.text) _ _ _ e) [
     | inl comma ↦
         let h = items comma.0 in
-        at_stage (tokens ++ t ∷ []) (AfterComma list) s _ refl comma.1
-        (λ after. behind_comma t h.2 comma.0, comma_takes tokens t list h.0 h.1 h.2 comma.0)
+        at_stage (tokens ++ t ∷ []) (AfterComma list) s _ refl comma.1 (
+          λ after. behind_comma t (is_listed tokens list.is_second list.side (h.0 ∷ h.1) list.placed h.2) comma.0,
+          comma_takes tokens t list h.0 h.1 h.2 comma.0,
+        )
     | inr not_comma ↦ elim (chosen (is_sign 58 t.text) _ _ _ not_comma.1) [
       | inl colon ↦ at_stage (tokens ++ t ∷ []) _ s _ refl colon.1
           (colon_read list.is_second list.side list.placed colon.0 l)
       | inr not_colon ↦ elim (chosen (is_sign 46 t.text) _ _ _ not_colon.1) [
         | inl stopped ↦ at_stage (tokens ++ t ∷ []) (AfterStop list.placed) s _ refl stopped.1
-            (λ after some. behind_stop t l stopped.0 some)
+            (λ after some. behind_stop t (is_listed tokens list.is_second list.side is list.placed l) stopped.0 some)
         | inr other ↦ ok_err s _ _ refl (sym other.1)
       ]
     ]
   ] where
     colon_read : (second : Bool) (side : Side) (p : Placement) → is_sign 58 t.text ≡ true
-        → Listed g tokens second side is p
+        → ListRead tokens second side is p
         → Read (tokens ++ t ∷ []) (cond second (AfterLists p) (AfterColon (Some side) p))
     colon_read true side p colon l = tt
-    colon_read false side p colon l = (tokens, t, is, refl, colon, l)
+    colon_read false side p colon l = colon_next tokens side is p t l colon
 
   items_ended_read : (tokens : List Token) (list : Listing) (t : Token) (s : Stage)
       → HasItems tokens list.is_second list.side list.placed → item_ended list t ≡ Ok s → Read (tokens ++ t ∷ []) s
@@ -373,7 +421,7 @@ module _ (g : Geometry) where
   ]
 
   number_read : (tokens : List Token) (list : Listing) (king : Bool) (t : Token) (s : Stage)
-      → ((after : List Token) → NumberNext g tokens (t ∷ after) king list.side list.placed)
+      → ((after : List Token) → NumberNext g tokens (t ∷ after) None king list.side list.placed)
       → TakesRange tokens king list
       → if_named (number_named g t.text) Number t.place
       (λ n. Ok (AfterNumber list (record { is_king = king; from = n; place = t.place }))) ≡ Ok s
@@ -399,16 +447,16 @@ module _ (g : Geometry) where
   unfolding Read
   begun_read tokens list t s next takes e = elim (chosen (is_king_letter t.text) _ _ _ e) [
     | inl king ↦ at_stage (tokens ++ t ∷ []) (AfterKing list) s _ refl king.1 (
-      λ after. of_king (next after) king.0,
+      λ after. of_kings (next after) king.0,
       λ ws m n q r sets. subst (λ l. HasItems l list.is_second list.side q) (sym (append_assoc tokens (t ∷ []) ws))
           (takes (t ∷ ws) (record { is_king = true; from = m; to = n }) q (kings king.0 r) sets),
     )
-    | inr man ↦ number_read tokens list false t s (λ after. of_man (next after) man.0)
+    | inr man ↦ number_read tokens list false t s (λ after. of_men (next after) man.0)
         (λ ws m n q r sets. takes ws (record { is_king = false; from = m; to = n }) q (men r) sets) man.1
   ]
 
   number_found : (end : ℕ) (tokens : List Token) (list : Listing) (king : Bool) (t : Token) (ts : List Token)
-      (f : FenFault) → NumberNext g tokens (t ∷ ts) king list.side list.placed
+      (f : FenFault) → NumberNext g tokens (t ∷ ts) None king list.side list.placed
       → if_named (number_named g t.text) Number t.place
       (λ n. Ok (AfterNumber list (record { is_king = king; from = n; place = t.place }))) ≡ Err f
       → Found end (tokens ++ t ∷ ts) f
@@ -422,8 +470,24 @@ module _ (g : Geometry) where
       → Found end (tokens ++ t ∷ ts) f
   begun_found end tokens list t ts f next e = elim (chosen (is_king_letter t.text) _ _ _ e) [
     | inl king ↦ ok_err _ f _ refl king.1
-    | inr man ↦ number_found end tokens list false t ts f (of_man next man.0) man.1
+    | inr man ↦ number_found end tokens list false t ts f (of_men next man.0) man.1
   ]
+
+  colour_read : (tokens : List Token) (earlier : Option Side) (t : Token) (side : Side) (p : Placement)
+      (is_second : Bool) → ListNext g tokens earlier p → side_named t.text ≡ Some side → earlier ≢ Some side
+      → (is_second ≡ false → earlier ≡ None) → ListRead (tokens ++ t ∷ []) is_second side [] p
+  colour_read tokens earlier t side p is_second lead named other is_first = record {
+    front = tokens;
+    ws = t ∷ [];
+    earlier = earlier;
+    start = p;
+    split = refl;
+    lead = lead;
+    list = bare named;
+    other = other;
+    sets = refl;
+    is_first = is_first;
+  }
 
   next_read : (tokens : List Token) (stage : Stage) (t : Token) (s : Stage) → Read tokens stage
       → next_stage g stage t ≡ Ok s → Read (tokens ++ t ∷ []) s
@@ -433,28 +497,25 @@ module _ (g : Geometry) where
       at_stage (tokens ++ t ∷ []) (AfterTurn h.0) s _ refl h.2 (t, ap (λ l. l ++ t ∷ []) r, h.1)
   next_read tokens (AfterTurn turn) t s r e = elim (chosen (is_sign 58 t.text) _ _ _ e) [
     | inl colon ↦ at_stage (tokens ++ t ∷ []) (AfterColon None (empty turn)) s _ refl colon.1
-        (r.0, t, turn, ap (λ l. l ++ t ∷ []) r.1, r.2, colon.0, refl)
+        (subst (λ l. ListNext g l None (empty turn)) (sym (ap (λ l. l ++ t ∷ []) r.1)) (first r.2 colon.0))
     | inr other ↦ ok_err s _ _ refl (sym other.1)
   ]
   next_read tokens (AfterColon None p) t s r e =
       let h = named_ok (side_named t.text) Colour t.place (list_begun None p t.place) s e in
-      at_stage (tokens ++ t ∷ []) (AfterColour (record { side = h.0; is_second = false; placed = p })) s _ refl h.2
-      (subst (λ l. Listed g l false h.0 [] p) (sym (ap (λ l. l ++ t ∷ []) r.3))
-      (first {ws = t ∷ []} r.4 r.5 (bare h.1) (sym r.6)))
+      at_stage (tokens ++ t ∷ []) (AfterColour (listing h.0 false p)) s _ refl h.2
+      (colour_read tokens None t h.0 p false r h.1 (λ none. none-some h.0 none) (λ e. refl))
   next_read tokens (AfterColon (Some one) p) t s r e =
       let h = named_ok (side_named t.text) Colour t.place (list_begun (Some one) p t.place) s e in
       elim (chosen (same_side one h.0) _ _ _ h.2) [
         | inl same ↦ ok_err s _ _ refl (sym same.1)
-        | inr other ↦ at_stage (tokens ++ t ∷ []) (AfterColour (record { side = h.0; is_second = true; placed = p })) s
-            _ refl other.1
-            (subst (λ l. Listed g l true h.0 [] p)
-            (sym (ap (λ l. l ++ t ∷ []) r.3 ∙ append_assoc r.0 (r.1 ∷ []) (t ∷ [])))
-            (second r.1 (t ∷ []) r.5 r.4 (bare h.1) other.0 refl))
+        | inr other ↦ at_stage (tokens ++ t ∷ []) (AfterColour (listing h.0 true p)) s _ refl other.1
+            (colour_read tokens (Some one) t h.0 p true r h.1 (not_same one h.0 other.0) (λ e. true-false e))
       ]
   next_read tokens (AfterColour list) t s r e = elim (chosen (is_sign 58 t.text || is_sign 46 t.text) _ _ _ e) [
     | inl closed ↦ ended_read tokens list [] t s r (λ comma. no_comma_here t.text t.text [] []
         closed.0 comma refl) closed.1
-    | inr begun ↦ begun_read tokens list t s (λ after. behind_colour r begun.0) (colour_takes tokens list r) begun.1
+    | inr begun ↦ begun_read tokens list t s (λ after. behind_colour (is_listed tokens list.is_second list.side [] list.placed r)
+        begun.0) (colour_takes tokens list r) begun.1
   ]
   next_read tokens (AfterComma list) t s r e = begun_read tokens list t s (λ after. r.0 (t ∷ after)) r.1 e
   next_read tokens (AfterKing list) t s r e = number_read tokens list true t s (λ after. r.0 (t ∷ after)) r.1 e
@@ -483,6 +544,16 @@ module _ (g : Geometry) where
   next_read tokens (AfterStop p) t s r e = cc
   next_read tokens (AfterLists p) t s r e = at_stage (tokens ++ t ∷ []) (AfterLists p) s _ refl e tt
 
+  colour_found : (end : ℕ) (tokens : List Token) (earlier : Option Side) (p : Placement) (t : Token)
+      (ts : List Token) (f : FenFault) (side : Side) → ListNext g tokens earlier p → side_named t.text ≡ Some side
+      → list_begun earlier p t.place side ≡ Err f → Found end (tokens ++ t ∷ ts) f
+  colour_found end tokens None p t ts f side next named e = cc
+  colour_found end tokens (Some one) p t ts f side next named e = elim (chosen (same_side one side) _ _ _ e) [
+    | inl same ↦ found_here {A = Stage} end tokens (t ∷ ts) SameColour f same.1
+        (same_colour next (named ∙ ap Some (same_side-is one side same.0)))
+    | inr other ↦ ok_err _ f _ refl other.1
+  ]
+
   next_found : (end : ℕ) (tokens : List Token) (stage : Stage) (t : Token) (ts : List Token) (f : FenFault)
       → Read tokens stage → next_stage g stage t ≡ Err f → Found end (tokens ++ t ∷ ts) f
   unfolding Read next_stage
@@ -497,28 +568,17 @@ module _ (g : Geometry) where
     | inr other ↦ found_here {A = Stage} end tokens (t ∷ ts) Colon f other.1
         (subst (λ l. FaultAt g l (t ∷ ts) Colon) (sym r.1) (no_colon r.2 other.0))
   ]
-  next_found end tokens (AfterColon None p) t ts f r e =
-      elim (named_fault (side_named t.text) Colour t.place (list_begun None p t.place) f e) [
-        | inl none ↦ found_here {A = Stage} end tokens (t ∷ ts) Colour f none.1
-            (subst (λ l. FaultAt g l (t ∷ ts) Colour) (sym r.3) (no_colour r.4 r.5 none.0))
-        | inr h ↦ ok_err _ f _ refl h.2
-      ]
-  next_found end tokens (AfterColon (Some one) p) t ts f r e =
-      elim (named_fault (side_named t.text) Colour t.place (list_begun (Some one) p t.place) f e) [
-        | inl none ↦ found_here {A = Stage} end tokens (t ∷ ts) Colour f none.1
-            (subst (λ l. FaultAt g l (t ∷ ts) Colour) (sym r.3) (no_second_colour r.1 r.5 r.4 none.0))
-        | inr h ↦ elim (chosen (same_side one h.0) _ _ _ h.2) [
-          | inl same ↦ found_here {A = Stage} end tokens (t ∷ ts) SameColour f same.1
-              (subst (λ l. FaultAt g l (t ∷ ts) SameColour) (sym r.3)
-              (same_colour r.1 r.5 r.4 (h.1 ∙ ap Some (same_side-is one h.0 same.0))))
-          | inr other ↦ ok_err _ f _ refl other.1
-        ]
+  next_found end tokens (AfterColon earlier p) t ts f r e =
+      elim (named_fault (side_named t.text) Colour t.place (list_begun earlier p t.place) f e) [
+        | inl none ↦ found_here {A = Stage} end tokens (t ∷ ts) Colour f none.1 (no_colour r none.0)
+        | inr h ↦ colour_found end tokens earlier p t ts f h.0 r h.1 h.2
       ]
   next_found end tokens (AfterColour list) t ts f r e =
       elim (chosen (is_sign 58 t.text || is_sign 46 t.text) _ _ _ e) [
         | inl closed ↦ ended_found end tokens list t ts f
             (λ some comma. true-false (sym closed.0 ∙ some)) closed.1
-        | inr begun ↦ begun_found end tokens list t ts f (behind_colour r begun.0) begun.1
+        | inr begun ↦ begun_found end tokens list t ts f (behind_colour (is_listed tokens list.is_second list.side [] list.placed r)
+            begun.0) begun.1
       ]
   next_found end tokens (AfterComma list) t ts f r e = begun_found end tokens list t ts f (r.0 (t ∷ ts)) e
   next_found end tokens (AfterKing list) t ts f r e = number_found end tokens list true t ts f (r.0 (t ∷ ts)) e
@@ -532,17 +592,11 @@ module _ (g : Geometry) where
   ]
   next_found end tokens (AfterDash list item) t ts f r e =
       elim (named_fault (number_named g t.text) Number t.place _ f e) [
-        | inl none ↦ found_at {A = Stage} end (tokens ++ t ∷ ts) (r.number.front ++ r.number.first ∷ r.dash ∷ [])
-            (t ∷ ts) Number t.place f none.1
-            (dash_split tokens list item r (t ∷ ts)
-            ∙ sym (append_assoc r.number.front (r.number.first ∷ r.dash ∷ []) (t ∷ ts)))
-            (no_last_number (r.number.next (r.dash ∷ t ∷ ts)) r.number.names r.sign none.0) refl
+        | inl none ↦ found_here {A = Stage} end tokens (t ∷ ts) Number f none.1
+            (no_number (last_next tokens list item r (t ∷ ts)) none.0)
         | inr h ↦ elim (chosen (ltb h.0 item.from) _ _ _ h.2) [
-          | inl low ↦ found_at {A = Stage} end (tokens ++ t ∷ ts) (r.number.front ++ r.number.first ∷ r.dash ∷ [])
-              (t ∷ ts) RangeBackwards t.place f low.1
-              (dash_split tokens list item r (t ∷ ts)
-              ∙ sym (append_assoc r.number.front (r.number.first ∷ r.dash ∷ []) (t ∷ ts)))
-              (backwards (r.number.next (r.dash ∷ t ∷ ts)) r.number.names r.sign h.1 (ltb-true _ _ low.0)) refl
+          | inl low ↦ found_here {A = Stage} end tokens (t ∷ ts) RangeBackwards f low.1
+              (backwards (last_next tokens list item r (t ∷ ts)) h.1 (ltb-true _ _ low.0))
           | inr high ↦ elim (bind_err (with_item g list item h.0) (λ all. Ok (AfterItem all)) f high.1) [
             | inl bad ↦ put_found end (tokens ++ t ∷ ts) r.number.front (r.number.first ∷ r.dash ∷ t ∷ []) ts list item
                 h.0 f bad (dash_split tokens list item r (t ∷ ts)) r.number.place
@@ -563,13 +617,11 @@ module _ (g : Geometry) where
       (subst (λ l. FaultAt g l [] Turn) (sym r) (no_turn refl))
   end_found end tokens (AfterTurn turn) f r e = found_here {A = Placement} end tokens [] Colon f e
       (subst (λ l. FaultAt g l [] Colon) (sym r.1) (no_colon r.2 refl))
-  end_found end tokens (AfterColon None p) f r e = found_here {A = Placement} end tokens [] Colour f e
-      (subst (λ l. FaultAt g l [] Colour) (sym r.3) (no_colour r.4 r.5 refl))
-  end_found end tokens (AfterColon (Some one) p) f r e = found_here {A = Placement} end tokens [] Colour f e
-      (subst (λ l. FaultAt g l [] Colour) (sym r.3) (no_second_colour r.1 r.5 r.4 refl))
+  end_found end tokens (AfterColon earlier p) f r e = found_here {A = Placement} end tokens [] Colour f e
+      (no_colour r refl)
   end_found end tokens (AfterColour list) f r e = cc
   end_found end tokens (AfterComma list) f r e = found_here {A = Placement} end tokens [] Number f e
-      (no_number (of_man (r.0 []) refl) refl)
+      (no_number (of_men (r.0 []) refl) refl)
   end_found end tokens (AfterKing list) f r e = found_here {A = Placement} end tokens [] Number f e
       (no_number (r.0 []) refl)
   end_found end tokens (AfterNumber list item) f r e =
@@ -577,10 +629,8 @@ module _ (g : Geometry) where
         | inl bad ↦ number_unput end tokens list item r [] f refl bad
         | inr h ↦ ok_err _ f _ refl h.2
       ]
-  end_found end tokens (AfterDash list item) f r e =
-      found_at {A = Placement} end (tokens ++ []) (r.number.front ++ r.number.first ∷ r.dash ∷ []) [] Number end f e
-      (dash_split tokens list item r [] ∙ sym (append_assoc r.number.front (r.number.first ∷ r.dash ∷ []) []))
-      (no_last_number (r.number.next (r.dash ∷ [])) r.number.names r.sign refl) refl
+  end_found end tokens (AfterDash list item) f r e = found_here {A = Placement} end tokens [] Number f e
+      (no_number (last_next tokens list item r []) refl)
   end_found end tokens (AfterItem list) f r e = cc
   end_found end tokens (AfterStop p) f r e = cc
   end_found end tokens (AfterLists p) f r e = cc

@@ -1,7 +1,7 @@
 -- A fault that the grammar gives is found.
 use Rattle.std.proofs.Common.{◌≡◌, ℕ, suc, zero, ◌+◌, ◌-◌, ◌≤◌, ◌<◌, Bool, true, false, ◌||◌, cond, List, [], ◌∷◌, ◌++◌}
-use Rattle.std.proofs.Common.{map, length, Some, None, Result, Ok, Err, refl, sym, ap, ◌∙◌, subst, arith, ◌⊎◌, inl, inr}
-use Rattle.std.proofs.Common.{append_assoc, length-append}
+use Rattle.std.proofs.Common.{map, length, Option, Some, None, Result, Ok, Err, refl, sym, ap, ◌∙◌, subst, arith, ◌⊎◌, inl, inr}
+use Rattle.std.proofs.Common.{append_assoc, length-append, ◌≢◌}
 use Rattle.std.specs.List.{range_with_len}
 use Rattle.std.proofs.lemmas.List.{map-append, length-map}
 use Rattle.dw_board.specs.Geometry.{Geometry}
@@ -11,9 +11,9 @@ use Rattle.dw_board.specs.FenReader.{first_is, first_named, behind, is_empty, no
 use Rattle.dw_board.specs.inner.FenReading.{listing}
 use Rattle.dw_board.specs.FenGrammar.{Word, texts, Placing, IsRange, IsItems, IsList, named, all_named, Sets, number, range}
 use Rattle.dw_board.specs.FenGrammar.{bare, full, single, more}
-use Rattle.dw_board.specs.FenFaults.{put_kind, Listed, first, second, ItemNext, behind_colour, behind_comma, NumberNext}
-use Rattle.dw_board.specs.FenFaults.{of_man, of_king, RangeNext, whole, FaultAt, no_turn, no_colon, no_colour}
-use Rattle.dw_board.specs.FenFaults.{no_second_colour, same_colour, no_number, no_last_number, backwards, not_put}
+use Rattle.dw_board.specs.FenFaults.{put_kind, ListNext, first, second, Listed, listed, ItemNext, behind_colour}
+use Rattle.dw_board.specs.FenFaults.{behind_comma, NumberNext, of_men, of_kings, of_range, RangeNext, whole, FaultAt}
+use Rattle.dw_board.specs.FenFaults.{no_turn, no_colon, no_colour, same_colour, no_number, backwards, not_put}
 use Rattle.dw_board.specs.FenFaults.{behind_item, behind_stop}
 use Rattle.dw_board.specs.Fen.{fault, ◌>>=◌, Listing, Item, Stage, Start, AfterTurn, AfterColon, AfterColour, AfterComma}
 use Rattle.dw_board.specs.Fen.{AfterNumber, AfterDash, AfterItem, read_from, with_item, then_set, set_squares, piece_of}
@@ -43,6 +43,17 @@ same_side-refl : (s : Side) → same_side s s ≡ true
 same_side-refl White = refl
 same_side-refl Black = refl
 
+other_side : (a b : Side) → Some a ≢ Some b → same_side a b ≡ false
+other_side White White ne = absurd (ne refl)
+other_side White Black ne = refl
+other_side Black White ne = refl
+other_side Black Black ne = absurd (ne refl)
+
+-- a list behind an earlier one is the second
+abbrev later : Option Side → Bool
+later None = false
+later (Some one) = true
+
 -- ---- what is left is the same
 suffix_same : (xs ys cs ds : List Token) → xs ++ cs ≡ ys ++ ds → length cs ≡ length ds → cs ≡ ds
 suffix_same [] [] cs ds e h = e
@@ -58,6 +69,12 @@ suffix_same (x ∷ xs) (y ∷ ys) cs ds e h = let t : xs ++ cs ≡ ys ++ ds = cc
 
 texts_same-length : (cs ds : List Token) → texts cs ≡ texts ds → length cs ≡ length ds
 texts_same-length cs ds e = sym (length-map cs (λ t. t.text)) ∙ (ap length e ∙ length-map ds (λ t. t.text))
+
+none-some : {A B : Type 0} (x : A) → None ≡ Some x → B
+none-some x e = cc
+
+some-is : {A : Type 0} (x y : A) → Some y ≡ Some x → x ≡ y
+some-is x y e = cc
 
 no_texts : (ts : List Token) → texts ts ≡ [] → ts ≡ []
 no_texts [] e = refl
@@ -131,89 +148,120 @@ module _ (g : Geometry) (end : ℕ) where
       list_done before false side is p l (c ∷ after) (λ e. closed) (closes-no_dash (texts (c ∷ after)) closed)
       ∙ list_colon g end (listing side false p) (c ∷ after) sign
 
-  coloured : (before : List Token) (is_second : Bool) (side : Side) (is : List Placing) (p : Placement)
-      → Listed g before is_second side is p → Coloured before is_second side is p
-  coloured before is_second side is p (first {turn = turn} {c = c} {ws = ws} {mover = mover} turned sign list sets) =
+  colour_then : (earlier : Option Side) (p : Placement) (t : Token) (ts : List Token) (side : Side)
+      → side_named t.text ≡ Some side → earlier ≢ Some side
+      → read_from g end (AfterColon earlier p) (t ∷ ts)
+      ≡ read_from g end (AfterColour (listing side (later earlier) p)) ts
+  colour_then None p t ts side named other = colour_read g end p (t ∷ ts) side named
+  colour_then (Some one) p t ts side named other =
+      second_read g end one p (t ∷ ts) side named (other_side one side other)
+
+  coloured_behind : (before ws : List Token) (earlier : Option Side) (side : Side) (is : List Placing) (p q : Placement)
+      → ((after : List Token) → read_from g end Start (before ++ after) ≡ read_from g end (AfterColon earlier p) after)
+      → IsList g (texts ws) side is → earlier ≢ Some side → Sets g p (all_named side is) q
+      → Coloured (before ++ ws) (later earlier) side is q
+  coloured_behind before ws earlier side is p q lead list other sets =
       let h = list_begins (texts ws) is side list in
       let k = cut ws h.0 h.1 h.2 in
       record {
         colour = h.0;
         items = k.rest;
-        start = empty mover;
+        start = p;
         list = subst (λ l. IsList g (h.0 ∷ l) side is) (sym k.others) h.4;
         sets = sets;
-        reads = λ after. turn_read g end (turn ∷ c ∷ (ws ++ after)) mover turned
-            ∙ (colon_read g end mover (c ∷ (ws ++ after)) sign
-            ∙ (ap (λ l. read_from g end (AfterColon None (empty mover)) (l ++ after)) k.is
-            ∙ colour_read g end (empty mover) (k.first ∷ (k.rest ++ after)) side (ap side_named k.text ∙ h.3)));
+        reads = λ after. ap (read_from g end Start) (append_assoc before ws after)
+            ∙ (lead (ws ++ after) ∙ (ap (λ l. read_from g end (AfterColon earlier p) (l ++ after)) k.is
+            ∙ colour_then earlier p k.first (k.rest ++ after) side (ap side_named k.text ∙ h.3) other));
       }
-  coloured before is_second side is p (second {p = start} {before = front} c ws {one = one} {js = js} l sign list other
-      sets) =
-      let h = list_begins (texts ws) is side list in
-      let k = cut ws h.0 h.1 h.2 in
-      let earlier = coloured front false one js start l in
-      record {
-        colour = h.0;
-        items = k.rest;
-        start = start;
-        list = subst (λ l. IsList g (h.0 ∷ l) side is) (sym k.others) h.4;
-        sets = sets;
-        reads = λ after. ap (read_from g end Start) (append_assoc front (c ∷ ws) after)
-            ∙ (second_colon front one js start earlier c sign (ws ++ after)
-            ∙ (ap (λ l. read_from g end (AfterColon (Some one) start) (l ++ after)) k.is
-            ∙ second_read g end one start (k.first ∷ (k.rest ++ after)) side (ap side_named k.text ∙ h.3) other));
-      }
+
+  list_next : (before : List Token) (earlier : Option Side) (p : Placement) → ListNext g before earlier p
+      → (after : List Token) → read_from g end Start (before ++ after) ≡ read_from g end (AfterColon earlier p) after
+  list_next before earlier p (first {turn = turn} {c = c} {mover = mover} turned sign) = λ after.
+      turn_read g end (turn ∷ c ∷ after) mover turned ∙ colon_read g end mover (c ∷ after) sign
+  list_next before earlier p (second {before = front} ws c {side = side} {is = is} {p = start} next list sets sign) =
+      let none : None ≢ Some side = λ e. cc in
+      let lead = coloured_behind front ws None side is start p (list_next front None start next) list none sets in
+      λ after. ap (read_from g end Start) (append_assoc (front ++ ws) (c ∷ []) after)
+      ∙ second_colon (front ++ ws) side is p lead c sign after
+
+  coloured : (before : List Token) (side : Side) (is : List Placing) (p : Placement) → Listed g before side is p
+      → (is_second : Bool) × Coloured before is_second side is p
+  coloured before side is p (listed {before = front} ws {earlier = earlier} {p = start} next list other sets) = (
+    later earlier,
+    coloured_behind front ws earlier side is start p (list_next front earlier start next) list other
+        sets,
+  )
 
   -- ---- items
   item_next : (before after : List Token) (side : Side) (p : Placement) → ItemNext g before after side p
       → (is_second : Bool) × (read_from g end Start (before ++ after)
       ≡ read_from g end (AfterComma (listing side is_second p)) after)
-  item_next before after side p (behind_colour {is_second = is_second} l some) =
-      let c = coloured before is_second side [] p l in
+  item_next before after side p (behind_colour l some) =
+      let h = coloured before side [] p l in
+      let c = h.1 in
       let alone = bare_alone (c.colour ∷ texts c.items) [] side c.list refl in
       let nothing : texts c.items ≡ [] = cc in (
-        is_second,
+        h.0,
         c.reads after
-            ∙ (ap (λ l. read_from g end (AfterColour (listing side is_second c.start)) (l ++ after)) (no_texts c.items nothing)
-            ∙ (ap (λ q. read_from g end (AfterColour (listing side is_second q)) after) c.sets
-            ∙ list_something g end (listing side is_second p) after some)),
+            ∙ (ap (λ l. read_from g end (AfterColour (listing side h.0 c.start)) (l ++ after)) (no_texts c.items nothing)
+            ∙ (ap (λ q. read_from g end (AfterColour (listing side h.0 q)) after) c.sets
+            ∙ list_something g end (listing side h.0 p) after some)),
       )
-  item_next before after side p (behind_comma {before = front} c {is_second = is_second} {i = i} {is = is} l sign) =
+  item_next before after side p (behind_comma {before = front} c {i = i} {is = is} l sign) =
+      let h = coloured front side (i ∷ is) p l in
       let none : (i ∷ is ≡ []) → closes (texts (c ∷ after)) ≡ true = λ e. cc in (
-        is_second,
+        h.0,
         ap (read_from g end Start) (append_assoc front (c ∷ []) after)
-            ∙ (list_done front is_second side (i ∷ is) p (coloured front is_second side (i ∷ is) p l) (c ∷ after) none
-            (comma-no_dash c.text (texts after) sign)
-            ∙ comma_read g end (listing side is_second p) (c ∷ after) sign),
+            ∙ (list_done front h.0 side (i ∷ is) p h.1 (c ∷ after) none (comma-no_dash c.text (texts after) sign)
+            ∙ comma_read g end (listing side h.0 p) (c ∷ after) sign),
       )
 
-  pub record NumberRead (before after : List Token) (is_king : Bool) (side : Side) (p : Placement) : Type 0 where
+  pub record NumberRead (before after : List Token) (from : Option ℕ) (is_king : Bool) (side : Side) (p : Placement) :
+      Type 0 where
     pub is_second : Bool
-    pub found : (n : ℕ) → first_named (number_named g) after ≡ Some n → read_from g end Start (before ++ after)
+    pub found : from ≡ None → (n : ℕ) → first_named (number_named g) after ≡ Some n
+        → read_from g end Start (before ++ after)
         ≡ read_from g end (AfterNumber (listing side is_second p)
         (record { is_king = is_king; from = n; place = place_of after end })) (behind after)
     pub missing : first_named (number_named g) after ≡ None → read_from g end Start (before ++ after)
         ≡ fault Number (place_of after end)
+    pub low : (m n : ℕ) → from ≡ Some m → first_named (number_named g) after ≡ Some n → n < m
+        → read_from g end Start (before ++ after) ≡ fault RangeBackwards (place_of after end)
 
-  number_next : (before after : List Token) (is_king : Bool) (side : Side) (p : Placement)
-      → NumberNext g before after is_king side p → NumberRead before after is_king side p
-  number_next before after is_king side p (of_man item man) =
+  number_next : (before after : List Token) (from : Option ℕ) (is_king : Bool) (side : Side) (p : Placement)
+      → NumberNext g before after from is_king side p → NumberRead before after from is_king side p
+  number_next before after from is_king side p (of_men item man) =
       let h = item_next before after side p item in
       let list = listing side h.0 p in
       record {
         is_second = h.0;
-        found = λ n e. h.1 ∙ man_number g end list after n man e;
+        found = λ first n e. h.1 ∙ man_number g end list after n man e;
         missing = λ e. h.1 ∙ man_fault g end list after man e;
+        low = λ m n first. none-some m first;
       }
-  number_next before after is_king side p (of_king {before = front} {k = k} item king) =
+  number_next before after from is_king side p (of_kings {before = front} {k = k} item king) =
       let h = item_next front (k ∷ after) side p item in
       let list = listing side h.0 p in
       let start = ap (read_from g end Start) (append_assoc front (k ∷ []) after)
       ∙ (h.1 ∙ king_read g end list (k ∷ after) king) in
       record {
         is_second = h.0;
-        found = λ n e. start ∙ king_number g end list after n e;
+        found = λ first n e. start ∙ king_number g end list after n e;
         missing = λ e. start ∙ king_fault g end list after e;
+        low = λ m n first. none-some m first;
+      }
+  number_next before after from is_king side p (of_range {before = front} {v = v} {d = d} {m = m} next numbered dash) =
+      let k = number_next front (v ∷ d ∷ after) None is_king side p next in
+      let list : Listing = listing side k.is_second p in
+      let item : Item = record { is_king = is_king; from = m; place = v.place } in
+      let start = ap (read_from g end Start) (append_assoc front (v ∷ d ∷ []) after)
+      ∙ (k.found refl m numbered ∙ dash_read g end list item (d ∷ after) dash) in
+      record {
+        is_second = k.is_second;
+        found = λ first. none-some m (sym first);
+        missing = λ e. start ∙ dash_fault g end list item after e;
+        low = λ l n is e below. start ∙ range_backwards g end list item after n e (subst (λ x. n < x)
+            (some-is l m is) below);
       }
 
   pub record RangeRead (ts rest : List Token) (m n : ℕ) : Type 0 where
@@ -256,12 +304,12 @@ module _ (g : Geometry) (end : ℕ) where
 
   item_read : (before ts rest : List Token) (i : Placing) (side : Side) (p : Placement)
       → RangeNext g before ts rest i side p → ItemRead before ts rest i side p
-  item_read before ts rest i side p (whole {is_king = is_king} {m = m} {n = n} next is clear) =
-      let h = number_next before (ts ++ rest) is_king side p next in
+  item_read before ts rest i side p (whole {m = m} {n = n} {kings = is_king} next is clear) =
+      let h = number_next before (ts ++ rest) None is_king side p next in
       let r = range_here (texts ts) m n is ts rest refl clear in
       record {
         is_second = h.is_second;
-        reads = h.found m r.begins ∙ r.reads (listing side h.is_second p)
+        reads = h.found refl m r.begins ∙ r.reads (listing side h.is_second p)
             (record { is_king = is_king; from = m; place = place_of (ts ++ rest) end }) refl;
       }
 
@@ -278,34 +326,14 @@ module _ (g : Geometry) (end : ℕ) where
   fault_read before after what (no_turn h) = turn_fault g end after h
   fault_read before after what (no_colon {turn = turn} {mover = mover} turned h) =
       turn_read g end (turn ∷ after) mover turned ∙ colon_fault g end mover after h
-  fault_read before after what (no_colour {turn = turn} {c = c} {mover = mover} turned sign h) =
-      turn_read g end (turn ∷ c ∷ after) mover turned
-      ∙ (colon_read g end mover (c ∷ after) sign ∙ colour_fault g end None (empty mover) after h)
-  fault_read before after what (no_second_colour {before = front} c {side = side} {is = is} {p = p} l sign h) =
-      ap (read_from g end Start) (append_assoc front (c ∷ []) after)
-      ∙ (second_colon front side is p (coloured front false side is p l) c sign after
-      ∙ colour_fault g end (Some side) p after h)
-  fault_read before after what (same_colour {before = front} c {side = side} {is = is} {p = p} l sign h) =
-      ap (read_from g end Start) (append_assoc front (c ∷ []) after)
-      ∙ (second_colon front side is p (coloured front false side is p l) c sign after
-      ∙ second_fault g end side p after side h (same_side-refl side))
-  fault_read before after what (no_number {is_king = is_king} {side = side} {p = p} next h) =
-      (number_next before after is_king side p next).missing h
-  fault_read before after what (no_last_number {before = front} {from = v} {d = d} {is_king = is_king} {m = m}
-      {side = side} {p = p} next numbered dash h) =
-      let k = number_next front (v ∷ d ∷ after) is_king side p next in
-      let list : Listing = listing side k.is_second p in
-      let item : Item = record { is_king = is_king; from = m; place = v.place } in
-      ap (read_from g end Start) (append_assoc front (v ∷ d ∷ []) after)
-      ∙ (k.found m numbered ∙ (dash_read g end list item (d ∷ after) dash ∙ dash_fault g end list item after h))
-  fault_read before after what (backwards {before = front} {from = v} {d = d} {is_king = is_king} {m = m} {n = n}
-      {side = side} {p = p} next numbered dash h low) =
-      let k = number_next front (v ∷ d ∷ after) is_king side p next in
-      let list : Listing = listing side k.is_second p in
-      let item : Item = record { is_king = is_king; from = m; place = v.place } in
-      ap (read_from g end Start) (append_assoc front (v ∷ d ∷ []) after)
-      ∙ (k.found m numbered
-      ∙ (dash_read g end list item (d ∷ after) dash ∙ range_backwards g end list item after n h low))
+  fault_read before after what (no_colour {earlier = earlier} {p = p} next h) = list_next before earlier p next after
+      ∙ colour_fault g end earlier p after h
+  fault_read before after what (same_colour {side = side} {p = p} next h) = list_next before (Some side) p next after
+      ∙ second_fault g end side p after side h (same_side-refl side)
+  fault_read before after what (no_number {from = from} {kings = kings} {side = side} {p = p} next h) =
+      (number_next before after from kings side p next).missing h
+  fault_read before after what (backwards {m = m} {n = n} {kings = kings} {side = side} {p = p} next h below) =
+      (number_next before after (Some m) kings side p next).low m n refl h below
   fault_read before after what (not_put ts rest {i = i} {side = side} {p = p} q put others s piece {why = why} next split
       sets h) =
       let r = item_read before ts rest i side p next in
@@ -321,12 +349,10 @@ module _ (g : Geometry) (end : ℕ) where
       ∙ (r.reads ∙ (ap (λ x. x >>= λ all. read_from g end (AfterItem all) after)
       (sets_item g list (item_of i (place_of (ts ++ after) end)) i.to q sets)
       ∙ behind_fault (listing side r.is_second q) after some comma))
-  fault_read before after what (behind_stop {before = front} stop {is_second = is_second} {side = side} {is = is} {p = p}
-      l sign left) =
+  fault_read before after what (behind_stop {before = front} stop {side = side} {is = is} {p = p} l sign left) =
       let closed = stop-closes stop.text (texts after) sign in
-      let list : Listing = listing side is_second p in
+      let h = coloured front side is p l in
       ap (read_from g end Start) (append_assoc front (stop ∷ []) after)
-      ∙ (list_done front is_second side is p (coloured front is_second side is p l) (stop ∷ after) (λ e. closed)
-      (closes-no_dash (texts (stop ∷ after)) closed)
-      ∙ (list_ended g end list (stop ∷ after) true (apart stop.text 46 44 refl sign) (apart stop.text 46 58 refl sign)
-      (sym sign) ∙ rw left refl))
+      ∙ (list_done front h.0 side is p h.1 (stop ∷ after) (λ e. closed) (closes-no_dash (texts (stop ∷ after)) closed)
+      ∙ (list_ended g end (listing side h.0 p) (stop ∷ after) true (apart stop.text 46 44 refl sign)
+      (apart stop.text 46 58 refl sign) (sym sign) ∙ rw left refl))

@@ -1,11 +1,12 @@
--- The earliest fault of a FEN text, by the grammar: what was read before it, and what stands there in its place.
-use Rattle.std.specs.Prelude.{◌≡◌, ℕ, ◌+◌, ◌≤◌, ◌<◌, Bool, true, false, Some, None, List, [], ◌∷◌, ◌++◌, length}
+-- The earliest fault of a FEN text, by the grammar: what has to stand behind the tokens before it, and does not.
+use Rattle.std.specs.Prelude.{◌≡◌, ◌≢◌, ℕ, ◌+◌, ◌≤◌, ◌<◌, Bool, true, false, Option, Some, None, List, []}
+use Rattle.std.specs.Prelude.{◌∷◌, ◌++◌, length}
 use Rattle.dw_board.specs.Geometry.{Geometry}
-use Rattle.dw_board.specs.Placement.{Placement, empty, put_fault, same_side}
+use Rattle.dw_board.specs.Placement.{Placement, empty, put_fault}
 use Rattle.dw_board.specs.FenTokens.{Token, tokens_from, colon, comma, dash, full_stop, is_sign, side_named}
 use Rattle.dw_board.specs.FenTokens.{is_king_letter, number_named}
 use Rattle.dw_board.specs.FenReader.{first_is, first_named, is_empty, no_item, place_of}
-use Rattle.dw_board.specs.FenGrammar.{Word, texts, Placing, IsRange, IsList, named, all_named, Sets}
+use Rattle.dw_board.specs.FenGrammar.{texts, Placing, IsRange, IsList, named, all_named, Sets}
 use Rattle.dw_board.specs.declared.piece.Side.{Side}
 use Rattle.dw_board.specs.declared.piece.Piece.{Piece}
 use Rattle.dw_board.specs.declared.piece.PutFault.{PutFault}
@@ -21,88 +22,75 @@ put_kind put.Taken = Twice
 put_kind put.LastRow = LastRow
 put_kind put.TooMany = TooMany
 
--- tokens up to and with a list: whether it is the second one, its colour and items, and what stands on the board then
-pub data Listed (g : Geometry) : List Token → Bool → Side → List Placing → Placement → Type 0 where
-  first : {q : Placement} {turn c : Token} {ws : List Token} {mover side : Side} {is : List Placing}
-      → side_named turn.text ≡ Some mover → is_sign colon c.text ≡ true → IsList g (texts ws) side is
-      → Sets g (empty mover) (all_named side is) q → Listed g (turn ∷ c ∷ ws) false side is q
-  second : {p q : Placement} {before : List Token} (c : Token) (ws : List Token) {one side : Side}
-      {js is : List Placing}
-      → Listed g before false one js p → is_sign colon c.text ≡ true → IsList g (texts ws) side is
-      → same_side one side ≡ false → Sets g p (all_named side is) q → Listed g (before ++ c ∷ ws) true side is q
+-- behind these tokens a list has to stand: the first, or a second one, of another colour than the first, which is given
+pub data ListNext (g : Geometry) : (before : List Token) → Option Side → Placement → Type 0 where
+  first : {turn c : Token} {mover : Side} → side_named turn.text ≡ Some mover → is_sign colon c.text ≡ true
+      → ListNext g (turn ∷ c ∷ []) None (empty mover)
+  second : {before : List Token} (ws : List Token) (c : Token) {side : Side} {is : List Placing} {p q : Placement}
+      → ListNext g before None p → IsList g (texts ws) side is → Sets g p (all_named side is) q
+      → is_sign colon c.text ≡ true → ListNext g (before ++ ws ++ c ∷ []) (Some side) q
 
--- behind the tokens before, an item has to begin with those after: behind a comma, and behind a colour where neither
--- the end nor `:` nor `.` stands
+-- tokens up to and with a list: its colour and items, and what stands on the board then
+pub data Listed (g : Geometry) : List Token → Side → List Placing → Placement → Type 0 where
+  listed : {before : List Token} (ws : List Token) {earlier : Option Side} {side : Side} {is : List Placing}
+      {p q : Placement} → ListNext g before earlier p → IsList g (texts ws) side is → earlier ≢ Some side
+      → Sets g p (all_named side is) q → Listed g (before ++ ws) side is q
+
+-- an item has to stand next: behind a comma, and behind a colour if neither the end nor `:` nor `.` follows
 pub data ItemNext (g : Geometry) : (before after : List Token) → Side → Placement → Type 0 where
-  behind_colour : {before after : List Token} {is_second : Bool} {side : Side} {p : Placement}
-      → Listed g before is_second side [] p → no_item after ≡ false → ItemNext g before after side p
-  behind_comma : {before after : List Token} (c : Token) {is_second : Bool} {side : Side}
-      {i : Placing} {is : List Placing} {p : Placement}
-      → Listed g before is_second side (i ∷ is) p → is_sign comma c.text ≡ true
-      → ItemNext g (before ++ c ∷ []) after side p
+  behind_colour : {before after : List Token} {side : Side} {p : Placement}
+      → Listed g before side [] p → no_item after ≡ false → ItemNext g before after side p
+  behind_comma : {before after : List Token} (c : Token) {side : Side} {i : Placing} {is : List Placing} {p : Placement}
+      → Listed g before side (i ∷ is) p → is_sign comma c.text ≡ true → ItemNext g (before ++ c ∷ []) after side p
 
--- the first number of an item has to stand next: where no K stands, and behind K
-pub data NumberNext (g : Geometry) : (before after : List Token) → Bool → Side → Placement → Type 0 where
-  of_man : {before after : List Token} {side : Side} {p : Placement}
-      → ItemNext g before after side p → first_is is_king_letter after ≡ false
-      → NumberNext g before after false side p
-  of_king : {before after : List Token} {k : Token} {side : Side} {p : Placement}
+-- a number of an item, of men or kings, has to stand next: its first one, where no K stands or behind K; or behind a
+-- dash its last one, after the first, which is given
+pub data NumberNext (g : Geometry) : (before after : List Token) → Option ℕ → Bool → Side → Placement → Type 0 where
+  of_men : {before after : List Token} {side : Side} {p : Placement} → ItemNext g before after side p
+      → first_is is_king_letter after ≡ false → NumberNext g before after None false side p
+  of_kings : {before after : List Token} {k : Token} {side : Side} {p : Placement}
       → ItemNext g before (k ∷ after) side p → is_king_letter k.text ≡ true
-      → NumberNext g (before ++ k ∷ []) after true side p
+      → NumberNext g (before ++ k ∷ []) after None true side p
+  of_range : {before after : List Token} {v d : Token} {m : ℕ} {kings : Bool} {side : Side} {p : Placement}
+      → NumberNext g before (v ∷ d ∷ after) None kings side p → number_named g v.text ≡ Some m
+      → is_sign dash d.text ≡ true → NumberNext g (before ++ v ∷ d ∷ []) after (Some m) kings side p
 
--- a whole range stands next, and then the rest: behind a single number no dash, which would go on with it
+-- all numbers of an item stand next, and then the rest: behind a single number no dash, which would go on with it
 pub data RangeNext (g : Geometry) : (before ts rest : List Token) → Placing → Side → Placement → Type 0 where
-  whole : {before ts rest : List Token} {is_king : Bool} {m n : ℕ} {side : Side} {p : Placement}
-      → NumberNext g before (ts ++ rest) is_king side p → IsRange g (texts ts) m n
+  whole : {before ts rest : List Token} {m n : ℕ} {kings : Bool} {side : Side} {p : Placement}
+      → NumberNext g before (ts ++ rest) None kings side p → IsRange g (texts ts) m n
       → (length ts ≡ 1 → first_is (is_sign dash) rest ≡ false)
-      → RangeNext g before ts rest (record { is_king = is_king; from = m; to = n }) side p
+      → RangeNext g before ts rest (record { is_king = kings; from = m; to = n }) side p
 
--- behind the tokens before, those after begin with a fault, or the end is one
+-- behind the tokens before, the first of those after is at fault, or the text's end if there is none
 pub data FaultAt (g : Geometry) : (before after : List Token) → FenFaultKind → Type 0 where
   no_turn : {after : List Token} → first_named side_named after ≡ None → FaultAt g [] after Turn
   no_colon : {turn : Token} {after : List Token} {mover : Side} → side_named turn.text ≡ Some mover
       → first_is (is_sign colon) after ≡ false → FaultAt g (turn ∷ []) after Colon
-  no_colour : {turn c : Token} {after : List Token} {mover : Side} → side_named turn.text ≡ Some mover
-      → is_sign colon c.text ≡ true → first_named side_named after ≡ None → FaultAt g (turn ∷ c ∷ []) after Colour
-  no_second_colour : {before after : List Token} (c : Token) {side : Side} {is : List Placing}
-      {p : Placement}
-      → Listed g before false side is p → is_sign colon c.text ≡ true → first_named side_named after ≡ None
-      → FaultAt g (before ++ c ∷ []) after Colour
-  same_colour : {before after : List Token} (c : Token) {side : Side} {is : List Placing}
-      {p : Placement}
-      → Listed g before false side is p → is_sign colon c.text ≡ true → first_named side_named after ≡ Some side
-      → FaultAt g (before ++ c ∷ []) after SameColour
-  no_number : {before after : List Token} {is_king : Bool} {side : Side} {p : Placement}
-      → NumberNext g before after is_king side p → first_named (number_named g) after ≡ None
+  no_colour : {before after : List Token} {earlier : Option Side} {p : Placement} → ListNext g before earlier p
+      → first_named side_named after ≡ None → FaultAt g before after Colour
+  same_colour : {before after : List Token} {side : Side} {p : Placement} → ListNext g before (Some side) p
+      → first_named side_named after ≡ Some side → FaultAt g before after SameColour
+  no_number : {before after : List Token} {from : Option ℕ} {kings : Bool} {side : Side} {p : Placement}
+      → NumberNext g before after from kings side p → first_named (number_named g) after ≡ None
       → FaultAt g before after Number
-  no_last_number : {before after : List Token} {from d : Token} {is_king : Bool} {m : ℕ} {side : Side}
-      {p : Placement}
-      → NumberNext g before (from ∷ d ∷ after) is_king side p → number_named g from.text ≡ Some m
-      → is_sign dash d.text ≡ true → first_named (number_named g) after ≡ None
-      → FaultAt g (before ++ from ∷ d ∷ []) after Number
-  backwards : {before after : List Token} {from d : Token} {is_king : Bool} {m n : ℕ} {side : Side}
-      {p : Placement}
-      → NumberNext g before (from ∷ d ∷ after) is_king side p → number_named g from.text ≡ Some m
-      → is_sign dash d.text ≡ true → first_named (number_named g) after ≡ Some n → n < m
-      → FaultAt g (before ++ from ∷ d ∷ []) after RangeBackwards
-  not_put : {before : List Token} (ts rest : List Token) {i : Placing} {side : Side} {p : Placement}
-      (q : Placement) (put others : List (ℕ × Piece)) (s : ℕ) (piece : Piece) {why : PutFault}
-      → RangeNext g before ts rest i side p → named side i ≡ put ++ (s, piece) ∷ others → Sets g p put q
-      → put_fault g q s piece ≡ Some why → FaultAt g before (ts ++ rest) (put_kind why)
-  behind_item : {before rest : List Token} (ts : List Token) {i : Placing} {side : Side}
-      {p : Placement} (q : Placement)
+  backwards : {before after : List Token} {m n : ℕ} {kings : Bool} {side : Side} {p : Placement}
+      → NumberNext g before after (Some m) kings side p → first_named (number_named g) after ≡ Some n → n < m
+      → FaultAt g before after RangeBackwards
+  not_put : {before : List Token} (ts rest : List Token) {i : Placing} {side : Side} {p : Placement} (q : Placement)
+      (put others : List (ℕ × Piece)) (s : ℕ) (piece : Piece) {why : PutFault} → RangeNext g before ts rest i side p
+      → named side i ≡ put ++ (s, piece) ∷ others → Sets g p put q → put_fault g q s piece ≡ Some why
+      → FaultAt g before (ts ++ rest) (put_kind why)
+  behind_item : {before rest : List Token} (ts : List Token) {i : Placing} {side : Side} {p : Placement} (q : Placement)
       → RangeNext g before ts rest i side p → Sets g p (named side i) q → no_item rest ≡ false
       → first_is (is_sign comma) rest ≡ false → FaultAt g (before ++ ts) rest Rest
-  behind_stop : {before after : List Token} (stop : Token) {is_second : Bool} {side : Side}
-      {is : List Placing} {p : Placement}
-      → Listed g before is_second side is p → is_sign full_stop stop.text ≡ true → is_empty after ≡ false
+  behind_stop : {before after : List Token} (stop : Token) {side : Side} {is : List Placing} {p : Placement}
+      → Listed g before side is p → is_sign full_stop stop.text ≡ true → is_empty after ≡ false
       → FaultAt g (before ++ stop ∷ []) after Rest
 
--- this is the earliest fault of the text, at the first of the tokens after, or at the end: that it is too long comes
--- before anything else
+-- this is the earliest fault of the text: that it is too long comes before anything else
 pub data IsFirstFault (g : Geometry) : List ℕ → FenFault → Type 0 where
-  too_long : {text : List ℕ} → 1024 < length text
-      → IsFirstFault g text (record { what = TooLong; place = 1025 })
+  too_long : {text : List ℕ} → 1024 < length text → IsFirstFault g text (record { what = TooLong; place = 1025 })
   fault_at : {text : List ℕ} (before after : List Token) {what : FenFaultKind} → length text ≤ 1024
       → tokens_from 1 text ≡ before ++ after → FaultAt g before after what
       → IsFirstFault g text (record { what = what; place = place_of after (length text + 1) })

@@ -45,8 +45,7 @@ pub fn same_squares<B: Board>(one: Squares<B>, other: Squares<B>) -> bool
 
 /// A text is read as a position exactly if the grammar of FEN texts gives it that position, and as having a fault
 /// exactly if this is its earliest one by the grammar.
-/// Example: the grammar gives `W : W 27 : B 16 : 5` the position `W:W27:B16`, and as that it is read; in `W:W27 32:B16`
-/// it gives no more than a list's end behind `27`, and so the fault is `rest at 7`.
+/// Example: the grammar gives `W : W 27 : B 16 : 5` the position `W:W27:B16`, and `W:W27 32:B16` the fault `rest at 7`.
 pub fn reading_is_grammar()
     ensures position { ReadingIsGrammar }
     ensures fault { FaultIsGrammar }
