@@ -1,7 +1,7 @@
 -- A fault that is found is one that the grammar gives.
-use Rattle.std.proofs.Common.{◌≡◌, ℕ, suc, zero, ◌+◌, ◌-◌, ◌≤◌, ◌<◌, Bool, true, false, ◌||◌, cond, ltb, List, [], ◌∷◌}
-use Rattle.std.proofs.Common.{◌++◌, map, length, Option, Some, None, Result, Ok, Err, refl, sym, ap, ◌∙◌, subst, arith}
-use Rattle.std.proofs.Common.{◌⊎◌, inl, inr, append_assoc, append-nil, ◌≢◌}
+use Rattle.std.proofs.Common.{◌≡◌, ℕ, suc, zero, ◌+◌, ◌-◌, ◌≤◌, Bool, true, false, ◌||◌, cond, ltb, List, [], ◌∷◌}
+use Rattle.std.proofs.Common.{◌++◌, map, Option, Some, None, Result, Ok, Err, refl, sym, ap, ◌∙◌, subst, arith}
+use Rattle.std.proofs.Common.{◌⊎◌, inl, inr, append_assoc, ◌≢◌}
 use Rattle.std.specs.List.{range_with_len}
 use Rattle.std.proofs.lemmas.Bool.{ltb-true, ltb-false}
 use Rattle.std.proofs.lemmas.List.{map-append}
@@ -17,7 +17,7 @@ use Rattle.dw_board.specs.FenFaults.{put_kind, ListNext, first, second, Listed, 
 use Rattle.dw_board.specs.FenFaults.{behind_comma, NumberNext, of_men, of_kings, of_range, RangeNext, whole, FaultAt}
 use Rattle.dw_board.specs.FenFaults.{no_turn, no_colon, no_colour, same_colour, no_number, backwards, not_put}
 use Rattle.dw_board.specs.FenFaults.{behind_item, behind_stop}
-use Rattle.dw_board.specs.Fen.{fault, ◌>>=◌, Listing, Item, Stage, Start, AfterTurn, AfterColon, AfterColour, AfterComma}
+use Rattle.dw_board.specs.Fen.{fault, Listing, Item, Stage, Start, AfterTurn, AfterColon, AfterColour, AfterComma}
 use Rattle.dw_board.specs.Fen.{AfterKing, AfterNumber, AfterDash, AfterItem, AfterStop, AfterLists, next_stage, at_end}
 use Rattle.dw_board.specs.Fen.{read_from, with_item, item_ended, item_begun, list_begun, if_named, then_set, set_squares}
 use Rattle.dw_board.specs.Fen.{piece_of}

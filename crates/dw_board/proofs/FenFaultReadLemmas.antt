@@ -1,29 +1,28 @@
 -- A fault that the grammar gives is found.
-use Rattle.std.proofs.Common.{◌≡◌, ℕ, suc, zero, ◌+◌, ◌-◌, ◌≤◌, ◌<◌, Bool, true, false, ◌||◌, cond, List, [], ◌∷◌, ◌++◌}
-use Rattle.std.proofs.Common.{map, length, Option, Some, None, Result, Ok, Err, refl, sym, ap, ◌∙◌, subst, arith, ◌⊎◌, inl, inr}
+use Rattle.std.proofs.Common.{◌≡◌, ℕ, suc, zero, ◌+◌, ◌-◌, ◌<◌, Bool, true, false, ◌||◌, List, [], ◌∷◌, ◌++◌}
+use Rattle.std.proofs.Common.{map, length, Option, Some, None, Ok, refl, sym, ap, ◌∙◌, subst, arith}
 use Rattle.std.proofs.Common.{append_assoc, length-append, ◌≢◌}
 use Rattle.std.specs.List.{range_with_len}
 use Rattle.std.proofs.lemmas.List.{map-append, length-map}
 use Rattle.dw_board.specs.Geometry.{Geometry}
-use Rattle.dw_board.specs.Placement.{Placement, empty, placed, put_fault, same_side}
-use Rattle.dw_board.specs.FenTokens.{Token, is_sign, side_named, is_king_letter, number_named}
-use Rattle.dw_board.specs.FenReader.{first_is, first_named, behind, is_empty, no_item, place_of}
+use Rattle.dw_board.specs.Placement.{Placement, placed, put_fault, same_side}
+use Rattle.dw_board.specs.FenTokens.{Token, is_sign, side_named, number_named}
+use Rattle.dw_board.specs.FenReader.{first_is, first_named, behind, no_item, place_of}
 use Rattle.dw_board.specs.inner.FenReading.{listing}
-use Rattle.dw_board.specs.FenGrammar.{Word, texts, Placing, IsRange, IsItems, IsList, named, all_named, Sets, number, range}
+use Rattle.dw_board.specs.FenGrammar.{Word, texts, Placing, IsRange, IsList, named, all_named, Sets, number, range}
 use Rattle.dw_board.specs.FenGrammar.{bare, full, single, more}
 use Rattle.dw_board.specs.FenFaults.{put_kind, ListNext, first, second, Listed, listed, ItemNext, behind_colour}
 use Rattle.dw_board.specs.FenFaults.{behind_comma, NumberNext, of_men, of_kings, of_range, RangeNext, whole, FaultAt}
 use Rattle.dw_board.specs.FenFaults.{no_turn, no_colon, no_colour, same_colour, no_number, backwards, not_put}
 use Rattle.dw_board.specs.FenFaults.{behind_item, behind_stop}
-use Rattle.dw_board.specs.Fen.{fault, ◌>>=◌, Listing, Item, Stage, Start, AfterTurn, AfterColon, AfterColour, AfterComma}
-use Rattle.dw_board.specs.Fen.{AfterNumber, AfterDash, AfterItem, read_from, with_item, then_set, set_squares, piece_of}
+use Rattle.dw_board.specs.Fen.{fault, ◌>>=◌, Listing, Item, Stage, Start, AfterColon, AfterColour, AfterComma}
+use Rattle.dw_board.specs.Fen.{AfterNumber, AfterItem, read_from, with_item, then_set, set_squares, piece_of}
 use Rattle.dw_board.specs.declared.piece.Side.{Side}
 use Rattle.dw_board.specs.declared.piece.Side.TheVariants.{White, Black}
 use Rattle.dw_board.specs.declared.piece.Piece.{Piece}
 use Rattle.dw_board.specs.declared.piece.PutFault.{PutFault}
-use Rattle.dw_board.specs.declared.fen.fault.FenFault.{FenFault}
 use Rattle.dw_board.specs.declared.fen.fault.FenFaultKind.{FenFaultKind}
-use Rattle.dw_board.specs.declared.fen.fault.FenFaultKind.TheVariants.{Turn, Colon, Colour, Number, SameColour, Rest}
+use Rattle.dw_board.specs.declared.fen.fault.FenFaultKind.TheVariants.{Number, Rest}
 use Rattle.dw_board.specs.declared.fen.fault.FenFaultKind.TheVariants.{RangeBackwards}
 use Rattle.dw_board.proofs.FenStageLemmas.{turn_read, turn_fault, colon_read, colon_fault, colour_read, colour_fault}
 use Rattle.dw_board.proofs.FenStageLemmas.{second_read, second_fault, list_something, comma_read, king_read, king_number}
