@@ -13,7 +13,7 @@ use Rattle.dw_board.specs.FenReader.{first_is, is_empty, no_item, place_of}
 use Rattle.dw_board.specs.inner.FenReading.{listing}
 use Rattle.dw_board.specs.FenGrammar.{Word, texts, Placing, IsRange, IsItem, IsItems, IsList, named, all_named, Sets}
 use Rattle.dw_board.specs.FenGrammar.{number, range, men, kings, single, more, bare, full}
-use Rattle.dw_board.specs.FenFaults.{put_kind, ListNext, first, second, Listed, listed, ItemNext, behind_colour}
+use Rattle.dw_board.specs.FenFaults.{put_kind, ListNext, first, second, ListRead, listed, ItemNext, behind_colour}
 use Rattle.dw_board.specs.FenFaults.{behind_comma, NumberNext, of_men, of_kings, of_range, RangeNext, whole, FaultAt}
 use Rattle.dw_board.specs.FenFaults.{no_turn, no_colon, no_colour, same_colour, no_number, backwards, not_put}
 use Rattle.dw_board.specs.FenFaults.{behind_item, behind_stop}
@@ -153,7 +153,7 @@ module _ (g : Geometry) where
       (Sets-append g q r r (named side j) [] k refl))
 
   -- tokens up to and with a list, of which it is known whether it is the second one
-  pub record ListRead (before : List Token) (is_second : Bool) (side : Side) (is : List Placing) (q : Placement) :
+  pub record ListOf (before : List Token) (is_second : Bool) (side : Side) (is : List Placing) (q : Placement) :
       Type 0 where
     pub front : List Token
     pub ws : List Token
@@ -167,19 +167,19 @@ module _ (g : Geometry) where
     pub is_first : is_second ≡ false → earlier ≡ None
 
   is_listed : (before : List Token) (is_second : Bool) (side : Side) (is : List Placing) (p : Placement)
-      → ListRead before is_second side is p → Listed g before side is p
-  is_listed before is_second side is p l = subst (λ l. Listed g l side is p) (sym l.split)
+      → ListOf before is_second side is p → ListRead g before side is p
+  is_listed before is_second side is p l = subst (λ l. ListRead g l side is p) (sym l.split)
       (listed l.ws l.lead l.list l.other l.sets)
 
   colon_next : (before : List Token) (side : Side) (is : List Placing) (p : Placement) (c : Token)
-      → ListRead before false side is p → is_sign 58 c.text ≡ true → ListNext g (before ++ c ∷ []) (Some side) p
+      → ListOf before false side is p → is_sign 58 c.text ≡ true → ListNext g (before ++ c ∷ []) (Some side) p
   colon_next before side is p c l sign = subst (λ b. ListNext g (b ++ c ∷ []) (Some side) p) (sym l.split)
       (second l.ws c (subst (λ o. ListNext g l.front o l.start) (l.is_first refl) l.lead) l.list l.sets sign)
 
   list_grow : (before : List Token) (is_second : Bool) (side : Side) (is : List Placing) (p : Placement)
-      → ListRead before is_second side is p → (vs : List Token) (j : Placing) (q : Placement)
+      → ListOf before is_second side is p → (vs : List Token) (j : Placing) (q : Placement)
       → ((ws : List Word) → IsList g ws side is → IsList g (ws ++ texts vs) side (is ++ j ∷ []))
-      → Sets g p (named side j) q → ListRead (before ++ vs) is_second side (is ++ j ∷ []) q
+      → Sets g p (named side j) q → ListOf (before ++ vs) is_second side (is ++ j ∷ []) q
   list_grow before is_second side is p l vs j q grow put = record {
     front = l.front;
     ws = l.ws ++ vs;
@@ -196,10 +196,10 @@ module _ (g : Geometry) where
 
   -- a list that has items
   HasItems : List Token → Bool → Side → Placement → Type 0
-  HasItems before is_second side p = (i : Placing) × (is : List Placing) × ListRead before is_second side (i ∷ is) p
+  HasItems before is_second side p = (i : Placing) × (is : List Placing) × ListOf before is_second side (i ∷ is) p
 
   has_items : (before : List Token) (is_second : Bool) (side : Side) (is : List Placing) (j : Placing) (p : Placement)
-      → ListRead before is_second side (is ++ j ∷ []) p → HasItems before is_second side p
+      → ListOf before is_second side (is ++ j ∷ []) p → HasItems before is_second side p
   unfolding HasItems
   has_items before is_second side [] j p l = (j, [], l)
   has_items before is_second side (i ∷ is) j p l = (i, is ++ j ∷ [], l)
@@ -214,14 +214,14 @@ module _ (g : Geometry) where
       → Sets g list.placed (named list.side (record { is_king = is_king; from = m; to = n })) q
       → HasItems (before ++ ws) list.is_second list.side q
 
-  colour_takes : (before : List Token) (list : Listing) → ListRead before list.is_second list.side [] list.placed
+  colour_takes : (before : List Token) (list : Listing) → ListOf before list.is_second list.side [] list.placed
       → TakesItem before list
   colour_takes before list l = λ ws i q item sets. has_items (before ++ ws) list.is_second list.side [] i q
       (list_grow before list.is_second list.side [] list.placed l ws i q
       (λ us h. bare_grow us list.side [] (texts ws) i h refl item) sets)
 
   comma_takes : (before : List Token) (c : Token) (list : Listing) (i : Placing) (is : List Placing)
-      → ListRead before list.is_second list.side (i ∷ is) list.placed → is_sign 44 c.text ≡ true
+      → ListOf before list.is_second list.side (i ∷ is) list.placed → is_sign 44 c.text ≡ true
       → TakesItem (before ++ c ∷ []) list
   comma_takes before c list i is l comma = λ ws j q item sets.
       subst (λ l. HasItems l list.is_second list.side q) (sym (append_assoc before (c ∷ []) ws))
@@ -251,7 +251,7 @@ module _ (g : Geometry) where
   Read before Start = before ≡ []
   Read before (AfterTurn turn) = (t : Token) × (before ≡ t ∷ []) × (side_named t.text ≡ Some turn)
   Read before (AfterColon earlier p) = ListNext g before earlier p
-  Read before (AfterColour list) = ListRead before list.is_second list.side [] list.placed
+  Read before (AfterColour list) = ListOf before list.is_second list.side [] list.placed
   Read before (AfterComma list) = ((after : List Token) → ItemNext g before after list.side list.placed)
       × TakesItem before list
   Read before (AfterKing list) = ((after : List Token) → NumberNext g before after None true list.side list.placed)
@@ -372,7 +372,7 @@ module _ (g : Geometry) where
   at_stage tokens x s r is e read = subst (Read tokens) (sym (same_ok x s r is e)) read
 
   ended_read : (tokens : List Token) (list : Listing) (is : List Placing) (t : Token) (s : Stage)
-      → ListRead tokens list.is_second list.side is list.placed
+      → ListOf tokens list.is_second list.side is list.placed
       → (is_sign 44 t.text ≡ true → HasItems tokens list.is_second list.side list.placed)
       → item_ended list t ≡ Ok s → Read (tokens ++ t ∷ []) s
   unfolding Read HasItems
@@ -394,7 +394,7 @@ module _ (g : Geometry) where
     ]
   ] where
     colon_read : (second : Bool) (side : Side) (p : Placement) → is_sign 58 t.text ≡ true
-        → ListRead tokens second side is p
+        → ListOf tokens second side is p
         → Read (tokens ++ t ∷ []) (cond second (AfterLists p) (AfterColon (Some side) p))
     colon_read true side p colon l = tt
     colon_read false side p colon l = colon_next tokens side is p t l colon
@@ -475,7 +475,7 @@ module _ (g : Geometry) where
 
   colour_read : (tokens : List Token) (earlier : Option Side) (t : Token) (side : Side) (p : Placement)
       (is_second : Bool) → ListNext g tokens earlier p → side_named t.text ≡ Some side → earlier ≢ Some side
-      → (is_second ≡ false → earlier ≡ None) → ListRead (tokens ++ t ∷ []) is_second side [] p
+      → (is_second ≡ false → earlier ≡ None) → ListOf (tokens ++ t ∷ []) is_second side [] p
   colour_read tokens earlier t side p is_second lead named other is_first = record {
     front = tokens;
     ws = t ∷ [];

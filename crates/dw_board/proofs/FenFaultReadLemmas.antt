@@ -11,7 +11,7 @@ use Rattle.dw_board.specs.FenReader.{first_is, first_named, behind, no_item, pla
 use Rattle.dw_board.specs.inner.FenReading.{listing}
 use Rattle.dw_board.specs.FenGrammar.{Word, texts, Placing, IsRange, IsList, named, all_named, Sets, number, range}
 use Rattle.dw_board.specs.FenGrammar.{bare, full, single, more}
-use Rattle.dw_board.specs.FenFaults.{put_kind, ListNext, first, second, Listed, listed, ItemNext, behind_colour}
+use Rattle.dw_board.specs.FenFaults.{put_kind, ListNext, first, second, ListRead, listed, ItemNext, behind_colour}
 use Rattle.dw_board.specs.FenFaults.{behind_comma, NumberNext, of_men, of_kings, of_range, RangeNext, whole, FaultAt}
 use Rattle.dw_board.specs.FenFaults.{no_turn, no_colon, no_colour, same_colour, no_number, backwards, not_put}
 use Rattle.dw_board.specs.FenFaults.{behind_item, behind_stop}
@@ -183,7 +183,7 @@ module _ (g : Geometry) (end : ℕ) where
       λ after. ap (read_from g end Start) (append_assoc (front ++ ws) (c ∷ []) after)
       ∙ second_colon (front ++ ws) side is p lead c sign after
 
-  coloured : (before : List Token) (side : Side) (is : List Placing) (p : Placement) → Listed g before side is p
+  coloured : (before : List Token) (side : Side) (is : List Placing) (p : Placement) → ListRead g before side is p
       → (is_second : Bool) × Coloured before is_second side is p
   coloured before side is p (listed {before = front} ws {earlier = earlier} {p = start} next list other sets) = (
     later earlier,

@@ -22,7 +22,7 @@ put_kind put.Taken = Twice
 put_kind put.LastRow = LastRow
 put_kind put.TooMany = TooMany
 
--- behind these tokens a list has to stand: the first, or a second one, of another colour than the first, which is given
+-- behind these tokens a list has to stand: the first, or a second one behind the first, whose colour is given
 pub data ListNext (g : Geometry) : (before : List Token) → Option Side → Placement → Type 0 where
   first : {turn c : Token} {mover : Side} → side_named turn.text ≡ Some mover → is_sign colon c.text ≡ true
       → ListNext g (turn ∷ c ∷ []) None (empty mover)
@@ -30,18 +30,18 @@ pub data ListNext (g : Geometry) : (before : List Token) → Option Side → Pla
       → ListNext g before None p → IsList g (texts ws) side is → Sets g p (all_named side is) q
       → is_sign colon c.text ≡ true → ListNext g (before ++ ws ++ c ∷ []) (Some side) q
 
--- tokens up to and with a list: its colour and items, and what stands on the board then
-pub data Listed (g : Geometry) : List Token → Side → List Placing → Placement → Type 0 where
+-- tokens up to and with a list, a second one not of the first's colour: its colour and items, and what stands then
+pub data ListRead (g : Geometry) : List Token → Side → List Placing → Placement → Type 0 where
   listed : {before : List Token} (ws : List Token) {earlier : Option Side} {side : Side} {is : List Placing}
       {p q : Placement} → ListNext g before earlier p → IsList g (texts ws) side is → earlier ≢ Some side
-      → Sets g p (all_named side is) q → Listed g (before ++ ws) side is q
+      → Sets g p (all_named side is) q → ListRead g (before ++ ws) side is q
 
 -- an item has to stand next: behind a comma, and behind a colour if neither the end nor `:` nor `.` follows
 pub data ItemNext (g : Geometry) : (before after : List Token) → Side → Placement → Type 0 where
   behind_colour : {before after : List Token} {side : Side} {p : Placement}
-      → Listed g before side [] p → no_item after ≡ false → ItemNext g before after side p
+      → ListRead g before side [] p → no_item after ≡ false → ItemNext g before after side p
   behind_comma : {before after : List Token} (c : Token) {side : Side} {i : Placing} {is : List Placing} {p : Placement}
-      → Listed g before side (i ∷ is) p → is_sign comma c.text ≡ true → ItemNext g (before ++ c ∷ []) after side p
+      → ListRead g before side (i ∷ is) p → is_sign comma c.text ≡ true → ItemNext g (before ++ c ∷ []) after side p
 
 -- a number of an item, of men or kings, has to stand next: its first one, where no K stands or behind K; or behind a
 -- dash its last one, after the first, which is given
@@ -78,17 +78,18 @@ pub data FaultAt (g : Geometry) : (before after : List Token) → FenFaultKind �
       → NumberNext g before after (Some m) kings side p → first_named (number_named g) after ≡ Some n → n < m
       → FaultAt g before after RangeBackwards
   not_put : {before : List Token} (ts rest : List Token) {i : Placing} {side : Side} {p : Placement} (q : Placement)
-      (put others : List (ℕ × Piece)) (s : ℕ) (piece : Piece) {why : PutFault} → RangeNext g before ts rest i side p
-      → named side i ≡ put ++ (s, piece) ∷ others → Sets g p put q → put_fault g q s piece ≡ Some why
+      (done left : List (ℕ × Piece)) (s : ℕ) (piece : Piece) {why : PutFault} → RangeNext g before ts rest i side p
+      → named side i ≡ done ++ (s, piece) ∷ left → Sets g p done q → put_fault g q s piece ≡ Some why
       → FaultAt g before (ts ++ rest) (put_kind why)
   behind_item : {before rest : List Token} (ts : List Token) {i : Placing} {side : Side} {p : Placement} (q : Placement)
       → RangeNext g before ts rest i side p → Sets g p (named side i) q → no_item rest ≡ false
       → first_is (is_sign comma) rest ≡ false → FaultAt g (before ++ ts) rest Rest
   behind_stop : {before after : List Token} (stop : Token) {side : Side} {is : List Placing} {p : Placement}
-      → Listed g before side is p → is_sign full_stop stop.text ≡ true → is_empty after ≡ false
+      → ListRead g before side is p → is_sign full_stop stop.text ≡ true → is_empty after ≡ false
       → FaultAt g (before ++ stop ∷ []) after Rest
 
--- this is the earliest fault of the text: that it is too long comes before anything else
+-- this is the earliest fault of the text, with the place of the first of those after; that it is too long comes before
+-- anything else
 pub data IsFirstFault (g : Geometry) : List ℕ → FenFault → Type 0 where
   too_long : {text : List ℕ} → 1024 < length text → IsFirstFault g text (record { what = TooLong; place = 1025 })
   fault_at : {text : List ℕ} (before after : List Token) {what : FenFaultKind} → length text ≤ 1024
