@@ -9,7 +9,8 @@ use Rattle.dw_board.specs.Placement.{Placement, empty, placed, put_fault, same_s
 use Rattle.dw_board.specs.FenTokens.{Token, is_sign, side_named, is_king_letter, number_named, is_digit}
 use Rattle.dw_board.specs.FenTokens.{square_numbered}
 use Rattle.dw_board.specs.FenReader.{first_is, first_named, behind, is_empty}
-use Rattle.dw_board.specs.inner.FenReading.{no_item, listing}
+use Rattle.dw_board.specs.inner.FenReading.{listing}
+use Rattle.dw_board.specs.FenReader.{no_item}
 use Rattle.dw_board.specs.FenGrammar.{Word, Placing, IsRange, IsItem, IsItems, IsList, IsEnd, IsTail, named, all_named}
 use Rattle.dw_board.specs.FenGrammar.{Sets, Names, number, range, men, kings, single, more, bare, full, nothing, stop}
 use Rattle.dw_board.specs.FenGrammar.{ends, fields, one_list, two_lists}
@@ -39,7 +40,7 @@ Sets-set_squares g piece place from (suc n) p q h =
     set_then (put_fault g p from piece) place _ h.0 ∙ Sets-set_squares g piece place (from + 1) n
     (placed p from (Some piece)) q h.1
 
-sets_item : (g : Geometry) (list : Listing) (item : Item) (to : ℕ) (q : Placement)
+pub sets_item : (g : Geometry) (list : Listing) (item : Item) (to : ℕ) (q : Placement)
     → Sets g list.placed (named list.side (record { is_king = item.is_king; from = item.from; to = to })) q
     → with_item g list item to ≡ Ok (listing list.side list.is_second q)
 sets_item g list item to q h =
@@ -60,7 +61,7 @@ two_signs [] a b h k = cc
 two_signs (x ∷ []) a b h k = sym (eqb-true x a h) ∙ eqb-true x b k
 two_signs (x ∷ y ∷ w) a b h k = cc
 
-apart : (w : Word) (a b : ℕ) → eqb a b ≡ false → is_sign a w ≡ true → is_sign b w ≡ false
+pub apart : (w : Word) (a b : ℕ) → eqb a b ≡ false → is_sign a w ≡ true → is_sign b w ≡ false
 apart w a b ne h = elim (cases_Bool (is_sign b w)) [
   | inl k ↦ true-false (sym (eq-eqb a b (two_signs w a b h k)) ∙ ne)
   | inr k ↦ k
@@ -99,15 +100,15 @@ king-no_sign w sign a b h = elim (or_cases _ _ h) [
 ]
 
 -- nothing, a colon or a stop is next
-closes : List Word → Bool
+pub closes : List Word → Bool
 closes [] = true
 closes (w ∷ ws) = is_sign 58 w || is_sign 46 w
 
-no_dash : List Word → Bool
+pub no_dash : List Word → Bool
 no_dash [] = true
 no_dash (w ∷ ws) = cond (is_sign 45 w) false true
 
-closes-no_dash : (ws : List Word) → closes ws ≡ true → no_dash ws ≡ true
+pub closes-no_dash : (ws : List Word) → closes ws ≡ true → no_dash ws ≡ true
 unfolding closes no_dash
 closes-no_dash [] h = refl
 closes-no_dash (w ∷ ws) h = elim (or_cases _ _ h) [
@@ -115,7 +116,7 @@ closes-no_dash (w ∷ ws) h = elim (or_cases _ _ h) [
   | inr stopped ↦ let k = apart w 46 45 refl stopped in rw k refl
 ]
 
-comma-no_dash : (w : Word) (ws : List Word) → is_sign 44 w ≡ true → no_dash (w ∷ ws) ≡ true
+pub comma-no_dash : (w : Word) (ws : List Word) → is_sign 44 w ≡ true → no_dash (w ∷ ws) ≡ true
 unfolding no_dash
 comma-no_dash w ws h = let k = apart w 44 45 refl h in rw k refl
 
@@ -135,18 +136,22 @@ pub record Cut (ts : List Token) (w : Word) (ws : List Word) : Type 0 where
   pub text : first.text ≡ w
   pub others : texts rest ≡ ws
 
-cut : (ts : List Token) (w : Word) (ws : List Word) → texts ts ≡ w ∷ ws → Cut ts w ws
+pub cut : (ts : List Token) (w : Word) (ws : List Word) → texts ts ≡ w ∷ ws → Cut ts w ws
 cut [] w ws e = cc
 cut (t ∷ ts) w ws e = record { first = t; rest = ts; is = refl; text = cc; others = cc }
 
-colon-closes : (w : Word) (ws : List Word) → is_sign 58 w ≡ true → closes (w ∷ ws) ≡ true
+pub colon-closes : (w : Word) (ws : List Word) → is_sign 58 w ≡ true → closes (w ∷ ws) ≡ true
 unfolding closes
 colon-closes w ws h = rw h refl
+
+pub stop-closes : (w : Word) (ws : List Word) → is_sign 46 w ≡ true → closes (w ∷ ws) ≡ true
+unfolding closes
+stop-closes w ws h = or_right (is_sign 58 w) _ h
 
 end-closes : (ws : List Word) → IsEnd ws → closes ws ≡ true
 unfolding closes
 end-closes ws nothing = refl
-end-closes ws (stop {w = w} h) = or_right (is_sign 58 w) _ h
+end-closes ws (stop {w = w} h) = stop-closes w [] h
 
 tail-closes : (ws : List Word) → IsTail ws → closes ws ≡ true
 tail-closes ws (ends h) = end-closes ws h
@@ -158,7 +163,7 @@ none_left [] e good bad = refl
 none_left (t ∷ ts) e good bad = cc
 
 -- a list begins with its colour
-list_begins : {g : Geometry} (ws : List Word) (is : List Placing) (side : Side) → IsList g ws side is
+pub list_begins : {g : Geometry} (ws : List Word) (is : List Placing) (side : Side) → IsList g ws side is
     → (w : Word) × (vs : List Word) × (ws ≡ w ∷ vs) × (side_named w ≡ Some side) × IsList g (w ∷ vs) side is
 list_begins ws is side (bare {w = w} h) = (w, [], refl, h, bare h)
 list_begins ws is side (full {w = w} {ws = vs} h items) = (w, vs, refl, h, full h items)
@@ -166,7 +171,9 @@ list_begins ws is side (full {w = w} {ws = vs} h items) = (w, vs, refl, h, full 
 -- reading on, up to where these words are left
 pub record Reads (g : Geometry) (end : ℕ) (from : Stage) (ts : List Token) (tail : List Word) (to : Stage) :
     Type 0 where
+  pub front : List Token
   pub rest : List Token
+  pub is : ts ≡ front ++ rest
   pub words : texts rest ≡ tail
   pub same : read_from g end from ts ≡ read_from g end to rest
 
@@ -182,7 +189,9 @@ module _ (g : Geometry) (end : ℕ) where
       let c = cut ts w tail e in
       let item : Item = record { is_king = king; from = m; place = c.first.place } in
       record {
+        front = c.first ∷ [];
         rest = c.rest;
+        is = c.is;
         words = c.others;
         same = ap (read_from g end from) c.is ∙ (go c.first c.rest (ap (number_named g) c.text ∙ h)
             ∙ (number_read g end list item c.rest (no_dash-first c.rest tail c.others clear)
@@ -199,7 +208,9 @@ module _ (g : Geometry) (end : ℕ) where
       let last : first_named (number_named g) c2.rest ≡ Some n = ap (first_named (number_named g)) c3.is
       ∙ (ap (number_named g) c3.text ∙ k) in
       record {
+        front = c.first ∷ c2.first ∷ c3.first ∷ [];
         rest = c3.rest;
+        is = c.is ∙ ap (λ l. c.first ∷ l) (c2.is ∙ ap (λ l. c2.first ∷ l) c3.is);
         words = c3.others;
         same = ap (read_from g end from) c.is ∙ (go c.first c.rest (ap (number_named g) c.text ∙ h)
             ∙ (dash_read g end list item c.rest dashed ∙ (ap (read_from g end (AfterDash list item)) after_dash
@@ -220,7 +231,9 @@ module _ (g : Geometry) (end : ℕ) where
       let reads = numbers_read vs m n r (AfterKing list) true list q c.rest tail c.others clear sets
       (λ t rest h. king_number g end list (t ∷ rest) m h) in
       record {
+        front = c.first ∷ reads.front;
         rest = reads.rest;
+        is = c.is ∙ ap (λ l. c.first ∷ l) reads.is;
         words = reads.words;
         same = ap (read_from g end (AfterComma list)) c.is
             ∙ (king_read g end list (c.first ∷ c.rest) (ap is_king_letter c.text ∙ king) ∙ reads.same);
@@ -241,7 +254,10 @@ module _ (g : Geometry) (end : ℕ) where
       let middle = listing list.side list.is_second s.0 in
       let others = items_read vs js items middle q c.rest tail c.others clear s.2 in
       record {
+        front = first.front ++ c.first ∷ others.front;
         rest = others.rest;
+        is = first.is ∙ (ap (λ l. first.front ++ l) (c.is ∙ ap (λ l. c.first ∷ l) others.is)
+            ∙ sym (append_assoc first.front (c.first ∷ others.front) others.rest));
         words = others.words;
         same = first.same ∙ (ap (read_from g end (AfterItem middle)) c.is
             ∙ (comma_read g end middle (c.first ∷ c.rest) (ap (is_sign 44) c.text ∙ sign) ∙ others.same));
@@ -277,20 +293,24 @@ module _ (g : Geometry) (end : ℕ) where
       (comma ∷ (vs ++ tail)) (e ∙ append_assoc front (comma ∷ vs) tail)
 
   -- a list behind its colour
-  list_read : (side : Side) (w : Word) (ws : List Word) (is : List Placing) → IsList g (w ∷ ws) side is
+  pub list_read : (side : Side) (w : Word) (ws : List Word) (is : List Placing) → IsList g (w ∷ ws) side is
       → (second : Bool) (p q : Placement) (ts : List Token) (tail : List Word)
-      → texts ts ≡ ws ++ tail → closes tail ≡ true → Sets g p (all_named side is) q
+      → texts ts ≡ ws ++ tail → (is ≡ [] → closes tail ≡ true) → no_dash tail ≡ true → Sets g p (all_named side is) q
       → Reads g end (AfterColour (listing side second p)) ts tail (AfterItem (listing side second q))
-  list_read side w ws is (bare h) second p q ts tail e closed sets = record {
+  list_read side w ws is (bare h) second p q ts tail e closed clear sets = record {
+    front = [];
     rest = ts;
+    is = refl;
     words = e;
-    same = list_nothing g end (listing side second p) ts (first_word-closes ts tail e closed)
+    same = list_nothing g end (listing side second p) ts (first_word-closes ts tail e (closed refl))
         ∙ ap (λ x. read_from g end (AfterItem (listing side second x)) ts) sets;
   }
-  list_read side w ws is (full h items) second p q ts tail e closed sets =
-      let reads = items_read ws is items (listing side second p) q ts tail e (closes-no_dash tail closed) sets in
+  list_read side w ws is (full h items) second p q ts tail e closed clear sets =
+      let reads = items_read ws is items (listing side second p) q ts tail e clear sets in
       record {
+        front = reads.front;
         rest = reads.rest;
+        is = reads.is;
         words = reads.words;
         same = list_something g end (listing side second p) ts (items-not_closed ws is items ts tail e) ∙ reads.same;
       }
@@ -325,9 +345,12 @@ module _ (g : Geometry) (end : ℕ) where
   first_list side ws tail is list p q ts e closed sets =
       let h = list_begins ws is side list in
       let c = cut ts h.0 (h.1 ++ tail) (e ∙ ap (λ l. l ++ tail) h.2) in
-      let reads = list_read side h.0 h.1 is h.4 false p q c.rest tail c.others closed sets in
+      let reads = list_read side h.0 h.1 is h.4 false p q c.rest tail c.others (λ _. closed)
+      (closes-no_dash tail closed) sets in
       record {
+        front = c.first ∷ reads.front;
         rest = reads.rest;
+        is = c.is ∙ ap (λ l. c.first ∷ l) reads.is;
         words = reads.words;
         same = ap (read_from g end (AfterColon None p)) c.is
             ∙ (colour_read g end p (c.first ∷ c.rest) side (ap side_named c.text ∙ h.3) ∙ reads.same);
@@ -340,9 +363,12 @@ module _ (g : Geometry) (end : ℕ) where
   second_list first side ws tail is other list p q ts e closed sets =
       let h = list_begins ws is side list in
       let c = cut ts h.0 (h.1 ++ tail) (e ∙ ap (λ l. l ++ tail) h.2) in
-      let reads = list_read side h.0 h.1 is h.4 true p q c.rest tail c.others closed sets in
+      let reads = list_read side h.0 h.1 is h.4 true p q c.rest tail c.others (λ _. closed)
+      (closes-no_dash tail closed) sets in
       record {
+        front = c.first ∷ reads.front;
         rest = reads.rest;
+        is = c.is ∙ ap (λ l. c.first ∷ l) reads.is;
         words = reads.words;
         same = ap (read_from g end (AfterColon (Some first) p)) c.is
             ∙ (second_read g end first p (c.first ∷ c.rest) side (ap side_named c.text ∙ h.3) other ∙ reads.same);
@@ -356,7 +382,9 @@ module _ (g : Geometry) (end : ℕ) where
       let c = cut ts turn (colon ∷ ws) e in
       let d = cut c.rest colon ws c.others in
       record {
+        front = c.first ∷ d.first ∷ [];
         rest = d.rest;
+        is = c.is ∙ ap (λ l. c.first ∷ l) d.is;
         words = d.others;
         same = ap (read_from g end Start) c.is
             ∙ (turn_read g end (c.first ∷ c.rest) mover (ap side_named c.text ∙ named)
@@ -366,11 +394,11 @@ module _ (g : Geometry) (end : ℕ) where
 
   pub names_read : (ws : List Word) (p : Placement) → Names g ws p → (ts : List Token) → texts ts ≡ ws
       → read_from g end Start ts ≡ Ok p
-  names_read all p (one_list {turn = turn} {colon = colon} ws es mover first is named sign list ended sets) ts e =
+  names_read all p (one_list {turn = turn} {c = colon} ws es mover first is named sign list ended sets) ts e =
       let start = turn_then turn colon (ws ++ es) mover ts e named sign in
       let l = first_list first ws es is list (empty mover) p start.rest start.words (end-closes es ended) sets in
       start.same ∙ (l.same ∙ end_read es ended (listing first false p) l.rest l.words)
-  names_read all p (two_lists {turn = turn} {colon = colon} ws between vs es mover first second is js named sign list
+  names_read all p (two_lists {turn = turn} {c = colon} ws between vs es mover first second is js named sign list
       colon2 others different tail sets) ts e =
       let start = turn_then turn colon (ws ++ between ∷ (vs ++ es)) mover ts e named sign in
       let s = Sets-split g (empty mover) p (all_named first is) (all_named second js) sets in

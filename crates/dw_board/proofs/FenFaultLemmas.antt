@@ -11,7 +11,8 @@ use Rattle.dw_board.specs.FenGrammar.{Word, IsRange, range}
 use Rattle.dw_board.specs.Fen.{fault, ◌>>=◌, Listing, Item, Stage, Start, AfterTurn, AfterColon, AfterColour}
 use Rattle.dw_board.specs.Fen.{AfterComma, AfterKing, AfterNumber, AfterDash, AfterItem, AfterStop, AfterLists}
 use Rattle.dw_board.specs.Fen.{next_stage, at_end, read_from, with_item, item_ended, item_begun, list_begun, if_named}
-use Rattle.dw_board.specs.Fen.{then_set, set_squares, piece_of, put_kind}
+use Rattle.dw_board.specs.Fen.{then_set, set_squares, piece_of}
+use Rattle.dw_board.specs.FenFaults.{put_kind}
 use Rattle.dw_board.specs.FenLaws.{LeadNowhere, EndsTooSoon, no_token, turn_alone, open_end, asks_more}
 use Rattle.dw_board.specs.inner.FenReading.{listing}
 use Rattle.dw_board.specs.declared.piece.Side.{Side}
@@ -29,14 +30,14 @@ abbrev texts : List Token → List Word
 texts ts = map (λ t. t.text) ts
 
 -- ---- faults
-ok_err : {A C : Type 0} (x : A) (f : FenFault) (r : Result A FenFault) → r ≡ Ok x → r ≡ Err f → C
+pub ok_err : {A C : Type 0} (x : A) (f : FenFault) (r : Result A FenFault) → r ≡ Ok x → r ≡ Err f → C
 ok_err x f r e h = cc
 
 fault_place : {A : Type 0} (what : FenFaultKind) (place : ℕ) (f : FenFault) → fault {A = A} what place ≡ Err f
     → f.place ≡ place
 fault_place what place f e = let s : record { what = what; place = place } ≡ f = cc in sym (ap (λ x. x.place) s)
 
-bind_err : {A B : Type 0} (r : Result A FenFault) (k : A → Result B FenFault) (f : FenFault) → (r >>= k) ≡ Err f
+pub bind_err : {A B : Type 0} (r : Result A FenFault) (k : A → Result B FenFault) (f : FenFault) → (r >>= k) ≡ Err f
     → (r ≡ Err f) ⊎ ((x : A) × (r ≡ Ok x) × (k x ≡ Err f))
 bind_err (Ok x) k f e = inr (x, refl, e)
 bind_err (Err d) k f e = inl (let s : d ≡ f = cc in ap Err s)
@@ -64,7 +65,7 @@ set_place g piece place from (suc n) p f e = elim (then_err (put_fault g p from 
 abbrev squares_set : Geometry → Listing → Item → ℕ → Result Placement FenFault
 squares_set g list item to = set_squares g (piece_of list item) item.place item.from (to + 1 - item.from) list.placed
 
-item_err : (g : Geometry) (list : Listing) (item : Item) (to : ℕ) (f : FenFault) → with_item g list item to ≡ Err f
+pub item_err : (g : Geometry) (list : Listing) (item : Item) (to : ℕ) (f : FenFault) → with_item g list item to ≡ Err f
     → squares_set g list item to ≡ Err f
 item_err g list item to f e = elim (bind_err (squares_set g list item to) (λ p. Ok (listing list.side list.is_second p))
     f e) [

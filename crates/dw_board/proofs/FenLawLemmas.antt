@@ -9,6 +9,8 @@ use Rattle.dw_board.specs.FenTokens.{Token, tokens_from}
 use Rattle.dw_board.specs.Fen.{fen, short_fen, Start, read_from, fault}
 use Rattle.dw_board.specs.FenGrammar.{Fen, words}
 use Rattle.dw_board.specs.FenText.{written}
+use Rattle.dw_board.specs.FenFaults.{IsFirstFault, too_long, fault_at}
+use Rattle.dw_board.specs.FenReader.{place_of}
 use Rattle.dw_board.specs.FenLaws.{IsFen, IsFaulty, LeadNowhere, StandsAt, at_text_end, at_token, at_range}
 use Rattle.dw_board.specs.declared.fen.fault.FenFault.{FenFault}
 use Rattle.dw_board.specs.declared.fen.fault.FenFaultKind.TheVariants.{TooLong}
@@ -17,6 +19,8 @@ use Rattle.dw_board.proofs.FenCompleteLemmas.{names_read}
 use Rattle.dw_board.proofs.FenCutLemmas.{cut_at}
 use Rattle.dw_board.proofs.FenFaultLemmas.{Found, RangeBehind, found}
 use Rattle.dw_board.proofs.FenWrittenLemmas.{written_names, length-written}
+use Rattle.dw_board.proofs.FenFaultReadLemmas.{fault_read}
+use Rattle.dw_board.proofs.FenFaultFoundLemmas.{fault_found}
 
 fen-long : (g : Geometry) (text : List ℕ) → 1024 < length text → fen g text ≡ fault TooLong 1025
 fen-long g text h = let l : ltb 1024 (length text) ≡ true = lt-ltb 1024 (length text) h in rw l refl
@@ -37,6 +41,32 @@ is_fen g text p e = elim (cases_lt 1024 (length text)) [
 
 is_read : (g : Geometry) (text : List ℕ) (p : Placement) → Fen g text p → fen g text ≡ Ok p
 is_read g text p h = fen-short g text h.0 ∙ names_read g (length text + 1) (words text) p h.1 (tokens_from 1 text) refl
+
+-- ---- the earliest fault
+err_read : (g : Geometry) (text : List ℕ) (f : FenFault) → length text ≤ 1024 → fen g text ≡ Err f
+    → read_from g (length text + 1) Start (tokens_from 1 text) ≡ Err f
+err_read g text f short e = sym (fen-short g text short) ∙ e
+
+is_fault : (g : Geometry) (text : List ℕ) (f : FenFault) → fen g text ≡ Err f → IsFirstFault g text f
+is_fault g text f e = elim (cases_lt 1024 (length text)) [
+  | inl long ↦
+      let is : fault {A = Placement} TooLong 1025 ≡ Err f = sym (fen-long g text long) ∙ e in
+      let same : record { what = TooLong; place = 1025 } ≡ f = cc in
+      subst (IsFirstFault g text) same (too_long long)
+  | inr short ↦
+      let h = fault_found g (length text + 1) (tokens_from 1 text) f (err_read g text f short e) in
+      let same : record { what = f.what; place = place_of h.after (length text + 1) } ≡ f =
+      ap (λ p. record { what = f.what; place = p }) (sym h.place) in
+      subst (IsFirstFault g text) same (fault_at h.before h.after short h.is h.here)
+]
+
+is_faulty : (g : Geometry) (text : List ℕ) (f : FenFault) → IsFirstFault g text f → fen g text ≡ Err f
+is_faulty g text f (too_long long) = fen-long g text long
+is_faulty g text f (fault_at before after {what = what} short split here) = fen-short g text short
+    ∙ (ap (read_from g (length text + 1) Start) split ∙ fault_read g (length text + 1) before after what here)
+
+pub fault_is_grammar : (g : Geometry) (text : List ℕ) (f : FenFault) → (fen g text ≡ Err f) ↔ IsFirstFault g text f
+fault_is_grammar g text f = (is_fault g text f, is_faulty g text f)
 
 pub reading_is_grammar : (g : Geometry) (text : List ℕ) (p : Placement) → (fen g text ≡ Ok p) ↔ Fen g text p
 reading_is_grammar g text p = (is_fen g text p, is_read g text p)
@@ -61,11 +91,11 @@ answer : (g : Geometry) (text : List ℕ) (r : Result Placement FenFault) → fe
 answer g text (Ok p) e = inl (record {
   position = p;
   names = is_fen g text p e;
-  no_fault = λ f h. not_both (fen g text) p f e h;
+  no_fault = λ f h. not_both (fen g text) p f e (is_faulty g text f h);
 })
 answer g text (Err f) e = inr (record {
   fault = f;
-  first = e;
+  first = is_fault g text f e;
   names_none = λ p h. not_both (fen g text) p f (is_read g text p h) e;
 })
 
@@ -82,11 +112,21 @@ short_is_grammar g text r short is p =
     let same : r ≡ fen g text = is ∙ sym (fen-is_short g text short) in
     ((λ e. is_fen g text p (sym same ∙ e)), (λ h. same ∙ is_read g text p h))
 
--- ---- the earliest fault
-err_read : (g : Geometry) (text : List ℕ) (f : FenFault) → length text ≤ 1024 → fen g text ≡ Err f
-    → read_from g (length text + 1) Start (tokens_from 1 text) ≡ Err f
-err_read g text f short e = sym (fen-short g text short) ∙ e
+-- what a short text is refused for is its earliest fault
+pub short_fault_is_grammar : (g : Geometry) (text : List ℕ) (r : Result Placement FenFault) → length text ≤ 1024
+    → r ≡ short_fen g text → (f : FenFault) → (r ≡ Err f) ↔ IsFirstFault g text f
+short_fault_is_grammar g text r short is f =
+    let same : r ≡ fen g text = is ∙ sym (fen-is_short g text short) in
+    ((λ e. is_fault g text f (sym same ∙ e)), (λ h. same ∙ is_faulty g text f h))
 
+-- and so is what a text that is too long is refused for
+pub long_fault_is_grammar : (g : Geometry) (text : List ℕ) → 1024 < length text → (f : FenFault)
+    → (fault {A = Placement} TooLong 1025 ≡ Err f) ↔ IsFirstFault g text f
+long_fault_is_grammar g text long f =
+    let same : fault TooLong 1025 ≡ fen g text = sym (fen-long g text long) in
+    ((λ e. is_fault g text f (sym same ∙ e)), (λ h. same ∙ is_faulty g text f h))
+
+-- ---- where the earliest fault stands
 stands_at : (g : Geometry) (end : ℕ) (tokens : List Token) (place : ℕ) → Found g end tokens place
     → StandsAt g tokens end place
 stands_at g end tokens place (inl soon) = subst (StandsAt g tokens end) (sym soon.0) (at_text_end soon.1)
@@ -99,17 +139,17 @@ stands_at g end tokens place (inr at) =
       there (inr r) = subst (λ l. StandsAt g (at.before ++ at.t ∷ l) end at.t.place) (sym r.is)
           (at_range at.before at.t r.dash r.to r.others r.is_range r.leads)
 
-pub none_goes_on : (g : Geometry) (text : List ℕ) (f : FenFault) → length text ≤ 1024 → fen g text ≡ Err f
+pub none_goes_on : (g : Geometry) (text : List ℕ) (f : FenFault) → length text ≤ 1024 → IsFirstFault g text f
     → StandsAt g (tokens_from 1 text) (length text + 1) f.place
-none_goes_on g text f short e = stands_at g (length text + 1) (tokens_from 1 text) f.place
-    (found g (length text + 1) (tokens_from 1 text) f (err_read g text f short e))
+none_goes_on g text f short first = stands_at g (length text + 1) (tokens_from 1 text) f.place
+    (found g (length text + 1) (tokens_from 1 text) f (err_read g text f short (is_faulty g text f first)))
 
 same_err : (f h : FenFault) (r : Result Placement FenFault) → r ≡ Err f → r ≡ Err h → h ≡ f
 same_err f h r e k = cc
 
-pub none_before : (g : Geometry) (text : List ℕ) (f earlier : FenFault) → length text ≤ 1024 → fen g text ≡ Err f
+before_same : (g : Geometry) (text : List ℕ) (f earlier : FenFault) → length text ≤ 1024 → fen g text ≡ Err f
     → fen g (take (f.place - 1) text) ≡ Err earlier → earlier.place ≡ f.place
-none_before g text f earlier short e h = elim (found g (length text + 1) (tokens_from 1 text) f
+before_same g text f earlier short e h = elim (found g (length text + 1) (tokens_from 1 text) f
     (err_read g text f short e)) [
       | inl soon ↦
           let place : f.place ≡ length text + 1 = soon.0 in
@@ -129,3 +169,8 @@ none_before g text f earlier short e h = elim (found g (length text + 1) (tokens
           let end : earlier.place ≡ length front + 1 = at.clear (length front + 1) earlier read in
           omega arith
     ]
+
+pub none_before : (g : Geometry) (text : List ℕ) (f earlier : FenFault) → length text ≤ 1024 → IsFirstFault g text f
+    → IsFirstFault g (take (f.place - 1) text) earlier → earlier.place ≡ f.place
+none_before g text f earlier short first h = before_same g text f earlier short (is_faulty g text f first)
+    (is_faulty g (take (f.place - 1) text) earlier h)

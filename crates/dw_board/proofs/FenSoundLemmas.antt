@@ -307,7 +307,7 @@ two_signs [] a b h k = cc
 two_signs (x ∷ []) a b h k = sym (eqb-true x a h) ∙ eqb-true x b k
 two_signs (x ∷ y ∷ w) a b h k = cc
 
-no_comma_here : {A : Type 0} (w c : Word) (ws vs : List Word) → (is_sign 58 w || is_sign 46 w) ≡ true
+pub no_comma_here : {A : Type 0} (w c : Word) (ws vs : List Word) → (is_sign 58 w || is_sign 46 w) ≡ true
     → is_sign 44 c ≡ true → w ∷ ws ≡ c ∷ vs → A
 no_comma_here w c ws vs h k e =
     let same : w ≡ c = cc in

@@ -5,15 +5,15 @@ use Rattle.dw_board.specs.Geometry.{Geometry}
 use Rattle.dw_board.specs.Placement.{Placement, empty, placed, put_fault, same_side}
 use Rattle.dw_board.specs.FenTokens.{Token, tokens_from, colon, comma, dash, full_stop, is_sign, side_named}
 use Rattle.dw_board.specs.FenTokens.{is_king_letter, number_named}
+use Rattle.dw_board.specs.FenFaults.{put_kind}
 use Rattle.dw_board.specs.declared.piece.Side.{Side}
 use Rattle.dw_board.specs.declared.piece.Kind.TheVariants.{Man, King}
 use Rattle.dw_board.specs.declared.piece.Piece.{Piece}
 use Rattle.dw_board.specs.declared.piece.PutFault.{PutFault}
-use Rattle.dw_board.specs.declared.piece.PutFault.TheVariants as put
 use Rattle.dw_board.specs.declared.fen.fault.FenFault.{FenFault}
 use Rattle.dw_board.specs.declared.fen.fault.FenFaultKind.{FenFaultKind}
-use Rattle.dw_board.specs.declared.fen.fault.FenFaultKind.TheVariants.{Turn, Colon, Colour, Number, Twice, SameColour}
-use Rattle.dw_board.specs.declared.fen.fault.FenFaultKind.TheVariants.{LastRow, TooMany, Rest, TooLong, RangeBackwards}
+use Rattle.dw_board.specs.declared.fen.fault.FenFaultKind.TheVariants.{Turn, Colon, Colour, Number, SameColour, Rest}
+use Rattle.dw_board.specs.declared.fen.fault.FenFaultKind.TheVariants.{TooLong, RangeBackwards}
 
 abbrev pub fault : {A : Type 0} → FenFaultKind → ℕ → Result A FenFault
 fault what place = Err (record { what = what; place = place })
@@ -48,11 +48,6 @@ pub data Stage : Type 0 where
   AfterItem : Listing → Stage
   AfterStop : Placement → Stage
   AfterLists : Placement → Stage
-
-abbrev pub put_kind : PutFault → FenFaultKind
-put_kind put.Taken = Twice
-put_kind put.LastRow = LastRow
-put_kind put.TooMany = TooMany
 
 -- the first square could be set, and then the others
 abbrev pub then_set : Option PutFault → ℕ → Result Placement FenFault → Result Placement FenFault

@@ -4,7 +4,8 @@ use Rattle.std.specs.Prelude.{length, map}
 use Rattle.std.specs.List.{range_with_len, flat_map}
 use Rattle.dw_board.specs.Geometry.{Geometry}
 use Rattle.dw_board.specs.Placement.{Placement, empty, placed, put_fault, same_side}
-use Rattle.dw_board.specs.FenTokens.{tokens_from, is_sign, side_named, is_king_letter, number_named}
+use Rattle.dw_board.specs.FenTokens.{Token, tokens_from, colon, comma, dash, full_stop, is_sign, side_named}
+use Rattle.dw_board.specs.FenTokens.{is_king_letter, number_named}
 use Rattle.dw_board.specs.declared.piece.Side.{Side}
 use Rattle.dw_board.specs.declared.piece.Kind.TheVariants.{Man, King}
 use Rattle.dw_board.specs.declared.piece.Piece.{Piece}
@@ -13,9 +14,13 @@ use Rattle.dw_board.specs.declared.piece.Piece.{Piece}
 abbrev pub Word : Type 0
 Word = List ℕ
 
--- the words of a text: its tokens without their places
+-- the words of tokens: these without their places
+abbrev pub texts : List Token → List Word
+texts tokens = map (λ t. t.text) tokens
+
+-- the words of a text
 abbrev pub words : List ℕ → List Word
-words text = map (λ t. t.text) (tokens_from 1 text)
+words text = texts (tokens_from 1 text)
 
 -- pieces of one kind on the squares from one to another
 pub record Placing : Type 0 where
@@ -26,7 +31,7 @@ pub record Placing : Type 0 where
 -- a number, or two with a dash between, the second not below the first
 pub data IsRange : Geometry → List Word → ℕ → ℕ → Type 0 where
   number : {g : Geometry} {w : Word} {n : ℕ} → number_named g w ≡ Some n → IsRange g (w ∷ []) n n
-  range : {g : Geometry} {v d w : Word} {m n : ℕ} → number_named g v ≡ Some m → is_sign 45 d ≡ true
+  range : {g : Geometry} {v d w : Word} {m n : ℕ} → number_named g v ≡ Some m → is_sign dash d ≡ true
       → number_named g w ≡ Some n → m ≤ n → IsRange g (v ∷ d ∷ w ∷ []) m n
 
 -- an item is a range of men, or K and a range of kings
@@ -39,8 +44,8 @@ pub data IsItem : Geometry → List Word → Placing → Type 0 where
 -- items are joined by commas
 pub data IsItems : Geometry → List Word → List Placing → Type 0 where
   single : {g : Geometry} {ws : List Word} {i : Placing} → IsItem g ws i → IsItems g ws (i ∷ [])
-  more : {g : Geometry} {i : Placing} {is : List Placing} (ws : List Word) (comma : Word) (vs : List Word)
-      → IsItem g ws i → is_sign 44 comma ≡ true → IsItems g vs is → IsItems g (ws ++ comma ∷ vs) (i ∷ is)
+  more : {g : Geometry} {i : Placing} {is : List Placing} (ws : List Word) (c : Word) (vs : List Word)
+      → IsItem g ws i → is_sign comma c ≡ true → IsItems g vs is → IsItems g (ws ++ c ∷ vs) (i ∷ is)
 
 -- a list is a colour, and nothing or items
 pub data IsList : Geometry → List Word → Side → List Placing → Type 0 where
@@ -51,12 +56,12 @@ pub data IsList : Geometry → List Word → Side → List Placing → Type 0 wh
 -- a text ends with nothing or a stop
 pub data IsEnd : List Word → Type 0 where
   nothing : IsEnd []
-  stop : {w : Word} → is_sign 46 w ≡ true → IsEnd (w ∷ [])
+  stop : {w : Word} → is_sign full_stop w ≡ true → IsEnd (w ∷ [])
 
 -- after a second list further fields may follow, which are passed over
 pub data IsTail : List Word → Type 0 where
   ends : {ws : List Word} → IsEnd ws → IsTail ws
-  fields : {w : Word} {ws : List Word} → is_sign 58 w ≡ true → IsTail (w ∷ ws)
+  fields : {w : Word} {ws : List Word} → is_sign colon w ≡ true → IsTail (w ∷ ws)
 
 -- the pieces that an item names, each with its square, ascending
 abbrev pub named : Side → Placing → List (ℕ × Piece)
@@ -73,16 +78,16 @@ Sets g p (first ∷ others) q = (put_fault g p first.0 first.1 ≡ None) × Sets
 
 -- the words of a text that names a position: turn, `:`, a list, and nothing or `:` and a list of the other colour
 pub data Names : Geometry → List Word → Placement → Type 0 where
-  one_list : {g : Geometry} {turn colon : Word} {p : Placement} (ws es : List Word) (mover first : Side)
+  one_list : {g : Geometry} {turn c : Word} {p : Placement} (ws es : List Word) (mover first : Side)
       (is : List Placing)
-      → side_named turn ≡ Some mover → is_sign 58 colon ≡ true → IsList g ws first is → IsEnd es
-      → Sets g (empty mover) (all_named first is) p → Names g (turn ∷ colon ∷ (ws ++ es)) p
-  two_lists : {g : Geometry} {turn colon : Word} {p : Placement} (ws : List Word) (between : Word) (vs es : List Word)
+      → side_named turn ≡ Some mover → is_sign colon c ≡ true → IsList g ws first is → IsEnd es
+      → Sets g (empty mover) (all_named first is) p → Names g (turn ∷ c ∷ (ws ++ es)) p
+  two_lists : {g : Geometry} {turn c : Word} {p : Placement} (ws : List Word) (between : Word) (vs es : List Word)
       (mover first second : Side) (is js : List Placing)
-      → side_named turn ≡ Some mover → is_sign 58 colon ≡ true → IsList g ws first is
-      → is_sign 58 between ≡ true → IsList g vs second js → same_side first second ≡ false → IsTail es
+      → side_named turn ≡ Some mover → is_sign colon c ≡ true → IsList g ws first is
+      → is_sign colon between ≡ true → IsList g vs second js → same_side first second ≡ false → IsTail es
       → Sets g (empty mover) (all_named first is ++ all_named second js) p
-      → Names g (turn ∷ colon ∷ (ws ++ between ∷ (vs ++ es))) p
+      → Names g (turn ∷ c ∷ (ws ++ between ∷ (vs ++ es))) p
 
 -- a FEN text of at most 1,024 bytes names a position
 abbrev pub Fen : Geometry → List ℕ → Placement → Type 0

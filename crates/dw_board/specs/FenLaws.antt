@@ -1,11 +1,12 @@
 -- Laws of FEN texts, for every board.
-use Rattle.std.specs.Prelude.{◌≡◌, ℕ, ◌+◌, ◌-◌, ◌≤◌, Bool, true, ◌||◌, ◌⊎◌, ◌↔◌, List, [], ◌∷◌, ◌++◌, length, map, take}
+use Rattle.std.specs.Prelude.{◌≡◌, ℕ, ◌+◌, ◌-◌, ◌≤◌, Bool, true, ◌||◌, ◌⊎◌, ◌↔◌, List, [], ◌∷◌, ◌++◌, length, take}
 use Rattle.std.specs.Prelude.{Some, Ok, Err}
 use Rattle.dw_board.specs.Geometry.{Geometry, IsBoard}
 use Rattle.dw_board.specs.Placement.{Placement, IsPosition}
 use Rattle.dw_board.specs.FenTokens.{Token, tokens_from, colon, comma, dash, is_sign, side_named, is_king_letter}
 use Rattle.dw_board.specs.Fen.{fen}
-use Rattle.dw_board.specs.FenGrammar.{Word, IsRange, Names, Fen}
+use Rattle.dw_board.specs.FenGrammar.{Word, texts, IsRange, Names, Fen}
+use Rattle.dw_board.specs.FenFaults.{IsFirstFault}
 use Rattle.dw_board.specs.FenText.{written}
 use Rattle.dw_board.specs.declared.piece.Side.{Side}
 use Rattle.dw_board.specs.declared.fen.fault.FenFault.{FenFault}
@@ -13,6 +14,10 @@ use Rattle.dw_board.specs.declared.fen.fault.FenFault.{FenFault}
 -- a text is read as a position exactly if the grammar gives it that position
 abbrev pub ReadingIsGrammar : Type 0
 ReadingIsGrammar = (g : Geometry) (text : List ℕ) (p : Placement) → (fen g text ≡ Ok p) ↔ Fen g text p
+
+-- a text is read as having a fault exactly if this is its earliest one by the grammar
+abbrev pub FaultIsGrammar : Type 0
+FaultIsGrammar = (g : Geometry) (text : List ℕ) (fault : FenFault) → (fen g text ≡ Err fault) ↔ IsFirstFault g text fault
 
 -- the written text of a position is in the grammar, with that position
 abbrev pub WrittenIsFen : Type 0
@@ -25,10 +30,6 @@ WrittenIsRead = (g : Geometry) → IsBoard g → (p : Placement) → IsPosition 
 -- a text is in the grammar with at most one position
 abbrev pub NamesOne : Type 0
 NamesOne = (g : Geometry) (text : List ℕ) (p q : Placement) → Fen g text p → Fen g text q → p ≡ q
-
--- this is the earliest fault of the text
-abbrev pub IsFirstFault : Geometry → List ℕ → FenFault → Type 0
-IsFirstFault g text fault = fen g text ≡ Err fault
 
 -- a text that names a position has no fault
 pub record IsFen (g : Geometry) (text : List ℕ) : Type 0 where
@@ -48,7 +49,7 @@ EitherFenOrFaulty = (g : Geometry) (text : List ℕ) → IsFen g text ⊎ IsFaul
 
 -- no words that begin with those of these tokens name a position
 abbrev pub LeadNowhere : Geometry → List Token → Type 0
-LeadNowhere g tokens = (more : List Word) (p : Placement) → Names g (map (λ t. t.text) tokens ++ more) p → ⊥
+LeadNowhere g tokens = (more : List Word) (p : Placement) → Names g (texts tokens ++ more) p → ⊥
 
 -- after a colon, a comma, a dash or K something can be missing
 abbrev pub asks_more : Word → Bool

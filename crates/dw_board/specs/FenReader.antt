@@ -1,6 +1,6 @@
 -- What the reader of a FEN text holds: the tokens still to be read.
-use Rattle.std.specs.Prelude.{ℕ, ◌+◌, Bool, true, false, Option, None, List, [], ◌∷◌, length, drop}
-use Rattle.dw_board.specs.FenTokens.{Token, tokens_from}
+use Rattle.std.specs.Prelude.{ℕ, ◌+◌, ◌||◌, Bool, true, false, Option, None, List, [], ◌∷◌, length, drop}
+use Rattle.dw_board.specs.FenTokens.{Token, tokens_from, colon, full_stop, is_sign}
 use Rattle.dw_board.specs.declared.fen.tokens.Tokens.{Tokens}
 
 -- the tokens still to be read
@@ -37,3 +37,7 @@ left_of false tokens = tokens
 abbrev pub is_empty : List Token → Bool
 is_empty [] = true
 is_empty (t ∷ tokens) = false
+
+-- the end, a colon or a stop is next
+abbrev pub no_item : List Token → Bool
+no_item tokens = is_empty tokens || first_is (is_sign colon) tokens || first_is (is_sign full_stop) tokens

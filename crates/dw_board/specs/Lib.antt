@@ -9,8 +9,9 @@ pub mod Packing
 pub mod FenTokens
 pub mod FenBlanks
 pub mod FenReader
-pub mod Fen
 pub mod FenGrammar
+pub mod FenFaults
+pub mod Fen
 pub mod FenText
 pub mod Diagram
 pub mod Laws

@@ -10,6 +10,8 @@ use Rattle.dw_board.specs.declared.piece.Kind.{Kind}
 use Rattle.dw_board.specs.declared.piece.Kind.TheVariants.{Man, King}
 use Rattle.dw_board.specs.declared.piece.Piece.{Piece}
 use Rattle.dw_board.specs.declared.held.Held.{Held}
+use Rattle.dw_board.specs.declared.position.TheConstants.{TURN_FACTOR, WHITE_MEN_FACTOR, WHITE_KINGS_FACTOR}
+use Rattle.dw_board.specs.declared.position.TheConstants.{BLACK_MEN_FACTOR, BLACK_KINGS_FACTOR}
 use Rattle.dw_board.specs.Geometry.{Geometry, Squares}
 use Rattle.dw_board.specs.SquareSet.{word_of}
 use Rattle.dw_board.specs.Placement.{Placement, IsPosition, same_side, side_code}
@@ -60,18 +62,12 @@ cells_of sets = map (held_at sets) (range_with_len 1 50)
 abbrev pub standing_word : Geometry → Placement → Side → Kind → ℕ
 standing_word g p side kind = word_of g (standing p.cells side kind)
 
--- a number, and one word more, times an odd factor
-unfoldable pub mixed : ℕ → ℕ → ℕ → ℕ
-mixed number w factor = (number + w * factor % 2 ^ 64) % 2 ^ 64
-
--- the side to move and the four words, each times a factor of its own
+-- a number of a position: the side to move and the four words, each times a factor of its own
 unfoldable pub mixed_word : Geometry → Placement → ℕ
 mixed_word g p =
-    let turn = mixed 0 (side_code p.turn) 16646288086500911323 in
-    let men = mixed turn (standing_word g p White Man) 11400714819323198485 in
-    let white = mixed men (standing_word g p White King) 15485907386658061715 in
-    let others = mixed white (standing_word g p Black Man) 14029467366897019727 in
-    mixed others (standing_word g p Black King) 11562461410679940143
+    (side_code p.turn * TURN_FACTOR + standing_word g p White Man * WHITE_MEN_FACTOR
+    + standing_word g p White King * WHITE_KINGS_FACTOR + standing_word g p Black Man * BLACK_MEN_FACTOR
+    + standing_word g p Black King * BLACK_KINGS_FACTOR) % 2 ^ 64
 
 -- what a position feeds a hash
 abbrev pub position_bytes : Geometry → Placement → List (List ℕ)

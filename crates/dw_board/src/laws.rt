@@ -1,6 +1,6 @@
 //! Laws of the definitions, each the contract of a function that does nothing, and what `==` means.
-ghost use Rattle.dw_board.specs.FenLaws.{ReadingIsGrammar, WrittenIsFen, WrittenIsRead, NamesOne, EitherFenOrFaulty};
-ghost use Rattle.dw_board.specs.FenLaws.{NoneGoesOn, NoneBefore};
+ghost use Rattle.dw_board.specs.FenLaws.{ReadingIsGrammar, FaultIsGrammar, WrittenIsFen, WrittenIsRead, NamesOne};
+ghost use Rattle.dw_board.specs.FenLaws.{EitherFenOrFaulty, NoneGoesOn, NoneBefore};
 ghost use Rattle.std.specs.Prelude.{◌≡◌, ◌↔◌, IsTrue};
 ghost use Rattle.dw_board.specs.Laws.{StepsAreDiagonal, StepsStay, PlacesDiffer, ShiftsStep};
 
@@ -43,10 +43,12 @@ pub fn same_squares<B: Board>(one: Squares<B>, other: Squares<B>) -> bool
     one == other
 }
 
-/// A text is read as a position exactly if the grammar of FEN texts gives it that position.
-/// Example: the grammar gives `W : W 27 : B 16 : 5` the position `W:W27:B16`, and as that it is read.
+/// A text is read as a position exactly if the grammar of FEN texts gives it that position, and as having a fault
+/// exactly if this is its earliest one by the grammar.
+/// Example: the grammar gives `W : W 27 : B 16 : 5` the position `W:W27:B16`, and `W:W27 32:B16` the fault `rest at 7`.
 pub fn reading_is_grammar()
-    ensures { ReadingIsGrammar }
+    ensures position { ReadingIsGrammar }
+    ensures fault { FaultIsGrammar }
 {}
 
 /// The written text of a position is in the grammar with that position, and so it is read again.

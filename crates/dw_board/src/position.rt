@@ -6,10 +6,9 @@ ghost use Rattle.dw_board.specs.Placement as of;
 ghost use Rattle.dw_board.specs.Geometry as Geo;
 ghost use Rattle.std.specs.FinSet as set;
 ghost use Rattle.dw_board.specs.Placement.{side_code, cell_codes};
-ghost use Rattle.std.specs.Prelude.{◌==◌, slice_index_or};
+ghost use Rattle.std.specs.Prelude.{◌==◌, slice_index_or, ◌+◌, ◌*◌, ◌%◌, ◌^◌};
 ghost use Rattle.std.proofs.Common.{rules};
 ghost use Rattle.dw_board.specs.Standing.{position_bytes, mixed_word};
-ghost use Rattle.dw_board.specs.Standing as standing;
 ghost use Rattle.dw_board.specs.inner.PlacementLemmas.{same-is};
 ghost use Rattle.std.specs.Cmp.{partial_order_from_own_ties};
 ghost use Rattle.std.specs.Cmp.Rules.{comparing};
@@ -26,6 +25,17 @@ use crate::squares::Squares;
 use std::cmp::Ordering;
 use std::hash::{Hash, Hasher};
 use std::marker::Model;
+
+// What `mixed_word` multiplies by: odd numbers, whose bits are mixed.
+const TURN_FACTOR: u64 = 0xE703_7ED1_A0B4_28DB;
+
+const WHITE_MEN_FACTOR: u64 = 0x9E37_79B9_7F4A_7C15;
+
+const WHITE_KINGS_FACTOR: u64 = 0xD6E8_FEB8_6659_FD93;
+
+const BLACK_MEN_FACTOR: u64 = 0xC2B2_AE3D_27D4_EB4F;
+
+const BLACK_KINGS_FACTOR: u64 = 0xA076_1D64_78BD_642F;
 
 /// Pieces on a board, and the side to move. A side has no more pieces than it may, and no man on its last row.
 ///
@@ -181,15 +191,15 @@ impl<B: Board> Position<B> {
     {
         let held = &self.held;
         let turn = u64::from(side_number(self.turn));
-        let turned = mixed(0, turn, 0xE703_7ED1_A0B4_28DB);
+        let turned = mixed(0, turn, TURN_FACTOR);
         let white_men = held.of(Side::White, Kind::Man).word();
-        let men = mixed(turned, white_men, 0x9E37_79B9_7F4A_7C15);
+        let men = mixed(turned, white_men, WHITE_MEN_FACTOR);
         let white_kings = held.of(Side::White, Kind::King).word();
-        let white = mixed(men, white_kings, 0xD6E8_FEB8_6659_FD93);
+        let white = mixed(men, white_kings, WHITE_KINGS_FACTOR);
         let black_men = held.of(Side::Black, Kind::Man).word();
-        let others = mixed(white, black_men, 0xC2B2_AE3D_27D4_EB4F);
+        let others = mixed(white, black_men, BLACK_MEN_FACTOR);
         let black_kings = held.of(Side::Black, Kind::King).word();
-        mixed(others, black_kings, 0xA076_1D64_78BD_642F)
+        mixed(others, black_kings, BLACK_KINGS_FACTOR)
     }
 
     /// What stands on a square.
@@ -326,7 +336,7 @@ fn side_number(side: Side) -> u8
 /// A number, and one word more.
 #[inline]
 fn mixed(number: u64, word: u64, factor: u64) -> u64
-    ensures { result ≡ standing.mixed number word factor }
+    ensures { result ≡ (number + word * factor) % 2 ^ 64 }
 {
     number.wrapping_add(word.wrapping_mul(factor))
 }

@@ -4,13 +4,13 @@ ghost use Rattle.std.specs.Prelude.{MatchResult, OnOk, IfOk, length};
 ghost use Rattle.dw_board.specs.Placement.{Placement, same_side};
 ghost use Rattle.dw_board.specs.FenGrammar.{Fen};
 ghost use Rattle.dw_board.specs.FenTokens.{is_sign};
-ghost use Rattle.dw_board.specs.FenReader.{tokens_of, end_of, first_is};
-ghost use Rattle.dw_board.specs.inner.FenReading.{no_item};
+ghost use Rattle.dw_board.specs.FenReader.{tokens_of, end_of, first_is, no_item};
 ghost use Rattle.dw_board.specs.Fen.{fen, short_fen, read_from, Listing, Item, AfterColon, AfterColour};
 ghost use Rattle.dw_board.specs.inner.FenReading.{listing};
 ghost use Rattle.dw_board.specs.Fen.{AfterComma, AfterNumber, AfterItem};
 ghost use Rattle.dw_board.specs.inner.FenReading.{read_behind};
-ghost use Rattle.dw_board.specs.Fen.{set_squares as squares_set, put_kind as kind_of_put};
+ghost use Rattle.dw_board.specs.Fen.{set_squares as squares_set};
+ghost use Rattle.dw_board.specs.FenFaults.{put_kind as kind_of_put, IsFirstFault};
 
 use crate::board::Board;
 use crate::fen::fault::{FenFault, FenFaultKind};
@@ -28,6 +28,7 @@ pub const MAX_FEN: usize = 1024;
 pub fn read_fen<B: Board>(text: &[u8]) -> Result<Position<B>, FenFault>
     ensures exact { result ≡ fen B.geometry text.now }
     ensures grammar { (p : Placement) → (result ≡ Ok p) ↔ Fen B.geometry text.now p }
+    ensures fault { (f : FenFault) → (result ≡ Err f) ↔ IsFirstFault B.geometry text.now f }
 {
     if text.len() > MAX_FEN {
         return Err(FenFault {
