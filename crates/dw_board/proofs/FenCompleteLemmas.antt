@@ -11,7 +11,7 @@ use Rattle.dw_board.specs.FenTokens.{square_numbered}
 use Rattle.dw_board.specs.FenReader.{first_is, first_named, behind, is_empty}
 use Rattle.dw_board.specs.inner.FenReading.{listing}
 use Rattle.dw_board.specs.FenReader.{no_item}
-use Rattle.dw_board.specs.FenGrammar.{Word, Placing, IsRange, IsItem, IsItems, IsList, IsEnd, IsTail, named, all_named}
+use Rattle.dw_board.specs.FenGrammar.{Placing, IsRange, IsItem, IsItems, IsList, IsEnd, IsTail, named, all_named}
 use Rattle.dw_board.specs.FenGrammar.{Sets, Names, number, range, men, kings, single, more, bare, full, nothing, stop}
 use Rattle.dw_board.specs.FenGrammar.{ends, fields, one_list, two_lists}
 use Rattle.dw_board.specs.Fen.{◌>>=◌, Listing, Item, Stage, Start, AfterTurn, AfterColon, AfterColour, AfterComma}
@@ -25,7 +25,7 @@ use Rattle.dw_board.proofs.FenStageLemmas.{turn_read, colon_read, colour_read, s
 use Rattle.dw_board.proofs.FenStageLemmas.{list_something, comma_read, king_read, king_number, man_number, dash_read}
 use Rattle.dw_board.proofs.FenStageLemmas.{range_read, number_read, list_colon, lists_read, list_ended}
 
-abbrev texts : List Token → List Word
+abbrev texts : List Token → List (List ℕ)
 texts ts = map (λ t. t.text) ts
 
 -- ---- pieces that are set
@@ -56,12 +56,12 @@ Sets-split g p r (x ∷ xs) ys h = let s = Sets-split g (placed p x.0 (Some x.1)
 true-false : {A : Type 0} → true ≡ false → A
 true-false e = cc
 
-two_signs : (w : Word) (a b : ℕ) → is_sign a w ≡ true → is_sign b w ≡ true → a ≡ b
+two_signs : (w : List ℕ) (a b : ℕ) → is_sign a w ≡ true → is_sign b w ≡ true → a ≡ b
 two_signs [] a b h k = cc
 two_signs (x ∷ []) a b h k = sym (eqb-true x a h) ∙ eqb-true x b k
 two_signs (x ∷ y ∷ w) a b h k = cc
 
-pub apart : (w : Word) (a b : ℕ) → eqb a b ≡ false → is_sign a w ≡ true → is_sign b w ≡ false
+pub apart : (w : List ℕ) (a b : ℕ) → eqb a b ≡ false → is_sign a w ≡ true → is_sign b w ≡ false
 apart w a b ne h = elim (cases_Bool (is_sign b w)) [
   | inl k ↦ true-false (sym (eq-eqb a b (two_signs w a b h k)) ∙ ne)
   | inr k ↦ k
@@ -81,18 +81,18 @@ numbered_digit g true k n e = refl
 numbered_digit g false k n e = some-none n e
 
 -- a number is no sign
-number-no_sign : (g : Geometry) (w : Word) (n sign : ℕ) → is_digit sign ≡ false → number_named g w ≡ Some n
+number-no_sign : (g : Geometry) (w : List ℕ) (n sign : ℕ) → is_digit sign ≡ false → number_named g w ≡ Some n
     → is_sign sign w ≡ false
 number-no_sign g [] n sign h e = refl
 number-no_sign g (d ∷ []) n sign h e = digit_sign d sign (numbered_digit g (is_digit d) _ n e) h
 number-no_sign g (d ∷ x ∷ []) n sign h e = refl
 number-no_sign g (d ∷ x ∷ y ∷ w) n sign h e = refl
 
-number-no_king : (g : Geometry) (w : Word) (n : ℕ) → number_named g w ≡ Some n → is_king_letter w ≡ false
+number-no_king : (g : Geometry) (w : List ℕ) (n : ℕ) → number_named g w ≡ Some n → is_king_letter w ≡ false
 number-no_king g w n e = let a = number-no_sign g w n 75 refl e in let b = number-no_sign g w n 107 refl e in
     rw (a, b) refl
 
-king-no_sign : (w : Word) (sign : ℕ) → eqb 75 sign ≡ false → eqb 107 sign ≡ false → is_king_letter w ≡ true
+king-no_sign : (w : List ℕ) (sign : ℕ) → eqb 75 sign ≡ false → eqb 107 sign ≡ false → is_king_letter w ≡ true
     → is_sign sign w ≡ false
 king-no_sign w sign a b h = elim (or_cases _ _ h) [
   | inl upper ↦ apart w 75 sign a upper
@@ -100,15 +100,15 @@ king-no_sign w sign a b h = elim (or_cases _ _ h) [
 ]
 
 -- nothing, a colon or a stop is next
-pub closes : List Word → Bool
+pub closes : List (List ℕ) → Bool
 closes [] = true
 closes (w ∷ ws) = is_sign 58 w || is_sign 46 w
 
-pub no_dash : List Word → Bool
+pub no_dash : List (List ℕ) → Bool
 no_dash [] = true
 no_dash (w ∷ ws) = cond (is_sign 45 w) false true
 
-pub closes-no_dash : (ws : List Word) → closes ws ≡ true → no_dash ws ≡ true
+pub closes-no_dash : (ws : List (List ℕ)) → closes ws ≡ true → no_dash ws ≡ true
 unfolding closes no_dash
 closes-no_dash [] h = refl
 closes-no_dash (w ∷ ws) h = elim (or_cases _ _ h) [
@@ -116,11 +116,11 @@ closes-no_dash (w ∷ ws) h = elim (or_cases _ _ h) [
   | inr stopped ↦ let k = apart w 46 45 refl stopped in rw k refl
 ]
 
-pub comma-no_dash : (w : Word) (ws : List Word) → is_sign 44 w ≡ true → no_dash (w ∷ ws) ≡ true
+pub comma-no_dash : (w : List ℕ) (ws : List (List ℕ)) → is_sign 44 w ≡ true → no_dash (w ∷ ws) ≡ true
 unfolding no_dash
 comma-no_dash w ws h = let k = apart w 44 45 refl h in rw k refl
 
-no_dash-first : (ts : List Token) (ws : List Word) → texts ts ≡ ws → no_dash ws ≡ true → first_is (is_sign 45) ts
+no_dash-first : (ts : List Token) (ws : List (List ℕ)) → texts ts ≡ ws → no_dash ws ≡ true → first_is (is_sign 45) ts
     ≡ false
 unfolding no_dash
 no_dash-first [] ws e h = refl
@@ -129,31 +129,31 @@ no_dash-first (t ∷ ts) ws e h =
     elim (cases_Bool (is_sign 45 t.text)) [ inl dash ↦ true-false (sym k ∙ rw dash refl) | inr none ↦ none ]
 
 -- ---- tokens by their words
-pub record Cut (ts : List Token) (w : Word) (ws : List Word) : Type 0 where
+pub record Cut (ts : List Token) (w : List ℕ) (ws : List (List ℕ)) : Type 0 where
   pub first : Token
   pub rest : List Token
   pub is : ts ≡ first ∷ rest
   pub text : first.text ≡ w
   pub others : texts rest ≡ ws
 
-pub cut : (ts : List Token) (w : Word) (ws : List Word) → texts ts ≡ w ∷ ws → Cut ts w ws
+pub cut : (ts : List Token) (w : List ℕ) (ws : List (List ℕ)) → texts ts ≡ w ∷ ws → Cut ts w ws
 cut [] w ws e = cc
 cut (t ∷ ts) w ws e = record { first = t; rest = ts; is = refl; text = cc; others = cc }
 
-pub colon-closes : (w : Word) (ws : List Word) → is_sign 58 w ≡ true → closes (w ∷ ws) ≡ true
+pub colon-closes : (w : List ℕ) (ws : List (List ℕ)) → is_sign 58 w ≡ true → closes (w ∷ ws) ≡ true
 unfolding closes
 colon-closes w ws h = rw h refl
 
-pub stop-closes : (w : Word) (ws : List Word) → is_sign 46 w ≡ true → closes (w ∷ ws) ≡ true
+pub stop-closes : (w : List ℕ) (ws : List (List ℕ)) → is_sign 46 w ≡ true → closes (w ∷ ws) ≡ true
 unfolding closes
 stop-closes w ws h = or_right (is_sign 58 w) _ h
 
-end-closes : (ws : List Word) → IsEnd ws → closes ws ≡ true
+end-closes : (ws : List (List ℕ)) → IsEnd ws → closes ws ≡ true
 unfolding closes
 end-closes ws nothing = refl
 end-closes ws (stop {w = w} h) = stop-closes w [] h
 
-tail-closes : (ws : List Word) → IsTail ws → closes ws ≡ true
+tail-closes : (ws : List (List ℕ)) → IsTail ws → closes ws ≡ true
 tail-closes ws (ends h) = end-closes ws h
 tail-closes ws (fields {w = w} {ws = vs} h) = colon-closes w vs h
 
@@ -163,13 +163,13 @@ none_left [] e good bad = refl
 none_left (t ∷ ts) e good bad = cc
 
 -- a list begins with its colour
-pub list_begins : {g : Geometry} (ws : List Word) (is : List Placing) (side : Side) → IsList g ws side is
-    → (w : Word) × (vs : List Word) × (ws ≡ w ∷ vs) × (side_named w ≡ Some side) × IsList g (w ∷ vs) side is
+pub list_begins : {g : Geometry} (ws : List (List ℕ)) (is : List Placing) (side : Side) → IsList g ws side is
+    → (w : List ℕ) × (vs : List (List ℕ)) × (ws ≡ w ∷ vs) × (side_named w ≡ Some side) × IsList g (w ∷ vs) side is
 list_begins ws is side (bare {w = w} h) = (w, [], refl, h, bare h)
 list_begins ws is side (full {w = w} {ws = vs} h items) = (w, vs, refl, h, full h items)
 
 -- reading on, up to where these words are left
-pub record Reads (g : Geometry) (end : ℕ) (from : Stage) (ts : List Token) (tail : List Word) (to : Stage) :
+pub record Reads (g : Geometry) (end : ℕ) (from : Stage) (ts : List Token) (tail : List (List ℕ)) (to : Stage) :
     Type 0 where
   pub front : List Token
   pub rest : List Token
@@ -178,8 +178,8 @@ pub record Reads (g : Geometry) (end : ℕ) (from : Stage) (ts : List Token) (ta
   pub same : read_from g end from ts ≡ read_from g end to rest
 
 module _ (g : Geometry) (end : ℕ) where
-  numbers_read : (ws : List Word) (m n : ℕ) → IsRange g ws m n
-      → (from : Stage) (king : Bool) (list : Listing) (q : Placement) (ts : List Token) (tail : List Word)
+  numbers_read : (ws : List (List ℕ)) (m n : ℕ) → IsRange g ws m n
+      → (from : Stage) (king : Bool) (list : Listing) (q : Placement) (ts : List Token) (tail : List (List ℕ))
       → texts ts ≡ ws ++ tail → no_dash tail ≡ true
       → Sets g list.placed (named list.side (record { is_king = king; from = m; to = n })) q
       → ((t : Token) (rest : List Token) → number_named g t.text ≡ Some m → read_from g end from (t ∷ rest)
@@ -219,8 +219,8 @@ module _ (g : Geometry) (end : ℕ) where
             ∙ ap (read_from g end (AfterItem (listing list.side list.is_second q))) (ap behind c3.is))))));
       }
 
-  item_read : (ws : List Word) (i : Placing) → IsItem g ws i
-      → (list : Listing) (q : Placement) (ts : List Token) (tail : List Word)
+  item_read : (ws : List (List ℕ)) (i : Placing) → IsItem g ws i
+      → (list : Listing) (q : Placement) (ts : List Token) (tail : List (List ℕ))
       → texts ts ≡ ws ++ tail → no_dash tail ≡ true → Sets g list.placed (named list.side i) q
       → Reads g end (AfterComma list) ts tail (AfterItem (listing list.side list.is_second q))
   item_read ws i (men {m = m} {n = n} r) list q ts tail e clear sets =
@@ -239,8 +239,8 @@ module _ (g : Geometry) (end : ℕ) where
             ∙ (king_read g end list (c.first ∷ c.rest) (ap is_king_letter c.text ∙ king) ∙ reads.same);
       }
 
-  items_read : (ws : List Word) (is : List Placing) → IsItems g ws is
-      → (list : Listing) (q : Placement) (ts : List Token) (tail : List Word)
+  items_read : (ws : List (List ℕ)) (is : List Placing) → IsItems g ws is
+      → (list : Listing) (q : Placement) (ts : List Token) (tail : List (List ℕ))
       → texts ts ≡ ws ++ tail → no_dash tail ≡ true → Sets g list.placed (all_named list.side is) q
       → Reads g end (AfterComma list) ts tail (AfterItem (listing list.side list.is_second q))
   items_read ws is (single {i = i} item) list q ts tail e clear sets =
@@ -263,12 +263,12 @@ module _ (g : Geometry) (end : ℕ) where
             ∙ (comma_read g end middle (c.first ∷ c.rest) (ap (is_sign 44) c.text ∙ sign) ∙ others.same));
       }
 
-  first_word-closes : (ts : List Token) (ws : List Word) → texts ts ≡ ws → closes ws ≡ true → no_item ts ≡ true
+  first_word-closes : (ts : List Token) (ws : List (List ℕ)) → texts ts ≡ ws → closes ws ≡ true → no_item ts ≡ true
   unfolding closes
   first_word-closes [] ws e h = refl
   first_word-closes (t ∷ ts) ws e h = ap closes e ∙ h
 
-  item-not_closed : (ws : List Word) (i : Placing) → IsItem g ws i → (ts : List Token) (tail : List Word)
+  item-not_closed : (ws : List (List ℕ)) (i : Placing) → IsItem g ws i → (ts : List Token) (tail : List (List ℕ))
       → texts ts ≡ ws ++ tail → no_item ts ≡ false
   item-not_closed ws i (men {m = m} (number {w = w} h)) ts tail e =
       let c = cut ts w tail e in
@@ -286,15 +286,15 @@ module _ (g : Geometry) (end : ℕ) where
       let b = king-no_sign c.first.text 46 refl refl (ap is_king_letter c.text ∙ king) in
       ap no_item c.is ∙ rw (a, b) refl
 
-  items-not_closed : (ws : List Word) (is : List Placing) → IsItems g ws is → (ts : List Token) (tail : List Word)
+  items-not_closed : (ws : List (List ℕ)) (is : List Placing) → IsItems g ws is → (ts : List Token) (tail : List (List ℕ))
       → texts ts ≡ ws ++ tail → no_item ts ≡ false
   items-not_closed ws is (single {i = i} item) ts tail e = item-not_closed ws i item ts tail e
   items-not_closed ws is (more {i = i} front comma vs item sign items) ts tail e = item-not_closed front i item ts
       (comma ∷ (vs ++ tail)) (e ∙ append_assoc front (comma ∷ vs) tail)
 
   -- a list behind its colour
-  pub list_read : (side : Side) (w : Word) (ws : List Word) (is : List Placing) → IsList g (w ∷ ws) side is
-      → (second : Bool) (p q : Placement) (ts : List Token) (tail : List Word)
+  pub list_read : (side : Side) (w : List ℕ) (ws : List (List ℕ)) (is : List Placing) → IsList g (w ∷ ws) side is
+      → (second : Bool) (p q : Placement) (ts : List Token) (tail : List (List ℕ))
       → texts ts ≡ ws ++ tail → (is ≡ [] → closes tail ≡ true) → no_dash tail ≡ true → Sets g p (all_named side is) q
       → Reads g end (AfterColour (listing side second p)) ts tail (AfterItem (listing side second q))
   list_read side w ws is (bare h) second p q ts tail e closed clear sets = record {
@@ -316,7 +316,7 @@ module _ (g : Geometry) (end : ℕ) where
       }
 
   -- ---- the text's end
-  end_read : (ws : List Word) → IsEnd ws → (list : Listing) (ts : List Token) → texts ts ≡ ws
+  end_read : (ws : List (List ℕ)) → IsEnd ws → (list : Listing) (ts : List Token) → texts ts ≡ ws
       → read_from g end (AfterItem list) ts ≡ Ok list.placed
   unfolding read_from at_end
   end_read ws nothing list [] e = refl
@@ -329,7 +329,7 @@ module _ (g : Geometry) (end : ℕ) where
       (apart c.first.text 46 58 refl sign) (sym sign)
       ∙ none_left c.rest c.others (Ok list.placed) _)
 
-  tail_read : (ws : List Word) → IsTail ws → (side : Side) (p : Placement) (ts : List Token) → texts ts ≡ ws
+  tail_read : (ws : List (List ℕ)) → IsTail ws → (side : Side) (p : Placement) (ts : List Token) → texts ts ≡ ws
       → read_from g end (AfterItem (listing side true p)) ts ≡ Ok p
   tail_read ws (ends h) side p ts e = end_read ws h (listing side true p) ts e
   tail_read ws (fields {w = w} {ws = vs} h) side p ts e =
@@ -339,7 +339,7 @@ module _ (g : Geometry) (end : ℕ) where
       ∙ lists_read g end p c.rest)
 
   -- the first list, behind its colon
-  first_list : (side : Side) (ws tail : List Word) (is : List Placing) → IsList g ws side is
+  first_list : (side : Side) (ws tail : List (List ℕ)) (is : List Placing) → IsList g ws side is
       → (p q : Placement) (ts : List Token) → texts ts ≡ ws ++ tail → closes tail ≡ true
       → Sets g p (all_named side is) q → Reads g end (AfterColon None p) ts tail (AfterItem (listing side false q))
   first_list side ws tail is list p q ts e closed sets =
@@ -356,7 +356,7 @@ module _ (g : Geometry) (end : ℕ) where
             ∙ (colour_read g end p (c.first ∷ c.rest) side (ap side_named c.text ∙ h.3) ∙ reads.same);
       }
 
-  second_list : (first side : Side) (ws tail : List Word) (is : List Placing) → same_side first side ≡ false
+  second_list : (first side : Side) (ws tail : List (List ℕ)) (is : List Placing) → same_side first side ≡ false
       → IsList g ws side is → (p q : Placement) (ts : List Token) → texts ts ≡ ws ++ tail
       → closes tail ≡ true → Sets g p (all_named side is) q
       → Reads g end (AfterColon (Some first) p) ts tail (AfterItem (listing side true q))
@@ -375,7 +375,7 @@ module _ (g : Geometry) (end : ℕ) where
       }
 
   -- the turn and its colon
-  turn_then : (turn colon : Word) (ws : List Word) (mover : Side) (ts : List Token) → texts ts ≡ turn ∷ colon ∷ ws
+  turn_then : (turn colon : List ℕ) (ws : List (List ℕ)) (mover : Side) (ts : List Token) → texts ts ≡ turn ∷ colon ∷ ws
       → side_named turn ≡ Some mover → is_sign 58 colon ≡ true
       → Reads g end Start ts ws (AfterColon None (empty mover))
   turn_then turn colon ws mover ts e named sign =
@@ -392,7 +392,7 @@ module _ (g : Geometry) (end : ℕ) where
             (ap (is_sign 58) d.text ∙ sign)));
       }
 
-  pub names_read : (ws : List Word) (p : Placement) → Names g ws p → (ts : List Token) → texts ts ≡ ws
+  pub names_read : (ws : List (List ℕ)) (p : Placement) → Names g ws p → (ts : List Token) → texts ts ≡ ws
       → read_from g end Start ts ≡ Ok p
   names_read all p (one_list {turn = turn} {c = colon} ws es mover first is named sign list ended sets) ts e =
       let start = turn_then turn colon (ws ++ es) mover ts e named sign in

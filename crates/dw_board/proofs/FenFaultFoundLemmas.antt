@@ -11,7 +11,7 @@ use Rattle.dw_board.specs.Placement.{Placement, empty, placed, put_fault, same_s
 use Rattle.dw_board.specs.FenTokens.{Token, is_sign, side_named, is_king_letter, number_named}
 use Rattle.dw_board.specs.FenReader.{first_is, is_empty, no_item, place_of}
 use Rattle.dw_board.specs.inner.FenReading.{listing}
-use Rattle.dw_board.specs.FenGrammar.{Word, texts, Placing, IsRange, IsItem, IsItems, IsList, named, all_named, Sets}
+use Rattle.dw_board.specs.FenGrammar.{texts, Placing, IsRange, IsItem, IsItems, IsList, named, all_named, Sets}
 use Rattle.dw_board.specs.FenGrammar.{number, range, men, kings, single, more, bare, full}
 use Rattle.dw_board.specs.FenFaults.{put_kind, ListNext, first, second, ListRead, listed, ItemNext, behind_colour}
 use Rattle.dw_board.specs.FenFaults.{behind_comma, NumberNext, of_men, of_kings, of_range, RangeNext, whole, FaultAt}
@@ -115,7 +115,7 @@ item_unput g list item to f e = unput g (piece_of list item) item.place item.fro
     (item_err g list item to f e)
 
 -- ---- a list with one item more
-items_grow : {g : Geometry} (ws : List Word) (is : List Placing) (c : Word) (vs : List Word) (j : Placing)
+items_grow : {g : Geometry} (ws : List (List ℕ)) (is : List Placing) (c : List ℕ) (vs : List (List ℕ)) (j : Placing)
     → IsItems g ws is → is_sign 44 c ≡ true → IsItem g vs j → IsItems g (ws ++ c ∷ vs) (is ++ j ∷ [])
 items_grow ws is c vs j (single item) comma last = more ws c vs item comma (single last)
 items_grow {g} ws is c vs j (more {i = i} {is = js} front d us item sign items) comma last =
@@ -125,17 +125,17 @@ items_grow {g} ws is c vs j (more {i = i} {is = js} front d us item sign items) 
 none-some : {A B : Type 0} (x : A) → None ≡ Some x → B
 none-some x e = cc
 
-has_one : {A : Type 0} {g : Geometry} (ws : List Word) (is : List Placing) → IsItems g ws is → is ≡ [] → A
+has_one : {A : Type 0} {g : Geometry} (ws : List (List ℕ)) (is : List Placing) → IsItems g ws is → is ≡ [] → A
 has_one ws is (single item) e = cc
 has_one ws is (more front c vs item sign items) e = cc
 
-bare_grow : {g : Geometry} (ws : List Word) (side : Side) (is : List Placing) (vs : List Word) (j : Placing)
+bare_grow : {g : Geometry} (ws : List (List ℕ)) (side : Side) (is : List Placing) (vs : List (List ℕ)) (j : Placing)
     → IsList g ws side is → is ≡ [] → IsItem g vs j → IsList g (ws ++ vs) side (is ++ j ∷ [])
 bare_grow ws side is vs j (bare h) e item = full h (single item)
 bare_grow ws side is vs j (full {ws = us} h items) e item = has_one us is items e
 
-full_grow : {g : Geometry} (ws : List Word) (side : Side) (i : Placing) (is js : List Placing) (c : Word)
-    (vs : List Word) (j : Placing)
+full_grow : {g : Geometry} (ws : List (List ℕ)) (side : Side) (i : Placing) (is js : List Placing) (c : List ℕ)
+    (vs : List (List ℕ)) (j : Placing)
     → IsList g ws side js → js ≡ i ∷ is → is_sign 44 c ≡ true → IsItem g vs j
     → IsList g (ws ++ c ∷ vs) side (js ++ j ∷ [])
 full_grow ws side i is js c vs j (bare h) e comma item = cc
@@ -178,7 +178,7 @@ module _ (g : Geometry) where
 
   list_grow : (before : List Token) (is_second : Bool) (side : Side) (is : List Placing) (p : Placement)
       → ListOf before is_second side is p → (vs : List Token) (j : Placing) (q : Placement)
-      → ((ws : List Word) → IsList g ws side is → IsList g (ws ++ texts vs) side (is ++ j ∷ []))
+      → ((ws : List (List ℕ)) → IsList g ws side is → IsList g (ws ++ texts vs) side (is ++ j ∷ []))
       → Sets g p (named side j) q → ListOf (before ++ vs) is_second side (is ++ j ∷ []) q
   list_grow before is_second side is p l vs j q grow put = record {
     front = l.front;

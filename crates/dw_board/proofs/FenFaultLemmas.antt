@@ -7,7 +7,7 @@ use Rattle.std.proofs.lemmas.List.{map-append}
 use Rattle.dw_board.specs.Geometry.{Geometry}
 use Rattle.dw_board.specs.Placement.{Placement, placed, put_fault, same_side}
 use Rattle.dw_board.specs.FenTokens.{Token, is_sign, side_named, is_king_letter, number_named}
-use Rattle.dw_board.specs.FenGrammar.{Word, IsRange, range}
+use Rattle.dw_board.specs.FenGrammar.{IsRange, range}
 use Rattle.dw_board.specs.Fen.{fault, ◌>>=◌, Listing, Item, Stage, Start, AfterTurn, AfterColon, AfterColour}
 use Rattle.dw_board.specs.Fen.{AfterComma, AfterKing, AfterNumber, AfterDash, AfterItem, AfterStop, AfterLists}
 use Rattle.dw_board.specs.Fen.{next_stage, at_end, read_from, with_item, item_ended, item_begun, list_begun, if_named}
@@ -26,7 +26,7 @@ use Rattle.dw_board.proofs.FenStageLemmas.{set_squares-step, squares_stop, squar
 use Rattle.dw_board.proofs.FenSoundLemmas.{bind_ok, chosen, named_ok, same_ok}
 use Rattle.dw_board.proofs.FenCompleteLemmas.{names_read}
 
-abbrev texts : List Token → List Word
+abbrev texts : List Token → List (List ℕ)
 texts ts = map (λ t. t.text) ts
 
 -- ---- faults
@@ -97,10 +97,10 @@ first_square g list item to f high e =
     ]
 
 -- ---- what leads nowhere
-bare : List Word → List Token
+bare : List (List ℕ) → List Token
 bare ws = map (λ w. record { text = w; place = 0 }) ws
 
-texts-bare : (ws : List Word) → texts (bare ws) ≡ ws
+texts-bare : (ws : List (List ℕ)) → texts (bare ws) ≡ ws
 unfolding bare
 texts-bare [] = refl
 texts-bare (w ∷ ws) = ap (λ l. w ∷ l) (texts-bare ws)
@@ -137,7 +137,7 @@ number_stuck g list item f bad (t ∷ ts) p e =
           ]
 
 -- ---- what the last token was
-pub record EndsWith (test : Word → Bool) (tokens : List Token) : Type 0 where
+pub record EndsWith (test : List ℕ → Bool) (tokens : List Token) : Type 0 where
   pub front : List Token
   pub last : Token
   pub is : tokens ≡ front ++ last ∷ []
@@ -181,7 +181,7 @@ pub record Comes (g : Geometry) (tokens : List Token) (stage : Stage) : Type 0 w
   pub reads : (end : ℕ) (more : List Token) → read_from g end Start (tokens ++ more) ≡ read_from g end stage more
   pub last : Last g tokens stage
 
-ends_with : (test : Word → Bool) (tokens : List Token) (t : Token) → test t.text ≡ true
+ends_with : (test : List ℕ → Bool) (tokens : List Token) (t : Token) → test t.text ≡ true
     → EndsWith test (tokens ++ t ∷ [])
 ends_with test tokens t h = record { front = tokens; last = t; is = refl; passes = h }
 
@@ -197,20 +197,20 @@ RangeFault g (AfterDash list item) t f = (n : ℕ) × (number_named g t.text ≡
 RangeFault g stage t f = ⊥
 
 -- ---- the end
-open_with : (tokens : List Token) (test : Word → Bool) → ((w : Word) → test w ≡ true → asks_more w ≡ true)
+open_with : (tokens : List Token) (test : List ℕ → Bool) → ((w : List ℕ) → test w ≡ true → asks_more w ≡ true)
     → EndsWith test tokens → EndsTooSoon tokens
 open_with tokens test asks h = subst EndsTooSoon (sym h.is) (open_end h.front h.last (asks h.last.text h.passes))
 
-colon_asks : (w : Word) → is_sign 58 w ≡ true → asks_more w ≡ true
+colon_asks : (w : List ℕ) → is_sign 58 w ≡ true → asks_more w ≡ true
 colon_asks w h = rw h refl
 
-comma_asks : (w : Word) → is_sign 44 w ≡ true → asks_more w ≡ true
+comma_asks : (w : List ℕ) → is_sign 44 w ≡ true → asks_more w ≡ true
 comma_asks w h = or_right (is_sign 58 w) _ (rw h refl)
 
-dash_asks : (w : Word) → is_sign 45 w ≡ true → asks_more w ≡ true
+dash_asks : (w : List ℕ) → is_sign 45 w ≡ true → asks_more w ≡ true
 dash_asks w h = or_right (is_sign 58 w) _ (or_right (is_sign 44 w) _ (rw h refl))
 
-king_asks : (w : Word) → is_king_letter w ≡ true → asks_more w ≡ true
+king_asks : (w : List ℕ) → is_king_letter w ≡ true → asks_more w ≡ true
 king_asks w h = or_right (is_sign 58 w) _ (or_right (is_sign 44 w) _ (or_right (is_sign 45 w) _ h))
 
 end_err : (g : Geometry) (tokens : List Token) (stage : Stage) (end : ℕ) (f : FenFault) → Last g tokens stage

@@ -9,7 +9,7 @@ use Rattle.dw_board.specs.Placement.{Placement, placed, put_fault, same_side}
 use Rattle.dw_board.specs.FenTokens.{Token, is_sign, side_named, number_named}
 use Rattle.dw_board.specs.FenReader.{first_is, first_named, behind, no_item, place_of}
 use Rattle.dw_board.specs.inner.FenReading.{listing}
-use Rattle.dw_board.specs.FenGrammar.{Word, texts, Placing, IsRange, IsList, named, all_named, Sets, number, range}
+use Rattle.dw_board.specs.FenGrammar.{texts, Placing, IsRange, IsList, named, all_named, Sets, number, range}
 use Rattle.dw_board.specs.FenGrammar.{bare, full, single, more}
 use Rattle.dw_board.specs.FenFaults.{put_kind, ListNext, first, second, ListRead, listed, ItemNext, behind_colour}
 use Rattle.dw_board.specs.FenFaults.{behind_comma, NumberNext, of_men, of_kings, of_range, RangeNext, whole, FaultAt}
@@ -105,8 +105,8 @@ stopped g piece place from (suc n) p q (y ∷ put) others s x why e sets h =
 abbrev pub item_of : Placing → ℕ → Item
 item_of i place = record { is_king = i.is_king; from = i.from; place = place }
 
-bare_alone : {g : Geometry} (ws : List Word) (is : List Placing) (side : Side) → IsList g ws side is → is ≡ []
-    → (w : Word) × (ws ≡ w ∷ [])
+bare_alone : {g : Geometry} (ws : List (List ℕ)) (is : List Placing) (side : Side) → IsList g ws side is → is ≡ []
+    → (w : List ℕ) × (ws ≡ w ∷ [])
 bare_alone ws is side (bare {w = w} h) e = (w, refl)
 bare_alone ws is side (full h (single item)) e = cc
 bare_alone ws is side (full h (more front comma vs item sign items)) e = cc
@@ -121,7 +121,7 @@ module _ (g : Geometry) (end : ℕ) where
   -- a list is read up to its colour
   pub record Coloured (before : List Token) (is_second : Bool) (side : Side) (is : List Placing) (p : Placement) :
       Type 0 where
-    pub colour : Word
+    pub colour : List ℕ
     pub items : List Token
     pub start : Placement
     pub list : IsList g (colour ∷ texts items) side is
@@ -269,7 +269,7 @@ module _ (g : Geometry) (end : ℕ) where
         → read_from g end (AfterNumber list item) (behind (ts ++ rest))
         ≡ (with_item g list item n >>= λ all. read_from g end (AfterItem all) rest)
 
-  range_here : (ws : List Word) (m n : ℕ) → IsRange g ws m n → (ts rest : List Token) → texts ts ≡ ws
+  range_here : (ws : List (List ℕ)) (m n : ℕ) → IsRange g ws m n → (ts rest : List Token) → texts ts ≡ ws
       → (length ts ≡ 1 → first_is (is_sign 45) rest ≡ false) → RangeRead ts rest m n
   range_here ws m n (number h) [] rest e clear = cc
   range_here ws m n (number {w = w} h) (t ∷ []) rest e clear =

@@ -7,7 +7,7 @@ use Rattle.dw_board.specs.Geometry.{Geometry, IsBoard}
 use Rattle.dw_board.specs.Placement.{Placement, IsPosition}
 use Rattle.dw_board.specs.FenTokens.{Token, tokens_from}
 use Rattle.dw_board.specs.Fen.{fen, short_fen, Start, read_from, fault}
-use Rattle.dw_board.specs.FenGrammar.{Fen, words}
+use Rattle.dw_board.specs.FenGrammar.{Fen}
 use Rattle.dw_board.specs.FenText.{written}
 use Rattle.dw_board.specs.FenFaults.{IsFirstFault, too_long, fault_at}
 use Rattle.dw_board.specs.FenReader.{place_of}
@@ -40,7 +40,7 @@ is_fen g text p e = elim (cases_lt 1024 (length text)) [
 ]
 
 is_read : (g : Geometry) (text : List ℕ) (p : Placement) → Fen g text p → fen g text ≡ Ok p
-is_read g text p h = fen-short g text h.0 ∙ names_read g (length text + 1) (words text) p h.1 (tokens_from 1 text) refl
+is_read g text p h = fen-short g text h.0 ∙ names_read g (length text + 1) (texts (tokens_from 1 text)) p h.1 (tokens_from 1 text) refl
 
 -- ---- the earliest fault
 err_read : (g : Geometry) (text : List ℕ) (f : FenFault) → length text ≤ 1024 → fen g text ≡ Err f

@@ -7,7 +7,7 @@ use Rattle.std.proofs.lemmas.Bool.{cases_Bool, ltb-false, eqb-true, eq-eqb, or_c
 use Rattle.dw_board.specs.Geometry.{Geometry}
 use Rattle.dw_board.specs.Placement.{Placement, empty, placed, put_fault, same_side}
 use Rattle.dw_board.specs.FenTokens.{Token, is_sign, side_named, is_king_letter, number_named}
-use Rattle.dw_board.specs.FenGrammar.{Word, Placing, IsRange, IsItem, IsItems, IsList, IsEnd, IsTail, named, all_named}
+use Rattle.dw_board.specs.FenGrammar.{Placing, IsRange, IsItem, IsItems, IsList, IsEnd, IsTail, named, all_named}
 use Rattle.dw_board.specs.FenGrammar.{Sets, Names, number, range, men, kings, single, more, bare, full, nothing, stop}
 use Rattle.dw_board.specs.FenGrammar.{ends, fields, one_list, two_lists}
 use Rattle.dw_board.specs.Fen.{fault, ◌>>=◌, Listing, Item, Stage, Start, AfterTurn, AfterColon, AfterColour}
@@ -74,11 +74,11 @@ item_sets g list item to all e =
     )
 
 -- ---- what may follow a list's items, where the text names a position
-pub record GoesOn (g : Geometry) (list : Listing) (ws : List Word) (p : Placement) : Type 0 where
+pub record GoesOn (g : Geometry) (list : Listing) (ws : List (List ℕ)) (p : Placement) : Type 0 where
   pub is_first : list.is_second ≡ false
-  pub colon : Word
-  pub vs : List Word
-  pub es : List Word
+  pub colon : List ℕ
+  pub vs : List (List ℕ)
+  pub es : List (List ℕ)
   pub second : Side
   pub js : List Placing
   pub split : ws ≡ colon ∷ (vs ++ es)
@@ -88,14 +88,14 @@ pub record GoesOn (g : Geometry) (list : Listing) (ws : List Word) (p : Placemen
   pub tail : IsTail es
   pub sets : Sets g list.placed (all_named second js) p
 
-abbrev pub After : Geometry → Listing → List Word → Placement → Type 0
+abbrev pub After : Geometry → Listing → List (List ℕ) → Placement → Type 0
 After g list ws p = ((list.is_second ≡ false) × IsEnd ws × (p ≡ list.placed))
     ⊎ (((list.is_second ≡ true) × IsTail ws × (p ≡ list.placed)) ⊎ GoesOn g list ws p)
 
 -- items, and what follows them
-pub record Items (g : Geometry) (list : Listing) (ws : List Word) (p : Placement) : Type 0 where
-  pub vs : List Word
-  pub tail : List Word
+pub record Items (g : Geometry) (list : Listing) (ws : List (List ℕ)) (p : Placement) : Type 0 where
+  pub vs : List (List ℕ)
+  pub tail : List (List ℕ)
   pub is : List Placing
   pub q : Placement
   pub split : ws ≡ vs ++ tail
@@ -104,9 +104,9 @@ pub record Items (g : Geometry) (list : Listing) (ws : List Word) (p : Placement
   pub after : After g (listing list.side list.is_second q) tail p
 
 -- a list whose colour this word is, and what follows it
-pub record WithList (g : Geometry) (list : Listing) (ws : List Word) (p : Placement) : Type 0 where
-  pub vs : List Word
-  pub tail : List Word
+pub record WithList (g : Geometry) (list : Listing) (ws : List (List ℕ)) (p : Placement) : Type 0 where
+  pub vs : List (List ℕ)
+  pub tail : List (List ℕ)
   pub is : List Placing
   pub q : Placement
   pub split : ws ≡ vs ++ tail
@@ -114,27 +114,27 @@ pub record WithList (g : Geometry) (list : Listing) (ws : List Word) (p : Placem
   pub sets : Sets g list.placed (all_named list.side is) q
   pub after : After g (listing list.side list.is_second q) tail p
 
-abbrev pub ItemsFrom : Geometry → Bool → Listing → List Word → Placement → Type 0
-ItemsFrom g true list ws p = (k : Word) → is_king_letter k ≡ true → Items g list (k ∷ ws) p
+abbrev pub ItemsFrom : Geometry → Bool → Listing → List (List ℕ) → Placement → Type 0
+ItemsFrom g true list ws p = (k : List ℕ) → is_king_letter k ≡ true → Items g list (k ∷ ws) p
 ItemsFrom g false list ws p = Items g list ws p
 
-abbrev pub MoreItems : Geometry → Listing → List Word → Placement → Type 0
-MoreItems g list ws p = (c : Word) × (vs : List Word) × (ws ≡ c ∷ vs) × (is_sign 44 c ≡ true) × Items g list vs p
+abbrev pub MoreItems : Geometry → Listing → List (List ℕ) → Placement → Type 0
+MoreItems g list ws p = (c : List ℕ) × (vs : List (List ℕ)) × (ws ≡ c ∷ vs) × (is_sign 44 c ≡ true) × Items g list vs p
 
 -- what the words from a stage on are, where the text names a position
-abbrev pub Follows : Geometry → Stage → List Word → Placement → Type 0
+abbrev pub Follows : Geometry → Stage → List (List ℕ) → Placement → Type 0
 Follows g Start ws p = Names g ws p
-Follows g (AfterTurn turn) ws p = (t : Word) → side_named t ≡ Some turn → Names g (t ∷ ws) p
-Follows g (AfterColon None q) ws p = (mover : Side) → q ≡ empty mover → (t c : Word) → side_named t ≡ Some mover
+Follows g (AfterTurn turn) ws p = (t : List ℕ) → side_named t ≡ Some turn → Names g (t ∷ ws) p
+Follows g (AfterColon None q) ws p = (mover : Side) → q ≡ empty mover → (t c : List ℕ) → side_named t ≡ Some mover
     → is_sign 58 c ≡ true → Names g (t ∷ c ∷ ws) p
-Follows g (AfterColon (Some first) q) ws p = (d : Word) → is_sign 58 d ≡ true
+Follows g (AfterColon (Some first) q) ws p = (d : List ℕ) → is_sign 58 d ≡ true
     → After g (listing first false q) (d ∷ ws) p
-Follows g (AfterColour list) ws p = (w : Word) → side_named w ≡ Some list.side → WithList g list (w ∷ ws) p
+Follows g (AfterColour list) ws p = (w : List ℕ) → side_named w ≡ Some list.side → WithList g list (w ∷ ws) p
 Follows g (AfterComma list) ws p = Items g list ws p
-Follows g (AfterKing list) ws p = (k : Word) → is_king_letter k ≡ true → Items g list (k ∷ ws) p
-Follows g (AfterNumber list item) ws p = (v : Word) → number_named g v ≡ Some item.from
+Follows g (AfterKing list) ws p = (k : List ℕ) → is_king_letter k ≡ true → Items g list (k ∷ ws) p
+Follows g (AfterNumber list item) ws p = (v : List ℕ) → number_named g v ≡ Some item.from
     → ItemsFrom g item.is_king list (v ∷ ws) p
-Follows g (AfterDash list item) ws p = (v d : Word) → number_named g v ≡ Some item.from → is_sign 45 d ≡ true
+Follows g (AfterDash list item) ws p = (v d : List ℕ) → number_named g v ≡ Some item.from → is_sign 45 d ≡ true
     → ItemsFrom g item.is_king list (v ∷ d ∷ ws) p
 Follows g (AfterItem list) ws p = After g list ws p ⊎ MoreItems g list ws p
 Follows g (AfterStop q) ws p = (ws ≡ []) × (p ≡ q)
@@ -146,7 +146,7 @@ true-false e = cc
 fault-ok : {A B : Type 0} (what : FenFaultKind) (place : ℕ) (x : B) → fault what place ≡ Ok x → A
 fault-ok what place x e = cc
 
-end_after : (g : Geometry) (list : Listing) (ws : List Word) (p : Placement) → IsEnd ws → p ≡ list.placed
+end_after : (g : Geometry) (list : Listing) (ws : List (List ℕ)) (p : Placement) → IsEnd ws → p ≡ list.placed
     → After g list ws p
 end_after g list ws p h e = elim (cases_Bool list.is_second) [
   | inl second ↦ inr (inl (second, ends h, e))
@@ -155,7 +155,7 @@ end_after g list ws p h e = elim (cases_Bool list.is_second) [
 ]
 
 -- an item, and what follows it
-item_then : (g : Geometry) (list : Listing) (ws rest : List Word) (i : Placing) (q p : Placement) → IsItem g ws i
+item_then : (g : Geometry) (list : Listing) (ws rest : List (List ℕ)) (i : Placing) (q p : Placement) → IsItem g ws i
     → Sets g list.placed (named list.side i) q
     → Follows g (AfterItem (listing list.side list.is_second q)) rest p → Items g list (ws ++ rest) p
 item_then g list ws rest i q p item sets (inl after) = record {
@@ -182,7 +182,7 @@ item_then g list ws rest i q p item sets (inr more_items) =
       after = items.after;
     }
 
-range_then : (g : Geometry) (king : Bool) (list : Listing) (ws rest : List Word) (m n : ℕ) (q p : Placement)
+range_then : (g : Geometry) (king : Bool) (list : Listing) (ws rest : List (List ℕ)) (m n : ℕ) (q p : Placement)
     → IsRange g ws m n → Sets g list.placed (named list.side (record { is_king = king; from = m; to = n })) q
     → Follows g (AfterItem (listing list.side list.is_second q)) rest p → ItemsFrom g king list (ws ++ rest) p
 range_then g true list ws rest m n q p r sets follows = λ k king. item_then g list (k ∷ ws) rest
@@ -191,21 +191,21 @@ range_then g false list ws rest m n q p r sets follows = item_then g list ws res
     (record { is_king = false; from = m; to = n }) q p (men r) sets follows
 
 -- ---- one token more
-colon_cases : (g : Geometry) (side : Side) (second : Bool) (placed : Placement) (w : Word) (ws : List Word)
+colon_cases : (g : Geometry) (side : Side) (second : Bool) (placed : Placement) (w : List ℕ) (ws : List (List ℕ))
     (p : Placement) → is_sign 58 w ≡ true
     → Follows g (cond second (AfterLists placed) (AfterColon (Some side) placed)) ws p
     → After g (listing side second placed) (w ∷ ws) p
 colon_cases g side true placed w ws p colon f = inr (inl (refl, fields colon, f))
 colon_cases g side false placed w ws p colon f = f w colon
 
-colon_ended : (g : Geometry) (list : Listing) (t : Token) (s : Stage) (ws : List Word) (p : Placement)
+colon_ended : (g : Geometry) (list : Listing) (t : Token) (s : Stage) (ws : List (List ℕ)) (p : Placement)
     → is_sign 58 t.text ≡ true
     → s ≡ cond list.is_second (AfterLists list.placed) (AfterColon (Some list.side) list.placed) → Follows g s ws p
     → After g list (t.text ∷ ws) p
 colon_ended g list t s ws p colon is f = colon_cases g list.side list.is_second list.placed t.text ws p colon
     (subst (λ x. Follows g x ws p) is f)
 
-ended : (g : Geometry) (list : Listing) (t : Token) (s : Stage) (ws : List Word) (p : Placement) → item_ended list t
+ended : (g : Geometry) (list : Listing) (t : Token) (s : Stage) (ws : List (List ℕ)) (p : Placement) → item_ended list t
     ≡ Ok s → Follows g s ws p → Follows g (AfterItem list) (t.text ∷ ws) p
 ended g list t s ws p e f = elim (chosen (is_sign 44 t.text) _ _ _ e) [
   | inl comma ↦ inr (t.text, ws, refl, comma.0, subst (λ x. Follows g x ws p) (same_ok _ _ _ refl comma.1) f)
@@ -220,7 +220,7 @@ ended g list t s ws p e f = elim (chosen (is_sign 44 t.text) _ _ _ e) [
   ]
 ]
 
-begun : (g : Geometry) (list : Listing) (t : Token) (s : Stage) (ws : List Word) (p : Placement) → item_begun g list t
+begun : (g : Geometry) (list : Listing) (t : Token) (s : Stage) (ws : List (List ℕ)) (p : Placement) → item_begun g list t
     ≡ Ok s → Follows g s ws p → Items g list (t.text ∷ ws) p
 begun g list t s ws p e f = elim (chosen (is_king_letter t.text) _ _ _ e) [
   | inl king ↦ subst (λ x. Follows g x ws p) (same_ok _ _ _ refl king.1) f t.text king.0
@@ -231,7 +231,7 @@ begun g list t s ws p e f = elim (chosen (is_king_letter t.text) _ _ _ e) [
 ]
 
 -- the first list, and what follows it
-first_then : (g : Geometry) (mover first : Side) (q : Placement) (t c : Word) (ws : List Word) (p : Placement)
+first_then : (g : Geometry) (mover first : Side) (q : Placement) (t c : List ℕ) (ws : List (List ℕ)) (p : Placement)
     → q ≡ empty mover → side_named t ≡ Some mover → is_sign 58 c ≡ true
     → WithList g (listing first false q) ws p → Names g (t ∷ c ∷ ws) p
 first_then g mover first q t c ws p is turn colon with =
@@ -251,7 +251,7 @@ first_then g mover first q t c ws p is turn colon with =
     ]
 
 -- the second list, and what follows it
-second_then : (g : Geometry) (first second : Side) (q : Placement) (d : Word) (ws : List Word) (p : Placement)
+second_then : (g : Geometry) (first second : Side) (q : Placement) (d : List ℕ) (ws : List (List ℕ)) (p : Placement)
     → is_sign 58 d ≡ true → same_side first second ≡ false
     → WithList g (listing second true q) ws p → After g (listing first false q) (d ∷ ws) p
 second_then g first second q d ws p colon other with = elim with.after [
@@ -275,7 +275,7 @@ second_then g first second q d ws p colon other with = elim with.after [
   ]
 ]
 
-bare_list : (g : Geometry) (list : Listing) (w : Word) (ws : List Word) (p : Placement) → side_named w ≡ Some list.side
+bare_list : (g : Geometry) (list : Listing) (w : List ℕ) (ws : List (List ℕ)) (p : Placement) → side_named w ≡ Some list.side
     → After g list ws p → WithList g list (w ∷ ws) p
 bare_list g list w ws p named after = record {
   vs = w ∷ [];
@@ -289,7 +289,7 @@ bare_list g list w ws p named after = record {
   after = after;
 }
 
-full_list : (g : Geometry) (list : Listing) (w : Word) (ws : List Word) (p : Placement) → side_named w ≡ Some list.side
+full_list : (g : Geometry) (list : Listing) (w : List ℕ) (ws : List (List ℕ)) (p : Placement) → side_named w ≡ Some list.side
     → Items g list ws p → WithList g list (w ∷ ws) p
 full_list g list w ws p named items = record {
   vs = w ∷ items.vs;
@@ -302,12 +302,12 @@ full_list g list w ws p named items = record {
   after = items.after;
 }
 
-two_signs : (w : Word) (a b : ℕ) → is_sign a w ≡ true → is_sign b w ≡ true → a ≡ b
+two_signs : (w : List ℕ) (a b : ℕ) → is_sign a w ≡ true → is_sign b w ≡ true → a ≡ b
 two_signs [] a b h k = cc
 two_signs (x ∷ []) a b h k = sym (eqb-true x a h) ∙ eqb-true x b k
 two_signs (x ∷ y ∷ w) a b h k = cc
 
-pub no_comma_here : {A : Type 0} (w c : Word) (ws vs : List Word) → (is_sign 58 w || is_sign 46 w) ≡ true
+pub no_comma_here : {A : Type 0} (w c : List ℕ) (ws vs : List (List ℕ)) → (is_sign 58 w || is_sign 46 w) ≡ true
     → is_sign 44 c ≡ true → w ∷ ws ≡ c ∷ vs → A
 no_comma_here w c ws vs h k e =
     let same : w ≡ c = cc in
@@ -317,7 +317,7 @@ no_comma_here w c ws vs h k e =
       | inr stopped ↦ true-false (sym (eq-eqb 46 44 (two_signs w 46 44 stopped comma)))
     ]
 
-step : (g : Geometry) (stage : Stage) (t : Token) (s : Stage) (ws : List Word) (p : Placement) → next_stage g stage t
+step : (g : Geometry) (stage : Stage) (t : Token) (s : Stage) (ws : List (List ℕ)) (p : Placement) → next_stage g stage t
     ≡ Ok s → Follows g s ws p → Follows g stage (t.text ∷ ws) p
 unfolding next_stage
 step g Start t s ws p e f =

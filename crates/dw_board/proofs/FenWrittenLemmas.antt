@@ -11,7 +11,7 @@ use Rattle.dw_board.specs.Placement.{Placement, IsPosition, empty, at, is_of, is
 use Rattle.dw_board.specs.FenTokens.{Token, tokens_from, with_byte, onto_run, is_blank, is_digit, begins_with_digit}
 use Rattle.dw_board.specs.FenTokens.{side_named, number_named}
 use Rattle.dw_board.specs.inner.FenBlanks.{AreDigits}
-use Rattle.dw_board.specs.FenGrammar.{Word, words, Placing, IsItem, IsItems, IsList, named, all_named, Sets, Names}
+use Rattle.dw_board.specs.FenGrammar.{words, Placing, IsItem, IsItems, IsList, named, all_named, Sets, Names}
 use Rattle.dw_board.specs.FenGrammar.{number, men, kings, single, more, bare, full, nothing, ends, two_lists}
 use Rattle.dw_board.specs.FenText.{squares_held, king_mark, item_text, items_text, side_text, written}
 use Rattle.dw_board.specs.declared.piece.Side.{Side}
@@ -23,7 +23,7 @@ use Rattle.dw_board.proofs.FenTokenLemmas.{tokens_from-sign, tokens_from-run}
 use Rattle.dw_board.proofs.WrittenLemmas.{held-few}
 use Rattle.dw_board.proofs.FenSetAllLemmas.{kind_at, piece_on, pieces_of, sets_all}
 
-abbrev texts : List Token → List Word
+abbrev texts : List Token → List (List ℕ)
 texts ts = map (λ t. t.text) ts
 
 -- ---- the words do not depend on the place
@@ -124,8 +124,8 @@ abbrev pub placing : Placement → ℕ → Placing
 placing q s = record { is_king = is_king (at q s); from = s; to = s }
 
 -- the words of a text, and then others
-pub record Begins (g : Geometry) (bytes rest : List ℕ) (P : List Word → Type 0) : Type 0 where
-  pub front : List Word
+pub record Begins (g : Geometry) (bytes rest : List ℕ) (P : List (List ℕ) → Type 0) : Type 0 where
+  pub front : List (List ℕ)
   pub split : words (bytes ++ rest) ≡ front ++ words rest
   pub holds : P front
 

@@ -88,8 +88,7 @@ pub data FaultAt (g : Geometry) : (before after : List Token) → FenFaultKind �
       → ListRead g before side is p → is_sign full_stop stop.text ≡ true → is_empty after ≡ false
       → FaultAt g (before ++ stop ∷ []) after Rest
 
--- this is the earliest fault of the text, with the place of the first of those after; that it is too long comes before
--- anything else
+-- the earliest fault of a text, with the place of the first of those after; too long comes before anything else
 pub data IsFirstFault (g : Geometry) : List ℕ → FenFault → Type 0 where
   too_long : {text : List ℕ} → 1024 < length text → IsFirstFault g text (record { what = TooLong; place = 1025 })
   fault_at : {text : List ℕ} (before after : List Token) {what : FenFaultKind} → length text ≤ 1024

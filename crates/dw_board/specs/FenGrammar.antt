@@ -10,17 +10,9 @@ use Rattle.dw_board.specs.declared.piece.Side.{Side}
 use Rattle.dw_board.specs.declared.piece.Kind.TheVariants.{Man, King}
 use Rattle.dw_board.specs.declared.piece.Piece.{Piece}
 
--- a token's bytes
-abbrev pub Word : Type 0
-Word = List ℕ
-
--- the words of tokens: these without their places
-abbrev pub texts : List Token → List Word
+-- the words of tokens, without their places
+abbrev pub texts : List Token → List (List ℕ)
 texts tokens = map (λ t. t.text) tokens
-
--- the words of a text
-abbrev pub words : List ℕ → List Word
-words text = texts (tokens_from 1 text)
 
 -- pieces of one kind on the squares from one to another
 pub record Placing : Type 0 where
@@ -29,39 +21,39 @@ pub record Placing : Type 0 where
   pub to : ℕ
 
 -- a number, or two with a dash between, the second not below the first
-pub data IsRange : Geometry → List Word → ℕ → ℕ → Type 0 where
-  number : {g : Geometry} {w : Word} {n : ℕ} → number_named g w ≡ Some n → IsRange g (w ∷ []) n n
-  range : {g : Geometry} {v d w : Word} {m n : ℕ} → number_named g v ≡ Some m → is_sign dash d ≡ true
+pub data IsRange : Geometry → List (List ℕ) → ℕ → ℕ → Type 0 where
+  number : {g : Geometry} {w : List ℕ} {n : ℕ} → number_named g w ≡ Some n → IsRange g (w ∷ []) n n
+  range : {g : Geometry} {v d w : List ℕ} {m n : ℕ} → number_named g v ≡ Some m → is_sign dash d ≡ true
       → number_named g w ≡ Some n → m ≤ n → IsRange g (v ∷ d ∷ w ∷ []) m n
 
 -- an item is a range of men, or K and a range of kings
-pub data IsItem : Geometry → List Word → Placing → Type 0 where
-  men : {g : Geometry} {ws : List Word} {m n : ℕ} → IsRange g ws m n
+pub data IsItem : Geometry → List (List ℕ) → Placing → Type 0 where
+  men : {g : Geometry} {ws : List (List ℕ)} {m n : ℕ} → IsRange g ws m n
       → IsItem g ws (record { is_king = false; from = m; to = n })
-  kings : {g : Geometry} {k : Word} {ws : List Word} {m n : ℕ} → is_king_letter k ≡ true → IsRange g ws m n
+  kings : {g : Geometry} {k : List ℕ} {ws : List (List ℕ)} {m n : ℕ} → is_king_letter k ≡ true → IsRange g ws m n
       → IsItem g (k ∷ ws) (record { is_king = true; from = m; to = n })
 
 -- items are joined by commas
-pub data IsItems : Geometry → List Word → List Placing → Type 0 where
-  single : {g : Geometry} {ws : List Word} {i : Placing} → IsItem g ws i → IsItems g ws (i ∷ [])
-  more : {g : Geometry} {i : Placing} {is : List Placing} (ws : List Word) (c : Word) (vs : List Word)
+pub data IsItems : Geometry → List (List ℕ) → List Placing → Type 0 where
+  single : {g : Geometry} {ws : List (List ℕ)} {i : Placing} → IsItem g ws i → IsItems g ws (i ∷ [])
+  more : {g : Geometry} {i : Placing} {is : List Placing} (ws : List (List ℕ)) (c : List ℕ) (vs : List (List ℕ))
       → IsItem g ws i → is_sign comma c ≡ true → IsItems g vs is → IsItems g (ws ++ c ∷ vs) (i ∷ is)
 
 -- a list is a colour, and nothing or items
-pub data IsList : Geometry → List Word → Side → List Placing → Type 0 where
-  bare : {g : Geometry} {w : Word} {side : Side} → side_named w ≡ Some side → IsList g (w ∷ []) side []
-  full : {g : Geometry} {w : Word} {ws : List Word} {side : Side} {is : List Placing} → side_named w ≡ Some side
+pub data IsList : Geometry → List (List ℕ) → Side → List Placing → Type 0 where
+  bare : {g : Geometry} {w : List ℕ} {side : Side} → side_named w ≡ Some side → IsList g (w ∷ []) side []
+  full : {g : Geometry} {w : List ℕ} {ws : List (List ℕ)} {side : Side} {is : List Placing} → side_named w ≡ Some side
       → IsItems g ws is → IsList g (w ∷ ws) side is
 
 -- a text ends with nothing or a stop
-pub data IsEnd : List Word → Type 0 where
+pub data IsEnd : List (List ℕ) → Type 0 where
   nothing : IsEnd []
-  stop : {w : Word} → is_sign full_stop w ≡ true → IsEnd (w ∷ [])
+  stop : {w : List ℕ} → is_sign full_stop w ≡ true → IsEnd (w ∷ [])
 
 -- after a second list further fields may follow, which are passed over
-pub data IsTail : List Word → Type 0 where
-  ends : {ws : List Word} → IsEnd ws → IsTail ws
-  fields : {w : Word} {ws : List Word} → is_sign colon w ≡ true → IsTail (w ∷ ws)
+pub data IsTail : List (List ℕ) → Type 0 where
+  ends : {ws : List (List ℕ)} → IsEnd ws → IsTail ws
+  fields : {w : List ℕ} {ws : List (List ℕ)} → is_sign colon w ≡ true → IsTail (w ∷ ws)
 
 -- the pieces that an item names, each with its square, ascending
 abbrev pub named : Side → Placing → List (ℕ × Piece)
@@ -77,12 +69,12 @@ Sets g p [] q = p ≡ q
 Sets g p (first ∷ others) q = (put_fault g p first.0 first.1 ≡ None) × Sets g (placed p first.0 (Some first.1)) others q
 
 -- the words of a text that names a position: turn, `:`, a list, and nothing or `:` and a list of the other colour
-pub data Names : Geometry → List Word → Placement → Type 0 where
-  one_list : {g : Geometry} {turn c : Word} {p : Placement} (ws es : List Word) (mover first : Side)
+pub data Names : Geometry → List (List ℕ) → Placement → Type 0 where
+  one_list : {g : Geometry} {turn c : List ℕ} {p : Placement} (ws es : List (List ℕ)) (mover first : Side)
       (is : List Placing)
       → side_named turn ≡ Some mover → is_sign colon c ≡ true → IsList g ws first is → IsEnd es
       → Sets g (empty mover) (all_named first is) p → Names g (turn ∷ c ∷ (ws ++ es)) p
-  two_lists : {g : Geometry} {turn c : Word} {p : Placement} (ws : List Word) (between : Word) (vs es : List Word)
+  two_lists : {g : Geometry} {turn c : List ℕ} {p : Placement} (ws : List (List ℕ)) (between : List ℕ) (vs es : List (List ℕ))
       (mover first second : Side) (is js : List Placing)
       → side_named turn ≡ Some mover → is_sign colon c ≡ true → IsList g ws first is
       → is_sign colon between ≡ true → IsList g vs second js → same_side first second ≡ false → IsTail es
@@ -91,4 +83,4 @@ pub data Names : Geometry → List Word → Placement → Type 0 where
 
 -- a FEN text of at most 1,024 bytes names a position
 abbrev pub Fen : Geometry → List ℕ → Placement → Type 0
-Fen g text p = (length text ≤ 1024) × Names g (words text) p
+Fen g text p = (length text ≤ 1024) × Names g (texts (tokens_from 1 text)) p

@@ -5,7 +5,7 @@ use Rattle.dw_board.specs.Geometry.{Geometry, IsBoard}
 use Rattle.dw_board.specs.Placement.{Placement, IsPosition}
 use Rattle.dw_board.specs.FenTokens.{Token, tokens_from, colon, comma, dash, is_sign, side_named, is_king_letter}
 use Rattle.dw_board.specs.Fen.{fen}
-use Rattle.dw_board.specs.FenGrammar.{Word, texts, IsRange, Names, Fen}
+use Rattle.dw_board.specs.FenGrammar.{texts, IsRange, Names, Fen}
 use Rattle.dw_board.specs.FenFaults.{IsFirstFault}
 use Rattle.dw_board.specs.FenText.{written}
 use Rattle.dw_board.specs.declared.piece.Side.{Side}
@@ -49,10 +49,10 @@ EitherFenOrFaulty = (g : Geometry) (text : List ℕ) → IsFen g text ⊎ IsFaul
 
 -- no words that begin with those of these tokens name a position
 abbrev pub LeadNowhere : Geometry → List Token → Type 0
-LeadNowhere g tokens = (more : List Word) (p : Placement) → Names g (texts tokens ++ more) p → ⊥
+LeadNowhere g tokens = (more : List (List ℕ)) (p : Placement) → Names g (texts tokens ++ more) p → ⊥
 
 -- after a colon, a comma, a dash or K something can be missing
-abbrev pub asks_more : Word → Bool
+abbrev pub asks_more : List ℕ → Bool
 asks_more w = is_sign colon w || (is_sign comma w || (is_sign dash w || is_king_letter w))
 
 -- a text that ends too soon has no token, or the turn alone, or a last one that asks for more

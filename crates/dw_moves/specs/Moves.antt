@@ -74,16 +74,14 @@ pub record Jump (g : Geometry) (p : Placement) (piece : Piece) (s c t : ℕ) : T
   pub free : at p t ≡ None
   pub man : piece.kind ≡ Man → (before ≡ []) × (behind ≡ [])
 
--- jumps one after another with one piece, which begins on s: it lands on each of the first list, over each of the
--- second
+-- jumps one after another with one piece from s: it lands on each of the first list, over each of the second
 abbrev pub Jumps : Geometry → Placement → Piece → ℕ → List ℕ → List ℕ → Type 0
 Jumps g p piece s [] [] = Unit {0}
 Jumps g p piece s (t ∷ ts) (c ∷ cs) = Jump g p piece s c t × Jumps g p piece t ts cs
 Jumps g p piece s [] (c ∷ cs) = ⊥
 Jumps g p piece s (t ∷ ts) [] = ⊥
 
--- a capture path: the square that the piece leaves counts as empty, what is jumped stays until the end, and nothing is
--- jumped twice
+-- a capture path: the square that was left counts as empty, what is jumped stays to the end, nothing is jumped twice
 pub record Path (g : Geometry) (p : Placement) (from : ℕ) (landings taken : List ℕ) : Type 0 where
   pub piece : Piece
   pub stands : Stands g p from piece
@@ -139,8 +137,7 @@ pub record AreLegal (g : Geometry) (p : Placement) (moves : List Move) : Type 0 
   pub exactly : (m : Move) → Member m moves ↔ Legal g p m
   pub once : NoRepeat moves
 
--- the position after a move: the origin and the squares of what was taken are emptied, the piece stands on the last
--- square, and it is the other player's turn
+-- the position after a move: the piece stands on its last square, what was taken is gone, and the other side is to move
 abbrev pub play : Geometry → Placement → Move → Placement
 play g p m = record (carried g p m.from m.to m.taken) { turn = other p.turn }
 

@@ -6,7 +6,7 @@ use Rattle.dw_board.specs.Geometry.{Geometry}
 use Rattle.dw_board.specs.Placement.{Placement}
 use Rattle.dw_board.specs.FenTokens.{is_blank}
 use Rattle.dw_board.specs.FenGrammar.{Fen}
-use Rattle.dw_board.specs.FenLaws.{IsFirstFault}
+use Rattle.dw_board.specs.FenFaults.{IsFirstFault}
 use Rattle.dw_notation.specs.declared.problems.TheConstants.{MAX_LINE}
 use Rattle.dw_notation.specs.declared.problems.ProblemFault.{ProblemFault}
 use Rattle.dw_notation.specs.declared.problems.ProblemFault.TheVariants as why

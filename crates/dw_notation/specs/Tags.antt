@@ -91,8 +91,7 @@ IsGap false gap = list_all is_space gap ≡ true
 IsGap true [] = ⊥
 IsGap true (byte ∷ gap) = (ends_line byte ≡ true) × (list_all is_space gap ≡ true)
 
--- a row of tags with spaces alone between them: its whole tags, the last in front, whether some tag is unclosed, and
--- whether the last one is
+-- a row of tags, spaces alone between them: its whole tags, the last in front, and whether some or the last is unclosed
 pub data IsSection : List ℕ → List Tag → Bool → Bool → Type 0 where
   single : {text : List ℕ} {tag : Tag} → IsTag text tag → IsSection text (tag ∷ []) false false
   broken : {text : List ℕ} → IsUnclosed text → IsSection text [] true true

@@ -10,8 +10,7 @@ use Rattle.dw_notation.specs.declared.problems.ProblemFault.TheVariants.{Unclose
 abbrev pub IsOpen : List ℕ → Type 0
 IsOpen text = list_all (λ byte. not (byte == close_brace)) text ≡ true
 
--- a text is a row of comments, sections and other bytes, and says what its sections say, one after another; a comment
--- that the text leaves open is a fault
+-- a row of comments, sections and other bytes says what its sections say, in turn; a comment left open is a fault
 pub data SectionsSay : Geometry → Bool → List ℕ → List Found → Type 0 where
   nothing : {g : Geometry} {over : Bool} → SectionsSay g over [] []
   other : {g : Geometry} {over : Bool} {more : List ℕ} {found : List Found} (byte : ℕ)

@@ -11,8 +11,10 @@ use Rattle.dw_notation.specs.TextLaws.{MovesHaveTexts, LinesHaveTexts}
 use Rattle.dw_list.specs.Lines.{Line}
 use Rattle.dw_report.specs.Verdict.{IsWinning, Keys, reach, Verdict, unsolvable, cooked, dual, sound, IsVerdict, IsTry}
 use Rattle.dw_report.specs.VerdictLaws.{OneVerdict, TriesAreListed}
-use Rattle.dw_report.specs.JudgedText.{next_number, IsVerdictText, IsVerdictLine, IsTryLine, AreTryLines}
-use Rattle.dw_report.specs.JudgedText.{AreTriesListed, IsJudgedText}
+use Rattle.dw_report.specs.JudgedText.{next_number, IsVerdictText, IsTryLine, AreTryLines}
+use Rattle.dw_report.specs.inner.JudgedText.{IsVerdictLine}
+use Rattle.dw_report.specs.inner.JudgedText.{AreTriesListed}
+use Rattle.dw_report.specs.JudgedText.{IsJudgedText}
 
 -- the texts of legal moves
 pub move_texts_some : MovesHaveTexts → (g : Geometry) → IsBoard g → (p : Placement) (moves : List Move)

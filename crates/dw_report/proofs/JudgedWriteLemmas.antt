@@ -9,7 +9,8 @@ use Rattle.dw_notation.specs.TextLaws.{MovesHaveTexts, LinesHaveTexts}
 use Rattle.dw_notation.specs.Writes.{Writes}
 use Rattle.dw_report.specs.Verdict.{Verdict, unsolvable, cooked, dual, sound}
 use Rattle.dw_report.specs.VerdictLaws.{OneVerdict, TriesAreListed}
-use Rattle.dw_report.specs.JudgedText.{next_number, IsVerdictText, IsVerdictLine, AreTriesListed, IsJudgedText}
+use Rattle.dw_report.specs.JudgedText.{next_number, IsVerdictText, IsJudgedText}
+use Rattle.dw_report.specs.inner.JudgedText.{IsVerdictLine, AreTriesListed}
 use Rattle.dw_report.specs.Running.{AreLinesOf}
 use Rattle.dw_report.specs.inner.Running.{TextEnds}
 use Rattle.dw_report.specs.declared.problem.TextFault.{TextFault}

@@ -21,8 +21,9 @@ use Rattle.dw_list.specs.Listing.{stack_of, kept_of, ComesFrom}
 use Rattle.dw_list.specs.Standing.{Standing, AreToCome}
 use Rattle.dw_list.specs.Walking.{Gives, GivesFirst, GivesNone, GivesNext}
 use Rattle.dw_list.specs.Tokens.{token_of}
-use Rattle.dw_list.proofs.StepLemmas.{gives_nothing, gives_then}
-use Rattle.dw_report.specs.ListedText.{AreLineTexts, IsListing, IsListedText, has_tokens, more_after}
+use Rattle.dw_list.specs.Laws.{GivenInTurn}
+use Rattle.dw_report.specs.ListedText.{AreLineTexts, IsListing, IsListedText, more_after}
+use Rattle.dw_report.specs.inner.Rows.{has_tokens}
 use Rattle.dw_report.specs.inner.Rows.{IsRow, IsNothing}
 use Rattle.dw_report.specs.Running.{AreLinesOf, AreWholeLines, IsNoLine}
 use Rattle.dw_report.specs.inner.Running.{TextEnds}
@@ -183,12 +184,12 @@ pub record RowsSoFar (g : Geometry) (p : Placement) (start now : Standing) (coun
   pub rows : Rows g p start now count texts
   pub wrote : Appends old new texts
 
-pub no_rows : (g : Geometry) (p : Placement) (s : Standing) (old : Option (List ℕ)) → RowsSoFar g p s s 0 old old
-no_rows g p s old = record {
+pub no_rows : GivenInTurn → (g : Geometry) (p : Placement) (s : Standing) (old : Option (List ℕ)) → RowsSoFar g p s s 0 old old
+no_rows turn g p s old = record {
   texts = [];
   rows = record {
     given = [];
-    gives = gives_nothing g s;
+    gives = turn.nothing g s;
     many = refl;
     last = λ some. absurd (omega (arith, some));
     are =
@@ -197,23 +198,23 @@ no_rows g p s old = record {
   wrote = Appends-nil old;
 }
 
-row_given : (g : Geometry) (p : Placement) (start a b : Standing) (count : ℕ) (texts row : List ℕ)
+row_given : GivenInTurn → (g : Geometry) (p : Placement) (start a b : Standing) (count : ℕ) (texts row : List ℕ)
     → Rows g p start a count texts → GivesFirst g a b → IsRow g p (reverse b.line) row
     → Rows g p start b (count + 1) (texts ++ row)
-row_given g p start a b count texts row h first r = record {
+row_given turn g p start a b count texts row h first r = record {
   given = h.given ++ reverse b.line ∷ [];
-  gives = gives_then g start a b h.given (reverse b.line ∷ []) h.gives first;
+  gives = turn.then g start a b h.given (reverse b.line ∷ []) h.gives first;
   many = length-append h.given (reverse b.line ∷ []) ∙ ap (λ z. z + 1) h.many;
   last = λ some. (h.given, refl);
   are = rows_more g p h.given (reverse b.line) texts row h.are r;
 }
 
-pub row_written : (g : Geometry) (p : Placement) (start a b : Standing) (count : ℕ) (old mid new : Option (List ℕ))
+pub row_written : GivenInTurn → (g : Geometry) (p : Placement) (start a b : Standing) (count : ℕ) (old mid new : Option (List ℕ))
     → RowsSoFar g p start a count old mid → GivesFirst g a b → Writes (IsRow g p (reverse b.line)) mid new
     → RowsSoFar g p start b (count + 1) old new
-row_written g p start a b count old mid new h first w = record {
+row_written turn g p start a b count old mid new h first w = record {
   texts = h.texts ++ w.text;
-  rows = row_given g p start a b count h.texts w.text h.rows first w.is;
+  rows = row_given turn g p start a b count h.texts w.text h.rows first w.is;
   wrote = Appends-trans old mid new h.texts w.text h.wrote w.wrote;
 }
 
@@ -283,11 +284,11 @@ module _ (g : Geometry) (p : Placement) (most : ℕ) (some : 1 ≤ most) (start 
       }
 
   -- a row was cut short
-  row_short : (a b : Standing) (count : ℕ) (old mid new : Option (List ℕ)) → RowsSoFar g p start a count old mid
+  row_short : GivenInTurn → (a b : Standing) (count : ℕ) (old mid new : Option (List ℕ)) → RowsSoFar g p start a count old mid
       → GivesFirst g a b → count < most → WritesShort (IsRow g p (reverse b.line)) mid new
       → WritesShort (IsListing g p most lines) old new
-  row_short a b count old mid new h first few w =
-      let r = begun_by b (count + 1) (h.texts ++ w.text) (row_given g p start a b count h.texts w.text h.rows first
+  row_short turn a b count old mid new h first few w =
+      let r = begun_by b (count + 1) (h.texts ++ w.text) (row_given turn g p start a b count h.texts w.text h.rows first
       w.is) (omega (arith, few)) in
       record {
         text = (h.texts ++ w.text) ++ r.0;
@@ -306,12 +307,12 @@ module _ (g : Geometry) (p : Placement) (most : ℕ) (some : 1 ≤ most) (start 
       }) few
 
   -- a row was not written to its end
-  pub row_ends : {X Y : Type 0} (a b : Standing) (count : ℕ) (old mid new : Option (List ℕ)) (r : Result X TextFault)
+  pub row_ends : {X Y : Type 0} → GivenInTurn → (a b : Standing) (count : ℕ) (old mid new : Option (List ℕ)) (r : Result X TextFault)
       (s : Result Y TextFault) (fault other : TextFault) → RowsSoFar g p start a count old mid → GivesFirst g a b
       → count < most
       → r ≡ Err fault → s ≡ Err other → fault ≡ other → TextEnds (IsRow g p (reverse b.line)) IsNothing mid new r
       → TextEnds (IsListing g p most lines) (AreLinesOf (IsListing g p most lines)) old new s
-  row_ends {X} {Y} a b count old mid new r s fault other h first few was is same ends = at fault (is
+  row_ends {X} {Y} turn a b count old mid new r s fault other h first few was is same ends = at fault (is
       ∙ ap Err (sym same)) (subst (TextEnds (IsRow g p (reverse b.line)) IsNothing mid new) was ends) where
         at : (fault : TextFault) → s ≡ Err fault → TextEnds {X = X} (IsRow g p (reverse b.line)) IsNothing mid new
             (Err fault) → TextEnds (IsListing g p most lines) (AreLinesOf (IsListing g p most lines)) old new s
@@ -319,7 +320,7 @@ module _ (g : Geometry) (p : Placement) (most : ℕ) (some : 1 ≤ most) (start 
             e
             (nothing_more a count old mid new h (omega (arith, few)) w)
         at Sink e w = at_sink (IsListing g p most lines) (AreLinesOf (IsListing g p most lines)) old new s e
-            (row_short a b count old mid new h first few w)
+            (row_short turn a b count old mid new h first few w)
 
   all_given : (a b : Standing) (count : ℕ) (texts : List ℕ) → Rows g p start a count texts → GivesNone g a b
       → count ≤ most → IsListing g p most lines (texts ++ complete_line count)

@@ -16,7 +16,7 @@ use Rattle.dw_list.specs.Laws.{LinesExist, LineOrPlace}
 use Rattle.dw_list.specs.inner.LineOrderLemmas.{before_asym}
 use Rattle.dw_list.specs.inner.ListLemmas.{ascending_parts}
 use Rattle.dw_report.specs.ListedText.{AreLineTexts, IsComplete, IsCut, IsListing, IsListedText, more_after}
-use Rattle.dw_report.specs.ListedText.{refused_line}
+use Rattle.dw_report.specs.inner.Rows.{refused_line}
 use Rattle.dw_report.proofs.JudgedTextLemmas.{line_playable}
 
 -- TEXTS OF LINES

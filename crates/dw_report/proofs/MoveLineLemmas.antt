@@ -16,7 +16,8 @@ use Rattle.dw_board.specs.FenText.{written}
 use Rattle.dw_notation.specs.Text.{text_among}
 use Rattle.dw_notation.specs.Writes.{StopsShort, Writes}
 use Rattle.dw_notation.specs.inner.Writes.{WritesShort}
-use Rattle.dw_report.specs.Report.{move_line, count_line, IsMovesText}
+use Rattle.dw_report.specs.Report.{move_line, IsMovesText}
+use Rattle.dw_report.specs.inner.Rows.{count_line}
 use Rattle.dw_report.proofs.WritingLemmas.{stops_within}
 
 -- a move that stands for none

@@ -3,7 +3,8 @@ use Rattle.std.proofs.Common.{◌≡◌, ℕ, ◌≤◌, refl, arith, Result, Er
 use Rattle.dw_solve.specs.Solving.{Solving}
 use Rattle.dw_solve.specs.declared.stop.Stop.{Stop}
 use Rattle.dw_solve.specs.declared.stop.Stop.TheVariants as stops
-use Rattle.dw_report.specs.Running.{StopsSearch, MayStop, StopsRightly}
+use Rattle.dw_report.specs.inner.Running.{StopsSearch}
+use Rattle.dw_report.specs.Running.{MayStop, StopsRightly}
 use Rattle.dw_report.specs.inner.Running.{SearchesFor, Spends, ended_by}
 use Rattle.dw_report.specs.declared.problem.TextFault.{TextFault}
 use Rattle.dw_report.specs.declared.problem.TextFault.TheVariants.{Stopped, Sink}
@@ -68,8 +69,10 @@ may_stop : {M X : Type 0} (command : Command) (old new : Solving M) (r : Result 
     → MayStop command old.limit why new.expanded
 may_stop Show old new r why e h still = h.1 why e
 may_stop {M} Moves old new r why e h still = (h.1 why e, ap (λ (s : Solving M). s.expanded) h.0 ∙ still refl)
-may_stop Judge old new r why e h still = stops_search old new r why e h
-may_stop Lists old new r why e h still = stops_search old new r why e h
+may_stop Judge old new r stops.Limit e h still = stops_search old new r stops.Limit e h
+may_stop Judge old new r stops.Memory e h still = stops_search old new r stops.Memory e h
+may_stop Lists old new r stops.Limit e h still = stops_search old new r stops.Limit e h
+may_stop Lists old new r stops.Memory e h still = stops_search old new r stops.Memory e h
 
 ends_apart : (r : Result Summary RunFault) (why : Stop) (n : ℕ) → r ≡ Err ends.Write → r ≡ Err (ends.Stopped why n) → ⊥
 ends_apart r why n e f = cc

@@ -12,7 +12,8 @@ use Rattle.dw_notation.specs.TextLaws.{MovesHaveTexts, LinesHaveTexts}
 use Rattle.dw_list.specs.Laws.{LinesExist, LineOrPlace}
 use Rattle.dw_report.specs.Request.{Request}
 use Rattle.dw_report.specs.Report.{IsMovesText, IsSaid, IsFurther, IsProblemText, AreTexts, first_line, move_line}
-use Rattle.dw_report.specs.Report.{count_line, chosen, IsReport}
+use Rattle.dw_report.specs.inner.Rows.{count_line}
+use Rattle.dw_report.specs.Report.{chosen, IsReport}
 use Rattle.dw_report.specs.VerdictLaws.{OneVerdict, TriesAreListed}
 use Rattle.dw_report.specs.declared.settings.Command.{Command}
 use Rattle.dw_report.specs.declared.settings.Command.TheVariants.{Show, Moves, Judge, List as Lists}

@@ -19,7 +19,8 @@ use Rattle.dw_solve.specs.Laws.{WinsAreDecided}
 use Rattle.dw_list.specs.inner.ListLemmas.{at_item}
 use Rattle.dw_report.specs.Verdict.{IsRefutation}
 use Rattle.dw_report.specs.inner.Judging.{FindsRefutation}
-use Rattle.dw_report.specs.JudgedText.{IsTryLine, AreTryLines, AreTriesListed}
+use Rattle.dw_report.specs.JudgedText.{IsTryLine, AreTryLines}
+use Rattle.dw_report.specs.inner.JudgedText.{AreTriesListed}
 use Rattle.dw_report.specs.inner.JudgedText.{IsTryText}
 use Rattle.dw_report.specs.Running.{AreWholeLines, AreLinesOf}
 use Rattle.dw_report.specs.inner.Running.{TextEnds}

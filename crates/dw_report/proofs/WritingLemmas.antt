@@ -14,7 +14,8 @@ use Rattle.dw_report.specs.Request.{number_is_chosen, Request}
 use Rattle.dw_report.specs.Report.{IsSaid, IsFurther, IsProblemText, AreTexts, IsReportOn, chosen, first_line}
 use Rattle.dw_report.specs.declared.settings.Command.{Command}
 use Rattle.dw_report.specs.declared.settings.Command.TheVariants.{Show, Moves, Judge, List as Lists}
-use Rattle.dw_report.specs.Running.{AreLinesOf, IsProblemPart, IsPartOn}
+use Rattle.dw_report.specs.Running.{AreLinesOf, IsPartOn}
+use Rattle.dw_report.specs.inner.Running.{IsProblemPart}
 use Rattle.dw_report.specs.inner.Running.{at_once, IsSaidThen, IsRest, SearchesFor, TextEnds}
 use Rattle.dw_solve.specs.Solving.{Solving}
 use Rattle.dw_solve.specs.declared.stop.Stop.{Stop}
@@ -208,9 +209,9 @@ one_part_on g request problem e text h = record {
   here = refl;
   texts = [];
   whole = refl;
-  last = text;
-  part = h;
-  is = refl;
+  lines = h.lines;
+  further = h.are;
+  is = h.is;
 }
 
 pub no_report_on : (g : Geometry) (request : Request) (problem : Numbered) (old : Option (List ℕ))

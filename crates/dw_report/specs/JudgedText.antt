@@ -23,10 +23,6 @@ IsVerdictText g p n (dual beginning choices) text = (line : List ℕ) × (moves 
 IsVerdictText g p n (sound key) text = (move : List ℕ) × IsMoveText g p key move
     × (text ≡ codes "sound in " ++ decimal n ++ codes ": " ++ move ++ codes "\n")
 
--- the line of the verdict on a position
-abbrev pub IsVerdictLine : Geometry → Placement → ℕ → List ℕ → Type 0
-IsVerdictLine g p n line = (verdict : Verdict) × IsVerdict g p n verdict × IsVerdictText g p n verdict line
-
 -- the line of a try: its move, and the reply that refutes it
 abbrev pub IsTryLine : Geometry → Placement → Move × Move → List ℕ → Type 0
 IsTryLine g p t line = (move : List ℕ) × (reply : List ℕ) × IsMoveText g p t.0 move
@@ -39,12 +35,8 @@ AreTryLines g p [] text = text ≡ []
 AreTryLines g p (t ∷ tries) text = (line : List ℕ) × (rest : List ℕ) × IsTryLine g p t line × AreTryLines g p tries rest
     × (text ≡ line ++ rest)
 
--- the lines of all tries of a position
-abbrev pub AreTriesListed : Geometry → Placement → ℕ → List ℕ → Type 0
-AreTriesListed g p n text = (tries : List (Move × Move)) × Tries g p n tries × AreTryLines g p tries text
-
--- the verdict on a position, and its tries
+-- the one verdict on a position in its line, and then all tries
 abbrev pub IsJudgedText : Geometry → Placement → ℕ → List ℕ → Type 0
-IsJudgedText g p n text = (verdict : List ℕ) × (tries : List ℕ) × IsVerdictLine g p n verdict
-    × AreTriesListed g p n tries
-    × (text ≡ verdict ++ tries)
+IsJudgedText g p n text = (line : List ℕ) × (lines : List ℕ)
+    × ((verdict : Verdict) × IsVerdict g p n verdict × IsVerdictText g p n verdict line)
+    × ((tries : List (Move × Move)) × Tries g p n tries × AreTryLines g p tries lines) × (text ≡ line ++ lines)

@@ -23,13 +23,10 @@ pub record IsComplete (g : Geometry) (p : Placement) (most : ℕ) (lines : List 
   pub are : AreLineTexts g p lines texts
   pub is : text ≡ texts ++ codes "complete " ++ decimal (length lines) ++ codes "\n"
 
--- lines have tokens on boards of 10 and 8 rows
-abbrev pub has_tokens : Geometry → Bool
-has_tokens g = g.rows == 10 || g.rows == 8
-
--- that more lines are left, and after which one, if it has a token
+-- that more lines are left, and after which one: lines have tokens on boards of 10 and 8 rows
 unfoldable pub more_after : Geometry → List Move → List ℕ
-more_after g last = if has_tokens g then codes "more after " ++ token_of g last ++ codes "\n" else codes "more\n"
+more_after g last =
+    if (g.rows == 10) || (g.rows == 8) then codes "more after " ++ token_of g last ++ codes "\n" else codes "more\n"
 
 -- so many of them, the first ones, and that more are left
 pub record IsCut (g : Geometry) (p : Placement) (most : ℕ) (lines : List (List Move)) (text : List ℕ) : Type 0 where
@@ -47,14 +44,10 @@ pub record IsCut (g : Geometry) (p : Placement) (most : ℕ) (lines : List (List
 abbrev pub IsListing : Geometry → Placement → ℕ → List (List Move) → List ℕ → Type 0
 IsListing g p most lines text = IsComplete g p most lines text ⊎ IsCut g p most lines text
 
--- that a list of moves is no line, with the place at which it leaves all lines
-abbrev pub refused_line : ℕ → List ℕ
-refused_line place = codes "refused token: 1 not a line at " ++ decimal place ++ codes "\n"
-
--- the lines of a position: all of them, or those after a given one
+-- the lines of a position: all of them, or those after a given one, which is refused with its place if it is none
 abbrev pub IsListedText : Geometry → Placement → ℕ → ℕ → Option (List Move) → List ℕ → Type 0
 IsListedText g p n most None text = (lines : List (List Move)) × Lines g p n lines × IsListing g p most lines text
 IsListedText g p n most (Some l) text =
     ((lines : List (List Move)) × (rest : List (List Move)) × Lines g p n lines × After lines l rest
     × IsListing g p most rest text)
-    ⊎ ((place : ℕ) × IsPlace g p n l place × (text ≡ refused_line place))
+    ⊎ ((place : ℕ) × IsPlace g p n l place × (text ≡ codes "refused token: 1 not a line at " ++ decimal place ++ codes "\n"))

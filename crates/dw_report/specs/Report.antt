@@ -62,17 +62,14 @@ first_line g problem = codes "problem " ++ decimal problem.number ++ codes ": " 
 abbrev pub move_line : Geometry → Placement → List Listed → Listed → List ℕ
 move_line g p list l = text_among list l ++ codes " " ++ written g (play g p l.step) ++ codes "\n"
 
--- how many moves there are, and how many pieces each of them takes
-abbrev pub count_line : ℕ → ℕ → List ℕ
-count_line moves taken = codes "moves " ++ decimal moves ++ codes " taking " ++ decimal taken ++ codes "\n"
-
--- the lines of all legal moves in order, and their count
+-- the lines of all legal moves in order, how many there are, and how many pieces each of them takes
 pub record IsMovesText (g : Geometry) (p : Placement) (text : List ℕ) : Type 0 where
   pub list : List Listed
   pub all : AreListed g p list
   pub most : ℕ
   pub best : IsBest g p most
-  pub is : text ≡ flat_map (move_line g p list) list ++ count_line (length list) most
+  pub is : text ≡ flat_map (move_line g p list) list
+      ++ (codes "moves " ++ decimal (length list) ++ codes " taking " ++ decimal most ++ codes "\n")
 
 -- what is said of a position
 abbrev pub IsSaid : Geometry → Command → Request → Placement → List ℕ → Type 0

@@ -78,8 +78,7 @@ pub record Finishes (g : Geometry) (request : Request) (bytes : List ℕ) (left 
   pub took : Consumes (Some bytes) left read
   pub through : IsReadThrough g request problems left read
 
--- After a failed read the sink has taken the whole texts of just the chosen problems that end in the bytes read. The
--- problem that was asked for is none of those: reading ends after it.
+-- after a failed read the sink has the texts of just the chosen problems that end in the bytes read; no one was asked for
 pub record StopsReading (g : Geometry) (request : Request) (bytes : List ℕ)
     (left taken after : Option (List ℕ)) : Type 0 where
   pub read : List ℕ
@@ -106,13 +105,7 @@ pub record AreLinesOf (P : List ℕ → Type 0) (lines : List ℕ) : Type 0 wher
   pub front : IsBeginning lines text
   pub whole : AreWholeLines lines
 
--- the first line of a problem, and whole lines of what follows it
-pub record IsProblemPart (g : Geometry) (request : Request) (problem : Numbered) (out : List ℕ) : Type 0 where
-  pub lines : List ℕ
-  pub are : AreLinesOf (IsFurther g request problem.found) lines
-  pub is : out ≡ first_line g problem ++ lines
-
--- the whole texts of the chosen problems before the one of this number, and a part of that one's text
+-- the whole texts of the chosen problems before the one of this number, its first line, and whole lines of its rest
 pub record IsPartOn (g : Geometry) (request : Request) (number : ℕ) (problems : List Numbered) (out : List ℕ) :
     Type 0 where
   pub before : List Numbered
@@ -122,9 +115,9 @@ pub record IsPartOn (g : Geometry) (request : Request) (number : ℕ) (problems 
   pub here : problem.number ≡ number
   pub texts : List ℕ
   pub whole : AreTexts g request before texts
-  pub last : List ℕ
-  pub part : IsProblemPart g request problem last
-  pub is : out ≡ texts ++ last
+  pub lines : List ℕ
+  pub further : AreLinesOf (IsFurther g request problem.found) lines
+  pub is : out ≡ texts ++ (first_line g problem ++ lines)
 
 -- such a part of the report on some bytes, of which no more were read than that problem asks for
 pub record IsPart (g : Geometry) (request : Request) (read bytes out : List ℕ) : Type 0 where
@@ -134,8 +127,7 @@ pub record IsPart (g : Geometry) (request : Request) (read bytes out : List ℕ)
   pub need : ReadsUpTo g request.form number read
   pub part : IsPartOn g request number problems out
 
--- what the sink has taken is such a beginning whatever bytes follow those read; or the source's end was met, and it is
--- one of the bytes read
+-- the sink has taken such a beginning, whatever bytes follow those read; or the source's end was met, and none do
 pub record StopsAhead (P : (read text out : List ℕ) → Type 0) (bytes : List ℕ)
     (left taken after : Option (List ℕ)) : Type 0 where
   pub read : List ℕ
@@ -155,17 +147,12 @@ RunEnds g request (Some bytes) left taken after (Err ends.Read) = StopsReading g
 RunEnds g request (Some bytes) left taken after (Err ends.Write) =
     StopsAhead (λ read text out. BeginsReport g request text out) bytes left taken after
 
--- a search is stopped at the limit, or out of memory before it
-abbrev pub StopsSearch : ℕ → Stop → ℕ → Type 0
-StopsSearch limit Limit expanded = expanded ≡ limit
-StopsSearch limit Memory expanded = expanded ≤ limit
-
--- if positions are shown nothing stops, if moves are listed only lack of memory, and else a search
+-- positions are shown without a stop, moves listed with none but want of memory; a search may stop at its limit too
 abbrev pub MayStop : Command → ℕ → Stop → ℕ → Type 0
 MayStop asked.Show limit why expanded = ⊥
 MayStop asked.Moves limit why expanded = (why ≡ Memory) × (expanded ≡ 0)
-MayStop asked.Judge limit why expanded = StopsSearch limit why expanded
-MayStop asked.List limit why expanded = StopsSearch limit why expanded
+MayStop searches limit Limit expanded = expanded ≡ limit
+MayStop searches limit Memory expanded = expanded ≤ limit
 
 -- how a run is stopped, if it is
 abbrev pub StopsRightly : Command → ℕ → Result Summary RunFault → Type 0

@@ -47,8 +47,7 @@ pub data Verdict : Type 0 where
 abbrev pub HasOneKey : Geometry → Placement → ℕ → Move → Type 0
 HasOneKey g p n m = Keys g p n (m ∷ []) × (Win g p (n - 1) → ⊥)
 
--- no key; several keys or a shorter win; one key and choices further on, of which the first are told; one key and no
--- choice
+-- no key; several keys or a shorter win; one key and choices later, of which the first are told; one key, no choice
 abbrev pub IsVerdict : Geometry → Placement → ℕ → Verdict → Type 0
 IsVerdict g p n unsolvable = Keys g p n []
 IsVerdict g p n (cooked shortest keys) =

@@ -3,7 +3,9 @@ ghost use Rattle.std.specs.Prelude.{◌≡◌, ◌≤◌, IfOk, IsErrOf};
 ghost use Rattle.dw_solve.specs.declared.stop.Stop.TheVariants.{Limit};
 ghost use Rattle.dw_solve.specs.Searching.{IsCounted};
 ghost use Rattle.dw_solve.specs.Work.{moment, Searched, cut_off};
+ghost use Rattle.dw_memo.specs.Content.{IsMap};
 ghost use Rattle.dw_solve.specs.Asking.{Asked};
+ghost use Rattle.dw_solve.specs.Facts.{AreTrue};
 ghost use Rattle.dw_report.specs.Verdict.{IsVerdict, Tries};
 ghost use Rattle.dw_report.specs.Judging.{said_by};
 ghost use Rattle.dw_report.specs.inner.Judging.{AreOneKey, AreCooked};
@@ -41,6 +43,26 @@ pub fn judge<B: Board, M: Memo<B>, G: Guide<B>>(
     ensures searched { Searched B.geometry moves (cut_off result moves)
         (moment M.content M.dropped solver.old.memo solver.old.expanded)
         (moment M.content M.dropped solver.new.memo solver.new.expanded) }
+    ensures right { AreTrue B.geometry (M.content solver.new.memo) }
+    ensures map { IsMap (M.content solver.new.memo) }
+{
+    let judged = judged(alloc, solver, position, moves);
+    solver.keeps_its_facts();
+    judged
+}
+
+/// The verdict and the tries, one after the other.
+fn judged<B: Board, M: Memo<B>, G: Guide<B>>(
+    alloc: Global,
+    solver: &mut Solver<B, M, G>,
+    position: &Position<B>,
+    moves: u8,
+) -> Result<Judged<B>, Stop>
+    requires some { 1 ≤ moves }
+    requires few { moves ≤ 20 }
+    ensures verdict { IfOk result (λ judged. IsVerdict B.geometry position.now moves (said_by judged.verdict)) }
+    ensures tries { IfOk result (λ judged. Tries B.geometry position.now moves judged.tries.items) }
+    ensures asked { Asked B.geometry M.content M.dropped moves solver.old solver.new result }
 {
     searches_add_up();
     let verdict = verdict(alloc, solver, position, moves)?;

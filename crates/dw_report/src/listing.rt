@@ -11,7 +11,8 @@ ghost use Rattle.dw_list.specs.Listing.{lender, solver_of, stack_of, kept_of};
 ghost use Rattle.dw_list.specs.Standing.{AreToCome};
 ghost use Rattle.dw_list.specs.Tokens as tokens;
 ghost use Rattle.dw_report.specs.Request.{request_of};
-ghost use Rattle.dw_report.specs.ListedText.{IsListing, IsListedText, has_tokens, more_after, refused_line};
+ghost use Rattle.dw_report.specs.ListedText.{IsListing, IsListedText, more_after};
+ghost use Rattle.dw_report.specs.inner.Rows.{has_tokens, refused_line};
 ghost use Rattle.dw_report.specs.inner.Rows.{IsRow, IsNothing, StandsBefore, HasLines};
 ghost use Rattle.dw_report.specs.Running.{AreLinesOf, IsNoLine};
 ghost use Rattle.dw_report.specs.inner.Running.{TextEnds, SinkEnds, Spends, IsSound};
@@ -23,7 +24,7 @@ use arrayvec::{ArrayString, ArrayVec};
 use dw_board::board::Board;
 use dw_board::position::Position;
 use dw_list::fault::AfterFault;
-use dw_list::laws::{line_or_place, lines_exist};
+use dw_list::laws::{given_in_turn, line_or_place, lines_exist};
 use dw_list::lister::Lister;
 use dw_list::tokens::{MAX_MOVES, write_token};
 use dw_memo::memo::Memo;
@@ -165,6 +166,7 @@ fn write_listing<B: Board, K: Sink, M: Memo<B>, G: Guide<B>>(
     ensures spends { Spends (solver_of lister.old) (solver_of lister.new) result }
 {
     lines_have_texts();
+    given_in_turn();
     let mut text = LineText::new(position);
     let mut row = ArrayString::new();
     let mut written: u64 = 0;

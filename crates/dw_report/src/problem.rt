@@ -5,7 +5,8 @@ ghost use Rattle.dw_report.specs.Request.{request_of};
 ghost use Rattle.dw_report.specs.Report.{IsProblemText, IsMovesText};
 ghost use Rattle.dw_report.specs.declared.problem.TextFault.TheVariants as because;
 ghost use Rattle.dw_solve.specs.declared.stop.Stop.TheVariants as stops;
-ghost use Rattle.dw_report.specs.Running.{IsProblemPart, AreLinesOf, IsRefused};
+ghost use Rattle.dw_report.specs.inner.Running.{IsProblemPart};
+ghost use Rattle.dw_report.specs.Running.{AreLinesOf, IsRefused};
 ghost use Rattle.dw_report.specs.inner.Running.{TextEnds, SinkEnds, SearchesFor, IsRest, IsSound};
 ghost use Rattle.dw_report.specs.Running.{IsNoLine};
 

@@ -3,7 +3,8 @@ ghost use Rattle.std.specs.Prelude.{◌≡◌, ◌<◌, ◌++◌, length, codes,
 ghost use Rattle.dw_moves.specs.Order.{AreListed};
 ghost use Rattle.dw_report.specs.inner.Running.{at_once};
 ghost use Rattle.dw_report.specs.Report.{fen_fault_text, refusal_text, first_line as line_of};
-ghost use Rattle.dw_report.specs.Report.{move_line as line_of_move, count_line as line_of_count};
+ghost use Rattle.dw_report.specs.Report.{move_line as line_of_move};
+ghost use Rattle.dw_report.specs.inner.Rows.{count_line as line_of_count};
 ghost use Rattle.dw_notation.specs.Problems.{numbered};
 
 use crate::settings::Command;
@@ -69,7 +70,7 @@ pub fn move_line<B: Board>(
 
 /// The last line of a list of moves: how many they are, and how many pieces each of them takes.
 /// Example: of 5 moves that take one piece each it is `moves 5 taking 1` and a line end.
-pub fn count_line(moves: usize, taken: u8) -> ArrayString<64>
+pub(crate) fn count_line(moves: usize, taken: u8) -> ArrayString<64>
     ensures { result.bytes ≡ line_of_count moves taken }
 {
     let mut line = ArrayString::new();

@@ -97,6 +97,15 @@ impl<B: Board, M: Memo<B>, G: Guide<B>> Solver<B, M, G> {
         let _ = &self.search;
     }
 
+    /// All bounds in a solver's cache are right, and a position stands there once: a law, which does nothing.
+    /// Example: of a solver over a new memo it says that no bound is wrong.
+    pub fn keeps_its_facts(&self)
+        ensures right { AreTrue B.geometry (M.content self.now.memo) }
+        ensures map { IsMap (M.content self.now.memo) }
+    {
+        let _lost = self.search.memo.dropped();
+    }
+
     /// How many entries the cache has lost so far.
     /// Example: over a new memo it is 0 at the start.
     pub fn dropped(&self) -> u64

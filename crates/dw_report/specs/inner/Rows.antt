@@ -1,5 +1,5 @@
 -- The text of a line on a line of its own, and what a list of lines begins with.
-use Rattle.std.specs.Prelude.{◌≡◌, ℕ, ◌↔◌, List, [], ◌++◌, codes}
+use Rattle.std.specs.Prelude.{◌≡◌, ◌==◌, ◌||◌, ℕ, ◌↔◌, List, [], ◌++◌, Bool, codes, decimal}
 use Rattle.dw_board.specs.Geometry.{Geometry}
 use Rattle.dw_board.specs.Placement.{Placement}
 use Rattle.dw_moves.specs.Moves.{Move}
@@ -28,3 +28,15 @@ pub record HasLines (g : Geometry) (p : Placement) (stack : Standing) (kept : �
   pub fresh : kept ≡ 0
   pub lines : List (List Move)
   pub to_come : AreToCome g stack lines
+
+-- how many moves there are, and how many pieces each of them takes
+abbrev pub count_line : ℕ → ℕ → List ℕ
+count_line moves taken = codes "moves " ++ decimal moves ++ codes " taking " ++ decimal taken ++ codes "\n"
+
+-- that a list of moves is no line, with the place at which it leaves all lines
+abbrev pub refused_line : ℕ → List ℕ
+refused_line place = codes "refused token: 1 not a line at " ++ decimal place ++ codes "\n"
+
+-- lines have tokens on boards of 10 and 8 rows
+abbrev pub has_tokens : Geometry → Bool
+has_tokens g = (g.rows == 10) || (g.rows == 8)

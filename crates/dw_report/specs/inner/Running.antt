@@ -1,5 +1,5 @@
 -- What the parts of a run do.
-use Rattle.std.specs.Prelude.{◌≡◌, ℕ, ◌+◌, ◌≤◌, ◌<◌, List, [], ◌∷◌, length, Bool, true, Option, Result, Ok, Err}
+use Rattle.std.specs.Prelude.{◌≡◌, ℕ, ◌+◌, ◌≤◌, ◌<◌, List, [], ◌∷◌, ◌++◌, length, Bool, true, Option, Result, Ok, Err}
 use Rattle.dw_board.specs.Geometry.{Geometry}
 use Rattle.dw_board.specs.Placement.{Placement}
 use Rattle.dw_board.specs.Diagram.{diagram_text}
@@ -12,7 +12,7 @@ use Rattle.dw_solve.specs.Solving.{Solving}
 use Rattle.dw_solve.specs.declared.stop.Stop.{Stop}
 use Rattle.dw_solve.specs.declared.stop.Stop.TheVariants.{Memory, Limit}
 use Rattle.dw_report.specs.Request.{Request}
-use Rattle.dw_report.specs.Report.{chosen, IsSaid}
+use Rattle.dw_report.specs.Report.{chosen, IsSaid, IsFurther, first_line}
 use Rattle.dw_report.specs.declared.settings.Summary.{Summary}
 use Rattle.dw_report.specs.declared.settings.RunFault.{RunFault}
 use Rattle.dw_report.specs.declared.settings.RunFault.TheVariants as ends
@@ -20,7 +20,7 @@ use Rattle.dw_report.specs.declared.settings.Command.{Command}
 use Rattle.dw_report.specs.declared.settings.Command.TheVariants as asked
 use Rattle.dw_report.specs.declared.problem.TextFault.{TextFault}
 use Rattle.dw_report.specs.declared.problem.TextFault.TheVariants.{Stopped, Sink}
-use Rattle.dw_report.specs.Running.{AreRefused}
+use Rattle.dw_report.specs.Running.{AreRefused, AreLinesOf}
 
 -- what a run can be asked for: 1 to 20 moves, and at least one line
 pub record IsSound (g : Geometry) (request : Request) : Type 0 where
@@ -88,3 +88,14 @@ SearchesFor asked.List old new result = Spends old new result
 abbrev pub ended_by : TextFault → ℕ → RunFault
 ended_by (Stopped why) expanded = ends.Stopped why expanded
 ended_by Sink expanded = ends.Write
+
+-- a search is stopped at the limit, or out of memory before it
+abbrev pub StopsSearch : ℕ → Stop → ℕ → Type 0
+StopsSearch limit Limit expanded = expanded ≡ limit
+StopsSearch limit Memory expanded = expanded ≤ limit
+
+-- the first line of a problem, and whole lines of what follows it
+pub record IsProblemPart (g : Geometry) (request : Request) (problem : Numbered) (out : List ℕ) : Type 0 where
+  pub lines : List ℕ
+  pub are : AreLinesOf (IsFurther g request problem.found) lines
+  pub is : out ≡ first_line g problem ++ lines

@@ -1,6 +1,6 @@
 use Rattle.std.proofs.Common.{◌∙◌, refl, ap, Err}
 use Rattle.std.proofs.lemmas.Result.{err_from_is_err_and}
-use Rattle.dw_report.specs.JudgedText.{IsVerdictLine}
+use Rattle.dw_report.specs.inner.JudgedText.{IsVerdictLine}
 use Rattle.dw_report.proofs.TryTextLemmas.{nothing_written}
 use Rattle.dw_report.proofs.FaultLemmas.{sink_stopped, sink_failed, spends_done, spends_no_memory, spends_sink}
 use Rattle.dw_report.proofs.FaultLemmas.{spends_stopped}

@@ -25,7 +25,7 @@ use Rattle.dw_report.proofs.listing.write_listing.Goals as goal
 pub lines-init : goal.lines-init
 lines-init g c = record {
   lender = refl;
-  rows = no_rows g.B.Board.geometry c.args.position.now (stack_of c.args.lister.now) (g.K.Sink.taken c.args.sink.now);
+  rows = no_rows c.given_in_turn.ensures g.B.Board.geometry c.args.position.now (stack_of c.args.lister.now) (g.K.Sink.taken c.args.sink.now);
   text = c.new-text.ensures.text;
   start = c.new-text.ensures.start;
   comes = comes_first g.B.Board.geometry c.args.lister.now (moves_of c.new-text.result) c.requires.ahead.fresh
@@ -127,7 +127,7 @@ returns-in_err-write_row-clause-text g c =
     let first = line_next geo c.in_ok-advance.field-0 (stack_of c.lines.lister) (stack_of c.advance.new.self)
     c.in_ok-advance.ensures.next c.if-not-branch.false in
     λ lines all. row_ends geo p most c.requires.some start lines all (lines_text c.lines_have_texts.ensures geo
-    g.met.B.Board.numbers start p lines c.requires.ahead.position all) (stack_of c.lines.lister)
+    g.met.B.Board.numbers start p lines c.requires.ahead.position all) c.given_in_turn.ensures (stack_of c.lines.lister)
     (stack_of c.advance.new.self) c.lines.written _ _ _ c.write_row.result c.from_residual-in_err-write_row.result
     c.in_err-write_row.field-0.0 why.0
     c.lines.invariant.rows first c.lines-test.true c.in_err-write_row.was why.1 (sym why.2)
@@ -152,7 +152,7 @@ lines-preserved g c =
     let moves = c.in_ok-write_row.ensures.moves ∙ c.line.ensures.line in
     record {
       lender = c.advance.ensures.lender ∙ c.lines.invariant.lender;
-      rows = row_written geo p start (stack_of c.lines.lister) (stack_of c.advance.new.self) c.lines.written _ _ _
+      rows = row_written c.given_in_turn.ensures geo p start (stack_of c.lines.lister) (stack_of c.advance.new.self) c.lines.written _ _ _
           c.lines.invariant.rows first row;
       text = c.write_row.ensures.of;
       start = c.write_row.ensures.start ∙ c.lines.invariant.start;

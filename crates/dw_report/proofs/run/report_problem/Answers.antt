@@ -3,7 +3,8 @@ use Rattle.std.proofs.lemmas.Result.{err_from_is_err_and}
 use Rattle.dw_notation.specs.Problems.{numbered}
 use Rattle.dw_report.specs.Request.{request_of}
 use Rattle.dw_report.specs.Report.{IsProblemText, IsReportOn}
-use Rattle.dw_report.specs.Running.{IsProblemPart, IsPartOn}
+use Rattle.dw_report.specs.inner.Running.{IsProblemPart}
+use Rattle.dw_report.specs.Running.{IsPartOn}
 use Rattle.dw_report.specs.declared.settings.Summary.{Summary}
 use Rattle.dw_report.proofs.RunLemmas.{counts_chosen}
 use Rattle.dw_report.proofs.RunStepLemmas.{counts_passed}
