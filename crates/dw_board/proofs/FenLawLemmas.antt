@@ -7,7 +7,7 @@ use Rattle.dw_board.specs.Geometry.{Geometry, IsBoard}
 use Rattle.dw_board.specs.Placement.{Placement, IsPosition}
 use Rattle.dw_board.specs.FenTokens.{Token, tokens_from}
 use Rattle.dw_board.specs.Fen.{fen, short_fen, Start, read_from, fault}
-use Rattle.dw_board.specs.FenGrammar.{Fen}
+use Rattle.dw_board.specs.FenGrammar.{texts, Fen}
 use Rattle.dw_board.specs.FenText.{written}
 use Rattle.dw_board.specs.FenFaults.{IsFirstFault, too_long, fault_at}
 use Rattle.dw_board.specs.FenReader.{place_of}

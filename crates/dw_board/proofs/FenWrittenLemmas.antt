@@ -11,7 +11,7 @@ use Rattle.dw_board.specs.Placement.{Placement, IsPosition, empty, at, is_of, is
 use Rattle.dw_board.specs.FenTokens.{Token, tokens_from, with_byte, onto_run, is_blank, is_digit, begins_with_digit}
 use Rattle.dw_board.specs.FenTokens.{side_named, number_named}
 use Rattle.dw_board.specs.inner.FenBlanks.{AreDigits}
-use Rattle.dw_board.specs.FenGrammar.{words, Placing, IsItem, IsItems, IsList, named, all_named, Sets, Names}
+use Rattle.dw_board.specs.FenGrammar.{texts, Placing, IsItem, IsItems, IsList, named, all_named, Sets, Names}
 use Rattle.dw_board.specs.FenGrammar.{number, men, kings, single, more, bare, full, nothing, ends, two_lists}
 use Rattle.dw_board.specs.FenText.{squares_held, king_mark, item_text, items_text, side_text, written}
 use Rattle.dw_board.specs.declared.piece.Side.{Side}
@@ -23,8 +23,9 @@ use Rattle.dw_board.proofs.FenTokenLemmas.{tokens_from-sign, tokens_from-run}
 use Rattle.dw_board.proofs.WrittenLemmas.{held-few}
 use Rattle.dw_board.proofs.FenSetAllLemmas.{kind_at, piece_on, pieces_of, sets_all}
 
-abbrev texts : List Token → List (List ℕ)
-texts ts = map (λ t. t.text) ts
+-- the words of a text
+abbrev words : List ℕ → List (List ℕ)
+words text = texts (tokens_from 1 text)
 
 -- ---- the words do not depend on the place
 texts-onto_run : (digit a b : ℕ) (xs ys : List Token) → texts xs ≡ texts ys → texts (onto_run digit a xs)
