@@ -139,8 +139,8 @@ def contract(file, start, clause=""):
     return whole, Imports(text)
 
 
-def public_text(path):
-    """What the contracts of a file's public items say: no private functions, no methods of private types, no proofs."""
+def public_text(path, left_out):
+    """What a file's public items say: no private functions, no methods of private types, and no items left out."""
     text = path.read_text()
     private = set(re.findall(r"^(?:pub\((?:crate|super)\) )?(?:struct|enum|trait) (\w+)", text, re.MULTILINE)) | PRIVATE_TRAITS
     kept, impl, lines = [], "", iter(text.splitlines())
@@ -154,7 +154,7 @@ def public_text(path):
             skip(lines, head[-1], function[1] + "}")
             if function[2] == "pub " or function[1] and (" for " in impl or "trait" in impl):
                 kept += head
-        elif re.match(PROOF, line):
+        elif re.match(left_out, line):
             skip(lines, line, "};", str.endswith)
         elif not re.match(r"\s*((ghost )?use |//|#\[)", line):
             kept.append(line)
@@ -178,8 +178,9 @@ def skip(lines, line, end, ends=str.__eq__):
         next(line for line in lines if ends(line, end))
 
 
-# Ghost items that are proofs, which nobody has to believe.
+# Ghost items that are proofs, which nobody has to believe, and those that say how a public type is kept.
 PROOF = r"\s*ghost (laws|total|matches_\w+|respects_eq|inverse|inverse_ok|numbers|shifts|word_is) ="
+KEPT = PROOF.replace("(", "(view|invariant|")
 LAYERS = [f"dw_{layer}" for layer in "board moves memo solve notation list report".split()] + ["dw"]
 SOURCES = [path for layer in LAYERS for path in sorted((CRATES / layer).glob("src/**/*.rt"))]
 PRIVATE_TRAITS = {name for path in SOURCES for name in re.findall(r"^pub\(crate\) trait (\w+)", path.read_text(), re.M)}
@@ -212,14 +213,15 @@ def check_citations():
 
 def check_inner():
     """specs/inner has what no public contract leads to, and the rest of specs nothing else."""
-    seen = reached([public_text(path) for path in SOURCES])
+    seen = reached([public_text(path, PROOF) for path in SOURCES])
     known = {id(definition) for definition in seen}
     for file in FILES.values():
         if file.path.relative_to(CRATES).parts[0] in LAYERS:
             wrong = [n for n, d in file.definitions.items() if (id(d) in known) == ("inner" in file.path.parts)]
             assert not wrong, f"{file.path.relative_to(TOP)}: {' '.join(wrong)}"
     print(f"specs: the public contracts lead to {len(seen)} definitions, none of them in specs/inner")
-    private = sorted({name for definition in seen for name in private_types(definition)})
+    promised = reached([public_text(path, KEPT) for path in SOURCES])
+    private = sorted({name for definition in promised for name in private_types(definition)})
     assert not private, f"definitions of public contracts name types that are not public: {' '.join(private)}"
 
 

@@ -37,8 +37,8 @@ pub(crate) fn make_room<B: Board>(slots: &mut Slots<B>, used: usize, most: usize
     }
 }
 
-/// Makes the slots twice as many, and brings each position to its own slot. If memory is refused, nothing changes. It
-/// is rare, and stands apart from the notes between.
+/// Makes the slots twice as many, in the memory that was taken at the start, and brings each position to its own slot.
+/// It is rare, and stands apart from the notes between.
 #[cold]
 #[inline(never)]
 fn double<B: Board>(slots: &mut Slots<B>)

@@ -1,4 +1,4 @@
-//! A memo of fixed size, in which each position has one slot.
+//! A memo in a table, in which each position has one slot. All memory of the table is taken at the start.
 ghost use Rattle.std.specs.Prelude.{◌≡◌, ◌≤◌, ◌<◌, [], length, IfOk};
 ghost use Rattle.dw_memo.specs.Slots as of;
 ghost use Rattle.dw_memo.specs.declared.memo.Noted.TheVariants.{Kept};
