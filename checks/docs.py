@@ -3,7 +3,7 @@
 
     checks/docs.py
 
-Each link of README.md and docs/ has to lead to a file, and to a heading of it, and each file named there has to
+Each link of the pages has to lead to a file, and to a heading of it, and each file named there has to
 exist. No line there has more than 120 columns. The contract in docs/PROVED.md has to be that of `run`, word for word,
 and each definition in its reading order has to stand in the file that is named for it. The rows on FEN texts in
 docs/FORMATS.md have to be what `dw show` answers, and the problems in docs/REPORT.md and README.md have to have the
@@ -15,7 +15,7 @@ import subprocess
 
 TOP = pathlib.Path(__file__).resolve().parent.parent
 DW = TOP / "dw"
-TEXTS = [TOP / "README.md", *sorted((TOP / "docs").glob("*.md"))]
+TEXTS = [TOP / "README.md", TOP / "examples/README.md", *sorted((TOP / "docs").glob("*.md"))]
 README, PROVED, FORMATS, REPORT = TOP / "README.md", *(TOP / f"docs/{name}.md" for name in
                                                        ("PROVED", "FORMATS", "REPORT"))
 RUN = TOP / "crates/dw_report/src/run.rt"
