@@ -3,10 +3,10 @@
 
     checks/examples.py
 
-The table in examples/README.md has each answer and its command. It has to be what the program writes, and what the bare
-recursion of judging.py makes of the positions; of examples/games.pdn bad_input.py tells these, and what is refused. Each
-file of problems has to have an answer. Each example of `dw --help`, `dw show --help` and so on, a line that begins with
-two blanks and `dw` or `echo`, has to end with status 0 or 1 and with nothing on standard error.
+The table in examples/README.md has each answer and its command. It has to be what the program writes, and what the
+bare recursion of judging.py makes of the positions; of examples/games.pdn bad_input.py tells these, and what is
+refused. Each file of problems has to have an answer. Each example of `dw --help`, `dw show --help` and so on, a line
+that begins with two blanks and `dw` or `echo`, has to end with status 0 or 1 and with nothing on standard error.
 """
 import argparse
 import pathlib

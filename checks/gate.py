@@ -1,6 +1,6 @@
 #!/usr/bin/env python3
-"""gate.py: calls `./check` in copies whose `rt ci` and checks only say numbers, and compares its last line, its end, and
-what it says if a Debian package is missing.
+"""gate.py: calls `./check` in copies whose `rt ci` and checks only say numbers, and compares its last line, its end,
+and what it says if a Debian package is missing.
 
     checks/gate.py
 

@@ -135,8 +135,9 @@ def own_root(room):
         (admin / name).mkdir(parents=True)
     (admin / "available").write_text("")
     version = well(run(["dpkg-query", "-W", "-f", "${Version}", "libc6"]))
-    (admin / "status").write_text("Package: libc6\nStatus: install ok installed\nMaintainer: nobody <nobody@localhost>\n"
-                                  f"Architecture: amd64\nVersion: {version}\nDescription: the C library\n\n")
+    (admin / "status").write_text("Package: libc6\nStatus: install ok installed\nArchitecture: amd64\n"
+                                  "Maintainer: nobody <nobody@localhost>\nDescription: the C library\n"
+                                  f"Version: {version}\n\n")
     return room / "root"
 
 
