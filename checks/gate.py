@@ -80,6 +80,12 @@ def sums():
             assert (ran.stdout.splitlines()[-1], ran.returncode) == (last, status), (how, ran)
             wanted = ["rt ci"] + ["python3 checks/all.py --slow"] * (how[0].endswith(" 0 failed") and how[1] == 0)
             assert called == wanted, (how, called)
+    with tempfile.TemporaryDirectory(prefix="dw-gate-") as name:
+        room = pathlib.Path(name)
+        copy(room, *ROWS[0][:4])
+        for words in (["--help"], ["--slow", "x"], ["docs"]):
+            ran, called = call(room, *words)
+            assert (ran.returncode, ran.stderr, called) == (2, "Usage: ./check [--slow]\n", []), (words, ran, called)
     print(f"{len(ROWS)} rows of what the gate and the checks may say: added up as stated")
 
 
