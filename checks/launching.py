@@ -84,7 +84,10 @@ class Copy:
         write_program(self.kit / "bin/rattle-link", LINKER)
         write_program(room / "path/rt", RT.format(kit=self.kit))
         (self.kit / "version").write_text("kit 1\n")
-        self.environment = os.environ | {"PATH": f"{room / 'path'}{os.pathsep}{os.environ['PATH']}"}
+        # What a call that was killed leaves goes with the copy.
+        (room / "temporary").mkdir()
+        self.environment = os.environ | {"PATH": f"{room / 'path'}{os.pathsep}{os.environ['PATH']}",
+                                         "TMPDIR": str(room / "temporary")}
         self.program = self.top / "crates/dw/out/dw"
 
     def start(self, *words):
@@ -136,6 +139,13 @@ def end(processes):
     for process in processes:
         with contextlib.suppress(ProcessLookupError):
             os.kill(process, signal.SIGKILL)
+
+
+def commands():
+    """The command lines of all processes."""
+    for path in pathlib.Path("/proc").glob("[0-9]*/cmdline"):
+        with contextlib.suppress(OSError):
+            yield path.read_bytes()
 
 
 def until(holds):
@@ -211,6 +221,21 @@ def interrupted(number):
     print(f"a call ended by {signal.Signals(number).name}: no half library, and the next call builds the rest")
 
 
+def unread():
+    """A call ends if nobody reads any more what it says, and its provers with it."""
+    with copy() as made:
+        (made.kit / "slow").write_text("dw_memo")
+        process = made.start()
+        while "dw_memo: being proved" not in process.stderr.readline():
+            pass
+        until((made.kit / "waits").exists)
+        process.stderr.close()
+        assert process.wait(timeout=PATIENCE) == 3 and made.is_whole()
+        until(lambda: not any(str(made.kit).encode() in words for words in commands()))
+        assert not list((made.top.parent / "temporary").iterdir()), "its logs are left"
+    print("a call whose messages are not read: ended, with its provers")
+
+
 def at_once():
     """Of two calls one builds. The other says that it waits, and builds nothing."""
     with copy() as made:
@@ -250,6 +275,7 @@ def main():
     fails()
     for number in (signal.SIGINT, signal.SIGTERM, signal.SIGHUP, signal.SIGKILL):
         interrupted(number)
+    unread()
     at_once()
 
 
