@@ -98,14 +98,14 @@ def interrupted(words, folder, wanted):
 
 def stopped(folder):
     """Runs that --positions and --timeout stop are named by the page's command, and can be asked again."""
-    hard = "W:W27,45:B16\nW:WK46:B28\nB:W31,K35:BK40,45,K49\nW:W31-50:B1-20\n"
-    (folder / "problems.fen").write_text(hard)
+    # Two that are solved at once, and two that take minutes in 20 moves.
+    (folder / "problems.fen").write_text("W:W32:B28\nW:WK46:B28\nB:W31,K35:BK40,45,K49\nW:W31-50:B1-20\n")
     named = recipe("awk")
     for more, n, wanted in ((["--positions", "20"], "2", "3\n4\n"), ([], "20", "3\n4\n")):
         words = ["judge", "-n", n, *more]
         commands = recipe("--resume", words).replace("$n", "4")
         if not more:
-            commands = commands.replace("parallel ", "parallel --timeout 3 ")
+            commands = commands.replace("parallel ", "parallel --timeout 5 ")
         follow(commands, folder)
         assert follow(named, folder).stdout.decode() == wanted, (words, (folder / "log").read_text())
         follow("rm -r log parts report", folder)
