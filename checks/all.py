@@ -1,58 +1,70 @@
 #!/usr/bin/env python3
 """all.py: runs all checks of this folder, and says of each what it is for, how long it took and whether it passed.
 
-    checks/all.py [--slow] [NAME ..]
+    checks/all.py [--slow] [--jobs N] [NAME ..]
 
-Without a name it runs those that need only the program, which `./dw` builds, Python and a C compiler. With --slow it
-runs the others too, which ask the prover for minutes or hours. With names, as `judging` or `judging.py`, it runs just
-these. What a check is for stands in the first paragraph of its own text, and nowhere else. Of a check that failed the
-last lines are shown. It ends with 0 if all that it ran passed.
+Without a name it runs all but those that ask the prover for hours. With --slow it runs these too, and those that draw
+random positions draw more. With names, as `judging` or `judging.py`, it runs just these. As many run side by side as
+there are processors, or as --jobs says, the longest first; what one of them says is shown when it has ended. What a
+check is for stands in the first paragraph of its own text, and nowhere else. Of a check that failed the last lines are
+shown. The last line has the numbers of those that passed and failed; it ends with 0 if all that it ran passed.
 """
 import argparse
 import ast
+import concurrent.futures
 import dataclasses
+import os
 import pathlib
 import subprocess
 import sys
 import tempfile
 import textwrap
+import threading
 import time
+
+import refused_search
 
 HERE = pathlib.Path(__file__).resolve().parent
 TOP = HERE.parent
 SHOWN = 20  # lines of a check that failed
+PRINTING = threading.Lock()
 
 
 @dataclasses.dataclass
 class Check:
     name: str
-    arguments: tuple = ()
+    # What it is given with --slow.
+    slow: tuple = ()
     # A file in which its output has to stand, byte for byte.
     wanted: str = ""
-    # Crates whose programs have to be built before it.
-    programs: tuple = ()
 
 
-QUICK = [
+# The longest first.
+CHECKS = [
+    Check("judging", slow=("--count", "5000")),
+    Check("refused_memory"),
+    Check("long_list"),
+    Check("random_moves", slow=("--count", "1000000")),
+    Check("settings"),
+    Check("launching"),
+    Check("bad_input"),
+    Check("parallel"),
+    Check("borrow"),
+    Check("machines"),
+    Check("wins", wanted="crates/dw_tests_search/stdin"),
+    Check("examples"),
+    Check("random_fens", slow=("--count", "1000000")),
+    Check("refused_search"),
+    Check("perft"),
+    Check("installing"),
+    Check("gate"),
+    Check("options"),
     Check("docs"),
     Check("definitions"),
-    Check("options"),
-    Check("arguments"),
-    Check("examples"),
     Check("causes"),
-    Check("settings"),
-    Check("parallel"),
-    Check("bad_input"),
-    Check("refused_memory"),
-    Check("random_fens"),
-    Check("perft"),
-    Check("wins", wanted="crates/dw_tests_search/stdin"),
-    Check("judging"),
-    Check("random_moves"),
-    Check("long_list"),
+    Check("arguments"),
 ]
 SLOW = [
-    Check("refused_search", programs=("dw_tests_rules", "dw_tests_search")),
     Check("edits"),
 ]
 
@@ -63,16 +75,10 @@ def purpose(check):
     return " ".join(text.split("\n\n")[0].removeprefix(f"{check.name}.py: ").split())
 
 
-def run(check, output):
+def run(check, slow, output):
     """Runs a check, and answers whether it passed."""
-    for crate in check.programs:
-        folder = TOP / "crates" / crate
-        with open(folder / "stdin", "rb") as rows:
-            built = subprocess.run(["rt", "run"], cwd=folder, stdin=rows, stdout=output, stderr=output, check=False)
-        if built.returncode != 0:
-            return False
-    ran = subprocess.run([sys.executable, HERE / f"{check.name}.py", *check.arguments], stdout=output,
-                         stderr=subprocess.STDOUT, cwd=TOP, check=False)
+    ran = subprocess.run([sys.executable, HERE / f"{check.name}.py", *(check.slow if slow else ())], stdout=output,
+                         stdin=subprocess.DEVNULL, stderr=subprocess.STDOUT, cwd=TOP, check=False)
     if check.wanted:
         output.seek(0)
         stands = output.read() in (TOP / check.wanted).read_bytes()
@@ -82,44 +88,56 @@ def run(check, output):
     return ran.returncode == 0
 
 
-def report(check):
+def report(check, slow):
     """Runs a check and tells of it."""
-    print(textwrap.fill(f"{check.name}: {purpose(check)}", 100, subsequent_indent="    "), flush=True)
     started = time.monotonic()
     with tempfile.TemporaryFile() as output:
-        passed = run(check, output)
+        passed = run(check, slow, output)
         seconds = time.monotonic() - started
-        if not passed:
-            output.seek(0)
-            for line in output.read().decode(errors="replace").splitlines()[-SHOWN:]:
-                print(f"    | {line}")
-    print(f"    {'passed' if passed else 'FAILED'} in {seconds:.1f} s", flush=True)
+        output.seek(0)
+        said = output.read().decode(errors="replace").splitlines()[-SHOWN:]
+    with PRINTING:
+        print(textwrap.fill(f"{check.name}: {purpose(check)}", 100, subsequent_indent="    "))
+        for line in [] if passed else said:
+            print(f"    | {line}")
+        print(f"    {'passed' if passed else 'FAILED'} in {seconds:.1f} s", flush=True)
     return passed
 
 
 def chosen(names, slow):
     """The checks of these names, or all."""
-    known = {check.name: check for check in QUICK + SLOW}
+    known = {check.name: check for check in CHECKS + SLOW}
     there = {path.stem for path in HERE.glob("*.py")} - {"all"}
     assert set(known) == there, f"all.py lacks, or has too much: {sorted(set(known) ^ there)}"
     if not names:
-        return QUICK + SLOW * slow
+        return CHECKS + SLOW * slow
     unknown = [name for name in names if name.removesuffix(".py") not in known]
     if unknown:
         sys.exit(f"all.py: there is no check {', '.join(unknown)}")
     return [known[name.removesuffix(".py")] for name in names]
 
 
+def build(checks):
+    """Builds what is not there, so that no check's time has that in it."""
+    subprocess.run([TOP / "dw", "--help"], stdout=subprocess.DEVNULL, check=True)
+    if any(check.name == "refused_search" for check in checks):
+        refused_search.build()
+
+
 def main():
     words = argparse.ArgumentParser(description="Runs the checks of this folder.")
-    words.add_argument("--slow", action="store_true", help="also those that ask the prover")
+    words.add_argument("--slow", action="store_true", help="also those that ask the prover, and more random positions")
+    words.add_argument("--jobs", type=int, default=len(os.sched_getaffinity(0)), help="how many run side by side")
     words.add_argument("names", nargs="*", metavar="NAME", help="just these")
     given = words.parse_args()
     checks = chosen(given.names, given.slow)
-    # Built first, so that no check's time has that in it.
-    subprocess.run([TOP / "dw", "--help"], stdout=subprocess.DEVNULL, check=True)
-    failed = [check.name for check in checks if not report(check)]
-    print(f"{len(checks)} checks, {len(failed)} failed{': ' if failed else ''}{', '.join(failed)}")
+    build(checks)
+    with concurrent.futures.ThreadPoolExecutor(max(given.jobs, 1)) as pool:
+        passed = list(pool.map(lambda check: report(check, given.slow), checks))
+    failed = [check.name for check, well in zip(checks, passed) if not well]
+    if failed:
+        print(f"all.py: FAILED: {' '.join(failed)}")
+    print(f"{len(checks) - len(failed)} passed, {len(failed)} failed")
     return 1 if failed else 0
 
 

@@ -1,12 +1,13 @@
 #!/usr/bin/env python3
-"""docs.py: compares what the documents name with what is there: links, definitions, the headline, FEN texts.
+"""docs.py: compares what the documents name with what is there: links, definitions, the headline, FEN texts, verdicts.
 
     checks/docs.py
 
-Each link of README.md and docs/ has to lead to a file, and to a heading of it, and each file named there has to
-exist. No line there has more than 120 columns. The contract in docs/PROVED.md has to be that of `run`, word for word,
-and each definition in its reading order has to stand in the file that is named for it. The rows on FEN texts in
-docs/FORMATS.md have to be what `dw show` answers.
+Each link of the pages has to lead to a file, and to a heading of it, and each file named there has to exist. No line
+there has more than 120 columns. The contract in docs/PROVED.md has to be that of `run`, word for word, and each
+definition in its reading order has to stand in the file that is named for it. The rows on FEN texts in docs/FORMATS.md
+have to be what `dw show` answers, and the problems in docs/REPORT.md and README.md have to have the diagrams, verdicts
+and lines that stand there.
 """
 import pathlib
 import re
@@ -14,8 +15,10 @@ import subprocess
 
 TOP = pathlib.Path(__file__).resolve().parent.parent
 DW = TOP / "dw"
-TEXTS = [TOP / "README.md", *sorted((TOP / "docs").glob("*.md"))]
-PROVED, FORMATS, RUN = TOP / "docs/PROVED.md", TOP / "docs/FORMATS.md", TOP / "crates/dw_report/src/run.rt"
+TEXTS = [TOP / "README.md", TOP / "examples/README.md", *sorted((TOP / "docs").glob("*.md"))]
+README, PROVED, FORMATS, REPORT = TOP / "README.md", *(TOP / f"docs/{name}.md" for name in
+                                                       ("PROVED", "FORMATS", "REPORT"))
+RUN = TOP / "crates/dw_report/src/run.rt"
 LINK = re.compile(r"\[[^\]]*\]\(([^)\s]+)\)")
 MOST = 120
 
@@ -116,12 +119,37 @@ def check_fen_texts():
     print(f"docs/FORMATS.md: {len(rows)} FEN texts, as told")
 
 
+def answer(words, fen):
+    ran = subprocess.run([DW, *words], input=fen.encode() + b"\n", capture_output=True, timeout=3600, check=False)
+    assert (ran.returncode, ran.stderr) == (0, b""), (words, fen, ran)
+    return ran.stdout.decode().splitlines()
+
+
+def check_verdicts():
+    """A problem's diagram stands on the left, if it has one, and what `dw judge` says on the right."""
+    asked = r"^\*\*\w+\.\*\* `([^`]+)`, asked with `-n (\d+)`:\n\n((?: {4}.*\n)+)"
+    problems = re.findall(asked, REPORT.read_text(), re.MULTILINE)
+    assert len(problems) >= 4, problems
+    for fen, n, block in problems:
+        lines = [line[4:] for line in block.splitlines()]
+        drawn = [line[:12] for line in lines if line.startswith("|")]
+        assert drawn in ([], answer(["show"], fen)[1:]), fen
+        said = [line[12:].strip() if line.startswith("|") else line for line in lines]
+        assert [line for line in said if line] == answer(["judge", "-n", n], fen)[1:], (fen, said)
+    calls = re.findall(r"^ {4}\$ echo (\S+) \| \./dw (.*)\n((?: {4}[^$\n].*\n)+)", README.read_text(), re.MULTILINE)
+    assert len(calls) >= 2, calls
+    for fen, words, block in calls:
+        assert [line[4:] for line in block.splitlines()] == answer(words.split(), fen), (fen, words)
+    print(f"{len(problems)} problems in docs/REPORT.md and {len(calls)} in README.md, as told")
+
+
 def main():
     check_links()
     check_paths()
     check_headline()
     check_definitions()
     check_fen_texts()
+    check_verdicts()
 
 
 if __name__ == "__main__":

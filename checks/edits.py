@@ -10,8 +10,7 @@ and memory for, and says at its end what came of each. This program ends with 0 
 `rt lib` or `rt check` kept in crates/*/out is copied too. `rt lib` is run first in the crates named and in those that
 they stand on, lowest first, which takes minutes for each of which nothing is kept. After that an edit takes 15 to 40 s.
 
-Files that end in .borrow hold uses that must not compile, in the form of an edit. The borrow check has to refuse
-each, before any proof; `rt must-fail` does not take such edits, so this program tries them itself.
+Files there that end in .borrow hold uses that must not compile, which borrow.py tries.
 """
 import concurrent.futures
 import os
@@ -99,29 +98,6 @@ def with_edit(edit, folder):
     return folder / file, text.replace(old, new)
 
 
-def compiles(room, crate, edit):
-    """Whether the borrow check lets the crate pass with this edit."""
-    folder = room / "crates" / crate
-    file, text = with_edit(edit, folder)
-    kept = file.read_text(encoding="utf-8")
-    file.write_text(text, encoding="utf-8")
-    run = subprocess.run(["rt", "check", "--only="], cwd=folder, stdout=subprocess.PIPE, stderr=subprocess.STDOUT,
-                         text=True, check=False)
-    file.write_text(kept, encoding="utf-8")
-    return "error[borrow-" not in run.stdout
-
-
-def all_refused(room, crates):
-    """Whether the prover refused each edit of these crates, and the borrow check each use that must not compile."""
-    passed = subprocess.run(["rt", "must-fail", *crates], cwd=room, check=False).returncode == 0
-    for crate in crates:
-        for edit in sorted((EDITS / crate).glob("*.borrow")):
-            passes = compiles(room, crate, edit)
-            passed = passed and not passes
-            print(f"{crate}/{edit.name}: {'NOT REFUSED' if passes else 'refused, as it must be'} by the borrow check")
-    return passed
-
-
 def main(words):
     known = sorted(folder.name for folder in EDITS.iterdir() if folder.is_dir())
     unknown = [word for word in words if word not in known]
@@ -136,7 +112,7 @@ def main(words):
         build(room, crates)
         for crate in crates:
             put_edits(room, crate)
-        passed = all_refused(room, crates)
+        passed = subprocess.run(["rt", "must-fail", *crates], cwd=room, check=False).returncode == 0
     print("edits.py: each edit was refused" if passed else "edits.py: not all were refused, as told above")
     return 0 if passed else 1
 

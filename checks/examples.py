@@ -3,15 +3,17 @@
 
     checks/examples.py
 
-examples/problems.judged and examples/problems.listed are the reports of `dw judge -n 2` and `dw list -n 2 --lines 3` on
-examples/problems.fen. Each has to be what the program writes, and what the bare recursion of judging.py makes of the
-positions. Each example of `dw --help`, `dw show --help` and so on, a line that begins with two blanks and `dw` or
-`echo`, has to end with status 0 or 1 and with nothing on standard error.
+The table in examples/README.md has each answer and its command. It has to be what the program writes, and what the
+bare recursion of judging.py makes of the positions; of examples/games.pdn bad_input.py tells these, and what is
+refused. Each file of problems has to have an answer. Each example of `dw --help`, `dw show --help` and so on, a line
+that begins with two blanks and `dw` or `echo`, has to end with status 0 or 1 and with nothing on standard error.
 """
+import argparse
 import pathlib
 import re
 import subprocess
 
+import bad_input
 import judging
 from perft import Board, pieces
 from wins import fen
@@ -19,14 +21,14 @@ from wins import fen
 TOP = pathlib.Path(__file__).resolve().parent.parent
 DW = TOP / "dw"
 EXAMPLES = TOP / "examples"
-# The words of a report, and the file that holds it.
-REPORTS = [(["judge", "-n", "2"], "problems.judged"), (["list", "-n", "2", "--lines", "3"], "problems.listed")]
+ROW = re.compile(r"^\| `([^`]+)` \| `dw ([^`]+)` \|$", re.MULTILINE)
 COMMANDS = ["show", "moves", "judge", "list"]
 EXAMPLE = re.compile(r"  ((?:echo .* \| )?dw .*)")
+ALL_LINES = 1_000_000_000
 
 
-def run(words):
-    return subprocess.run([DW, *words], cwd=TOP, capture_output=True, timeout=600, check=False)
+def run(words, folder=TOP):
+    return subprocess.run([DW, *words], cwd=folder, capture_output=True, timeout=600, check=False)
 
 
 def position(text):
@@ -35,31 +37,56 @@ def position(text):
     return {square: piece for part in lists for square, piece in pieces(part[0], part[1:])}, turn
 
 
-def recursion(words):
+def asked(words):
+    """What a command asks for."""
+    known = argparse.ArgumentParser()
+    known.add_argument("command", choices=("judge", "list"))
+    known.add_argument("-n", type=int)
+    known.add_argument("--lines", type=int, default=ALL_LINES)
+    known.add_argument("--pdn", action="store_true")
+    known.add_argument("file")
+    return known.parse_args(words)
+
+
+def problems(request):
+    """The texts of the problems, and of refusals."""
+    if request.pdn:
+        assert request.file == "games.pdn"
+        return [text.decode() for text in bad_input.GAMES]
+    return (EXAMPLES / request.file).read_text().splitlines()
+
+
+def recursion(request):
     """The report, by bare recursion."""
     judging.ROOM = 100_000
     texts = []
-    for line in (EXAMPLES / "problems.fen").read_text().splitlines():
-        cells, turn = position(line)
-        problems = judging.Problems(Board(10))
-        if words[0] == "judge":
-            texts.append((fen(cells, turn), list(problems.judged(cells, turn, 2))))
+    for text in problems(request):
+        if text.startswith("refused: "):
+            texts.append((text, []))
+            continue
+        cells, turn = position(text)
+        made = judging.Problems(Board(10))
+        if request.command == "judge":
+            texts.append((fen(cells, turn), list(made.judged(cells, turn, request.n))))
         else:
-            lines = list(problems.lines(cells, turn, 2))
-            texts.append((fen(cells, turn), list(problems.listing(cells, turn, lines, 3))))
+            lines = list(made.lines(cells, turn, request.n))
+            texts.append((fen(cells, turn), list(made.listing(cells, turn, lines, request.lines))))
     return judging.report(texts)
 
 
 def compare_reports():
-    for words, name in REPORTS:
-        ran = run([*words, "examples/problems.fen"])
-        wanted = (EXAMPLES / name).read_bytes()
+    rows = ROW.findall((EXAMPLES / "README.md").read_text())
+    requests = {name: asked(words.split()) for name, words in rows}
+    there = {path.name for path in EXAMPLES.iterdir()} - {"README.md"}
+    assert there == set(requests) | {request.file for request in requests.values()}, there
+    for name, words in rows:
+        ran, wanted = run(words.split(), EXAMPLES), (EXAMPLES / name).read_bytes()
         assert ran.stderr == b"", (name, ran.stderr)
         assert ran.returncode == (1 if b": refused: " in wanted else 0), (name, ran.returncode)
-        assert ran.stdout == wanted, f"{name} is not what dw {' '.join(words)} writes"
-        assert recursion(words).encode() == wanted, f"{name} is not what the recursion makes"
-        problems, rows = wanted.count(b"problem "), wanted.count(b"\n")
-        print(f"examples/{name}: {problems} problems, {rows} lines, the same bytes; status {ran.returncode}")
+        assert ran.stdout == wanted, f"{name} is not what dw {words} writes"
+        assert recursion(requests[name]).encode() == wanted, f"{name} is not what the recursion makes"
+        count, lines = wanted.count(b"problem "), wanted.count(b"\n")
+        print(f"examples/{name}: {count} problems, {lines} lines, the same bytes; status {ran.returncode}", flush=True)
 
 
 def helps():

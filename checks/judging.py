@@ -1,13 +1,14 @@
 #!/usr/bin/env python3
 """judging.py: compares `dw judge` and `dw list` with reports made here, by bare recursion over all moves.
 
-    checks/judging.py [POSITIONS]
+    checks/judging.py [--count POSITIONS]
 
 It stands on the generator of perft.py and on the rules as docs/RULES.md and docs/REPORT.md tell them, and on nothing
 of the solver: no order of moves, no cut. For so many random small positions (500 if not said; two thirds of them with a
 win) on the boards of 10 and of 8 rows, and for wins in 1 to 3 moves, it makes the whole report of each command, with
 all lines and with the first one or two, and the rest after a token; each has to be the same bytes as the program's.
 """
+import argparse
 import itertools
 import pathlib
 import random
@@ -223,9 +224,15 @@ def check(rows, count, source, folder):
           "the same bytes")
 
 
+def count_asked(usually):
+    """How many random positions are asked for, or as many as usually."""
+    words = argparse.ArgumentParser()
+    words.add_argument("--count", type=int, default=usually)
+    return words.parse_args().count
+
+
 def main():
-    count = int(sys.argv[1]) if len(sys.argv) > 1 else 500
-    source = random.Random(SEED)
+    count, source = count_asked(500), random.Random(SEED)
     with tempfile.TemporaryDirectory() as name:
         for rows in (10, 8):
             check(rows, count, source, pathlib.Path(name))

@@ -1,33 +1,35 @@
 #!/usr/bin/env python3
-"""parallel.py: solves problems with a run for each of them, side by side, and compares that with one run's report.
+"""parallel.py: follows docs/MANY.md on one machine, a run for each problem, and compares that with one run's report.
 
     checks/parallel.py
 
-docs/MANY.md has the recipe: `seq N | parallel -k dw judge -n 3 --problem {} FILE`. If GNU parallel is not installed,
-only the way with `xargs -P` is tried, in which each run writes a file of its own and the files are put together in
-order. The problems are those of examples/problems.fen, two that are refused, and random small ones as judging.py has
-them, 200 in all. What comes has to be the same bytes as the report of one run on the whole file, for `judge` and for
-`list`.
+The commands are taken from the page: GNU parallel with `-k`, with `--joblog` and `--resume`, and `xargs`. The problems
+are those of examples/problems.fen, two that are refused, and random small ones as judging.py has them, 200 in all. What
+comes has to be the same bytes as the report of one run on the whole file, for `judge` and for `list`. The run that may
+be interrupted is killed in the middle and started again. A run that a limit stops, or `--timeout`, has to be found in
+the log as the page says.
 """
 import os
 import pathlib
 import random
+import re
+import signal
 import subprocess
 import tempfile
+import time
 
+from launching import below, end
 from perft import Board
 from wins import drawn, fen
 
 TOP = pathlib.Path(__file__).resolve().parent.parent
 PROGRAMS = TOP / "crates/dw/out"
+PAGE = TOP / "docs/MANY.md"
 COUNT = 200
 SEED = 17
 REFUSED = ["W:W3:B20", "W:W32,32:B28"]
 COMMANDS = [["judge", "-n", "3"], ["list", "-n", "2", "--lines", "20"]]
-PARALLEL = "seq {count} | parallel -k {run} --problem {{}} problems.fen"
-XARGS = """mkdir {parts}
-seq {count} | xargs -P {processors} -I{{}} sh -c '{run} --problem {{}} problems.fen > {parts}/{{}}'
-seq {count} | sed 's:^:{parts}/:' | xargs cat"""
+ENDS = {0, 1, 2}  # of 200 runs two are refused
 
 
 def problems():
@@ -40,40 +42,92 @@ def problems():
     return [*lines[:10], "", *lines[10:]]
 
 
-def compare(name, recipe, words, folder):
-    """Follows a recipe in the folder, and compares what it writes with one run."""
+def recipe(word, words=("judge", "-n", "3")):
+    """The block of commands on the page that has this word, for these words of the program."""
+    blocks = re.findall(r"(?:^ {4}.*\n)+", PAGE.read_text(), re.MULTILINE)
+    found, = (block for block in blocks if word in block)
+    assert "judge -n 3" in found or words == ("judge", "-n", "3"), found
+    return found.replace("judge -n 3", " ".join(words)).replace("FILE", "problems.fen")
+
+
+def environment(folder):
+    """The program on the PATH, and a place for what GNU parallel keeps."""
+    return os.environ | {"PATH": f"{PROGRAMS}{os.pathsep}{os.environ['PATH']}", "n": str(COUNT),
+                         "PARALLEL_HOME": str(folder / "home")}
+
+
+def follow(commands, folder, **more):
+    ran = subprocess.run(["bash", "-c", commands], cwd=folder, env=environment(folder) | more, stdin=subprocess.DEVNULL,
+                         capture_output=True, timeout=600, check=False)
+    assert ran.returncode in ENDS, (commands, ran)
+    return ran
+
+
+def one_run(words, folder):
     one = subprocess.run([PROGRAMS / "dw", *words, "problems.fen"], cwd=folder, capture_output=True, timeout=600,
                          check=False)
     assert (one.returncode, one.stderr) == (1, b"") and one.stdout.count(b"problem ") == COUNT, one
-    script = recipe.format(count=COUNT, run=" ".join(["dw", *words]), parts=f"parts-{words[0]}",
-                           processors=len(os.sched_getaffinity(0)))
-    paths = os.environ | {"PATH": f"{PROGRAMS}{os.pathsep}{os.environ['PATH']}"}
-    ran = subprocess.run(["sh", "-c", script], cwd=folder, env=paths, capture_output=True, timeout=600, check=False)
-    assert ran.stdout == one.stdout, (name, words, ran.stdout[-300:], ran.stderr[-300:])
-    print(f"{name}, {' '.join(words)}: {COUNT} problems, {one.stdout.count(bytes([10]))} lines, the same bytes")
+    return one.stdout
 
 
-def is_installed():
-    """Whether there is a program parallel, and it is GNU's."""
-    try:
-        ran = subprocess.run(["parallel", "--version"], capture_output=True, timeout=60, check=False)
-    except FileNotFoundError:
-        return False
-    return ran.stdout.startswith(b"GNU parallel")
+def compare(name, words, folder, wanted):
+    written = (folder / "report").read_bytes()
+    assert written == wanted, (name, words, written[-300:])
+    print(f"{name}, {' '.join(words)}: {COUNT} problems, {wanted.count(bytes([10]))} lines, the same bytes", flush=True)
+    (folder / "report").unlink()
+
+
+def interrupted(words, folder, wanted):
+    """Kills the run in its middle, and starts it again."""
+    commands = recipe("--resume", words)
+    process = subprocess.Popen(["bash", "-c", commands], cwd=folder, env=environment(folder), stdin=subprocess.DEVNULL,
+                               stdout=subprocess.DEVNULL, stderr=subprocess.DEVNULL)
+    log = folder / "log"
+    last = time.monotonic() + 60
+    while not log.exists() or log.read_text().count("\n") < COUNT // 4:
+        assert process.poll() is None and time.monotonic() < last, "it ended before it was interrupted"
+        time.sleep(0.01)
+    end([process.pid, *below(process.pid)])
+    assert process.wait(timeout=60) == -signal.SIGKILL
+    begun = log.read_text().count("\n") - 1
+    assert begun < COUNT, "all runs had ended"
+    follow(commands, folder)
+    assert log.read_text().count("\n") - 1 == COUNT, "runs that had ended were started again"
+    compare(f"--resume after {begun} problems", words, folder, wanted)
+
+
+def stopped(folder):
+    """Runs that --positions and --timeout stop are named by the page's command, and can be asked again."""
+    # Two that are solved at once, and two that take minutes in 20 moves.
+    (folder / "problems.fen").write_text("W:W32:B28\nW:WK46:B28\nB:W31,K35:BK40,45,K49\nW:W31-50:B1-20\n")
+    named = recipe("awk")
+    for more, n, wanted in ((["--positions", "20"], "2", "3\n4\n"), ([], "20", "3\n4\n")):
+        words = ["judge", "-n", n, *more]
+        commands = recipe("--resume", words).replace("$n", "4")
+        if not more:
+            commands = commands.replace("parallel ", "parallel --timeout 5 ")
+        follow(commands, folder)
+        assert follow(named, folder).stdout.decode() == wanted, (words, (folder / "log").read_text())
+        follow("rm -r log parts report", folder)
+    print("runs that a limit or --timeout stopped: named as the page says")
 
 
 def main():
     subprocess.run([TOP / "dw", "--help"], stdout=subprocess.DEVNULL, check=True)  # so that it is built
-    has_parallel = is_installed()
-    with tempfile.TemporaryDirectory() as name:
+    with tempfile.TemporaryDirectory(prefix="dw-parallel-") as name:
         folder = pathlib.Path(name)
         (folder / "problems.fen").write_text("".join(line + "\n" for line in problems()))
         for words in COMMANDS:
-            if has_parallel:
-                compare("parallel", PARALLEL, words, folder)
-            compare("xargs", XARGS, words, folder)
-    if not has_parallel:
-        print("GNU parallel is not installed: its way was not tried")
+            wanted = one_run(words, folder)
+            counted = recipe("parallel -k dw", words)
+            follow(counted.replace("n=$(", "m=$(") + "[ $m = $n ] || exit 9\n", folder)
+            compare("parallel", words, folder, wanted)
+            interrupted(words, folder, wanted)
+            follow("rm -r log parts", folder)
+            follow(recipe("xargs -P", words), folder)
+            compare("xargs", words, folder, wanted)
+            follow("rm -r parts", folder)
+        stopped(folder)
 
 
 if __name__ == "__main__":

@@ -1,7 +1,7 @@
 #!/usr/bin/env python3
 """random_fens.py: sends random FEN texts through `dw show`, and reads again what it wrote.
 
-    checks/random_fens.py [COUNT] [SEED]
+    checks/random_fens.py [--count COUNT]
 
 COUNT texts of random bytes and COUNT of random tokens (100,000 of each, if none is given) go through the program, a
 line each, on both boards. Each has to be answered by one problem, in order: a written FEN with its diagram, or a
@@ -12,9 +12,11 @@ import pathlib
 import random
 import re
 import subprocess
-import sys
+
+from judging import count_asked
 
 TOP = pathlib.Path(__file__).resolve().parent.parent
+SEED = 1
 FAULT = re.compile(rb"1 fen: (\d+ [a-z ]+) at (\d+)")
 TOKENS = ["W", "B", "w", "b", ":", ":", ":", ",", ",", "-", ".", "K", "k", " ", "\t", "0", "5", "07",
           "12", "28", "31", "32", "33", "45", "50", "51", "031", "x", "\r"]
@@ -91,9 +93,7 @@ def check(name, lines, board):
 
 
 def main():
-    count = int(sys.argv[1]) if len(sys.argv) > 1 else 100_000
-    seed = int(sys.argv[2]) if len(sys.argv) > 2 else 1
-    rng = random.Random(seed)
+    count, rng = count_asked(100_000), random.Random(SEED)
     subprocess.run([TOP / "dw", "--help"], capture_output=True, check=False)  # so that it is built
     for board in ("10", "8"):
         check("random bytes", problems(random_bytes, rng, count), board)

@@ -1,7 +1,7 @@
 #!/usr/bin/env python3
 """random_moves.py: compares `dw moves` with a plain generator on random positions.
 
-    checks/random_moves.py [POSITIONS]
+    checks/random_moves.py [--count POSITIONS]
 
 It stands on the generator of perft.py and on the rules as docs/RULES.md and docs/REPORT.md tell them. For so many
 random positions (100,000 if not said), half of them on each board, from two pieces to full boards and with few or many
@@ -14,7 +14,7 @@ import random
 import subprocess
 import sys
 
-from judging import Problems
+from judging import Problems, count_asked
 from perft import Board, play
 from wins import fen, other
 
@@ -68,11 +68,11 @@ def check(rows, count, source):
     print(f"random_moves.py: {rows} rows: {count} positions, {moves} moves, captures in {captures}: the same bytes")
 
 
-def main(words):
-    count, source = int(words[0]) if words else 100_000, random.Random(SEED)
+def main():
+    count, source = count_asked(100_000), random.Random(SEED)
     check(10, count - count // 2, source)
     check(8, count // 2, source)
 
 
 if __name__ == "__main__":
-    main(sys.argv[1:])
+    main()

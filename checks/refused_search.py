@@ -3,26 +3,41 @@
 
     checks/refused_search.py
 
-It takes the sections of rows whose heads begin with `refused` from the stored input of dw_tests_rules and of
-dw_tests_search, and gives each to its program, which `rt run` in that crate builds, once for each allocation. The rows
-of the first read texts of moves; those of the second note bounds, search some positions with each cache, for 1 to 3
-moves, and ask for the lines of some positions with each cache, one by one, and for what follows each of them. If a
-growth is refused the right answer comes without it, or the search says that it is out of memory and gives it when asked
-again; a row is wrong if that is not so. Only while the rows are read may the program end for want of memory, with no
-row found wrong. The last run of each section meets no refusal.
+It takes the sections of rows whose heads begin with `refused` from the stored input of each crate of tests, and gives
+each to its program once for each allocation. `rt ci` leaves these programs; the launcher builds them if they are
+missing or older than their sources. The rows of dw_tests_rules read texts of moves; those of dw_tests_search note
+bounds, search some positions with each cache, for 1 to 3 moves, and ask for the lines of some positions with each
+cache, one by one, and for what follows each of them. If a growth is refused the right answer comes without it, or the
+search says that it is out of memory and gives it when asked again; a row is wrong if that is not so. Only while the
+rows are read may the program end for want of memory, with no row found wrong. The last run of each section meets no
+refusal.
 """
 import os
 import pathlib
 import subprocess
 import tempfile
 
-CRATES = pathlib.Path(__file__).resolve().parent.parent / "crates"
-PROGRAMS = ["dw_tests_rules", "dw_tests_search"]
+TOP = pathlib.Path(__file__).resolve().parent.parent
+CRATES = TOP / "crates"
 MOST = 100_000
 
 
+def crates_of_tests():
+    """The crates of tests that have such sections."""
+    found = [path.parent.name for path in sorted(CRATES.glob("dw_tests_*/stdin"))
+             if any(line.startswith("refused") for line in path.read_text().splitlines())]
+    assert len(found) >= 2, found
+    return found
+
+
+def build():
+    """Has the launcher build the programs, if they are not there."""
+    environment = os.environ | {"DW_BUILD": " ".join(crates_of_tests())}
+    subprocess.run([TOP / "dw"], env=environment, check=True)
+
+
 def sections(crate):
-    """The sections to run: each its head, with its rows, and what has to be said of it."""
+    """The sections to run: each its rows, and what has to be said of it."""
     folder = CRATES / crate
     wanted = dict(line.split(": ") for line in (folder / "stdout").read_text().splitlines())
     found = {}
@@ -35,37 +50,44 @@ def sections(crate):
     return [("\n".join(lines) + "\n", f"{head}: {wanted[head]}\n") for head, lines in found.items()]
 
 
-def run(folder, crate, number, rows):
+def run(library, folder, crate, number, rows):
     """Runs the program with that allocation refused, and tells whether there was one of that number."""
     mark = folder / "mark"
     mark.unlink(missing_ok=True)
-    changes = {"LD_PRELOAD": str(folder / "refuse.so"), "REFUSED_ALLOCATION": str(number), "REFUSED_MARK": str(mark)}
+    changes = {"LD_PRELOAD": str(library), "REFUSED_ALLOCATION": str(number), "REFUSED_MARK": str(mark)}
     program = CRATES / crate / "out" / crate
     ran = subprocess.run([program], input=rows, capture_output=True, timeout=60, check=False, text=True,
                          env=os.environ | changes)
     return ran, mark.exists()
 
 
-def main():
+def each_in_turn(library, crate, rows, wanted):
+    """Refuses each allocation of a section in turn; says how many there are."""
+    unread = 0
     with tempfile.TemporaryDirectory() as name:
-        folder = pathlib.Path(name)
-        library = folder / "refuse.so"
-        source = pathlib.Path(__file__).resolve().parent / "refuse_allocation.c"
+        for number in range(1, MOST):
+            ran, was_refused = run(library, pathlib.Path(name), crate, number, rows)
+            if ran.returncode == 1 and was_refused and ran.stdout == "" and unread == number - 1:
+                unread = number
+                continue
+            assert (ran.returncode, ran.stdout) == (0, wanted), (crate, wanted, number, ran)
+            if not was_refused:
+                break
+    assert number - 1 > unread, "no allocation was refused behind the reading"
+    return (f"{crate} {wanted.strip()}, with {number - 1} allocations, each refused in turn;"
+            f" of the first {unread} the rows are read")
+
+
+def main():
+    build()
+    with tempfile.TemporaryDirectory() as name:
+        library = pathlib.Path(name) / "refuse.so"
+        source = TOP / "checks/refuse_allocation.c"
         subprocess.run(["cc", "-O1", "-shared", "-fPIC", "-o", library, source, "-ldl"], check=True)
-        for crate in PROGRAMS:
+        for crate in crates_of_tests():
             for rows, wanted in sections(crate):
-                unread = 0
-                for number in range(1, MOST):
-                    ran, was_refused = run(folder, crate, number, rows)
-                    if ran.returncode == 1 and was_refused and ran.stdout == "" and unread == number - 1:
-                        unread = number
-                        continue
-                    assert (ran.returncode, ran.stdout) == (0, wanted), (crate, wanted, number, ran)
-                    if not was_refused:
-                        break
-                assert number - 1 > unread, "no allocation was refused behind the reading"
-                print(f"{crate} {wanted.strip()}, with {number - 1} allocations, each refused in turn;"
-                      f" of the first {unread} the rows are read")
+                print(each_in_turn(library, crate, rows, wanted), flush=True)
 
 
-main()
+if __name__ == "__main__":
+    main()

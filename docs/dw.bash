@@ -2,7 +2,8 @@
 #
 #     source docs/dw.bash
 #
-# or copy it to ~/.local/share/bash-completion/completions/dw, where bash finds it by itself.
+# or copy it to ~/.local/share/bash-completion/completions/dw, where bash finds it by itself. `./install` puts it into
+# such a place too.
 
 _dw() {
     local current=${COMP_WORDS[COMP_CWORD]} previous=${COMP_WORDS[COMP_CWORD - 1]}

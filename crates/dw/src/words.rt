@@ -72,7 +72,8 @@ const ABOUT: &str =
 
 const EXAMPLES: &str = "\
 Problems are read from FILE, or from standard input: one FEN text a line, as W:W27,45:B16,
-or with --pdn out of the tags of a PDN file, as [FEN \"W:W27,45:B16\"].
+or with --pdn out of the tags of a PDN file, as [FEN \"W:W27,45:B16\"]. At a terminal end them
+with Ctrl-D.
 `dw COMMAND --help` says what a command does, with an example.
 
 Examples:
@@ -106,11 +107,16 @@ const JUDGE_ABOUT: &str =
 
 const JUDGE_EXAMPLES: &str = "\
 The side to move wins if the other has no legal move left. The verdict is one of these:
-  unsolvable  there is no forced win in N moves
-  cooked      two or more first moves win, or there is a win in fewer moves
-  dual        one first move wins, and later there is a choice; the first such place is told
+  unsolvable  no first move wins in N moves
+  cooked      several first moves win in N moves, or fewer moves are enough
+  dual        one first move wins, and later there is a choice, be it of a king's last square;
+              the first such place is told
   sound       one first move wins, and so does one move at each later turn
-After the verdict stands each try: a first move that only one reply refutes.
+After the verdict stands each try: a first move that does not win in N moves because of one
+reply alone.
+
+N counts up to the end, when the other side has no move left. To find it, ask for 1, 2, 3 and
+so on: with too great an N a sound problem is called cooked.
 
 Examples:
   echo W:W27,45:B16 | dw judge -n 2

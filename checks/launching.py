@@ -1,0 +1,283 @@
+#!/usr/bin/env python3
+"""launching.py: calls the launcher `./dw` in copies with a toolchain that only writes files, and looks at what it does
+when it is called again, twice at once, interrupted, or when a proof fails.
+
+    checks/launching.py
+
+A copy has the launcher, crates.txt and a source of each crate. Its `rt`, the first on the PATH, names a kit whose
+prover writes a library of two files, one after another, or a program that says which time it was built. So no proof is
+made here, and a build takes seconds. What the prover was asked for stands in a file, a line each.
+"""
+import contextlib
+import os
+import pathlib
+import shutil
+import signal
+import stat
+import subprocess
+import tempfile
+import time
+
+TOP = pathlib.Path(__file__).resolve().parent.parent
+PATIENCE = 60  # seconds that anything may take here
+# A prover's call: it waits, writes half of what is asked for, waits once more, and writes the rest. The file `fails`
+# names a crate that is not proved, and `slow` one for which it takes long.
+PROVER = """#!/bin/sh
+kit=$(dirname "$(dirname "$0")")
+while [ $# -gt 0 ]; do
+    case $1 in
+        --crate-name) crate=$2; shift ;;
+        -o) made=$2; shift ;;
+    esac
+    shift
+done
+echo "$crate" >>"$kit/asked"
+wait=0.05
+[ "$(cat "$kit/slow" 2>/dev/null)" = "$crate" ] && wait=30
+case $made in
+    *.rlib) mkdir "$made" && echo half >"$made/half" ;;
+    *) echo half >"$made" ;;
+esac
+[ $wait = 0.05 ] || touch "$kit/waits"
+sleep $wait
+[ "$(cat "$kit/fails" 2>/dev/null)" = "$crate" ] && echo "src/lib.rt:1:1: error: not so" && exit 1
+case $made in
+    *.rlib) echo whole >"$made/whole" ;;
+    *) echo whole >"$made" ;;
+esac
+"""
+LINKER = """#!/bin/sh
+kit=$(dirname "$(dirname "$0")")
+while [ "$1" != -o ]; do shift; done
+[ "$(cat "$3")" = whole ] || exit 1
+{ echo '#!/bin/sh'; echo "echo program $(wc -l <"$kit/asked") \\"\\$@\\""; } >"$2"
+chmod +x "$2"
+"""
+RT = """#!/bin/sh
+case $1 in
+    doc) echo "{kit}/START-HERE.md" ;;
+    version) cat "{kit}/version" ;;
+    *) exit 2 ;;
+esac
+"""
+
+
+def write_program(path, text):
+    path.parent.mkdir(parents=True, exist_ok=True)
+    path.write_text(text)
+    path.chmod(path.stat().st_mode | stat.S_IXUSR)
+
+
+class Copy:
+    """A copy of the repository's skeleton, with a kit of its own."""
+
+    def __init__(self, room):
+        self.top, self.kit = room / "copy", room / "kit"
+        self.crates = [line.partition(":")[0] for line in (TOP / "crates.txt").read_text().splitlines()]
+        for crate in self.crates:
+            source = self.top / "crates" / crate / "src" / ("main.rt" if crate == "dw" else "lib.rt")
+            source.parent.mkdir(parents=True)
+            source.write_text("")
+        shutil.copy2(TOP / "crates.txt", self.top)
+        shutil.copy2(TOP / "dw", self.top)
+        write_program(self.kit / "bin/rattle", PROVER)
+        write_program(self.kit / "bin/rattle-link", LINKER)
+        write_program(room / "path/rt", RT.format(kit=self.kit))
+        (self.kit / "version").write_text("kit 1\n")
+        # What a call that was killed leaves goes with the copy.
+        (room / "temporary").mkdir()
+        self.environment = os.environ | {"PATH": f"{room / 'path'}{os.pathsep}{os.environ['PATH']}",
+                                         "TMPDIR": str(room / "temporary")}
+        self.program = self.top / "crates/dw/out/dw"
+
+    def start(self, *words):
+        """A call of the launcher, in a process group of its own."""
+        return subprocess.Popen([self.top / "dw", *words], env=self.environment, stdin=subprocess.DEVNULL,
+                                stdout=subprocess.PIPE, stderr=subprocess.PIPE, text=True, start_new_session=True)
+
+    def call(self, *words):
+        process = self.start(*words)
+        out, complained = process.communicate(timeout=PATIENCE)
+        return process.returncode, out, complained
+
+    def asked(self):
+        """What the prover was asked for since this was called last."""
+        path = self.kit / "asked"
+        said = path.read_text().split() if path.exists() else []
+        path.unlink(missing_ok=True)
+        return said
+
+    def libraries(self):
+        return sorted(path.name for path in self.top.glob("crates/*/out/statements/*"))
+
+    def is_whole(self):
+        """Whether each library that counts as made has both of its files."""
+        made = self.top.glob("crates/*/out/statements/*.rlib")
+        return all((path / "half").exists() and (path / "whole").exists() for path in made)
+
+
+@contextlib.contextmanager
+def copy():
+    with tempfile.TemporaryDirectory(prefix="dw-launching-") as name:
+        yield Copy(pathlib.Path(name))
+
+
+def below(pid):
+    """The processes that this one started, and those that they started."""
+    parents = {}
+    for path in pathlib.Path("/proc").glob("[0-9]*/stat"):
+        with contextlib.suppress(OSError):
+            parents.setdefault(int(path.read_text().rpartition(")")[2].split()[1]), []).append(int(path.parent.name))
+    found = [pid]
+    for process in found:
+        found += parents.get(process, [])
+    return found[1:]
+
+
+def end(processes):
+    """Ends processes by their numbers, if they still run."""
+    for process in processes:
+        with contextlib.suppress(ProcessLookupError):
+            os.kill(process, signal.SIGKILL)
+
+
+def commands():
+    """The command lines of all processes."""
+    for path in pathlib.Path("/proc").glob("[0-9]*/cmdline"):
+        with contextlib.suppress(OSError):
+            yield path.read_bytes()
+
+
+def until(holds):
+    last = time.monotonic() + PATIENCE
+    while not holds():
+        assert time.monotonic() < last, "it did not come to that"
+        time.sleep(0.02)
+
+
+def builds():
+    """The first call builds, the next ones run; a new source or another kit builds again what stands on it."""
+    with copy() as made:
+        status, out, complained = made.call("judge", "-n", "2", "a b")
+        asked = made.asked()
+        assert (status, out) == (0, "program 8 judge -n 2 a b\n"), (status, out, complained)
+        assert len(asked) == 8 and asked[0] == "dw_board" and asked[-1] == "dw", asked
+        assert "dw: built" in complained, complained
+        assert made.libraries() == sorted(f"{crate}.rlib" for crate in asked[:-1]) and made.is_whole()
+        assert made.call("x") == (0, "program 8 x\n", "") and not made.asked()
+        later = time.time() + 1
+        os.utime(made.top / "crates/dw_solve/src/lib.rt", (later, later))
+        time.sleep(1.2)
+        assert made.call()[0] == 0
+        assert sorted(made.asked()) == ["dw", "dw_list", "dw_report", "dw_solve"]
+        os.utime(made.top / "crates/dw_bench/src/lib.rt")
+        assert made.call()[2] == "" and not made.asked(), "a crate that the program does not stand on"
+        # As after `rt ci`: the program alone, newer than all sources.
+        for path in made.top.glob("crates/*/out/statements"):
+            shutil.rmtree(path)
+        assert made.call()[2] == "" and not made.asked(), "the program of the gate is not taken"
+        (made.kit / "version").write_text("kit 2\n")
+        os.utime(made.top / "crates/dw/src/main.rt")
+        assert made.call()[0] == 0 and len(made.asked()) == 8
+    print("a first call, later ones, a newer source, the gate's program, another kit: as stated")
+
+
+def fails():
+    """A crate that is not proved ends the call with 3, and nothing of it counts as made."""
+    with copy() as made:
+        (made.kit / "fails").write_text("dw_list")
+        status, out, complained = made.call()
+        assert (status, out) == (3, "") and "dw_list could not be proved and built" in complained, (status, complained)
+        assert "src/lib.rt:1:1: error: not so" in complained, complained
+        assert "dw_list.rlib" not in made.libraries() and not made.program.exists() and made.is_whole()
+        (made.kit / "fails").unlink()
+        made.asked()
+        assert made.call()[0] == 0
+        assert sorted(made.asked())[:2] == ["dw", "dw_list"], "what was proved is proved again"
+    with copy() as made:
+        made.environment["PATH"] = "/usr/bin:/bin"
+        status, out, complained = made.call()
+        assert (status, out) == (3, "") and "rt is not on the PATH" in complained, (status, complained)
+    print("a crate that is not proved, no toolchain: status 3, and nothing half made")
+
+
+def interrupted(number):
+    """A call that gets this signal leaves no half library, and the next one builds the rest."""
+    with copy() as made:
+        (made.kit / "slow").write_text("dw_moves")
+        process = made.start()
+        until((made.kit / "waits").exists)
+        left = below(process.pid)
+        os.kill(process.pid, number)
+        process.wait(timeout=PATIENCE)
+        assert process.returncode != 0 and made.is_whole() and "dw_moves.rlib" not in made.libraries()
+        (made.kit / "slow").unlink()
+        (made.kit / "waits").unlink()
+        assert made.call()[0] == 0 and made.is_whole()
+        asked = made.asked()
+        assert asked.count("dw_moves") == 2 and asked.count("dw_board") == 1, asked
+        assert not list(made.top.glob("crates/*/out/**/new.*")), "what was begun still lies there"
+        end(left)  # of a call that was killed the prover goes on
+    print(f"a call ended by {signal.Signals(number).name}: no half library, and the next call builds the rest")
+
+
+def unread():
+    """A call ends if nobody reads any more what it says, and its provers with it."""
+    with copy() as made:
+        (made.kit / "slow").write_text("dw_memo")
+        process = made.start()
+        while "dw_memo: being proved" not in process.stderr.readline():
+            pass
+        until((made.kit / "waits").exists)
+        process.stderr.close()
+        assert process.wait(timeout=PATIENCE) == 3 and made.is_whole()
+        until(lambda: not any(str(made.kit).encode() in words for words in commands()))
+        assert not list((made.top.parent / "temporary").iterdir()), "its logs are left"
+    print("a call whose messages are not read: ended, with its provers")
+
+
+def at_once():
+    """Of two calls one builds. The other says that it waits, and builds nothing."""
+    with copy() as made:
+        first = made.start("first")
+        until((made.kit / "asked").exists)
+        second = made.start("second")
+        ends = [process.communicate(timeout=PATIENCE) for process in (first, second)]
+        assert (first.returncode, second.returncode) == (0, 0), ends
+        assert (ends[0][0], ends[1][0]) == ("program 8 first\n", "program 8 second\n"), ends
+        assert ends[1][1] == "dw: another call builds the program; waiting for it\n", ends[1]
+        assert len(made.asked()) == 8
+    with copy() as made:
+        source = made.top / "crates/dw_tests_rules/src"
+        (source / "lib.rt").rename(source / "main.rt")
+        made.environment["DW_BUILD"] = "dw_tests_rules dw"
+        assert made.call("x")[:2] == (0, "") and len(made.asked()) == 10
+        assert (source.parent / "out/dw_tests_rules").exists() and made.program.exists()
+        assert made.call() == (0, "", "")
+    print("two programs named by DW_BUILD: built once, and none is run")
+    with copy() as made:
+        (made.kit / "slow").write_text("dw_board")
+        first = made.start()
+        until((made.kit / "waits").exists)
+        second = made.start()
+        line = second.stderr.readline()
+        assert "waiting for it" in line, line
+        (made.kit / "slow").unlink()
+        os.kill(first.pid, signal.SIGTERM)
+        first.communicate(timeout=PATIENCE)
+        out, complained = second.communicate(timeout=PATIENCE)
+        assert (first.returncode, second.returncode) == (3, 0) and out.startswith("program "), (out, complained)
+    print("two calls at once: one builds and the other waits; if the first is ended, the other builds")
+
+
+def main():
+    builds()
+    fails()
+    for number in (signal.SIGINT, signal.SIGTERM, signal.SIGHUP, signal.SIGKILL):
+        interrupted(number)
+    unread()
+    at_once()
+
+
+if __name__ == "__main__":
+    main()
