@@ -7,7 +7,7 @@ use Rattle.dw_board.specs.declared.position.TheConstants.{TURN_FACTOR, WHITE_MEN
 use Rattle.dw_board.specs.declared.position.TheConstants.{BLACK_MEN_FACTOR, BLACK_KINGS_FACTOR}
 use Rattle.dw_board.specs.Geometry.{Geometry}
 use Rattle.dw_board.specs.Placement.{Placement, side_code}
-use Rattle.dw_board.specs.Standing.{standing_word, mixed_word}
+use Rattle.dw_board.specs.inner.Mixing.{standing_word, mixed_word}
 
 -- a sum goes on by one word
 more : (sum before after w word factor : ℕ) → before ≡ sum % 2 ^ 64 → w ≡ word → after

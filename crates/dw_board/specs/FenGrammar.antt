@@ -74,8 +74,8 @@ pub data Names : Geometry → List (List ℕ) → Placement → Type 0 where
       (is : List Placing)
       → side_named turn ≡ Some mover → is_sign colon c ≡ true → IsList g ws first is → IsEnd es
       → Sets g (empty mover) (all_named first is) p → Names g (turn ∷ c ∷ (ws ++ es)) p
-  two_lists : {g : Geometry} {turn c : List ℕ} {p : Placement} (ws : List (List ℕ)) (between : List ℕ) (vs es : List (List ℕ))
-      (mover first second : Side) (is js : List Placing)
+  two_lists : {g : Geometry} {turn c : List ℕ} {p : Placement} (ws : List (List ℕ)) (between : List ℕ)
+      (vs es : List (List ℕ)) (mover first second : Side) (is js : List Placing)
       → side_named turn ≡ Some mover → is_sign colon c ≡ true → IsList g ws first is
       → is_sign colon between ≡ true → IsList g vs second js → same_side first second ≡ false → IsTail es
       → Sets g (empty mover) (all_named first is ++ all_named second js) p

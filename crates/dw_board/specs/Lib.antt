@@ -5,6 +5,7 @@ pub mod Slides
 pub mod Boards
 pub mod Placement
 pub mod Standing
+pub mod Hashing
 pub mod Packing
 pub mod FenTokens
 pub mod FenBlanks

@@ -1,8 +1,6 @@
 -- The squares on which each side's men stand and its kings, as four sets.
 use Rattle.std.proofs.Common.{◌≡◌, ℕ, suc, zero, Bool, true, false, cond, ◌&&◌, List, Option, Some, None, get_or, map}
-use Rattle.std.specs.Prelude.{◌+◌, ◌*◌, ◌%◌, ◌^◌}
 use Rattle.std.specs.FinSet as set
-use Rattle.std.specs.Hash as fed
 use Rattle.std.specs.List.{range_with_len}
 use Rattle.dw_board.specs.declared.piece.Side.{Side}
 use Rattle.dw_board.specs.declared.piece.Side.TheVariants.{White, Black}
@@ -10,11 +8,8 @@ use Rattle.dw_board.specs.declared.piece.Kind.{Kind}
 use Rattle.dw_board.specs.declared.piece.Kind.TheVariants.{Man, King}
 use Rattle.dw_board.specs.declared.piece.Piece.{Piece}
 use Rattle.dw_board.specs.declared.held.Held.{Held}
-use Rattle.dw_board.specs.declared.position.TheConstants.{TURN_FACTOR, WHITE_MEN_FACTOR, WHITE_KINGS_FACTOR}
-use Rattle.dw_board.specs.declared.position.TheConstants.{BLACK_MEN_FACTOR, BLACK_KINGS_FACTOR}
 use Rattle.dw_board.specs.Geometry.{Geometry, Squares}
-use Rattle.dw_board.specs.SquareSet.{word_of}
-use Rattle.dw_board.specs.Placement.{Placement, IsPosition, same_side, side_code}
+use Rattle.dw_board.specs.Placement.{Placement, IsPosition, same_side}
 
 -- whether two kinds are the same
 abbrev pub same_kind : Kind → Kind → Bool
@@ -57,21 +52,6 @@ held_at sets s =
 -- the fifty cells that the sets tell of
 unfoldable pub cells_of : (Side → Kind → Squares) → List (Option Piece)
 cells_of sets = map (held_at sets) (range_with_len 1 50)
-
--- the word of the squares on which a piece of this side and kind stands
-abbrev pub standing_word : Geometry → Placement → Side → Kind → ℕ
-standing_word g p side kind = word_of g (standing p.cells side kind)
-
--- a number of a position: the side to move and the four words, each times a factor of its own
-unfoldable pub mixed_word : Geometry → Placement → ℕ
-mixed_word g p =
-    (side_code p.turn * TURN_FACTOR + standing_word g p White Man * WHITE_MEN_FACTOR
-    + standing_word g p White King * WHITE_KINGS_FACTOR + standing_word g p Black Man * BLACK_MEN_FACTOR
-    + standing_word g p Black King * BLACK_KINGS_FACTOR) % 2 ^ 64
-
--- what a position feeds a hash
-abbrev pub position_bytes : Geometry → Placement → List (List ℕ)
-position_bytes g p = fed.u64 (mixed_word g p)
 
 -- the cells are a position's, and each set is that of the squares where its pieces stand
 pub record IsKept (g : Geometry) (cells : List (Option Piece)) (sets : Side → Kind → Squares) : Type 0 where

@@ -10,3 +10,4 @@ pub mod FenBlanks
 pub mod Shifting
 pub mod Sliding
 pub mod Held
+pub mod Mixing
