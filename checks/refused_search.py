@@ -7,10 +7,10 @@ It takes the sections of rows whose heads begin with `refused` from the stored i
 each to its program once for each allocation. `rt ci` leaves these programs; the launcher builds them if they are
 missing or older than their sources. The rows of dw_tests_rules read texts of moves; those of dw_tests_search note
 bounds, search some positions with each cache, for 1 to 3 moves, and ask for the lines of some positions with each
-cache, one by one, and for what follows each of them. If a growth is refused the right answer comes without it, or the
-search says that it is out of memory and gives it when asked again; a row is wrong if that is not so. Only while the
-rows are read may the program end for want of memory, with no row found wrong. The last run of each section meets no
-refusal.
+cache, one by one, and for what follows each of them; those of dw_tests_report judge positions with each cache. If a
+growth is refused the right answer comes without it, or the search or judge says that it is out of memory and gives it
+when asked again; a row is wrong if that is not so. Only while the rows are read may the program end for want of memory,
+with no row found wrong. The last run of each section meets no refusal.
 """
 import os
 import pathlib

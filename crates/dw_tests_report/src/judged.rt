@@ -2,6 +2,7 @@
 ghost use Rattle.std.specs.Prelude.{◌≤◌, IfSome};
 
 use crate::asked::{AMPLE, Asked};
+use crate::runs::new_memo;
 use dw_board::board::Board;
 use dw_board::position::Position;
 use dw_memo::any_memo::AnyMemo;
@@ -13,6 +14,7 @@ use dw_report::verdict::{Judged, Verdict};
 use dw_solve::guide::ByTrial;
 use dw_solve::solver::Solver;
 use dw_solve::stop::Stop;
+use dw_tests_common::rows::word;
 use dw_tests_common::tally::Found;
 use dw_tests_common::texts::{add_step, read_position};
 use std::alloc::Global;
@@ -58,7 +60,7 @@ fn add_judged<B: Board>(judged: &Judged<B>, found: &mut Found) {
     }
 }
 
-/// Adds what a solver judges of a position. The answer is false, and nothing is added, if it is stopped at its limit.
+/// Adds what a solver judges of a position. The answer is false, and nothing is added, if it is stopped.
 fn add_answer<B: Board>(
     alloc: Global,
     solver: &mut Solver<B, AnyMemo<B>, ByTrial>,
@@ -74,8 +76,7 @@ fn add_answer<B: Board>(
             add_judged(&judged, found);
             Some(true)
         }
-        Err(Stop::Limit) => Some(false),
-        Err(Stop::Memory) => None,
+        Err(Stop::Limit | Stop::Memory) => Some(false),
     }
 }
 
@@ -106,6 +107,24 @@ pub fn stopped<B: Board>(alloc: Global, asked: &Asked<'_>, found: &mut Found) ->
     let memo = AnyMemo::Lru(LruMemo::new(alloc, 1_000).ok()?);
     let mut solver = Solver::<B, AnyMemo<B>, ByTrial>::new(memo, ByTrial, 1);
     add_at_last(alloc, &mut solver, &position, moves, found)
+}
+
+/// What is judged with the cache that the head names. Where a cache or the solver is refused memory it says so, and then
+/// it can be asked again (`checks/refused_search.py` refuses it).
+pub fn refused<B: Board>(alloc: Global, asked: &Asked<'_>, found: &mut Found) -> Option<()> {
+    let (position, moves) = question::<B>(asked)?;
+    let name = word(asked.head, 4);
+    let memo = match new_memo(alloc, name) {
+        Some(memo) => memo,
+        None => new_memo(alloc, name)?,
+    };
+    let mut solver = Solver::<B, AnyMemo<B>, ByTrial>::new(memo, ByTrial, AMPLE);
+    for _ in 0..2 {
+        if add_answer(alloc, &mut solver, &position, moves, found)? {
+            return Some(());
+        }
+    }
+    None
 }
 
 /// Adds what a solver judges of a position once its limit, which rises by one, is high enough.

@@ -5,6 +5,7 @@
 pub enum Kind {
     Judge,
     Stopped,
+    Refused,
     Run,
     Limits,
     Reads,
@@ -21,6 +22,7 @@ impl Kind {
         match word {
             "judge" => Some(Kind::Judge),
             "stopped" => Some(Kind::Stopped),
+            "refused" => Some(Kind::Refused),
             "run" => Some(Kind::Run),
             "limits" => Some(Kind::Limits),
             "reads" => Some(Kind::Reads),

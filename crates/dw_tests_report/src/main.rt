@@ -58,6 +58,7 @@ fn answer<B: Board>(alloc: Global, kind: Kind, asked: &Asked<'_>, found: &mut Fo
     match kind {
         Kind::Judge => judged::judged::<B>(alloc, asked, found),
         Kind::Stopped => judged::stopped::<B>(alloc, asked, found),
+        Kind::Refused => judged::refused::<B>(alloc, asked, found),
         Kind::Run => reports::whole::<B>(alloc, asked, found),
         Kind::Limits => reports::limits::<B>(alloc, asked, found),
         Kind::Reads => broken::reads::<B>(alloc, asked, found),

@@ -80,7 +80,7 @@ pub fn ran_with<B: Board>(
 }
 
 /// The memo that is named.
-fn new_memo<B: Board>(alloc: Global, memo: &str) -> Option<AnyMemo<B>>
+pub fn new_memo<B: Board>(alloc: Global, memo: &str) -> Option<AnyMemo<B>>
     ensures { IfSome result (λ m. content_of m ≡ []) }
 {
     let (name, size) = memo.split_once(':').unwrap_or((memo, "1"));
