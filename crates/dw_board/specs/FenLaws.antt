@@ -17,7 +17,8 @@ ReadingIsGrammar = (g : Geometry) (text : List ℕ) (p : Placement) → (fen g t
 
 -- a text is read as having a fault exactly if this is its earliest one by the grammar
 abbrev pub FaultIsGrammar : Type 0
-FaultIsGrammar = (g : Geometry) (text : List ℕ) (fault : FenFault) → (fen g text ≡ Err fault) ↔ IsFirstFault g text fault
+FaultIsGrammar =
+    (g : Geometry) (text : List ℕ) (fault : FenFault) → (fen g text ≡ Err fault) ↔ IsFirstFault g text fault
 
 -- the written text of a position is in the grammar, with that position
 abbrev pub WrittenIsFen : Type 0

@@ -1,6 +1,6 @@
 //! The stack of a lister: the levels of the line at which it stands.
-ghost use Rattle.std.specs.Prelude.{◌≡◌, ◌≤◌, ◌<◌, ◌+◌, ◌*◌, ◌-◌, ◌⊎◌, [], ◌∷◌, drop, take, reverse, length, IfOk, OnErr, not};
-ghost use Rattle.std.specs.Prelude.{true};
+ghost use Rattle.std.specs.Prelude.{◌≡◌, ◌≤◌, ◌<◌, ◌+◌, ◌*◌, ◌-◌, ◌⊎◌, [], ◌∷◌, drop, take, reverse, length};
+ghost use Rattle.std.specs.Prelude.{IfOk, OnErr, not, true};
 ghost use Rattle.dw_moves.specs.Moves.{Legal, play};
 ghost use Rattle.dw_list.specs.inner.Going.{left_after};
 ghost use Rattle.dw_list.specs.inner.Steps.{begun};

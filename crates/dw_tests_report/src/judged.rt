@@ -109,8 +109,8 @@ pub fn stopped<B: Board>(alloc: Global, asked: &Asked<'_>, found: &mut Found) ->
     add_at_last(alloc, &mut solver, &position, moves, found)
 }
 
-/// What is judged with the cache that the head names. Where a cache or the solver is refused memory it says so, and then
-/// it can be asked again (`checks/refused_search.py` refuses it).
+/// What is judged with the cache that the head names. Where a cache or the solver is refused memory it says so, and
+/// then it can be asked again (`checks/refused_search.py` refuses it).
 pub fn refused<B: Board>(alloc: Global, asked: &Asked<'_>, found: &mut Found) -> Option<()> {
     let (position, moves) = question::<B>(asked)?;
     let name = word(asked.head, 4);
