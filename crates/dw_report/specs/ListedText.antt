@@ -50,5 +50,4 @@ IsListedText g p n most None text = (lines : List (List Move)) × Lines g p n li
 IsListedText g p n most (Some l) text =
     ((lines : List (List Move)) × (rest : List (List Move)) × Lines g p n lines × After lines l rest
     × IsListing g p most rest text)
-    ⊎ ((place : ℕ) × IsPlace g p n l place
-    × (text ≡ codes "refused token: 1 not a line at " ++ decimal place ++ codes "\n"))
+    ⊎ ((k : ℕ) × IsPlace g p n l k × (text ≡ codes "refused token: 1 not a line at " ++ decimal k ++ codes "\n"))

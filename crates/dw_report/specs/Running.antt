@@ -25,8 +25,7 @@ use Rattle.dw_report.specs.declared.settings.Command.TheVariants as asked
 -- the problems up to the one asked for
 abbrev pub up_to_asked : Option ℕ → List Numbered → List Numbered
 up_to_asked only [] = []
-up_to_asked only (problem ∷ problems) =
-    problem ∷ (if number_is_asked only problem.number then [] else up_to_asked only problems)
+up_to_asked only (first ∷ more) = first ∷ (if number_is_asked only first.number then [] else up_to_asked only more)
 
 -- a list of moves is given, and it is no line of the position
 abbrev pub IsNoLine : Geometry → Placement → ℕ → Option (List Move) → Type 0
@@ -79,8 +78,7 @@ pub record Finishes (g : Geometry) (request : Request) (bytes : List ℕ) (left 
   pub took : Consumes (Some bytes) left read
   pub through : IsReadThrough g request problems left read
 
--- after a failed read the sink has the texts of just the chosen problems that end in the bytes read; none of these was
--- the one asked for
+-- after a failed read the sink has the texts of just the chosen problems that end in the bytes read, none asked for
 pub record StopsReading (g : Geometry) (request : Request) (bytes : List ℕ)
     (left taken after : Option (List ℕ)) : Type 0 where
   pub read : List ℕ
