@@ -2,7 +2,6 @@
 use Rattle.std.proofs.Common.{◌≡◌, ℕ, ◌==◌, ◌&&◌, ◌+◌, List, [], ◌∷◌, ◌++◌, Bool, true, false, cond, option_to_list}
 use Rattle.std.proofs.Common.{nat_lt, Err, ◌⊎◌, inl, inr, refl, sym, ap, subst, ◌∙◌, append_assoc}
 use Rattle.std.proofs.lemmas.Bool.{cases_Bool, cond-false, and_parts, eqb-true}
-use Rattle.dw_board.specs.FenLaws.{ReadingIsGrammar}
 use Rattle.dw_board.specs.Geometry.{Geometry}
 use Rattle.dw_notation.specs.Lines.{Found, without_mark}
 use Rattle.dw_notation.specs.Problems.{Numbered, number_from, EndedComeFirst}
@@ -18,6 +17,7 @@ use Rattle.dw_notation.specs.declared.problems.pdn.Place.{Place}
 use Rattle.dw_notation.specs.declared.problems.pdn.Place.TheVariants.{Outside}
 use Rattle.dw_notation.proofs.DefinitionLemmas.{sections-mark}
 use Rattle.dw_notation.proofs.ProblemLemmas.{text_says-only}
+use Rattle.dw_notation.proofs.TextSaysLemmas.{FensAreRead}
 
 -- one list comes first in another
 abbrev First : {X : Type 0} → List X → List X → Type 0
@@ -129,7 +129,7 @@ found_first : (over : Bool) (g : Geometry) (form : Form) (bytes more : List ℕ)
 found_first over g Fens bytes more = lines_first over g bytes more
 found_first over g Pdn bytes more = sections_first over g bytes more
 
-pub ended_come_first : ReadingIsGrammar → EndedComeFirst
+pub ended_come_first : FensAreRead → EndedComeFirst
 ended_come_first law g form over bytes more ended problems e p =
     let list = found_of false g form bytes in
     let longer = found_of over g form (bytes ++ more) in

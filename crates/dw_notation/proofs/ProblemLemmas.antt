@@ -1,6 +1,5 @@
 -- The problems of a text are what is found in it.
 use Rattle.std.proofs.Common.{◌≡◌, ℕ, List, Bool, refl, sym, ap, ◌∙◌}
-use Rattle.dw_board.specs.FenLaws.{ReadingIsGrammar}
 use Rattle.dw_board.specs.Geometry.{Geometry}
 use Rattle.dw_notation.specs.Lines.{Found, without_mark}
 use Rattle.dw_notation.specs.Problems.{number_from, TextSays, AreProblems, TextsHaveProblems}
@@ -9,10 +8,10 @@ use Rattle.dw_notation.specs.inner.Problems.{found_of}
 use Rattle.dw_notation.specs.declared.problems.Form.{Form}
 use Rattle.dw_notation.specs.declared.problems.Form.TheVariants.{Fens, Pdn}
 use Rattle.dw_notation.specs.declared.problems.reader.Cutter.{Cutter}
-use Rattle.dw_notation.proofs.TextSaysLemmas.{lines_say, lines_say-only}
+use Rattle.dw_notation.proofs.TextSaysLemmas.{FensAreRead, lines_say, lines_say-only}
 use Rattle.dw_notation.proofs.WholeTextLemmas.{sections_say, sections_say-only}
 
-module _ (law : ReadingIsGrammar) where
+module _ (law : FensAreRead) where
   text_says : (g : Geometry) (form : Form) (over : Bool) (bytes : List ℕ)
       → TextSays g form over bytes (found_of over g form bytes)
   text_says g Fens over bytes = lines_say law g over (without_mark bytes)

@@ -9,7 +9,7 @@ use Rattle.std.specs.List.{list_all}
 use Rattle.dw_board.specs.Geometry.{Geometry}
 use Rattle.dw_board.specs.FenTokens.{is_blank}
 use Rattle.dw_board.specs.Fen.{fen}
-use Rattle.dw_board.specs.FenLaws.{ReadingIsGrammar}
+use Rattle.dw_board.specs.FenLaws.{ReadingIsGrammar, FaultIsGrammar}
 use Rattle.dw_notation.specs.Lines.{NoLineFeed, without_return, Found, FenSays, LineSays, if_over, LinesSay}
 use Rattle.dw_notation.specs.Lines.LinesSay.{last, one_more}
 use Rattle.dw_notation.specs.Tags.{Tag, same_name, values_named, game_of, is_wrong, FensSay, SectionSays}
@@ -69,17 +69,21 @@ games_named (tag ∷ tags) = game_value (same_name tag.name (codes "FEN")) (same
     tag.value (games_of tags) (values_named (codes "GameType") tags) (games_named tags) (no_game tag.name)
 
 -- ---- a FEN text
-module _ (law : ReadingIsGrammar) where
+-- reading one gives what the grammar does, a position or a fault
+abbrev pub FensAreRead : Type 0
+FensAreRead = ReadingIsGrammar × FaultIsGrammar
+
+module _ (law : FensAreRead) where
   pub fen_says : (g : Geometry) (text : List ℕ) → FenSays g text (fen_found (fen g text))
   fen_says g text = by_case (fen g text) refl where
     by_case : (r : _) → fen g text ≡ r → FenSays g text (fen_found r)
-    by_case (Ok p) e = (law g text p).0 e
-    by_case (Err fault) e = e
+    by_case (Ok p) e = (law.0 g text p).0 e
+    by_case (Err fault) e = (law.1 g text fault).0 e
 
   pub fen_says-only : (g : Geometry) (text : List ℕ) (found : Found) → FenSays g text found
       → found ≡ fen_found (fen g text)
-  fen_says-only g text (Ok p) h = sym (ap fen_found ((law g text p).1 h))
-  fen_says-only g text (Err (Fen fault)) h = sym (ap fen_found h)
+  fen_says-only g text (Ok p) h = sym (ap fen_found ((law.0 g text p).1 h))
+  fen_says-only g text (Err (Fen fault)) h = sym (ap fen_found ((law.1 g text fault).1 h))
   fen_says-only g text (Err NoFen) h = absurd h
   fen_says-only g text (Err TwoFens) h = absurd h
   fen_says-only g text (Err WrongGame) h = absurd h

@@ -19,8 +19,7 @@ use Rattle.dw_notation.specs.WholeTexts.SectionsSay.{nothing, other, comment, la
 use Rattle.dw_notation.specs.declared.problems.ProblemFault.TheVariants.{UnclosedComment}
 use Rattle.dw_notation.specs.declared.problems.pdn.Place.{Place}
 use Rattle.dw_notation.specs.declared.problems.pdn.Place.TheVariants.{Outside, BeforeName}
-use Rattle.dw_board.specs.FenLaws.{ReadingIsGrammar}
-use Rattle.dw_notation.proofs.TextSaysLemmas.{section_says, section_says-only}
+use Rattle.dw_notation.proofs.TextSaysLemmas.{FensAreRead, section_says, section_says-only}
 use Rattle.dw_notation.proofs.TagReadingLemmas.{Reads, join_reads}
 use Rattle.dw_notation.proofs.TagBreakingLemmas.{SoFar, tag_goes_on}
 use Rattle.dw_notation.proofs.TagBreakingLemmas.SoFar.{before, named, behind, valued, escaped, closing, rest}
@@ -46,7 +45,7 @@ last_section_says true g text gap tags some last is spaces = sym (last_section_i
 last_section_says false g text gap tags some last is spaces = sym (open_section_gives_nothing g text gap tags some last
     is spaces)
 
-pub sections_say-only : ReadingIsGrammar → {g : Geometry} {over : Bool} {text : List ℕ} {found : List Found}
+pub sections_say-only : FensAreRead → {g : Geometry} {over : Bool} {text : List ℕ} {found : List Found}
     → SectionsSay g over text found → found ≡ outside_found over g text
 sections_say-only law (nothing {g} {over}) = nothing_is_found over g
 sections_say-only law (other {g} {over} {more} byte neither says) = sections_say-only law says
@@ -365,7 +364,7 @@ first_section more =
     ])
 
 -- ---- the row
-module _ (law : ReadingIsGrammar) where
+module _ (law : FensAreRead) where
   abbrev Row : Geometry → Bool → List ℕ → Type 0
   Row g over text = (found : List Found) × SectionsSay g over text found
 
