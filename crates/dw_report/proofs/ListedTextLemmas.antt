@@ -195,8 +195,8 @@ listed_only exist place law keys g p n most (Some l) text other (inl (lines, res
     listing_only law g p most rest' text other (subst (λ (z : List (List Move)). IsListing g p most z text) rests is)
     is'
 listed_only exist place law keys g p n most (Some l) text other (inl (lines, rest, are, after, is))
-    (inr (k, none, is')) = absurd (none.no_line (after_line g p n lines rest l are after))
+    (inr (k, none, is')) = absurd (place.both g p n l k (after_line g p n lines rest l are after) none)
 listed_only exist place law keys g p n most (Some l) text other (inr (k, none, is'))
-    (inl (lines, rest, are, after, is)) = absurd (none.no_line (after_line g p n lines rest l are after))
+    (inl (lines, rest, are, after, is)) = absurd (place.both g p n l k (after_line g p n lines rest l are after) none)
 listed_only exist place law keys g p n most (Some l) text other (inr (j, none, is)) (inr (k, none', is')) =
     is ∙ (ap refused_line (place.only g p n l j k none none') ∙ sym is')

@@ -1,4 +1,4 @@
-use Rattle.dw_list.specs.inner.AskingLemmas.{answered, asked_then, asked_ok, asked_stop}
+use Rattle.dw_list.specs.inner.AskingLemmas.{asked_then, asked_ok, asked_stop}
 use Rattle.dw_report.proofs.judge.judged.Goals as goal
 
 pub returns-in_err-tries-clause-asked : goal.returns-in_err-tries-clause-asked
@@ -19,5 +19,5 @@ returns-clause-asked g c =
     let lost = g.M.Memo.dropped in
     let law = c.searches_add_up.ensures in
     let n = c.args.moves in
-    asked_then geo content lost law n _ _ _ answered (asked_ok geo content lost n _ _ _ 0 c.in_ok-verdict.ensures.asked)
-    (asked_ok geo content lost n _ _ _ 0 c.in_ok-tries.ensures.asked)
+    asked_then geo content lost law n _ _ _ _ (asked_ok geo content lost n _ _ _ 0 c.in_ok-verdict.ensures.asked)
+    (asked_ok geo content lost n _ _ _ _ c.in_ok-tries.ensures.asked)
