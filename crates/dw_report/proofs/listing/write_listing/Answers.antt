@@ -1,18 +1,18 @@
-use Rattle.std.proofs.Common.{◌≡◌, ◌∙◌, refl, sym, ap, subst, length, reverse, take, ◌%◌, ◌≤◌, arith, Err, List}
+use Rattle.std.proofs.Common.{◌≡◌, ◌∙◌, refl, sym, ap, subst, length, reverse, ◌%◌, ◌≤◌, arith, Err, List}
 use Rattle.std.specs.Io.KnownBytes.{Appends}
 use Rattle.std.proofs.lemmas.Result.{err_from_is_err_and}
 use Rattle.dw_moves.specs.Moves.{Move}
-use Rattle.dw_notation.specs.LineTexts.{moves_of}
+use Rattle.dw_notation.specs.LineTexts.{LineFrom}
 use Rattle.dw_notation.specs.Text.{ArePlayable}
 use Rattle.dw_notation.specs.Writes.{StopsShort, Writes}
-use Rattle.dw_list.specs.Listing.{stack_of, shared_of, solver_of, ComesFrom}
+use Rattle.dw_list.specs.Listing.{stack_of, solver_of}
 use Rattle.dw_report.specs.ListedText.{IsListing}
 use Rattle.dw_report.specs.inner.Rows.{IsRow, IsNothing}
 use Rattle.dw_report.specs.Running.{AreLinesOf}
 use Rattle.dw_report.specs.inner.Running.{TextEnds, SinkEnds}
 use Rattle.dw_report.proofs.SearchLemmas.{same_fault}
 use Rattle.dw_report.proofs.JudgedTextLemmas.{line_playable}
-use Rattle.dw_report.proofs.LineRowLemmas.{line_odd, comes_first, lines_text, no_rows, row_written, given_line}
+use Rattle.dw_report.proofs.LineRowLemmas.{line_odd, lines_text, no_rows, row_written, given_line}
 use Rattle.dw_report.proofs.LineRowLemmas.{last_line, line_next, none_next, rows_stop, row_ends}
 use Rattle.dw_report.specs.ListedText.{more_after}
 use Rattle.dw_report.proofs.LineRowLemmas.{complete_written, complete_short, more_written, more_short}
@@ -26,10 +26,7 @@ pub lines-init : goal.lines-init
 lines-init g c = record {
   lender = refl;
   rows = no_rows c.given_in_turn.ensures g.B.Board.geometry c.args.position.now (stack_of c.args.lister.now) (g.K.Sink.taken c.args.sink.now);
-  text = c.new-text.ensures.text;
-  start = c.new-text.ensures.start;
-  comes = comes_first g.B.Board.geometry c.args.lister.now (moves_of c.new-text.result) c.requires.ahead.fresh
-      c.new-text.ensures.moves;
+  start = ap (λ (v : LineFrom). v.start) c.new-text.ensures;
   few = omega arith;
   sink = refl;
   rises = omega arith;
@@ -94,28 +91,7 @@ write_row-requires g c =
     (line_playable geo start.position start.moves (reverse (stack_of c.advance.new.self).line) line) in
     let legal = subst (λ z. ArePlayable geo z c.line.result.now) (sym c.lines.invariant.start)
     (subst (ArePlayable geo p) (sym c.line.ensures.line) playable) in
-    let shared = c.in_ok-advance.ensures.shared c.if-not-branch.false in
-    let moves = moves_of c.lines.text in
-    let most = shared_of c.advance.new.self in
-    let common = (shared.common moves c.lines.invariant.comes).share in
-    let fits : c.shared.result ≤ length c.line.result.now =
-    omega (arith, c.shared.ensures, ap length c.line.ensures.line, common.0) in
-    let same = subst (λ z. take most z ≡ take most moves) (sym c.line.ensures.line) common.2 in (
-      omega arith,
-      (
-        c.lines.invariant.text,
-        (
-          c.line.ensures.few,
-          (
-            legal,
-            (
-              fits,
-              subst (λ k. take k c.line.result.now ≡ take k moves) (sym c.shared.ensures) same,
-            ),
-          ),
-        ),
-      ),
-    )
+    (omega arith, (c.line.ensures.few, legal))
 
 pub returns-in_err-write_row-clause-text : goal.returns-in_err-write_row-clause-text
 returns-in_err-write_row-clause-text g c =
@@ -148,15 +124,11 @@ lines-preserved g c =
     (g.K.Sink.taken c.write_row.new.sink)) c.lines.invariant.start c.in_ok-write_row.ensures.text in
     let row = subst (λ z. Writes (IsRow geo p z) (g.K.Sink.taken c.lines.sink) (g.K.Sink.taken c.write_row.new.sink))
     c.line.ensures.line here in
-    let shared = c.in_ok-advance.ensures.shared c.if-not-branch.false in
-    let moves = c.in_ok-write_row.ensures.moves ∙ c.line.ensures.line in
     record {
       lender = c.advance.ensures.lender ∙ c.lines.invariant.lender;
       rows = row_written c.given_in_turn.ensures geo p start (stack_of c.lines.lister) (stack_of c.advance.new.self) c.lines.written _ _ _
           c.lines.invariant.rows first row;
-      text = c.write_row.ensures.of;
       start = c.write_row.ensures.start ∙ c.lines.invariant.start;
-      comes = subst (ComesFrom geo c.advance.new.self) (sym moves) shared.next;
       few = omega (arith, c.lines-test.true);
       sink = c.in_ok-write_row.ensures.sink ∙ c.lines.invariant.sink;
       rises = omega (arith, c.advance.ensures.count.rises, c.lines.invariant.rises);
