@@ -17,7 +17,8 @@ use Rattle.dw_notation.specs.Writes.{StopsShort, Writes}
 use Rattle.dw_notation.specs.inner.Writes.{WritesShort}
 use Rattle.dw_list.specs.Lines.{Line, Lines, After}
 use Rattle.dw_list.specs.Standing.{Standing, AreToCome}
-use Rattle.dw_list.specs.Walking.{Gives, GivesFirst, GivesNone, GivesNext}
+use Rattle.dw_list.specs.Walking.{Gives, GivesFirst, GivesNone}
+use Rattle.dw_list.specs.inner.Walking.{GivesNext}
 use Rattle.dw_list.specs.Tokens.{token_of}
 use Rattle.dw_list.specs.Laws.{GivenInTurn}
 use Rattle.dw_report.specs.ListedText.{AreLineTexts, IsListing, IsListedText, more_after}

@@ -1,4 +1,4 @@
-use Rattle.std.proofs.Common.{◌≡◌, ◌≤◌, ◌-◌}
+use Rattle.std.proofs.Common.{◌≡◌, ◌≤◌, ◌-◌, reverse}
 use Rattle.dw_list.specs.Listing.{lender, solver_of, stack_of}
 use Rattle.dw_report.proofs.LineRowLemmas.{RowsSoFar}
 use Rattle.dw_report.proofs.listing.write_listing.Given as goal
@@ -9,6 +9,7 @@ invariant-lines g l = record {
   rows : RowsSoFar g.B.Board.geometry l.position (stack_of l.initial.lister) (stack_of l.lister) l.written
       (g.K.Sink.taken l.initial.sink) (g.K.Sink.taken l.sink);
   start : l.text.start ≡ l.position;
+  last : 1 ≤ l.written → l.last.items ≡ reverse (stack_of l.lister).line;
   few : l.written ≤ l.most;
   sink : g.K.Sink.is_failed l.sink ≡ g.K.Sink.is_failed l.initial.sink;
   rises : (solver_of l.initial.lister).expanded ≤ (solver_of l.lister).expanded;
