@@ -75,7 +75,7 @@ fn new_solver(alloc: Global) -> anyhow::Result<Solver<Ten, SlotMemo<Ten>, ByTria
 /// The number of lines that are still to come, and how many positions were expanded by then.
 fn count_lines(alloc: Global, lister: &mut Slots<'_>) -> anyhow::Result<(u64, u64)> {
     for count in 0..MOST_LINES {
-        if !lister.advance(alloc)? {
+        if lister.next(alloc)?.is_none() {
             return Ok((count, lister.expanded()));
         }
     }
@@ -103,7 +103,7 @@ fn go_on_after(
 }
 
 /// The line of this number, counted from 1, and how many lists of moves the lines up to it were taken from: one for the
-/// position, and one after each move that was not shared with the line before it.
+/// position, and one after each move that is not one of those with which the line before it begins, too.
 fn line_at(
     alloc: Global,
     position: &Position<Ten>,
@@ -125,12 +125,27 @@ fn walk_to(
     number: u64,
 ) -> anyhow::Result<(Vec<Move<Ten>>, usize)> {
     let mut lists = 1_usize;
+    let mut last = Vec::new(alloc);
     for _ in 0..number {
-        anyhow::ensure!(lister.advance(alloc)?, "no such line");
-        let others = lister.line().len().saturating_sub(lister.shared());
-        lists = lists.saturating_add(others);
+        let Some(line) = lister.next(alloc)? else {
+            anyhow::bail!("no such line");
+        };
+        lists = lists.saturating_add(line.len().saturating_sub(common(last.as_slice(), line)));
+        last = line.to_vec(alloc)?;
     }
-    Ok((lister.line().to_vec(alloc)?, lists))
+    Ok((last, lists))
+}
+
+/// How many first moves two lines have in common.
+fn common(line: &[Move<Ten>], other: &[Move<Ten>]) -> usize {
+    let mut count = 0_usize;
+    for (step, there) in line.iter().zip(other) {
+        if *step != *there {
+            return count;
+        }
+        count = count.saturating_add(1);
+    }
+    count
 }
 
 /// The number of lines after this one, and how many positions were expanded for them.

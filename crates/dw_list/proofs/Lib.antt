@@ -7,7 +7,6 @@ pub mod StackLemmas
 pub mod StackViewLemmas
 pub mod RemainingLemmas
 pub mod StepLemmas
-pub mod KeepingLemmas
 pub mod PortionLemmas
 pub mod FollowLemmas
 pub mod SeekLemmas

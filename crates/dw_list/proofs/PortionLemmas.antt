@@ -7,7 +7,8 @@ use Rattle.dw_moves.specs.Moves.{Move}
 use Rattle.dw_solve.specs.Solving.{Solving}
 use Rattle.dw_list.specs.Listing.{last_of, LimitIsLast}
 use Rattle.dw_list.specs.Standing.{Standing, AreToCome}
-use Rattle.dw_list.specs.Walking.{Gives, SameToCome, GivesFirst, GivesNext}
+use Rattle.dw_list.specs.Walking.{Gives, SameToCome, GivesFirst}
+use Rattle.dw_list.specs.inner.Walking.{GivesNext}
 use Rattle.dw_list.proofs.StepLemmas.{gives_nothing, gives_then, gives_same, none_stays, none_first}
 
 pub taken_none_yet : (g : Geometry) (s : Standing) {X : Type 0} (f : X → List Move) (xs : List X) → xs ≡ []

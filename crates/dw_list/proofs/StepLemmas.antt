@@ -2,7 +2,6 @@
 use Rattle.std.proofs.Common.{◌≡◌, ℕ, ◌+◌, ◌-◌, ◌*◌, ◌^◌, ◌≤◌, ◌<◌, ◌↔◌, zero, suc, Bool, true, false, Some, None}
 use Rattle.std.proofs.Common.{Option, List, [], ◌∷◌, ◌++◌, length, drop, reverse, refl, sym, ap, ◌∙◌, subst, inl, inr}
 use Rattle.std.proofs.Common.{append_assoc, arith, Result, Ok, Err, OnErr}
-use mathlib.Core.List.{reverse_aux-eq}
 use Rattle.std.specs.Prelude.{not, if◌then◌else◌}
 use Rattle.std.proofs.lemmas.Bool.{true≢false}
 use Rattle.std.proofs.lemmas.List.{append-nil}
@@ -23,7 +22,7 @@ use Rattle.dw_list.specs.inner.Tasks.{IsTrial, IsListed}
 use Rattle.dw_list.specs.declared.walk.Step.{Step}
 use Rattle.dw_list.specs.declared.walk.Step.TheVariants.{Given, On}
 use Rattle.dw_list.specs.Walking.{Gives, SameToCome, GivesFirst, GivesNone}
-use Rattle.dw_list.specs.inner.Walking.{HasStepped, IsBack}
+use Rattle.dw_list.specs.inner.Walking.{HasStepped}
 use Rattle.dw_list.proofs.StackLemmas.{leads_count}
 use Rattle.dw_list.proofs.GatheringLemmas.{left_within}
 use Rattle.dw_list.proofs.WayLemmas.{goes_from, next_legal, next_keeps}
@@ -417,19 +416,6 @@ module _ (g : Geometry) (s : Standing) (levels : AreLevels g s.position s.moves 
       ∙ ap (λ z. standing s.position s.moves (drop 1 s.line) (drop 1 z)) e in
       subst (IsStep g s) (sym new_is) (as_step q others _ e (step_back g s.position s.moves s.line q others facts.0
       ahead))
-
-  -- a move is taken off, and the lines still to come are after those that begin with the line
-  pub walk_left : (new : Standing) (q : Level) (others : List Level) → s.levels ≡ q ∷ others → q.ahead ≡ Some []
-      → new ≡ record s { line = drop 1 s.line; levels = drop 1 s.levels } → IsBack g s new
-  walk_left new q others e ahead is = record {
-    line = ap (λ (z : Standing). z.line) is;
-    later = λ l here rest.
-        let levels_here = (opened q others e).0 in
-        subst (λ z. Before g s.position z l) (reverse_aux-eq s.line rest) (remains_later g s.position s.moves others
-        s.line q.attacks q.position q.left levels_here.0 rest (IsAhead q.ahead)
-        (λ t k. absurd (begins_none t (subst (λ z. IsAhead z t) ahead k))) l
-        (subst (λ z. IsStillAhead z s.line l) e here));
-  }
 
   pub walk_passed : {B : Type 0} (new : Standing) (t : Trial B) → IsTrial g s.levels t
       → (Keeps g t.attacks t.after t.left → ⊥) → new ≡ record s { levels = passed_last s.levels } → IsStep g s new

@@ -8,7 +8,7 @@ use Rattle.dw_solve.specs.declared.stop.Stop.{Stop}
 use Rattle.dw_list.specs.declared.lister.Lister.{Lister}
 use Rattle.dw_solve.specs.Asking.{Asked}
 use Rattle.dw_list.specs.Walking.{SameToCome, GivesFirst, GivesNone}
-use Rattle.dw_list.specs.Listing.{lender, solver_of, stack_of, shared_of, IsShared, IsOnTheWay}
+use Rattle.dw_list.specs.Listing.{lender, solver_of, stack_of}
 
 -- The first of the lines still to come was lent, or there was none; after a stop they are what they were. The solver is
 -- the same, and was asked about wins within as many moves.
@@ -21,7 +21,4 @@ pub record LendsNext {B M G : Type 0} (g : Geometry) (content : M → Content) (
       (λ stop. SameToCome g (stack_of old) (stack_of new))
   pub line : MatchResult result
       (λ given. MatchOption given (Unit {0}) (λ line. line.now ≡ reverse (stack_of new).line)) (λ stop. Unit {0})
-  pub shared : MatchResult result
-      (λ given. MatchOption given (shared_of new ≡ shared_of old) (λ line. IsShared g old new))
-      (λ stop. IsOnTheWay g old new)
   pub asked : Asked g content lost (stack_of old).moves (solver_of old) (solver_of new) result

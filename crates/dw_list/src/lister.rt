@@ -1,10 +1,9 @@
 //! The lines of a position one by one.
-ghost use Rattle.std.specs.Prelude.{◌≡◌, ◌≤◌, ◌↔◌, List, false, IfOk, IfErr, OnOk, OnErr, IsErrOf, IsTrue};
-ghost use Rattle.std.specs.Prelude.{length, reverse, IfSome};
+ghost use Rattle.std.specs.Prelude.{◌≡◌, ◌≤◌, ◌↔◌, List, IfOk, IfErr, OnOk, OnErr, length, IfSome};
 ghost use Rattle.dw_solve.specs.declared.stop.Stop.TheVariants.{Limit};
 ghost use Rattle.dw_list.specs.declared.fault.AfterFault.TheVariants.{Stopped};
 ghost use Rattle.dw_solve.specs.Searching.{IsCounted};
-ghost use Rattle.dw_solve.specs.Work.{Searched, cut_off};
+ghost use Rattle.dw_solve.specs.Work.{Searched};
 
 use crate::fault::AfterFault;
 use crate::following::{Found, followed};
@@ -26,9 +25,6 @@ use std::alloc::Global;
 pub struct Lister<'a, B: Board, M: Memo<B>, G: Guide<B>> {
     solver: &'a mut Solver<B, M, G>,
     stack: Stack<B>,
-    /// How many moves of the line given last were never left since.
-    kept: usize,
-    shared: usize,
 }
 
 impl<'a, B: Board, M: Memo<B>, G: Guide<B>> Lister<'a, B, M, G> {
@@ -36,10 +32,9 @@ impl<'a, B: Board, M: Memo<B>, G: Guide<B>> Lister<'a, B, M, G> {
     ghost use Rattle.dw_list.specs.Lines.{Lines};
     ghost use Rattle.dw_solve.specs.Asking.{moment_of};
     ghost use Rattle.dw_list.specs.Standing.{AreToCome};
-    ghost use Rattle.dw_list.specs.Walking.{SameToCome, GivesNext};
     ghost use Rattle.dw_list.specs.Seeking.{IsAlong};
     ghost use Rattle.dw_list.specs.Faults.{IsRefusal, cut_after};
-    ghost use Rattle.dw_list.specs.Listing.{lender, solver_of, stack_of, shared_of, kept_of, IsShared, IsOnTheWay};
+    ghost use Rattle.dw_list.specs.Listing.{lender, solver_of, stack_of};
     ghost use Rattle.std.specs.Prelude.{⊤, []};
     ghost use Rattle.std.specs.Borrow.{sem, follows_so};
     ghost use mathlib.Core.Option.{none};
@@ -63,14 +58,10 @@ impl<'a, B: Board, M: Memo<B>, G: Guide<B>> Lister<'a, B, M, G> {
         ensures moves { (stack_of result).moves ≡ moves }
         ensures to_come { (lines : List (List of.Move)) → Lines B.geometry position.now moves lines
             ↔ AreToCome B.geometry (stack_of result) lines }
-        ensures shared { shared_of result ≡ 0 }
-        ensures kept { kept_of result ≡ 0 }
     {
         Lister {
             solver,
             stack: Stack::new(position, moves),
-            kept: 0,
-            shared: 0,
         }
     }
 
@@ -83,11 +74,7 @@ impl<'a, B: Board, M: Memo<B>, G: Guide<B>> Lister<'a, B, M, G> {
             (stack_of self.new)) }
         ensures refused { IfErr result (IsRefusal B.geometry (stack_of self.old).position (stack_of self.old).moves
             line.now) }
-        ensures none_shared { OnOk result (shared_of self.new ≡ 0) }
-        ensures none_kept { OnOk result (kept_of self.new ≡ 0) }
         ensures same { OnErr result (stack_of self.new ≡ stack_of self.old) }
-        ensures same_shared { OnErr result (shared_of self.new ≡ shared_of self.old) }
-        ensures same_kept { OnErr result (kept_of self.new ≡ kept_of self.old) }
         ensures count { IsCounted (solver_of self.old).expanded (solver_of self.old).limit (solver_of self.new).expanded
             (solver_of self.new).limit }
         ensures stop { IfErr result (λ fault. fault ≡ Stopped Limit
@@ -102,38 +89,13 @@ impl<'a, B: Board, M: Memo<B>, G: Guide<B>> Lister<'a, B, M, G> {
             Ok(Found::Place(place)) => Err(AfterFault::NotALine(place)),
             Ok(Found::Along(stack)) => {
                 self.stack = stack;
-                self.kept = 0;
-                self.shared = 0;
                 Ok(())
             }
         }
     }
 
-    /// Walks to the next line, and answers whether there is one. After a stop the lines still to come are what they
-    /// were, and the call can be made again.
-    /// Example: at `W:W27,45:B16`, within 2 moves, it is `Ok(true)` and then `Ok(false)`, since there is one line.
-    pub fn advance(&mut self, alloc: Global) -> Result<bool, Stop>
-        ensures lender { lender self.new ≡ lender self.old }
-        ensures next { IfOk result (λ more. GivesNext B.geometry more (stack_of self.old) (stack_of self.new)) }
-        ensures stopped { OnErr result (SameToCome B.geometry (stack_of self.old) (stack_of self.new)) }
-        ensures shared { IfOk result (λ more. IsTrue more → IsShared B.geometry self.old self.new) }
-        ensures last_shared { IfOk result (λ more. more ≡ false → shared_of self.new ≡ shared_of self.old) }
-        ensures on_the_way { OnErr result (IsOnTheWay B.geometry self.old self.new) }
-        ensures count { IsCounted (solver_of self.old).expanded (solver_of self.old).limit (solver_of self.new).expanded
-            (solver_of self.new).limit }
-        ensures stop { IsErrOf result Limit → (solver_of self.new).expanded ≡ (solver_of self.new).limit }
-        ensures searched { Searched B.geometry (stack_of self.old).moves (cut_off result (stack_of self.old).moves)
-            (moment_of M.content M.dropped (solver_of self.old)) (moment_of M.content M.dropped (solver_of self.new)) }
-    {
-        let more = walk(alloc, self.solver, &mut self.stack, &mut self.kept)?;
-        if more {
-            self.shared = self.kept;
-            self.kept = self.stack.line().len();
-        }
-        Ok(more)
-    }
-
-    /// The next line, lent as it stands in the lister's own array, or `None` if no line is still to come.
+    /// The next line, lent as it stands in the lister's own array, or `None` if no line is still to come. After a stop
+    /// the lines still to come are what they were, and the call can be made again.
     /// Example: at `W:W28:B`, within 1 move, it gives the line `28-22`, then `28-23`, and then `None`.
     pub fn next(&mut self, alloc: Global) -> Result<Option<&[Move<B>]>, Stop>
         ensures few { IfOk result (λ given. IfSome given (λ line. length line.now ≤ 39)) }
@@ -143,29 +105,11 @@ impl<'a, B: Board, M: Memo<B>, G: Guide<B>> Lister<'a, B, M, G> {
             self.entry.ghost_name none (λ _ _. ⊤)
             (λ left. LendsNext B.geometry M.content M.dropped self.old left result)) }
     {
-        if self.advance(alloc)? {
+        if walk(alloc, self.solver, &mut self.stack)? {
             Ok(Some(self.stack.line()))
         } else {
             Ok(None)
         }
-    }
-
-    /// The line at which the lister stands: the one that was given last, until it is asked for the next.
-    /// Example: after `next` gave the line `28-22` it is that line.
-    pub fn line(&self) -> &[Move<B>]
-        ensures line { result.now ≡ reverse (stack_of self.now).line }
-        ensures few { length result.now ≤ 39 }
-    {
-        self.stack.line()
-    }
-
-    /// How many of its first moves the line that was given last has in common with the one given before it: 0 if
-    /// that is the first one since the start, or since the lister went on after a line.
-    /// Example: at `W:W27,32:B18`, within 2 moves, it is 0 after the first line, and then 2 and 1.
-    pub fn shared(&self) -> usize
-        ensures { result ≡ shared_of self.now }
-    {
-        self.shared
     }
 
     /// How many positions the solver has expanded so far.
@@ -201,8 +145,6 @@ impl<'a, B: Board, M: Memo<B>, G: Guide<B>> Lister<'a, B, M, G> {
         requires enough { (solver_of self.old).expanded ≤ limit }
         ensures lender { lender self.new ≡ lender self.old }
         ensures stack { stack_of self.new ≡ stack_of self.old }
-        ensures shared { shared_of self.new ≡ shared_of self.old }
-        ensures kept { kept_of self.new ≡ kept_of self.old }
         ensures solver { solver_of self.new ≡ record (solver_of self.old) { limit = limit } }
     {
         self.solver.set_limit(limit);

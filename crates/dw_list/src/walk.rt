@@ -1,8 +1,8 @@
 //! The walk over a stack, from line to line.
-ghost use Rattle.std.specs.Prelude.{◌≡◌, ◌≤◌, length, IfOk, OnErr, IsTrue, if◌then◌else◌};
+ghost use Rattle.std.specs.Prelude.{◌≡◌, IfOk, OnErr, if◌then◌else◌};
 ghost use Rattle.dw_solve.specs.Asking.{Asked};
-ghost use Rattle.dw_list.specs.Walking.{SameToCome, GivesNext};
-ghost use Rattle.dw_list.specs.inner.Walking.{HasStepped, IsNear, KeepsFirst, IsParted};
+ghost use Rattle.dw_list.specs.Walking.{SameToCome};
+ghost use Rattle.dw_list.specs.inner.Walking.{HasStepped, GivesNext};
 
 use crate::going::keeps;
 use crate::stack::{Stack, Task};
@@ -27,25 +27,19 @@ pub(crate) enum Step {
 }
 
 /// Walks to the next line, and answers whether there is one. After a stop the lines still to come are what they were.
-/// The walk lowers `kept`, the number of first moves that it never leaves.
 pub(crate) fn walk<B: Board, M: Memo<B>, G: Guide<B>>(
     alloc: Global,
     solver: &mut Solver<B, M, G>,
     stack: &mut Stack<B>,
-    kept: &mut usize,
 ) -> Result<bool, Stop>
     ensures next { IfOk result (λ more. GivesNext B.geometry more stack.old stack.new) }
     ensures stopped { OnErr result (SameToCome B.geometry stack.old stack.new) }
-    ensures kept { KeepsFirst B.geometry stack.old stack.new kept.old kept.new }
-    ensures fits { kept.new ≤ length stack.new.line }
-    ensures parted { IfOk result (λ more. IsTrue more → IsParted B.geometry stack.old stack.new kept.old kept.new) }
     ensures asked { Asked B.geometry M.content M.dropped stack.old.moves solver.old solver.new result }
 {
     searches_add_up();
     moves_have_keys();
     solver.keeps_its_limit();
     'steps: loop {
-        *kept = (*kept).min(stack.line().len());
         match take_step(alloc, solver, stack)? {
             Step::Over => return Ok(false),
             Step::Given => return Ok(true),
@@ -61,7 +55,6 @@ fn take_step<B: Board, M: Memo<B>, G: Guide<B>>(
     stack: &mut Stack<B>,
 ) -> Result<Step, Stop>
     ensures stepped { IfOk result (λ met. HasStepped B.geometry met stack.old stack.new) }
-    ensures line { IfOk result (λ met. IsNear B.geometry met stack.old stack.new) }
     ensures stopped { OnErr result (stack.new ≡ stack.old) }
     ensures asked { Asked B.geometry M.content M.dropped stack.old.moves solver.old solver.new result }
 {

@@ -12,8 +12,7 @@ use Rattle.dw_moves.specs.Moves.{Move, Legal}
 use Rattle.dw_board.specs.Lists.{Member}
 use Rattle.dw_moves.specs.Order.{Listed, AreListed}
 use Rattle.dw_notation.specs.Text.{IsMoveText, numbered, text_among}
-use Rattle.dw_notation.specs.LineWords.{spaced, onto}
-use Rattle.dw_notation.specs.inner.LineWords.{HasStep}
+use Rattle.dw_notation.specs.inner.LineWords.{spaced, onto, HasStep}
 
 pub joined : (w : List ℕ) (words : List (List ℕ)) → join_with_byte 32 (w ∷ words) ≡ w ++ spaced words
 joined w [] = sym (append-nil w)

@@ -9,9 +9,8 @@ use Rattle.dw_board.specs.Geometry.{Geometry}
 use Rattle.dw_board.specs.Placement.{Placement}
 use Rattle.dw_moves.specs.Moves.{Move, Legal, play}
 use Rattle.dw_notation.specs.Text.{IsMoveText, IsLineText, AreWords, ArePlayable, numbered}
-use Rattle.dw_notation.specs.LineWords.{spaced, onto}
-use Rattle.dw_notation.specs.LineTexts.{AreWritten, end_from}
-use Rattle.dw_notation.specs.inner.LineWords.{len_to}
+use Rattle.dw_notation.specs.inner.LineWords.{spaced, onto}
+use Rattle.dw_notation.specs.inner.LinePlies.{AreWritten, end_from, len_to, after_moves}
 use Rattle.dw_notation.specs.declared.line_text.Ply.{Ply}
 use Rattle.dw_notation.proofs.LineTextLemmas.{numbered_onto, numbered_short, onto_later, onto_none}
 
@@ -240,21 +239,31 @@ moves_more front rest taken new i m low is h e = e
     ∙ (ap (λ z. z ++ m ∷ []) h ∙ (append_assoc front (take i rest) (m ∷ [])
     ∙ ap (λ z. front ++ z) (ap (λ z. take i rest ++ z ∷ []) is ∙ sym (take_more rest i m low))))
 
--- behind the moves that are kept the rest can be played
-playable_behind : {B : Type 0} (g : Geometry) (p : Placement) (ply : ℕ) (before : List ℕ) (plies : List (Ply B))
-    (text : List ℕ) (rest : List Move) → AreWritten g p ply before plies text
-    → ArePlayable g p (map (λ (x : Ply B). x.mv) plies ++ rest) → ArePlayable g (end_from p plies) rest
-playable_behind g p ply before [] text rest h k = k
-playable_behind {B} g p ply before (x ∷ plies) text rest h k =
-    playable_behind g x.after (ply + 1) (before ++ added ply h.0) plies text rest h.5
-    (subst (λ z. ArePlayable g z (map (λ (y : Ply B). y.mv) plies ++ rest)) (sym h.3) k.1)
+-- the position after the plies is that after their moves
+pub end_is : {B : Type 0} (g : Geometry) (p : Placement) (ply : ℕ) (before : List ℕ) (plies : List (Ply B))
+    (text : List ℕ) → AreWritten g p ply before plies text
+    → end_from p plies ≡ after_moves g p (map (λ (x : Ply B). x.mv) plies)
+end_is g p ply before [] text h = refl
+end_is {B} g p ply before (x ∷ plies) text h =
+    end_is g x.after (ply + 1) (before ++ added ply h.0) plies text h.5
+    ∙ ap (λ z. after_moves g z (map (λ (y : Ply B). y.mv) plies)) h.3
 
-pub playable_from : {B : Type 0} (g : Geometry) (p : Placement) (plies : List (Ply B)) (text : List ℕ)
-    (line : List Move) (shared : ℕ) → AreWritten g p 0 [] plies text → map (λ (x : Ply B). x.mv) plies
-    ≡ take shared line → ArePlayable g p line → ArePlayable g (end_from p plies) (drop shared line)
-playable_from {B} g p plies text line shared h same k =
-    playable_behind g p 0 [] plies text (drop shared line) h
-    (subst (ArePlayable g p) (sym (take-append-drop shared line) ∙ ap (λ z. z ++ drop shared line) (sym same)) k)
+pub after_push : (g : Geometry) (p : Placement) (moves : List Move) (m : Move)
+    → after_moves g p (moves ++ m ∷ []) ≡ play g (after_moves g p moves) m
+after_push g p [] m = refl
+after_push g p (n ∷ moves) m = after_push g (play g p n) moves m
+
+-- behind the first moves the rest can be played
+playable_behind : (g : Geometry) (p : Placement) (front rest : List Move) → ArePlayable g p (front ++ rest)
+    → ArePlayable g (after_moves g p front) rest
+playable_behind g p [] rest h = h
+playable_behind g p (m ∷ front) rest h = playable_behind g (play g p m) front rest h.1
+
+pub playable_from : (g : Geometry) (p : Placement) (moves line : List Move) (shared : ℕ) → moves ≡ take shared line
+    → ArePlayable g p line → ArePlayable g (after_moves g p moves) (drop shared line)
+playable_from g p moves line shared same h =
+    playable_behind g p moves (drop shared line)
+    (subst (ArePlayable g p) (sym (take-append-drop shared line) ∙ ap (λ z. z ++ drop shared line) (sym same)) h)
 
 pub rest_is : (line : List Move) (shared : ℕ) → take (length line - shared) (drop shared line) ≡ drop shared line
 rest_is line shared = take_all (length line - shared) (drop shared line) (omega (arith, length-drop shared line))

@@ -3,7 +3,6 @@ pub mod Endpoints
 pub mod Writes
 pub mod Text
 pub mod TextLaws
-pub mod LineWords
 pub mod LineTexts
 pub mod Lines
 pub mod Tags

@@ -11,4 +11,6 @@ pub mod Problems
 pub mod Cutting
 pub mod Readers
 pub mod LineWords
+pub mod LinePlies
+pub mod LineCodes
 pub mod Writes

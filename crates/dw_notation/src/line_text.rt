@@ -1,19 +1,22 @@
 //! The texts of lines.
-ghost use Rattle.std.specs.Prelude.{◌≡◌, ◌≤◌, ◌<◌, ◌+◌, ◌++◌, [], ◌∷◌, length, take, IfOk, OnOk, OnErr, ◌%◌, ◌*◌};
+ghost use Rattle.std.specs.Prelude.{◌≡◌, ◌≤◌, ◌<◌, ◌+◌, ◌++◌, [], ◌∷◌, length, take, IfOk, OnOk, ◌%◌, ◌*◌};
 ghost use Rattle.arrayvec.specs.ArrayString.{array_string_len};
-ghost use Rattle.dw_moves.specs.Moves.{Legal, play};
+ghost use Rattle.dw_moves.specs.Moves.{Legal};
 ghost use Rattle.dw_notation.specs.Text.{IsLineText, ArePlayable, numbered};
-ghost use Rattle.dw_notation.specs.LineWords.{onto};
+ghost use Rattle.dw_notation.specs.inner.LineWords.{onto};
+ghost use Rattle.dw_notation.specs.inner.LinePlies.{after_moves, len_to, end_from};
 
 use crate::move_text::{MOVE_ROOM, text_in};
 use arrayvec::{ArrayString, ArrayVec};
 use dw_board::board::Board;
 use dw_board::piece::Side;
 use dw_board::position::Position;
+use dw_moves::laws::same_move;
 use dw_moves::moves::Move;
 use dw_moves::play::play as played;
 use itoa::Buffer;
 use std::alloc::{AllocError, Global};
+use std::marker::Model;
 
 /// The bytes that suffice for the text of each line.
 /// Example: `1. 45-40 16-21 2. 27x16` takes 23 of them.
@@ -22,7 +25,7 @@ pub const LINE_ROOM: usize = 2560;
 /// A move of a line: the position after it, and how long the text is up to its end.
 /// Example: of `1. 45-40 16-21 2. 27x16` the first ply is `45-40`, at whose end the text has 8 bytes.
 #[derive(Drop)]
-pub struct Ply<B: Board> {
+struct Ply<B: Board> {
     mv: Move<B>,
     after: Position<B>,
     len: usize,
@@ -41,8 +44,7 @@ impl<B: Board> Default for Ply<B> {
     }
 }
 
-/// The text of a line, which goes on move by move, and back.
-/// See [`LineText::follow`] for an example.
+/// The text of a line, kept beside its moves. See [`LineText::follow`] for an example.
 #[derive(Drop)]
 pub struct LineText<B: Board> {
     start: Position<B>,
@@ -50,16 +52,27 @@ pub struct LineText<B: Board> {
     text: ArrayString<LINE_ROOM>,
 }
 
-impl<B: Board> LineText<B> {
-    ghost use Rattle.dw_notation.specs.LineTexts.{IsTextOf, moves_of, start_of, end_of};
-    ghost use Rattle.dw_notation.specs.inner.LineWords.{len_to};
+impl<B: Board> Model for LineText<B> {
+    ghost use Rattle.std.specs.Prelude.{[], map};
+    ghost use Rattle.dw_notation.specs.LineTexts.{LineFrom};
+    ghost use Rattle.dw_notation.specs.inner.LineCodes.{line_code};
 
+    ghost Value = { LineFrom };
+
+    ghost coded = { line_code };
+
+    ghost use Rattle.dw_notation.specs.inner.LinePlies.{AreWritten};
+
+    ghost view = { λ t. record { start = t.start; moves = map (λ x. x.mv) t.plies.items } };
+
+    ghost invariant = { λ t. AreWritten B.geometry t.start 0 [] t.plies.items t.text.bytes };
+}
+
+impl<B: Board> LineText<B> {
     /// The text of no move.
     /// Example: `LineText::new(&position).as_str()` is empty.
     pub fn new(start: &Position<B>) -> Self
-        ensures text { IsTextOf B.geometry result }
-        ensures start { start_of result ≡ start.now }
-        ensures moves { moves_of result ≡ [] }
+        ensures { result ≡ record { start = start.now; moves = [] } }
     {
         LineText {
             start: *start,
@@ -68,86 +81,16 @@ impl<B: Board> LineText<B> {
         }
     }
 
-    /// The position after the moves.
-    fn position(&self) -> Position<B>
-        ensures { result ≡ end_of self.now }
-    {
-        let count = self.plies.len();
-        if count == 0 {
-            self.start
-        } else {
-            let ply = &self.plies.as_slice()[count - 1];
-            ply.after
-        }
-    }
-
-    /// How long the text of so many first moves is.
-    fn len_to(&self, moves: usize) -> usize
-        ensures { result ≡ len_to 0 moves self.now.plies.items }
-    {
-        let count = moves.min(self.plies.len());
-        if count == 0 {
-            0
-        } else {
-            let ply = &self.plies.as_slice()[count - 1];
-            ply.len
-        }
-    }
-
-    /// Takes back all moves but so many of the first ones.
-    /// Example: `keep(1)` leaves `1. 45-40` of `1. 45-40 16-21 2. 27x16`.
-    pub fn keep(&mut self, moves: usize)
-        requires { IsTextOf B.geometry self.old }
-        ensures text { IsTextOf B.geometry self.new }
-        ensures start { start_of self.new ≡ start_of self.old }
-        ensures moves { moves_of self.new ≡ take moves (moves_of self.old) }
-    {
-        let len = self.len_to(moves);
-        self.plies.truncate(moves);
-        self.text.truncate(len);
-    }
-
-    /// Goes on with a legal move; or nothing is changed, if out of memory.
-    /// Example: at `W:W27,45:B16` the text after the move `45-40` is `1. 45-40`.
-    pub fn push(&mut self, alloc: Global, mv: &Move<B>) -> Result<(), AllocError>
-        requires text { IsTextOf B.geometry self.old }
-        requires few { length (moves_of self.old) < 39 }
-        requires legal { Legal B.geometry (end_of self.old) mv.now }
-        ensures text { IsTextOf B.geometry self.new }
-        ensures start { start_of self.new ≡ start_of self.old }
-        ensures end { OnOk result (end_of self.new ≡ play B.geometry (end_of self.old) mv.now) }
-        ensures moves { OnOk result (moves_of self.new ≡ moves_of self.old ++ mv.now ∷ []) }
-        ensures same { OnErr result (moves_of self.new ≡ moves_of self.old) }
-    {
-        let current = self.position();
-        let word = text_in(alloc, &current, mv)?;
-        push_words(&mut self.text, self.plies.len(), &word);
-        self.plies.push(Ply {
-            mv: *mv,
-            after: played(&current, mv),
-            len: self.text.len(),
-        });
-        Ok(())
-    }
-
-    /// Goes over to another line of at most 39 moves, each legal after those before it, of which so many first ones
-    /// are the same; or, if out of memory, to some of them.
-    /// Example: from `1. 32-28 18-22 2. 27x18` to `1. 32-28 18-22 2. 28x17` the first 2 moves are the same.
-    pub fn follow(
-        &mut self,
-        alloc: Global,
-        shared: usize,
-        line: &[Move<B>],
-    ) -> Result<(), AllocError>
-        requires text { IsTextOf B.geometry self.old }
+    /// Goes over to a line of at most 39 moves, each legal after those before it. Only what comes after the moves that
+    /// both lines begin with is written anew. If out of memory, the text is that of some moves from the same start.
+    /// Example: after the line `1. 32-28 18-22 2. 27x18` the text of `1. 32-28 18-22 2. 28x17` takes one more word.
+    pub fn follow(&mut self, alloc: Global, line: &[Move<B>]) -> Result<(), AllocError>
         requires few { length line.now ≤ 39 }
-        requires legal { ArePlayable B.geometry (start_of self.old) line.now }
-        requires fits { shared ≤ length line.now }
-        requires shared { take shared line.now ≡ take shared (moves_of self.old) }
-        ensures text { IsTextOf B.geometry self.new }
-        ensures start { start_of self.new ≡ start_of self.old }
-        ensures moves { OnOk result (moves_of self.new ≡ line.now) }
+        requires legal { ArePlayable B.geometry self.old.start line.now }
+        ensures start { self.new.start ≡ self.old.start }
+        ensures moves { OnOk result (self.new.moves ≡ line.now) }
     {
+        let shared = self.shared(line);
         self.keep(shared);
         let rest = &line[shared..];
         'moves: for mv in rest {
@@ -159,11 +102,78 @@ impl<B: Board> LineText<B> {
     /// The text.
     /// Example: at `W:W27,45:B16` it is `1. 45-40 16-21` after the moves `45-40` and `16-21`.
     pub fn as_str(&self) -> &str
-        requires { IsTextOf B.geometry self.now }
-        ensures text { IsLineText B.geometry (start_of self.now) (moves_of self.now) result.now }
+        ensures text { IsLineText B.geometry self.now.start self.now.moves result.now }
         ensures fits { length result.now ≤ 2560 }
     {
         self.text.as_str()
+    }
+
+    /// How many first moves a line has in common with the moves.
+    fn shared(&self, line: &[Move<B>]) -> usize
+        ensures fits { result ≤ length line.now }
+        ensures same { take result line.now ≡ take result self.now.moves }
+    {
+        let plies = self.plies.as_slice();
+        'moves: for (place, mv) in line.iter().enumerate() {
+            if place >= plies.len() || !same_move(&plies[place].mv, mv) {
+                return place;
+            }
+        }
+        line.len()
+    }
+
+    /// Takes back all moves but so many of the first ones.
+    fn keep(&mut self, moves: usize)
+        ensures start { self.new.start ≡ self.old.start }
+        ensures moves { self.new.moves ≡ take moves self.old.moves }
+    {
+        let len = len_to(self.plies.as_slice(), moves);
+        self.plies.truncate(moves);
+        self.text.truncate(len);
+    }
+
+    /// Goes on with a legal move; or nothing is changed, if out of memory.
+    fn push(&mut self, alloc: Global, mv: &Move<B>) -> Result<(), AllocError>
+        requires few { length self.old.moves < 39 }
+        requires legal { Legal B.geometry (after_moves B.geometry self.old.start self.old.moves) mv.now }
+        ensures start { self.new.start ≡ self.old.start }
+        ensures moves { OnOk result (self.new.moves ≡ self.old.moves ++ mv.now ∷ []) }
+    {
+        let current = end_of(&self.start, self.plies.as_slice());
+        let word = text_in(alloc, &current, mv)?;
+        push_words(&mut self.text, self.plies.len(), &word);
+        self.plies.push(Ply {
+            mv: *mv,
+            after: played(&current, mv),
+            len: self.text.len(),
+        });
+        Ok(())
+    }
+}
+
+/// The position after some plies.
+fn end_of<B: Board>(start: &Position<B>, plies: &[Ply<B>]) -> Position<B>
+    ensures { result ≡ end_from start.now plies.now }
+{
+    let count = plies.len();
+    if count == 0 {
+        *start
+    } else {
+        let ply = &plies[count - 1];
+        ply.after
+    }
+}
+
+/// How long the text of so many first plies is.
+fn len_to<B: Board>(plies: &[Ply<B>], moves: usize) -> usize
+    ensures { result ≡ len_to 0 moves plies.now }
+{
+    let count = moves.min(plies.len());
+    if count == 0 {
+        0
+    } else {
+        let ply = &plies[count - 1];
+        ply.len
     }
 }
 
@@ -182,7 +192,7 @@ pub fn line_text<B: Board>(
     ensures { IfOk result (λ text. IsLineText B.geometry position.now moves.now text.bytes) }
 {
     let mut text = LineText::new(position);
-    text.follow(alloc, 0, moves)?;
+    text.follow(alloc, moves)?;
     Ok(text.text)
 }
 

@@ -1,5 +1,5 @@
 -- Lemmas on lists of lines that are written row by row.
-use Rattle.std.proofs.Common.{◌≡◌, ℕ, zero, suc, ◌+◌, ◌<◌, ◌≤◌, ◌-◌, ◌%◌, List, [], ◌∷◌, ◌++◌, length, reverse, take}
+use Rattle.std.proofs.Common.{◌≡◌, ℕ, zero, suc, ◌+◌, ◌<◌, ◌≤◌, ◌-◌, ◌%◌, List, [], ◌∷◌, ◌++◌, length, reverse}
 use Rattle.std.proofs.Common.{refl, sym, ap, ◌∙◌, subst, inl, inr, arith, append_assoc, append-nil, length-append}
 use Rattle.std.proofs.Common.{Option, Some, None, codes, decimal, Result, Ok, Err, OnOk, OnErr, IfOk, IsTrue, ◌↔◌, Bool}
 use Rattle.std.proofs.Common.{true, false}
@@ -15,11 +15,10 @@ use Rattle.dw_notation.specs.Text.{IsLineText, ArePlayable}
 use Rattle.dw_notation.specs.TextLaws.{LinesHaveTexts}
 use Rattle.dw_notation.specs.Writes.{StopsShort, Writes}
 use Rattle.dw_notation.specs.inner.Writes.{WritesShort}
-use Rattle.dw_list.specs.declared.lister.Lister.{Lister}
 use Rattle.dw_list.specs.Lines.{Line, Lines, After}
-use Rattle.dw_list.specs.Listing.{stack_of, kept_of, ComesFrom}
 use Rattle.dw_list.specs.Standing.{Standing, AreToCome}
-use Rattle.dw_list.specs.Walking.{Gives, GivesFirst, GivesNone, GivesNext}
+use Rattle.dw_list.specs.Walking.{Gives, GivesFirst, GivesNone}
+use Rattle.dw_list.specs.inner.Walking.{GivesNext}
 use Rattle.dw_list.specs.Tokens.{token_of}
 use Rattle.dw_list.specs.Laws.{GivenInTurn}
 use Rattle.dw_report.specs.ListedText.{AreLineTexts, IsListing, IsListedText, more_after}
@@ -452,17 +451,3 @@ pub refused_as : {E : Type 0} (g : Geometry) (p : Placement) (n k : ℕ) (after 
     → IfOk r (λ refused. IsTrue refused ↔ IsNoLine g p n after)
 refused_as g p n k after other r e f h = subst (λ z. IfOk r (λ refused. IsTrue refused ↔ IsNoLine g p n z)) f
     (subst (λ z. IfOk r (λ refused. IsTrue refused ↔ IsNoLine g p z other)) e h)
-
--- a lister that keeps no move comes from no move
-pub comes_first : {B M G : Type 0} (g : Geometry) (lister : Lister B M G) (given : List Move) → kept_of lister ≡ 0
-    → given ≡ [] → ComesFrom g lister given
-comes_first g lister given none e =
-    let line = reverse (stack_of lister).line in
-    record {
-      share = (
-        omega (arith, none),
-        omega (arith, none),
-        subst (λ z. take z line ≡ take z given) (sym none) refl,
-      );
-      most = λ l here ahead j common. omega (arith, common.1, ap length e);
-    }

@@ -1,14 +1,14 @@
 //! The text of a list of lines.
-ghost use Rattle.std.specs.Prelude.{◌≡◌, ◌≤◌, ◌<◌, ◌%◌, ◌↔◌, ◌++◌, true, false, Err, List, length, take, codes};
-ghost use Rattle.std.specs.Prelude.{decimal};
-ghost use Rattle.std.specs.Prelude.{IfOk, IsErr, IsTrue, OnOk, OnErr, Some};
+ghost use Rattle.std.specs.Prelude.{◌≡◌, ◌≤◌, ◌<◌, ◌%◌, ◌↔◌, ◌++◌, true, false, Err, List, length, codes};
+ghost use Rattle.std.specs.Prelude.{decimal, reverse, IfOk, IsErr, IsErrOf, IsTrue, OnOk, OnErr, Some};
 ghost use Rattle.std.specs.Io.KnownBytes.{Appends};
 ghost use Rattle.dw_moves.specs.Moves.{Move as AnyMove};
-ghost use Rattle.dw_notation.specs.LineTexts.{IsTextOf, start_of, moves_of};
 ghost use Rattle.dw_notation.specs.Text.{ArePlayable};
 ghost use Rattle.dw_notation.specs.Writes.{StopsShort};
-ghost use Rattle.dw_list.specs.Listing.{lender, solver_of, stack_of, kept_of};
+ghost use Rattle.dw_solve.specs.Searching.{IsCounted};
+ghost use Rattle.dw_list.specs.Listing.{lender, solver_of, stack_of};
 ghost use Rattle.dw_list.specs.Standing.{AreToCome};
+ghost use Rattle.dw_list.specs.inner.Walking.{GivesNext};
 ghost use Rattle.dw_list.specs.Tokens as tokens;
 ghost use Rattle.dw_report.specs.Request.{request_of};
 ghost use Rattle.dw_report.specs.ListedText.{IsListing, IsListedText, more_after};
@@ -16,6 +16,7 @@ ghost use Rattle.dw_report.specs.inner.Rows.{has_tokens, refused_line};
 ghost use Rattle.dw_report.specs.inner.Rows.{IsRow, IsNothing, StandsBefore, HasLines};
 ghost use Rattle.dw_report.specs.Running.{AreLinesOf, IsNoLine};
 ghost use Rattle.dw_report.specs.inner.Running.{TextEnds, SinkEnds, Spends, IsSound};
+ghost use Rattle.dw_solve.specs.declared.stop.Stop.TheVariants.{Limit};
 ghost use Rattle.dw_report.specs.declared.problem.TextFault.TheVariants as because;
 
 use crate::problem::TextFault;
@@ -81,8 +82,7 @@ fn write_asked<B: Board, K: Sink, M: Memo<B>, G: Guide<B>>(
 ) -> Result<bool, TextFault>
     requires works { K.is_failed sink.old ≡ false }
     requires some { 1 ≤ settings.now.lines }
-    requires before { StandsBefore B.geometry position.now settings.now.n (stack_of lister.old)
-        (kept_of lister.old) }
+    requires before { StandsBefore B.geometry position.now settings.now.n (stack_of lister.old) }
     ensures lender { lender lister.new ≡ lender lister.old }
     ensures text { TextEnds (IsListedText B.geometry position.now settings.now.n settings.now.lines
         (request_of settings.now).after) (AreLinesOf
@@ -157,7 +157,7 @@ fn write_listing<B: Board, K: Sink, M: Memo<B>, G: Guide<B>>(
 ) -> Result<(), TextFault>
     requires works { K.is_failed sink.old ≡ false }
     requires some { 1 ≤ most }
-    requires ahead { HasLines B.geometry position.now (stack_of lister.old) (kept_of lister.old) }
+    requires ahead { HasLines B.geometry position.now (stack_of lister.old) }
     ensures lender { lender lister.new ≡ lender lister.old }
     ensures text { (lines : List (List AnyMove)) → AreToCome B.geometry (stack_of lister.old) lines
         → TextEnds (IsListing B.geometry position.now most lines)
@@ -169,24 +169,18 @@ fn write_listing<B: Board, K: Sink, M: Memo<B>, G: Guide<B>>(
     given_in_turn();
     let mut text = LineText::new(position);
     let mut row = ArrayString::new();
+    let mut last = ArrayVec::new();
     let mut written: u64 = 0;
     'lines: while written < most {
-        if !lister.advance(alloc)? {
+        if !take_line(alloc, lister, &mut last)? {
             write_all(sink, complete_row(written).as_str().as_bytes())?;
             return Ok(());
         }
-        write_row(
-            alloc,
-            sink,
-            &mut text,
-            &mut row,
-            lister.shared(),
-            lister.line(),
-        )?;
+        write_row(alloc, sink, &mut text, &mut row, last.as_slice())?;
         written += 1;
     }
-    let last = kept(lister.line());
-    if lister.advance(alloc)? {
+    let mut ahead = ArrayVec::new();
+    if take_line(alloc, lister, &mut ahead)? {
         write_more(sink, last.as_slice())?;
     } else {
         write_all(sink, complete_row(written).as_str().as_bytes())?;
@@ -194,31 +188,48 @@ fn write_listing<B: Board, K: Sink, M: Memo<B>, G: Guide<B>>(
     Ok(())
 }
 
-/// Writes the text of a line and a line feed. It is made of the text of another line, of which so many first moves are
-/// the same. All memory is taken before a byte is written. What the row holds is overwritten.
+/// Copies the next line over another one, and answers whether there is one.
+fn take_line<B: Board, M: Memo<B>, G: Guide<B>>(
+    alloc: Global,
+    lister: &mut Lister<'_, B, M, G>,
+    line: &mut ArrayVec<Move<B>, MAX_MOVES>,
+) -> Result<bool, Stop>
+    ensures lender { lender lister.new ≡ lender lister.old }
+    ensures next { IfOk result (λ more. GivesNext B.geometry more (stack_of lister.old) (stack_of lister.new)) }
+    ensures line { IfOk result (λ more. IsTrue more → line.new.items ≡ reverse (stack_of lister.new).line) }
+    ensures count { IsCounted (solver_of lister.old).expanded (solver_of lister.old).limit
+        (solver_of lister.new).expanded (solver_of lister.new).limit }
+    ensures stop { IsErrOf result Limit → (solver_of lister.new).expanded ≡ (solver_of lister.new).limit }
+{
+    match lister.next(alloc)? {
+        Some(given) => {
+            line.clear();
+            let _ = line.try_extend_from_slice(given);
+            Ok(true)
+        }
+        None => Ok(false),
+    }
+}
+
+/// Writes the text of a line and a line feed. It is made of the text of another line. All memory is taken before a byte
+/// is written. What the row holds is overwritten.
 fn write_row<B: Board, K: Sink>(
     alloc: Global,
     sink: &mut K,
     text: &mut LineText<B>,
     row: &mut ArrayString<ROW_ROOM>,
-    shared: usize,
     line: &[Move<B>],
 ) -> Result<(), TextFault>
-    requires of { IsTextOf B.geometry text.old }
     requires few { length line.now ≤ 39 }
-    requires legal { ArePlayable B.geometry (start_of text.old) line.now }
-    requires fits { shared ≤ length line.now }
-    requires shared { take shared line.now ≡ take shared (moves_of text.old) }
-    ensures of { IsTextOf B.geometry text.new }
-    ensures start { start_of text.new ≡ start_of text.old }
-    ensures moves { OnOk result (moves_of text.new ≡ line.now) }
-    ensures text { TextEnds (IsRow B.geometry (start_of text.old) line.now) IsNothing (K.taken sink.old)
+    requires legal { ArePlayable B.geometry text.old.start line.now }
+    ensures start { text.new.start ≡ text.old.start }
+    ensures text { TextEnds (IsRow B.geometry text.old.start line.now) IsNothing (K.taken sink.old)
         (K.taken sink.new) result }
     ensures sink { SinkEnds (K.is_failed sink.old) (K.is_failed sink.new) result }
     ensures memory { (why : Stop) → result ≡ Err (because.Stopped why) → why ≡ Stop.Memory }
 {
     lines_have_texts();
-    text.follow(alloc, shared, line)?;
+    text.follow(alloc, line)?;
     fill_row(row, text);
     write_all(sink, row.as_str().as_bytes())?;
     Ok(())
@@ -226,8 +237,7 @@ fn write_row<B: Board, K: Sink>(
 
 /// Fills a row with the text of a line and a line feed.
 fn fill_row<B: Board>(row: &mut ArrayString<ROW_ROOM>, text: &LineText<B>)
-    requires { IsTextOf B.geometry text.now }
-    ensures { IsRow B.geometry (start_of text.now) (moves_of text.now) row.new.bytes }
+    ensures { IsRow B.geometry text.now.start text.now.moves row.new.bytes }
 {
     row.clear();
     row.push_str(text.as_str());
@@ -296,14 +306,4 @@ fn refused_row(place: usize) -> ArrayString<64>
     row.push_str(Buffer::new().format(place));
     row.push_str("\n");
     row
-}
-
-/// A line in an array of its own.
-fn kept<B: Board>(line: &[Move<B>]) -> ArrayVec<Move<B>, MAX_MOVES>
-    requires { length line.now ≤ 39 }
-    ensures { result.items ≡ line.now }
-{
-    let mut kept = ArrayVec::new();
-    let _ = kept.try_extend_from_slice(line);
-    kept
 }

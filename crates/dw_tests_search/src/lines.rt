@@ -222,7 +222,7 @@ fn count<B: Board, M: Memo<B>>(
 ) -> Option<u32> {
     let mut count = 0_u32;
     for _ in 0..10 {
-        if lister.advance(alloc).ok()? {
+        if lister.next(alloc).ok()?.is_some() {
             count = count.wrapping_add(1);
         }
     }
@@ -236,9 +236,7 @@ fn last_two<B: Board, M: Memo<B>>(
     lines: usize,
 ) -> Option<(Vec<Move<B>>, Vec<Move<B>>)> {
     for _ in 2..lines {
-        if !lister.advance(alloc).ok()? {
-            return None;
-        }
+        lister.next(alloc).ok()??;
     }
     let last_but_one = given(alloc, lister)?;
     let last = given(alloc, lister)?;
@@ -251,11 +249,7 @@ fn given<B: Board, M: Memo<B>>(
     alloc: Global,
     lister: &mut Lister<'_, B, M, ByTrial>,
 ) -> Option<Vec<Move<B>>> {
-    if lister.advance(alloc).ok()? {
-        lister.line().to_vec(alloc).ok()
-    } else {
-        None
-    }
+    lister.next(alloc).ok()??.to_vec(alloc).ok()
 }
 
 /// A list of so many lines is walked to its end. Of its last two lines the last comes alone after the other.
@@ -319,25 +313,20 @@ fn add_within<B: Board, M: Memo<B>>(
     found: &mut Found,
 ) -> Option<bool> {
     limit_to(lister, limit);
-    match lister.advance(alloc) {
-        Ok(more) => Some(add_given(lister, more, found)),
+    match lister.next(alloc) {
+        Ok(given) => Some(add_given(given, found)),
         Err(Stop::Limit) => Some(true),
         Err(Stop::Memory) => None,
     }
 }
 
 /// Adds the line that was given, or the end if there was no more; and whether there was one.
-fn add_given<B: Board, M: Memo<B>>(
-    lister: &Lister<'_, B, M, ByTrial>,
-    more: bool,
-    found: &mut Found,
-) -> bool {
-    if more {
-        add_line(lister.line(), found);
-    } else {
-        found.add("end\n");
+fn add_given<B: Board>(given: Option<&[Move<B>]>, found: &mut Found) -> bool {
+    match given {
+        Some(line) => add_line(line, found),
+        None => found.add("end\n"),
     }
-    more
+    given.is_some()
 }
 
 /// Adds the next line, or the end. Where the lister is refused memory it says so, and then it can be asked again.
@@ -346,11 +335,11 @@ fn add_next<B: Board, M: Memo<B>>(
     lister: &mut Lister<'_, B, M, ByTrial>,
     found: &mut Found,
 ) -> Option<bool> {
-    let more = match lister.advance(alloc) {
-        Err(Stop::Memory) => lister.advance(alloc).ok()?,
-        answer => answer.ok()?,
-    };
-    Some(add_given(lister, more, found))
+    match lister.next(alloc) {
+        Err(Stop::Memory) => {}
+        answer => return Some(add_given(answer.ok()?, found)),
+    }
+    Some(add_given(lister.next(alloc).ok()?, found))
 }
 
 /// Adds the lines still to come and the end, in at most 10 steps.

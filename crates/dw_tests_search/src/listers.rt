@@ -40,34 +40,14 @@ pub fn add_line<B: Board>(line: &[Move<B>], found: &mut Found) {
     found.add("\n");
 }
 
-/// How many first moves two lines have in common.
-fn common<B: Board>(line: &[Move<B>], other: &[Move<B>]) -> usize {
-    let mut count = 0_usize;
-    for (step, there) in line.iter().zip(other) {
-        if *step != *there {
-            return count;
-        }
-        count = count.saturating_add(1);
-    }
-    count
-}
-
-/// Nothing, unless the lister gives these lines and no other, and says what each has in common with the one before it.
+/// Nothing, unless the lister gives these lines and no other.
 pub fn gives<B: Board, M: Memo<B>>(
     alloc: Global,
     lister: &mut Lister<'_, B, M, ByTrial>,
     lines: &[Vec<Move<B>>],
 ) -> Option<()> {
-    for (place, line) in lines.iter().enumerate() {
+    for line in lines {
         gives_next(alloc, lister, line)?;
-        let shared = if place > 0 {
-            common(lines[place - 1].as_slice(), line.as_slice())
-        } else {
-            0
-        };
-        if lister.shared() != shared {
-            return None;
-        }
     }
     ended(alloc, lister)
 }

@@ -1,17 +1,20 @@
--- How the text of a line grows, move by move.
+-- How the text of a line is written, word by word.
 use Rattle.std.proofs.Common.{zero, suc}
-use Rattle.std.specs.Prelude.{ℕ, List, [], ◌∷◌, ◌≡◌}
-use Rattle.dw_notation.specs.declared.line_text.Ply.{Ply}
+use Rattle.std.specs.Prelude.{ℕ, List, [], ◌∷◌, ◌++◌, ◌≡◌}
+use Rattle.std.specs.List.{join_with_byte}
 use Rattle.dw_moves.specs.Moves.{Move}
 use Rattle.dw_board.specs.Lists.{Member}
 use Rattle.dw_moves.specs.Order.{Listed}
 
--- how long the text of so many of them is, after a text of some length
-abbrev pub len_to : {B : Type 0} → ℕ → ℕ → List (Ply B) → ℕ
-len_to base zero [] = base
-len_to base zero (x ∷ plies) = base
-len_to base (suc k) [] = base
-len_to base (suc k) (x ∷ plies) = len_to x.len k plies
+-- words with a blank before each
+abbrev pub spaced : List (List ℕ) → List ℕ
+spaced [] = []
+spaced (w ∷ words) = 32 ∷ (w ++ spaced words)
+
+-- what words add to the text of a line at a ply
+abbrev pub onto : ℕ → List (List ℕ) → List ℕ
+onto zero words = join_with_byte 32 words
+onto (suc ply) words = spaced words
 
 -- one of these is this move
 abbrev pub HasStep : List Listed → Move → Type 0

@@ -16,16 +16,14 @@ abbrev pub IsNothing : List ℕ → Type 0
 IsNothing text = text ≡ []
 
 -- a lister stands before the lines of a position within n moves, and has given none
-pub record StandsBefore (g : Geometry) (p : Placement) (n : ℕ) (stack : Standing) (kept : ℕ) : Type 0 where
+pub record StandsBefore (g : Geometry) (p : Placement) (n : ℕ) (stack : Standing) : Type 0 where
   pub position : stack.position ≡ p
   pub moves : stack.moves ≡ n
-  pub fresh : kept ≡ 0
   pub to_come : (lines : List (List Move)) → Lines g p n lines ↔ AreToCome g stack lines
 
 -- a lister has lines of a position to come, and has given none of them
-pub record HasLines (g : Geometry) (p : Placement) (stack : Standing) (kept : ℕ) : Type 0 where
+pub record HasLines (g : Geometry) (p : Placement) (stack : Standing) : Type 0 where
   pub position : stack.position ≡ p
-  pub fresh : kept ≡ 0
   pub lines : List (List Move)
   pub to_come : AreToCome g stack lines
 

@@ -1,7 +1,6 @@
-use Rattle.std.proofs.Common.{ap, inl, inr, arith, refl}
-use Rattle.dw_list.specs.Standing.{Standing}
+use Rattle.std.proofs.Common.{arith, refl}
 use Rattle.dw_list.specs.inner.AskingLemmas.{asked_none, asked_wider, asked_ok, asked_stop, asked_memory}
-use Rattle.dw_list.proofs.StepLemmas.{trial_few, walk_met, walk_listed, walk_given, walk_back, walk_left}
+use Rattle.dw_list.proofs.StepLemmas.{trial_few, walk_met, walk_listed, walk_given, walk_back}
 use Rattle.dw_list.proofs.StepLemmas.{walk_passed, walk_entered}
 use Rattle.dw_list.proofs.walk.take_step.Goals as goal
 
@@ -36,15 +35,6 @@ pub returns-then-kept-clause-stepped : goal.returns-then-kept-clause-stepped
 returns-then-kept-clause-stepped g c =
     walk_entered g.B.Board.geometry c.args.stack.now c.keeps_its_levels.ensures.levels c.keeps_its_levels.ensures.fits c.enter.new.self
     c.in-Try.trial c.in-Try.ensures c.enter.ensures
-
-pub returns-then-kept-clause-line : goal.returns-then-kept-clause-line
-returns-then-kept-clause-line g c = inr (inr (c.in-Try.trial.mv, ap (λ (s : Standing). s.line) c.enter.ensures))
-
-pub returns-in-Passed-clause-line : goal.returns-in-Passed-clause-line
-returns-in-Passed-clause-line g c =
-    let task = c.in-Passed.ensures in
-    inr (inl (walk_left g.B.Board.geometry c.args.stack.now c.keeps_its_levels.ensures.levels c.keeps_its_levels.ensures.fits
-    c.back.new.self task.0 task.1 task.2 task.3 c.back.ensures))
 
 pub returns-then-kept-clause-asked : goal.returns-then-kept-clause-asked
 returns-then-kept-clause-asked g c =
@@ -107,9 +97,6 @@ returns-in_err-is_end-in-Unlisted-clause-asked g c =
 pub enter-requires : goal.enter-requires
 enter-requires g c =
     (omega arith, (c.in-Try.ensures, c.in_ok-kept-in-Try.ensures.answer.0 c.if-kept.true))
-
-pub returns-else-kept-clause-line : goal.returns-else-kept-clause-line
-returns-else-kept-clause-line g c = inl (ap (λ (s : Standing). s.line) c.pass.ensures)
 
 pub returns-in-Over-clause-stepped : goal.returns-in-Over-clause-stepped
 returns-in-Over-clause-stepped g c = (c.in-Over.ensures, refl)

@@ -1,10 +1,8 @@
-use Rattle.std.proofs.Common.{ap, subst, sym}
-use Rattle.dw_list.specs.Standing.{Standing}
+use Rattle.std.proofs.Common.{subst, sym}
 use Rattle.dw_list.specs.Walking.{SameToCome}
 use Rattle.dw_list.specs.inner.Walking.{HasStepped}
 use Rattle.dw_list.specs.inner.AskingLemmas.{answered, asked_none, asked_then, asked_ok, asked_stop, asked_for}
 use Rattle.dw_list.proofs.StepLemmas.{same_none, same_then, same_to_come, if_stopped, gives_none, gives_first}
-use Rattle.dw_list.proofs.KeepingLemmas.{keeps_all, keeps_step, keeps_stop, keeps_given, keeps_fits}
 use Rattle.dw_list.proofs.walk.walk.Goals as goal
 
 pub returns-in_err-take_step-clause-asked : goal.returns-in_err-take_step-clause-asked
@@ -62,10 +60,6 @@ steps-preserved g c =
     c.in_ok-take_step.ensures.stepped in
     record {
       same = same_then geo c.args.stack.now c.steps.stack c.take_step.new.stack c.steps.invariant.same met;
-      keeps = keeps_step geo c.args.stack.now c.steps.stack c.take_step.new.stack c.args.kept.now c.steps.kept
-          c.min.result c.line.result.now c.steps.invariant.keeps c.line.ensures.line c.min.ensures
-          c.moves_have_keys.ensures c.in_ok-take_step.field-0 c.in_ok-take_step.ensures.stepped
-          c.in_ok-take_step.ensures.line;
       asked = asked_then geo content lost c.searches_add_up.ensures n _ _ _ answered c.steps.invariant.asked
           (asked_ok geo content lost n _ _ c.in_ok-take_step.field-0 0
           (asked_for geo content lost _ n _ _ _ c.steps.invariant.same.moves c.in_ok-take_step.ensures.asked));
@@ -74,7 +68,6 @@ steps-preserved g c =
 pub steps-init : goal.steps-init
 steps-init g c = record {
   same = same_none g.B.Board.geometry c.args.stack.now;
-  keeps = keeps_all g.B.Board.geometry c.args.stack.now c.args.kept.now;
   asked = asked_none g.B.Board.geometry g.M.Memo.content g.M.Memo.dropped c.searches_add_up.ensures
       c.args.stack.now.moves c.args.solver.now c.keeps_its_limit.ensures;
 }
@@ -84,35 +77,3 @@ returns-in_err-take_step-clause-stopped g c =
     let geo = g.B.Board.geometry in
     if_stopped c.from_residual.result _ (subst (SameToCome geo c.args.stack.now)
     (sym c.in_err-take_step.ensures.stopped) (same_to_come geo c.args.stack.now c.steps.stack c.steps.invariant.same))
-
-pub returns-in_err-take_step-clause-kept : goal.returns-in_err-take_step-clause-kept
-returns-in_err-take_step-clause-kept g c =
-    keeps_stop g.B.Board.geometry c.args.stack.now c.steps.stack c.take_step.new.stack c.args.kept.now c.steps.kept
-    c.min.result c.line.result.now c.steps.invariant.keeps c.line.ensures.line c.min.ensures
-    c.in_err-take_step.ensures.stopped
-
-pub returns-in_err-take_step-clause-fits : goal.returns-in_err-take_step-clause-fits
-returns-in_err-take_step-clause-fits g c =
-    keeps_fits g.B.Board.geometry c.args.stack.now c.steps.stack c.take_step.new.stack c.args.kept.now c.steps.kept
-    c.min.result c.line.result.now c.steps.invariant.keeps c.line.ensures.line c.min.ensures
-    (ap (λ (s : Standing). s.line) c.in_err-take_step.ensures.stopped)
-
-pub returns-in-Over-clause-kept : goal.returns-in-Over-clause-kept
-returns-in-Over-clause-kept g c =
-    keeps_step g.B.Board.geometry c.args.stack.now c.steps.stack c.take_step.new.stack c.args.kept.now c.steps.kept
-    c.min.result c.line.result.now c.steps.invariant.keeps c.line.ensures.line c.min.ensures c.moves_have_keys.ensures
-    c.in_ok-take_step.field-0 c.in_ok-take_step.ensures.stepped c.in_ok-take_step.ensures.line
-
-pub returns-in-Given-clause-kept : goal.returns-in-Given-clause-kept
-returns-in-Given-clause-kept g c =
-    keeps_step g.B.Board.geometry c.args.stack.now c.steps.stack c.take_step.new.stack c.args.kept.now c.steps.kept
-    c.min.result c.line.result.now c.steps.invariant.keeps c.line.ensures.line c.min.ensures c.moves_have_keys.ensures
-    c.in_ok-take_step.field-0 c.in_ok-take_step.ensures.stepped c.in_ok-take_step.ensures.line
-
-pub returns-in-Given-clause-parted : goal.returns-in-Given-clause-parted
-returns-in-Given-clause-parted g c more =
-    let geo = g.B.Board.geometry in
-    let met = subst (λ z. HasStepped geo z c.steps.stack c.take_step.new.stack) c.in-Given.is
-    c.in_ok-take_step.ensures.stepped in
-    keeps_given geo c.args.stack.now c.steps.stack c.take_step.new.stack c.args.kept.now c.steps.kept
-    c.min.result c.line.result.now c.steps.invariant.keeps c.line.ensures.line c.min.ensures met

@@ -1,7 +1,6 @@
 use Rattle.std.proofs.Common.{◌*◌, ◌^◌}
 use Rattle.dw_solve.specs.Asking.{Asked}
 use Rattle.dw_list.specs.inner.Steps.{cost}
-use Rattle.dw_list.specs.inner.Walking.{KeepsFirst}
 use Rattle.dw_list.specs.inner.AskingLemmas.{answered}
 use Rattle.dw_list.proofs.StepLemmas.{SameLines}
 use Rattle.dw_list.proofs.walk.walk.Given as goal
@@ -9,7 +8,6 @@ use Rattle.dw_list.proofs.walk.walk.Given as goal
 abbrev pub invariant-steps : goal.invariant-steps
 invariant-steps g l = record {
   same : SameLines g.B.Board.geometry l.initial.stack l.stack;
-  keeps : KeepsFirst g.B.Board.geometry l.initial.stack l.stack l.initial.kept l.kept;
   asked : Asked g.B.Board.geometry g.M.Memo.content g.M.Memo.dropped l.initial.stack.moves l.initial.solver l.solver
       answered;
 }

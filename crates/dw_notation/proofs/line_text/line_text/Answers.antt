@@ -1,4 +1,5 @@
-use Rattle.std.proofs.Common.{◌∙◌, subst}
+use Rattle.std.proofs.Common.{◌∙◌, ap, subst}
+use Rattle.dw_notation.specs.LineTexts.{LineFrom}
 use Rattle.dw_notation.specs.Text.{IsLineText}
 use Rattle.dw_notation.proofs.LineWrittenLemmas.{written_line}
 use Rattle.dw_notation.proofs.line_text.line_text.Goals as goal
@@ -6,8 +7,11 @@ use Rattle.dw_notation.proofs.line_text.line_text.Goals as goal
 pub returns : goal.returns
 returns g c =
     let geo = g.B.Board.geometry in
-    let t = c.follow.new.self in
+    let t = c.text.inside in
     let moves = c.args.moves.now in
-    subst (λ z. IsLineText geo z moves t.text.bytes) (c.follow.ensures.start ∙ c.new-text.ensures.start)
-    (subst (λ z. IsLineText geo t.start z t.text.bytes) c.in_ok-follow.ensures.moves
-    (written_line geo t.start t.plies.items t.text.bytes c.follow.ensures.text))
+    let start = ap (λ (v : LineFrom). v.start) c.text.view_is ∙ (c.follow.ensures.start
+    ∙ ap (λ (v : LineFrom). v.start) c.new-text.ensures) in
+    let same = ap (λ (v : LineFrom). v.moves) c.text.view_is ∙ c.in_ok-follow.ensures.moves in
+    subst (λ z. IsLineText geo z moves t.text.bytes) start
+    (subst (λ z. IsLineText geo t.start z t.text.bytes) same
+    (written_line geo t.start t.plies.items t.text.bytes c.text.invariant))

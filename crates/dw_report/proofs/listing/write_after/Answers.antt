@@ -1,6 +1,6 @@
 use Rattle.std.proofs.Common.{◌∙◌, refl, sym, ap, subst, arith, Some, Err}
 use Rattle.std.proofs.lemmas.Result.{err_from_is_err_and}
-use Rattle.dw_list.specs.Listing.{stack_of, kept_of, solver_of}
+use Rattle.dw_list.specs.Listing.{stack_of, solver_of}
 use Rattle.dw_list.specs.Lines.{Lines}
 use Rattle.dw_report.specs.ListedText.{IsListedText}
 use Rattle.dw_report.specs.inner.Rows.{HasLines}
@@ -17,9 +17,8 @@ write_listing-requires g c =
     let all = c.lines_exist.ensures.some g.B.Board.geometry g.met.B.Board.numbers old.position old.moves in
     let rest = c.in-Ok.ensures.after.rest all.0 all.1 in
     let lister = c.after.new.self in
-    let ahead : HasLines g.B.Board.geometry c.args.position.now (stack_of lister) (kept_of lister) = record {
+    let ahead : HasLines g.B.Board.geometry c.args.position.now (stack_of lister) = record {
       position = c.in-Ok.ensures.after.position ∙ c.requires.position;
-      fresh = c.in-Ok.ensures.none_kept;
       lines = rest.0;
       to_come = rest.2;
     } in

@@ -2,7 +2,7 @@ use Rattle.std.proofs.Common.{◌≡◌, ◌∙◌, ◌↔◌, sym, ap, subst, a
 use Rattle.std.specs.Prelude.{option_map}
 use Rattle.std.proofs.lemmas.Result.{err_from_is_err_and}
 use Rattle.dw_notation.specs.Writes.{Writes}
-use Rattle.dw_list.specs.Listing.{stack_of, kept_of, solver_of}
+use Rattle.dw_list.specs.Listing.{stack_of, solver_of}
 use Rattle.dw_report.specs.ListedText.{IsListedText}
 use Rattle.dw_report.specs.Running.{IsNoLine}
 use Rattle.dw_report.specs.inner.Rows.{HasLines}
@@ -16,10 +16,8 @@ write_listing-requires g c =
     let before = c.requires.before in
     let all = c.lines_exist.ensures.some g.B.Board.geometry g.met.B.Board.numbers c.args.position.now
     c.args.settings.now.n in
-    let ahead : HasLines g.B.Board.geometry c.args.position.now (stack_of c.args.lister.now)
-    (kept_of c.args.lister.now) = record {
+    let ahead : HasLines g.B.Board.geometry c.args.position.now (stack_of c.args.lister.now) = record {
       position = before.position;
-      fresh = before.fresh;
       lines = all.0;
       to_come = (before.to_come all.0).0 all.1;
     } in

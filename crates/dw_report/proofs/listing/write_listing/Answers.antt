@@ -1,18 +1,18 @@
-use Rattle.std.proofs.Common.{◌≡◌, ◌∙◌, refl, sym, ap, subst, length, reverse, take, ◌%◌, ◌≤◌, arith, Err, List}
+use Rattle.std.proofs.Common.{◌≡◌, ◌∙◌, refl, sym, ap, subst, length, reverse, ◌%◌, ◌≤◌, arith, Err, List}
 use Rattle.std.specs.Io.KnownBytes.{Appends}
 use Rattle.std.proofs.lemmas.Result.{err_from_is_err_and}
 use Rattle.dw_moves.specs.Moves.{Move}
-use Rattle.dw_notation.specs.LineTexts.{moves_of}
+use Rattle.dw_notation.specs.LineTexts.{LineFrom}
 use Rattle.dw_notation.specs.Text.{ArePlayable}
 use Rattle.dw_notation.specs.Writes.{StopsShort, Writes}
-use Rattle.dw_list.specs.Listing.{stack_of, shared_of, solver_of, ComesFrom}
+use Rattle.dw_list.specs.Listing.{stack_of, solver_of}
 use Rattle.dw_report.specs.ListedText.{IsListing}
 use Rattle.dw_report.specs.inner.Rows.{IsRow, IsNothing}
 use Rattle.dw_report.specs.Running.{AreLinesOf}
 use Rattle.dw_report.specs.inner.Running.{TextEnds, SinkEnds}
 use Rattle.dw_report.proofs.SearchLemmas.{same_fault}
 use Rattle.dw_report.proofs.JudgedTextLemmas.{line_playable}
-use Rattle.dw_report.proofs.LineRowLemmas.{line_odd, comes_first, lines_text, no_rows, row_written, given_line}
+use Rattle.dw_report.proofs.LineRowLemmas.{line_odd, lines_text, no_rows, row_written, given_line}
 use Rattle.dw_report.proofs.LineRowLemmas.{last_line, line_next, none_next, rows_stop, row_ends}
 use Rattle.dw_report.specs.ListedText.{more_after}
 use Rattle.dw_report.proofs.LineRowLemmas.{complete_written, complete_short, more_written, more_short}
@@ -26,25 +26,23 @@ pub lines-init : goal.lines-init
 lines-init g c = record {
   lender = refl;
   rows = no_rows c.given_in_turn.ensures g.B.Board.geometry c.args.position.now (stack_of c.args.lister.now) (g.K.Sink.taken c.args.sink.now);
-  text = c.new-text.ensures.text;
-  start = c.new-text.ensures.start;
-  comes = comes_first g.B.Board.geometry c.args.lister.now (moves_of c.new-text.result) c.requires.ahead.fresh
-      c.new-text.ensures.moves;
+  start = ap (λ (v : LineFrom). v.start) c.new-text.ensures;
+  last = λ some. absurd (omega (arith, some));
   few = omega arith;
   sink = refl;
   rises = omega arith;
   limit = refl;
 }
 
-pub returns-in_err-advance-clause-text : goal.returns-in_err-advance-clause-text
-returns-in_err-advance-clause-text g c =
+pub returns-in_err-take_line-clause-text : goal.returns-in_err-take_line-clause-text
+returns-in_err-take_line-clause-text g c =
     let geo = g.B.Board.geometry in
     let p = c.args.position.now in
     let most = c.args.most in
     let start = stack_of c.args.lister.now in
     let why = err_from_is_err_and c.from_residual.result c.from_residual.ensures.1 in
     λ lines all. at_stop (IsListing geo p most lines) (AreLinesOf (IsListing geo p most lines)) _ _
-    c.from_residual.result c.in_err-advance.field-0.0 (why.1 ∙ ap Err why.2)
+    c.from_residual.result c.in_err-take_line.field-0.0 (why.1 ∙ ap Err why.2)
     (rows_stop geo p most c.requires.some start lines all (lines_text c.lines_have_texts.ensures geo
     g.met.B.Board.numbers start p lines c.requires.ahead.position all) (stack_of c.lines.lister) c.lines.written _ _
     c.lines.invariant.rows c.lines.invariant.few)
@@ -56,14 +54,14 @@ returns-in_err-write_all-clause-text g c =
     let most = c.args.most in
     let start = stack_of c.args.lister.now in
     let why = err_from_is_err_and c.from_residual-in_err-write_all.result c.from_residual-in_err-write_all.ensures.1 in
-    let none = none_next geo c.in_ok-advance.field-0 (stack_of c.lines.lister) (stack_of c.advance.new.self)
-    c.in_ok-advance.ensures.next c.if-not-branch.true in
+    let none = none_next geo c.in_ok-take_line.field-0 (stack_of c.lines.lister) (stack_of c.take_line.new.lister)
+    c.in_ok-take_line.ensures.next c.if-not-branch.true in
     let row = c.as_bytes.ensures.value ∙ (c.as_str.ensures.value ∙ c.complete_row.ensures) in
     λ lines all. at_sink (IsListing geo p most lines) (AreLinesOf (IsListing geo p most lines)) _ _
     c.from_residual-in_err-write_all.result (why.1 ∙ ap Err why.2)
     (complete_short geo p most c.requires.some start lines all (lines_text c.lines_have_texts.ensures geo
     g.met.B.Board.numbers start p lines c.requires.ahead.position all) (stack_of c.lines.lister)
-    (stack_of c.advance.new.self) c.lines.written _ _ _ c.lines.invariant.rows none c.lines.invariant.few
+    (stack_of c.take_line.new.lister) c.lines.written _ _ _ c.lines.invariant.rows none c.lines.invariant.few
     (subst (StopsShort _ _) row c.in_err-write_all.ensures.err))
 
 pub returns-then-not-branch-clause-text : goal.returns-then-not-branch-clause-text
@@ -72,13 +70,13 @@ returns-then-not-branch-clause-text g c =
     let p = c.args.position.now in
     let most = c.args.most in
     let start = stack_of c.args.lister.now in
-    let none = none_next geo c.in_ok-advance.field-0 (stack_of c.lines.lister) (stack_of c.advance.new.self)
-    c.in_ok-advance.ensures.next c.if-not-branch.true in
+    let none = none_next geo c.in_ok-take_line.field-0 (stack_of c.lines.lister) (stack_of c.take_line.new.lister)
+    c.in_ok-take_line.ensures.next c.if-not-branch.true in
     let row = c.as_bytes.ensures.value ∙ (c.as_str.ensures.value ∙ c.complete_row.ensures) in
     λ lines all. complete_written geo p most c.requires.some start lines all
     (lines_text c.lines_have_texts.ensures geo g.met.B.Board.numbers start p lines c.requires.ahead.position all)
     (stack_of c.lines.lister)
-    (stack_of c.advance.new.self) c.lines.written _ _ _ c.lines.invariant.rows none c.lines.invariant.few
+    (stack_of c.take_line.new.lister) c.lines.written _ _ _ c.lines.invariant.rows none c.lines.invariant.few
     (subst (Appends _ _) row c.in_ok-write_all.ensures.ok)
 
 pub write_row-requires : goal.write_row-requires
@@ -86,36 +84,16 @@ write_row-requires g c =
     let geo = g.B.Board.geometry in
     let p = c.args.position.now in
     let start = stack_of c.args.lister.now in
-    let first = line_next geo c.in_ok-advance.field-0 (stack_of c.lines.lister) (stack_of c.advance.new.self)
-    c.in_ok-advance.ensures.next c.if-not-branch.false in
-    let line = given_line geo p start (stack_of c.lines.lister) (stack_of c.advance.new.self) c.lines.written
+    let first = line_next geo c.in_ok-take_line.field-0 (stack_of c.lines.lister) (stack_of c.take_line.new.lister)
+    c.in_ok-take_line.ensures.next c.if-not-branch.false in
+    let line = given_line geo p start (stack_of c.lines.lister) (stack_of c.take_line.new.lister) c.lines.written
     c.lines.invariant.rows.texts c.lines.invariant.rows.rows first c.requires.ahead.lines c.requires.ahead.to_come in
-    let playable = subst (λ z. ArePlayable geo z (reverse (stack_of c.advance.new.self).line)) c.requires.ahead.position
-    (line_playable geo start.position start.moves (reverse (stack_of c.advance.new.self).line) line) in
-    let legal = subst (λ z. ArePlayable geo z c.line.result.now) (sym c.lines.invariant.start)
-    (subst (ArePlayable geo p) (sym c.line.ensures.line) playable) in
-    let shared = c.in_ok-advance.ensures.shared c.if-not-branch.false in
-    let moves = moves_of c.lines.text in
-    let most = shared_of c.advance.new.self in
-    let common = (shared.common moves c.lines.invariant.comes).share in
-    let fits : c.shared.result ≤ length c.line.result.now =
-    omega (arith, c.shared.ensures, ap length c.line.ensures.line, common.0) in
-    let same = subst (λ z. take most z ≡ take most moves) (sym c.line.ensures.line) common.2 in (
-      omega arith,
-      (
-        c.lines.invariant.text,
-        (
-          c.line.ensures.few,
-          (
-            legal,
-            (
-              fits,
-              subst (λ k. take k c.line.result.now ≡ take k moves) (sym c.shared.ensures) same,
-            ),
-          ),
-        ),
-      ),
-    )
+    let playable = subst (λ z. ArePlayable geo z (reverse (stack_of c.take_line.new.lister).line)) c.requires.ahead.position
+    (line_playable geo start.position start.moves (reverse (stack_of c.take_line.new.lister).line) line) in
+    let copy = c.as_slice.ensures.value ∙ c.in_ok-take_line.ensures.line c.if-not-branch.false in
+    let legal = subst (λ z. ArePlayable geo z c.as_slice.result.now) (sym c.lines.invariant.start)
+    (subst (ArePlayable geo p) (sym copy) playable) in
+    (omega arith, (c.as_slice.ensures.fits, legal))
 
 pub returns-in_err-write_row-clause-text : goal.returns-in_err-write_row-clause-text
 returns-in_err-write_row-clause-text g c =
@@ -124,16 +102,17 @@ returns-in_err-write_row-clause-text g c =
     let most = c.args.most in
     let start = stack_of c.args.lister.now in
     let why = err_from_is_err_and c.from_residual-in_err-write_row.result c.from_residual-in_err-write_row.ensures.1 in
-    let first = line_next geo c.in_ok-advance.field-0 (stack_of c.lines.lister) (stack_of c.advance.new.self)
-    c.in_ok-advance.ensures.next c.if-not-branch.false in
+    let first = line_next geo c.in_ok-take_line.field-0 (stack_of c.lines.lister) (stack_of c.take_line.new.lister)
+    c.in_ok-take_line.ensures.next c.if-not-branch.false in
+    let copy = c.as_slice.ensures.value ∙ c.in_ok-take_line.ensures.line c.if-not-branch.false in
     λ lines all. row_ends geo p most c.requires.some start lines all (lines_text c.lines_have_texts.ensures geo
     g.met.B.Board.numbers start p lines c.requires.ahead.position all) c.given_in_turn.ensures (stack_of c.lines.lister)
-    (stack_of c.advance.new.self) c.lines.written _ _ _ c.write_row.result c.from_residual-in_err-write_row.result
+    (stack_of c.take_line.new.lister) c.lines.written _ _ _ c.write_row.result c.from_residual-in_err-write_row.result
     c.in_err-write_row.field-0.0 why.0
     c.lines.invariant.rows first c.lines-test.true c.in_err-write_row.was why.1 (sym why.2)
     (subst (λ z. TextEnds (IsRow geo p z) IsNothing (g.K.Sink.taken c.lines.sink) (g.K.Sink.taken c.write_row.new.sink)
-    c.write_row.result) c.line.ensures.line
-    (subst (λ z. TextEnds (IsRow geo z c.line.result.now) IsNothing (g.K.Sink.taken c.lines.sink)
+    c.write_row.result) copy
+    (subst (λ z. TextEnds (IsRow geo z c.as_slice.result.now) IsNothing (g.K.Sink.taken c.lines.sink)
     (g.K.Sink.taken c.write_row.new.sink) c.write_row.result) c.lines.invariant.start c.write_row.ensures.text))
 
 pub lines-preserved : goal.lines-preserved
@@ -142,36 +121,34 @@ lines-preserved g c =
     let p = c.args.position.now in
     let most = c.args.most in
     let start = stack_of c.args.lister.now in
-    let first = line_next geo c.in_ok-advance.field-0 (stack_of c.lines.lister) (stack_of c.advance.new.self)
-    c.in_ok-advance.ensures.next c.if-not-branch.false in
-    let here = subst (λ z. Writes (IsRow geo z c.line.result.now) (g.K.Sink.taken c.lines.sink)
+    let first = line_next geo c.in_ok-take_line.field-0 (stack_of c.lines.lister) (stack_of c.take_line.new.lister)
+    c.in_ok-take_line.ensures.next c.if-not-branch.false in
+    let copy = c.as_slice.ensures.value ∙ c.in_ok-take_line.ensures.line c.if-not-branch.false in
+    let here = subst (λ z. Writes (IsRow geo z c.as_slice.result.now) (g.K.Sink.taken c.lines.sink)
     (g.K.Sink.taken c.write_row.new.sink)) c.lines.invariant.start c.in_ok-write_row.ensures.text in
     let row = subst (λ z. Writes (IsRow geo p z) (g.K.Sink.taken c.lines.sink) (g.K.Sink.taken c.write_row.new.sink))
-    c.line.ensures.line here in
-    let shared = c.in_ok-advance.ensures.shared c.if-not-branch.false in
-    let moves = c.in_ok-write_row.ensures.moves ∙ c.line.ensures.line in
+    copy here in
     record {
-      lender = c.advance.ensures.lender ∙ c.lines.invariant.lender;
-      rows = row_written c.given_in_turn.ensures geo p start (stack_of c.lines.lister) (stack_of c.advance.new.self) c.lines.written _ _ _
+      lender = c.take_line.ensures.lender ∙ c.lines.invariant.lender;
+      rows = row_written c.given_in_turn.ensures geo p start (stack_of c.lines.lister) (stack_of c.take_line.new.lister) c.lines.written _ _ _
           c.lines.invariant.rows first row;
-      text = c.write_row.ensures.of;
       start = c.write_row.ensures.start ∙ c.lines.invariant.start;
-      comes = subst (ComesFrom geo c.advance.new.self) (sym moves) shared.next;
+      last = λ some. c.in_ok-take_line.ensures.line c.if-not-branch.false;
       few = omega (arith, c.lines-test.true);
       sink = c.in_ok-write_row.ensures.sink ∙ c.lines.invariant.sink;
-      rises = omega (arith, c.advance.ensures.count.rises, c.lines.invariant.rises);
-      limit = c.advance.ensures.count.same ∙ c.lines.invariant.limit;
+      rises = omega (arith, c.take_line.ensures.count.rises, c.lines.invariant.rises);
+      limit = c.take_line.ensures.count.same ∙ c.lines.invariant.limit;
     }
 
-pub returns-in_err-advance-2-clause-text : goal.returns-in_err-advance-2-clause-text
-returns-in_err-advance-2-clause-text g c =
+pub returns-in_err-take_line-2-clause-text : goal.returns-in_err-take_line-2-clause-text
+returns-in_err-take_line-2-clause-text g c =
     let geo = g.B.Board.geometry in
     let p = c.args.position.now in
     let most = c.args.most in
     let start = stack_of c.args.lister.now in
-    let why = err_from_is_err_and c.from_residual-in_err-advance-2.result c.from_residual-in_err-advance-2.ensures.1 in
+    let why = err_from_is_err_and c.from_residual-in_err-take_line-2.result c.from_residual-in_err-take_line-2.ensures.1 in
     λ lines all. at_stop (IsListing geo p most lines) (AreLinesOf (IsListing geo p most lines)) _ _
-    c.from_residual-in_err-advance-2.result c.in_err-advance-2.field-0.0 (why.1 ∙ ap Err why.2)
+    c.from_residual-in_err-take_line-2.result c.in_err-take_line-2.field-0.0 (why.1 ∙ ap Err why.2)
     (rows_stop geo p most c.requires.some start lines all (lines_text c.lines_have_texts.ensures geo
     g.met.B.Board.numbers start p lines c.requires.ahead.position all) (stack_of c.lines.lister) c.lines.written _ _
     c.lines.invariant.rows c.lines.invariant.few)
@@ -182,8 +159,8 @@ write_more-requires-clause-odd g c =
     let p = c.args.position.now in
     let most = c.args.most in
     let start = stack_of c.args.lister.now in
-    let last = c.as_slice.ensures.value ∙ (c.kept-last.ensures ∙ c.line-2.ensures.line) in
     let some : 1 ≤ c.lines.written = omega (arith, c.requires.some, c.lines-test.false) in
+    let last = c.as_slice-then-branch.ensures.value ∙ c.lines.invariant.last some in
     let line = last_line geo p start (stack_of c.lines.lister) c.lines.written c.lines.invariant.rows.texts some
     c.lines.invariant.rows.rows c.requires.ahead.lines c.requires.ahead.to_come in
     subst (λ (z : List Move). length z % 2 ≡ 1) (sym last) (line_odd geo start.position start.moves
@@ -197,15 +174,16 @@ returns-in_err-write_more-clause-text g c =
     let start = stack_of c.args.lister.now in
     let why = err_from_is_err_and c.from_residual-in_err-write_more.result
     c.from_residual-in_err-write_more.ensures.1 in
-    let first = line_next geo c.in_ok-advance-2.field-0 (stack_of c.lines.lister) (stack_of c.advance-2.new.self)
-    c.in_ok-advance-2.ensures.next c.if-branch.true in
+    let first = line_next geo c.in_ok-take_line-2.field-0 (stack_of c.lines.lister) (stack_of c.take_line-2.new.lister)
+    c.in_ok-take_line-2.ensures.next c.if-branch.true in
     let full : c.lines.written ≡ most = omega (arith, c.lines.invariant.few, c.lines-test.false) in
-    let last = c.as_slice.ensures.value ∙ (c.kept-last.ensures ∙ c.line-2.ensures.line) in
+    let some : 1 ≤ c.lines.written = omega (arith, c.requires.some, c.lines-test.false) in
+    let last = c.as_slice-then-branch.ensures.value ∙ c.lines.invariant.last some in
     λ lines all. at_sink (IsListing geo p most lines) (AreLinesOf (IsListing geo p most lines)) _ _
     c.from_residual-in_err-write_more.result (why.1 ∙ ap Err why.2)
     (more_short geo p most c.requires.some start lines all (lines_text c.lines_have_texts.ensures geo
     g.met.B.Board.numbers start p lines c.requires.ahead.position all) (stack_of c.lines.lister)
-    (stack_of c.advance-2.new.self) c.lines.written _ _ _ c.lines.invariant.rows first full
+    (stack_of c.take_line-2.new.lister) c.lines.written _ _ _ c.lines.invariant.rows first full
     (subst (λ z. StopsShort (g.K.Sink.taken c.lines.sink) (g.K.Sink.taken c.write_more.new.sink) (more_after geo z))
     last c.in_err-write_more.ensures.err))
 
@@ -217,15 +195,15 @@ returns-in_err-write_all-2-clause-text g c =
     let start = stack_of c.args.lister.now in
     let why = err_from_is_err_and c.from_residual-in_err-write_all-2.result
     c.from_residual-in_err-write_all-2.ensures.1 in
-    let none = none_next geo c.in_ok-advance-2.field-0 (stack_of c.lines.lister) (stack_of c.advance-2.new.self)
-    c.in_ok-advance-2.ensures.next c.if-branch.false in
+    let none = none_next geo c.in_ok-take_line-2.field-0 (stack_of c.lines.lister) (stack_of c.take_line-2.new.lister)
+    c.in_ok-take_line-2.ensures.next c.if-branch.false in
     let row = c.as_bytes-else-branch.ensures.value ∙ (c.as_str-else-branch.ensures.value
     ∙ c.complete_row-else-branch.ensures) in
     λ lines all. at_sink (IsListing geo p most lines) (AreLinesOf (IsListing geo p most lines)) _ _
     c.from_residual-in_err-write_all-2.result (why.1 ∙ ap Err why.2)
     (complete_short geo p most c.requires.some start lines all (lines_text c.lines_have_texts.ensures geo
     g.met.B.Board.numbers start p lines c.requires.ahead.position all) (stack_of c.lines.lister)
-    (stack_of c.advance-2.new.self) c.lines.written _ _ _ c.lines.invariant.rows none c.lines.invariant.few
+    (stack_of c.take_line-2.new.lister) c.lines.written _ _ _ c.lines.invariant.rows none c.lines.invariant.few
     (subst (StopsShort _ _) row c.in_err-write_all-2.ensures.err))
 
 pub returns-in_ok-write_more-clause-text : goal.returns-in_ok-write_more-clause-text
@@ -234,13 +212,14 @@ returns-in_ok-write_more-clause-text g c =
     let p = c.args.position.now in
     let most = c.args.most in
     let start = stack_of c.args.lister.now in
-    let first = line_next geo c.in_ok-advance-2.field-0 (stack_of c.lines.lister) (stack_of c.advance-2.new.self)
-    c.in_ok-advance-2.ensures.next c.if-branch.true in
+    let first = line_next geo c.in_ok-take_line-2.field-0 (stack_of c.lines.lister) (stack_of c.take_line-2.new.lister)
+    c.in_ok-take_line-2.ensures.next c.if-branch.true in
     let full : c.lines.written ≡ most = omega (arith, c.lines.invariant.few, c.lines-test.false) in
-    let last = c.as_slice.ensures.value ∙ (c.kept-last.ensures ∙ c.line-2.ensures.line) in
+    let some : 1 ≤ c.lines.written = omega (arith, c.requires.some, c.lines-test.false) in
+    let last = c.as_slice-then-branch.ensures.value ∙ c.lines.invariant.last some in
     λ lines all. more_written geo p most c.requires.some start lines all (lines_text c.lines_have_texts.ensures geo
     g.met.B.Board.numbers start p lines c.requires.ahead.position all) (stack_of c.lines.lister)
-    (stack_of c.advance-2.new.self) c.lines.written _ _ _ c.lines.invariant.rows first full
+    (stack_of c.take_line-2.new.lister) c.lines.written _ _ _ c.lines.invariant.rows first full
     (subst (λ z. Appends (g.K.Sink.taken c.lines.sink) (g.K.Sink.taken c.write_more.new.sink) (more_after geo z))
     last c.in_ok-write_more.ensures.ok)
 
@@ -250,48 +229,48 @@ returns-in_ok-write_all-2-clause-text g c =
     let p = c.args.position.now in
     let most = c.args.most in
     let start = stack_of c.args.lister.now in
-    let none = none_next geo c.in_ok-advance-2.field-0 (stack_of c.lines.lister) (stack_of c.advance-2.new.self)
-    c.in_ok-advance-2.ensures.next c.if-branch.false in
+    let none = none_next geo c.in_ok-take_line-2.field-0 (stack_of c.lines.lister) (stack_of c.take_line-2.new.lister)
+    c.in_ok-take_line-2.ensures.next c.if-branch.false in
     let row = c.as_bytes-else-branch.ensures.value ∙ (c.as_str-else-branch.ensures.value
     ∙ c.complete_row-else-branch.ensures) in
     λ lines all. complete_written geo p most c.requires.some start lines all
     (lines_text c.lines_have_texts.ensures geo g.met.B.Board.numbers start p lines c.requires.ahead.position all)
     (stack_of c.lines.lister)
-    (stack_of c.advance-2.new.self) c.lines.written _ _ _ c.lines.invariant.rows none c.lines.invariant.few
+    (stack_of c.take_line-2.new.lister) c.lines.written _ _ _ c.lines.invariant.rows none c.lines.invariant.few
     (subst (Appends _ _) row c.in_ok-write_all-2.ensures.ok)
 
-pub returns-in_err-advance-clause-sink : goal.returns-in_err-advance-clause-sink
-returns-in_err-advance-clause-sink g c =
+pub returns-in_err-take_line-clause-sink : goal.returns-in_err-take_line-clause-sink
+returns-in_err-take_line-clause-sink g c =
     let why = err_from_is_err_and c.from_residual.result c.from_residual.ensures.1 in
     sink_stopped (g.K.Sink.is_failed c.args.sink.now) (g.K.Sink.is_failed c.lines.sink) c.from_residual.result
-    c.in_err-advance.field-0.0 (why.1 ∙ ap Err why.2) c.lines.invariant.sink
+    c.in_err-take_line.field-0.0 (why.1 ∙ ap Err why.2) c.lines.invariant.sink
 
-pub returns-in_err-advance-clause-spends : goal.returns-in_err-advance-clause-spends
-returns-in_err-advance-clause-spends g c =
+pub returns-in_err-take_line-clause-spends : goal.returns-in_err-take_line-clause-spends
+returns-in_err-take_line-clause-spends g c =
     let old = solver_of c.args.lister.now in
-    let new = solver_of c.advance.new.self in
+    let new = solver_of c.take_line.new.lister in
     let count = counted_further old (solver_of c.lines.lister) new c.lines.invariant.rises c.lines.invariant.limit
-    c.advance.ensures.count in
+    c.take_line.ensures.count in
     let why = err_from_is_err_and c.from_residual.result c.from_residual.ensures.1 in
-    spends_stopped old new c.advance.result c.from_residual.result c.in_err-advance.field-0.0
-    c.in_err-advance.was (why.1 ∙ ap Err why.2) c.advance.ensures.stop count
+    spends_stopped old new c.take_line.result c.from_residual.result c.in_err-take_line.field-0.0
+    c.in_err-take_line.was (why.1 ∙ ap Err why.2) c.take_line.ensures.stop count
 
-pub returns-in_err-advance-2-clause-sink : goal.returns-in_err-advance-2-clause-sink
-returns-in_err-advance-2-clause-sink g c =
-    let why = err_from_is_err_and c.from_residual-in_err-advance-2.result c.from_residual-in_err-advance-2.ensures.1 in
+pub returns-in_err-take_line-2-clause-sink : goal.returns-in_err-take_line-2-clause-sink
+returns-in_err-take_line-2-clause-sink g c =
+    let why = err_from_is_err_and c.from_residual-in_err-take_line-2.result c.from_residual-in_err-take_line-2.ensures.1 in
     sink_stopped (g.K.Sink.is_failed c.args.sink.now) (g.K.Sink.is_failed c.lines.sink)
-    c.from_residual-in_err-advance-2.result
-    c.in_err-advance-2.field-0.0 (why.1 ∙ ap Err why.2) c.lines.invariant.sink
+    c.from_residual-in_err-take_line-2.result
+    c.in_err-take_line-2.field-0.0 (why.1 ∙ ap Err why.2) c.lines.invariant.sink
 
-pub returns-in_err-advance-2-clause-spends : goal.returns-in_err-advance-2-clause-spends
-returns-in_err-advance-2-clause-spends g c =
+pub returns-in_err-take_line-2-clause-spends : goal.returns-in_err-take_line-2-clause-spends
+returns-in_err-take_line-2-clause-spends g c =
     let old = solver_of c.args.lister.now in
-    let new = solver_of c.advance-2.new.self in
+    let new = solver_of c.take_line-2.new.lister in
     let count = counted_further old (solver_of c.lines.lister) new c.lines.invariant.rises c.lines.invariant.limit
-    c.advance-2.ensures.count in
-    let why = err_from_is_err_and c.from_residual-in_err-advance-2.result c.from_residual-in_err-advance-2.ensures.1 in
-    spends_stopped old new c.advance-2.result c.from_residual-in_err-advance-2.result c.in_err-advance-2.field-0.0
-    c.in_err-advance-2.was (why.1 ∙ ap Err why.2) c.advance-2.ensures.stop count
+    c.take_line-2.ensures.count in
+    let why = err_from_is_err_and c.from_residual-in_err-take_line-2.result c.from_residual-in_err-take_line-2.ensures.1 in
+    spends_stopped old new c.take_line-2.result c.from_residual-in_err-take_line-2.result c.in_err-take_line-2.field-0.0
+    c.in_err-take_line-2.was (why.1 ∙ ap Err why.2) c.take_line-2.ensures.stop count
 
 pub returns-in_err-write_all-clause-sink : goal.returns-in_err-write_all-clause-sink
 returns-in_err-write_all-clause-sink g c =
@@ -302,9 +281,9 @@ returns-in_err-write_all-clause-sink g c =
 pub returns-in_err-write_all-clause-spends : goal.returns-in_err-write_all-clause-spends
 returns-in_err-write_all-clause-spends g c =
     let old = solver_of c.args.lister.now in
-    let new = solver_of c.advance.new.self in
+    let new = solver_of c.take_line.new.lister in
     let count = counted_further old (solver_of c.lines.lister) new c.lines.invariant.rises c.lines.invariant.limit
-    c.advance.ensures.count in
+    c.take_line.ensures.count in
     let why = err_from_is_err_and c.from_residual-in_err-write_all.result c.from_residual-in_err-write_all.ensures.1 in
     spends_sink old new c.from_residual-in_err-write_all.result (why.1 ∙ ap Err why.2) count
 
@@ -318,9 +297,9 @@ returns-in_err-write_more-clause-sink g c =
 pub returns-in_err-write_more-clause-spends : goal.returns-in_err-write_more-clause-spends
 returns-in_err-write_more-clause-spends g c =
     let old = solver_of c.args.lister.now in
-    let new = solver_of c.advance-2.new.self in
+    let new = solver_of c.take_line-2.new.lister in
     let count = counted_further old (solver_of c.lines.lister) new c.lines.invariant.rises c.lines.invariant.limit
-    c.advance-2.ensures.count in
+    c.take_line-2.ensures.count in
     let why = err_from_is_err_and c.from_residual-in_err-write_more.result
     c.from_residual-in_err-write_more.ensures.1 in
     spends_sink old new c.from_residual-in_err-write_more.result (why.1 ∙ ap Err why.2) count
@@ -335,9 +314,9 @@ returns-in_err-write_all-2-clause-sink g c =
 pub returns-in_err-write_all-2-clause-spends : goal.returns-in_err-write_all-2-clause-spends
 returns-in_err-write_all-2-clause-spends g c =
     let old = solver_of c.args.lister.now in
-    let new = solver_of c.advance-2.new.self in
+    let new = solver_of c.take_line-2.new.lister in
     let count = counted_further old (solver_of c.lines.lister) new c.lines.invariant.rises c.lines.invariant.limit
-    c.advance-2.ensures.count in
+    c.take_line-2.ensures.count in
     let why = err_from_is_err_and c.from_residual-in_err-write_all-2.result
     c.from_residual-in_err-write_all-2.ensures.1 in
     spends_sink old new c.from_residual-in_err-write_all-2.result (why.1 ∙ ap Err why.2) count
@@ -345,25 +324,25 @@ returns-in_err-write_all-2-clause-spends g c =
 pub returns-then-not-branch-clause-spends : goal.returns-then-not-branch-clause-spends
 returns-then-not-branch-clause-spends g c =
     let old = solver_of c.args.lister.now in
-    let new = solver_of c.advance.new.self in
+    let new = solver_of c.take_line.new.lister in
     let count = counted_further old (solver_of c.lines.lister) new c.lines.invariant.rises c.lines.invariant.limit
-    c.advance.ensures.count in
+    c.take_line.ensures.count in
     spends_done old new _ count
 
 pub returns-in_ok-write_more-clause-spends : goal.returns-in_ok-write_more-clause-spends
 returns-in_ok-write_more-clause-spends g c =
     let old = solver_of c.args.lister.now in
-    let new = solver_of c.advance-2.new.self in
+    let new = solver_of c.take_line-2.new.lister in
     let count = counted_further old (solver_of c.lines.lister) new c.lines.invariant.rises c.lines.invariant.limit
-    c.advance-2.ensures.count in
+    c.take_line-2.ensures.count in
     spends_done old new _ count
 
 pub returns-in_ok-write_all-2-clause-spends : goal.returns-in_ok-write_all-2-clause-spends
 returns-in_ok-write_all-2-clause-spends g c =
     let old = solver_of c.args.lister.now in
-    let new = solver_of c.advance-2.new.self in
+    let new = solver_of c.take_line-2.new.lister in
     let count = counted_further old (solver_of c.lines.lister) new c.lines.invariant.rises c.lines.invariant.limit
-    c.advance-2.ensures.count in
+    c.take_line-2.ensures.count in
     spends_done old new _ count
 
 pub returns-in_err-write_row-clause-sink : goal.returns-in_err-write_row-clause-sink
@@ -378,9 +357,9 @@ returns-in_err-write_row-clause-sink g c =
 pub returns-in_err-write_row-clause-spends : goal.returns-in_err-write_row-clause-spends
 returns-in_err-write_row-clause-spends g c =
     let old = solver_of c.args.lister.now in
-    let new = solver_of c.advance.new.self in
+    let new = solver_of c.take_line.new.lister in
     let count = counted_further old (solver_of c.lines.lister) new c.lines.invariant.rises c.lines.invariant.limit
-    c.advance.ensures.count in
+    c.take_line.ensures.count in
     let end = c.from_residual-in_err-write_row in
     let why = err_from_is_err_and end.result end.ensures.1 in
     spends_memory old new end.result (λ stop e. c.write_row.ensures.memory stop (same_fault c.write_row.result

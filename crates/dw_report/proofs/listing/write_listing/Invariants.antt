@@ -1,6 +1,5 @@
-use Rattle.std.proofs.Common.{◌≡◌, ◌≤◌, ◌-◌}
-use Rattle.dw_notation.specs.LineTexts.{IsTextOf, start_of, moves_of}
-use Rattle.dw_list.specs.Listing.{lender, solver_of, stack_of, ComesFrom}
+use Rattle.std.proofs.Common.{◌≡◌, ◌≤◌, ◌-◌, reverse}
+use Rattle.dw_list.specs.Listing.{lender, solver_of, stack_of}
 use Rattle.dw_report.proofs.LineRowLemmas.{RowsSoFar}
 use Rattle.dw_report.proofs.listing.write_listing.Given as goal
 
@@ -9,9 +8,8 @@ invariant-lines g l = record {
   lender : lender l.lister ≡ lender l.initial.lister;
   rows : RowsSoFar g.B.Board.geometry l.position (stack_of l.initial.lister) (stack_of l.lister) l.written
       (g.K.Sink.taken l.initial.sink) (g.K.Sink.taken l.sink);
-  text : IsTextOf g.B.Board.geometry l.text;
-  start : start_of l.text ≡ l.position;
-  comes : ComesFrom g.B.Board.geometry l.lister (moves_of l.text);
+  start : l.text.start ≡ l.position;
+  last : 1 ≤ l.written → l.last.items ≡ reverse (stack_of l.lister).line;
   few : l.written ≤ l.most;
   sink : g.K.Sink.is_failed l.sink ≡ g.K.Sink.is_failed l.initial.sink;
   rises : (solver_of l.initial.lister).expanded ≤ (solver_of l.lister).expanded;

@@ -1,6 +1,5 @@
 use Rattle.std.proofs.Common.{refl, ap, ◌∙◌, arith, Err}
 use Rattle.std.proofs.lemmas.Result.{err_from_is_err_and}
-use Rattle.dw_notation.specs.LineTexts.{start_of}
 use Rattle.dw_solve.specs.declared.stop.Stop.TheVariants as stops
 use Rattle.dw_report.specs.inner.Rows.{IsRow}
 use Rattle.dw_report.proofs.TryTextLemmas.{nothing_written}
@@ -10,7 +9,7 @@ use Rattle.dw_report.proofs.listing.write_row.Goals as goal
 pub returns-in_err-follow-clause-text : goal.returns-in_err-follow-clause-text
 returns-in_err-follow-clause-text g c =
     let why = err_from_is_err_and c.from_residual.result c.from_residual.ensures.1 in
-    nothing_written (IsRow g.B.Board.geometry (start_of c.args.text.now) c.args.line.now)
+    nothing_written (IsRow g.B.Board.geometry c.args.text.now.start c.args.line.now)
     (g.K.Sink.taken c.args.sink.now) c.from_residual.result why.0 stops.Memory why.1 why.2
 
 pub returns-in_err-follow-clause-sink : goal.returns-in_err-follow-clause-sink
@@ -43,4 +42,4 @@ returns-clause-memory g c =
 
 pub follow-requires : goal.follow-requires
 follow-requires g c =
-    (omega arith, (c.requires.of, (c.requires.few, (c.requires.legal, (c.requires.fits, c.requires.shared)))))
+    (omega arith, (c.requires.few, c.requires.legal))
