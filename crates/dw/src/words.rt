@@ -253,7 +253,7 @@ fn positions<'a>(alloc: Global) -> Arg<'a> {
 
 fn memo<'a>(alloc: Global) -> Arg<'a> {
     let kinds = ["none", "lru", "slots"].as_slice().into();
-    let help = "What is kept of the search: nothing, the positions used last, or a fixed table";
+    let help = "What is kept of the search: nothing, the positions used last, or a table of slots";
     option(alloc, "memo", "KIND", kinds, help).default_value("lru")
 }
 

@@ -179,8 +179,7 @@ fn write_listing<B: Board, K: Sink, M: Memo<B>, G: Guide<B>>(
         write_row(alloc, sink, &mut text, &mut row, last.as_slice())?;
         written += 1;
     }
-    let mut ahead = ArrayVec::new();
-    if take_line(alloc, lister, &mut ahead)? {
+    if has_more(alloc, lister)? {
         write_more(sink, last.as_slice())?;
     } else {
         write_all(sink, complete_row(written).as_str().as_bytes())?;
@@ -209,6 +208,20 @@ fn take_line<B: Board, M: Memo<B>, G: Guide<B>>(
         }
         None => Ok(false),
     }
+}
+
+/// Takes the next line, and answers whether there is one.
+fn has_more<B: Board, M: Memo<B>, G: Guide<B>>(
+    alloc: Global,
+    lister: &mut Lister<'_, B, M, G>,
+) -> Result<bool, Stop>
+    ensures lender { lender lister.new ≡ lender lister.old }
+    ensures next { IfOk result (λ more. GivesNext B.geometry more (stack_of lister.old) (stack_of lister.new)) }
+    ensures count { IsCounted (solver_of lister.old).expanded (solver_of lister.old).limit
+        (solver_of lister.new).expanded (solver_of lister.new).limit }
+    ensures stop { IsErrOf result Limit → (solver_of lister.new).expanded ≡ (solver_of lister.new).limit }
+{
+    Ok(lister.next(alloc)?.is_some())
 }
 
 /// Writes the text of a line and a line feed. It is made of the text of another line. All memory is taken before a byte

@@ -140,15 +140,15 @@ lines-preserved g c =
       limit = c.take_line.ensures.count.same ∙ c.lines.invariant.limit;
     }
 
-pub returns-in_err-take_line-2-clause-text : goal.returns-in_err-take_line-2-clause-text
-returns-in_err-take_line-2-clause-text g c =
+pub returns-in_err-has_more-clause-text : goal.returns-in_err-has_more-clause-text
+returns-in_err-has_more-clause-text g c =
     let geo = g.B.Board.geometry in
     let p = c.args.position.now in
     let most = c.args.most in
     let start = stack_of c.args.lister.now in
-    let why = err_from_is_err_and c.from_residual-in_err-take_line-2.result c.from_residual-in_err-take_line-2.ensures.1 in
+    let why = err_from_is_err_and c.from_residual-in_err-has_more.result c.from_residual-in_err-has_more.ensures.1 in
     λ lines all. at_stop (IsListing geo p most lines) (AreLinesOf (IsListing geo p most lines)) _ _
-    c.from_residual-in_err-take_line-2.result c.in_err-take_line-2.field-0.0 (why.1 ∙ ap Err why.2)
+    c.from_residual-in_err-has_more.result c.in_err-has_more.field-0.0 (why.1 ∙ ap Err why.2)
     (rows_stop geo p most c.requires.some start lines all (lines_text c.lines_have_texts.ensures geo
     g.met.B.Board.numbers start p lines c.requires.ahead.position all) (stack_of c.lines.lister) c.lines.written _ _
     c.lines.invariant.rows c.lines.invariant.few)
@@ -174,8 +174,8 @@ returns-in_err-write_more-clause-text g c =
     let start = stack_of c.args.lister.now in
     let why = err_from_is_err_and c.from_residual-in_err-write_more.result
     c.from_residual-in_err-write_more.ensures.1 in
-    let first = line_next geo c.in_ok-take_line-2.field-0 (stack_of c.lines.lister) (stack_of c.take_line-2.new.lister)
-    c.in_ok-take_line-2.ensures.next c.if-branch.true in
+    let first = line_next geo c.in_ok-has_more.field-0 (stack_of c.lines.lister) (stack_of c.has_more.new.lister)
+    c.in_ok-has_more.ensures.next c.if-branch.true in
     let full : c.lines.written ≡ most = omega (arith, c.lines.invariant.few, c.lines-test.false) in
     let some : 1 ≤ c.lines.written = omega (arith, c.requires.some, c.lines-test.false) in
     let last = c.as_slice-then-branch.ensures.value ∙ c.lines.invariant.last some in
@@ -183,7 +183,7 @@ returns-in_err-write_more-clause-text g c =
     c.from_residual-in_err-write_more.result (why.1 ∙ ap Err why.2)
     (more_short geo p most c.requires.some start lines all (lines_text c.lines_have_texts.ensures geo
     g.met.B.Board.numbers start p lines c.requires.ahead.position all) (stack_of c.lines.lister)
-    (stack_of c.take_line-2.new.lister) c.lines.written _ _ _ c.lines.invariant.rows first full
+    (stack_of c.has_more.new.lister) c.lines.written _ _ _ c.lines.invariant.rows first full
     (subst (λ z. StopsShort (g.K.Sink.taken c.lines.sink) (g.K.Sink.taken c.write_more.new.sink) (more_after geo z))
     last c.in_err-write_more.ensures.err))
 
@@ -195,15 +195,15 @@ returns-in_err-write_all-2-clause-text g c =
     let start = stack_of c.args.lister.now in
     let why = err_from_is_err_and c.from_residual-in_err-write_all-2.result
     c.from_residual-in_err-write_all-2.ensures.1 in
-    let none = none_next geo c.in_ok-take_line-2.field-0 (stack_of c.lines.lister) (stack_of c.take_line-2.new.lister)
-    c.in_ok-take_line-2.ensures.next c.if-branch.false in
+    let none = none_next geo c.in_ok-has_more.field-0 (stack_of c.lines.lister) (stack_of c.has_more.new.lister)
+    c.in_ok-has_more.ensures.next c.if-branch.false in
     let row = c.as_bytes-else-branch.ensures.value ∙ (c.as_str-else-branch.ensures.value
     ∙ c.complete_row-else-branch.ensures) in
     λ lines all. at_sink (IsListing geo p most lines) (AreLinesOf (IsListing geo p most lines)) _ _
     c.from_residual-in_err-write_all-2.result (why.1 ∙ ap Err why.2)
     (complete_short geo p most c.requires.some start lines all (lines_text c.lines_have_texts.ensures geo
     g.met.B.Board.numbers start p lines c.requires.ahead.position all) (stack_of c.lines.lister)
-    (stack_of c.take_line-2.new.lister) c.lines.written _ _ _ c.lines.invariant.rows none c.lines.invariant.few
+    (stack_of c.has_more.new.lister) c.lines.written _ _ _ c.lines.invariant.rows none c.lines.invariant.few
     (subst (StopsShort _ _) row c.in_err-write_all-2.ensures.err))
 
 pub returns-in_ok-write_more-clause-text : goal.returns-in_ok-write_more-clause-text
@@ -212,14 +212,14 @@ returns-in_ok-write_more-clause-text g c =
     let p = c.args.position.now in
     let most = c.args.most in
     let start = stack_of c.args.lister.now in
-    let first = line_next geo c.in_ok-take_line-2.field-0 (stack_of c.lines.lister) (stack_of c.take_line-2.new.lister)
-    c.in_ok-take_line-2.ensures.next c.if-branch.true in
+    let first = line_next geo c.in_ok-has_more.field-0 (stack_of c.lines.lister) (stack_of c.has_more.new.lister)
+    c.in_ok-has_more.ensures.next c.if-branch.true in
     let full : c.lines.written ≡ most = omega (arith, c.lines.invariant.few, c.lines-test.false) in
     let some : 1 ≤ c.lines.written = omega (arith, c.requires.some, c.lines-test.false) in
     let last = c.as_slice-then-branch.ensures.value ∙ c.lines.invariant.last some in
     λ lines all. more_written geo p most c.requires.some start lines all (lines_text c.lines_have_texts.ensures geo
     g.met.B.Board.numbers start p lines c.requires.ahead.position all) (stack_of c.lines.lister)
-    (stack_of c.take_line-2.new.lister) c.lines.written _ _ _ c.lines.invariant.rows first full
+    (stack_of c.has_more.new.lister) c.lines.written _ _ _ c.lines.invariant.rows first full
     (subst (λ z. Appends (g.K.Sink.taken c.lines.sink) (g.K.Sink.taken c.write_more.new.sink) (more_after geo z))
     last c.in_ok-write_more.ensures.ok)
 
@@ -229,14 +229,14 @@ returns-in_ok-write_all-2-clause-text g c =
     let p = c.args.position.now in
     let most = c.args.most in
     let start = stack_of c.args.lister.now in
-    let none = none_next geo c.in_ok-take_line-2.field-0 (stack_of c.lines.lister) (stack_of c.take_line-2.new.lister)
-    c.in_ok-take_line-2.ensures.next c.if-branch.false in
+    let none = none_next geo c.in_ok-has_more.field-0 (stack_of c.lines.lister) (stack_of c.has_more.new.lister)
+    c.in_ok-has_more.ensures.next c.if-branch.false in
     let row = c.as_bytes-else-branch.ensures.value ∙ (c.as_str-else-branch.ensures.value
     ∙ c.complete_row-else-branch.ensures) in
     λ lines all. complete_written geo p most c.requires.some start lines all
     (lines_text c.lines_have_texts.ensures geo g.met.B.Board.numbers start p lines c.requires.ahead.position all)
     (stack_of c.lines.lister)
-    (stack_of c.take_line-2.new.lister) c.lines.written _ _ _ c.lines.invariant.rows none c.lines.invariant.few
+    (stack_of c.has_more.new.lister) c.lines.written _ _ _ c.lines.invariant.rows none c.lines.invariant.few
     (subst (Appends _ _) row c.in_ok-write_all-2.ensures.ok)
 
 pub returns-in_err-take_line-clause-sink : goal.returns-in_err-take_line-clause-sink
@@ -255,22 +255,22 @@ returns-in_err-take_line-clause-spends g c =
     spends_stopped old new c.take_line.result c.from_residual.result c.in_err-take_line.field-0.0
     c.in_err-take_line.was (why.1 ∙ ap Err why.2) c.take_line.ensures.stop count
 
-pub returns-in_err-take_line-2-clause-sink : goal.returns-in_err-take_line-2-clause-sink
-returns-in_err-take_line-2-clause-sink g c =
-    let why = err_from_is_err_and c.from_residual-in_err-take_line-2.result c.from_residual-in_err-take_line-2.ensures.1 in
+pub returns-in_err-has_more-clause-sink : goal.returns-in_err-has_more-clause-sink
+returns-in_err-has_more-clause-sink g c =
+    let why = err_from_is_err_and c.from_residual-in_err-has_more.result c.from_residual-in_err-has_more.ensures.1 in
     sink_stopped (g.K.Sink.is_failed c.args.sink.now) (g.K.Sink.is_failed c.lines.sink)
-    c.from_residual-in_err-take_line-2.result
-    c.in_err-take_line-2.field-0.0 (why.1 ∙ ap Err why.2) c.lines.invariant.sink
+    c.from_residual-in_err-has_more.result
+    c.in_err-has_more.field-0.0 (why.1 ∙ ap Err why.2) c.lines.invariant.sink
 
-pub returns-in_err-take_line-2-clause-spends : goal.returns-in_err-take_line-2-clause-spends
-returns-in_err-take_line-2-clause-spends g c =
+pub returns-in_err-has_more-clause-spends : goal.returns-in_err-has_more-clause-spends
+returns-in_err-has_more-clause-spends g c =
     let old = solver_of c.args.lister.now in
-    let new = solver_of c.take_line-2.new.lister in
+    let new = solver_of c.has_more.new.lister in
     let count = counted_further old (solver_of c.lines.lister) new c.lines.invariant.rises c.lines.invariant.limit
-    c.take_line-2.ensures.count in
-    let why = err_from_is_err_and c.from_residual-in_err-take_line-2.result c.from_residual-in_err-take_line-2.ensures.1 in
-    spends_stopped old new c.take_line-2.result c.from_residual-in_err-take_line-2.result c.in_err-take_line-2.field-0.0
-    c.in_err-take_line-2.was (why.1 ∙ ap Err why.2) c.take_line-2.ensures.stop count
+    c.has_more.ensures.count in
+    let why = err_from_is_err_and c.from_residual-in_err-has_more.result c.from_residual-in_err-has_more.ensures.1 in
+    spends_stopped old new c.has_more.result c.from_residual-in_err-has_more.result c.in_err-has_more.field-0.0
+    c.in_err-has_more.was (why.1 ∙ ap Err why.2) c.has_more.ensures.stop count
 
 pub returns-in_err-write_all-clause-sink : goal.returns-in_err-write_all-clause-sink
 returns-in_err-write_all-clause-sink g c =
@@ -297,9 +297,9 @@ returns-in_err-write_more-clause-sink g c =
 pub returns-in_err-write_more-clause-spends : goal.returns-in_err-write_more-clause-spends
 returns-in_err-write_more-clause-spends g c =
     let old = solver_of c.args.lister.now in
-    let new = solver_of c.take_line-2.new.lister in
+    let new = solver_of c.has_more.new.lister in
     let count = counted_further old (solver_of c.lines.lister) new c.lines.invariant.rises c.lines.invariant.limit
-    c.take_line-2.ensures.count in
+    c.has_more.ensures.count in
     let why = err_from_is_err_and c.from_residual-in_err-write_more.result
     c.from_residual-in_err-write_more.ensures.1 in
     spends_sink old new c.from_residual-in_err-write_more.result (why.1 ∙ ap Err why.2) count
@@ -314,9 +314,9 @@ returns-in_err-write_all-2-clause-sink g c =
 pub returns-in_err-write_all-2-clause-spends : goal.returns-in_err-write_all-2-clause-spends
 returns-in_err-write_all-2-clause-spends g c =
     let old = solver_of c.args.lister.now in
-    let new = solver_of c.take_line-2.new.lister in
+    let new = solver_of c.has_more.new.lister in
     let count = counted_further old (solver_of c.lines.lister) new c.lines.invariant.rises c.lines.invariant.limit
-    c.take_line-2.ensures.count in
+    c.has_more.ensures.count in
     let why = err_from_is_err_and c.from_residual-in_err-write_all-2.result
     c.from_residual-in_err-write_all-2.ensures.1 in
     spends_sink old new c.from_residual-in_err-write_all-2.result (why.1 ∙ ap Err why.2) count
@@ -332,17 +332,17 @@ returns-then-not-branch-clause-spends g c =
 pub returns-in_ok-write_more-clause-spends : goal.returns-in_ok-write_more-clause-spends
 returns-in_ok-write_more-clause-spends g c =
     let old = solver_of c.args.lister.now in
-    let new = solver_of c.take_line-2.new.lister in
+    let new = solver_of c.has_more.new.lister in
     let count = counted_further old (solver_of c.lines.lister) new c.lines.invariant.rises c.lines.invariant.limit
-    c.take_line-2.ensures.count in
+    c.has_more.ensures.count in
     spends_done old new _ count
 
 pub returns-in_ok-write_all-2-clause-spends : goal.returns-in_ok-write_all-2-clause-spends
 returns-in_ok-write_all-2-clause-spends g c =
     let old = solver_of c.args.lister.now in
-    let new = solver_of c.take_line-2.new.lister in
+    let new = solver_of c.has_more.new.lister in
     let count = counted_further old (solver_of c.lines.lister) new c.lines.invariant.rises c.lines.invariant.limit
-    c.take_line-2.ensures.count in
+    c.has_more.ensures.count in
     spends_done old new _ count
 
 pub returns-in_err-write_row-clause-sink : goal.returns-in_err-write_row-clause-sink
