@@ -26,11 +26,8 @@ pub fn law(found: &mut Found) {
     moves::steps_are_quiet();
     moves::sure_replies();
     moves::worked_positions();
-    texts::sections_are_found();
-    texts::comments_say_nothing();
-    texts::others_say_nothing();
-    texts::texts_are_rows();
-    texts::unfinished_give_nothing();
+    texts::texts_have_problems();
+    texts::ended_come_first();
     texts::ends_tell();
     texts::lines_have_texts();
     texts::moves_have_texts();

@@ -16,6 +16,7 @@ pub fn law(found: &mut Found) {
     lines::none_begins();
     lines::lines_exist();
     lines::line_or_place();
+    lines::given_in_turn();
     tokens::written_is_token();
     tokens::one_line();
     tokens::tokens_have_no_fault();
