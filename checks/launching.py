@@ -20,6 +20,7 @@ import time
 
 TOP = pathlib.Path(__file__).resolve().parent.parent
 PATIENCE = 60  # seconds that anything may take here
+SIGNALS = (signal.SIGINT, signal.SIGTERM, signal.SIGHUP, signal.SIGKILL)
 # A prover's call: it waits, writes half of what is asked for, waits once more, and writes the rest. The file `fails`
 # names a crate that is not proved, and `slow` one for which it takes long.
 PROVER = """#!/bin/sh
@@ -62,6 +63,12 @@ esac
 """
 
 
+def heed_signals():
+    """Takes back that these signals are ignored, as they are in what nohup or a shell's `&` started."""
+    for number in SIGNALS[:-1]:
+        signal.signal(number, signal.SIG_DFL)
+
+
 def write_program(path, text):
     path.parent.mkdir(parents=True, exist_ok=True)
     path.write_text(text)
@@ -93,7 +100,8 @@ class Copy:
     def start(self, *words):
         """A call of the launcher, in a process group of its own."""
         return subprocess.Popen([self.top / "dw", *words], env=self.environment, stdin=subprocess.DEVNULL,
-                                stdout=subprocess.PIPE, stderr=subprocess.PIPE, text=True, start_new_session=True)
+                                stdout=subprocess.PIPE, stderr=subprocess.PIPE, text=True, start_new_session=True,
+                                preexec_fn=heed_signals)
 
     def call(self, *words):
         process = self.start(*words)
@@ -273,7 +281,7 @@ def at_once():
 def main():
     builds()
     fails()
-    for number in (signal.SIGINT, signal.SIGTERM, signal.SIGHUP, signal.SIGKILL):
+    for number in SIGNALS:
         interrupted(number)
     unread()
     at_once()
