@@ -8,6 +8,9 @@ use Rattle.dw_notation.specs.declared.streams.writing.Writing.{Writing}
 abbrev pub read_from : {R : Type 0} → Reading R → R
 read_from source = source.reader
 
+abbrev pub has_read_all : {R : Type 0} → Reading R → Bool
+has_read_all source = source.has_ended
+
 abbrev pub has_read_failed : {R : Type 0} → Reading R → Bool
 has_read_failed source = source.has_failed
 

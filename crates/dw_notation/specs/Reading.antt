@@ -62,9 +62,9 @@ IsCounted old new result = IfOk result (λ found.
     (new.handed ≡ old.handed + length (option_to_list found))
     × IfSome found (λ problem. (problem.number ≡ new.handed) × (old.handed ≤ MAX_PROBLEMS)))
 
--- the end was met only if the source has nothing left
-abbrev pub EndIsTrue : Option (List ℕ) → Reader → Type 0
-EndIsTrue coming reader = reader.met_end ≡ true → IsAtEnd coming
+-- the end that a reader has met is the source's, which has nothing left
+abbrev pub EndIsTrue : Option (List ℕ) → Bool → Reader → Type 0
+EndIsTrue coming has_ended reader = reader.met_end ≡ true → IsAtEnd coming × (has_ended ≡ true)
 
 -- the next problem needs a read, and the source has failed before its end was met
 pub record HasStopped (is_failed : Bool) (reader : Reader) : Type 0 where

@@ -1,7 +1,7 @@
 //! Where bytes come from and where they go.
 ghost use Rattle.std.specs.Prelude.{◌≡◌, ℕ, ◌<◌, ◌||◌, List, Bool, true, false, length, is_none, IfSome, IsNone};
 ghost use Rattle.std.specs.Prelude.{Option};
-ghost use Rattle.dw_notation.specs.Streams.{PullTakes, PullFalls, GiveAdds, GiveFails};
+ghost use Rattle.dw_notation.specs.Streams.{PullTakes, PullEnds, PullFalls, GiveAdds, GiveFails};
 
 mod reading;
 mod writing;
@@ -15,6 +15,9 @@ pub trait Source {
     /// The bytes still to come, if the source tells them.
     ghost coming: { Self → Option (List ℕ) };
 
+    /// Whether a pull has met the end: it gave no byte.
+    ghost has_ended: { Self → Bool };
+
     /// Whether a pull has failed.
     ghost is_failed: { Self → Bool };
 
@@ -27,6 +30,7 @@ pub trait Source {
     fn pull(&mut self, buffer: &mut [u8]) -> Option<usize>
         requires { 0 < length buffer.old }
         ensures bytes { PullTakes (coming self.old) (coming self.new) result buffer.new }
+        ensures ended { PullEnds (has_ended self.old) (has_ended self.new) result }
         ensures failed { is_failed self.new ≡ (is_failed self.old || is_none result) }
         ensures again { is_failed self.old ≡ true → IsNone result }
         ensures falls { PullFalls (pulls_left self.old) (pulls_left self.new) result };
@@ -62,6 +66,8 @@ pub trait Sink {
 
 impl<S: Source> Source for &mut S {
     ghost coming = { λ s. S.coming s.now };
+
+    ghost has_ended = { λ s. S.has_ended s.now };
 
     ghost is_failed = { λ s. S.is_failed s.now };
 

@@ -9,7 +9,7 @@ use Rattle.dw_board.specs.Geometry.{Geometry}
 use Rattle.dw_notation.specs.Lines.LinesSay.{last as last_line}
 use Rattle.dw_notation.specs.WholeTexts.SectionsSay.{nothing}
 use Rattle.dw_notation.specs.Problems.{Numbered, TextSays, AreProblems}
-use Rattle.dw_notation.specs.Reading.{Reader, ReadsAtNeed, EndIsTrue}
+use Rattle.dw_notation.specs.Reading.{Reader, ReadsAtNeed}
 use Rattle.dw_notation.specs.declared.problems.Form.{Form}
 use Rattle.dw_notation.specs.declared.problems.Form.TheVariants.{Fens, Pdn}
 use Rattle.dw_notation.specs.declared.problems.TheConstants.{MAX_PROBLEMS}
@@ -38,12 +38,16 @@ pub number_at-some : (handed : List Numbered) → 0 < length handed → number_a
 number_at-some [] some = absurd (omega (arith, some))
 number_at-some (problem ∷ handed) some = refl
 
+-- the end was met only if the source has nothing left
+abbrev pub EndsThere : Option (List ℕ) → Reader → Type 0
+EndsThere left reader = reader.met_end ≡ true → IsAtEnd left
+
 -- of these bytes, those read gave the problems handed out so far
 pub record HasHanded (g : Geometry) (form : Form) (bytes : List ℕ) (left : Option (List ℕ)) (reader : Reader)
     (handed : List Numbered) : Type 0 where
   pub read : List ℕ
   pub took : Consumes (Some bytes) left read
-  pub end : EndIsTrue left reader
+  pub end : EndsThere left reader
   pub need : ReadsUpTo g form (number_at handed) read
   pub same : Continues g form read reader handed reader.met_end
 
@@ -141,7 +145,7 @@ need-next g form bytes left after reader handed next has took (inr (room, before
 pub HasHanded-next : (g : Geometry) (form : Form) (bytes : List ℕ) (left after : Option (List ℕ)) (old new : Reader)
     (handed : List Numbered) (problem : Numbered) (next : List ℕ)
     → HasHanded g form bytes left old handed → Consumes left after next → ReadsAtNeed g old next
-    → GivesOne g old new next problem new.met_end → EndIsTrue after new
+    → GivesOne g old new next problem new.met_end → EndsThere after new
     → (old.met_end ≡ true → new.met_end ≡ true)
     → HasHanded g form bytes after new (handed ++ problem ∷ [])
 HasHanded-next g form bytes left after old new handed problem next has took need gives end stays =
@@ -218,17 +222,18 @@ HasHanded-start g form bytes reader unmet all = record {
 }
 
 -- this holds of all bytes that begin with those read; or the source's end was met, and it holds of the bytes read
-abbrev HoldsAhead : (List ℕ → Type 0) → Option (List ℕ) → List ℕ → Type 0
-HoldsAhead P left read = ((more : List ℕ) → P (read ++ more)) ⊎ (IsAtEnd left × P read)
+abbrev HoldsAhead : (List ℕ → Type 0) → Bool → List ℕ → Type 0
+HoldsAhead P has_ended read = ((more : List ℕ) → P (read ++ more)) ⊎ ((has_ended ≡ true) × P read)
 
 -- whatever bytes follow, or of the bytes read if the end was met, the problems begin with those handed out
 pub HasHanded-ahead : (P : List ℕ → Type 0) (g : Geometry) (form : Form) (bytes : List ℕ) (left : Option (List ℕ))
-    (reader : Reader) (handed : List Numbered) → (has : HasHanded g form bytes left reader handed)
+    (reader : Reader) (handed : List Numbered) (has_ended : Bool) → (has : HasHanded g form bytes left reader handed)
+    → (reader.met_end ≡ true → has_ended ≡ true)
     → ((text : List ℕ) (rest : List Numbered) → AreProblems g form true text (handed ++ rest) → P text)
-    → HoldsAhead P left has.read
-HasHanded-ahead P g form bytes left reader handed has holds = elim (cases_Bool reader.met_end) [
+    → HoldsAhead P has_ended has.read
+HasHanded-ahead P g form bytes left reader handed has_ended has over holds = elim (cases_Bool reader.met_end) [
   | inl met ↦ inr (
-    has.end met,
+    over met,
     holds has.read (reader.ahead g true []) (ahead-met g form bytes left reader handed has
         met),
   )
@@ -256,7 +261,7 @@ HasHanded-all g form bytes left reader handed has = elim (cases_Bool reader.met_
 
 pub HasHanded-end : (g : Geometry) (form : Form) (bytes : List ℕ) (left after : Option (List ℕ)) (old new : Reader)
     (handed : List Numbered) (next : List ℕ)
-    → HasHanded g form bytes left old handed → Consumes left after next → GivesNone g old new next → EndIsTrue after new
+    → HasHanded g form bytes left old handed → Consumes left after next → GivesNone g old new next → EndsThere after new
     → AreProblems g form true bytes handed
 HasHanded-end g form bytes left after old new handed next has took gives end =
     let all = Consumes-trans (Some bytes) left after has.read next has.took took in

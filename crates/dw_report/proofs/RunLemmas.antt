@@ -8,7 +8,7 @@ use Rattle.std.proofs.KnownBytes.{Consumes-trans, Appends-trans, Appends-nil}
 use Rattle.std.specs.Io.KnownBytes.{Consumes}
 use Rattle.dw_board.specs.Geometry.{Geometry}
 use Rattle.dw_notation.specs.Problems.{Numbered, AreProblems}
-use Rattle.dw_notation.specs.Reading.{Reader, ReadsAtNeed, EndIsTrue}
+use Rattle.dw_notation.specs.Reading.{Reader, ReadsAtNeed}
 use Rattle.dw_notation.specs.declared.problems.Form.{Form}
 use Rattle.dw_notation.specs.declared.problems.TheConstants.{MAX_PROBLEMS}
 use Rattle.dw_notation.specs.Writes.{Writes}
@@ -27,7 +27,7 @@ use Rattle.dw_report.proofs.ChosenLemmas.{up_to_asked-here, chosen-through, any-
 use Rattle.dw_report.proofs.ChosenLemmas.{refused-push, length-chosen-push}
 use Rattle.dw_report.proofs.HandedLemmas.{HasHanded, GivesOne, GivesNone, HasHanded-start, HasHanded-next, number_at-some}
 use Rattle.dw_report.proofs.HandedLemmas.{number_at}
-use Rattle.dw_report.proofs.HandedLemmas.{HasHanded-ahead, HasHanded-all, HasHanded-end, ahead-unmet, need-last}
+use Rattle.dw_report.proofs.HandedLemmas.{EndsThere, HasHanded-ahead, HasHanded-all, HasHanded-end, ahead-unmet, need-last}
 use Rattle.dw_report.proofs.WritingLemmas.{begins_within, chosen_one}
 
 -- ---- a run so far
@@ -90,7 +90,7 @@ More g request (Some bytes) left taken after reader summary problem = OneMore g 
 pub SoFar-more : (g : Geometry) (request : Request) (coming left after taken mid written : Option (List ℕ))
     (old new : Reader) (summary counted : Summary) (problem : Numbered) (next : List ℕ)
     → SoFar g request coming left taken mid old summary → Consumes left after next
-    → ReadsAtNeed g old next → GivesOne g old new next problem new.met_end → EndIsTrue after new
+    → ReadsAtNeed g old next → GivesOne g old new next problem new.met_end → EndsThere after new
     → (old.met_end ≡ true → new.met_end ≡ true) → new.handed ≡ old.handed + 1
     → Writes (IsReportOn g request (problem ∷ [])) mid written → CountsOne g request summary counted problem
     → More g request coming after taken written new counted problem
@@ -136,12 +136,12 @@ SoFar-next g request (Some bytes) left taken after reader summary problem more o
 }
 
 -- it was asked for: the run ends
-pub SoFar-asked : (g : Geometry) (request : Request) (coming left taken after : Option (List ℕ)) (reader : Reader)
-    (summary : Summary) (problem : Numbered)
+pub SoFar-asked : (g : Geometry) (request : Request) (coming left : Option (List ℕ)) (has_ended : Bool)
+    (taken after : Option (List ℕ)) (reader : Reader) (summary : Summary) (problem : Numbered)
     → More g request coming left taken after reader summary problem → is_asked request.only problem ≡ true
-    → RunEnds g request coming left taken after (Ok summary)
-SoFar-asked g request None left taken after reader summary problem more asked = tt
-SoFar-asked g request (Some bytes) left taken after reader summary problem more asked =
+    → RunEnds g request coming left has_ended taken after (Ok summary)
+SoFar-asked g request None left has_ended taken after reader summary problem more asked = tt
+SoFar-asked g request (Some bytes) left has_ended taken after reader summary problem more asked =
     let rest = HasHanded-all g request.form bytes left reader (more.before ++ problem ∷ []) more.has in
     let split = append_assoc more.before (problem ∷ []) rest.0 in
     let problems = more.before ++ problem ∷ rest.0 in
@@ -182,13 +182,14 @@ need-still : (g : Geometry) (form : Form) (handed : List Numbered) (read next : 
 need-still g form handed read next number e none need = subst (λ l. ReadsUpTo g form number l)
     (sym (ap (λ l. read ++ l) none ∙ append-nil read)) (subst (λ n. ReadsUpTo g form n read) e need)
 
-pub SoFar-end : (g : Geometry) (request : Request) (coming left after taken mid : Option (List ℕ)) (old new : Reader)
-    (summary : Summary) (next : List ℕ)
+pub SoFar-end : (g : Geometry) (request : Request) (coming left after : Option (List ℕ)) (has_ended : Bool)
+    (taken mid : Option (List ℕ)) (old new : Reader) (summary : Summary) (next : List ℕ)
     → SoFar g request coming left taken mid old summary → Consumes left after next → ReadsAtNeed g old next
-    → GivesNone g old new next → EndIsTrue after new → new.handed ≡ old.handed → old.handed ≤ MAX_PROBLEMS + 1
-    → RunEnds g request coming after taken mid (Ok summary)
-SoFar-end g request None left after taken mid old new summary next so_far took need gives end same bound = tt
-SoFar-end g request (Some bytes) left after taken mid old new summary next so_far took need gives end same bound =
+    → GivesNone g old new next → EndsThere after new → new.handed ≡ old.handed → old.handed ≤ MAX_PROBLEMS + 1
+    → RunEnds g request coming after has_ended taken mid (Ok summary)
+SoFar-end g request None left after has_ended taken mid old new summary next so_far took need gives end same bound = tt
+SoFar-end g request (Some bytes) left after has_ended taken mid old new summary next so_far took need gives end same
+    bound =
     let handed = so_far.handed in
     record {
       problems = handed;
@@ -219,13 +220,13 @@ SoFar-end g request (Some bytes) left after taken mid old new summary next so_fa
       ];
     }
 
-pub SoFar-read : (g : Geometry) (request : Request) (coming left after taken mid : Option (List ℕ)) (old new : Reader)
-    (summary : Summary) (next : List ℕ)
+pub SoFar-read : (g : Geometry) (request : Request) (coming left after : Option (List ℕ)) (has_ended : Bool)
+    (taken mid : Option (List ℕ)) (old new : Reader) (summary : Summary) (next : List ℕ)
     → SoFar g request coming left taken mid old summary → Consumes left after next → old.ahead g false next ≡ []
     → (old.met_end ≡ false)
-    → RunEnds g request coming after taken mid (Err Read)
-SoFar-read g request None left after taken mid old new summary next so_far took none unmet = tt
-SoFar-read g request (Some bytes) left after taken mid old new summary next so_far took none unmet =
+    → RunEnds g request coming after has_ended taken mid (Err Read)
+SoFar-read g request None left after has_ended taken mid old new summary next so_far took none unmet = tt
+SoFar-read g request (Some bytes) left after has_ended taken mid old new summary next so_far took none unmet =
     let has = so_far.has in
     record {
       read = has.read ++ next;
@@ -247,17 +248,17 @@ unmet_before old new stays unmet = elim (cases_Bool (old.met_end))
 abbrev pub HaveTexts : Geometry → Request → Type 0
 HaveTexts g request = (problems : List Numbered) → (text : List ℕ) × AreTexts g request problems text
 
-pub SoFar-write : (g : Geometry) (request : Request) (coming left after taken mid written : Option (List ℕ))
-    (old new : Reader) (summary : Summary) (problem : Numbered) (next : List ℕ)
+pub SoFar-write : (g : Geometry) (request : Request) (coming left after : Option (List ℕ)) (has_ended : Bool)
+    (taken mid written : Option (List ℕ)) (old new : Reader) (summary : Summary) (problem : Numbered) (next : List ℕ)
     → SoFar g request coming left taken mid old summary → Consumes left after next → ReadsAtNeed g old next
-    → GivesOne g old new next problem new.met_end → EndIsTrue after new
-    → (old.met_end ≡ true → new.met_end ≡ true) → HaveTexts g request
+    → GivesOne g old new next problem new.met_end → EndsThere after new
+    → (old.met_end ≡ true → new.met_end ≡ true) → (new.met_end ≡ true → has_ended ≡ true) → HaveTexts g request
     → WritesShort (IsReportOn g request (problem ∷ [])) mid written
-    → RunEnds g request coming after taken written (Err Write)
-SoFar-write g request None left after taken mid written old new summary problem next so_far took need gives end stays
-    exist short = tt
-SoFar-write g request (Some bytes) left after taken mid written old new summary problem next so_far took need gives end
-    stays exist short =
+    → RunEnds g request coming after has_ended taken written (Err Write)
+SoFar-write g request None left after has_ended taken mid written old new summary problem next so_far took need gives
+    end stays over exist short = tt
+SoFar-write g request (Some bytes) left after has_ended taken mid written old new summary problem next so_far took need
+    gives end stays over exist short =
     let handed = so_far.handed in
     let has = HasHanded-next g request.form bytes left after old new handed problem next so_far.has took need gives
     end stays in
@@ -268,7 +269,7 @@ SoFar-write g request (Some bytes) left after taken mid written old new summary 
       out = before ++ short.stops.out;
       wrote = Appends-trans taken mid written before short.stops.out so_far.wrote.wrote short.stops.taken;
       front = HasHanded-ahead (λ text. BeginsReport g request text (before ++ short.stops.out)) g request.form bytes
-          after new (handed ++ problem ∷ []) has (λ text rest are.
+          after new (handed ++ problem ∷ []) has_ended has over (λ text rest are.
           let behind = exist (chosen request.only rest) in
           record {
             whole = (before ++ short.text) ++ behind.0;
@@ -283,17 +284,17 @@ SoFar-write g request (Some bytes) left after taken mid written old new summary 
           });
     }
 
-pub SoFar-stopped : (g : Geometry) (request : Request) (coming left after taken mid written : Option (List ℕ))
-    (old new : Reader) (summary : Summary) (problem : Numbered) (next : List ℕ) (why : Stop) (expanded : ℕ)
+pub SoFar-stopped : (g : Geometry) (request : Request) (coming left after : Option (List ℕ)) (has_ended : Bool)
+    (taken mid written : Option (List ℕ)) (old new : Reader) (summary : Summary) (problem : Numbered) (next : List ℕ) (why : Stop) (expanded : ℕ)
     → SoFar g request coming left taken mid old summary → Consumes left after next → ReadsAtNeed g old next
-    → GivesOne g old new next problem new.met_end → EndIsTrue after new
-    → (old.met_end ≡ true → new.met_end ≡ true)
+    → GivesOne g old new next problem new.met_end → EndsThere after new
+    → (old.met_end ≡ true → new.met_end ≡ true) → (new.met_end ≡ true → has_ended ≡ true)
     → Writes (IsPartOn g request problem.number (problem ∷ [])) mid written
-    → RunEnds g request coming after taken written (Err (Stopped why expanded))
-SoFar-stopped g request None left after taken mid written old new summary problem next why expanded so_far took need
-    gives end stays part = tt
-SoFar-stopped g request (Some bytes) left after taken mid written old new summary problem next why expanded so_far took
-    need gives end stays part =
+    → RunEnds g request coming after has_ended taken written (Err (Stopped why expanded))
+SoFar-stopped g request None left after has_ended taken mid written old new summary problem next why expanded so_far
+    took need gives end stays over part = tt
+SoFar-stopped g request (Some bytes) left after has_ended taken mid written old new summary problem next why expanded
+    so_far took need gives end stays over part =
     let handed = so_far.handed in
     let has = HasHanded-next g request.form bytes left after old new handed problem next so_far.has took need gives
     end stays in
@@ -309,7 +310,7 @@ SoFar-stopped g request (Some bytes) left after taken mid written old new summar
       out = out;
       wrote = Appends-trans taken mid written so_far.wrote.text part.text so_far.wrote.wrote part.wrote;
       front = HasHanded-ahead (λ text. IsPart g request has.read text out) g request.form bytes after new
-          (handed ++ problem ∷ []) has (λ text rest are. record {
+          (handed ++ problem ∷ []) has_ended has over (λ text rest are. record {
             problems = (handed ++ problem ∷ []) ++ rest;
             are = are;
             number = problem.number;
@@ -320,20 +321,20 @@ SoFar-stopped g request (Some bytes) left after taken mid written old new summar
     }
 
 -- a problem's text was not written to its end, and so the run ends
-pub SoFar-fault : (g : Geometry) (request : Request) (coming left after taken mid written : Option (List ℕ))
-    (old new : Reader) (summary : Summary) (problem : Numbered) (next : List ℕ) (expanded : ℕ) (fault : TextFault)
+pub SoFar-fault : (g : Geometry) (request : Request) (coming left after : Option (List ℕ)) (has_ended : Bool)
+    (taken mid written : Option (List ℕ)) (old new : Reader) (summary : Summary) (problem : Numbered) (next : List ℕ) (expanded : ℕ) (fault : TextFault)
     → SoFar g request coming left taken mid old summary → Consumes left after next → ReadsAtNeed g old next
-    → GivesOne g old new next problem new.met_end → EndIsTrue after new
-    → (old.met_end ≡ true → new.met_end ≡ true) → HaveTexts g request
+    → GivesOne g old new next problem new.met_end → EndsThere after new
+    → (old.met_end ≡ true → new.met_end ≡ true) → (new.met_end ≡ true → has_ended ≡ true) → HaveTexts g request
     → TextEnds {X = Summary} (IsReportOn g request (problem ∷ [])) (IsPartOn g request problem.number (problem ∷ [])) mid
     written (Err fault)
-    → RunEnds g request coming after taken written (Err (ended_by fault expanded))
-SoFar-fault g request coming left after taken mid written old new summary problem next expanded (TextFault.Stopped why)
-    so_far took need gives end stays exist h = SoFar-stopped g request coming left after taken mid written old new
-    summary problem next why expanded so_far took need gives end stays h
-SoFar-fault g request coming left after taken mid written old new summary problem next expanded TextFault.Sink so_far
-    took need gives end stays exist h = SoFar-write g request coming left after taken mid written old new summary problem
-    next so_far took need gives end stays exist h
+    → RunEnds g request coming after has_ended taken written (Err (ended_by fault expanded))
+SoFar-fault g request coming left after has_ended taken mid written old new summary problem next expanded
+    (TextFault.Stopped why) so_far took need gives end stays over exist h = SoFar-stopped g request coming left after
+    has_ended taken mid written old new summary problem next why expanded so_far took need gives end stays over h
+SoFar-fault g request coming left after has_ended taken mid written old new summary problem next expanded TextFault.Sink
+    so_far took need gives end stays over exist h = SoFar-write g request coming left after has_ended taken mid written
+    old new summary problem next so_far took need gives end stays over exist h
 
 -- a call that answered did not fail
 pub failed-at_ok : {A E : Type 0} (now was : Bool) (r : Result A E) (x : A) → now ≡ (was || is_err r) → r ≡ Ok x

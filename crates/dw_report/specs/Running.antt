@@ -1,5 +1,5 @@
 -- What a run writes, what it counts, and what stands where a stream failed or the run was stopped.
-use Rattle.std.specs.Prelude.{◌≡◌, ℕ, ◌+◌, ◌≤◌, ◌<◌, ◌⊎◌, if◌then◌else◌, List, [], ◌∷◌, ◌++◌, length, true, false}
+use Rattle.std.specs.Prelude.{◌≡◌, ℕ, ◌+◌, ◌≤◌, ◌<◌, ◌⊎◌, if◌then◌else◌, List, [], ◌∷◌, ◌++◌, length, Bool, true, false}
 use Rattle.std.specs.Prelude.{Option, Some, None, Result, Ok, Err}
 use Rattle.std.specs.List.{list_any}
 use Rattle.std.specs.Io.KnownBytes.{Consumes, Appends, IsAtEnd}
@@ -128,24 +128,24 @@ pub record IsPart (g : Geometry) (request : Request) (read bytes out : List ℕ)
   pub part : IsPartOn g request number problems out
 
 -- the sink has taken such a beginning, whatever bytes follow those read; or the source's end was met, and none do
-pub record StopsAhead (P : (read text out : List ℕ) → Type 0) (bytes : List ℕ)
-    (left taken after : Option (List ℕ)) : Type 0 where
+pub record StopsAhead (P : (read text out : List ℕ) → Type 0) (bytes : List ℕ) (left : Option (List ℕ)) (ended : Bool)
+    (taken after : Option (List ℕ)) : Type 0 where
   pub read : List ℕ
   pub took : Consumes (Some bytes) left read
   pub out : List ℕ
   pub wrote : Appends taken after out
-  pub front : ((more : List ℕ) → P read (read ++ more) out) ⊎ (IsAtEnd left × P read read out)
+  pub front : ((more : List ℕ) → P read (read ++ more) out) ⊎ ((ended ≡ true) × P read read out)
 
 -- what a run did, if the source tells its bytes
-abbrev pub RunEnds : Geometry → Request → Option (List ℕ) → Option (List ℕ) → Option (List ℕ) → Option (List ℕ)
-    → Result Summary RunFault → Type 0
-RunEnds g request None left taken after result = Unit {0}
-RunEnds g request (Some bytes) left taken after (Ok summary) = Finishes g request bytes left taken after summary
-RunEnds g request (Some bytes) left taken after (Err (ends.Stopped why expanded)) =
-    StopsAhead (IsPart g request) bytes left taken after
-RunEnds g request (Some bytes) left taken after (Err ends.Read) = StopsReading g request bytes left taken after
-RunEnds g request (Some bytes) left taken after (Err ends.Write) =
-    StopsAhead (λ read text out. BeginsReport g request text out) bytes left taken after
+abbrev pub RunEnds : Geometry → Request → Option (List ℕ) → Option (List ℕ) → Bool → Option (List ℕ)
+    → Option (List ℕ) → Result Summary RunFault → Type 0
+RunEnds g request None left ended taken after result = Unit {0}
+RunEnds g request (Some bytes) left ended taken after (Ok summary) = Finishes g request bytes left taken after summary
+RunEnds g request (Some bytes) left ended taken after (Err (ends.Stopped why expanded)) =
+    StopsAhead (IsPart g request) bytes left ended taken after
+RunEnds g request (Some bytes) left ended taken after (Err ends.Read) = StopsReading g request bytes left taken after
+RunEnds g request (Some bytes) left ended taken after (Err ends.Write) =
+    StopsAhead (λ read text out. BeginsReport g request text out) bytes left ended taken after
 
 -- positions are shown without a stop, moves listed with none but want of memory; a search may stop at its limit too
 abbrev pub MayStop : Command → ℕ → Stop → ℕ → Type 0

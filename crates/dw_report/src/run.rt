@@ -47,7 +47,7 @@ pub fn run<B: Board, S: Source, K: Sink, M: Memo<B> + Drop, G: Guide<B> + Drop>(
     requires lines { 1 ≤ settings.now.lines }
     requires limit { 1 ≤ settings.now.limit }
     ensures report { RunEnds B.geometry (request_of settings.now) (S.coming source.old) (S.coming source.new)
-        (K.taken sink.old) (K.taken sink.new) result }
+        (S.has_ended source.new) (K.taken sink.old) (K.taken sink.new) result }
     ensures read { result ≡ Err RunFault.Read → S.is_failed source.new ≡ true }
     ensures write { result ≡ Err RunFault.Write → K.is_failed sink.new ≡ true }
     ensures stopped { StopsRightly settings.now.command settings.now.limit result }
@@ -69,7 +69,7 @@ fn write_report<B: Board, S: Source, K: Sink, M: Memo<B>, G: Guide<B>>(
     requires sound { IsSound B.geometry (request_of settings.now) }
     requires fresh { solver.old.expanded ≡ 0 }
     ensures report { RunEnds B.geometry (request_of settings.now) (S.coming source.old) (S.coming source.new)
-        (K.taken sink.old) (K.taken sink.new) result }
+        (S.has_ended source.new) (K.taken sink.old) (K.taken sink.new) result }
     ensures read { result ≡ Err RunFault.Read → S.is_failed source.new ≡ true }
     ensures write { result ≡ Err RunFault.Write → K.is_failed sink.new ≡ true }
     ensures stopped { StopsRightly settings.now.command solver.old.limit result }

@@ -35,9 +35,9 @@ ended = problems_from false
 abbrev pub IsStarved : Cutter → Type 0
 IsStarved cutter = (rest_of cutter ≡ []) × (cutter.met_end ≡ false) × (cutter.handed ≤ MAX_PROBLEMS)
 
--- the end was met only if the source has nothing left
-abbrev pub EndIsKnown : Option (List ℕ) → Cutter → Type 0
-EndIsKnown coming cutter = cutter.met_end ≡ true → IsAtEnd coming
+-- the end that was met is the source's, which has nothing left
+abbrev pub EndIsKnown : Option (List ℕ) → Bool → Cutter → Type 0
+EndIsKnown coming has_ended cutter = cutter.met_end ≡ true → IsAtEnd coming × (has_ended ≡ true)
 
 abbrev pub is_starved : Cutter → Bool
 is_starved cutter = (length (rest_of cutter) == 0) && (not cutter.met_end && nat_le cutter.handed MAX_PROBLEMS)

@@ -3,7 +3,7 @@ ghost use Rattle.std.specs.Prelude.{◌≡◌, ℕ, ◌+◌, ◌<◌, ◌≤◌,
 ghost use Rattle.std.specs.Prelude.{List, [], ◌∷◌, ◌++◌, length, take, drop, option_to_list};
 ghost use Rattle.std.specs.Prelude.{IfSome, IfNone, IfOk, IsErr, is_err, OnOk};
 ghost use Rattle.dw_board.specs.Geometry.{Geometry};
-ghost use Rattle.std.specs.Io.KnownBytes.{Consumes, IsAtEnd};
+ghost use Rattle.std.specs.Io.KnownBytes.{Consumes};
 
 use super::fens::Lines;
 use super::pdn::Sections;
@@ -101,7 +101,7 @@ impl Cutter {
     ghost use Rattle.dw_notation.specs.Problems.{number_from};
     ghost use Rattle.dw_notation.specs.inner.Problems.{found_of, numbered_in};
     ghost use Rattle.dw_notation.specs.inner.Pieces.{pieces_ahead, pieces_behind};
-    ghost use Rattle.dw_notation.specs.inner.Cutting.{rest_of, found_ahead, found_behind, found_cut};
+    ghost use Rattle.dw_notation.specs.inner.Cutting.{EndIsKnown, rest_of, found_ahead, found_behind, found_cut};
 
     /// Nothing was read.
     fn new(form: Form) -> Cutter
@@ -183,7 +183,7 @@ impl Cutter {
         ensures more { OnOk result (MatchBool self.new.met_end
             (S.pulls_left source.new ≤ S.pulls_left source.old)
             (S.pulls_left source.new < S.pulls_left source.old)) }
-        ensures end { self.new.met_end ≡ true → IsAtEnd (S.coming source.new) }
+        ensures end { EndIsKnown (S.coming source.new) (S.has_ended source.new) self.new }
         ensures none { self.new.met_end ≡ true → rest_of self.new ≡ [] }
         ensures err { IsErr result → (self.new.met_end ≡ false) × (rest_of self.new ≡ []) }
         ensures failed { S.is_failed source.new ≡ (S.is_failed source.old || is_err result) }
@@ -272,8 +272,8 @@ impl<'a, B: Board, S: Source> Problems<'a, B, S> {
         ensures handed { self.new.cutter.handed ≡ self.old.cutter.handed }
         ensures piece { ReadsPiece (S.coming (source_of self.old)) (S.coming (source_of self.new))
             self.old.cutter self.new.cutter result }
-        ensures end { EndIsKnown (S.coming (source_of self.old)) self.old.cutter
-            → EndIsKnown (S.coming (source_of self.new)) self.new.cutter }
+        ensures end { EndIsKnown (S.coming (source_of self.old)) (S.has_ended (source_of self.old)) self.old.cutter
+            → EndIsKnown (S.coming (source_of self.new)) (S.has_ended (source_of self.new)) self.new.cutter }
         ensures failed { S.is_failed (source_of self.new) ≡ (S.is_failed (source_of self.old) || is_err result) }
         ensures stays { self.old.cutter.met_end ≡ true → self.new.cutter.met_end ≡ true }
         ensures again { S.is_failed (source_of self.old) ≡ true → IsStarved self.old.cutter
@@ -306,8 +306,8 @@ impl<'a, B: Board, S: Source> Problems<'a, B, S> {
         ensures given { NextGives B.geometry
             (S.coming (source_of self.old)) (S.coming (source_of self.new))
             (reader_of self.old) (reader_of self.new) result }
-        ensures end { EndIsTrue (S.coming (source_of self.old)) (reader_of self.old)
-            → EndIsTrue (S.coming (source_of self.new)) (reader_of self.new) }
+        ensures end { EndIsTrue (S.coming (source_of self.old)) (S.has_ended (source_of self.old)) (reader_of self.old)
+            → EndIsTrue (S.coming (source_of self.new)) (S.has_ended (source_of self.new)) (reader_of self.new) }
         ensures failed { S.is_failed (source_of self.new) ≡ (S.is_failed (source_of self.old) || is_err result) }
         ensures stopped { IsErr result
             → HasStopped (S.is_failed (source_of self.new)) (reader_of self.new) }

@@ -14,31 +14,36 @@ pub const MAX_READS: u64 = 1_000_000_000_000;
 pub struct Reading<R> {
     reader: R,
     reads: u64,
+    has_ended: bool,
     has_failed: bool,
 }
 
 impl<R: io::Read> Reading<R> {
-    ghost use Rattle.dw_notation.specs.Endpoints.{read_from, has_read_failed, reads_left};
+    ghost use Rattle.dw_notation.specs.Endpoints.{read_from, has_read_all, has_read_failed, reads_left};
 
     /// A source of the bytes that the reader has still to give.
     /// See [`Reading`] for an example.
     pub fn new(reader: R) -> Reading<R>
         ensures reader { read_from result ≡ reader }
+        ensures unended { has_read_all result ≡ false }
         ensures sound { has_read_failed result ≡ false }
         ensures reads { reads_left result ≡ MAX_READS }
     {
         Reading {
             reader,
             reads: 0,
+            has_ended: false,
             has_failed: false,
         }
     }
 }
 
 impl<R: io::Read> Source for Reading<R> {
-    ghost use Rattle.dw_notation.specs.Endpoints.{read_from, has_read_failed, reads_left};
+    ghost use Rattle.dw_notation.specs.Endpoints.{read_from, has_read_all, has_read_failed, reads_left};
 
     ghost coming = { λ s. R.remaining (read_from s) };
+
+    ghost has_ended = { λ s. has_read_all s };
 
     ghost is_failed = { λ s. has_read_failed s };
 
@@ -51,7 +56,10 @@ impl<R: io::Read> Source for Reading<R> {
         }
         self.reads += 1;
         match self.reader.read(buffer) {
-            Ok(count) => Some(count),
+            Ok(count) => {
+                self.has_ended = self.has_ended || count == 0;
+                Some(count)
+            }
             Err(_) => {
                 self.has_failed = true;
                 None

@@ -16,7 +16,8 @@ invariant-problems g l =
       so_far : SoFar g.B.Board.geometry (request_of l.settings) (source.coming (source_of l.initial.problems))
           (source.coming (source_of l.problems))
           (sink.taken l.initial.sink) (sink.taken l.sink) (reader_of l.problems) l.summary;
-      end : EndIsTrue (source.coming (source_of l.problems)) (reader_of l.problems);
+      end : EndIsTrue (source.coming (source_of l.problems)) (source.has_ended (source_of l.problems))
+          (reader_of l.problems);
       source : source.is_failed (source_of l.problems) ≡ false;
       sink : sink.is_failed l.sink ≡ false;
       limit : l.solver.limit ≡ l.initial.solver.limit;

@@ -11,8 +11,9 @@ invariant-pieces g l =
       lender : l.self.source.ghost_name ≡ l.initial.self.source.ghost_name;
       nothing : HandsOut g.B.Board.geometry (source.coming l.initial.self.source.now) (source.coming l.self.source.now)
           l.initial.self.cutter l.self.cutter [];
-      end : EndIsKnown (source.coming l.initial.self.source.now) l.initial.self.cutter
-          → EndIsKnown (source.coming l.self.source.now) l.self.cutter;
+      end : EndIsKnown (source.coming l.initial.self.source.now) (source.has_ended l.initial.self.source.now)
+          l.initial.self.cutter
+          → EndIsKnown (source.coming l.self.source.now) (source.has_ended l.self.source.now) l.self.cutter;
       handed : l.self.cutter.handed ≡ l.initial.self.cutter.handed;
       stays : l.initial.self.cutter.met_end ≡ true → l.self.cutter.met_end ≡ true;
       failed : source.is_failed l.self.source.now ≡ source.is_failed l.initial.self.source.now;

@@ -13,8 +13,9 @@ invariant-reads g l =
           l.initial.self.cutter l.self.cutter;
       handed : l.self.cutter.handed ≡ l.initial.self.cutter.handed;
       stays : l.initial.self.cutter.met_end ≡ true → l.self.cutter.met_end ≡ true;
-      end : EndIsKnown (source.coming l.initial.self.source.now) l.initial.self.cutter
-          → EndIsKnown (source.coming l.self.source.now) l.self.cutter;
+      end : EndIsKnown (source.coming l.initial.self.source.now) (source.has_ended l.initial.self.source.now)
+          l.initial.self.cutter
+          → EndIsKnown (source.coming l.self.source.now) (source.has_ended l.self.source.now) l.self.cutter;
       failed : source.is_failed l.self.source.now ≡ source.is_failed l.initial.self.source.now;
       again : source.is_failed l.initial.self.source.now ≡ true → IsStarved l.initial.self.cutter
           → IsStarved l.self.cutter;
