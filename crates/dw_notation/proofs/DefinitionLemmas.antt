@@ -9,7 +9,7 @@ use Rattle.dw_notation.specs.inner.Sections.{bare, sections_found}
 use Rattle.dw_notation.specs.inner.HeldSection.{held_of, held_bare, held_from, sections_ahead}
 use Rattle.dw_notation.specs.inner.Pieces.{lines_ahead}
 use Rattle.dw_notation.specs.declared.problems.fens.Front.TheVariants.{Bare}
-use Rattle.dw_notation.specs.declared.problems.pdn.Place.TheVariants.{Outside}
+use Rattle.dw_notation.specs.declared.problems.pdn.automaton.State.TheVariants.{Outside}
 use Rattle.dw_notation.specs.declared.problems.fens.Lines.{Lines}
 use Rattle.dw_notation.specs.declared.problems.pdn.Sections.{Sections}
 use Rattle.dw_notation.proofs.HoldingLemmas.{held_from-bare}
@@ -43,12 +43,12 @@ sections-mark at_end g (a ∷ b ∷ c ∷ bytes) = elim (cases_Bool ((a == 0xEF)
   | inr none ↦ ap (sections_found at_end g Outside bare) (sym (cond-false _ bytes (a ∷ b ∷ c ∷ bytes) none))
 ]
 
-pub sections-new : (at_end : Bool) (g : Geometry) (sections : Sections) → (sections.place ≡ Outside)
+pub sections-new : (at_end : Bool) (g : Geometry) (sections : Sections) → (sections.state ≡ Outside)
     → held_of sections.section ≡ held_bare
     → (bytes : List ℕ) → sections_ahead at_end g sections bytes
     ≡ sections_found at_end g Outside bare (without_mark bytes)
-sections-new at_end g sections place section bytes =
-    ap (λ p. held_from at_end g p (held_of sections.section) bytes) place
+sections-new at_end g sections state section bytes =
+    ap (λ p. held_from at_end g p (held_of sections.section) bytes) state
     ∙ ap (λ h. held_from at_end g Outside h bytes) section
     ∙ held_from-bare at_end g Outside bytes
     ∙ sections-mark at_end g bytes

@@ -7,14 +7,14 @@ use Rattle.dw_notation.specs.Lines.{Found, without_mark}
 use Rattle.dw_notation.specs.Problems.{Numbered, number_from, EndedComeFirst}
 use Rattle.dw_notation.specs.inner.Lines.{line_found}
 use Rattle.dw_notation.specs.inner.Ahead.{found_from}
-use Rattle.dw_notation.specs.inner.Sections.{Section, step, after, section_found, found_by, sections_found, bare}
+use Rattle.dw_notation.specs.inner.Sections.{Section, transition, after, section_found, found_by, sections_found, bare}
 use Rattle.dw_notation.specs.inner.Problems.{found_of}
 use Rattle.dw_notation.specs.declared.problems.TheConstants.{MAX_PROBLEMS}
 use Rattle.dw_notation.specs.declared.problems.ProblemFault.TheVariants.{TooManyProblems}
 use Rattle.dw_notation.specs.declared.problems.Form.{Form}
 use Rattle.dw_notation.specs.declared.problems.Form.TheVariants.{Fens, Pdn}
-use Rattle.dw_notation.specs.declared.problems.pdn.Place.{Place}
-use Rattle.dw_notation.specs.declared.problems.pdn.Place.TheVariants.{Outside}
+use Rattle.dw_notation.specs.declared.problems.pdn.automaton.State.{State}
+use Rattle.dw_notation.specs.declared.problems.pdn.automaton.State.TheVariants.{Outside}
 use Rattle.dw_notation.proofs.DefinitionLemmas.{sections-mark}
 use Rattle.dw_notation.proofs.ProblemLemmas.{text_says-only}
 use Rattle.dw_notation.proofs.TextSaysLemmas.{FensAreRead}
@@ -105,13 +105,13 @@ lines_first at_end g bytes more = elim (mark_stays bytes more) [
 
 -- SECTIONS
 
-first_sections : (at_end : Bool) (g : Geometry) (place : Place) (s : Section) (bytes more : List ℕ)
-    → First (sections_found false g place s bytes) (sections_found at_end g place s (bytes ++ more))
-first_sections at_end g place s [] more = (sections_found at_end g place s more, refl)
-first_sections at_end g place s (byte ∷ bytes) more =
-    let to = step place byte in
-    behind (found_by to.deed (section_found g s)) _ _
-    (first_sections at_end g to.place (after to.deed s) bytes more)
+first_sections : (at_end : Bool) (g : Geometry) (state : State) (s : Section) (bytes more : List ℕ)
+    → First (sections_found false g state s bytes) (sections_found at_end g state s (bytes ++ more))
+first_sections at_end g state s [] more = (sections_found at_end g state s more, refl)
+first_sections at_end g state s (byte ∷ bytes) more =
+    let to = transition state byte in
+    behind (found_by to.action (section_found g s)) _ _
+    (first_sections at_end g to.state (after to.action s) bytes more)
 
 sections_first : (at_end : Bool) (g : Geometry) (bytes more : List ℕ)
     → First (sections_found false g Outside bare (without_mark bytes))

@@ -10,19 +10,19 @@ use Rattle.dw_board.specs.Geometry.{Geometry}
 use Rattle.dw_board.specs.Fen.{fen}
 use Rattle.dw_board.specs.FenTokens.{is_blank}
 use Rattle.dw_notation.specs.inner.Lines.{fen_found}
-use Rattle.dw_notation.specs.inner.Sections.{step, Section, bare, kind_of, with_tag, after}
+use Rattle.dw_notation.specs.inner.Sections.{transition, Section, bare, kind_of, with_tag, after}
 use Rattle.dw_notation.specs.Tags.{number_on, game_of, is_wrong}
 use Rattle.dw_notation.specs.inner.Sections.{fens_found, section_found, found_by, found_at_end, sections_found}
 use Rattle.dw_notation.specs.inner.HeldSection.{Held, held_bare, counted, kept, game_on, number_held, counted_in, value_on}
 use Rattle.dw_notation.specs.inner.HeldSection.{tag_on, held_after, is_wrong_held, fens_held, held_found, held_from}
-use Rattle.dw_notation.specs.declared.problems.pdn.Place.{Place}
-use Rattle.dw_notation.specs.declared.problems.pdn.Deed.{Deed}
-use Rattle.dw_notation.specs.declared.problems.pdn.Deed.TheVariants.{Keep, Open, Count, AddName, OpenValue, AddValue}
-use Rattle.dw_notation.specs.declared.problems.pdn.Deed.TheVariants.{AddBoth, Close, Break, EndLine, NextTag, End}
-use Rattle.dw_notation.specs.declared.problems.pdn.Kind.{Kind}
-use Rattle.dw_notation.specs.declared.problems.pdn.Kind.TheVariants.{FenTag, GameTag, OtherTag}
-use Rattle.dw_notation.specs.declared.problems.pdn.Game.{Game}
-use Rattle.dw_notation.specs.declared.problems.pdn.Game.TheVariants.{Before, Within, Behind}
+use Rattle.dw_notation.specs.declared.problems.pdn.automaton.State.{State}
+use Rattle.dw_notation.specs.declared.problems.pdn.automaton.Action.{Action}
+use Rattle.dw_notation.specs.declared.problems.pdn.automaton.Action.TheVariants.{Keep, Open, Count, AddName, OpenValue, AddValue}
+use Rattle.dw_notation.specs.declared.problems.pdn.automaton.Action.TheVariants.{AddBoth, Close, Break, EndLine, NextTag, End}
+use Rattle.dw_notation.specs.declared.problems.pdn.section.TagKind.{TagKind}
+use Rattle.dw_notation.specs.declared.problems.pdn.section.TagKind.TheVariants.{FenTag, GameTag, OtherTag}
+use Rattle.dw_notation.specs.declared.problems.pdn.section.Game.{Game}
+use Rattle.dw_notation.specs.declared.problems.pdn.section.Game.TheVariants.{Before, Within, Behind}
 use Rattle.dw_notation.proofs.NameLemmas.{kind_of-take}
 
 -- ---- bytes that are counted, and bytes that are kept
@@ -133,7 +133,7 @@ GameHeld-end game value held = ap (λ n. eqb n 20) (number_held-then game) ∙ h
     ∙ ap (λ l. eqb (game_of l) 20) (append-nil value)
 
 -- ---- the FEN tags
-abbrev FensHeld : List (List ℕ) → Kind → List ℕ → ℕ → List ℕ → Type 0
+abbrev FensHeld : List (List ℕ) → TagKind → List ℕ → ℕ → List ℕ → Type 0
 FensHeld [] kind value n text = (n ≡ 0) × (kind ≡ FenTag → text ≡ take 1025 value)
 FensHeld (fen_text ∷ []) kind value n text = (n ≡ 1) × (text ≡ take 1025 fen_text)
 FensHeld (fen_text ∷ other ∷ fens) kind value n text = n ≡ 2
@@ -148,26 +148,26 @@ FensHeld-value [] value n text byte held = (
 FensHeld-value (f ∷ []) value n text byte held = (held.0, rw held.0 held.1)
 FensHeld-value (f ∷ other ∷ fens) value n text byte held = held
 
-FensHeld-open : (fens : List (List ℕ)) (kind new : Kind) (value : List ℕ) (n : ℕ) (text : List ℕ)
+FensHeld-open : (fens : List (List ℕ)) (kind new : TagKind) (value : List ℕ) (n : ℕ) (text : List ℕ)
     → FensHeld fens kind value n text → FensHeld fens new [] n (cond (n == 0) [] text)
 FensHeld-open [] kind new value n text held = (held.0, λ is. rw held.0 refl)
 FensHeld-open (f ∷ []) kind new value n text held = (held.0, rw held.0 held.1)
 FensHeld-open (f ∷ other ∷ fens) kind new value n text held = held
 
-FensHeld-other : (fens : List (List ℕ)) (kind : Kind) (value other : List ℕ) (n : ℕ) (text : List ℕ)
+FensHeld-other : (fens : List (List ℕ)) (kind : TagKind) (value other : List ℕ) (n : ℕ) (text : List ℕ)
     → (kind ≡ FenTag → ⊥) → FensHeld fens kind value n text → FensHeld fens kind other n text
 FensHeld-other [] kind value other n text none held = (held.0, λ is. absurd (none is))
 FensHeld-other (f ∷ []) kind value other n text none held = held
 FensHeld-other (f ∷ g ∷ fens) kind value other n text none held = held
 
-FensHeld-tag : (fens : List (List ℕ)) (kind : Kind) (value : List ℕ) (n : ℕ) (text : List ℕ) → (kind ≡ FenTag)
+FensHeld-tag : (fens : List (List ℕ)) (kind : TagKind) (value : List ℕ) (n : ℕ) (text : List ℕ) → (kind ≡ FenTag)
     → FensHeld fens kind value n text
     → FensHeld (value ∷ fens) kind value (counted 2 n) text
 FensHeld-tag [] kind value n text is held = (rw held.0 refl, held.1 is)
 FensHeld-tag (f ∷ []) kind value n text is held = rw held.0 refl
 FensHeld-tag (f ∷ other ∷ fens) kind value n text is held = rw held refl
 
-fens_held-found : (g : Geometry) (fens : List (List ℕ)) (kind : Kind) (value : List ℕ) (n : ℕ) (text : List ℕ)
+fens_held-found : (g : Geometry) (fens : List (List ℕ)) (kind : TagKind) (value : List ℕ) (n : ℕ) (text : List ℕ)
     → FensHeld fens kind value n text → fens_held g n text ≡ fens_found g fens
 fens_held-found g [] kind value n text held = rw held.0 refl
 fens_held-found g (f ∷ []) kind value n text held = rw held.0 (ap (λ l. fen_found (fen g l)) held.1
@@ -266,7 +266,7 @@ Holds-open_value s h r = record {
   wrong = r.wrong;
 }
 
-Holds-value_of : (kind : Kind) (s : Section) (h : Held) (byte : ℕ) → s.kind ≡ kind → Holds s h
+Holds-value_of : (kind : TagKind) (s : Section) (h : Held) (byte : ℕ) → s.kind ≡ kind → Holds s h
     → Holds (record s { value = s.value ++ byte ∷ [] }) (value_on kind h byte)
 Holds-value_of FenTag s h byte is r =
     let held : FensHeld s.fens FenTag s.value h.fens h.fen_text =
@@ -313,7 +313,7 @@ Holds-value : (s : Section) (h : Held) (byte : ℕ) → Holds s h
     → Holds (record s { value = s.value ++ byte ∷ [] }) (value_on h.kind h byte)
 Holds-value s h byte r = Holds-value_of h.kind s h byte (sym r.kind) r
 
-Holds-tag_of : (kind : Kind) (s : Section) (h : Held) → s.kind ≡ kind → Holds s h
+Holds-tag_of : (kind : TagKind) (s : Section) (h : Held) → s.kind ≡ kind → Holds s h
     → Holds (with_tag kind s) (tag_on kind h)
 Holds-tag_of FenTag s h is r = record {
   fens = FensHeld-tag s.fens s.kind s.value h.fens h.fen_text is r.fens;
@@ -372,7 +372,7 @@ Holds-unclosed s h r = record {
   wrong = r.wrong;
 }
 
-Holds-after : (deed : Deed) (s : Section) (h : Held) → Holds s h → Holds (after deed s) (held_after deed h)
+Holds-after : (action : Action) (s : Section) (h : Held) → Holds s h → Holds (after action s) (held_after action h)
 Holds-after Keep s h r = r
 Holds-after Open s h r = Holds-open
 Holds-after Count s h r = Holds-count s h r
@@ -411,19 +411,19 @@ Holds-found g s h r = rw (
   fens_held-found g s.fens s.kind s.value h.fens h.fen_text r.fens,
 ) refl
 
-Holds-from : (at_end : Bool) (g : Geometry) (place : Place) (s : Section) (h : Held) (bytes : List ℕ) → Holds s h
-    → held_from at_end g place h bytes ≡ sections_found at_end g place s bytes
-Holds-from at_end g place s h [] r =
-    ap (λ f. cond at_end (found_at_end place f (held_found g (held_after EndLine h))) []) (Holds-found g s h r)
-    ∙ ap (λ f. cond at_end (found_at_end place (section_found g s) f) [])
+Holds-from : (at_end : Bool) (g : Geometry) (state : State) (s : Section) (h : Held) (bytes : List ℕ) → Holds s h
+    → held_from at_end g state h bytes ≡ sections_found at_end g state s bytes
+Holds-from at_end g state s h [] r =
+    ap (λ f. cond at_end (found_at_end state f (held_found g (held_after EndLine h))) []) (Holds-found g s h r)
+    ∙ ap (λ f. cond at_end (found_at_end state (section_found g s) f) [])
     (Holds-found g (after EndLine s) (held_after EndLine h) (Holds-after EndLine s h r))
-Holds-from at_end g place s h (byte ∷ bytes) r =
-    let deed = (step place byte).deed in
-    let next = (step place byte).place in
-    ap (λ f. found_by deed f ++ held_from at_end g next (held_after deed h) bytes) (Holds-found g s h r)
-    ∙ ap (λ l. found_by deed (section_found g s) ++ l) (Holds-from at_end g next (after deed s) (held_after deed h)
-    bytes (Holds-after deed s h r))
+Holds-from at_end g state s h (byte ∷ bytes) r =
+    let action = (transition state byte).action in
+    let next = (transition state byte).state in
+    ap (λ f. found_by action f ++ held_from at_end g next (held_after action h) bytes) (Holds-found g s h r)
+    ∙ ap (λ l. found_by action (section_found g s) ++ l) (Holds-from at_end g next (after action s) (held_after action h)
+    bytes (Holds-after action s h r))
 
-pub held_from-bare : (at_end : Bool) (g : Geometry) (place : Place) (bytes : List ℕ)
-    → held_from at_end g place held_bare bytes ≡ sections_found at_end g place bare bytes
-held_from-bare at_end g place bytes = Holds-from at_end g place bare held_bare bytes Holds-bare
+pub held_from-bare : (at_end : Bool) (g : Geometry) (state : State) (bytes : List ℕ)
+    → held_from at_end g state held_bare bytes ≡ sections_found at_end g state bare bytes
+held_from-bare at_end g state bytes = Holds-from at_end g state bare held_bare bytes Holds-bare

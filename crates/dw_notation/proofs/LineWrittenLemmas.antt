@@ -1,6 +1,7 @@
 -- Lemmas on the text of a line that goes on move by move, and back.
 use Rattle.std.proofs.Common.{◌≡◌, ◌≤◌, ◌<◌, ◌+◌, ◌-◌, ◌%◌, ◌/◌, ◌*◌, ◌==◌, ◌⊎◌, ℕ, zero, suc, List, [], ◌∷◌, ◌++◌}
-use Rattle.std.proofs.Common.{length, length-append, append_assoc, append-nil, get_or, take, drop, map, add-one, refl}
+use Rattle.std.proofs.Common.{length, length-append, append_assoc, append-nil, get_or, take, take-add, drop, map, refl}
+use Rattle.std.proofs.Common.{add-one}
 use Rattle.std.proofs.Common.{sym, ap, ◌∙◌, subst, arith, inl, inr, decimal, codes, cond, Bool, true, false, min}
 use Rattle.std.proofs.lemmas.List.{take_more, take_all, drop_more, take-append-drop, length-drop, length-take-le}
 use Rattle.std.proofs.lemmas.Bool.{cases_order}
@@ -267,3 +268,11 @@ playable_from g p moves line shared same h =
 
 pub rest_is : (line : List Move) (shared : ℕ) → take (length line - shared) (drop shared line) ≡ drop shared line
 rest_is line shared = take_all (length line - shared) (drop shared line) (omega (arith, length-drop shared line))
+
+-- a line's first moves, and some more of them, are first moves of it
+pub begins_line : (line front taken : List Move) (shared i : ℕ) → front ≡ take shared line
+    → taken ≡ front ++ take i (take (length line - shared) (drop shared line)) → taken ≡ take (shared + i) line
+begins_line line front taken shared i kept played =
+    let rest = take (length line - shared) (drop shared line) in
+    played ∙ (ap (λ z. z ++ take i rest) kept ∙ (ap (λ z. take shared line ++ take i z) (rest_is line shared)
+    ∙ sym (take-add shared i line)))

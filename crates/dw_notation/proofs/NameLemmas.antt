@@ -6,7 +6,7 @@ use Rattle.std.specs.Char.{to_ascii_lowercase}
 use Rattle.std.specs.Prelude.{codes}
 use Rattle.dw_notation.specs.Tags.{same_name}
 use Rattle.dw_notation.specs.inner.Sections.{kind_of}
-use Rattle.dw_notation.specs.declared.problems.pdn.Kind.TheVariants.{FenTag, GameTag, OtherTag}
+use Rattle.dw_notation.specs.declared.problems.pdn.section.TagKind.TheVariants.{FenTag, GameTag, OtherTag}
 
 same_name-maps : (name other : List ℕ) → same_name name other ≡ true → map to_ascii_lowercase name
     ≡ map to_ascii_lowercase other

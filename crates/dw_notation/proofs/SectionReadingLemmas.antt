@@ -5,7 +5,7 @@ use Rattle.std.proofs.lemmas.Bool.{or_parts, and_parts, not-true}
 use Rattle.std.specs.List.{list_all}
 use Rattle.dw_board.specs.Geometry.{Geometry}
 use Rattle.dw_notation.specs.Lines.{Found}
-use Rattle.dw_notation.specs.inner.Sections.{step, at, Section, bare, kind_of, with_tag, after, section_found}
+use Rattle.dw_notation.specs.inner.Sections.{transition, at, Section, bare, kind_of, with_tag, after, section_found}
 use Rattle.dw_notation.specs.Tags.{game_of}
 use Rattle.dw_notation.specs.inner.Sections.{found_by, sections_found}
 use Rattle.dw_notation.specs.Tags.{Tag, IsTag, IsUnclosed, is_space, IsGap, IsSection}
@@ -14,22 +14,22 @@ use Rattle.dw_notation.specs.inner.Tags.{games_of, tags_found, closes, SectionsA
 use Rattle.dw_notation.specs.inner.Tags.{CommentsSayNothing, OpenCommentIsFound, OthersSayNothing, OpenCommentGivesNothing}
 use Rattle.dw_notation.specs.inner.Tags.{OpenSectionGivesNothing}
 use Rattle.dw_notation.specs.Tags.IsSection.{single, broken, longer, longer_broken}
-use Rattle.dw_notation.specs.declared.problems.pdn.Place.{Place}
-use Rattle.dw_notation.specs.declared.problems.pdn.Place.TheVariants.{Outside, Comment, Between, BeforeName}
-use Rattle.dw_notation.specs.declared.problems.pdn.Step.{Step}
-use Rattle.dw_notation.specs.declared.problems.pdn.Deed.TheVariants.{Keep, Open, EndLine, End}
-use Rattle.dw_notation.specs.declared.problems.pdn.Kind.{Kind}
-use Rattle.dw_notation.specs.declared.problems.pdn.Kind.TheVariants.{FenTag, GameTag, OtherTag}
+use Rattle.dw_notation.specs.declared.problems.pdn.automaton.State.{State}
+use Rattle.dw_notation.specs.declared.problems.pdn.automaton.State.TheVariants.{Outside, Comment, Between, BeforeName}
+use Rattle.dw_notation.specs.declared.problems.pdn.automaton.Transition.{Transition}
+use Rattle.dw_notation.specs.declared.problems.pdn.automaton.Action.TheVariants.{Keep, Open, EndLine, End}
+use Rattle.dw_notation.specs.declared.problems.pdn.section.TagKind.{TagKind}
+use Rattle.dw_notation.specs.declared.problems.pdn.section.TagKind.TheVariants.{FenTag, GameTag, OtherTag}
 use Rattle.dw_notation.proofs.TagReadingLemmas.{Reads, join_reads, run_reads, between, tag_reads}
 use Rattle.dw_notation.proofs.TagBreakingLemmas.{SoFar, unclosed_reads, line_ends, text_ends}
 
 -- where the reading stands behind these tags, which have so many bytes
-pub record StandsBehind (tags : List Tag) (some last : Bool) (n : ℕ) (place : Place) (s : Section) : Type 0 where
+pub record StandsBehind (tags : List Tag) (some last : Bool) (n : ℕ) (state : State) (s : Section) : Type 0 where
   pub read : s.read ≡ n
   pub fens : s.fens ≡ fens_of tags
   pub games : s.games ≡ games_of tags
-  pub whole : last ≡ false → (place ≡ Between) × (s.size ≡ n) × (s.is_unclosed ≡ some)
-  pub line : last ≡ true → (some ≡ true) × ((text : List ℕ) × SoFar place text)
+  pub whole : last ≡ false → (state ≡ Between) × (s.size ≡ n) × (s.is_unclosed ≡ some)
+  pub line : last ≡ true → (some ≡ true) × ((text : List ℕ) × SoFar state text)
 
 -- what was read of the section, of which the tags have so many bytes
 record Holds (tags : List Tag) (some : Bool) (n m : ℕ) (s : Section) : Type 0 where
@@ -44,8 +44,8 @@ Holds-found : (g : Geometry) (tags : List Tag) (some : Bool) (size read : ℕ) (
 Holds-found g tags some size read s h = rw (h.size, h.unclosed, h.fens, h.games) refl
 
 -- a bracket is read, with which a tag begins
-pub record Begins (place : Place) (s : Section) (tags : List Tag) (some : Bool) (n : ℕ) (t : Section) : Type 0 where
-  pub reads : Reads place s (91 ∷ []) BeforeName t
+pub record Begins (state : State) (s : Section) (tags : List Tag) (some : Bool) (n : ℕ) (t : Section) : Type 0 where
+  pub reads : Reads state s (91 ∷ []) BeforeName t
   pub name : t.name ≡ []
   pub read : t.read ≡ n + 1
   pub unclosed : t.is_unclosed ≡ some
@@ -86,7 +86,7 @@ tag_length text tag t =
     let all = ap length t.joined in
     omega (arith, l1, l2, l3, l4, l5, all)
 
-with_tag_stands : (kind : Kind) (tags : List Tag) (some : Bool) (tag : Tag) (n : ℕ) (s : Section) → kind_of tag.name
+with_tag_stands : (kind : TagKind) (tags : List Tag) (some : Bool) (tag : Tag) (n : ℕ) (s : Section) → kind_of tag.name
     ≡ kind → s.is_unclosed ≡ some → s.fens ≡ fens_of tags → s.games ≡ games_of tags
     → StandsBehind (tag ∷ tags) some false n Between
     (with_tag kind (record s { read = n; size = n; name = tag.name; kind = kind_of tag.name; value = tag.value }))
@@ -113,18 +113,18 @@ with_tag_stands OtherTag tags some tag n s is unclosed fens games = record {
 }
 
 -- reading on from a place, up to behind these tags
-pub record ReadsOn (place : Place) (s : Section) (text : List ℕ) (tags : List Tag) (some last : Bool) (n : ℕ) :
+pub record ReadsOn (state : State) (s : Section) (text : List ℕ) (tags : List Tag) (some last : Bool) (n : ℕ) :
     Type 0 where
-  pub next : Place
+  pub next : State
   pub behind : Section
-  pub reads : Reads place s text next behind
+  pub reads : Reads state s text next behind
   pub stands : StandsBehind tags some last n next behind
 
 -- a whole tag
-pub tag_on : (place : Place) (s t : Section) (tags : List Tag) (some : Bool) (text : List ℕ) (tag : Tag) (n m : ℕ)
-    → Begins place s tags some n t → m ≡ n + length text → IsTag text tag
-    → ReadsOn place s text (tag ∷ tags) some false m
-tag_on place s t tags some text tag n m begins size is =
+pub tag_on : (state : State) (s t : Section) (tags : List Tag) (some : Bool) (text : List ℕ) (tag : Tag) (n m : ℕ)
+    → Begins state s tags some n t → m ≡ n + length text → IsTag text tag
+    → ReadsOn state s text (tag ∷ tags) some false m
+tag_on state s t tags some text tag n m begins size is =
     let length_is = tag_length text tag is in
     let read = begins.read in
     let body = is.first ++ (tag.name ++ (is.middle ++ 34 ∷ (is.spelling ++ 34 ∷ (is.last ++ 93 ∷ [])))) in
@@ -142,16 +142,16 @@ tag_on place s t tags some text tag n m begins size is =
     record {
       next = Between;
       behind = u;
-      reads = subst (λ l. Reads place s l Between u) (sym is.joined) (join_reads place BeforeName Between s t u
+      reads = subst (λ l. Reads state s l Between u) (sym is.joined) (join_reads state BeforeName Between s t u
           (91 ∷ []) body begins.reads reads);
       stands = with_tag_stands (kind_of tag.name) tags some tag m t refl begins.unclosed begins.fens begins.games;
     }
 
 -- an unclosed one
-unclosed_on : (place : Place) (s t : Section) (tags : List Tag) (some : Bool) (text : List ℕ) (n m : ℕ)
-    → Begins place s tags some n t → m ≡ n + length text → IsUnclosed text
-    → ReadsOn place s text tags true true m
-unclosed_on place s t tags some text n m begins size is =
+unclosed_on : (state : State) (s t : Section) (tags : List Tag) (some : Bool) (text : List ℕ) (n m : ℕ)
+    → Begins state s tags some n t → m ≡ n + length text → IsUnclosed text
+    → ReadsOn state s text tags true true m
+unclosed_on state s t tags some text n m begins size is =
     let line = unclosed_reads text is t in
     let length_is = ap length is.joined in
     let read = begins.read in
@@ -159,7 +159,7 @@ unclosed_on place s t tags some text n m begins size is =
     record {
       next = line.next;
       behind = line.last;
-      reads = subst (λ l. Reads place s l line.next line.last) (sym is.joined) (join_reads place BeforeName line.next s
+      reads = subst (λ l. Reads state s l line.next line.last) (sym is.joined) (join_reads state BeforeName line.next s
           t line.last (91 ∷ []) is.line begins.reads line.reads);
       stands = record {
         read = omega arith;
@@ -171,14 +171,14 @@ unclosed_on place s t tags some text n m begins size is =
     }
 
 -- the spaces behind the tags
-record ReadsGap (place : Place) (s : Section) (gap : List ℕ) (tags : List Tag) (some : Bool) (n : ℕ) : Type 0 where
+record ReadsGap (state : State) (s : Section) (gap : List ℕ) (tags : List Tag) (some : Bool) (n : ℕ) : Type 0 where
   pub behind : Section
-  pub reads : Reads place s gap Between behind
+  pub reads : Reads state s gap Between behind
   pub holds : Holds tags some n (n + length gap) behind
 
-gap_on : (last : Bool) (gap : List ℕ) (tags : List Tag) (some : Bool) (n : ℕ) (place : Place) (s : Section)
-    → StandsBehind tags some last n place s → IsGap last gap → ReadsGap place s gap tags some n
-gap_on false gap tags some n place s stands spaces =
+gap_on : (last : Bool) (gap : List ℕ) (tags : List Tag) (some : Bool) (n : ℕ) (state : State) (s : Section)
+    → StandsBehind tags some last n state s → IsGap last gap → ReadsGap state s gap tags some n
+gap_on false gap tags some n state s stands spaces =
     let at_place = stands.whole refl in
     record {
       behind = record s { read = n + length gap };
@@ -194,8 +194,8 @@ gap_on false gap tags some n place s stands spaces =
             stands.games;
       };
     }
-gap_on true [] tags some n place s stands gap = absurd gap
-gap_on true (byte ∷ gap) tags some n place s stands spaces =
+gap_on true [] tags some n state s stands gap = absurd gap
+gap_on true (byte ∷ gap) tags some n state s stands spaces =
     let in_line = stands.line refl in
     let ends = line_ends byte spaces.0 in_line.1.1 in
     let size = stands.read in
@@ -203,7 +203,7 @@ gap_on true (byte ∷ gap) tags some n place s stands spaces =
     record {
       behind = record t { read = n + length (byte ∷ gap) };
       reads = λ at_end g more.
-          ap (λ x. found_by x.deed (section_found g s) ++ sections_found at_end g x.place (after x.deed s)
+          ap (λ x. found_by x.action (section_found g s) ++ sections_found at_end g x.state (after x.action s)
           (gap ++ more)) ends
           ∙ run_reads is_space Between between gap spaces.1 t (n + length (byte ∷ gap)) (omega arith) at_end g more;
       holds = record {
@@ -217,16 +217,16 @@ gap_on true (byte ∷ gap) tags some n place s stands spaces =
     }
 
 -- one more tag behind a gap
-join_on : (s mid : Section) (place : Place) (text gap next : List ℕ) (tags more_tags : List Tag) (some more_some last :
-    Bool) (m : ℕ) → Reads Outside bare text place mid
-    → (read : ReadsGap place mid gap tags some (length text))
+join_on : (s mid : Section) (state : State) (text gap next : List ℕ) (tags more_tags : List Tag) (some more_some last :
+    Bool) (m : ℕ) → Reads Outside bare text state mid
+    → (read : ReadsGap state mid gap tags some (length text))
     → ReadsOn Between read.behind next more_tags more_some last m
     → ReadsOn Outside bare (text ++ (gap ++ next)) more_tags more_some last m
-join_on s mid place text gap next tags more_tags some more_some last m one two three = record {
+join_on s mid state text gap next tags more_tags some more_some last m one two three = record {
   next = three.next;
   behind = three.behind;
-  reads = join_reads Outside place three.next bare mid three.behind text (gap ++ next) one
-      (join_reads place Between three.next mid two.behind three.behind gap next two.reads three.reads);
+  reads = join_reads Outside state three.next bare mid three.behind text (gap ++ next) one
+      (join_reads state Between three.next mid two.behind three.behind gap next two.reads three.reads);
   stands = three.stands;
 }
 
@@ -282,8 +282,8 @@ any_section : (at_end : Bool) (g : Geometry) (s t : Section) (bytes : List ℕ)
 any_section at_end g s t [] = (refl, refl)
 any_section at_end g s t (byte ∷ bytes) =
     let rest = any_section at_end g s t bytes in
-    let from : Section → Step → List Found = λ u x. found_by x.deed (section_found g u)
-    ++ sections_found at_end g x.place (after x.deed u) bytes in (
+    let from : Section → Transition → List Found = λ u x. found_by x.action (section_found g u)
+    ++ sections_found at_end g x.state (after x.action u) bytes in (
       elim (byte == 91) as (λ v. from s
           (cond v (at BeforeName Open) (cond (byte == 123) (at Comment Keep) (at Outside Keep)))
           ≡ from t (cond v (at BeforeName Open) (cond (byte == 123) (at Comment Keep) (at Outside Keep)))) [
@@ -301,11 +301,11 @@ sections_are_found at_end g text gap more tags some last byte is spaces ends =
     let s = whole.0 in
     let said = tags_found g (length text) some tags in
     let parts = or_parts (byte == 91) (is_space byte) (not-true _ ends) in
-    let from : Section → Step → List Found = λ u x. found_by x.deed (section_found g u)
-    ++ sections_found at_end g x.place (after x.deed u) more in
-    let ending : step Between byte ≡ cond (byte == 123) (at Comment End) (at Outside End) = rw (parts.0, parts.1)
+    let from : Section → Transition → List Found = λ u x. found_by x.action (section_found g u)
+    ++ sections_found at_end g x.state (after x.action u) more in
+    let ending : transition Between byte ≡ cond (byte == 123) (at Comment End) (at Outside End) = rw (parts.0, parts.1)
     refl in
-    let outside : step Outside byte ≡ cond (byte == 123) (at Comment Keep) (at Outside Keep) = rw parts.0 refl in
+    let outside : transition Outside byte ≡ cond (byte == 123) (at Comment Keep) (at Outside Keep) = rw parts.0 refl in
     let rest = any_section at_end g s bare more in
     let found = whole.2 g in
     let here : from s (cond (byte == 123) (at Comment End) (at Outside End))
@@ -360,8 +360,8 @@ comment_reads : (text : List ℕ) → list_all (λ byte. not (closes byte)) text
 comment_reads [] all s at_end g more = refl
 comment_reads (byte ∷ text) all s at_end g more =
     let both = and_parts (not (closes byte)) (list_all (λ b. not (closes b)) text) all in
-    let stays : step Comment byte ≡ at Comment Keep = rw (not-true (closes byte) both.0) refl in
-    ap (λ x. found_by x.deed (section_found g s) ++ sections_found at_end g x.place (after x.deed s) (text ++ more))
+    let stays : transition Comment byte ≡ at Comment Keep = rw (not-true (closes byte) both.0) refl in
+    ap (λ x. found_by x.action (section_found g s) ++ sections_found at_end g x.state (after x.action s) (text ++ more))
     stays ∙ comment_reads text both.1 s at_end g more
 
 pub comments_say_nothing : CommentsSayNothing
@@ -374,8 +374,8 @@ open_comment_is_found g text all = ap (sections_found true g Comment bare) (sym 
 pub others_say_nothing : OthersSayNothing
 others_say_nothing at_end g byte more h =
     let parts = or_parts (byte == 91) (byte == 123) h in
-    let stays : step Outside byte ≡ at Outside Keep = rw (parts.0, parts.1) refl in
-    ap (λ x. found_by x.deed (section_found g bare) ++ sections_found at_end g x.place (after x.deed bare) more) stays
+    let stays : transition Outside byte ≡ at Outside Keep = rw (parts.0, parts.1) refl in
+    ap (λ x. found_by x.action (section_found g bare) ++ sections_found at_end g x.state (after x.action bare) more) stays
 
 -- ---- what is unfinished has given nothing
 pub open_comment_gives_nothing : OpenCommentGivesNothing

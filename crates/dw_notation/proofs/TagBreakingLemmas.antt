@@ -6,18 +6,18 @@ use Rattle.std.proofs.lemmas.List.Folds.{list_all-append}
 use Rattle.std.specs.List.{list_all}
 use Rattle.dw_board.specs.FenTokens.{is_blank}
 use Rattle.dw_notation.specs.Lines.{Found}
-use Rattle.dw_notation.specs.inner.Sections.{step, at, Section, after, section_found, found_by}
+use Rattle.dw_notation.specs.inner.Sections.{transition, at, Section, after, section_found, found_by}
 use Rattle.dw_notation.specs.Tags.{is_name_byte, ends_line}
 use Rattle.dw_notation.specs.inner.Sections.{found_at_end, sections_found}
 use Rattle.dw_notation.specs.Tags.{Tag, Spells, IsTag, IsUnclosed}
 use Rattle.dw_notation.specs.Tags.Spells.{nothing, quotation, backslash, lone, plain}
 use Rattle.dw_notation.proofs.TagReadingLemmas.{Reads}
-use Rattle.dw_notation.specs.declared.problems.pdn.Place.{Place}
-use Rattle.dw_notation.specs.declared.problems.pdn.Place.TheVariants.{Between, BeforeName, InName, BehindName, InValue}
-use Rattle.dw_notation.specs.declared.problems.pdn.Place.TheVariants.{Escaped, BehindValue, Rest}
-use Rattle.dw_notation.specs.declared.problems.pdn.Deed.{Deed}
-use Rattle.dw_notation.specs.declared.problems.pdn.Deed.TheVariants.{Count, AddName, OpenValue, AddValue, AddBoth}
-use Rattle.dw_notation.specs.declared.problems.pdn.Deed.TheVariants.{Break, EndLine}
+use Rattle.dw_notation.specs.declared.problems.pdn.automaton.State.{State}
+use Rattle.dw_notation.specs.declared.problems.pdn.automaton.State.TheVariants.{Between, BeforeName, InName, BehindName, InValue}
+use Rattle.dw_notation.specs.declared.problems.pdn.automaton.State.TheVariants.{Escaped, BehindValue, Rest}
+use Rattle.dw_notation.specs.declared.problems.pdn.automaton.Action.{Action}
+use Rattle.dw_notation.specs.declared.problems.pdn.automaton.Action.TheVariants.{Count, AddName, OpenValue, AddValue, AddBoth}
+use Rattle.dw_notation.specs.declared.problems.pdn.automaton.Action.TheVariants.{Break, EndLine}
 
 all_push : (p : ℕ → Bool) (text : List ℕ) (byte : ℕ) → list_all p text ≡ true → p byte ≡ true
     → list_all p (text ++ byte ∷ []) ≡ true
@@ -32,7 +32,7 @@ spells_join (lone byte h one) two = lone byte h (spells_join one two)
 spells_join (plain byte h one) two = plain byte h (spells_join one two)
 
 -- where the reading of a tag stands that was read so far
-pub data SoFar : Place → List ℕ → Type 0 where
+pub data SoFar : State → List ℕ → Type 0 where
   before : (first : List ℕ) → list_all is_blank first ≡ true → SoFar BeforeName (91 ∷ first)
   named : (first name : List ℕ) → list_all is_blank first ≡ true → 0 < length name → list_all is_name_byte name ≡ true
       → SoFar InName (91 ∷ (first ++ name))
@@ -52,23 +52,23 @@ pub data SoFar : Place → List ℕ → Type 0 where
   rest : (text : List ℕ) → SoFar Rest text
 
 -- a byte in a tag finds nothing and adds no tag
-pub record IsQuiet (deed : Deed) : Type 0 where
-  pub found : (f : Found) → found_by deed f ≡ []
-  pub read : (s : Section) → (after deed s).read ≡ s.read + 1
-  pub fens : (s : Section) → (after deed s).fens ≡ s.fens
-  pub games : (s : Section) → (after deed s).games ≡ s.games
+pub record IsQuiet (action : Action) : Type 0 where
+  pub found : (f : Found) → found_by action f ≡ []
+  pub read : (s : Section) → (after action s).read ≡ s.read + 1
+  pub fens : (s : Section) → (after action s).fens ≡ s.fens
+  pub games : (s : Section) → (after action s).games ≡ s.games
 
 -- one more byte of the line: the tag goes on, or it is whole
-abbrev pub GoesOn : Place → List ℕ → ℕ → Type 0
-GoesOn place text byte = (SoFar (step place byte).place (text ++ byte ∷ []) × IsQuiet (step place byte).deed)
+abbrev pub GoesOn : State → List ℕ → ℕ → Type 0
+GoesOn state text byte = (SoFar (transition state byte).state (text ++ byte ∷ []) × IsQuiet (transition state byte).action)
     ⊎ ((tag : Tag) × IsTag (text ++ byte ∷ []) tag)
 
-goes_on : (place next : Place) (deed : Deed) (text other : List ℕ) (byte : ℕ) → step place byte ≡ at next deed
-    → text ++ byte ∷ [] ≡ other → SoFar next other → IsQuiet deed → GoesOn place text byte
-goes_on place next deed text other byte e joined so_far quiet =
+goes_on : (state next : State) (action : Action) (text other : List ℕ) (byte : ℕ) → transition state byte ≡ at next action
+    → text ++ byte ∷ [] ≡ other → SoFar next other → IsQuiet action → GoesOn state text byte
+goes_on state next action text other byte e joined so_far quiet =
     inl (
-      subst (λ t. SoFar t.place (text ++ byte ∷ [])) (sym e) (subst (SoFar next) (sym joined) so_far),
-      subst (λ t. IsQuiet t.deed) (sym e) quiet,
+      subst (λ t. SoFar t.state (text ++ byte ∷ [])) (sym e) (subst (SoFar next) (sym joined) so_far),
+      subst (λ t. IsQuiet t.action) (sym e) quiet,
     )
 
 quiet_count : IsQuiet Count
@@ -89,12 +89,12 @@ quiet_both byte = record { found = λ f. refl; read = λ s. refl; fens = λ s. r
 quiet_break : IsQuiet Break
 quiet_break = record { found = λ f. refl; read = λ s. refl; fens = λ s. refl; games = λ s. refl }
 
-breaks : (place : Place) (text : List ℕ) (byte : ℕ) → step place byte ≡ at Rest Break → GoesOn place text byte
-breaks place text byte e = goes_on place Rest Break text (text ++ byte ∷ []) byte e refl (rest (text ++ byte ∷ []))
+breaks : (state : State) (text : List ℕ) (byte : ℕ) → transition state byte ≡ at Rest Break → GoesOn state text byte
+breaks state text byte e = goes_on state Rest Break text (text ++ byte ∷ []) byte e refl (rest (text ++ byte ∷ []))
     quiet_break
 
-pub tag_goes_on : {place : Place} {text : List ℕ} (byte : ℕ) → ends_line byte ≡ false → SoFar place text
-    → GoesOn place text byte
+pub tag_goes_on : {state : State} {text : List ℕ} (byte : ℕ) → ends_line byte ≡ false → SoFar state text
+    → GoesOn state text byte
 tag_goes_on byte inside (before first b1) = elim (cases_Bool (is_blank byte)) [
   | inl blank ↦ goes_on BeforeName BeforeName Count (91 ∷ first) (91 ∷ (first ++ byte ∷ [])) byte (rw blank refl) refl
       (before (first ++ byte ∷ []) (all_push is_blank first byte b1 blank)) quiet_count
@@ -220,36 +220,36 @@ tag_goes_on byte inside (rest text) = goes_on Rest Rest Count text (text ++ byte
     (rest (text ++ byte ∷ [])) quiet_count
 
 -- ---- the whole line
-pub record LineRead (place : Place) (text line : List ℕ) (s : Section) : Type 0 where
-  pub next : Place
+pub record LineRead (state : State) (text line : List ℕ) (s : Section) : Type 0 where
+  pub next : State
   pub last : Section
   pub so_far : SoFar next (text ++ line)
   pub read : last.read ≡ s.read + length line
   pub fens : last.fens ≡ s.fens
   pub games : last.games ≡ s.games
-  pub reads : Reads place s line next last
+  pub reads : Reads state s line next last
 
-line_reads : (line : List ℕ) (place : Place) (text : List ℕ) → SoFar place text
+line_reads : (line : List ℕ) (state : State) (text : List ℕ) → SoFar state text
     → list_all (λ byte. not (ends_line byte)) line ≡ true
     → ((front back : List ℕ) (tag : Tag) → text ++ line ≡ front ++ back → IsTag front tag → ⊥) → (s : Section)
-    → LineRead place text line s
-line_reads [] place text so_far in_line unbroken s = record {
-  next = place;
+    → LineRead state text line s
+line_reads [] state text so_far in_line unbroken s = record {
+  next = state;
   last = s;
-  so_far = subst (SoFar place) (sym (append-nil text)) so_far;
+  so_far = subst (SoFar state) (sym (append-nil text)) so_far;
   read = omega arith;
   fens = refl;
   games = refl;
   reads = λ at_end g more. refl;
 }
-line_reads (byte ∷ line) place text so_far in_line unbroken s =
+line_reads (byte ∷ line) state text so_far in_line unbroken s =
     let both = and_parts (not (ends_line byte)) (list_all (λ b. not (ends_line b)) line) in_line in
     let joined = append_assoc text (byte ∷ []) line in
     elim (tag_goes_on byte (not-true _ both.0) so_far) [
       | inl on ↦
-          let t = step place byte in
-          let more_read = line_reads line t.place (text ++ byte ∷ []) on.0 both.1 (λ front back tag e is. unbroken front
-          back tag (sym joined ∙ e) is) (after t.deed s) in
+          let t = transition state byte in
+          let more_read = line_reads line t.state (text ++ byte ∷ []) on.0 both.1 (λ front back tag e is. unbroken front
+          back tag (sym joined ∙ e) is) (after t.action s) in
           let one = on.1.read s in
           record {
             next = more_read.next;
@@ -259,7 +259,7 @@ line_reads (byte ∷ line) place text so_far in_line unbroken s =
             fens = more_read.fens ∙ on.1.fens s;
             games = more_read.games ∙ on.1.games s;
             reads = λ at_end g more.
-                ap (λ l. l ++ sections_found at_end g t.place (after t.deed s) (line ++ more))
+                ap (λ l. l ++ sections_found at_end g t.state (after t.action s) (line ++ more))
                 (on.1.found (section_found g s)) ∙ more_read.reads at_end g more;
           }
       | inr whole ↦ absurd (unbroken (text ++ byte ∷ []) line whole.0 (sym joined) whole.1)
@@ -271,8 +271,8 @@ unclosed_reads text u s = line_reads u.line BeforeName (91 ∷ []) (before [] re
     (λ front back tag e is. u.broken front back tag (u.joined ∙ e) is) s
 
 -- the end of its line ends it
-ends_at : {place : Place} {text : List ℕ} → SoFar place text → (step place 10 ≡ at Between EndLine)
-    × (step place 13 ≡ at Between EndLine)
+ends_at : {state : State} {text : List ℕ} → SoFar state text → (transition state 10 ≡ at Between EndLine)
+    × (transition state 13 ≡ at Between EndLine)
 ends_at (before first b1) = (refl, refl)
 ends_at (named first name b1 some n) = (refl, refl)
 ends_at (behind first name middle b1 some n b2) = (refl, refl)
@@ -281,16 +281,16 @@ ends_at (escaped first name middle spelling value b1 some n b2 spells) = (refl, 
 ends_at (closing first name middle spelling value last b1 some n b2 spells b3) = (refl, refl)
 ends_at (rest text) = (refl, refl)
 
-pub line_ends : {place : Place} {text : List ℕ} (byte : ℕ) → ends_line byte ≡ true → SoFar place text → step place byte
+pub line_ends : {state : State} {text : List ℕ} (byte : ℕ) → ends_line byte ≡ true → SoFar state text → transition state byte
     ≡ at Between EndLine
-line_ends {place} byte ends so_far = elim (or_cases (byte == 10) (byte == 13) ends) [
-  | inl feed ↦ ap (step place) (eqb-true byte 10 feed) ∙ (ends_at so_far).0
-  | inr return ↦ ap (step place) (eqb-true byte 13 return) ∙ (ends_at so_far).1
+line_ends {state} byte ends so_far = elim (or_cases (byte == 10) (byte == 13) ends) [
+  | inl feed ↦ ap (transition state) (eqb-true byte 10 feed) ∙ (ends_at so_far).0
+  | inr return ↦ ap (transition state) (eqb-true byte 13 return) ∙ (ends_at so_far).1
 ]
 
 -- and so does the end of the text
-pub text_ends : {place : Place} {text : List ℕ} (whole unclosed : Found) → SoFar place text
-    → found_at_end place whole unclosed ≡ unclosed ∷ []
+pub text_ends : {state : State} {text : List ℕ} (whole unclosed : Found) → SoFar state text
+    → found_at_end state whole unclosed ≡ unclosed ∷ []
 text_ends whole unclosed (before first b1) = refl
 text_ends whole unclosed (named first name b1 some n) = refl
 text_ends whole unclosed (behind first name middle b1 some n b2) = refl

@@ -5,15 +5,15 @@ use Rattle.std.proofs.lemmas.Bool.{ne_eqb, cases_Bool, or_parts, and_parts, not-
 use Rattle.std.specs.List.{list_all}
 use Rattle.dw_board.specs.Geometry.{Geometry}
 use Rattle.dw_board.specs.FenTokens.{is_blank}
-use Rattle.dw_notation.specs.inner.Sections.{step, at, Section, kind_of, with_tag, after}
+use Rattle.dw_notation.specs.inner.Sections.{transition, at, Section, kind_of, with_tag, after}
 use Rattle.dw_notation.specs.Tags.{is_name_byte, ends_line}
 use Rattle.dw_notation.specs.inner.Sections.{section_found, found_by, sections_found}
 use Rattle.dw_notation.specs.Tags.{Tag, is_plain, Spells, is_space}
 use Rattle.dw_notation.specs.Tags.Spells.{nothing, quotation, backslash, lone, plain}
-use Rattle.dw_notation.specs.declared.problems.pdn.Place.{Place}
-use Rattle.dw_notation.specs.declared.problems.pdn.Place.TheVariants.{Between, BeforeName, InName, BehindName, InValue}
-use Rattle.dw_notation.specs.declared.problems.pdn.Place.TheVariants.{Escaped, BehindValue}
-use Rattle.dw_notation.specs.declared.problems.pdn.Deed.TheVariants.{Count, AddName, AddValue, AddBoth}
+use Rattle.dw_notation.specs.declared.problems.pdn.automaton.State.{State}
+use Rattle.dw_notation.specs.declared.problems.pdn.automaton.State.TheVariants.{Between, BeforeName, InName, BehindName, InValue}
+use Rattle.dw_notation.specs.declared.problems.pdn.automaton.State.TheVariants.{Escaped, BehindValue}
+use Rattle.dw_notation.specs.declared.problems.pdn.automaton.Action.TheVariants.{Count, AddName, AddValue, AddBoth}
 
 -- ---- bytes of one kind are none of another
 differs : (p : ℕ → Bool) (byte other : ℕ) → p byte ≡ true → p other ≡ false → (byte == other) ≡ false
@@ -30,51 +30,51 @@ blank_not_name byte h = elim (cases_Bool (is_name_byte byte))
     [ inl is ↦ absurd (both_ways (is_blank byte) (name_not_blank byte is) h) | inr is_not ↦ is_not ]
 
 -- ---- reading a text leads from one place to another, and nothing is found on the way
-abbrev pub Reads : Place → Section → List ℕ → Place → Section → Type 0
-Reads place s text next t = (at_end : Bool) (g : Geometry) (more : List ℕ)
-    → sections_found at_end g place s (text ++ more) ≡ sections_found at_end g next t more
+abbrev pub Reads : State → Section → List ℕ → State → Section → Type 0
+Reads state s text next t = (at_end : Bool) (g : Geometry) (more : List ℕ)
+    → sections_found at_end g state s (text ++ more) ≡ sections_found at_end g next t more
 
-pub join_reads : (place mid next : Place) (s t u : Section) (text other : List ℕ) → Reads place s text mid t
-    → Reads mid t other next u → Reads place s (text ++ other) next u
-join_reads place mid next s t u text other one two at_end g more =
-    ap (sections_found at_end g place s) (append_assoc text other more) ∙ one at_end g (other ++ more)
+pub join_reads : (state mid next : State) (s t u : Section) (text other : List ℕ) → Reads state s text mid t
+    → Reads mid t other next u → Reads state s (text ++ other) next u
+join_reads state mid next s t u text other one two at_end g more =
+    ap (sections_found at_end g state s) (append_assoc text other more) ∙ one at_end g (other ++ more)
     ∙ two at_end g more
 
 -- one byte that is counted
-count_reads : (place next : Place) (s : Section) (byte : ℕ) → step place byte ≡ at next Count
-    → Reads place s (byte ∷ []) next (record s { read = s.read + 1 })
-count_reads place next s byte e at_end g more =
-    ap (λ t. found_by t.deed (section_found g s) ++ sections_found at_end g t.place (after t.deed s) more) e
+count_reads : (state next : State) (s : Section) (byte : ℕ) → transition state byte ≡ at next Count
+    → Reads state s (byte ∷ []) next (record s { read = s.read + 1 })
+count_reads state next s byte e at_end g more =
+    ap (λ t. found_by t.action (section_found g s) ++ sections_found at_end g t.state (after t.action s) more) e
 
 -- bytes of one kind that are counted
-pub run_reads : (p : ℕ → Bool) (place : Place) → ((byte : ℕ) → p byte ≡ true → step place byte ≡ at place Count)
+pub run_reads : (p : ℕ → Bool) (state : State) → ((byte : ℕ) → p byte ≡ true → transition state byte ≡ at state Count)
     → (text : List ℕ) → list_all p text ≡ true → (s : Section) (n : ℕ) → n ≡ s.read + length text
-    → Reads place s text place (record s { read = n })
-run_reads p place counts [] all s n e at_end g more =
+    → Reads state s text state (record s { read = n })
+run_reads p state counts [] all s n e at_end g more =
     let same : s.read ≡ n = omega arith in
-    ap (λ m. sections_found at_end g place (record s { read = m }) more) same
-run_reads p place counts (byte ∷ text) all s n e at_end g more =
+    ap (λ m. sections_found at_end g state (record s { read = m }) more) same
+run_reads p state counts (byte ∷ text) all s n e at_end g more =
     let both = and_parts (p byte) (list_all p text) all in
-    count_reads place place s byte (counts byte both.0) at_end g (text ++ more)
-    ∙ run_reads p place counts text both.1 (record s { read = s.read + 1 }) n (omega arith) at_end g more
+    count_reads state state s byte (counts byte both.0) at_end g (text ++ more)
+    ∙ run_reads p state counts text both.1 (record s { read = s.read + 1 }) n (omega arith) at_end g more
 
-before_name : (byte : ℕ) → is_blank byte ≡ true → step BeforeName byte ≡ at BeforeName Count
+before_name : (byte : ℕ) → is_blank byte ≡ true → transition BeforeName byte ≡ at BeforeName Count
 before_name byte h = rw h refl
 
-behind_name : (byte : ℕ) → is_blank byte ≡ true → step BehindName byte ≡ at BehindName Count
+behind_name : (byte : ℕ) → is_blank byte ≡ true → transition BehindName byte ≡ at BehindName Count
 behind_name byte h = rw h refl
 
-behind_value : (byte : ℕ) → is_blank byte ≡ true → step BehindValue byte ≡ at BehindValue Count
+behind_value : (byte : ℕ) → is_blank byte ≡ true → transition BehindValue byte ≡ at BehindValue Count
 behind_value byte h = rw h refl
 
-pub between : (byte : ℕ) → is_space byte ≡ true → step Between byte ≡ at Between Count
+pub between : (byte : ℕ) → is_space byte ≡ true → transition Between byte ≡ at Between Count
 between byte h = rw (differs is_space byte 91 h refl, h) refl
 
 -- ---- a name
-name_byte : (place : Place) (s : Section) (byte : ℕ) → step place byte ≡ at InName (AddName byte)
-    → Reads place s (byte ∷ []) InName (record s { read = s.read + 1; name = s.name ++ byte ∷ [] })
-name_byte place s byte e at_end g more = ap (λ t. found_by t.deed (section_found g s) ++ sections_found at_end g t.place
-    (after t.deed s) more) e
+name_byte : (state : State) (s : Section) (byte : ℕ) → transition state byte ≡ at InName (AddName byte)
+    → Reads state s (byte ∷ []) InName (record s { read = s.read + 1; name = s.name ++ byte ∷ [] })
+name_byte state s byte e at_end g more = ap (λ t. found_by t.action (section_found g s) ++ sections_found at_end g t.state
+    (after t.action s) more) e
 
 name_reads : (text : List ℕ) → list_all is_name_byte text ≡ true → (s : Section) (n : ℕ) (name : List ℕ)
     → n ≡ s.read + length text → name ≡ s.name ++ text
@@ -85,7 +85,7 @@ name_reads [] all s n name e f at_end g more =
     ∙ ap (λ l. sections_found at_end g InName (record s { read = n; name = l }) more) (sym (f ∙ append-nil s.name))
 name_reads (byte ∷ text) all s n name e f at_end g more =
     let both = and_parts (is_name_byte byte) (list_all is_name_byte text) all in
-    let adds : step InName byte ≡ at InName (AddName byte) = rw both.0 refl in
+    let adds : transition InName byte ≡ at InName (AddName byte) = rw both.0 refl in
     name_byte InName s byte adds at_end g (text ++ more)
     ∙ name_reads text both.1 (record s { read = s.read + 1; name = s.name ++ byte ∷ [] }) n name (omega arith) (f
     ∙ sym (append_assoc s.name (byte ∷ []) text)) at_end g more
@@ -97,7 +97,7 @@ whole_name_reads : (text : List ℕ) → 0 < length text → list_all is_name_by
 whole_name_reads [] some all s n bare_name e = absurd (omega arith)
 whole_name_reads (byte ∷ text) some all s n bare_name e = λ at_end g more.
     let both = and_parts (is_name_byte byte) (list_all is_name_byte text) all in
-    let adds : step BeforeName byte ≡ at InName (AddName byte) = rw (name_not_blank byte both.0, both.0) refl in
+    let adds : transition BeforeName byte ≡ at InName (AddName byte) = rw (name_not_blank byte both.0, both.0) refl in
     name_byte BeforeName s byte adds at_end g (text ++ more)
     ∙ name_reads text both.1 (record s { read = s.read + 1; name = s.name ++ byte ∷ [] }) n (byte ∷ text) (omega arith)
     (ap (λ l. (l ++ byte ∷ []) ++ text) (sym bare_name)) at_end g more
@@ -110,7 +110,7 @@ quote_reads [] all s n e at_end g more =
     ap (λ m. sections_found at_end g InValue (record s { read = m; kind = kind_of s.name; value = [] }) more) same
 quote_reads (byte ∷ text) all s n e at_end g more =
     let both = and_parts (is_blank byte) (list_all is_blank text) all in
-    let counts : step InName byte ≡ at BehindName Count = rw (blank_not_name byte both.0, both.0) refl in
+    let counts : transition InName byte ≡ at BehindName Count = rw (blank_not_name byte both.0, both.0) refl in
     let m = s.read + 1 + length text in
     let last : m + 1 ≡ n = omega arith in
     count_reads InName BehindName s byte counts at_end g ((text ++ 34 ∷ []) ++ more)
@@ -142,8 +142,8 @@ value_reads (backslash {text} {value} spells) s n all e f at_end g more =
 value_reads (lone {text} {value} byte is_plain_byte spells) s n all e f at_end g more =
     let parts = plain_parts byte is_plain_byte in
     let t : Section = record s { read = s.read + 1 } in
-    let adds : step Escaped byte ≡ at InValue (AddBoth byte) = rw (parts.0, parts.1, parts.2) refl in
-    ap (λ x. found_by x.deed (section_found g t) ++ sections_found at_end g x.place (after x.deed t) (text ++ more))
+    let adds : transition Escaped byte ≡ at InValue (AddBoth byte) = rw (parts.0, parts.1, parts.2) refl in
+    ap (λ x. found_by x.action (section_found g t) ++ sections_found at_end g x.state (after x.action t) (text ++ more))
     adds
     ∙ value_reads spells (record s { read = s.read + 1 + 1; value = (s.value ++ 92 ∷ []) ++ byte ∷ [] }) n all
     (omega arith)
@@ -151,8 +151,8 @@ value_reads (lone {text} {value} byte is_plain_byte spells) s n all e f at_end g
     ∙ sym (append_assoc (s.value ++ 92 ∷ []) (byte ∷ []) value)) at_end g more
 value_reads (plain {text} {value} byte is_plain_byte spells) s n all e f at_end g more =
     let parts = plain_parts byte is_plain_byte in
-    let adds : step InValue byte ≡ at InValue (AddValue byte) = rw (parts.0, parts.1, parts.2) refl in
-    ap (λ x. found_by x.deed (section_found g s) ++ sections_found at_end g x.place (after x.deed s) (text ++ more))
+    let adds : transition InValue byte ≡ at InValue (AddValue byte) = rw (parts.0, parts.1, parts.2) refl in
+    ap (λ x. found_by x.action (section_found g s) ++ sections_found at_end g x.state (after x.action s) (text ++ more))
     adds
     ∙ value_reads spells (record s { read = s.read + 1; value = s.value ++ byte ∷ [] }) n all (omega arith) (f
     ∙ sym (append_assoc s.value (byte ∷ []) value)) at_end g more

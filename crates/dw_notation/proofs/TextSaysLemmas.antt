@@ -21,7 +21,7 @@ use Rattle.dw_notation.specs.declared.problems.TheConstants.{MAX_LINE, MAX_SECTI
 use Rattle.dw_notation.specs.declared.problems.ProblemFault.TheVariants.{Fen, NoFen, TwoFens, WrongGame, LineTooLong}
 use Rattle.dw_notation.specs.declared.problems.ProblemFault.TheVariants.{SectionTooLong, UnclosedTag, UnclosedComment}
 use Rattle.dw_notation.specs.declared.problems.ProblemFault.TheVariants.{TooManyProblems}
-use Rattle.dw_notation.specs.declared.problems.pdn.Kind.TheVariants.{FenTag, GameTag, OtherTag}
+use Rattle.dw_notation.specs.declared.problems.pdn.section.TagKind.TheVariants.{FenTag, GameTag, OtherTag}
 use Rattle.dw_notation.proofs.CutLemmas.{NoLineFeed-push, found_from-piece}
 
 -- ---- the values of tags

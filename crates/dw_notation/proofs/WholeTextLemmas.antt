@@ -7,7 +7,7 @@ use Rattle.std.specs.List.{list_all}
 use Rattle.dw_board.specs.Boards.{ten}
 use Rattle.dw_board.specs.Geometry.{Geometry}
 use Rattle.dw_notation.specs.Lines.{Found}
-use Rattle.dw_notation.specs.inner.Sections.{step, Section, bare, after, section_found, sections_found}
+use Rattle.dw_notation.specs.inner.Sections.{transition, Section, bare, after, section_found, sections_found}
 use Rattle.dw_notation.specs.Tags.{ends_line}
 use Rattle.dw_notation.specs.Tags.{Tag, IsTag, IsUnclosed, is_space, IsGap, IsSection}
 use Rattle.dw_notation.specs.inner.Tags.{tags_found, outside_found}
@@ -17,8 +17,8 @@ use Rattle.dw_notation.specs.Lines.{if_over}
 use Rattle.dw_notation.specs.WholeTexts.{IsOpen, SectionsSay}
 use Rattle.dw_notation.specs.WholeTexts.SectionsSay.{nothing, other, comment, last_comment, section, last_section}
 use Rattle.dw_notation.specs.declared.problems.ProblemFault.TheVariants.{UnclosedComment}
-use Rattle.dw_notation.specs.declared.problems.pdn.Place.{Place}
-use Rattle.dw_notation.specs.declared.problems.pdn.Place.TheVariants.{Outside, BeforeName}
+use Rattle.dw_notation.specs.declared.problems.pdn.automaton.State.{State}
+use Rattle.dw_notation.specs.declared.problems.pdn.automaton.State.TheVariants.{Outside, BeforeName}
 use Rattle.dw_notation.proofs.TextSaysLemmas.{FensAreRead, section_says, section_says-only}
 use Rattle.dw_notation.proofs.TagReadingLemmas.{Reads, join_reads}
 use Rattle.dw_notation.proofs.TagBreakingLemmas.{SoFar, tag_goes_on}
@@ -106,8 +106,8 @@ abbrev NoTag : List ℕ → Type 0
 NoTag text = (front back : List ℕ) (tag : Tag) → text ≡ front ++ back → IsTag front tag → ⊥
 
 -- in a tag, the letter x finds nothing
-in_tag : {place : Place} {text : List ℕ} → SoFar place text → (s : Section)
-    → sections_found false ten place s (120 ∷ []) ≡ []
+in_tag : {state : State} {text : List ℕ} → SoFar state text → (s : Section)
+    → sections_found false ten state s (120 ∷ []) ≡ []
 in_tag (before first b1) s = refl
 in_tag (named first name b1 some n) s = refl
 in_tag (behind first name middle b1 some n b2) s = refl
@@ -117,9 +117,9 @@ in_tag (closing first name middle spelling value last b1 some n b2 spells b3) s 
 in_tag (rest text) s = refl
 
 -- so what is read so far is no whole tag, for it would find something
-not_whole : {place : Place} {text : List ℕ} (s : Section) → SoFar place text → Reads Outside bare text place s
+not_whole : {state : State} {text : List ℕ} (s : Section) → SoFar state text → Reads Outside bare text state s
     → (tag : Tag) → IsTag text tag → ⊥
-not_whole {place} {text} s so_far reads tag is =
+not_whole {state} {text} s so_far reads tag is =
     let whole = tag_on Outside bare (record bare { read = 1 }) [] false text tag 0 (length text) begins_outside
     (omega arith) is in
     let between = (whole.stands.whole refl).0 in
@@ -156,22 +156,22 @@ one_more text byte none not_all front back tag e is = elim (shorter text front b
   | inr part ↦ none front part.0 tag part.1 is
 ]
 
-find_tag : (line : List ℕ) (place : Place) (text : List ℕ) (s : Section) → SoFar place text
-    → Reads Outside bare text place s → list_all (λ byte. not (ends_line byte)) line ≡ true → NoTag text
+find_tag : (line : List ℕ) (state : State) (text : List ℕ) (s : Section) → SoFar state text
+    → Reads Outside bare text state s → list_all (λ byte. not (ends_line byte)) line ≡ true → NoTag text
     → HasTag (text ++ line) ⊎ NoTag (text ++ line)
-find_tag [] place text s so_far reads in_line none = inr (subst NoTag (sym (append-nil text)) none)
-find_tag (byte ∷ line) place text s so_far reads in_line none =
+find_tag [] state text s so_far reads in_line none = inr (subst NoTag (sym (append-nil text)) none)
+find_tag (byte ∷ line) state text s so_far reads in_line none =
     let both = and_parts (not (ends_line byte)) (list_all (λ b. not (ends_line b)) line) in_line in
     let joined : text ++ byte ∷ line ≡ (text ++ byte ∷ []) ++ line = sym (append_assoc text (byte ∷ []) line) in
     elim (tag_goes_on byte (not-true _ both.0) so_far) [
       | inl on ↦
-          let t = step place byte in
-          let next = after t.deed s in
-          let one : Reads place s (byte ∷ []) t.place next = λ at_end g more. ap (λ l. l
-          ++ sections_found at_end g t.place next more) (on.1.found (section_found g s)) in
-          let all : Reads Outside bare (text ++ byte ∷ []) t.place next = join_reads Outside place t.place bare s next
+          let t = transition state byte in
+          let next = after t.action s in
+          let one : Reads state s (byte ∷ []) t.state next = λ at_end g more. ap (λ l. l
+          ++ sections_found at_end g t.state next more) (on.1.found (section_found g s)) in
+          let all : Reads Outside bare (text ++ byte ∷ []) t.state next = join_reads Outside state t.state bare s next
           text (byte ∷ []) reads one in
-          subst (λ l. HasTag l ⊎ NoTag l) (sym joined) (find_tag line t.place (text ++ byte ∷ []) next on.0 all both.1
+          subst (λ l. HasTag l ⊎ NoTag l) (sym joined) (find_tag line t.state (text ++ byte ∷ []) next on.0 all both.1
           (one_more text byte none (not_whole next on.0 all)))
       | inr whole ↦ inl (record {
         front = text ++ byte ∷ [];

@@ -1,5 +1,6 @@
 //! The texts of lines.
-ghost use Rattle.std.specs.Prelude.{◌≡◌, ◌≤◌, ◌<◌, ◌+◌, ◌++◌, [], ◌∷◌, length, take, IfOk, OnOk, ◌%◌, ◌*◌};
+ghost use Rattle.std.specs.Prelude.{◌≡◌, ◌≤◌, ◌<◌, ◌+◌, ◌++◌, [], ◌∷◌, length, take, IfOk, OnOk, OnErr, ◌%◌, ◌*◌};
+ghost use Rattle.std.specs.Prelude.{ℕ};
 ghost use Rattle.arrayvec.specs.ArrayString.{array_string_len};
 ghost use Rattle.dw_moves.specs.Moves.{Legal};
 ghost use Rattle.dw_notation.specs.Text.{IsLineText, ArePlayable, numbered};
@@ -82,13 +83,14 @@ impl<B: Board> LineText<B> {
     }
 
     /// Goes over to a line of at most 39 moves, each legal after those before it. Only what comes after the moves that
-    /// both lines begin with is written anew. If out of memory, the text is that of some moves from the same start.
+    /// both lines begin with is written anew. If out of memory, the text is that of some first moves of the line.
     /// Example: after the line `1. 32-28 18-22 2. 27x18` the text of `1. 32-28 18-22 2. 28x17` takes one more word.
     pub fn follow(&mut self, alloc: Global, line: &[Move<B>]) -> Result<(), AllocError>
         requires few { length line.now ≤ 39 }
         requires legal { ArePlayable B.geometry self.old.start line.now }
         ensures start { self.new.start ≡ self.old.start }
         ensures moves { OnOk result (self.new.moves ≡ line.now) }
+        ensures begun { OnErr result ((k : ℕ) × (self.new.moves ≡ take k line.now)) }
     {
         let shared = self.shared(line);
         self.keep(shared);
@@ -138,6 +140,7 @@ impl<B: Board> LineText<B> {
         requires legal { Legal B.geometry (after_moves B.geometry self.old.start self.old.moves) mv.now }
         ensures start { self.new.start ≡ self.old.start }
         ensures moves { OnOk result (self.new.moves ≡ self.old.moves ++ mv.now ∷ []) }
+        ensures same { OnErr result (self.new ≡ self.old) }
     {
         let current = end_of(&self.start, self.plies.as_slice());
         let word = text_in(alloc, &current, mv)?;

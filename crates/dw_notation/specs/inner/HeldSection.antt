@@ -7,19 +7,19 @@ use Rattle.dw_board.specs.Fen.{fen}
 use Rattle.dw_board.specs.FenTokens.{is_blank}
 use Rattle.dw_notation.specs.Lines.{Found}
 use Rattle.dw_notation.specs.inner.Lines.{fen_found}
-use Rattle.dw_notation.specs.inner.Sections.{step, kind_of, found_by, found_at_end}
+use Rattle.dw_notation.specs.inner.Sections.{transition, kind_of, found_by, found_at_end}
 use Rattle.dw_notation.specs.declared.problems.TheConstants.{MAX_SECTION}
 use Rattle.dw_notation.specs.declared.problems.ProblemFault.TheVariants.{NoFen, TwoFens, WrongGame, SectionTooLong}
 use Rattle.dw_notation.specs.declared.problems.ProblemFault.TheVariants.{UnclosedTag, UnclosedComment}
-use Rattle.dw_notation.specs.declared.problems.pdn.Place.{Place}
-use Rattle.dw_notation.specs.declared.problems.pdn.Deed.{Deed}
-use Rattle.dw_notation.specs.declared.problems.pdn.Deed.TheVariants.{Keep, Open, Count, AddName, OpenValue, AddValue}
-use Rattle.dw_notation.specs.declared.problems.pdn.Deed.TheVariants.{AddBoth, Close, Break, EndLine, NextTag, End}
-use Rattle.dw_notation.specs.declared.problems.pdn.Kind.{Kind}
-use Rattle.dw_notation.specs.declared.problems.pdn.Kind.TheVariants.{FenTag, GameTag, OtherTag}
-use Rattle.dw_notation.specs.declared.problems.pdn.Game.{Game}
-use Rattle.dw_notation.specs.declared.problems.pdn.Game.TheVariants.{Before, Within, Behind}
-use Rattle.dw_notation.specs.declared.problems.pdn.HeldSection.{HeldSection}
+use Rattle.dw_notation.specs.declared.problems.pdn.automaton.State.{State}
+use Rattle.dw_notation.specs.declared.problems.pdn.automaton.Action.{Action}
+use Rattle.dw_notation.specs.declared.problems.pdn.automaton.Action.TheVariants.{Keep, Open, Count, AddName, OpenValue, AddValue}
+use Rattle.dw_notation.specs.declared.problems.pdn.automaton.Action.TheVariants.{AddBoth, Close, Break, EndLine, NextTag, End}
+use Rattle.dw_notation.specs.declared.problems.pdn.section.TagKind.{TagKind}
+use Rattle.dw_notation.specs.declared.problems.pdn.section.TagKind.TheVariants.{FenTag, GameTag, OtherTag}
+use Rattle.dw_notation.specs.declared.problems.pdn.section.Game.{Game}
+use Rattle.dw_notation.specs.declared.problems.pdn.section.Game.TheVariants.{Before, Within, Behind}
+use Rattle.dw_notation.specs.declared.problems.pdn.section.HeldSection.{HeldSection}
 use Rattle.dw_notation.specs.declared.problems.pdn.Sections.{Sections}
 use Rattle.dw_notation.specs.declared.problems.pdn.Cut.{Cut}
 use Rattle.dw_notation.specs.declared.problems.pdn.Cut.TheVariants.{Nothing, Section, Comment}
@@ -30,7 +30,7 @@ pub record Held : Type 0 where
   pub size : ℕ
   pub is_unclosed : Bool
   pub name : List ℕ
-  pub kind : Kind
+  pub kind : TagKind
   pub fens : ℕ
   pub fen_text : List ℕ
   pub game : Game
@@ -88,18 +88,18 @@ number_held (Behind n) = n
 abbrev pub counted_in : Held → Held
 counted_in h = record h { read = counted (MAX_SECTION + 1) h.read }
 
-abbrev pub value_on : Kind → Held → ℕ → Held
+abbrev pub value_on : TagKind → Held → ℕ → Held
 value_on FenTag h byte = record h { fen_text = if h.fens == 0 then kept 1025 h.fen_text byte else h.fen_text }
 value_on GameTag h byte = record h { game = game_on h.game byte }
 value_on OtherTag h byte = h
 
-abbrev pub tag_on : Kind → Held → Held
+abbrev pub tag_on : TagKind → Held → Held
 tag_on FenTag h = record h { fens = counted 2 h.fens }
 tag_on GameTag h = record h { has_game = true; is_wrong = not (number_held h.game == 20) || h.is_wrong }
 tag_on OtherTag h = h
 
 -- what a byte does to what is held
-abbrev pub held_after : Deed → Held → Held
+abbrev pub held_after : Action → Held → Held
 held_after Keep h = h
 held_after Open h = record held_bare { read = 1 }
 held_after Count h = counted_in h
@@ -131,16 +131,16 @@ held_found g h =
     else (if is_wrong_held g h then Err WrongGame else fens_held g h.fens h.fen_text))
 
 -- what is held and then the bytes say
-abbrev pub held_from : Bool → Geometry → Place → Held → List ℕ → List Found
-held_from at_end g place h [] = if at_end then found_at_end place (held_found g h) (held_found g (held_after EndLine h))
+abbrev pub held_from : Bool → Geometry → State → Held → List ℕ → List Found
+held_from at_end g state h [] = if at_end then found_at_end state (held_found g h) (held_found g (held_after EndLine h))
     else []
-held_from at_end g place h (byte ∷ bytes) =
-    found_by (step place byte).deed (held_found g h)
-    ++ held_from at_end g (step place byte).place (held_after (step place byte).deed h) bytes
+held_from at_end g state h (byte ∷ bytes) =
+    found_by (transition state byte).action (held_found g h)
+    ++ held_from at_end g (transition state byte).state (held_after (transition state byte).action h) bytes
 
 -- the section begun and then the bytes
 abbrev pub sections_ahead : Bool → Geometry → Sections → List ℕ → List Found
-sections_ahead at_end g s bytes = held_from at_end g s.place (held_of s.section) bytes
+sections_ahead at_end g s bytes = held_from at_end g s.state (held_of s.section) bytes
 
 -- what was cut off and is to be handed out
 abbrev pub cut_found : Geometry → Cut → Held → Option Found

@@ -8,7 +8,7 @@ use Rattle.dw_notation.specs.inner.Sections.{bare, sections_found}
 use Rattle.dw_notation.specs.declared.problems.Problem.{Problem}
 use Rattle.dw_notation.specs.declared.problems.Form.{Form}
 use Rattle.dw_notation.specs.declared.problems.Form.TheVariants.{Fens, Pdn}
-use Rattle.dw_notation.specs.declared.problems.pdn.Place.TheVariants.{Outside}
+use Rattle.dw_notation.specs.declared.problems.pdn.automaton.State.TheVariants.{Outside}
 
 -- what a text is found to say, by its form; if it is not over, what has ended in it
 abbrev pub found_of : Bool → Geometry → Form → List ℕ → List Found

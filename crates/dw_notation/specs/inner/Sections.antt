@@ -12,55 +12,55 @@ use Rattle.dw_notation.specs.inner.Lines.{fen_found}
 use Rattle.dw_notation.specs.declared.problems.TheConstants.{MAX_SECTION}
 use Rattle.dw_notation.specs.declared.problems.ProblemFault.TheVariants.{NoFen, TwoFens, WrongGame, SectionTooLong}
 use Rattle.dw_notation.specs.declared.problems.ProblemFault.TheVariants.{UnclosedTag, UnclosedComment}
-use Rattle.dw_notation.specs.declared.problems.pdn.Place.{Place}
-use Rattle.dw_notation.specs.declared.problems.pdn.Place.TheVariants.{Outside, Comment, Between, BeforeName, InName}
-use Rattle.dw_notation.specs.declared.problems.pdn.Place.TheVariants.{BehindName, InValue, Escaped, BehindValue, Rest}
-use Rattle.dw_notation.specs.declared.problems.pdn.Deed.{Deed}
-use Rattle.dw_notation.specs.declared.problems.pdn.Deed.TheVariants.{Keep, Open, Count, AddName, OpenValue, AddValue}
-use Rattle.dw_notation.specs.declared.problems.pdn.Deed.TheVariants.{AddBoth, Close, Break, EndLine, NextTag, End}
-use Rattle.dw_notation.specs.declared.problems.pdn.Kind.{Kind}
-use Rattle.dw_notation.specs.declared.problems.pdn.Kind.TheVariants.{FenTag, GameTag, OtherTag}
-use Rattle.dw_notation.specs.declared.problems.pdn.Step.{Step}
+use Rattle.dw_notation.specs.declared.problems.pdn.automaton.State.{State}
+use Rattle.dw_notation.specs.declared.problems.pdn.automaton.State.TheVariants.{Outside, Comment, Between, BeforeName, InName}
+use Rattle.dw_notation.specs.declared.problems.pdn.automaton.State.TheVariants.{BehindName, InValue, Escaped, BehindValue, Rest}
+use Rattle.dw_notation.specs.declared.problems.pdn.automaton.Action.{Action}
+use Rattle.dw_notation.specs.declared.problems.pdn.automaton.Action.TheVariants.{Keep, Open, Count, AddName, OpenValue, AddValue}
+use Rattle.dw_notation.specs.declared.problems.pdn.automaton.Action.TheVariants.{AddBoth, Close, Break, EndLine, NextTag, End}
+use Rattle.dw_notation.specs.declared.problems.pdn.section.TagKind.{TagKind}
+use Rattle.dw_notation.specs.declared.problems.pdn.section.TagKind.TheVariants.{FenTag, GameTag, OtherTag}
+use Rattle.dw_notation.specs.declared.problems.pdn.automaton.Transition.{Transition}
 
-abbrev pub at : Place → Deed → Step
-at place deed = record { place = place; deed = deed }
+abbrev pub at : State → Action → Transition
+at state action = record { state = state; action = action }
 
 -- a tag that is broken by this byte is unclosed, and reaches to the end of its line
-abbrev pub broken_by : ℕ → Step
+abbrev pub broken_by : ℕ → Transition
 broken_by byte = if ends_line byte then at Between EndLine else at Rest Break
 
 -- where a byte leads, and what it does
-abbrev pub step : Place → ℕ → Step
-step Outside byte =
+abbrev pub transition : State → ℕ → Transition
+transition Outside byte =
     if byte == open_bracket then at BeforeName Open
     else (if byte == open_brace then at Comment Keep else at Outside Keep)
-step Comment byte = if byte == close_brace then at Outside Keep else at Comment Keep
-step Between byte =
+transition Comment byte = if byte == close_brace then at Outside Keep else at Comment Keep
+transition Between byte =
     if byte == open_bracket then at BeforeName NextTag
     else (if is_blank byte || ends_line byte then at Between Count
     else (if byte == open_brace then at Comment End else at Outside End))
-step BeforeName byte = if is_blank byte then at BeforeName Count
+transition BeforeName byte = if is_blank byte then at BeforeName Count
     else (if is_name_byte byte then at InName (AddName byte) else broken_by byte)
-step InName byte =
+transition InName byte =
     if is_name_byte byte then at InName (AddName byte)
     else (if is_blank byte then at BehindName Count
     else (if byte == quotation_mark then at InValue OpenValue else broken_by byte))
-step BehindName byte =
+transition BehindName byte =
     if is_blank byte then at BehindName Count
     else (if byte == quotation_mark then at InValue OpenValue else broken_by byte)
-step InValue byte =
+transition InValue byte =
     if byte == quotation_mark then at BehindValue Count
     else (if byte == back_slash then at Escaped Count
     else (if ends_line byte then at Between EndLine else at InValue (AddValue byte)))
-step Escaped byte =
+transition Escaped byte =
     if (byte == quotation_mark) || (byte == back_slash) then at InValue (AddValue byte)
     else (if ends_line byte then at Between EndLine else at InValue (AddBoth byte))
-step BehindValue byte =
+transition BehindValue byte =
     if is_blank byte then at BehindValue Count
     else (if byte == close_bracket then at Between Close else broken_by byte)
-step Rest byte = if ends_line byte then at Between EndLine else at Rest Count
+transition Rest byte = if ends_line byte then at Between EndLine else at Rest Count
 
-abbrev pub kind_of : List ℕ → Kind
+abbrev pub kind_of : List ℕ → TagKind
 kind_of name = if same_name name (codes "FEN") then FenTag
     else (if same_name name (codes "GameType") then GameTag else OtherTag)
 
@@ -73,7 +73,7 @@ pub record Section : Type 0 where
   pub is_unclosed : Bool
   -- the name, the kind and the value of the tag that is read
   pub name : List ℕ
-  pub kind : Kind
+  pub kind : TagKind
   pub value : List ℕ
   -- the values of its FEN tags and the games of its GameType tags, the last ones in front
   pub fens : List (List ℕ)
@@ -83,13 +83,13 @@ abbrev pub bare : Section
 bare = record { read = 0; size = 0; is_unclosed = false; name = []; kind = OtherTag; value = []; fens = []; games = [] }
 
 -- the section with one more tag, of this kind
-abbrev pub with_tag : Kind → Section → Section
+abbrev pub with_tag : TagKind → Section → Section
 with_tag FenTag s = record s { fens = s.value ∷ s.fens }
 with_tag GameTag s = record s { games = game_of s.value ∷ s.games }
 with_tag OtherTag s = s
 
 -- what a byte does to a section
-abbrev pub after : Deed → Section → Section
+abbrev pub after : Action → Section → Section
 after Keep s = s
 after Open s = record bare { read = 1 }
 after Count s = record s { read = s.read + 1 }
@@ -117,21 +117,21 @@ section_found g s =
     else (if is_wrong g s.games then Err WrongGame else fens_found g s.fens))
 
 -- what is found if a byte does this in a section that says so
-abbrev pub found_by : Deed → Found → List Found
+abbrev pub found_by : Action → Found → List Found
 found_by End found = found ∷ []
 found_by _ found = []
 
 -- what is found where the text ends, by what the section says as it stands and with its tag unclosed
-abbrev pub found_at_end : Place → Found → Found → List Found
+abbrev pub found_at_end : State → Found → Found → List Found
 found_at_end Outside whole unclosed = []
 found_at_end Comment whole unclosed = Err UnclosedComment ∷ []
 found_at_end Between whole unclosed = whole ∷ []
 found_at_end _ whole unclosed = unclosed ∷ []
 
 -- what the section begun and then the bytes say; a line ends where the text does
-abbrev pub sections_found : Bool → Geometry → Place → Section → List ℕ → List Found
-sections_found at_end g place s [] = if at_end
-    then found_at_end place (section_found g s) (section_found g (after EndLine s)) else []
-sections_found at_end g place s (byte ∷ bytes) =
-    found_by (step place byte).deed (section_found g s)
-    ++ sections_found at_end g (step place byte).place (after (step place byte).deed s) bytes
+abbrev pub sections_found : Bool → Geometry → State → Section → List ℕ → List Found
+sections_found at_end g state s [] = if at_end
+    then found_at_end state (section_found g s) (section_found g (after EndLine s)) else []
+sections_found at_end g state s (byte ∷ bytes) =
+    found_by (transition state byte).action (section_found g s)
+    ++ sections_found at_end g (transition state byte).state (after (transition state byte).action s) bytes

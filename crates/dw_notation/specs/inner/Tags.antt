@@ -10,9 +10,9 @@ use Rattle.dw_notation.specs.inner.Sections.{kind_of, fens_found, bare, sections
 use Rattle.dw_notation.specs.declared.problems.TheConstants.{MAX_SECTION}
 use Rattle.dw_notation.specs.declared.problems.ProblemFault.TheVariants.{WrongGame, SectionTooLong, UnclosedTag}
 use Rattle.dw_notation.specs.declared.problems.ProblemFault.TheVariants.{UnclosedComment}
-use Rattle.dw_notation.specs.declared.problems.pdn.Place.TheVariants.{Outside}
-use Rattle.dw_notation.specs.declared.problems.pdn.Kind.{Kind}
-use Rattle.dw_notation.specs.declared.problems.pdn.Kind.TheVariants.{FenTag, GameTag, OtherTag}
+use Rattle.dw_notation.specs.declared.problems.pdn.automaton.State.TheVariants.{Outside}
+use Rattle.dw_notation.specs.declared.problems.pdn.section.TagKind.{TagKind}
+use Rattle.dw_notation.specs.declared.problems.pdn.section.TagKind.TheVariants.{FenTag, GameTag, OtherTag}
 
 -- opens a tag or a comment
 abbrev pub opens : ℕ → Bool
@@ -26,7 +26,7 @@ ends_section byte = not ((byte == open_bracket) || is_space byte)
 abbrev pub closes : ℕ → Bool
 closes byte = byte == close_brace
 
-abbrev pub with_fen : Kind → List ℕ → List (List ℕ) → List (List ℕ)
+abbrev pub with_fen : TagKind → List ℕ → List (List ℕ) → List (List ℕ)
 with_fen FenTag value fens = value ∷ fens
 with_fen GameTag value fens = fens
 with_fen OtherTag value fens = fens
@@ -36,7 +36,7 @@ abbrev pub fens_of : List Tag → List (List ℕ)
 fens_of [] = []
 fens_of (tag ∷ tags) = with_fen (kind_of tag.name) tag.value (fens_of tags)
 
-abbrev pub with_game : Kind → List ℕ → List ℕ → List ℕ
+abbrev pub with_game : TagKind → List ℕ → List ℕ → List ℕ
 with_game FenTag value games = games
 with_game GameTag value games = game_of value ∷ games
 with_game OtherTag value games = games

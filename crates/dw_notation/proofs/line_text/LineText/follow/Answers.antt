@@ -1,7 +1,8 @@
-use Rattle.std.proofs.Common.{◌≡◌, ◌+◌, ◌-◌, ◌∙◌, sym, ap, refl, length, subst, take, drop, append-nil, arith}
+use Rattle.std.proofs.Common.{◌≡◌, ℕ, ◌+◌, ◌-◌, ◌∙◌, rules, sym, ap, refl, length, subst, take, drop, append-nil, arith}
 use Rattle.dw_notation.specs.Text.{ArePlayable}
 use Rattle.dw_notation.specs.inner.LinePlies.{after_moves}
 use Rattle.dw_notation.proofs.LineWrittenLemmas.{next_legal, moves_more, playable_from, rest_is, played_short, after_push}
+use Rattle.dw_notation.proofs.LineWrittenLemmas.{begins_line}
 use Rattle.dw_notation.proofs.line_text.LineText.follow.Goals as goal
 
 pub moves-init : goal.moves-init
@@ -49,3 +50,15 @@ push-requires g c =
     let short = played_short line c.keep.new.self.moves t.moves shared c.moves.mv-index c.shared-shared.ensures.fits
     (c.keep.ensures.moves ∙ sym c.shared-shared.ensures.same) c.moves.invariant.taken c.moves-test.true in
     (omega arith, (omega (arith, short, c.requires.few), next.0))
+
+pub returns-in_err-push-clause-begun : goal.returns-in_err-push-clause-begun
+returns-in_err-push-clause-begun g c =
+    let line = c.args.line.now in
+    let shared = c.shared-shared.result in
+    let same = begins_line line c.keep.new.self.moves c.moves.self.moves shared c.moves.mv-index
+    (c.keep.ensures.moves ∙ sym c.shared-shared.ensures.same) c.moves.invariant.taken in
+    let begun : (k : ℕ) × (c.push.new.self.moves ≡ take k line) = (
+      shared + c.moves.mv-index,
+      ap (λ t. t.moves) c.in_err-push.ensures.same ∙ same,
+    ) in
+    search rules

@@ -8,5 +8,5 @@ returns-in-Fens c = λ over g bytes. lines-new over g c.new.result c.new.ensures
     ∙ ap (λ f. found_of over g f bytes) (sym c.in-Fens.is)
 
 pub returns-in-Pdn : goal.returns-in-Pdn
-returns-in-Pdn c = λ over g bytes. sections-new over g c.new-in-Pdn.result c.new-in-Pdn.ensures.place
+returns-in-Pdn c = λ over g bytes. sections-new over g c.new-in-Pdn.result c.new-in-Pdn.ensures.state
     c.new-in-Pdn.ensures.section bytes ∙ ap (λ f. found_of over g f bytes) (sym c.in-Pdn.is)

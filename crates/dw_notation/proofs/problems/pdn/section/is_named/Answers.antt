@@ -1,5 +1,5 @@
 use Rattle.dw_notation.proofs.NameLemmas.{same_name-test}
-use Rattle.dw_notation.proofs.problems.pdn.is_named.Goals as goal
+use Rattle.dw_notation.proofs.problems.pdn.section.is_named.Goals as goal
 
 pub returns : goal.returns
 returns c = same_name-test _ _ _ c.eq_ignore_ascii_case.ensures.test

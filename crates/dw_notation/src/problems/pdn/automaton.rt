@@ -1,0 +1,233 @@
+//! The automaton that reads a PDN text: where the text stands, and what its next byte does.
+//!
+//! Outside a section bytes are passed over up to a bracket that opens a tag. A brace opens a comment, and
+//! the first closing brace ends it. A section is a row of tags with blanks and line ends alone between
+//! them. A tag stands in one line: a name of letters, digits and underscores and then a value in quotation
+//! marks, with blanks around them. What breaks this leaves the tag unclosed, and it reaches to the end of
+//! its line. In a value a backslash stands before a quotation mark or a backslash; before any other byte
+//! it stands for itself.
+ghost use Rattle.std.specs.Prelude.{◌≡◌};
+ghost use Rattle.dw_notation.specs.Tags.{is_name_byte, ends_line};
+ghost use Rattle.dw_notation.specs.inner.Sections.{transition, broken_by};
+
+use super::super::fens::is_blank_byte;
+
+/// Where a text of tags stands.
+#[derive(Clone, Copy)]
+pub(super) enum State {
+    Outside,
+    Comment,
+    /// Behind a tag of a section.
+    Between,
+    BeforeName,
+    InName,
+    BehindName,
+    InValue,
+    /// Behind a backslash in a value.
+    Escaped,
+    BehindValue,
+    /// In the line of an unclosed tag, after the byte that broke it.
+    Rest,
+}
+
+/// What a byte does to a section.
+#[derive(Clone, Copy)]
+pub(super) enum Action {
+    /// It is none of the section.
+    Keep,
+    /// It opens a section.
+    Open,
+    /// It counts to the section, and does nothing else.
+    Count,
+    AddName(u8),
+    /// The name is read, and a value opens.
+    OpenValue,
+    AddValue(u8),
+    /// A backslash and this byte belong to the value.
+    AddBoth(u8),
+    /// The tag ends.
+    Close,
+    /// The tag is unclosed.
+    Break,
+    /// The tag is unclosed, and its line ends.
+    EndLine,
+    NextTag,
+    /// The section ends.
+    End,
+}
+
+/// Where a byte leads, and what it does.
+#[derive(Clone, Copy)]
+pub(super) struct Transition {
+    pub state: State,
+    pub action: Action,
+}
+
+fn is_name_byte(byte: u8) -> bool
+    ensures { result ≡ is_name_byte byte }
+{
+    byte.is_ascii_alphanumeric() || byte == b'_'
+}
+
+fn ends_line(byte: u8) -> bool
+    ensures { result ≡ ends_line byte }
+{
+    byte == b'\n' || byte == b'\r'
+}
+
+fn at(state: State, action: Action) -> Transition
+    ensures { result ≡ record { state = state; action = action } }
+{
+    Transition { state, action }
+}
+
+/// The step by a byte that has no place in a tag.
+fn broken_by(byte: u8) -> Transition
+    ensures { result ≡ broken_by byte }
+{
+    if ends_line(byte) {
+        at(State::Between, Action::EndLine)
+    } else {
+        at(State::Rest, Action::Break)
+    }
+}
+
+fn step_outside(byte: u8) -> Transition
+    ensures { result ≡ transition State.Outside byte }
+{
+    match byte {
+        b'[' => at(State::BeforeName, Action::Open),
+        b'{' => at(State::Comment, Action::Keep),
+        _ => at(State::Outside, Action::Keep),
+    }
+}
+
+fn step_comment(byte: u8) -> Transition
+    ensures { result ≡ transition State.Comment byte }
+{
+    if byte == b'}' {
+        at(State::Outside, Action::Keep)
+    } else {
+        at(State::Comment, Action::Keep)
+    }
+}
+
+fn step_between(byte: u8) -> Transition
+    ensures { result ≡ transition State.Between byte }
+{
+    if byte == b'[' {
+        at(State::BeforeName, Action::NextTag)
+    } else if is_blank_byte(byte) || ends_line(byte) {
+        at(State::Between, Action::Count)
+    } else if byte == b'{' {
+        at(State::Comment, Action::End)
+    } else {
+        at(State::Outside, Action::End)
+    }
+}
+
+fn step_before_name(byte: u8) -> Transition
+    ensures { result ≡ transition State.BeforeName byte }
+{
+    if is_blank_byte(byte) {
+        at(State::BeforeName, Action::Count)
+    } else if is_name_byte(byte) {
+        at(State::InName, Action::AddName(byte))
+    } else {
+        broken_by(byte)
+    }
+}
+
+fn step_in_name(byte: u8) -> Transition
+    ensures { result ≡ transition State.InName byte }
+{
+    if is_name_byte(byte) {
+        at(State::InName, Action::AddName(byte))
+    } else if is_blank_byte(byte) {
+        at(State::BehindName, Action::Count)
+    } else if byte == b'"' {
+        at(State::InValue, Action::OpenValue)
+    } else {
+        broken_by(byte)
+    }
+}
+
+fn step_behind_name(byte: u8) -> Transition
+    ensures { result ≡ transition State.BehindName byte }
+{
+    if is_blank_byte(byte) {
+        at(State::BehindName, Action::Count)
+    } else if byte == b'"' {
+        at(State::InValue, Action::OpenValue)
+    } else {
+        broken_by(byte)
+    }
+}
+
+fn step_in_value(byte: u8) -> Transition
+    ensures { result ≡ transition State.InValue byte }
+{
+    if byte == b'"' {
+        at(State::BehindValue, Action::Count)
+    } else if byte == b'\\' {
+        at(State::Escaped, Action::Count)
+    } else if ends_line(byte) {
+        at(State::Between, Action::EndLine)
+    } else {
+        at(State::InValue, Action::AddValue(byte))
+    }
+}
+
+fn step_escaped(byte: u8) -> Transition
+    ensures { result ≡ transition State.Escaped byte }
+{
+    if byte == b'"' || byte == b'\\' {
+        at(State::InValue, Action::AddValue(byte))
+    } else if ends_line(byte) {
+        at(State::Between, Action::EndLine)
+    } else {
+        at(State::InValue, Action::AddBoth(byte))
+    }
+}
+
+fn step_behind_value(byte: u8) -> Transition
+    ensures { result ≡ transition State.BehindValue byte }
+{
+    if is_blank_byte(byte) {
+        at(State::BehindValue, Action::Count)
+    } else if byte == b']' {
+        at(State::Between, Action::Close)
+    } else {
+        broken_by(byte)
+    }
+}
+
+fn step_rest(byte: u8) -> Transition
+    ensures { result ≡ transition State.Rest byte }
+{
+    if ends_line(byte) {
+        at(State::Between, Action::EndLine)
+    } else {
+        at(State::Rest, Action::Count)
+    }
+}
+
+impl State {
+    /// Where the next byte leads, and what it does.
+    pub(super) fn transition(self, byte: u8) -> Transition
+        ensures { result ≡ transition self byte }
+    {
+        match self {
+            State::Outside => step_outside(byte),
+            State::Comment => step_comment(byte),
+            State::Between => step_between(byte),
+            State::BeforeName => step_before_name(byte),
+            State::InName => step_in_name(byte),
+            State::BehindName => step_behind_name(byte),
+            State::InValue => step_in_value(byte),
+            State::Escaped => step_escaped(byte),
+            State::BehindValue => step_behind_value(byte),
+            State::Rest => step_rest(byte),
+        }
+    }
+}
