@@ -136,80 +136,82 @@ blanks : (n : ℕ) → list_all is_blank (replicate n 32) ≡ true
 blanks zero = refl
 blanks (suc n) = blanks n
 
-pub length-padded : (blank : Bool) (past last : ℕ) → length (padded blank past last) ≡ 1026 + past
+pub length-padded : (blank : Bool) (len last : ℕ) → length (padded blank len last) ≡ len - 2 + 2
 unfolding padded
-length-padded blank past last =
-    let sum : length (replicate {A = ℕ} (1024 + past) 32 ++ last ∷ []) ≡ length (replicate {A = ℕ} (1024 + past) 32)
-    + 1 = length-append (replicate {A = ℕ} (1024 + past) 32) (last ∷ []) in
-    let count : length (replicate {A = ℕ} (1024 + past) 32) ≡ 1024 + past = length-replicate (1024 + past) 32 in
+length-padded blank len last =
+    let sum : length (replicate {A = ℕ} (len - 2) 32 ++ last ∷ []) ≡ length (replicate {A = ℕ} (len - 2) 32)
+    + 1 = length-append (replicate {A = ℕ} (len - 2) 32) (last ∷ []) in
+    let count : length (replicate {A = ℕ} (len - 2) 32) ≡ len - 2 = length-replicate (len - 2) 32 in
     omega (arith, sum, count)
 
-pub front-padded : (blank : Bool) (past last : ℕ) → list_all is_blank (front_of (padded blank past last)) ≡ blank
+pub front-padded : (blank : Bool) (len last : ℕ) → list_all is_blank (front_of (padded blank len last)) ≡ blank
 unfolding padded
-front-padded blank past last =
+front-padded blank len last =
     let first : ℕ = cond blank 32 33 in
-    let front : List ℕ = first ∷ replicate (1024 + past) 32 in
+    let front : List ℕ = first ∷ replicate (len - 2) 32 in
     ap (list_all is_blank) (front_of-append front (last ∷ []) (omega arith) ∙ append-nil front)
-    ∙ elim blank as (λ v. (is_blank (cond v 32 33) && list_all is_blank (replicate (1024 + past) 32))
-    ≡ v) [ true ↦ blanks (1024 + past) | false ↦ refl ]
+    ∙ elim blank as (λ v. (is_blank (cond v 32 33) && list_all is_blank (replicate (len - 2) 32))
+    ≡ v) [ true ↦ blanks (len - 2) | false ↦ refl ]
 
-pub last-padded : (blank : Bool) (past last : ℕ) → last_of (padded blank past last) ≡ last
+pub last-padded : (blank : Bool) (len last : ℕ) → last_of (padded blank len last) ≡ last
 unfolding padded
-last-padded blank past last = last_of-append (cond blank 32 33 ∷ replicate (1024 + past) 32) (last ∷ []) (omega arith)
+last-padded blank len last = last_of-append (cond blank 32 33 ∷ replicate (len - 2) 32) (last ∷ []) (omega arith)
 
-pub found-padded : (g : Geometry) (blank : Bool) (past last : ℕ) → line_found g (padded blank past last)
-    ≡ long_found (1026 + past) blank last
-found-padded g blank past last =
-    let n = length-padded blank past last in
-    line_found-long g (padded blank past last) (omega arith)
-    ∙ ap (λ x. long_found x (list_all is_blank (front_of (padded blank past last))) (last_of (padded blank past last)))
+pub found-padded : (g : Geometry) (blank : Bool) (len last : ℕ) → 1026 ≤ len → line_found g (padded blank len last)
+    ≡ long_found len blank last
+found-padded g blank len last long =
+    let size = length-padded blank len last in
+    let n : length (padded blank len last) ≡ len = omega (arith, size, long) in
+    line_found-long g (padded blank len last) (omega arith)
+    ∙ ap (λ x. long_found x (list_all is_blank (front_of (padded blank len last))) (last_of (padded blank len last)))
     n
-    ∙ ap (λ b. long_found (1026 + past) b (last_of (padded blank past last))) (front-padded blank past last)
-    ∙ ap (long_found (1026 + past) blank) (last-padded blank past last)
+    ∙ ap (λ b. long_found len b (last_of (padded blank len last))) (front-padded blank len last)
+    ∙ ap (long_found len blank) (last-padded blank len last)
 
-SameLength-min : (n m : ℕ) → 1026 ≤ n → m ≡ min (n - 1026) 3072 → SameLength n (1026 + m)
-SameLength-min n m h e = elim (cases_lt n 4098) [
+SameLength-min : (n m : ℕ) → m ≡ min n 4098 → SameLength n m
+SameLength-min n m e = elim (cases_lt n 4098) [
   | inl short ↦ inl (omega arith)
   | inr long ↦
       inr (omega arith, omega arith)
 ]
 
 -- a line and a piece behind it, which are long together
-pub SaysSame-long : (line piece : List ℕ) (blank : Bool) (past last : ℕ) → 0 < length piece
+pub SaysSame-long : (line piece : List ℕ) (blank : Bool) (len last : ℕ) → 0 < length piece
     → 1026 ≤ length line + length piece
-    → past ≡ min (length line + length piece - 1026) 3072
+    → len ≡ min (length line + length piece) 4098
     → blank ≡ (list_all is_blank line && list_all is_blank (front_of piece))
     → last ≡ last_of piece
-    → SaysSame (line ++ piece) (padded blank past last)
-SaysSame-long line piece blank past last some enough past_is blank_is last_is =
+    → SaysSame (line ++ piece) (padded blank len last)
+SaysSame-long line piece blank len last some enough len_is blank_is last_is =
     let sum = length-append line piece in
-    let n = length-padded blank past last in
-    IsAlike-says (line ++ piece) (padded blank past last) (record {
+    let size = length-padded blank len last in
+    let n : length (padded blank len last) ≡ len = omega (arith, size, enough, len_is) in
+    IsAlike-says (line ++ piece) (padded blank len last) (record {
       long = omega arith;
       other_long = omega arith;
-      size = rw (sum, n) (SameLength-min (length line + length piece) past enough past_is);
-      blank = front_blank-append line piece some ∙ sym blank_is ∙ sym (front-padded blank past last);
-      last = last_of-append line piece some ∙ sym last_is ∙ sym (last-padded blank past last);
+      size = rw (sum, n) (SameLength-min (length line + length piece) len len_is);
+      blank = front_blank-append line piece some ∙ sym blank_is ∙ sym (front-padded blank len last);
+      last = last_of-append line piece some ∙ sym last_is ∙ sym (last-padded blank len last);
     })
 
 -- a long line is blank where it is up to its last byte, and that is
-pub blank-padded : (blank : Bool) (past last : ℕ) → list_all is_blank (padded blank past last)
+pub blank-padded : (blank : Bool) (len last : ℕ) → list_all is_blank (padded blank len last)
     ≡ (blank && is_blank last)
-blank-padded blank past last =
-    let n = length-padded blank past last in
-    list_all-last (padded blank past last) (omega arith)
-    ∙ ap (λ b. b && is_blank (last_of (padded blank past last))) (front-padded blank past last)
-    ∙ ap (λ b. blank && is_blank b) (last-padded blank past last)
+blank-padded blank len last =
+    let n = length-padded blank len last in
+    list_all-last (padded blank len last) (omega arith)
+    ∙ ap (λ b. b && is_blank (last_of (padded blank len last))) (front-padded blank len last)
+    ∙ ap (λ b. blank && is_blank b) (last-padded blank len last)
 
 -- what it says, as it is computed
-pub found-return : (g : Geometry) (blank : Bool) (past last : ℕ) → (last == 13) ≡ true
-    → line_found g (padded blank past last) ≡ long_text_found (1026 + past - 1) blank
-found-return g blank past last is_return = found-padded g blank past last
-    ∙ ap (λ v. cond v (long_text_found (1026 + past - 1) blank)
-    (long_text_found (1026 + past) (blank && is_blank last))) is_return
+pub found-return : (g : Geometry) (blank : Bool) (len last : ℕ) → 1026 ≤ len → (last == 13) ≡ true
+    → line_found g (padded blank len last) ≡ long_text_found (len - 1) blank
+found-return g blank len last long is_return = found-padded g blank len last long
+    ∙ ap (λ v. cond v (long_text_found (len - 1) blank)
+    (long_text_found len (blank && is_blank last))) is_return
 
-pub found-other : (g : Geometry) (blank : Bool) (past last : ℕ) → (last == 13) ≡ false
-    → line_found g (padded blank past last) ≡ long_text_found (1026 + past) (blank && is_blank last)
-found-other g blank past last no_return = found-padded g blank past last
-    ∙ ap (λ v. cond v (long_text_found (1026 + past - 1) blank)
-    (long_text_found (1026 + past) (blank && is_blank last))) no_return
+pub found-other : (g : Geometry) (blank : Bool) (len last : ℕ) → 1026 ≤ len → (last == 13) ≡ false
+    → line_found g (padded blank len last) ≡ long_text_found len (blank && is_blank last)
+found-other g blank len last long no_return = found-padded g blank len last long
+    ∙ ap (λ v. cond v (long_text_found (len - 1) blank)
+    (long_text_found len (blank && is_blank last))) no_return

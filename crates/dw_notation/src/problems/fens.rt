@@ -95,21 +95,19 @@ fn line_feed_at(bytes: &[u8]) -> Option<usize>
 /// How many bytes of a line are kept: a FEN text, and a carriage return after it.
 const FRONT: usize = 1025;
 
-/// The fewest bytes of a line that is not kept: without a carriage return it is still no FEN text.
-const SHORTEST: usize = FRONT + 1;
-
-/// How many bytes beyond the fewest are counted: enough to tell that the line is too long.
-const MOST_PAST: usize = 3072;
+/// How far the bytes of a longer line are counted: enough to tell that it is too long, with a carriage return too.
+const COUNTED: usize = MAX_LINE + 2;
 
 /// What is known of a line that is too long to be kept.
 #[derive(Clone, Copy)]
 struct LongLine {
-    /// The bytes beyond `SHORTEST`, as far as they are counted.
-    past: usize,
+    /// How many bytes it has, as far as they are counted.
+    len: usize,
     /// Whether all bytes but the last are blank.
     is_blank: bool,
     last: u8,
-    ghost counted: { past ≤ 3072 },
+    ghost long: { 1026 ≤ len },
+    ghost counted: { len ≤ 4098 },
 }
 
 impl LongLine {
@@ -125,9 +123,8 @@ impl LongLine {
             → SaysSame (line ++ piece.now) (long_bytes result) }
     {
         let last = piece.len() - 1;
-        let past = (before + piece.len() - SHORTEST).min(MOST_PAST);
         LongLine {
-            past,
+            len: (before + piece.len()).min(COUNTED),
             is_blank: is_blank_before && is_blank_text(&piece[..last]),
             last: piece[last],
         }
@@ -139,7 +136,7 @@ impl LongLine {
         ensures { SaysSame (long_bytes self ++ piece.now) (long_bytes result) }
     {
         let is_blank = self.is_blank && is_blank_byte(self.last);
-        LongLine::new(SHORTEST + self.past, is_blank, piece)
+        LongLine::new(self.len, is_blank, piece)
     }
 
     /// What the line says, if it is no blank one.
@@ -147,10 +144,10 @@ impl LongLine {
         ensures { result ≡ line_found B.geometry (long_bytes self) }
     {
         if self.last == b'\r' {
-            return read_long_text(SHORTEST + self.past - 1, self.is_blank);
+            return read_long_text(self.len - 1, self.is_blank);
         }
         let is_blank = self.is_blank && is_blank_byte(self.last);
-        read_long_text(SHORTEST + self.past, is_blank)
+        read_long_text(self.len, is_blank)
     }
 }
 

@@ -9,7 +9,7 @@ pub returns : goal.returns
 returns c = λ line size blank.
     let piece = c.args.piece.now in
     let is_blank_piece = list_all is_blank (front_of piece) in
-    SaysSame-long line piece c.if-is_blank_before.result c.min-past.result (last_of piece) c.requires.piece
+    SaysSame-long line piece c.if-is_blank_before.result c.min.result (last_of piece) c.requires.piece
     (omega arith) (omega arith)
     (elim c.if-is_blank_before.branch [
       | then-is_blank_before w ↦ w.result-is ∙ w.is_blank_text.ensures
