@@ -13,7 +13,7 @@ use Rattle.dw_moves.specs.Laws.{MovesListed, MovesInOrder}
 use Rattle.dw_solve.specs.Wins.{Win, Lost}
 use Rattle.dw_solve.specs.Laws.{WinsAreDecided}
 use Rattle.dw_list.specs.Lines.{Line}
-use Rattle.dw_list.specs.inner.Going.{GoesOn, IsNext, left_after, AreWays, AreWaysAmong}
+use Rattle.dw_list.specs.inner.Ways.{GoesOn, IsNext, left_after, AreWays, AreWaysAmong}
 use Rattle.dw_list.proofs.WayLemmas.{goes_to, goes_from, no_ways, ways_then, ways_through, ways_barred}
 use Rattle.dw_list.proofs.WayLemmas.{ways_of_attacker, ways_of_defender, ways_end}
 

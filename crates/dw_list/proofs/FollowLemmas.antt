@@ -16,14 +16,14 @@ use Rattle.dw_moves.specs.Laws.{MovesHaveKeys, MovesListed}
 use Rattle.dw_solve.specs.Wins.{Win}
 use Rattle.dw_list.specs.Lines.IsPlace.{lacks, leaves}
 use Rattle.dw_list.specs.Lines.{Line, Before, Lines, After, Begins, IsPlace}
-use Rattle.dw_list.specs.Standing.{BeginsAmong, Level, Standing, IsAhead, IsBehind, Remains, IsStillAhead}
-use Rattle.dw_list.specs.inner.Going.{GoesOn, IsNext, left_after, Keeps}
+use Rattle.dw_list.specs.LineStack.{BeginsAmong, Level, LineStack, IsAhead, IsBehind, Remains, IsStillAhead}
+use Rattle.dw_list.specs.inner.Ways.{GoesOn, IsNext, left_after, Keeps}
 use Rattle.dw_list.specs.inner.Levels.{AreBehind, Leads, AreLevels}
 use Rattle.dw_list.specs.inner.Steps.{begun, with_ahead}
-use Rattle.dw_list.specs.declared.stack.Trial.{Trial}
-use Rattle.dw_list.specs.inner.Tasks.{IsTrial, IsListed}
-use Rattle.dw_list.specs.Seeking.{IsAlong}
-use Rattle.dw_list.specs.inner.Seeking.{SomePassed, IsNotAhead, IsUnlisted, WentOn, GoOnWith}
+use Rattle.dw_list.specs.declared.stack.Candidate.{Candidate}
+use Rattle.dw_list.specs.inner.Tasks.{IsCandidate, IsListed}
+use Rattle.dw_list.specs.GivenLine.{IsAlong}
+use Rattle.dw_list.specs.inner.GivenLine.{SomePassed, IsNotAhead, IsUnlisted, WentOn, GoOnWith}
 use Rattle.dw_list.proofs.StackViewLemmas.{standing}
 use Rattle.dw_list.proofs.WayLemmas.{goes_from, next_legal, next_keeps}
 use Rattle.dw_list.specs.inner.ListLemmas.{ascending_parts}
@@ -160,9 +160,9 @@ comes_after keys g p n l P later ahead here lines all =
 levels_last : (x y : Level) (xs ys : List Level) → x ∷ xs ≡ y ∷ ys → x ≡ y
 levels_last x y xs ys e = cc
 
-module _ (g : Geometry) (old new : Standing) (end : Bool) (h : IsListed g old new end) where
+module _ (g : Geometry) (old new : LineStack) (end : Bool) (h : IsListed g old new end) where
   pub listed_levels : new.levels ≡ with_ahead h.last h.listing.moves ∷ h.outer
-  listed_levels = ap (λ (s : Standing). s.levels) h.is ∙ ap (λ z. z ∷ h.outer) h.listing.is
+  listed_levels = ap (λ (s : LineStack). s.levels) h.is ∙ ap (λ z. z ∷ h.outer) h.listing.is
 
   -- the move is not among the legal ones
   pub follow_barred : (m : Move) → IsNotAhead new m → GoOnWith g old.levels m → ⊥
@@ -172,43 +172,43 @@ module _ (g : Geometry) (old new : Standing) (end : Bool) (h : IsListed g old ne
       (next_legal g on.last.attacks on.last.position on.last.left m on.next) in
       none h.last h.outer h.listing.moves listed_levels ((h.listing.all.exactly m).1 legal)
 
-  pub follow_moves : (now : Standing) → SomePassed new now → now.moves ≡ old.moves
+  pub follow_moves : (now : LineStack) → SomePassed new now → now.moves ≡ old.moves
   follow_moves now passed =
       let r = passed h.last h.outer h.listing.moves listed_levels in
-      ap (λ (s : Standing). s.moves) r.1 ∙ ap (λ (s : Standing). s.moves) h.is
+      ap (λ (s : LineStack). s.moves) r.1 ∙ ap (λ (s : LineStack). s.moves) h.is
 
   -- the move does not keep a win
-  pub follow_lost : {B : Type 0} (now : Standing) (t : Trial B) (m : Move) → SomePassed new now → IsTrial g now.levels t
+  pub follow_lost : {B : Type 0} (now : LineStack) (t : Candidate B) (m : Move) → SomePassed new now → IsCandidate g now.levels t
       → t.mv ≡ m → (Keeps g t.attacks t.after t.left → ⊥) → GoOnWith g old.levels m → ⊥
-  follow_lost now t m passed trial is lost on =
+  follow_lost now t m passed candidate is lost on =
       let r = passed h.last h.outer h.listing.moves listed_levels in
       let same = levels_last on.last h.last on.outer h.outer (sym on.are ∙ h.are) in
-      let level = levels_last trial.last (with_ahead h.last r.0) trial.outer h.outer (sym trial.are
-      ∙ ap (λ (s : Standing). s.levels) r.1) in
+      let level = levels_last candidate.last (with_ahead h.last r.0) candidate.outer h.outer (sym candidate.are
+      ∙ ap (λ (s : LineStack). s.levels) r.1) in
       let next : IsNext g h.last.attacks h.last.position h.last.left t.mv =
       subst (λ z. IsNext g h.last.attacks h.last.position h.last.left z) (sym is)
       (subst (λ (z : Level). IsNext g z.attacks z.position z.left m) same on.next) in
       let keeps = next_keeps g h.last.attacks h.last.position h.last.left t.mv next in
-      let here : Keeps g trial.last.attacks (play g trial.last.position t.mv)
-      (left_after trial.last.attacks trial.last.left) =
+      let here : Keeps g candidate.last.attacks (play g candidate.last.position t.mv)
+      (left_after candidate.last.attacks candidate.last.left) =
       subst (λ (z : Level). Keeps g z.attacks (play g z.position t.mv) (left_after z.attacks z.left)) (sym level)
       keeps in
-      lost (subst (λ z. Keeps g t.attacks t.after z) (sym trial.left)
-      (subst (λ z. Keeps g t.attacks z (left_after trial.last.attacks trial.last.left)) (sym trial.after)
-      (subst (λ z. Keeps g z (play g trial.last.position t.mv) (left_after trial.last.attacks trial.last.left))
-      (sym trial.attacks) here)))
+      lost (subst (λ z. Keeps g t.attacks t.after z) (sym candidate.left)
+      (subst (λ z. Keeps g t.attacks z (left_after candidate.last.attacks candidate.last.left)) (sym candidate.after)
+      (subst (λ z. Keeps g z (play g candidate.last.position t.mv) (left_after candidate.last.attacks candidate.last.left))
+      (sym candidate.attacks) here)))
 
 -- ALL MOVES
 
 -- the stack went along the first i moves
-pub record Follows (g : Geometry) (p : Placement) (n : ℕ) (l : List Move) (i : ℕ) (s : Standing) : Type 0 where
+pub record Follows (g : Geometry) (p : Placement) (n : ℕ) (l : List Move) (i : ℕ) (s : LineStack) : Type 0 where
   pub position : s.position ≡ p
   pub moves : s.moves ≡ n
   pub line : s.line ≡ reverse (take i l)
   pub unlisted : IsUnlisted s.levels
   pub levels : AreLevels g s.position s.moves s.levels s.line
 
-pub follows_leads : (g : Geometry) (p : Placement) (n : ℕ) (l : List Move) (i : ℕ) (s : Standing)
+pub follows_leads : (g : Geometry) (p : Placement) (n : ℕ) (l : List Move) (i : ℕ) (s : LineStack)
     → (h : Follows g p n l i s) → Leads g p n h.unlisted.outer (reverse (take i l)) h.unlisted.last.attacks
     h.unlisted.last.position h.unlisted.last.left
 follows_leads g p n l i s h =
@@ -238,17 +238,17 @@ pub take_whole : {X : Type 0} (xs : List X) → take (length xs) xs ≡ xs
 take_whole [] = refl
 take_whole (x ∷ xs) = ap (λ z. x ∷ z) (take_whole xs)
 
-pub follows_init : (g : Geometry) (p : Placement) (n : ℕ) (l : List Move) (s : Standing)
+pub follows_init : (g : Geometry) (p : Placement) (n : ℕ) (l : List Move) (s : LineStack)
     → s ≡ standing p n [] (begun p true n ∷ []) → AreLevels g s.position s.moves s.levels s.line → Follows g p n l 0 s
 follows_init g p n l s is levels = record {
-  position = ap (λ (z : Standing). z.position) is;
-  moves = ap (λ (z : Standing). z.moves) is;
-  line = ap (λ (z : Standing). z.line) is;
-  unlisted = record { last = begun p true n; outer = []; are = ap (λ (z : Standing). z.levels) is; ahead = refl };
+  position = ap (λ (z : LineStack). z.position) is;
+  moves = ap (λ (z : LineStack). z.moves) is;
+  line = ap (λ (z : LineStack). z.line) is;
+  unlisted = record { last = begun p true n; outer = []; are = ap (λ (z : LineStack). z.levels) is; ahead = refl };
   levels = levels;
 }
 
-pub follows_more : (g : Geometry) (p : Placement) (n : ℕ) (l : List Move) (i : ℕ) (m : Move) (old new : Standing)
+pub follows_more : (g : Geometry) (p : Placement) (n : ℕ) (l : List Move) (i : ℕ) (m : Move) (old new : LineStack)
     → Follows g p n l i old → i < length l → m ≡ get_or l i m → WentOn old new m
     → AreLevels g new.position new.moves new.levels new.line → Follows g p n l (i + 1) new
 follows_more g p n l i m old new h low at went levels =
@@ -263,7 +263,7 @@ follows_more g p n l i m old new h low at went levels =
     }
 
 -- lines begin with the moves so far
-begins_so_far : MovesListed → (g : Geometry) (p : Placement) (n : ℕ) (l : List Move) (i : ℕ) (s : Standing)
+begins_so_far : MovesListed → (g : Geometry) (p : Placement) (n : ℕ) (l : List Move) (i : ℕ) (s : LineStack)
     → Follows g p n l i s → i ≤ length l → (j : ℕ) → 0 < j → j ≤ i → Begins g p n (take j l)
 begins_so_far listed g p n l i s h fits j some low =
     let leads = follows_leads g p n l i s h in
@@ -328,7 +328,7 @@ leaves_at g p n l place (leaves first none earlier) = record {
 
 -- no line goes on with the next move
 pub follows_place : MovesListed → (g : Geometry) (p : Placement) (n : ℕ) (l : List Move) (i : ℕ) (m : Move)
-    (s : Standing) → Follows g p n l i s → i < length l → m ≡ get_or l i m → (GoOnWith g s.levels m → ⊥)
+    (s : LineStack) → Follows g p n l i s → i < length l → m ≡ get_or l i m → (GoOnWith g s.levels m → ⊥)
     → LeavesAt g p n l (i + 1)
 follows_place listed g p n l i m s h low at barred =
     let leads = follows_leads g p n l i s h in
@@ -356,7 +356,7 @@ follows_place listed g p n l i m s h low at barred =
     }
 
 -- the list lacks a move
-pub follows_short : MovesListed → (g : Geometry) (p : Placement) (n : ℕ) (l : List Move) (s new : Standing) (end : Bool)
+pub follows_short : MovesListed → (g : Geometry) (p : Placement) (n : ℕ) (l : List Move) (s new : LineStack) (end : Bool)
     → Follows g p n l (length l) s → IsListed g s new end → end ≡ false → LeavesAt g p n l (length l + 1)
 follows_short listed g p n l s new end h k no_end =
     let leads = follows_leads g p n l (length l) s h in
@@ -389,7 +389,7 @@ follows_short listed g p n l s new end h k no_end =
       ends false q j (m ∷ ms) from on = absurd (on m (from m (inl refl)))
 
 -- the list is a line
-pub follows_line : MovesHaveKeys → (g : Geometry) (p : Placement) (n : ℕ) (l : List Move) (s new : Standing)
+pub follows_line : MovesHaveKeys → (g : Geometry) (p : Placement) (n : ℕ) (l : List Move) (s new : LineStack)
     (end : Bool) → Follows g p n l (length l) s → IsListed g s new end → end ≡ true → IsAlong g p n l new
 follows_line keys g p n l s new end h k ends_here =
     let leads = follows_leads g p n l (length l) s h in

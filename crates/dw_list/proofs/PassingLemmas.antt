@@ -4,7 +4,7 @@ use Rattle.std.proofs.Common.{map, drop, get_or, refl, sym, ap, ◌∙◌, arith
 use Rattle.std.specs.Prelude.{option_map}
 use Rattle.dw_board.specs.Placement.{Placement}
 use Rattle.dw_moves.specs.Moves.{Move}
-use Rattle.dw_list.specs.Standing.{Level}
+use Rattle.dw_list.specs.LineStack.{Level}
 use Rattle.dw_list.specs.inner.Steps.{first_ahead, passed}
 
 abbrev pub level : Placement → Bool → ℕ → Option (List Move) → Level

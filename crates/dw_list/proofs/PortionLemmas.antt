@@ -6,23 +6,23 @@ use Rattle.dw_board.specs.Geometry.{Geometry}
 use Rattle.dw_moves.specs.Moves.{Move}
 use Rattle.dw_solve.specs.Solving.{Solving}
 use Rattle.dw_list.specs.Listing.{last_of, LimitIsLast}
-use Rattle.dw_list.specs.Standing.{Standing, AreToCome}
-use Rattle.dw_list.specs.Walking.{Gives, SameToCome, GivesFirst}
-use Rattle.dw_list.specs.inner.Walking.{GivesNext}
+use Rattle.dw_list.specs.LineStack.{LineStack, AreToCome}
+use Rattle.dw_list.specs.StackWalk.{Gives, SameToCome, GivesFirst}
+use Rattle.dw_list.specs.inner.StackWalk.{GivesNext}
 use Rattle.dw_list.proofs.StepLemmas.{gives_nothing, gives_then, gives_same, none_stays, none_first}
 
-pub taken_none_yet : (g : Geometry) (s : Standing) {X : Type 0} (f : X → List Move) (xs : List X) → xs ≡ []
+pub taken_none_yet : (g : Geometry) (s : LineStack) {X : Type 0} (f : X → List Move) (xs : List X) → xs ≡ []
     → Gives g s s (map f xs)
 taken_none_yet g s f xs e = subst (λ z. Gives g s s (map f z)) (sym e) (gives_nothing g s)
 
-module _ (g : Geometry) (a b c : Standing) (same : b ≡ a) where
-  pub taken_same : {X : Type 0} (f : X → List Move) (s : Standing) (xs ys : List X) → ys ≡ xs → SameToCome g b c
+module _ (g : Geometry) (a b c : LineStack) (same : b ≡ a) where
+  pub taken_same : {X : Type 0} (f : X → List Move) (s : LineStack) (xs ys : List X) → ys ≡ xs → SameToCome g b c
       → Gives g s a (map f xs) → Gives g s c (map f ys)
   taken_same f s xs ys e h given =
       subst (Gives g s c) (ap (map f) (sym e)) (gives_same g s a c (map f xs) given (subst (λ z. SameToCome g z c) same
       h))
 
-  pub taken_more : {X : Type 0} (f : X → List Move) (s : Standing) (xs ys zs : List X) (x : X) (l : List Move) → ys ≡ xs
+  pub taken_more : {X : Type 0} (f : X → List Move) (s : LineStack) (xs ys zs : List X) (x : X) (l : List Move) → ys ≡ xs
       → zs ≡ ys ++ x ∷ [] → f x ≡ l → l ≡ reverse c.line → GivesNext g true b c → Gives g s a (map f xs)
       → Gives g s c (map f zs)
   taken_more f s xs ys zs x l e is line at h given =
@@ -37,7 +37,7 @@ module _ (g : Geometry) (a b c : Standing) (same : b ≡ a) where
   pub end_more : GivesNext g true b c → AreToCome g a [] → AreToCome g c []
   end_more h none = absurd (none_first g b c (subst (λ z. AreToCome g z []) (sym same) none) h)
 
-  pub taken_none : {X : Type 0} (f : X → List Move) (s : Standing) (xs ys : List X) → ys ≡ xs → GivesNext g false b c
+  pub taken_none : {X : Type 0} (f : X → List Move) (s : LineStack) (xs ys : List X) → ys ≡ xs → GivesNext g false b c
       → Gives g s a (map f xs) → Gives g s c (map f ys)
   taken_none f s xs ys e h given = taken_same f s xs ys e h.same given
 

@@ -8,8 +8,8 @@ use Rattle.dw_board.specs.Placement.{Placement}
 use Rattle.dw_moves.specs.Moves.{Move, play}
 use Rattle.dw_moves.specs.Order.{Precedes}
 use Rattle.dw_list.specs.Lines.{Line, Before}
-use Rattle.dw_list.specs.inner.Going.{GoesOn, left_after}
-use Rattle.dw_list.specs.Standing.{Level, IsAhead, IsBehind, Remains}
+use Rattle.dw_list.specs.inner.Ways.{GoesOn, left_after}
+use Rattle.dw_list.specs.LineStack.{Level, IsAhead, IsBehind, Remains}
 use Rattle.dw_list.specs.inner.Levels.{AreBehind, Leads}
 use Rattle.dw_list.proofs.WayLemmas.{goes_to, goes_from}
 use Rattle.dw_list.specs.inner.ListLemmas.{ascending_parts}

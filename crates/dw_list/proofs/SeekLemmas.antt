@@ -6,11 +6,11 @@ use Rattle.dw_board.specs.Geometry.{Geometry}
 use Rattle.dw_moves.specs.Moves.{Move}
 use Rattle.dw_board.specs.Lists.{Member}
 use Rattle.dw_moves.specs.inner.MemberLemmas.{mem_cases}
-use Rattle.dw_list.specs.declared.stack.Trial.{Trial}
-use Rattle.dw_list.specs.inner.Tasks.{IsTrial}
-use Rattle.dw_list.specs.Standing.{Level, Standing}
+use Rattle.dw_list.specs.declared.stack.Candidate.{Candidate}
+use Rattle.dw_list.specs.inner.Tasks.{IsCandidate}
+use Rattle.dw_list.specs.LineStack.{Level, LineStack}
 use Rattle.dw_list.specs.inner.Steps.{first_ahead, with_ahead, passed_last}
-use Rattle.dw_list.specs.inner.Seeking.{ahead_of, SomePassed, IsNotAhead}
+use Rattle.dw_list.specs.inner.GivenLine.{ahead_of, SomePassed, IsNotAhead}
 
 abbrev pub count_of : Option (List Move) → ℕ
 count_of None = 0
@@ -22,12 +22,12 @@ ahead_count [] = 0
 ahead_count (f ∷ outer) = count_of f.ahead
 
 -- so far the move was not met
-abbrev pub Seeks : Standing → Standing → Move → Type 0
+abbrev pub Seeks : LineStack → LineStack → Move → Type 0
 Seeks old new m = (f : Level) (outer : List Level) (moves : List Move) → old.levels ≡ with_ahead f moves ∷ outer →
     (before : List Move) × (rest : List Move) × (moves ≡ before ++ rest) × (new ≡ ahead_of old f outer rest)
     × (Member m before → ⊥)
 
-pub seeks_init : (s : Standing) (m : Move) → Seeks s s m
+pub seeks_init : (s : LineStack) (m : Move) → Seeks s s m
 seeks_init s m f outer moves e = ([], moves, refl, (λ i. record s { levels = e i }), λ h. h)
 
 first_cons : (moves : List Move) (m : Move) → first_ahead (Some moves) ≡ Some m → (rest : List Move)
@@ -43,19 +43,19 @@ append_last [] rest m = refl
 append_last (x ∷ before) rest m = ap (λ z. x ∷ z) (append_last before rest m)
 
 first_same : {B : Type 0} (g : Geometry) (f : Level) (outer : List Level) (rest : List Move) (levels : List Level)
-    (t : Trial B) → levels ≡ with_ahead f rest ∷ outer → IsTrial g levels t → first_ahead (Some rest) ≡ Some t.mv
-first_same g f outer rest levels t is trial =
-    let same = levels_last trial.last (with_ahead f rest) trial.outer outer (sym trial.are ∙ is) in
-    subst (λ (z : Level). first_ahead z.ahead ≡ Some t.mv) same trial.first
+    (t : Candidate B) → levels ≡ with_ahead f rest ∷ outer → IsCandidate g levels t → first_ahead (Some rest) ≡ Some t.mv
+first_same g f outer rest levels t is candidate =
+    let same = levels_last candidate.last (with_ahead f rest) candidate.outer outer (sym candidate.are ∙ is) in
+    subst (λ (z : Level). first_ahead z.ahead ≡ Some t.mv) same candidate.first
 
-pub seeks_more : {B : Type 0} (g : Geometry) (old s new : Standing) (m : Move) (t : Trial B) → Seeks old s m
-    → IsTrial g s.levels t → (t.mv ≡ m → ⊥) → new ≡ record s { levels = passed_last s.levels } → Seeks old new m
-seeks_more g old s new m t seeks trial apart is f outer moves e =
+pub seeks_more : {B : Type 0} (g : Geometry) (old s new : LineStack) (m : Move) (t : Candidate B) → Seeks old s m
+    → IsCandidate g s.levels t → (t.mv ≡ m → ⊥) → new ≡ record s { levels = passed_last s.levels } → Seeks old new m
+seeks_more g old s new m t seeks candidate apart is f outer moves e =
     let h = seeks f outer moves e in
-    let here : s.levels ≡ with_ahead f h.1 ∷ outer = ap (λ (z : Standing). z.levels) h.3 in
-    let first = first_cons h.1 t.mv (first_same g f outer h.1 s.levels t here trial) in
+    let here : s.levels ≡ with_ahead f h.1 ∷ outer = ap (λ (z : LineStack). z.levels) h.3 in
+    let first = first_cons h.1 t.mv (first_same g f outer h.1 s.levels t here candidate) in
     let now : new ≡ ahead_of old f outer first.0 =
-    is ∙ ap (λ (z : Standing). record z { levels = passed_last z.levels }) h.3
+    is ∙ ap (λ (z : LineStack). record z { levels = passed_last z.levels }) h.3
     ∙ ap (λ z. record old { levels = passed_last (with_ahead f z ∷ outer) }) first.1 in (
       h.0 ++ t.mv ∷ [],
       first.0,
@@ -69,15 +69,15 @@ seeks_more g old s new m t seeks trial apart is f outer moves e =
       ],
     )
 
-pub seeks_passed : (old new : Standing) (m : Move) → Seeks old new m → SomePassed old new
+pub seeks_passed : (old new : LineStack) (m : Move) → Seeks old new m → SomePassed old new
 seeks_passed old new m seeks f outer moves e = let h = seeks f outer moves e in (h.1, h.3)
 
 -- at the end the move is not ahead
-pub seeks_none : (old s : Standing) (m : Move) → Seeks old s m → ((f : Level) (outer : List Level) (moves : List Move)
+pub seeks_none : (old s : LineStack) (m : Move) → Seeks old s m → ((f : Level) (outer : List Level) (moves : List Move)
     → s.levels ≡ with_ahead f moves ∷ outer → moves ≡ []) → IsNotAhead old m
 seeks_none old s m seeks over f outer moves e member =
     let h = seeks f outer moves e in
-    let empty = over f outer h.1 (ap (λ (z : Standing). z.levels) h.3) in
+    let empty = over f outer h.1 (ap (λ (z : LineStack). z.levels) h.3) in
     elim (mem_cases m h.0 h.1 (subst (Member m) h.2 member)) [
       | inl early ↦ h.4 early
       | inr late ↦ subst (Member m) empty late
@@ -105,9 +105,9 @@ count_less None m e = cc
 count_less (Some []) m e = cc
 count_less (Some (r ∷ moves)) m e = omega arith
 
-pub count_falls : {B : Type 0} (g : Geometry) (s new : Standing) (t : Trial B) → IsTrial g s.levels t
+pub count_falls : {B : Type 0} (g : Geometry) (s new : LineStack) (t : Candidate B) → IsCandidate g s.levels t
     → new ≡ record s { levels = passed_last s.levels } → ahead_count new.levels < ahead_count s.levels
-count_falls g s new t trial is =
-    let levels : new.levels ≡ passed_last s.levels = ap (λ (z : Standing). z.levels) is in
+count_falls g s new t candidate is =
+    let levels : new.levels ≡ passed_last s.levels = ap (λ (z : LineStack). z.levels) is in
     subst (λ z. ahead_count z < ahead_count s.levels) (sym levels) (subst (λ z. ahead_count (passed_last z)
-    < ahead_count z) (sym trial.are) (count_less trial.last.ahead t.mv trial.first))
+    < ahead_count z) (sym candidate.are) (count_less candidate.last.ahead t.mv candidate.first))

@@ -10,8 +10,8 @@ use Rattle.dw_moves.specs.Moves.{Move, Legal, play}
 use Rattle.dw_moves.specs.inner.MemberLemmas.{mem_at}
 use Rattle.dw_moves.specs.Order.{Precedes, IsListOf}
 use Rattle.dw_solve.specs.Wins.{Win, Lost}
-use Rattle.dw_list.specs.inner.Going.{IsNext, left_after, Keeps}
-use Rattle.dw_list.specs.Standing.{Level}
+use Rattle.dw_list.specs.inner.Ways.{IsNext, left_after, Keeps}
+use Rattle.dw_list.specs.LineStack.{Level}
 use Rattle.dw_list.specs.inner.Levels.{AreLast, AreBehind, Leads, AreLevels}
 use Rattle.dw_list.specs.inner.Steps.{begun, first_ahead, passed, IsListing, passed_last}
 use Rattle.dw_list.proofs.WayLemmas.{next_to}

@@ -8,15 +8,15 @@ use Rattle.std.proofs.lemmas.Bool.{true≢false}
 use Rattle.dw_board.specs.Geometry.{Geometry}
 use Rattle.dw_board.specs.Placement.{Placement}
 use Rattle.dw_moves.specs.Moves.{Move, play}
-use Rattle.dw_list.specs.inner.Going.{left_after, Keeps}
-use Rattle.dw_list.specs.Standing.{Level, Standing}
+use Rattle.dw_list.specs.inner.Ways.{left_after, Keeps}
+use Rattle.dw_list.specs.LineStack.{Level, LineStack}
 use Rattle.dw_list.specs.inner.Levels.{AreLevels, IsFew}
-use Rattle.dw_list.specs.declared.stack.Trial.{Trial}
-use Rattle.dw_list.specs.inner.Tasks.{IsTrial}
+use Rattle.dw_list.specs.declared.stack.Candidate.{Candidate}
+use Rattle.dw_list.specs.inner.Tasks.{IsCandidate}
 use Rattle.dw_list.specs.inner.Steps.{begun, first_ahead, passed, passed_last, IsListing}
 use Rattle.dw_list.proofs.StackLemmas.{levels_passed, levels_listed, levels_entered, levels_back, room_entered}
 
-abbrev pub standing : Placement → ℕ → List Move → List Level → Standing
+abbrev pub standing : Placement → ℕ → List Move → List Level → LineStack
 standing p n line levels = record { position = p; moves = n; line = line; levels = levels }
 
 pub end_first : {X : Type 0} (xs ys : List X) (x : X) → xs ≡ ys ++ x ∷ [] → reverse xs ≡ x ∷ reverse ys
@@ -182,43 +182,43 @@ at_last now items xs n x b is same empty not_so e at =
       long (y ∷ xs) n b empty not_so e = omega arith
 
 -- the stack with other levels
-pub with_levels : (s : Standing) (p : Placement) (n : ℕ) (line : List Move) (old new wanted : List Level)
+pub with_levels : (s : LineStack) (p : Placement) (n : ℕ) (line : List Move) (old new wanted : List Level)
     → standing p n line old ≡ s → new ≡ wanted → standing p n line new ≡ record s { levels = wanted }
-with_levels s p n line old new wanted is same = subst (λ (z : Standing). standing p n line new
+with_levels s p n line old new wanted is same = subst (λ (z : LineStack). standing p n line new
     ≡ record z { levels = wanted }) is (λ i. standing p n line (same i))
 
-pub with_both : (s : Standing) (p : Placement) (n : ℕ) (line line' : List Move) (old new : List Level)
+pub with_both : (s : LineStack) (p : Placement) (n : ℕ) (line line' : List Move) (old new : List Level)
     → standing p n line old ≡ s → line' ≡ drop 1 line → new ≡ drop 1 old → standing p n line' new
     ≡ record s { line = drop 1 s.line; levels = drop 1 s.levels }
-with_both s p n line line' old new is e f = subst (λ (z : Standing). standing p n line' new
+with_both s p n line line' old new is e f = subst (λ (z : LineStack). standing p n line' new
     ≡ record z { line = drop 1 z.line; levels = drop 1 z.levels }) is (λ i. standing p n (e i) (f i))
 
--- the trial of the last level
-pub same_trial : {B : Type 0} (g : Geometry) (levels outer : List Level) (f : Level) (t : Trial B) → levels ≡ f ∷ outer
-    → IsTrial g levels t → (first_ahead f.ahead ≡ Some t.mv) × (t.after ≡ play g f.position t.mv)
+-- the candidate of the last level
+pub same_candidate : {B : Type 0} (g : Geometry) (levels outer : List Level) (f : Level) (t : Candidate B) → levels ≡ f ∷ outer
+    → IsCandidate g levels t → (first_ahead f.ahead ≡ Some t.mv) × (t.after ≡ play g f.position t.mv)
     × (t.attacks ≡ f.attacks) × (t.left ≡ left_after f.attacks f.left)
-same_trial g levels outer f t are trial =
-    let same : trial.last ≡ f = heads trial.last f trial.outer outer (sym trial.are ∙ are) in
+same_candidate g levels outer f t are candidate =
+    let same : candidate.last ≡ f = heads candidate.last f candidate.outer outer (sym candidate.are ∙ are) in
     subst (λ (z : Level). (first_ahead z.ahead ≡ Some t.mv) × (t.after ≡ play g z.position t.mv)
     × (t.attacks ≡ z.attacks) × (t.left ≡ left_after z.attacks z.left)) same (
-      trial.first,
-      trial.after,
-      trial.attacks,
-      trial.left,
+      candidate.first,
+      candidate.after,
+      candidate.attacks,
+      candidate.left,
     ) where
       heads : (x y : Level) (xs ys : List Level) → x ∷ xs ≡ y ∷ ys → x ≡ y
       heads x y xs ys e = cc
 
 -- what a stack keeps to inside holds of what is seen of it
-pub seen_levels : (g : Geometry) (inside seen : Standing) → inside ≡ seen
+pub seen_levels : (g : Geometry) (inside seen : LineStack) → inside ≡ seen
     → AreLevels g inside.position inside.moves inside.levels inside.line
     → AreLevels g seen.position seen.moves seen.levels seen.line
-seen_levels g inside seen is levels = subst (λ (s : Standing). AreLevels g s.position s.moves s.levels s.line) is levels
+seen_levels g inside seen is levels = subst (λ (s : LineStack). AreLevels g s.position s.moves s.levels s.line) is levels
 
 -- the number of levels is what is seen of it
-pub seen_fits : (p : Placement) (n : ℕ) (line : List Move) (items : List Level) (seen : Standing)
+pub seen_fits : (p : Placement) (n : ℕ) (line : List Move) (items : List Level) (seen : LineStack)
     → standing p n line (reverse items) ≡ seen → length items ≤ 2 * n → length seen.levels ≤ 2 * seen.moves
-seen_fits p n line items seen is few = subst (λ (s : Standing). length s.levels ≤ 2 * s.moves) is
+seen_fits p n line items seen is few = subst (λ (s : LineStack). length s.levels ≤ 2 * s.moves) is
     (subst (λ z. z ≤ 2 * n) (sym (length-reverse items)) few)
 
 pub some_levels : (xs : List Level) (b : Bool) → b ≡ (length xs == 0) → b ≡ false → 1 ≤ length xs
@@ -226,17 +226,17 @@ some_levels [] b empty not_so = absurd (true≢false (sym empty ∙ not_so))
 some_levels (y ∷ xs) b empty not_so = omega arith
 
 -- what is seen of a stack whose last level passed a move
-pub seen_passed : (s : Standing) (p : Placement) (n : ℕ) (line : List Move) (old popped new : List Level) (f h : Level)
+pub seen_passed : (s : LineStack) (p : Placement) (n : ℕ) (line : List Move) (old popped new : List Level) (f h : Level)
     → standing p n line (reverse old) ≡ s → old ≡ popped ++ f ∷ [] → new ≡ popped ++ h ∷ [] → h ≡ passed f
     → standing p n line (reverse new) ≡ record s { levels = passed_last s.levels }
 seen_passed s p n line old popped new f h seen was is passes =
     let levels : reverse new ≡ passed_last (reverse old) = end_first new popped h is
     ∙ ap (λ z. z ∷ reverse popped) passes ∙ sym (ap passed_last (end_first old popped f was)) in
-    subst (λ (z : Standing). standing p n line (reverse new) ≡ record z { levels = passed_last z.levels }) seen
+    subst (λ (z : LineStack). standing p n line (reverse new) ≡ record z { levels = passed_last z.levels }) seen
     (λ i. standing p n line (levels i))
 
 -- what is seen of a stack that went on with a move
-pub seen_entered : (s : Standing) (p : Placement) (n : ℕ) (line line' : List Move) (m : Move)
+pub seen_entered : (s : LineStack) (p : Placement) (n : ℕ) (line line' : List Move) (m : Move)
     (old popped new : List Level) (f h c k : Level) → standing p n (reverse line) (reverse old) ≡ s
     → line' ≡ line ++ m ∷ [] → old ≡ popped ++ f ∷ [] → new ≡ (popped ++ h ∷ []) ++ c ∷ [] → h ≡ passed f → c ≡ k
     → standing p n (reverse line') (reverse new)
@@ -246,7 +246,7 @@ seen_entered s p n line line' m old popped new f h c k seen played was is passes
     let levels : reverse new ≡ k ∷ passed_last (reverse old) = end_first new (popped ++ h ∷ []) c is
     ∙ ap (λ z. z ∷ reverse (popped ++ h ∷ [])) begins ∙ ap (λ z. k ∷ z) (end_first (popped ++ h ∷ []) popped h refl
     ∙ ap (λ z. z ∷ reverse popped) passes ∙ sym (ap passed_last (end_first old popped f was))) in
-    subst (λ (z : Standing). standing p n (reverse line') (reverse new)
+    subst (λ (z : LineStack). standing p n (reverse line') (reverse new)
     ≡ record z { line = m ∷ z.line; levels = k ∷ passed_last z.levels }) seen
     (λ i. standing p n (line_is i) (levels i))
 

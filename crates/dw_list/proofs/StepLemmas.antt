@@ -12,17 +12,17 @@ use Rattle.dw_board.specs.Lists.{Member}
 use Rattle.dw_moves.specs.Order.{Precedes, IsAscending, IsListOf}
 use Rattle.dw_moves.specs.Laws.{MovesHaveKeys}
 use Rattle.dw_list.specs.Lines.{Line, Before}
-use Rattle.dw_list.specs.Standing.{BeginsAmong, Level, Standing, IsAhead, IsBehind, Remains, IsStillAhead, AreToCome}
-use Rattle.dw_list.specs.inner.Going.{GoesOn, left_after, Keeps}
+use Rattle.dw_list.specs.LineStack.{BeginsAmong, Level, LineStack, IsAhead, IsBehind, Remains, IsStillAhead, AreToCome}
+use Rattle.dw_list.specs.inner.Ways.{GoesOn, left_after, Keeps}
 use Rattle.dw_list.specs.inner.Levels.{AreLevels}
 use Rattle.dw_list.specs.inner.Steps.{begun, first_ahead, passed, passed_last, with_ahead, cost_of_all, cost_of, IsStep}
 use Rattle.dw_list.specs.inner.Steps.{IsGiven}
-use Rattle.dw_list.specs.declared.stack.Trial.{Trial}
-use Rattle.dw_list.specs.inner.Tasks.{IsTrial, IsListed}
+use Rattle.dw_list.specs.declared.stack.Candidate.{Candidate}
+use Rattle.dw_list.specs.inner.Tasks.{IsCandidate, IsListed}
 use Rattle.dw_list.specs.declared.walk.Step.{Step}
 use Rattle.dw_list.specs.declared.walk.Step.TheVariants.{Given, On}
-use Rattle.dw_list.specs.Walking.{Gives, SameToCome, GivesFirst, GivesNone}
-use Rattle.dw_list.specs.inner.Walking.{HasStepped}
+use Rattle.dw_list.specs.StackWalk.{Gives, SameToCome, GivesFirst, GivesNone}
+use Rattle.dw_list.specs.inner.StackWalk.{HasStepped}
 use Rattle.dw_list.proofs.StackLemmas.{leads_count}
 use Rattle.dw_list.proofs.GatheringLemmas.{left_within}
 use Rattle.dw_list.proofs.WayLemmas.{goes_from, next_legal, next_keeps}
@@ -207,20 +207,20 @@ step_back g p n line f outer levels is = record {
 -- ONE STEP AFTER ANOTHER
 
 -- the same lines are still ahead
-pub record SameLines (g : Geometry) (old new : Standing) : Type 0 where
+pub record SameLines (g : Geometry) (old new : LineStack) : Type 0 where
   pub position : new.position ≡ old.position
   pub moves : new.moves ≡ old.moves
   pub same : (l : List Move) → Line g old.position old.moves l → IsStillAhead old.levels old.line l
       ↔ IsStillAhead new.levels new.line l
 
-pub same_none : (g : Geometry) (s : Standing) → SameLines g s s
+pub same_none : (g : Geometry) (s : LineStack) → SameLines g s s
 same_none g s = record { position = refl; moves = refl; same = λ l here. ((λ h. h), (λ h. h)) }
 
-pub line_at : (g : Geometry) (old new : Standing) → new.position ≡ old.position → new.moves ≡ old.moves
+pub line_at : (g : Geometry) (old new : LineStack) → new.position ≡ old.position → new.moves ≡ old.moves
     → (l : List Move) → Line g old.position old.moves l → Line g new.position new.moves l
 line_at g old new e f l h = subst (λ z. Line g new.position z l) (sym f) (subst (λ z. Line g z old.moves l) (sym e) h)
 
-pub same_then : (g : Geometry) (a b c : Standing) → SameLines g a b → IsStep g b c → SameLines g a c
+pub same_then : (g : Geometry) (a b c : LineStack) → SameLines g a b → IsStep g b c → SameLines g a c
 same_then g a b c h s = record {
   position = s.position ∙ h.position;
   moves = s.moves ∙ h.moves;
@@ -230,7 +230,7 @@ same_then g a b c h s = record {
 }
 
 -- the lines still to come of one are those of the other
-same_listed : (g : Geometry) (a b : Standing) → SameLines g a b → (lines : List (List Move)) → AreToCome g a lines
+same_listed : (g : Geometry) (a b : LineStack) → SameLines g a b → (lines : List (List Move)) → AreToCome g a lines
     → AreToCome g b lines
 same_listed g a b h lines all =
     let moved = subst (λ z. IsListOf (Before g z) (λ l. Line g a.position a.moves l × IsStillAhead a.levels a.line l)
@@ -244,7 +244,7 @@ same_listed g a b h lines all =
       );
     }
 
-same_back : (g : Geometry) (a b : Standing) → SameLines g a b → SameLines g b a
+same_back : (g : Geometry) (a b : LineStack) → SameLines g a b → SameLines g b a
 same_back g a b h = record {
   position = sym h.position;
   moves = sym h.moves;
@@ -253,7 +253,7 @@ same_back g a b h = record {
       ((λ k. (h.same l there).1 k), (λ k. (h.same l there).0 k));
 }
 
-pub same_to_come : (g : Geometry) (a b : Standing) → SameLines g a b → SameToCome g a b
+pub same_to_come : (g : Geometry) (a b : LineStack) → SameLines g a b → SameToCome g a b
 same_to_come g a b h = record {
   position = h.position;
   moves = h.moves;
@@ -266,14 +266,14 @@ pub if_stopped : {T E : Type 0} (r : Result T E) (P : Type 0) → P → OnErr r 
 if_stopped (Ok x) P h = tt
 if_stopped (Err e) P h = h
 
-pub gives_none : (g : Geometry) (a b c : Standing) → SameLines g a b → b.levels ≡ [] → c ≡ b → GivesNone g a c
+pub gives_none : (g : Geometry) (a b c : LineStack) → SameLines g a b → b.levels ≡ [] → c ≡ b → GivesNone g a c
 gives_none g a b c h none is = record {
   same = subst (SameToCome g a) (sym is) (same_to_come g a b h);
   none = none_listed (Before g a.position) (λ l. Line g a.position a.moves l × IsStillAhead a.levels a.line l)
       (λ l k. subst (λ z. IsStillAhead z b.line l) none ((h.same l k.0).0 k.1));
 }
 
-given_first : MovesHaveKeys → (g : Geometry) (b c : Standing) → IsGiven g b c → (lines : List (List Move))
+given_first : MovesHaveKeys → (g : Geometry) (b c : LineStack) → IsGiven g b c → (lines : List (List Move))
     → AreToCome g b lines → (rest : List (List Move)) × (lines ≡ reverse c.line ∷ rest) × AreToCome g c rest
 given_first keys g b c s lines all =
     let line = reverse c.line in
@@ -296,7 +296,7 @@ given_first keys g b c s lines all =
     )
 
 -- and back: what is still to come after the line that was given came after it before
-given_back : MovesHaveKeys → (g : Geometry) (b c : Standing) → IsGiven g b c → (rest : List (List Move))
+given_back : MovesHaveKeys → (g : Geometry) (b c : LineStack) → IsGiven g b c → (rest : List (List Move))
     → AreToCome g c rest → AreToCome g b (reverse c.line ∷ rest)
 given_back keys g b c s rest all = record {
   ascending = (
@@ -316,7 +316,7 @@ given_back keys g b c s rest all = record {
   );
 }
 
-pub gives_first : MovesHaveKeys → (g : Geometry) (a b c : Standing) → SameLines g a b → IsGiven g b c → GivesFirst g a c
+pub gives_first : MovesHaveKeys → (g : Geometry) (a b c : LineStack) → SameLines g a b → IsGiven g b c → GivesFirst g a c
 gives_first keys g a b c h s = record {
   position = s.position ∙ h.position;
   moves = s.moves ∙ h.moves;
@@ -334,10 +334,10 @@ gives_first keys g a b c h s = record {
 
 -- WHAT ONE WALK GAVE, AND THEN ANOTHER
 
-pub gives_nothing : (g : Geometry) (s : Standing) → SameToCome g s s
+pub gives_nothing : (g : Geometry) (s : LineStack) → SameToCome g s s
 gives_nothing g s = same_to_come g s s (same_none g s)
 
-pub gives_then : (g : Geometry) (a b c : Standing) (xs ys : List (List Move)) → Gives g a b xs → Gives g b c ys
+pub gives_then : (g : Geometry) (a b c : LineStack) (xs ys : List (List Move)) → Gives g a b xs → Gives g b c ys
     → Gives g a c (xs ++ ys)
 gives_then g a b c xs ys h k = record {
   position = k.position ∙ h.position;
@@ -352,31 +352,31 @@ gives_then g a b c xs ys h k = record {
   );
 }
 
-pub gives_same : (g : Geometry) (a b c : Standing) (xs : List (List Move)) → Gives g a b xs → SameToCome g b c
+pub gives_same : (g : Geometry) (a b c : LineStack) (xs : List (List Move)) → Gives g a b xs → SameToCome g b c
     → Gives g a c xs
 gives_same g a b c xs h k = subst (Gives g a c) (append-nil xs) (gives_then g a b c xs [] h k)
 
 -- after the end nothing is given
-pub none_stays : (g : Geometry) (a b : Standing) → AreToCome g a [] → SameToCome g a b → AreToCome g b []
+pub none_stays : (g : Geometry) (a b : LineStack) → AreToCome g a [] → SameToCome g a b → AreToCome g b []
 none_stays g a b none h = (h.rest []).0 none
 
-pub none_first : (g : Geometry) (a b : Standing) → AreToCome g a [] → GivesFirst g a b → ⊥
+pub none_first : (g : Geometry) (a b : LineStack) → AreToCome g a [] → GivesFirst g a b → ⊥
 none_first g a b none h = let first = h.first [] none in let e = first.1 in cc
 
 -- STEPS OF THE STACK ITSELF
 
-module _ (g : Geometry) (s : Standing) (levels : AreLevels g s.position s.moves s.levels s.line) (fits : length s.levels
+module _ (g : Geometry) (s : LineStack) (levels : AreLevels g s.position s.moves s.levels s.line) (fits : length s.levels
     ≤ 2 * s.moves) where
   -- a fact of a stack with these levels
   opened : (f : Level) (outer : List Level) → s.levels ≡ f ∷ outer → AreLevels g s.position s.moves (f ∷ outer) s.line
       × (length outer + 1 ≤ 2 * s.moves)
   opened f outer e = (subst (λ z. AreLevels g s.position s.moves z s.line) e levels, omega (arith, fits, ap length e))
 
-  as_step : (f : Level) (outer : List Level) (new : Standing) → s.levels ≡ f ∷ outer
+  as_step : (f : Level) (outer : List Level) (new : LineStack) → s.levels ≡ f ∷ outer
       → IsStep g (standing s.position s.moves s.line (f ∷ outer)) new → IsStep g s new
   as_step f outer new e h = subst (λ z. IsStep g (standing s.position s.moves s.line z) new) (sym e) h
 
-  pub walk_listed : (new : Standing) (end : Bool) → IsListed g s new end → (q : Level) (others : List Level)
+  pub walk_listed : (new : LineStack) (end : Bool) → IsListed g s new end → (q : Level) (others : List Level)
       → s.levels ≡ q ∷ others → q.ahead ≡ None → end ≡ false → IsStep g s new
   walk_listed new end h q others is none no_end =
       let same = heads q h.last others h.outer (sym is ∙ h.are) in
@@ -390,7 +390,7 @@ module _ (g : Geometry) (s : Standing) (levels : AreLevels g s.position s.moves 
         heads : (x y : Level) (xs ys : List Level) → x ∷ xs ≡ y ∷ ys → x ≡ y
         heads x y xs ys e = cc
 
-  pub walk_given : (new : Standing) (end : Bool) → IsListed g s new end → (q : Level) (others : List Level)
+  pub walk_given : (new : LineStack) (end : Bool) → IsListed g s new end → (q : Level) (others : List Level)
       → s.levels ≡ q ∷ others → q.ahead ≡ None → end ≡ true → IsGiven g s new
   walk_given new end h q others is none ends_here =
       let same = heads q h.last others h.outer (sym is ∙ h.are) in
@@ -408,7 +408,7 @@ module _ (g : Geometry) (s : Standing) (levels : AreLevels g s.position s.moves 
         heads : (x y : Level) (xs ys : List Level) → x ∷ xs ≡ y ∷ ys → x ≡ y
         heads x y xs ys e = cc
 
-  pub walk_back : (new : Standing) (q : Level) (others : List Level) → s.levels ≡ q ∷ others → q.ahead ≡ Some []
+  pub walk_back : (new : LineStack) (q : Level) (others : List Level) → s.levels ≡ q ∷ others → q.ahead ≡ Some []
       → new ≡ record s { line = drop 1 s.line; levels = drop 1 s.levels } → IsStep g s new
   walk_back new q others e ahead is =
       let facts = opened q others e in
@@ -417,7 +417,7 @@ module _ (g : Geometry) (s : Standing) (levels : AreLevels g s.position s.moves 
       subst (IsStep g s) (sym new_is) (as_step q others _ e (step_back g s.position s.moves s.line q others facts.0
       ahead))
 
-  pub walk_passed : {B : Type 0} (new : Standing) (t : Trial B) → IsTrial g s.levels t
+  pub walk_passed : {B : Type 0} (new : LineStack) (t : Candidate B) → IsCandidate g s.levels t
       → (Keeps g t.attacks t.after t.left → ⊥) → new ≡ record s { levels = passed_last s.levels } → IsStep g s new
   walk_passed new t h none is =
       let facts = opened h.last h.outer h.are in
@@ -432,7 +432,7 @@ module _ (g : Geometry) (s : Standing) (levels : AreLevels g s.position s.moves 
       subst (IsStep g s) (sym new_is) (as_step h.last h.outer _ h.are (step_passed g s.position s.moves s.line h.last
       h.outer facts.0 facts.1 t.mv ms.0 ms.1 none'))
 
-  pub walk_entered : {B : Type 0} (new : Standing) (t : Trial B) → IsTrial g s.levels t
+  pub walk_entered : {B : Type 0} (new : LineStack) (t : Candidate B) → IsCandidate g s.levels t
       → new ≡ record s { line = t.mv ∷ s.line; levels = begun t.after (not t.attacks) t.left ∷ passed_last s.levels }
       → IsStep g s new
   walk_entered new t h is =
@@ -445,9 +445,9 @@ module _ (g : Geometry) (s : Standing) (levels : AreLevels g s.position s.moves 
       subst (IsStep g s) (sym new_is) (as_step h.last h.outer _ h.are (step_entered g s.position s.moves s.line h.last
       h.outer facts.0 facts.1 t.mv ms.0 t.after (not t.attacks) t.left ms.1))
 
-  -- a trial leaves no more moves than there are
-  pub trial_few : {B : Type 0} (t : Trial B) → IsTrial g s.levels t → t.left ≤ s.moves
-  trial_few t h =
+  -- a candidate leaves no more moves than there are
+  pub candidate_few : {B : Type 0} (t : Candidate B) → IsCandidate g s.levels t → t.left ≤ s.moves
+  candidate_few t h =
       let facts = opened h.last h.outer h.are in
       let count = leads_count g s.position s.moves h.outer s.line h.last.attacks h.last.position h.last.left
       facts.0.0 in
@@ -455,7 +455,7 @@ module _ (g : Geometry) (s : Standing) (levels : AreLevels g s.position s.moves 
       omega (arith, count, less)
 
 -- what is met where the moves of a level were listed
-pub walk_met : (g : Geometry) (old new : Standing) (end : Bool) (met : Step) → met ≡ (if end then Given else On)
+pub walk_met : (g : Geometry) (old new : LineStack) (end : Bool) (met : Step) → met ≡ (if end then Given else On)
     → (end ≡ true → IsGiven g old new) → (end ≡ false → IsStep g old new) → HasStepped g met old new
 walk_met g old new true met e given on = subst (λ z. HasStepped g z old new) (sym e) (given refl)
 walk_met g old new false met e given on = subst (λ z. HasStepped g z old new) (sym e) (on refl)

@@ -12,9 +12,9 @@ use Rattle.dw_moves.specs.inner.MemberLemmas.{mem_left, mem_right, mem_cases, me
 use Rattle.dw_solve.specs.declared.stop.Stop.{Stop}
 use Rattle.dw_solve.specs.Wins.{Lost}
 use Rattle.dw_list.specs.Lines.{Before}
-use Rattle.dw_list.specs.Standing.{BeginsAmong}
-use Rattle.dw_list.specs.inner.Going.{GoesOn, IsNext, left_after, AreWays, AreWaysAmong, Keeps, IsThrough}
-use Rattle.dw_list.specs.inner.Going.{AreWaysThrough}
+use Rattle.dw_list.specs.LineStack.{BeginsAmong}
+use Rattle.dw_list.specs.inner.Ways.{GoesOn, IsNext, left_after, AreWays, AreWaysAmong, Keeps, IsThrough}
+use Rattle.dw_list.specs.inner.Ways.{AreWaysThrough}
 use Rattle.dw_list.specs.inner.ListLemmas.{none_listed, one_listed, listed_as, listed_then, listed_map, ascending_parts}
 
 pub goes_to : (g : Geometry) (a : Bool) (p : Placement) (n : ℕ) (m : Move) (l : List Move) → IsNext g a p n m

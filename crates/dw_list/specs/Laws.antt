@@ -5,8 +5,8 @@ use Rattle.dw_board.specs.Placement.{Placement}
 use Rattle.dw_moves.specs.Moves.{Move}
 use Rattle.dw_solve.specs.Wins.{Win}
 use Rattle.dw_list.specs.Lines.{Line, Lines, IsPlace}
-use Rattle.dw_list.specs.Standing.{Standing}
-use Rattle.dw_list.specs.Walking.{Gives}
+use Rattle.dw_list.specs.LineStack.{LineStack}
+use Rattle.dw_list.specs.StackWalk.{Gives}
 
 -- no line begins another
 abbrev pub NoneBegins : Type 0
@@ -32,6 +32,6 @@ pub record LineOrPlace : Type 0 where
 
 -- what was given first and what was given then were given one after another, and nothing leaves all as it was
 pub record GivenInTurn : Type 0 where
-  pub nothing : (g : Geometry) (s : Standing) → Gives g s s []
-  pub then : (g : Geometry) (a b c : Standing) (first others : List (List Move)) → Gives g a b first
+  pub nothing : (g : Geometry) (s : LineStack) → Gives g s s []
+  pub then : (g : Geometry) (a b c : LineStack) (first others : List (List Move)) → Gives g a b first
       → Gives g b c others → Gives g a c (first ++ others)

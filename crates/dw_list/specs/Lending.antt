@@ -7,7 +7,7 @@ use Rattle.dw_moves.specs.Moves.{Move}
 use Rattle.dw_solve.specs.declared.stop.Stop.{Stop}
 use Rattle.dw_list.specs.declared.lister.Lister.{Lister}
 use Rattle.dw_solve.specs.Asking.{Asked}
-use Rattle.dw_list.specs.Walking.{SameToCome, GivesFirst, GivesNone}
+use Rattle.dw_list.specs.StackWalk.{SameToCome, GivesFirst, GivesNone}
 use Rattle.dw_list.specs.Listing.{lender, solver_of, stack_of}
 
 -- The first of the lines still to come was lent, or there was none; after a stop they are what they were. The solver is

@@ -1,10 +1,10 @@
 pub mod Lines
 pub mod Laws
-pub mod Standing
-pub mod Walking
+pub mod LineStack
+pub mod StackWalk
 pub mod Listing
 pub mod Lending
-pub mod Seeking
+pub mod GivenLine
 pub mod Faults
 pub mod Tokens
 pub mod TokenLaws

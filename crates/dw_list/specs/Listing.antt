@@ -3,7 +3,7 @@ use Rattle.std.specs.Prelude.{◌≡◌, ℕ, ◌≤◌, max, List, [], ◌∷�
 use Rattle.std.specs.Borrow.{GName}
 use Rattle.dw_solve.specs.Solving.{Solving}
 use Rattle.dw_list.specs.declared.lister.Lister.{Lister}
-use Rattle.dw_list.specs.Standing.{Standing}
+use Rattle.dw_list.specs.LineStack.{LineStack}
 
 -- the name of the reference to the solver that the lister holds
 abbrev pub lender : {B M G : Type 0} → Lister B M G → GName
@@ -14,7 +14,7 @@ abbrev pub solver_of : {B M G : Type 0} → Lister B M G → Solving M
 solver_of lister = lister.solver.now
 
 -- how far the lister has come
-abbrev pub stack_of : {B M G : Type 0} → Lister B M G → Standing
+abbrev pub stack_of : {B M G : Type 0} → Lister B M G → LineStack
 stack_of lister = lister.stack
 
 -- the last of some numbers

@@ -4,9 +4,9 @@ pub mod LexLemmas
 pub mod LineOrderLemmas
 pub mod ListLemmas
 pub mod Tasks
-pub mod Going
+pub mod Ways
 pub mod Steps
-pub mod Seeking
-pub mod Walking
+pub mod GivenLine
+pub mod StackWalk
 pub mod Levels
-pub mod StandingCodes
+pub mod LineStackCodes

@@ -5,10 +5,10 @@ ghost use Rattle.dw_solve.specs.declared.stop.Stop.TheVariants.{Limit};
 ghost use Rattle.dw_solve.specs.Searching.{IsCounted};
 ghost use Rattle.dw_solve.specs.Work.{moment, Searched, cut_off};
 ghost use Rattle.dw_list.specs.Lines.{Lines};
-ghost use Rattle.dw_list.specs.inner.Going.{AreWays, AreAdded};
+ghost use Rattle.dw_list.specs.inner.Ways.{AreWays, AreAdded};
 ghost use Rattle.dw_solve.specs.Asking.{Asked};
 
-use crate::going::{keeps, left_behind, may_move};
+use crate::next_moves::{keeps, left_behind, may_move};
 use dw_board::board::Board;
 use dw_board::position::Position;
 use dw_memo::memo::Memo;

@@ -24,8 +24,8 @@ pub(crate) struct Frame<B: Board> {
 
 impl<B: Board> Model for Frame<B> {
     ghost use Rattle.std.specs.Prelude.{option_map, drop, map};
-    ghost use Rattle.dw_list.specs.Standing.{Level};
-    ghost use Rattle.dw_list.specs.inner.StandingCodes.{level_code};
+    ghost use Rattle.dw_list.specs.LineStack.{Level};
+    ghost use Rattle.dw_list.specs.inner.LineStackCodes.{level_code};
 
     ghost Value = { Level };
 

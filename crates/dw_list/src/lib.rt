@@ -7,11 +7,11 @@
 
 pub mod all_lines;
 pub mod fault;
-mod following;
 mod frame;
-mod going;
+mod given_line;
 pub mod laws;
 pub mod lister;
+mod next_moves;
 pub mod portions;
 mod stack;
 pub mod tokens;

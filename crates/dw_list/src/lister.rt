@@ -6,7 +6,7 @@ ghost use Rattle.dw_solve.specs.Searching.{IsCounted};
 ghost use Rattle.dw_solve.specs.Work.{Searched};
 
 use crate::fault::AfterFault;
-use crate::following::{Found, followed};
+use crate::given_line::{Followed, followed};
 use crate::stack::Stack;
 use crate::walk::walk;
 use dw_board::board::Board;
@@ -31,8 +31,8 @@ impl<'a, B: Board, M: Memo<B>, G: Guide<B>> Lister<'a, B, M, G> {
     ghost use Rattle.dw_moves.specs.Moves as of;
     ghost use Rattle.dw_list.specs.Lines.{Lines};
     ghost use Rattle.dw_solve.specs.Asking.{moment_of};
-    ghost use Rattle.dw_list.specs.Standing.{AreToCome};
-    ghost use Rattle.dw_list.specs.Seeking.{IsAlong};
+    ghost use Rattle.dw_list.specs.LineStack.{AreToCome};
+    ghost use Rattle.dw_list.specs.GivenLine.{IsAlong};
     ghost use Rattle.dw_list.specs.Faults.{IsRefusal, cut_after};
     ghost use Rattle.dw_list.specs.Listing.{lender, solver_of, stack_of};
     ghost use Rattle.std.specs.Prelude.{⊤, []};
@@ -86,8 +86,8 @@ impl<'a, B: Board, M: Memo<B>, G: Guide<B>> Lister<'a, B, M, G> {
         let moves = self.stack.moves();
         match followed(alloc, self.solver, &position, moves, line) {
             Err(stop) => Err(AfterFault::Stopped(stop)),
-            Ok(Found::Place(place)) => Err(AfterFault::NotALine(place)),
-            Ok(Found::Along(stack)) => {
+            Ok(Followed::Place(place)) => Err(AfterFault::NotALine(place)),
+            Ok(Followed::Along(stack)) => {
                 self.stack = stack;
                 Ok(())
             }

@@ -1,8 +1,8 @@
 //! Lines of a lister taken in portions, under one limit after another.
 ghost use Rattle.std.specs.Prelude.{◌≡◌, ◌+◌, ◌^◌, ◌<◌, ◌≤◌, [], length, map, max};
 ghost use Rattle.dw_list.specs.Listing.{lender, solver_of, stack_of, LimitIsLast};
-ghost use Rattle.dw_list.specs.Standing.{Standing, AreToCome};
-ghost use Rattle.dw_list.specs.Walking.{Gives};
+ghost use Rattle.dw_list.specs.LineStack.{LineStack, AreToCome};
+ghost use Rattle.dw_list.specs.StackWalk.{Gives};
 
 use crate::lister::Lister;
 use arrayvec::ArrayVec;
@@ -61,7 +61,7 @@ fn take_turn<B: Board, M: Memo<B>, G: Guide<B>>(
 )
     requires { length portions.old.lines.items + portions.old.stops + portions.old.ends + 1 < 2 ^ 64 }
     ensures lender { lender lister.new ≡ lender lister.old }
-    ensures lines { (start : Standing) → Gives B.geometry start (stack_of lister.old)
+    ensures lines { (start : LineStack) → Gives B.geometry start (stack_of lister.old)
         (map (λ line. line.items) portions.old.lines.items)
         → Gives B.geometry start (stack_of lister.new) (map (λ line. line.items) portions.new.lines.items) }
     ensures turns { length portions.new.lines.items + portions.new.stops + portions.new.ends

@@ -2,11 +2,11 @@
 ghost use Rattle.std.specs.Prelude.{◌≡◌, ◌≤◌, ◌<◌, ◌+◌, ◌*◌, ◌-◌, ◌⊎◌, [], ◌∷◌, drop, take, reverse, length};
 ghost use Rattle.std.specs.Prelude.{IfOk, OnErr, not, true};
 ghost use Rattle.dw_moves.specs.Moves.{Legal, play};
-ghost use Rattle.dw_list.specs.inner.Going.{left_after};
+ghost use Rattle.dw_list.specs.inner.Ways.{left_after};
 ghost use Rattle.dw_list.specs.inner.Steps.{begun};
 
 use crate::frame::Frame;
-use crate::going::left_behind;
+use crate::next_moves::left_behind;
 use arrayvec::ArrayVec;
 use dw_board::board::Board;
 use dw_board::position::Position;
@@ -18,7 +18,7 @@ use std::marker::Model;
 /// A move of the last level that may come next: the position after it, whose it is, and how many moves are left for
 /// the attacker after it.
 #[derive(Drop)]
-pub(crate) struct Trial<B: Board> {
+pub(crate) struct Candidate<B: Board> {
     pub(crate) mv: Move<B>,
     pub(crate) after: Position<B>,
     pub(crate) attacks: bool,
@@ -33,7 +33,7 @@ pub(crate) enum Task<B: Board> {
     /// The moves of the last level are to be listed.
     Unlisted,
     /// A move of the last level is to be tried.
-    Try(Trial<B>),
+    Try(Candidate<B>),
     /// No move of the last level is ahead.
     Passed,
 }
@@ -53,13 +53,13 @@ pub(crate) struct Stack<B: Board> {
 
 impl<B: Board> Model for Stack<B> {
     ghost use Rattle.std.specs.Prelude.{reverse, length, ◌≤◌, ◌+◌, ◌*◌};
-    ghost use Rattle.dw_list.specs.Standing.{Standing};
-    ghost use Rattle.dw_list.specs.inner.StandingCodes.{standing_code};
+    ghost use Rattle.dw_list.specs.LineStack.{LineStack};
+    ghost use Rattle.dw_list.specs.inner.LineStackCodes.{line_stack_code};
     ghost use Rattle.dw_list.specs.inner.Levels.{AreLevels, IsFew};
 
-    ghost Value = { Standing };
+    ghost Value = { LineStack };
 
-    ghost coded = { standing_code };
+    ghost coded = { line_stack_code };
 
     ghost view = { λ s. record {
       position = s.position;
@@ -74,10 +74,10 @@ impl<B: Board> Model for Stack<B> {
 }
 
 impl<B: Board> Stack<B> {
-    ghost use Rattle.dw_list.specs.inner.Going.{Keeps};
+    ghost use Rattle.dw_list.specs.inner.Ways.{Keeps};
     ghost use Rattle.dw_list.specs.inner.Levels.{AreLevels};
     ghost use Rattle.dw_list.specs.inner.Steps.{begun, passed_last};
-    ghost use Rattle.dw_list.specs.inner.Tasks.{IsTask, IsTrial, IsListed};
+    ghost use Rattle.dw_list.specs.inner.Tasks.{IsTask, IsCandidate, IsListed};
 
     /// The stack of all lines of a position within so many moves.
     pub(crate) fn new(position: &Position<B>, moves: u8) -> Self
@@ -149,7 +149,7 @@ impl<B: Board> Stack<B> {
         }
         match frame.first() {
             None => Task::Passed,
-            Some(mv) => Task::Try(trial_of(frame, mv)),
+            Some(mv) => Task::Try(candidate_of(frame, mv)),
         }
     }
 
@@ -178,20 +178,26 @@ impl<B: Board> Stack<B> {
     }
 
     /// Goes on with the first move ahead at the last level.
-    pub(crate) fn enter(&mut self, trial: &Trial<B>)
-        requires first { IsTrial B.geometry self.old.levels trial.now }
-        requires keeps { Keeps B.geometry trial.now.attacks trial.now.after trial.now.left }
+    pub(crate) fn enter(&mut self, candidate: &Candidate<B>)
+        requires first { IsCandidate B.geometry self.old.levels candidate.now }
+        requires keeps { Keeps B.geometry candidate.now.attacks candidate.now.after candidate.now.left }
         ensures { self.new ≡ record self.old {
-          line = trial.now.mv ∷ self.old.line;
-          levels = begun trial.now.after (not trial.now.attacks) trial.now.left ∷ passed_last self.old.levels;
+          line = candidate.now.mv ∷ self.old.line;
+          levels = begun candidate.now.after (not candidate.now.attacks) candidate.now.left
+              ∷ passed_last self.old.levels;
         } }
     {
         let mut frame = self.frames.pop().unwrap();
         frame.pass();
         self.frames.push(frame);
-        let next = frame_at(&mut self.spare, trial.after, !trial.attacks, trial.left);
+        let next = frame_at(
+            &mut self.spare,
+            candidate.after,
+            !candidate.attacks,
+            candidate.left,
+        );
         self.frames.push(next);
-        self.line.push(trial.mv);
+        self.line.push(candidate.mv);
     }
 
     /// Goes back from the last level to the one before it.
@@ -237,7 +243,7 @@ fn leave_last<B: Board>(frames: &mut ArrayVec<Frame<B>, 40>, spare: &mut ArrayVe
 }
 
 /// The position after a move of a level, and whose the move is.
-fn trial_of<B: Board>(frame: &Frame<B>, mv: Move<B>) -> Trial<B>
+fn candidate_of<B: Board>(frame: &Frame<B>, mv: Move<B>) -> Candidate<B>
     requires { Legal B.geometry frame.now.position mv }
     ensures mv { result.mv ≡ mv }
     ensures after { result.after ≡ play B.geometry frame.now.position mv }
@@ -245,7 +251,7 @@ fn trial_of<B: Board>(frame: &Frame<B>, mv: Move<B>) -> Trial<B>
     ensures left { result.left ≡ left_after frame.now.attacks frame.now.left }
 {
     let attacks = frame.attacks();
-    Trial {
+    Candidate {
         mv,
         after: played(frame.position(), &mv),
         attacks,

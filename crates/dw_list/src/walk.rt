@@ -1,10 +1,10 @@
 //! The walk over a stack, from line to line.
 ghost use Rattle.std.specs.Prelude.{◌≡◌, IfOk, OnErr, if◌then◌else◌};
 ghost use Rattle.dw_solve.specs.Asking.{Asked};
-ghost use Rattle.dw_list.specs.Walking.{SameToCome};
-ghost use Rattle.dw_list.specs.inner.Walking.{HasStepped, GivesNext};
+ghost use Rattle.dw_list.specs.StackWalk.{SameToCome};
+ghost use Rattle.dw_list.specs.inner.StackWalk.{HasStepped, GivesNext};
 
-use crate::going::keeps;
+use crate::next_moves::keeps;
 use crate::stack::{Stack, Task};
 use dw_board::board::Board;
 use dw_memo::memo::Memo;
@@ -67,10 +67,16 @@ fn take_step<B: Board, M: Memo<B>, G: Guide<B>>(
             let is_end = stack.list(alloc)?;
             Ok(listed_step(is_end))
         }
-        Task::Try(trial) => {
-            let kept = keeps(alloc, solver, &trial.after, trial.attacks, trial.left)?;
+        Task::Try(candidate) => {
+            let kept = keeps(
+                alloc,
+                solver,
+                &candidate.after,
+                candidate.attacks,
+                candidate.left,
+            )?;
             if kept {
-                stack.enter(&trial);
+                stack.enter(&candidate);
             } else {
                 stack.pass();
             }

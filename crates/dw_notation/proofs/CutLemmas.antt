@@ -4,9 +4,9 @@ use Rattle.std.proofs.Common.{cond, None, option_to_list, refl, sym, ap, ◌∙�
 use Rattle.std.proofs.lemmas.List.{length-take, take-append-drop, drop-take, drop-drop}
 use Rattle.std.specs.List.{slice_range}
 use Rattle.dw_board.specs.Geometry.{Geometry}
-use Rattle.dw_notation.specs.inner.Lines.{line_found}
-use Rattle.dw_notation.specs.Lines.{NoLineFeed}
-use Rattle.dw_notation.specs.inner.Lines.{SaysSame}
+use Rattle.dw_notation.specs.inner.TextLines.{line_found}
+use Rattle.dw_notation.specs.TextLines.{NoLineFeed}
+use Rattle.dw_notation.specs.inner.TextLines.{SaysSame}
 use Rattle.dw_notation.specs.inner.Ahead.{found_from}
 use Rattle.dw_notation.specs.inner.Pieces.{pieces_ahead}
 use Rattle.dw_notation.specs.inner.Pieces.{pieces_behind, pieces_cut}

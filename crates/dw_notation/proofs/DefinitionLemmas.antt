@@ -2,7 +2,7 @@
 use Rattle.std.proofs.Common.{◌≡◌, ℕ, ◌==◌, List, [], ◌∷◌, Bool, true, ◌&&◌, inl, inr, refl, sym, ap, ◌∙◌}
 use Rattle.std.proofs.lemmas.Bool.{and_parts, eqb-true, cases_Bool, cond-true, cond-false}
 use Rattle.dw_board.specs.Geometry.{Geometry}
-use Rattle.dw_notation.specs.Lines.{without_mark}
+use Rattle.dw_notation.specs.TextLines.{without_mark}
 use Rattle.dw_notation.specs.inner.Ahead.{found_from, behind_mark}
 use Rattle.dw_notation.specs.inner.Held.{held_line}
 use Rattle.dw_notation.specs.inner.Sections.{bare, sections_found}
@@ -10,12 +10,12 @@ use Rattle.dw_notation.specs.inner.HeldSection.{held_of, held_bare, held_from, s
 use Rattle.dw_notation.specs.inner.Pieces.{lines_ahead}
 use Rattle.dw_notation.specs.declared.problems.fens.Front.TheVariants.{Bare}
 use Rattle.dw_notation.specs.declared.problems.pdn.automaton.State.TheVariants.{Outside}
-use Rattle.dw_notation.specs.declared.problems.fens.Lines.{Lines}
+use Rattle.dw_notation.specs.declared.problems.fens.TextLines.{TextLines}
 use Rattle.dw_notation.specs.declared.problems.pdn.Sections.{Sections}
 use Rattle.dw_notation.proofs.HoldingLemmas.{held_from-bare}
 
 -- ---- nothing was read of a text of lines
-pub lines-new : (at_end : Bool) (g : Geometry) (lines : Lines) → held_line lines.line ≡ [] → (lines.front ≡ Bare)
+pub lines-new : (at_end : Bool) (g : Geometry) (lines : TextLines) → held_line lines.line ≡ [] → (lines.front ≡ Bare)
     → (bytes : List ℕ) → lines_ahead at_end g lines bytes ≡ found_from at_end g [] (without_mark bytes)
 lines-new at_end g lines line front bytes =
     ap (λ l. found_from at_end g l (behind_mark lines.front bytes)) line

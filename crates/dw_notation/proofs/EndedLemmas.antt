@@ -3,9 +3,9 @@ use Rattle.std.proofs.Common.{◌≡◌, ℕ, ◌==◌, ◌&&◌, ◌+◌, List,
 use Rattle.std.proofs.Common.{nat_lt, Err, ◌⊎◌, inl, inr, refl, sym, ap, subst, ◌∙◌, append_assoc}
 use Rattle.std.proofs.lemmas.Bool.{cases_Bool, cond-false, and_parts, eqb-true}
 use Rattle.dw_board.specs.Geometry.{Geometry}
-use Rattle.dw_notation.specs.Lines.{Found, without_mark}
+use Rattle.dw_notation.specs.TextLines.{Found, without_mark}
 use Rattle.dw_notation.specs.Problems.{Numbered, number_from, EndedComeFirst}
-use Rattle.dw_notation.specs.inner.Lines.{line_found}
+use Rattle.dw_notation.specs.inner.TextLines.{line_found}
 use Rattle.dw_notation.specs.inner.Ahead.{found_from}
 use Rattle.dw_notation.specs.inner.Sections.{Section, transition, after, section_found, found_by, sections_found, bare}
 use Rattle.dw_notation.specs.inner.Problems.{found_of}

@@ -3,7 +3,7 @@ use Rattle.std.proofs.Common.{◌≡◌, ℕ, ◌<◌, ◌≤◌, inl, inr, List
 use Rattle.std.proofs.Common.{Err, refl, sym, ap, ◌∙◌, append_assoc, append-nil, subst, MatchBool}
 use Rattle.std.proofs.KnownBytes.{Consumes-nil, Consumes-trans}
 use Rattle.dw_board.specs.Geometry.{Geometry}
-use Rattle.dw_notation.specs.Lines.{Found}
+use Rattle.dw_notation.specs.TextLines.{Found}
 use Rattle.dw_notation.specs.Problems.{Numbered, numbered, number_from}
 use Rattle.dw_notation.specs.Reading.{NextGives, ReadsAtNeed}
 use Rattle.dw_notation.specs.inner.Pieces.{pieces_ahead, pieces_behind}

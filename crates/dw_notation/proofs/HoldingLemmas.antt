@@ -9,7 +9,7 @@ use Rattle.std.specs.Char.{is_ascii_digit}
 use Rattle.dw_board.specs.Geometry.{Geometry}
 use Rattle.dw_board.specs.Fen.{fen}
 use Rattle.dw_board.specs.FenTokens.{is_blank}
-use Rattle.dw_notation.specs.inner.Lines.{fen_found}
+use Rattle.dw_notation.specs.inner.TextLines.{fen_found}
 use Rattle.dw_notation.specs.inner.Sections.{transition, Section, bare, kind_of, with_tag, after}
 use Rattle.dw_notation.specs.Tags.{number_on, game_of, is_wrong}
 use Rattle.dw_notation.specs.inner.Sections.{fens_found, section_found, found_by, found_at_end, sections_found}

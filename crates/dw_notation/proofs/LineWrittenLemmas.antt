@@ -11,15 +11,15 @@ use Rattle.dw_board.specs.Placement.{Placement}
 use Rattle.dw_moves.specs.Moves.{Move, Legal, play}
 use Rattle.dw_notation.specs.Text.{IsMoveText, IsLineText, AreWords, ArePlayable, numbered}
 use Rattle.dw_notation.specs.inner.LineWords.{spaced, onto}
-use Rattle.dw_notation.specs.inner.LinePlies.{AreWritten, end_from, len_to, after_moves}
-use Rattle.dw_notation.specs.declared.line_text.Ply.{Ply}
+use Rattle.dw_notation.specs.inner.WrittenMoves.{AreWritten, end_from, len_to, after_moves}
+use Rattle.dw_notation.specs.declared.line_text.WrittenMove.{WrittenMove}
 use Rattle.dw_notation.proofs.LineTextLemmas.{numbered_onto, numbered_short, onto_later, onto_none}
 
 abbrev pub added : ℕ → List ℕ → List ℕ
 added ply word = onto ply (numbered ply (word ∷ []))
 
 -- the text begins with what stands before the words
-written_begins : {B : Type 0} (g : Geometry) (p : Placement) (ply : ℕ) (before : List ℕ) (plies : List (Ply B))
+written_begins : {B : Type 0} (g : Geometry) (p : Placement) (ply : ℕ) (before : List ℕ) (plies : List (WrittenMove B))
     (text : List ℕ) → AreWritten g p ply before plies text → (rest : List ℕ) × (text ≡ before ++ rest)
 written_begins g p ply before [] text h = ([], h ∙ sym (append-nil before))
 written_begins g p ply before (x ∷ plies) text h =
@@ -32,7 +32,7 @@ blank_first number word true = (number ++ spaced (word ∷ []), refl)
 blank_first number word false = (word ++ spaced [], refl)
 
 -- what stands behind it begins with a blank
-written_blank : {B : Type 0} (g : Geometry) (p : Placement) (ply : ℕ) (before : List ℕ) (plies : List (Ply B))
+written_blank : {B : Type 0} (g : Geometry) (p : Placement) (ply : ℕ) (before : List ℕ) (plies : List (WrittenMove B))
     (text : List ℕ) → 0 < ply → AreWritten g p ply before plies text → (text ≡ before)
     ⊎ ((rest : List ℕ) × (text ≡ before ++ (32 ∷ rest)))
 written_blank g p ply before [] text later h = inl h
@@ -51,13 +51,13 @@ take_front [] rest = refl
 take_front (b ∷ before) rest = ap (λ z. b ∷ z) (take_front before rest)
 
 -- the text up to the end of some moves
-kept_none : {B : Type 0} (g : Geometry) (p : Placement) (ply base : ℕ) (before : List ℕ) (plies : List (Ply B))
+kept_none : {B : Type 0} (g : Geometry) (p : Placement) (ply base : ℕ) (before : List ℕ) (plies : List (WrittenMove B))
     (text : List ℕ) → base ≡ length before → AreWritten g p ply before plies text → take base text ≡ before
 kept_none g p ply base before plies text e h =
     let r = written_begins g p ply before plies text h in
     ap (λ k. take k text) e ∙ (ap (take (length before)) r.1 ∙ take_front before r.0)
 
-pub written_keep : {B : Type 0} (g : Geometry) (p : Placement) (ply base k : ℕ) (before : List ℕ) (plies : List (Ply B))
+pub written_keep : {B : Type 0} (g : Geometry) (p : Placement) (ply base k : ℕ) (before : List ℕ) (plies : List (WrittenMove B))
     (text : List ℕ) → base ≡ length before → AreWritten g p ply before plies text
     → AreWritten g p ply before (take k plies) (take (len_to base k plies) text)
 written_keep {B} g p ply base zero before [] text e h = kept_none {B = B} g p ply base before [] text e h
@@ -68,7 +68,7 @@ written_keep {B} g p ply base (suc k) before (x ∷ plies) text e h =
     (h.0, h.1, h.2, h.3, h.4, written_keep g x.after (ply + 1) x.len k (before ++ added ply h.0) plies text h.4 h.5)
 
 -- it may be cut there
-split_here : {B : Type 0} (g : Geometry) (p : Placement) (ply base : ℕ) (before : List ℕ) (plies : List (Ply B))
+split_here : {B : Type 0} (g : Geometry) (p : Placement) (ply base : ℕ) (before : List ℕ) (plies : List (WrittenMove B))
     (text : List ℕ) → base ≡ length before → (0 < base → 0 < ply) → AreWritten g p ply before plies text
     → IsSplitPoint text base
 split_here g p ply base before plies text e later h =
@@ -84,7 +84,7 @@ split_here g p ply base before plies text e later h =
     )
 
 pub written_split : {B : Type 0} (g : Geometry) (p : Placement) (ply base k : ℕ) (before : List ℕ)
-    (plies : List (Ply B)) (text : List ℕ) → base ≡ length before → (0 < base → 0 < ply)
+    (plies : List (WrittenMove B)) (text : List ℕ) → base ≡ length before → (0 < base → 0 < ply)
     → AreWritten g p ply before plies text → IsSplitPoint text (len_to base k plies)
 written_split {B} g p ply base zero before [] text e later h = split_here {B = B} g p ply base before [] text e later h
 written_split {B} g p ply base zero before (x ∷ plies) text e later h = split_here {B = B} g p ply base before
@@ -95,9 +95,9 @@ written_split {B} g p ply base (suc k) before (x ∷ plies) text e later h = wri
     (before ++ added ply h.0) plies text h.4 (λ some. omega arith) h.5
 
 -- it is the text of the line
-pub written_words : {B : Type 0} (g : Geometry) (p : Placement) (ply : ℕ) (before : List ℕ) (plies : List (Ply B))
+pub written_words : {B : Type 0} (g : Geometry) (p : Placement) (ply : ℕ) (before : List ℕ) (plies : List (WrittenMove B))
     (text : List ℕ) → AreWritten g p ply before plies text
-    → (words : List (List ℕ)) × AreWords g p ply (map (λ (x : Ply B). x.mv) plies) words
+    → (words : List (List ℕ)) × AreWords g p ply (map (λ (x : WrittenMove B). x.mv) plies) words
     × (text ≡ before ++ onto ply words)
 written_words g p ply before [] text h = (
   [],
@@ -106,21 +106,21 @@ written_words g p ply before [] text h = (
 )
 written_words {B} g p ply before (x ∷ plies) text h =
     let r = written_words g x.after (ply + 1) (before ++ added ply h.0) plies text h.5 in
-    let words : AreWords g (play g p x.mv) (ply + 1) (map (λ (y : Ply B). y.mv) plies) r.0 =
-    subst (λ z. AreWords g z (ply + 1) (map (λ (y : Ply B). y.mv) plies) r.0) h.3 r.1 in
+    let words : AreWords g (play g p x.mv) (ply + 1) (map (λ (y : WrittenMove B). y.mv) plies) r.0 =
+    subst (λ z. AreWords g z (ply + 1) (map (λ (y : WrittenMove B). y.mv) plies) r.0) h.3 r.1 in
     let joined : (before ++ added ply h.0) ++ onto (ply + 1) r.0 ≡ before ++ onto ply (numbered ply (h.0 ∷ r.0)) =
     append_assoc before (added ply h.0) (onto (ply + 1) r.0)
     ∙ ap (λ z. before ++ z) (ap (λ z. added ply h.0 ++ z) (onto_later (ply + 1) r.0 (omega arith))
     ∙ sym (numbered_onto ply h.0 r.0)) in
     (numbered ply (h.0 ∷ r.0), (h.0, r.0, h.1, words, refl), r.2 ∙ joined)
 
-pub written_line : {B : Type 0} (g : Geometry) (p : Placement) (plies : List (Ply B)) (text : List ℕ)
-    → AreWritten g p 0 [] plies text → IsLineText g p (map (λ (x : Ply B). x.mv) plies) text
+pub written_line : {B : Type 0} (g : Geometry) (p : Placement) (plies : List (WrittenMove B)) (text : List ℕ)
+    → AreWritten g p 0 [] plies text → IsLineText g p (map (λ (x : WrittenMove B). x.mv) plies) text
 written_line g p plies text h = let r = written_words g p 0 [] plies text h in (r.0, r.1, r.2)
 
 -- one move more
-pub written_push : {B : Type 0} (g : Geometry) (p q : Placement) (ply k : ℕ) (before : List ℕ) (plies : List (Ply B))
-    (text new word : List ℕ) (x : Ply B) → AreWritten g p ply before plies text → q ≡ end_from p plies
+pub written_push : {B : Type 0} (g : Geometry) (p q : Placement) (ply k : ℕ) (before : List ℕ) (plies : List (WrittenMove B))
+    (text new word : List ℕ) (x : WrittenMove B) → AreWritten g p ply before plies text → q ≡ end_from p plies
     → k ≡ ply + length plies
     → IsMoveText g q x.mv word → length word ≤ 62 → x.after ≡ play g q x.mv → new ≡ text ++ added k word
     → x.len ≡ length new → AreWritten g p ply before (plies ++ x ∷ []) new
@@ -145,7 +145,7 @@ written_push g p q ply k before (y ∷ plies) text new word x h end count is sho
       end (omega (arith, count)) is short after e len,
 )
 
-pub written_pushed : {B : Type 0} (g : Geometry) (p q after : Placement) (k len : ℕ) (plies now : List (Ply B))
+pub written_pushed : {B : Type 0} (g : Geometry) (p q after : Placement) (k len : ℕ) (plies now : List (WrittenMove B))
     (text new word : List ℕ) (m : Move) → AreWritten g p 0 [] plies text → q ≡ end_from p plies → k ≡ 0 + length plies
     → IsMoveText g q m word → length word ≤ 62 → after ≡ play g q m → new ≡ text ++ added k word → len ≡ length new
     → now ≡ plies ++ record { mv = m; after = after; len = len } ∷ [] → AreWritten g p 0 [] now new
@@ -154,7 +154,7 @@ written_pushed g p q after k len plies now text new word m h end count is short 
     (record { mv = m; after = after; len = len }) h end count is short played e long)
 
 -- it is short
-pub written_room : {B : Type 0} (g : Geometry) (p : Placement) (ply k : ℕ) (before : List ℕ) (plies : List (Ply B))
+pub written_room : {B : Type 0} (g : Geometry) (p : Placement) (ply k : ℕ) (before : List ℕ) (plies : List (WrittenMove B))
     (text : List ℕ) → AreWritten g p ply before plies text → k ≡ ply + length plies → k ≤ 39
     → length before ≤ 65 * ply + 2 * (ply % 2) → length text ≤ 65 * k + 2 * (k % 2)
 written_room g p ply k before [] text h count few room =
@@ -166,7 +166,7 @@ written_room g p ply k before (x ∷ plies) text h count few room =
 
 -- WHAT STANDS AT A MOVE
 
-pub end_at : {B : Type 0} (p : Placement) (plies : List (Ply B)) (i : ℕ) (d : Ply B) → i + 1 ≡ length plies
+pub end_at : {B : Type 0} (p : Placement) (plies : List (WrittenMove B)) (i : ℕ) (d : WrittenMove B) → i + 1 ≡ length plies
     → end_from p plies ≡ (get_or plies i d).after
 end_at p [] i d e = absurd (omega (arith, e))
 end_at p (x ∷ []) zero d e = refl
@@ -174,14 +174,14 @@ end_at p (x ∷ []) (suc i) d e = absurd (omega (arith, e))
 end_at p (x ∷ y ∷ plies) zero d e = absurd (omega (arith, e))
 end_at p (x ∷ y ∷ plies) (suc i) d e = end_at x.after (y ∷ plies) i d (omega (arith, e))
 
-pub len_at : {B : Type 0} (base : ℕ) (plies : List (Ply B)) (i : ℕ) (d : Ply B) → i < length plies
+pub len_at : {B : Type 0} (base : ℕ) (plies : List (WrittenMove B)) (i : ℕ) (d : WrittenMove B) → i < length plies
     → len_to base (suc i) plies ≡ (get_or plies i d).len
 len_at base [] i d low = absurd (omega (arith, low))
 len_at base (x ∷ []) zero d low = refl
 len_at base (x ∷ y ∷ plies) zero d low = refl
 len_at base (x ∷ plies) (suc i) d low = len_at x.len plies i d (omega (arith, low))
 
-pub len_all : {B : Type 0} (base : ℕ) (plies : List (Ply B)) (k : ℕ) → length plies ≤ k → len_to base k plies
+pub len_all : {B : Type 0} (base : ℕ) (plies : List (WrittenMove B)) (k : ℕ) → length plies ≤ k → len_to base k plies
     ≡ len_to base (length plies) plies
 len_all base [] zero all = refl
 len_all base [] (suc k) all = refl
@@ -189,7 +189,7 @@ len_all base (x ∷ plies) zero all = absurd (omega (arith, all))
 len_all base (x ∷ plies) (suc k) all = len_all x.len plies k (omega (arith, all))
 
 -- where none of the moves is taken, the text is as long as before
-pub len_none : {B : Type 0} (base : ℕ) (plies : List (Ply B)) (k : ℕ) → min k (length plies) ≡ 0
+pub len_none : {B : Type 0} (base : ℕ) (plies : List (WrittenMove B)) (k : ℕ) → min k (length plies) ≡ 0
     → base ≡ len_to base k plies
 len_none base [] zero none = refl
 len_none base [] (suc k) none = refl
@@ -197,9 +197,9 @@ len_none base (x ∷ plies) zero none = refl
 len_none base (x ∷ plies) (suc k) none = absurd (omega (arith, none))
 
 -- the length at the last move that is kept
-pub len_found : {B : Type 0} (base : ℕ) (plies : List (Ply B)) (k i : ℕ) (x : Ply B) → i < length plies → i + 1 ≤ k
+pub len_found : {B : Type 0} (base : ℕ) (plies : List (WrittenMove B)) (k i : ℕ) (x : WrittenMove B) → i < length plies → i + 1 ≤ k
     → (i + 1 < k → i + 1 ≡ length plies) → x ≡ get_or plies i x → x.len ≡ len_to base k plies
-len_found {B} base plies k i x low within end is = ap (λ (z : Ply B). z.len) is ∙ (sym (len_at base plies i x low)
+len_found {B} base plies k i x low within end is = ap (λ (z : WrittenMove B). z.len) is ∙ (sym (len_at base plies i x low)
     ∙ elim (cases_order k (suc i)) [
       | inl e ↦ ap (λ z. len_to base z plies) (sym e)
       | inr other ↦ elim other [
@@ -210,7 +210,7 @@ len_found {B} base plies k i x low within end is = ap (λ (z : Ply B). z.len) is
       ]
     ])
 
-pub end_push : {B : Type 0} (p : Placement) (plies : List (Ply B)) (x : Ply B) → end_from p (plies ++ x ∷ []) ≡ x.after
+pub end_push : {B : Type 0} (p : Placement) (plies : List (WrittenMove B)) (x : WrittenMove B) → end_from p (plies ++ x ∷ []) ≡ x.after
 end_push p [] x = refl
 end_push p (y ∷ plies) x = end_push y.after plies x
 
@@ -241,13 +241,13 @@ moves_more front rest taken new i m low is h e = e
     ∙ ap (λ z. front ++ z) (ap (λ z. take i rest ++ z ∷ []) is ∙ sym (take_more rest i m low))))
 
 -- the position after the plies is that after their moves
-pub end_is : {B : Type 0} (g : Geometry) (p : Placement) (ply : ℕ) (before : List ℕ) (plies : List (Ply B))
+pub end_is : {B : Type 0} (g : Geometry) (p : Placement) (ply : ℕ) (before : List ℕ) (plies : List (WrittenMove B))
     (text : List ℕ) → AreWritten g p ply before plies text
-    → end_from p plies ≡ after_moves g p (map (λ (x : Ply B). x.mv) plies)
+    → end_from p plies ≡ after_moves g p (map (λ (x : WrittenMove B). x.mv) plies)
 end_is g p ply before [] text h = refl
 end_is {B} g p ply before (x ∷ plies) text h =
     end_is g x.after (ply + 1) (before ++ added ply h.0) plies text h.5
-    ∙ ap (λ z. after_moves g z (map (λ (y : Ply B). y.mv) plies)) h.3
+    ∙ ap (λ z. after_moves g z (map (λ (y : WrittenMove B). y.mv) plies)) h.3
 
 pub after_push : (g : Geometry) (p : Placement) (moves : List Move) (m : Move)
     → after_moves g p (moves ++ m ∷ []) ≡ play g (after_moves g p moves) m

@@ -10,9 +10,9 @@ use Rattle.std.proofs.Math.Seq.{take-append-add, take-length}
 use Rattle.std.specs.List.{list_all}
 use Rattle.dw_board.specs.Geometry.{Geometry}
 use Rattle.dw_board.specs.FenTokens.{is_blank}
-use Rattle.dw_notation.specs.Lines.{Found}
-use Rattle.dw_notation.specs.inner.Lines.{text_found, line_found}
-use Rattle.dw_notation.specs.inner.Lines.{long_text_found, SaysSame}
+use Rattle.dw_notation.specs.TextLines.{Found}
+use Rattle.dw_notation.specs.inner.TextLines.{text_found, line_found}
+use Rattle.dw_notation.specs.inner.TextLines.{long_text_found, SaysSame}
 use Rattle.dw_notation.specs.inner.Held.{padded}
 use Rattle.dw_notation.specs.declared.problems.ProblemFault.TheVariants.{LineTooLong}
 

@@ -3,8 +3,8 @@ use Rattle.std.proofs.Common.{◌≡◌, ℕ, ◌+◌, ◌<◌, List, [], ◌∷
 use Rattle.std.proofs.Common.{ap, ◌∙◌}
 use Rattle.std.proofs.lemmas.List.{drop_more}
 use Rattle.dw_board.specs.Geometry.{Geometry}
-use Rattle.dw_notation.specs.Lines.{NoLineFeed}
-use Rattle.dw_notation.specs.inner.Lines.{SaysSame}
+use Rattle.dw_notation.specs.TextLines.{NoLineFeed}
+use Rattle.dw_notation.specs.inner.TextLines.{SaysSame}
 use Rattle.dw_notation.specs.inner.Ahead.{found_from, behind_mark}
 use Rattle.dw_notation.specs.inner.Ahead.{passed_over, is_behind}
 use Rattle.dw_notation.specs.declared.problems.fens.Front.{Front}

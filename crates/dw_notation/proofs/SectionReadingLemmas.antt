@@ -4,7 +4,7 @@ use Rattle.std.proofs.Common.{refl, sym, ap, ◌∙◌, subst, arith, append_ass
 use Rattle.std.proofs.lemmas.Bool.{or_parts, and_parts, not-true}
 use Rattle.std.specs.List.{list_all}
 use Rattle.dw_board.specs.Geometry.{Geometry}
-use Rattle.dw_notation.specs.Lines.{Found}
+use Rattle.dw_notation.specs.TextLines.{Found}
 use Rattle.dw_notation.specs.inner.Sections.{transition, at, Section, bare, kind_of, with_tag, after, section_found}
 use Rattle.dw_notation.specs.Tags.{game_of}
 use Rattle.dw_notation.specs.inner.Sections.{found_by, sections_found}

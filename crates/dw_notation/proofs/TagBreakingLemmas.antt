@@ -5,7 +5,7 @@ use Rattle.std.proofs.lemmas.Bool.{cases_Bool, and_parts, and_from, or_cases, no
 use Rattle.std.proofs.lemmas.List.Folds.{list_all-append}
 use Rattle.std.specs.List.{list_all}
 use Rattle.dw_board.specs.FenTokens.{is_blank}
-use Rattle.dw_notation.specs.Lines.{Found}
+use Rattle.dw_notation.specs.TextLines.{Found}
 use Rattle.dw_notation.specs.inner.Sections.{transition, at, Section, after, section_found, found_by}
 use Rattle.dw_notation.specs.Tags.{is_name_byte, ends_line}
 use Rattle.dw_notation.specs.inner.Sections.{found_at_end, sections_found}

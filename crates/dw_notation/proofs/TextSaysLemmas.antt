@@ -10,12 +10,12 @@ use Rattle.dw_board.specs.Geometry.{Geometry}
 use Rattle.dw_board.specs.FenTokens.{is_blank}
 use Rattle.dw_board.specs.Fen.{fen}
 use Rattle.dw_board.specs.FenLaws.{ReadingIsGrammar, FaultIsGrammar}
-use Rattle.dw_notation.specs.Lines.{NoLineFeed, without_return, Found, FenSays, LineSays, if_over, LinesSay}
-use Rattle.dw_notation.specs.Lines.LinesSay.{last, one_more}
+use Rattle.dw_notation.specs.TextLines.{NoLineFeed, without_return, Found, FenSays, LineSays, if_over, LinesSay}
+use Rattle.dw_notation.specs.TextLines.LinesSay.{last, one_more}
 use Rattle.dw_notation.specs.Tags.{Tag, same_name, values_named, game_of, is_wrong, FensSay, SectionSays}
 use Rattle.dw_notation.specs.inner.Tags.{with_fen, fens_of, with_game, games_of, tags_found}
 use Rattle.dw_notation.specs.inner.Sections.{fens_found}
-use Rattle.dw_notation.specs.inner.Lines.{fen_found, text_found, line_found}
+use Rattle.dw_notation.specs.inner.TextLines.{fen_found, text_found, line_found}
 use Rattle.dw_notation.specs.inner.Ahead.{found_from}
 use Rattle.dw_notation.specs.declared.problems.TheConstants.{MAX_LINE, MAX_SECTION}
 use Rattle.dw_notation.specs.declared.problems.ProblemFault.TheVariants.{Fen, NoFen, TwoFens, WrongGame, LineTooLong}

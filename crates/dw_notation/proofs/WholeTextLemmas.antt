@@ -6,14 +6,14 @@ use Rattle.std.proofs.lemmas.Bool.{cases_Bool, and_parts, and_from, not-true, eq
 use Rattle.std.specs.List.{list_all}
 use Rattle.dw_board.specs.Boards.{ten}
 use Rattle.dw_board.specs.Geometry.{Geometry}
-use Rattle.dw_notation.specs.Lines.{Found}
+use Rattle.dw_notation.specs.TextLines.{Found}
 use Rattle.dw_notation.specs.inner.Sections.{transition, Section, bare, after, section_found, sections_found}
 use Rattle.dw_notation.specs.Tags.{ends_line}
 use Rattle.dw_notation.specs.Tags.{Tag, IsTag, IsUnclosed, is_space, IsGap, IsSection}
 use Rattle.dw_notation.specs.inner.Tags.{tags_found, outside_found}
 use Rattle.dw_notation.specs.inner.Tags.{ends_section}
 use Rattle.dw_notation.specs.Tags.IsSection.{single, broken, longer, longer_broken}
-use Rattle.dw_notation.specs.Lines.{if_over}
+use Rattle.dw_notation.specs.TextLines.{if_over}
 use Rattle.dw_notation.specs.WholeTexts.{IsOpen, SectionsSay}
 use Rattle.dw_notation.specs.WholeTexts.SectionsSay.{nothing, other, comment, last_comment, section, last_section}
 use Rattle.dw_notation.specs.declared.problems.ProblemFault.TheVariants.{UnclosedComment}

@@ -4,7 +4,7 @@ pub mod Writes
 pub mod Text
 pub mod TextLaws
 pub mod LineTexts
-pub mod Lines
+pub mod TextLines
 pub mod Tags
 pub mod WholeTexts
 pub mod Problems

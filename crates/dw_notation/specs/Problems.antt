@@ -1,7 +1,7 @@
 -- The problems of a byte text.
 use Rattle.std.specs.Prelude.{◌≡◌, ℕ, ◌==◌, ◌+◌, if◌then◌else◌, List, [], ◌∷◌, ◌++◌, Bool, false, Err, nat_lt}
 use Rattle.dw_board.specs.Geometry.{Geometry}
-use Rattle.dw_notation.specs.Lines.{without_mark, Found, LinesSay}
+use Rattle.dw_notation.specs.TextLines.{without_mark, Found, LinesSay}
 use Rattle.dw_notation.specs.WholeTexts.{SectionsSay}
 use Rattle.dw_notation.specs.declared.problems.TheConstants.{MAX_PROBLEMS}
 use Rattle.dw_notation.specs.declared.problems.Problem.{Problem}

@@ -2,7 +2,7 @@
 use Rattle.std.specs.Prelude.{◌≡◌, ◌==◌, ◌||◌, ◌⊎◌, ℕ, not, List, [], ◌∷◌, ◌++◌, length, Bool, true, false, Err}
 use Rattle.std.specs.List.{list_all}
 use Rattle.dw_board.specs.Geometry.{Geometry}
-use Rattle.dw_notation.specs.Lines.{Found, if_over}
+use Rattle.dw_notation.specs.TextLines.{Found, if_over}
 use Rattle.dw_notation.specs.Tags.{open_bracket, open_brace, close_brace, is_space, Tag, IsGap, IsSection, SectionSays}
 use Rattle.dw_notation.specs.declared.problems.ProblemFault.TheVariants.{UnclosedComment}
 

@@ -1,6 +1,6 @@
 -- What only relates the code to the definitions: no contract of a public call names it, but for what is sealed.
 pub mod MoveReader
-pub mod Lines
+pub mod TextLines
 pub mod Ahead
 pub mod Held
 pub mod Sections
@@ -11,6 +11,6 @@ pub mod Problems
 pub mod Cutting
 pub mod Readers
 pub mod LineWords
-pub mod LinePlies
+pub mod WrittenMoves
 pub mod LineCodes
 pub mod Writes

@@ -5,7 +5,7 @@ ghost use Rattle.arrayvec.specs.ArrayString.{array_string_len};
 ghost use Rattle.dw_moves.specs.Moves.{Legal};
 ghost use Rattle.dw_notation.specs.Text.{IsLineText, ArePlayable, numbered};
 ghost use Rattle.dw_notation.specs.inner.LineWords.{onto};
-ghost use Rattle.dw_notation.specs.inner.LinePlies.{after_moves, len_to, end_from};
+ghost use Rattle.dw_notation.specs.inner.WrittenMoves.{after_moves, len_to, end_from};
 
 use crate::move_text::{MOVE_ROOM, text_in};
 use arrayvec::{ArrayString, ArrayVec};
@@ -26,18 +26,18 @@ pub const LINE_ROOM: usize = 2560;
 /// A move of a line: the position after it, and how long the text is up to its end.
 /// Example: of `1. 45-40 16-21 2. 27x16` the first ply is `45-40`, at whose end the text has 8 bytes.
 #[derive(Drop)]
-struct Ply<B: Board> {
+struct WrittenMove<B: Board> {
     mv: Move<B>,
     after: Position<B>,
     len: usize,
 }
 
 /// A value to fill an array with.
-impl<B: Board> Default for Ply<B> {
+impl<B: Board> Default for WrittenMove<B> {
     ghost is_default = { λ ply. ply.len ≡ 0 };
 
     fn default() -> Self {
-        Ply {
+        WrittenMove {
             mv: Move::default(),
             after: Position::empty(Side::White),
             len: 0,
@@ -49,7 +49,7 @@ impl<B: Board> Default for Ply<B> {
 #[derive(Drop)]
 pub struct LineText<B: Board> {
     start: Position<B>,
-    plies: ArrayVec<Ply<B>, 39>,
+    plies: ArrayVec<WrittenMove<B>, 39>,
     text: ArrayString<LINE_ROOM>,
 }
 
@@ -62,7 +62,7 @@ impl<B: Board> Model for LineText<B> {
 
     ghost coded = { line_code };
 
-    ghost use Rattle.dw_notation.specs.inner.LinePlies.{AreWritten};
+    ghost use Rattle.dw_notation.specs.inner.WrittenMoves.{AreWritten};
 
     ghost view = { λ t. record { start = t.start; moves = map (λ x. x.mv) t.plies.items } };
 
@@ -145,7 +145,7 @@ impl<B: Board> LineText<B> {
         let current = end_of(&self.start, self.plies.as_slice());
         let word = text_in(alloc, &current, mv)?;
         push_words(&mut self.text, self.plies.len(), &word);
-        self.plies.push(Ply {
+        self.plies.push(WrittenMove {
             mv: *mv,
             after: played(&current, mv),
             len: self.text.len(),
@@ -155,7 +155,7 @@ impl<B: Board> LineText<B> {
 }
 
 /// The position after some plies.
-fn end_of<B: Board>(start: &Position<B>, plies: &[Ply<B>]) -> Position<B>
+fn end_of<B: Board>(start: &Position<B>, plies: &[WrittenMove<B>]) -> Position<B>
     ensures { result ≡ end_from start.now plies.now }
 {
     let count = plies.len();
@@ -168,7 +168,7 @@ fn end_of<B: Board>(start: &Position<B>, plies: &[Ply<B>]) -> Position<B>
 }
 
 /// How long the text of so many first plies is.
-fn len_to<B: Board>(plies: &[Ply<B>], moves: usize) -> usize
+fn len_to<B: Board>(plies: &[WrittenMove<B>], moves: usize) -> usize
     ensures { result ≡ len_to 0 moves plies.now }
 {
     let count = moves.min(plies.len());

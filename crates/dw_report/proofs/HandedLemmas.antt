@@ -6,7 +6,7 @@ use Rattle.std.proofs.lemmas.Bool.{cases_Bool, true≢false}
 use Rattle.std.proofs.KnownBytes.{Consumes-trans}
 use Rattle.std.specs.Io.KnownBytes.{Consumes, IsAtEnd}
 use Rattle.dw_board.specs.Geometry.{Geometry}
-use Rattle.dw_notation.specs.Lines.LinesSay.{last as last_line}
+use Rattle.dw_notation.specs.TextLines.LinesSay.{last as last_line}
 use Rattle.dw_notation.specs.WholeTexts.SectionsSay.{nothing}
 use Rattle.dw_notation.specs.Problems.{Numbered, TextSays, AreProblems}
 use Rattle.dw_notation.specs.Reading.{Reader, ReadsAtNeed}

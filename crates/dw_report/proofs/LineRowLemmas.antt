@@ -16,9 +16,9 @@ use Rattle.dw_notation.specs.TextLaws.{LinesHaveTexts}
 use Rattle.dw_notation.specs.Writes.{StopsShort, Writes}
 use Rattle.dw_notation.specs.inner.Writes.{WritesShort}
 use Rattle.dw_list.specs.Lines.{Line, Lines, After}
-use Rattle.dw_list.specs.Standing.{Standing, AreToCome}
-use Rattle.dw_list.specs.Walking.{Gives, GivesFirst, GivesNone}
-use Rattle.dw_list.specs.inner.Walking.{GivesNext}
+use Rattle.dw_list.specs.LineStack.{LineStack, AreToCome}
+use Rattle.dw_list.specs.StackWalk.{Gives, GivesFirst, GivesNone}
+use Rattle.dw_list.specs.inner.StackWalk.{GivesNext}
 use Rattle.dw_list.specs.Tokens.{token_of}
 use Rattle.dw_list.specs.Laws.{GivenInTurn}
 use Rattle.dw_report.specs.ListedText.{AreLineTexts, IsListing, IsListedText, more_after}
@@ -47,7 +47,7 @@ line_odd g p (suc n) (m ∷ r ∷ l) h = let rest = line_odd g (play g (play g p
 abbrev pub HaveTexts : Geometry → Placement → List (List Move) → Type 0
 HaveTexts g p lines = (l : List Move) → Member l lines → (text : List ℕ) × IsLineText g p l text
 
-pub lines_text : LinesHaveTexts → (g : Geometry) → IsBoard g → (s : Standing) (p : Placement) (lines : List (List Move))
+pub lines_text : LinesHaveTexts → (g : Geometry) → IsBoard g → (s : LineStack) (p : Placement) (lines : List (List Move))
     → s.position ≡ p → AreToCome g s lines → HaveTexts g p lines
 lines_text laws g b s p lines e h = λ l m. laws.some g b p l
     (subst (λ z. ArePlayable g z l) e (line_playable g s.position s.moves l ((h.exactly l).0 m).0))
@@ -169,7 +169,7 @@ listing_from g p most (suc room) some lines (l ∷ left) texts are have few =
 -- ROWS SO FAR
 
 -- of the lines still to come these were given, and this is the text of their rows
-pub record Rows (g : Geometry) (p : Placement) (start now : Standing) (count : ℕ) (texts : List ℕ) : Type 0 where
+pub record Rows (g : Geometry) (p : Placement) (start now : LineStack) (count : ℕ) (texts : List ℕ) : Type 0 where
   pub given : List (List Move)
   pub gives : Gives g start now given
   pub many : length given ≡ count
@@ -177,13 +177,13 @@ pub record Rows (g : Geometry) (p : Placement) (start now : Standing) (count : �
   pub are : AreLineTexts g p given texts
 
 -- they were written
-pub record RowsSoFar (g : Geometry) (p : Placement) (start now : Standing) (count : ℕ) (old new : Option (List ℕ)) :
+pub record RowsSoFar (g : Geometry) (p : Placement) (start now : LineStack) (count : ℕ) (old new : Option (List ℕ)) :
     Type 0 where
   pub texts : List ℕ
   pub rows : Rows g p start now count texts
   pub wrote : Appends old new texts
 
-pub no_rows : GivenInTurn → (g : Geometry) (p : Placement) (s : Standing) (old : Option (List ℕ)) → RowsSoFar g p s s 0 old old
+pub no_rows : GivenInTurn → (g : Geometry) (p : Placement) (s : LineStack) (old : Option (List ℕ)) → RowsSoFar g p s s 0 old old
 no_rows turn g p s old = record {
   texts = [];
   rows = record {
@@ -197,7 +197,7 @@ no_rows turn g p s old = record {
   wrote = Appends-nil old;
 }
 
-row_given : GivenInTurn → (g : Geometry) (p : Placement) (start a b : Standing) (count : ℕ) (texts row : List ℕ)
+row_given : GivenInTurn → (g : Geometry) (p : Placement) (start a b : LineStack) (count : ℕ) (texts row : List ℕ)
     → Rows g p start a count texts → GivesFirst g a b → IsRow g p (reverse b.line) row
     → Rows g p start b (count + 1) (texts ++ row)
 row_given turn g p start a b count texts row h first r = record {
@@ -208,7 +208,7 @@ row_given turn g p start a b count texts row h first r = record {
   are = rows_more g p h.given (reverse b.line) texts row h.are r;
 }
 
-pub row_written : GivenInTurn → (g : Geometry) (p : Placement) (start a b : Standing) (count : ℕ) (old mid new : Option (List ℕ))
+pub row_written : GivenInTurn → (g : Geometry) (p : Placement) (start a b : LineStack) (count : ℕ) (old mid new : Option (List ℕ))
     → RowsSoFar g p start a count old mid → GivesFirst g a b → Writes (IsRow g p (reverse b.line)) mid new
     → RowsSoFar g p start b (count + 1) old new
 row_written turn g p start a b count old mid new h first w = record {
@@ -218,7 +218,7 @@ row_written turn g p start a b count old mid new h first w = record {
 }
 
 -- the line that is given is a line
-pub given_line : (g : Geometry) (p : Placement) (start a b : Standing) (count : ℕ) (texts : List ℕ)
+pub given_line : (g : Geometry) (p : Placement) (start a b : LineStack) (count : ℕ) (texts : List ℕ)
     → Rows g p start a count texts → GivesFirst g a b → (lines : List (List Move)) → AreToCome g start lines
     → Line g start.position start.moves (reverse b.line)
 given_line g p start a b count texts h first lines all =
@@ -230,7 +230,7 @@ given_line g p start a b count texts h first lines all =
     ((all.exactly (reverse b.line)).0 here).0
 
 -- the last one that was given is a line
-pub last_line : (g : Geometry) (p : Placement) (start now : Standing) (count : ℕ) (texts : List ℕ) → 1 ≤ count
+pub last_line : (g : Geometry) (p : Placement) (start now : LineStack) (count : ℕ) (texts : List ℕ) → 1 ≤ count
     → Rows g p start now count texts → (lines : List (List Move)) → AreToCome g start lines
     → Line g start.position start.moves (reverse now.line)
 last_line g p start now count texts some h lines all =
@@ -243,22 +243,22 @@ last_line g p start now count texts some h lines all =
     ((all.exactly (reverse now.line)).0 here).0
 
 -- whether a line was given
-pub line_next : (g : Geometry) (more : Bool) (a b : Standing) → GivesNext g more a b → more ≡ true → GivesFirst g a b
+pub line_next : (g : Geometry) (more : Bool) (a b : LineStack) → GivesNext g more a b → more ≡ true → GivesFirst g a b
 line_next g more a b h e = subst (λ z. GivesNext g z a b) e h
 
-pub none_next : (g : Geometry) (more : Bool) (a b : Standing) → GivesNext g more a b → more ≡ false → GivesNone g a b
+pub none_next : (g : Geometry) (more : Bool) (a b : LineStack) → GivesNext g more a b → more ≡ false → GivesNone g a b
 none_next g more a b h e = subst (λ z. GivesNext g z a b) e h
 
-no_more : (g : Geometry) (a : Standing) (left : List (List Move)) → AreToCome g a left → AreToCome g a [] → left ≡ []
+no_more : (g : Geometry) (a : LineStack) (left : List (List Move)) → AreToCome g a left → AreToCome g a [] → left ≡ []
 no_more g a [] h none = refl
 no_more g a (x ∷ left) h none = absurd ((none.exactly x).1 ((h.exactly x).0 (inl refl)))
 
 -- HOW A WHOLE LISTING ENDS
 
-module _ (g : Geometry) (p : Placement) (most : ℕ) (some : 1 ≤ most) (start : Standing) (lines : List (List Move))
+module _ (g : Geometry) (p : Placement) (most : ℕ) (some : 1 ≤ most) (start : LineStack) (lines : List (List Move))
     (all : AreToCome g start lines) (have : HaveTexts g p lines) where
   -- a listing begins with these rows
-  begun_by : (now : Standing) (count : ℕ) (texts : List ℕ) → Rows g p start now count texts → count ≤ most
+  begun_by : (now : LineStack) (count : ℕ) (texts : List ℕ) → Rows g p start now count texts → count ≤ most
       → (rest : List ℕ) × IsListing g p most lines (texts ++ rest)
   begun_by now count texts h few =
       let left = h.gives.first lines all in
@@ -266,7 +266,7 @@ module _ (g : Geometry) (p : Placement) (most : ℕ) (some : 1 ≤ most) (start 
       let r = listing_from g p most (most - count) some h.given left.0 texts h.are have' (omega (arith, h.many, few)) in
       (r.0, subst (λ z. IsListing g p most z (texts ++ r.0)) (sym left.1) r.1)
 
-  pub rows_stop : (now : Standing) (count : ℕ) (old new : Option (List ℕ)) → RowsSoFar g p start now count old new
+  pub rows_stop : (now : LineStack) (count : ℕ) (old new : Option (List ℕ)) → RowsSoFar g p start now count old new
       → count ≤ most → Writes (AreLinesOf (IsListing g p most lines)) old new
   rows_stop now count old new h few =
       let r = begun_by now count h.texts h.rows few in
@@ -283,7 +283,7 @@ module _ (g : Geometry) (p : Placement) (most : ℕ) (some : 1 ≤ most) (start 
       }
 
   -- a row was cut short
-  row_short : GivenInTurn → (a b : Standing) (count : ℕ) (old mid new : Option (List ℕ)) → RowsSoFar g p start a count old mid
+  row_short : GivenInTurn → (a b : LineStack) (count : ℕ) (old mid new : Option (List ℕ)) → RowsSoFar g p start a count old mid
       → GivesFirst g a b → count < most → WritesShort (IsRow g p (reverse b.line)) mid new
       → WritesShort (IsListing g p most lines) old new
   row_short turn a b count old mid new h first few w =
@@ -295,7 +295,7 @@ module _ (g : Geometry) (p : Placement) (most : ℕ) (some : 1 ≤ most) (start 
         stops = stops_within old mid new h.texts w.text r.0 ((h.texts ++ w.text) ++ r.0) refl h.wrote w.stops;
       }
 
-  nothing_more : (now : Standing) (count : ℕ) (old mid new : Option (List ℕ)) → RowsSoFar g p start now count old mid
+  nothing_more : (now : LineStack) (count : ℕ) (old mid new : Option (List ℕ)) → RowsSoFar g p start now count old mid
       → count ≤ most → Writes IsNothing mid new → Writes (AreLinesOf (IsListing g p most lines)) old new
   nothing_more now count old mid new h few w =
       let same : h.texts ++ w.text ≡ h.texts = ap (λ z. h.texts ++ z) w.is ∙ append-nil h.texts in
@@ -306,7 +306,7 @@ module _ (g : Geometry) (p : Placement) (most : ℕ) (some : 1 ≤ most) (start 
       }) few
 
   -- a row was not written to its end
-  pub row_ends : {X Y : Type 0} → GivenInTurn → (a b : Standing) (count : ℕ) (old mid new : Option (List ℕ)) (r : Result X TextFault)
+  pub row_ends : {X Y : Type 0} → GivenInTurn → (a b : LineStack) (count : ℕ) (old mid new : Option (List ℕ)) (r : Result X TextFault)
       (s : Result Y TextFault) (fault other : TextFault) → RowsSoFar g p start a count old mid → GivesFirst g a b
       → count < most
       → r ≡ Err fault → s ≡ Err other → fault ≡ other → TextEnds (IsRow g p (reverse b.line)) IsNothing mid new r
@@ -321,7 +321,7 @@ module _ (g : Geometry) (p : Placement) (most : ℕ) (some : 1 ≤ most) (start 
         at Sink e w = at_sink (IsListing g p most lines) (AreLinesOf (IsListing g p most lines)) old new s e
             (row_short turn a b count old mid new h first few w)
 
-  all_given : (a b : Standing) (count : ℕ) (texts : List ℕ) → Rows g p start a count texts → GivesNone g a b
+  all_given : (a b : LineStack) (count : ℕ) (texts : List ℕ) → Rows g p start a count texts → GivesNone g a b
       → count ≤ most → IsListing g p most lines (texts ++ complete_line count)
   all_given a b count texts h none few =
       let left = h.gives.first lines all in
@@ -332,7 +332,7 @@ module _ (g : Geometry) (p : Placement) (most : ℕ) (some : 1 ≤ most) (start 
       (subst (λ k. IsListing g p most h.given (texts ++ complete_line k)) h.many (is_complete g p most h.given texts
       h.are (omega (arith, h.many, few))))
 
-  more_left : (a b : Standing) (count : ℕ) (texts : List ℕ) → Rows g p start a count texts → GivesFirst g a b
+  more_left : (a b : LineStack) (count : ℕ) (texts : List ℕ) → Rows g p start a count texts → GivesFirst g a b
       → count ≡ most → IsListing g p most lines (texts ++ more_after g (reverse a.line))
   more_left a b count texts h first full =
       let left = h.gives.first lines all in
@@ -346,7 +346,7 @@ module _ (g : Geometry) (p : Placement) (most : ℕ) (some : 1 ≤ most) (start 
       (is_cut g p most last.0 left.0 (reverse a.line) texts (subst (λ z. AreLineTexts g p z texts) last.1 h.are)
       many enough)
 
-  end_written : (now : Standing) (count : ℕ) (old mid new : Option (List ℕ)) (end : List ℕ)
+  end_written : (now : LineStack) (count : ℕ) (old mid new : Option (List ℕ)) (end : List ℕ)
       (h : RowsSoFar g p start now count old mid) → IsListing g p most lines (h.texts ++ end) → Appends mid new end
       → Writes (IsListing g p most lines) old new
   end_written now count old mid new end h is wrote = record {
@@ -355,7 +355,7 @@ module _ (g : Geometry) (p : Placement) (most : ℕ) (some : 1 ≤ most) (start 
     wrote = Appends-trans old mid new h.texts end h.wrote wrote;
   }
 
-  end_short : (now : Standing) (count : ℕ) (old mid new : Option (List ℕ)) (end : List ℕ)
+  end_short : (now : LineStack) (count : ℕ) (old mid new : Option (List ℕ)) (end : List ℕ)
       (h : RowsSoFar g p start now count old mid) → IsListing g p most lines (h.texts ++ end) → StopsShort mid new end
       → WritesShort (IsListing g p most lines) old new
   end_short now count old mid new end h is stops = record {
@@ -364,26 +364,26 @@ module _ (g : Geometry) (p : Placement) (most : ℕ) (some : 1 ≤ most) (start 
     stops = stops_within old mid new h.texts end [] (h.texts ++ end) (sym (append-nil (h.texts ++ end))) h.wrote stops;
   }
 
-  pub complete_written : (a b : Standing) (count : ℕ) (old mid new : Option (List ℕ))
+  pub complete_written : (a b : LineStack) (count : ℕ) (old mid new : Option (List ℕ))
       → RowsSoFar g p start a count old mid → GivesNone g a b → count ≤ most → Appends mid new (complete_line count)
       → Writes (IsListing g p most lines) old new
   complete_written a b count old mid new h none few wrote = end_written a count old mid new (complete_line count) h
       (all_given a b count h.texts h.rows none few) wrote
 
-  pub complete_short : (a b : Standing) (count : ℕ) (old mid new : Option (List ℕ))
+  pub complete_short : (a b : LineStack) (count : ℕ) (old mid new : Option (List ℕ))
       → RowsSoFar g p start a count old mid → GivesNone g a b → count ≤ most → StopsShort mid new (complete_line count)
       → WritesShort (IsListing g p most lines) old new
   complete_short a b count old mid new h none few stops = end_short a count old mid new (complete_line count) h
       (all_given a b count h.texts h.rows none few) stops
 
-  pub more_written : (a b : Standing) (count : ℕ) (old mid new : Option (List ℕ)) → RowsSoFar g p start a count old mid
+  pub more_written : (a b : LineStack) (count : ℕ) (old mid new : Option (List ℕ)) → RowsSoFar g p start a count old mid
       → GivesFirst g a b → count ≡ most → Appends mid new (more_after g (reverse a.line))
       → Writes (IsListing g p most lines) old new
   more_written a b count old mid new h first full wrote =
       end_written a count old mid new (more_after g (reverse a.line)) h
       (more_left a b count h.texts h.rows first full) wrote
 
-  pub more_short : (a b : Standing) (count : ℕ) (old mid new : Option (List ℕ)) → RowsSoFar g p start a count old mid
+  pub more_short : (a b : LineStack) (count : ℕ) (old mid new : Option (List ℕ)) → RowsSoFar g p start a count old mid
       → GivesFirst g a b → count ≡ most → StopsShort mid new (more_after g (reverse a.line))
       → WritesShort (IsListing g p most lines) old new
   more_short a b count old mid new h first full stops =

@@ -6,7 +6,7 @@ use Rattle.dw_board.specs.Placement.{Placement}
 use Rattle.dw_board.specs.Diagram.{diagram_text}
 use Rattle.dw_moves.specs.Laws.{MovesInOrder, OneBest, MovesHaveKeys}
 use Rattle.dw_moves.specs.Order.{Listed}
-use Rattle.dw_notation.specs.Lines.{Found}
+use Rattle.dw_notation.specs.TextLines.{Found}
 use Rattle.dw_notation.specs.Problems.{Numbered, TextsHaveProblems}
 use Rattle.dw_notation.specs.TextLaws.{MovesHaveTexts, LinesHaveTexts}
 use Rattle.dw_list.specs.Laws.{LinesExist, LineOrPlace}

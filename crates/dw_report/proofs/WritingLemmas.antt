@@ -6,7 +6,7 @@ use Rattle.std.proofs.KnownBytes.{Appends-trans, Appends-nil}
 use Rattle.dw_board.specs.Geometry.{Geometry}
 use Rattle.dw_board.specs.Placement.{Placement}
 use Rattle.dw_board.specs.Diagram.{diagram_text}
-use Rattle.dw_notation.specs.Lines.{Found}
+use Rattle.dw_notation.specs.TextLines.{Found}
 use Rattle.dw_notation.specs.Problems.{Numbered}
 use Rattle.dw_notation.specs.Writes.{IsBeginning, StopsShort, Writes}
 use Rattle.dw_notation.specs.inner.Writes.{WritesShort}

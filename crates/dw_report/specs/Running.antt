@@ -6,7 +6,7 @@ use Rattle.std.specs.Io.KnownBytes.{Consumes, Appends, IsAtEnd}
 use Rattle.dw_board.specs.Geometry.{Geometry}
 use Rattle.dw_board.specs.Placement.{Placement}
 use Rattle.dw_moves.specs.Moves.{Move}
-use Rattle.dw_notation.specs.Lines.{line_feed, Found}
+use Rattle.dw_notation.specs.TextLines.{line_feed, Found}
 use Rattle.dw_notation.specs.Problems.{Numbered, AreProblems}
 use Rattle.dw_notation.specs.Writes.{IsBeginning, Writes}
 use Rattle.dw_notation.specs.declared.problems.TheConstants.{MAX_PROBLEMS, MAX_READ}

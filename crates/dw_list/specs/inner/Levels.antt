@@ -4,8 +4,8 @@ use Rattle.dw_board.specs.Geometry.{Geometry}
 use Rattle.dw_board.specs.Placement.{Placement}
 use Rattle.dw_moves.specs.Moves.{Move, Legal, play}
 use Rattle.dw_moves.specs.Order.{Precedes, IsListOf}
-use Rattle.dw_list.specs.inner.Going.{IsNext, left_after}
-use Rattle.dw_list.specs.Standing.{Level}
+use Rattle.dw_list.specs.inner.Ways.{IsNext, left_after}
+use Rattle.dw_list.specs.LineStack.{Level}
 
 -- the moves ahead are the last of all legal moves in order
 abbrev pub AreLast : Geometry → Placement → Option (List Move) → Type 0

@@ -7,7 +7,7 @@ use Rattle.dw_board.specs.Placement.{Placement}
 use Rattle.dw_moves.specs.Moves.{Move, Legal}
 use Rattle.dw_moves.specs.Order.{Precedes, IsListOf}
 use Rattle.dw_list.specs.Lines.{Line, Before}
-use Rattle.dw_list.specs.Standing.{Level, Standing, IsStillAhead}
+use Rattle.dw_list.specs.LineStack.{Level, LineStack, IsStillAhead}
 
 -- a level whose moves are not listed
 abbrev pub begun : Placement → Bool → ℕ → Level
@@ -54,7 +54,7 @@ cost most plies [] = 0
 cost most plies (f ∷ outer) = cost_of most (plies - length outer) f.ahead + cost most plies outer
 
 -- the lines still to come stay, and fewer steps are left
-pub record IsStep (g : Geometry) (old new : Standing) : Type 0 where
+pub record IsStep (g : Geometry) (old new : LineStack) : Type 0 where
   pub position : new.position ≡ old.position
   pub moves : new.moves ≡ old.moves
   pub same : (l : List Move) → Line g old.position old.moves l →
@@ -62,7 +62,7 @@ pub record IsStep (g : Geometry) (old new : Standing) : Type 0 where
   pub fewer : cost (2 ^ 64) (2 * new.moves) new.levels < cost (2 ^ 64) (2 * old.moves) old.levels
 
 -- the line at which the stack stands was the first of those still to come, and is not any more
-pub record IsGiven (g : Geometry) (old new : Standing) : Type 0 where
+pub record IsGiven (g : Geometry) (old new : LineStack) : Type 0 where
   pub position : new.position ≡ old.position
   pub moves : new.moves ≡ old.moves
   pub line : Line g old.position old.moves (reverse new.line)

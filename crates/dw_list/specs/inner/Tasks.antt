@@ -2,31 +2,31 @@
 use Rattle.std.specs.Prelude.{◌≡◌, ◌↔◌, Bool, false, IsTrue, Some, None, List, [], ◌∷◌}
 use Rattle.dw_board.specs.Geometry.{Geometry}
 use Rattle.dw_moves.specs.Moves.{play}
-use Rattle.dw_list.specs.declared.stack.Trial.{Trial}
+use Rattle.dw_list.specs.declared.stack.Candidate.{Candidate}
 use Rattle.dw_list.specs.declared.stack.Task.{Task}
 use Rattle.dw_list.specs.declared.stack.Task.TheVariants.{Over, Unlisted, Try, Passed}
-use Rattle.dw_list.specs.inner.Going.{left_after}
-use Rattle.dw_list.specs.Standing.{Level, Standing}
+use Rattle.dw_list.specs.inner.Ways.{left_after}
+use Rattle.dw_list.specs.LineStack.{Level, LineStack}
 use Rattle.dw_list.specs.inner.Steps.{first_ahead, IsListing}
 
 -- it is the first move ahead at the last level
-pub record IsTrial {B : Type 0} (g : Geometry) (levels : List Level) (trial : Trial B) : Type 0 where
+pub record IsCandidate {B : Type 0} (g : Geometry) (levels : List Level) (candidate : Candidate B) : Type 0 where
   pub last : Level
   pub outer : List Level
   pub are : levels ≡ last ∷ outer
-  pub first : first_ahead last.ahead ≡ Some trial.mv
-  pub after : trial.after ≡ play g last.position trial.mv
-  pub attacks : trial.attacks ≡ last.attacks
-  pub left : trial.left ≡ left_after last.attacks last.left
+  pub first : first_ahead last.ahead ≡ Some candidate.mv
+  pub after : candidate.after ≡ play g last.position candidate.mv
+  pub attacks : candidate.attacks ≡ last.attacks
+  pub left : candidate.left ≡ left_after last.attacks last.left
 
 abbrev pub IsTask : {B : Type 0} → Geometry → List Level → Task B → Type 0
 IsTask g levels Over = levels ≡ []
 IsTask g levels Unlisted = (last : Level) × (outer : List Level) × (levels ≡ last ∷ outer) × (last.ahead ≡ None)
-IsTask g levels (Try trial) = IsTrial g levels trial
+IsTask g levels (Try candidate) = IsCandidate g levels candidate
 IsTask g levels Passed = (last : Level) × (outer : List Level) × (levels ≡ last ∷ outer) × (last.ahead ≡ Some [])
 
 -- the moves of the last level were listed, and the line ends there if the defender has none
-pub record IsListed (g : Geometry) (old new : Standing) (is_end : Bool) : Type 0 where
+pub record IsListed (g : Geometry) (old new : LineStack) (is_end : Bool) : Type 0 where
   pub last : Level
   pub outer : List Level
   pub are : old.levels ≡ last ∷ outer

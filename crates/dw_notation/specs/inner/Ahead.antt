@@ -1,8 +1,8 @@
 -- What is ahead in a text that is read piece by piece.
 use Rattle.std.specs.Prelude.{ℕ, ◌==◌, if◌then◌else◌, List, [], ◌∷◌, ◌++◌, Bool, true, false, option_to_list}
 use Rattle.dw_board.specs.Geometry.{Geometry}
-use Rattle.dw_notation.specs.Lines.{line_feed, without_mark, Found}
-use Rattle.dw_notation.specs.inner.Lines.{line_found}
+use Rattle.dw_notation.specs.TextLines.{line_feed, without_mark, Found}
+use Rattle.dw_notation.specs.inner.TextLines.{line_found}
 use Rattle.dw_notation.specs.declared.problems.fens.Front.{Front}
 use Rattle.dw_notation.specs.declared.problems.fens.Front.TheVariants.{Bare, One, Two, Behind}
 

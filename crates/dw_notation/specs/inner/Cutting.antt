@@ -4,7 +4,7 @@ use Rattle.std.specs.Prelude.{Option, option_to_list, Result, Ok, Err, nat_le}
 use Rattle.std.specs.List.{slice_range}
 use Rattle.std.specs.Io.KnownBytes.{Consumes, IsAtEnd}
 use Rattle.dw_board.specs.Geometry.{Geometry}
-use Rattle.dw_notation.specs.Lines.{Found}
+use Rattle.dw_notation.specs.TextLines.{Found}
 use Rattle.dw_notation.specs.Problems.{Numbered, number_from}
 use Rattle.dw_notation.specs.Reading.{Reader, ReadsAtNeed}
 use Rattle.dw_notation.specs.inner.Pieces.{pieces_ahead, pieces_behind, pieces_cut}

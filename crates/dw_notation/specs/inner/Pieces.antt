@@ -1,25 +1,25 @@
 -- The pieces of a text that are problems, by its form.
 use Rattle.std.specs.Prelude.{ℕ, List, [], Bool, Option}
 use Rattle.dw_board.specs.Geometry.{Geometry}
-use Rattle.dw_notation.specs.Lines.{Found}
-use Rattle.dw_notation.specs.inner.Lines.{line_found}
+use Rattle.dw_notation.specs.TextLines.{Found}
+use Rattle.dw_notation.specs.inner.TextLines.{line_found}
 use Rattle.dw_notation.specs.inner.Ahead.{found_from, behind_mark}
 use Rattle.dw_notation.specs.inner.Held.{held_line}
 use Rattle.dw_notation.specs.inner.HeldSection.{sections_ahead, sections_cut}
-use Rattle.dw_notation.specs.declared.problems.fens.Lines.{Lines}
+use Rattle.dw_notation.specs.declared.problems.fens.TextLines.{TextLines}
 use Rattle.dw_notation.specs.declared.problems.reader.Pieces.{Pieces}
 use Rattle.dw_notation.specs.declared.problems.reader.Pieces.TheVariants.{InLines, InSections}
 
 -- what the line begun and then the bytes say
-abbrev pub lines_ahead : Bool → Geometry → Lines → List ℕ → List Found
+abbrev pub lines_ahead : Bool → Geometry → TextLines → List ℕ → List Found
 lines_ahead at_end g lines bytes = found_from at_end g (held_line lines.line) (behind_mark lines.front bytes)
 
 -- what the bytes say after the line that was cut off
-abbrev pub lines_behind : Bool → Geometry → Lines → List ℕ → List Found
+abbrev pub lines_behind : Bool → Geometry → TextLines → List ℕ → List Found
 lines_behind at_end g lines bytes = found_from at_end g [] (behind_mark lines.front bytes)
 
 -- what the line that was cut off says
-abbrev pub lines_cut : Geometry → Lines → Option Found
+abbrev pub lines_cut : Geometry → TextLines → Option Found
 lines_cut g lines = line_found g (held_line lines.line)
 
 -- what the piece begun and then the bytes say

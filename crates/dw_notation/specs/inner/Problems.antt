@@ -1,7 +1,7 @@
 -- What the problems of a text are found to be, byte by byte, and a problem as it is handed out.
 use Rattle.std.specs.Prelude.{ℕ, List, [], ◌∷◌, Bool, Option, Some, None}
 use Rattle.dw_board.specs.Geometry.{Geometry}
-use Rattle.dw_notation.specs.Lines.{without_mark, Found}
+use Rattle.dw_notation.specs.TextLines.{without_mark, Found}
 use Rattle.dw_notation.specs.Problems.{Numbered, numbered}
 use Rattle.dw_notation.specs.inner.Ahead.{found_from}
 use Rattle.dw_notation.specs.inner.Sections.{bare, sections_found}

@@ -5,19 +5,23 @@ use Rattle.std.specs.Prelude.{codes}
 use Rattle.dw_board.specs.Geometry.{Geometry}
 use Rattle.dw_board.specs.Fen.{fen}
 use Rattle.dw_board.specs.FenTokens.{is_blank}
-use Rattle.dw_notation.specs.Lines.{Found}
+use Rattle.dw_notation.specs.TextLines.{Found}
 use Rattle.dw_notation.specs.Tags.{open_bracket, close_bracket, open_brace, close_brace, quotation_mark, back_slash}
 use Rattle.dw_notation.specs.Tags.{is_name_byte, ends_line, same_name, game_of, is_wrong}
-use Rattle.dw_notation.specs.inner.Lines.{fen_found}
+use Rattle.dw_notation.specs.inner.TextLines.{fen_found}
 use Rattle.dw_notation.specs.declared.problems.TheConstants.{MAX_SECTION}
 use Rattle.dw_notation.specs.declared.problems.ProblemFault.TheVariants.{NoFen, TwoFens, WrongGame, SectionTooLong}
 use Rattle.dw_notation.specs.declared.problems.ProblemFault.TheVariants.{UnclosedTag, UnclosedComment}
 use Rattle.dw_notation.specs.declared.problems.pdn.automaton.State.{State}
-use Rattle.dw_notation.specs.declared.problems.pdn.automaton.State.TheVariants.{Outside, Comment, Between, BeforeName, InName}
-use Rattle.dw_notation.specs.declared.problems.pdn.automaton.State.TheVariants.{BehindName, InValue, Escaped, BehindValue, Rest}
+use Rattle.dw_notation.specs.declared.problems.pdn.automaton.State.TheVariants.{Outside, Comment, Between}
+use Rattle.dw_notation.specs.declared.problems.pdn.automaton.State.TheVariants.{BeforeName, InName}
+use Rattle.dw_notation.specs.declared.problems.pdn.automaton.State.TheVariants.{BehindName, InValue, Escaped}
+use Rattle.dw_notation.specs.declared.problems.pdn.automaton.State.TheVariants.{BehindValue, Rest}
 use Rattle.dw_notation.specs.declared.problems.pdn.automaton.Action.{Action}
-use Rattle.dw_notation.specs.declared.problems.pdn.automaton.Action.TheVariants.{Keep, Open, Count, AddName, OpenValue, AddValue}
-use Rattle.dw_notation.specs.declared.problems.pdn.automaton.Action.TheVariants.{AddBoth, Close, Break, EndLine, NextTag, End}
+use Rattle.dw_notation.specs.declared.problems.pdn.automaton.Action.TheVariants.{Keep, Open, Count}
+use Rattle.dw_notation.specs.declared.problems.pdn.automaton.Action.TheVariants.{AddName, OpenValue, AddValue}
+use Rattle.dw_notation.specs.declared.problems.pdn.automaton.Action.TheVariants.{AddBoth, Close, Break}
+use Rattle.dw_notation.specs.declared.problems.pdn.automaton.Action.TheVariants.{EndLine, NextTag, End}
 use Rattle.dw_notation.specs.declared.problems.pdn.section.TagKind.{TagKind}
 use Rattle.dw_notation.specs.declared.problems.pdn.section.TagKind.TheVariants.{FenTag, GameTag, OtherTag}
 use Rattle.dw_notation.specs.declared.problems.pdn.automaton.Transition.{Transition}

@@ -2,7 +2,7 @@
 use Rattle.std.specs.Prelude.{◌≡◌, ◌⊎◌, ℕ, ◌==◌, ◌||◌, if◌then◌else◌, List, [], ◌∷◌, ◌++◌, length, Bool, true, false}
 use Rattle.std.specs.Prelude.{nat_lt, not, Err}
 use Rattle.dw_board.specs.Geometry.{Geometry}
-use Rattle.dw_notation.specs.Lines.{Found}
+use Rattle.dw_notation.specs.TextLines.{Found}
 use Rattle.dw_notation.specs.Tags.{open_bracket, open_brace, close_brace, is_space, Tag, IsGap, IsSection, game_of}
 use Rattle.dw_notation.specs.Tags.{is_wrong}
 use Rattle.dw_notation.specs.WholeTexts.{IsOpen}

@@ -4,10 +4,10 @@ ghost use Rattle.std.specs.Prelude.{◌≡◌, ℕ, ◌+◌, ◌<◌, ◌≤◌,
 ghost use Rattle.std.specs.Prelude.{List, [], ◌∷◌, ◌++◌, length, take, drop, option_to_list};
 ghost use Rattle.std.specs.List.{list_all};
 ghost use Rattle.dw_board.specs.FenTokens.{is_blank};
-ghost use Rattle.dw_notation.specs.Lines.{without_return};
-ghost use Rattle.dw_notation.specs.inner.Lines.{line_found};
-ghost use Rattle.dw_notation.specs.Lines.{NoLineFeed};
-ghost use Rattle.dw_notation.specs.inner.Lines.{long_text_found};
+ghost use Rattle.dw_notation.specs.TextLines.{without_return};
+ghost use Rattle.dw_notation.specs.inner.TextLines.{line_found};
+ghost use Rattle.dw_notation.specs.TextLines.{NoLineFeed};
+ghost use Rattle.dw_notation.specs.inner.TextLines.{long_text_found};
 ghost use Rattle.dw_board.specs.Geometry.{Geometry};
 ghost use Rattle.dw_notation.specs.inner.Ahead.{found_from, behind_mark};
 ghost use Rattle.dw_notation.specs.inner.Ahead.{passed_over, is_behind};
@@ -45,7 +45,7 @@ fn text_of(line: &[u8]) -> &[u8]
 }
 
 /// What a line says, if it is no blank one.
-#[tactic(auto, unfolding(crate::specs::inner::Lines::line_found))]
+#[tactic(auto, unfolding(crate::specs::inner::TextLines::line_found))]
 fn read_line<B: Board>(line: &[u8]) -> Option<Result<Position<B>, ProblemFault>>
     ensures { result ≡ line_found B.geometry line.now }
 {
@@ -112,7 +112,7 @@ struct LongLine {
 
 impl LongLine {
     ghost use Rattle.dw_notation.specs.inner.Held.{long_bytes};
-    ghost use Rattle.dw_notation.specs.inner.Lines.{SaysSame};
+    ghost use Rattle.dw_notation.specs.inner.TextLines.{SaysSame};
 
     /// A line of so many bytes, all of them blank or not, and then a piece.
     fn new(before: usize, is_blank_before: bool, piece: &[u8]) -> LongLine
@@ -160,7 +160,7 @@ struct Line {
 
 impl Line {
     ghost use Rattle.dw_notation.specs.inner.Held.{held_line};
-    ghost use Rattle.dw_notation.specs.inner.Lines.{SaysSame};
+    ghost use Rattle.dw_notation.specs.inner.TextLines.{SaysSame};
 
     fn new() -> Line
         ensures { held_line result ≡ [] }
@@ -277,22 +277,22 @@ impl Front {
 
 /// How far a text of lines was read.
 #[derive(Drop)]
-pub(super) struct Lines {
+pub(super) struct TextLines {
     front: Front,
     line: Line,
 }
 
-impl Lines {
+impl TextLines {
     ghost use Rattle.dw_notation.specs.inner.Held.{held_line};
-    ghost use Rattle.dw_notation.specs.inner.Lines.{SaysSame};
+    ghost use Rattle.dw_notation.specs.inner.TextLines.{SaysSame};
     ghost use Rattle.dw_notation.specs.inner.Pieces.{lines_ahead, lines_behind, lines_cut};
 
     /// Nothing was read.
-    pub(super) fn new() -> Lines
+    pub(super) fn new() -> TextLines
         ensures line { held_line result.line ≡ [] }
         ensures front { result.front ≡ Front.Bare }
     {
-        Lines {
+        TextLines {
             front: Front::Bare,
             line: Line::new(),
         }

@@ -5,7 +5,7 @@ ghost use Rattle.std.specs.Prelude.{IfSome, IfNone, IfOk, IsErr, is_err, OnOk};
 ghost use Rattle.dw_board.specs.Geometry.{Geometry};
 ghost use Rattle.std.specs.Io.KnownBytes.{Consumes};
 
-use super::fens::Lines;
+use super::fens::TextLines;
 use super::pdn::Sections;
 use super::{Form, MAX_PROBLEMS, MAX_READ, Problem, ProblemFault, ReadFault};
 use crate::streams::Source;
@@ -17,7 +17,7 @@ use std::marker::PhantomData;
 /// How far a text was read, by its form.
 #[derive(Drop)]
 enum Pieces {
-    InLines(Lines),
+    InLines(TextLines),
     InSections(Sections),
 }
 
@@ -31,7 +31,7 @@ impl Pieces {
             → pieces_ahead over g result bytes ≡ found_of over g form bytes }
     {
         match form {
-            Form::Fens => Pieces::InLines(Lines::new()),
+            Form::Fens => Pieces::InLines(TextLines::new()),
             Form::Pdn => Pieces::InSections(Sections::new()),
         }
     }

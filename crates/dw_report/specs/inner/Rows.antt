@@ -5,7 +5,7 @@ use Rattle.dw_board.specs.Placement.{Placement}
 use Rattle.dw_moves.specs.Moves.{Move}
 use Rattle.dw_notation.specs.Text.{IsLineText}
 use Rattle.dw_list.specs.Lines.{Lines}
-use Rattle.dw_list.specs.Standing.{Standing, AreToCome}
+use Rattle.dw_list.specs.LineStack.{LineStack, AreToCome}
 
 -- the text of a line of play and a line feed
 abbrev pub IsRow : Geometry → Placement → List Move → List ℕ → Type 0
@@ -16,13 +16,13 @@ abbrev pub IsNothing : List ℕ → Type 0
 IsNothing text = text ≡ []
 
 -- a lister stands before the lines of a position within n moves, and has given none
-pub record StandsBefore (g : Geometry) (p : Placement) (n : ℕ) (stack : Standing) : Type 0 where
+pub record StandsBefore (g : Geometry) (p : Placement) (n : ℕ) (stack : LineStack) : Type 0 where
   pub position : stack.position ≡ p
   pub moves : stack.moves ≡ n
   pub to_come : (lines : List (List Move)) → Lines g p n lines ↔ AreToCome g stack lines
 
 -- a lister has lines of a position to come, and has given none of them
-pub record HasLines (g : Geometry) (p : Placement) (stack : Standing) : Type 0 where
+pub record HasLines (g : Geometry) (p : Placement) (stack : LineStack) : Type 0 where
   pub position : stack.position ≡ p
   pub lines : List (List Move)
   pub to_come : AreToCome g stack lines

@@ -3,7 +3,7 @@ use Rattle.std.specs.Prelude.{◌≡◌, ℕ, ◌+◌, ◌≤◌, ◌<◌, List,
 use Rattle.dw_board.specs.Geometry.{Geometry}
 use Rattle.dw_board.specs.Placement.{Placement}
 use Rattle.dw_board.specs.Diagram.{diagram_text}
-use Rattle.dw_notation.specs.Lines.{Found}
+use Rattle.dw_notation.specs.TextLines.{Found}
 use Rattle.dw_notation.specs.Problems.{Numbered}
 use Rattle.dw_notation.specs.Writes.{Writes}
 use Rattle.dw_notation.specs.inner.Writes.{WritesShort}

@@ -1,7 +1,7 @@
 use Rattle.std.proofs.Common.{◌≡◌, refl, sym, ap, ◌∙◌, subst, arith, map, true, ◌⊎◌, ◌<◌, length}
 use Rattle.dw_moves.specs.Order.{Precedes, IsListOf}
 use Rattle.dw_moves.specs.Moves.{Legal}
-use Rattle.dw_list.specs.inner.Going.{AreWays}
+use Rattle.dw_list.specs.inner.Ways.{AreWays}
 use Rattle.dw_list.proofs.WayLemmas.{no_ways}
 use Rattle.dw_list.proofs.GatheringLemmas.{added_kept, added_none, among_none, added_more, ways_over, ways_whole}
 use Rattle.dw_list.proofs.GatheringLemmas.{measure_falls, left_within, legal_at}

@@ -1,7 +1,7 @@
 use Rattle.std.proofs.Common.{◌≡◌, ◌+◌, ◌<◌, ◌≤◌, [], length, map, take}
 use Rattle.dw_list.specs.Listing.{lender, solver_of, stack_of, LimitIsLast}
-use Rattle.dw_list.specs.Standing.{AreToCome}
-use Rattle.dw_list.specs.Walking.{Gives}
+use Rattle.dw_list.specs.LineStack.{AreToCome}
+use Rattle.dw_list.specs.StackWalk.{Gives}
 use Rattle.dw_list.proofs.portions.in_portions.Given as goal
 
 abbrev pub invariant-limits : goal.invariant-limits

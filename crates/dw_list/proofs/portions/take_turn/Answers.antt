@@ -2,8 +2,8 @@ use Rattle.std.proofs.Common.{◌≤◌, ◌∷◌, [], ◌∙◌, ap, arith, le
 use Rattle.std.specs.Prelude.{IfSome}
 use Rattle.dw_list.specs.Lending.{LendsNext}
 use Rattle.dw_list.specs.Listing.{stack_of}
-use Rattle.dw_list.specs.Standing.{AreToCome}
-use Rattle.dw_list.specs.Walking.{Gives}
+use Rattle.dw_list.specs.LineStack.{AreToCome}
+use Rattle.dw_list.specs.StackWalk.{Gives}
 use Rattle.dw_list.proofs.PortionLemmas.{taken_same, taken_more, taken_none, end_same, end_more, end_none}
 use Rattle.dw_list.proofs.portions.take_turn.Goals as goal
 

@@ -1,5 +1,5 @@
 use Rattle.std.proofs.Common.{arith, sym, ap, ◌∙◌, reverse}
-use Rattle.dw_list.specs.Standing.{Standing}
+use Rattle.dw_list.specs.LineStack.{LineStack}
 use Rattle.dw_list.proofs.StackViewLemmas.{same_count, end_of, end_first, inside_listed, listing_ends, with_levels}
 use Rattle.dw_list.proofs.stack.Stack.list.Goals as goal
 
@@ -22,7 +22,7 @@ returns-clause-listed g c =
     record {
       last = c.unwrap-frame.result;
       outer = reverse c.pop.new.self.items;
-      are = ap (λ (s : Standing). s.levels) (sym c.self.view_is) ∙ was;
+      are = ap (λ (s : LineStack). s.levels) (sym c.self.view_is) ∙ was;
       listed = c.list-listing.new.self;
       listing = c.in_ok-listing.ensures.ok;
       is = with_levels c.args.self.now _ _ _ _ _ _ c.self.view_is (end_first _ _ _ c.push.ensures.items);

@@ -1,6 +1,6 @@
 use Rattle.std.proofs.Common.{ℕ, ◌-◌, ◌≤◌, ◌<◌, Some, refl, sym, ap, ◌∙◌, subst, reverse, length, arith, lit<}
 use Rattle.dw_moves.specs.Moves.{play}
-use Rattle.dw_list.specs.Standing.{Standing}
+use Rattle.dw_list.specs.LineStack.{LineStack}
 use Rattle.dw_list.specs.inner.Levels.{AreLevels}
 use Rattle.dw_list.proofs.StackLemmas.{behind_first}
 use Rattle.dw_list.proofs.StackViewLemmas.{at_last, not_listed, all_passed, some_levels}
@@ -12,7 +12,7 @@ below n some = omega arith
 pub returns-then-not-is_listed : goal.returns-then-not-is_listed
 returns-then-not-is_listed g c =
     let here = at_last c.args.self.now.levels c.self.inside.frames.items c.as_slice-frames.result.now _
-    c.index-frames-frames.result c.is_empty.result (ap (λ (s : Standing). s.levels) c.self.view_is)
+    c.index-frames-frames.result c.is_empty.result (ap (λ (s : LineStack). s.levels) c.self.view_is)
     c.as_slice-frames.ensures.value c.is_empty.ensures c.if-is_empty.false refl c.index-frames-frames.is in (
       c.index-frames-frames.result,
       here.0,
@@ -20,14 +20,14 @@ returns-then-not-is_listed g c =
       not_listed c.index-frames-frames.result.ahead c.is_listed.result c.is_listed.ensures c.if-not-is_listed.true,
     )
 
-pub trial_of-requires : goal.trial_of-requires
-trial_of-requires g c =
+pub candidate_of-requires : goal.candidate_of-requires
+candidate_of-requires g c =
     let geo = g.B.Board.geometry in
     let here = at_last c.args.self.now.levels c.self.inside.frames.items c.as_slice-frames.result.now _
-    c.index-frames-frames.result c.is_empty.result (ap (λ (s : Standing). s.levels) c.self.view_is)
+    c.index-frames-frames.result c.is_empty.result (ap (λ (s : LineStack). s.levels) c.self.view_is)
     c.as_slice-frames.ensures.value c.is_empty.ensures c.if-is_empty.false refl c.index-frames-frames.is in
     let levels = subst (λ z. AreLevels geo c.self.inside.position c.self.inside.moves z
-    (reverse c.self.inside.line.items)) (ap (λ (s : Standing). s.levels) c.self.view_is ∙ here.1)
+    (reverse c.self.inside.line.items)) (ap (λ (s : LineStack). s.levels) c.self.view_is ∙ here.1)
     c.self.invariant.0.0 in
     (behind_first geo c.index-frames-frames.result.position c.in-Some.mv c.index-frames-frames.result.ahead
     (sym c.first.ensures ∙ c.in-Some.is) levels.1).1
@@ -35,7 +35,7 @@ trial_of-requires g c =
 pub returns-in-None : goal.returns-in-None
 returns-in-None g c =
     let here = at_last c.args.self.now.levels c.self.inside.frames.items c.as_slice-frames.result.now _
-    c.index-frames-frames.result c.is_empty.result (ap (λ (s : Standing). s.levels) c.self.view_is)
+    c.index-frames-frames.result c.is_empty.result (ap (λ (s : LineStack). s.levels) c.self.view_is)
     c.as_slice-frames.ensures.value c.is_empty.ensures c.if-is_empty.false refl c.index-frames-frames.is in (
       c.index-frames-frames.result,
       here.0,
@@ -47,17 +47,17 @@ returns-in-None g c =
 pub returns-in-Some : goal.returns-in-Some
 returns-in-Some g c =
     let here = at_last c.args.self.now.levels c.self.inside.frames.items c.as_slice-frames.result.now _
-    c.index-frames-frames.result c.is_empty.result (ap (λ (s : Standing). s.levels) c.self.view_is)
+    c.index-frames-frames.result c.is_empty.result (ap (λ (s : LineStack). s.levels) c.self.view_is)
     c.as_slice-frames.ensures.value c.is_empty.ensures c.if-is_empty.false refl c.index-frames-frames.is in
     record {
       last = c.index-frames-frames.result;
       outer = here.0;
       are = here.1;
-      first = sym c.first.ensures ∙ c.in-Some.is ∙ ap Some (sym c.trial_of.ensures.mv);
-      after = c.trial_of.ensures.after ∙ ap (play g.B.Board.geometry c.index-frames-frames.result.position)
-          (sym c.trial_of.ensures.mv);
-      attacks = c.trial_of.ensures.attacks;
-      left = c.trial_of.ensures.left;
+      first = sym c.first.ensures ∙ c.in-Some.is ∙ ap Some (sym c.candidate_of.ensures.mv);
+      after = c.candidate_of.ensures.after ∙ ap (play g.B.Board.geometry c.index-frames-frames.result.position)
+          (sym c.candidate_of.ensures.mv);
+      attacks = c.candidate_of.ensures.attacks;
+      left = c.candidate_of.ensures.left;
     }
 
 pub as_slice-frames-requires : goal.as_slice-frames-requires

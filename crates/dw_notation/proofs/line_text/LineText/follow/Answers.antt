@@ -1,6 +1,6 @@
 use Rattle.std.proofs.Common.{◌≡◌, ℕ, ◌+◌, ◌-◌, ◌∙◌, rules, sym, ap, refl, length, subst, take, drop, append-nil, arith}
 use Rattle.dw_notation.specs.Text.{ArePlayable}
-use Rattle.dw_notation.specs.inner.LinePlies.{after_moves}
+use Rattle.dw_notation.specs.inner.WrittenMoves.{after_moves}
 use Rattle.dw_notation.proofs.LineWrittenLemmas.{next_legal, moves_more, playable_from, rest_is, played_short, after_push}
 use Rattle.dw_notation.proofs.LineWrittenLemmas.{begins_line}
 use Rattle.dw_notation.proofs.line_text.LineText.follow.Goals as goal

@@ -2,7 +2,7 @@ use Rattle.std.proofs.Common.{◌∙◌, ap, sym, refl, subst, map, take, arith,
 use Rattle.std.specs.String.Boundary.{IsSplitPoint}
 use Rattle.std.proofs.lemmas.List.{take-map}
 use Rattle.dw_notation.specs.LineTexts.{LineFrom}
-use Rattle.dw_notation.specs.inner.LinePlies.{AreWritten, len_to}
+use Rattle.dw_notation.specs.inner.WrittenMoves.{AreWritten, len_to}
 use Rattle.dw_notation.proofs.LineWrittenLemmas.{written_keep, written_split}
 use Rattle.dw_notation.proofs.line_text.LineText.keep.Goals as goal
 

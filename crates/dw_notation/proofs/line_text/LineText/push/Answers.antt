@@ -2,7 +2,7 @@ use Rattle.std.proofs.Common.{◌≡◌, ◌≤◌, ◌+◌, ◌∙◌, ap, sym,
 use Rattle.std.proofs.lemmas.List.{length-map, map-append}
 use Rattle.dw_moves.specs.Moves.{Legal}
 use Rattle.dw_notation.specs.LineTexts.{LineFrom}
-use Rattle.dw_notation.specs.inner.LinePlies.{end_from, after_moves}
+use Rattle.dw_notation.specs.inner.WrittenMoves.{end_from, after_moves}
 use Rattle.dw_notation.proofs.LineWrittenLemmas.{written_room, written_pushed, end_is}
 use Rattle.dw_notation.proofs.line_text.LineText.push.Goals as goal
 

@@ -1,7 +1,7 @@
 use Rattle.std.proofs.Common.{arith, subst, sym}
 use Rattle.std.proofs.lemmas.List.{take_more}
 use Rattle.std.proofs.lemmas.Bool.{ne_eqb}
-use Rattle.dw_notation.specs.Lines.{NoLineFeed}
+use Rattle.dw_notation.specs.TextLines.{NoLineFeed}
 use Rattle.dw_notation.proofs.CutLemmas.{NoLineFeed-push}
 use Rattle.dw_notation.proofs.problems.fens.line_feed_at.Goals as goal
 

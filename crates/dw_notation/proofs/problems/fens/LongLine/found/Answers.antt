@@ -1,7 +1,7 @@
 use Rattle.std.proofs.Common.{◌≡◌, ◌&&◌, sym, ap, ◌∙◌, eq-eqb, arith}
 use Rattle.std.proofs.lemmas.Bool.{ne_eqb}
 use Rattle.dw_board.specs.FenTokens.{is_blank}
-use Rattle.dw_notation.specs.inner.Lines.{long_text_found}
+use Rattle.dw_notation.specs.inner.TextLines.{long_text_found}
 use Rattle.dw_notation.proofs.LongLineLemmas.{found-return, found-other}
 use Rattle.dw_notation.proofs.problems.fens.LongLine.found.Goals as goal
 use Rattle.dw_notation.proofs.problems.fens.LongLine.found.Goals.{then-self, else-self}

@@ -2,7 +2,7 @@ use Rattle.std.proofs.Common.{◌++◌, drop, ap, sym, ◌∙◌, arith}
 use Rattle.dw_notation.specs.inner.Ahead.{found_from, behind_mark}
 use Rattle.dw_notation.specs.inner.Held.{held_line}
 use Rattle.dw_notation.proofs.MarkLemmas.{ahead-mark, ahead-leave}
-use Rattle.dw_notation.proofs.problems.fens.Lines.pass_mark.Goals as goal
+use Rattle.dw_notation.proofs.problems.fens.TextLines.pass_mark.Goals as goal
 
 pub bytes-preserved : goal.bytes-preserved
 bytes-preserved c = λ g at_end more.

@@ -1,28 +1,28 @@
--- Going along given moves.
+-- Ways along given moves.
 use Rattle.std.specs.Prelude.{◌≡◌, ℕ, None, List, ◌∷◌}
 use Rattle.dw_board.specs.Geometry.{Geometry}
 use Rattle.dw_board.specs.Placement.{Placement}
 use Rattle.dw_moves.specs.Moves.{Move}
 use Rattle.dw_board.specs.Lists.{Member}
-use Rattle.dw_list.specs.declared.following.Found.{Found}
-use Rattle.dw_list.specs.declared.following.Found.TheVariants.{Along, Place}
+use Rattle.dw_list.specs.declared.given_line.Followed.{Followed}
+use Rattle.dw_list.specs.declared.given_line.Followed.TheVariants.{Along, Place}
 use Rattle.dw_list.specs.Lines.{IsPlace}
-use Rattle.dw_list.specs.inner.Going.{IsNext}
-use Rattle.dw_list.specs.Standing.{Level, Standing}
+use Rattle.dw_list.specs.inner.Ways.{IsNext}
+use Rattle.dw_list.specs.LineStack.{Level, LineStack}
 use Rattle.dw_list.specs.inner.Steps.{with_ahead}
-use Rattle.dw_list.specs.Seeking.{IsAlong}
+use Rattle.dw_list.specs.GivenLine.{IsAlong}
 
 -- a stack whose last level has these moves ahead
-abbrev pub ahead_of : Standing → Level → List Level → List Move → Standing
+abbrev pub ahead_of : LineStack → Level → List Level → List Move → LineStack
 ahead_of s f outer moves = record s { levels = with_ahead f moves ∷ outer }
 
 -- wherever moves were ahead at the last level, the last of them still are
-abbrev pub SomePassed : Standing → Standing → Type 0
+abbrev pub SomePassed : LineStack → LineStack → Type 0
 SomePassed old new = (f : Level) (outer : List Level) (moves : List Move) → old.levels ≡ with_ahead f moves ∷ outer →
     (rest : List Move) × (new ≡ ahead_of old f outer rest)
 
 -- a move is not ahead at the last level
-abbrev pub IsNotAhead : Standing → Move → Type 0
+abbrev pub IsNotAhead : LineStack → Move → Type 0
 IsNotAhead s m =
     (f : Level) (outer : List Level) (moves : List Move) → s.levels ≡ with_ahead f moves ∷ outer → Member m moves → ⊥
 
@@ -34,7 +34,7 @@ pub record IsUnlisted (levels : List Level) : Type 0 where
   pub ahead : last.ahead ≡ None
 
 -- the stack went on with a move, and the moves after it are not listed
-pub record WentOn (old new : Standing) (m : Move) : Type 0 where
+pub record WentOn (old new : LineStack) (m : Move) : Type 0 where
   pub position : new.position ≡ old.position
   pub moves : new.moves ≡ old.moves
   pub line : new.line ≡ m ∷ old.line
@@ -48,6 +48,6 @@ pub record GoOnWith (g : Geometry) (levels : List Level) (m : Move) : Type 0 whe
   pub next : IsNext g last.attacks last.position last.left m
 
 -- what was found of a list of moves
-abbrev pub IsFound : {B : Type 0} → Geometry → Placement → ℕ → List Move → Found B → Type 0
-IsFound g p n l (Along s) = IsAlong g p n l s
-IsFound g p n l (Place k) = IsPlace g p n l k
+abbrev pub IsFollowed : {B : Type 0} → Geometry → Placement → ℕ → List Move → Followed B → Type 0
+IsFollowed g p n l (Along s) = IsAlong g p n l s
+IsFollowed g p n l (Place k) = IsPlace g p n l k

@@ -1,5 +1,5 @@
 use Rattle.dw_list.proofs.WayLemmas.{keeps_lost}
-use Rattle.dw_list.proofs.going.keeps.Goals as goal
+use Rattle.dw_list.proofs.next_moves.keeps.Goals as goal
 
 pub returns-clause-answer : goal.returns-clause-answer
 returns-clause-answer g c = keeps_lost g.B.Board.geometry c.args.attacks c.args.after.now c.args.left

@@ -1,5 +1,5 @@
 use Rattle.dw_list.proofs.SeekLemmas.{Seeks, ahead_count}
-use Rattle.dw_list.proofs.following.seek.Given as goal
+use Rattle.dw_list.proofs.given_line.seek.Given as goal
 
 abbrev pub invariant-moves : goal.invariant-moves
 invariant-moves g l = Seeks l.initial.stack l.stack l.mv

@@ -1,6 +1,6 @@
 //! With which moves lines go on.
 ghost use Rattle.std.specs.Prelude.{◌≡◌, ◌≤◌, ◌↔◌, IfOk, IsTrue};
-ghost use Rattle.dw_list.specs.inner.Going.{Keeps, left_after};
+ghost use Rattle.dw_list.specs.inner.Ways.{Keeps, left_after};
 ghost use Rattle.dw_solve.specs.Asking.{Asked};
 
 use dw_board::board::Board;

@@ -4,7 +4,7 @@ use Rattle.std.specs.Coded.{Coded, code_by, coded×, coded_ℕ, coded_bool, code
 use Rattle.dw_board.specs.Placement.{Placement}
 use Rattle.dw_moves.specs.Moves.{Move, move_code}
 use Rattle.dw_notation.specs.inner.LineCodes.{placement_code}
-use Rattle.dw_list.specs.Standing.{Level, Standing}
+use Rattle.dw_list.specs.LineStack.{Level, LineStack}
 
 -- how a level and a stack are stored
 abbrev pub level_code : Coded Level
@@ -18,8 +18,8 @@ level_code =
       ahead = c.1.1.1;
     }) (λ _. refl)
 
-abbrev pub standing_code : Coded Standing
-standing_code =
+abbrev pub line_stack_code : Coded LineStack
+line_stack_code =
     code_by (Placement × (ℕ × (List Move × List Level)))
     (coded× placement_code (coded× coded_ℕ (coded× (coded_list move_code) (coded_list level_code))))
     (λ s. (s.position, (s.moves, (s.line, s.levels)))) (λ c. record {

@@ -17,7 +17,7 @@ pub record Level : Type 0 where
 
 -- A stack for the lines of a position within n moves: the moves of the line that it stands at, the last one first, and
 -- its levels, the last one first. Each level but the last has a move of the line.
-pub record Standing : Type 0 where
+pub record LineStack : Type 0 where
   pub position : Placement
   pub moves : ℕ
   pub line : List Move
@@ -50,6 +50,6 @@ IsStillAhead [] line l = ⊥
 IsStillAhead (f ∷ outer) line l = Remains outer line (IsAhead f.ahead) l
 
 -- the lines still to come
-abbrev pub AreToCome : Geometry → Standing → List (List Move) → Type 0
+abbrev pub AreToCome : Geometry → LineStack → List (List Move) → Type 0
 AreToCome g s lines =
     IsListOf (Before g s.position) (λ l. Line g s.position s.moves l × IsStillAhead s.levels s.line l) lines

@@ -3,7 +3,7 @@ use Rattle.dw_notation.specs.inner.Ahead.{found_from, behind_mark}
 use Rattle.dw_notation.specs.inner.Held.{held_line}
 use Rattle.dw_notation.proofs.CutLemmas.{line_found-nil}
 use Rattle.dw_notation.proofs.MarkLemmas.{ahead-end}
-use Rattle.dw_notation.proofs.problems.fens.Lines.finish.Goals as goal
+use Rattle.dw_notation.proofs.problems.fens.TextLines.finish.Goals as goal
 
 pub returns-clause-found : goal.returns-clause-found
 returns-clause-found c = λ g.

@@ -3,7 +3,7 @@ use Rattle.dw_list.specs.Lines.{IsPlace}
 use Rattle.dw_list.specs.inner.AskingLemmas.{answered, asked_none, asked_then, asked_ok, asked_stop, asked_memory}
 use Rattle.dw_list.specs.inner.AskingLemmas.{asked_for}
 use Rattle.dw_list.proofs.FollowLemmas.{place_of, Follows, follows_init, follows_more, follows_place, follows_short, follows_line}
-use Rattle.dw_list.proofs.following.followed.Goals as goal
+use Rattle.dw_list.proofs.given_line.followed.Goals as goal
 
 pub follow-requires : goal.follow-requires
 follow-requires g c = (lit< tt, c.line.invariant.follows.unlisted)

@@ -1,13 +1,13 @@
--- Going along given moves.
+-- Ways along given moves.
 use Rattle.std.specs.Prelude.{◌≡◌, ℕ, List, reverse}
 use Rattle.dw_board.specs.Geometry.{Geometry}
 use Rattle.dw_board.specs.Placement.{Placement}
 use Rattle.dw_moves.specs.Moves.{Move}
 use Rattle.dw_list.specs.Lines.{Line, Lines, After}
-use Rattle.dw_list.specs.Standing.{Standing, AreToCome}
+use Rattle.dw_list.specs.LineStack.{LineStack, AreToCome}
 
 -- a list of moves is a line, and the lines after it are those still to come of a stack
-pub record IsAlong (g : Geometry) (p : Placement) (n : ℕ) (l : List Move) (s : Standing) : Type 0 where
+pub record IsAlong (g : Geometry) (p : Placement) (n : ℕ) (l : List Move) (s : LineStack) : Type 0 where
   pub position : s.position ≡ p
   pub moves : s.moves ≡ n
   pub line : Line g p n l

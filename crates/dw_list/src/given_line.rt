@@ -1,11 +1,11 @@
-//! Going along a given list of moves.
+//! Ways along a given list of moves.
 ghost use Rattle.std.specs.Prelude.{◌≡◌, ◌≤◌, IfOk, IfSome, IfNone, IsTrue};
 ghost use Rattle.dw_solve.specs.Asking.{Asked};
-ghost use Rattle.dw_list.specs.inner.Tasks.{IsTrial};
-ghost use Rattle.dw_list.specs.inner.Seeking.{SomePassed, IsNotAhead, IsUnlisted, WentOn, GoOnWith, IsFound};
+ghost use Rattle.dw_list.specs.inner.Tasks.{IsCandidate};
+ghost use Rattle.dw_list.specs.inner.GivenLine.{SomePassed, IsNotAhead, IsUnlisted, WentOn, GoOnWith, IsFollowed};
 
-use crate::going::keeps;
-use crate::stack::{Stack, Task, Trial};
+use crate::next_moves::keeps;
+use crate::stack::{Candidate, Stack, Task};
 use dw_board::board::Board;
 use dw_board::position::Position;
 use dw_memo::memo::Memo;
@@ -19,7 +19,7 @@ use std::alloc::Global;
 
 /// What a list of moves is.
 #[derive(Drop)]
-pub(crate) enum Found<B: Board> {
+pub(crate) enum Followed<B: Board> {
     /// A line, and the stack of the lines after it.
     Along(Stack<B>),
     /// No line: the place at which it leaves all lines.
@@ -33,10 +33,10 @@ pub(crate) fn followed<B: Board, M: Memo<B>, G: Guide<B>>(
     position: &Position<B>,
     moves: u8,
     line: &[Move<B>],
-) -> Result<Found<B>, Stop>
+) -> Result<Followed<B>, Stop>
     requires some { 1 ≤ moves }
     requires few { moves ≤ 20 }
-    ensures found { IfOk result (λ found. IsFound B.geometry position.now moves line.now found) }
+    ensures found { IfOk result (λ found. IsFollowed B.geometry position.now moves line.now found) }
     ensures asked { Asked B.geometry M.content M.dropped moves solver.old solver.new result }
 {
     searches_add_up();
@@ -49,16 +49,16 @@ pub(crate) fn followed<B: Board, M: Memo<B>, G: Guide<B>>(
     'line: for mv in line {
         let went = follow(alloc, solver, &mut stack, mv)?;
         if !went {
-            return Ok(Found::Place(place));
+            return Ok(Followed::Place(place));
         }
         stack.keeps_its_levels();
         place += 1;
     }
     let is_end = stack.list(alloc)?;
     if is_end {
-        Ok(Found::Along(stack))
+        Ok(Followed::Along(stack))
     } else {
-        Ok(Found::Place(place))
+        Ok(Followed::Place(place))
     }
 }
 
@@ -78,29 +78,36 @@ fn follow<B: Board, M: Memo<B>, G: Guide<B>>(
     searches_add_up();
     solver.keeps_its_limit();
     stack.list(alloc)?;
-    let Some(trial) = seek(stack, mv) else {
+    let Some(candidate) = seek(stack, mv) else {
         return Ok(false);
     };
     stack.keeps_its_levels();
-    let kept = keeps(alloc, solver, &trial.after, trial.attacks, trial.left)?;
+    let kept = keeps(
+        alloc,
+        solver,
+        &candidate.after,
+        candidate.attacks,
+        candidate.left,
+    )?;
     if kept {
-        stack.enter(&trial);
+        stack.enter(&candidate);
         stack.keeps_its_levels();
     }
     Ok(kept)
 }
 
 /// Passes the moves ahead at the last level up to the given one.
-fn seek<B: Board>(stack: &mut Stack<B>, mv: &Move<B>) -> Option<Trial<B>>
+fn seek<B: Board>(stack: &mut Stack<B>, mv: &Move<B>) -> Option<Candidate<B>>
     ensures passed { SomePassed stack.old stack.new }
-    ensures found { IfSome result (λ trial. IsTrial B.geometry stack.new.levels trial × (trial.mv ≡ mv.now)) }
+    ensures found { IfSome result (λ candidate.
+        IsCandidate B.geometry stack.new.levels candidate × (candidate.mv ≡ mv.now)) }
     ensures none { IfNone result (IsNotAhead stack.old mv.now) }
 {
     'moves: loop {
         match stack.task() {
-            Task::Try(trial) => {
-                if same_move(&trial.mv, mv) {
-                    return Some(trial);
+            Task::Try(candidate) => {
+                if same_move(&candidate.mv, mv) {
+                    return Some(candidate);
                 }
                 stack.pass();
             }

@@ -8,7 +8,7 @@ use Rattle.dw_board.specs.FenTokens.{is_blank}
 use Rattle.dw_board.specs.Fen.{fen}
 use Rattle.dw_board.specs.declared.fen.fault.FenFault.{FenFault}
 use Rattle.dw_board.specs.declared.fen.fault.FenFaultKind.TheVariants.{TooLong}
-use Rattle.dw_notation.specs.Lines.{without_return, Found}
+use Rattle.dw_notation.specs.TextLines.{without_return, Found}
 use Rattle.dw_notation.specs.declared.problems.TheConstants.{MAX_LINE}
 use Rattle.dw_notation.specs.declared.problems.ProblemFault.TheVariants.{Fen, LineTooLong}
 

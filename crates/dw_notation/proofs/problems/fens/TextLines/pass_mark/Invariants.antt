@@ -1,7 +1,7 @@
 use Rattle.std.proofs.Common.{◌≡◌, ◌++◌, List, ℕ, Bool, drop}
 use Rattle.dw_board.specs.Geometry.{Geometry}
 use Rattle.dw_notation.specs.inner.Pieces.{lines_ahead}
-use Rattle.dw_notation.proofs.problems.fens.Lines.pass_mark.Given as goal
+use Rattle.dw_notation.proofs.problems.fens.TextLines.pass_mark.Given as goal
 
 abbrev pub invariant-bytes : goal.invariant-bytes
 invariant-bytes l = (g : Geometry) (at_end : Bool) (more : List ℕ)
