@@ -2,7 +2,7 @@
 ghost use Rattle.std.specs.Prelude.{◌≡◌, ◌≤◌, IfOk, IfSome, IfNone, IsTrue};
 ghost use Rattle.dw_solve.specs.Asking.{Asked};
 ghost use Rattle.dw_list.specs.inner.Tasks.{IsCandidate};
-ghost use Rattle.dw_list.specs.inner.GivenLine.{SomePassed, IsNotAhead, IsUnlisted, WentOn, GoOnWith, IsFollowed};
+ghost use Rattle.dw_list.specs.inner.GivenLine.{SomePassed, IsNotAhead, IsUnlisted, WentOn, GoOnWith, IsGivenLine};
 
 use crate::next_moves::keeps;
 use crate::stack::{Candidate, Stack, Task};
@@ -19,7 +19,7 @@ use std::alloc::Global;
 
 /// What a list of moves is.
 #[derive(Drop)]
-pub(crate) enum Followed<B: Board> {
+pub(crate) enum GivenLine<B: Board> {
     /// A line, and the stack of the lines after it.
     Along(Stack<B>),
     /// No line: the place at which it leaves all lines.
@@ -33,10 +33,10 @@ pub(crate) fn followed<B: Board, M: Memo<B>, G: Guide<B>>(
     position: &Position<B>,
     moves: u8,
     line: &[Move<B>],
-) -> Result<Followed<B>, Stop>
+) -> Result<GivenLine<B>, Stop>
     requires some { 1 ≤ moves }
     requires few { moves ≤ 20 }
-    ensures found { IfOk result (λ found. IsFollowed B.geometry position.now moves line.now found) }
+    ensures found { IfOk result (λ found. IsGivenLine B.geometry position.now moves line.now found) }
     ensures asked { Asked B.geometry M.content M.dropped moves solver.old solver.new result }
 {
     searches_add_up();
@@ -49,16 +49,16 @@ pub(crate) fn followed<B: Board, M: Memo<B>, G: Guide<B>>(
     'line: for mv in line {
         let went = follow(alloc, solver, &mut stack, mv)?;
         if !went {
-            return Ok(Followed::Place(place));
+            return Ok(GivenLine::Place(place));
         }
         stack.keeps_its_levels();
         place += 1;
     }
     let is_end = stack.list(alloc)?;
     if is_end {
-        Ok(Followed::Along(stack))
+        Ok(GivenLine::Along(stack))
     } else {
-        Ok(Followed::Place(place))
+        Ok(GivenLine::Place(place))
     }
 }
 

@@ -6,7 +6,7 @@ ghost use Rattle.dw_solve.specs.Searching.{IsCounted};
 ghost use Rattle.dw_solve.specs.Work.{Searched};
 
 use crate::fault::AfterFault;
-use crate::given_line::{Followed, followed};
+use crate::given_line::{GivenLine, followed};
 use crate::stack::Stack;
 use crate::walk::walk;
 use dw_board::board::Board;
@@ -86,8 +86,8 @@ impl<'a, B: Board, M: Memo<B>, G: Guide<B>> Lister<'a, B, M, G> {
         let moves = self.stack.moves();
         match followed(alloc, self.solver, &position, moves, line) {
             Err(stop) => Err(AfterFault::Stopped(stop)),
-            Ok(Followed::Place(place)) => Err(AfterFault::NotALine(place)),
-            Ok(Followed::Along(stack)) => {
+            Ok(GivenLine::Place(place)) => Err(AfterFault::NotALine(place)),
+            Ok(GivenLine::Along(stack)) => {
                 self.stack = stack;
                 Ok(())
             }

@@ -4,8 +4,8 @@ use Rattle.dw_board.specs.Geometry.{Geometry}
 use Rattle.dw_board.specs.Placement.{Placement}
 use Rattle.dw_moves.specs.Moves.{Move}
 use Rattle.dw_board.specs.Lists.{Member}
-use Rattle.dw_list.specs.declared.given_line.Followed.{Followed}
-use Rattle.dw_list.specs.declared.given_line.Followed.TheVariants.{Along, Place}
+use Rattle.dw_list.specs.declared.given_line.GivenLine.{GivenLine}
+use Rattle.dw_list.specs.declared.given_line.GivenLine.TheVariants.{Along, Place}
 use Rattle.dw_list.specs.Lines.{IsPlace}
 use Rattle.dw_list.specs.inner.Ways.{IsNext}
 use Rattle.dw_list.specs.LineStack.{Level, LineStack}
@@ -48,6 +48,6 @@ pub record GoOnWith (g : Geometry) (levels : List Level) (m : Move) : Type 0 whe
   pub next : IsNext g last.attacks last.position last.left m
 
 -- what was found of a list of moves
-abbrev pub IsFollowed : {B : Type 0} → Geometry → Placement → ℕ → List Move → Followed B → Type 0
-IsFollowed g p n l (Along s) = IsAlong g p n l s
-IsFollowed g p n l (Place k) = IsPlace g p n l k
+abbrev pub IsGivenLine : {B : Type 0} → Geometry → Placement → ℕ → List Move → GivenLine B → Type 0
+IsGivenLine g p n l (Along s) = IsAlong g p n l s
+IsGivenLine g p n l (Place k) = IsPlace g p n l k

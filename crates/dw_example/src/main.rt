@@ -1,0 +1,40 @@
+//! The layers as libraries: a position is read, its moves are listed, it is solved, and two lines of the win are given.
+#![tactic(auto)]
+
+use dw_board::{Ten, read_fen};
+use dw_list::Lister;
+use dw_memo::LruMemo;
+use dw_moves::Move;
+use dw_moves::listed::listed;
+use dw_notation::move_text::move_text;
+use dw_solve::{ByTrial, Solver};
+
+fn main(rt: HostRuntime) -> anyhow::Result<()> {
+    let alloc = rt.alloc();
+    let Ok(position) = read_fen::<Ten>(b"W:W27,32:B18") else {
+        anyhow::bail!("no FEN text");
+    };
+    let moves = listed(alloc, &position)?;
+    for place in 0..moves.len() {
+        println!(rt; "{}", move_text(moves.as_slice(), place))?;
+    }
+    let mut solver = Solver::new(LruMemo::new(alloc, 100_000)?, ByTrial, 1_000_000);
+    let wins = solver.wins(alloc, &position, 2)?;
+    println!(rt; "a win in 2 moves: {wins}")?;
+    let mut lister = Lister::start(&mut solver, &position, 2);
+    for _ in 0..2 {
+        if let Some(line) = lister.next(alloc)? {
+            write_line(&rt, line)?;
+        }
+    }
+    Ok(())
+}
+
+/// Writes where each move of a line begins and ends.
+fn write_line(rt: &HostRuntime, line: &[Move<Ten>]) -> anyhow::Result<()> {
+    for mv in line {
+        print!(rt; "{} to {}; ", mv.from.number(), mv.to.number())?;
+    }
+    println!(rt; "")?;
+    Ok(())
+}
