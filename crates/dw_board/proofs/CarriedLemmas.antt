@@ -15,10 +15,10 @@ use Rattle.dw_board.specs.Geometry.{Geometry, IsBoard, OnBoard, Squares}
 use Rattle.dw_board.specs.inner.SquareSetLemmas.{contains-insert, and-false}
 use Rattle.dw_board.specs.Placement.{Placement, is_of, is_man, is_stuck, same_side, on_last_row, at, left, placed}
 use Rattle.dw_board.specs.Placement.{without, crowned, landed, carried}
-use Rattle.dw_board.specs.Standing.{IsKept}
+use Rattle.dw_board.specs.PieceSets.{IsKept}
 use Rattle.dw_board.specs.inner.Held.{entered}
 use Rattle.dw_board.proofs.ClearedLemmas.{few_left, kept-without}
-use Rattle.dw_board.proofs.StandingLemmas.{count-fits, kept-entered, kept-left}
+use Rattle.dw_board.proofs.PieceSetLemmas.{count-fits, kept-entered, kept-left}
 
 -- ---- the number of pieces
 same_side-self : (side : Side) → same_side side side ≡ true

@@ -15,8 +15,8 @@ use Rattle.dw_board.specs.declared.piece.Piece.{Piece}
 use Rattle.dw_board.specs.Geometry.{Geometry, Squares}
 use Rattle.dw_board.specs.inner.SquareSetLemmas.{and-false, and-true}
 use Rattle.dw_board.specs.Placement.{Placement, IsPosition, is_of, is_stuck, at, left, without}
-use Rattle.dw_board.specs.Standing.{is_that, standing, IsKept}
-use Rattle.dw_board.specs.inner.StandingLemmas.{contains-standing}
+use Rattle.dw_board.specs.PieceSets.{is_that, standing, IsKept}
+use Rattle.dw_board.specs.inner.PieceSetLemmas.{contains-standing}
 
 -- ---- each square
 here : (p : Placement) (emptied : Squares) (s : ℕ) → 1 ≤ s → s ≤ 50 → get_or (without p emptied).cells (s - 1) None

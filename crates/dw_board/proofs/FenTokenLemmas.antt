@@ -11,7 +11,7 @@ use Rattle.dw_board.specs.declared.piece.Side.TheVariants.{White, Black}
 use Rattle.dw_board.specs.FenTokens.{Token, tokens_from, with_byte, onto_run, is_blank, is_digit, begins_with_digit}
 use Rattle.dw_board.specs.FenTokens.{is_sign, side_named, is_king_letter, number_named}
 use Rattle.dw_board.specs.FenBlanks.{begins_with_blank, IsSignByte}
-use Rattle.dw_board.specs.inner.FenBlanks.{AreDigits}
+use Rattle.dw_board.specs.FenTokens.{AreDigits}
 use Rattle.dw_board.specs.FenReader.{first_is, first_named, behind, place_of, is_empty}
 
 pub tokens_from-blank : (place byte : ℕ) (bytes : List ℕ) → is_blank byte ≡ true → tokens_from place (byte ∷ bytes)
@@ -28,16 +28,6 @@ digit-not_blank byte h = grind (arith, nat_tests)
 -- the byte of a digit is 48 to 57
 pub digit_byte : (byte : ℕ) → is_digit byte ≡ true → (48 ≤ byte) × (byte ≤ 57)
 digit_byte byte h = let parts = and_parts _ _ h in (leb-true _ _ parts.0, leb-true _ _ parts.1)
-
--- the first byte of digits is 48 to 57
-pub first_digit : (ds : List ℕ) → AreDigits ds → 1 ≤ length ds → (48 ≤ get_or ds 0 0) × (get_or ds 0 0 ≤ 57)
-first_digit [] are some = absurd (omega (arith, some))
-first_digit (d ∷ ds) are some = digit_byte d are.0
-
--- the second byte of digits is 48 to 57
-pub second_digit : (ds : List ℕ) → AreDigits ds → 2 ≤ length ds → (48 ≤ get_or ds 1 0) × (get_or ds 1 0 ≤ 57)
-second_digit [] are some = absurd (omega (arith, some))
-second_digit (d ∷ ds) are some = first_digit ds are.1 (omega (arith, some))
 
 with_byte-joined : (byte place : ℕ) (joins : Bool) (tokens : List Token) → is_blank byte ≡ false → is_digit byte ≡ true
     → joins ≡ true

@@ -10,10 +10,10 @@ use Rattle.dw_board.specs.declared.piece.Kind.{Kind}
 use Rattle.dw_board.specs.declared.piece.Kind.TheVariants.{Man, King}
 use Rattle.dw_board.specs.declared.piece.Piece.{Piece}
 use Rattle.dw_board.specs.Geometry.{Geometry, Squares}
-use Rattle.dw_board.specs.Standing.{is_that, standing, IsKept}
-use Rattle.dw_board.specs.inner.StandingLemmas.{contains-standing}
+use Rattle.dw_board.specs.PieceSets.{is_that, standing, IsKept}
+use Rattle.dw_board.specs.inner.PieceSetLemmas.{contains-standing}
 use Rattle.dw_board.specs.Packing.{parted, packed_cells, all_standing, kings_standing, IsPacked}
-use Rattle.dw_board.proofs.StandingLemmas.{cells_again}
+use Rattle.dw_board.proofs.PieceSetLemmas.{cells_again}
 
 abbrev Cells : Type 0
 Cells = List (Option Piece)

@@ -11,8 +11,8 @@ use Rattle.dw_board.specs.declared.piece.Kind.TheVariants.{Man, King}
 use Rattle.dw_board.specs.declared.piece.Piece.{Piece}
 use Rattle.dw_board.specs.Geometry.{Geometry, IsBoard, OnBoard, Squares}
 use Rattle.dw_board.specs.Placement.{is_of, same_side}
-use Rattle.dw_board.specs.Standing.{IsKept}
-use Rattle.dw_board.specs.inner.StandingLemmas.{standing-members}
+use Rattle.dw_board.specs.PieceSets.{IsKept}
+use Rattle.dw_board.specs.inner.PieceSetLemmas.{standing-members}
 use Rattle.dw_board.proofs.PlacedLemmas.{same_side-true}
 
 abbrev Cells : Type 0

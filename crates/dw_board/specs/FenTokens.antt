@@ -1,6 +1,6 @@
 -- The tokens of a FEN text: letters, runs of digits and signs, with blanks before, between and after them.
-use Rattle.std.specs.Prelude.{ℕ, ◌+◌, ◌-◌, ◌*◌, ◌==◌, ◌&&◌, ◌||◌, nat_le, Bool, false, if◌then◌else◌, Option, Some}
-use Rattle.std.specs.Prelude.{None, List, [], ◌∷◌}
+use Rattle.std.specs.Prelude.{◌≡◌, ℕ, ◌+◌, ◌-◌, ◌*◌, ◌==◌, ◌&&◌, ◌||◌, nat_le, Bool, false, if◌then◌else◌, Option, Some}
+use Rattle.std.specs.Prelude.{None, List, [], ◌∷◌, true}
 use Rattle.dw_board.specs.Geometry.{Geometry, squares}
 use Rattle.dw_board.specs.declared.piece.Side.{Side}
 use Rattle.dw_board.specs.declared.piece.Side.TheVariants.{White, Black}
@@ -35,6 +35,11 @@ is_blank byte = (byte == blank) || (byte == tab)
 
 abbrev pub is_digit : ℕ → Bool
 is_digit byte = nat_le 48 byte && nat_le byte 57
+
+-- these bytes are digits
+abbrev pub AreDigits : List ℕ → Type 0
+AreDigits [] = Unit {0}
+AreDigits (byte ∷ bytes) = (is_digit byte ≡ true) × AreDigits bytes
 
 abbrev pub begins_with_digit : List ℕ → Bool
 begins_with_digit [] = false

@@ -4,7 +4,7 @@ pub mod SquareSet
 pub mod Slides
 pub mod Boards
 pub mod Placement
-pub mod Standing
+pub mod PieceSets
 pub mod Hashing
 pub mod Packing
 pub mod FenTokens

@@ -8,7 +8,7 @@ use Rattle.dw_board.specs.declared.piece.Kind.TheVariants.{Man, King}
 use Rattle.dw_board.specs.declared.piece.Piece.{Piece}
 use Rattle.dw_board.specs.Geometry.{Geometry, Squares}
 use Rattle.dw_board.specs.Placement.{IsPosition}
-use Rattle.dw_board.specs.Standing.{standing, cells_of}
+use Rattle.dw_board.specs.PieceSets.{standing, cells_of}
 
 -- the squares of a side and a kind, where these are white's, black's and those of all kings
 abbrev pub parted : Squares → Squares → Squares → Side → Kind → Squares

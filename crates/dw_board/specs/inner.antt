@@ -2,11 +2,10 @@
 pub mod GeometryLemmas
 pub mod SquareSetLemmas
 pub mod PlacementLemmas
-pub mod StandingLemmas
+pub mod PieceSetLemmas
 pub mod BoardLemmas
 pub mod Drawing
 pub mod FenReading
-pub mod FenBlanks
 pub mod Shifting
 pub mod Sliding
 pub mod Held

@@ -1,8 +1,8 @@
 //! The squares of each side's men and of its kings.
 ghost use Rattle.std.specs.Prelude.{◌≡◌, ⊤};
-ghost use Rattle.dw_board.specs.inner.StandingLemmas.{same_sets};
+ghost use Rattle.dw_board.specs.inner.PieceSetLemmas.{same_sets};
 ghost use Rattle.std.specs.FinSet as set;
-ghost use Rattle.dw_board.specs.Standing.{set_of, held_at};
+ghost use Rattle.dw_board.specs.PieceSets.{set_of, held_at};
 ghost use Rattle.dw_board.specs.inner.Held.{entered};
 ghost use Rattle.dw_board.specs.Packing.{parted};
 ghost use Rattle.dw_board.specs.declared.piece.Side.TheVariants.{White, Black};

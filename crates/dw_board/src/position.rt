@@ -1,7 +1,7 @@
 //! Positions: what stands on a board, and whose turn it is.
 ghost use Rattle.std.specs.Prelude.{◌≡◌, ◌≤◌, ◌<◌, ◌↔◌, ℕ, Some, None, Ok, Err, IsTrue, is_ok, is_some, if◌then◌else◌};
 ghost use Rattle.std.specs.Prelude.{MatchResult, Result};
-ghost use Rattle.dw_board.specs.Placement.{Placement, IsPosition, placed, without, put_fault};
+ghost use Rattle.dw_board.specs.Placement.{Placement, IsPosition, placed, put_fault};
 ghost use Rattle.dw_board.specs.Placement as of;
 ghost use Rattle.dw_board.specs.Geometry as Geo;
 ghost use Rattle.std.specs.FinSet as set;
@@ -50,7 +50,7 @@ pub struct Position<B: Board> {
 
 impl<B: Board> Model for Position<B> {
     ghost use Rattle.dw_board.specs.Placement.{Placement};
-    ghost use Rattle.dw_board.specs.Standing.{standing, set_of, cells_of, IsKept};
+    ghost use Rattle.dw_board.specs.PieceSets.{standing, set_of, cells_of, IsKept};
     ghost use Rattle.dw_board.specs.declared.piece.Side.TheVariants.{White, Black};
     ghost use Rattle.dw_board.specs.declared.piece.Kind.TheVariants.{Man, King};
 
@@ -126,15 +126,6 @@ impl<B: Board> Position<B> {
         let stood = self.at(square);
         self.held = self.held.without(square);
         stood
-    }
-
-    /// Empties these squares.
-    /// Example: of `W:W32:B28` to clear the squares 28 and 29 leaves `W:W32:B`.
-    #[inline]
-    pub fn clear_all(&mut self, squares: Squares<B>)
-        ensures { self.new ≡ without self.old squares }
-    {
-        self.held = self.held.minus(squares);
     }
 
     /// The position after what stands on one square has gone to another, and what stands on these squares has left the

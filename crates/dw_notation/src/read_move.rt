@@ -1,8 +1,6 @@
 //! Reading the text of a move.
-ghost use Rattle.std.specs.Prelude.{◌≡◌, ◌≤◌, ◌<◌, ◌∷◌, [], List, ℕ, length, take, drop, false, MatchOption, IsTrue};
+ghost use Rattle.std.specs.Prelude.{◌≡◌, ◌≤◌, ◌<◌, ◌∷◌, [], List, ℕ, length, MatchOption, IsTrue};
 ghost use Rattle.std.specs.Prelude.{◌↔◌};
-ghost use Rattle.dw_board.specs.FenTokens.{number_named, begins_with_digit};
-ghost use Rattle.dw_board.specs.inner.FenBlanks.{AreDigits};
 ghost use Rattle.dw_board.specs.Lists.{NoRepeat};
 ghost use Rattle.dw_notation.specs.declared.read_move.MoveFault.TheVariants.{Memory};
 ghost use Rattle.dw_notation.specs.MoveReading.{Names, QuietMove, Capture, IsAnswer, IsRead, is_cross};
@@ -10,6 +8,7 @@ ghost use Rattle.dw_notation.specs.inner.MoveReader.{Begins, BeginsNowhere, IsOn
 
 use arrayvec::ArrayVec;
 use dw_board::board::Board;
+use dw_board::fen::numbers::{digits_at, square_named};
 use dw_board::position::Position;
 use dw_board::square::Square;
 use dw_moves::follow::follow;
@@ -136,32 +135,6 @@ fn first_square<B: Board>(text: &[u8]) -> Option<(Square<B>, &[u8])>
 {
     let (digits, rest) = text.split_at(digits_at(text));
     Some((square_named(digits)?, rest))
-}
-
-/// How many digits stand at the front.
-fn digits_at(text: &[u8]) -> usize
-    ensures within { result ≤ length text.now }
-    ensures digits { AreDigits (take result text.now) }
-    ensures all { begins_with_digit (drop result text.now) ≡ false }
-{
-    let mut count = 0;
-    'digits: while count < text.len() && text[count].is_ascii_digit() {
-        count += 1;
-    }
-    count
-}
-
-/// The square that one or two digits number.
-fn square_named<B: Board>(digits: &[u8]) -> Option<Square<B>>
-    ensures { result ≡ number_named B.geometry digits.now }
-{
-    match digits {
-        [ones] if ones.is_ascii_digit() => Square::new(*ones - b'0'),
-        [tens, ones] if tens.is_ascii_digit() && ones.is_ascii_digit() => {
-            Square::new(10 * (*tens - b'0') + (*ones - b'0'))
-        }
-        _ => None,
-    }
 }
 
 /// The quiet move between two squares.

@@ -5,7 +5,7 @@ use Rattle.dw_board.specs.declared.piece.Side.{Side}
 use Rattle.dw_board.specs.declared.piece.Kind.{Kind}
 use Rattle.dw_board.specs.declared.piece.Piece.{Piece}
 use Rattle.dw_board.specs.Geometry.{Squares}
-use Rattle.dw_board.specs.Standing.{is_that}
+use Rattle.dw_board.specs.PieceSets.{is_that}
 
 -- the set of a side and a kind, once a piece has come to a square
 abbrev pub entered : Side → Kind → Squares → ℕ → Piece → Squares

@@ -9,7 +9,7 @@ use Rattle.dw_board.specs.declared.position.TheConstants.{BLACK_MEN_FACTOR, BLAC
 use Rattle.dw_board.specs.Geometry.{Geometry}
 use Rattle.dw_board.specs.SquareSet.{word_of}
 use Rattle.dw_board.specs.Placement.{Placement, side_code}
-use Rattle.dw_board.specs.Standing.{standing}
+use Rattle.dw_board.specs.PieceSets.{standing}
 
 -- the word of the squares on which a piece of this side and kind stands
 abbrev pub standing_word : Geometry → Placement → Side → Kind → ℕ

@@ -1,12 +1,12 @@
 //! The tokens of a FEN text, read from the front.
 ghost use Rattle.std.specs.Prelude.{◌≡◌, ◌+◌, ◌≤◌, ◌<◌, ◌||◌, false, true, length, take, drop, is_some, slice_get};
 ghost use Rattle.dw_board.specs.FenBlanks.{begins_with_blank, IsSignByte};
-ghost use Rattle.dw_board.specs.inner.FenBlanks.{AreDigits};
 ghost use Rattle.dw_board.specs.FenTokens.{is_sign, is_blank, is_digit, begins_with_digit, side_named, is_king_letter};
 ghost use Rattle.dw_board.specs.FenTokens.{number_named, tokens_from};
 
 use crate::board::Board;
 use crate::fen::fault::{FenFault, FenFaultKind};
+use crate::fen::numbers::{digits_at, square_named};
 use crate::fen::read::MAX_FEN;
 use crate::piece::Side;
 use crate::square::Square;
@@ -175,29 +175,4 @@ fn past_blanks(text: &[u8], from: usize) -> usize
         at += 1;
     }
     at
-}
-
-/// How many digits stand at the front.
-fn digits_at(bytes: &[u8]) -> usize
-    ensures within { result ≤ length bytes.now }
-    ensures digits { AreDigits (take result bytes.now) }
-    ensures all { begins_with_digit (drop result bytes.now) ≡ false }
-{
-    let mut count = 0;
-    'digits: while count < bytes.len() && bytes[count].is_ascii_digit() {
-        count += 1;
-    }
-    count
-}
-
-/// The square whose number a run of digits gives.
-fn square_named<B: Board>(digits: &[u8]) -> Option<Square<B>>
-    requires { AreDigits digits.now }
-    ensures { result ≡ number_named B.geometry digits.now }
-{
-    match digits {
-        [ones] => Square::new(*ones - b'0'),
-        [tens, ones] => Square::new(10 * (*tens - b'0') + (*ones - b'0')),
-        _ => None,
-    }
 }

@@ -1,8 +1,8 @@
 use Rattle.std.proofs.Common.{◌∙◌, ◌≡◌, ◌+◌, ◌-◌, ap, sym, arith, None, get_or, inl, inr}
 use Rattle.std.proofs.lemmas.Bool.{cases_lt}
 use Rattle.dw_board.specs.Geometry.{squares}
-use Rattle.dw_board.specs.Standing.{set_of, held_at, cells_of}
-use Rattle.dw_board.proofs.StandingLemmas.{cell_of}
+use Rattle.dw_board.specs.PieceSets.{set_of, held_at, cells_of}
+use Rattle.dw_board.proofs.PieceSetLemmas.{cell_of}
 use Rattle.dw_board.proofs.position.cell_behind.Goals as goal
 
 pub returns-in_err-new : goal.returns-in_err-new

@@ -1,6 +1,6 @@
 use Rattle.std.proofs.Common.{◌∙◌, sym, refl}
-use Rattle.dw_board.specs.Standing.{set_of}
-use Rattle.dw_board.proofs.StandingLemmas.{held_at-none, held_at-last}
+use Rattle.dw_board.specs.PieceSets.{set_of}
+use Rattle.dw_board.proofs.PieceSetLemmas.{held_at-none, held_at-last}
 use Rattle.dw_board.proofs.held.Held.at.Goals as goal
 
 pub returns-then-not-has : goal.returns-then-not-has

@@ -1,7 +1,7 @@
 use Rattle.std.proofs.Common.{◌∙◌, sym, ap}
 use Rattle.std.specs.FinSet as set
 use Rattle.dw_board.specs.Placement as of
-use Rattle.dw_board.specs.Standing.{set_of, cells_of}
+use Rattle.dw_board.specs.PieceSets.{set_of, cells_of}
 use Rattle.dw_board.proofs.SideLemmas.{side-members}
 use Rattle.dw_board.proofs.position.Position.all_of.Goals as goal
 

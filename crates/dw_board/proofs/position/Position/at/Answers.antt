@@ -1,7 +1,7 @@
 use Rattle.std.proofs.Common.{◌∙◌, ap, sym, arith}
 use Rattle.dw_board.specs.Placement as of
-use Rattle.dw_board.specs.Standing.{set_of}
-use Rattle.dw_board.proofs.StandingLemmas.{cell_of}
+use Rattle.dw_board.specs.PieceSets.{set_of}
+use Rattle.dw_board.proofs.PieceSetLemmas.{cell_of}
 use Rattle.dw_board.proofs.position.Position.at.Goals as goal
 
 pub returns-clause-value : goal.returns-clause-value

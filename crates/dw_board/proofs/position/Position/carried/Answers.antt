@@ -3,9 +3,9 @@ use Rattle.std.specs.FinSet as set
 use Rattle.dw_board.specs.declared.piece.Side.{Side}
 use Rattle.dw_board.specs.declared.piece.Kind.{Kind}
 use Rattle.dw_board.specs.Placement.{carried}
-use Rattle.dw_board.specs.Standing.{set_of, IsKept}
+use Rattle.dw_board.specs.PieceSets.{set_of, IsKept}
 use Rattle.dw_board.specs.inner.Held.{entered}
-use Rattle.dw_board.proofs.StandingLemmas.{kept_placement, cells_again, kept-again, cell_of}
+use Rattle.dw_board.proofs.PieceSetLemmas.{kept_placement, cells_again, kept-again, cell_of}
 use Rattle.dw_board.proofs.CarriedLemmas.{kept-carried, kept-none}
 use Rattle.dw_board.proofs.position.Position.carried.Goals as goal
 use Rattle.dw_board.proofs.position.Position.carried.Goals.{in-Some, in-None}

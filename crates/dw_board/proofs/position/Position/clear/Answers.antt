@@ -1,7 +1,7 @@
 use Rattle.std.proofs.Common.{◌∙◌, ap, None, set as put_at, ◌-◌}
 use Rattle.dw_board.specs.Placement as of
-use Rattle.dw_board.specs.Standing.{set_of, cells_of}
-use Rattle.dw_board.proofs.StandingLemmas.{kept-left, cells_again, kept-again}
+use Rattle.dw_board.specs.PieceSets.{set_of, cells_of}
+use Rattle.dw_board.proofs.PieceSetLemmas.{kept-left, cells_again, kept-again}
 use Rattle.dw_board.proofs.position.Position.clear.Goals as goal
 
 pub invariant_of-self : goal.invariant_of-self

@@ -1,8 +1,8 @@
 use Rattle.std.proofs.Common.{◌∙◌, ap, arith}
 use Rattle.std.specs.FinSet as set
 use Rattle.dw_board.specs.Placement as of
-use Rattle.dw_board.specs.Standing.{set_of, cells_of}
-use Rattle.dw_board.proofs.StandingLemmas.{count-kept, count-fits}
+use Rattle.dw_board.specs.PieceSets.{set_of, cells_of}
+use Rattle.dw_board.proofs.PieceSetLemmas.{count-kept, count-fits}
 use Rattle.dw_board.proofs.position.Position.count.Goals as goal
 
 pub returns-clause-value : goal.returns-clause-value

@@ -4,9 +4,9 @@ use Rattle.dw_board.specs.declared.piece.Side.TheVariants.{White, Black}
 use Rattle.dw_board.specs.declared.piece.Kind.{Kind}
 use Rattle.dw_board.specs.declared.piece.Kind.TheVariants.{Man, King}
 use Rattle.dw_board.specs.SquareSet.{word_of}
-use Rattle.dw_board.specs.Standing.{set_of}
+use Rattle.dw_board.specs.PieceSets.{set_of}
 use Rattle.dw_board.specs.inner.Mixing.{standing_word, mixed_word}
-use Rattle.dw_board.proofs.StandingLemmas.{kept_placement}
+use Rattle.dw_board.proofs.PieceSetLemmas.{kept_placement}
 use Rattle.dw_board.proofs.MixedLemmas.{mixed-is}
 use Rattle.dw_board.proofs.position.Position.mixed_word.Goals as goal
 

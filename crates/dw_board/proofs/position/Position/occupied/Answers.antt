@@ -1,7 +1,7 @@
 use Rattle.std.proofs.Common.{◌∙◌, sym, ap, is_some}
 use Rattle.std.specs.FinSet as set
 use Rattle.dw_board.specs.Placement as of
-use Rattle.dw_board.specs.Standing.{set_of, cells_of}
+use Rattle.dw_board.specs.PieceSets.{set_of, cells_of}
 use Rattle.dw_board.proofs.SideLemmas.{occupied-members}
 use Rattle.dw_board.proofs.position.Position.occupied.Goals as goal
 

@@ -1,6 +1,6 @@
 use Rattle.std.proofs.Common.{◌∙◌, ap}
 use Rattle.std.specs.FinSet as set
-use Rattle.dw_board.specs.Standing.{set_of, cells_of}
+use Rattle.dw_board.specs.PieceSets.{set_of, cells_of}
 use Rattle.dw_board.proofs.PackingLemmas.{packed, packed_again, packed-again}
 use Rattle.dw_board.proofs.position.Position.pack.Goals as goal
 

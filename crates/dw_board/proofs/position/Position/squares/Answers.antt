@@ -1,8 +1,8 @@
 use Rattle.std.proofs.Common.{◌∙◌, sym, ap}
 use Rattle.std.specs.FinSet as set
 use Rattle.dw_board.specs.Placement as of
-use Rattle.dw_board.specs.Standing.{set_of, cells_of}
-use Rattle.dw_board.specs.inner.StandingLemmas.{standing-members}
+use Rattle.dw_board.specs.PieceSets.{set_of, cells_of}
+use Rattle.dw_board.specs.inner.PieceSetLemmas.{standing-members}
 use Rattle.dw_board.proofs.position.Position.squares.Goals as goal
 
 pub returns : goal.returns

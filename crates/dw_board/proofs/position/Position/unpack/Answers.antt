@@ -1,7 +1,7 @@
 use Rattle.std.proofs.Common.{◌∙◌}
-use Rattle.dw_board.specs.Standing.{set_of}
+use Rattle.dw_board.specs.PieceSets.{set_of}
 use Rattle.dw_board.specs.Packing.{packed_cells}
-use Rattle.dw_board.proofs.StandingLemmas.{cells_again, kept-again}
+use Rattle.dw_board.proofs.PieceSetLemmas.{cells_again, kept-again}
 use Rattle.dw_board.proofs.PackingLemmas.{parted_kept}
 use Rattle.dw_board.proofs.position.Position.unpack.Goals as goal
 

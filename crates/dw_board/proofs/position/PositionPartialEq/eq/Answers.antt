@@ -1,8 +1,8 @@
 use Rattle.std.proofs.Common.{◌∙◌, ◌&&◌, ap, sym}
 use Rattle.std.proofs.lemmas.Bool.{eq-eqb}
 use Rattle.dw_board.specs.inner.PlacementLemmas.{same}
-use Rattle.dw_board.specs.inner.StandingLemmas.{same_sets}
-use Rattle.dw_board.proofs.StandingLemmas.{same_kept, kept_placement}
+use Rattle.dw_board.specs.inner.PieceSetLemmas.{same_sets}
+use Rattle.dw_board.proofs.PieceSetLemmas.{same_kept, kept_placement}
 use Rattle.dw_board.proofs.position.PositionPartialEq.eq.Goals as goal
 
 pub returns-then-side_number : goal.returns-then-side_number

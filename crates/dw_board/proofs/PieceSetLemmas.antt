@@ -21,9 +21,9 @@ use Rattle.dw_board.specs.Geometry.{Geometry, IsBoard, OnBoard, Squares}
 use Rattle.dw_board.specs.inner.SquareSetLemmas.{contains-insert, and-false}
 use Rattle.dw_board.specs.Placement.{Placement, IsPosition, is_of, is_stuck, same_side, side_code}
 use Rattle.dw_board.specs.inner.PlacementLemmas.{same, same-is, side_back}
-use Rattle.dw_board.specs.Standing.{same_kind, is_that, standing_below, standing, set_of, held_at, cells_of, IsKept}
+use Rattle.dw_board.specs.PieceSets.{same_kind, is_that, standing_below, standing, set_of, held_at, cells_of, IsKept}
 use Rattle.dw_board.specs.inner.Held.{entered}
-use Rattle.dw_board.specs.inner.StandingLemmas.{contains-below, contains-standing, same_sets, same_sets-is}
+use Rattle.dw_board.specs.inner.PieceSetLemmas.{contains-below, contains-standing, same_sets, same_sets-is}
 use Rattle.dw_board.proofs.SetLemmas.{contains-remove, past_range, same_tests}
 use Rattle.dw_board.proofs.CountingLemmas.{len_more}
 use Rattle.dw_board.proofs.PlacedLemmas.{empty_cell, IsPosition-empty, IsPosition-put, IsPosition-clear}

@@ -13,7 +13,7 @@ use Rattle.dw_board.specs.declared.held.Held.{Held}
 use Rattle.dw_board.specs.Geometry.{Geometry, IsBoard, squares, OnBoard}
 use Rattle.dw_board.specs.inner.SquareSetLemmas.{none_in_empty, member_more, same_members, same_members-is}
 use Rattle.dw_board.specs.Placement.{IsPosition, same_side}
-use Rattle.dw_board.specs.Standing.{same_kind, is_that, standing_below, standing}
+use Rattle.dw_board.specs.PieceSets.{same_kind, is_that, standing_below, standing}
 
 abbrev Cells : Type 0
 Cells = List (Option Piece)

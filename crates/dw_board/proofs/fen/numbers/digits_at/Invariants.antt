@@ -1,6 +1,6 @@
 use Rattle.std.proofs.Common.{◌≤◌, ◌-◌, length, take}
-use Rattle.dw_board.specs.inner.FenBlanks.{AreDigits}
-use Rattle.dw_notation.proofs.read_move.digits_at.Given as goal
+use Rattle.dw_board.specs.FenTokens.{AreDigits}
+use Rattle.dw_board.proofs.fen.numbers.digits_at.Given as goal
 
 abbrev pub invariant-digits : goal.invariant-digits
 invariant-digits l = record {
