@@ -20,4 +20,4 @@ mod walk;
 pub use fault::AfterFault;
 pub use lister::Lister;
 pub use portions::{Portions, in_portions};
-pub use tokens::{MAX_DIGITS, MAX_MOVES, TokenFault, read_token, write_token};
+pub use tokens::{MAX_DIGITS, TokenFault, read_token, write_token};

@@ -9,6 +9,7 @@ use arrayvec::ArrayVec;
 use dw_board::board::Board;
 use dw_memo::memo::Memo;
 use dw_moves::moves::Move;
+use dw_notation::line_text::MAX_MOVES;
 use dw_solve::guide::Guide;
 use std::alloc::Global;
 
@@ -17,7 +18,7 @@ use std::alloc::Global;
 #[derive(Drop)]
 pub struct Portions<B: Board> {
     /// The lines, in order.
-    pub lines: Vec<ArrayVec<Move<B>, 39>>,
+    pub lines: Vec<ArrayVec<Move<B>, MAX_MOVES>>,
     /// How often the search was stopped, or there was no memory for one more line.
     pub stops: usize,
     /// How often no line was still to come.
@@ -84,7 +85,7 @@ fn take_turn<B: Board, M: Memo<B>, G: Guide<B>>(
 }
 
 /// A line in an array of its own.
-fn kept<B: Board>(line: &[Move<B>]) -> ArrayVec<Move<B>, 39>
+fn kept<B: Board>(line: &[Move<B>]) -> ArrayVec<Move<B>, MAX_MOVES>
     requires { length line.now ≤ 39 }
     ensures { result.items ≡ line.now }
 {

@@ -12,8 +12,12 @@ use dw_board::board::Board;
 use dw_board::position::Position;
 use dw_moves::moves::Move;
 use dw_moves::play::play as played;
+use dw_notation::line_text::MAX_MOVES;
 use std::alloc::{AllocError, Global};
 use std::marker::Model;
+
+/// The most levels of a stack: one at the start, and one after each move of a line.
+const LEVELS: usize = MAX_MOVES + 1;
 
 /// A move of the last level that may come next: the position after it, whose it is, and how many moves are left for
 /// the attacker after it.
@@ -44,11 +48,11 @@ pub(crate) enum Task<B: Board> {
 pub(crate) struct Stack<B: Board> {
     position: Position<B>,
     moves: u8,
-    frames: ArrayVec<Frame<B>, 40>,
-    line: ArrayVec<Move<B>, 39>,
+    frames: ArrayVec<Frame<B>, LEVELS>,
+    line: ArrayVec<Move<B>, MAX_MOVES>,
     /// Frames that were left, kept for the memory of their lists. With those in use they are two for each move of the
     /// attacker at most.
-    spare: ArrayVec<Frame<B>, 40>,
+    spare: ArrayVec<Frame<B>, LEVELS>,
 }
 
 impl<B: Board> Model for Stack<B> {
@@ -212,7 +216,7 @@ impl<B: Board> Stack<B> {
 
 /// A frame whose moves are not listed: one of the spare frames, or else a new one.
 fn frame_at<B: Board>(
-    spare: &mut ArrayVec<Frame<B>, 40>,
+    spare: &mut ArrayVec<Frame<B>, LEVELS>,
     position: Position<B>,
     attacks: bool,
     left: u8,
@@ -231,7 +235,10 @@ fn frame_at<B: Board>(
 }
 
 /// Takes the last frame off, and keeps it.
-fn leave_last<B: Board>(frames: &mut ArrayVec<Frame<B>, 40>, spare: &mut ArrayVec<Frame<B>, 40>)
+fn leave_last<B: Board>(
+    frames: &mut ArrayVec<Frame<B>, LEVELS>,
+    spare: &mut ArrayVec<Frame<B>, LEVELS>,
+)
     requires { length frames.old.items + length spare.old.items ≤ 40 }
     ensures frames { frames.new.items ≡ take (length frames.old.items - 1) frames.old.items }
     ensures spare { length frames.new.items + length spare.new.items

@@ -14,24 +14,21 @@ use dw_board::board::Board;
 use dw_board::square::Square;
 use dw_board::squares::Squares;
 use dw_moves::moves::Move;
+use dw_notation::line_text::MAX_MOVES;
 use dw_notation::streams::Sink;
 use dw_notation::writes::{WriteFault, write_all};
 use hex::{decode_to_slice, encode_to_slice};
 use thiserror::Error;
 
-/// The most moves of a line that has a token.
-/// Example: a win in 20 moves may have a line of 20 moves of the attacker and 19 of the defender.
-pub const MAX_MOVES: usize = 39;
-
 /// The bytes of a move.
 const MOVE_BYTES: usize = 10;
 
 /// The most bytes of a token: its version, the rows of the board, the number of moves, and the moves.
-const MAX_BYTES: usize = 393;
+const MAX_BYTES: usize = 3 + MAX_MOVES * MOVE_BYTES;
 
 /// The most digits of a token.
 /// Example: a token of 39 moves has so many, and one of 1 move has 26.
-pub const MAX_DIGITS: usize = 786;
+pub const MAX_DIGITS: usize = 2 * MAX_BYTES;
 
 /// Why a text is no token. Its number is that of the variant, from 1 on.
 /// Example: the fault of `0g` is `TokenFault::NotHex`, whose number is 1.

@@ -17,7 +17,7 @@ pub mod read_move;
 pub mod streams;
 pub mod writes;
 
-pub use line_text::{LINE_ROOM, LineText};
+pub use line_text::{LINE_ROOM, LineText, MAX_MOVES};
 pub use move_text::{MOVE_ROOM, text_in};
 pub use problems::{Form, Problem, ProblemFault, Problems, ReadFault};
 pub use read_move::MoveFault;

@@ -19,6 +19,10 @@ use itoa::Buffer;
 use std::alloc::{AllocError, Global};
 use std::marker::Model;
 
+/// The most moves of a line: 20 of the attacker, and 19 of the defender between them.
+/// Example: `1. 45-40 16-21 2. 27x16` has 3.
+pub const MAX_MOVES: usize = 39;
+
 /// The bytes that suffice for the text of each line.
 /// Example: `1. 45-40 16-21 2. 27x16` takes 23 of them.
 pub const LINE_ROOM: usize = 2560;
@@ -49,7 +53,7 @@ impl<B: Board> Default for WrittenMove<B> {
 #[derive(Drop)]
 pub struct LineText<B: Board> {
     start: Position<B>,
-    plies: ArrayVec<WrittenMove<B>, 39>,
+    plies: ArrayVec<WrittenMove<B>, MAX_MOVES>,
     text: ArrayString<LINE_ROOM>,
 }
 

@@ -6,6 +6,7 @@ ghost use Rattle.dw_report.specs.Verdict.{Keys};
 ghost use Rattle.dw_report.specs.inner.Judging.{LeadsToChoices, ComesToChoices, RepliesToChoices, FindsLeast, parts_of};
 
 use crate::keys::keys;
+use crate::verdict::MAX_BEFORE;
 use arrayvec::ArrayVec;
 use dw_board::board::Board;
 use dw_board::position::Position;
@@ -23,7 +24,7 @@ use std::alloc::Global;
 /// A choice: the moves that lead to it, and the moves that all win there, in order.
 #[derive(Drop)]
 pub(crate) struct Dual<B: Board> {
-    pub(crate) at: ArrayVec<Move<B>, 38>,
+    pub(crate) at: ArrayVec<Move<B>, MAX_BEFORE>,
     pub(crate) choices: Vec<Move<B>>,
 }
 

@@ -27,11 +27,11 @@ use dw_board::position::Position;
 use dw_list::fault::AfterFault;
 use dw_list::laws::{given_in_turn, line_or_place, lines_exist};
 use dw_list::lister::Lister;
-use dw_list::tokens::{MAX_MOVES, write_token};
+use dw_list::tokens::write_token;
 use dw_memo::memo::Memo;
 use dw_moves::moves::Move;
 use dw_notation::laws::lines_have_texts;
-use dw_notation::line_text::LineText;
+use dw_notation::line_text::{LINE_ROOM, LineText, MAX_MOVES};
 use dw_notation::streams::Sink;
 use dw_notation::writes::{WriteFault, write_all};
 use dw_solve::guide::Guide;
@@ -41,7 +41,7 @@ use itoa::Buffer;
 use std::alloc::Global;
 
 /// The bytes that suffice for each line's text and a line feed.
-const ROW_ROOM: usize = 2561;
+const ROW_ROOM: usize = LINE_ROOM + 1;
 
 /// Writes the lines of a position, all or those after the line that the settings name, as many as they ask for, each
 /// as soon as it is known; and then that the list is complete, or after which line it goes on. Answers whether the

@@ -5,6 +5,7 @@ ghost use Rattle.dw_report.specs.Request.{number_is_chosen, number_is_asked};
 use arrayvec::ArrayVec;
 use dw_board::board::Board;
 use dw_moves::moves::Move;
+use dw_notation::line_text::MAX_MOVES;
 use dw_notation::problems::Form;
 pub use dw_solve::stop::Stop;
 use thiserror::Error;
@@ -38,7 +39,7 @@ pub struct Settings<B: Board> {
     /// The most lines to list, at least 1.
     pub lines: u64,
     /// The line after which the list begins, or none: then it begins with the first line.
-    pub after: Option<ArrayVec<Move<B>, 39>>,
+    pub after: Option<ArrayVec<Move<B>, MAX_MOVES>>,
     /// How many positions may be expanded in the whole run, at least 1.
     pub limit: u64,
 }

@@ -2,6 +2,11 @@
 use arrayvec::ArrayVec;
 use dw_board::board::Board;
 use dw_moves::moves::Move;
+use dw_notation::line_text::MAX_MOVES;
+
+/// The most moves before a choice: all of the longest line but the last.
+/// Example: after 38 moves of a win in 20 the attacker has one move left.
+pub const MAX_BEFORE: usize = MAX_MOVES - 1;
 
 /// Whether the side to move wins within a number of its moves, and how well.
 /// Example: within 2 moves `W:W27,45:B16` has the verdict `Sound`, and its key is `45-40`.
@@ -19,7 +24,7 @@ pub enum Verdict<B: Board> {
     /// One first move wins, and later there is a choice.
     Dual {
         /// The least beginning of a line after which several moves win. It has an even number of moves, 2 to 38.
-        at: ArrayVec<Move<B>, 38>,
+        at: ArrayVec<Move<B>, MAX_BEFORE>,
         /// All moves that win there, in order.
         choices: Vec<Move<B>>,
     },

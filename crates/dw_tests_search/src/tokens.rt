@@ -3,8 +3,9 @@ ghost use Rattle.std.specs.Prelude.{◌≡◌, ◌⊎◌, ◌≤◌, ◌%◌, le
 
 use crate::listers::{add_line, moves_in};
 use dw_board::board::Board;
-use dw_list::tokens::{MAX_MOVES, read_token, write_token};
+use dw_list::tokens::{read_token, write_token};
 use dw_moves::moves::Move;
+use dw_notation::line_text::MAX_MOVES;
 use dw_notation::streams::Writing;
 use dw_tests_common::rows::{column, word};
 use dw_tests_common::streams::Narrow;
