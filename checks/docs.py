@@ -6,7 +6,7 @@
 Each link of the pages has to lead to a file, and to a heading of it, and each file named there has to exist. No line
 there has more than 120 columns. The contract in docs/PROVED.md has to be that of `run`, word for word, and each
 definition in its reading order has to stand in the file that is named for it. The rows on FEN texts in docs/FORMATS.md
-have to be what `dw show` answers, and the problems in docs/REPORT.md and README.md have to have the diagrams, verdicts
+have to be what `dw show` answers, the program in docs/LIBRARY.md that of the crate `dw_example`, and the problems in docs/REPORT.md and README.md have to have the diagrams, verdicts
 and lines that stand there.
 """
 import pathlib
@@ -19,6 +19,7 @@ TEXTS = [TOP / "README.md", TOP / "examples/README.md", *sorted((TOP / "docs").g
 README, PROVED, FORMATS, REPORT = TOP / "README.md", *(TOP / f"docs/{name}.md" for name in
                                                        ("PROVED", "FORMATS", "REPORT"))
 RUN = TOP / "crates/dw_report/src/run.rt"
+LIBRARY, EXAMPLE = TOP / "docs/LIBRARY.md", TOP / "crates/dw_example"
 LINK = re.compile(r"\[[^\]]*\]\(([^)\s]+)\)")
 MOST = 120
 
@@ -143,9 +144,19 @@ def check_verdicts():
     print(f"{len(problems)} problems in docs/REPORT.md and {len(calls)} in README.md, as told")
 
 
+def check_example():
+    """The program of docs/LIBRARY.md and what it prints are those of the crate that the gate runs."""
+    blocks = dict(re.findall(r"^```(\w+)\n(.*?)^```", LIBRARY.read_text(), re.MULTILINE | re.DOTALL))
+    code = (EXAMPLE / "src/main.rt").read_text()
+    assert blocks["rust"] == code[code.index("use ") :], "LIBRARY.md: the program is not that of dw_example"
+    assert blocks["text"] == (EXAMPLE / "stdout").read_text(), "LIBRARY.md: what it prints is not that of dw_example"
+    print("LIBRARY.md: the program is that of dw_example, and prints the same")
+
+
 def main():
     check_links()
     check_paths()
+    check_example()
     check_headline()
     check_definitions()
     check_fen_texts()

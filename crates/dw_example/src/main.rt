@@ -22,18 +22,19 @@ fn main(rt: HostRuntime) -> anyhow::Result<()> {
     let wins = solver.wins(alloc, &position, 2)?;
     println!(rt; "a win in 2 moves: {wins}")?;
     let mut lister = Lister::start(&mut solver, &position, 2);
-    for _ in 0..2 {
+    for number in 1..=2 {
         if let Some(line) = lister.next(alloc)? {
-            write_line(&rt, line)?;
+            print!(rt; "line {number}:")?;
+            write_moves(&rt, line)?;
         }
     }
     Ok(())
 }
 
-/// Writes where each move of a line begins and ends.
-fn write_line(rt: &HostRuntime, line: &[Move<Ten>]) -> anyhow::Result<()> {
+/// Writes where each move begins and ends, and ends the line.
+fn write_moves(rt: &HostRuntime, line: &[Move<Ten>]) -> anyhow::Result<()> {
     for mv in line {
-        print!(rt; "{} to {}; ", mv.from.number(), mv.to.number())?;
+        print!(rt; " {}-{}", mv.from.number(), mv.to.number())?;
     }
     println!(rt; "")?;
     Ok(())
