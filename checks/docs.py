@@ -6,8 +6,8 @@
 Each link of the pages has to lead to a file, and to a heading of it, and each file named there has to exist. No line
 there has more than 120 columns. The contract in docs/PROVED.md has to be that of `run`, word for word, and each
 definition in its reading order has to stand in the file that is named for it. The rows on FEN texts in docs/FORMATS.md
-have to be what `dw show` answers, the program in docs/LIBRARY.md that of the crate `dw_example`, and the problems in docs/REPORT.md and README.md have to have the diagrams, verdicts
-and lines that stand there.
+have to be what `dw show` answers, the program in docs/LIBRARY.md that of the crate `dw_example`, and the problems in
+docs/REPORT.md and README.md have to have the diagrams, verdicts and lines that stand there.
 """
 import pathlib
 import re
