@@ -7,7 +7,8 @@ Each link of the pages has to lead to a file, and to a heading of it, and each f
 there has more than 120 columns. The contract in docs/PROVED.md has to be that of `run`, word for word, and each
 definition in its reading order has to stand in the file that is named for it. The rows on FEN texts in docs/FORMATS.md
 have to be what `dw show` answers, the program in docs/LIBRARY.md that of the crate `dw_example`, and the problems in
-docs/REPORT.md and README.md have to have the diagrams, verdicts and lines that stand there.
+docs/REPORT.md and README.md have to have the diagrams, verdicts and lines that stand there. Each function on the way
+of a problem in docs/ARCHITECTURE.md has to be in the file that is named for it.
 """
 import pathlib
 import re
@@ -19,7 +20,7 @@ TEXTS = [TOP / "README.md", TOP / "examples/README.md", *sorted((TOP / "docs").g
 README, PROVED, FORMATS, REPORT = TOP / "README.md", *(TOP / f"docs/{name}.md" for name in
                                                        ("PROVED", "FORMATS", "REPORT"))
 RUN = TOP / "crates/dw_report/src/run.rt"
-LIBRARY, EXAMPLE = TOP / "docs/LIBRARY.md", TOP / "crates/dw_example"
+ARCHITECTURE, LIBRARY, EXAMPLE = TOP / "docs/ARCHITECTURE.md", TOP / "docs/LIBRARY.md", TOP / "crates/dw_example"
 LINK = re.compile(r"\[[^\]]*\]\(([^)\s]+)\)")
 MOST = 120
 
@@ -144,6 +145,17 @@ def check_verdicts():
     print(f"{len(problems)} problems in docs/REPORT.md and {len(calls)} in README.md, as told")
 
 
+def check_way():
+    """Each function of the way of a problem stands in the file that is named for it."""
+    rows = re.findall(r"^\| `([\w:]+)` \| `([\w/.]+)` \| ", ARCHITECTURE.read_text(), re.MULTILINE)
+    assert 20 < len(rows) <= 40, f"ARCHITECTURE.md: {len(rows)} functions on the way of a problem"
+    for function, file in rows:
+        name = function.split("::")[-1]
+        code = (TOP / "crates" / file).read_text()
+        assert re.search(rf"\bfn {name}\b", code), f"ARCHITECTURE.md: {file} has no function {function}"
+    print(f"{len(rows)} functions on the way of a problem, each is in its file")
+
+
 def check_example():
     """The program of docs/LIBRARY.md and what it prints are those of the crate that the gate runs."""
     blocks = dict(re.findall(r"^```(\w+)\n(.*?)^```", LIBRARY.read_text(), re.MULTILINE | re.DOTALL))
@@ -156,6 +168,7 @@ def check_example():
 def main():
     check_links()
     check_paths()
+    check_way()
     check_example()
     check_headline()
     check_definitions()
