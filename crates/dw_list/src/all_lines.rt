@@ -9,16 +9,12 @@ ghost use Rattle.dw_list.specs.inner.Ways.{AreWays, AreAdded};
 ghost use Rattle.dw_solve.specs.Asking.{Asked};
 
 use crate::next_moves::{keeps, left_behind, may_move};
-use dw_board::board::Board;
-use dw_board::position::Position;
-use dw_memo::memo::Memo;
+use dw_board::{Board, Position};
+use dw_memo::Memo;
 use dw_moves::listed::listed;
-use dw_moves::moves::{Listed, Move};
 use dw_moves::play::play as played;
-use dw_solve::guide::Guide;
-use dw_solve::laws::searches_add_up;
-use dw_solve::solver::Solver;
-use dw_solve::stop::Stop;
+use dw_moves::{Listed, Move};
+use dw_solve::{Guide, Solver, Stop};
 use std::alloc::{AllocError, Global};
 
 /// All lines in which the side to move wins within so many of its moves, 1 to 20, in ascending order and each once.
@@ -55,7 +51,7 @@ fn ways<B: Board, M: Memo<B>, G: Guide<B>>(
         AreWays B.geometry attacks position.now moves (map (λ list. list.items) lists.items)) }
     ensures asked { Asked B.geometry M.content M.dropped moves solver.old solver.new result }
 {
-    searches_add_up();
+    dw_solve::laws::searches_add_up();
     solver.keeps_its_limit();
     if !may_move(attacks, moves) {
         return Ok(Vec::new(alloc));
@@ -106,7 +102,7 @@ fn push_ways<B: Board, M: Memo<B>, G: Guide<B>>(
         (map (λ list. list.items) lists.old.items) (map (λ list. list.items) lists.new.items)) }
     ensures asked { Asked B.geometry M.content M.dropped left solver.old solver.new result }
 {
-    searches_add_up();
+    dw_solve::laws::searches_add_up();
     let after = played(position, mv);
     if keeps(alloc, solver, &after, attacks, left)? {
         let behind = ways(alloc, solver, &after, !attacks, left)?;

@@ -1,5 +1,5 @@
 //! Why a lister can not go on after a list of moves.
-use dw_solve::stop::Stop;
+use dw_solve::Stop;
 use thiserror::Error;
 
 /// Why the lines after a list of moves were not found.

@@ -2,11 +2,8 @@
 ghost use Rattle.std.specs.Prelude.{◌≡◌, ◌↔◌, IsTrue, IsSome, OnOk, OnErr, None, Some, drop, map, false};
 ghost use Rattle.dw_list.specs.inner.Steps.{begun, first_ahead, passed, IsListing};
 
-use dw_board::board::Board;
-use dw_board::piece::Side;
-use dw_board::position::Position;
-use dw_moves::listed::listed_into;
-use dw_moves::moves::{Listed, Move};
+use dw_board::{Board, Position, Side};
+use dw_moves::{Listed, Move, listed_into};
 use std::alloc::{AllocError, Global};
 use std::marker::Model;
 

@@ -6,15 +6,11 @@ ghost use Rattle.dw_list.specs.inner.GivenLine.{SomePassed, IsNotAhead, IsUnlist
 
 use crate::next_moves::keeps;
 use crate::stack::{Candidate, Stack, Task};
-use dw_board::board::Board;
-use dw_board::position::Position;
-use dw_memo::memo::Memo;
-use dw_moves::laws::{moves_have_keys, moves_listed, same_move};
-use dw_moves::moves::Move;
-use dw_solve::guide::Guide;
-use dw_solve::laws::searches_add_up;
-use dw_solve::solver::Solver;
-use dw_solve::stop::Stop;
+use dw_board::{Board, Position};
+use dw_memo::Memo;
+use dw_moves::Move;
+use dw_moves::laws::same_move;
+use dw_solve::{Guide, Solver, Stop};
 use std::alloc::Global;
 
 /// What a list of moves is.
@@ -39,9 +35,9 @@ pub(crate) fn followed<B: Board, M: Memo<B>, G: Guide<B>>(
     ensures found { IfOk result (λ found. IsGivenLine B.geometry position.now moves line.now found) }
     ensures asked { Asked B.geometry M.content M.dropped moves solver.old solver.new result }
 {
-    searches_add_up();
-    moves_listed();
-    moves_have_keys();
+    dw_solve::laws::searches_add_up();
+    dw_moves::laws::moves_listed();
+    dw_moves::laws::moves_have_keys();
     solver.keeps_its_limit();
     let mut stack = Stack::new(position, moves);
     stack.keeps_its_levels();
@@ -75,7 +71,7 @@ fn follow<B: Board, M: Memo<B>, G: Guide<B>>(
     ensures barred { IfOk result (λ yes. (IsTrue yes → ⊥) → GoOnWith B.geometry stack.old.levels mv.now → ⊥) }
     ensures asked { Asked B.geometry M.content M.dropped stack.old.moves solver.old solver.new result }
 {
-    searches_add_up();
+    dw_solve::laws::searches_add_up();
     solver.keeps_its_limit();
     stack.list(alloc)?;
     let Some(candidate) = seek(stack, mv) else {

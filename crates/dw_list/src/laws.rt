@@ -3,9 +3,6 @@ ghost use Rattle.dw_list.specs.Laws.{NoneBegins, LinesExist, LineOrPlace, GivenI
 
 pub mod tokens;
 
-use dw_moves::laws::{moves_have_keys, moves_in_order, moves_listed};
-use dw_solve::laws::wins_are_decided;
-
 /// No line begins another.
 /// Example: at `W:W27,45:B16`, within 2 moves, `45-40`, `16-21`, `27x16` is a line, and so `45-40`, `16-21` is none.
 pub fn none_begins()
@@ -17,10 +14,10 @@ pub fn none_begins()
 pub fn lines_exist()
     ensures { LinesExist }
 {
-    moves_listed();
-    moves_in_order();
-    moves_have_keys();
-    wins_are_decided();
+    dw_moves::laws::moves_listed();
+    dw_moves::laws::moves_in_order();
+    dw_moves::laws::moves_have_keys();
+    dw_solve::laws::wins_are_decided();
 }
 
 /// A list of moves is a line or has a place at which it leaves all lines, never both, and it has one place only.
@@ -28,8 +25,8 @@ pub fn lines_exist()
 pub fn line_or_place()
     ensures { LineOrPlace }
 {
-    moves_listed();
-    wins_are_decided();
+    dw_moves::laws::moves_listed();
+    dw_solve::laws::wins_are_decided();
 }
 
 /// Lines that a lister gives in one call and then in another are given one after another; a call that gives none leaves

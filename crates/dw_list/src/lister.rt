@@ -9,13 +9,10 @@ use crate::fault::AfterFault;
 use crate::given_line::{GivenLine, followed};
 use crate::stack::Stack;
 use crate::walk::walk;
-use dw_board::board::Board;
-use dw_board::position::Position;
-use dw_memo::memo::Memo;
-use dw_moves::moves::Move;
-use dw_solve::guide::Guide;
-use dw_solve::solver::Solver;
-use dw_solve::stop::Stop;
+use dw_board::{Board, Position};
+use dw_memo::Memo;
+use dw_moves::Move;
+use dw_solve::{Guide, Solver, Stop};
 use std::alloc::Global;
 
 /// The lines of a position in ascending order, each once, without a list of them. It borrows the solver that answers

@@ -3,12 +3,9 @@ ghost use Rattle.std.specs.Prelude.{◌≡◌, ◌≤◌, ◌↔◌, IfOk, IsTru
 ghost use Rattle.dw_list.specs.inner.Ways.{Keeps, left_after};
 ghost use Rattle.dw_solve.specs.Asking.{Asked};
 
-use dw_board::board::Board;
-use dw_board::position::Position;
-use dw_memo::memo::Memo;
-use dw_solve::guide::Guide;
-use dw_solve::solver::Solver;
-use dw_solve::stop::Stop;
+use dw_board::{Board, Position};
+use dw_memo::Memo;
+use dw_solve::{Guide, Solver, Stop};
 use std::alloc::Global;
 
 /// Whether lines go on with a legal move that leads to this position: with each of the defender's, and with each of the

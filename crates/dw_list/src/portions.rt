@@ -6,11 +6,11 @@ ghost use Rattle.dw_list.specs.StackWalk.{Gives};
 
 use crate::lister::Lister;
 use arrayvec::ArrayVec;
-use dw_board::board::Board;
-use dw_memo::memo::Memo;
-use dw_moves::moves::Move;
-use dw_notation::line_text::MAX_MOVES;
-use dw_solve::guide::Guide;
+use dw_board::Board;
+use dw_memo::Memo;
+use dw_moves::Move;
+use dw_notation::MAX_MOVES;
+use dw_solve::Guide;
 use std::alloc::Global;
 
 /// What a lister gave under a list of limits.

@@ -8,11 +8,10 @@ ghost use Rattle.dw_list.specs.inner.Steps.{begun};
 use crate::frame::Frame;
 use crate::next_moves::left_behind;
 use arrayvec::ArrayVec;
-use dw_board::board::Board;
-use dw_board::position::Position;
-use dw_moves::moves::Move;
+use dw_board::{Board, Position};
+use dw_moves::Move;
 use dw_moves::play::play as played;
-use dw_notation::line_text::MAX_MOVES;
+use dw_notation::MAX_MOVES;
 use std::alloc::{AllocError, Global};
 use std::marker::Model;
 

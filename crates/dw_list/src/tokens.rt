@@ -10,13 +10,9 @@ ghost use Rattle.dw_notation.specs.Writes.{StopsShort};
 ghost use Rattle.dw_list.specs.Tokens as tokens;
 
 use arrayvec::ArrayVec;
-use dw_board::board::Board;
-use dw_board::square::Square;
-use dw_board::squares::Squares;
-use dw_moves::moves::Move;
-use dw_notation::line_text::MAX_MOVES;
-use dw_notation::streams::Sink;
-use dw_notation::writes::{WriteFault, write_all};
+use dw_board::{Board, Square, Squares};
+use dw_moves::Move;
+use dw_notation::{MAX_MOVES, Sink, WriteFault, write_all};
 use hex::{decode_to_slice, encode_to_slice};
 use thiserror::Error;
 

@@ -6,13 +6,9 @@ ghost use Rattle.dw_list.specs.inner.StackWalk.{HasStepped, GivesNext};
 
 use crate::next_moves::keeps;
 use crate::stack::{Stack, Task};
-use dw_board::board::Board;
-use dw_memo::memo::Memo;
-use dw_moves::laws::moves_have_keys;
-use dw_solve::guide::Guide;
-use dw_solve::laws::searches_add_up;
-use dw_solve::solver::Solver;
-use dw_solve::stop::Stop;
+use dw_board::Board;
+use dw_memo::Memo;
+use dw_solve::{Guide, Solver, Stop};
 use std::alloc::Global;
 
 /// What one step of a walk met.
@@ -36,8 +32,8 @@ pub(crate) fn walk<B: Board, M: Memo<B>, G: Guide<B>>(
     ensures stopped { OnErr result (SameToCome B.geometry stack.old stack.new) }
     ensures asked { Asked B.geometry M.content M.dropped stack.old.moves solver.old solver.new result }
 {
-    searches_add_up();
-    moves_have_keys();
+    dw_solve::laws::searches_add_up();
+    dw_moves::laws::moves_have_keys();
     solver.keeps_its_limit();
     'steps: loop {
         match take_step(alloc, solver, stack)? {
@@ -58,7 +54,7 @@ fn take_step<B: Board, M: Memo<B>, G: Guide<B>>(
     ensures stopped { OnErr result (stack.new ≡ stack.old) }
     ensures asked { Asked B.geometry M.content M.dropped stack.old.moves solver.old solver.new result }
 {
-    searches_add_up();
+    dw_solve::laws::searches_add_up();
     solver.keeps_its_limit();
     stack.keeps_its_levels();
     match stack.task() {

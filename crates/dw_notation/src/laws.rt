@@ -3,15 +3,12 @@ ghost use Rattle.dw_notation.specs.Problems.{TextsHaveProblems, EndedComeFirst};
 ghost use Rattle.dw_notation.specs.TextLaws.{MovesHaveTexts, EndsTell, LinesHaveTexts};
 ghost use Rattle.dw_notation.specs.MoveReadingLaws.{NamesOneThing, HasOneAnswer, WrittenMoveIsNamed, WrittenMoveIsRead};
 
-use dw_board::laws::reading_is_grammar;
-use dw_moves::laws::{legal_moves_take, moves_have_keys, moves_in_order, one_best, path_tells};
-
 /// Each text has its problems, and no others.
 /// Example: `{x}*[FEN "W:W32:B28"]` is a comment, another byte and a section, and has the problem of the section.
 pub fn texts_have_problems()
     ensures { TextsHaveProblems }
 {
-    reading_is_grammar();
+    dw_board::laws::reading_is_grammar();
 }
 
 /// The problems that end in a text come first among those of each text that begins so, under the same numbers.
@@ -19,7 +16,7 @@ pub fn texts_have_problems()
 pub fn ended_come_first()
     ensures { EndedComeFirst }
 {
-    reading_is_grammar();
+    dw_board::laws::reading_is_grammar();
 }
 
 /// Each legal move of a position has a text, and only one; different moves have different texts.
@@ -27,11 +24,11 @@ pub fn ended_come_first()
 pub fn moves_have_texts()
     ensures { MovesHaveTexts }
 {
-    moves_in_order();
-    path_tells();
-    one_best();
-    moves_have_keys();
-    legal_moves_take();
+    dw_moves::laws::moves_in_order();
+    dw_moves::laws::path_tells();
+    dw_moves::laws::one_best();
+    dw_moves::laws::moves_have_keys();
+    dw_moves::laws::legal_moves_take();
 }
 
 /// A quiet move, and a capture of one piece, are always written by their ends: no other legal move shares them.
@@ -39,11 +36,11 @@ pub fn moves_have_texts()
 pub fn ends_tell()
     ensures { EndsTell }
 {
-    moves_in_order();
-    path_tells();
-    one_best();
-    moves_have_keys();
-    legal_moves_take();
+    dw_moves::laws::moves_in_order();
+    dw_moves::laws::path_tells();
+    dw_moves::laws::one_best();
+    dw_moves::laws::moves_have_keys();
+    dw_moves::laws::legal_moves_take();
 }
 
 /// Moves that can be played one after another have a text as a line, and only one.
@@ -67,8 +64,8 @@ pub fn written_moves_are_read()
     ensures named { WrittenMoveIsNamed }
     ensures read { WrittenMoveIsRead }
 {
-    path_tells();
-    one_best();
-    moves_have_keys();
-    legal_moves_take();
+    dw_moves::laws::path_tells();
+    dw_moves::laws::one_best();
+    dw_moves::laws::moves_have_keys();
+    dw_moves::laws::legal_moves_take();
 }

@@ -9,11 +9,9 @@ ghost use Rattle.dw_notation.specs.inner.WrittenMoves.{after_moves, len_to, end_
 
 use crate::move_text::{MOVE_ROOM, text_in};
 use arrayvec::{ArrayString, ArrayVec};
-use dw_board::board::Board;
-use dw_board::piece::Side;
-use dw_board::position::Position;
+use dw_board::{Board, Position, Side};
+use dw_moves::Move;
 use dw_moves::laws::same_move;
-use dw_moves::moves::Move;
 use dw_moves::play::play as played;
 use itoa::Buffer;
 use std::alloc::{AllocError, Global};

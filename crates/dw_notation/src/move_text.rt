@@ -5,13 +5,10 @@ ghost use Rattle.dw_moves.specs.Moves.{Legal};
 ghost use Rattle.dw_notation.specs.Text.{IsMoveText, squares_text, text_among, shares_ends as are_shared};
 ghost use Rattle.dw_notation.specs.inner.LineWords.{HasStep};
 
-use crate::laws::ends_tell;
 use arrayvec::ArrayString;
-use dw_board::board::Board;
-use dw_board::position::Position;
-use dw_board::square::Square;
+use dw_board::{Board, Position, Square};
 use dw_moves::listed::listed;
-use dw_moves::moves::{Listed, Move};
+use dw_moves::{Listed, Move};
 use itoa::Buffer;
 use std::alloc::{AllocError, Global};
 
@@ -51,7 +48,7 @@ pub fn text_in<B: Board>(
     ensures text { IfOk result (λ text. IsMoveText B.geometry position.now mv.now text.bytes) }
     ensures short { IfOk result (λ text. length text.bytes ≤ 62) }
 {
-    ends_tell();
+    crate::laws::ends_tell();
     let squares = [mv.from, mv.to];
     match mv.taken.count() {
         0 => Ok(squares_text(&squares, '-')),

@@ -7,9 +7,7 @@ mod fens;
 mod pdn;
 mod reader;
 
-use dw_board::board::Board;
-use dw_board::fen::fault::FenFault;
-use dw_board::position::Position;
+use dw_board::{Board, FenFault, Position};
 pub use reader::Problems;
 use thiserror::Error;
 

@@ -7,13 +7,11 @@ ghost use Rattle.dw_notation.specs.MoveReading.{Names, QuietMove, Capture, IsAns
 ghost use Rattle.dw_notation.specs.inner.MoveReader.{Begins, BeginsNowhere, IsOnly, Takes};
 
 use arrayvec::ArrayVec;
-use dw_board::board::Board;
 use dw_board::fen::numbers::{digits_at, square_named};
-use dw_board::position::Position;
-use dw_board::square::Square;
+use dw_board::{Board, Position, Square};
 use dw_moves::follow::follow;
-use dw_moves::legal::{is_legal, legal};
-use dw_moves::moves::Move;
+use dw_moves::legal::legal;
+use dw_moves::{Move, is_legal};
 use std::alloc::{AllocError, Global};
 use thiserror::Error;
 

@@ -8,17 +8,12 @@ ghost use Rattle.dw_report.specs.inner.Judging.{LeadsToChoices, ComesToChoices, 
 use crate::keys::keys;
 use crate::verdict::MAX_BEFORE;
 use arrayvec::ArrayVec;
-use dw_board::board::Board;
-use dw_board::position::Position;
-use dw_memo::memo::Memo;
-use dw_moves::laws::moves_have_keys;
+use dw_board::{Board, Position};
+use dw_memo::Memo;
+use dw_moves::Move;
 use dw_moves::listed::listed;
-use dw_moves::moves::Move;
 use dw_moves::play::play;
-use dw_solve::guide::Guide;
-use dw_solve::laws::searches_add_up;
-use dw_solve::solver::Solver;
-use dw_solve::stop::Stop;
+use dw_solve::{Guide, Solver, Stop};
 use std::alloc::Global;
 
 /// A choice: the moves that lead to it, and the moves that all win there, in order.
@@ -45,8 +40,8 @@ pub(crate) fn first_choice<B: Board, M: Memo<B>, G: Guide<B>>(
         (option_map parts_of found)) }
     ensures asked { Asked B.geometry M.content M.dropped moves solver.old solver.new result }
 {
-    searches_add_up();
-    moves_have_keys();
+    dw_solve::laws::searches_add_up();
+    dw_moves::laws::moves_have_keys();
     solver.keeps_its_limit();
     'keys: for key in keys {
         let after = play(position, key);
@@ -72,8 +67,8 @@ fn choice_after_reply<B: Board, M: Memo<B>, G: Guide<B>>(
         (option_map parts_of found)) }
     ensures asked { Asked B.geometry M.content M.dropped left solver.old solver.new result }
 {
-    searches_add_up();
-    moves_have_keys();
+    dw_solve::laws::searches_add_up();
+    dw_moves::laws::moves_have_keys();
     solver.keeps_its_limit();
     let list = listed(alloc, position)?;
     'replies: for item in list.as_slice() {
@@ -100,8 +95,8 @@ fn choice_from<B: Board, M: Memo<B>, G: Guide<B>>(
         (option_map parts_of found)) }
     ensures asked { Asked B.geometry M.content M.dropped left solver.old solver.new result }
 {
-    searches_add_up();
-    moves_have_keys();
+    dw_solve::laws::searches_add_up();
+    dw_moves::laws::moves_have_keys();
     let choices = keys(alloc, solver, position, left)?;
     if choices.len() >= 2 {
         let at = ArrayVec::new();

@@ -14,15 +14,10 @@ use crate::dual::first_choice;
 use crate::keys::keys;
 use crate::tries::tries;
 use crate::verdict::{Judged, Verdict};
-use dw_board::board::Board;
-use dw_board::position::Position;
-use dw_list::laws::lines_exist;
-use dw_memo::memo::Memo;
-use dw_moves::moves::Move;
-use dw_solve::guide::Guide;
-use dw_solve::laws::searches_add_up;
-use dw_solve::solver::Solver;
-use dw_solve::stop::Stop;
+use dw_board::{Board, Position};
+use dw_memo::Memo;
+use dw_moves::Move;
+use dw_solve::{Guide, Solver, Stop};
 use std::alloc::Global;
 
 /// The verdict on a position and its tries, for a win within so many moves of the side to move, 1 to 20.
@@ -64,7 +59,7 @@ fn judged<B: Board, M: Memo<B>, G: Guide<B>>(
     ensures tries { IfOk result (λ judged. Tries B.geometry position.now moves judged.tries.items) }
     ensures asked { Asked B.geometry M.content M.dropped moves solver.old solver.new result }
 {
-    searches_add_up();
+    dw_solve::laws::searches_add_up();
     let verdict = verdict(alloc, solver, position, moves)?;
     let tries = tries(alloc, solver, position, moves)?;
     Ok(Judged { verdict, tries })
@@ -82,7 +77,7 @@ pub(crate) fn verdict<B: Board, M: Memo<B>, G: Guide<B>>(
     ensures verdict { IfOk result (λ verdict. IsVerdict B.geometry position.now moves (said_by verdict)) }
     ensures asked { Asked B.geometry M.content M.dropped moves solver.old solver.new result }
 {
-    searches_add_up();
+    dw_solve::laws::searches_add_up();
     let keys = keys(alloc, solver, position, moves)?;
     if keys.is_empty() {
         Ok(Verdict::Unsolvable)
@@ -107,8 +102,8 @@ fn with_one_key<B: Board, M: Memo<B>, G: Guide<B>>(
     ensures verdict { IfOk result (λ verdict. IsVerdict B.geometry position.now moves (said_by verdict)) }
     ensures asked { Asked B.geometry M.content M.dropped moves solver.old solver.new result }
 {
-    searches_add_up();
-    lines_exist();
+    dw_solve::laws::searches_add_up();
+    dw_list::laws::lines_exist();
     if solver.wins(alloc, position, moves - 1)? {
         return cooked(alloc, solver, position, moves, keys);
     }

@@ -15,26 +15,17 @@ ghost use Rattle.dw_report.specs.Running.{AreLinesOf};
 ghost use Rattle.dw_report.specs.inner.Running.{TextEnds, SinkEnds, Spends};
 
 use crate::judge::verdict;
-use crate::laws::{one_verdict, tries_are_listed};
 use crate::problem::TextFault;
 use crate::tries::refutation;
 use crate::verdict::Verdict;
-use dw_board::board::Board;
-use dw_board::position::Position;
-use dw_memo::memo::Memo;
-use dw_moves::laws::{moves_have_keys, moves_in_order};
+use dw_board::{Board, Position};
+use dw_memo::Memo;
+use dw_moves::Move;
 use dw_moves::listed::listed;
-use dw_moves::moves::Move;
 use dw_moves::play::play;
-use dw_notation::laws::{lines_have_texts, moves_have_texts};
 use dw_notation::line_text::line_text;
-use dw_notation::move_text::text_in;
-use dw_notation::streams::Sink;
-use dw_notation::writes::write_all;
-use dw_solve::guide::Guide;
-use dw_solve::laws::wins_are_decided;
-use dw_solve::lineup::Lineup;
-use dw_solve::solver::Solver;
+use dw_notation::{Sink, text_in, write_all};
+use dw_solve::{Guide, Lineup, Solver};
 use itoa::Buffer;
 use std::alloc::{AllocError, Global};
 
@@ -54,10 +45,10 @@ pub(crate) fn write_judged<B: Board, K: Sink, M: Memo<B>, G: Guide<B>>(
     ensures sink { SinkEnds (K.is_failed sink.old) (K.is_failed sink.new) result }
     ensures spends { Spends solver.old solver.new result }
 {
-    one_verdict();
-    tries_are_listed();
-    moves_have_texts();
-    lines_have_texts();
+    crate::laws::one_verdict();
+    crate::laws::tries_are_listed();
+    dw_notation::laws::moves_have_texts();
+    dw_notation::laws::lines_have_texts();
     write_verdict(alloc, sink, solver, position, moves)?;
     write_tries(alloc, sink, solver, position, moves)
 }
@@ -98,10 +89,10 @@ fn write_tries<B: Board, K: Sink, M: Memo<B>, G: Guide<B>>(
     ensures sink { SinkEnds (K.is_failed sink.old) (K.is_failed sink.new) result }
     ensures spends { Spends solver.old solver.new result }
 {
-    wins_are_decided();
-    moves_in_order();
-    moves_have_keys();
-    moves_have_texts();
+    dw_solve::laws::wins_are_decided();
+    dw_moves::laws::moves_in_order();
+    dw_moves::laws::moves_have_keys();
+    dw_notation::laws::moves_have_texts();
     solver.keeps_its_limit();
     let mut lineup = Lineup::new(alloc);
     let list = listed(alloc, position)?;

@@ -3,16 +3,12 @@ ghost use Rattle.std.specs.Prelude.{◌≡◌, ◌≤◌, ◌++◌, ◌∷◌, [
 ghost use Rattle.dw_solve.specs.Asking.{Asked};
 ghost use Rattle.dw_report.specs.Verdict.{Keys};
 
-use dw_board::board::Board;
-use dw_board::position::Position;
-use dw_memo::memo::Memo;
+use dw_board::{Board, Position};
+use dw_memo::Memo;
+use dw_moves::Move;
 use dw_moves::listed::listed;
-use dw_moves::moves::Move;
 use dw_moves::play::play;
-use dw_solve::guide::Guide;
-use dw_solve::laws::searches_add_up;
-use dw_solve::solver::Solver;
-use dw_solve::stop::Stop;
+use dw_solve::{Guide, Solver, Stop};
 use std::alloc::{AllocError, Global};
 
 /// All moves after which the other side has lost, within so many moves of the side to move, in order.
@@ -26,7 +22,7 @@ pub(crate) fn keys<B: Board, M: Memo<B>, G: Guide<B>>(
     ensures keys { IfOk result (λ keys. Keys B.geometry position.now moves keys.items) }
     ensures asked { Asked B.geometry M.content M.dropped moves solver.old solver.new result }
 {
-    searches_add_up();
+    dw_solve::laws::searches_add_up();
     solver.keeps_its_limit();
     let mut keys = Vec::new(alloc);
     if moves == 0 {

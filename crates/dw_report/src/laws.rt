@@ -2,26 +2,21 @@
 ghost use Rattle.dw_report.specs.Laws.{OneReport};
 ghost use Rattle.dw_report.specs.VerdictLaws.{OneVerdict, TriesAreListed};
 
-use dw_list::laws::{line_or_place, lines_exist};
-use dw_moves::laws::{moves_have_keys, moves_in_order, moves_listed, one_best};
-use dw_notation::laws::{lines_have_texts, moves_have_texts, texts_have_problems};
-use dw_solve::laws::{wins_are_decided, wins_stay};
-
 /// If a line at least is asked for, each byte text has a report, and only one.
 /// Example: the report on a text without a byte is empty.
 pub fn one_report()
     ensures { OneReport }
 {
-    moves_in_order();
-    moves_have_keys();
-    one_best();
+    dw_moves::laws::moves_in_order();
+    dw_moves::laws::moves_have_keys();
+    dw_moves::laws::one_best();
     one_verdict();
     tries_are_listed();
-    lines_exist();
-    line_or_place();
-    moves_have_texts();
-    lines_have_texts();
-    texts_have_problems();
+    dw_list::laws::lines_exist();
+    dw_list::laws::line_or_place();
+    dw_notation::laws::moves_have_texts();
+    dw_notation::laws::lines_have_texts();
+    dw_notation::laws::texts_have_problems();
 }
 
 /// Each problem has a verdict, and only one.
@@ -29,12 +24,12 @@ pub fn one_report()
 pub fn one_verdict()
     ensures { OneVerdict }
 {
-    moves_listed();
-    moves_in_order();
-    moves_have_keys();
-    wins_are_decided();
-    wins_stay();
-    lines_exist();
+    dw_moves::laws::moves_listed();
+    dw_moves::laws::moves_in_order();
+    dw_moves::laws::moves_have_keys();
+    dw_solve::laws::wins_are_decided();
+    dw_solve::laws::wins_stay();
+    dw_list::laws::lines_exist();
 }
 
 /// Each problem has a list of its tries, and only one.
@@ -42,7 +37,7 @@ pub fn one_verdict()
 pub fn tries_are_listed()
     ensures { TriesAreListed }
 {
-    moves_in_order();
-    moves_have_keys();
-    wins_are_decided();
+    dw_moves::laws::moves_in_order();
+    dw_moves::laws::moves_have_keys();
+    dw_solve::laws::wins_are_decided();
 }

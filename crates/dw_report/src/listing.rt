@@ -22,21 +22,12 @@ ghost use Rattle.dw_report.specs.declared.problem.TextFault.TheVariants as becau
 use crate::problem::TextFault;
 use crate::settings::{Command, Settings};
 use arrayvec::{ArrayString, ArrayVec};
-use dw_board::board::Board;
-use dw_board::position::Position;
-use dw_list::fault::AfterFault;
-use dw_list::laws::{given_in_turn, line_or_place, lines_exist};
-use dw_list::lister::Lister;
-use dw_list::tokens::write_token;
-use dw_memo::memo::Memo;
-use dw_moves::moves::Move;
-use dw_notation::laws::lines_have_texts;
-use dw_notation::line_text::{LINE_ROOM, LineText, MAX_MOVES};
-use dw_notation::streams::Sink;
-use dw_notation::writes::{WriteFault, write_all};
-use dw_solve::guide::Guide;
-use dw_solve::solver::Solver;
-use dw_solve::stop::Stop;
+use dw_board::{Board, Position};
+use dw_list::{AfterFault, Lister, write_token};
+use dw_memo::Memo;
+use dw_moves::Move;
+use dw_notation::{LINE_ROOM, LineText, MAX_MOVES, Sink, WriteFault, write_all};
+use dw_solve::{Guide, Solver, Stop};
 use itoa::Buffer;
 use std::alloc::Global;
 
@@ -93,7 +84,7 @@ fn write_asked<B: Board, K: Sink, M: Memo<B>, G: Guide<B>>(
     ensures refused { IfOk result (λ refused. IsTrue refused
         ↔ IsNoLine B.geometry position.now settings.now.n (request_of settings.now).after) }
 {
-    lines_exist();
+    dw_list::laws::lines_exist();
     match &settings.after {
         None => {
             write_listing(alloc, sink, lister, position, settings.lines)?;
@@ -131,9 +122,9 @@ fn write_after<B: Board, K: Sink, M: Memo<B>, G: Guide<B>>(
     ensures refused { IfOk result (λ refused. IsTrue refused
         ↔ IsNoLine B.geometry position.now (stack_of lister.old).moves (Some line.now)) }
 {
-    lines_exist();
-    line_or_place();
-    lines_have_texts();
+    dw_list::laws::lines_exist();
+    dw_list::laws::line_or_place();
+    dw_notation::laws::lines_have_texts();
     match lister.after(alloc, line) {
         Err(AfterFault::Stopped(stop)) => Err(TextFault::Stopped(stop)),
         Err(AfterFault::NotALine(place)) => {
@@ -165,8 +156,8 @@ fn write_listing<B: Board, K: Sink, M: Memo<B>, G: Guide<B>>(
     ensures sink { SinkEnds (K.is_failed sink.old) (K.is_failed sink.new) result }
     ensures spends { Spends (solver_of lister.old) (solver_of lister.new) result }
 {
-    lines_have_texts();
-    given_in_turn();
+    dw_notation::laws::lines_have_texts();
+    dw_list::laws::given_in_turn();
     let mut text = LineText::new(position);
     let mut row = ArrayString::new();
     let mut last = ArrayVec::new();
@@ -241,7 +232,7 @@ fn write_row<B: Board, K: Sink>(
     ensures sink { SinkEnds (K.is_failed sink.old) (K.is_failed sink.new) result }
     ensures memory { (why : Stop) → result ≡ Err (because.Stopped why) → why ≡ Stop.Memory }
 {
-    lines_have_texts();
+    dw_notation::laws::lines_have_texts();
     text.follow(alloc, line)?;
     fill_row(row, text);
     write_all(sink, row.as_str().as_bytes())?;

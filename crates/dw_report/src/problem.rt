@@ -11,22 +11,15 @@ ghost use Rattle.dw_report.specs.inner.Running.{TextEnds, SinkEnds, SearchesFor,
 ghost use Rattle.dw_report.specs.Running.{IsNoLine};
 
 use crate::judged::write_judged;
-use crate::laws::one_report;
 use crate::listing::write_lines;
 use crate::settings::{Command, Settings};
 use crate::text::{count_line, known_text, move_line};
-use dw_board::board::Board;
-use dw_board::position::Position;
-use dw_memo::memo::Memo;
+use dw_board::{Board, Position};
+use dw_memo::Memo;
 use dw_moves::best::best;
-use dw_moves::laws::moves_in_order;
 use dw_moves::listed::listed;
-use dw_notation::problems::Problem;
-use dw_notation::streams::Sink;
-use dw_notation::writes::{WriteFault, write_all};
-use dw_solve::guide::Guide;
-use dw_solve::solver::Solver;
-use dw_solve::stop::Stop;
+use dw_notation::{Problem, Sink, WriteFault, write_all};
+use dw_solve::{Guide, Solver, Stop};
 use std::alloc::{AllocError, Global};
 use thiserror::Error;
 
@@ -87,7 +80,7 @@ pub(crate) fn write_problem<B: Board, K: Sink, M: Memo<B>, G: Guide<B>>(
     ensures refused { IfOk result (λ refused. IsTrue refused
         ↔ IsRefused B.geometry (request_of settings.now) (numbered problem.now).found) }
 {
-    one_report();
+    crate::laws::one_report();
     solver.keeps_its_limit();
     let known = known_text(problem, settings.command);
     write_all(sink, known.as_str().as_bytes())?;
@@ -143,7 +136,7 @@ fn write_moves<B: Board, K: Sink>(
     ensures sink { SinkEnds (K.is_failed sink.old) (K.is_failed sink.new) result }
     ensures memory { (why : Stop) → result ≡ Err (because.Stopped why) → why ≡ stops.Memory }
 {
-    moves_in_order();
+    dw_moves::laws::moves_in_order();
     let taken = best(position);
     let list = listed(alloc, position)?;
     let moves = list.as_slice();

@@ -8,15 +8,12 @@ ghost use Rattle.dw_report.specs.Running.{RunEnds, StopsRightly, IsPartOn};
 ghost use Rattle.dw_report.specs.inner.Running.{TextEnds, SinkEnds, SearchesFor, CountsOne, IsSound, HasRoom};
 ghost use Rattle.dw_report.specs.inner.Running.{ended_by};
 
-use crate::laws::one_report;
 use crate::problem::{TextFault, write_problem};
 use crate::settings::{RunFault, Settings, Summary};
-use dw_board::board::Board;
-use dw_memo::memo::Memo;
-use dw_notation::problems::{Problem, Problems};
-use dw_notation::streams::{Sink, Source};
-use dw_solve::guide::Guide;
-use dw_solve::solver::Solver;
+use dw_board::Board;
+use dw_memo::Memo;
+use dw_notation::{Problem, Problems, Sink, Source};
+use dw_solve::{Guide, Solver};
 use std::alloc::Global;
 
 /// Writes the report on the problems of the source: of each chosen problem its whole text, in order. One solver over
@@ -74,7 +71,7 @@ fn write_report<B: Board, S: Source, K: Sink, M: Memo<B>, G: Guide<B>>(
     ensures write { result ≡ Err RunFault.Write → K.is_failed sink.new ≡ true }
     ensures stopped { StopsRightly settings.now.command solver.old.limit result }
 {
-    one_report();
+    crate::laws::one_report();
     let mut problems = Problems::<B, S>::new(source, settings.form);
     let mut summary = Summary::default();
     'problems: loop {

@@ -3,10 +3,9 @@ ghost use Rattle.std.specs.Prelude.{◌≡◌};
 ghost use Rattle.dw_report.specs.Request.{number_is_chosen, number_is_asked};
 
 use arrayvec::ArrayVec;
-use dw_board::board::Board;
-use dw_moves::moves::Move;
-use dw_notation::line_text::MAX_MOVES;
-use dw_notation::problems::Form;
+use dw_board::Board;
+use dw_moves::Move;
+use dw_notation::{Form, MAX_MOVES};
 pub use dw_solve::stop::Stop;
 use thiserror::Error;
 

@@ -9,15 +9,12 @@ ghost use Rattle.dw_notation.specs.Problems.{numbered};
 
 use crate::settings::Command;
 use arrayvec::ArrayString;
-use dw_board::board::Board;
 use dw_board::diagram::{DIAGRAM_ROOM, diagram};
-use dw_board::fen::fault::{FenFault, FenFaultKind};
-use dw_board::fen::write::fen_text;
-use dw_board::position::Position;
-use dw_moves::moves::Listed;
+use dw_board::{Board, FenFault, FenFaultKind, Position, fen_text};
+use dw_moves::Listed;
 use dw_moves::play::play;
 use dw_notation::move_text::move_text;
-use dw_notation::problems::{Problem, ProblemFault};
+use dw_notation::{Problem, ProblemFault};
 use itoa::Buffer;
 
 /// The bytes that suffice for what is known at once of a problem's text.

@@ -5,17 +5,12 @@ ghost use Rattle.dw_report.specs.Verdict.{Tries};
 ghost use Rattle.dw_report.specs.inner.Judging.{FindsRefutation};
 
 use crate::keys::push;
-use dw_board::board::Board;
-use dw_board::position::Position;
-use dw_memo::memo::Memo;
+use dw_board::{Board, Position};
+use dw_memo::Memo;
+use dw_moves::Move;
 use dw_moves::listed::listed;
-use dw_moves::moves::Move;
 use dw_moves::play::play;
-use dw_solve::guide::Guide;
-use dw_solve::laws::searches_add_up;
-use dw_solve::lineup::Lineup;
-use dw_solve::solver::Solver;
-use dw_solve::stop::Stop;
+use dw_solve::{Guide, Lineup, Solver, Stop};
 use std::alloc::Global;
 
 /// The tries of a position within so many moves, 1 to 20, in order: each legal move that fails to one reply only, and
@@ -31,7 +26,7 @@ pub(crate) fn tries<B: Board, M: Memo<B>, G: Guide<B>>(
     ensures tries { IfOk result (λ tries. Tries B.geometry position.now moves tries.items) }
     ensures asked { Asked B.geometry M.content M.dropped moves solver.old solver.new result }
 {
-    searches_add_up();
+    dw_solve::laws::searches_add_up();
     solver.keeps_its_limit();
     let mut tries = Vec::new(alloc);
     let mut lineup = Lineup::new(alloc);
@@ -58,7 +53,7 @@ pub(crate) fn refutation<B: Board, M: Memo<B>, G: Guide<B>>(
     ensures found { IfOk result (FindsRefutation B.geometry position.now left) }
     ensures asked { Asked B.geometry M.content M.dropped left solver.old solver.new result }
 {
-    searches_add_up();
+    dw_solve::laws::searches_add_up();
     solver.keeps_its_limit();
     solver.line_up(position, lineup)?;
     let mut found = None;

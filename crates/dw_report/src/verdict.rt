@@ -1,8 +1,8 @@
 //! What is said of a problem.
 use arrayvec::ArrayVec;
-use dw_board::board::Board;
-use dw_moves::moves::Move;
-use dw_notation::line_text::MAX_MOVES;
+use dw_board::Board;
+use dw_moves::Move;
+use dw_notation::MAX_MOVES;
 
 /// The most moves before a choice: all of the longest line but the last.
 /// Example: after 38 moves of a win in 20 the attacker has one move left.

@@ -14,10 +14,7 @@ ghost use Rattle.dw_notation.specs.inner.Ahead.{passed_over, is_behind};
 
 use super::{MAX_LINE, ProblemFault};
 use arrayvec::ArrayVec;
-use dw_board::board::Board;
-use dw_board::fen::fault::{FenFault, FenFaultKind};
-use dw_board::fen::read::read_fen;
-use dw_board::position::Position;
+use dw_board::{Board, FenFault, FenFaultKind, Position, read_fen};
 
 /// A space or a tab.
 pub(super) fn is_blank_byte(byte: u8) -> bool

@@ -10,8 +10,7 @@ mod section;
 
 use super::ProblemFault;
 use automaton::{Action, State};
-use dw_board::board::Board;
-use dw_board::position::Position;
+use dw_board::{Board, Position};
 use section::HeldSection;
 
 /// What was cut off of a text of tags.

@@ -9,9 +9,7 @@ use super::fens::TextLines;
 use super::pdn::Sections;
 use super::{Form, MAX_PROBLEMS, MAX_READ, Problem, ProblemFault, ReadFault};
 use crate::streams::Source;
-use dw_board::board::Board;
-use dw_board::laws::reading_is_grammar;
-use dw_board::position::Position;
+use dw_board::{Board, Position};
 use std::marker::PhantomData;
 
 /// How far a text was read, by its form.
@@ -258,7 +256,7 @@ impl<'a, B: Board, S: Source> Problems<'a, B, S> {
         ensures met_end { (reader_of result).met_end ≡ false }
         ensures handed { (reader_of result).handed ≡ 0 }
     {
-        reading_is_grammar();
+        dw_board::laws::reading_is_grammar();
         Problems {
             source,
             cutter: Cutter::new(form),

@@ -8,9 +8,7 @@ use super::super::fens::is_blank_byte;
 use super::super::{MAX_SECTION, ProblemFault};
 use super::automaton::Action;
 use arrayvec::ArrayVec;
-use dw_board::board::Board;
-use dw_board::fen::read::read_fen;
-use dw_board::position::Position;
+use dw_board::{Board, Position, read_fen};
 
 /// How many bytes of a tag's name are kept: one more than the longest name that matters has.
 const NAME: usize = 9;
