@@ -29,8 +29,8 @@ use Rattle.dw_moves.proofs.GlanceSetLemmas.{AreKind}
 use Rattle.dw_moves.proofs.GlanceRunLemmas.{IsShifted}
 use Rattle.dw_moves.proofs.SlideLemmas.{ray_head}
 use Rattle.dw_moves.proofs.FirstJumpLemmas.{piece_is, kind_cases}
-use Rattle.dw_moves.proofs.TakesTheseLemmas.{contains-remove, not_removed}
-use Rattle.dw_moves.proofs.TakingLemmas.{out_of_rest, past_rest}
+use Rattle.dw_moves.proofs.SquareSetLemmas.{contains-remove, not_removed}
+use Rattle.dw_moves.proofs.SquareSetLemmas.{out_of_rest, past_rest}
 
 -- ---- lists to which is added
 pub adds_none : {X : Type 0} (made : ℕ → ℕ → X) (P : ℕ → ℕ → Type 0) (old : List X) → ((s t : ℕ) → P s t → ⊥)

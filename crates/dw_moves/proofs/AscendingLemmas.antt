@@ -2,7 +2,7 @@
 use Rattle.std.proofs.Common.{◌≡◌, ℕ, List, [], ◌∷◌, refl, sym, ap, ◌∙◌, subst, ◌⊎◌, inl, inr}
 use Rattle.dw_board.specs.Lists.{Member}
 use Rattle.dw_moves.specs.Order.{LexLess, IsAscending, IsListOf}
-use Rattle.dw_moves.proofs.LexLemmas.{lex_trans, lex_cases}
+use Rattle.dw_moves.specs.inner.LexLemmas.{lex_trans, lex_cases}
 
 -- two ascending lists with the same members are one
 pub ascending_only : {X : Type 0} (R : X → X → Type 0) → ((x y : X) → R x y → R y x → ⊥) → (xs ys : List X)

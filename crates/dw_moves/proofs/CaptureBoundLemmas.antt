@@ -25,7 +25,7 @@ abbrev pub held : Side → ℕ → List (Option Piece) → List ℕ
 held side n [] = []
 held side n (o ∷ os) = cond (is_of side o) (n ∷ held side (suc n) os) (held side (suc n) os)
 
-held_count : (side : Side) (n : ℕ) (cells : List (Option Piece)) → length (held side n cells)
+pub held_count : (side : Side) (n : ℕ) (cells : List (Option Piece)) → length (held side n cells)
     ≡ count_by (is_of side) cells
 held_count side n [] = refl
 held_count side n (o ∷ os) =
@@ -54,7 +54,7 @@ held_in side n (o ∷ os) (suc i) q e own =
     (held_in side (suc n) os i q e own) in
     elim (cases_Bool (is_of side o)) [ inl t ↦ rw t (inr m) | inr t ↦ rw t m ]
 
-at_held : (side : Side) (p : Placement) (s : ℕ) (q : Piece) → 1 ≤ s → at p s ≡ Some q → q.side ≡ side
+pub at_held : (side : Side) (p : Placement) (s : ℕ) (q : Piece) → 1 ≤ s → at p s ≡ Some q → q.side ≡ side
     → Member s (held side 1 p.cells)
 at_held side p s q low e own = let same : 1 + (s - 1) ≡ s = omega arith in subst (λ z. Member z (held side 1 p.cells))
     same (held_in side 1 p.cells (s - 1) q e own)

@@ -1,46 +1,77 @@
 -- What the walks found is the list of legal moves.
 use Rattle.std.proofs.Common.{◌≡◌, ℕ, ◌<◌, zero, suc, List, [], ◌∷◌, ◌++◌, length, map, refl, sym, ap, ◌∙◌, subst, inl}
-use Rattle.std.proofs.Common.{inr, arith, ◌↔◌}
+use Rattle.std.proofs.Common.{inr, arith, ◌↔◌, ◌≤◌}
 use Rattle.std.proofs.lemmas.Bool.{cases_lt}
 use Rattle.std.specs.FinSet as fin
 use Rattle.std.specs.Ordering.{nat_cmp}
-use Rattle.dw_board.specs.Geometry.{Geometry}
-use Rattle.dw_board.specs.Placement.{Placement}
-use Rattle.dw_moves.specs.Moves.{IsBest, Move, Quiet, IsPathOf, Legal, LegalAt, AreLegal, last_of}
+use Rattle.dw_board.specs.Geometry.{Geometry, IsBoard}
+use Rattle.dw_board.specs.Placement.{Placement, IsPosition, other}
+use Rattle.dw_moves.specs.Moves.{IsBest, CanCapture, Move, Quiet, Path, IsPathOf, Legal, LegalAt, AreLegal, last_of}
 use Rattle.dw_board.specs.Lists.{Member, NoRepeat}
 use Rattle.dw_moves.specs.inner.Plain.{quiet_to, Adds}
-use Rattle.dw_moves.specs.inner.Chains.{Taking, Longest, IsCapture}
+use Rattle.dw_moves.specs.Order.{Listed}
+use Rattle.dw_moves.specs.inner.KeptLemmas.{Is}
+use Rattle.dw_moves.specs.inner.Walks.{Captures, Either, Grows, Longest, Makes, MovesKept, number}
+use Rattle.dw_moves.proofs.CaptureBoundLemmas.{path_bound}
+use Rattle.dw_moves.proofs.GroundLemmas.{side_fits}
 use Rattle.dw_moves.proofs.LegalMoveLemmas.{best_only}
-use Rattle.dw_moves.proofs.TakesTheseLemmas.{len_list}
+use Rattle.dw_moves.proofs.SquareSetLemmas.{len_list}
 use Rattle.dw_moves.proofs.AddingLemmas.{AreQuiet, are_quiet, move_to}
 
 no_member : (ms : List Move) → ms ≡ [] → (m : Move) → Member m ms → ⊥
 no_member ms e m h = rw e at h
 
+-- a path that takes something is a capture
+abbrev capture_on : ℕ → List ℕ → List ℕ → Listed
+capture_on from ts cs =
+    record { step = record { from = from; to = last_of from ts; taken = fin.from_list cs }; path = from ∷ ts }
+
+pub captured : (g : Geometry) (p : Placement) (from : ℕ) (ts cs : List ℕ) → Path g p from ts cs → 0 < length cs
+    → (l : Listed) × Captures g p l × (number l ≡ length cs)
+captured g p from ts cs path some =
+    let count = len_list cs path.once in (
+      capture_on from ts cs,
+      record {
+        landings = ts;
+        some = omega (arith, count);
+        leads = record { over = cs; path = path; count = sym count; ends = refl; takes = refl };
+        path = refl;
+      },
+      count,
+    )
+
 -- the number reached is the greatest
-pub best_of : (g : Geometry) (p : Placement) (k : ℕ) (moves kept : List Move) → Longest (Taking g p) 0 moves k kept
-    → IsBest g p k
-best_of g p k moves kept h = record {
+pub best_of : (g : Geometry) (p : Placement) (k : ℕ) → Grows (Captures g p) 0 k → IsBest g p k
+best_of g p k h = record {
   reached = λ some. elim h.reached [
     | inl none ↦ absurd (omega arith)
-    | inr r ↦ let is = r.1.1.1 in (r.0.from, r.1.1.0, is.over, is.path, is.count)
+    | inr r ↦ let is = r.1.leads in (r.0.step.from, r.1.landings, is.over, is.path, is.count ∙ r.2)
   ];
   most = λ from ts cs path. elim (cases_lt 0 (length cs)) [
-    | inl some ↦ h.most (length cs) (record { from = from; to = last_of from ts; taken = fin.from_list cs })
-        (some, (ts, record { over = cs; path = path; count = refl; ends = refl; takes = refl }))
+    | inl some ↦
+        let c = captured g p from ts cs path some in
+        omega (arith, h.most c.0 c.1, c.2)
     | inr none ↦ omega arith
   ];
 }
+
+-- it is at most twenty
+pub best_small : (g : Geometry) → IsBoard g → (p : Placement) (k : ℕ) → IsPosition g p.cells → IsBest g p k → k ≤ 20
+best_small g board p k pos best = elim (cases_lt 0 k) [
+  | inl some ↦ let r = best.reached some in
+      omega (arith, path_bound g p r.0 r.1 r.2 r.3, r.4, side_fits g p (other p.turn) pos, board.side_high)
+  | inr none ↦ omega arith
+]
 
 empty_list : (ms : List Move) → ((m : Move) → Member m ms → ⊥) → ms ≡ []
 empty_list [] h = refl
 empty_list (m ∷ ms) h = absurd (h m (inl refl))
 
-none_kept : (g : Geometry) (p : Placement) (moves kept : List Move) → moves ≡ [] → Longest (Taking g p) 0 moves 0 kept
-    → kept ≡ []
+none_kept : (g : Geometry) (p : Placement) (moves kept : List Move) → moves ≡ []
+    → MovesKept (Captures g p) 0 moves 0 kept → kept ≡ []
 none_kept g p moves kept e h = empty_list kept (λ m x. elim ((h.exactly m).0 x) [
   | inl old ↦ no_member moves e m old.1
-  | inr taking ↦ omega (arith, taking.0)
+  | inr c ↦ omega (arith, c.1.some, c.2)
 ])
 
 pub quiet_from_legal : (g : Geometry) (p : Placement) (m : Move) → IsBest g p 0 → Legal g p m → Quiet g p m.from m.to
@@ -52,10 +83,10 @@ quiet_from_legal g p m best l = at_k l.0 (best_only g p l.0 0 l.1 best) l.2 wher
 
 -- nothing can be taken, and the quiet moves were added
 pub legal_quietly : (g : Geometry) (p : Placement) (k : ℕ) (moves kept now : List Move) → moves ≡ [] → k ≡ 0
-    → Longest (Taking g p) 0 moves k kept → Adds quiet_to (Quiet g p) kept now → AreLegal g p now
+    → MovesKept (Captures g p) 0 moves k kept → Adds quiet_to (Quiet g p) kept now → AreLegal g p now
 legal_quietly g p k moves kept now e none h added =
-    let zero_kept : Longest (Taking g p) 0 moves 0 kept = subst (λ z. Longest (Taking g p) 0 moves z kept) none h in
-    let best : IsBest g p 0 = best_of g p 0 moves kept zero_kept in
+    let zero_kept : MovesKept (Captures g p) 0 moves 0 kept = subst (λ z. MovesKept (Captures g p) 0 moves z kept) none h in
+    let best : IsBest g p 0 = best_of g p 0 zero_kept.grows in
     let all : now ≡ map move_to added.pairs = added.are ∙ ap (λ z. z ++ map move_to added.pairs)
     (none_kept g p moves kept e zero_kept) in
     let quiet : AreQuiet g p now = subst (AreQuiet g p) (sym all) (are_quiet g p added.pairs added.exactly
@@ -68,27 +99,63 @@ legal_quietly g p k moves kept now e none h added =
       once = quiet.once;
     }
 
-pub capture_from_legal : (g : Geometry) (p : Placement) (k : ℕ) (m : Move) → 0 < k → IsBest g p k → Legal g p m
-    → Taking g p k m
-capture_from_legal g p k m some best l = at_k l.0 (best_only g p l.0 k l.1 best) l.2 where
-  at_k : (j : ℕ) → j ≡ k → LegalAt g p j m → Taking g p k m
+-- m is a legal move by this path, if the greatest number is above 0
+pub legal_path : (g : Geometry) (p : Placement) (k : ℕ) (m : Move) → 0 < k → IsBest g p k → Legal g p m
+    → (landings : List ℕ) × IsPathOf g p m k landings
+legal_path g p k m some best l = at_k l.0 (best_only g p l.0 k l.1 best) l.2 where
+  at_k : (j : ℕ) → j ≡ k → LegalAt g p j m → (landings : List ℕ) × IsPathOf g p m k landings
   at_k zero e h = absurd (omega arith)
-  at_k (suc j) e h = subst (λ z. Taking g p z m) e (omega arith, h)
+  at_k (suc j) e h = subst (λ z. (landings : List ℕ) × IsPathOf g p m z landings) e h
 
-pub legal_from_capture : (g : Geometry) (p : Placement) (k : ℕ) (m : Move) → IsBest g p k → Taking g p k m → Legal g p m
-legal_from_capture g p zero m best h = absurd (omega (arith, h.0))
-legal_from_capture g p (suc k) m best h = (suc k, best, h.1)
+pub path_takes : (g : Geometry) (p : Placement) (k : ℕ) (m : Move) (landings : List ℕ) → IsPathOf g p m k landings
+    → fin.len m.taken ≡ k
+path_takes g p k m landings is = ap fin.len is.takes ∙ (len_list is.over is.path.once ∙ is.count)
+
+-- a path that takes the greatest number is a capture that does
+pub path_captures : (g : Geometry) (p : Placement) (k : ℕ) (m : Move) (landings : List ℕ) → 0 < k
+    → IsPathOf g p m k landings → Longest (Captures g p) k (Is (record { step = m; path = m.from ∷ landings }))
+path_captures g p k m landings some is =
+    let count : fin.len m.taken ≡ k = path_takes g p k m landings is in (
+      record { step = m; path = m.from ∷ landings },
+      record {
+        landings = landings;
+        some = omega (arith, count);
+        leads = subst (λ z. IsPathOf g p m z landings) (sym count) is;
+        path = refl;
+      },
+      count,
+      refl,
+    )
+
+pub capture_from_legal : (g : Geometry) (p : Placement) (k : ℕ) (m : Move) → 0 < k → IsBest g p k → Legal g p m
+    → Longest (Captures g p) k (Makes m)
+capture_from_legal g p k m some best l =
+    let way = legal_path g p k m some best l in
+    let c = path_captures g p k m way.0 some way.1 in
+    (c.0, c.1, c.2, ap (λ (z : Listed). z.step) c.3)
+
+pub legal_from_capture : (g : Geometry) (p : Placement) (k : ℕ) (m : Move) → IsBest g p k
+    → Longest (Captures g p) k (Makes m) → Legal g p m
+legal_from_capture g p k m best h = by_number k best (subst (λ z. (0 < z) × ((landings : List ℕ)
+    × IsPathOf g p m z landings)) h.2 (
+      h.1.some,
+      subst (λ z. (landings : List ℕ) × IsPathOf g p z (number h.0) landings)
+          h.3 (h.1.landings, h.1.leads),
+    )) where
+      by_number : (k : ℕ) → IsBest g p k → (0 < k) × ((landings : List ℕ) × IsPathOf g p m k landings) → Legal g p m
+      by_number zero best f = absurd (omega (arith, f.0))
+      by_number (suc k) best f = (suc k, best, f.1)
 
 -- something can be taken
 pub legal_captures : (g : Geometry) (p : Placement) (k : ℕ) (moves kept : List Move) → moves ≡ [] → 0 < k
-    → Longest (Taking g p) 0 moves k kept → AreLegal g p kept
+    → MovesKept (Captures g p) 0 moves k kept → AreLegal g p kept
 legal_captures g p k moves kept e some h =
-    let best : IsBest g p k = best_of g p k moves kept h in
+    let best : IsBest g p k = best_of g p k h.grows in
     record {
       exactly = λ m. (
         (λ x. elim ((h.exactly m).0 x) [
           | inl old ↦ absurd (no_member moves e m old.1)
-          | inr taking ↦ legal_from_capture g p k m best taking
+          | inr c ↦ legal_from_capture g p k m best c
         ]),
         (λ l. (h.exactly m).1 (inr (capture_from_legal g p k m some best l))),
       );
@@ -102,28 +169,36 @@ legal_count g p k m best l = at_k l.0 (best_only g p l.0 k l.1 best) l.2 where
   at_k zero e h = ap fin.len h.1 ∙ (fin.len-empty nat_cmp ∙ e)
   at_k (suc j) e h = let is = h.1 in ap fin.len is.takes ∙ (len_list is.over is.path.once ∙ (is.count ∙ e))
 
--- where nothing can be taken, the legal moves are the quiet ones
-pub legal_if_quiet : (g : Geometry) (p : Placement) (k : ℕ) (n m : Move) → n ≡ m → IsBest g p k → k ≡ 0
-    → fin.len n.taken ≡ k → Quiet g p n.from n.to ↔ Legal g p m
-legal_if_quiet g p k n m same best none count =
-    let best_none : IsBest g p 0 = subst (IsBest g p) none best in
-    subst (λ z. Quiet g p n.from n.to ↔ Legal g p z) same (
-      (λ q. (0, best_none, (q, fin.empty_of_len n.taken (count ∙ none)))),
-      (λ l. at_k l.0 (best_only g p l.0 0 l.1 best_none) l.2),
-    ) where
-      at_k : (j : ℕ) → j ≡ 0 → LegalAt g p j n → Quiet g p n.from n.to
-      at_k zero e h = h.0
-      at_k (suc j) e h = absurd (omega arith)
+-- nothing is taken where nothing can be
+pub best_none : (g : Geometry) (p : Placement) → (CanCapture g p → ⊥) → IsBest g p 0
+best_none g p none = record {
+  reached = λ some. absurd (omega arith);
+  most = λ from ts cs path. elim (cases_lt 0 (length cs)) [
+    | inl some ↦ absurd (none (from, ts, cs, path, some))
+    | inr few ↦ few
+  ];
+}
 
--- where something can be taken, they are the captures that take the greatest number
-pub legal_if_capture : (g : Geometry) (p : Placement) (k : ℕ) (n m : Move) → n ≡ m → IsBest g p k → 0 < k
-    → fin.len n.taken ≡ k → IsCapture g p m ↔ Legal g p m
-legal_if_capture g p k n m same best some count =
-    let count' : fin.len m.taken ≡ k = ap (λ (z : Move). fin.len z.taken) (sym same) ∙ count in (
-      (λ h. legal_from_capture g p k m best (
-        some,
-        subst (λ z. (landings : List ℕ) × IsPathOf g p m z landings) count' h,
-      )),
-      (λ l. subst (λ z. (landings : List ℕ) × IsPathOf g p m z landings) (sym count')
-          (capture_from_legal g p k m some best l).1),
-    )
+-- a quiet move is legal if nothing can be taken
+pub legal_if_quiet : (g : Geometry) (p : Placement) (m : Move) → fin.len m.taken ≡ 0
+    → (Quiet g p m.from m.to × (CanCapture g p → ⊥)) ↔ Legal g p m
+legal_if_quiet g p m none = (
+  (λ h. (0, best_none g p h.1, (h.0, fin.empty_of_len m.taken none))),
+  (λ l.
+      let zero : l.0 ≡ 0 = sym (legal_count g p l.0 m l.1 l) ∙ none in
+      let best : IsBest g p 0 = subst (IsBest g p) zero l.1 in
+      ((quiet_from_legal g p m best l).0, λ can. omega (arith, can.4, best.most can.0 can.1 can.2 can.3))),
+)
+
+-- a capture is legal if it is among those that take the greatest number
+pub legal_if_sought : (g : Geometry) (p : Placement) (k : ℕ) (m : Move) (old : Type 0) → (old → ⊥)
+    → Grows (Captures g p) 0 k → (fin.len m.taken ≡ 0 → ⊥) → Either (Captures g p) 0 k (Makes m) old ↔ Legal g p m
+legal_if_sought g p k m old none grows takes =
+    let best : IsBest g p k = best_of g p k grows in (
+      (λ h. elim h [ inl o ↦ absurd (none o.1) | inr c ↦ legal_from_capture g p k m best c ]),
+      (λ l.
+          let count : fin.len m.taken ≡ k = legal_count g p k m best l in
+          inr (capture_from_legal g p k m (above k (λ e. takes (count ∙ e))) best l)),
+    ) where
+      above : (n : ℕ) → (n ≡ 0 → ⊥) → 0 < n
+      above n h = omega arith

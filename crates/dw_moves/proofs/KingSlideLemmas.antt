@@ -18,14 +18,14 @@ use Rattle.dw_moves.proofs.AddingLemmas.{in_rest}
 use Rattle.dw_moves.proofs.ExactLemmas.{front_lands}
 use Rattle.dw_moves.proofs.FirstJumpLemmas.{empty_member}
 use Rattle.dw_moves.proofs.GlanceSetLemmas.{AreKind}
-use Rattle.dw_moves.proofs.LongestLemmas.{contains-insert}
+use Rattle.dw_moves.proofs.SquareSetLemmas.{contains-insert}
 use Rattle.dw_moves.proofs.QuietOnceLemmas.{once_append}
 use Rattle.dw_moves.proofs.RayLemmas.{ray_some, ray_toward, one_dir}
 use Rattle.dw_moves.proofs.SlideLemmas.{AreAll, is_free, is_out, run_of, walk}
 use Rattle.dw_moves.proofs.SquareSetLemmas.{in_none, in_minus, some_in}
 use Rattle.dw_moves.proofs.StepBackLemmas.{step_back}
 use Rattle.dw_moves.proofs.StepLemmas.{step_is}
-use Rattle.dw_moves.proofs.TakesTheseLemmas.{contains-remove, not_removed, one_fewer}
+use Rattle.dw_moves.proofs.SquareSetLemmas.{contains-remove, not_removed, one_fewer}
 
 -- ---- pairs whose second parts are the members of a set, and tell the first
 record Paired (P : ℕ → ℕ → Type 0) (v : Squares) (n : ℕ) : Type 0 where

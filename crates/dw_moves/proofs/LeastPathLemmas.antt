@@ -1,7 +1,6 @@
 -- What the walks found is all legal moves with their least paths.
 use Rattle.std.proofs.Common.{◌≡◌, ℕ, ◌<◌, zero, suc, List, [], ◌∷◌, ◌++◌, length, map, refl, sym, ap, ◌∙◌, subst, inl}
 use Rattle.std.proofs.Common.{inr, arith}
-use Rattle.std.proofs.lemmas.Bool.{cases_lt}
 use Rattle.std.specs.FinSet as fin
 use Rattle.std.specs.Ordering.{nat_cmp}
 use Rattle.dw_board.specs.Geometry.{Geometry}
@@ -11,29 +10,13 @@ use Rattle.dw_board.specs.Lists.{Member, NoRepeat}
 use Rattle.dw_moves.specs.inner.MemberLemmas.{mem_map, mem_map_back}
 use Rattle.dw_moves.specs.Order.{LexLess, LandsAt, IsLeastPath, Listed, HasLeastPath}
 use Rattle.dw_moves.specs.inner.Plain.{Adds}
-use Rattle.dw_moves.specs.inner.Listing.{quietly_listed, steps_of, HasAll, Leading, LongestLeast}
-use Rattle.dw_moves.proofs.FilledLemmas.{quiet_from_legal, capture_from_legal, legal_from_capture, legal_count}
-use Rattle.dw_moves.proofs.LeastTakingLemmas.{leading_takes}
+use Rattle.dw_moves.specs.inner.KeptLemmas.{Is}
+use Rattle.dw_moves.specs.inner.Walks.{Captures, Grows, Longest, PathsKept, HasAll, number, quietly_listed, steps_of}
+use Rattle.dw_moves.proofs.FilledLemmas.{best_none, best_of, captured, legal_count, legal_from_capture, legal_path}
+use Rattle.dw_moves.proofs.FilledLemmas.{path_captures, quiet_from_legal}
 use Rattle.dw_moves.proofs.LegalMoveLemmas.{best_only}
-use Rattle.dw_moves.proofs.LexLemmas.{lex_irrefl}
+use Rattle.dw_moves.specs.inner.LexLemmas.{lex_irrefl}
 use Rattle.dw_moves.proofs.AddingLemmas.{AreQuiet, are_quiet, move_to}
-
--- the number reached is the greatest
-best_led : (g : Geometry) (p : Placement) (k : ℕ) (list kept : List Listed) → LongestLeast (Leading g p) 0 list k kept
-    → IsBest g p k
-best_led g p k list kept h = record {
-  reached = λ some. elim h.reached [
-    | inl none ↦ absurd (omega arith)
-    | inr r ↦ let is = r.1.1.1 in (r.0.step.from, r.1.1.0, is.over, is.path, is.count)
-  ];
-  most = λ from ts cs path. elim (cases_lt 0 (length cs)) [
-    | inl some ↦
-        let step : Move = record { from = from; to = last_of from ts; taken = fin.from_list cs } in
-        h.most (length cs) (record { step = step; path = from ∷ ts })
-        (some, (ts, record { over = cs; path = path; count = refl; ends = refl; takes = refl }, refl))
-    | inr none ↦ omega arith
-  ];
-}
 
 -- a move stands once, and so with one path
 once_same : (list : List Listed) → NoRepeat (steps_of list) → (l r : Listed) → Member l list → Member r list
@@ -63,37 +46,42 @@ no_member list e l h = rw e at h
 
 -- what is kept of the captures of the greatest number is the least of a move's paths
 pub kept_least : (g : Geometry) (p : Placement) (k : ℕ) (list kept : List Listed) → 0 < k → IsBest g p k
-    → NoRepeat (steps_of kept) → LongestLeast (Leading g p) 0 list k kept → (l : Listed) → Member l kept
-    → Leading g p k l → HasLeastPath g p l
-kept_least g p k list kept some best once h l m leads = (
-  leads.1.0,
-  record {
-    leads = (k, best, lands_by g p l.step k leads.1.0 some leads.1.1);
-    least = λ others o less.
-        let path : IsPathOf g p l.step k others = path_by g p l.step k others some
-        (subst (λ z. LandsAt g p l.step z others) (best_only g p o.0 k o.1 best) o.2) in
-        let r = h.least (record { step = l.step; path = l.step.from ∷ others }) (inr (some, (others, path, refl))) in
-        let same : l ≡ r.0 = once_same kept once l r.0 m r.1 (sym r.2) in
-        r.3 (subst (LexLess (l.step.from ∷ others)) (sym leads.1.2 ∙ ap (λ (z : Listed). z.path) same)
-        (inr (refl, less)));
-  },
-  leads.1.2,
-)
+    → NoRepeat (steps_of kept) → PathsKept (Captures g p) 0 list k kept → (l : Listed) → Member l kept
+    → Captures g p l → number l ≡ k → HasLeastPath g p l
+kept_least g p k list kept some best once h l m c count =
+    let leads : IsPathOf g p l.step k c.landings = subst (λ z. IsPathOf g p l.step z c.landings) count c.leads in (
+      c.landings,
+      record {
+        leads = (k, best, lands_by g p l.step k c.landings some leads);
+        least = λ others o less.
+            let path : IsPathOf g p l.step k others = path_by g p l.step k others some
+            (subst (λ z. LandsAt g p l.step z others) (best_only g p o.0 k o.1 best) o.2) in
+            let other : Listed = record { step = l.step; path = l.step.from ∷ others } in
+            let r = h.least other (inr (path_captures g p k l.step others some path)) in
+            let same : l ≡ r.0 = once_same kept once l r.0 m r.1 (sym r.2) in
+            r.3 (subst (LexLess (l.step.from ∷ others)) (sym c.path ∙ ap (λ (z : Listed). z.path) same)
+            (inr (refl, less)));
+      },
+      c.path,
+    )
 
 -- something can be taken
 pub captures_all : (g : Geometry) (p : Placement) (k : ℕ) (list kept : List Listed) → list ≡ [] → 0 < k
-    → LongestLeast (Leading g p) 0 list k kept → HasAll g p kept
+    → PathsKept (Captures g p) 0 list k kept → HasAll g p kept
 captures_all g p k list kept e some h =
-    let best : IsBest g p k = best_led g p k list kept h in
+    let best : IsBest g p k = best_of g p k h.grows in
     let once : NoRepeat (steps_of kept) = h.once (subst (λ z. NoRepeat (steps_of z)) (sym e) tt) in
-    let leads : (l : Listed) → Member l kept
-    → Leading g p k l = λ l m. elim (h.from l m) [ inl old ↦ absurd (no_member list e l old.1) | inr f ↦ f ] in
+    let longest : (l : Listed) → Member l kept → Longest (Captures g p) k (Is l) = λ l m. elim (h.from l m)
+    [ inl old ↦ absurd (no_member list e l old.1) | inr f ↦ f ] in
     record {
-      legal = λ l m. legal_from_capture g p k l.step best (leading_takes g p k l (leads l m));
-      paths = λ l m. kept_least g p k list kept some best once h l m (leads l m);
+      legal = λ l m. let f = longest l m in
+          legal_from_capture g p k l.step best (f.0, f.1, f.2, ap (λ (z : Listed). z.step) f.3);
+      paths = λ l m. let f = longest l m in
+          kept_least g p k list kept some best once h l m (subst (Captures g p) f.3 f.1) (ap number (sym f.3) ∙ f.2);
       all = λ m legal.
-          let t = capture_from_legal g p k m some best legal in
-          let r = h.least (record { step = m; path = m.from ∷ t.1.0 }) (inr (t.0, (t.1.0, t.1.1, refl))) in
+          let way = legal_path g p k m some best legal in
+          let this : Listed = record { step = m; path = m.from ∷ way.0 } in
+          let r = h.least this (inr (path_captures g p k m way.0 some way.1)) in
           subst (λ z. Member z (steps_of kept)) r.2 (mem_map (λ (z : Listed). z.step) r.0 kept r.1);
       once = once;
     }
@@ -142,36 +130,16 @@ made_of_moves : (pairs : List (ℕ × ℕ)) → map (λ (q : ℕ × ℕ). quietl
 made_of_moves [] = refl
 made_of_moves (q ∷ pairs) = ap (λ z. quietly_listed q.0 q.1 ∷ z) (made_of_moves pairs)
 
+-- with something to take a capture is found
+pub some_led : (g : Geometry) (p : Placement) (k : ℕ) → CanCapture g p → Grows (Captures g p) 0 k → 0 < k
+some_led g p k can h = let c = captured g p can.0 can.1 can.2 can.3 can.4 in
+    omega (arith, c.1.some, h.most c.0 c.1)
+
 -- nothing can be taken, and the quiet moves were added
--- with nothing to take none is found, and with something to take one is
-led_can : (g : Geometry) (p : Placement) (k : ℕ) (l : Listed) → Leading g p k l → CanCapture g p
-led_can g p k l h = let way = h.1.1 in (l.step.from, h.1.0, way.over, way.path, omega (arith, h.0, way.count))
-
-none_led : (g : Geometry) (p : Placement) → (CanCapture g p → ⊥) → LongestLeast (Leading g p) 0 [] 0 []
-none_led g p none = record {
-  grown = omega arith;
-  reached = inl refl;
-  most = λ j l h. absurd (none (led_can g p j l h));
-  from = λ l m. absurd m;
-  least = λ l h. elim h [ inl old ↦ absurd old.1 | inr c ↦ absurd (none (led_can g p 0 l c)) ];
-  once = λ h. h;
-}
-
-pub some_led : (g : Geometry) (p : Placement) (k : ℕ) (list kept : List Listed) → CanCapture g p
-    → LongestLeast (Leading g p) 0 list k kept → 0 < k
-some_led g p k list kept can h =
-    let l : Listed = record {
-      step = record { from = can.0; to = last_of can.0 can.1; taken = fin.from_list can.2 };
-      path = can.0 ∷ can.1;
-    } in
-    let led : Leading g p (length can.2) l =
-    (can.4, (can.1, record { over = can.2; path = can.3; count = refl; ends = refl; takes = refl }, refl)) in
-    omega (arith, can.4, h.most (length can.2) l led)
-
 pub quiet_all_listed : (g : Geometry) (p : Placement) (old now : List Listed) → (CanCapture g p → ⊥) → old ≡ []
     → Adds quietly_listed (Quiet g p) old now → HasAll g p now
 quiet_all_listed g p old now none e added =
-    let best : IsBest g p 0 = best_led g p 0 [] [] (none_led g p none) in
+    let best : IsBest g p 0 = best_none g p none in
     let whole : now ≡ map with_ends (map move_to added.pairs) = added.are
     ∙ (ap (λ z. z ++ map (λ (q : ℕ × ℕ). quietly_listed q.0 q.1) added.pairs) e ∙ made_of_moves added.pairs) in
     subst (HasAll g p) (sym whole) (quiet_listing g p (map move_to added.pairs) (are_quiet g p added.pairs added.exactly

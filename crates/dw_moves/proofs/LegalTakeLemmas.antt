@@ -12,8 +12,8 @@ use Rattle.dw_board.specs.Lists.{Member}
 use Rattle.dw_board.specs.Placement.{other}
 use Rattle.dw_moves.proofs.CaptureBoundLemmas.{path_bound}
 use Rattle.dw_moves.proofs.FilledLemmas.{legal_count}
-use Rattle.dw_moves.proofs.TakesTheseLemmas.{len_list}
-use Rattle.dw_moves.proofs.TakingLemmas.{side_fits}
+use Rattle.dw_moves.proofs.SquareSetLemmas.{len_list}
+use Rattle.dw_moves.proofs.GroundLemmas.{side_fits}
 use Rattle.dw_moves.proofs.MoveKeyLemmas.{jumps_long}
 use Rattle.dw_moves.proofs.RayLemmas.{ray_of_on, landing_on_ray}
 

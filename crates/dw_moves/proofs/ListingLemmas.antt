@@ -13,12 +13,12 @@ use Rattle.dw_moves.specs.Moves.{Move, Legal, last_of}
 use Rattle.dw_board.specs.Lists.{Member, NoRepeat}
 use Rattle.dw_moves.specs.inner.MoveLemmas.{same_moves, same_moves-is}
 use Rattle.dw_moves.specs.Order.{LexLess, LandsAt, front, IsKey, Precedes, IsAscending, Listed, HasLeastPath, AreListed}
-use Rattle.dw_moves.specs.inner.Listing.{sorted_by, steps_of, HasAll}
+use Rattle.dw_moves.specs.inner.Walks.{sorted_by, steps_of, HasAll}
 use Rattle.dw_moves.proofs.AscendingLemmas.{ByKey}
 use Rattle.dw_moves.proofs.LegalMoveLemmas.{best_only}
-use Rattle.dw_moves.proofs.LexLemmas.{lex_asym, lex_cases}
+use Rattle.dw_moves.specs.inner.LexLemmas.{lex_asym, lex_cases, not_less}
 use Rattle.dw_moves.specs.inner.MemberLemmas.{mem_map, mem_map_back}
-use Rattle.dw_moves.proofs.MoveKeyLemmas.{not_less, jumps_long, keys_differ}
+use Rattle.dw_moves.proofs.MoveKeyLemmas.{jumps_long, keys_differ}
 
 -- two numbers, and what follows where they are the same
 pub first_less : (x y : ℕ) (xs ys : List ℕ) → (x ≡ y → ⊥) → (x < y) ↔ LexLess (x ∷ xs) (y ∷ ys)

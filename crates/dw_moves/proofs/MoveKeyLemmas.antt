@@ -16,7 +16,7 @@ use Rattle.dw_moves.proofs.PlainLemmas.{Capture, path_list, best, legal_list}
 use Rattle.dw_moves.specs.inner.MemberLemmas.{mem_map, mem_map_back, mem_filter, mem_filter_back}
 use Rattle.dw_moves.proofs.LegalMoveLemmas.{path_from, path_in, is_best, best_only, legal_from, legal_in}
 use Rattle.dw_moves.proofs.PathTellsLemmas.{path_tells}
-use Rattle.dw_moves.proofs.LexLemmas.{lex_irrefl, lex_trans, lex_asym, lex_cases}
+use Rattle.dw_moves.specs.inner.LexLemmas.{lex_irrefl, lex_trans, lex_asym, lex_cases, not_less}
 use Rattle.dw_moves.proofs.AscendingLemmas.{ByKey, arranged, arranged_ascending, arranged_from, arranged_has, list_only}
 use Rattle.dw_moves.proofs.AscendingLemmas.{ascending_by}
 
@@ -120,14 +120,6 @@ lesser_is xs ys = elim (lex_cases xs ys) as
       | inr (inl l) ↦ record { one = inl refl; left = lex_irrefl xs; right = λ h. lex_asym xs ys l h }
       | inr (inr g) ↦ record { one = inr refl; left = λ h. lex_asym xs ys h g; right = lex_irrefl ys }
     ]
-
--- nothing in a list that isn't below a bound is below what isn't above it
-pub not_less : (x y z : List ℕ) → (LexLess x y → ⊥) → (LexLess y z → ⊥) → LexLess x z → ⊥
-not_less x y z h k l = elim (lex_cases x y) [
-  | inl e ↦ k (subst (λ w. LexLess w z) e l)
-  | inr (inl q) ↦ h q
-  | inr (inr q) ↦ k (lex_trans y x z q l)
-]
 
 least_is : (x : List ℕ) (xs : List (List ℕ)) → Member (least_of x xs) (x ∷ xs) × ((y : List ℕ) → Member y (x ∷ xs)
     → LexLess y (least_of x xs) → ⊥)

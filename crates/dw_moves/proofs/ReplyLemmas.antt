@@ -18,8 +18,8 @@ use Rattle.dw_moves.proofs.RayLemmas.{ray_some}
 use Rattle.dw_moves.proofs.PlainLemmas.{best}
 use Rattle.dw_moves.proofs.LegalMoveLemmas.{is_best}
 use Rattle.dw_moves.proofs.BestFromLemmas.{some_same, has_capture}
-use Rattle.dw_moves.proofs.LongestLemmas.{contains-insert}
-use Rattle.dw_moves.proofs.TakesTheseLemmas.{apart_false}
+use Rattle.dw_moves.proofs.SquareSetLemmas.{contains-insert}
+use Rattle.dw_moves.proofs.SquareSetLemmas.{apart_false}
 use Rattle.dw_moves.proofs.PlayStaysLemmas.{emptied, play_at, past_none, legal_ends}
 
 pub step_quiet : StepsAreQuiet

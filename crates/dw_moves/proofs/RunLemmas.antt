@@ -111,3 +111,9 @@ run_short g b k p s d = omega (arith, run_length k p (ray g s d), ray_length g b
 pub ray_falls : (g : Geometry) (p : Placement) (s : ℕ) (d : Dir) (t : ℕ) → Freed g p s d t
     → length (ray g t d) < length (ray g s d)
 ray_falls g p s d t h = let l : length (ray g s d) ≡ suc (length (ray g t d)) = ap length h.ray_is in omega arith
+
+-- what is left of a ray after a step is shorter
+pub ray_shorter : (g : Geometry) → IsBoard g → (s : ℕ) (d : Dir) (t : ℕ) → OnBoard g s → step g s d ≡ Some t
+    → length (ray g t d) < length (ray g s d)
+ray_shorter g b s d t on steps = let l : length (ray g s d) ≡ suc (length (ray g t d)) = ap length
+    (ray_some g b s t d on steps) in omega arith

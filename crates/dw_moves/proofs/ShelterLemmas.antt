@@ -20,7 +20,7 @@ use Rattle.dw_moves.proofs.StepLemmas.{step_is}
 use Rattle.dw_moves.proofs.StepBackLemmas.{step_back}
 use Rattle.dw_moves.proofs.RayLemmas.{ray_some, ray_none, ray_of_on, landing_on_ray}
 use Rattle.dw_moves.proofs.FirstJumpLemmas.{empty_member, head_free, other_at}
-use Rattle.dw_moves.proofs.TakesTheseLemmas.{in_list}
+use Rattle.dw_moves.proofs.SquareSetLemmas.{in_list}
 use Rattle.dw_moves.proofs.PlayStaysLemmas.{legal_ends}
 use Rattle.dw_moves.proofs.ReplyLemmas.{reply_of, step_quiet, step_stays, loose_reply}
 

@@ -17,7 +17,7 @@ use Rattle.dw_moves.proofs.StepLemmas.{step_is}
 use Rattle.dw_moves.proofs.SquareSetLemmas.{in_none, in_or}
 use Rattle.dw_moves.proofs.GlanceSetLemmas.{free_at, not_taken}
 use Rattle.dw_moves.proofs.FirstJumpLemmas.{piece_is, kind_cases}
-use Rattle.dw_moves.proofs.TakesTheseLemmas.{contains-remove, not_removed, apart_false}
+use Rattle.dw_moves.proofs.SquareSetLemmas.{contains-remove, not_removed, apart_false}
 
 module _ (g : Geometry) (b : IsBoard g) (p : Placement) (men kings enemies occupied : Squares)
     (sets : AreSets g p men kings enemies occupied) where

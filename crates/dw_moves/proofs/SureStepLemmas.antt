@@ -16,7 +16,7 @@ use Rattle.dw_moves.proofs.ReplyLemmas.{step_quiet}
 use Rattle.dw_moves.proofs.SquareSetLemmas.{in_none}
 use Rattle.dw_moves.proofs.StepBackLemmas.{step_back}
 use Rattle.dw_moves.proofs.StepSetLemmas.{step_of, from_step}
-use Rattle.dw_moves.proofs.TakesTheseLemmas.{contains-remove, not_removed, apart_false}
+use Rattle.dw_moves.proofs.SquareSetLemmas.{contains-remove, not_removed, apart_false}
 
 -- a step is legal where nothing can be taken
 legal_step : (g : Geometry) → IsBoard g → (p : Placement) (s t : ℕ) → (CanCapture g p → ⊥) → OneStep g p s t

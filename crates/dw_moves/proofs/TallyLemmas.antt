@@ -12,7 +12,7 @@ use Rattle.dw_moves.specs.Moves.{IsQuietCount, Quiet, In}
 use Rattle.dw_moves.specs.inner.Plain.{Adds, Counts, ManSteps, KingGoes}
 use Rattle.dw_moves.proofs.StepBackLemmas.{step_back}
 use Rattle.dw_moves.proofs.SquareSetLemmas.{some_in}
-use Rattle.dw_moves.proofs.TakesTheseLemmas.{one_fewer}
+use Rattle.dw_moves.proofs.SquareSetLemmas.{one_fewer}
 use Rattle.dw_moves.proofs.AddingLemmas.{Stepping, stepping_none, stepping_more, stepping_all, all_quiet}
 
 abbrev pair : ℕ → ℕ → ℕ × ℕ

@@ -1,18 +1,20 @@
 //! The capture of which a list of squares is a path.
-ghost use Rattle.std.specs.Prelude.{◌≡◌, ◌↔◌, ℕ, Some, IfSome};
-ghost use Rattle.dw_board.specs.Geometry.{OnBoard};
+ghost use Rattle.std.specs.Prelude.{◌≡◌, ◌↔◌, Some, IfSome, IsTrue};
+ghost use Rattle.std.proofs.Common.{◌∙◌};
 ghost use Rattle.dw_moves.specs.Moves as of;
-ghost use Rattle.dw_moves.specs.Moves.{Jump, Legal};
-ghost use Rattle.dw_moves.specs.inner.Chains.{LandsOnEach};
+ghost use Rattle.dw_moves.specs.Moves.{Legal};
 ghost use Rattle.dw_moves.specs.Order.{IsPathFor};
+ghost use Rattle.dw_moves.specs.inner.Walks.{Followed};
+ghost use Rattle.dw_moves.specs.inner.KeptLemmas.{These, followed_none, followed_both};
 
-use crate::best::{best, is_own};
-use crate::jumps::jumps;
+use crate::keeper::Keeper;
 use crate::moves::Move;
+use crate::walk::walk_captures;
+use arrayvec::ArrayVec;
 use dw_board::board::Board;
-use dw_board::piece::Piece;
 use dw_board::position::Position;
 use dw_board::square::Square;
+use std::convert::Infallible;
 
 /// The legal capture of which these squares, its start first, are a path, be it the least one or another; `None`
 /// if there is none.
@@ -21,65 +23,69 @@ pub fn follow<B: Board>(position: &Position<B>, squares: &[Square<B>]) -> Option
     ensures path { (m : of.Move) → (result ≡ Some m) ↔ IsPathFor B.geometry position.now m squares.now }
     ensures legal { IfSome result (Legal B.geometry position.now) }
 {
-    let (from, landings) = squares.split_first()?;
-    let most = best(position);
-    if most == 0 {
-        return None;
-    }
-    let piece = position.at(*from)?;
-    if !is_own(piece, position.turn()) {
-        return None;
-    }
-    let mut rest = *position;
-    rest.clear(*from);
-    let mv = jump_along(&rest, piece, *from, landings)?;
-    if mv.taken.count() == most {
-        Some(mv)
-    } else {
-        None
+    let mut follower = Follower {
+        squares,
+        path: ArrayVec::new(),
+        most: 0,
+        found: None,
+    };
+    match walk_captures::<B, Follower<B>>(position, &mut follower) {
+        Ok(()) => follower.found,
     }
 }
 
-/// What a piece that jumps from a square onto each of these in turn has made, if it takes nothing twice.
-fn jump_along<B: Board>(
-    position: &Position<B>,
-    piece: Piece,
-    from: Square<B>,
-    landings: &[Square<B>],
-) -> Option<Move<B>>
-    requires { OnBoard B.geometry from }
-    ensures { (m : of.Move) → (result ≡ Some m) ↔ LandsOnEach B.geometry position.now piece from landings.now m }
-{
-    let mut mv = Move::quiet(from, from);
-    'landings: for landing in landings {
-        let over = jumped(position, piece, mv.to, *landing)?;
-        if mv.taken.has(over) {
-            return None;
-        }
-        mv = Move {
-            from,
-            to: *landing,
-            taken: mv.taken.with(over),
-        };
-    }
-    Some(mv)
+/// Keeps the move that is made on the path of these squares, if none takes more pieces.
+#[derive(Drop)]
+struct Follower<'a, B: Board> {
+    squares: &'a [Square<B>],
+    path: ArrayVec<Square<B>, 21>,
+    most: u8,
+    found: Option<Move<B>>,
 }
 
-/// The square of the piece that is taken by a jump between two squares; there is at most one.
-fn jumped<B: Board>(
-    position: &Position<B>,
-    piece: Piece,
-    from: Square<B>,
-    to: Square<B>,
-) -> Option<Square<B>>
-    requires { OnBoard B.geometry from }
-    ensures { (c : ℕ) → (result ≡ Some c) ↔ Jump B.geometry position.now piece from c to }
-{
-    let found = jumps(position, piece, from);
-    'jumps: for jump in found.as_slice() {
-        if jump.landing == to {
-            return Some(jump.over);
-        }
+impl<'a, B: Board> Keeper<B> for Follower<'a, B> {
+    type Fault = Infallible;
+
+    ghost offered = { λ xs a b. Followed (These xs) a.squares.now a.most a.found b.squares.now b.most b.found };
+
+    ghost is_on = { λ k path. k.path.items ≡ path };
+
+    fn begin(&mut self, from: &Square<B>) {
+        self.path.clear();
+        self.path.push(*from);
     }
-    None
+
+    fn enter(&mut self, landing: &Square<B>) {
+        self.path.push(*landing);
+    }
+
+    fn leave(&mut self) {
+        self.path.pop();
+    }
+
+    fn offer(&mut self, mv: &Move<B>, count: u8) -> Result<(), Infallible> {
+        if count < self.most {
+            return Ok(());
+        }
+        if self.most < count {
+            self.most = count;
+            self.found = None;
+        }
+        if is_same(self.path.as_slice(), self.squares) {
+            self.found = Some(*mv);
+        }
+        Ok(())
+    }
+
+    ghost nothing = { λ k. followed_none k.squares.now k.most k.found };
+
+    ghost both = { λ xs ys a b c. followed_both xs ys a.squares.now b.squares.now c.squares.now a.most b.most c.most
+        a.found b.found c.found };
+}
+
+/// Whether two lists of squares are the same.
+fn is_same<'a, B: Board>(a: &'a [Square<B>], b: &'a [Square<B>]) -> bool
+    ensures { IsTrue result ↔ (a.now ≡ b.now) }
+{
+    a == b
 }

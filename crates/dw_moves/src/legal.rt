@@ -1,27 +1,37 @@
 //! Legal moves.
-ghost use Rattle.std.specs.Prelude.{◌≡◌, ◌↔◌, [], IfOk, OnOk, OnErr, IsTrue};
+ghost use Rattle.std.specs.Prelude.{◌≡◌, ◌↔◌, ◌≤◌, ℕ, List, [], ◌∷◌, IfOk, OnOk, OnErr, IsTrue};
+ghost use Rattle.std.specs.FinSet as set;
 ghost use Rattle.dw_moves.specs.Moves.{Legal, AreLegal};
+ghost use Rattle.dw_moves.specs.inner.Walks.{MovesKept, Sought};
+ghost use Rattle.dw_moves.specs.inner.KeptLemmas.{These, moves_none, moves_both, sought_none, sought_both};
 
-use crate::best::best;
-use crate::chains::{is_capture, push_captures};
+use crate::glance::can_capture;
+use crate::keeper::Keeper;
 use crate::moves::Move;
 use crate::quiet::{is_quiet, push_quiet};
+use crate::walk::walk_captures;
 use dw_board::board::Board;
 use dw_board::position::Position;
+use dw_board::square::Square;
 use std::alloc::{AllocError, Global};
+use std::convert::Infallible;
+use std::mem::replace;
 
 /// Whether a move is legal: a quiet one if nothing can be taken, else a capture of the greatest number.
 /// Example: at `W:W32:B28` it is `true` for the capture `32x23`, and `false` for the quiet move `32-27`.
 pub fn is_legal<B: Board>(position: &Position<B>, mv: &Move<B>) -> bool
     ensures { IsTrue result ↔ Legal B.geometry position.now mv.now }
 {
-    let most = best(position);
-    if mv.taken.count() != most {
-        false
-    } else if most == 0 {
-        is_quiet(position, mv.from, mv.to)
-    } else {
-        is_capture(position, mv)
+    if mv.taken.is_empty() {
+        return is_quiet(position, mv.from, mv.to) && !can_capture(position);
+    }
+    let mut finder = Finder {
+        wanted: *mv,
+        most: 0,
+        found: false,
+    };
+    match walk_captures::<B, Finder<B>>(position, &mut finder) {
+        Ok(()) => finder.found,
     }
 }
 
@@ -58,8 +68,110 @@ fn push_legal<B: Board>(position: &Position<B>, moves: &mut Vec<Move<B>>) -> Res
     requires { moves.old.items ≡ [] }
     ensures { OnOk result (AreLegal B.geometry position.now moves.new.items) }
 {
-    if push_captures(position, moves)? == 0 {
+    let empty = Vec::new(*moves.allocator());
+    let mut longest = LongestMoves {
+        most: 0,
+        moves: replace(moves, empty),
+    };
+    let walked = walk_captures::<B, LongestMoves<B>>(position, &mut longest);
+    *moves = longest.moves;
+    walked?;
+    if longest.most == 0 {
         push_quiet(position, moves)?;
     }
     Ok(())
+}
+
+/// Keeps the moves that take the greatest number of pieces so far, each once.
+#[derive(Drop)]
+struct LongestMoves<B: Board> {
+    most: u8,
+    moves: Vec<Move<B>>,
+}
+
+impl<B: Board> LongestMoves<B> {
+    /// Keeps a move that takes at least as many pieces as those that are kept, once, and drops those that take fewer.
+    #[inline(never)]
+    fn keep(&mut self, mv: Move<B>, count: u8) -> Result<(), AllocError>
+        requires counted { count ≡ set.len mv.taken }
+        requires longest { self.old.most ≤ count }
+        ensures { OnOk result ((path : List ℕ) → MovesKept (These (record { step = mv; path = path } ∷ []))
+            self.old.most self.old.moves.items self.new.most self.new.moves.items) }
+    {
+        if self.most < count {
+            self.moves.clear();
+            self.most = count;
+        }
+        if !self.moves.contains(&mv) {
+            self.moves.push(mv)?;
+        }
+        Ok(())
+    }
+}
+
+impl<B: Board> Keeper<B> for LongestMoves<B> {
+    type Fault = AllocError;
+
+    ghost offered = { λ xs a b. MovesKept (These xs) a.most a.moves.items b.most b.moves.items };
+
+    ghost is_on = { λ k path. Unit {0} };
+
+    fn begin(&mut self, from: &Square<B>) {}
+
+    fn enter(&mut self, landing: &Square<B>) {}
+
+    fn leave(&mut self) {}
+
+    #[inline(always)]
+    fn offer(&mut self, mv: &Move<B>, count: u8) -> Result<(), AllocError> {
+        if count < self.most {
+            return Ok(());
+        }
+        self.keep(*mv, count)
+    }
+
+    ghost nothing = { λ k. moves_none k.most k.moves.items };
+
+    ghost both = { λ xs ys a b c. moves_both xs ys a.most b.most c.most a.moves.items b.moves.items c.moves.items };
+}
+
+/// Looks for one move among those that take the greatest number of pieces so far.
+#[derive(Drop)]
+struct Finder<B: Board> {
+    wanted: Move<B>,
+    most: u8,
+    found: bool,
+}
+
+impl<B: Board> Keeper<B> for Finder<B> {
+    type Fault = Infallible;
+
+    ghost offered = { λ xs a b. Sought (These xs) a.wanted a.most (IsTrue a.found) b.wanted b.most (IsTrue b.found) };
+
+    ghost is_on = { λ k path. Unit {0} };
+
+    fn begin(&mut self, from: &Square<B>) {}
+
+    fn enter(&mut self, landing: &Square<B>) {}
+
+    fn leave(&mut self) {}
+
+    fn offer(&mut self, mv: &Move<B>, count: u8) -> Result<(), Infallible> {
+        if count < self.most {
+            return Ok(());
+        }
+        if self.most < count {
+            self.most = count;
+            self.found = false;
+        }
+        if *mv == self.wanted {
+            self.found = true;
+        }
+        Ok(())
+    }
+
+    ghost nothing = { λ k. sought_none k.wanted k.most (IsTrue k.found) };
+
+    ghost both = { λ xs ys a b c. sought_both xs ys a.wanted b.wanted c.wanted a.most b.most c.most (IsTrue a.found)
+        (IsTrue b.found) (IsTrue c.found) };
 }

@@ -6,22 +6,21 @@
 #![tactic(auto)]
 
 pub mod best;
-mod chains;
+mod field;
 pub mod follow;
 pub mod glance;
-mod ground;
-mod jumps;
+mod keeper;
 pub mod laws;
 pub mod legal;
 pub mod listed;
-mod man_chains;
+mod mover;
 pub mod moves;
 pub mod play;
 pub mod quiet;
 pub mod replies;
+mod walk;
 
-pub use best::has_move;
-pub use glance::{can_capture, count_if_quiet, other_steps};
+pub use glance::{can_capture, count_if_quiet, has_move, other_steps};
 pub use legal::{is_legal, legal_into};
 pub use listed::listed_into;
 pub use moves::{Listed, Move};

@@ -1,27 +1,19 @@
 //! The legal moves in order, with their least paths.
-ghost use Rattle.std.specs.Prelude.{◌≡◌, ℕ, ◌≤◌, ◌+◌, ◌-◌, ◌↔◌, [], ◌∷◌, false, length, IfOk, OnOk, OnErr, IsTrue};
+ghost use Rattle.std.specs.Prelude.{◌≡◌, ◌↔◌, [], IfOk, OnOk, OnErr, IsTrue};
 ghost use Rattle.std.specs.Ordering.{is_lt};
-ghost use Rattle.std.specs.FinSet as set;
-ghost use Rattle.dw_board.specs.Geometry.{OnBoard};
-ghost use Rattle.dw_moves.specs.Moves.{Jump};
-ghost use Rattle.dw_moves.specs.inner.Chains.{ChainsFit};
-ghost use Rattle.dw_moves.specs.inner.Glance.{IsGround};
 ghost use Rattle.dw_moves.specs.Order.{LexLess, AreListed};
-ghost use Rattle.dw_moves.specs.inner.Listing.{sorted_by, entries_listed, HasAll, Leading, LeadingFrom, GoesBy, This};
-ghost use Rattle.dw_moves.specs.inner.Listing.{GoesTowards, LongestLeast, TakenIn};
+ghost use Rattle.dw_moves.specs.inner.Walks.{sorted_by, entries_listed, HasAll, PathsKept, TakenIn};
+ghost use Rattle.dw_moves.specs.inner.KeptLemmas.{These, paths_none, paths_both};
 
-use crate::best::is_own;
-use crate::glance::{can_capture, king_goes_on, may_take};
-use crate::ground::Ground;
-use crate::jumps::first_met;
+use crate::glance::can_capture;
+use crate::keeper::Keeper;
 use crate::moves::{Listed, Move};
 use crate::quiet::push_quiet;
+use crate::walk::walk_captures;
 use arrayvec::ArrayVec;
-use dw_board::board::{Board, Dir};
-use dw_board::piece::{Kind, Piece};
+use dw_board::board::Board;
 use dw_board::position::Position;
 use dw_board::square::Square;
-use dw_board::squares::Squares;
 use indexmap::IndexMap;
 use std::alloc::{AllocError, Global};
 use std::cmp::Ordering;
@@ -67,237 +59,67 @@ fn push_listed<B: Board>(
     if !can_capture(position) {
         return push_quiet(position, list);
     }
-    let mut paths = IndexMap::new(*list.allocator());
-    keep_captures(position, &mut paths)?;
+    let mut least = LeastPaths {
+        most: 0,
+        path: ArrayVec::new(),
+        paths: IndexMap::new(*list.allocator()),
+    };
+    walk_captures::<B, LeastPaths<B>>(position, &mut least)?;
+    let LeastPaths {
+        most: _,
+        path: _,
+        paths,
+    } = least;
     'paths: for (mv, path) in paths {
         list.push(Listed { step: mv, path })?;
     }
     Ok(())
 }
 
-/// Keeps the captures of the greatest number with their least paths, and answers that number; none if it is 0.
-fn keep_captures<B: Board>(
-    position: &Position<B>,
-    paths: &mut IndexMap<Move<B>, ArrayVec<Square<B>, 21>>,
-) -> Result<u8, AllocError>
-    ensures { IfOk result (λ k. LongestLeast (Leading B.geometry position.now) 0 (entries_listed paths.old.entries) k
-        (entries_listed paths.new.entries)) }
-{
-    let mut most = 0;
-    let mut left = may_take(position);
-    'squares: while let Some((square, rest)) = left.split() {
-        most = keep_from(position, square, most, paths)?;
-        left = rest;
-    }
-    Ok(most)
+/// Keeps the moves that take the greatest number of pieces so far, each with the least of its paths.
+#[derive(Drop)]
+struct LeastPaths<B: Board> {
+    most: u8,
+    path: ArrayVec<Square<B>, 21>,
+    paths: IndexMap<Move<B>, ArrayVec<Square<B>, 21>>,
 }
 
-/// Goes through the captures of what stands on a square.
-fn keep_from<B: Board>(
-    position: &Position<B>,
-    from: Square<B>,
-    most: u8,
-    paths: &mut IndexMap<Move<B>, ArrayVec<Square<B>, 21>>,
-) -> Result<u8, AllocError>
-    requires { OnBoard B.geometry from }
-    ensures { IfOk result (λ k. LongestLeast (LeadingFrom B.geometry position.now from) most
-        (entries_listed paths.old.entries) k (entries_listed paths.new.entries)) }
-{
-    let Some(piece) = position.at(from) else {
-        return Ok(most);
-    };
-    if !is_own(piece, position.turn()) {
-        return Ok(most);
-    }
-    let mut rest = *position;
-    rest.clear(from);
-    let ground = Ground::without(position, piece.side, from);
-    let mut path = ArrayVec::new();
-    path.push(from);
-    walk(
-        &rest,
-        &ground,
-        piece,
-        Move::quiet(from, from),
-        &mut path,
-        0,
-        most,
-        paths,
-    )
-}
+impl<B: Board> Keeper<B> for LeastPaths<B> {
+    type Fault = AllocError;
 
-/// Goes through the captures that begin with a move so far, which has taken so many pieces on this path. It keeps those
-/// that take at least `most`, which rises with them, and answers how many the kept ones take. The path stays as it was.
-#[cycle(walk)]
-fn walk<B: Board>(
-    position: &Position<B>,
-    ground: &Ground<B>,
-    piece: Piece,
-    begun: Move<B>,
-    path: &mut ArrayVec<Square<B>, 21>,
-    count: u8,
-    most: u8,
-    paths: &mut IndexMap<Move<B>, ArrayVec<Square<B>, 21>>,
-) -> Result<u8, AllocError>
-    requires on_board { OnBoard B.geometry begun.to }
-    requires ground { IsGround B.geometry position.now piece.side ground.now.enemies ground.now.occupied }
-    requires few { count ≤ 20 }
-    requires fits { ChainsFit B.geometry position.now piece begun.to begun.taken (20 - count) }
-    requires long { length path.old.items ≡ count + 1 }
-    ensures kept { IfOk result (λ k. LongestLeast
-        (GoesBy B.geometry position.now piece (record { step = begun; path = path.old.items }) count) most
-        (entries_listed paths.old.entries) k (entries_listed paths.new.entries)) }
-    ensures path { OnOk result (path.new.items ≡ path.old.items) }
-{
-    let one = walk_towards(
-        position,
-        ground,
-        piece,
-        begun,
-        path,
-        count,
-        Dir::UpLeft,
-        most,
-        paths,
-    )?;
-    let two = walk_towards(
-        position,
-        ground,
-        piece,
-        begun,
-        path,
-        count,
-        Dir::UpRight,
-        one,
-        paths,
-    )?;
-    let three = walk_towards(
-        position,
-        ground,
-        piece,
-        begun,
-        path,
-        count,
-        Dir::DownLeft,
-        two,
-        paths,
-    )?;
-    let four = walk_towards(
-        position,
-        ground,
-        piece,
-        begun,
-        path,
-        count,
-        Dir::DownRight,
-        three,
-        paths,
-    )?;
-    keep(begun, path, count, four, paths)
-}
+    ghost offered = { λ xs a b. PathsKept (These xs) a.most (entries_listed a.paths.entries) b.most
+        (entries_listed b.paths.entries) };
 
-/// Goes through those of them that go on in one direction: over the enemy that is met, onto the square behind it, or
-/// for a king onto each. Most end there, which is seen on sets of squares, and need no walk of their own.
-#[cycle(walk)]
-#[inline(always)]
-fn walk_towards<B: Board>(
-    position: &Position<B>,
-    ground: &Ground<B>,
-    piece: Piece,
-    begun: Move<B>,
-    path: &mut ArrayVec<Square<B>, 21>,
-    count: u8,
-    direction: Dir,
-    most: u8,
-    paths: &mut IndexMap<Move<B>, ArrayVec<Square<B>, 21>>,
-) -> Result<u8, AllocError>
-    requires on_board { OnBoard B.geometry begun.to }
-    requires ground { IsGround B.geometry position.now piece.side ground.now.enemies ground.now.occupied }
-    requires few { count ≤ 20 }
-    requires fits { ChainsFit B.geometry position.now piece begun.to begun.taken (20 - count) }
-    requires long { length path.old.items ≡ count + 1 }
-    ensures kept { IfOk result (λ k. LongestLeast
-        (GoesTowards B.geometry position.now piece (record { step = begun; path = path.old.items }) count direction)
-        most (entries_listed paths.old.entries) k (entries_listed paths.new.entries)) }
-    ensures path { OnOk result (path.new.items ≡ path.old.items) }
-{
-    let Some(over) = first_met(position, ground, piece, begun.to, direction) else {
-        return Ok(most);
-    };
-    if begun.taken.has(over) {
-        return Ok(most);
+    ghost is_on = { λ k path. k.path.items ≡ path };
+
+    fn begin(&mut self, from: &Square<B>) {
+        self.path.clear();
+        self.path.push(*from);
     }
-    let taken = begun.taken.with(over);
-    let mut longest = most;
-    let mut at = over;
-    'landings: while let Some(landing) = ground.free_step(position, piece.side, at, direction) {
-        let further = Move {
-            from: begun.from,
-            to: landing,
-            taken,
-        };
-        path.push(landing);
-        longest = if goes_on(position, ground, piece, landing, taken) {
-            walk(
-                position,
-                ground,
-                piece,
-                further,
-                path,
-                count + 1,
-                longest,
-                paths,
-            )?
-        } else {
-            keep(further, path, count + 1, longest, paths)?
-        };
-        path.pop();
-        match piece.kind {
-            Kind::Man => break,
-            Kind::King => at = landing,
+
+    fn enter(&mut self, landing: &Square<B>) {
+        self.path.push(*landing);
+    }
+
+    fn leave(&mut self) {
+        self.path.pop();
+    }
+
+    fn offer(&mut self, mv: &Move<B>, count: u8) -> Result<(), AllocError> {
+        if count < self.most {
+            return Ok(());
         }
+        if self.most < count {
+            self.paths.clear();
+            self.most = count;
+        }
+        keep_least(*mv, &self.path, &mut self.paths)
     }
-    Ok(longest)
-}
 
-/// Whether a piece on this square, which has taken these, can take one more.
-#[inline]
-fn goes_on<B: Board>(
-    position: &Position<B>,
-    ground: &Ground<B>,
-    piece: Piece,
-    from: Square<B>,
-    taken: Squares<B>,
-) -> bool
-    requires on_board { OnBoard B.geometry from }
-    requires ground { IsGround B.geometry position.now piece.side ground.now.enemies ground.now.occupied }
-    ensures { (c t : ℕ) → set.contains taken c ≡ false → Jump B.geometry position.now piece from c t → IsTrue result }
-{
-    match piece.kind {
-        Kind::Man => ground.goes_on(from, taken),
-        Kind::King => king_goes_on(ground, from, taken),
-    }
-}
+    ghost nothing = { λ k. paths_none k.most (entries_listed k.paths.entries) };
 
-/// Keeps a capture of so many pieces if none that is kept takes more, and drops those that take fewer.
-fn keep<B: Board>(
-    mv: Move<B>,
-    path: &ArrayVec<Square<B>, 21>,
-    count: u8,
-    most: u8,
-    paths: &mut IndexMap<Move<B>, ArrayVec<Square<B>, 21>>,
-) -> Result<u8, AllocError>
-    ensures { IfOk result (λ k. LongestLeast (This (record { step = mv; path = path.now.items }) count) most
-        (entries_listed paths.old.entries) k (entries_listed paths.new.entries)) }
-{
-    if count == 0 || count < most {
-        return Ok(most);
-    }
-    if most < count {
-        paths.clear();
-    }
-    keep_least(mv, path, paths)?;
-    Ok(count)
+    ghost both = { λ xs ys a b c. paths_both xs ys a.most b.most c.most (entries_listed a.paths.entries)
+        (entries_listed b.paths.entries) (entries_listed c.paths.entries) };
 }
 
 /// Keeps a path of a move if it is the first, or less than the one that is kept.

@@ -8,7 +8,7 @@ ghost use Rattle.std.proofs.Common.{rules};
 ghost use Rattle.dw_moves.specs.inner.MoveLemmas.{same_moves-is};
 ghost use Rattle.dw_moves.specs.Moves.{move_bytes};
 ghost use Rattle.dw_moves.specs.inner.Plain.{quiet_to};
-ghost use Rattle.dw_moves.specs.inner.Listing.{quietly_listed};
+ghost use Rattle.dw_moves.specs.inner.Walks.{quietly_listed};
 
 use crate::quiet::FromQuiet;
 use arrayvec::ArrayVec;

@@ -3,16 +3,16 @@ ghost use Rattle.std.specs.Prelude.{◌≡◌, ◌≤◌, ◌↔◌, ◌++◌, �
 ghost use Rattle.dw_board.specs.Geometry.{OnBoard};
 ghost use Rattle.dw_moves.specs.Moves.{IsQuietCount, Quiet, ray};
 ghost use Rattle.dw_board.specs.Lists.{Member};
+ghost use Rattle.dw_board.specs.Placement.{same_side};
 ghost use Rattle.dw_board.specs.declared.piece.Kind.TheVariants.{King};
 ghost use Rattle.dw_moves.specs.Moves.{In};
 ghost use Rattle.dw_moves.specs.inner.Glance.{AreSets};
 ghost use Rattle.dw_moves.specs.inner.Plain as plain;
 ghost use Rattle.dw_moves.specs.inner.Plain.{Adds, Counts, ManSteps, KingGoes, KingLands};
 
-use crate::best::is_own;
-use crate::glance::Field;
+use crate::field::Field;
 use dw_board::board::{Board, Dir};
-use dw_board::piece::{Kind, Side};
+use dw_board::piece::{Kind, Piece, Side};
 use dw_board::position::Position;
 use dw_board::square::{Square, step};
 use dw_board::squares::Squares;
@@ -264,4 +264,11 @@ fn runs_to<B: Board>(
         }
     }
     false
+}
+
+/// Whether a piece is one of this side.
+fn is_own(piece: Piece, side: Side) -> bool
+    ensures { result ≡ same_side piece.side side }
+{
+    piece.side == side
 }

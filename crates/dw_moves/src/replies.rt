@@ -8,7 +8,8 @@ ghost use Rattle.dw_moves.specs.Replies.{SafeStep, HasSureReply, IsSureStep, Alw
 ghost use Rattle.dw_moves.specs.inner.Glance.{AreSets, NoneSure};
 ghost use Rattle.dw_moves.specs.inner.Shelter.{OpenIn, ExposedIn};
 
-use crate::glance::{Field, can_capture, has_two, other_steps};
+use crate::field::{Field, has_two};
+use crate::glance::{can_capture, other_steps};
 use crate::moves::Move;
 use crate::play::play;
 use dw_board::board::{Board, Dir};

@@ -28,9 +28,9 @@ returns-then-steps-3 g c =
     c.if-steps-3.true refl in
     some_dir P (CanStep g.B.Board.geometry c.args.position.now) c.if-steps-2.value four
     (steps_go g.B.Board.geometry g.met.B.Board.numbers c.args.position.now f.men f.kings f.enemies f.occupied
-    c.of-field.ensures c.turn-side.result c.turn-side.ensures.value)
+    c.of-field.ensures.sets c.turn-side.result c.turn-side.ensures.value)
     (go_steps g.B.Board.geometry g.met.B.Board.numbers c.args.position.now f.men f.kings f.enemies f.occupied
-    c.of-field.ensures c.turn-side.result c.turn-side.ensures.value)
+    c.of-field.ensures.sets c.turn-side.result c.turn-side.ensures.value)
 
 pub returns-else-steps-3 : goal.returns-else-steps-3
 returns-else-steps-3 g c =
@@ -52,6 +52,6 @@ returns-else-steps-3 g c =
     c.if-steps-2.value c.steps-else-steps-3.result three c.steps-else-steps-3.ensures c.if-steps-3.false refl in
     some_dir P (CanStep g.B.Board.geometry c.args.position.now) c.steps-else-steps-3.result four
     (steps_go g.B.Board.geometry g.met.B.Board.numbers c.args.position.now f.men f.kings f.enemies f.occupied
-    c.of-field.ensures c.turn-side.result c.turn-side.ensures.value)
+    c.of-field.ensures.sets c.turn-side.result c.turn-side.ensures.value)
     (go_steps g.B.Board.geometry g.met.B.Board.numbers c.args.position.now f.men f.kings f.enemies f.occupied
-    c.of-field.ensures c.turn-side.result c.turn-side.ensures.value)
+    c.of-field.ensures.sets c.turn-side.result c.turn-side.ensures.value)

@@ -11,7 +11,7 @@ returns-then-men_take-clause-none g c =
     let h = men_take_is g.B.Board.geometry f.men f.kings f.enemies f.occupied
     (c.men_take.ensures.0 c.if-men_take.true) in (
       (λ _. takes_capture g.B.Board.geometry g.met.B.Board.numbers c.args.position.now f.men f.kings f.enemies
-          f.occupied c.of-field.ensures h.0 h.1),
+          f.occupied c.of-field.ensures.sets h.0 h.1),
       (λ _. refl),
     )
 
@@ -21,7 +21,7 @@ returns-then-is_empty-clause-none g c =
       (λ e. absurd (true≢false e)),
       (λ h. elim (takes_by g.B.Board.geometry f.men f.kings f.enemies f.occupied
           (capture_takes g.B.Board.geometry g.met.B.Board.numbers c.args.position.now f.men f.kings f.enemies f.occupied
-          c.of-field.ensures h)) [
+          c.of-field.ensures.sets h)) [
             | inl m ↦ absurd (true≢false (sym (c.men_take.ensures.1 m) ∙ c.if-men_take.false))
             | inr k ↦ absurd (no_kings_take g.B.Board.geometry f.kings f.enemies f.occupied
                 (λ s i. in_none f.kings s (c.is_empty.ensures.0 c.if-is_empty.true) i) k)

@@ -1,31 +1,59 @@
-use Rattle.std.proofs.Common.{◌≡◌, sym, ap, ◌∙◌, arith}
-use Rattle.std.proofs.lemmas.Bool.{true≢false}
+use Rattle.std.proofs.Common.{◌≡◌, ◌↔◌, ap, ◌∙◌, subst, sym, false, inl, inr}
+use Rattle.std.specs.Prelude.{IsTrue}
+use Rattle.std.proofs.lemmas.Bool.{true≢false, not_from_false, not_from_true, cases_Bool}
 use Rattle.std.specs.FinSet as fin
-use Rattle.dw_moves.specs.Moves.{Move}
-use Rattle.dw_moves.proofs.FilledLemmas.{legal_count, legal_if_quiet, legal_if_capture}
+use Rattle.std.specs.Ordering.{nat_cmp}
+use Rattle.dw_moves.specs.Moves.{CanCapture, Legal, Move, Quiet}
+use Rattle.dw_moves.specs.inner.KeptLemmas.{These}
+use Rattle.dw_moves.specs.inner.Walks.{Captures, Sought}
+use Rattle.dw_moves.proofs.FilledLemmas.{legal_if_quiet, legal_if_sought}
+use Rattle.dw_moves.proofs.KeeperLemmas.{sought_same}
 use Rattle.dw_moves.proofs.legal.is_legal.Goals as goal
 
-pub returns-then-count-most : goal.returns-then-count-most
-returns-then-count-most g c =
-    let same : fin.len c.mv.inside.taken ≡ fin.len c.args.mv.now.taken = ap (λ (m : Move). fin.len m.taken)
-    c.mv.view_is in (
-      (λ e. absurd (true≢false (sym e))),
-      (λ l. absurd (c.if-count-most.true (c.count.ensures.value
-          ∙ (same ∙ legal_count g.B.Board.geometry c.args.position.now c.best-most.result c.args.mv.now
-          c.best-most.ensures.value l)))),
+pub returns-then-is_quiet : goal.returns-then-is_quiet
+returns-then-is_quiet g c =
+    let geo = g.B.Board.geometry in
+    let p = c.args.position.now in
+    let n : Move = record { from = c.mv.inside.from; to = c.mv.inside.to; taken = c.mv.inside.taken } in
+    let none : fin.len n.taken ≡ 0 = ap fin.len (c.is_empty.ensures.0 c.if-is_empty.true) ∙ fin.len-empty nat_cmp in
+    let h : (Quiet geo p n.from n.to × (CanCapture geo p → ⊥)) ↔ Legal geo p c.args.mv.now =
+    subst (λ z. (Quiet geo p n.from n.to × (CanCapture geo p → ⊥)) ↔ Legal geo p z) c.mv.view_is
+    (legal_if_quiet geo p n none) in (
+      (λ e. h.0 (
+        c.is_quiet.ensures.0 c.if-is_quiet.true,
+        λ can. true≢false (sym e ∙ not_from_true c.can_capture.result (c.can_capture.ensures.1 can)),
+      )),
+      (λ l. elim (cases_Bool c.can_capture.result) [
+        | inl can ↦ absurd ((h.1 l).1 (c.can_capture.ensures.0 can))
+        | inr quiet ↦ not_from_false c.can_capture.result quiet
+      ]),
     )
 
-pub returns-then-most-eq0 : goal.returns-then-most-eq0
-returns-then-most-eq0 g c =
+pub returns-else-is_quiet : goal.returns-else-is_quiet
+returns-else-is_quiet g c =
+    let geo = g.B.Board.geometry in
+    let p = c.args.position.now in
     let n : Move = record { from = c.mv.inside.from; to = c.mv.inside.to; taken = c.mv.inside.taken } in
-    let h = legal_if_quiet g.B.Board.geometry c.args.position.now c.best-most.result n c.args.mv.now c.mv.view_is
-    c.best-most.ensures.value c.if-most-eq0.true (sym c.count.ensures.value ∙ c.if-count-most.false) in
-    ((λ e. h.0 (c.is_quiet.ensures.0 e)), (λ l. c.is_quiet.ensures.1 (h.1 l)))
+    let none : fin.len n.taken ≡ 0 = ap fin.len (c.is_empty.ensures.0 c.if-is_empty.true) ∙ fin.len-empty nat_cmp in
+    let h : (Quiet geo p n.from n.to × (CanCapture geo p → ⊥)) ↔ Legal geo p c.args.mv.now =
+    subst (λ z. (Quiet geo p n.from n.to × (CanCapture geo p → ⊥)) ↔ Legal geo p z) c.mv.view_is
+    (legal_if_quiet geo p n none) in (
+      (λ e. absurd (true≢false (sym e ∙ c.if-is_quiet.false))),
+      (λ l. absurd (true≢false (sym (c.is_quiet.ensures.1 (h.1 l).0) ∙ c.if-is_quiet.false))),
+    )
 
-pub returns-else-most-eq0 : goal.returns-else-most-eq0
-returns-else-most-eq0 g c =
+pub returns : goal.returns
+returns g c =
+    let geo = g.B.Board.geometry in
+    let p = c.args.position.now in
     let n : Move = record { from = c.mv.inside.from; to = c.mv.inside.to; taken = c.mv.inside.taken } in
-    let h = legal_if_capture g.B.Board.geometry c.args.position.now c.best-most.result n c.args.mv.now c.mv.view_is
-    c.best-most.ensures.value (omega (arith, c.if-most-eq0.false)) (sym c.count.ensures.value
-    ∙ c.if-count-most.false) in
-    ((λ e. h.0 (c.is_capture.ensures.0 e)), (λ l. c.is_capture.ensures.1 (h.1 l)))
+    let f = c.walk_captures.new.keeper in
+    let o = c.in-Ok.ensures.kept in
+    let h : Sought (Captures geo p) n 0 (IsTrue false) f.wanted f.most (IsTrue f.found) =
+    sought_same (These o.captures) (Captures geo p) n f.wanted 0 f.most (IsTrue false) (IsTrue f.found) o.exactly
+    o.held in
+    let some : fin.len n.taken ≡ 0 → ⊥ = λ e. true≢false (sym (c.is_empty.ensures.1 (fin.empty_of_len n.taken e))
+    ∙ c.if-is_empty.false) in
+    let s = legal_if_sought geo p f.most n (IsTrue false) (λ e. true≢false (sym e)) h.grows some in
+    subst (λ z. IsTrue f.found ↔ Legal geo p z) c.mv.view_is
+    ((λ e. s.0 (h.is.0 e)), (λ l. h.is.1 (s.1 l)))

@@ -7,7 +7,7 @@ use Rattle.arrayvec.specs.ArrayVec.{ArrayVec}
 use Rattle.dw_board.specs.Geometry.{square_of}
 use Rattle.dw_moves.specs.inner.MoveLemmas.{same_moves}
 use Rattle.dw_moves.specs.Order.{LexLess}
-use Rattle.dw_moves.specs.inner.Listing.{entries_listed, TakenIn}
+use Rattle.dw_moves.specs.inner.Walks.{entries_listed, TakenIn}
 use Rattle.dw_moves.proofs.LeastEntryLemmas.{listed_as, taken_new, taken_old, below_found, below_none}
 use Rattle.dw_moves.proofs.listed.keep_least.Goals as goal
 use Rattle.dw_moves.proofs.listed.keep_least.Goals.{in-Some, in-None}

@@ -3,7 +3,7 @@ use Rattle.std.specs.Ordering.{is_lt}
 use Rattle.std.proofs.lemmas.List.Sorted.{answers_always}
 use Rattle.std.proofs.lemmas.Result.{on_ok_weaker}
 use Rattle.dw_moves.specs.Order.{LexLess}
-use Rattle.dw_moves.specs.inner.Listing.{sorted_by}
+use Rattle.dw_moves.specs.inner.Walks.{sorted_by}
 use Rattle.dw_moves.proofs.ListingLemmas.{comes_first, first_order, first_is, sorted_all}
 use Rattle.dw_moves.proofs.listed.listed_into.Goals as goal
 

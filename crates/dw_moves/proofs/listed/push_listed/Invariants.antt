@@ -1,5 +1,5 @@
 use Rattle.std.proofs.Common.{◌++◌}
-use Rattle.dw_moves.specs.inner.Listing.{entries_listed, HasAll}
+use Rattle.dw_moves.specs.inner.Walks.{entries_listed, HasAll}
 use Rattle.dw_moves.proofs.listed.push_listed.Given as goal
 
 abbrev pub invariant-paths : goal.invariant-paths

@@ -1,6 +1,6 @@
 use Rattle.std.proofs.Common.{◌<◌, sym, subst, refl}
 use Rattle.std.specs.FinSet as fin
-use Rattle.dw_moves.proofs.TakesTheseLemmas.{fewer_left}
+use Rattle.dw_moves.proofs.SquareSetLemmas.{fewer_left}
 use Rattle.dw_board.specs.declared.piece.Kind.TheVariants.{King}
 use Rattle.dw_moves.proofs.GlanceSetLemmas.{AreKind}
 use Rattle.dw_moves.proofs.AddingLemmas.{going_none, going_more, going_all}

@@ -6,7 +6,7 @@ use Rattle.dw_moves.specs.Moves.{Legal, play}
 use Rattle.dw_moves.specs.inner.Glance.{StepsOn}
 use Rattle.dw_moves.specs.Replies.{HasSureReply, IsSureStep}
 use Rattle.dw_moves.proofs.SureStepLemmas.{all_left, is_legal, is_sure_step, one_tried, none_begun, all_tried}
-use Rattle.dw_moves.proofs.TakesTheseLemmas.{fewer_left}
+use Rattle.dw_moves.proofs.SquareSetLemmas.{fewer_left}
 use Rattle.dw_moves.proofs.replies.sure_towards.Goals as goal
 
 pub goals-init : goal.goals-init

@@ -1,0 +1,216 @@
+use Rattle.std.proofs.Common.{◌≡◌, ◌≤◌, ◌+◌, ◌++◌, ◌∷◌, [], ℕ, List, false, sym, ap, ◌∙◌, subst, refl, arith}
+use Rattle.std.proofs.lemmas.Bool.{true≢false}
+use Rattle.std.specs.FinSet as fin
+use Rattle.std.proofs.lemmas.Result.{on_ok_weaker}
+use Rattle.dw_board.specs.declared.piece.Piece.{Piece}
+use Rattle.dw_moves.specs.Order.{Listed}
+use Rattle.dw_board.specs.Geometry.{OnBoard}
+use Rattle.dw_moves.specs.Moves.{ray}
+use Rattle.dw_moves.specs.inner.Plain.{landings_for}
+use Rattle.dw_moves.specs.inner.Walks.{GoesOn, Offers, onward, so_far}
+use Rattle.dw_moves.proofs.OfferLemmas.{offers_one, offers_late, offers_still}
+use Rattle.dw_moves.proofs.WalkLemmas.{walked_all, ends_there, landed_none, landed_more, landed_last, landed_stop}
+use Rattle.dw_moves.proofs.RunLemmas.{freed, ray_shorter}
+use Rattle.dw_moves.proofs.SquareSetLemmas.{difference_less, len_more}
+use Rattle.dw_moves.proofs.StepLemmas.{step_is}
+use Rattle.dw_moves.proofs.WalkLemmas.{Onto, onto_towards, towards_none, towards_taken, same_listed_parts, same_onward}
+use Rattle.dw_moves.proofs.walk.+walk.Goals as goal
+use Rattle.dw_moves.proofs.walk.+walk.Goals.{walk_onto-then-goes_on+in_ok-walk, walk_onto-else-goes_on+in_ok-offer}
+use Rattle.dw_moves.proofs.walk.+walk.Goals.{walk_towards-in-Some-free_step+in_ok-walk_onto+in-Man}
+use Rattle.dw_moves.proofs.walk.+walk.Goals.{walk_towards-in_default-free_step}
+
+pub walk-returns-clause-kept : goal.walk-returns-clause-kept
+walk-returns-clause-kept g t c =
+    let offered = g.K.Keeper.offered in
+    let b0 = c.args.begun.now in
+    on_ok_weaker c.offer.result (λ kept p side path ground on.
+    let piece : Piece = record { side = side; kind = g.M.Mover.as_kind } in
+    let b : Listed = so_far b0.from b0.at b0.taken path in
+    let on1 = c.in_ok-walk_towards.ensures.on path on in
+    let on2 = c.in_ok-walk_towards-2.ensures.on path on1 in
+    let on3 = c.in_ok-walk_towards-3.ensures.on path on2 in
+    let on4 = c.in_ok-walk_towards-4.ensures.on path on3 in
+    let this : Listed = record { step = c.ended.result; path = path } in
+    let is : this ≡ b = same_listed_parts this b c.ended.ensures refl in
+    let last : Offers offered (λ l. l ≡ b) c.walk_towards-4.new.keeper c.offer.new.self =
+    subst (λ z. Offers offered (λ l. l ≡ z) c.walk_towards-4.new.keeper c.offer.new.self) is
+    (offers_one g.row.K.Denot offered this c.walk_towards-4.new.keeper c.offer.new.self (kept path on4)) in
+    walked_all g.B.Board.geometry p piece b g.row.K.Denot offered g.met.K.Keeper.both c.args.keeper.now
+    c.walk_towards.new.keeper c.walk_towards-2.new.keeper c.walk_towards-3.new.keeper c.walk_towards-4.new.keeper
+    c.offer.new.self
+    (c.in_ok-walk_towards.ensures.kept p side path ground on)
+    (c.in_ok-walk_towards-2.ensures.kept p side path ground on1)
+    (c.in_ok-walk_towards-3.ensures.kept p side path ground on2)
+    (c.in_ok-walk_towards-4.ensures.kept p side path ground on3) last) c.offer.ensures.kept
+
+pub walk_onto-returns-clause-kept : goal.walk_onto-returns-clause-kept
+walk_onto-returns-clause-kept g t c = λ p side path ground on.
+    let K = g.row.K.Denot in
+    let offered = g.K.Keeper.offered in
+    let both = g.met.K.Keeper.both in
+    let b0 = c.args.begun.now in
+    let piece : Piece = record { side = side; kind = g.M.Mover.as_kind } in
+    let here : List ℕ = path ++ b0.at ∷ [] in
+    let b : Listed = so_far b0.from b0.at b0.taken here in
+    let E : Listed → Type 0 = GoesOn g.B.Board.geometry p piece b in
+    let on1 = c.enter.ensures.on path on in
+    let done : Offers offered E c.enter.new.self c.if-goes_on.keeper = elim c.if-goes_on.branch [
+      | walk_onto-then-goes_on+in_ok-walk w ↦ subst (λ z. Offers offered E c.enter.new.self z) (sym w.keeper-is)
+          (w.in_ok-walk.ensures.kept p side here ground on1)
+      | walk_onto-else-goes_on+in_ok-offer w ↦
+          let this : Listed = record { step = w.ended.result; path = here } in
+          let is : this ≡ b = same_listed_parts this b w.ended.ensures refl in
+          subst (λ z. Offers offered E c.enter.new.self z) (sym w.keeper-is)
+          (ends_there g.B.Board.geometry p piece b K offered both c.enter.new.self w.offer.new.self
+          (λ x u fresh jump. true≢false (sym (c.goes_on.ensures p side x u ground fresh jump) ∙ w.if-goes_on.false))
+          (subst (λ z. Offers offered (λ l. l ≡ z) c.enter.new.self w.offer.new.self) is
+          (offers_one K offered this c.enter.new.self w.offer.new.self (w.in_ok-offer.ensures.kept here on1))))
+    ] in
+    offers_still K offered both E c.args.keeper.now c.if-goes_on.keeper c.leave.new.self
+    (offers_late K offered both E c.args.keeper.now c.enter.new.self c.if-goes_on.keeper c.enter.ensures.same done)
+    c.leave.ensures.same
+
+pub walk_towards-returns-in_default-clause-kept : goal.walk_towards-returns-in_default-clause-kept
+walk_towards-returns-in_default-clause-kept g t c = λ p side path ground on.
+    let b0 = c.args.begun.now in
+    let k = c.args.keeper.now in
+    towards_none g.B.Board.geometry p (record { side = side; kind = g.M.Mover.as_kind })
+    (so_far b0.from b0.at b0.taken path) g.row.K.Denot g.K.Keeper.offered g.met.K.Keeper.both c.args.direction k
+    (g.met.K.Keeper.nothing k) (c.met.ensures.none c.in_default.is p side ground)
+
+pub walk_towards-returns-then-has-clause-kept : goal.walk_towards-returns-then-has-clause-kept
+walk_towards-returns-then-has-clause-kept g t c = λ p side path ground on.
+    let b0 = c.args.begun.now in
+    let k = c.args.keeper.now in
+    towards_taken g.B.Board.geometry p (record { side = side; kind = g.M.Mover.as_kind })
+    (so_far b0.from b0.at b0.taken path) g.row.K.Denot g.K.Keeper.offered g.met.K.Keeper.both c.in-Some.over
+    c.args.direction k (g.met.K.Keeper.nothing k) (c.in-Some.ensures.some p side ground)
+    (sym c.has.ensures ∙ c.if-has.true)
+
+pub walk_towards-landings-init : goal.walk_towards-landings-init
+walk_towards-landings-init g t c =
+    let b0 = c.args.begun.now in
+    let k = c.args.keeper.now in
+    record {
+      on = c.in-Some.ensures.on_board;
+      path = λ path on. on;
+      walked = λ p side path ground on.
+          landed_none g.B.Board.geometry p (record { side = side; kind = g.M.Mover.as_kind })
+          (so_far b0.from b0.at b0.taken path) g.row.K.Denot g.K.Keeper.offered g.met.K.Keeper.both c.in-Some.over
+          c.args.direction k (g.met.K.Keeper.nothing k);
+    }
+
+pub walk_towards-free_step-requires : goal.walk_towards-free_step-requires
+walk_towards-free_step-requires g t c = c.landings.invariant.on
+
+pub walk_towards-onto-requires : goal.walk_towards-onto-requires
+walk_towards-onto-requires g t c =
+    let less = difference_less c.args.field.now.enemies c.args.begun.now.taken c.in-Some.over c.in-Some.ensures.enemy
+    (sym c.has.ensures ∙ c.if-has.false) in
+    omega (arith, less, c.requires.few)
+
+pub walk_towards-walk_onto-requires : goal.walk_towards-walk_onto-requires
+walk_towards-walk_onto-requires g t c κs within =
+    let geo = g.B.Board.geometry in
+    let enemies = c.args.field.now.enemies in
+    let fresh : fin.contains c.args.begun.now.taken c.in-Some.over ≡ false = sym c.has.ensures ∙ c.if-has.false in
+    let less = difference_less enemies c.args.begun.now.taken c.in-Some.over c.in-Some.ensures.enemy fresh in
+    let left : fin.len (fin.difference enemies c.onto.result.taken)
+    ≡ fin.len (fin.difference enemies (fin.insert c.args.begun.now.taken c.in-Some.over)) =
+    ap (λ v. fin.len (fin.difference enemies v)) c.onto.ensures.taken in
+    let more : fin.len c.onto.result.taken ≡ fin.len c.args.begun.now.taken + 1 = ap fin.len c.onto.ensures.taken
+    ∙ len_more c.args.begun.now.taken c.in-Some.over fresh in
+    let on : OnBoard geo c.in-Some-free_step.landing = (step_is geo g.met.B.Board.numbers c.landings.at
+    c.in-Some-free_step.landing c.args.direction c.landings.invariant.on c.in-Some-free_step.ensures.steps).on in
+    let count = c.onto.ensures.count in
+    let few = c.requires.few in
+    let counted = c.requires.counted in
+    let falls = c.decreases in
+    let path = c.requires.path in (
+      omega (arith, less, left, falls),
+      (
+        within.0,
+        (
+          within.1.0,
+          (
+            within.1.1.0,
+            (
+              within.1.1.1,
+              (
+                subst (OnBoard geo) (sym c.onto.ensures.at) on,
+                (
+                  omega (arith, less, left, count, few),
+                  (
+                    omega (arith, more, count, counted),
+                    (path.0, (c.landings.invariant.path path.0 path.1.0, path.1.1 ∙ sym count)),
+                  ),
+                ),
+              ),
+            ),
+          ),
+        ),
+      ),
+    )
+
+pub walk_towards-landings-smaller : goal.walk_towards-landings-smaller
+walk_towards-landings-smaller g t c = ray_shorter g.B.Board.geometry g.met.B.Board.numbers c.landings.at
+    c.args.direction c.in-Some-free_step.landing c.landings.invariant.on c.in-Some-free_step.ensures.steps
+
+pub walk_towards-landings-preserved : goal.walk_towards-landings-preserved
+walk_towards-landings-preserved g t c =
+    let geo = g.B.Board.geometry in
+    let b0 = c.args.begun.now in
+    let landing = c.in-Some-free_step.landing in
+    let inv = c.landings.invariant in
+    record {
+      on = (step_is geo g.met.B.Board.numbers c.landings.at landing c.args.direction inv.on
+          c.in-Some-free_step.ensures.steps).on;
+      path = λ path on. c.in_ok-walk_onto.ensures.on path (inv.path path on);
+      walked = λ p side path ground on.
+          let piece : Piece = record { side = side; kind = g.M.Mover.as_kind } in
+          let b : Listed = so_far b0.from b0.at b0.taken path in
+          let f = freed geo g.met.B.Board.numbers p c.landings.at c.args.direction landing inv.on
+          (sym (c.free_step.ensures.free p side ground) ∙ c.in-Some-free_step.is) in
+          let rest : Offers g.K.Keeper.offered (GoesOn geo p piece (onward b c.in-Some.over landing)) c.landings.keeper
+          c.walk_onto.new.keeper = subst (λ z. Offers g.K.Keeper.offered (GoesOn geo p piece z) c.landings.keeper
+          c.walk_onto.new.keeper) (same_onward b0.from c.onto.result.at landing c.onto.result.taken
+          (fin.insert b0.taken c.in-Some.over) path c.onto.result.from c.onto.ensures.from c.onto.ensures.at
+          c.onto.ensures.taken) (c.in_ok-walk_onto.ensures.kept p side path ground (inv.path path on)) in
+          landed_more geo p piece b g.row.K.Denot g.K.Keeper.offered g.met.K.Keeper.both c.in-Some.over
+          c.args.direction c.landings.at landing c.args.keeper.now c.landings.keeper c.walk_onto.new.keeper
+          (sym c.kind.ensures ∙ c.in-King.is) (inv.walked p side path ground on) f rest;
+    }
+
+pub walk_towards-returns-clause-kept : goal.walk_towards-returns-clause-kept
+walk_towards-returns-clause-kept g t c = λ p side path ground on.
+    let geo = g.B.Board.geometry in
+    let K = g.row.K.Denot in
+    let offered = g.K.Keeper.offered in
+    let both = g.met.K.Keeper.both in
+    let b0 = c.args.begun.now in
+    let piece : Piece = record { side = side; kind = g.M.Mover.as_kind } in
+    let b : Listed = so_far b0.from b0.at b0.taken path in
+    let inv = c.landings.invariant in
+    let E : Listed → Type 0 = Onto geo p piece b c.in-Some.over (landings_for piece.kind p
+    (ray geo c.in-Some.over c.args.direction)) in
+    onto_towards geo p piece b K offered both c.in-Some.over c.args.direction c.args.keeper.now
+    c.match-free_step.keeper (c.in-Some.ensures.some p side ground) (sym c.has.ensures ∙ c.if-has.false)
+    (elim c.match-free_step.branch [
+      | walk_towards-in-Some-free_step+in_ok-walk_onto+in-Man w ↦
+          let landing = w.in-Some-free_step.landing in
+          let f = freed geo g.met.B.Board.numbers p c.landings.at c.args.direction landing inv.on
+          (sym (c.free_step.ensures.free p side ground) ∙ w.in-Some-free_step.is) in
+          let rest : Offers offered (GoesOn geo p piece (onward b c.in-Some.over landing)) c.landings.keeper
+          w.walk_onto.new.keeper = subst (λ z. Offers offered (GoesOn geo p piece z) c.landings.keeper
+          w.walk_onto.new.keeper) (same_onward b0.from w.onto.result.at landing w.onto.result.taken
+          (fin.insert b0.taken c.in-Some.over) path w.onto.result.from w.onto.ensures.from w.onto.ensures.at
+          w.onto.ensures.taken) (w.in_ok-walk_onto.ensures.kept p side path ground (inv.path path on)) in
+          subst (λ z. Offers offered E c.args.keeper.now z) (sym w.keeper-is)
+          (landed_last geo p piece b K offered both c.in-Some.over c.args.direction c.landings.at landing
+          c.args.keeper.now c.landings.keeper w.walk_onto.new.keeper (sym w.kind.ensures ∙ w.in-Man.is)
+          (inv.walked p side path ground on) f rest)
+      | walk_towards-in_default-free_step w ↦ subst (λ z. Offers offered E c.args.keeper.now z) (sym w.keeper-is)
+          (landed_stop geo p piece b K offered both g.met.B.Board.numbers c.in-Some.over c.args.direction
+          c.landings.at c.args.keeper.now c.landings.keeper inv.on (inv.walked p side path ground on)
+          (sym (c.free_step.ensures.free p side ground) ∙ w.in_default-free_step.is))
+    ])

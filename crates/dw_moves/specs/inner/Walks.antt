@@ -1,0 +1,160 @@
+-- Captures as they are walked, jump by jump, and what is kept of them.
+use Rattle.std.specs.Prelude.{◌≡◌, ℕ, ◌≤◌, ◌<◌, ◌⊎◌, ◌↔◌, false, Option, Some, None, IsSome, List, [], ◌∷◌, ◌++◌, map}
+use Rattle.std.specs.FinSet as set
+use Rattle.arrayvec.specs.ArrayVec.{ArrayVec}
+use Rattle.dw_board.specs.declared.board.Dir.{Dir}
+use Rattle.dw_board.specs.declared.piece.Piece.{Piece}
+use Rattle.dw_board.specs.Geometry.{Geometry, Squares}
+use Rattle.dw_board.specs.Lists.{Member, NoRepeat}
+use Rattle.dw_board.specs.Placement.{Placement, placed}
+use Rattle.dw_moves.specs.Moves.{Stands, Jumps, Move, IsPathOf, Legal, last_of, ray}
+use Rattle.dw_moves.specs.Order.{LexLess, Listed, HasLeastPath}
+use Rattle.dw_moves.specs.inner.Plain.{quiet_to, takes_for}
+
+-- ---- chains of jumps
+-- jumps from s that take nothing twice and nothing that was taken before
+pub record Chain (g : Geometry) (p : Placement) (piece : Piece) (s : ℕ) (taken : Squares)
+    (landings over : List ℕ) : Type 0 where
+  pub jumps : Jumps g p piece s landings over
+  pub once : NoRepeat over
+  pub fresh : (c : ℕ) → Member c over → set.contains taken c ≡ false
+
+-- a capture so far: where it began, where it stands, what it took, and its path
+abbrev pub so_far : ℕ → ℕ → Squares → List ℕ → Listed
+so_far from at taken path = record { step = record { from = from; to = at; taken = taken }; path = path }
+
+-- the same with one jump more, over c onto t
+abbrev pub onward : Listed → ℕ → ℕ → Listed
+onward b c t = so_far b.step.from t (set.insert b.step.taken c) (b.path ++ t ∷ [])
+
+-- l is a capture so far with a chain of jumps after it
+pub record GoesOn (g : Geometry) (p : Placement) (piece : Piece) (b l : Listed) : Type 0 where
+  pub landings : List ℕ
+  pub over : List ℕ
+  pub chain : Chain g p piece b.step.to b.step.taken landings over
+  pub from : l.step.from ≡ b.step.from
+  pub to : l.step.to ≡ last_of b.step.to landings
+  pub taken : l.step.taken ≡ set.union b.step.taken (set.from_list over)
+  pub path : l.path ≡ b.path ++ landings
+
+-- and its next jump goes in this direction
+pub record GoesTowards (g : Geometry) (p : Placement) (piece : Piece) (b : Listed) (d : Dir) (l : Listed) : Type 0 where
+  pub c : ℕ
+  pub t : ℕ
+  pub jump : Member (c, t) (takes_for piece.kind p piece.side (ray g b.step.to d))
+  pub fresh : set.contains b.step.taken c ≡ false
+  pub rest : GoesOn g p piece (onward b c t) l
+
+-- ---- the captures of a position
+-- the number of pieces that it takes
+abbrev pub number : Listed → ℕ
+number l = set.len l.step.taken
+
+-- l is a capture with one of its paths
+pub record Captures (g : Geometry) (p : Placement) (l : Listed) : Type 0 where
+  pub landings : List ℕ
+  pub some : 0 < number l
+  pub leads : IsPathOf g p l.step (number l) landings
+  pub path : l.path ≡ l.step.from ∷ landings
+
+-- l begins on this square with a jump in this direction
+pub record Begins (g : Geometry) (p : Placement) (d : Dir) (from : ℕ) (l : Listed) : Type 0 where
+  pub piece : Piece
+  pub stands : Stands g p from piece
+  pub goes : GoesTowards g (placed p from None) piece (so_far from from set.empty (from ∷ [])) d l
+
+-- it begins on some square
+abbrev pub BeginsTowards : Geometry → Placement → Dir → Listed → Type 0
+BeginsTowards g p d l = (from : ℕ) × Begins g p d from l
+
+-- just these captures were offered, each once or more often
+pub record Offers {K : Type 0} (offered : List Listed → K → K → Type 0) (E : Listed → Type 0) (old new : K) :
+    Type 0 where
+  pub captures : List Listed
+  pub exactly : (l : Listed) → Member l captures ↔ E l
+  pub held : offered captures old new
+
+-- ---- what is kept of them
+-- the greatest number was k; with these captures it is now
+pub record Grows (E : Listed → Type 0) (k now : ℕ) : Type 0 where
+  pub grown : k ≤ now
+  pub reached : (k ≡ now) ⊎ ((l : Listed) × E l × (number l ≡ now))
+  pub most : (l : Listed) → E l → number l ≤ now
+
+-- one of those that take the greatest number has a property
+abbrev pub Longest : (Listed → Type 0) → ℕ → (Listed → Type 0) → Type 0
+Longest E now C = (l : Listed) × E l × (number l ≡ now) × C l
+
+-- what held of the longest captures, or holds of one of these
+abbrev pub Either : (Listed → Type 0) → ℕ → ℕ → (Listed → Type 0) → Type 0 → Type 0
+Either E k now C old = ((now ≡ k) × old) ⊎ Longest E now C
+
+-- l makes this move
+abbrev pub Makes : Move → Listed → Type 0
+Makes m l = l.step ≡ m
+
+-- the moves of the greatest number, each once
+pub record MovesKept (E : Listed → Type 0) (k : ℕ) (moves : List Move) (now : ℕ) (kept : List Move) : Type 0 where
+  pub grows : Grows E k now
+  pub exactly : (m : Move) → Member m kept ↔ Either E k now (Makes m) (Member m moves)
+  pub once : NoRepeat moves → NoRepeat kept
+
+-- whether one move is among them
+pub record Sought (E : Listed → Type 0) (wanted : Move) (k : ℕ) (old : Type 0) (still : Move) (now : ℕ)
+    (found : Type 0) : Type 0 where
+  pub same : still ≡ wanted
+  pub grows : Grows E k now
+  pub is : found ↔ Either E k now (Makes wanted) old
+
+-- l is made on this path
+abbrev pub Along : List ℕ → Listed → Type 0
+Along path l = l.path ≡ path
+
+-- the one of them that is made on a given path
+pub record Followed (E : Listed → Type 0) (path : List ℕ) (k : ℕ) (old : Option Move) (still : List ℕ) (now : ℕ)
+    (found : Option Move) : Type 0 where
+  pub same : still ≡ path
+  pub grows : Grows E k now
+  pub is : (m : Move) → found ≡ Some m → Either E k now (λ l. Makes m l × Along path l) (old ≡ Some m)
+  pub some : Either E k now (Along path) (IsSome old) → IsSome found
+
+-- the moves of a list, without their paths
+abbrev pub steps_of : List Listed → List Move
+steps_of list = map (λ l. l.step) list
+
+-- l's move is in a list, on a path that is no greater
+abbrev pub Covered : Listed → List Listed → Type 0
+Covered l list = (r : Listed) × Member r list × (r.step ≡ l.step) × (LexLess l.path r.path → ⊥)
+
+-- l joins a list: of the paths of its move the least is kept
+pub record TakenIn (l : Listed) (list kept : List Listed) : Type 0 where
+  pub from : (x : Listed) → Member x kept → (x ≡ l) ⊎ Member x list
+  pub least : (x : Listed) → (x ≡ l) ⊎ Member x list → Covered x kept
+  pub once : NoRepeat (steps_of list) → NoRepeat (steps_of kept)
+
+-- the same moves, each with the least of its paths
+pub record PathsKept (E : Listed → Type 0) (k : ℕ) (list : List Listed) (now : ℕ) (kept : List Listed) : Type 0 where
+  pub grows : Grows E k now
+  pub from : (l : Listed) → Member l kept → Either E k now (λ x. x ≡ l) (Member l list)
+  pub least : (l : Listed) → Either E k now (λ x. x ≡ l) (Member l list) → Covered l kept
+  pub once : NoRepeat (steps_of list) → NoRepeat (steps_of kept)
+
+-- ---- lists of moves with their paths
+-- what listed moves are sorted by: the start, the end, and the path
+abbrev pub sorted_by : Listed → List ℕ
+sorted_by l = l.step.from ∷ l.step.to ∷ l.path
+
+-- a quiet move with its path
+abbrev pub quietly_listed : ℕ → ℕ → Listed
+quietly_listed from to = record { step = quiet_to from to; path = from ∷ to ∷ [] }
+
+-- a list has all legal moves, each once and with its least path
+pub record HasAll (g : Geometry) (p : Placement) (list : List Listed) : Type 0 where
+  pub legal : (l : Listed) → Member l list → Legal g p l.step
+  pub paths : (l : Listed) → Member l list → HasLeastPath g p l
+  pub all : (m : Move) → Legal g p m → Member m (steps_of list)
+  pub once : NoRepeat (steps_of list)
+
+-- the entries of a map from moves to paths
+abbrev pub entries_listed : List (Move × ArrayVec ℕ) → List Listed
+entries_listed entries = map (λ e. record { step = e.0; path = e.1.items }) entries

@@ -1,0 +1,226 @@
+//! The walk through all captures: each chain of jumps of each piece, jump by jump.
+ghost use Rattle.std.specs.Prelude.{◌≡◌, ◌≤◌, ◌+◌, ℕ, List, [], ◌∷◌, ◌++◌, length, OnOk, IfOk};
+ghost use Rattle.std.specs.FinSet as set;
+ghost use Rattle.dw_board.specs.Geometry.{OnBoard};
+ghost use Rattle.dw_board.specs.Placement.{IsPosition, Placement};
+ghost use Rattle.dw_board.specs.declared.piece.Side.{Side};
+ghost use Rattle.dw_moves.specs.inner.Glance.{AreSets, CanTakeTowards, IsGround};
+ghost use Rattle.dw_moves.specs.inner.Walks.{Offers, GoesOn, GoesTowards, Captures, Begins, BeginsTowards, so_far};
+
+use crate::field::Field;
+use crate::keeper::Keeper;
+use crate::mover::{Mover, Slider, Stepper};
+use crate::moves::Move;
+use dw_board::board::{Board, Dir};
+use dw_board::piece::Kind;
+use dw_board::position::Position;
+use dw_board::square::Square;
+use dw_board::squares::Squares;
+
+/// A capture so far: where it began, where it stands, what it has taken, and how many that are.
+#[derive(Drop)]
+struct Begun<B: Board> {
+    from: Square<B>,
+    at: Square<B>,
+    taken: Squares<B>,
+    count: u8,
+}
+
+impl<B: Board> Begun<B> {
+    /// One that has not jumped yet.
+    #[inline(always)]
+    fn on(from: Square<B>) -> Self
+        ensures from { result.from ≡ from }
+        ensures at { result.at ≡ from }
+        ensures taken { result.taken ≡ set.empty }
+        ensures count { result.count ≡ 0 }
+    {
+        Begun {
+            from,
+            at: from,
+            taken: Squares::none(),
+            count: 0,
+        }
+    }
+
+    /// The same with one jump more.
+    #[inline(always)]
+    fn onto(&self, over: Square<B>, landing: Square<B>) -> Self
+        requires { self.now.count + 1 ≤ 20 }
+        ensures from { result.from ≡ self.now.from }
+        ensures at { result.at ≡ landing }
+        ensures taken { result.taken ≡ set.insert self.now.taken over }
+        ensures count { result.count ≡ self.now.count + 1 }
+    {
+        Begun {
+            from: self.from,
+            at: landing,
+            taken: self.taken.with(over),
+            count: self.count + 1,
+        }
+    }
+
+    /// The move, if it ends here.
+    #[inline(always)]
+    fn ended(&self) -> Move<B>
+        ensures { result ≡ record { from = self.now.from; to = self.now.at; taken = self.now.taken } }
+    {
+        Move {
+            from: self.from,
+            to: self.at,
+            taken: self.taken,
+        }
+    }
+}
+
+/// Offers all captures of the side to move, each once for each of its paths.
+///
+/// It goes through them by the direction of the first jump: so each jump that a man begins with is found on sets of
+/// squares.
+pub(crate) fn walk_captures<B: Board, K: Keeper<B>>(
+    position: &Position<B>,
+    keeper: &mut K,
+) -> Result<(), K::Fault>
+    ensures kept { OnOk result (Offers K.offered (Captures B.geometry position.now) keeper.old keeper.new) }
+    ensures position { IsPosition B.geometry position.now.cells }
+{
+    let field = Field::of(position);
+    walk_first::<B, K>(&field, Dir::DownLeft, keeper)?;
+    walk_first::<B, K>(&field, Dir::DownRight, keeper)?;
+    walk_first::<B, K>(&field, Dir::UpLeft, keeper)?;
+    walk_first::<B, K>(&field, Dir::UpRight, keeper)
+}
+
+/// Offers those that begin with a jump in this direction.
+#[inline(always)]
+fn walk_first<B: Board, K: Keeper<B>>(
+    field: &Field<B>,
+    direction: Dir,
+    keeper: &mut K,
+) -> Result<(), K::Fault>
+    requires { set.len field.now.enemies ≤ 20 }
+    ensures { OnOk result ((p : Placement) → AreSets B.geometry p field.now.men field.now.kings field.now.enemies
+        field.now.occupied → Offers K.offered (BeginsTowards B.geometry p direction) keeper.old keeper.new) }
+{
+    let mut left = field.may_take(direction);
+    'squares: while let Some((from, rest)) = left.split() {
+        walk_from::<B, K>(field, from, direction, keeper)?;
+        left = rest;
+    }
+    Ok(())
+}
+
+/// Offers those of them that begin on this square.
+#[inline(always)]
+fn walk_from<B: Board, K: Keeper<B>>(
+    field: &Field<B>,
+    from: Square<B>,
+    direction: Dir,
+    keeper: &mut K,
+) -> Result<(), K::Fault>
+    requires on_board { OnBoard B.geometry from }
+    requires few { set.len field.now.enemies ≤ 20 }
+    ensures { OnOk result ((p : Placement) → AreSets B.geometry p field.now.men field.now.kings field.now.enemies
+        field.now.occupied → Offers K.offered (Begins B.geometry p direction from) keeper.old keeper.new) }
+{
+    let behind = field.without(from);
+    let begun = Begun::on(from);
+    keeper.begin(&from);
+    if field.men.has(from) {
+        walk_towards::<B, Stepper, K>(&behind, &begun, direction, keeper)
+    } else if field.kings.has(from) {
+        walk_towards::<B, Slider, K>(&behind, &begun, direction, keeper)
+    } else {
+        Ok(())
+    }
+}
+
+/// Offers the captures with which a capture so far goes on: on each side, and as it ends here.
+#[cycle(walk)]
+fn walk<B: Board, M: Mover<B>, K: Keeper<B>>(
+    field: &Field<B>,
+    begun: &Begun<B>,
+    keeper: &mut K,
+) -> Result<(), K::Fault>
+    requires on_board { OnBoard B.geometry begun.now.at }
+    requires few { begun.now.count + set.len (set.difference field.now.enemies begun.now.taken) ≤ 20 }
+    requires counted { begun.now.count ≡ set.len begun.now.taken }
+    requires path { (path : List ℕ) × (K.is_on keeper.old path × (length path ≡ begun.now.count + 1)) }
+    ensures kept { OnOk result ((p : Placement) (side : Side) (path : List ℕ)
+        → IsGround B.geometry p side field.now.enemies field.now.occupied → K.is_on keeper.old path
+        → Offers K.offered (GoesOn B.geometry p (record { side = side; kind = M.as_kind })
+        (so_far begun.now.from begun.now.at begun.now.taken path)) keeper.old keeper.new) }
+    ensures on { OnOk result ((path : List ℕ) → K.is_on keeper.old path → K.is_on keeper.new path) }
+{
+    walk_towards::<B, M, K>(field, begun, Dir::UpLeft, keeper)?;
+    walk_towards::<B, M, K>(field, begun, Dir::UpRight, keeper)?;
+    walk_towards::<B, M, K>(field, begun, Dir::DownLeft, keeper)?;
+    walk_towards::<B, M, K>(field, begun, Dir::DownRight, keeper)?;
+    keeper.offer(&begun.ended(), begun.count)
+}
+
+/// Offers those that go on in one direction: over the enemy that is met, onto the square behind it, or for a king onto
+/// each. What was taken stays on its square, and is not jumped twice.
+#[cycle(walk)]
+#[inline(always)]
+fn walk_towards<B: Board, M: Mover<B>, K: Keeper<B>>(
+    field: &Field<B>,
+    begun: &Begun<B>,
+    direction: Dir,
+    keeper: &mut K,
+) -> Result<(), K::Fault>
+    requires on_board { OnBoard B.geometry begun.now.at }
+    requires few { begun.now.count + set.len (set.difference field.now.enemies begun.now.taken) ≤ 20 }
+    requires counted { begun.now.count ≡ set.len begun.now.taken }
+    requires path { (path : List ℕ) × (K.is_on keeper.old path × (length path ≡ begun.now.count + 1)) }
+    ensures kept { OnOk result ((p : Placement) (side : Side) (path : List ℕ)
+        → IsGround B.geometry p side field.now.enemies field.now.occupied → K.is_on keeper.old path
+        → Offers K.offered (GoesTowards B.geometry p (record { side = side; kind = M.as_kind })
+        (so_far begun.now.from begun.now.at begun.now.taken path) direction) keeper.old keeper.new) }
+    ensures on { OnOk result ((path : List ℕ) → K.is_on keeper.old path → K.is_on keeper.new path) }
+{
+    let Some(over) = M::met(field, &begun.at, direction) else {
+        return Ok(());
+    };
+    if begun.taken.has(over) {
+        return Ok(());
+    }
+    let mut at = over;
+    'landings: while let Some(landing) = field.free_step(at, direction) {
+        walk_onto::<B, M, K>(field, &begun.onto(over, landing), keeper)?;
+        match M::kind() {
+            Kind::Man => break,
+            Kind::King => at = landing,
+        }
+    }
+    Ok(())
+}
+
+/// Offers those that go on after a jump onto the square on which the capture stands now. Most of a man's end there,
+/// which is seen on sets of squares, and need no walk of their own.
+#[cycle(walk)]
+#[inline(always)]
+fn walk_onto<B: Board, M: Mover<B>, K: Keeper<B>>(
+    field: &Field<B>,
+    begun: &Begun<B>,
+    keeper: &mut K,
+) -> Result<(), K::Fault>
+    requires on_board { OnBoard B.geometry begun.now.at }
+    requires few { begun.now.count + set.len (set.difference field.now.enemies begun.now.taken) ≤ 20 }
+    requires counted { begun.now.count ≡ set.len begun.now.taken }
+    requires path { (path : List ℕ) × (K.is_on keeper.old path × (length path ≡ begun.now.count)) }
+    ensures kept { OnOk result ((p : Placement) (side : Side) (path : List ℕ)
+        → IsGround B.geometry p side field.now.enemies field.now.occupied → K.is_on keeper.old path
+        → Offers K.offered (GoesOn B.geometry p (record { side = side; kind = M.as_kind })
+        (so_far begun.now.from begun.now.at begun.now.taken (path ++ begun.now.at ∷ []))) keeper.old keeper.new) }
+    ensures on { OnOk result ((path : List ℕ) → K.is_on keeper.old path → K.is_on keeper.new path) }
+{
+    keeper.enter(&begun.at);
+    if M::goes_on(field, &begun.at, &begun.taken) {
+        walk::<B, M, K>(field, begun, keeper)?;
+    } else {
+        keeper.offer(&begun.ended(), begun.count)?;
+    }
+    keeper.leave();
+    Ok(())
+}
