@@ -114,8 +114,8 @@ fn memo_of<B: Board>(alloc: Global, request: &Request<'_>) -> Result<AnyMemo<B>,
 {
     let memo = match request.memo {
         MemoKind::None => AnyMemo::None(NoMemo::new()),
-        MemoKind::Lru => AnyMemo::Lru(LruMemo::new(alloc, request.kept())?),
-        MemoKind::Slots => AnyMemo::Slots(SlotMemo::new(alloc, request.kept())?),
+        MemoKind::Lru => AnyMemo::Lru(LruMemo::new(alloc, request.cache)?),
+        MemoKind::Slots => AnyMemo::Slots(SlotMemo::new(alloc, request.cache)?),
     };
     Ok(memo)
 }
@@ -125,26 +125,24 @@ fn settings_of<B: Board>(
     request: &Request<'_>,
     after: Option<ArrayVec<Move<B>, MAX_MOVES>>,
 ) -> Settings<B>
-    ensures command { result.command ≡ request.now.command }
-    ensures form { result.form ≡ request.now.form }
-    ensures only { result.only ≡ request.now.only }
-    ensures after { result.after ≡ after }
-    ensures some { 1 ≤ result.n }
-    ensures few { result.n ≤ 20 }
-    ensures same_n { 1 ≤ request.now.n → request.now.n ≤ 20 → result.n ≡ request.now.n }
-    ensures lines { 1 ≤ result.lines }
-    ensures same_lines { 1 ≤ request.now.lines → result.lines ≡ request.now.lines }
-    ensures limit { 1 ≤ result.limit }
-    ensures same_limit { 1 ≤ request.now.positions → result.limit ≡ request.now.positions }
+    ensures { result ≡ record {
+      command = request.now.command;
+      form = request.now.form;
+      n = request.now.n;
+      only = request.now.only;
+      lines = request.now.lines;
+      after = after;
+      limit = request.now.positions;
+    } }
 {
     Settings {
         command: request.command,
         form: request.form,
-        n: request.n.clamp(1, 20),
+        n: request.n,
         only: request.only,
-        lines: request.lines.max(1),
+        lines: request.lines,
         after,
-        limit: request.positions.max(1),
+        limit: request.positions,
     }
 }
 

@@ -1,9 +1,9 @@
 //! The arguments of the command line.
-ghost use Rattle.std.specs.Prelude.{◌≡◌, ◌≤◌};
+ghost use Rattle.std.specs.Prelude.{◌≤◌};
 
 use clap::builder::ValueParser;
 use clap::{Arg, ArgAction, ArgMatches, Command as Words, value_parser};
-use dw_notation::problems::Form;
+use dw_notation::problems::{Form, MAX_PROBLEMS};
 use dw_report::settings::Command;
 use std::alloc::{AllocError, Global};
 
@@ -38,20 +38,29 @@ pub struct Request<'a> {
     /// The number of the one problem to report, or all.
     pub only: Option<u32>,
     pub board: BoardSize,
-    /// Within how many moves a win is looked for.
+    /// Within how many moves a win is looked for, 1 to `MOST_MOVES`.
     pub n: u8,
-    /// The most positions to expand.
+    /// The most positions to expand, at least 1.
     pub positions: u64,
     pub memo: MemoKind,
-    /// The most positions that the memo keeps.
+    /// The most positions that the memo keeps, 1 to `MOST_KEPT`.
     pub cache: usize,
-    /// The most lines to list.
+    /// The most lines to list, at least 1.
     pub lines: u64,
     /// The token of the line after which the list begins.
     pub after: Option<&'a str>,
     /// The file to read, or standard input.
     pub file: Option<&'a str>,
+    ghost some_moves: { 1 ≤ n },
+    ghost few_moves: { n ≤ 20 },
+    ghost some_positions: { 1 ≤ positions },
+    ghost some_kept: { 1 ≤ cache },
+    ghost few_kept: { cache ≤ 4_000_000 },
+    ghost some_lines: { 1 ≤ lines },
 }
+
+/// The most moves within which a win is looked for.
+const MOST_MOVES: u8 = 20;
 
 /// The most positions that a run may expand, and what it may if the arguments say nothing.
 const MOST_POSITIONS: u64 = 1_000_000_000_000;
@@ -227,7 +236,7 @@ fn pdn<'a>(alloc: Global) -> Arg<'a> {
 }
 
 fn problem<'a>(alloc: Global) -> Arg<'a> {
-    let numbers = value_parser!(u32).range(1..=1_000_000);
+    let numbers = value_parser!(u32).range(1..=i64::from(MAX_PROBLEMS));
     let help = "Report on the problem of this number alone, 1 to 1000000 [default: all]";
     option(alloc, "problem", "I", numbers, help)
 }
@@ -241,12 +250,12 @@ fn within<'a>(alloc: Global) -> Arg<'a> {
         .short('n')
         .value_name("N")
         .required(true)
-        .value_parser(value_parser!(u8).range(1..=20))
+        .value_parser(value_parser!(u8).range(1..=i64::from(MOST_MOVES)))
         .help("Look for a win in N moves of the side to move, 1 to 20")
 }
 
 fn positions<'a>(alloc: Global) -> Arg<'a> {
-    let numbers = value_parser!(u64).range(1..=1_000_000_000_000);
+    let numbers = value_parser!(u64).range(1..=MOST_POSITIONS as i64);
     let help = "Stop after L positions, 1 to 1000000000000 [default: 1000000000000]";
     option(alloc, "positions", "L", numbers, help)
 }
@@ -258,13 +267,13 @@ fn memo<'a>(alloc: Global) -> Arg<'a> {
 }
 
 fn cache<'a>(alloc: Global) -> Arg<'a> {
-    let numbers = value_parser!(u32).range(1..=4_000_000);
+    let numbers = value_parser!(u32).range(1..=MOST_KEPT as i64);
     let help = "Keep at most C positions, 1 to 4000000 [default: 100000]";
     option(alloc, "cache", "C", numbers, help)
 }
 
 fn lines<'a>(alloc: Global) -> Arg<'a> {
-    let numbers = value_parser!(u64).range(1..=1_000_000_000);
+    let numbers = value_parser!(u64).range(1..=MOST_LINES as i64);
     let help = "List at most K lines, 1 to 1000000000 [default: 1000000000]";
     option(alloc, "lines", "K", numbers, help)
 }
@@ -322,13 +331,20 @@ fn read_by<'a>(words: &ArgMatches<'a>, command: Command) -> Request<'a> {
     }
 }
 
-/// What a command that searches for wins asks for.
+/// What a command that searches for wins asks for. The numbers are within their ranges already, but what reads the words
+/// does not say so to the prover.
 fn searched_by<'a>(words: &ArgMatches<'a>, command: Command) -> Request<'a> {
     Request {
-        n: words.get_one::<u8>("n").unwrap_or(1),
-        positions: words.get_one::<u64>("positions").unwrap_or(MOST_POSITIONS),
+        n: words.get_one::<u8>("n").unwrap_or(1).clamp(1, MOST_MOVES),
+        positions: words
+            .get_one::<u64>("positions")
+            .unwrap_or(MOST_POSITIONS)
+            .max(1),
         memo: memo_kind(words.get_str("memo")),
-        cache: words.get_one::<usize>("cache").unwrap_or(USUALLY_KEPT),
+        cache: words
+            .get_one::<usize>("cache")
+            .unwrap_or(USUALLY_KEPT)
+            .clamp(1, MOST_KEPT),
         ..read_by(words, command)
     }
 }
@@ -338,7 +354,7 @@ fn listed_by<'a>(words: &ArgMatches<'a>) -> Request<'a> {
     let request = searched_by(words, Command::List);
     let after = words.get_str("after");
     Request {
-        lines: words.get_one::<u64>("lines").unwrap_or(MOST_LINES),
+        lines: words.get_one::<u64>("lines").unwrap_or(MOST_LINES).max(1),
         after,
         only: request
             .only
@@ -363,17 +379,5 @@ fn memo_kind(kind: Option<&str>) -> MemoKind {
         Some("none") => MemoKind::None,
         Some("slots") => MemoKind::Slots,
         _ => MemoKind::Lru,
-    }
-}
-
-impl Request<'_> {
-    /// The most positions that the memo keeps, 1 to 4,000,000.
-    /// Example: if `cache` is 0 it is 1.
-    pub fn kept(&self) -> usize
-        ensures some { 1 ≤ result }
-        ensures most { result ≤ 4_000_000 }
-        ensures same { 1 ≤ self.now.cache → self.now.cache ≤ 4_000_000 → result ≡ self.now.cache }
-    {
-        self.cache.clamp(1, MOST_KEPT)
     }
 }
