@@ -1,6 +1,6 @@
 -- What a reader of problems holds, and how the pieces of a text are cut off and handed out.
 use Rattle.std.specs.Prelude.{◌≡◌, ℕ, ◌+◌, ◌*◌, ◌≤◌, ◌==◌, ◌&&◌, ◌⊎◌, List, [], ◌++◌, length, Bool, true, false, not}
-use Rattle.std.specs.Prelude.{Option, option_to_list, Result, Ok, Err, nat_le}
+use Rattle.std.specs.Prelude.{Option, option_to_list, Result, Ok, Err, IsErr, nat_le}
 use Rattle.std.specs.List.{slice_range}
 use Rattle.std.specs.Io.KnownBytes.{Consumes, IsAtEnd}
 use Rattle.dw_board.specs.Geometry.{Geometry}
@@ -58,6 +58,16 @@ found_behind at_end g cutter bytes = pieces_behind at_end g cutter.pieces (rest_
 -- what the piece that was cut off says
 abbrev pub found_cut : Geometry → Cutter → List Found
 found_cut g cutter = option_to_list (pieces_cut g cutter.pieces)
+
+-- What reading on did, or meeting the end: the bytes read are those to be cut, and there are none at the end and after a
+-- failure. All else is as it was.
+pub record IsFilled {A : Type 0} (coming left : Option (List ℕ)) (old new : Cutter)
+    (result : Result A ReadFault) : Type 0 where
+  pub pieces : new.pieces ≡ old.pieces
+  pub handed : new.handed ≡ old.handed
+  pub bytes : Consumes coming left (rest_of new)
+  pub none : new.met_end ≡ true → rest_of new ≡ []
+  pub err : IsErr result → (new.met_end ≡ false) × (rest_of new ≡ [])
 
 -- bytes were read only as long as no piece had ended: none had before the last of the reads
 abbrev pub ReadsOnAtNeed : Cutter → List ℕ → Type 0

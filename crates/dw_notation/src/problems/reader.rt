@@ -3,7 +3,6 @@ ghost use Rattle.std.specs.Prelude.{◌≡◌, ℕ, ◌+◌, ◌<◌, ◌≤◌,
 ghost use Rattle.std.specs.Prelude.{List, [], ◌∷◌, ◌++◌, length, take, drop, option_to_list};
 ghost use Rattle.std.specs.Prelude.{IfSome, IfNone, IfOk, IsErr, is_err, OnOk};
 ghost use Rattle.dw_board.specs.Geometry.{Geometry};
-ghost use Rattle.std.specs.Io.KnownBytes.{Consumes};
 
 use super::fens::TextLines;
 use super::pdn::Sections;
@@ -99,7 +98,8 @@ impl Cutter {
     ghost use Rattle.dw_notation.specs.Problems.{number_from};
     ghost use Rattle.dw_notation.specs.inner.Problems.{found_of, numbered_in};
     ghost use Rattle.dw_notation.specs.inner.Pieces.{pieces_ahead, pieces_behind};
-    ghost use Rattle.dw_notation.specs.inner.Cutting.{EndIsKnown, rest_of, found_ahead, found_behind, found_cut};
+    ghost use Rattle.dw_notation.specs.inner.Cutting.{EndIsKnown, IsFilled, rest_of, found_ahead, found_behind};
+    ghost use Rattle.dw_notation.specs.inner.Cutting.{found_cut};
 
     /// Nothing was read.
     fn new(form: Form) -> Cutter
@@ -175,15 +175,11 @@ impl Cutter {
     fn fill<S: Source>(&mut self, source: &mut S) -> Result<(), ReadFault>
         requires rest { rest_of self.old ≡ [] }
         requires met_end { self.old.met_end ≡ false }
-        ensures pieces { self.new.pieces ≡ self.old.pieces }
-        ensures handed { self.new.handed ≡ self.old.handed }
-        ensures bytes { Consumes (S.coming source.old) (S.coming source.new) (rest_of self.new) }
+        ensures filled { IsFilled (S.coming source.old) (S.coming source.new) self.old self.new result }
         ensures more { OnOk result (MatchBool self.new.met_end
             (S.pulls_left source.new ≤ S.pulls_left source.old)
             (S.pulls_left source.new < S.pulls_left source.old)) }
         ensures end { EndIsKnown (S.coming source.new) (S.has_ended source.new) self.new }
-        ensures none { self.new.met_end ≡ true → rest_of self.new ≡ [] }
-        ensures err { IsErr result → (self.new.met_end ≡ false) × (rest_of self.new ≡ []) }
         ensures failed { S.is_failed source.new ≡ (S.is_failed source.old || is_err result) }
         ensures again { S.is_failed source.old ≡ true → IsErr result }
     {

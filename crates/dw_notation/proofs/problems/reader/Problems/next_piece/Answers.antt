@@ -26,12 +26,12 @@ reads-preserved g c =
     let carried = CarriesOn-cut _ _ c.args.self.now.cutter c.reads.self.cutter c.cut.new.self so_far.carried
     (cut.same c.if-cut.false) in
     let short = length-slice_range-le new.buffer new.start new.end in
-    let light = weight-fill new.met_end _ _ _ c.in-Ok.ensures.more (omega (arith, short, new.in_buffer)) fill.none in
+    let light = weight-fill new.met_end _ _ _ c.in-Ok.ensures.more (omega (arith, short, new.in_buffer)) fill.filled.none in
     record {
       lender = search rules;
-      carried = CarriesOn-fill _ _ _ _ c.cut.new.self new carried none fill.pieces fill.bytes
+      carried = CarriesOn-fill _ _ _ _ c.cut.new.self new carried none fill.filled.pieces fill.filled.bytes
           (omega (arith, short, new.in_buffer));
-      handed = fill.handed ∙ cut.handed ∙ so_far.handed;
+      handed = fill.filled.handed ∙ cut.handed ∙ so_far.handed;
       stays = λ was. let bad : true ≡ false = sym (so_far.stays was) ∙ sym cut.met_end ∙ unmet in cc;
       end = λ _. fill.end;
       failed = fill.failed ∙ or-not_err _ c.in-Ok.is ∙ so_far.failed;
