@@ -124,7 +124,7 @@ impl<B: Board> Keeper<B> for LongestMoves<B> {
 
     #[inline(always)]
     fn offer(&mut self, mv: &Move<B>, count: u8) -> Result<(), AllocError> {
-        if count < self.most {
+        if self.most > count {
             return Ok(());
         }
         self.keep(*mv, count)
