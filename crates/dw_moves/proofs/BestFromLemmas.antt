@@ -1,37 +1,19 @@
 -- Pieces of the side to move, and whether it has a legal move.
-use Rattle.std.proofs.Common.{◌≡◌, ℕ, ◌<◌, zero, suc, List, refl, sym, ap, ◌∙◌, subst, inl, inr, ◌⊎◌, arith, Some, None}
-use Rattle.std.proofs.Common.{false, true, length}
+use Rattle.std.proofs.Common.{◌≡◌, ℕ, ◌<◌, zero, suc, refl, sym, ◌∙◌, inl, inr, ◌⊎◌, arith, Some}
+use Rattle.std.proofs.Common.{false, true}
 use Rattle.std.proofs.lemmas.Bool.{true≢false}
 use Rattle.std.specs.Prelude.{◌↔◌, Bool, IsTrue}
 use Rattle.std.specs.FinSet as fin
-use Rattle.std.specs.Ordering.{nat_cmp}
 use Rattle.dw_board.specs.declared.piece.Piece.{Piece}
-use Rattle.dw_board.specs.Geometry.{Geometry, OnBoard}
-use Rattle.dw_board.specs.Placement.{Placement, at, placed, same_side}
-use Rattle.dw_moves.specs.Moves.{Jumps, Path, Stands, IsBest, CanCapture, Move, Legal, LegalAt, last_of}
+use Rattle.dw_board.specs.Geometry.{Geometry}
+use Rattle.dw_board.specs.Placement.{Placement, at}
+use Rattle.dw_moves.specs.Moves.{IsBest, CanCapture, Move, Legal, LegalAt, last_of}
 use Rattle.dw_moves.specs.inner.Glance.{CanStep}
 use Rattle.dw_moves.proofs.PlainLemmas.{best}
-use Rattle.dw_moves.specs.inner.Walks.{Chain}
-use Rattle.dw_moves.proofs.ExactLemmas.{same_side_true}
-use Rattle.dw_moves.proofs.LegalMoveLemmas.{is_best, best_only}
+use Rattle.dw_moves.proofs.LegalMoveLemmas.{is_best}
 
 pub some_same : (x y : Piece) → Some x ≡ Some y → x ≡ y
 some_same x y e = cc
-
--- a chain that begins with nothing taken is a path, and a path is one
-pub path_of : (g : Geometry) (p : Placement) (from : ℕ) (piece : Piece) (ts cs : List ℕ) → Stands g p from piece
-    → Chain g (placed p from None) piece from fin.empty ts cs → Path g p from ts cs
-path_of g p from piece ts cs s h = record { piece = piece; stands = s; jumps = h.jumps; once = h.once }
-
-pub chain_of : (g : Geometry) (p : Placement) (from : ℕ) (piece : Piece) (ts cs : List ℕ) → at p from ≡ Some piece
-    → Path g p from ts cs → Chain g (placed p from None) piece from fin.empty ts cs
-chain_of g p from piece ts cs e h =
-    let same : h.piece ≡ piece = some_same h.piece piece (sym h.stands.there ∙ e) in
-    record {
-      jumps = subst (λ q. Jumps g (placed p from None) q from ts cs) same h.jumps;
-      once = h.once;
-      fresh = λ c m. fin.contains-empty nat_cmp c;
-    }
 
 -- some move is legal where something can be taken
 pub has_capture : (g : Geometry) (p : Placement) (k : ℕ) → IsBest g p k → 0 < k → (m : Move) × Legal g p m
@@ -44,17 +26,6 @@ has_capture g p (suc k) h some =
 
 pub capture_moves : (g : Geometry) (p : Placement) → CanCapture g p → (m : Move) × Legal g p m
 capture_moves g p h = has_capture g p (best g p) (is_best g p) (omega (arith, (is_best g p).most h.0 h.1 h.2 h.3, h.4))
-
--- where nothing can be taken, a legal move is a quiet one
-legal_steps : (g : Geometry) (p : Placement) → IsBest g p 0 → (m : Move) → Legal g p m → CanStep g p
-legal_steps g p best m legal = at_k legal.0 (best_only g p legal.0 0 legal.1 best) legal.2 where
-  at_k : (k : ℕ) → k ≡ 0 → LegalAt g p k m → CanStep g p
-  at_k zero e l = (m.from, m.to, l.0)
-  at_k (suc k) e l = absurd (omega arith)
-
-pub stands_own : (g : Geometry) (p : Placement) (from : ℕ) (q : Piece) → OnBoard g from → at p from ≡ Some q
-    → same_side q.side p.turn ≡ true → Stands g p from q
-stands_own g p from q on e f = record { on_board = on; there = e; own = same_side_true q.side p.turn f }
 
 -- where a quiet move is there, a move is legal: that one, or a capture
 step_moves : (g : Geometry) (p : Placement) → CanStep g p → (m : Move) × Legal g p m

@@ -1,22 +1,19 @@
 -- The captures of a position, by the direction of their first jump and square by square.
 use Rattle.std.proofs.Common.{◌≡◌, ℕ, List, [], ◌∷◌, ◌++◌, length, refl, sym, ap, ◌∙◌, subst, ◌⊎◌, inl, inr, arith}
-use Rattle.std.proofs.Common.{false, true, Some, None}
+use Rattle.std.proofs.Common.{false, None}
 use Rattle.std.proofs.lemmas.Bool.{true≢false}
 use Rattle.std.specs.FinSet as fin
 use Rattle.std.specs.Ordering.{nat_cmp}
 use Rattle.dw_board.specs.declared.board.Dir.{Dir}
 use Rattle.dw_board.specs.declared.board.Dir.TheVariants.{UpLeft, UpRight, DownLeft, DownRight}
-use Rattle.dw_board.specs.declared.piece.Kind.{Kind}
-use Rattle.dw_board.specs.declared.piece.Kind.TheVariants.{Man, King}
 use Rattle.dw_board.specs.declared.piece.Piece.{Piece}
 use Rattle.dw_board.specs.Geometry.{Geometry, Squares}
-use Rattle.dw_board.specs.Placement.{Placement, at, placed}
+use Rattle.dw_board.specs.Placement.{Placement, placed}
 use Rattle.dw_moves.specs.Moves.{In, Path, Stands, last_of}
 use Rattle.dw_moves.specs.Order.{Listed}
-use Rattle.dw_moves.specs.inner.Glance.{AreSets, CanTakeTowards}
+use Rattle.dw_moves.specs.inner.Glance.{CanTakeTowards}
 use Rattle.dw_moves.specs.inner.Walks.{Captures, Begins, BeginsTowards, GoesOn, GoesTowards, Offers, number, so_far}
 use Rattle.dw_moves.proofs.BestFromLemmas.{some_same}
-use Rattle.dw_moves.proofs.FirstJumpLemmas.{kind_cases, piece_is}
 use Rattle.dw_moves.proofs.OfferLemmas.{offers_same, offers_none, offers_then, offers_late}
 use Rattle.dw_moves.proofs.SquareSetLemmas.{len_list, not_removed, out_of_rest, past_rest, union_of_none}
 use Rattle.dw_moves.proofs.WalkLemmas.{goes_some, towards_goes}
@@ -92,19 +89,6 @@ module _ (K : Type 0) (offered : List Listed → K → K → Type 0)
       (λ l f. subst (λ z. GoesTowards g (placed p from None) z (start from) d l)
       (some_same f.piece piece (sym f.stands.there ∙ stands.there)) f.goes)
       (subst (λ z. Offers offered (GoesTowards g (placed p from None) piece z d) k1 k2) b_is h))
-
-  -- no piece of the side to move stands there
-  pub begins_nowhere : (g : Geometry) (p : Placement) (d : Dir) (from : ℕ) (men kings enemies occupied : Squares)
-      (k k1 : K) → AreSets g p men kings enemies occupied → fin.contains men from ≡ false
-      → fin.contains kings from ≡ false → offered [] k k1 → Offers offered (Begins g p d from) k k1
-  begins_nowhere g p d from men kings enemies occupied k k1 sets no_man no_king none =
-      offers_none K offered (Begins g p d from) k k1 (λ l f.
-      let there : (kind : Kind) → f.piece.kind ≡ kind → at p from ≡ Some (record { side = p.turn; kind = kind }) =
-      λ kind e. f.stands.there ∙ ap Some (piece_is f.piece p.turn kind f.stands.own e) in
-      elim (kind_cases f.piece.kind) [
-        | inl man ↦ true≢false (sym ((sets.of_men from).1 (f.stands.on_board, there Man man)) ∙ no_man)
-        | inr king ↦ true≢false (sym ((sets.of_kings from).1 (f.stands.on_board, there King king)) ∙ no_king)
-      ]) none
 
   -- each begins on one of those on which one may begin
   pub past_none : (g : Geometry) (p : Placement) (d : Dir) (left : Squares) (k : K) → offered [] k k

@@ -5,10 +5,10 @@ use Rattle.std.specs.Prelude.{IfSome, IsSome}
 use Rattle.std.specs.FinSet as fin
 use Rattle.dw_board.specs.Geometry.{Geometry, IsBoard}
 use Rattle.dw_board.specs.Placement.{Placement}
-use Rattle.dw_moves.specs.Moves.{Move, IsBest, IsPathOf, Legal, LegalAt, Path, last_of}
+use Rattle.dw_moves.specs.Moves.{Move, IsPathOf, Legal, LegalAt, Path, last_of}
 use Rattle.dw_moves.specs.Order.{IsPathFor}
 use Rattle.dw_moves.specs.inner.MoveLemmas.{same_move}
-use Rattle.dw_moves.specs.inner.Walks.{Captures, Either, Followed, Makes, Along}
+use Rattle.dw_moves.specs.inner.Walks.{Captures, Followed}
 use Rattle.dw_moves.proofs.FilledLemmas.{best_of, path_captures}
 use Rattle.dw_moves.proofs.LegalMoveLemmas.{best_only}
 use Rattle.dw_moves.proofs.PathTellsLemmas.{path_tells}

@@ -10,7 +10,7 @@ use Rattle.dw_board.specs.Geometry.{Geometry, IsBoard, OnBoard, step, Squares, b
 use Rattle.dw_board.specs.Placement.{Placement, at, placed, other}
 use Rattle.dw_moves.specs.Moves.{Stands, Jump, ray, In}
 use Rattle.dw_board.specs.Lists.{Member}
-use Rattle.dw_moves.specs.inner.Glance.{AreSets, MenMeet, KingsTake, CanTakeFrom, CanTakeTowards}
+use Rattle.dw_moves.specs.inner.Glance.{AreSets, MenMeet, KingsTake, CanTakeTowards}
 use Rattle.dw_moves.proofs.ExactLemmas.{jump_along}
 use Rattle.dw_moves.proofs.StepLemmas.{step_is}
 use Rattle.dw_moves.proofs.StepBackLemmas.{step_back}
@@ -34,20 +34,6 @@ taker_in g b men enemies occupied met next free over behind d e e_is met_is next
     let there : In c over = (over_is c).1
     (t, (landed, subst (λ z. step g t z ≡ Some c) (sym e_is) (step_back g b c t d c_on further))) in
     (behind_is s).1 (c, (there, subst (λ z. step g c z ≡ Some s) (sym e_is) (step_back g b s c d on to)))
-
--- one of the four sets, or the first
-pub in_five : (a u v x y two three four all : Squares) (s : ℕ) → two ≡ fin.union u v → three ≡ fin.union x y
-    → four ≡ fin.union a two → all ≡ fin.union four three
-    → In s a ⊎ (In s u ⊎ (In s v ⊎ (In s x ⊎ In s y))) → In s all
-in_five a u v x y two three four all s two_is three_is four_is all_is h = elim h [
-  | inl l ↦ (in_or four three all s all_is).1 (inl ((in_or a two four s four_is).1 (inl l)))
-  | inr (inl l) ↦ (in_or four three all s all_is).1
-      (inl ((in_or a two four s four_is).1 (inr ((in_or u v two s two_is).1 (inl l)))))
-  | inr (inr (inl l)) ↦ (in_or four three all s all_is).1
-      (inl ((in_or a two four s four_is).1 (inr ((in_or u v two s two_is).1 (inr l)))))
-  | inr (inr (inr (inl l))) ↦ (in_or four three all s all_is).1 (inr ((in_or x y three s three_is).1 (inl l)))
-  | inr (inr (inr (inr l))) ↦ (in_or four three all s all_is).1 (inr ((in_or x y three s three_is).1 (inr l)))
-]
 
 -- what a direction's set holds, for all four
 abbrev pub FourSets : (Dir → Type 0) → (ul ur dl dr : Type 0) → Type 0
@@ -109,10 +95,6 @@ module _ (g : Geometry) (b : IsBoard g) (p : Placement) (men kings enemies occup
         | inr king ↦ inl ((sets.of_kings s).1 (on, there King king))
       ]
 
-  -- and so does a capture
-  capture_begins : (s : ℕ) → CanTakeFrom g p s → In s kings ⊎ ((d : Dir) × TakesFrom g men enemies occupied s d)
-  capture_begins s h = elim (jump_begins s h.0 h.1 h.2 h.3 h.4) [ inl k ↦ inl k | inr m ↦ inr (h.4.dir, m) ]
-
   pub towards_within : (movers towards all : Squares) (d : Dir) (s : ℕ)
       → (In s kings → ((u : ℕ) × KingsTake g kings enemies occupied d u) → In s movers)
       → (TakesFrom g men enemies occupied s d → In s towards) → all ≡ fin.union movers towards
@@ -126,14 +108,4 @@ module _ (g : Geometry) (b : IsBoard g) (p : Placement) (men kings enemies occup
       (in_or movers towards all s all_is).1 (elim (jump_begins s h.0 h.1 h.2 h.3 j.0) [
         | inl i ↦ inl (k i (takes i))
         | inr m ↦ inr (f (subst (TakesFrom g men enemies occupied s) j.1 m))
-      ])
-
-  pub captures_within : (ul ur dl dr two three four all : Squares) → (s : ℕ)
-      → FourSets (TakesFrom g men enemies occupied s) (In s ul) (In s ur) (In s dl) (In s dr)
-      → two ≡ fin.union ul ur → three ≡ fin.union dl dr → four ≡ fin.union kings two → all ≡ fin.union four three
-      → CanTakeFrom g p s → In s all
-  captures_within ul ur dl dr two three four all s f two_is three_is four_is all_is h = in_five kings ul ur dl dr two
-      three four all s two_is three_is four_is all_is (elim (capture_begins s h) [
-        | inl k ↦ inl k
-        | inr m ↦ inr (by_dir (TakesFrom g men enemies occupied s) (In s ul) (In s ur) (In s dl) (In s dr) f m.0 m.1)
       ])

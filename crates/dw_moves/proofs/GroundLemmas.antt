@@ -1,13 +1,12 @@
 -- The sets of a position without one of its pieces.
-use Rattle.std.proofs.Common.{◌≡◌, ◌≢◌, ℕ, ◌≤◌, sym, ap, ◌∙◌, subst, ◌↔◌, not, eqb, true, Some, None, is_some, inl, inr, arith}
+use Rattle.std.proofs.Common.{◌≡◌, ◌≢◌, ℕ, ◌≤◌, sym, ap, ◌∙◌, subst, not, eqb, None, is_some, inl, inr, arith}
 use Rattle.std.proofs.Common.{refl}
 use Rattle.std.proofs.lemmas.Bool.{true≢false, and_parts, and_from, not_from_true, not_from_false, eq-eqb}
 use Rattle.std.specs.FinSet as fin
 use Rattle.dw_board.specs.declared.piece.Side.{Side}
 use Rattle.dw_board.specs.declared.piece.Side.TheVariants.{White, Black}
-use Rattle.dw_board.specs.declared.piece.Kind.{Kind}
 use Rattle.dw_board.specs.declared.piece.Piece.{Piece}
-use Rattle.dw_board.specs.Geometry.{Geometry, IsBoard, OnBoard, Squares}
+use Rattle.dw_board.specs.Geometry.{Geometry, IsBoard, Squares}
 use Rattle.dw_board.specs.Placement.{Placement, IsPosition, at, count, other, placed, same_side}
 use Rattle.dw_moves.specs.Moves.{In, Stands}
 use Rattle.dw_moves.specs.inner.Glance.{AreSets, IsGround}

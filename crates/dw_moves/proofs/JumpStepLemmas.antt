@@ -1,7 +1,7 @@
 -- How the jumps of a piece are found square by square.
-use Rattle.std.proofs.Common.{◌≡◌, ℕ, ◌+◌, ◌≤◌, suc, List, [], ◌∷◌, ◌++◌, length, map, refl, sym, ap, ◌∙◌, subst, inl}
-use Rattle.std.proofs.Common.{inr, arith, Bool, true, false, Some, None, length-append, append_assoc}
-use Rattle.std.proofs.lemmas.List.{length-map, map-append}
+use Rattle.std.proofs.Common.{◌≡◌, ℕ, List, [], ◌∷◌, ◌++◌, map, refl, sym, ap, ◌∙◌, subst, inl}
+use Rattle.std.proofs.Common.{inr, Bool, true, false, Some, None, append_assoc}
+use Rattle.std.proofs.lemmas.List.{map-append}
 use Rattle.dw_board.specs.declared.piece.Kind.{Kind}
 use Rattle.dw_board.specs.declared.piece.Kind.TheVariants.{Man, King}
 use Rattle.dw_board.specs.declared.piece.Side.{Side}
@@ -17,10 +17,7 @@ use Rattle.dw_moves.specs.inner.Glance.{AreOf}
 use Rattle.dw_moves.proofs.ExactLemmas.{option_cases, same_side_true, same_side_refl}
 use Rattle.dw_moves.proofs.StepLemmas.{none_some, step_is}
 use Rattle.dw_moves.proofs.RayLemmas.{ray_some, ray_none}
-use Rattle.dw_moves.proofs.RunLemmas.{Freed, run_man, run_king, run_stop, run_short}
-
-abbrev pub over_to : ℕ → ℕ → ℕ × ℕ
-over_to over t = (over, t)
+use Rattle.dw_moves.proofs.RunLemmas.{Freed, run_man, run_king, run_stop}
 
 -- what was added for the squares reached, and what is still to come
 pub record Added {X : Type 0} (f : ℕ → X) (g : Geometry) (p : Placement) (k : Kind) (d : Dir) (from at : ℕ)
@@ -35,55 +32,6 @@ added_none f g p k d from old on = record { on = on; all = refl }
 pub append_none : {X : Type 0} (xs : List X) → xs ++ [] ≡ xs
 append_none [] = refl
 append_none (x ∷ xs) = ap (λ z. x ∷ z) (append_none xs)
-
--- four lists are added to an empty one
-pub four_added : {A : Type 0} (none one two three four a b c d : List A) → none ≡ [] → one ≡ none ++ a → two ≡ one ++ b
-    → three ≡ two ++ c → four ≡ three ++ d → four ≡ a ++ (b ++ (c ++ (d ++ [])))
-four_added none one two three four a b c d e e1 e2 e3 e4 =
-    e4 ∙ (ap (λ z. z ++ d) (e3 ∙ ap (λ z. z ++ c) (e2 ∙ ap (λ z. z ++ b) (e1 ∙ ap (λ z. z ++ a) e)))
-    ∙ (append_assoc (a ++ b) c d
-    ∙ (append_assoc a b (c ++ d) ∙ ap (λ z. a ++ (b ++ (c ++ z))) (sym (append_none d)))))
-
-added_length : {X : Type 0} (f : ℕ → X) (g : Geometry) (p : Placement) (k : Kind) (d : Dir) (from s : ℕ)
-    (old now : List X) → Added f g p k d from s old now → length now + length (landings_for k p (ray g s d))
-    ≡ length old + length (landings_for k p (ray g from d))
-added_length f g p k d from s old now h =
-    omega (
-      arith,
-      ap length h.all,
-      length-append now (map f (landings_for k p (ray g s d))),
-      length-append old (map f (landings_for k p (ray g from d))),
-      length-map (landings_for k p (ray g s d)) f,
-      length-map (landings_for k p (ray g from d)) f,
-    )
-
-some_more : (k : Kind) (g : Geometry) (p : Placement) (s : ℕ) (d : Dir) (t : ℕ) → Freed g p s d t
-    → 1 ≤ length (landings_for k p (ray g s d))
-some_more Man g p s d t h = let l : length (landings_for Man p (ray g s d))
-    ≡ 1 = ap (λ z. length (landings_for Man p z)) h.ray_is ∙ ap length (run_man p t (ray g t d) h.free) in omega arith
-some_more King g p s d t h = let l : length (landings_for King p (ray g s d))
-    ≡ suc (length (landings_for King p (ray g t d))) = ap (λ z. length (landings_for King p z)) h.ray_is
-    ∙ ap length (run_king p t (ray g t d) h.free) in omega arith
-
--- there is room for one more
-pub added_room : {X : Type 0} (f : ℕ → X) (g : Geometry) → IsBoard g
-    → (p : Placement) (k : Kind) (d : Dir) (from s t : ℕ) (old now : List X) → Added f g p k d from s old now
-    → Freed g p s d t → length now + 1 ≤ length old + 10
-added_room f g b p k d from s t old now h e = omega (
-  arith,
-  added_length f g p k d from s old now h,
-  some_more k g p s d t e,
-  run_short g b k p from d,
-)
-
-pub added_fits : {X : Type 0} (f : ℕ → X) (g : Geometry) → IsBoard g
-    → (p : Placement) (k : Kind) (d : Dir) (from s : ℕ) (old now : List X) → Added f g p k d from s old now
-    → length now ≤ length old + 10
-added_fits f g b p k d from s old now h = omega (
-  arith,
-  added_length f g p k d from s old now h,
-  run_short g b k p from d,
-)
 
 pub added_more : {X : Type 0} (f : ℕ → X) (g : Geometry) (p : Placement) (k : Kind) (d : Dir) (from s t : ℕ)
     (old now new : List X) → k ≡ King → Added f g p k d from s old now → Freed g p s d t → new ≡ now ++ f t ∷ []

@@ -11,7 +11,7 @@ use Rattle.dw_moves.specs.inner.KeptLemmas.{These, Is, either_same, grows_same}
 use Rattle.dw_moves.specs.inner.MemberLemmas.{mem_left, mem_right, mem_cases}
 use Rattle.dw_moves.specs.inner.MoveLemmas.{same_moves, same_moves-is}
 use Rattle.dw_moves.specs.inner.Walks.{number, Grows, Longest, Either, Makes, MovesKept, TakenIn, PathsKept, Sought}
-use Rattle.dw_moves.specs.inner.Walks.{Along, Covered, Followed, steps_of}
+use Rattle.dw_moves.specs.inner.Walks.{Along, Followed, steps_of}
 use Rattle.dw_moves.proofs.StepLemmas.{none_some}
 use Rattle.dw_moves.specs.inner.KeptLemmas.{covers_itself}
 use Rattle.dw_moves.proofs.QuietOnceLemmas.{once_append}
@@ -101,15 +101,6 @@ member_any s (m ∷ ms) (inr h) = or_right (same_moves m s) (list_any (λ y. sam
 moves_once : (k n : ℕ) (moves left : List Move) → Left k n moves left → NoRepeat moves → NoRepeat left
 moves_once k n moves left (inl l) once = subst NoRepeat (sym l.1) tt
 moves_once k n moves left (inr l) once = subst NoRepeat (sym l.1) once
-
--- it takes fewer
-pub moves_past : (this : Listed) (k n : ℕ) (moves : List Move) → n ≡ number this → n < k
-    → MovesKept (These (this ∷ [])) k moves k moves
-moves_past this k n moves is few = record {
-  grows = grows_past this k n is (omega (arith, few));
-  exactly = λ m. ((λ h. inl (refl, h)), either_past this k n (Makes m) (Member m moves) is few);
-  once = λ n. n;
-}
 
 -- it is not there yet, and is added
 pub moves_new : (this : Listed) (k n : ℕ) (moves left now : List Move) → n ≡ number this → Left k n moves left
@@ -211,15 +202,6 @@ sought_same E F m still k now old found same h = record {
   );
 }
 
--- it takes fewer
-pub sought_past : (this : Listed) (m : Move) (k n : ℕ) (old : Type 0) → n ≡ number this → n < k
-    → Sought (These (this ∷ [])) m k old m k old
-sought_past this m k n old is few = record {
-  same = refl;
-  grows = grows_past this k n is (omega (arith, few));
-  is = ((λ f. inl (refl, f)), either_past this k n (Makes m) old is few);
-}
-
 -- ---- a path that is followed
 -- it is this one
 pub followed_here : (this : Listed) (path : List ℕ) (k n : ℕ) (old : Option Move) → n ≡ number this → k ≤ n
@@ -279,16 +261,6 @@ followed_same E F path still k now old found same h = record {
   grows = grows_same E F k now same h.grows;
   is = λ m e. either_same E F (λ l. Makes m l × Along path l) k now (old ≡ Some m) same (h.is m e);
   some = λ x. h.some (either_same F E (Along path) k now (IsSome old) (λ l. ((same l).1, (same l).0)) x);
-}
-
--- it takes fewer
-pub followed_past : (this : Listed) (path : List ℕ) (k n : ℕ) (old : Option Move) → n ≡ number this → n < k
-    → Followed (These (this ∷ [])) path k old path k old
-followed_past this path k n old is few = record {
-  same = refl;
-  grows = grows_past this k n is (omega (arith, few));
-  is = λ m e. inl (refl, e);
-  some = either_past this k n (Along path) (IsSome old) is few;
 }
 
 -- ---- the least paths

@@ -20,13 +20,6 @@ use Rattle.dw_moves.specs.inner.LexLemmas.{lex_asym, lex_cases, not_less}
 use Rattle.dw_moves.specs.inner.MemberLemmas.{mem_map, mem_map_back}
 use Rattle.dw_moves.proofs.MoveKeyLemmas.{jumps_long, keys_differ}
 
--- two numbers, and what follows where they are the same
-pub first_less : (x y : ℕ) (xs ys : List ℕ) → (x ≡ y → ⊥) → (x < y) ↔ LexLess (x ∷ xs) (y ∷ ys)
-first_less x y xs ys apart = (
-  (λ l. inl l),
-  (λ l. elim l [ inl less ↦ less | inr same ↦ absurd (apart same.0) ]),
-)
-
 pub rest_less : (x y : ℕ) (xs ys : List ℕ) → x ≡ y → LexLess xs ys ↔ LexLess (x ∷ xs) (y ∷ ys)
 rest_less x y xs ys same = (
   (λ l. inr (same, l)),

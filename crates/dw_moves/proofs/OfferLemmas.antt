@@ -1,5 +1,5 @@
 -- Captures that were offered one after another, for any keeper.
-use Rattle.std.proofs.Common.{◌≡◌, List, [], ◌∷◌, ◌++◌, refl, sym, subst, ◌⊎◌, ◌↔◌, inl, inr}
+use Rattle.std.proofs.Common.{◌≡◌, List, [], ◌∷◌, ◌++◌, ◌⊎◌, inl, inr}
 use Rattle.dw_moves.specs.Order.{Listed}
 use Rattle.dw_moves.specs.inner.KeptLemmas.{of_both}
 use Rattle.dw_moves.specs.inner.Walks.{Offers}

@@ -133,10 +133,6 @@ legal_stands g p m legal = at_k legal.0 legal.2 where
   at_k zero h = (h.0.piece, h.0.stands)
   at_k (suc k) h = (h.1.path.piece, h.1.path.stands)
 
-one_of_crowned : (g : Geometry) (to : ℕ) (piece : Piece) (side : Side) → one_of side (Some (crowned g to piece))
-    ≡ one_of side (Some piece)
-one_of_crowned g to piece side = refl
-
 side_stays : (g : Geometry) (p : Placement) (m : Move) (side : Side) (piece : Piece) → length p.cells ≡ 50
     → OnBoard g m.from → squares g ≤ 50 → OnBoard g m.to → at p m.from ≡ Some piece
     → count_by (is_of side) (play g p m).cells ≤ count_by (is_of side) p.cells

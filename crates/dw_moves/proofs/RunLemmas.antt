@@ -1,20 +1,16 @@
 -- Squares met one after another on a ray.
 use Rattle.std.proofs.Common.{◌≡◌, ℕ, ◌≤◌, ◌<◌, suc, List, [], ◌∷◌, length, refl, sym, ap, ◌∙◌, inl, inr, arith, Option}
-use Rattle.std.proofs.Common.{Some, None, Bool, true, false, is_some}
-use Rattle.std.proofs.lemmas.Bool.{true≢false}
-use Rattle.std.specs.FinSet as fin
-use Rattle.dw_board.specs.declared.piece.Side.{Side}
+use Rattle.std.proofs.Common.{Some, None}
 use Rattle.dw_board.specs.declared.piece.Kind.{Kind}
 use Rattle.dw_board.specs.declared.piece.Kind.TheVariants.{Man, King}
 use Rattle.dw_board.specs.declared.board.Dir.{Dir}
-use Rattle.dw_board.specs.Geometry.{Geometry, IsBoard, OnBoard, step, Squares}
+use Rattle.dw_board.specs.Geometry.{Geometry, IsBoard, OnBoard, step}
 use Rattle.dw_board.specs.Placement.{Placement, at}
 use Rattle.dw_moves.specs.Moves.{ray}
-use Rattle.dw_moves.specs.inner.Glance.{IsGround}
 use Rattle.dw_moves.specs.inner.Plain.{free_front, free_next, landings_for, free_if, free_step}
 use Rattle.dw_moves.proofs.StepLemmas.{step_is, none_some}
 use Rattle.dw_moves.proofs.ExactLemmas.{option_cases}
-use Rattle.dw_moves.proofs.RayLemmas.{ray_some, ray_none, ray_of_length}
+use Rattle.dw_moves.proofs.RayLemmas.{ray_some, ray_none}
 
 -- the next square is t, and empty
 pub record Freed (g : Geometry) (p : Placement) (s : ℕ) (d : Dir) (t : ℕ) : Type 0 where
@@ -38,25 +34,6 @@ pub freed : (g : Geometry) → IsBoard g → (p : Placement) (s : ℕ) (d : Dir)
 freed g b p s d t on e =
     let h = free_if_some p (step g s d) t e in
     record { steps = h.0; on = (step_is g b s t d on h.0).on; ray_is = ray_some g b s t d on h.0; free = h.1 }
-
--- the next square is not free if something stands on it, by the set of such squares
-pub ground_stands : (g : Geometry) (p : Placement) (side : Side) (enemies occupied : Squares) (s t : ℕ) (d : Dir)
-    (there : Bool) → step g s d ≡ Some t → IsGround g p side enemies occupied → there ≡ fin.contains occupied t
-    → there ≡ true → None ≡ free_step g p s d
-ground_stands g p side enemies occupied s t d there steps ground there_is stands = elim (option_cases (at p t)) [
-  | inl none ↦ absurd (true≢false (sym ((ground.of_all t).0 (sym there_is ∙ stands)).1 ∙ ap is_some none))
-  | inr e ↦ sym (ap (free_if p) steps ∙ rw (e.1, free_if) refl)
-]
-
--- and free if not
-pub ground_free : (g : Geometry) → IsBoard g → (p : Placement) (side : Side) (enemies occupied : Squares) (s t : ℕ)
-    (d : Dir) (there : Bool) → OnBoard g s → step g s d ≡ Some t → IsGround g p side enemies occupied
-    → there ≡ fin.contains occupied t → there ≡ false → Some t ≡ free_step g p s d
-ground_free g b p side enemies occupied s t d there on steps ground there_is free = elim (option_cases (at p t)) [
-  | inl none ↦ sym (ap (free_if p) steps ∙ rw (none, free_if) refl)
-  | inr e ↦ absurd (true≢false (sym ((ground.of_all t).1 ((step_is g b s t d on steps).on, ap is_some e.1))
-      ∙ (sym there_is ∙ free)))
-]
 
 pub run_man : (p : Placement) (t : ℕ) (ts : List ℕ) → at p t ≡ None → landings_for Man p (t ∷ ts) ≡ t ∷ []
 run_man p t ts e = rw (e, free_next) refl
@@ -89,24 +66,6 @@ front_length p (x ∷ xs) = elim (option_cases (at p x)) [
       omega (arith, front_length p xs)
   | inr e ↦ let l : length (free_front p (x ∷ xs)) ≡ 0 = rw (e.1, free_front) refl in omega arith
 ]
-
-next_length : (p : Placement) (xs : List ℕ) → length (free_next p xs) ≤ length xs
-next_length p [] = omega arith
-next_length p (x ∷ xs) = elim (option_cases (at p x)) [
-  | inl e ↦ let l : length (free_next p (x ∷ xs)) ≡ 1 = rw (e, free_next) refl in omega arith
-  | inr e ↦ let l : length (free_next p (x ∷ xs)) ≡ 0 = rw (e.1, free_next) refl in omega arith
-]
-
-pub run_length : (k : Kind) (p : Placement) (xs : List ℕ) → length (landings_for k p xs) ≤ length xs
-run_length Man p xs = next_length p xs
-run_length King p xs = front_length p xs
-
-pub ray_length : (g : Geometry) → IsBoard g → (s : ℕ) (d : Dir) → length (ray g s d) ≤ 10
-ray_length g b s d = omega (arith, ray_of_length g g.rows s d, b.even, b.high)
-
-pub run_short : (g : Geometry) → IsBoard g → (k : Kind) (p : Placement) (s : ℕ) (d : Dir)
-    → length (landings_for k p (ray g s d)) ≤ 10
-run_short g b k p s d = omega (arith, run_length k p (ray g s d), ray_length g b s d)
 
 pub ray_falls : (g : Geometry) (p : Placement) (s : ℕ) (d : Dir) (t : ℕ) → Freed g p s d t
     → length (ray g t d) < length (ray g s d)

@@ -1,5 +1,5 @@
 -- Members of sets of squares.
-use Rattle.std.proofs.Common.{◌≡◌, ◌≢◌, ℕ, ◌+◌, ◌<◌, ◌≤◌, List, [], ◌∷◌, length, ◌-◌, refl, sym, ap, ◌∙◌, subst, ◌⊎◌, inl}
+use Rattle.std.proofs.Common.{◌≡◌, ◌≢◌, ℕ, ◌+◌, ◌<◌, ◌≤◌, List, [], ◌∷◌, length, ◌-◌, refl, sym, ap, ◌∙◌, ◌⊎◌, inl}
 use Rattle.std.proofs.Common.{inr, ◌↔◌, true, false, ◌||◌, ◌&&◌, not, Bool, eqb, cond, arith}
 use Rattle.std.proofs.lemmas.Bool.{true≢false, or_cases, or_left, or_right, and_parts, and_from, cases_Bool}
 use Rattle.std.proofs.lemmas.Bool.{not_from_true, not_from_false, eq-eqb, eqb-true, cases_eq}
@@ -92,17 +92,6 @@ out_of v k q ne e = elim (cases_Bool (fin.contains (fin.insert v k) q)) [
   | inr f ↦ f
 ]
 
--- a list's set has its members
-pub listed_in : (cs : List ℕ) (q : ℕ) → Member q cs → fin.contains (fin.from_list {R = nat_cmp} cs) q ≡ true
-listed_in [] q m = absurd m
-listed_in (c ∷ cs) q (inl e) = contains-insert (fin.from_list cs) c q
-    ∙ ap (λ b. b || fin.contains (fin.from_list {R = nat_cmp} cs) q) (eq-eqb q c e)
-listed_in (c ∷ cs) q (inr m) = contains-insert (fin.from_list cs) c q ∙ (ap (λ b. eqb q c || b) (listed_in cs q m)
-    ∙ or_true (eqb q c)) where
-      or_true : (b : Bool) → (b || true) ≡ true
-      or_true true = refl
-      or_true false = refl
-
 pub in_list : (cs : List ℕ) (q : ℕ) → fin.contains (fin.from_list {R = nat_cmp} cs) q ≡ true → Member q cs
 in_list [] q e = absurd (true≢false (sym e ∙ fin.contains-empty nat_cmp q))
 in_list (c ∷ cs) q e = elim (or_cases (eqb q c) (fin.contains (fin.from_list {R = nat_cmp} cs) q)
@@ -130,15 +119,6 @@ put_back v c there = fin.same_set nat_cmp_total fin.nat_cmp-IsAntisymmetric _ _ 
       | inl same ↦ let at : fin.contains v q ≡ true = ap (fin.contains v) (eqb-true q c same)
           ∙ there in ap (λ b. b || (not b && fin.contains v q)) same ∙ sym at
       | inr apart ↦ ap (λ b. b || (not b && fin.contains v q)) apart
-    ]))
-
-pub taken_out : (v : Squares) (c : ℕ) → fin.contains v c ≡ false → fin.remove (fin.insert v c) c ≡ v
-taken_out v c fresh = fin.same_set nat_cmp_total fin.nat_cmp-IsAntisymmetric _ _ (λ q.
-    contains-remove (fin.insert v c) c q ∙ (ap (λ b. not (eqb q c) && b) (contains-insert v c q)
-    ∙ elim (cases_Bool (eqb q c)) [
-      | inl same ↦ let at : fin.contains v q ≡ false = ap (fin.contains v) (eqb-true q c same)
-          ∙ fresh in ap (λ b. not b && (b || fin.contains v q)) same ∙ sym at
-      | inr apart ↦ ap (λ b. not b && (b || fin.contains v q)) apart
     ]))
 
 -- what is in a set without c is not c

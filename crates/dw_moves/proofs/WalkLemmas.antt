@@ -1,11 +1,10 @@
 -- How chains of jumps are walked, jump by jump, and offered to a keeper.
-use Rattle.std.proofs.Common.{◌≡◌, ℕ, ◌+◌, ◌≤◌, List, [], ◌∷◌, ◌++◌, refl, sym, ap, ◌∙◌, subst, ◌⊎◌, inl, inr, arith}
+use Rattle.std.proofs.Common.{◌≡◌, ℕ, List, [], ◌∷◌, ◌++◌, refl, sym, ap, ◌∙◌, subst, ◌⊎◌, inl, inr}
 use Rattle.std.proofs.Common.{true, false, None, append_assoc}
 use Rattle.std.proofs.lemmas.Bool.{true≢false}
 use Rattle.std.specs.FinSet as fin
 use Rattle.dw_board.specs.declared.board.Dir.{Dir}
 use Rattle.dw_board.specs.declared.board.Dir.TheVariants.{UpLeft, UpRight, DownLeft, DownRight}
-use Rattle.dw_board.specs.declared.piece.Kind.{Kind}
 use Rattle.dw_board.specs.declared.piece.Kind.TheVariants.{Man, King}
 use Rattle.dw_board.specs.declared.piece.Piece.{Piece}
 use Rattle.dw_board.specs.Geometry.{Geometry, IsBoard, OnBoard, Squares}

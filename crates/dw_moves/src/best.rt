@@ -26,7 +26,7 @@ pub fn best<B: Board>(position: &Position<B>) -> u8
     ensures small { result ≤ 20 }
 {
     let mut greatest = Greatest { most: 0 };
-    match walk_captures::<B, Greatest>(position, &mut greatest) {
+    match walk_captures(position, &mut greatest) {
         Ok(()) => greatest.most,
     }
 }

@@ -8,7 +8,7 @@ ghost use Rattle.dw_moves.specs.inner.Walks.{Followed};
 ghost use Rattle.dw_moves.specs.inner.KeptLemmas.{These, followed_none, followed_both};
 
 use crate::keeper::Keeper;
-use crate::moves::Move;
+use crate::moves::{LONGEST_PATH, Move};
 use crate::walk::walk_captures;
 use arrayvec::ArrayVec;
 use dw_board::board::Board;
@@ -29,7 +29,7 @@ pub fn follow<B: Board>(position: &Position<B>, squares: &[Square<B>]) -> Option
         most: 0,
         found: None,
     };
-    match walk_captures::<B, Follower<B>>(position, &mut follower) {
+    match walk_captures(position, &mut follower) {
         Ok(()) => follower.found,
     }
 }
@@ -38,7 +38,7 @@ pub fn follow<B: Board>(position: &Position<B>, squares: &[Square<B>]) -> Option
 #[derive(Drop)]
 struct Follower<'a, B: Board> {
     squares: &'a [Square<B>],
-    path: ArrayVec<Square<B>, 21>,
+    path: ArrayVec<Square<B>, LONGEST_PATH>,
     most: u8,
     found: Option<Move<B>>,
 }

@@ -24,7 +24,7 @@ pub(crate) trait Keeper<B: Board> {
         ensures same { offered [] self.old self.new }
         ensures on { is_on self.new (from.now ∷ []) };
 
-    /// It goes on by a jump onto this square; a path has at most 21 squares.
+    /// It goes on by a jump onto this square.
     fn enter(&mut self, landing: &Square<B>)
         requires { (path : List ℕ) × (is_on self.old path × (length path < 21)) }
         ensures same { offered [] self.old self.new }

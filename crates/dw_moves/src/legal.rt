@@ -30,7 +30,7 @@ pub fn is_legal<B: Board>(position: &Position<B>, mv: &Move<B>) -> bool
         most: 0,
         found: false,
     };
-    match walk_captures::<B, Finder<B>>(position, &mut finder) {
+    match walk_captures(position, &mut finder) {
         Ok(()) => finder.found,
     }
 }
@@ -73,7 +73,7 @@ fn push_legal<B: Board>(position: &Position<B>, moves: &mut Vec<Move<B>>) -> Res
         most: 0,
         moves: replace(moves, empty),
     };
-    let walked = walk_captures::<B, LongestMoves<B>>(position, &mut longest);
+    let walked = walk_captures(position, &mut longest);
     *moves = longest.moves;
     walked?;
     if longest.most == 0 {
@@ -124,7 +124,7 @@ impl<B: Board> Keeper<B> for LongestMoves<B> {
 
     #[inline(always)]
     fn offer(&mut self, mv: &Move<B>, count: u8) -> Result<(), AllocError> {
-        if count < self.most {
+        if self.most > count {
             return Ok(());
         }
         self.keep(*mv, count)

@@ -7,7 +7,7 @@ ghost use Rattle.dw_moves.specs.inner.KeptLemmas.{These, paths_none, paths_both}
 
 use crate::glance::can_capture;
 use crate::keeper::Keeper;
-use crate::moves::{Listed, Move};
+use crate::moves::{LONGEST_PATH, Listed, Move};
 use crate::quiet::push_quiet;
 use crate::walk::walk_captures;
 use arrayvec::ArrayVec;
@@ -64,7 +64,7 @@ fn push_listed<B: Board>(
         path: ArrayVec::new(),
         paths: IndexMap::new(*list.allocator()),
     };
-    walk_captures::<B, LeastPaths<B>>(position, &mut least)?;
+    walk_captures(position, &mut least)?;
     let LeastPaths {
         most: _,
         path: _,
@@ -80,8 +80,8 @@ fn push_listed<B: Board>(
 #[derive(Drop)]
 struct LeastPaths<B: Board> {
     most: u8,
-    path: ArrayVec<Square<B>, 21>,
-    paths: IndexMap<Move<B>, ArrayVec<Square<B>, 21>>,
+    path: ArrayVec<Square<B>, LONGEST_PATH>,
+    paths: IndexMap<Move<B>, ArrayVec<Square<B>, LONGEST_PATH>>,
 }
 
 impl<B: Board> Keeper<B> for LeastPaths<B> {
@@ -125,8 +125,8 @@ impl<B: Board> Keeper<B> for LeastPaths<B> {
 /// Keeps a path of a move if it is the first, or less than the one that is kept.
 fn keep_least<B: Board>(
     mv: Move<B>,
-    path: &ArrayVec<Square<B>, 21>,
-    paths: &mut IndexMap<Move<B>, ArrayVec<Square<B>, 21>>,
+    path: &ArrayVec<Square<B>, LONGEST_PATH>,
+    paths: &mut IndexMap<Move<B>, ArrayVec<Square<B>, LONGEST_PATH>>,
 ) -> Result<(), AllocError>
     ensures { OnOk result (TakenIn (record {
       step = mv;

@@ -19,6 +19,9 @@ use std::alloc::AllocError;
 use std::hash::{Hash, Hasher};
 use std::marker::Model;
 
+/// A path has at most so many squares: its start, and one for each of the twenty pieces that a side has.
+pub(crate) const LONGEST_PATH: usize = 21;
+
 /// A move: where it begins and ends, and the squares of the pieces that it takes, all of them in one set. Two ways
 /// to capture the same pieces between the same two squares are one move.
 /// Example: at `W:W32:B28` the capture `32x23` leads from 32 to 23, and `taken` is the set of square 28.
@@ -113,7 +116,7 @@ impl<B: Board> Hash for Move<B> {
 #[derive(Drop)]
 pub struct Listed<B: Board> {
     pub step: Move<B>,
-    pub path: ArrayVec<Square<B>, 21>,
+    pub path: ArrayVec<Square<B>, LONGEST_PATH>,
 }
 
 impl<B: Board> Model for Listed<B> {

@@ -9,7 +9,7 @@ use Rattle.dw_board.specs.Geometry.{Geometry, step, OnBoard, Squares}
 use Rattle.dw_board.specs.Slides.{SlidesTo}
 use Rattle.dw_board.specs.Placement.{Placement, at, placed, other}
 use Rattle.dw_board.specs.Lists.{Member}
-use Rattle.dw_moves.specs.Moves.{IsForward, Quiet, Stands, Jump, play, In, ray}
+use Rattle.dw_moves.specs.Moves.{IsForward, Quiet, Stands, play, In, ray}
 use Rattle.dw_moves.specs.inner.Plain.{quiet_to, takes_for}
 use Rattle.dw_moves.specs.Replies.{HasSureReply}
 
@@ -85,10 +85,6 @@ HasTwo v = (s : ℕ) × (t : ℕ) × In s v × In t v × (s ≡ t → ⊥)
 -- some quiet move is there
 abbrev pub CanStep : Geometry → Placement → Type 0
 CanStep g p = (from : ℕ) × (to : ℕ) × Quiet g p from to
-
--- a capture begins on this square
-abbrev pub CanTakeFrom : Geometry → Placement → ℕ → Type 0
-CanTakeFrom g p s = (c : ℕ) × (t : ℕ) × (piece : Piece) × Stands g p s piece × Jump g (placed p s None) piece s c t
 
 -- a capture begins on this square in this direction
 abbrev pub CanTakeTowards : Geometry → Placement → Dir → ℕ → Type 0

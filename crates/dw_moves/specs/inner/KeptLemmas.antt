@@ -1,12 +1,12 @@
 -- What is kept of captures, and then of others, is what is kept of both.
-use Rattle.std.proofs.Common.{◌≡◌, ℕ, ◌≤◌, List, [], ◌++◌, refl, sym, ◌∙◌, subst, ◌⊎◌, ◌↔◌, inl, inr, arith, Option, Some}
+use Rattle.std.proofs.Common.{◌≡◌, ℕ, List, [], ◌++◌, refl, sym, ◌∙◌, subst, ◌⊎◌, ◌↔◌, inl, inr, arith, Option, Some}
 use Rattle.std.specs.Prelude.{IsSome}
-use Rattle.dw_board.specs.Lists.{Member, NoRepeat}
+use Rattle.dw_board.specs.Lists.{Member}
 use Rattle.dw_moves.specs.Moves.{Move}
-use Rattle.dw_moves.specs.Order.{LexLess, Listed}
+use Rattle.dw_moves.specs.Order.{Listed}
 use Rattle.dw_moves.specs.inner.MemberLemmas.{mem_left, mem_right, mem_cases}
 use Rattle.dw_moves.specs.inner.LexLemmas.{lex_irrefl, not_less}
-use Rattle.dw_moves.specs.inner.Walks.{number, Grows, Longest, Either, Makes, MovesKept, Covered, PathsKept}
+use Rattle.dw_moves.specs.inner.Walks.{Grows, Longest, Either, Makes, MovesKept, Covered, PathsKept}
 use Rattle.dw_moves.specs.inner.Walks.{Sought, Along, Followed}
 
 -- ---- the captures of a list

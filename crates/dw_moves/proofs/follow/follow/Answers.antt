@@ -1,6 +1,6 @@
 use Rattle.std.proofs.Common.{None}
 use Rattle.dw_moves.specs.inner.KeptLemmas.{These}
-use Rattle.dw_moves.specs.inner.Walks.{Captures, Followed}
+use Rattle.dw_moves.specs.inner.Walks.{Captures}
 use Rattle.dw_moves.proofs.KeeperLemmas.{followed_same}
 use Rattle.dw_moves.proofs.FollowedLemmas.{followed_path, followed_legal}
 use Rattle.dw_moves.proofs.follow.follow.Goals as goal

@@ -1,4 +1,4 @@
-use Rattle.std.proofs.Common.{◌≡◌, ◌≤◌, ◌+◌, ℕ, List, [], ◌∷◌, None, sym, ap, ◌∙◌, subst, arith, refl}
+use Rattle.std.proofs.Common.{◌≡◌, ℕ, List, [], ◌∷◌, None, sym, ap, ◌∙◌, arith, refl}
 use Rattle.std.specs.FinSet as fin
 use Rattle.std.specs.Ordering.{nat_cmp}
 use Rattle.std.proofs.lemmas.Result.{on_ok_weaker}
@@ -6,9 +6,8 @@ use Rattle.dw_board.specs.declared.piece.Kind.TheVariants.{Man, King}
 use Rattle.dw_board.specs.declared.piece.Piece.{Piece}
 use Rattle.dw_board.specs.Placement.{placed}
 use Rattle.dw_moves.specs.Moves.{Stands}
-use Rattle.dw_moves.specs.Order.{Listed}
 use Rattle.dw_moves.specs.inner.Walks.{so_far}
-use Rattle.dw_moves.proofs.CapturesLemmas.{begins_of, begins_nowhere}
+use Rattle.dw_moves.proofs.CapturesLemmas.{begins_of}
 use Rattle.dw_moves.proofs.GroundLemmas.{ground_behind}
 use Rattle.dw_moves.proofs.SquareSetLemmas.{difference_none}
 use Rattle.dw_moves.proofs.WalkLemmas.{same_so_far}

@@ -1,4 +1,3 @@
-use Rattle.std.proofs.Common.{◌∙◌}
 use Rattle.dw_moves.proofs.KeeperLemmas.{grows_max}
 use Rattle.dw_moves.proofs.best.GreatestKeeper.offer.Goals as goal
 

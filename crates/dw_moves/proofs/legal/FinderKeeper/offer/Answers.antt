@@ -1,7 +1,6 @@
 use Rattle.std.proofs.Common.{◌≡◌, ◌≤◌, true, sym, ap, ◌∙◌, [], ◌∷◌, inl, inr, arith, refl}
 use Rattle.std.specs.Prelude.{IsTrue}
 use Rattle.std.proofs.lemmas.Bool.{true≢false}
-use Rattle.dw_moves.specs.Moves.{Move}
 use Rattle.dw_moves.specs.Order.{Listed}
 use Rattle.dw_moves.specs.inner.KeptLemmas.{These}
 use Rattle.dw_moves.specs.inner.MoveLemmas.{same_moves-is}
