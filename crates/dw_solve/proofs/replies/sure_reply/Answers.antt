@@ -1,6 +1,6 @@
 use Rattle.std.proofs.Common.{sym, subst}
 use Rattle.dw_moves.specs.Replies.{AlwaysReply}
-use Rattle.dw_solve.proofs.search.sure_reply.Goals as goal
+use Rattle.dw_solve.proofs.replies.sure_reply.Goals as goal
 
 pub returns : goal.returns
 returns g c =
