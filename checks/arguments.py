@@ -52,6 +52,7 @@ ASKED = [
     (["judge", "-n20", "--problem", "1", "--positions", "7", "--memo=none"], 3, "problem 1: W:W27,45:B16\n",
      "dw: stopped: 2 limit, 7 expanded\n"),
     (["list", "-n", "1", "--memo", "slots", "--cache", "4000000", "--problem", "3"], 0, CAPTURE, ""),
+    (["judge", "-n", "2", "--memo", "deep", "--cache", "1", "--problem", "1"], 0, SOUND, ""),
     (["list", "-n", "2", "--lines", "1", "--problem", "1"], 0, LINE, ""),
     (["list", "-n", "3", "--lines", "5", "--after", "01"], 1, "", "dw: token refused: 3 length\n"),
     (["list", "-n", "3", "--problem", "4", "--after", ""], 1, "", "dw: token refused: 3 length\n"),

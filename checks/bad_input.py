@@ -98,7 +98,7 @@ def refusals():
 
 def limits():
     """Runs that a limit stops, of lines or of positions."""
-    for memo in ("none", "lru", "slots"):
+    for memo in ("none", "lru", "slots", "deep"):
         ran = run(["list", "-n", "2", "--positions", "1", "--memo", memo], FOUR)
         expect(f"one position, list, {memo}", ran, 3, b"dw: stopped: 2 limit, 1 expanded\n")
         assert ran.stdout in (FOUR_FIRST, FOUR_FIRST + FOUR_LINES[0]), ran

@@ -26,7 +26,7 @@ from wins import other
 DW = pathlib.Path(__file__).resolve().parent.parent / "dw"
 POSITION = b"W:WK46,K47,49,50:B2\n"
 WORDS = ["list", "-n", "5"]
-MEMOS = [["none"], ["lru", "--cache", "1000"], ["slots", "--cache", "1000"], ["slots"]]
+MEMOS = [["none"], ["lru", "--cache", "1000"], ["slots", "--cache", "1000"], ["slots"], ["deep"]]
 SHORT = 10_000
 PLACES = 20
 MOST_GROWTH = 1024  # kB
@@ -115,7 +115,7 @@ def measure(folder):
         print(f"--memo {' '.join(memo)}: {count} lines in {seconds:.1f} s, {count / seconds:.0f} a second, {size} kB; "
               f"{SHORT} lines in {short_seconds:.2f} s, {short_size} kB", flush=True)
         assert count > 1_000_000, count
-        assert memo in (["lru"], ["slots"]) or size - short_size <= MOST_GROWTH, (memo, size, short_size)
+        assert memo in (["lru"], ["slots"], ["deep"]) or size - short_size <= MOST_GROWTH, (memo, size, short_size)
     assert len(wholes) == 1, "the lists differ"
     return kept, count
 

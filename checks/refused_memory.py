@@ -24,7 +24,7 @@ W:W47:B13,14,22,31,32,41,42 W:W27,32,38:B18 W:W27,32:B18 W:W28:B W:WK46:B28 W:W:
 TOGETHER = "\n".join(POSITIONS).encode()
 # Of these the wins in one move are looked for too.
 IN_ONE = POSITIONS[:2] + POSITIONS[10:12]
-MEMOS = ["none", "lru", "slots"]
+MEMOS = ["none", "lru", "slots", "deep"]
 STOPPED = re.compile(rb"dw: stopped: 1 memory, (\d+) expanded\n")
 # What the last line of a problem's text has, of a command that marks it. A verdict may have tries after it.
 LAST_LINE = {"moves": b" taking ", "list": b"\ncomplete "}

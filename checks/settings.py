@@ -14,7 +14,7 @@ import subprocess
 TOP = pathlib.Path(__file__).resolve().parent.parent
 DW = TOP / "dw"
 ROWS = TOP / "crates/dw_tests_report/stdin"
-MEMOS = [("none", "100000"), *((memo, cache) for memo in ("lru", "slots") for cache in ("1", "2", "100000"))]
+MEMOS = [("none", "100000"), *((memo, cache) for memo in ("lru", "slots", "deep") for cache in ("1", "2", "100000"))]
 MOST = 1000
 
 

@@ -20,7 +20,7 @@ MOST = 3
 ROOM = 300
 TURNS = "WB"
 # How the tests ask each row: as a search and as a list of lines, with these caches, in these orders of moves.
-HEAD = "least,lists {rows} none,lru:1000,slots:1000 any,end,trial"
+HEAD = "least,lists {rows} none,lru:1000,slots:1000,deep:1000 any,end,trial"
 
 
 class TooLong(Exception):

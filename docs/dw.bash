@@ -30,7 +30,7 @@ _dw() {
     COMPREPLY=()
     case $previous in
         --board) COMPREPLY=($(compgen -W "10 8" -- "$current")) && return ;;
-        --memo) COMPREPLY=($(compgen -W "none lru slots" -- "$current")) && return ;;
+        --memo) COMPREPLY=($(compgen -W "none lru slots deep" -- "$current")) && return ;;
         -n | --problem | --positions | --cache | --lines | --after) return ;;
     esac
     case $command:$current in

@@ -13,6 +13,7 @@ use clap::{ArgMatches, Error};
 use dw_board::board::{Board, Eight, Ten};
 use dw_list::tokens::read_token;
 use dw_memo::any_memo::AnyMemo;
+use dw_memo::deep_memo::DeepMemo;
 use dw_memo::lru_memo::LruMemo;
 use dw_memo::no_memo::NoMemo;
 use dw_memo::slot_memo::SlotMemo;
@@ -116,6 +117,7 @@ fn memo_of<B: Board>(alloc: Global, request: &Request<'_>) -> Result<AnyMemo<B>,
         MemoKind::None => AnyMemo::None(NoMemo::new()),
         MemoKind::Lru => AnyMemo::Lru(LruMemo::new(alloc, request.cache)?),
         MemoKind::Slots => AnyMemo::Slots(SlotMemo::new(alloc, request.cache)?),
+        MemoKind::Deep => AnyMemo::Deep(DeepMemo::new(alloc, request.cache)?),
     };
     Ok(memo)
 }

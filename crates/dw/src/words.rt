@@ -27,6 +27,8 @@ pub enum MemoKind {
     Lru,
     /// A table in which each position has its one place.
     Slots,
+    /// A table in which each position has two places, and what tells of more moves stays, a `DeepMemo`.
+    Deep,
 }
 
 /// What the arguments ask for.
@@ -146,6 +148,13 @@ Examples:
   echo W:W27,32,38:B18 | dw list -n 2
   echo W:W27,32,38:B18 | dw list -n 2 --lines 2";
 
+const MEMO_HELP: &str = "\
+What is kept of the search:
+none, nothing: if there is no memory to spare
+lru, the positions used last: for most problems
+slots, a table with one place for each position: for many short problems
+deep, a table that holds on to what took long: for long problems, with a large C";
+
 /// The commands that the program knows.
 /// Example: `dw show a.fen` is one of them, and `dw solve` is none.
 pub fn command<'a>(alloc: Global) -> Result<Words<'a>, AllocError> {
@@ -261,9 +270,8 @@ fn positions<'a>(alloc: Global) -> Arg<'a> {
 }
 
 fn memo<'a>(alloc: Global) -> Arg<'a> {
-    let kinds = ["none", "lru", "slots"].as_slice().into();
-    let help = "What is kept of the search: nothing, the positions used last, or a table of slots";
-    option(alloc, "memo", "KIND", kinds, help).default_value("lru")
+    let kinds = ["none", "lru", "slots", "deep"].as_slice().into();
+    option(alloc, "memo", "KIND", kinds, MEMO_HELP).default_value("lru")
 }
 
 fn cache<'a>(alloc: Global) -> Arg<'a> {
@@ -378,6 +386,7 @@ fn memo_kind(kind: Option<&str>) -> MemoKind {
     match kind {
         Some("none") => MemoKind::None,
         Some("slots") => MemoKind::Slots,
+        Some("deep") => MemoKind::Deep,
         _ => MemoKind::Lru,
     }
 }

@@ -1,207 +1,264 @@
--- A table of slots while it doubles.
-use Rattle.std.proofs.Common.{◌≡◌, ℕ, zero, suc, ◌<◌, ◌≤◌, ◌+◌, ◌*◌, ◌/◌, ◌^◌, [], ◌∷◌, ◌++◌, List, length, take}
-use Rattle.std.proofs.Common.{slice_get, Option, Bool, true, false, Some, None, refl, sym, ap, ◌∙◌, subst, inl, inr}
-use Rattle.std.proofs.Common.{arith}
+-- A table of buckets while it doubles.
+use Rattle.std.proofs.Common.{◌≡◌, ◌≢◌, ℕ, zero, suc, ◌<◌, ◌≤◌, ◌+◌, ◌*◌, ◌/◌, ◌^◌, ◌⊎◌, [], ◌∷◌, ◌++◌, List, length}
+use Rattle.std.proofs.Common.{slice_get, Bool, true, false, Some, refl, sym, ap, ◌∙◌, subst, inl, inr, arith, append_assoc}
+use Rattle.std.specs.Prelude.{if◌then◌else◌}
 use Rattle.std.proofs.lemmas.Bool.{cases_lt}
-use Rattle.std.proofs.Math.ListN.{set, length-set, replicate}
+use Rattle.std.proofs.lemmas.List.{append-nil}
+use Rattle.std.proofs.Math.ListN.{set, length-set}
 use Rattle.dw_board.specs.Geometry.{Geometry}
 use Rattle.dw_board.specs.inner.Mixing.{mixed_word}
+use Rattle.dw_board.specs.Lists.{Member}
 use Rattle.dw_board.specs.Placement.{Placement}
 use Rattle.dw_memo.specs.declared.bounds.Bounds.{Bounds}
-use Rattle.dw_memo.specs.Content.{Entry, IsMap, SameEntries}
-use Rattle.dw_board.specs.Lists.{Member}
-use Rattle.dw_memo.specs.Noting.{IsPutIn, IsNote}
 use Rattle.dw_memo.specs.declared.memo.Noted.{Noted}
-use Rattle.dw_memo.specs.Slots.{Slots, held, slot_of, IsTable}
-use Rattle.dw_memo.specs.inner.Growing.{IsHalfway}
-use Rattle.std.specs.Prelude.{if◌then◌else◌, ◌-◌}
-use Rattle.dw_memo.proofs.SlotLemmas.{empty_held, Pair, entry_of, Holds, slot_held, at_held, set_here, set_other}
-use Rattle.dw_memo.proofs.SlotLemmas.{same_number, set_read}
+use Rattle.dw_memo.specs.Buckets.{held, bucket_of, IsTable}
+use Rattle.dw_memo.specs.Content.{Entry, Content, IsMap, SameEntries}
+use Rattle.dw_memo.specs.Noting.{IsPutIn, IsNote}
+use Rattle.dw_memo.specs.inner.Growing.{IsWidened, IsSplit, IsSplitAt, IsHalfway}
+use Rattle.dw_memo.proofs.BucketLemmas.{set_here, set_other, same_number, one_there, is_inside, in_bucket, is_held}
 
--- among twice as many slots a position's slot is one of the two that come of its old one
+-- ---- empty buckets behind a table
+appended_length : {X : Type 0} (old more : List X) → length (old ++ more) ≡ length old + length more
+appended_length [] more = omega arith
+appended_length (x ∷ old) more = omega (arith, appended_length old more)
+
+in_old : {X : Type 0} (old more : List X) (k : ℕ) (x : X) → slice_get old k ≡ Some x
+    → slice_get (old ++ more) k ≡ Some x
+in_old [] more k x h = absurd (cc)
+in_old (y ∷ old) more zero x h = h
+in_old (y ∷ old) more (suc k) x h = in_old old more k x h
+
+read_appended : {X : Type 0} (old more : List X) (k : ℕ) (x : X) → slice_get (old ++ more) k ≡ Some x
+    → slice_get old k ≡ Some x ⊎ ((j : ℕ) × (slice_get more j ≡ Some x))
+read_appended [] more k x h = inr (k, h)
+read_appended (y ∷ old) more zero x h = inl h
+read_appended (y ∷ old) more (suc k) x h = read_appended old more k x h
+
+pub none_more : {X : Type 0} (entries : X → Content) (old : List X) → IsWidened entries 0 old old
+none_more entries old = record {
+  more = [];
+  is = sym (append-nil old);
+  all = refl;
+  empty = λ k x h. absurd (cc);
+}
+
+alone : {X : Type 0} (x y : X) (j : ℕ) → slice_get (x ∷ []) j ≡ Some y → x ≡ y
+alone x y zero h = cc
+alone x y (suc j) h = absurd (cc)
+
+pub one_more : {X : Type 0} (entries : X → Content) (count : ℕ) (old now : List X) (x : X)
+    → IsWidened entries count old now → entries x ≡ [] → IsWidened entries (count + 1) old (now ++ x ∷ [])
+one_more entries count old now x w none = record {
+  more = w.more ++ x ∷ [];
+  is = ap (λ xs. xs ++ x ∷ []) w.is ∙ append_assoc old w.more (x ∷ []);
+  all = omega (arith, appended_length w.more (x ∷ []), w.all);
+  empty = λ k y h. elim (read_appended w.more (x ∷ []) k y h) [
+    | inl i ↦ w.empty k y i
+    | inr i ↦ subst (λ z. entries z ≡ []) (alone x y i.0 i.1) none
+  ];
+}
+
+-- as the program puts it there
+pub one_pushed : {X : Type 0} (entries : X → Content) (count : ℕ) (old now new : List X) (x : X) (ok : Bool)
+    → IsWidened entries count old now → entries x ≡ [] → ok ≡ true → new ≡ (if ok then now ++ x ∷ [] else now)
+    → IsWidened entries (count + 1) old new
+one_pushed entries count old now new x true w none done is = subst (IsWidened entries (count + 1) old) (sym is)
+    (one_more entries count old now x w none)
+one_pushed entries count old now new x false w none done is = absurd (cc)
+
+-- a table of empty buckets
+pub new_held : {X : Type 0} (entries : X → Content) (xs : List X)
+    → ((k : ℕ) (x : X) → slice_get xs k ≡ Some x → entries x ≡ []) → held entries xs ≡ []
+new_held entries [] none = refl
+new_held entries (x ∷ xs) none = ap (λ c. c ++ held entries xs) (none zero x refl)
+    ∙ new_held entries xs (λ k y h. none (suc k) y h)
+
+module _ {X : Type 0} (g : Geometry) (entries : X → Content) (count : ℕ) (old new : List X) (nothing : old ≡ [])
+    (some : 1 ≤ count) (w : IsWidened entries count old new) where
+  is_more : new ≡ w.more
+  is_more = w.is ∙ ap (λ xs. xs ++ w.more) nothing
+
+  none_there : (k : ℕ) (x : X) → slice_get new k ≡ Some x → entries x ≡ []
+  none_there k x h = w.empty k x (subst (λ xs. slice_get xs k ≡ Some x) is_more h)
+
+  pub new_table : IsTable g entries new
+  new_table = record {
+    some_bucket = omega (arith, some, w.all, ap length is_more);
+    maps = λ k x h. subst IsMap (sym (none_there k x h)) tt;
+    placed = λ k x e h m. absurd (subst (λ c. Member e c) (none_there k x h) m);
+  }
+
+  pub new_empty : held entries new ≡ []
+  new_empty = new_held entries new none_there
+
+-- ---- doubling
+-- among twice as many buckets a position's bucket is one of the two that come of its old one
 doubled : (m n : ℕ) → (2 * (m * n / 2 ^ 64) ≤ m * (2 * n) / 2 ^ 64) × (m * (2 * n) / 2 ^ 64 ≤ 2 * (m * n / 2 ^ 64) + 1)
 doubled m n = (omega arith, omega arith)
 
--- ---- an entry goes from one slot to another, which is empty
-module _ (slots : Slots) (k t : ℕ) (p : Placement) (b : Bounds) (here : Holds slots k p b) (inside : k < length slots)
-    (to_inside : t < length slots)
-    (empty : (q : Placement) (c : Bounds) → Holds (set slots k None) t q c → ⊥) where
-  abbrev left : Slots
-  left = set slots k None
+pub begun : {X : Type 0} (g : Geometry) (entries : X → Content) (size : ℕ) (old new : List X) → size ≡ length old
+    → IsWidened entries size old new → IsHalfway g entries size size old new
+begun g entries size old new len w = record {
+  all = omega (arith, len, w.all, appended_length old w.more, ap length w.is);
+  before = λ k x l h. subst (λ xs. slice_get xs k ≡ Some x) (sym w.is) (in_old old w.more k x h);
+  after = λ k x low high l h i j. absurd (omega (arith, l, len, is_inside old k x h));
+}
 
-  abbrev moved : Slots
-  moved = set left t (Some (p, b))
+-- there is one at each place
+some_there : {X : Type 0} (xs : List X) (k : ℕ) → k < length xs → (x : X) × (slice_get xs k ≡ Some x)
+some_there [] k l = absurd (omega arith)
+some_there (x ∷ xs) zero l = (x, refl)
+some_there (x ∷ xs) (suc k) l = some_there xs k (omega arith)
 
-  t_inside : t < length left
-  t_inside = omega (arith, to_inside, length-set slots k None)
+-- one bucket more is split
+module _ {X : Type 0} (g : Geometry) (entries : X → Content) (size k : ℕ) (old now new : List X)
+    (h : IsHalfway g entries size (k + 1) old now) (inside : k < size)
+    (s : IsSplitAt g entries size k now new) where
+  abbrev one : List X
+  one = set now (2 * k) s.low
 
-  stays : (e : Entry) → Member e (held slots) → Member e (held moved)
-  stays e m = let at = slot_held slots e m in elim (same_number at.0 k) [
+  read_other : (j : ℕ) → j ≢ 2 * k → j ≢ 2 * k + 1 → slice_get new j ≡ slice_get now j
+  read_other j a b = ap (λ xs. slice_get xs j) s.is
+      ∙ (set_other one (2 * k + 1) s.high j b ∙ set_other now (2 * k) s.low j a)
+
+  read_low : slice_get new (2 * k) ≡ Some s.low
+  read_low = ap (λ xs. slice_get xs (2 * k)) s.is
+      ∙ (set_other one (2 * k + 1) s.high (2 * k) (λ e. omega arith)
+      ∙ set_here now (2 * k) s.low (omega (arith, h.all, inside)))
+
+  read_high : slice_get new (2 * k + 1) ≡ Some s.high
+  read_high = ap (λ xs. slice_get xs (2 * k + 1)) s.is
+      ∙ set_here one (2 * k + 1) s.high (omega (arith, h.all, inside, length-set now (2 * k) s.low))
+
+  pub one_further : IsHalfway g entries size k old new
+  one_further = record {
+    all = ap length s.is ∙ (length-set one (2 * k + 1) s.high ∙ (length-set now (2 * k) s.low ∙ h.all));
+    before = λ j x l i. read_other j (λ e. omega (arith, l, e)) (λ e. omega (arith, l, e))
+        ∙ h.before j x (omega (arith, l)) i;
+    after = λ j x low high l i a b. elim (same_number j k) [
+      | inl e ↦
+          let old_is : s.bucket ≡ x = one_there now k s.bucket x s.stood
+          (ap (slice_get now) (sym e) ∙ h.before j x (omega (arith, e)) i) in
+          let low_is : s.low ≡ low = one_there new (2 * k) s.low low read_low
+          (ap (λ n. slice_get new (2 * n)) (sym e) ∙ a) in
+          let high_is : s.high ≡ high = one_there new (2 * k + 1) s.high high read_high
+          (ap (λ n. slice_get new (2 * n + 1)) (sym e) ∙ b) in
+          subst (λ n. IsSplit g (2 * size) (2 * n) (entries x) (entries low) (entries high)) (sym e)
+          (subst (λ z. IsSplit g (2 * size) (2 * k) (entries z) (entries low) (entries high)) old_is
+          (subst (λ z. IsSplit g (2 * size) (2 * k) (entries s.bucket) (entries z) (entries high)) low_is
+          (subst (λ z. IsSplit g (2 * size) (2 * k) (entries s.bucket) (entries s.low) (entries z)) high_is s.parts)))
+      | inr n ↦ h.after j x low high (omega (arith, l, n)) i
+          (sym (read_other (2 * j) (λ e. n (omega (arith, e))) (λ e. omega (arith, e))) ∙ a)
+          (sym (read_other (2 * j + 1) (λ e. omega (arith, e)) (λ e. n (omega (arith, e)))) ∙ b)
+    ];
+  }
+
+-- the bucket that is to be split stands where it stood
+pub still_map : {X : Type 0} (g : Geometry) (entries : X → Content) (size k : ℕ) (old now : List X)
+    → IsTable g entries old → size ≡ length old → IsHalfway g entries size (k + 1) old now → k < size
+    → (x : X) → slice_get now k ≡ Some x → IsMap (entries x)
+still_map g entries size k old now t len h inside x i =
+    let at = some_there old k (omega (arith, len, inside)) in
+    subst (λ z. IsMap (entries z)) (one_there now k at.0 x (h.before k at.0 (omega arith) at.1) i)
+    (t.maps k at.0 at.1)
+
+-- ---- all are split
+half : (i : ℕ) → (j : ℕ) × ((i ≡ 2 * j) ⊎ (i ≡ 2 * j + 1))
+half i = (i / 2, elim (cases_lt (2 * (i / 2)) i) [ inl l ↦ inr (omega arith) | inr l ↦ inl (omega arith) ])
+
+-- a bucket is one of the two parts of an old one
+record Part {X : Type 0} (old new : List X) (i : ℕ) (y : X) : Type 0 where
+  pub k : ℕ
+  pub x : X
+  pub low : X
+  pub high : X
+  pub stood : slice_get old k ≡ Some x
+  pub low_there : slice_get new (2 * k) ≡ Some low
+  pub high_there : slice_get new (2 * k + 1) ≡ Some high
+  pub which : ((i ≡ 2 * k) × (y ≡ low)) ⊎ ((i ≡ 2 * k + 1) × (y ≡ high))
+
+module _ {X : Type 0} (g : Geometry) (entries : X → Content) (size : ℕ) (old new : List X) (t : IsTable g entries old)
+    (len : size ≡ length old) (h : IsHalfway g entries size 0 old new) where
+  part : (i : ℕ) (y : X) → slice_get new i ≡ Some y → Part old new i y
+  part i y there =
+      let at = half i in
+      let within : at.0 < size = elim at.1 [
+        | inl e ↦ omega (arith, e, h.all, is_inside new i y there)
+        | inr e ↦ omega (arith, e, h.all, is_inside new i y there)
+      ] in
+      let x = some_there old at.0 (omega (arith, within, len)) in
+      let low = some_there new (2 * at.0) (omega (arith, within, h.all)) in
+      let high = some_there new (2 * at.0 + 1) (omega (arith, within, h.all)) in
+      record {
+        k = at.0;
+        x = x.0;
+        low = low.0;
+        high = high.0;
+        stood = x.1;
+        low_there = low.1;
+        high_there = high.1;
+        which = elim at.1 [
+          | inl e ↦ inl (e, one_there new (2 * at.0) y low.0 (ap (slice_get new) (sym e) ∙ there) low.1)
+          | inr e ↦ inr (e, one_there new (2 * at.0 + 1) y high.0 (ap (slice_get new) (sym e) ∙ there) high.1)
+        ];
+      }
+
+  split : (i : ℕ) (y : X) (p : Part old new i y) → IsSplit g (2 * size) (2 * p.k) (entries p.x) (entries p.low)
+      (entries p.high)
+  split i y p = h.after p.k p.x p.low p.high (omega arith) p.stood p.low_there p.high_there
+
+  was_there : (i : ℕ) (y : X) (p : Part old new i y) (e : Entry) → Member e (entries y) → Member e (entries p.x)
+      × (i ≡ bucket_of g e.position (2 * size))
+  was_there i y p e m = elim p.which [
     | inl q ↦
-        let was : Some (Some (p, b)) ≡ Some (Some (e.position, e.bounds)) = sym here
-        ∙ (ap (slice_get slots) (sym q) ∙ at.1) in
-        let s : ◌≡◌ {A = Pair} (p, b) (e.position, e.bounds) = cc in
-        subst (λ x. Member x (held moved)) (ap entry_of s)
-        (at_held moved t p b (set_here left t (Some (p, b)) t_inside))
-    | inr n ↦
-        let there : Holds left at.0 e.position e.bounds = set_other slots k None at.0 n ∙ at.1 in
-        elim (same_number at.0 t) [
-          | inl q ↦ absurd (empty e.position e.bounds (ap (slice_get left) (sym q) ∙ there))
-          | inr o ↦ at_held moved at.0 e.position e.bounds (set_other left t (Some (p, b)) at.0 o ∙ there)
-        ]
+        let on = (split i y p).low_are e (subst (λ z. Member e (entries z)) q.1 m) in
+        (on.0, q.0 ∙ sym on.1)
+    | inr q ↦
+        let on = (split i y p).high_are e (subst (λ z. Member e (entries z)) q.1 m) in
+        let near = doubled (mixed_word g e.position) size in
+        let own : p.k ≡ bucket_of g e.position size = t.placed p.k p.x e p.stood on.0
+        ∙ ap (bucket_of g e.position) (sym len) in
+        (on.0, omega (arith, q.0, on.1, near.0, near.1, own))
   ]
 
-  stood : (e : Entry) → Member e (held moved) → Member e (held slots)
-  stood e m = let at = slot_held moved e m in elim (set_read left t (Some (p, b)) at.0 (Some (e.position, e.bounds))
-      t_inside at.1) [
-        | inl r ↦ let s : ◌≡◌ {A = Pair} (p, b) (e.position, e.bounds) = cc in subst (λ x. Member x (held slots))
-            (ap entry_of s) (at_held slots k p b here)
-        | inr r ↦ elim (set_read slots k None at.0 (Some (e.position, e.bounds)) inside r.1) [
-          | inl n ↦ absurd (cc)
-          | inr n ↦ at_held slots at.0 e.position e.bounds n.1
-        ]
+  pub done_table : IsTable g entries new
+  done_table = record {
+    some_bucket = omega (arith, t.some_bucket, len, h.all);
+    maps = λ i y there.
+        let p = part i y there in
+        elim p.which [
+          | inl q ↦ subst (λ z. IsMap (entries z)) (sym q.1) (split i y p).low_map
+          | inr q ↦ subst (λ z. IsMap (entries z)) (sym q.1) (split i y p).high_map
+        ];
+    placed = λ i y e there m. (was_there i y (part i y there) e m).1 ∙ ap (bucket_of g e.position) (sym h.all);
+  }
+
+  stays : (e : Entry) → Member e (held entries old) → Member e (held entries new)
+  stays e m =
+      let at = in_bucket entries old e m in
+      let within : at.0 < size = omega (arith, len, is_inside old at.0 at.1 at.2) in
+      let low = some_there new (2 * at.0) (omega (arith, within, h.all)) in
+      let high = some_there new (2 * at.0 + 1) (omega (arith, within, h.all)) in
+      elim ((h.after at.0 at.1 low.0 high.0 (omega arith) at.2 low.1 high.1).each e at.3) [
+        | inl n ↦ is_held entries new (2 * at.0) low.0 e low.1 n
+        | inr n ↦ is_held entries new (2 * at.0 + 1) high.0 e high.1 n
       ]
 
--- what stands in a slot goes to its own among all
-brought : (g : Geometry) (size k t : ℕ) (slots : Slots) (p : Placement) (b : Bounds) → IsHalfway g size (k + 1) slots
-    → k < size → slice_get slots k ≡ Some (Some (p, b))
-    → t ≡ slot_of g p (2 * size) → t < 2 * size
-    → SameEntries (held slots) (held (set (set slots k None) t (Some (p, b))))
-brought g size k t slots p b h inside here to within e =
-    let home : k ≡ slot_of g p size = h.before k p b (omega arith) here in
-    let near = doubled (mixed_word g p) size in
-    let k_inside : k < length slots = omega (arith, h.all, inside) in
-    let t_inside : t < length slots = omega (arith, h.all, within) in
-    let empty : (q : Placement) (c : Bounds) → Holds (set slots k None) t q c
-    → ⊥ = λ q c there. elim (set_read slots k None t (Some (q, c)) k_inside there) [
-      | inl n ↦ absurd (cc)
-      | inr n ↦ elim (cases_lt t (k + 1)) [
-        | inl before ↦ n.0 (omega (arith, before, home, to, near.0))
-        | inr behind ↦ absurd (omega (arith, home, to, near.1, (h.after t q c (omega (arith, behind)) n.1).0))
-      ]
-    ] in (
-      stays slots k t p b here k_inside t_inside empty e,
-      stood slots k t p b here k_inside t_inside empty e,
-    )
-
--- it stands in its own slot then, and so do the others
-halfway : (g : Geometry) (size k t : ℕ) (slots : Slots) (p : Placement) (b : Bounds) → IsHalfway g size (k + 1) slots
-    → k < size → slice_get slots k ≡ Some (Some (p, b))
-    → t ≡ slot_of g p (2 * size) → t < 2 * size → IsHalfway g size k (set (set slots k None) t (Some (p, b)))
-halfway g size k t slots p b h inside here to within =
-    let home : k ≡ slot_of g p size = h.before k p b (omega arith) here in
-    let near = doubled (mixed_word g p) size in
-    let left : Slots = set slots k None in
-    let k_inside : k < length slots = omega (arith, h.all, inside) in
-    let t_inside : t < length left = omega (arith, h.all, within, length-set slots k None) in
-    let far : 2 * k ≤ t = omega (arith, home, to, near.0) in
-    record {
-      all = length-set left t (Some (p, b)) ∙ (length-set slots k None ∙ h.all);
-      before = λ j q c less there. elim (set_read left t (Some (p, b)) j (Some (q, c)) t_inside there) [
-        | inl e ↦ absurd (omega (arith, e.0, less, far))
-        | inr n ↦ elim (set_read slots k None j (Some (q, c)) k_inside n.1) [
-          | inl e ↦ absurd (cc)
-          | inr m ↦ h.before j q c (omega (arith, less)) m.1
-        ]
-      ];
-      after = λ j q c from there. elim (set_read left t (Some (p, b)) j (Some (q, c)) t_inside there) [
-        | inl e ↦
-            let s : ◌≡◌ {A = Pair} (p, b) (q, c) = cc in
-            (omega (arith, e.0, far), e.0 ∙ (to ∙ ap (λ (x : Pair). slot_of g x.0 (2 * size)) s))
-        | inr n ↦ elim (set_read slots k None j (Some (q, c)) k_inside n.1) [
-          | inl e ↦ absurd (cc)
-          | inr m ↦
-              let behind : k + 1 ≤ j = elim (cases_lt j (k + 1)) [
-                | inl l ↦ absurd (m.0 (omega (arith, l, from)))
-                | inr l ↦ omega (arith, l)
-              ] in
-              let was = h.after j q c behind m.1 in
-              (omega (arith, was.0), was.1)
-        ]
-      ];
-    }
-
--- what is written into the two slots, by names
-pub brought_halfway : {p : Placement} {b : Bounds} (g : Geometry) (size k t : ℕ) (slots : Slots)
-    (nothing one : Option Pair) → nothing ≡ None → one ≡ Some (p, b)
-    → IsHalfway g size (k + 1) slots → k < size → slice_get slots k ≡ Some (Some (p, b)) → t ≡ slot_of g p (2 * size)
-    → t < 2 * size
-    → IsHalfway g size k (set (set slots k nothing) t one)
-    × SameEntries (held slots) (held (set (set slots k nothing) t one))
-brought_halfway {p} {b} g size k t slots nothing one is_none is_one h inside here to within =
-    subst (λ (x : Option Pair). IsHalfway g size k (set (set slots k x) t one)
-    × SameEntries (held slots) (held (set (set slots k x) t one))) (sym is_none)
-    (subst (λ (x : Option Pair). IsHalfway g size k (set (set slots k None) t x)
-    × SameEntries (held slots) (held (set (set slots k None) t x))) (sym is_one)
-    (halfway g size k t slots p b h inside here to within, brought g size k t slots p b h inside here to within))
-
--- ---- empty slots behind a table
-none_there : (n k : ℕ) (p : Placement) (b : Bounds) → Holds (replicate n None) k p b → ⊥
-none_there zero k p b h = cc
-none_there (suc n) zero p b h = absurd (cc)
-none_there (suc n) (suc k) p b h = none_there n k p b h
-
-read_old : (old : Slots) (n k : ℕ) (p : Placement) (b : Bounds) → Holds (old ++ replicate n None) k p b
-    → Holds old k p b
-read_old [] n k p b h = absurd (none_there n k p b h)
-read_old (x ∷ old) n zero p b h = h
-read_old (x ∷ old) n (suc k) p b h = read_old old n k p b h
-
-within_table : (slots : Slots) (k : ℕ) (p : Placement) (b : Bounds) → Holds slots k p b → k < length slots
-within_table [] k p b h = cc
-within_table (x ∷ slots) zero p b h = omega arith
-within_table (x ∷ slots) (suc k) p b h = omega (arith, within_table slots k p b h)
-
-widened_held : (old : Slots) (n : ℕ) → held (old ++ replicate n None) ≡ held old
-widened_held [] n = empty_held n
-widened_held (None ∷ old) n = widened_held old n
-widened_held (Some e ∷ old) n = ap (λ c. entry_of e ∷ c) (widened_held old n)
-
-widened_length : (old : Slots) (n : ℕ) → length (old ++ replicate n None) ≡ length old + n
-widened_length [] zero = refl
-widened_length [] (suc n) = omega (arith, widened_length [] n)
-widened_length (x ∷ old) n = omega (arith, widened_length old n)
-
-take_all : (old : Slots) (n : ℕ) → length old ≤ n → take n old ≡ old
-take_all [] zero h = refl
-take_all [] (suc n) h = refl
-take_all (x ∷ old) zero h = absurd (omega arith)
-take_all (x ∷ old) (suc n) h = ap (λ xs. x ∷ xs) (take_all old n (omega arith))
-
-widened : (g : Geometry) (size : ℕ) (old : Slots) → IsTable g old → size ≡ length old
-    → IsHalfway g size size (old ++ replicate size None) × SameEntries (held old) (held (old ++ replicate size None))
-widened g size old t n = (
-  record {
-    all = omega (arith, widened_length old size, n);
-    before = λ k p b l h. t.placed k p b (read_old old size k p b h) ∙ ap (slot_of g p) (sym n);
-    after = λ k p b l h. absurd (omega (arith, n, within_table old k p b (read_old old size k p b h)));
-  },
-  λ e. (subst (λ c. Member e c) (sym (widened_held old size)), subst (λ c. Member e c) (widened_held old size)),
-)
-
--- a table that got as many slots again, all of them empty
-pub begun : (g : Geometry) (size m : ℕ) (old new : Slots) (ok : Bool) → IsTable g old → size ≡ length old → size ≡ m
-    → ok ≡ true → new ≡ (if ok then take (2 * size) old ++ replicate (2 * size - m) None else old)
-    → IsHalfway g size size new × SameEntries (held old) (held new)
-begun g size m old new true t n q done is =
-    let more : 2 * size - m ≡ size = omega (arith, q) in
-    let all : new ≡ old ++ replicate size None = is
-    ∙ (ap (λ xs. xs ++ replicate (2 * size - m) None) (take_all old (2 * size) (omega (arith, n)))
-    ∙ ap (λ k. old ++ replicate k None) more) in
-    subst (λ x. IsHalfway g size size x × SameEntries (held old) (held x)) (sym all) (widened g size old t n)
-begun g size m old new false t n q done is = absurd (cc)
-
-pub same_on : (a b c : Slots) → SameEntries (held a) (held b) → SameEntries (held b) (held c)
-    → SameEntries (held a) (held c)
-same_on a b c h i e = (λ m. (i e).0 ((h e).0 m), λ m. (h e).1 ((i e).1 m))
+  pub done_same : SameEntries (held entries old) (held entries new)
+  done_same e = (
+    stays e,
+    λ m.
+        let at = in_bucket entries new e m in
+        let p = part at.0 at.1 at.2 in
+        is_held entries old p.k p.x e p.stood (was_there at.0 at.1 p e at.3).0,
+  )
 
 -- a note on a memo that was made larger before
-pub noted_larger : (old wide : Slots) (p : Placement) (b : Bounds) (answer : Noted) (new : List Entry) (lost : ℕ)
-    → IsMap (held old) → SameEntries (held old) (held wide)
-    → IsNote (held wide) p b answer new 0 lost → IsNote (held old) p b answer new 0 lost
+pub noted_larger : (old wide : Content) (p : Placement) (b : Bounds) (answer : Noted) (new : Content) (lost : ℕ)
+    → IsMap old → SameEntries old wide → IsNote wide p b answer new 0 lost → IsNote old p b answer new 0 lost
 noted_larger old wide p b answer new lost map same n =
-    let put : (e : Entry) → IsPutIn (held wide) p b e
-    → IsPutIn (held old) p b e = λ e i. elim i [ inl q ↦ inl q | inr m ↦ inr ((same e).1 m.0, m.1) ] in
+    let put : (e : Entry) → IsPutIn wide p b e
+    → IsPutIn old p b e = λ e i. elim i [ inl q ↦ inl q | inr m ↦ inr ((same e).1 m.0, m.1) ] in
     record {
       map_before = map;
       map = n.map;

@@ -1,6 +1,9 @@
+pub mod BesideLemmas
+pub mod BucketLemmas
 pub mod EntryLemmas
 pub mod GrowingLemmas
 pub mod NoteLemmas
+pub mod PairLemmas
 pub mod RecentLemmas
 pub mod KeepingLemmas
 pub mod SlotLemmas

@@ -1,8 +1,10 @@
 pub mod Bounding
+pub mod Buckets
 pub mod Choice
 pub mod Content
 pub mod Noting
 pub mod Holding
+pub mod Pairs
 pub mod Recent
 pub mod Slots
 pub mod inner

@@ -3,6 +3,7 @@ ghost use Rattle.std.specs.Prelude.{⊤};
 ghost use Rattle.dw_memo.specs.Choice.{content_of, dropped_of};
 
 use crate::bounds::Bounds;
+use crate::deep_memo::DeepMemo;
 use crate::lru_memo::LruMemo;
 use crate::memo::{Memo, Noted};
 use crate::no_memo::NoMemo;
@@ -10,13 +11,14 @@ use crate::slot_memo::SlotMemo;
 use dw_board::board::Board;
 use dw_board::position::Position;
 
-/// One of the three kinds. What is built over it is compiled once, and not once for each kind.
+/// One of the four kinds. What is built over it is compiled once, and not once for each kind.
 /// Example: `AnyMemo::<Ten>::Slots(SlotMemo::new(alloc, 1)?)` does what that memo does.
 #[derive(Drop)]
 pub enum AnyMemo<B: Board> {
     None(NoMemo),
     Lru(LruMemo<B>),
     Slots(SlotMemo<B>),
+    Deep(DeepMemo<B>),
 }
 
 impl<B: Board> Memo<B> for AnyMemo<B> {
@@ -31,6 +33,7 @@ impl<B: Board> Memo<B> for AnyMemo<B> {
             AnyMemo::None(memo) => memo.look(position),
             AnyMemo::Lru(memo) => memo.look(position),
             AnyMemo::Slots(memo) => memo.look(position),
+            AnyMemo::Deep(memo) => memo.look(position),
         }
     }
 
@@ -39,6 +42,7 @@ impl<B: Board> Memo<B> for AnyMemo<B> {
             AnyMemo::None(memo) => memo.put(position, bounds),
             AnyMemo::Lru(memo) => memo.put(position, bounds),
             AnyMemo::Slots(memo) => memo.put(position, bounds),
+            AnyMemo::Deep(memo) => memo.put(position, bounds),
         }
     }
 
@@ -47,6 +51,7 @@ impl<B: Board> Memo<B> for AnyMemo<B> {
             AnyMemo::None(memo) => Memo::<B>::dropped(memo),
             AnyMemo::Lru(memo) => memo.dropped(),
             AnyMemo::Slots(memo) => memo.dropped(),
+            AnyMemo::Deep(memo) => memo.dropped(),
         }
     }
 }

@@ -1,17 +1,18 @@
-//! How a table of slots grows: it doubles, and keeps all that it holds.
-ghost use Rattle.std.specs.Prelude.{◌≡◌, ◌≤◌, ◌<◌, ◌+◌, ◌*◌, length};
-ghost use Rattle.dw_memo.specs.Content.{SameEntries};
-ghost use Rattle.dw_memo.specs.Slots.{held, IsTable};
-ghost use Rattle.dw_memo.specs.inner.Growing.{IsHalfway};
+//! How a table of buckets grows: it doubles, and keeps all that it holds.
+ghost use Rattle.std.specs.Prelude.{◌≡◌, ◌≤◌, ◌<◌, ◌*◌, length, slice_get, Some, IsErr, OnOk};
+ghost use Rattle.dw_memo.specs.Buckets.{held, IsTable};
+ghost use Rattle.dw_memo.specs.Content.{IsMap, SameEntries};
+ghost use Rattle.dw_memo.specs.inner.Growing.{IsSplitAt, IsWidened};
 
-use crate::slot::Slot;
-use crate::slot_memo::{Slots, slot_of};
+use crate::bucket::Bucket;
 use dw_board::board::Board;
+use std::alloc::AllocError;
 
-/// A table of more slots than this begins with half of them, a quarter or less, rounded down.
+/// A table of more buckets than this begins with half of them, a quarter or less, rounded down.
 const FEW: usize = 2048;
 
-/// How many slots a table begins with that may have so many. Doubled as often as it can be, it has nearly all of them.
+/// How many buckets a table begins with that may have so many. Doubled as often as it can be, it has nearly all of
+/// them.
 pub(crate) fn first_size(most: usize) -> usize
     requires { 1 ≤ most }
     ensures some { 1 ≤ result }
@@ -24,51 +25,66 @@ pub(crate) fn first_size(most: usize) -> usize
     size
 }
 
-/// Doubles a table of which all but a sixteenth is used, if it may have as many slots. A larger one would lose less,
-/// and be slower for all that: much of what stands in it belongs to problems that are done.
-pub(crate) fn make_room<B: Board>(slots: &mut Slots<B>, used: usize, most: usize)
-    requires { IsTable B.geometry slots.old.items }
-    ensures table { IsTable B.geometry slots.new.items }
-    ensures same { SameEntries (held slots.old.items) (held slots.new.items) }
+/// Doubles a table that is crowded, so many of its places being taken, if it may have as many buckets.
+pub(crate) fn make_room<B: Board, T: Bucket<B>>(buckets: &mut Vec<T>, taken: usize, most: usize)
+    requires { IsTable B.geometry T.entries buckets.old.items }
+    ensures table { IsTable B.geometry T.entries buckets.new.items }
+    ensures same { SameEntries (held T.entries buckets.old.items) (held T.entries buckets.new.items) }
 {
-    let size = slots.len();
-    if size - size / 16 < used && size <= most / 2 {
-        double(slots);
+    let size = buckets.len();
+    if T::is_crowded(size, taken) && size <= most / 2 {
+        double(buckets);
     }
 }
 
-/// Makes the slots twice as many, in the memory that was taken at the start, and brings each position to its own slot.
+/// Makes the buckets twice as many, in the memory that was taken at the start, and brings each entry to its own one.
 /// It is rare, and stands apart from the notes between.
 #[cold]
 #[inline(never)]
-fn double<B: Board>(slots: &mut Slots<B>)
-    requires few { length slots.old.items * 2 < 18446744073709551616 }
-    requires table { IsTable B.geometry slots.old.items }
-    ensures table { IsTable B.geometry slots.new.items }
-    ensures same { SameEntries (held slots.old.items) (held slots.new.items) }
+fn double<B: Board, T: Bucket<B>>(buckets: &mut Vec<T>)
+    requires few { length buckets.old.items * 2 < 18446744073709551616 }
+    requires table { IsTable B.geometry T.entries buckets.old.items }
+    ensures table { IsTable B.geometry T.entries buckets.new.items }
+    ensures same { SameEntries (held T.entries buckets.old.items) (held T.entries buckets.new.items) }
 {
-    let size = slots.len();
-    if slots.resize(2 * size, Slot::empty()).is_err() {
+    let size = buckets.len();
+    let Ok(()) = widen(buckets, size) else {
         return;
-    }
+    };
     let mut left = size;
-    'slots: while left > 0 {
+    'buckets: while left > 0 {
         left -= 1;
-        bring_home(slots, left, size);
+        bring_home(buckets, left, size);
     }
 }
 
-/// Brings what stands in a slot, of a table that had so many, to its slot among twice as many.
-fn bring_home<B: Board>(slots: &mut Slots<B>, index: usize, size: usize)
-    requires inside { index < size }
-    requires halfway { IsHalfway B.geometry size (index + 1) slots.old.items }
-    ensures halfway { IsHalfway B.geometry size index slots.new.items }
-    ensures same { SameEntries (held slots.old.items) (held slots.new.items) }
+/// Puts so many empty buckets behind those of a table. If memory is refused, all is as it was.
+pub(crate) fn widen<B: Board, T: Bucket<B>>(
+    buckets: &mut Vec<T>,
+    count: usize,
+) -> Result<(), AllocError>
+    ensures wider { OnOk result (IsWidened T.entries count buckets.old.items buckets.new.items) }
+    ensures same { IsErr result → buckets.new.items ≡ buckets.old.items }
 {
-    let Some((position, bounds)) = slots[index].entry() else {
-        return;
-    };
-    slots[index] = Slot::empty();
-    let slot = slot_of(&position, 2 * size);
-    slots[slot] = Slot::with(&position, bounds);
+    let size = buckets.len();
+    'more: for _ in 0..count {
+        if buckets.push(T::empty()).is_err() {
+            buckets.truncate(size);
+            return Err(AllocError);
+        }
+    }
+    Ok(())
+}
+
+/// Splits a bucket, of a table that had so many, into the two that take its place among twice as many.
+fn bring_home<B: Board, T: Bucket<B>>(buckets: &mut Vec<T>, index: usize, size: usize)
+    requires inside { index < size }
+    requires all { length buckets.old.items ≡ 2 * size }
+    requires map { (x : T) → slice_get buckets.old.items index ≡ Some x → IsMap (T.entries x) }
+    ensures { IsSplitAt B.geometry T.entries size index buckets.old.items buckets.new.items }
+{
+    let bucket = buckets[index];
+    let (low, high) = bucket.split(2 * index, 2 * size);
+    buckets[2 * index] = low;
+    buckets[2 * index + 1] = high;
 }

@@ -1,8 +1,15 @@
-//! One slot of a table.
+//! One place for a position, a bucket by itself.
 ghost use Rattle.std.specs.Prelude.{◌≡◌, Some, None, is_some, not, ⊤, ◌↔◌, IsTrue};
+ghost use Rattle.dw_memo.specs.Pairs.{worth};
+ghost use Rattle.dw_memo.specs.Slots.{standing};
+ghost use Rattle.dw_memo.specs.declared.memo.Noted.TheVariants.{Kept};
 ghost use Rattle.dw_memo.specs.inner.Keeping.{bounds_in, lost, kept_position};
 
 use crate::bounds::Bounds;
+use crate::bucket::{Bucket, Entered};
+use crate::fact::Fact;
+use crate::memo::Noted;
+use crate::table::bucket_of;
 use dw_board::board::Board;
 use dw_board::packed::Packed;
 use dw_board::piece::Side;
@@ -10,39 +17,39 @@ use dw_board::position::Position;
 use std::alloc::AllocError;
 use std::marker::Model;
 
-/// A position with its bounds, or nothing: then there are no bounds, and the position is that of the board without a
-/// piece. It takes 32 bytes: the position is kept as three sets and the side to move.
+/// A position with what is known of it, or nothing: then there is no fact, and the position is that of the board
+/// without a piece. It takes 32 bytes: the position is kept as three sets and the side to move.
 #[derive(Copy)]
 pub(crate) struct Slot<B: Board> {
     pieces: Packed<B>,
     turn: Side,
-    bounds: Option<Bounds>,
+    fact: Option<Fact>,
 }
 
 impl<B: Board> Model for Slot<B> {
-    ghost use Rattle.std.specs.Prelude.{Option, None, ◌≡◌};
-    ghost use Rattle.dw_board.specs.Placement.{Placement, empty};
+    ghost use Rattle.std.specs.Prelude.{None, ◌≡◌};
+    ghost use Rattle.dw_board.specs.Placement.{empty};
     ghost use Rattle.dw_board.specs.declared.piece.Side.TheVariants.{White};
-    ghost use Rattle.dw_memo.specs.declared.bounds.Bounds.{Bounds};
-    ghost use Rattle.dw_memo.specs.inner.Keeping.{stands, at_turn, kept_position, kept_bounds};
-    ghost use Rattle.dw_memo.specs.inner.Keeping.{position_back, bounds_back};
+    ghost use Rattle.dw_memo.specs.Slots.{Place};
+    ghost use Rattle.dw_memo.specs.inner.Keeping.{stands, at_turn, kept_position, kept_fact};
+    ghost use Rattle.dw_memo.specs.inner.Keeping.{position_back, fact_back};
 
-    ghost Value = { Option (Placement × Bounds) };
+    ghost Value = { Place };
 
-    ghost view = { λ s. stands (at_turn s.pieces s.turn) s.bounds };
+    ghost view = { λ s. stands (at_turn s.pieces s.turn) s.fact };
 
-    ghost invariant = { λ s. s.bounds ≡ None → at_turn s.pieces s.turn ≡ empty White };
+    ghost invariant = { λ s. s.fact ≡ None → at_turn s.pieces s.turn ≡ empty White };
 
     ghost inverse = { λ v. record {
       pieces = (kept_position v).cells;
       turn = (kept_position v).turn;
-      bounds = kept_bounds v;
+      fact = kept_fact v;
     } };
 
     ghost inverse_ok = { λ a h i. record {
-      pieces = (position_back (at_turn a.pieces a.turn) a.bounds h i).cells;
-      turn = (position_back (at_turn a.pieces a.turn) a.bounds h i).turn;
-      bounds = bounds_back (at_turn a.pieces a.turn) a.bounds i;
+      pieces = (position_back (at_turn a.pieces a.turn) a.fact h i).cells;
+      turn = (position_back (at_turn a.pieces a.turn) a.fact h i).turn;
+      fact = fact_back (at_turn a.pieces a.turn) a.fact i;
     } };
 }
 
@@ -60,43 +67,43 @@ impl<B: Board> Clone for Slot<B> {
 
 impl<B: Board> Slot<B> {
     /// A slot in which nothing stands.
-    pub(crate) fn empty() -> Self
+    pub(crate) fn vacant() -> Self
         ensures { result ≡ None }
     {
         Slot {
             pieces: Position::empty(Side::White).pack(),
             turn: Side::White,
-            bounds: None,
+            fact: None,
         }
     }
 
-    /// A slot with a position and its bounds.
+    /// A slot with a position and what is known of it.
     #[inline]
-    pub(crate) fn with(position: &Position<B>, bounds: Bounds) -> Self
-        ensures { result ≡ Some (position.now, bounds) }
+    pub(crate) fn with(position: &Position<B>, fact: Fact) -> Self
+        ensures { result ≡ Some (position.now, fact) }
     {
         Slot {
             pieces: position.pack(),
             turn: position.turn(),
-            bounds: Some(bounds),
+            fact: Some(fact),
         }
     }
 
     /// What stands there.
     #[inline]
-    pub(crate) fn entry(&self) -> Option<(Position<B>, Bounds)>
+    pub(crate) fn entry(&self) -> Option<(Position<B>, Fact)>
         ensures { result ≡ self.now }
     {
-        let bounds = self.bounds?;
-        Some((Position::unpack(&self.pieces, self.turn), bounds))
+        let fact = self.fact?;
+        Some((Position::unpack(&self.pieces, self.turn), fact))
     }
 
     /// Whether nothing stands there.
     #[inline]
-    pub(crate) fn is_empty(&self) -> bool
+    pub(crate) fn is_free(&self) -> bool
         ensures { result ≡ not (is_some self.now) }
     {
-        self.bounds.is_none()
+        self.fact.is_none()
     }
 
     /// The bounds of a position, if it stands there and not another one.
@@ -104,10 +111,41 @@ impl<B: Board> Slot<B> {
     pub(crate) fn bounds_of(&self, position: &Position<B>) -> Option<Bounds>
         ensures { result ≡ bounds_in self.now position.now }
     {
+        let fact = self.fact?;
         if self.keeps(position) {
-            self.bounds
+            Some(fact.bounds)
         } else {
             None
+        }
+    }
+
+    /// Whether a position stands there.
+    #[inline]
+    pub(crate) fn holds(&self, position: &Position<B>) -> bool
+        ensures { result ≡ is_some (bounds_in self.now position.now) }
+    {
+        self.bounds_of(position).is_some()
+    }
+
+    /// What it is worth: one more than the fact there, and 0 if it is free.
+    #[inline]
+    pub(crate) fn worth(&self) -> u16
+        ensures { result ≡ worth self.now }
+    {
+        match self.fact {
+            Some(fact) => 1 + u16::from(fact.worth()),
+            None => 0,
+        }
+    }
+
+    /// The slot when the fact there is older by one.
+    #[inline]
+    pub(crate) fn older(&self) -> Self
+        ensures { standing result ≡ standing self.now }
+    {
+        match self.entry() {
+            Some((position, fact)) => Slot::with(&position, fact.older()),
+            None => Slot::vacant(),
         }
     }
 
@@ -116,7 +154,7 @@ impl<B: Board> Slot<B> {
     pub(crate) fn lost(&self, position: &Position<B>) -> u64
         ensures { result ≡ lost self.now position.now }
     {
-        u64::from(self.bounds.is_some() && !self.keeps(position))
+        u64::from(self.fact.is_some() && !self.keeps(position))
     }
 
     /// Whether the position that it keeps is this one.
@@ -125,5 +163,49 @@ impl<B: Board> Slot<B> {
         ensures { IsTrue result ↔ (kept_position self.now ≡ position.now) }
     {
         self.pieces.is_same(&position.pack()) && self.turn == position.turn()
+    }
+}
+
+impl<B: Board> Bucket<B> for Slot<B> {
+    ghost entries = { standing };
+
+    ghost may_answer = { λ answer. answer ≡ Kept };
+
+    #[inline]
+    fn empty() -> Self {
+        Slot::vacant()
+    }
+
+    #[inline]
+    fn look(&self, position: &Position<B>) -> Option<Bounds> {
+        self.bounds_of(position)
+    }
+
+    #[inline]
+    fn enter(&mut self, position: &Position<B>, bounds: Bounds) -> Entered {
+        let lost = self.lost(position);
+        let fills = self.is_free();
+        *self = Slot::with(position, Fact::new(bounds));
+        Entered {
+            noted: Noted::Kept,
+            lost,
+            fills,
+        }
+    }
+
+    fn split(&self, index: usize, buckets: usize) -> (Self, Self) {
+        match self.entry() {
+            Some((position, _)) if bucket_of(&position, buckets) != index => (
+                Slot::vacant(),
+                *self,
+            ),
+            _ => (*self, Slot::vacant()),
+        }
+    }
+
+    /// All but a sixteenth is taken. A larger table would lose less, and be slower for all that: much of what stands in
+    /// it belongs to problems that are done.
+    fn is_crowded(buckets: usize, taken: usize) -> bool {
+        buckets - buckets / 16 < taken
     }
 }

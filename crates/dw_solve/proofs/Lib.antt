@@ -8,3 +8,4 @@ pub mod RankLemmas
 pub mod TriedLemmas
 pub mod SearchLemmas
 pub mod StepLemmas
+pub mod OpenLemmas

@@ -24,7 +24,7 @@ get_same [] i a b low = absurd (omega arith)
 get_same (x ∷ xs) zero a b low = refl
 get_same (x ∷ xs) (suc i) a b low = get_same xs i a b (omega arith)
 
-member_at : {X : Type 0} (xs : List X) (i : ℕ) (x : X) → i < length xs → x ≡ get_or xs i x → Member x xs
+pub member_at : {X : Type 0} (xs : List X) (i : ℕ) (x : X) → i < length xs → x ≡ get_or xs i x → Member x xs
 member_at [] i x low e = absurd (omega arith)
 member_at (y ∷ xs) zero x low e = inl e
 member_at (y ∷ xs) (suc i) x low e = inr (member_at xs i x (omega arith) e)
@@ -96,7 +96,7 @@ unfolding IsDistinct
 no_repeat [] d = tt
 no_repeat (m ∷ ms) d = (not_there m ms d.0, no_repeat ms d.1)
 
-still_there : {X : Type 0} (xs ys : List X) → IsPermutation xs ys → (x : X) → Member x xs → Member x ys
+pub still_there : {X : Type 0} (xs ys : List X) → IsPermutation xs ys → (x : X) → Member x xs → Member x ys
 still_there xs ys moved x m =
     let k = index_of x xs m in
     let c = Contains-permutation xs ys x moved (k.0, k.1, sym k.2) in

@@ -38,6 +38,11 @@ pub tried_none : (g : Geometry) (n : ℕ) (P : Content → Move → Type 0) (ran
     → Tried g n P ranked 0 a a
 tried_none g n P ranked a = (searched_none g n 0 a, λ kept. below_none (P a.content) ranked)
 
+-- the same where something was done before
+pub tried_later : (g : Geometry) (n : ℕ) (P : Content → Move → Type 0) (ranked : List (ℕ × Move)) (a b : Moment)
+    → Searched g n 0 a b → Tried g n P ranked 0 a b
+tried_later g n P ranked a b w = (w, λ kept. below_none (P b.content) ranked)
+
 pub searched_after : (g : Geometry) (n cut : ℕ) (a b c : Moment) → Searched g n 0 a b → Searched g n cut b c
     → Searched g n cut a c
 searched_after g n cut a b c v w = let e : 0 + cut ≡ cut = omega arith in subst (λ z. Searched g n z a c) e
@@ -108,14 +113,6 @@ says_refuted g n q r p answer a b c v w legal at answered says kept = record {
     subst (λ z. (n ≡ 0) ⊎ KnownFail c.content z n) at
         ((says (second_kept a b c v.counted w.counted kept)).unless (λ t. true≢false (sym t ∙ answered))),
   );
-}
-
-pub says_all : (g : Geometry) (n : ℕ) (q : Placement) (ranked : List (ℕ × Move)) (i : ℕ) (a c : Moment)
-    → AreRanked g q ranked → length ranked ≤ i → Tried g n (Answered g q n) ranked i a c → NothingLost a c
-    → SaysLost g c.content q n true
-says_all g n q ranked i a c all end h kept = record {
-  when = λ _ r legal. below_all g q (Answered g q n c.content) ranked i all end (h.1 kept) r legal;
-  unless = λ t. absurd (t refl);
 }
 
 -- numbers of moves that were tried one after another: the cache decides those below i

@@ -9,6 +9,7 @@ pub mod guide;
 pub mod laws;
 pub mod lineup;
 mod ply;
+mod replies;
 mod search;
 pub mod solver;
 pub mod stop;

@@ -18,7 +18,7 @@ use std::alloc::{AllocError, Global};
 /// The lists that a search needs for one move of a line. Their memory is used again at the next position.
 #[derive(Drop)]
 pub(crate) struct Ply<B: Board> {
-    moves: Vec<Move<B>>,
+    pub(crate) moves: Vec<Move<B>>,
     /// Legal moves with their ranks, the lowest first.
     pub(crate) ranked: Vec<(u32, Move<B>)>,
 }

@@ -17,16 +17,15 @@ ghost use Rattle.dw_solve.specs.inner.Ranking.{IsSureReply};
 
 use crate::guide::Guide;
 use crate::ply::Ply;
+use crate::replies::{Replies, line_up_replies};
 use crate::stop::Stop;
 use dw_board::board::Board;
 use dw_board::position::Position;
 use dw_memo::bounds::Bounds;
 use dw_memo::memo::Memo;
 use dw_moves::best::has_move;
-use dw_moves::laws::sure_replies;
 use dw_moves::moves::Move;
 use dw_moves::play::play as played;
-use dw_moves::replies::sure_step;
 use std::alloc::AllocError;
 
 /// What a search works on: a cache, an order of moves, and how many positions it has expanded and may expand.
@@ -120,10 +119,13 @@ pub(crate) fn loses<B: Board, M: Memo<B>, G: Guide<B>>(
         return Ok(!has_move(position));
     }
     let (ply, rest) = plies.split_first_mut().unwrap();
-    let found = line_up_replies(ply, position, &search.guide, moves)?;
-    if let Some(after) = found {
-        refute(search, &after)?;
-        return Ok(false);
+    match line_up_replies(search, ply, position, moves)? {
+        Replies::Refuted => return Ok(false),
+        Replies::Sure(after) => {
+            refute(search, &after)?;
+            return Ok(false);
+        }
+        Replies::Open => {}
     }
     'replies: for candidate in ply.ranked.as_slice() {
         let reply = &candidate.1;
@@ -149,40 +151,6 @@ fn line_up<B: Board, G: Guide<B>>(
     } else {
         ply.fill(position, guide)
     }
-}
-
-/// Takes up the replies, while the attacker has so many moves left: in the guide's order if there are two or more. At
-/// his last move one reply is enough after which it is seen at a glance that he does not win: then it answers the
-/// position after that one. Mostly it is a step of one square, which is found without a list of moves.
-fn line_up_replies<B: Board, G: Guide<B>>(
-    ply: &mut Ply<B>,
-    position: &Position<B>,
-    guide: &G,
-    moves: u8,
-) -> Result<Option<Position<B>>, AllocError>
-    ensures last { IfOk result (λ found. IsSome found → moves ≡ 1) }
-    ensures reply { IfOk result (λ found. IfSome found (IsSureReply B.geometry position.now)) }
-    ensures all { IfOk result (λ found. IsNone found →
-        AreRanked B.geometry position.now ply.new.ranked.items) }
-{
-    if moves != 1 {
-        ply.fill(position, guide)?;
-        return Ok(None);
-    }
-    if let Some(after) = sure_reply(position) {
-        return Ok(Some(after));
-    }
-    ply.fill_anyhow(position)?;
-    Ok(ply.first_sure(position))
-}
-
-/// The position after a step of one square, if it is seen at a glance that the other side has no win in one move then.
-fn sure_reply<B: Board>(position: &Position<B>) -> Option<Position<B>>
-    ensures { IfSome result (IsSureReply B.geometry position.now) }
-{
-    sure_replies();
-    let (_, after) = sure_step(position)?;
-    Some(after)
 }
 
 /// Takes it up that the attacker does not win with his last move, if that is seen at a glance: the position is

@@ -9,6 +9,7 @@ use crate::notes::{crowded, notes};
 use crate::solve::{ByEnd, ask_rows};
 use dw_board::board::Board;
 use dw_memo::any_memo::AnyMemo;
+use dw_memo::deep_memo::DeepMemo;
 use dw_memo::lru_memo::LruMemo;
 use dw_memo::memo::Memo;
 use dw_memo::no_memo::NoMemo;
@@ -78,7 +79,7 @@ fn ask_memo<B: Board>(
     ask_kind(alloc, kind, memo, spare, guide, rows, tally)
 }
 
-/// A new cache, `none`, `lru:SIZE` or `slots:SIZE`.
+/// A new cache, `none`, `lru:SIZE`, `slots:SIZE` or `deep:SIZE`.
 fn new_memo<B: Board>(alloc: Global, text: &str) -> Option<AnyMemo<B>>
     ensures { IfSome result (λ m. content_of m ≡ []) }
 {
@@ -88,6 +89,7 @@ fn new_memo<B: Board>(alloc: Global, text: &str) -> Option<AnyMemo<B>>
         "none" => Some(AnyMemo::None(NoMemo::new())),
         "lru" => Some(AnyMemo::Lru(latest(alloc, size)?)),
         "slots" => Some(AnyMemo::Slots(slots(alloc, size)?)),
+        "deep" => Some(AnyMemo::Deep(pairs(alloc, size)?)),
         _ => None,
     }
 }
@@ -113,6 +115,18 @@ fn slots<B: Board>(alloc: Global, size: usize) -> Option<SlotMemo<B>>
     match SlotMemo::new(alloc, size) {
         Ok(memo) => Some(memo),
         Err(_) => SlotMemo::new(alloc, size).ok(),
+    }
+}
+
+/// A new cache of pairs of places; it is made again if memory is refused once.
+fn pairs<B: Board>(alloc: Global, size: usize) -> Option<DeepMemo<B>>
+    requires some { 1 ≤ size }
+    requires most { size ≤ 4_000_000 }
+    ensures { IfSome result (λ m. m.content ≡ []) }
+{
+    match DeepMemo::new(alloc, size) {
+        Ok(memo) => Some(memo),
+        Err(_) => DeepMemo::new(alloc, size).ok(),
     }
 }
 

@@ -1,9 +1,15 @@
 -- What a search finds out from a list of moves.
-use Rattle.std.specs.Prelude.{◌≡◌, Bool, IsTrue}
+use Rattle.std.specs.Prelude.{◌≡◌, ◌⊎◌, ℕ, Bool, IsTrue, List, [], ◌∷◌, ◌++◌}
 use Rattle.dw_board.specs.Geometry.{Geometry}
 use Rattle.dw_board.specs.Placement.{Placement}
 use Rattle.dw_moves.specs.Moves.{Move, Legal, play}
 use Rattle.dw_moves.specs.Replies.{AlwaysReply}
+use Rattle.dw_memo.specs.Content.{Content}
+use Rattle.dw_board.specs.Lists.{Member}
+use Rattle.dw_solve.specs.Facts.{KnownWin, KnownFail}
+use Rattle.dw_solve.specs.Ranking.{AreRanked}
+use Rattle.dw_solve.specs.declared.replies.Replies.{Replies}
+use Rattle.dw_solve.specs.declared.replies.Replies.TheVariants.{Refuted, Sure, Open}
 
 -- the position after a legal move, if who made it has a reply to whatever the other side plays then
 abbrev pub IsSureReply : Geometry → Placement → Placement → Type 0
@@ -13,3 +19,28 @@ IsSureReply g p after = (m : Move) × Legal g p m × (after ≡ play g p m) × A
 pub record IsLastWin (g : Geometry) (p : Placement) (answer : Bool) : Type 0 where
   pub when : IsTrue answer → (m : Move) × Legal g p m × ((r : Move) → Legal g (play g p m) r → ⊥)
   pub unless : (IsTrue answer → ⊥) → (m : Move) → Legal g p m → (r : Move) × Legal g (play g p m) r
+
+-- the cache says of some reply that after it there is no win within n
+abbrev pub IsKnownRefuted : Geometry → Content → Placement → ℕ → Type 0
+IsKnownRefuted g c q n = (r : Move) × Legal g q r × ((n ≡ 0) ⊎ KnownFail c (play g q r) n)
+
+-- these are legal, and the cache says of each other legal move that after it there is a win within n
+pub record AreOpen (g : Geometry) (c : Content) (q : Placement) (n : ℕ) (ranked : List (ℕ × Move)) : Type 0 where
+  pub legal : (r : ℕ × Move) → Member r ranked → Legal g q r.1
+  pub others : (m : Move) → Legal g q m → ((rank : ℕ) × Member (rank, m) ranked) ⊎ KnownWin c (play g q m) n
+
+-- a reply, after which the position is p, was added to the list with some rank, or the cache says that there is a win
+abbrev pub IsTakenUp : Content → Placement → ℕ → Move → List (ℕ × Move) → List (ℕ × Move) → Type 0
+IsTakenUp c p n m old new = ((new ≡ old) × KnownWin c p n) ⊎ ((rank : ℕ) × (new ≡ old ++ (rank, m) ∷ []))
+
+-- what is known of the replies before one is searched: that one refutes, or which are still open
+abbrev pub AreLinedUp : {B : Type 0} → Geometry → Content → Placement → ℕ → List (ℕ × Move) → Replies B → Type 0
+AreLinedUp g c q n ranked Refuted = IsKnownRefuted g c q n
+AreLinedUp g c q n ranked (Sure after) = (n ≡ 1) × IsSureReply g q after
+AreLinedUp g c q n ranked Open = AreOpen g c q n ranked
+
+-- the same at the last move of the attacker, where the cache is not asked: it says nothing then
+abbrev pub AreLinedUpLast : {B : Type 0} → Geometry → Placement → List (ℕ × Move) → Replies B → Type 0
+AreLinedUpLast g q ranked Refuted = ⊥
+AreLinedUpLast g q ranked (Sure after) = IsSureReply g q after
+AreLinedUpLast g q ranked Open = AreRanked g q ranked

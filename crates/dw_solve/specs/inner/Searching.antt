@@ -35,6 +35,15 @@ pub record HasSearched {M G A : Type 0} (g : Geometry) (content : M → Content)
   pub stop : IsErrOf answer Limit → new.expanded ≡ new.limit
   pub work : Searched g n (cut_off answer n) (at_time content lost old) (at_time content lost new)
 
+-- The cache was looked at, and nothing else was done.
+pub record HasLooked {M G : Type 0} (g : Geometry) (content : M → Content) (lost : M → ℕ) (old new : Search M G)
+    : Type 0 where
+  pub right : AreTrue g (content new.memo)
+  pub count : new.expanded ≡ old.expanded
+  pub limit : new.limit ≡ old.limit
+  pub same : SameEntries (content old.memo) (content new.memo)
+  pub work : Searched g 0 0 (at_time content lost old) (at_time content lost new)
+
 -- the cache lost nothing meanwhile
 abbrev pub LosesNothing : {M G : Type 0} → (M → Content) → (M → ℕ) → Search M G → Search M G → Type 0
 LosesNothing content lost old new = NothingLost (at_time content lost old) (at_time content lost new)

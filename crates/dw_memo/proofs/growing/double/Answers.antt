@@ -1,26 +1,48 @@
-use Rattle.std.proofs.Common.{◌≡◌, ◌++◌, length, arith, subst, take}
-use Rattle.std.proofs.Math.ListN.{replicate}
-use Rattle.std.specs.Prelude.{is_ok, if◌then◌else◌, ◌-◌, ◌*◌}
-use Rattle.std.specs.Vec.{vec_len}
-use Rattle.dw_memo.proofs.GrowingLemmas.{begun, same_on}
+use Rattle.std.proofs.Common.{◌≡◌, ◌+◌, ◌-◌, ℕ, arith, subst}
+use Rattle.dw_memo.specs.inner.Growing.{IsHalfway}
+use Rattle.dw_memo.proofs.GrowingLemmas.{begun, still_map, one_further, done_table, done_same}
 use Rattle.dw_memo.proofs.growing.double.Goals as goal
 
-pub slots-init : goal.slots-init
-slots-init g c =
-    let size : c.len-size.result ≡ length c.args.slots.now.items =
-    omega (arith, c.len-size.ensures, c.args.slots.now.ok) in
-    let all = begun g.B.Board.geometry c.len-size.result (vec_len c.args.slots.now) c.args.slots.now.items
-    c.resize.new.self.items (is_ok c.resize.result) c.requires.table size c.len-size.ensures
-    c.if-is_err.ensures.negation (subst (λ x. c.resize.new.self.items
-    ≡ (if is_ok c.resize.result then take (2 * c.len-size.result) c.args.slots.now.items
-    ++ replicate (2 * c.len-size.result - vec_len c.args.slots.now) x else c.args.slots.now.items)) c.empty.ensures
-    c.resize.ensures.items) in
-    record { within = omega arith; halfway = all.0; same = all.1 }
-
-pub slots-preserved : goal.slots-preserved
-slots-preserved g c = record {
-  within = omega (arith, c.slots.invariant.within);
-  halfway = c.bring_home.ensures.halfway;
-  same = same_on c.args.slots.now.items c.slots.slots.items c.bring_home.new.slots.items c.slots.invariant.same
-      c.bring_home.ensures.same;
+pub buckets-init : goal.buckets-init
+buckets-init g c = record {
+  within = omega arith;
+  halfway = begun g.B.Board.geometry g.T.Bucket.entries c.len-size.result c.args.buckets.now.items
+      c.widen.new.buckets.items (omega (arith, c.len-size.ensures, c.args.buckets.now.ok)) c.in-Ok.ensures.wider;
 }
+
+pub bring_home-requires-clause-map : goal.bring_home-requires-clause-map
+bring_home-requires-clause-map g c =
+    let on : c.buckets.left ≡ c.buckets.left - 1 + 1 = omega (arith, c.buckets-test.true) in
+    still_map g.B.Board.geometry g.T.Bucket.entries c.len-size.result (c.buckets.left - 1)
+    c.args.buckets.now.items c.buckets.buckets.items c.requires.table
+    (omega (arith, c.len-size.ensures, c.args.buckets.now.ok))
+    (subst (λ (n : ℕ). IsHalfway g.B.Board.geometry g.T.Bucket.entries c.len-size.result n
+    c.args.buckets.now.items c.buckets.buckets.items) on c.buckets.invariant.halfway)
+    (omega (arith, c.buckets.invariant.within, c.buckets-test.true))
+
+pub buckets-preserved : goal.buckets-preserved
+buckets-preserved g c = record {
+  within = omega (arith, c.buckets.invariant.within);
+  halfway = let on : c.buckets.left ≡ c.buckets.left - 1 + 1 = omega (arith, c.buckets-test.true) in
+      one_further g.B.Board.geometry g.T.Bucket.entries c.len-size.result (c.buckets.left - 1)
+      c.args.buckets.now.items c.buckets.buckets.items c.bring_home.new.buckets.items
+      (subst (λ (n : ℕ). IsHalfway g.B.Board.geometry g.T.Bucket.entries c.len-size.result n
+      c.args.buckets.now.items c.buckets.buckets.items) on c.buckets.invariant.halfway)
+      (omega (arith, c.buckets.invariant.within, c.buckets-test.true)) c.bring_home.ensures;
+}
+
+pub returns-clause-table : goal.returns-clause-table
+returns-clause-table g c =
+    let none : c.buckets.left ≡ 0 = omega (arith, c.buckets-test.false) in
+    done_table g.B.Board.geometry g.T.Bucket.entries c.len-size.result c.args.buckets.now.items
+    c.buckets.buckets.items c.requires.table (omega (arith, c.len-size.ensures, c.args.buckets.now.ok))
+    (subst (λ (n : ℕ). IsHalfway g.B.Board.geometry g.T.Bucket.entries c.len-size.result n
+    c.args.buckets.now.items c.buckets.buckets.items) none c.buckets.invariant.halfway)
+
+pub returns-clause-same : goal.returns-clause-same
+returns-clause-same g c =
+    let none : c.buckets.left ≡ 0 = omega (arith, c.buckets-test.false) in
+    done_same g.B.Board.geometry g.T.Bucket.entries c.len-size.result c.args.buckets.now.items
+    c.buckets.buckets.items c.requires.table (omega (arith, c.len-size.ensures, c.args.buckets.now.ok))
+    (subst (λ (n : ℕ). IsHalfway g.B.Board.geometry g.T.Bucket.entries c.len-size.result n
+    c.args.buckets.now.items c.buckets.buckets.items) none c.buckets.invariant.halfway)

@@ -1,20 +1,17 @@
-use Rattle.std.proofs.Common.{◌≤◌}
-use Rattle.dw_memo.specs.Content.{SameEntries}
-use Rattle.dw_memo.specs.Slots.{held}
-use Rattle.dw_memo.specs.inner.Growing.{IsHalfway}
+use Rattle.std.proofs.Common.{◌≤◌, ℕ, List}
 use Rattle.dw_board.specs.Geometry.{Geometry}
-use Rattle.dw_memo.specs.Slots.{Slots}
-use Rattle.std.proofs.Common.{ℕ}
+use Rattle.dw_memo.specs.Content.{Content}
+use Rattle.dw_memo.specs.inner.Growing.{IsHalfway}
 use Rattle.dw_memo.proofs.growing.double.Given as goal
 
--- so many slots are still to be gone through, and nothing was lost
-pub record IsGoing (g : Geometry) (size left : ℕ) (old now : Slots) : Type 0 where
+-- so many buckets are still to be split
+pub record IsGoing {X : Type 0} (g : Geometry) (entries : X → Content) (size left : ℕ) (old now : List X)
+    : Type 0 where
   pub within : left ≤ size
-  pub halfway : IsHalfway g size left now
-  pub same : SameEntries (held old) (held now)
+  pub halfway : IsHalfway g entries size left old now
 
-abbrev pub invariant-slots : goal.invariant-slots
-invariant-slots g l = IsGoing g.B.Board.geometry l.size l.left l.fn.slots.items l.slots.items
+abbrev pub invariant-buckets : goal.invariant-buckets
+invariant-buckets g l = IsGoing g.B.Board.geometry g.T.Bucket.entries l.size l.left l.fn.buckets.items l.buckets.items
 
-abbrev pub decreases-slots : goal.decreases-slots
-decreases-slots g l = l.left
+abbrev pub decreases-buckets : goal.decreases-buckets
+decreases-buckets g l = l.left

@@ -1,5 +1,4 @@
-use Rattle.std.proofs.Common.{◌≡◌, ◌∙◌, ◌+◌, ◌-◌, ◌*◌, ◌≤◌, false, length, refl, sym, ap, subst, arith, inl, inr, ◌↔◌}
-use Rattle.std.proofs.Common.{is_some, IfSome}
+use Rattle.std.proofs.Common.{◌≡◌, ◌∙◌, ◌+◌, ◌-◌, ◌*◌, ◌≤◌, false, length, refl, sym, subst, arith, inl, inr, ◌↔◌}
 use Rattle.std.specs.Prelude.{IsTrue, IfOk}
 use Rattle.std.proofs.lemmas.Result.{on_ok_weaker, IfOk-from_err}
 use Rattle.std.proofs.lemmas.Bool.{true≢false}
@@ -8,21 +7,23 @@ use Rattle.std.proofs.lemmas.Option.{MatchOption-at_some}
 use Rattle.dw_solve.specs.Wins.{Win, Lost}
 use Rattle.dw_solve.specs.Facts.{AreTrue, IsDecided}
 use Rattle.dw_solve.specs.Ranking.{AreRanked}
-use Rattle.dw_solve.specs.inner.Ranking.{IsSureReply}
+use Rattle.dw_solve.specs.inner.Ranking.{AreLinedUp}
 use Rattle.dw_solve.specs.Work.{moment, Searched}
 use Rattle.dw_solve.specs.inner.Searching.{at_time, HasSearched}
 use Rattle.dw_solve.specs.Saying.{SaysWin}
 use Rattle.dw_moves.specs.Moves.{play}
-use Rattle.dw_solve.proofs.RankLemmas.{ranked_legal, below_more, below_all, win_by, never_won}
+use Rattle.dw_solve.proofs.OpenLemmas.{open_here, open_legal, open_won, says_open, refuted_is_not_lost, says_known}
+use Rattle.dw_solve.proofs.OpenLemmas.{counted_looked}
+use Rattle.dw_solve.proofs.RankLemmas.{ranked_legal, below_more, win_by, never_won}
 use Rattle.dw_solve.proofs.WorkLemmas.{searched_none, searched_wider, searched_looser, searched_stop, stop_passed}
 use Rattle.dw_solve.proofs.WorkLemmas.{moment_is, begun_is, wins_stopped, wins_ended}
 use Rattle.dw_solve.proofs.StepLemmas.{searched_nothing, searched_on, searched_for_fewer, searched_ok, searched_err}
 use Rattle.dw_solve.proofs.StepLemmas.{searched_memory, searched_looked, memory_is_no_limit, counted_one}
-use Rattle.dw_solve.proofs.TriedLemmas.{Refuted, Answered, tried_none, refuted_more, answered_more}
-use Rattle.dw_solve.proofs.TriedLemmas.{says_winning, says_none, says_refuted, says_all}
+use Rattle.dw_solve.proofs.TriedLemmas.{Refuted, Answered, tried_none, tried_later, refuted_more, answered_more}
+use Rattle.dw_solve.proofs.TriedLemmas.{says_winning, says_none, says_refuted}
 use Rattle.dw_solve.proofs.WinLemmas.{hopeless_is}
 use Rattle.dw_solve.proofs.SearchLemmas.{ok_is_no_err, never_known, unchanged_none, unchanged_then, reply_decided}
-use Rattle.dw_solve.proofs.SearchLemmas.{lost_at_none, says_at_none, counted_none, counted_then, is_so, is_not}
+use Rattle.dw_solve.proofs.SearchLemmas.{lost_at_none, says_at_none, decided_same, counted_none, counted_then, is_so, is_not}
 use Rattle.dw_solve.proofs.SearchLemmas.{answer_no, answer_yes, some_first, counted_within, same_within, one_spent}
 use Rattle.dw_solve.proofs.SearchLemmas.{none_below_none, none_or_one, none_or_some, one_at_most, one_less}
 use Rattle.dw_solve.proofs.SearchLemmas.{room_for_replies, room_for_moves}
@@ -32,10 +33,12 @@ use Rattle.dw_solve.proofs.search.+search.Goals as goal
 pub loses-play-requires : goal.loses-play-requires
 loses-play-requires g t c =
     let geo = g.B.Board.geometry in
-    ranked_legal geo c.args.position.now c.as_slice-candidate-items.result.now c.replies.candidate-index
-    c.candidate-item.result
-    (subst (AreRanked geo c.args.position.now) (sym c.as_slice-candidate-items.ensures.value)
-    (c.in_ok-found.ensures.all (ap is_some c.in_default.is))) c.replies-test.true c.candidate-item.is
+    let taken = open_here geo (g.M.Memo.content c.args.search.now.memo) c.args.position.now c.args.moves
+    c.line_up_replies.new.ply.ranked.items c.as_slice-candidate-items.result.now _
+    c.in_ok-line_up_replies.ensures.known c.in-Open.is c.as_slice-candidate-items.ensures.value in
+    open_legal geo (g.M.Memo.content c.args.search.now.memo) c.args.position.now c.args.moves
+    c.as_slice-candidate-items.result.now c.replies.candidate-index c.candidate-item.result taken c.replies-test.true
+    c.candidate-item.is
 
 pub loses-wins-requires : goal.loses-wins-requires
 loses-wins-requires g t c κs within =
@@ -65,27 +68,36 @@ loses-wins-requires g t c κs within =
     )
 
 pub loses-replies-init : goal.loses-replies-init
-loses-replies-init g t c = (
-  c.requires.ready.right,
-  (
-    counted_none c.args.search.now.expanded c.args.search.now.limit c.requires.ready.within,
-    (
-      (λ k x low e. absurd (none_below_none k low)),
-      tried_none _ _ (Answered g.B.Board.geometry c.args.position.now c.args.moves) _ _,
-      λ all. unchanged_none _ _,
-    ),
-  ),
-)
+loses-replies-init g t c =
+    let content = g.M.Memo.content in
+    let lost = g.M.Memo.dropped in
+    let looked = c.line_up_replies.ensures.looked in (
+      looked.right,
+      (
+        counted_looked c.args.search.now.expanded c.args.search.now.limit c.line_up_replies.new.search.expanded
+            c.line_up_replies.new.search.limit c.requires.ready.within looked.count looked.limit,
+        (
+          (λ k x low e. absurd (none_below_none k low)),
+          tried_later g.B.Board.geometry c.args.moves (Answered g.B.Board.geometry c.args.position.now c.args.moves) _
+              (at_time content lost c.args.search.now) (at_time content lost c.line_up_replies.new.search)
+              (searched_wider g.B.Board.geometry 0 c.args.moves 0 (at_time content lost c.args.search.now)
+              (at_time content lost c.line_up_replies.new.search) (none_at_most c.args.moves) looked.work),
+          λ all. (looked.count, looked.same),
+        ),
+      ),
+    )
 
 pub loses-replies-preserved : goal.loses-replies-preserved
 loses-replies-preserved g t c =
     let geo = g.B.Board.geometry in
     let content = g.M.Memo.content in
     let lost = g.M.Memo.dropped in
-    let legal = ranked_legal geo c.args.position.now c.as_slice-candidate-items.result.now c.replies.candidate-index
-    c.candidate-item.result
-    (subst (AreRanked geo c.args.position.now) (sym c.as_slice-candidate-items.ensures.value)
-    (c.in_ok-found.ensures.all (ap is_some c.in_default.is))) c.replies-test.true c.candidate-item.is in
+    let taken = open_here geo (g.M.Memo.content c.args.search.now.memo) c.args.position.now c.args.moves
+    c.line_up_replies.new.ply.ranked.items c.as_slice-candidate-items.result.now _
+    c.in_ok-line_up_replies.ensures.known c.in-Open.is c.as_slice-candidate-items.ensures.value in
+    let legal = open_legal geo (g.M.Memo.content c.args.search.now.memo) c.args.position.now c.args.moves
+    c.as_slice-candidate-items.result.now c.replies.candidate-index c.candidate-item.result taken c.replies-test.true
+    c.candidate-item.is in
     let won = subst (λ q. Win geo q c.args.moves) c.play.ensures
     (is_so c.in_ok-wins.field-0 _ c.in_ok-wins.ensures.answer c.if-not-branch.false) in (
       c.in_ok-wins.ensures.searched.right,
@@ -118,10 +130,12 @@ loses-replies-preserved g t c =
 pub loses-returns-then-not-branch-clause-answer : goal.loses-returns-then-not-branch-clause-answer
 loses-returns-then-not-branch-clause-answer g t c =
     let geo = g.B.Board.geometry in
-    let legal = ranked_legal geo c.args.position.now c.as_slice-candidate-items.result.now c.replies.candidate-index
-    c.candidate-item.result
-    (subst (AreRanked geo c.args.position.now) (sym c.as_slice-candidate-items.ensures.value)
-    (c.in_ok-found.ensures.all (ap is_some c.in_default.is))) c.replies-test.true c.candidate-item.is in
+    let taken = open_here geo (g.M.Memo.content c.args.search.now.memo) c.args.position.now c.args.moves
+    c.line_up_replies.new.ply.ranked.items c.as_slice-candidate-items.result.now _
+    c.in_ok-line_up_replies.ensures.known c.in-Open.is c.as_slice-candidate-items.ensures.value in
+    let legal = open_legal geo (g.M.Memo.content c.args.search.now.memo) c.args.position.now c.args.moves
+    c.as_slice-candidate-items.result.now c.replies.candidate-index c.candidate-item.result taken c.replies-test.true
+    c.candidate-item.is in
     answer_no (Lost geo c.args.position.now c.args.moves) (λ lost.
     is_not c.in_ok-wins.field-0 _ c.in_ok-wins.ensures.answer c.if-not-branch.true
     (subst (λ q. Win geo q c.args.moves) (sym c.play.ensures) (lost c.candidate-item.result.1 legal)))
@@ -129,11 +143,13 @@ loses-returns-then-not-branch-clause-answer g t c =
 pub loses-returns-clause-answer : goal.loses-returns-clause-answer
 loses-returns-clause-answer g t c =
     let geo = g.B.Board.geometry in
+    let taken = open_here geo (g.M.Memo.content c.args.search.now.memo) c.args.position.now c.args.moves
+    c.line_up_replies.new.ply.ranked.items c.as_slice-candidate-items.result.now _
+    c.in_ok-line_up_replies.ensures.known c.in-Open.is c.as_slice-candidate-items.ensures.value in
     answer_yes (Lost geo c.args.position.now c.args.moves)
-    (below_all geo c.args.position.now (λ r. Win geo (play geo c.args.position.now r) c.args.moves)
-    c.as_slice-candidate-items.result.now c.replies.candidate-index
-    (subst (AreRanked geo c.args.position.now) (sym c.as_slice-candidate-items.ensures.value)
-    (c.in_ok-found.ensures.all (ap is_some c.in_default.is))) c.replies-test.false c.replies.invariant.1.1.0)
+    (open_won geo (g.M.Memo.content c.args.search.now.memo) c.args.position.now c.args.moves
+    c.as_slice-candidate-items.result.now c.replies.candidate-index c.requires.ready.right taken c.replies-test.false
+    c.replies.invariant.1.1.0)
 
 pub some_move_wins-play-requires : goal.some_move_wins-play-requires
 some_move_wins-play-requires g t c =
@@ -267,13 +283,15 @@ loses-returns-then-moves-eq0-clause-says g t c kept =
     says_at_none g.B.Board.geometry (g.M.Memo.content c.args.search.now.memo) c.args.position.now c.args.moves
     c.has_move.result c.if-moves-eq0.true c.has_move.ensures
 
-pub loses-returns-in_err-found-clause-searched : goal.loses-returns-in_err-found-clause-searched
-loses-returns-in_err-found-clause-searched g t c =
+pub loses-returns-in_err-line_up_replies-clause-searched : goal.loses-returns-in_err-line_up_replies-clause-searched
+loses-returns-in_err-line_up_replies-clause-searched g t c =
     let geo = g.B.Board.geometry in
     let content = g.M.Memo.content in
     let lost = g.M.Memo.dropped in
+    let looked = c.line_up_replies.ensures.looked in
     searched_memory geo content lost c.args.moves _ _ _ c.from_residual.ensures.1
-    (searched_nothing geo content lost c.args.moves c.args.search.now c.requires.ready)
+    (searched_looked geo content lost c.args.moves c.args.search.now c.line_up_replies.new.search c.requires.ready
+    looked.right looked.count looked.limit looked.work)
 
 pub loses-returns-in_err-wins-clause-searched : goal.loses-returns-in_err-wins-clause-searched
 loses-returns-in_err-wins-clause-searched g t c =
@@ -281,7 +299,7 @@ loses-returns-in_err-wins-clause-searched g t c =
     let content = g.M.Memo.content in
     let lost = g.M.Memo.dropped in
     searched_err geo content lost c.args.moves _ _ c.in_err-wins.field-0.0 _ c.from_residual-in_err-wins.ensures.1
-    (searched_on geo content lost c.args.moves _ _ _ _ (record {
+    (searched_on geo content lost c.args.moves c.args.search.now c.replies.search c.wins.new.search _ (record {
       right = c.replies.invariant.0;
       count = c.replies.invariant.1.0;
       stop = λ e. absurd (ok_is_no_err _ _ e);
@@ -294,7 +312,7 @@ loses-returns-then-not-branch-clause-searched g t c =
     let content = g.M.Memo.content in
     let lost = g.M.Memo.dropped in
     searched_ok geo content lost c.args.moves _ _ _ _
-    (searched_on geo content lost c.args.moves _ _ _ _ (record {
+    (searched_on geo content lost c.args.moves c.args.search.now c.replies.search c.wins.new.search _ (record {
       right = c.replies.invariant.0;
       count = c.replies.invariant.1.0;
       stop = λ e. absurd (ok_is_no_err _ _ e);
@@ -304,10 +322,12 @@ loses-returns-then-not-branch-clause-searched g t c =
 pub loses-returns-then-not-branch-clause-says : goal.loses-returns-then-not-branch-clause-says
 loses-returns-then-not-branch-clause-says g t c =
     let geo = g.B.Board.geometry in
-    let legal = ranked_legal geo c.args.position.now c.as_slice-candidate-items.result.now c.replies.candidate-index
-    c.candidate-item.result
-    (subst (AreRanked geo c.args.position.now) (sym c.as_slice-candidate-items.ensures.value)
-    (c.in_ok-found.ensures.all (ap is_some c.in_default.is))) c.replies-test.true c.candidate-item.is in
+    let taken = open_here geo (g.M.Memo.content c.args.search.now.memo) c.args.position.now c.args.moves
+    c.line_up_replies.new.ply.ranked.items c.as_slice-candidate-items.result.now _
+    c.in_ok-line_up_replies.ensures.known c.in-Open.is c.as_slice-candidate-items.ensures.value in
+    let legal = open_legal geo (g.M.Memo.content c.args.search.now.memo) c.args.position.now c.args.moves
+    c.as_slice-candidate-items.result.now c.replies.candidate-index c.candidate-item.result taken c.replies-test.true
+    c.candidate-item.is in
     says_refuted geo c.args.moves c.args.position.now c.candidate-item.result.1 c.play.result c.in_ok-wins.field-0 _ _ _
     c.replies.invariant.1.1.1.0 c.in_ok-wins.ensures.searched.work legal c.play.ensures c.if-not-branch.true
     c.in_ok-wins.ensures.says
@@ -323,9 +343,12 @@ loses-returns-clause-searched g t c = record {
 pub loses-returns-clause-says : goal.loses-returns-clause-says
 loses-returns-clause-says g t c =
     let geo = g.B.Board.geometry in
-    says_all geo c.args.moves c.args.position.now c.as_slice-candidate-items.result.now c.replies.candidate-index _ _
-    (subst (AreRanked geo c.args.position.now) (sym c.as_slice-candidate-items.ensures.value)
-    (c.in_ok-found.ensures.all (ap is_some c.in_default.is))) c.replies-test.false c.replies.invariant.1.1.1
+    let taken = open_here geo (g.M.Memo.content c.args.search.now.memo) c.args.position.now c.args.moves
+    c.line_up_replies.new.ply.ranked.items c.as_slice-candidate-items.result.now _
+    c.in_ok-line_up_replies.ensures.known c.in-Open.is c.as_slice-candidate-items.ensures.value in
+    says_open geo c.args.moves c.args.position.now c.as_slice-candidate-items.result.now c.replies.candidate-index
+    (at_time g.M.Memo.content g.M.Memo.dropped c.args.search.now) _ taken c.replies-test.false
+    c.replies.invariant.1.1.1
 
 pub some_move_wins-returns-in_err-loses-clause-searched : goal.some_move_wins-returns-in_err-loses-clause-searched
 some_move_wins-returns-in_err-loses-clause-searched g t c =
@@ -461,10 +484,12 @@ wins-returns-clause-says g t c =
 pub loses-returns-in_err-wins-clause-known : goal.loses-returns-in_err-wins-clause-known
 loses-returns-in_err-wins-clause-known g t c all =
     let geo = g.B.Board.geometry in
-    let legal = ranked_legal geo c.args.position.now c.as_slice-candidate-items.result.now c.replies.candidate-index
-    c.candidate-item.result
-    (subst (AreRanked geo c.args.position.now) (sym c.as_slice-candidate-items.ensures.value)
-    (c.in_ok-found.ensures.all (ap is_some c.in_default.is))) c.replies-test.true c.candidate-item.is in
+    let taken = open_here geo (g.M.Memo.content c.args.search.now.memo) c.args.position.now c.args.moves
+    c.line_up_replies.new.ply.ranked.items c.as_slice-candidate-items.result.now _
+    c.in_ok-line_up_replies.ensures.known c.in-Open.is c.as_slice-candidate-items.ensures.value in
+    let legal = open_legal geo (g.M.Memo.content c.args.search.now.memo) c.args.position.now c.args.moves
+    c.as_slice-candidate-items.result.now c.replies.candidate-index c.candidate-item.result taken c.replies-test.true
+    c.candidate-item.is in
     let before = c.replies.invariant.1.1.2 all in
     let here = c.in_err-wins.ensures.known (reply_decided geo _ _ c.args.position.now c.play.result
     c.candidate-item.result.1 c.args.moves _ _ all before legal c.play.ensures) in
@@ -473,10 +498,12 @@ loses-returns-in_err-wins-clause-known g t c all =
 pub loses-returns-then-not-branch-clause-known : goal.loses-returns-then-not-branch-clause-known
 loses-returns-then-not-branch-clause-known g t c all =
     let geo = g.B.Board.geometry in
-    let legal = ranked_legal geo c.args.position.now c.as_slice-candidate-items.result.now c.replies.candidate-index
-    c.candidate-item.result
-    (subst (AreRanked geo c.args.position.now) (sym c.as_slice-candidate-items.ensures.value)
-    (c.in_ok-found.ensures.all (ap is_some c.in_default.is))) c.replies-test.true c.candidate-item.is in
+    let taken = open_here geo (g.M.Memo.content c.args.search.now.memo) c.args.position.now c.args.moves
+    c.line_up_replies.new.ply.ranked.items c.as_slice-candidate-items.result.now _
+    c.in_ok-line_up_replies.ensures.known c.in-Open.is c.as_slice-candidate-items.ensures.value in
+    let legal = open_legal geo (g.M.Memo.content c.args.search.now.memo) c.args.position.now c.args.moves
+    c.as_slice-candidate-items.result.now c.replies.candidate-index c.candidate-item.result taken c.replies-test.true
+    c.candidate-item.is in
     let before = c.replies.invariant.1.1.2 all in
     let here = c.in_ok-wins.ensures.known (reply_decided geo _ _ c.args.position.now c.play.result
     c.candidate-item.result.1 c.args.moves _ _ all before legal c.play.ensures) in
@@ -497,50 +524,70 @@ wins-returns-clause-known g t c = never_known _ c.args.moves _ (c.in_default.ens
 pub wins-returns-in-Some-clause-answer : goal.wins-returns-in-Some-clause-answer
 wins-returns-in-Some-clause-answer g t c = c.in-Some.ensures.answer
 
-pub loses-returns-in_err-refute-clause-known : goal.loses-returns-in_err-refute-clause-known
-loses-returns-in_err-refute-clause-known g t c all =
+pub loses-returns-in_err-refute-in-Sure-clause-known : goal.loses-returns-in_err-refute-in-Sure-clause-known
+loses-returns-in_err-refute-in-Sure-clause-known g t c all =
     let geo = g.B.Board.geometry in
-    let reply = subst (λ o. IfSome o (IsSureReply geo c.args.position.now)) c.in-Some.is c.in_ok-found.ensures.reply in
-    let one = c.in_ok-found.ensures.last (ap is_some c.in-Some.is) in
-    let here = c.in_err-refute.ensures.known (elim (all reply.0 reply.1) [
+    let sure = subst (AreLinedUp geo (g.M.Memo.content c.args.search.now.memo) c.args.position.now c.args.moves
+    c.line_up_replies.new.ply.ranked.items) c.in-Sure.is c.in_ok-line_up_replies.ensures.known in
+    let reply = sure.1 in
+    let one = sure.0 in
+    let looked = c.line_up_replies.ensures.looked in
+    let seen = g.M.Memo.content c.line_up_replies.new.search.memo in
+    let here = c.in_err-refute-in-Sure.ensures.known (elim (all reply.0 reply.1) [
       | inl none ↦ absurd (none_or_one c.args.moves none one)
-      | inr known ↦ subst (λ n. IsDecided (g.M.Memo.content c.args.search.now.memo) c.in-Some.after n) one
-          (subst (λ q. IsDecided (g.M.Memo.content c.args.search.now.memo) q c.args.moves) (sym reply.2) known)
+      | inr known ↦ decided_same (g.M.Memo.content c.args.search.now.memo) seen c.in-Sure.after 1 looked.same
+          (subst (λ n. IsDecided (g.M.Memo.content c.args.search.now.memo) c.in-Sure.after n) one
+          (subst (λ q. IsDecided (g.M.Memo.content c.args.search.now.memo) q c.args.moves) (sym reply.2) known))
     ]) in
     absurd (true≢false (sym here.0))
 
-pub loses-returns-in-Some-clause-answer : goal.loses-returns-in-Some-clause-answer
-loses-returns-in-Some-clause-answer g t c =
+pub loses-returns-in-Sure-clause-answer : goal.loses-returns-in-Sure-clause-answer
+loses-returns-in-Sure-clause-answer g t c =
     let geo = g.B.Board.geometry in
-    let reply = subst (λ o. IfSome o (IsSureReply geo c.args.position.now)) c.in-Some.is c.in_ok-found.ensures.reply in
+    let sure = subst (AreLinedUp geo (g.M.Memo.content c.args.search.now.memo) c.args.position.now c.args.moves
+    c.line_up_replies.new.ply.ranked.items) c.in-Sure.is c.in_ok-line_up_replies.ensures.known in
+    let reply = sure.1 in
+    let one = sure.0 in
     answer_no (Lost geo c.args.position.now c.args.moves)
-    (λ lost. hopeless_is geo c.in-Some.after c.args.moves (c.in_ok-found.ensures.last (ap is_some c.in-Some.is)) reply.3
+    (λ lost. hopeless_is geo c.in-Sure.after c.args.moves one reply.3
     (subst (λ q. Win geo q c.args.moves) (sym reply.2) (lost reply.0 reply.1)))
 
-pub loses-returns-in-Some-clause-says : goal.loses-returns-in-Some-clause-says
-loses-returns-in-Some-clause-says g t c kept =
+pub loses-returns-in-Sure-clause-says : goal.loses-returns-in-Sure-clause-says
+loses-returns-in-Sure-clause-says g t c kept =
     let geo = g.B.Board.geometry in
-    let reply = subst (λ o. IfSome o (IsSureReply geo c.args.position.now)) c.in-Some.is c.in_ok-found.ensures.reply in
-    let one = c.in_ok-found.ensures.last (ap is_some c.in-Some.is) in
-    let before = moment g.M.Memo.content g.M.Memo.dropped c.args.search.now.memo c.args.search.now.expanded in
-    let after = moment g.M.Memo.content g.M.Memo.dropped c.refute.new.search.memo c.refute.new.search.expanded in
-    says_refuted geo c.args.moves c.args.position.now reply.0 c.in-Some.after false before before after
-    (searched_none geo c.args.moves 0 before)
-    (searched_wider geo 1 c.args.moves 0 before after (one_at_most c.args.moves one)
-    c.in_ok-refute.ensures.searched.work) reply.1 reply.2 refl
-    (λ k. subst (λ n. SaysWin after.content c.in-Some.after n false) (sym one) (c.in_ok-refute.ensures.says k)) kept
+    let sure = subst (AreLinedUp geo (g.M.Memo.content c.args.search.now.memo) c.args.position.now c.args.moves
+    c.line_up_replies.new.ply.ranked.items) c.in-Sure.is c.in_ok-line_up_replies.ensures.known in
+    let reply = sure.1 in
+    let one = sure.0 in
+    let before = at_time g.M.Memo.content g.M.Memo.dropped c.args.search.now in
+    let seen = at_time g.M.Memo.content g.M.Memo.dropped c.line_up_replies.new.search in
+    let after = at_time g.M.Memo.content g.M.Memo.dropped c.refute.new.search in
+    says_refuted geo c.args.moves c.args.position.now reply.0 c.in-Sure.after false before seen after
+    (searched_wider geo 0 c.args.moves 0 before seen (none_at_most c.args.moves) c.line_up_replies.ensures.looked.work)
+    (searched_wider geo 1 c.args.moves 0 seen after (one_at_most c.args.moves one)
+    c.in_ok-refute-in-Sure.ensures.searched.work) reply.1 reply.2 refl
+    (λ k. subst (λ n. SaysWin after.content c.in-Sure.after n false) (sym one) (c.in_ok-refute-in-Sure.ensures.says k)) kept
 
-pub loses-returns-in-Some-clause-known : goal.loses-returns-in-Some-clause-known
-loses-returns-in-Some-clause-known g t c all =
+pub loses-returns-in-Sure-clause-known : goal.loses-returns-in-Sure-clause-known
+loses-returns-in-Sure-clause-known g t c all =
     let geo = g.B.Board.geometry in
-    let reply = subst (λ o. IfSome o (IsSureReply geo c.args.position.now)) c.in-Some.is c.in_ok-found.ensures.reply in
-    let one = c.in_ok-found.ensures.last (ap is_some c.in-Some.is) in
-    let here = c.in_ok-refute.ensures.known (elim (all reply.0 reply.1) [
+    let sure = subst (AreLinedUp geo (g.M.Memo.content c.args.search.now.memo) c.args.position.now c.args.moves
+    c.line_up_replies.new.ply.ranked.items) c.in-Sure.is c.in_ok-line_up_replies.ensures.known in
+    let reply = sure.1 in
+    let one = sure.0 in
+    let looked = c.line_up_replies.ensures.looked in
+    let seen = g.M.Memo.content c.line_up_replies.new.search.memo in
+    let here = c.in_ok-refute-in-Sure.ensures.known (elim (all reply.0 reply.1) [
       | inl none ↦ absurd (none_or_one c.args.moves none one)
-      | inr known ↦ subst (λ n. IsDecided (g.M.Memo.content c.args.search.now.memo) c.in-Some.after n) one
-          (subst (λ q. IsDecided (g.M.Memo.content c.args.search.now.memo) q c.args.moves) (sym reply.2) known)
-    ]) in
-    ((λ none. ok_is_no_err _ _ none), here.1)
+      | inr known ↦ decided_same (g.M.Memo.content c.args.search.now.memo) seen c.in-Sure.after 1 looked.same
+          (subst (λ n. IsDecided (g.M.Memo.content c.args.search.now.memo) c.in-Sure.after n) one
+          (subst (λ q. IsDecided (g.M.Memo.content c.args.search.now.memo) q c.args.moves) (sym reply.2) known))
+    ]) in (
+      (λ none. ok_is_no_err _ _ none),
+      unchanged_then (g.M.Memo.content c.args.search.now.memo) seen
+          (g.M.Memo.content c.refute.new.search.memo) c.args.search.now.expanded c.line_up_replies.new.search.expanded
+          c.refute.new.search.expanded (looked.count, looked.same) here.1,
+    )
 
 pub wins-returns-then-moves-eq1-clause-answer : goal.wins-returns-then-moves-eq1-clause-answer
 wins-returns-then-moves-eq1-clause-answer g t c =
@@ -560,25 +607,39 @@ wins-returns-then-moves-eq1-clause-known g t c h = elim h [
       (subst (IsDecided (g.M.Memo.content c.args.search.now.memo) c.args.position.now) c.if-moves-eq1.true known)
 ]
 
-pub loses-returns-in_err-refute-clause-searched : goal.loses-returns-in_err-refute-clause-searched
-loses-returns-in_err-refute-clause-searched g t c =
+pub loses-returns-in_err-refute-in-Sure-clause-searched : goal.loses-returns-in_err-refute-in-Sure-clause-searched
+loses-returns-in_err-refute-in-Sure-clause-searched g t c =
     let geo = g.B.Board.geometry in
     let content = g.M.Memo.content in
     let lost = g.M.Memo.dropped in
-    let one = c.in_ok-found.ensures.last (ap is_some c.in-Some.is) in
-    searched_err geo content lost c.args.moves _ _ c.in_err-refute.field-0.0 _ c.from_residual-in_err-refute.ensures.1
+    let sure = subst (AreLinedUp geo (g.M.Memo.content c.args.search.now.memo) c.args.position.now c.args.moves
+    c.line_up_replies.new.ply.ranked.items) c.in-Sure.is c.in_ok-line_up_replies.ensures.known in
+    let reply = sure.1 in
+    let one = sure.0 in
+    let looked = c.line_up_replies.ensures.looked in
+    searched_err geo content lost c.args.moves _ _ c.in_err-refute-in-Sure.field-0.0 _ c.from_residual-in_err-refute-in-Sure.ensures.1
+    (searched_on geo content lost c.args.moves c.args.search.now c.line_up_replies.new.search c.refute.new.search _
+    (searched_looked geo content lost c.args.moves c.args.search.now
+    c.line_up_replies.new.search c.requires.ready looked.right looked.count looked.limit looked.work)
     (searched_for_fewer geo content lost 1 c.args.moves _ _ _ (one_at_most c.args.moves one)
-    c.in_err-refute.ensures.searched)
+    c.in_err-refute-in-Sure.ensures.searched))
 
-pub loses-returns-in-Some-clause-searched : goal.loses-returns-in-Some-clause-searched
-loses-returns-in-Some-clause-searched g t c =
+pub loses-returns-in-Sure-clause-searched : goal.loses-returns-in-Sure-clause-searched
+loses-returns-in-Sure-clause-searched g t c =
     let geo = g.B.Board.geometry in
     let content = g.M.Memo.content in
     let lost = g.M.Memo.dropped in
-    let one = c.in_ok-found.ensures.last (ap is_some c.in-Some.is) in
+    let sure = subst (AreLinedUp geo (g.M.Memo.content c.args.search.now.memo) c.args.position.now c.args.moves
+    c.line_up_replies.new.ply.ranked.items) c.in-Sure.is c.in_ok-line_up_replies.ensures.known in
+    let reply = sure.1 in
+    let one = sure.0 in
+    let looked = c.line_up_replies.ensures.looked in
     searched_ok geo content lost c.args.moves _ _ _ _
+    (searched_on geo content lost c.args.moves c.args.search.now c.line_up_replies.new.search c.refute.new.search _
+    (searched_looked geo content lost c.args.moves c.args.search.now
+    c.line_up_replies.new.search c.requires.ready looked.right looked.count looked.limit looked.work)
     (searched_for_fewer geo content lost 1 c.args.moves _ _ _ (one_at_most c.args.moves one)
-    c.in_ok-refute.ensures.searched)
+    c.in_ok-refute-in-Sure.ensures.searched))
 
 pub wins-returns-then-moves-eq1-clause-searched : goal.wins-returns-then-moves-eq1-clause-searched
 wins-returns-then-moves-eq1-clause-searched g t c =
@@ -650,9 +711,11 @@ wins-returns-in_err-line_up-clause-known g t c = never_known _ c.args.moves _ (c
 pub loses-returns-then-moves-eq0-clause-known : goal.loses-returns-then-moves-eq0-clause-known
 loses-returns-then-moves-eq0-clause-known g t c all = ((λ none. ok_is_no_err _ _ none), unchanged_none _ _)
 
-pub loses-returns-in_err-found-clause-known : goal.loses-returns-in_err-found-clause-known
-loses-returns-in_err-found-clause-known g t c all =
-    ((λ e. memory_is_no_limit c.from_residual.result _ c.from_residual.ensures.1 e), unchanged_none _ _)
+pub loses-returns-in_err-line_up_replies-clause-known : goal.loses-returns-in_err-line_up_replies-clause-known
+loses-returns-in_err-line_up_replies-clause-known g t c all = (
+  (λ e. memory_is_no_limit c.from_residual.result _ c.from_residual.ensures.1 e),
+  (c.line_up_replies.ensures.looked.count, c.line_up_replies.ensures.looked.same),
+)
 
 pub wins-known-requires : goal.wins-known-requires
 wins-known-requires g t c = c.requires.ready.right
@@ -678,19 +741,19 @@ wins-unwrap-requires-2 g t c =
     some_first c.split_first_mut-2.result (length c.args.plies.now) _ c.split_first_mut-2.ensures.cases
     (room_for_moves c.args.moves (length c.args.plies.now) c.requires.room (c.in_default.ensures.some refl))
 
-pub loses-returns-in_err-found-clause-answer : goal.loses-returns-in_err-found-clause-answer
-loses-returns-in_err-found-clause-answer g t c = IfOk-from_err c.from_residual.result _ c.from_residual.ensures.0
+pub loses-returns-in_err-line_up_replies-clause-answer : goal.loses-returns-in_err-line_up_replies-clause-answer
+loses-returns-in_err-line_up_replies-clause-answer g t c = IfOk-from_err c.from_residual.result _ c.from_residual.ensures.0
 
-pub loses-returns-in_err-found-clause-says : goal.loses-returns-in_err-found-clause-says
-loses-returns-in_err-found-clause-says g t c kept = IfOk-from_err c.from_residual.result _ c.from_residual.ensures.0
+pub loses-returns-in_err-line_up_replies-clause-says : goal.loses-returns-in_err-line_up_replies-clause-says
+loses-returns-in_err-line_up_replies-clause-says g t c kept = IfOk-from_err c.from_residual.result _ c.from_residual.ensures.0
 
-pub loses-returns-in_err-refute-clause-answer : goal.loses-returns-in_err-refute-clause-answer
-loses-returns-in_err-refute-clause-answer g t c =
-    IfOk-from_err c.from_residual-in_err-refute.result _ c.from_residual-in_err-refute.ensures.0
+pub loses-returns-in_err-refute-in-Sure-clause-answer : goal.loses-returns-in_err-refute-in-Sure-clause-answer
+loses-returns-in_err-refute-in-Sure-clause-answer g t c =
+    IfOk-from_err c.from_residual-in_err-refute-in-Sure.result _ c.from_residual-in_err-refute-in-Sure.ensures.0
 
-pub loses-returns-in_err-refute-clause-says : goal.loses-returns-in_err-refute-clause-says
-loses-returns-in_err-refute-clause-says g t c kept =
-    IfOk-from_err c.from_residual-in_err-refute.result _ c.from_residual-in_err-refute.ensures.0
+pub loses-returns-in_err-refute-in-Sure-clause-says : goal.loses-returns-in_err-refute-in-Sure-clause-says
+loses-returns-in_err-refute-in-Sure-clause-says g t c kept =
+    IfOk-from_err c.from_residual-in_err-refute-in-Sure.result _ c.from_residual-in_err-refute-in-Sure.ensures.0
 
 pub loses-returns-in_err-wins-clause-answer : goal.loses-returns-in_err-wins-clause-answer
 loses-returns-in_err-wins-clause-answer g t c =
@@ -740,3 +803,35 @@ wins-returns-in_err-won-clause-says g t c kept =
 pub wins-returns-in_err-won-clause-spent : goal.wins-returns-in_err-won-clause-spent
 wins-returns-in_err-won-clause-spent g t c =
     IfOk-from_err c.from_residual-in_err-won.result _ c.from_residual-in_err-won.ensures.0
+
+pub loses-returns-in-Refuted-clause-answer : goal.loses-returns-in-Refuted-clause-answer
+loses-returns-in-Refuted-clause-answer g t c =
+    let geo = g.B.Board.geometry in
+    let known = subst (AreLinedUp geo (g.M.Memo.content c.args.search.now.memo) c.args.position.now c.args.moves
+    c.line_up_replies.new.ply.ranked.items) c.in-Refuted.is c.in_ok-line_up_replies.ensures.known in
+    answer_no (Lost geo c.args.position.now c.args.moves)
+    (refuted_is_not_lost geo (g.M.Memo.content c.args.search.now.memo) c.args.position.now c.args.moves
+    c.requires.ready.right known)
+
+pub loses-returns-in-Refuted-clause-searched : goal.loses-returns-in-Refuted-clause-searched
+loses-returns-in-Refuted-clause-searched g t c =
+    let geo = g.B.Board.geometry in
+    let content = g.M.Memo.content in
+    let lost = g.M.Memo.dropped in
+    let looked = c.line_up_replies.ensures.looked in
+    searched_ok geo content lost c.args.moves _ _ 0 _ (searched_looked geo content lost c.args.moves c.args.search.now
+    c.line_up_replies.new.search c.requires.ready looked.right looked.count looked.limit looked.work)
+
+pub loses-returns-in-Refuted-clause-says : goal.loses-returns-in-Refuted-clause-says
+loses-returns-in-Refuted-clause-says g t c kept =
+    let geo = g.B.Board.geometry in
+    let known = subst (AreLinedUp geo (g.M.Memo.content c.args.search.now.memo) c.args.position.now c.args.moves
+    c.line_up_replies.new.ply.ranked.items) c.in-Refuted.is c.in_ok-line_up_replies.ensures.known in
+    says_known geo (g.M.Memo.content c.args.search.now.memo) (g.M.Memo.content c.line_up_replies.new.search.memo)
+    c.args.position.now c.args.moves c.line_up_replies.ensures.looked.same known
+
+pub loses-returns-in-Refuted-clause-known : goal.loses-returns-in-Refuted-clause-known
+loses-returns-in-Refuted-clause-known g t c all = (
+  (λ none. ok_is_no_err _ _ none),
+  (c.line_up_replies.ensures.looked.count, c.line_up_replies.ensures.looked.same),
+)

@@ -28,12 +28,12 @@ invariant-some_move_wins-moves g l =
 abbrev pub invariant-loses-replies : goal.invariant-loses-replies
 invariant-loses-replies g l =
     AreTrue g.B.Board.geometry (g.M.Memo.content l.search.memo)
-    × (IsCounted l.initial.search.expanded l.initial.search.limit l.search.expanded l.search.limit
+    × (IsCounted l.fn.search.expanded l.fn.search.limit l.search.expanded l.search.limit
     × (AllWon g.B.Board.geometry l.position l.moves l.candidate-items l.candidate-index
     × Tried g.B.Board.geometry l.moves (Answered g.B.Board.geometry l.position l.moves) l.candidate-items
     l.candidate-index
-    (moment g.M.Memo.content g.M.Memo.dropped l.initial.search.memo l.initial.search.expanded)
+    (moment g.M.Memo.content g.M.Memo.dropped l.fn.search.memo l.fn.search.expanded)
     (moment g.M.Memo.content g.M.Memo.dropped l.search.memo l.search.expanded)
-    × (RepliesAreDecided g.B.Board.geometry (g.M.Memo.content l.initial.search.memo) l.position l.moves
-    → Unchanged (g.M.Memo.content l.initial.search.memo) l.initial.search.expanded (g.M.Memo.content l.search.memo)
+    × (RepliesAreDecided g.B.Board.geometry (g.M.Memo.content l.fn.search.memo) l.position l.moves
+    → Unchanged (g.M.Memo.content l.fn.search.memo) l.fn.search.expanded (g.M.Memo.content l.search.memo)
     l.search.expanded)))

@@ -13,8 +13,8 @@ returns g c =
     let p = c.args.position.now in
     c.from.ensures ∙ (elim c.if-is_some.branch [
       | then-is_some w ↦ ap from_bool w.from-is
-          ∙ sym (one_lost q p of.bounds w.keeps.result (sym c.is_some.ensures ∙ w.if-is_some.true)
+          ∙ sym (one_lost q p of.fact w.keeps.result (sym c.is_some.ensures ∙ w.if-is_some.true)
           (subst (λ o. IsTrue w.keeps.result ↔ (kept_position o ≡ p)) (sym c.self.view_is) w.keeps.ensures))
       | else-is_some w ↦ ap from_bool (w.from-is ∙ w.if-is_some.false)
-          ∙ sym (none_lost q p of.bounds (sym c.is_some.ensures ∙ w.if-is_some.false))
+          ∙ sym (none_lost q p of.fact (sym c.is_some.ensures ∙ w.if-is_some.false))
     ] ∙ ap (λ o. lost o p) c.self.view_is)

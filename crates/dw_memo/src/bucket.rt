@@ -1,0 +1,53 @@
+//! A bucket of a table: the places in which a position can stand.
+ghost use Rattle.std.specs.Prelude.{◌≡◌, ◌≤◌, []};
+ghost use Rattle.dw_memo.specs.Content.{IsMap, IsFound};
+ghost use Rattle.dw_memo.specs.Noting.{IsNote};
+ghost use Rattle.dw_memo.specs.inner.Growing.{IsSplit};
+
+use crate::bounds::Bounds;
+use crate::memo::Noted;
+use dw_board::board::Board;
+use dw_board::position::Position;
+
+/// What became of bounds that came to a bucket.
+#[derive(Clone, Copy)]
+pub(crate) struct Entered {
+    pub(crate) noted: Noted,
+    /// How many entries were lost by it, the given one too.
+    pub(crate) lost: u64,
+    /// Whether a place was taken that had been free.
+    pub(crate) fills: bool,
+}
+
+/// One or more places for positions with their bounds.
+pub(crate) trait Bucket<B: Board>: Copy {
+    ghost use Rattle.dw_memo.specs.Content.{Content};
+    ghost use Rattle.dw_memo.specs.declared.memo.Noted.{Noted};
+
+    ghost entries: { Self → Content };
+
+    ghost may_answer: { Noted → Type 0 };
+
+    /// A bucket in which nothing stands.
+    fn empty() -> Self
+        ensures { entries result ≡ [] };
+
+    /// The bounds of a position, or `None` if it does not stand there.
+    fn look(&self, position: &Position<B>) -> Option<Bounds>
+        ensures { IsFound (entries self.now) position.now result };
+
+    /// Puts the bounds of a position there, in place of those that it had.
+    fn enter(&mut self, position: &Position<B>, bounds: Bounds) -> Entered
+        requires { IsMap (entries self.old) }
+        ensures answer { may_answer result.noted }
+        ensures note { IsNote (entries self.old) position.now bounds result.noted (entries self.new) 0 result.lost };
+
+    /// The bucket in two: what belongs into the given bucket among so many, and what does not.
+    fn split(&self, index: usize, buckets: usize) -> (Self, Self)
+        requires some { 1 ≤ buckets }
+        requires map { IsMap (entries self.now) }
+        ensures { IsSplit B.geometry buckets index (entries self.now) (entries result.0) (entries result.1) };
+
+    /// Whether a table of so many buckets, of whose places so many are taken, loses too much.
+    fn is_crowded(buckets: usize, taken: usize) -> bool;
+}

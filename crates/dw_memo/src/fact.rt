@@ -1,0 +1,42 @@
+//! What a table keeps of a position.
+ghost use Rattle.std.specs.Prelude.{◌≡◌, ◌+◌, min};
+ghost use Rattle.dw_memo.specs.Pairs as of;
+
+use crate::bounds::Bounds;
+
+/// What is known of a position, and how old it is: how many facts of two moves or more came into the other place of
+/// its pair since, up to 255.
+#[derive(Clone, Copy)]
+pub(crate) struct Fact {
+    pub(crate) bounds: Bounds,
+    pub(crate) age: u8,
+}
+
+impl Fact {
+    /// A new fact.
+    #[inline]
+    pub(crate) fn new(bounds: Bounds) -> Self
+        ensures { result ≡ record { bounds = bounds; age = 0 } }
+    {
+        Fact { bounds, age: 0 }
+    }
+
+    /// The fact when it is older by one.
+    #[inline]
+    pub(crate) fn older(self) -> Self
+        ensures { result ≡ record self { age = min (self.age + 1) 255 } }
+    {
+        Fact {
+            age: self.age.saturating_add(1),
+            ..self
+        }
+    }
+
+    /// The moves of which its bounds tell, less one for each sixteen that it has aged.
+    #[inline]
+    pub(crate) fn worth(self) -> u8
+        ensures { result ≡ of.fact_worth self }
+    {
+        self.bounds.depth().saturating_sub(self.age / 16)
+    }
+}

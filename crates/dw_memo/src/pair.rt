@@ -1,0 +1,114 @@
+//! Two places side by side, a bucket that holds on to what tells of more moves.
+ghost use Rattle.std.specs.Prelude.{◌≡◌, ◌<◌, ◌≤◌, None, ⊤};
+ghost use Rattle.dw_memo.specs.Content.{IsMap};
+ghost use Rattle.dw_memo.specs.Noting.{IsNote};
+ghost use Rattle.dw_memo.specs.Pairs.{pair_entries, depth, worth, IsChoice};
+ghost use Rattle.dw_memo.specs.Slots.{standing};
+ghost use Rattle.dw_memo.specs.declared.memo.Noted.TheVariants.{NotKept};
+ghost use Rattle.dw_memo.specs.inner.Keeping.{bounds_in};
+
+use crate::bounds::Bounds;
+use crate::bucket::{Bucket, Entered};
+use crate::memo::Noted;
+use crate::slot::Slot;
+use dw_board::board::Board;
+use dw_board::position::Position;
+
+/// Two places for positions with what is known of them. If both are taken, a new position gets that which is worth
+/// less; but bounds that tell of one move alone get none of a fact that is worth more. A fact that tells of two moves
+/// or more makes the one beside it older, and so worth less: else a table in which many problems are solved would keep
+/// what it learnt of the first.
+#[derive(Clone, Copy)]
+pub(crate) struct Pair<B: Board> {
+    pub(crate) first: Slot<B>,
+    pub(crate) second: Slot<B>,
+}
+
+impl<B: Board> Pair<B> {
+    /// Puts the bounds of a position there, in place of those that it had, or of what is worth less.
+    #[inline]
+    fn place(&mut self, position: &Position<B>, bounds: Bounds) -> Entered
+        requires { IsMap (pair_entries self.old) }
+        ensures note { IsNote (pair_entries self.old) position.now bounds result.noted (pair_entries self.new) 0
+            result.lost }
+        ensures choice { IsChoice self.old position.now bounds result.noted self.new }
+    {
+        if self.first.holds(position) {
+            self.first.enter(position, bounds)
+        } else if self.second.holds(position) {
+            self.second.enter(position, bounds)
+        } else if self.second.worth() < self.first.worth() {
+            contend(&mut self.second, &mut self.first, position, bounds)
+        } else {
+            contend(&mut self.first, &mut self.second, position, bounds)
+        }
+    }
+}
+
+/// Puts the bounds of a position that neither place holds into the one that is worth less, if they may go there.
+#[inline]
+fn contend<B: Board>(
+    lesser: &mut Slot<B>,
+    other: &mut Slot<B>,
+    position: &Position<B>,
+    bounds: Bounds,
+) -> Entered
+    requires { bounds_in lesser.old position.now ≡ None }
+    ensures note { IsNote (standing lesser.old) position.now bounds result.noted (standing lesser.new) 0 result.lost }
+    ensures other { standing other.new ≡ standing other.old }
+    ensures given { result.noted ≡ NotKept → (depth bounds ≤ 1) × (2 < worth lesser.old) }
+    ensures shallow { depth bounds ≤ 1 → 2 < worth lesser.old → standing lesser.new ≡ standing lesser.old }
+{
+    if bounds.depth() > 1 {
+        *other = other.older();
+    } else if lesser.worth() > 2 {
+        return Entered {
+            noted: Noted::NotKept,
+            lost: 1,
+            fills: false,
+        };
+    }
+    lesser.enter(position, bounds)
+}
+
+impl<B: Board> Bucket<B> for Pair<B> {
+    ghost entries = { pair_entries };
+
+    ghost may_answer = { λ _. ⊤ };
+
+    #[inline]
+    fn empty() -> Self {
+        Pair {
+            first: Slot::vacant(),
+            second: Slot::vacant(),
+        }
+    }
+
+    #[inline]
+    fn look(&self, position: &Position<B>) -> Option<Bounds> {
+        match self.first.bounds_of(position) {
+            Some(bounds) => Some(bounds),
+            None => self.second.bounds_of(position),
+        }
+    }
+
+    #[inline]
+    fn enter(&mut self, position: &Position<B>, bounds: Bounds) -> Entered {
+        self.place(position, bounds)
+    }
+
+    fn split(&self, index: usize, buckets: usize) -> (Self, Self) {
+        let (first, first_away) = self.first.split(index, buckets);
+        let (second, second_away) = self.second.split(index, buckets);
+        let away = Pair {
+            first: first_away,
+            second: second_away,
+        };
+        (Pair { first, second }, away)
+    }
+
+    /// All but a sixteenth is taken.
+    fn is_crowded(buckets: usize, taken: usize) -> bool {
+        buckets - buckets / 16 < taken / 2
+    }
+}

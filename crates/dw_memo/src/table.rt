@@ -1,0 +1,101 @@
+//! A table in which each position has one bucket. All memory of the table is taken at the start.
+ghost use Rattle.std.specs.Prelude.{◌≡◌, ◌≤◌, ◌<◌, [], IfOk};
+ghost use Rattle.dw_memo.specs.Buckets as of;
+ghost use Rattle.dw_memo.specs.Content.{IsMap, IsFound};
+ghost use Rattle.dw_memo.specs.Noting.{IsNote};
+
+use crate::bounds::Bounds;
+use crate::bucket::Bucket;
+use crate::growing::{first_size, make_room, widen};
+use crate::memo::Noted;
+use dw_board::board::Board;
+use dw_board::position::Position;
+use std::alloc::{AllocError, Global};
+use std::marker::{Model, PhantomData};
+
+/// A table of buckets. What a note loses is counted.
+///
+/// A large table begins with fewer buckets, which the processor's caches can hold. When it is crowded it doubles, and
+/// loses nothing by it, until it has nearly all that it may have.
+#[derive(Drop)]
+pub(crate) struct Table<B: Board, T: Bucket<B>> {
+    buckets: Vec<T>,
+    most: usize,
+    taken: usize,
+    dropped: u64,
+    board: PhantomData<B>,
+}
+
+impl<B: Board, T: Bucket<B>> Model for Table<B, T> {
+    ghost use Rattle.dw_memo.specs.Holding.{Holding};
+    ghost use Rattle.dw_memo.specs.Buckets.{held, IsTable};
+
+    ghost Value = { Holding };
+
+    ghost view = { λ t. record { content = held T.entries t.buckets.items; dropped = t.dropped } };
+
+    ghost invariant = { λ t. IsTable B.geometry T.entries t.buckets.items };
+}
+
+impl<B: Board, T: Bucket<B>> Table<B, T> {
+    /// An empty table that may have so many buckets, or an error if out of memory. No memory is taken later.
+    pub(crate) fn new(alloc: Global, most: usize) -> Result<Self, AllocError>
+        requires { 1 ≤ most }
+        ensures { IfOk result (λ t. t ≡ record { content = []; dropped = 0 }) }
+    {
+        let mut buckets = Vec::with_capacity(alloc, most)?;
+        widen(&mut buckets, first_size(most))?;
+        Ok(Table {
+            buckets,
+            most,
+            taken: 0,
+            dropped: 0,
+            board: PhantomData,
+        })
+    }
+
+    /// The bounds of a position, or `None` if it is not held.
+    #[inline]
+    pub(crate) fn look(&self, position: &Position<B>) -> Option<Bounds>
+        ensures map { IsMap self.now.content }
+        ensures found { IsFound self.now.content position.now result }
+    {
+        let index = bucket_of(position, self.buckets.len());
+        self.buckets[index].look(position)
+    }
+
+    /// Puts bounds into the bucket of a position, and counts what is lost by it.
+    #[inline]
+    pub(crate) fn put(&mut self, position: &Position<B>, bounds: Bounds) -> Noted
+        ensures answer { T.may_answer result }
+        ensures note { IsNote self.old.content position.now bounds result self.new.content self.old.dropped
+            self.new.dropped }
+    {
+        make_room(&mut self.buckets, self.taken, self.most);
+        let index = bucket_of(position, self.buckets.len());
+        let entered = self.buckets[index].enter(position, bounds);
+        self.taken = self.taken.saturating_add(usize::from(entered.fills));
+        self.dropped = self.dropped.saturating_add(entered.lost);
+        entered.noted
+    }
+
+    /// How many entries were lost or not kept so far.
+    #[inline]
+    pub(crate) fn dropped(&self) -> u64
+        ensures map { IsMap self.now.content }
+        ensures count { result ≡ self.now.dropped }
+    {
+        self.dropped
+    }
+}
+
+/// The bucket of a position, among so many: its mixed word as a part of 2^64, times their number. No division is
+/// needed.
+#[inline]
+pub(crate) fn bucket_of<B: Board>(position: &Position<B>, buckets: usize) -> usize
+    requires { 1 ≤ buckets }
+    ensures bucket { result ≡ of.bucket_of B.geometry position.now buckets }
+    ensures within { result < buckets }
+{
+    ((u128::from(position.mixed_word()) * buckets as u128) >> 64) as usize
+}

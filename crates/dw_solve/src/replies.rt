@@ -1,0 +1,157 @@
+//! The defender's replies, before one of them is searched.
+ghost use Rattle.std.specs.Prelude.{◌≡◌, false, IfOk, IfSome, IsTrue, ◌⊎◌, []};
+ghost use Rattle.dw_moves.specs.Moves.{Legal, AreLegal, play};
+ghost use Rattle.dw_solve.specs.Facts.{AreTrue, KnownFail};
+ghost use Rattle.dw_solve.specs.inner.Ranking.{IsSureReply, IsKnownRefuted, AreOpen, AreLinedUp, AreLinedUpLast, IsTakenUp};
+ghost use Rattle.dw_solve.specs.inner.Searching.{HasLooked};
+
+use crate::guide::Guide;
+use crate::ply::Ply;
+use crate::search::{Search, known};
+use dw_board::board::Board;
+use dw_board::position::Position;
+use dw_memo::memo::Memo;
+use dw_moves::laws::sure_replies;
+use dw_moves::legal::legal_into;
+use dw_moves::moves::Move;
+use dw_moves::play::play as played;
+use dw_moves::replies::sure_step;
+use std::alloc::AllocError;
+
+/// What is known of the replies before one is searched.
+pub(crate) enum Replies<B: Board> {
+    /// The cache says of one that the attacker has no win after it.
+    Refuted,
+    /// After one, the position is this, and it is seen at a glance that the attacker does not win with his last move.
+    Sure(Position<B>),
+    /// They are taken up, but for those of which the cache says that the attacker wins.
+    Open,
+}
+
+/// Takes up the replies, while the attacker has so many moves left. If there are two or more, all are looked up in the
+/// cache first: one may refute, those that are known to lose are left out, and the others come in the guide's order. At
+/// his last move one reply is enough after which it is seen at a glance that he does not win. Mostly it is a step of
+/// one square, which is found without a list of moves.
+pub(crate) fn line_up_replies<B: Board, M: Memo<B>, G: Guide<B>>(
+    search: &mut Search<M, G>,
+    ply: &mut Ply<B>,
+    position: &Position<B>,
+    moves: u8,
+) -> Result<Replies<B>, AllocError>
+    requires { AreTrue B.geometry (M.content search.old.memo) }
+    ensures looked { HasLooked B.geometry M.content M.dropped search.old search.new }
+    ensures known { IfOk result (AreLinedUp B.geometry (M.content search.old.memo) position.now moves
+        ply.new.ranked.items) }
+{
+    if moves == 1 {
+        return line_up_last(ply, position);
+    }
+    if line_up_open(search, ply, position, moves)? {
+        return Ok(Replies::Refuted);
+    }
+    Ok(Replies::Open)
+}
+
+/// Takes up the replies at the attacker's last move, or finds one that is sure to refute.
+fn line_up_last<B: Board>(
+    ply: &mut Ply<B>,
+    position: &Position<B>,
+) -> Result<Replies<B>, AllocError>
+    ensures { IfOk result (AreLinedUpLast B.geometry position.now ply.new.ranked.items) }
+{
+    if let Some(after) = sure_reply(position) {
+        return Ok(Replies::Sure(after));
+    }
+    ply.fill_anyhow(position)?;
+    match ply.first_sure(position) {
+        Some(after) => Ok(Replies::Sure(after)),
+        None => Ok(Replies::Open),
+    }
+}
+
+/// The position after a step of one square, if it is seen at a glance that the other side has no win in one move then.
+fn sure_reply<B: Board>(position: &Position<B>) -> Option<Position<B>>
+    ensures { IfSome result (IsSureReply B.geometry position.now) }
+{
+    sure_replies();
+    let (_, after) = sure_step(position)?;
+    Some(after)
+}
+
+/// Takes up the replies that the cache does not decide, in the guide's order, or answers that it says of one that it
+/// refutes.
+fn line_up_open<B: Board, M: Memo<B>, G: Guide<B>>(
+    search: &mut Search<M, G>,
+    ply: &mut Ply<B>,
+    position: &Position<B>,
+    moves: u8,
+) -> Result<bool, AllocError>
+    requires { AreTrue B.geometry (M.content search.old.memo) }
+    ensures looked { HasLooked B.geometry M.content M.dropped search.old search.new }
+    ensures refuted { IfOk result (λ yes. IsTrue yes →
+        IsKnownRefuted B.geometry (M.content search.old.memo) position.now moves) }
+    ensures open { IfOk result (λ yes. yes ≡ false →
+        AreOpen B.geometry (M.content search.old.memo) position.now moves ply.new.ranked.items) }
+{
+    legal_into(position, &mut ply.moves)?;
+    ply.ranked.clear();
+    let is_refuted = rank_open(
+        search,
+        position,
+        moves,
+        ply.moves.as_slice(),
+        &mut ply.ranked,
+    )?;
+    ply.ranked.sort_unstable_by_key(|ranked| ranked.0);
+    Ok(is_refuted)
+}
+
+/// Adds the replies that the cache does not decide, with their ranks, to an empty list, or answers that it says of one
+/// that it refutes.
+fn rank_open<B: Board, M: Memo<B>, G: Guide<B>>(
+    search: &mut Search<M, G>,
+    position: &Position<B>,
+    moves: u8,
+    replies: &[Move<B>],
+    ranked: &mut Vec<(u32, Move<B>)>,
+) -> Result<bool, AllocError>
+    requires right { AreTrue B.geometry (M.content search.old.memo) }
+    requires legal { AreLegal B.geometry position.now replies.now }
+    requires empty { ranked.old.items ≡ [] }
+    ensures looked { HasLooked B.geometry M.content M.dropped search.old search.new }
+    ensures refuted { IfOk result (λ yes. IsTrue yes →
+        IsKnownRefuted B.geometry (M.content search.old.memo) position.now moves) }
+    ensures open { IfOk result (λ yes. yes ≡ false →
+        AreOpen B.geometry (M.content search.old.memo) position.now moves ranked.new.items) }
+{
+    'replies: for reply in replies {
+        if take_up(search, position, moves, reply, ranked)? {
+            return Ok(true);
+        }
+    }
+    Ok(false)
+}
+
+/// Adds a reply with its rank to a list, if the cache does not decide it, or answers that it says that it refutes.
+fn take_up<B: Board, M: Memo<B>, G: Guide<B>>(
+    search: &mut Search<M, G>,
+    position: &Position<B>,
+    moves: u8,
+    reply: &Move<B>,
+    ranked: &mut Vec<(u32, Move<B>)>,
+) -> Result<bool, AllocError>
+    requires right { AreTrue B.geometry (M.content search.old.memo) }
+    requires legal { Legal B.geometry position.now reply.now }
+    ensures looked { HasLooked B.geometry M.content M.dropped search.old search.new }
+    ensures refuted { IfOk result (λ yes. IsTrue yes →
+        (moves ≡ 0) ⊎ KnownFail (M.content search.old.memo) (play B.geometry position.now reply.now) moves) }
+    ensures open { IfOk result (λ yes. yes ≡ false →
+        IsTakenUp (M.content search.old.memo) (play B.geometry position.now reply.now) moves reply.now
+        ranked.old.items ranked.new.items) }
+{
+    if let Some(wins) = known(search, &played(position, reply), moves) {
+        return Ok(!wins);
+    }
+    ranked.push((search.guide.rank(position, reply), *reply))?;
+    Ok(false)
+}
