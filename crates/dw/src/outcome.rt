@@ -2,8 +2,8 @@
 ghost use Rattle.std.specs.Prelude.{◌≡◌};
 ghost use Rattle.dw.specs.Outcome.{outcome_of, done_of};
 
-use dw_list::tokens::TokenFault;
-use dw_report::settings::{RunFault, Stop, Summary};
+use dw_list::TokenFault;
+use dw_report::{RunFault, Stop, Summary};
 use std::alloc::AllocError;
 use std::fmt;
 use std::fmt::{Display, Formatter};

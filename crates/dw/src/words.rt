@@ -3,8 +3,9 @@ ghost use Rattle.std.specs.Prelude.{◌≤◌};
 
 use clap::builder::ValueParser;
 use clap::{Arg, ArgAction, ArgMatches, Command as Words, value_parser};
-use dw_notation::problems::{Form, MAX_PROBLEMS};
-use dw_report::settings::Command;
+use dw_notation::Form;
+use dw_notation::problems::MAX_PROBLEMS;
+use dw_report::Command;
 use std::alloc::{AllocError, Global};
 
 /// The boards that the program plays on.
@@ -339,8 +340,8 @@ fn read_by<'a>(words: &ArgMatches<'a>, command: Command) -> Request<'a> {
     }
 }
 
-/// What a command that searches for wins asks for. The numbers are within their ranges already, but what reads the words
-/// does not say so to the prover.
+/// What a command that searches for wins asks for. The numbers are within their ranges already, but what reads the
+/// words does not say so to the prover.
 fn searched_by<'a>(words: &ArgMatches<'a>, command: Command) -> Request<'a> {
     Request {
         n: words.get_one::<u8>("n").unwrap_or(1).clamp(1, MOST_MOVES),

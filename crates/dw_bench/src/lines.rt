@@ -3,13 +3,11 @@ ghost use Rattle.std.specs.Prelude.{◌≤◌};
 
 use crate::timing::{micros_since, speed};
 use crate::written_position;
-use dw_board::board::Ten;
-use dw_board::position::Position;
-use dw_list::lister::Lister;
-use dw_memo::slot_memo::SlotMemo;
-use dw_moves::moves::Move;
-use dw_solve::guide::ByTrial;
-use dw_solve::solver::Solver;
+use dw_board::{Position, Ten};
+use dw_list::Lister;
+use dw_memo::SlotMemo;
+use dw_moves::Move;
+use dw_solve::{ByTrial, Solver};
 use std::alloc::Global;
 use std::time::Instant;
 

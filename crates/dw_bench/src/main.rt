@@ -12,10 +12,8 @@ mod solving;
 mod timing;
 
 use anyhow::Context;
-use dw_board::board::Ten;
-use dw_board::fen::read::read_fen;
-use dw_board::position::Position;
-use dw_moves::moves::Move;
+use dw_board::{Position, Ten, read_fen};
+use dw_moves::Move;
 use lines::list_lines;
 use perft::{moves_made, perft};
 use solving::solve_problems;

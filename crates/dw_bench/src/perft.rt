@@ -1,11 +1,9 @@
 //! Lines of play, counted.
 ghost use Rattle.std.specs.Prelude.{length};
 
-use dw_board::board::Board;
-use dw_board::position::Position;
-use dw_moves::legal::legal_into;
-use dw_moves::moves::Move;
+use dw_board::{Board, Position};
 use dw_moves::play::play;
+use dw_moves::{Move, legal_into};
 use std::alloc::AllocError;
 
 /// The number of lines of as many moves as there are lists, one list for each ply.

@@ -4,15 +4,9 @@ ghost use Rattle.dw_solve.specs.Facts.{AreTrue};
 use crate::problems::PROBLEMS;
 use crate::timing::{micros_since, speed};
 use crate::written_position;
-use dw_board::board::Board;
-use dw_board::position::Position;
-use dw_memo::lru_memo::LruMemo;
-use dw_memo::memo::Memo;
-use dw_memo::no_memo::NoMemo;
-use dw_memo::slot_memo::SlotMemo;
-use dw_solve::guide::ByTrial;
-use dw_solve::solver::Solver;
-use dw_solve::stop::Stop;
+use dw_board::{Board, Position};
+use dw_memo::{LruMemo, Memo, NoMemo, SlotMemo};
+use dw_solve::{ByTrial, Solver, Stop};
 use std::time::Instant;
 
 /// Within how many moves wins are looked for.

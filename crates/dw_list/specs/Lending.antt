@@ -6,7 +6,7 @@ use Rattle.dw_memo.specs.Content.{Content}
 use Rattle.dw_moves.specs.Moves.{Move}
 use Rattle.dw_solve.specs.declared.stop.Stop.{Stop}
 use Rattle.dw_list.specs.declared.lister.Lister.{Lister}
-use Rattle.dw_solve.specs.Asking.{Asked}
+use Rattle.dw_solve.specs.Questions.{Asked}
 use Rattle.dw_list.specs.StackWalk.{SameToCome, GivesFirst, GivesNone}
 use Rattle.dw_list.specs.Listing.{lender, solver_of, stack_of}
 

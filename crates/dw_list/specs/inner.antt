@@ -1,6 +1,5 @@
 -- What only relates the code to the definitions: no contract of a public call names it.
-pub mod AskingLemmas
-pub mod LexLemmas
+pub mod QuestionLemmas
 pub mod LineOrderLemmas
 pub mod ListLemmas
 pub mod Tasks

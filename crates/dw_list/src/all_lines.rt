@@ -6,7 +6,7 @@ ghost use Rattle.dw_solve.specs.Searching.{IsCounted};
 ghost use Rattle.dw_solve.specs.Work.{moment, Searched, cut_off};
 ghost use Rattle.dw_list.specs.Lines.{Lines};
 ghost use Rattle.dw_list.specs.inner.Ways.{AreWays, AreAdded};
-ghost use Rattle.dw_solve.specs.Asking.{Asked};
+ghost use Rattle.dw_solve.specs.Questions.{Asked};
 
 use crate::next_moves::{keeps, left_behind, may_move};
 use dw_board::{Board, Position};

@@ -1,6 +1,6 @@
 //! Ways along a given list of moves.
 ghost use Rattle.std.specs.Prelude.{◌≡◌, ◌≤◌, IfOk, IfSome, IfNone, IsTrue};
-ghost use Rattle.dw_solve.specs.Asking.{Asked};
+ghost use Rattle.dw_solve.specs.Questions.{Asked};
 ghost use Rattle.dw_list.specs.inner.Tasks.{IsCandidate};
 ghost use Rattle.dw_list.specs.inner.GivenLine.{SomePassed, IsNotAhead, IsUnlisted, WentOn, GoOnWith, IsGivenLine};
 

@@ -1,7 +1,7 @@
 //! With which moves lines go on.
 ghost use Rattle.std.specs.Prelude.{◌≡◌, ◌≤◌, ◌↔◌, IfOk, IsTrue};
 ghost use Rattle.dw_list.specs.inner.Ways.{Keeps, left_after};
-ghost use Rattle.dw_solve.specs.Asking.{Asked};
+ghost use Rattle.dw_solve.specs.Questions.{Asked};
 
 use dw_board::{Board, Position};
 use dw_memo::Memo;

@@ -1,6 +1,6 @@
 //! The walk over a stack, from line to line.
 ghost use Rattle.std.specs.Prelude.{◌≡◌, IfOk, OnErr, if◌then◌else◌};
-ghost use Rattle.dw_solve.specs.Asking.{Asked};
+ghost use Rattle.dw_solve.specs.Questions.{Asked};
 ghost use Rattle.dw_list.specs.StackWalk.{SameToCome};
 ghost use Rattle.dw_list.specs.inner.StackWalk.{HasStepped, GivesNext};
 

@@ -9,7 +9,7 @@ use Rattle.dw_board.specs.Lists.{Member}
 use Rattle.dw_board.specs.Placement.{Placement}
 use Rattle.dw_memo.specs.declared.bounds.Bounds.{Bounds}
 use Rattle.dw_memo.specs.declared.memo.Noted.{Noted}
-use Rattle.dw_memo.specs.Buckets.{held, bucket_of, IsTable}
+use Rattle.dw_memo.specs.inner.Buckets.{held, bucket_of, IsTable}
 use Rattle.dw_memo.specs.Content.{Entry, entry, Content, IsMap, IsFound}
 use Rattle.dw_memo.specs.Noting.{IsNote}
 use Rattle.dw_memo.proofs.EntryLemmas.{position_held, bounds_held}

@@ -11,7 +11,7 @@ use Rattle.dw_board.specs.Lists.{Member}
 use Rattle.dw_board.specs.Placement.{Placement}
 use Rattle.dw_memo.specs.declared.bounds.Bounds.{Bounds}
 use Rattle.dw_memo.specs.declared.memo.Noted.{Noted}
-use Rattle.dw_memo.specs.Buckets.{held, bucket_of, IsTable}
+use Rattle.dw_memo.specs.inner.Buckets.{held, bucket_of, IsTable}
 use Rattle.dw_memo.specs.Content.{Entry, Content, IsMap, SameEntries}
 use Rattle.dw_memo.specs.Noting.{IsPutIn, IsNote}
 use Rattle.dw_memo.specs.inner.Growing.{IsWidened, IsSplit, IsSplitAt, IsHalfway}

@@ -7,7 +7,7 @@ use Rattle.std.proofs.lemmas.Bool.{cases_Bool, true≢false}
 use Rattle.dw_board.specs.Placement.{Placement}
 use Rattle.dw_board.specs.inner.PlacementLemmas.{same, same-is}
 use Rattle.dw_memo.specs.declared.fact.Fact.{Fact}
-use Rattle.dw_memo.specs.Slots.{Place}
+use Rattle.dw_memo.specs.inner.Slots.{Place}
 use Rattle.dw_memo.specs.inner.Keeping.{bounds_in, lost, stands, kept_position}
 
 -- whether the position of an entry is this one

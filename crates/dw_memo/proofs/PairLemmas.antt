@@ -12,8 +12,8 @@ use Rattle.dw_memo.specs.declared.memo.Noted.TheVariants.{Kept, NotKept}
 use Rattle.dw_memo.specs.declared.pair.Pair.{Pair}
 use Rattle.dw_memo.specs.Content.{Entry, entry, Content, positions, IsMap, IsFound}
 use Rattle.dw_memo.specs.Noting.{IsNote}
-use Rattle.dw_memo.specs.Pairs.{IsChoice}
-use Rattle.dw_memo.specs.Slots.{Place, standing}
+use Rattle.dw_memo.specs.inner.Pairs.{IsChoice}
+use Rattle.dw_memo.specs.inner.Slots.{Place, standing}
 use Rattle.dw_memo.specs.inner.Growing.{IsSplit}
 use Rattle.dw_memo.specs.inner.Keeping.{bounds_in}
 use Rattle.dw_memo.proofs.BesideLemmas.{appended, map_joined, map_apart, noted_before}

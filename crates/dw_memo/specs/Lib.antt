@@ -1,10 +1,7 @@
 pub mod Bounding
-pub mod Buckets
 pub mod Choice
 pub mod Content
 pub mod Noting
 pub mod Holding
-pub mod Pairs
 pub mod Recent
-pub mod Slots
 pub mod inner

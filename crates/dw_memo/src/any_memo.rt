@@ -8,8 +8,7 @@ use crate::lru_memo::LruMemo;
 use crate::memo::{Memo, Noted};
 use crate::no_memo::NoMemo;
 use crate::slot_memo::SlotMemo;
-use dw_board::board::Board;
-use dw_board::position::Position;
+use dw_board::{Board, Position};
 
 /// One of the four kinds. What is built over it is compiled once, and not once for each kind.
 /// Example: `AnyMemo::<Ten>::Slots(SlotMemo::new(alloc, 1)?)` does what that memo does.

@@ -1,7 +1,7 @@
 //! Bounds: what is known of a position.
 ghost use Rattle.std.specs.Prelude.{◌≡◌, is_some};
 ghost use Rattle.dw_memo.specs.Bounding as of;
-ghost use Rattle.dw_memo.specs.Pairs.{depth};
+ghost use Rattle.dw_memo.specs.inner.Pairs.{depth};
 
 /// In how many moves of its own the side to move can't force a win, and in how many it can. `None` says nothing.
 /// Example: `Bounds { fails: Some(1), wins: Some(3) }` tells of no win in 1 move and of one in 3, and nothing of 2.

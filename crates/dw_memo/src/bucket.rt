@@ -6,8 +6,7 @@ ghost use Rattle.dw_memo.specs.inner.Growing.{IsSplit};
 
 use crate::bounds::Bounds;
 use crate::memo::Noted;
-use dw_board::board::Board;
-use dw_board::position::Position;
+use dw_board::{Board, Position};
 
 /// What became of bounds that came to a bucket.
 #[derive(Clone, Copy)]

@@ -5,8 +5,7 @@ use crate::bounds::Bounds;
 use crate::memo::{Memo, Noted};
 use crate::pair::Pair;
 use crate::table::Table;
-use dw_board::board::Board;
-use dw_board::position::Position;
+use dw_board::{Board, Position};
 use std::alloc::{AllocError, Global};
 use std::marker::Model;
 

@@ -1,6 +1,6 @@
 //! What a table keeps of a position.
 ghost use Rattle.std.specs.Prelude.{◌≡◌, ◌+◌, min};
-ghost use Rattle.dw_memo.specs.Pairs as of;
+ghost use Rattle.dw_memo.specs.inner.Pairs as of;
 
 use crate::bounds::Bounds;
 

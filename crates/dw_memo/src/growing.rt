@@ -1,11 +1,11 @@
 //! How a table of buckets grows: it doubles, and keeps all that it holds.
 ghost use Rattle.std.specs.Prelude.{◌≡◌, ◌≤◌, ◌<◌, ◌*◌, length, slice_get, Some, IsErr, OnOk};
-ghost use Rattle.dw_memo.specs.Buckets.{held, IsTable};
+ghost use Rattle.dw_memo.specs.inner.Buckets.{held, IsTable};
 ghost use Rattle.dw_memo.specs.Content.{IsMap, SameEntries};
 ghost use Rattle.dw_memo.specs.inner.Growing.{IsSplitAt, IsWidened};
 
 use crate::bucket::Bucket;
-use dw_board::board::Board;
+use dw_board::Board;
 use std::alloc::AllocError;
 
 /// A table of more buckets than this begins with half of them, a quarter or less, rounded down.

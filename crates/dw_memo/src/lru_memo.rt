@@ -5,8 +5,7 @@ ghost use Rattle.dw_memo.specs.Recent.{content_of, IsRecent};
 
 use crate::bounds::Bounds;
 use crate::memo::{Memo, Noted};
-use dw_board::board::Board;
-use dw_board::position::Position;
+use dw_board::{Board, Position};
 use lru::LruCache;
 use std::alloc::{AllocError, Global};
 use std::marker::Model;

@@ -4,8 +4,7 @@ ghost use Rattle.dw_memo.specs.Content.{Content, IsMap, SameEntries, IsFound};
 ghost use Rattle.dw_memo.specs.Noting.{IsNote};
 
 use crate::bounds::Bounds;
-use dw_board::board::Board;
-use dw_board::position::Position;
+use dw_board::{Board, Position};
 
 /// Whether a note was kept.
 /// Example: a `NoMemo` answers each note with `Noted::NotKept`, and a `SlotMemo` with `Noted::Kept`.

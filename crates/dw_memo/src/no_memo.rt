@@ -4,8 +4,7 @@ ghost use Rattle.dw_memo.specs.declared.memo.Noted.TheVariants.{NotKept};
 
 use crate::bounds::Bounds;
 use crate::memo::{Memo, Noted};
-use dw_board::board::Board;
-use dw_board::position::Position;
+use dw_board::{Board, Position};
 use std::marker::Model;
 
 /// Keeps nothing, and counts what it was given.

@@ -2,8 +2,8 @@
 ghost use Rattle.std.specs.Prelude.{◌≡◌, ◌<◌, ◌≤◌, None, ⊤};
 ghost use Rattle.dw_memo.specs.Content.{IsMap};
 ghost use Rattle.dw_memo.specs.Noting.{IsNote};
-ghost use Rattle.dw_memo.specs.Pairs.{pair_entries, depth, worth, IsChoice};
-ghost use Rattle.dw_memo.specs.Slots.{standing};
+ghost use Rattle.dw_memo.specs.inner.Pairs.{pair_entries, depth, worth, IsChoice};
+ghost use Rattle.dw_memo.specs.inner.Slots.{standing};
 ghost use Rattle.dw_memo.specs.declared.memo.Noted.TheVariants.{NotKept};
 ghost use Rattle.dw_memo.specs.inner.Keeping.{bounds_in};
 
@@ -11,8 +11,7 @@ use crate::bounds::Bounds;
 use crate::bucket::{Bucket, Entered};
 use crate::memo::Noted;
 use crate::slot::Slot;
-use dw_board::board::Board;
-use dw_board::position::Position;
+use dw_board::{Board, Position};
 
 /// Two places for positions with what is known of them. If both are taken, a new position gets that which is worth
 /// less; but bounds that tell of one move alone get none of a fact that is worth more. A fact that tells of two moves

@@ -1,7 +1,7 @@
 //! One place for a position, a bucket by itself.
 ghost use Rattle.std.specs.Prelude.{◌≡◌, Some, None, is_some, not, ⊤, ◌↔◌, IsTrue};
-ghost use Rattle.dw_memo.specs.Pairs.{worth};
-ghost use Rattle.dw_memo.specs.Slots.{standing};
+ghost use Rattle.dw_memo.specs.inner.Pairs.{worth};
+ghost use Rattle.dw_memo.specs.inner.Slots.{standing};
 ghost use Rattle.dw_memo.specs.declared.memo.Noted.TheVariants.{Kept};
 ghost use Rattle.dw_memo.specs.inner.Keeping.{bounds_in, lost, kept_position};
 
@@ -10,10 +10,7 @@ use crate::bucket::{Bucket, Entered};
 use crate::fact::Fact;
 use crate::memo::Noted;
 use crate::table::bucket_of;
-use dw_board::board::Board;
-use dw_board::packed::Packed;
-use dw_board::piece::Side;
-use dw_board::position::Position;
+use dw_board::{Board, Packed, Position, Side};
 use std::alloc::AllocError;
 use std::marker::Model;
 
@@ -30,7 +27,7 @@ impl<B: Board> Model for Slot<B> {
     ghost use Rattle.std.specs.Prelude.{None, ◌≡◌};
     ghost use Rattle.dw_board.specs.Placement.{empty};
     ghost use Rattle.dw_board.specs.declared.piece.Side.TheVariants.{White};
-    ghost use Rattle.dw_memo.specs.Slots.{Place};
+    ghost use Rattle.dw_memo.specs.inner.Slots.{Place};
     ghost use Rattle.dw_memo.specs.inner.Keeping.{stands, at_turn, kept_position, kept_fact};
     ghost use Rattle.dw_memo.specs.inner.Keeping.{position_back, fact_back};
 

@@ -6,8 +6,7 @@ use crate::bounds::Bounds;
 use crate::memo::{Memo, Noted};
 use crate::slot::Slot;
 use crate::table::Table;
-use dw_board::board::Board;
-use dw_board::position::Position;
+use dw_board::{Board, Position};
 use std::alloc::{AllocError, Global};
 use std::marker::Model;
 

@@ -1,6 +1,6 @@
 //! A table in which each position has one bucket. All memory of the table is taken at the start.
 ghost use Rattle.std.specs.Prelude.{◌≡◌, ◌≤◌, ◌<◌, [], IfOk};
-ghost use Rattle.dw_memo.specs.Buckets as of;
+ghost use Rattle.dw_memo.specs.inner.Buckets as of;
 ghost use Rattle.dw_memo.specs.Content.{IsMap, IsFound};
 ghost use Rattle.dw_memo.specs.Noting.{IsNote};
 
@@ -8,8 +8,7 @@ use crate::bounds::Bounds;
 use crate::bucket::Bucket;
 use crate::growing::{first_size, make_room, widen};
 use crate::memo::Noted;
-use dw_board::board::Board;
-use dw_board::position::Position;
+use dw_board::{Board, Position};
 use std::alloc::{AllocError, Global};
 use std::marker::{Model, PhantomData};
 
@@ -28,7 +27,7 @@ pub(crate) struct Table<B: Board, T: Bucket<B>> {
 
 impl<B: Board, T: Bucket<B>> Model for Table<B, T> {
     ghost use Rattle.dw_memo.specs.Holding.{Holding};
-    ghost use Rattle.dw_memo.specs.Buckets.{held, IsTable};
+    ghost use Rattle.dw_memo.specs.inner.Buckets.{held, IsTable};
 
     ghost Value = { Holding };
 

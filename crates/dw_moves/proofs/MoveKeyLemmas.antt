@@ -17,7 +17,8 @@ use Rattle.dw_moves.specs.inner.MemberLemmas.{mem_map, mem_map_back, mem_filter,
 use Rattle.dw_moves.proofs.LegalMoveLemmas.{path_from, path_in, is_best, best_only, legal_from, legal_in}
 use Rattle.dw_moves.proofs.PathTellsLemmas.{path_tells}
 use Rattle.dw_moves.specs.inner.LexLemmas.{lex_irrefl, lex_asym, lex_cases, not_less}
-use Rattle.dw_moves.proofs.AscendingLemmas.{ByKey, arranged, arranged_ascending, arranged_from, arranged_has, list_only}
+use Rattle.dw_moves.specs.inner.OneListLemmas.{list_only}
+use Rattle.dw_moves.proofs.AscendingLemmas.{ByKey, arranged, arranged_ascending, arranged_from, arranged_has}
 use Rattle.dw_moves.proofs.AscendingLemmas.{ascending_by}
 
 abbrev pub same_list : List ℕ → List ℕ → Bool

@@ -7,3 +7,4 @@ pub mod Glance
 pub mod Plain
 pub mod Shelter
 pub mod MoveLemmas
+pub mod OneListLemmas

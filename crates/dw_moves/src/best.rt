@@ -8,9 +8,7 @@ pub use crate::glance::has_move;
 use crate::keeper::Keeper;
 use crate::moves::Move;
 use crate::walk::walk_captures;
-use dw_board::board::Board;
-use dw_board::position::Position;
-use dw_board::square::Square;
+use dw_board::{Board, Position, Square};
 use std::convert::Infallible;
 
 /// The greatest number of pieces that the side to move can take in one move, at most 20; 0 if it can take

@@ -10,11 +10,7 @@ ghost use Rattle.dw_moves.specs.inner.Glance.{Steps, StepsOn, HasTwo};
 ghost use Rattle.dw_moves.specs.inner.Plain as plain;
 
 use crate::quiet::may_go;
-use dw_board::board::{Board, Dir};
-use dw_board::piece::{Kind, Side};
-use dw_board::position::Position;
-use dw_board::square::{Square, step};
-use dw_board::squares::Squares;
+use dw_board::{Board, Dir, Kind, Position, Side, Square, Squares, step};
 
 /// The squares of a position, by what the side to move has to do with what stands there.
 #[derive(Drop)]

@@ -11,9 +11,7 @@ use crate::keeper::Keeper;
 use crate::moves::{LONGEST_PATH, Move};
 use crate::walk::walk_captures;
 use arrayvec::ArrayVec;
-use dw_board::board::Board;
-use dw_board::position::Position;
-use dw_board::square::Square;
+use dw_board::{Board, Position, Square};
 use std::convert::Infallible;
 
 /// The legal capture of which these squares, its start first, are a path, be it the least one or another; `None`

@@ -6,9 +6,7 @@ ghost use Rattle.dw_moves.specs.Replies.{passed, OneStep};
 
 use crate::field::Field;
 use crate::quiet::count_on;
-use dw_board::board::{Board, Dir};
-use dw_board::position::Position;
-use dw_board::squares::Squares;
+use dw_board::{Board, Dir, Position, Squares};
 
 /// Whether the side to move can take something.
 ///

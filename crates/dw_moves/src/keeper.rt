@@ -4,8 +4,7 @@ ghost use Rattle.dw_moves.specs.Order.{Listed};
 ghost use Rattle.dw_moves.specs.inner.Walks.{number};
 
 use crate::moves::Move;
-use dw_board::board::Board;
-use dw_board::square::Square;
+use dw_board::{Board, Square};
 
 /// Who is offered all captures, one after another, and keeps what it wants of them. It may follow the path on which
 /// each is made: a walk tells it where a path begins, and of each jump onto a square and back.

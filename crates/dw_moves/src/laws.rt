@@ -5,7 +5,7 @@ ghost use Rattle.dw_moves.specs.Laws.{PathTells, PathIsShort, MovesListed, OneBe
 ghost use Rattle.dw_moves.specs.Laws.{MovesHaveKeys, MovesInOrder, StepsAreQuiet, SureReplies};
 
 use crate::moves::Move;
-use dw_board::board::Board;
+use dw_board::Board;
 
 /// The landings of a path tell what it takes.
 /// Example: at `W:W38:B22,23,32,33` the landings 27, 18, 29, 38 tell that 32, 22, 23 and 33 are taken.

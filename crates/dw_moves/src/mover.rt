@@ -11,10 +11,7 @@ ghost use Rattle.dw_moves.specs.inner.Glance.{IsGround};
 ghost use Rattle.dw_moves.specs.inner.Plain.{TakesOver, takes_for, no_jumps};
 
 use crate::field::Field;
-use dw_board::board::{Board, Dir};
-use dw_board::piece::Kind;
-use dw_board::square::{Square, step};
-use dw_board::squares::Squares;
+use dw_board::{Board, Dir, Kind, Square, Squares, step};
 
 /// A kind of piece that captures. What is said of its captures holds at every position of which these are the sets.
 pub(crate) trait Mover<B: Board> {

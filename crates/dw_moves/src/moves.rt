@@ -12,9 +12,7 @@ ghost use Rattle.dw_moves.specs.inner.Walks.{quietly_listed};
 
 use crate::quiet::FromQuiet;
 use arrayvec::ArrayVec;
-use dw_board::board::Board;
-use dw_board::square::Square;
-use dw_board::squares::Squares;
+use dw_board::{Board, Square, Squares};
 use std::alloc::AllocError;
 use std::hash::{Hash, Hasher};
 use std::marker::Model;

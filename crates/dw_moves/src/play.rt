@@ -4,8 +4,7 @@ ghost use Rattle.dw_moves.specs.Moves.{Legal};
 ghost use Rattle.dw_moves.specs.Moves as of;
 
 use crate::moves::Move;
-use dw_board::board::Board;
-use dw_board::position::Position;
+use dw_board::{Board, Position};
 
 /// The position after a legal move. The piece leaves its square, all that it took leaves the board at once, and it
 /// stands on its last square: as a king, if it was a man and that is its last row. A man that passes its last row

@@ -11,11 +11,7 @@ ghost use Rattle.dw_moves.specs.inner.Plain as plain;
 ghost use Rattle.dw_moves.specs.inner.Plain.{Adds, Counts, ManSteps, KingGoes, KingLands};
 
 use crate::field::Field;
-use dw_board::board::{Board, Dir};
-use dw_board::piece::{Kind, Piece, Side};
-use dw_board::position::Position;
-use dw_board::square::{Square, step};
-use dw_board::squares::Squares;
+use dw_board::{Board, Dir, Kind, Piece, Position, Side, Square, Squares, step};
 use std::alloc::AllocError;
 
 /// The number of quiet moves of the side to move, whether or not it must capture. A man moves one square diagonally

@@ -12,10 +12,7 @@ use crate::field::{Field, has_two};
 use crate::glance::{can_capture, other_steps};
 use crate::moves::Move;
 use crate::play::play;
-use dw_board::board::{Board, Dir};
-use dw_board::position::Position;
-use dw_board::square::step;
-use dw_board::squares::Squares;
+use dw_board::{Board, Dir, Position, Squares, step};
 
 /// Whether it is seen at a glance that the other side has a reply to every move: if it were its turn, pieces of it that
 /// can not be taken could go one square to two different squares or more. A move stands in the way of one.

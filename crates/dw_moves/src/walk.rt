@@ -11,11 +11,7 @@ use crate::field::Field;
 use crate::keeper::Keeper;
 use crate::mover::{Mover, Slider, Stepper};
 use crate::moves::Move;
-use dw_board::board::{Board, Dir};
-use dw_board::piece::Kind;
-use dw_board::position::Position;
-use dw_board::square::Square;
-use dw_board::squares::Squares;
+use dw_board::{Board, Dir, Kind, Position, Square, Squares};
 
 /// A capture so far: where it began, where it stands, what it has taken, and how many that are.
 #[derive(Drop)]

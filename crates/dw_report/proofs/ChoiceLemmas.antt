@@ -15,7 +15,8 @@ use Rattle.dw_solve.specs.Laws.{WinsAreDecided}
 use Rattle.dw_list.specs.Lines.{Line, Lines, Before}
 use Rattle.dw_list.specs.Laws.{LinesExist}
 use Rattle.dw_list.specs.inner.LineOrderLemmas.{precedes_asym}
-use Rattle.dw_list.specs.inner.ListLemmas.{list_only, ascending_parts}
+use Rattle.dw_moves.specs.inner.OneListLemmas.{list_only}
+use Rattle.dw_list.specs.inner.ListLemmas.{ascending_parts}
 use Rattle.dw_report.specs.Verdict.{IsWinning, Keys, reach, IsDual}
 use Rattle.dw_report.specs.inner.Judging.{LeadsToChoices, ComesToChoices, RepliesToChoices, IsLeast, FindsLeast}
 

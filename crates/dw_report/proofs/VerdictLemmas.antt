@@ -13,7 +13,7 @@ use Rattle.dw_solve.specs.Laws.{WinsAreDecided, WinsStay}
 use Rattle.dw_list.specs.Lines.{Before}
 use Rattle.dw_list.specs.Laws.{LinesExist}
 use Rattle.dw_list.specs.inner.LineOrderLemmas.{precedes_asym}
-use Rattle.dw_list.specs.inner.ListLemmas.{list_only}
+use Rattle.dw_moves.specs.inner.OneListLemmas.{list_only}
 use Rattle.dw_report.specs.Verdict.{IsWinning, Keys, reach, IsShortest, Verdict, unsolvable, cooked, dual, sound}
 use Rattle.dw_report.specs.Verdict.{HasOneKey, IsVerdict, Refutes, IsRefutation, IsTry, Tries}
 use Rattle.dw_report.specs.inner.Judging.{LeadsToChoices, IsLeast, FindsLeast, FindsRefutation}

@@ -1,6 +1,6 @@
 //! The first choice that the attacker has after his first move.
 ghost use Rattle.std.specs.Prelude.{◌≡◌, ◌≤◌, ◌<◌, ◌∷◌, length, IfOk, option_map};
-ghost use Rattle.dw_solve.specs.Asking.{Asked};
+ghost use Rattle.dw_solve.specs.Questions.{Asked};
 ghost use Rattle.dw_list.specs.Lines.{Before};
 ghost use Rattle.dw_report.specs.Verdict.{Keys};
 ghost use Rattle.dw_report.specs.inner.Judging.{LeadsToChoices, ComesToChoices, RepliesToChoices, FindsLeast, parts_of};

@@ -4,7 +4,7 @@ ghost use Rattle.dw_solve.specs.declared.stop.Stop.TheVariants.{Limit};
 ghost use Rattle.dw_solve.specs.Searching.{IsCounted};
 ghost use Rattle.dw_solve.specs.Work.{moment, Searched, cut_off};
 ghost use Rattle.dw_memo.specs.Content.{IsMap};
-ghost use Rattle.dw_solve.specs.Asking.{Asked};
+ghost use Rattle.dw_solve.specs.Questions.{Asked};
 ghost use Rattle.dw_solve.specs.Facts.{AreTrue};
 ghost use Rattle.dw_report.specs.Verdict.{IsVerdict, Tries};
 ghost use Rattle.dw_report.specs.Judging.{said_by};

@@ -1,6 +1,6 @@
 //! The first moves that win.
 ghost use Rattle.std.specs.Prelude.{◌≡◌, ◌≤◌, ◌++◌, ◌∷◌, [], IfOk, OnOk};
-ghost use Rattle.dw_solve.specs.Asking.{Asked};
+ghost use Rattle.dw_solve.specs.Questions.{Asked};
 ghost use Rattle.dw_report.specs.Verdict.{Keys};
 
 use dw_board::{Board, Position};

@@ -1,6 +1,6 @@
 //! Tries: moves that fail to one reply only.
 ghost use Rattle.std.specs.Prelude.{◌≡◌, ◌≤◌, ◌-◌, IfOk};
-ghost use Rattle.dw_solve.specs.Asking.{Asked};
+ghost use Rattle.dw_solve.specs.Questions.{Asked};
 ghost use Rattle.dw_report.specs.Verdict.{Tries};
 ghost use Rattle.dw_report.specs.inner.Judging.{FindsRefutation};
 

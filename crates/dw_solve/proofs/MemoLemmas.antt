@@ -14,7 +14,7 @@ use Rattle.dw_memo.specs.Noting.{IsNote}
 use Rattle.dw_solve.specs.Wins.{Win}
 use Rattle.dw_solve.specs.Facts.{KnownWin, KnownFail, IsDecided, AreTrue}
 use Rattle.dw_solve.specs.inner.Searching.{HasBounds}
-use Rattle.dw_solve.specs.Saying.{SaysWin}
+use Rattle.dw_solve.specs.Certificates.{SaysWin}
 use Rattle.dw_moves.specs.Replies.{AlwaysReply}
 use Rattle.dw_solve.proofs.WinLemmas.{Win-le, hopeless_is}
 

@@ -13,7 +13,7 @@ use Rattle.dw_moves.specs.inner.MemberLemmas.{mem_left, mem_right, mem_cases, me
 use Rattle.dw_solve.specs.Wins.{Win, Lost}
 use Rattle.dw_solve.specs.Facts.{KnownWin, KnownFail, AreTrue}
 use Rattle.dw_solve.specs.Ranking.{AreRanked}
-use Rattle.dw_solve.specs.Saying.{SaysWin, SaysLost}
+use Rattle.dw_solve.specs.Certificates.{SaysWin, SaysLost}
 use Rattle.dw_solve.specs.Searching.{IsCounted}
 use Rattle.dw_solve.specs.Work.{Moment, NothingLost}
 use Rattle.dw_solve.specs.declared.search.Search.{Search}

@@ -8,7 +8,7 @@ use Rattle.dw_board.specs.Placement.{Placement}
 use Rattle.dw_memo.specs.Content.{Content, SameEntries}
 use Rattle.dw_moves.specs.Moves.{Move, Legal, play}
 use Rattle.dw_solve.specs.Wins.{Win, Lost}
-use Rattle.dw_solve.specs.Saying.{SaysLost}
+use Rattle.dw_solve.specs.Certificates.{SaysLost}
 use Rattle.dw_solve.specs.Facts.{IsDecided, RepliesAreDecided}
 use Rattle.dw_solve.specs.Searching.{IsCounted}
 use Rattle.dw_solve.proofs.MemoLemmas.{same_win, same_fail}

@@ -9,7 +9,7 @@ use Rattle.dw_memo.specs.Content.{Content}
 use Rattle.dw_solve.specs.Facts.{KnownWin, KnownFail, IsDecided}
 use Rattle.dw_solve.specs.Ranking.{AreRanked}
 use Rattle.dw_solve.specs.Work.{Moment, Stronger, NothingLost, Searched}
-use Rattle.dw_solve.specs.Saying.{SaysWin, SaysLeast, SaysLost}
+use Rattle.dw_solve.specs.Certificates.{SaysWin, SaysLeast, SaysLost}
 use Rattle.dw_solve.specs.inner.Searching.{SaysMove}
 use Rattle.dw_solve.proofs.RankLemmas.{Below, below_none, below_more, below_all}
 use Rattle.dw_solve.proofs.WorkLemmas.{first_kept, second_kept, searched_none, searched_then, searched_wider}

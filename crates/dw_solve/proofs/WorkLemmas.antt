@@ -21,7 +21,7 @@ use Rattle.dw_solve.specs.Facts.{KnownWin, KnownFail, IsDecided, IsClosed}
 use Rattle.dw_solve.specs.inner.Searching.{HasBounds, IsNoted, SaysMove}
 use Rattle.dw_solve.specs.Work.{Moment, Stronger, decided_to, FewNew, LossIsCounted, NothingLost, Worked, Searched}
 use Rattle.dw_solve.specs.Work.{cut_off, moment}
-use Rattle.dw_solve.specs.Saying.{SaysWin}
+use Rattle.dw_solve.specs.Certificates.{SaysWin}
 use Rattle.dw_solve.proofs.MemoLemmas.{option_cases, mem_map, same_entry, same_win, same_fail}
 use Rattle.dw_solve.proofs.CountingLemmas.{decided_grows, decided_rises, decided_to_grows}
 

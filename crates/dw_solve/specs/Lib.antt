@@ -4,8 +4,8 @@ pub mod Laws
 pub mod Trial
 pub mod Ranking
 pub mod Work
-pub mod Saying
+pub mod Certificates
 pub mod Searching
 pub mod Solving
-pub mod Asking
+pub mod Questions
 pub mod inner

@@ -4,9 +4,8 @@ ghost use Rattle.dw_moves.specs.Moves.{Legal, play};
 ghost use Rattle.dw_solve.specs.Trial.{IsTrial};
 
 use crate::trial::trial;
-use dw_board::board::Board;
-use dw_board::position::Position;
-use dw_moves::moves::Move;
+use dw_board::{Board, Position};
+use dw_moves::Move;
 
 /// Ranks moves: those of a lower rank are tried first, if they leave the attacker two further moves or more. With
 /// fewer, a search goes by orders of its own, which cost less than the ranks. No answer depends on it.

@@ -2,8 +2,8 @@
 ghost use Rattle.std.specs.Prelude.{◌≡◌, []};
 
 use crate::ply::Ply;
-use dw_board::board::Board;
-use dw_moves::moves::Move;
+use dw_board::Board;
+use dw_moves::Move;
 use std::alloc::Global;
 use std::marker::Model;
 

@@ -6,13 +6,10 @@ ghost use Rattle.dw_solve.specs.Ranking.{AreRanked};
 ghost use Rattle.dw_solve.specs.inner.Ranking.{IsLastWin, IsSureReply};
 
 use crate::guide::{AnyOrder, Guide};
-use dw_board::board::Board;
-use dw_board::position::Position;
+use dw_board::{Board, Position};
 use dw_moves::best::has_move;
-use dw_moves::legal::legal_into;
-use dw_moves::moves::Move;
 use dw_moves::play::play as played;
-use dw_moves::replies::has_sure_reply;
+use dw_moves::{Move, has_sure_reply, legal_into};
 use std::alloc::{AllocError, Global};
 
 /// The lists that a search needs for one move of a line. Their memory is used again at the next position.

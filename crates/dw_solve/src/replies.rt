@@ -8,14 +8,10 @@ ghost use Rattle.dw_solve.specs.inner.Searching.{HasLooked};
 use crate::guide::Guide;
 use crate::ply::Ply;
 use crate::search::{Search, known};
-use dw_board::board::Board;
-use dw_board::position::Position;
-use dw_memo::memo::Memo;
-use dw_moves::laws::sure_replies;
-use dw_moves::legal::legal_into;
-use dw_moves::moves::Move;
+use dw_board::{Board, Position};
+use dw_memo::Memo;
 use dw_moves::play::play as played;
-use dw_moves::replies::sure_step;
+use dw_moves::{Move, legal_into, sure_step};
 use std::alloc::AllocError;
 
 /// What is known of the replies before one is searched.
@@ -73,7 +69,7 @@ fn line_up_last<B: Board>(
 fn sure_reply<B: Board>(position: &Position<B>) -> Option<Position<B>>
     ensures { IfSome result (IsSureReply B.geometry position.now) }
 {
-    sure_replies();
+    dw_moves::laws::sure_replies();
     let (_, after) = sure_step(position)?;
     Some(after)
 }

@@ -11,7 +11,7 @@ ghost use Rattle.dw_solve.specs.Facts.{AreTrue, IsDecided, RepliesAreDecided};
 ghost use Rattle.dw_solve.specs.inner.Searching.{at_time, CanSearch, HasSearched, LosesNothing, StaysIdle};
 ghost use Rattle.dw_solve.specs.inner.Searching.{HasBounds, IsNoted, SaysMove};
 ghost use Rattle.dw_solve.specs.Work.{Searched};
-ghost use Rattle.dw_solve.specs.Saying.{SaysWin, SaysLost};
+ghost use Rattle.dw_solve.specs.Certificates.{SaysWin, SaysLost};
 ghost use Rattle.dw_solve.specs.Ranking.{AreRanked};
 ghost use Rattle.dw_solve.specs.inner.Ranking.{IsSureReply};
 
@@ -19,12 +19,10 @@ use crate::guide::Guide;
 use crate::ply::Ply;
 use crate::replies::{Replies, line_up_replies};
 use crate::stop::Stop;
-use dw_board::board::Board;
-use dw_board::position::Position;
-use dw_memo::bounds::Bounds;
-use dw_memo::memo::Memo;
+use dw_board::{Board, Position};
+use dw_memo::{Bounds, Memo};
+use dw_moves::Move;
 use dw_moves::best::has_move;
-use dw_moves::moves::Move;
 use dw_moves::play::play as played;
 use std::alloc::AllocError;
 

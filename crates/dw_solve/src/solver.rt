@@ -7,18 +7,17 @@ ghost use Rattle.dw_memo.specs.Content.{IsMap};
 ghost use Rattle.dw_solve.specs.Facts.{AreTrue, IsDecided, RepliesAreDecided};
 ghost use Rattle.dw_solve.specs.Ranking.{AreRanked};
 ghost use Rattle.dw_solve.specs.Solving.{IsLeast};
-ghost use Rattle.dw_solve.specs.Asking.{Asked, Idle, LostNothing};
+ghost use Rattle.dw_solve.specs.Questions.{Asked, Idle, LostNothing};
 ghost use Rattle.dw_solve.specs.inner.Searching.{CanSearch, HasSearched, LosesNothing, StaysIdle};
-ghost use Rattle.dw_solve.specs.Saying.{SaysWin, SaysLost, SaysLeast};
+ghost use Rattle.dw_solve.specs.Certificates.{SaysWin, SaysLost, SaysLeast};
 
 use crate::guide::Guide;
 use crate::lineup::Lineup;
 use crate::ply::Ply;
 use crate::search::{Search, known, loses, wins};
 use crate::stop::Stop;
-use dw_board::board::Board;
-use dw_board::position::Position;
-use dw_memo::memo::Memo;
+use dw_board::{Board, Position};
+use dw_memo::Memo;
 use std::alloc::{AllocError, Global};
 use std::marker::Model;
 

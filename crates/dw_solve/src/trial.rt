@@ -2,11 +2,9 @@
 ghost use Rattle.dw_moves.specs.Moves.{Legal, play};
 ghost use Rattle.dw_solve.specs.Trial.{IsTrial};
 
-use dw_board::board::Board;
-use dw_board::position::Position;
-use dw_moves::glance::count_if_quiet;
-use dw_moves::moves::Move;
+use dw_board::{Board, Position};
 use dw_moves::play::play as played;
+use dw_moves::{Move, count_if_quiet};
 
 /// How free the other side is after a legal move: the number of its quiet moves, or 0 if it must capture. A move
 /// that leaves less freedom is worth trying first.

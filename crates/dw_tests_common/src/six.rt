@@ -2,7 +2,7 @@
 ghost use Rattle.std.specs.Prelude.{refl};
 ghost use Rattle.dw_tests_common.specs.Six.{six, six_is_board, six_shifts, six_word};
 
-use dw_board::board::Board;
+use dw_board::Board;
 
 /// Six rows of three squares.
 #[derive(Clone, Copy)]

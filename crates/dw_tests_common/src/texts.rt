@@ -3,13 +3,8 @@ ghost use Rattle.std.specs.Prelude.{IfSome};
 ghost use Rattle.dw_moves.specs.Moves.{Legal};
 
 use crate::tally::Found;
-use dw_board::board::Board;
-use dw_board::fen::read::read_fen;
-use dw_board::position::Position;
-use dw_board::square::Square;
-use dw_board::squares::Squares;
-use dw_moves::legal::is_legal;
-use dw_moves::moves::Move;
+use dw_board::{Board, Position, Square, Squares, read_fen};
+use dw_moves::{Move, is_legal};
 use dw_notation::read_move::read_move;
 use std::alloc::Global;
 

@@ -2,11 +2,11 @@
 ghost use Rattle.std.specs.Prelude.{◌≤◌, IfSome};
 
 use arrayvec::ArrayVec;
-use dw_board::board::Board;
-use dw_list::tokens::read_token;
-use dw_moves::moves::Move;
+use dw_board::Board;
+use dw_list::read_token;
+use dw_moves::Move;
 use dw_report::problems::Form;
-use dw_report::settings::{Command, Settings};
+use dw_report::{Command, Settings};
 use dw_tests_common::rows::{Row, Section, column, word};
 
 /// How many positions may be expanded where nothing else is asked.

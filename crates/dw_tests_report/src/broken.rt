@@ -3,8 +3,8 @@ ghost use Rattle.std.specs.Prelude.{◌≤◌};
 
 use crate::asked::{AMPLE, Asked};
 use crate::runs::{Ran, ran_with};
-use dw_board::board::Board;
-use dw_report::settings::{RunFault, Settings};
+use dw_board::Board;
+use dw_report::{RunFault, Settings};
 use dw_tests_common::escapes::unescaped;
 use dw_tests_common::streams::{Chopped, Narrow};
 use dw_tests_common::tally::Found;

@@ -13,7 +13,7 @@ mod reports;
 mod runs;
 
 use asked::Asked;
-use dw_board::board::{Board, Eight, Ten};
+use dw_board::{Board, Eight, Ten};
 use dw_tests_common::rows::{Section, input_sections, word};
 use dw_tests_common::six::Six;
 use dw_tests_common::tally::{Found, Tally};

@@ -2,13 +2,12 @@
 
 use crate::asked::{AMPLE, Asked};
 use crate::runs::Ran;
-use dw_board::board::Board;
-use dw_memo::any_memo::AnyMemo;
-use dw_memo::no_memo::NoMemo;
+use dw_board::Board;
+use dw_memo::{AnyMemo, NoMemo};
 use dw_report::laws;
 use dw_report::run::run;
 use dw_report::streams::{Reading, Writing};
-use dw_solve::guide::AnyOrder;
+use dw_solve::AnyOrder;
 use dw_tests_common::streams::{Narrow, Repeated};
 use dw_tests_common::tally::Found;
 use std::alloc::Global;

@@ -3,8 +3,8 @@ ghost use Rattle.std.specs.Prelude.{◌≤◌};
 
 use crate::asked::{AMPLE, Asked};
 use crate::runs::{Ran, ran_with};
-use dw_board::board::Board;
-use dw_report::settings::{RunFault, Settings, Stop};
+use dw_board::Board;
+use dw_report::{RunFault, Settings, Stop};
 use dw_tests_common::escapes::unescaped;
 use dw_tests_common::rows::word;
 use dw_tests_common::streams::{Chopped, Narrow};

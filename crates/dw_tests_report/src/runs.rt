@@ -2,15 +2,12 @@
 ghost use Rattle.std.specs.Prelude.{◌≡◌, ◌≤◌, [], IfSome};
 ghost use Rattle.dw_memo.specs.Choice.{content_of};
 
-use dw_board::board::Board;
-use dw_memo::any_memo::AnyMemo;
-use dw_memo::lru_memo::LruMemo;
-use dw_memo::no_memo::NoMemo;
-use dw_memo::slot_memo::SlotMemo;
+use dw_board::Board;
+use dw_memo::{AnyMemo, LruMemo, NoMemo, SlotMemo};
 use dw_report::run::run;
-use dw_report::settings::{RunFault, Settings, Summary};
 use dw_report::streams::{Reading, Writing};
-use dw_solve::guide::ByTrial;
+use dw_report::{RunFault, Settings, Summary};
+use dw_solve::ByTrial;
 use dw_tests_common::streams::{Chopped, Narrow};
 use dw_tests_common::tally::Found;
 use std::alloc::Global;

@@ -1,14 +1,13 @@
 //! Texts of moves and of lines.
 
-use dw_board::board::Board;
-use dw_board::fen::write::fen_text;
-use dw_board::position::Position;
-use dw_moves::legal::is_legal;
+use dw_board::{Board, Position, fen_text};
+use dw_moves::is_legal;
 use dw_moves::listed::listed;
 use dw_moves::play::play;
+use dw_notation::MoveFault;
 use dw_notation::line_text::line_text;
 use dw_notation::move_text::move_text;
-use dw_notation::read_move::{MoveFault, read_move};
+use dw_notation::read_move::read_move;
 use dw_tests_common::rows::{column, word};
 use dw_tests_common::tally::Found;
 use dw_tests_common::texts::{add_step, read_legal, read_position};

@@ -13,8 +13,8 @@ mod problems;
 mod squares;
 mod streams;
 
-use dw_board::board::{Board, Eight, Ten};
-use dw_notation::problems::Form;
+use dw_board::{Board, Eight, Ten};
+use dw_notation::Form;
 use dw_tests_common::rows::{Section, input_sections, word};
 use dw_tests_common::six::Six;
 use dw_tests_common::tally::{Found, Tally};

@@ -1,19 +1,15 @@
 //! Moves of worked positions.
 
-use dw_board::board::Board;
-use dw_board::fen::write::fen_text;
-use dw_board::position::Position;
-use dw_board::square::Square;
+use dw_board::{Board, Position, Square, fen_text};
 use dw_moves::best::{best, has_move};
 use dw_moves::follow::follow;
-use dw_moves::glance::{can_capture, count_if_quiet, other_steps};
-use dw_moves::laws;
-use dw_moves::legal::{is_legal, legal, legal_into};
-use dw_moves::listed::{listed, listed_into};
-use dw_moves::moves::{Listed, Move};
+use dw_moves::legal::legal;
+use dw_moves::listed::listed;
 use dw_moves::play::play;
-use dw_moves::quiet::quiet_count;
-use dw_moves::replies::has_sure_reply;
+use dw_moves::{
+    Listed, Move, can_capture, count_if_quiet, has_sure_reply, is_legal, laws, legal_into,
+    listed_into, other_steps, quiet_count,
+};
 use dw_tests_common::rows::column;
 use dw_tests_common::tally::Found;
 use dw_tests_common::texts::{add_set, read_position, square_of, step_of};

@@ -1,12 +1,7 @@
 //! Positions, and their texts and diagrams.
 
-use dw_board::board::Board;
 use dw_board::diagram::diagram;
-use dw_board::fen::read::read_fen;
-use dw_board::fen::write::fen_text;
-use dw_board::laws;
-use dw_board::piece::{Kind, Piece, Side};
-use dw_board::position::Position;
+use dw_board::{Board, Kind, Piece, Position, Side, fen_text, laws, read_fen};
 use dw_tests_common::escapes::unescaped;
 use dw_tests_common::rows::{column, word};
 use dw_tests_common::tally::Found;

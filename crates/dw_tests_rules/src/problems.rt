@@ -1,9 +1,7 @@
 //! The problems of byte texts.
 
-use dw_board::board::Board;
-use dw_board::fen::write::fen_text;
-use dw_notation::problems::{Form, Problem, ProblemFault, Problems, ReadFault};
-use dw_notation::streams::{Reading, Source};
+use dw_board::{Board, fen_text};
+use dw_notation::{Form, Problem, ProblemFault, Problems, ReadFault, Reading, Source};
 use dw_tests_common::escapes::unescaped;
 use dw_tests_common::rows::column;
 use dw_tests_common::streams::{Chopped, Repeated};

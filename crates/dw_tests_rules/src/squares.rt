@@ -1,9 +1,6 @@
 //! Squares, steps, and sets of squares.
 
-use dw_board::board::{Board, Dir};
-use dw_board::laws;
-use dw_board::square::{Square, step};
-use dw_board::squares::Squares;
+use dw_board::{Board, Dir, Square, Squares, laws, step};
 use dw_tests_common::rows::{column, word};
 use dw_tests_common::tally::Found;
 use dw_tests_common::texts::{add_set, set_of, square_of};

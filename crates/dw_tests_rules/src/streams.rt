@@ -1,7 +1,6 @@
 //! Sinks that take a few bytes a write, and fail.
 
-use dw_notation::streams::{Sink, Writing};
-use dw_notation::writes::{WriteFault, write_all};
+use dw_notation::{Sink, WriteFault, Writing, write_all};
 use dw_tests_common::rows::word;
 use dw_tests_common::streams::Narrow;
 use dw_tests_common::tally::Found;

@@ -2,12 +2,9 @@
 ghost use Rattle.std.specs.Prelude.{◌≤◌};
 
 use crate::solve::question;
-use dw_board::board::Board;
-use dw_board::position::Position;
-use dw_memo::memo::Memo;
-use dw_solve::guide::Guide;
-use dw_solve::solver::Solver;
-use dw_solve::stop::Stop;
+use dw_board::{Board, Position};
+use dw_memo::Memo;
+use dw_solve::{Guide, Solver, Stop};
 use dw_tests_common::rows::word;
 use dw_tests_common::tally::Found;
 use std::alloc::Global;

@@ -2,14 +2,12 @@
 ghost use Rattle.std.specs.Prelude.{◌≤◌};
 
 use arrayvec::ArrayVec;
-use dw_board::board::Board;
-use dw_board::position::Position;
+use dw_board::{Board, Position};
+use dw_list::Lister;
 use dw_list::all_lines::all_lines;
-use dw_list::lister::Lister;
-use dw_memo::memo::Memo;
-use dw_moves::moves::Move;
-use dw_solve::guide::ByTrial;
-use dw_solve::solver::Solver;
+use dw_memo::Memo;
+use dw_moves::Move;
+use dw_solve::{ByTrial, Solver};
 use dw_tests_common::tally::Found;
 use dw_tests_common::texts::{add_step, step_of};
 use std::alloc::Global;

@@ -18,7 +18,7 @@ mod solve;
 mod tokens;
 
 use ask::ask_on;
-use dw_board::board::{Eight, Ten};
+use dw_board::{Eight, Ten};
 use dw_tests_common::rows::{Section, input_sections, word};
 use dw_tests_common::six::Six;
 use dw_tests_common::tally::Tally;

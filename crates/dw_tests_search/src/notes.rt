@@ -1,9 +1,7 @@
 //! What is found again in a cache, what is lost, and what is counted.
 
-use dw_board::board::Board;
-use dw_board::position::Position;
-use dw_memo::bounds::Bounds;
-use dw_memo::memo::{Memo, Noted};
+use dw_board::{Board, Position};
+use dw_memo::{Bounds, Memo, Noted};
 use dw_tests_common::rows::{Row, word};
 use dw_tests_common::tally::{Found, Tally};
 use dw_tests_common::texts::read_position;

@@ -4,13 +4,10 @@ ghost use Rattle.dw_solve.specs.Facts.{AreTrue};
 
 use crate::kind::Kind;
 use crate::limits::{known, limit, limited};
-use dw_board::board::Board;
-use dw_board::position::Position;
-use dw_memo::memo::Memo;
-use dw_moves::moves::Move;
-use dw_solve::guide::Guide;
-use dw_solve::solver::Solver;
-use dw_solve::stop::Stop;
+use dw_board::{Board, Position};
+use dw_memo::Memo;
+use dw_moves::Move;
+use dw_solve::{Guide, Solver, Stop};
 use dw_tests_common::rows::{Row, word};
 use dw_tests_common::tally::{Found, Tally};
 use dw_tests_common::texts::read_position;

@@ -2,11 +2,10 @@
 ghost use Rattle.std.specs.Prelude.{◌≡◌, ◌⊎◌, ◌≤◌, ◌%◌, length};
 
 use crate::listers::{add_line, moves_in};
-use dw_board::board::Board;
-use dw_list::tokens::{read_token, write_token};
-use dw_moves::moves::Move;
-use dw_notation::line_text::MAX_MOVES;
-use dw_notation::streams::Writing;
+use dw_board::Board;
+use dw_list::{read_token, write_token};
+use dw_moves::Move;
+use dw_notation::{MAX_MOVES, Writing};
 use dw_tests_common::rows::{column, word};
 use dw_tests_common::streams::Narrow;
 use dw_tests_common::tally::Found;

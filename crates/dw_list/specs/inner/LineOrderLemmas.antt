@@ -6,7 +6,7 @@ use Rattle.dw_moves.specs.Moves.{Move, play}
 use Rattle.dw_moves.specs.Order.{LexLess, Precedes}
 use Rattle.dw_moves.specs.Laws.{MovesHaveKeys}
 use Rattle.dw_list.specs.Lines.{Before}
-use Rattle.dw_list.specs.inner.LexLemmas.{lex_asym}
+use Rattle.dw_moves.specs.inner.LexLemmas.{lex_asym}
 
 pub precedes_asym : MovesHaveKeys → (g : Geometry) (p : Placement) (m n : Move) → Precedes g p m n
     → Precedes g p n m → ⊥

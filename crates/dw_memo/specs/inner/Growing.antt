@@ -3,7 +3,7 @@ use Rattle.std.specs.Prelude.{◌≡◌, ◌≢◌, ℕ, ◌+◌, ◌*◌, ◌�
 use Rattle.dw_board.specs.Geometry.{Geometry}
 use Rattle.dw_board.specs.Lists.{Member}
 use Rattle.dw_memo.specs.Content.{Entry, Content, IsMap}
-use Rattle.dw_memo.specs.Buckets.{bucket_of}
+use Rattle.dw_memo.specs.inner.Buckets.{bucket_of}
 
 -- so many empty buckets stand behind the old ones
 pub record IsWidened {X : Type 0} (entries : X → Content) (count : ℕ) (old new : List X) : Type 0 where

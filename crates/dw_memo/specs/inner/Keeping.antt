@@ -9,7 +9,7 @@ use Rattle.dw_board.specs.declared.piece.Side.{Side}
 use Rattle.dw_board.specs.declared.piece.Side.TheVariants.{White}
 use Rattle.dw_board.specs.declared.piece.Piece.{Piece}
 use Rattle.dw_board.specs.Placement.{Placement, empty}
-use Rattle.dw_memo.specs.Slots.{Place}
+use Rattle.dw_memo.specs.inner.Slots.{Place}
 
 -- nothing is known
 abbrev pub nothing : Bounds

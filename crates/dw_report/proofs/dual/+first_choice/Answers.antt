@@ -3,8 +3,8 @@ use Rattle.std.specs.Prelude.{option_map}
 use Rattle.dw_moves.specs.Moves.{Legal, play}
 use Rattle.dw_moves.specs.Order.{Precedes, IsListOf}
 use Rattle.dw_list.specs.Lines.{Before}
-use Rattle.dw_list.specs.inner.AskingLemmas.{answered, asked_none, asked_then, asked_wider, asked_ok, asked_stop}
-use Rattle.dw_list.specs.inner.AskingLemmas.{asked_memory}
+use Rattle.dw_list.specs.inner.QuestionLemmas.{answered, asked_none, asked_then, asked_wider, asked_ok, asked_stop}
+use Rattle.dw_list.specs.inner.QuestionLemmas.{asked_memory}
 use Rattle.dw_report.specs.Verdict.{IsWinning, Keys}
 use Rattle.dw_report.specs.inner.Judging.{LeadsToChoices, ComesToChoices, RepliesToChoices, FindsLeast, parts_of}
 use Rattle.dw_report.proofs.GatheredLemmas.{item_among}

@@ -1,6 +1,6 @@
 use Rattle.std.proofs.Common.{◌+◌, ◌*◌}
-use Rattle.dw_solve.specs.Asking.{Asked}
-use Rattle.dw_list.specs.inner.AskingLemmas.{answered}
+use Rattle.dw_solve.specs.Questions.{Asked}
+use Rattle.dw_list.specs.inner.QuestionLemmas.{answered}
 use Rattle.dw_report.specs.inner.Judging.{LeadsToChoices, RepliesToChoices}
 use Rattle.dw_report.proofs.ChoiceLoopLemmas.{NoneTo}
 use Rattle.dw_report.proofs.dual.+first_choice.Given as goal

@@ -1,6 +1,6 @@
 use Rattle.std.proofs.Common.{subst}
 use Rattle.dw_solve.specs.Solving.{IsLeast}
-use Rattle.dw_list.specs.inner.AskingLemmas.{asked_ok, asked_stop}
+use Rattle.dw_list.specs.inner.QuestionLemmas.{asked_ok, asked_stop}
 use Rattle.dw_report.proofs.KeyListLemmas.{some_win}
 use Rattle.dw_report.proofs.judge.cooked.Goals as goal
 

@@ -1,4 +1,4 @@
-use Rattle.dw_list.specs.inner.AskingLemmas.{asked_then, asked_ok, asked_stop}
+use Rattle.dw_list.specs.inner.QuestionLemmas.{asked_then, asked_ok, asked_stop}
 use Rattle.dw_report.proofs.judge.judged.Goals as goal
 
 pub returns-in_err-tries-clause-asked : goal.returns-in_err-tries-clause-asked

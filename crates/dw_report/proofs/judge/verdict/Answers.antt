@@ -1,6 +1,6 @@
 use Rattle.std.proofs.Common.{◌≡◌, ◌≤◌, arith, length, sym, ◌∙◌, vec_len, inl}
 use Rattle.std.proofs.lemmas.Bool.{eqb-true, eqb-false}
-use Rattle.dw_list.specs.inner.AskingLemmas.{asked_then, asked_ok, asked_stop}
+use Rattle.dw_list.specs.inner.QuestionLemmas.{asked_then, asked_ok, asked_stop}
 use Rattle.dw_report.proofs.KeyListLemmas.{no_keys}
 use Rattle.dw_report.proofs.judge.verdict.Goals as goal
 

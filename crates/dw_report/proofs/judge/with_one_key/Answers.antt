@@ -2,7 +2,7 @@ use Rattle.std.proofs.Common.{◌-◌, ◌≤◌, [], ◌∷◌, get_or, sym, ap
 use Rattle.std.specs.Prelude.{option_map}
 use Rattle.dw_solve.specs.Wins.{Win}
 use Rattle.dw_list.specs.Lines.{Before}
-use Rattle.dw_list.specs.inner.AskingLemmas.{answered, asked_then, asked_wider, asked_ok, asked_stop}
+use Rattle.dw_list.specs.inner.QuestionLemmas.{answered, asked_then, asked_wider, asked_ok, asked_stop}
 use Rattle.dw_report.specs.Verdict.{Keys}
 use Rattle.dw_report.specs.inner.Judging.{LeadsToChoices, FindsLeast, parts_of}
 use Rattle.dw_report.proofs.KeyListLemmas.{only_key}

@@ -2,8 +2,8 @@ use Rattle.std.proofs.Common.{◌-◌}
 use Rattle.dw_moves.specs.Moves.{play}
 use Rattle.dw_moves.specs.Order.{Precedes}
 use Rattle.dw_solve.specs.Wins.{Lost}
-use Rattle.dw_solve.specs.Asking.{Asked}
-use Rattle.dw_list.specs.inner.AskingLemmas.{answered}
+use Rattle.dw_solve.specs.Questions.{Asked}
+use Rattle.dw_list.specs.inner.QuestionLemmas.{answered}
 use Rattle.dw_report.proofs.GatheredLemmas.{GatheredTo}
 use Rattle.dw_report.proofs.keys.keys.Given as goal
 

@@ -1,6 +1,6 @@
 use Rattle.std.proofs.Common.{◌+◌, sym, subst, refl, arith}
 use Rattle.dw_solve.specs.Ranking.{AreRanked}
-use Rattle.dw_list.specs.inner.AskingLemmas.{answered, asked_then, asked_ok, asked_stop, asked_memory, asked_none}
+use Rattle.dw_list.specs.inner.QuestionLemmas.{answered, asked_then, asked_ok, asked_stop, asked_memory, asked_none}
 use Rattle.dw_report.proofs.RefutingLemmas.{FoundTo, found_first, found_same, found_second, found_all, legal_at}
 use Rattle.dw_report.proofs.RefutingLemmas.{refutes_if, refutes_not}
 use Rattle.dw_report.proofs.tries.refutation.Goals.{then-not-branch+in-None, else-not-branch}

@@ -1,5 +1,5 @@
-use Rattle.dw_solve.specs.Asking.{Asked}
-use Rattle.dw_list.specs.inner.AskingLemmas.{answered}
+use Rattle.dw_solve.specs.Questions.{Asked}
+use Rattle.dw_list.specs.inner.QuestionLemmas.{answered}
 use Rattle.dw_report.proofs.RefutingLemmas.{FoundTo}
 use Rattle.dw_report.proofs.tries.refutation.Given as goal
 

@@ -10,7 +10,7 @@ use Rattle.dw_solve.specs.Ranking.{AreRanked}
 use Rattle.dw_solve.specs.inner.Ranking.{AreLinedUp}
 use Rattle.dw_solve.specs.Work.{moment, Searched}
 use Rattle.dw_solve.specs.inner.Searching.{at_time, HasSearched}
-use Rattle.dw_solve.specs.Saying.{SaysWin}
+use Rattle.dw_solve.specs.Certificates.{SaysWin}
 use Rattle.dw_moves.specs.Moves.{play}
 use Rattle.dw_solve.proofs.OpenLemmas.{open_here, open_legal, open_won, says_open, refuted_is_not_lost, says_known}
 use Rattle.dw_solve.proofs.OpenLemmas.{counted_looked}

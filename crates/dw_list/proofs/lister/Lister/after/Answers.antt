@@ -1,5 +1,5 @@
 use Rattle.std.proofs.Common.{subst}
-use Rattle.dw_solve.specs.Asking.{moment_of}
+use Rattle.dw_solve.specs.Questions.{moment_of}
 use Rattle.dw_solve.specs.Work.{Searched}
 use Rattle.dw_list.specs.Listing.{solver_of}
 use Rattle.dw_list.proofs.lister.Lister.after.Goals as goal

@@ -1,4 +1,4 @@
-use Rattle.dw_memo.specs.Slots.{standing}
+use Rattle.dw_memo.specs.inner.Slots.{standing}
 use Rattle.dw_memo.proofs.PairLemmas.{split_both}
 use Rattle.dw_memo.proofs.pair.PairBucket.split.Goals as goal
 

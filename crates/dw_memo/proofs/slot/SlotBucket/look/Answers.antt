@@ -1,6 +1,6 @@
 use Rattle.std.proofs.Common.{sym, subst}
 use Rattle.dw_memo.specs.Content.{IsFound}
-use Rattle.dw_memo.specs.Slots.{standing}
+use Rattle.dw_memo.specs.inner.Slots.{standing}
 use Rattle.dw_memo.proofs.SlotLemmas.{found}
 use Rattle.dw_memo.proofs.slot.SlotBucket.look.Goals as goal
 

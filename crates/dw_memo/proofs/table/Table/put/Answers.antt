@@ -1,5 +1,5 @@
 use Rattle.std.proofs.Common.{◌≡◌, length, arith, subst}
-use Rattle.dw_memo.specs.Buckets.{held}
+use Rattle.dw_memo.specs.inner.Buckets.{held}
 use Rattle.dw_memo.specs.Holding.{Holding}
 use Rattle.dw_memo.specs.Noting.{IsNote}
 use Rattle.std.proofs.Math.ListN.{set}

@@ -2,7 +2,7 @@ use Rattle.dw_memo.specs.Content.{IsMap}
 use Rattle.dw_solve.specs.Facts.{AreTrue}
 use Rattle.dw_solve.specs.Searching.{IsCounted}
 use Rattle.dw_solve.specs.Work.{moment}
-use Rattle.dw_solve.specs.Saying.{SaysLeast}
+use Rattle.dw_solve.specs.Certificates.{SaysLeast}
 use Rattle.dw_solve.proofs.SearchLemmas.{NoneBelow, Unchanged}
 use Rattle.dw_solve.proofs.TriedLemmas.{AllDecided}
 use Rattle.dw_solve.proofs.solver.Solver.least.Given as goal

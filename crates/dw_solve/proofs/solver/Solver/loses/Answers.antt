@@ -3,9 +3,9 @@ use Rattle.dw_memo.specs.Content.{SameEntries}
 use Rattle.dw_solve.specs.declared.stop.Stop.TheVariants.{Limit}
 use Rattle.dw_solve.specs.Facts.{RepliesAreDecided}
 use Rattle.dw_solve.specs.Solving.{Solving}
-use Rattle.dw_solve.specs.Asking.{Asked, moment_of}
+use Rattle.dw_solve.specs.Questions.{Asked, moment_of}
 use Rattle.dw_solve.specs.Work.{moment, NothingLost}
-use Rattle.dw_solve.specs.Saying.{SaysLost}
+use Rattle.dw_solve.specs.Certificates.{SaysLost}
 use Rattle.dw_solve.proofs.solver.Solver.loses.Goals as goal
 
 pub returns-clause-known : goal.returns-clause-known

@@ -2,9 +2,9 @@ use Rattle.std.proofs.Common.{◌≡◌, ◌⊎◌, ◌≤◌, ◌<◌, IsOk, On
 use Rattle.dw_memo.specs.Content.{SameEntries}
 use Rattle.dw_solve.specs.Facts.{IsDecided}
 use Rattle.dw_solve.specs.Solving.{Solving}
-use Rattle.dw_solve.specs.Asking.{Asked, moment_of}
+use Rattle.dw_solve.specs.Questions.{Asked, moment_of}
 use Rattle.dw_solve.specs.Work.{moment, NothingLost}
-use Rattle.dw_solve.specs.Saying.{SaysWin}
+use Rattle.dw_solve.specs.Certificates.{SaysWin}
 use Rattle.dw_solve.proofs.solver.Solver.wins.Goals as goal
 
 pub returns-clause-known : goal.returns-clause-known

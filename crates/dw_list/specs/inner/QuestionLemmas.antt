@@ -8,7 +8,7 @@ use Rattle.dw_solve.specs.declared.stop.Stop.TheVariants.{Limit, Memory}
 use Rattle.dw_solve.specs.Solving.{Solving}
 use Rattle.dw_solve.specs.Work.{Moment, Searched, cut_off}
 use Rattle.dw_solve.specs.Laws.{SearchesAddUp}
-use Rattle.dw_solve.specs.Asking.{Asked, moment_of}
+use Rattle.dw_solve.specs.Questions.{Asked, moment_of}
 
 -- an answer, whatever it is
 abbrev pub answered : Result ℕ Stop

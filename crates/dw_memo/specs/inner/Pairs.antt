@@ -8,7 +8,7 @@ use Rattle.dw_memo.specs.declared.memo.Noted.{Noted}
 use Rattle.dw_memo.specs.declared.memo.Noted.TheVariants.{NotKept}
 use Rattle.dw_memo.specs.declared.pair.Pair.{Pair}
 use Rattle.dw_memo.specs.Content.{entry, Content}
-use Rattle.dw_memo.specs.Slots.{Place, standing}
+use Rattle.dw_memo.specs.inner.Slots.{Place, standing}
 
 -- what stands in the two places
 abbrev pub pair_entries : {B : Type 0} → Pair B → Content
