@@ -7,19 +7,15 @@ use Rattle.std.specs.Ordering.{nat_cmp}
 use Rattle.dw_board.specs.Geometry.{Geometry, IsBoard}
 use Rattle.dw_board.specs.Placement.{Placement, IsPosition, other}
 use Rattle.dw_moves.specs.Moves.{IsBest, CanCapture, Move, Quiet, Path, IsPathOf, Legal, LegalAt, AreLegal, last_of}
-use Rattle.dw_board.specs.Lists.{Member, NoRepeat}
+use Rattle.dw_board.specs.Lists.{Member}
 use Rattle.dw_moves.specs.inner.Plain.{quiet_to, Adds}
 use Rattle.dw_moves.specs.Order.{Listed}
-use Rattle.dw_moves.specs.inner.KeptLemmas.{Is}
-use Rattle.dw_moves.specs.inner.Walks.{Captures, Either, Grows, Longest, Makes, MovesKept, number}
+use Rattle.dw_moves.specs.inner.Walks.{Captures, Is, IsMost, Longest, Makes, MovesHeld, number}
 use Rattle.dw_moves.proofs.CaptureBoundLemmas.{path_bound}
 use Rattle.dw_moves.proofs.GroundLemmas.{side_fits}
 use Rattle.dw_moves.proofs.LegalMoveLemmas.{best_only}
 use Rattle.dw_moves.proofs.SquareSetLemmas.{len_list}
 use Rattle.dw_moves.proofs.AddingLemmas.{AreQuiet, are_quiet, move_to}
-
-no_member : (ms : List Move) → ms ≡ [] → (m : Move) → Member m ms → ⊥
-no_member ms e m h = rw e at h
 
 -- a path that takes something is a capture
 abbrev capture_on : ℕ → List ℕ → List ℕ → Listed
@@ -41,7 +37,7 @@ captured g p from ts cs path some =
     )
 
 -- the number reached is the greatest
-pub best_of : (g : Geometry) (p : Placement) (k : ℕ) → Grows (Captures g p) 0 k → IsBest g p k
+pub best_of : (g : Geometry) (p : Placement) (k : ℕ) → IsMost (Captures g p) k → IsBest g p k
 best_of g p k h = record {
   reached = λ some. elim h.reached [
     | inl none ↦ absurd (omega arith)
@@ -67,12 +63,8 @@ empty_list : (ms : List Move) → ((m : Move) → Member m ms → ⊥) → ms �
 empty_list [] h = refl
 empty_list (m ∷ ms) h = absurd (h m (inl refl))
 
-none_kept : (g : Geometry) (p : Placement) (moves kept : List Move) → moves ≡ []
-    → MovesKept (Captures g p) 0 moves 0 kept → kept ≡ []
-none_kept g p moves kept e h = empty_list kept (λ m x. elim ((h.exactly m).0 x) [
-  | inl old ↦ no_member moves e m old.1
-  | inr c ↦ omega (arith, c.1.some, c.2)
-])
+none_kept : (g : Geometry) (p : Placement) (kept : List Move) → MovesHeld (Captures g p) 0 kept → kept ≡ []
+none_kept g p kept h = empty_list kept (λ m x. let c = (h.exactly m).0 x in omega (arith, c.1.some, c.2))
 
 pub quiet_from_legal : (g : Geometry) (p : Placement) (m : Move) → IsBest g p 0 → Legal g p m → Quiet g p m.from m.to
     × (m.taken ≡ fin.empty)
@@ -82,13 +74,13 @@ quiet_from_legal g p m best l = at_k l.0 (best_only g p l.0 0 l.1 best) l.2 wher
   at_k (suc k) e h = absurd (omega arith)
 
 -- nothing can be taken, and the quiet moves were added
-pub legal_quietly : (g : Geometry) (p : Placement) (k : ℕ) (moves kept now : List Move) → moves ≡ [] → k ≡ 0
-    → MovesKept (Captures g p) 0 moves k kept → Adds quiet_to (Quiet g p) kept now → AreLegal g p now
-legal_quietly g p k moves kept now e none h added =
-    let zero_kept : MovesKept (Captures g p) 0 moves 0 kept = subst (λ z. MovesKept (Captures g p) 0 moves z kept) none h in
-    let best : IsBest g p 0 = best_of g p 0 zero_kept.grows in
+pub legal_quietly : (g : Geometry) (p : Placement) (k : ℕ) (kept now : List Move) → k ≡ 0
+    → MovesHeld (Captures g p) k kept → Adds quiet_to (Quiet g p) kept now → AreLegal g p now
+legal_quietly g p k kept now none h added =
+    let zero_kept : MovesHeld (Captures g p) 0 kept = subst (λ z. MovesHeld (Captures g p) z kept) none h in
+    let best : IsBest g p 0 = best_of g p 0 zero_kept.most in
     let all : now ≡ map move_to added.pairs = added.are ∙ ap (λ z. z ++ map move_to added.pairs)
-    (none_kept g p moves kept e zero_kept) in
+    (none_kept g p kept zero_kept) in
     let quiet : AreQuiet g p now = subst (AreQuiet g p) (sym all) (are_quiet g p added.pairs added.exactly
     added.once) in
     record {
@@ -147,19 +139,16 @@ legal_from_capture g p k m best h = by_number k best (subst (λ z. (0 < z) × ((
       by_number (suc k) best f = (suc k, best, f.1)
 
 -- something can be taken
-pub legal_captures : (g : Geometry) (p : Placement) (k : ℕ) (moves kept : List Move) → moves ≡ [] → 0 < k
-    → MovesKept (Captures g p) 0 moves k kept → AreLegal g p kept
-legal_captures g p k moves kept e some h =
-    let best : IsBest g p k = best_of g p k h.grows in
+pub legal_captures : (g : Geometry) (p : Placement) (k : ℕ) (kept : List Move) → 0 < k
+    → MovesHeld (Captures g p) k kept → AreLegal g p kept
+legal_captures g p k kept some h =
+    let best : IsBest g p k = best_of g p k h.most in
     record {
       exactly = λ m. (
-        (λ x. elim ((h.exactly m).0 x) [
-          | inl old ↦ absurd (no_member moves e m old.1)
-          | inr c ↦ legal_from_capture g p k m best c
-        ]),
-        (λ l. (h.exactly m).1 (inr (capture_from_legal g p k m some best l))),
+        (λ x. legal_from_capture g p k m best ((h.exactly m).0 x)),
+        (λ l. (h.exactly m).1 (capture_from_legal g p k m some best l)),
       );
-      once = h.once (subst NoRepeat (sym e) tt);
+      once = h.once;
     }
 
 -- a legal move takes the greatest number
@@ -191,14 +180,14 @@ legal_if_quiet g p m none = (
 )
 
 -- a capture is legal if it is among those that take the greatest number
-pub legal_if_sought : (g : Geometry) (p : Placement) (k : ℕ) (m : Move) (old : Type 0) → (old → ⊥)
-    → Grows (Captures g p) 0 k → (fin.len m.taken ≡ 0 → ⊥) → Either (Captures g p) 0 k (Makes m) old ↔ Legal g p m
-legal_if_sought g p k m old none grows takes =
-    let best : IsBest g p k = best_of g p k grows in (
-      (λ h. elim h [ inl o ↦ absurd (none o.1) | inr c ↦ legal_from_capture g p k m best c ]),
+pub legal_if_sought : (g : Geometry) (p : Placement) (k : ℕ) (m : Move) → IsMost (Captures g p) k
+    → (fin.len m.taken ≡ 0 → ⊥) → Longest (Captures g p) k (Makes m) ↔ Legal g p m
+legal_if_sought g p k m most takes =
+    let best : IsBest g p k = best_of g p k most in (
+      legal_from_capture g p k m best,
       (λ l.
           let count : fin.len m.taken ≡ k = legal_count g p k m best l in
-          inr (capture_from_legal g p k m (above k (λ e. takes (count ∙ e))) best l)),
+          capture_from_legal g p k m (above k (λ e. takes (count ∙ e))) best l),
     ) where
       above : (n : ℕ) → (n ≡ 0 → ⊥) → 0 < n
       above n h = omega arith

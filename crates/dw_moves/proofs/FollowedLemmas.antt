@@ -1,5 +1,5 @@
 -- The capture that was found along given squares.
-use Rattle.std.proofs.Common.{◌≡◌, ℕ, ◌<◌, zero, suc, List, ◌∷◌, refl, sym, ap, ◌∙◌, subst, inl, inr, arith, Option, Some}
+use Rattle.std.proofs.Common.{◌≡◌, ℕ, ◌<◌, zero, suc, List, ◌∷◌, refl, sym, ap, ◌∙◌, subst, arith, Option, Some}
 use Rattle.std.proofs.Common.{None, ◌↔◌}
 use Rattle.std.specs.Prelude.{IfSome, IsSome}
 use Rattle.std.specs.FinSet as fin
@@ -12,7 +12,6 @@ use Rattle.dw_moves.specs.inner.Walks.{Captures, Followed}
 use Rattle.dw_moves.proofs.FilledLemmas.{best_of, path_captures}
 use Rattle.dw_moves.proofs.LegalMoveLemmas.{best_only}
 use Rattle.dw_moves.proofs.PathTellsLemmas.{path_tells}
-use Rattle.dw_moves.proofs.StepLemmas.{none_some}
 
 cons_parts : (x y : ℕ) (xs ys : List ℕ) → x ∷ xs ≡ y ∷ ys → (x ≡ y) × (xs ≡ ys)
 cons_parts x y xs ys e = (cc, cc)
@@ -38,31 +37,29 @@ path_legal g p m squares h = (h.most, h.best, at_most h.most h.some h.leads) whe
   at_most (suc k) some leads = (h.landings, leads)
 
 module _ (g : Geometry) (b : IsBoard g) (p : Placement) (squares still : List ℕ) (k : ℕ) (found : Option Move)
-    (h : Followed (Captures g p) squares 0 None still k found) where
+    (h : Followed (Captures g p) squares still k found) where
   -- what was found is a capture along the squares
   found_path : (m : Move) → found ≡ Some m → IsPathFor g p m squares
-  found_path m e = elim (h.is m e) [
-    | inl old ↦ absurd (none_some m old.1)
-    | inr f ↦
-        let c = f.1 in
-        record {
-          most = k;
-          best = best_of g p k h.grows;
-          some = omega (arith, c.some, f.2);
-          landings = c.landings;
-          leads = subst (λ z. IsPathOf g p z k c.landings) f.3.0
-              (subst (λ z. IsPathOf g p f.0.step z c.landings) f.2 c.leads);
-          are = sym f.3.1 ∙ (c.path ∙ ap (λ (z : Move). z.from ∷ c.landings) f.3.0);
-        }
-  ]
+  found_path m e =
+      let f = h.is m e in
+      let c = f.1 in
+      record {
+        most = k;
+        best = best_of g p k h.most;
+        some = omega (arith, c.some, f.2);
+        landings = c.landings;
+        leads = subst (λ z. IsPathOf g p z k c.landings) f.3.0
+            (subst (λ z. IsPathOf g p f.0.step z c.landings) f.2 c.leads);
+        are = sym f.3.1 ∙ (c.path ∙ ap (λ (z : Move). z.from ∷ c.landings) f.3.0);
+      }
 
   path_found : (m : Move) → IsPathFor g p m squares → found ≡ Some m
   path_found m f =
-      let same : f.most ≡ k = best_only g p f.most k f.best (best_of g p k h.grows) in
+      let same : f.most ≡ k = best_only g p f.most k f.best (best_of g p k h.most) in
       let leads : IsPathOf g p m k f.landings = subst (λ z. IsPathOf g p m z f.landings) same f.leads in
       let some : 0 < k = omega (arith, f.some, same) in
       let c = path_captures g p k m f.landings some leads in
-      let one = is_some_has found (h.some (inr (c.0, c.1, c.2, ap (λ z. z.path) c.3 ∙ sym f.are))) in
+      let one = is_some_has found (h.some (c.0, c.1, c.2, ap (λ z. z.path) c.3 ∙ sym f.are)) in
       one.1 ∙ ap Some (one_path g b p one.0 m squares (found_path one.0 one.1) f) where
         is_some_has : (o : Option Move) → IsSome o → (n : Move) × (o ≡ Some n)
         is_some_has None e = cc

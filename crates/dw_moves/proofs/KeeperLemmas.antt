@@ -1,4 +1,4 @@
--- What each keeper makes of one capture, and what it has kept in the end.
+-- What each keeper makes of one capture more.
 use Rattle.std.proofs.Common.{◌≡◌, ℕ, ◌<◌, ◌≤◌, List, [], ◌∷◌, ◌++◌, refl, sym, ap, ◌∙◌, subst, ◌⊎◌, ◌↔◌, inl, inr, arith}
 use Rattle.std.proofs.Common.{true, false, max, Option, Some, None}
 use Rattle.std.specs.Prelude.{IsSome}
@@ -7,60 +7,158 @@ use Rattle.std.proofs.lemmas.Bool.{true≢false, or_cases, or_left, or_right, ca
 use Rattle.dw_board.specs.Lists.{Member, NoRepeat}
 use Rattle.dw_moves.specs.Moves.{Move}
 use Rattle.dw_moves.specs.Order.{Listed}
-use Rattle.dw_moves.specs.inner.KeptLemmas.{These, Is, either_same, grows_same}
+use Rattle.dw_moves.specs.inner.LexLemmas.{lex_irrefl, not_less}
 use Rattle.dw_moves.specs.inner.MemberLemmas.{mem_left, mem_right, mem_cases}
 use Rattle.dw_moves.specs.inner.MoveLemmas.{same_moves, same_moves-is}
-use Rattle.dw_moves.specs.inner.Walks.{number, Grows, Longest, Either, Makes, MovesKept, TakenIn, PathsKept, Sought}
-use Rattle.dw_moves.specs.inner.Walks.{Along, Followed, steps_of}
-use Rattle.dw_moves.proofs.StepLemmas.{none_some}
-use Rattle.dw_moves.specs.inner.KeptLemmas.{covers_itself}
+use Rattle.dw_moves.specs.inner.Walks.{Along, Covered, Followed, Is, IsMost, Longest, Makes, MovesHeld, PathsHeld}
+use Rattle.dw_moves.specs.inner.Walks.{Sought, TakenIn, These, number, steps_of}
 use Rattle.dw_moves.proofs.QuietOnceLemmas.{once_append}
+use Rattle.dw_moves.proofs.StepLemmas.{none_some}
 
--- ---- the greatest number
-pub grows_to : (this : Listed) (k n : ℕ) → n ≡ number this → k ≤ n → Grows (These (this ∷ [])) k n
-grows_to this k n is low = record {
-  grown = low;
-  reached = inr (this, inl refl, sym is);
-  most = λ l m. elim m [ inl e ↦ omega (arith, ap number e) | inr none ↦ absurd none ];
+-- ---- no capture yet
+pub most_none : IsMost (These []) 0
+most_none = record { reached = inl refl; most = λ l m. absurd m }
+
+none_longest : (C : Listed → Type 0) → Longest (These []) 0 C → ⊥
+none_longest C h = h.1
+
+pub moves_none : MovesHeld (These []) 0 []
+moves_none = record {
+  most = most_none;
+  exactly = λ m. ((λ h. absurd h), (λ h. absurd (none_longest (Makes m) h)));
+  once = tt;
 }
 
-pub grows_past : (this : Listed) (k n : ℕ) → n ≡ number this → n ≤ k → Grows (These (this ∷ [])) k k
-grows_past this k n is few = record {
-  grown = omega arith;
-  reached = inl refl;
-  most = λ l m. elim m [ inl e ↦ omega (arith, ap number e) | inr none ↦ absurd none ];
+pub paths_none : PathsHeld (These []) 0 []
+paths_none = record {
+  most = most_none;
+  from = λ l m. absurd m;
+  least = λ l h. absurd (none_longest (Is l) h);
+  once = tt;
 }
 
-pub grows_max : (this : Listed) (k n now : ℕ) → n ≡ number this → now ≡ max k n
-    → Grows (These (this ∷ [])) k now
-grows_max this k n now is now_is = elim (cases_lt k n) [
-  | inl less ↦
-      let same : n ≡ now = omega (arith, now_is) in
-      subst (Grows (These (this ∷ [])) k) same (grows_to this k n is (omega arith))
-  | inr more ↦
-      let same : k ≡ now = omega (arith, now_is) in
-      subst (Grows (These (this ∷ [])) k) same (grows_past this k n is more)
+pub sought_none : (m : Move) (found : Type 0) → (found → ⊥) → Sought (These []) m m 0 found
+sought_none m found none = record {
+  same = refl;
+  most = most_none;
+  is = ((λ f. absurd (none f)), (λ h. absurd (none_longest (Makes m) h)));
+}
+
+pub followed_none : (path : List ℕ) → Followed (These []) path path 0 None
+followed_none path = record {
+  same = refl;
+  most = most_none;
+  is = λ m e. absurd (none_some m e);
+  some = λ h. absurd (none_longest (Along path) h);
+}
+
+-- ---- the same captures
+pub most_same : (E F : Listed → Type 0) (k : ℕ) → ((l : Listed) → E l ↔ F l) → IsMost E k → IsMost F k
+most_same E F k same h = record {
+  reached = elim h.reached [ inl e ↦ inl e | inr r ↦ inr (r.0, (same r.0).0 r.1, r.2) ];
+  most = λ l f. h.most l ((same l).1 f);
+}
+
+longest_same : (E F C : Listed → Type 0) (k : ℕ) → ((l : Listed) → E l ↔ F l) → Longest E k C ↔ Longest F k C
+longest_same E F C k same = (
+  (λ h. (h.0, (same h.0).0 h.1, h.2, h.3)),
+  (λ h. (h.0, (same h.0).1 h.1, h.2, h.3)),
+)
+
+module _ (E F : Listed → Type 0) (same : (l : Listed) → E l ↔ F l) (k : ℕ) where
+  pub moves_same : (moves : List Move) → MovesHeld E k moves → MovesHeld F k moves
+  moves_same moves h = record {
+    most = most_same E F k same h.most;
+    exactly = λ m. let both = longest_same E F (Makes m) k same in
+        ((λ x. both.0 ((h.exactly m).0 x)), (λ x. (h.exactly m).1 (both.1 x)));
+    once = h.once;
+  }
+
+  pub paths_same : (list : List Listed) → PathsHeld E k list → PathsHeld F k list
+  paths_same list h = record {
+    most = most_same E F k same h.most;
+    from = λ l m. (longest_same E F (Is l) k same).0 (h.from l m);
+    least = λ l x. h.least l ((longest_same E F (Is l) k same).1 x);
+    once = h.once;
+  }
+
+  pub sought_same : (m still : Move) (found : Type 0) → Sought E m still k found → Sought F m still k found
+  sought_same m still found h = record {
+    same = h.same;
+    most = most_same E F k same h.most;
+    is = let both = longest_same E F (Makes m) k same in ((λ f. both.0 (h.is.0 f)), (λ x. h.is.1 (both.1 x)));
+  }
+
+  pub followed_same : (path still : List ℕ) (found : Option Move) → Followed E path still k found
+      → Followed F path still k found
+  followed_same path still found h = record {
+    same = h.same;
+    most = most_same E F k same h.most;
+    is = λ m e. (longest_same E F (λ l. Makes m l × Along path l) k same).0 (h.is m e);
+    some = λ x. h.some ((longest_same E F (Along path) k same).1 x);
+  }
+
+-- ---- one capture more
+in_more : (xs : List Listed) (this l : Listed) → Member l (xs ++ this ∷ []) → Member l xs ⊎ (this ≡ l)
+in_more xs this l m = elim (mem_cases l xs (this ∷ []) m) [
+  | inl x ↦ inl x
+  | inr (inl e) ↦ inr (sym e)
+  | inr (inr none) ↦ absurd none
 ]
 
--- one capture alone has a property, and takes the greatest number
-longest_this : (this : Listed) (n : ℕ) (C : Listed → Type 0) → n ≡ number this → C this
-    → Longest (These (this ∷ [])) n C
-longest_this this n C is c = (this, inl refl, sym is, c)
+-- it takes n pieces, and the greatest number was k
+module _ (xs : List Listed) (this : Listed) (k n : ℕ) (is : n ≡ number this) where
+  -- it takes at least as many
+  pub most_to : k ≤ n → IsMost (These xs) k → IsMost (These (xs ++ this ∷ [])) n
+  most_to low h = record {
+    reached = inr (this, mem_right this xs (this ∷ []) (inl refl), sym is);
+    most = λ l m. elim (in_more xs this l m) [
+      | inl x ↦ omega (arith, h.most l x)
+      | inr e ↦ omega (arith, ap number e)
+    ];
+  }
 
-this_longest : (this : Listed) (n : ℕ) (C : Listed → Type 0) → Longest (These (this ∷ [])) n C → C this
-this_longest this n C h = elim h.1 [ inl e ↦ subst C e h.3 | inr none ↦ absurd none ]
+  longest_to : (C : Listed → Type 0) → k ≤ n → IsMost (These xs) k
+      → Longest (These (xs ++ this ∷ [])) n C ↔ (((n ≡ k) × Longest (These xs) k C) ⊎ C this)
+  longest_to C low h = (
+    (λ x. elim (in_more xs this x.0 x.1) [
+      | inl old ↦ let same : n ≡ k = omega (arith, h.most x.0 old, x.2) in inl (same, (x.0, old, x.2 ∙ same, x.3))
+      | inr e ↦ inr (subst C (sym e) x.3)
+    ]),
+    (λ x. elim x [
+      | inl old ↦ (
+        old.1.0,
+        mem_left old.1.0 xs (this ∷ []) old.1.1,
+        old.1.2 ∙ sym old.0,
+        old.1.3,
+      )
+      | inr c ↦ (this, mem_right this xs (this ∷ []) (inl refl), sym is, c)
+    ]),
+  )
 
--- it takes fewer than those that are kept
-none_longer : (this : Listed) (k n : ℕ) (C : Listed → Type 0) → n ≡ number this → n < k
-    → Longest (These (this ∷ [])) k C → ⊥
-none_longer this k n C is few h = elim h.1 [
-  | inl e ↦ omega (arith, ap number e, h.2)
-  | inr none ↦ none
-]
+  -- it takes fewer
+  pub most_past : n ≤ k → IsMost (These xs) k → IsMost (These (xs ++ this ∷ [])) k
+  most_past few h = record {
+    reached = elim h.reached [ inl e ↦ inl e | inr r ↦ inr (r.0, mem_left r.0 xs (this ∷ []) r.1, r.2) ];
+    most = λ l m. elim (in_more xs this l m) [ inl x ↦ h.most l x | inr e ↦ omega (arith, ap number e) ];
+  }
 
-pub either_past : (this : Listed) (k n : ℕ) (C : Listed → Type 0) (old : Type 0) → n ≡ number this → n < k
-    → Either (These (this ∷ [])) k k C old → old
-either_past this k n C old is few h = elim h [ inl o ↦ o.1 | inr e ↦ absurd (none_longer this k n C is few e) ]
+  longest_past : (C : Listed → Type 0) → n < k → Longest (These (xs ++ this ∷ [])) k C ↔ Longest (These xs) k C
+  longest_past C few = (
+    (λ x. elim (in_more xs this x.0 x.1) [
+      | inl old ↦ (x.0, old, x.2, x.3)
+      | inr e ↦ absurd (omega (arith, ap number e, x.2))
+    ]),
+    (λ x. (x.0, mem_left x.0 xs (this ∷ []) x.1, x.2, x.3)),
+  )
+
+  pub most_max : (now : ℕ) → now ≡ max k n → IsMost (These xs) k → IsMost (These (xs ++ this ∷ [])) now
+  most_max now now_is h = elim (cases_lt k n) [
+    | inl less ↦ let same : n ≡ now = omega (arith, now_is) in
+        subst (IsMost (These (xs ++ this ∷ []))) same (most_to (omega arith) h)
+    | inr more ↦ let same : k ≡ now = omega (arith, now_is) in
+        subst (IsMost (These (xs ++ this ∷ []))) same (most_past more h)
+  ]
 
 -- ---- what is left of a list where a capture takes n pieces, and the kept ones k: nothing where it takes more, else
 -- all of it
@@ -80,10 +178,6 @@ left_in : {X : Type 0} (k n : ℕ) (list left : List X) → Left k n list left �
 left_in k n list left (inl l) x e h = absurd (omega (arith, l.0))
 left_in k n list left (inr l) x e h = subst (Member x) (sym l.1) h
 
-left_grown : {X : Type 0} (k n : ℕ) (list left : List X) → Left k n list left → k ≤ n
-left_grown k n list left (inl l) = omega (arith, l.0)
-left_grown k n list left (inr l) = omega (arith, l.0)
-
 -- ---- the moves of the greatest number
 any_member : (s : Move) (ms : List Move) → list_any (λ y. same_moves y s) ms ≡ true → Member s ms
 any_member s [] e = absurd (true≢false (sym e))
@@ -102,126 +196,64 @@ moves_once : (k n : ℕ) (moves left : List Move) → Left k n moves left → No
 moves_once k n moves left (inl l) once = subst NoRepeat (sym l.1) tt
 moves_once k n moves left (inr l) once = subst NoRepeat (sym l.1) once
 
--- it is not there yet, and is added
-pub moves_new : (this : Listed) (k n : ℕ) (moves left now : List Move) → n ≡ number this → Left k n moves left
-    → list_any (λ y. same_moves y this.step) left ≡ false → now ≡ left ++ this.step ∷ []
-    → MovesKept (These (this ∷ [])) k moves n now
-moves_new this k n moves left now n_is l out is = record {
-  grows = grows_to this k n n_is (left_grown k n moves left l);
-  exactly = λ m. (
-    (λ h. elim (mem_cases m left (this.step ∷ []) (subst (Member m) is h)) [
-      | inl old ↦ inl (left_from k n moves left l m old)
-      | inr (inl e) ↦ inr (longest_this this n (Makes m) n_is (sym e))
-      | inr (inr none) ↦ absurd none
-    ]),
-    (λ h. subst (Member m) (sym is) (elim h [
-      | inl old ↦ mem_left m left (this.step ∷ []) (left_in k n moves left l m old.0 old.1)
-      | inr e ↦ mem_right m left (this.step ∷ []) (inl (sym (this_longest this n (Makes m) e)))
-    ])),
-  );
-  once = λ once. subst NoRepeat (sym is) (once_append left (this.step ∷ []) (moves_once k n moves left l once)
-      ((λ h. h), tt) (λ x old last. elim last [
-        | inl e ↦ true≢false (sym (member_any this.step left (subst (λ z. Member z left) e old)) ∙ out)
-        | inr none ↦ none
-      ]));
-}
+paths_once : (k n : ℕ) (list left : List Listed) → Left k n list left → NoRepeat (steps_of list)
+    → NoRepeat (steps_of left)
+paths_once k n list left (inl l) once = subst (λ z. NoRepeat (steps_of z)) (sym l.1) tt
+paths_once k n list left (inr l) once = subst (λ z. NoRepeat (steps_of z)) (sym l.1) once
 
--- it is there already
-pub moves_old : (this : Listed) (k n : ℕ) (moves left now : List Move) → n ≡ number this → Left k n moves left
-    → list_any (λ y. same_moves y this.step) left ≡ true → now ≡ left → MovesKept (These (this ∷ [])) k moves n now
-moves_old this k n moves left now n_is l there is = record {
-  grows = grows_to this k n n_is (left_grown k n moves left l);
-  exactly = λ m. (
-    (λ h. inl (left_from k n moves left l m (subst (Member m) is h))),
-    (λ h. subst (Member m) (sym is) (elim h [
-      | inl old ↦ left_in k n moves left l m old.0 old.1
-      | inr e ↦ subst (λ z. Member z left) (this_longest this n (Makes m) e) (any_member this.step left there)
-    ])),
-  );
-  once = λ once. subst NoRepeat (sym is) (moves_once k n moves left l once);
-}
+-- it takes fewer
+module _ (xs : List Listed) (this : Listed) (k n : ℕ) (is : n ≡ number this) (few : n < k) where
+  past : IsMost (These xs) k → IsMost (These (xs ++ this ∷ [])) k
+  past h = most_past xs this k n is (omega (arith, few)) h
 
--- ---- one move that is sought
--- it is the one
-pub sought_here : (this : Listed) (m : Move) (k n : ℕ) (old found : Type 0) → n ≡ number this → k ≤ n → this.step ≡ m
-    → found → Sought (These (this ∷ [])) m k old m n found
-sought_here this m k n old found is low same so = record {
-  same = refl;
-  grows = grows_to this k n is low;
-  is = ((λ f. inr (longest_this this n (Makes m) is same)), (λ h. so));
-}
+  pub moves_past : (moves : List Move) → MovesHeld (These xs) k moves → MovesHeld (These (xs ++ this ∷ [])) k moves
+  moves_past moves h = record {
+    most = past h.most;
+    exactly = λ m. let both = longest_past xs this k n is (Makes m) few in
+        ((λ x. both.1 ((h.exactly m).0 x)), (λ x. (h.exactly m).1 (both.0 x)));
+    once = h.once;
+  }
 
--- what was so stays so, unless it takes more than was kept
-abbrev pub Stays : ℕ → ℕ → Type 0 → Type 0 → Type 0
-Stays k n old found = ((k < n) × (found → ⊥)) ⊎ ((k ≡ n) × (found ↔ old))
+  pub paths_past : (list : List Listed) → PathsHeld (These xs) k list → PathsHeld (These (xs ++ this ∷ [])) k list
+  paths_past list h = record {
+    most = past h.most;
+    from = λ l m. (longest_past xs this k n is (Is l) few).1 (h.from l m);
+    least = λ l x. h.least l ((longest_past xs this k n is (Is l) few).0 x);
+    once = h.once;
+  }
 
-stays_from : (k n : ℕ) (old found : Type 0) → Stays k n old found → found → (n ≡ k) × old
+  pub sought_past : (m still : Move) (found : Type 0) → Sought (These xs) m still k found
+      → Sought (These (xs ++ this ∷ [])) m still k found
+  sought_past m still found h = record {
+    same = h.same;
+    most = past h.most;
+    is = let both = longest_past xs this k n is (Makes m) few in
+        ((λ f. both.1 (h.is.0 f)), (λ x. h.is.1 (both.0 x)));
+  }
+
+  pub followed_past : (path still : List ℕ) (found : Option Move) → Followed (These xs) path still k found
+      → Followed (These (xs ++ this ∷ [])) path still k found
+  followed_past path still found h = record {
+    same = h.same;
+    most = past h.most;
+    is = λ m e. (longest_past xs this k n is (λ l. Makes m l × Along path l) few).1 (h.is m e);
+    some = λ x. h.some ((longest_past xs this k n is (Along path) few).0 x);
+  }
+
+-- what was found is forgotten if it takes more than was kept
+abbrev pub StillSo : ℕ → ℕ → Type 0 → Type 0 → Type 0
+StillSo k n old found = ((k < n) × (found → ⊥)) ⊎ ((k ≡ n) × (found ↔ old))
+
+stays_from : (k n : ℕ) (old found : Type 0) → StillSo k n old found → found → (n ≡ k) × old
 stays_from k n old found (inl h) f = absurd (h.1 f)
 stays_from k n old found (inr h) f = (sym h.0, h.1.0 f)
 
-stays_in : (k n : ℕ) (old found : Type 0) → Stays k n old found → n ≡ k → old → found
+stays_in : (k n : ℕ) (old found : Type 0) → StillSo k n old found → n ≡ k → old → found
 stays_in k n old found (inl h) e o = absurd (omega (arith, h.0))
 stays_in k n old found (inr h) e o = h.1.1 o
 
-stays_grown : (k n : ℕ) (old found : Type 0) → Stays k n old found → k ≤ n
-stays_grown k n old found (inl h) = omega (arith, h.0)
-stays_grown k n old found (inr h) = omega (arith, h.0)
-
--- it is another
-pub sought_other : (this : Listed) (m : Move) (k n : ℕ) (old found : Type 0) → n ≡ number this → Stays k n old found
-    → (this.step ≡ m → ⊥) → Sought (These (this ∷ [])) m k old m n found
-sought_other this m k n old found is stays apart = record {
-  same = refl;
-  grows = grows_to this k n is (stays_grown k n old found stays);
-  is = (
-    (λ f. inl (stays_from k n old found stays f)),
-    (λ h. elim h [
-      | inl o ↦ stays_in k n old found stays o.0 o.1
-      | inr e ↦ absurd (apart (this_longest this n (Makes m) e))
-    ]),
-  );
-}
-
--- the same by other names
-pub sought_as : (E : Listed → Type 0) (m still : Move) (k n now : ℕ) (old found : Type 0) → still ≡ m → now ≡ n
-    → Sought E m k old m n found → Sought E m k old still now found
-sought_as E m still k n now old found same top h = record {
-  same = same;
-  grows = subst (Grows E k) (sym top) h.grows;
-  is = subst (λ z. found ↔ Either E k z (Makes m) old) (sym top) h.is;
-}
-
-pub sought_same : (E F : Listed → Type 0) (m still : Move) (k now : ℕ) (old found : Type 0)
-    → ((l : Listed) → E l ↔ F l) → Sought E m k old still now found → Sought F m k old still now found
-sought_same E F m still k now old found same h = record {
-  same = h.same;
-  grows = grows_same E F k now same h.grows;
-  is = (
-    (λ f. either_same E F (Makes m) k now old same (h.is.0 f)),
-    (λ x. h.is.1 (either_same F E (Makes m) k now old (λ l. ((same l).1, (same l).0)) x)),
-  );
-}
-
--- ---- a path that is followed
--- it is this one
-pub followed_here : (this : Listed) (path : List ℕ) (k n : ℕ) (old : Option Move) → n ≡ number this → k ≤ n
-    → this.path ≡ path → Followed (These (this ∷ [])) path k old path n (Some this.step)
-followed_here this path k n old is low same = record {
-  same = refl;
-  grows = grows_to this k n is low;
-  is = λ m e. inr (longest_this this n (λ l. Makes m l × Along path l) is (some_move this.step m e, same));
-  some = λ h. refl;
-} where
-  some_move : (a b : Move) → Some a ≡ Some b → a ≡ b
-  some_move a b e = cc
-
--- it is another
 abbrev pub Keeps : ℕ → ℕ → Option Move → Option Move → Type 0
 Keeps k n old found = ((k < n) × (found ≡ None)) ⊎ ((k ≡ n) × (found ≡ old))
-
-keeps_grown : (k n : ℕ) (old found : Option Move) → Keeps k n old found → k ≤ n
-keeps_grown k n old found (inl h) = omega (arith, h.0)
-keeps_grown k n old found (inr h) = omega (arith, h.0)
 
 keeps_from : (k n : ℕ) (old found : Option Move) (m : Move) → Keeps k n old found → found ≡ Some m
     → (n ≡ k) × (old ≡ Some m)
@@ -232,64 +264,132 @@ keeps_in : (k n : ℕ) (old found : Option Move) → Keeps k n old found → n �
 keeps_in k n old found (inl h) e o = absurd (omega (arith, h.0))
 keeps_in k n old found (inr h) e o = subst IsSome (sym h.1) o
 
-pub followed_other : (this : Listed) (path : List ℕ) (k n : ℕ) (old found : Option Move) → n ≡ number this
-    → Keeps k n old found → (this.path ≡ path → ⊥) → Followed (These (this ∷ [])) path k old path n found
-followed_other this path k n old found is keeps apart = record {
-  same = refl;
-  grows = grows_to this k n is (keeps_grown k n old found keeps);
-  is = λ m e. inl (keeps_from k n old found m keeps e);
-  some = λ h. elim h [
-    | inl o ↦ keeps_in k n old found keeps o.0 o.1
-    | inr e ↦ absurd (apart (this_longest this n (Along path) e))
-  ];
-}
+-- a move in the list covers itself
+pub covers_itself : (l : Listed) (list : List Listed) → Member l list → Covered l list
+covers_itself l list m = (l, m, refl, lex_irrefl l.path)
 
--- the same by other names
-pub followed_as : (E : Listed → Type 0) (path still : List ℕ) (k n now : ℕ) (old found : Option Move) → still ≡ path
-    → now ≡ n → Followed E path k old path n found → Followed E path k old still now found
-followed_as E path still k n now old found same top h = record {
-  same = same;
-  grows = subst (Grows E k) (sym top) h.grows;
-  is = λ m e. subst (λ z. Either E k z (λ l. Makes m l × Along path l) (old ≡ Some m)) (sym top) (h.is m e);
-  some = λ x. h.some (subst (λ z. Either E k z (Along path) (IsSome old)) top x);
-}
+-- what covers a move that covers another covers it
+covered_then : (l : Listed) (one two : List Listed) → ((r : Listed) → Member r one → Covered r two) → Covered l one
+    → Covered l two
+covered_then l one two all h =
+    let r = all h.0 h.1 in (r.0, r.1, r.2 ∙ h.2, not_less l.path h.0.path r.0.path h.3 r.3)
 
-pub followed_same : (E F : Listed → Type 0) (path still : List ℕ) (k now : ℕ) (old found : Option Move)
-    → ((l : Listed) → E l ↔ F l) → Followed E path k old still now found → Followed F path k old still now found
-followed_same E F path still k now old found same h = record {
-  same = h.same;
-  grows = grows_same E F k now same h.grows;
-  is = λ m e. either_same E F (λ l. Makes m l × Along path l) k now (old ≡ Some m) same (h.is m e);
-  some = λ x. h.some (either_same F E (Along path) k now (IsSome old) (λ l. ((same l).1, (same l).0)) x);
-}
+-- it takes at least as many; what is kept takes now pieces
+module _ (xs : List Listed) (this : Listed) (k n now : ℕ) (is : n ≡ number this) (low : k ≤ n) (now_is : now ≡ n) where
+  top : IsMost (These xs) k → IsMost (These (xs ++ this ∷ [])) now
+  top h = subst (IsMost (These (xs ++ this ∷ []))) (sym now_is) (most_to xs this k n is low h)
 
--- ---- the least paths
-paths_once : (k n : ℕ) (list left : List Listed) → Left k n list left → NoRepeat (steps_of list)
-    → NoRepeat (steps_of left)
-paths_once k n list left (inl l) once = subst (λ z. NoRepeat (steps_of z)) (sym l.1) tt
-paths_once k n list left (inr l) once = subst (λ z. NoRepeat (steps_of z)) (sym l.1) once
+  longest : (C : Listed → Type 0) → IsMost (These xs) k
+      → Longest (These (xs ++ this ∷ [])) now C ↔ (((n ≡ k) × Longest (These xs) k C) ⊎ C this)
+  longest C h = subst (λ z. Longest (These (xs ++ this ∷ [])) z C ↔ (((n ≡ k) × Longest (These xs) k C) ⊎ C this))
+      (sym now_is) (longest_to xs this k n is C low h)
 
-pub paths_past : (this : Listed) (k n : ℕ) (list : List Listed) → n ≡ number this → n < k
-    → PathsKept (These (this ∷ [])) k list k list
-paths_past this k n list is few = record {
-  grows = grows_past this k n is (omega (arith, few));
-  from = λ l m. inl (refl, m);
-  least = λ l h. covers_itself l list (either_past this k n (Is l) (Member l list) is few h);
-  once = λ n. n;
-}
+  -- it is not there yet, and is added
+  pub moves_new : (moves left new : List Move) → Left k n moves left
+      → list_any (λ y. same_moves y this.step) left ≡ false → new ≡ left ++ this.step ∷ []
+      → MovesHeld (These xs) k moves → MovesHeld (These (xs ++ this ∷ [])) now new
+  moves_new moves left new l out new_is h = record {
+    most = top h.most;
+    exactly = λ m. (
+      (λ x. (longest (Makes m) h.most).1 (elim (mem_cases m left (this.step ∷ []) (subst (Member m) new_is x)) [
+        | inl old ↦ let o = left_from k n moves left l m old in inl (o.0, (h.exactly m).0 o.1)
+        | inr (inl e) ↦ inr (sym e)
+        | inr (inr none) ↦ absurd none
+      ])),
+      (λ x. subst (Member m) (sym new_is) (elim ((longest (Makes m) h.most).0 x) [
+        | inl old ↦ mem_left m left (this.step ∷ []) (left_in k n moves left l m old.0 ((h.exactly m).1 old.1))
+        | inr e ↦ mem_right m left (this.step ∷ []) (inl (sym e))
+      ])),
+    );
+    once = subst NoRepeat (sym new_is) (once_append left (this.step ∷ []) (moves_once k n moves left l h.once)
+        ((λ h. h), tt) (λ x old last. elim last [
+          | inl e ↦ true≢false (sym (member_any this.step left (subst (λ z. Member z left) e old)) ∙ out)
+          | inr none ↦ none
+        ]));
+  }
 
--- it joins what is left
-pub paths_join : (this : Listed) (k n : ℕ) (list left now : List Listed) → n ≡ number this → Left k n list left
-    → TakenIn this left now → PathsKept (These (this ∷ [])) k list n now
-paths_join this k n list left now n_is l h = record {
-  grows = grows_to this k n n_is (left_grown k n list left l);
-  from = λ x m. elim (h.from x m) [
-    | inl e ↦ inr (longest_this this n (Is x) n_is (sym e))
-    | inr old ↦ inl (left_from k n list left l x old)
-  ];
-  least = λ x y. h.least x (elim y [
-    | inl old ↦ inr (left_in k n list left l x old.0 old.1)
-    | inr e ↦ inl (sym (this_longest this n (Is x) e))
-  ]);
-  once = λ once. h.once (paths_once k n list left l once);
-}
+  -- it is there already
+  pub moves_old : (moves left : List Move) → Left k n moves left
+      → list_any (λ y. same_moves y this.step) left ≡ true
+      → MovesHeld (These xs) k moves → MovesHeld (These (xs ++ this ∷ [])) now left
+  moves_old moves left l there h = record {
+    most = top h.most;
+    exactly = λ m. (
+      (λ x. let o = left_from k n moves left l m x in (longest (Makes m) h.most).1 (inl (o.0, (h.exactly m).0 o.1))),
+      (λ x. elim ((longest (Makes m) h.most).0 x) [
+        | inl old ↦ left_in k n moves left l m old.0 ((h.exactly m).1 old.1)
+        | inr e ↦ subst (λ z. Member z left) e (any_member this.step left there)
+      ]),
+    );
+    once = moves_once k n moves left l h.once;
+  }
+
+  -- its path joins what is left
+  pub paths_join : (list left new : List Listed) → Left k n list left → TakenIn this left new
+      → PathsHeld (These xs) k list → PathsHeld (These (xs ++ this ∷ [])) now new
+  paths_join list left new l joined h = record {
+    most = top h.most;
+    from = λ x m. (longest (Is x) h.most).1 (elim (joined.from x m) [
+      | inl e ↦ inr (sym e)
+      | inr old ↦ let o = left_from k n list left l x old in inl (o.0, h.from x o.1)
+    ]);
+    least = λ x y. elim ((longest (Is x) h.most).0 y) [
+      | inl old ↦ covered_then x list new
+          (λ r m. joined.least r (inr (left_in k n list left l r old.0 m))) (h.least x old.1)
+      | inr e ↦ joined.least x (inl (sym e))
+    ];
+    once = joined.once (paths_once k n list left l h.once);
+  }
+
+  -- it is the move that is sought, or another
+  pub sought_here : (m still new : Move) (old found : Type 0) → new ≡ still → this.step ≡ new → found
+      → Sought (These xs) m still k old → Sought (These (xs ++ this ∷ [])) m new now found
+  sought_here m still new old found new_is same so h = record {
+    same = new_is ∙ h.same;
+    most = top h.most;
+    is = (
+      (λ f. (longest (Makes m) h.most).1 (inr (same ∙ (new_is ∙ h.same)))),
+      (λ x. so),
+    );
+  }
+
+  pub sought_other : (m still new : Move) (old found : Type 0) → new ≡ still → StillSo k n old found
+      → (this.step ≡ new → ⊥) → Sought (These xs) m still k old → Sought (These (xs ++ this ∷ [])) m new now found
+  sought_other m still new old found new_is stays apart h = record {
+    same = new_is ∙ h.same;
+    most = top h.most;
+    is = (
+      (λ f. let o = stays_from k n old found stays f in (longest (Makes m) h.most).1 (inl (o.0, h.is.0 o.1))),
+      (λ x. elim ((longest (Makes m) h.most).0 x) [
+        | inl o ↦ stays_in k n old found stays o.0 (h.is.1 o.1)
+        | inr e ↦ absurd (apart (e ∙ sym (new_is ∙ h.same)))
+      ]),
+    );
+  }
+
+  -- it is made on the path that is followed, or on another
+  pub followed_here : (path still new : List ℕ) (old : Option Move) → new ≡ still → this.path ≡ new
+      → Followed (These xs) path still k old → Followed (These (xs ++ this ∷ [])) path new now (Some this.step)
+  followed_here path still new old new_is same h = record {
+    same = new_is ∙ h.same;
+    most = top h.most;
+    is = λ m e. (longest (λ l. Makes m l × Along path l) h.most).1
+        (inr (some_move this.step m e, same ∙ (new_is ∙ h.same)));
+    some = λ x. refl;
+  } where
+    some_move : (a b : Move) → Some a ≡ Some b → a ≡ b
+    some_move a b e = cc
+
+  pub followed_other : (path still new : List ℕ) (old found : Option Move) → new ≡ still → Keeps k n old found
+      → (this.path ≡ new → ⊥) → Followed (These xs) path still k old
+      → Followed (These (xs ++ this ∷ [])) path new now found
+  followed_other path still new old found new_is keeps apart h = record {
+    same = new_is ∙ h.same;
+    most = top h.most;
+    is = λ m e. let o = keeps_from k n old found m keeps e in
+        (longest (λ l. Makes m l × Along path l) h.most).1 (inl (o.0, h.is m o.1));
+    some = λ x. elim ((longest (Along path) h.most).0 x) [
+      | inl o ↦ keeps_in k n old found keeps o.0 (h.some o.1)
+      | inr e ↦ absurd (apart (e ∙ sym (new_is ∙ h.same)))
+    ];
+  }

@@ -12,7 +12,7 @@ use Rattle.dw_moves.specs.inner.MemberLemmas.{mem_map, mem_map_back}
 use Rattle.dw_moves.specs.Order.{LexLess, Listed}
 use Rattle.dw_moves.specs.inner.Walks.{steps_of, entries_listed, Covered, TakenIn}
 use Rattle.dw_moves.specs.inner.LexLemmas.{lex_irrefl, lex_asym}
-use Rattle.dw_moves.specs.inner.KeptLemmas.{covers_itself}
+use Rattle.dw_moves.proofs.KeeperLemmas.{covers_itself}
 use Rattle.dw_moves.proofs.StepLemmas.{none_some}
 
 -- a move with a path, as an entry has it

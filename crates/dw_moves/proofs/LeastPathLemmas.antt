@@ -10,8 +10,7 @@ use Rattle.dw_board.specs.Lists.{Member, NoRepeat}
 use Rattle.dw_moves.specs.inner.MemberLemmas.{mem_map, mem_map_back}
 use Rattle.dw_moves.specs.Order.{LexLess, LandsAt, IsLeastPath, Listed, HasLeastPath}
 use Rattle.dw_moves.specs.inner.Plain.{Adds}
-use Rattle.dw_moves.specs.inner.KeptLemmas.{Is}
-use Rattle.dw_moves.specs.inner.Walks.{Captures, Grows, Longest, PathsKept, HasAll, number, quietly_listed, steps_of}
+use Rattle.dw_moves.specs.inner.Walks.{Captures, HasAll, IsMost, PathsHeld, number, quietly_listed, steps_of}
 use Rattle.dw_moves.proofs.FilledLemmas.{best_none, best_of, captured, legal_count, legal_from_capture, legal_path}
 use Rattle.dw_moves.proofs.FilledLemmas.{path_captures, quiet_from_legal}
 use Rattle.dw_moves.proofs.LegalMoveLemmas.{best_only}
@@ -41,14 +40,11 @@ path_by : (g : Geometry) (p : Placement) (m : Move) (k : ℕ) (ts : List ℕ) �
 path_by g p m zero ts some h = absurd (omega arith)
 path_by g p m (suc k) ts some h = h
 
-no_member : (list : List Listed) → list ≡ [] → (l : Listed) → Member l list → ⊥
-no_member list e l h = rw e at h
-
 -- what is kept of the captures of the greatest number is the least of a move's paths
-pub kept_least : (g : Geometry) (p : Placement) (k : ℕ) (list kept : List Listed) → 0 < k → IsBest g p k
-    → NoRepeat (steps_of kept) → PathsKept (Captures g p) 0 list k kept → (l : Listed) → Member l kept
+pub kept_least : (g : Geometry) (p : Placement) (k : ℕ) (kept : List Listed) → 0 < k → IsBest g p k
+    → NoRepeat (steps_of kept) → PathsHeld (Captures g p) k kept → (l : Listed) → Member l kept
     → Captures g p l → number l ≡ k → HasLeastPath g p l
-kept_least g p k list kept some best once h l m c count =
+kept_least g p k kept some best once h l m c count =
     let leads : IsPathOf g p l.step k c.landings = subst (λ z. IsPathOf g p l.step z c.landings) count c.leads in (
       c.landings,
       record {
@@ -57,7 +53,7 @@ kept_least g p k list kept some best once h l m c count =
             let path : IsPathOf g p l.step k others = path_by g p l.step k others some
             (subst (λ z. LandsAt g p l.step z others) (best_only g p o.0 k o.1 best) o.2) in
             let other : Listed = record { step = l.step; path = l.step.from ∷ others } in
-            let r = h.least other (inr (path_captures g p k l.step others some path)) in
+            let r = h.least other (path_captures g p k l.step others some path) in
             let same : l ≡ r.0 = once_same kept once l r.0 m r.1 (sym r.2) in
             r.3 (subst (LexLess (l.step.from ∷ others)) (sym c.path ∙ ap (λ (z : Listed). z.path) same)
             (inr (refl, less)));
@@ -66,24 +62,21 @@ kept_least g p k list kept some best once h l m c count =
     )
 
 -- something can be taken
-pub captures_all : (g : Geometry) (p : Placement) (k : ℕ) (list kept : List Listed) → list ≡ [] → 0 < k
-    → PathsKept (Captures g p) 0 list k kept → HasAll g p kept
-captures_all g p k list kept e some h =
-    let best : IsBest g p k = best_of g p k h.grows in
-    let once : NoRepeat (steps_of kept) = h.once (subst (λ z. NoRepeat (steps_of z)) (sym e) tt) in
-    let longest : (l : Listed) → Member l kept → Longest (Captures g p) k (Is l) = λ l m. elim (h.from l m)
-    [ inl old ↦ absurd (no_member list e l old.1) | inr f ↦ f ] in
+pub captures_all : (g : Geometry) (p : Placement) (k : ℕ) (kept : List Listed) → 0 < k
+    → PathsHeld (Captures g p) k kept → HasAll g p kept
+captures_all g p k kept some h =
+    let best : IsBest g p k = best_of g p k h.most in
     record {
-      legal = λ l m. let f = longest l m in
+      legal = λ l m. let f = h.from l m in
           legal_from_capture g p k l.step best (f.0, f.1, f.2, ap (λ (z : Listed). z.step) f.3);
-      paths = λ l m. let f = longest l m in
-          kept_least g p k list kept some best once h l m (subst (Captures g p) f.3 f.1) (ap number (sym f.3) ∙ f.2);
+      paths = λ l m. let f = h.from l m in
+          kept_least g p k kept some best h.once h l m (subst (Captures g p) f.3 f.1) (ap number (sym f.3) ∙ f.2);
       all = λ m legal.
           let way = legal_path g p k m some best legal in
           let this : Listed = record { step = m; path = m.from ∷ way.0 } in
-          let r = h.least this (inr (path_captures g p k m way.0 some way.1)) in
+          let r = h.least this (path_captures g p k m way.0 some way.1) in
           subst (λ z. Member z (steps_of kept)) r.2 (mem_map (λ (z : Listed). z.step) r.0 kept r.1);
-      once = once;
+      once = h.once;
     }
 
 -- the only path of a quiet move
@@ -131,7 +124,7 @@ made_of_moves [] = refl
 made_of_moves (q ∷ pairs) = ap (λ z. quietly_listed q.0 q.1 ∷ z) (made_of_moves pairs)
 
 -- with something to take a capture is found
-pub some_led : (g : Geometry) (p : Placement) (k : ℕ) → CanCapture g p → Grows (Captures g p) 0 k → 0 < k
+pub some_led : (g : Geometry) (p : Placement) (k : ℕ) → CanCapture g p → IsMost (Captures g p) k → 0 < k
 some_led g p k can h = let c = captured g p can.0 can.1 can.2 can.3 can.4 in
     omega (arith, c.1.some, h.most c.0 c.1)
 

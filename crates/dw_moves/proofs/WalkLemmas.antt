@@ -50,11 +50,11 @@ pub record Onto (g : Geometry) (p : Placement) (piece : Piece) (b : Listed) (c :
   pub rest : GoesOn g p piece (onward b c t) l
 
 -- the squares behind c up to this one were walked, and the others come next
-pub record Landed {K : Type 0} (offered : List Listed → K → K → Type 0) (g : Geometry) (p : Placement) (piece : Piece)
+pub record Landed {K : Type 0} (holds : K → List Listed → K → Type 0) (g : Geometry) (p : Placement) (piece : Piece)
     (b : Listed) (c : ℕ) (d : Dir) (at : ℕ) (k now : K) : Type 0 where
   pub passed : List ℕ
   pub all : passed ++ landings_for piece.kind p (ray g at d) ≡ landings_for piece.kind p (ray g c d)
-  pub walked : Offers offered (Onto g p piece b c passed) k now
+  pub walked : Offers holds (Onto g p piece b c passed) k now
 
 module _ (g : Geometry) (p : Placement) (piece : Piece) (b : Listed) where
   -- a chain that ends where it begins
@@ -130,48 +130,47 @@ module _ (g : Geometry) (p : Placement) (piece : Piece) (b : Listed) where
   goes_onward : (l : Listed) → GoesOn g p piece b l → Onward g p piece b l
   goes_onward l h = elim (goes_some l h) [ inl f ↦ by_dir l f.0 f.1 | inr e ↦ inr e ]
 
-  module _ (K : Type 0) (offered : List Listed → K → K → Type 0)
-      (both : (xs ys : List Listed) (a b c : K) → offered xs a b → offered ys b c → offered (xs ++ ys) a c) where
+  module _ (K : Type 0) (holds : K → List Listed → K → Type 0) where
     -- all directions were walked, and what ends here was offered
-    pub walked_all : (k0 k1 k2 k3 k4 k : K) → Offers offered (GoesTowards g p piece b UpLeft) k0 k1
-        → Offers offered (GoesTowards g p piece b UpRight) k1 k2
-        → Offers offered (GoesTowards g p piece b DownLeft) k2 k3
-        → Offers offered (GoesTowards g p piece b DownRight) k3 k4
-        → Offers offered (λ l. l ≡ b) k4 k → Offers offered (GoesOn g p piece b) k0 k
+    pub walked_all : (k0 k1 k2 k3 k4 k : K) → Offers holds (GoesTowards g p piece b UpLeft) k0 k1
+        → Offers holds (GoesTowards g p piece b UpRight) k1 k2
+        → Offers holds (GoesTowards g p piece b DownLeft) k2 k3
+        → Offers holds (GoesTowards g p piece b DownRight) k3 k4
+        → Offers holds (λ l. l ≡ b) k4 k → Offers holds (GoesOn g p piece b) k0 k
     walked_all k0 k1 k2 k3 k4 k h1 h2 h3 h4 h =
         let T : Dir → Listed → Type 0 = λ d l. GoesTowards g p piece b d l in
-        let two = offers_then K offered both (T UpLeft) (T UpRight) k0 k1 k2 h1 h2 in
-        let three = offers_then K offered both (λ l. T UpLeft l ⊎ T UpRight l) (T DownLeft) k0 k2 k3 two h3 in
-        let four = offers_then K offered both (λ l. (T UpLeft l ⊎ T UpRight l) ⊎ T DownLeft l) (T DownRight) k0 k3 k4
+        let two = offers_then K holds (T UpLeft) (T UpRight) k0 k1 k2 h1 h2 in
+        let three = offers_then K holds (λ l. T UpLeft l ⊎ T UpRight l) (T DownLeft) k0 k2 k3 two h3 in
+        let four = offers_then K holds (λ l. (T UpLeft l ⊎ T UpRight l) ⊎ T DownLeft l) (T DownRight) k0 k3 k4
         three h4 in
-        offers_same K offered (Onward g p piece b) (GoesOn g p piece b) k0 k onward_goes goes_onward
-        (offers_then K offered both (λ l. ((T UpLeft l ⊎ T UpRight l) ⊎ T DownLeft l) ⊎ T DownRight l) (λ l. l ≡ b) k0
+        offers_same K holds (Onward g p piece b) (GoesOn g p piece b) k0 k onward_goes goes_onward
+        (offers_then K holds (λ l. ((T UpLeft l ⊎ T UpRight l) ⊎ T DownLeft l) ⊎ T DownRight l) (λ l. l ≡ b) k0
         k4 k four h)
 
     -- what can not jump on ends here
     pub ends_there : (k k' : K) → ((c t : ℕ) → fin.contains b.step.taken c ≡ false → Jump g p piece b.step.to c t → ⊥)
-        → Offers offered (λ l. l ≡ b) k k' → Offers offered (GoesOn g p piece b) k k'
-    ends_there k k' none h = offers_same K offered (λ l. l ≡ b) (GoesOn g p piece b) k k' ends_here
+        → Offers holds (λ l. l ≡ b) k k' → Offers holds (GoesOn g p piece b) k k'
+    ends_there k k' none h = offers_same K holds (λ l. l ≡ b) (GoesOn g p piece b) k k' ends_here
         (λ l f. elim (goes_some l f) [
           | inl j ↦ absurd (none j.1.c j.1.t j.1.fresh (in_direction g p piece b.step.to j.0 (j.1.c, j.1.t) j.1.jump))
           | inr e ↦ e
         ]) h
 
-    pub landed_none : (c : ℕ) (d : Dir) (k : K) → offered [] k k → Landed offered g p piece b c d c k k
-    landed_none c d k nothing = record {
+    pub landed_none : (c : ℕ) (d : Dir) (k : K) → Landed holds g p piece b c d c k k
+    landed_none c d k = record {
       passed = [];
       all = refl;
-      walked = offers_none K offered (Onto g p piece b c []) k k (λ l h. h.lands) nothing;
+      walked = offers_none K holds (Onto g p piece b c []) k k (λ l h. h.lands) (λ first xs h. h);
     }
 
     -- one square more
-    onto_more : (c : ℕ) (passed : List ℕ) (t : ℕ) (k now new : K) → Offers offered (Onto g p piece b c passed) k now
-        → Offers offered (GoesOn g p piece (onward b c t)) now new
-        → Offers offered (Onto g p piece b c (passed ++ t ∷ [])) k new
+    onto_more : (c : ℕ) (passed : List ℕ) (t : ℕ) (k now new : K) → Offers holds (Onto g p piece b c passed) k now
+        → Offers holds (GoesOn g p piece (onward b c t)) now new
+        → Offers holds (Onto g p piece b c (passed ++ t ∷ [])) k new
     onto_more c passed t k now new h rest =
         let E : Listed → Type 0 = Onto g p piece b c passed in
         let F : Listed → Type 0 = GoesOn g p piece (onward b c t) in
-        offers_same K offered (λ l. E l ⊎ F l) (Onto g p piece b c (passed ++ t ∷ [])) k new
+        offers_same K holds (λ l. E l ⊎ F l) (Onto g p piece b c (passed ++ t ∷ [])) k new
         (λ l x. elim x [
           | inl old ↦ record { t = old.t; lands = mem_left old.t passed (t ∷ []) old.lands; rest = old.rest }
           | inr new ↦ record { t = t; lands = mem_right t passed (t ∷ []) (inl refl); rest = new }
@@ -181,11 +180,11 @@ module _ (g : Geometry) (p : Placement) (piece : Piece) (b : Listed) where
           | inr (inl e) ↦ inr (subst (λ z. GoesOn g p piece (onward b c z) l) e f.rest)
           | inr (inr none) ↦ absurd none
         ])
-        (offers_then K offered both E F k now new h rest)
+        (offers_then K holds E F k now new h rest)
 
     -- a king goes on from there
-    pub landed_more : (c : ℕ) (d : Dir) (at t : ℕ) (k now new : K) → piece.kind ≡ King → Landed offered g p piece b c d at k now
-        → Freed g p at d t → Offers offered (GoesOn g p piece (onward b c t)) now new → Landed offered g p piece b c d t k new
+    pub landed_more : (c : ℕ) (d : Dir) (at t : ℕ) (k now new : K) → piece.kind ≡ King → Landed holds g p piece b c d at k now
+        → Freed g p at d t → Offers holds (GoesOn g p piece (onward b c t)) now new → Landed holds g p piece b c d t k new
     landed_more c d at t k now new king h f rest =
         let one : landings_for piece.kind p (ray g at d) ≡ t ∷ landings_for piece.kind p (ray g t d) =
         subst (λ z. landings_for z p (ray g at d) ≡ t ∷ landings_for z p (ray g t d)) (sym king)
@@ -198,31 +197,31 @@ module _ (g : Geometry) (p : Placement) (piece : Piece) (b : Listed) where
         }
 
     -- a man lands on one square only
-    pub landed_last : (c : ℕ) (d : Dir) (at t : ℕ) (k now new : K) → piece.kind ≡ Man → Landed offered g p piece b c d at k now
-        → Freed g p at d t → Offers offered (GoesOn g p piece (onward b c t)) now new
-        → Offers offered (Onto g p piece b c (landings_for piece.kind p (ray g c d))) k new
+    pub landed_last : (c : ℕ) (d : Dir) (at t : ℕ) (k now new : K) → piece.kind ≡ Man → Landed holds g p piece b c d at k now
+        → Freed g p at d t → Offers holds (GoesOn g p piece (onward b c t)) now new
+        → Offers holds (Onto g p piece b c (landings_for piece.kind p (ray g c d))) k new
     landed_last c d at t k now new man h f rest =
         let one : landings_for piece.kind p (ray g at d) ≡ t ∷ [] =
         subst (λ z. landings_for z p (ray g at d) ≡ t ∷ []) (sym man)
         (ap (landings_for Man p) f.ray_is ∙ run_man p t (ray g t d) f.free) in
-        subst (λ z. Offers offered (Onto g p piece b c z) k new) (ap (λ z. h.passed ++ z) (sym one) ∙ h.all)
+        subst (λ z. Offers holds (Onto g p piece b c z) k new) (ap (λ z. h.passed ++ z) (sym one) ∙ h.all)
         (onto_more c h.passed t k now new h.walked rest)
 
     -- no square comes next
-    pub landed_stop : IsBoard g → (c : ℕ) (d : Dir) (at : ℕ) (k now : K) → OnBoard g at → Landed offered g p piece b c d at k now
-        → free_step g p at d ≡ None → Offers offered (Onto g p piece b c (landings_for piece.kind p (ray g c d))) k now
+    pub landed_stop : IsBoard g → (c : ℕ) (d : Dir) (at : ℕ) (k now : K) → OnBoard g at → Landed holds g p piece b c d at k now
+        → free_step g p at d ≡ None → Offers holds (Onto g p piece b c (landings_for piece.kind p (ray g c d))) k now
     landed_stop board c d at k now on h stop =
-        subst (λ z. Offers offered (Onto g p piece b c z) k now) (sym (append_none h.passed)
+        subst (λ z. Offers holds (Onto g p piece b c z) k now) (sym (append_none h.passed)
         ∙ (ap (λ z. h.passed ++ z) (sym (run_stop g board piece.kind p at d on stop)) ∙ h.all)) h.walked
 
     -- all landings were walked
     pub onto_towards : (c : ℕ) (d : Dir) (k new : K) → TakesOver piece.kind g p piece.side b.step.to d c
         → fin.contains b.step.taken c ≡ false
-        → Offers offered (Onto g p piece b c (landings_for piece.kind p (ray g c d))) k new
-        → Offers offered (GoesTowards g p piece b d) k new
+        → Offers holds (Onto g p piece b c (landings_for piece.kind p (ray g c d))) k new
+        → Offers holds (GoesTowards g p piece b d) k new
     onto_towards c d k new takes fresh h =
         let ts : List ℕ = landings_for piece.kind p (ray g c d) in
-        offers_same K offered (Onto g p piece b c ts) (GoesTowards g p piece b d) k new
+        offers_same K holds (Onto g p piece b c ts) (GoesTowards g p piece b d) k new
         (λ l o. record {
           c = c;
           t = o.t;
@@ -242,15 +241,15 @@ module _ (g : Geometry) (p : Placement) (piece : Piece) (b : Listed) where
         h
 
     -- nothing is taken in this direction, or what was taken before
-    pub towards_none : (d : Dir) (k : K) → offered [] k k
+    pub towards_none : (d : Dir) (k : K)
         → takes_for piece.kind p piece.side (ray g b.step.to d) ≡ no_jumps
-        → Offers offered (GoesTowards g p piece b d) k k
-    towards_none d k nothing none = offers_none K offered (GoesTowards g p piece b d) k k
-        (λ l f. subst (Member (f.c, f.t)) none f.jump) nothing
+        → Offers holds (GoesTowards g p piece b d) k k
+    towards_none d k none = offers_none K holds (GoesTowards g p piece b d) k k
+        (λ l f. subst (Member (f.c, f.t)) none f.jump) (λ first xs h. h)
 
-    pub towards_taken : (c : ℕ) (d : Dir) (k : K) → offered [] k k → TakesOver piece.kind g p piece.side b.step.to d c
-        → fin.contains b.step.taken c ≡ true → Offers offered (GoesTowards g p piece b d) k k
-    towards_taken c d k nothing takes there = offers_none K offered (GoesTowards g p piece b d) k k (λ l f.
+    pub towards_taken : (c : ℕ) (d : Dir) (k : K) → TakesOver piece.kind g p piece.side b.step.to d c
+        → fin.contains b.step.taken c ≡ true → Offers holds (GoesTowards g p piece b d) k k
+    towards_taken c d k takes there = offers_none K holds (GoesTowards g p piece b d) k k (λ l f.
         let r = mem_map_back (λ t. (c, t)) (f.c, f.t) (landings_for piece.kind p (ray g c d))
         (subst (Member (f.c, f.t)) takes f.jump) in
-        true≢false (sym there ∙ (ap (fin.contains b.step.taken) (sym (ap over_of r.2)) ∙ f.fresh))) nothing
+        true≢false (sym there ∙ (ap (fin.contains b.step.taken) (sym (ap over_of r.2)) ∙ f.fresh))) (λ first xs h. h)

@@ -2,7 +2,6 @@
 pub mod MemberLemmas
 pub mod Walks
 pub mod LexLemmas
-pub mod KeptLemmas
 pub mod Glance
 pub mod Plain
 pub mod Shelter

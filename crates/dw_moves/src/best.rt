@@ -1,8 +1,7 @@
 //! The greatest number of pieces that can be taken.
 ghost use Rattle.std.specs.Prelude.{◌≤◌, []};
 ghost use Rattle.dw_moves.specs.Moves.{IsBest};
-ghost use Rattle.dw_moves.specs.inner.Walks.{Grows};
-ghost use Rattle.dw_moves.specs.inner.KeptLemmas.{These, grows_none, grows_both};
+ghost use Rattle.dw_moves.specs.inner.Walks.{IsMost, These};
 
 pub use crate::glance::has_move;
 use crate::keeper::Keeper;
@@ -38,7 +37,7 @@ struct Greatest {
 impl<B: Board> Keeper<B> for Greatest {
     type Fault = Infallible;
 
-    ghost offered = { λ xs a b. Grows (These xs) a.most b.most };
+    ghost holds = { λ first xs k. IsMost (These xs) k.most };
 
     ghost is_on = { λ k path. Unit {0} };
 
@@ -52,8 +51,4 @@ impl<B: Board> Keeper<B> for Greatest {
         self.most = self.most.max(count);
         Ok(())
     }
-
-    ghost nothing = { λ k. grows_none (These []) k.most (λ l m. m) };
-
-    ghost both = { λ xs ys a b c. grows_both xs ys a.most b.most c.most };
 }

@@ -1,11 +1,9 @@
 //! The capture of which a list of squares is a path.
 ghost use Rattle.std.specs.Prelude.{◌≡◌, ◌↔◌, Some, IfSome, IsTrue};
-ghost use Rattle.std.proofs.Common.{◌∙◌};
 ghost use Rattle.dw_moves.specs.Moves as of;
 ghost use Rattle.dw_moves.specs.Moves.{Legal};
 ghost use Rattle.dw_moves.specs.Order.{IsPathFor};
-ghost use Rattle.dw_moves.specs.inner.Walks.{Followed};
-ghost use Rattle.dw_moves.specs.inner.KeptLemmas.{These, followed_none, followed_both};
+ghost use Rattle.dw_moves.specs.inner.Walks.{Followed, These};
 
 use crate::keeper::Keeper;
 use crate::moves::{LONGEST_PATH, Move};
@@ -44,7 +42,7 @@ struct Follower<'a, B: Board> {
 impl<'a, B: Board> Keeper<B> for Follower<'a, B> {
     type Fault = Infallible;
 
-    ghost offered = { λ xs a b. Followed (These xs) a.squares.now a.most a.found b.squares.now b.most b.found };
+    ghost holds = { λ first xs k. Followed (These xs) first.squares.now k.squares.now k.most k.found };
 
     ghost is_on = { λ k path. k.path.items ≡ path };
 
@@ -74,11 +72,6 @@ impl<'a, B: Board> Keeper<B> for Follower<'a, B> {
         }
         Ok(())
     }
-
-    ghost nothing = { λ k. followed_none k.squares.now k.most k.found };
-
-    ghost both = { λ xs ys a b c. followed_both xs ys a.squares.now b.squares.now c.squares.now a.most b.most c.most
-        a.found b.found c.found };
 }
 
 /// Whether two lists of squares are the same.

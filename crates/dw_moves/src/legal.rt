@@ -1,9 +1,9 @@
 //! Legal moves.
-ghost use Rattle.std.specs.Prelude.{◌≡◌, ◌↔◌, ◌≤◌, ℕ, List, [], ◌∷◌, IfOk, OnOk, OnErr, IsTrue};
+ghost use Rattle.std.specs.Prelude.{◌≡◌, ◌↔◌, ◌≤◌, ℕ, List, [], ◌∷◌, ◌++◌, IfOk, OnOk, OnErr, IsTrue};
 ghost use Rattle.std.specs.FinSet as set;
 ghost use Rattle.dw_moves.specs.Moves.{Legal, AreLegal};
-ghost use Rattle.dw_moves.specs.inner.Walks.{MovesKept, Sought};
-ghost use Rattle.dw_moves.specs.inner.KeptLemmas.{These, moves_none, moves_both, sought_none, sought_both};
+ghost use Rattle.dw_moves.specs.Order.{Listed};
+ghost use Rattle.dw_moves.specs.inner.Walks.{MovesHeld, Sought, These};
 
 use crate::glance::can_capture;
 use crate::keeper::Keeper;
@@ -93,8 +93,9 @@ impl<B: Board> LongestMoves<B> {
     fn keep(&mut self, mv: Move<B>, count: u8) -> Result<(), AllocError>
         requires counted { count ≡ set.len mv.taken }
         requires longest { self.old.most ≤ count }
-        ensures { OnOk result ((path : List ℕ) → MovesKept (These (record { step = mv; path = path } ∷ []))
-            self.old.most self.old.moves.items self.new.most self.new.moves.items) }
+        ensures { OnOk result ((xs : List Listed) (path : List ℕ) → MovesHeld (These xs) self.old.most
+            self.old.moves.items → MovesHeld (These (xs ++ record { step = mv; path = path } ∷ [])) self.new.most
+            self.new.moves.items) }
     {
         if self.most < count {
             self.moves.clear();
@@ -110,7 +111,7 @@ impl<B: Board> LongestMoves<B> {
 impl<B: Board> Keeper<B> for LongestMoves<B> {
     type Fault = AllocError;
 
-    ghost offered = { λ xs a b. MovesKept (These xs) a.most a.moves.items b.most b.moves.items };
+    ghost holds = { λ first xs k. MovesHeld (These xs) k.most k.moves.items };
 
     ghost is_on = { λ k path. Unit {0} };
 
@@ -127,10 +128,6 @@ impl<B: Board> Keeper<B> for LongestMoves<B> {
         }
         self.keep(*mv, count)
     }
-
-    ghost nothing = { λ k. moves_none k.most k.moves.items };
-
-    ghost both = { λ xs ys a b c. moves_both xs ys a.most b.most c.most a.moves.items b.moves.items c.moves.items };
 }
 
 /// Looks for one move among those that take the greatest number of pieces so far.
@@ -144,7 +141,7 @@ struct Finder<B: Board> {
 impl<B: Board> Keeper<B> for Finder<B> {
     type Fault = Infallible;
 
-    ghost offered = { λ xs a b. Sought (These xs) a.wanted a.most (IsTrue a.found) b.wanted b.most (IsTrue b.found) };
+    ghost holds = { λ first xs k. Sought (These xs) first.wanted k.wanted k.most (IsTrue k.found) };
 
     ghost is_on = { λ k path. Unit {0} };
 
@@ -167,9 +164,4 @@ impl<B: Board> Keeper<B> for Finder<B> {
         }
         Ok(())
     }
-
-    ghost nothing = { λ k. sought_none k.wanted k.most (IsTrue k.found) };
-
-    ghost both = { λ xs ys a b c. sought_both xs ys a.wanted b.wanted c.wanted a.most b.most c.most (IsTrue a.found)
-        (IsTrue b.found) (IsTrue c.found) };
 }

@@ -2,8 +2,7 @@
 ghost use Rattle.std.specs.Prelude.{◌≡◌, ◌↔◌, [], IfOk, OnOk, OnErr, IsTrue};
 ghost use Rattle.std.specs.Ordering.{is_lt};
 ghost use Rattle.dw_moves.specs.Order.{LexLess, AreListed};
-ghost use Rattle.dw_moves.specs.inner.Walks.{sorted_by, entries_listed, HasAll, PathsKept, TakenIn};
-ghost use Rattle.dw_moves.specs.inner.KeptLemmas.{These, paths_none, paths_both};
+ghost use Rattle.dw_moves.specs.inner.Walks.{sorted_by, entries_listed, HasAll, PathsHeld, TakenIn, These};
 
 use crate::glance::can_capture;
 use crate::keeper::Keeper;
@@ -85,8 +84,7 @@ struct LeastPaths<B: Board> {
 impl<B: Board> Keeper<B> for LeastPaths<B> {
     type Fault = AllocError;
 
-    ghost offered = { λ xs a b. PathsKept (These xs) a.most (entries_listed a.paths.entries) b.most
-        (entries_listed b.paths.entries) };
+    ghost holds = { λ first xs k. PathsHeld (These xs) k.most (entries_listed k.paths.entries) };
 
     ghost is_on = { λ k path. k.path.items ≡ path };
 
@@ -113,11 +111,6 @@ impl<B: Board> Keeper<B> for LeastPaths<B> {
         }
         keep_least(*mv, &self.path, &mut self.paths)
     }
-
-    ghost nothing = { λ k. paths_none k.most (entries_listed k.paths.entries) };
-
-    ghost both = { λ xs ys a b c. paths_both xs ys a.most b.most c.most (entries_listed a.paths.entries)
-        (entries_listed b.paths.entries) (entries_listed c.paths.entries) };
 }
 
 /// Keeps a path of a move if it is the first, or less than the one that is kept.

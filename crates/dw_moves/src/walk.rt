@@ -77,7 +77,7 @@ pub(crate) fn walk_captures<B: Board, K: Keeper<B>>(
     position: &Position<B>,
     keeper: &mut K,
 ) -> Result<(), K::Fault>
-    ensures kept { OnOk result (Offers K.offered (Captures B.geometry position.now) keeper.old keeper.new) }
+    ensures kept { OnOk result (Offers K.holds (Captures B.geometry position.now) keeper.old keeper.new) }
     ensures position { IsPosition B.geometry position.now.cells }
 {
     let field = Field::of(position);
@@ -96,7 +96,7 @@ fn walk_first<B: Board, K: Keeper<B>>(
 ) -> Result<(), K::Fault>
     requires { set.len field.now.enemies ≤ 20 }
     ensures { OnOk result ((p : Placement) → AreSets B.geometry p field.now.men field.now.kings field.now.enemies
-        field.now.occupied → Offers K.offered (BeginsTowards B.geometry p direction) keeper.old keeper.new) }
+        field.now.occupied → Offers K.holds (BeginsTowards B.geometry p direction) keeper.old keeper.new) }
 {
     let mut left = field.may_take(direction);
     'squares: while let Some((from, rest)) = left.split() {
@@ -117,7 +117,7 @@ fn walk_from<B: Board, K: Keeper<B>>(
     requires on_board { OnBoard B.geometry from }
     requires few { set.len field.now.enemies ≤ 20 }
     ensures { OnOk result ((p : Placement) → AreSets B.geometry p field.now.men field.now.kings field.now.enemies
-        field.now.occupied → Offers K.offered (Begins B.geometry p direction from) keeper.old keeper.new) }
+        field.now.occupied → Offers K.holds (Begins B.geometry p direction from) keeper.old keeper.new) }
 {
     let behind = field.without(from);
     let begun = Begun::on(from);
@@ -144,7 +144,7 @@ fn walk<B: Board, M: Mover<B>, K: Keeper<B>>(
     requires path { (path : List ℕ) × (K.is_on keeper.old path × (length path ≡ begun.now.count + 1)) }
     ensures kept { OnOk result ((p : Placement) (side : Side) (path : List ℕ)
         → IsGround B.geometry p side field.now.enemies field.now.occupied → K.is_on keeper.old path
-        → Offers K.offered (GoesOn B.geometry p (record { side = side; kind = M.as_kind })
+        → Offers K.holds (GoesOn B.geometry p (record { side = side; kind = M.as_kind })
         (so_far begun.now.from begun.now.at begun.now.taken path)) keeper.old keeper.new) }
     ensures on { OnOk result ((path : List ℕ) → K.is_on keeper.old path → K.is_on keeper.new path) }
 {
@@ -171,7 +171,7 @@ fn walk_towards<B: Board, M: Mover<B>, K: Keeper<B>>(
     requires path { (path : List ℕ) × (K.is_on keeper.old path × (length path ≡ begun.now.count + 1)) }
     ensures kept { OnOk result ((p : Placement) (side : Side) (path : List ℕ)
         → IsGround B.geometry p side field.now.enemies field.now.occupied → K.is_on keeper.old path
-        → Offers K.offered (GoesTowards B.geometry p (record { side = side; kind = M.as_kind })
+        → Offers K.holds (GoesTowards B.geometry p (record { side = side; kind = M.as_kind })
         (so_far begun.now.from begun.now.at begun.now.taken path) direction) keeper.old keeper.new) }
     ensures on { OnOk result ((path : List ℕ) → K.is_on keeper.old path → K.is_on keeper.new path) }
 {
@@ -207,7 +207,7 @@ fn walk_onto<B: Board, M: Mover<B>, K: Keeper<B>>(
     requires path { (path : List ℕ) × (K.is_on keeper.old path × (length path ≡ begun.now.count)) }
     ensures kept { OnOk result ((p : Placement) (side : Side) (path : List ℕ)
         → IsGround B.geometry p side field.now.enemies field.now.occupied → K.is_on keeper.old path
-        → Offers K.offered (GoesOn B.geometry p (record { side = side; kind = M.as_kind })
+        → Offers K.holds (GoesOn B.geometry p (record { side = side; kind = M.as_kind })
         (so_far begun.now.from begun.now.at begun.now.taken (path ++ begun.now.at ∷ []))) keeper.old keeper.new) }
     ensures on { OnOk result ((path : List ℕ) → K.is_on keeper.old path → K.is_on keeper.new path) }
 {

@@ -67,56 +67,62 @@ pub record Begins (g : Geometry) (p : Placement) (d : Dir) (from : ℕ) (l : Lis
 abbrev pub BeginsTowards : Geometry → Placement → Dir → Listed → Type 0
 BeginsTowards g p d l = (from : ℕ) × Begins g p d from l
 
--- just these captures were offered, each once or more often
-pub record Offers {K : Type 0} (offered : List Listed → K → K → Type 0) (E : Listed → Type 0) (old new : K) :
-    Type 0 where
+-- ---- what a keeper holds: of what it was at first, of all captures that it was offered since, and of what it is now
+-- that stays
+abbrev pub Stays : {K : Type 0} → (K → List Listed → K → Type 0) → K → K → Type 0
+Stays {K} holds old new = (first : K) (xs : List Listed) → holds first xs old → holds first xs new
+
+-- these captures are added
+abbrev pub Gains : {K : Type 0} → (K → List Listed → K → Type 0) → List Listed → K → K → Type 0
+Gains {K} holds more old new = (first : K) (xs : List Listed) → holds first xs old → holds first (xs ++ more) new
+
+-- just these captures are added, each once or more often
+pub record Offers {K : Type 0} (holds : K → List Listed → K → Type 0) (E : Listed → Type 0) (old new : K) : Type 0 where
   pub captures : List Listed
   pub exactly : (l : Listed) → Member l captures ↔ E l
-  pub held : offered captures old new
+  pub held : Gains holds captures old new
 
--- ---- what is kept of them
--- the greatest number was k; with these captures it is now
-pub record Grows (E : Listed → Type 0) (k now : ℕ) : Type 0 where
-  pub grown : k ≤ now
-  pub reached : (k ≡ now) ⊎ ((l : Listed) × E l × (number l ≡ now))
-  pub most : (l : Listed) → E l → number l ≤ now
+-- the captures of a list
+abbrev pub These : List Listed → Listed → Type 0
+These xs l = Member l xs
+
+-- k is the greatest number of pieces that a capture takes, 0 if there is no capture
+pub record IsMost (E : Listed → Type 0) (k : ℕ) : Type 0 where
+  pub reached : (k ≡ 0) ⊎ ((l : Listed) × E l × (number l ≡ k))
+  pub most : (l : Listed) → E l → number l ≤ k
 
 -- one of those that take the greatest number has a property
 abbrev pub Longest : (Listed → Type 0) → ℕ → (Listed → Type 0) → Type 0
-Longest E now C = (l : Listed) × E l × (number l ≡ now) × C l
+Longest E k C = (l : Listed) × E l × (number l ≡ k) × C l
 
--- what held of the longest captures, or holds of one of these
-abbrev pub Either : (Listed → Type 0) → ℕ → ℕ → (Listed → Type 0) → Type 0 → Type 0
-Either E k now C old = ((now ≡ k) × old) ⊎ Longest E now C
-
--- l makes this move
+-- l makes this move; it is made on this path; it is this one
 abbrev pub Makes : Move → Listed → Type 0
 Makes m l = l.step ≡ m
 
--- the moves of the greatest number, each once
-pub record MovesKept (E : Listed → Type 0) (k : ℕ) (moves : List Move) (now : ℕ) (kept : List Move) : Type 0 where
-  pub grows : Grows E k now
-  pub exactly : (m : Move) → Member m kept ↔ Either E k now (Makes m) (Member m moves)
-  pub once : NoRepeat moves → NoRepeat kept
-
--- whether one move is among them
-pub record Sought (E : Listed → Type 0) (wanted : Move) (k : ℕ) (old : Type 0) (still : Move) (now : ℕ)
-    (found : Type 0) : Type 0 where
-  pub same : still ≡ wanted
-  pub grows : Grows E k now
-  pub is : found ↔ Either E k now (Makes wanted) old
-
--- l is made on this path
 abbrev pub Along : List ℕ → Listed → Type 0
 Along path l = l.path ≡ path
 
+abbrev pub Is : Listed → Listed → Type 0
+Is l x = x ≡ l
+
+-- the moves of the greatest number, each once
+pub record MovesHeld (E : Listed → Type 0) (k : ℕ) (moves : List Move) : Type 0 where
+  pub most : IsMost E k
+  pub exactly : (m : Move) → Member m moves ↔ Longest E k (Makes m)
+  pub once : NoRepeat moves
+
+-- whether one move is among them
+pub record Sought (E : Listed → Type 0) (wanted still : Move) (k : ℕ) (found : Type 0) : Type 0 where
+  pub same : still ≡ wanted
+  pub most : IsMost E k
+  pub is : found ↔ Longest E k (Makes wanted)
+
 -- the one of them that is made on a given path
-pub record Followed (E : Listed → Type 0) (path : List ℕ) (k : ℕ) (old : Option Move) (still : List ℕ) (now : ℕ)
-    (found : Option Move) : Type 0 where
+pub record Followed (E : Listed → Type 0) (path still : List ℕ) (k : ℕ) (found : Option Move) : Type 0 where
   pub same : still ≡ path
-  pub grows : Grows E k now
-  pub is : (m : Move) → found ≡ Some m → Either E k now (λ l. Makes m l × Along path l) (old ≡ Some m)
-  pub some : Either E k now (Along path) (IsSome old) → IsSome found
+  pub most : IsMost E k
+  pub is : (m : Move) → found ≡ Some m → Longest E k (λ l. Makes m l × Along path l)
+  pub some : Longest E k (Along path) → IsSome found
 
 -- the moves of a list, without their paths
 abbrev pub steps_of : List Listed → List Move
@@ -132,12 +138,12 @@ pub record TakenIn (l : Listed) (list kept : List Listed) : Type 0 where
   pub least : (x : Listed) → (x ≡ l) ⊎ Member x list → Covered x kept
   pub once : NoRepeat (steps_of list) → NoRepeat (steps_of kept)
 
--- the same moves, each with the least of its paths
-pub record PathsKept (E : Listed → Type 0) (k : ℕ) (list : List Listed) (now : ℕ) (kept : List Listed) : Type 0 where
-  pub grows : Grows E k now
-  pub from : (l : Listed) → Member l kept → Either E k now (λ x. x ≡ l) (Member l list)
-  pub least : (l : Listed) → Either E k now (λ x. x ≡ l) (Member l list) → Covered l kept
-  pub once : NoRepeat (steps_of list) → NoRepeat (steps_of kept)
+-- the moves of the greatest number, each with the least of its paths
+pub record PathsHeld (E : Listed → Type 0) (k : ℕ) (list : List Listed) : Type 0 where
+  pub most : IsMost E k
+  pub from : (l : Listed) → Member l list → Longest E k (Is l)
+  pub least : (l : Listed) → Longest E k (Is l) → Covered l list
+  pub once : NoRepeat (steps_of list)
 
 -- ---- lists of moves with their paths
 -- what listed moves are sorted by: the start, the end, and the path

@@ -1,7 +1,7 @@
-use Rattle.std.proofs.Common.{◌≡◌, [], ap, ◌∙◌, arith}
-use Rattle.dw_moves.specs.inner.KeptLemmas.{These, moves_same}
-use Rattle.dw_moves.specs.inner.Walks.{Captures, MovesKept}
+use Rattle.std.proofs.Common.{◌≡◌, [], sym, ap, ◌∙◌, subst, arith}
+use Rattle.dw_moves.specs.inner.Walks.{Captures, MovesHeld, These}
 use Rattle.dw_moves.proofs.FilledLemmas.{legal_quietly, legal_captures}
+use Rattle.dw_moves.proofs.KeeperLemmas.{moves_none, moves_same}
 use Rattle.dw_moves.proofs.legal.push_legal.Goals as goal
 
 pub returns-in_ok-push_quiet : goal.returns-in_ok-push_quiet
@@ -11,10 +11,10 @@ returns-in_ok-push_quiet g c =
     let o = c.in_ok-walked.ensures.kept in
     let f = c.walk_captures-walked.new.keeper in
     let none : c.replace.result.items ≡ [] = ap (λ z. z.items) c.replace.ensures.value ∙ c.requires in
-    let h : MovesKept (Captures geo p) 0 c.replace.result.items f.most f.moves.items =
-    moves_same (These o.captures) (Captures geo p) 0 c.replace.result.items f.most f.moves.items o.exactly o.held in
-    legal_quietly geo p f.most c.replace.result.items f.moves.items c.push_quiet.new.moves.items none
-    c.if-longest-eq0.true h c.in_ok-push_quiet.ensures
+    let h : MovesHeld (Captures geo p) f.most f.moves.items = moves_same (These o.captures) (Captures geo p) o.exactly
+    f.most f.moves.items (o.held f [] (subst (MovesHeld (These []) 0) (sym none) moves_none)) in
+    legal_quietly geo p f.most f.moves.items c.push_quiet.new.moves.items c.if-longest-eq0.true h
+    c.in_ok-push_quiet.ensures
 
 pub returns-else-longest-eq0 : goal.returns-else-longest-eq0
 returns-else-longest-eq0 g c =
@@ -23,6 +23,6 @@ returns-else-longest-eq0 g c =
     let o = c.in_ok-walked.ensures.kept in
     let f = c.walk_captures-walked.new.keeper in
     let none : c.replace.result.items ≡ [] = ap (λ z. z.items) c.replace.ensures.value ∙ c.requires in
-    let h : MovesKept (Captures geo p) 0 c.replace.result.items f.most f.moves.items =
-    moves_same (These o.captures) (Captures geo p) 0 c.replace.result.items f.most f.moves.items o.exactly o.held in
-    legal_captures geo p f.most c.replace.result.items f.moves.items none (omega (arith, c.if-longest-eq0.false)) h
+    let h : MovesHeld (Captures geo p) f.most f.moves.items = moves_same (These o.captures) (Captures geo p) o.exactly
+    f.most f.moves.items (o.held f [] (subst (MovesHeld (These []) 0) (sym none) moves_none)) in
+    legal_captures geo p f.most f.moves.items (omega (arith, c.if-longest-eq0.false)) h

@@ -25,7 +25,7 @@ invariant-walk_towards-landings g l = record {
   walked : (p : Placement) (side : Side) (path : List ℕ)
       → IsGround g.B.Board.geometry p side l.field.enemies l.field.occupied
       → g.K.Keeper.is_on l.initial.keeper path
-      → Landed g.K.Keeper.offered g.B.Board.geometry p (record { side = side; kind = g.M.Mover.as_kind })
+      → Landed g.K.Keeper.holds g.B.Board.geometry p (record { side = side; kind = g.M.Mover.as_kind })
       (so_far l.begun.from l.begun.at l.begun.taken path) l.over l.direction l.at l.initial.keeper l.keeper;
 }
 

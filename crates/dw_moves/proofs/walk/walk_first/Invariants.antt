@@ -8,7 +8,7 @@ use Rattle.dw_moves.proofs.walk.walk_first.Given as goal
 abbrev pub invariant-squares : goal.invariant-squares
 invariant-squares g l = (p : Placement)
     → AreSets g.B.Board.geometry p l.field.men l.field.kings l.field.enemies l.field.occupied
-    → Offers g.K.Keeper.offered (Past g.B.Board.geometry p l.direction l.left) l.initial.keeper l.keeper
+    → Offers g.K.Keeper.holds (Past g.B.Board.geometry p l.direction l.left) l.initial.keeper l.keeper
 
 abbrev pub decreases-squares : goal.decreases-squares
 decreases-squares g l = fin.len l.left

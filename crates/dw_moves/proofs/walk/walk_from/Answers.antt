@@ -7,7 +7,7 @@ use Rattle.dw_board.specs.declared.piece.Piece.{Piece}
 use Rattle.dw_board.specs.Placement.{placed}
 use Rattle.dw_moves.specs.Moves.{Stands}
 use Rattle.dw_moves.specs.inner.Walks.{so_far}
-use Rattle.dw_moves.proofs.CapturesLemmas.{begins_of}
+use Rattle.dw_moves.proofs.CapturesLemmas.{begins_of, begins_nowhere}
 use Rattle.dw_moves.proofs.GroundLemmas.{ground_behind}
 use Rattle.dw_moves.proofs.SquareSetLemmas.{difference_none}
 use Rattle.dw_moves.proofs.WalkLemmas.{same_so_far}
@@ -47,7 +47,7 @@ returns-then-has g c = on_ok_weaker c.walk_towards.result (λ kept p sets.
     c.without-behind.ensures.occupied in
     let b0 = c.on-begun.result in
     let start : List ℕ = c.args.from ∷ [] in
-    begins_of g.row.K.Denot g.K.Keeper.offered g.met.K.Keeper.both geo p c.args.direction c.args.from piece
+    begins_of g.row.K.Denot g.K.Keeper.holds geo p c.args.direction c.args.from piece
     (so_far b0.from b0.at b0.taken start) c.args.keeper.now c.begin.new.self c.walk_towards.new.keeper stands
     (same_so_far c.args.from b0.from c.args.from b0.at fin.empty b0.taken start c.on-begun.ensures.from
     c.on-begun.ensures.at c.on-begun.ensures.taken) c.begin.ensures.same
@@ -65,8 +65,15 @@ returns-then-has-2 g c = on_ok_weaker c.walk_towards-then-has-2.result (λ kept 
     c.without-behind.ensures.occupied in
     let b0 = c.on-begun.result in
     let start : List ℕ = c.args.from ∷ [] in
-    begins_of g.row.K.Denot g.K.Keeper.offered g.met.K.Keeper.both geo p c.args.direction c.args.from piece
+    begins_of g.row.K.Denot g.K.Keeper.holds geo p c.args.direction c.args.from piece
     (so_far b0.from b0.at b0.taken start) c.args.keeper.now c.begin.new.self c.walk_towards-then-has-2.new.keeper stands
     (same_so_far c.args.from b0.from c.args.from b0.at fin.empty b0.taken start c.on-begun.ensures.from
     c.on-begun.ensures.at c.on-begun.ensures.taken) c.begin.ensures.same
     (kept (placed p c.args.from None) p.turn start ground c.begin.ensures.on)) c.walk_towards-then-has-2.ensures.kept
+
+pub returns-else-has-2 : goal.returns-else-has-2
+returns-else-has-2 g c = λ p sets.
+    let f = c.args.field.now in
+    begins_nowhere g.row.K.Denot g.K.Keeper.holds g.B.Board.geometry p c.args.direction c.args.from f.men f.kings
+    f.enemies f.occupied c.args.keeper.now c.begin.new.self sets (sym c.has.ensures ∙ c.if-has.false)
+    (sym c.has-else-has.ensures ∙ c.if-has-2.false) c.begin.ensures.same

@@ -1,19 +1,18 @@
-use Rattle.std.proofs.Common.{◌≡◌, ◌≤◌, [], ◌∷◌, sym, ap, ◌∙◌, subst, inl, inr, arith}
+use Rattle.std.proofs.Common.{◌≡◌, ◌≤◌, ap, ◌∙◌, subst, inl, inr, arith}
 use Rattle.std.proofs.lemmas.Result.{on_ok_weaker}
 use Rattle.dw_moves.specs.Order.{Listed}
-use Rattle.dw_moves.specs.inner.KeptLemmas.{These}
-use Rattle.dw_moves.specs.inner.Walks.{PathsKept, TakenIn, entries_listed}
+use Rattle.dw_moves.specs.inner.Walks.{TakenIn, entries_listed}
 use Rattle.dw_moves.proofs.KeeperLemmas.{Left, paths_join, paths_past}
 use Rattle.dw_moves.proofs.listed.LeastPathsKeeper.offer.Goals as goal
 use Rattle.dw_moves.proofs.listed.LeastPathsKeeper.offer.Goals.{then-self-count, else-self-count}
 
 pub returns-then-count-self-clause-kept : goal.returns-then-count-self-clause-kept
-returns-then-count-self-clause-kept g c = λ path on.
-    paths_past (record { step = c.args.mv.now; path = path }) c.args.self.now.most c.args.count
-    (entries_listed c.args.self.now.paths.entries) c.requires c.if-count-self.true
+returns-then-count-self-clause-kept g c = λ path on first xs h.
+    paths_past xs (record { step = c.args.mv.now; path = path }) c.args.self.now.most c.args.count c.requires
+    c.if-count-self.true (entries_listed c.args.self.now.paths.entries) h
 
 pub returns-clause-kept : goal.returns-clause-kept
-returns-clause-kept g c = on_ok_weaker c.keep_least.result (λ joined path on.
+returns-clause-kept g c = on_ok_weaker c.keep_least.result (λ joined path on first xs h.
     let this : Listed = record { step = c.args.mv.now; path = path } in
     let k = c.args.self.now.most in
     let old = entries_listed c.args.self.now.paths.entries in
@@ -40,5 +39,5 @@ returns-clause-kept g c = on_ok_weaker c.keep_least.result (λ joined path on.
     ] in
     let here : TakenIn this rest new = subst (λ z. TakenIn (record { step = c.args.mv.now; path = z }) rest new) same
     joined in
-    subst (λ z. PathsKept (These (this ∷ [])) k old z new) (sym top)
-    (paths_join this k c.args.count old rest new c.requires left here)) c.keep_least.ensures
+    paths_join xs this k c.args.count c.if-self-count.self.most c.requires low top old rest new left here h)
+    c.keep_least.ensures
