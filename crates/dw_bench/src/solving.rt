@@ -6,6 +6,7 @@ use crate::timing::{micros_since, speed};
 use crate::written_position;
 use dw_board::board::Board;
 use dw_board::position::Position;
+use dw_memo::deep_memo::DeepMemo;
 use dw_memo::lru_memo::LruMemo;
 use dw_memo::memo::Memo;
 use dw_memo::no_memo::NoMemo;
@@ -49,7 +50,9 @@ fn solve_problem(rt: &HostRuntime, text: &str) -> anyhow::Result<()> {
     let recent = LruMemo::new(rt.alloc(), HELD)?;
     solve_with(rt, "LruMemo", recent, &position)?;
     let slots = SlotMemo::new(rt.alloc(), HELD)?;
-    solve_with(rt, "SlotMemo", slots, &position)
+    solve_with(rt, "SlotMemo", slots, &position)?;
+    let pairs = DeepMemo::new(rt.alloc(), HELD)?;
+    solve_with(rt, "DeepMemo", pairs, &position)
 }
 
 /// Solves a problem with a solver over a memo.
