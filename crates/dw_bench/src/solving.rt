@@ -5,7 +5,7 @@ use crate::problems::PROBLEMS;
 use crate::timing::{micros_since, speed};
 use crate::written_position;
 use dw_board::{Board, Position};
-use dw_memo::{LruMemo, Memo, NoMemo, SlotMemo};
+use dw_memo::{DeepMemo, LruMemo, Memo, NoMemo, SlotMemo};
 use dw_solve::{ByTrial, Solver, Stop};
 use std::time::Instant;
 
@@ -43,7 +43,9 @@ fn solve_problem(rt: &HostRuntime, text: &str) -> anyhow::Result<()> {
     let recent = LruMemo::new(rt.alloc(), HELD)?;
     solve_with(rt, "LruMemo", recent, &position)?;
     let slots = SlotMemo::new(rt.alloc(), HELD)?;
-    solve_with(rt, "SlotMemo", slots, &position)
+    solve_with(rt, "SlotMemo", slots, &position)?;
+    let pairs = DeepMemo::new(rt.alloc(), HELD)?;
+    solve_with(rt, "DeepMemo", pairs, &position)
 }
 
 /// Solves a problem with a solver over a memo.

@@ -1,26 +1,29 @@
 -- Maps of bounded size, the pair that was used last first.
 use Rattle.std.proofs.Common.{◌≡◌, ◌≢◌, ℕ, zero, suc, ◌+◌, ◌-◌, ◌≤◌, ◌⊎◌, Bool, true, false, not, List, [], ◌∷◌, length}
-use Rattle.std.proofs.Common.{take, slice_get, Option, Some, None, refl, sym, ap, ◌∙◌, subst, inl, inr, arith}
+use Rattle.std.proofs.Common.{take, slice_get, Option, Some, None, is_some, refl, sym, ap, ◌∙◌, subst, inl, inr, arith}
 use Rattle.std.specs.Int.{from_bool}
 use Rattle.std.specs.Map.{lookup, lookup_entry, remove_entry}
 use Rattle.std.specs.Option.{option_map, option_map_or, IsSome}
-use Rattle.lru.specs.LruCache.{LruCache, lru_cache, promoted, put_entries, displaced}
+use Rattle.lru.specs.LruCache.{LruCache, lru_cache, promoted, put_entries, displaced, last_entry}
 use Rattle.dw_board.specs.Placement.{Placement}
 use Rattle.dw_board.specs.inner.PlacementLemmas.{same, same-is}
 use Rattle.dw_memo.specs.declared.bounds.Bounds.{Bounds}
+use Rattle.dw_memo.specs.declared.fact.Fact.{Fact}
+use Rattle.dw_memo.specs.declared.memo.Noted.{Noted}
 use Rattle.dw_memo.specs.declared.memo.Noted.TheVariants.{Kept, NotKept}
-use Rattle.dw_memo.specs.Content.{Entry, entry, positions, IsMap, SameEntries, IsFound}
+use Rattle.dw_memo.specs.Content.{Entry, entry, Content, positions, IsMap, SameEntries, IsFound}
 use Rattle.dw_board.specs.Lists.{Member}
 use Rattle.dw_memo.specs.Recent.{content_of, IsRecent}
 use Rattle.dw_memo.specs.Noting.{IsNote}
 use Rattle.dw_memo.proofs.EntryLemmas.{position_held, bounds_held, one_entry}
+use Rattle.dw_memo.proofs.GrowingLemmas.{noted_larger}
 use Rattle.dw_memo.proofs.NoteLemmas.{none_missing, one_missing, unchanged}
 
 abbrev Pair : Type 0
-Pair = Placement × Bounds
+Pair = Placement × Fact
 
 abbrev entry_of : Pair → Entry
-entry_of e = entry e.0 e.1
+entry_of e = entry e.0 e.1.bounds
 
 -- ---- one position's pair
 lookup-is : (test : Placement → Bool) (es : List Pair) → lookup test es ≡ option_map (λ e. e.1) (lookup_entry test es)
@@ -50,14 +53,15 @@ not_found k (g ∷ es) h m = (elim (same k g.0) as (λ y. same k g.0 ≡ y → �
 ]) refl
 
 looked_up_at : (k : Placement) (es : List Pair) (o : Option Bounds) (f : Option Pair) → lookup_entry (same k) es ≡ f
-    → o ≡ option_map (λ e. e.1) f → IsFound (content_of es) k o
+    → o ≡ option_map (λ (x : Fact). x.bounds) (option_map (λ (e : Pair). e.1) f) → IsFound (content_of es) k o
 looked_up_at k es o None h q = subst (IsFound (content_of es) k) (sym q) (not_found k es h)
 looked_up_at k es o (Some f) h q = let on = found k es f h in
-    subst (IsFound (content_of es) k) (sym q) (subst (λ p. Member (entry p f.1) (content_of es)) on.0 on.1)
+    subst (IsFound (content_of es) k) (sym q) (subst (λ p. Member (entry p f.1.bounds) (content_of es)) on.0 on.1)
 
-pub looked_up : (k : Placement) (es : List Pair) (o : Option Bounds) → o ≡ lookup (same k) es
-    → IsFound (content_of es) k o
-looked_up k es o e = looked_up_at k es o (lookup_entry (same k) es) refl (e ∙ lookup-is (same k) es)
+pub looked_up : (k : Placement) (es : List Pair) (o : Option Bounds)
+    → o ≡ option_map (λ (x : Fact). x.bounds) (lookup (same k) es) → IsFound (content_of es) k o
+looked_up k es o e = looked_up_at k es o (lookup_entry (same k) es) refl
+    (e ∙ ap (option_map (λ (x : Fact). x.bounds)) (lookup-is (same k) es))
 
 -- ---- without one position's pair
 removed_position : (k : Placement) (es : List Pair) (p : Placement)
@@ -229,8 +233,12 @@ is_none : {X : Type 0} (o : Option X) → (IsSome o → false ≡ true) → o �
 is_none None h = refl
 is_none (Some x) h = let q : false ≡ true = h refl in absurd (cc)
 
+none_is : (o : Option Pair) {l : Option Fact} → option_map (λ (e : Pair). e.1) o ≡ l → is_some l ≡ false → o ≡ None
+none_is None q h = refl
+none_is (Some f) q h = absurd (cc)
+
 -- ---- a pair that is put in
-module _ (c : LruCache Placement Bounds) (k : Placement) (v : Bounds) (r : IsRecent c.entries c.cap) where
+module _ (c : LruCache Placement Fact) (k : Placement) (v : Fact) (r : IsRecent c.entries c.cap) where
   abbrev after : Option Pair → List Pair
   after o = option_map_or (λ e. (e.0, v) ∷ remove_entry (same k) c.entries) o ((k, v) ∷ take (c.cap - 1) c.entries)
 
@@ -264,25 +272,25 @@ module _ (c : LruCache Placement Bounds) (k : Placement) (v : Bounds) (r : IsRec
       (position_held e (content_of c.entries) m))
 
   replaced : (f : Pair) → lookup_entry (same k) c.entries ≡ Some f
-      → IsNote (content_of c.entries) k v Kept (content_of (after (Some f))) 0 0
+      → IsNote (content_of c.entries) k v.bounds Kept (content_of (after (Some f))) 0 0
   replaced f h = let at = (found k c.entries f h).0 in record {
     map_before = r.map;
     map = (after_recent (Some f) h).map;
     only = λ e m. elim m [
-      | inl q ↦ inl (q ∙ ap (λ p. entry p v) at)
+      | inl q ↦ inl (q ∙ ap (λ p. entry p v.bounds) at)
       | inr n ↦
           inr (removed_held k c.entries e r.map n)
     ];
-    kept = λ q. inl (ap (λ p. entry p v) (sym at));
+    kept = λ q. inl (ap (λ p. entry p v.bounds) (sym at));
     missing = [];
-    are_missing = none_missing (content_of c.entries) k v (content_of (after (Some f)))
-        (inl (ap (λ p. entry p v) (sym at)))
+    are_missing = none_missing (content_of c.entries) k v.bounds (content_of (after (Some f)))
+        (inl (ap (λ p. entry p v.bounds) (sym at)))
         (λ e m. elim (removed_kept k c.entries e m) [ inl q ↦ inl q | inr n ↦ inr (inr n) ]);
     count = refl;
   }
 
   added : lookup_entry (same k) c.entries ≡ None → slice_get c.entries (c.cap - 1) ≡ None
-      → IsNote (content_of c.entries) k v Kept (content_of (after None)) 0 0
+      → IsNote (content_of c.entries) k v.bounds Kept (content_of (after None)) 0 0
   added h last = record {
     map_before = r.map;
     map = (after_recent None h).map;
@@ -293,13 +301,13 @@ module _ (c : LruCache Placement Bounds) (k : Placement) (v : Bounds) (r : IsRec
     ];
     kept = λ q. inl refl;
     missing = [];
-    are_missing = none_missing (content_of c.entries) k v (content_of (after None)) (inl refl)
+    are_missing = none_missing (content_of c.entries) k v.bounds (content_of (after None)) (inl refl)
         (λ e m. inr (inr (taken_all (c.cap - 1) c.entries e last m)));
     count = refl;
   }
 
   pushed_out : (d : Pair) → lookup_entry (same k) c.entries ≡ None → slice_get c.entries (c.cap - 1) ≡ Some d
-      → IsNote (content_of c.entries) k v Kept (content_of (after None)) 0 1
+      → IsNote (content_of c.entries) k v.bounds Kept (content_of (after None)) 0 1
   pushed_out d h last =
       let was = at_held (c.cap - 1) c.entries d last in
       let other = apart h (entry_of d) was in record {
@@ -312,7 +320,7 @@ module _ (c : LruCache Placement Bounds) (k : Placement) (v : Bounds) (r : IsRec
         ];
         kept = λ q. inl refl;
         missing = entry_of d ∷ [];
-        are_missing = one_missing (content_of c.entries) k v (content_of (after None)) (entry_of d) (inr (was, other))
+        are_missing = one_missing (content_of c.entries) k v.bounds (content_of (after None)) (entry_of d) (inr (was, other))
             (λ m. elim m [
               | inl q ↦ other (ap (λ (e : Entry). e.position) q)
               | inr n ↦ at_apart (c.cap - 1) c.entries d r.map last
@@ -329,33 +337,33 @@ module _ (c : LruCache Placement Bounds) (k : Placement) (v : Bounds) (r : IsRec
       (lookup-is (same k) c.entries)
 
   none_at : (o : Option Pair) → lookup_entry (same k) c.entries ≡ o → out o ≡ None
-      → IsNote (content_of c.entries) k v Kept (content_of (after o)) 0 0
+      → IsNote (content_of c.entries) k v.bounds Kept (content_of (after o)) 0 0
   none_at None h last = added h last
   none_at (Some f) h last = absurd (cc)
 
   same_at : (o : Option Pair) (d : Pair) → lookup_entry (same k) c.entries ≡ o → out o ≡ Some d → d.0 ≡ k
-      → IsNote (content_of c.entries) k v Kept (content_of (after o)) 0 0
+      → IsNote (content_of c.entries) k v.bounds Kept (content_of (after o)) 0 0
   same_at None d h last q = absurd (apart h (entry_of d) (at_held (c.cap - 1) c.entries d last) q)
   same_at (Some f) d h last q = replaced f h
 
   other_at : (o : Option Pair) (d : Pair) → lookup_entry (same k) c.entries ≡ o → out o ≡ Some d → d.0 ≢ k
-      → IsNote (content_of c.entries) k v Kept (content_of (after o)) 0 1
+      → IsNote (content_of c.entries) k v.bounds Kept (content_of (after o)) 0 1
   other_at None d h last other = pushed_out d h last
   other_at (Some f) d h last other = let s : (k, f.1) ≡ d = cc in absurd (other (ap (λ (e : Pair). e.0) (sym s)))
 
   -- no pair came out
   noted_none : displaced same c k v ≡ None
-      → IsNote (content_of c.entries) k v Kept (content_of (put_entries same c k v)) 0 0
+      → IsNote (content_of c.entries) k v.bounds Kept (content_of (put_entries same c k v)) 0 0
   noted_none h = none_at (lookup_entry (same k) c.entries) refl (sym out-is ∙ h)
 
   some_at : (o : Option Pair) (d : Pair) (b : Bool) → lookup_entry (same k) c.entries ≡ o → out o ≡ Some d
-      → same d.0 k ≡ b → IsNote (content_of c.entries) k v Kept (content_of (after o)) 0 (from_bool (not b))
+      → same d.0 k ≡ b → IsNote (content_of c.entries) k v.bounds Kept (content_of (after o)) 0 (from_bool (not b))
   some_at o d true h last q = same_at o d h last ((same-is d.0 k).0 q)
   some_at o d false h last q = other_at o d h last (λ e. let s = (same-is d.0 k).1 e in absurd (cc))
 
   -- a pair came out, the position's own one or another
   noted_some : (d : Pair) → displaced same c k v ≡ Some d
-      → IsNote (content_of c.entries) k v Kept (content_of (put_entries same c k v)) 0 (from_bool (not (same d.0 k)))
+      → IsNote (content_of c.entries) k v.bounds Kept (content_of (put_entries same c k v)) 0 (from_bool (not (same d.0 k)))
   noted_some d h = some_at (lookup_entry (same k) c.entries) d (same d.0 k) refl (sym out-is ∙ h) refl
 
   none_found : (o : Option Pair) → lookup_entry (same k) c.entries ≡ o → option_map (λ (e : Pair). e.1) o ≡ None
@@ -365,31 +373,71 @@ module _ (c : LruCache Placement Bounds) (k : Placement) (v : Bounds) (r : IsRec
 
   -- memory was refused, which is never done where the position is held
   noted_nothing : (IsSome (lookup (same k) c.entries) → false ≡ true)
-      → IsNote (content_of c.entries) k v NotKept (content_of c.entries) 0 1
-  noted_nothing refused = unchanged (content_of c.entries) k v r.map
+      → IsNote (content_of c.entries) k v.bounds NotKept (content_of c.entries) 0 1
+  noted_nothing refused = unchanged (content_of c.entries) k v.bounds r.map
       (apart (none_found (lookup_entry (same k) c.entries) refl (sym (lookup-is (same k) c.entries)
       ∙ is_none (lookup (same k) c.entries) refused)))
 
 -- ---- what a cache is after it was asked to put a pair in
-module _ (c new : LruCache Placement Bounds) (k : Placement) (v : Bounds) (r : IsRecent c.entries c.cap) where
+module _ (c new : LruCache Placement Fact) (k : Placement) (v : Fact) (r : IsRecent c.entries c.cap) where
   pub recent_after : new ≡ lru_cache (put_entries same c k v) c.cap → IsRecent new.entries new.cap
-  recent_after e = subst (λ (z : LruCache Placement Bounds). IsRecent z.entries z.cap) (sym e) (put_recent c k v r)
+  recent_after e = subst (λ (z : LruCache Placement Fact). IsRecent z.entries z.cap) (sym e) (put_recent c k v r)
 
-  pub note_some : new ≡ lru_cache (put_entries same c k v) c.cap → (d : Placement × Bounds) (n : ℕ)
+  pub note_some : new ≡ lru_cache (put_entries same c k v) c.cap → (d : Placement × Fact) (n : ℕ)
       → displaced same c k v ≡ Some d → n ≡ from_bool (not (same d.0 k))
-      → IsNote (content_of c.entries) k v Kept (content_of new.entries) 0 n
+      → IsNote (content_of c.entries) k v.bounds Kept (content_of new.entries) 0 n
   note_some e d n h q =
-      subst (λ (z : LruCache Placement Bounds). IsNote (content_of c.entries) k v Kept (content_of z.entries) 0 n)
+      subst (λ (z : LruCache Placement Fact). IsNote (content_of c.entries) k v.bounds Kept (content_of z.entries) 0 n)
       (sym e)
-      (subst (λ (m : ℕ). IsNote (content_of c.entries) k v Kept (content_of (put_entries same c k v)) 0 m) (sym q)
+      (subst (λ (m : ℕ). IsNote (content_of c.entries) k v.bounds Kept (content_of (put_entries same c k v)) 0 m) (sym q)
       (noted_some c k v r d h))
 
   pub note_none : new ≡ lru_cache (put_entries same c k v) c.cap → displaced same c k v ≡ None
-      → IsNote (content_of c.entries) k v Kept (content_of new.entries) 0 0
-  note_none e h = subst (λ (z : LruCache Placement Bounds). IsNote (content_of c.entries) k v Kept
+      → IsNote (content_of c.entries) k v.bounds Kept (content_of new.entries) 0 0
+  note_none e h = subst (λ (z : LruCache Placement Fact). IsNote (content_of c.entries) k v.bounds Kept
       (content_of z.entries) 0 0) (sym e) (noted_none c k v r h)
 
   pub note_refused : new ≡ c → (IsSome (lookup (same k) c.entries) → false ≡ true)
-      → IsNote (content_of c.entries) k v NotKept (content_of new.entries) 0 1
-  note_refused e h = subst (λ (z : LruCache Placement Bounds). IsNote (content_of c.entries) k v NotKept
+      → IsNote (content_of c.entries) k v.bounds NotKept (content_of new.entries) 0 1
+  note_refused e h = subst (λ (z : LruCache Placement Fact). IsNote (content_of c.entries) k v.bounds NotKept
       (content_of z.entries) 0 1) (sym e) (noted_nothing c k v r h)
+
+-- ---- the pair that was used longest ago is used again, and a pair with the same bounds takes its place
+module _ (c new : LruCache Placement Fact) (d : Placement × Fact) (v : Fact) (r : IsRecent c.entries c.cap)
+    (last : last_entry c.entries ≡ Some d) (alike : v.bounds ≡ d.1.bounds) where
+  there : Member (entry_of d) (content_of c.entries)
+  there = at_held (length c.entries - 1) c.entries d last
+
+  aged_at : (o : Option Pair) → lookup_entry (same d.0) c.entries ≡ o
+      → SameEntries (content_of c.entries) (content_of (after c d.0 v r o))
+  aged_at None h = absurd (not_found d.0 c.entries h (position_held (entry_of d) (content_of c.entries) there))
+  aged_at (Some f) h =
+      let on = found d.0 c.entries f h in
+      let one : entry_of f ≡ entry_of d = one_entry (content_of c.entries) r.map (entry_of f) (entry_of d) on.1 there
+      on.0 in
+      subst (λ b. SameEntries (content_of c.entries) (entry f.0 b ∷ content_of (remove_entry (same d.0) c.entries)))
+      (ap (λ (x : Entry). x.bounds) one ∙ sym alike) (brought_same d.0 c.entries (Some f) h r.map)
+
+  pub aged_same : new ≡ lru_cache (put_entries same c d.0 v) c.cap
+      → SameEntries (content_of c.entries) (content_of new.entries)
+  aged_same e = subst (λ (z : LruCache Placement Fact). SameEntries (content_of c.entries) (content_of z.entries))
+      (sym e) (aged_at (lookup_entry (same d.0) c.entries) refl)
+
+-- ---- a cache in which pairs were used again before a note
+pub same_then : (a b c : Content) → SameEntries a b → SameEntries b c → SameEntries a c
+same_then a b c h k e = ((λ m. (k e).0 ((h e).0 m)), (λ m. (h e).1 ((k e).1 m)))
+
+pub nothing_kept : (old new : Content) (p : Placement) (b : Bounds) → IsMap old → IsMap new → SameEntries old new
+    → (Member p (positions old) → ⊥) → IsNote old p b NotKept new 0 1
+nothing_kept old new p b map map_new same none = noted_larger old new p b NotKept new 1 map same
+    (unchanged new p b map_new (λ e m q. none (subst (λ x. Member x (positions old)) q
+    (position_held e old ((same e).1 m)))))
+
+pub not_contained : (k : Placement) (es : List (Placement × Fact)) → is_some (lookup (same k) es) ≡ false
+    → Member k (positions (content_of es)) → ⊥
+not_contained k es none = not_found k es (none_is (lookup_entry (same k) es) (sym (lookup-is (same k) es)) none)
+
+pub noted_from : (old mid new : Content) (p : Placement) (b c : Bounds) (answer : Noted) (lost : ℕ) → IsMap old
+    → SameEntries old mid → c ≡ b → IsNote mid p c answer new 0 lost → IsNote old p b answer new 0 lost
+noted_from old mid new p b c answer lost map same is n = noted_larger old mid p b answer new lost map same
+    (subst (λ x. IsNote mid p x answer new 0 lost) is n)

@@ -30,8 +30,8 @@ impl<B: Board> Model for DeepMemo<B> {
 }
 
 impl<B: Board> DeepMemo<B> {
-    /// An empty memo of so many places, 1 to 4,000,000, an odd number being rounded up, or an error if out of memory.
-    /// No memory is taken later.
+    /// An empty memo of so many places, 1 to 4,000,000, or of one more if the number is odd; or an error if out of
+    /// memory. No memory is taken later.
     /// Example: `DeepMemo::<Ten>::new(alloc, 1)` has two places, in which nothing stands yet.
     pub fn new(alloc: Global, places: usize) -> Result<Self, AllocError>
         requires some { 1 ≤ places }

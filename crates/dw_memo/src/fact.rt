@@ -1,11 +1,13 @@
 //! What a table keeps of a position.
-ghost use Rattle.std.specs.Prelude.{◌≡◌, ◌+◌, min};
+ghost use Rattle.std.specs.Prelude.{◌≡◌, ◌+◌, ◌-◌, min};
+ghost use Rattle.dw_memo.specs.inner.Pairs.{depth};
+ghost use Rattle.std.specs.Option.{option_map};
 ghost use Rattle.dw_memo.specs.inner.Pairs as of;
 
 use crate::bounds::Bounds;
 
-/// What is known of a position, and how old it is: how many facts of two moves or more came into the other place of
-/// its pair since, up to 255.
+/// What is known of a position, and how old it is, up to 255: how many facts of two moves or more came into the other
+/// place of its pair since, or how often a cache let it live on.
 #[derive(Clone, Copy)]
 pub(crate) struct Fact {
     pub(crate) bounds: Bounds,
@@ -39,4 +41,20 @@ impl Fact {
     {
         self.bounds.depth().saturating_sub(self.age / 16)
     }
+
+    /// How often it may still live on: as often as the moves of which its bounds tell, less its age.
+    #[inline]
+    pub(crate) fn lives(self) -> u8
+        ensures { result ≡ depth self.bounds - self.age }
+    {
+        self.bounds.depth().saturating_sub(self.age)
+    }
+}
+
+/// The bounds of a fact, if there is one.
+#[inline]
+pub(crate) fn bounds_of(fact: Option<Fact>) -> Option<Bounds>
+    ensures { result ≡ option_map (λ f. f.bounds) fact }
+{
+    Some(fact?.bounds)
 }

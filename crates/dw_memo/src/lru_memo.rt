@@ -1,9 +1,13 @@
 //! A memo that forgets what was used longest ago, or what is soon found again.
-ghost use Rattle.std.specs.Prelude.{◌≡◌, ◌≤◌, [], IfOk, ⊤};
+ghost use Rattle.std.specs.Prelude.{◌≡◌, ◌≤◌, [], IfOk, Some, ⊤, false};
+ghost use Rattle.lru.specs.LruCache.{last_entry};
+ghost use Rattle.dw_board.specs.Lists.{Member};
+ghost use Rattle.dw_memo.specs.Content.{SameEntries, positions};
 ghost use Rattle.dw_memo.specs.Noting.{IsNote};
 ghost use Rattle.dw_memo.specs.Recent.{content_of, IsRecent};
 
 use crate::bounds::Bounds;
+use crate::fact::{Fact, bounds_of};
 use crate::memo::{Memo, Noted};
 use dw_board::{Board, Position};
 use lru::LruCache;
@@ -12,11 +16,13 @@ use std::marker::Model;
 use std::num::NonZeroUsize;
 
 /// Holds at most so many positions. If it is full, a new one pushes out that which was looked up or noted longest ago.
-/// But a new one whose bounds tell of one move alone is then not kept: they are soon found again.
+/// But that one lives on if it has more lives left than the new one has: as many as the moves of which its bounds tell,
+/// and one less each time. If the next one lives on too, the new one is not kept. Nor is one whose bounds tell of one
+/// move alone: they are soon found again.
 /// Example: with room for two positions, three that fail in 2 moves leave the second and the third.
 #[derive(Drop)]
 pub struct LruMemo<B: Board> {
-    cache: LruCache<Position<B>, Bounds>,
+    cache: LruCache<Position<B>, Fact>,
     dropped: u64,
 }
 
@@ -55,7 +61,7 @@ impl<B: Board> Memo<B> for LruMemo<B> {
     ghost may_answer = { λ _. ⊤ };
 
     fn look(&mut self, position: &Position<B>) -> Option<Bounds> {
-        self.cache.get(position).copied()
+        bounds_of(self.cache.get(position).copied())
     }
 
     fn put(&mut self, position: &Position<B>, bounds: Bounds) -> Noted {
@@ -71,7 +77,7 @@ impl<B: Board> Memo<B> for LruMemo<B> {
 
 /// Puts bounds into a cache. Tells whether they were kept, and how many entries were lost by it.
 fn push<B: Board>(
-    cache: &mut LruCache<Position<B>, Bounds>,
+    cache: &mut LruCache<Position<B>, Fact>,
     position: Position<B>,
     bounds: Bounds,
 ) -> (Noted, u64)
@@ -80,14 +86,85 @@ fn push<B: Board>(
     ensures note { IsNote (content_of cache.old.entries) position bounds result.0 (content_of cache.new.entries) 0
         result.1 }
 {
-    let is_full = cache.len() == cache.cap().get();
-    if is_full && bounds.fails.max(bounds.wins) <= Some(1) && !cache.contains(&position) {
+    if !has_place(cache, &position, bounds.depth()) {
         return (Noted::NotKept, 1);
     }
-    match cache.push(position, bounds) {
+    match cache.push(position, Fact::new(bounds)) {
         // Either what this position had comes back, or what was pushed out.
         Ok(Some((other, _))) => (Noted::Kept, u64::from(other != position)),
         Ok(None) => (Noted::Kept, 0),
         Err(_) => (Noted::NotKept, 1),
     }
+}
+
+/// Whether a position has a place in a cache, or gets one if its bounds tell of so many moves.
+fn has_place<B: Board>(
+    cache: &mut LruCache<Position<B>, Fact>,
+    position: &Position<B>,
+    depth: u8,
+) -> bool
+    requires { IsRecent cache.old.entries cache.old.cap }
+    ensures recent { IsRecent cache.new.entries cache.new.cap }
+    ensures same { SameEntries (content_of cache.old.entries) (content_of cache.new.entries) }
+    ensures none { result ≡ false → Member position.now (positions (content_of cache.old.entries)) → ⊥ }
+{
+    if cache.len() < cache.cap().get() || cache.contains(position) {
+        return true;
+    }
+    gives_way(cache, depth)
+}
+
+/// Whether a full cache gives up the entry that was used longest ago, for bounds that tell of so many moves.
+fn gives_way<B: Board>(cache: &mut LruCache<Position<B>, Fact>, depth: u8) -> bool
+    requires { IsRecent cache.old.entries cache.old.cap }
+    ensures recent { IsRecent cache.new.entries cache.new.cap }
+    ensures same { SameEntries (content_of cache.old.entries) (content_of cache.new.entries) }
+{
+    if depth <= 1 {
+        return false;
+    }
+    if !lives_on(cache, depth) {
+        return true;
+    }
+    !lives_on(cache, depth)
+}
+
+/// Whether the entry that was used longest ago has more lives than so many. Then it is used again, and has one less.
+fn lives_on<B: Board>(cache: &mut LruCache<Position<B>, Fact>, lives: u8) -> bool
+    requires { IsRecent cache.old.entries cache.old.cap }
+    ensures recent { IsRecent cache.new.entries cache.new.cap }
+    ensures same { SameEntries (content_of cache.old.entries) (content_of cache.new.entries) }
+{
+    let Some((position, fact)) = oldest(cache) else {
+        return false;
+    };
+    if fact.lives() <= lives {
+        return false;
+    }
+    use_again(cache, position, fact)
+}
+
+/// Has the entry that was used longest ago be used again, older by one. Memory is never refused for that.
+fn use_again<B: Board>(
+    cache: &mut LruCache<Position<B>, Fact>,
+    position: Position<B>,
+    fact: Fact,
+) -> bool
+    requires recent { IsRecent cache.old.entries cache.old.cap }
+    requires last { last_entry cache.old.entries ≡ Some (position, fact) }
+    ensures recent { IsRecent cache.new.entries cache.new.cap }
+    ensures same { SameEntries (content_of cache.old.entries) (content_of cache.new.entries) }
+{
+    match cache.push(position, fact.older()) {
+        Ok(_) => true,
+        Err(_) => false,
+    }
+}
+
+/// The position that was used longest ago, and what is known of it.
+fn oldest<B: Board>(cache: &LruCache<Position<B>, Fact>) -> Option<(Position<B>, Fact)>
+    ensures { result ≡ last_entry cache.now.entries }
+{
+    let (position, fact) = cache.peek_lru()?;
+    Some((*position, *fact))
 }

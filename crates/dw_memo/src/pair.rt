@@ -106,8 +106,8 @@ impl<B: Board> Bucket<B> for Pair<B> {
         (Pair { first, second }, away)
     }
 
-    /// All but a sixteenth is taken.
+    /// Three quarters are taken. The fuller a table is, the more of its pairs are full, and lose what comes to them.
     fn is_crowded(buckets: usize, taken: usize) -> bool {
-        buckets - buckets / 16 < taken / 2
+        buckets - buckets / 4 < taken / 2
     }
 }

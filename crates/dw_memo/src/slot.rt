@@ -7,7 +7,7 @@ ghost use Rattle.dw_memo.specs.inner.Keeping.{bounds_in, lost, kept_position};
 
 use crate::bounds::Bounds;
 use crate::bucket::{Bucket, Entered};
-use crate::fact::Fact;
+use crate::fact::{Fact, bounds_of};
 use crate::memo::Noted;
 use crate::table::bucket_of;
 use dw_board::{Board, Packed, Position, Side};
@@ -108,9 +108,8 @@ impl<B: Board> Slot<B> {
     pub(crate) fn bounds_of(&self, position: &Position<B>) -> Option<Bounds>
         ensures { result ≡ bounds_in self.now position.now }
     {
-        let fact = self.fact?;
         if self.keeps(position) {
-            Some(fact.bounds)
+            bounds_of(self.fact)
         } else {
             None
         }

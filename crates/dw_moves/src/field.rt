@@ -5,7 +5,8 @@ ghost use Rattle.dw_board.specs.Geometry.{OnBoard, step};
 ghost use Rattle.dw_board.specs.Placement.{IsPosition, Placement};
 ghost use Rattle.dw_moves.specs.Moves.{In};
 ghost use Rattle.dw_moves.specs.Replies.{given};
-ghost use Rattle.dw_moves.specs.inner.Glance.{AreSets, IsGround, CanTakeTowards, MenMeet, MenTake, KingsTake, Takes, JumpsTo};
+ghost use Rattle.dw_moves.specs.inner.Glance.{AreSets, IsGround, CanTakeTowards, MenMeet};
+ghost use Rattle.dw_moves.specs.inner.Glance.{MenTake, KingsTake, Takes, JumpsTo};
 ghost use Rattle.dw_moves.specs.inner.Glance.{Steps, StepsOn, HasTwo};
 ghost use Rattle.dw_moves.specs.inner.Plain as plain;
 

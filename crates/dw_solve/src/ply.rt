@@ -90,7 +90,7 @@ impl<B: Board> Ply<B> {
 }
 
 /// Adds the legal moves with their ranks to an empty list.
-fn rank_all<B: Board, G: Guide<B>>(
+pub(crate) fn rank_all<B: Board, G: Guide<B>>(
     position: &Position<B>,
     guide: &G,
     moves: &[Move<B>],

@@ -5,8 +5,8 @@ ghost use Rattle.dw_solve.specs.Facts.{AreTrue, KnownFail};
 ghost use Rattle.dw_solve.specs.inner.Ranking.{IsSureReply, IsKnownRefuted, AreOpen, AreLinedUp, AreLinedUpLast, IsTakenUp};
 ghost use Rattle.dw_solve.specs.inner.Searching.{HasLooked};
 
-use crate::guide::Guide;
-use crate::ply::Ply;
+use crate::guide::{AnyOrder, Guide};
+use crate::ply::{Ply, rank_all};
 use crate::search::{Search, known};
 use dw_board::{Board, Position};
 use dw_memo::Memo;
@@ -91,6 +91,11 @@ fn line_up_open<B: Board, M: Memo<B>, G: Guide<B>>(
 {
     legal_into(position, &mut ply.moves)?;
     ply.ranked.clear();
+    if ply.moves.len() <= 1 {
+        // Its rank is not needed, and it is looked up when it is searched.
+        rank_all(position, &AnyOrder, ply.moves.as_slice(), &mut ply.ranked)?;
+        return Ok(false);
+    }
     let is_refuted = rank_open(
         search,
         position,
