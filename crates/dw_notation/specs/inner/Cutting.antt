@@ -59,8 +59,8 @@ found_behind at_end g cutter bytes = pieces_behind at_end g cutter.pieces (rest_
 abbrev pub found_cut : Geometry → Cutter → List Found
 found_cut g cutter = option_to_list (pieces_cut g cutter.pieces)
 
--- What reading on did, or meeting the end: the bytes read are those to be cut, and there are none at the end and after a
--- failure. All else is as it was.
+-- What reading on did, or meeting the end: the bytes read are those to be cut, and there are none at the end and after
+-- a failure. All else is as it was.
 pub record IsFilled {A : Type 0} (coming left : Option (List ℕ)) (old new : Cutter)
     (result : Result A ReadFault) : Type 0 where
   pub pieces : new.pieces ≡ old.pieces
