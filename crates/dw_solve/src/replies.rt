@@ -2,7 +2,8 @@
 ghost use Rattle.std.specs.Prelude.{◌≡◌, false, IfOk, IfSome, IsTrue, ◌⊎◌, []};
 ghost use Rattle.dw_moves.specs.Moves.{Legal, AreLegal, play};
 ghost use Rattle.dw_solve.specs.Facts.{AreTrue, KnownFail};
-ghost use Rattle.dw_solve.specs.inner.Ranking.{IsSureReply, IsKnownRefuted, AreOpen, AreLinedUp, AreLinedUpLast, IsTakenUp};
+ghost use Rattle.dw_solve.specs.inner.Ranking.{IsSureReply, IsKnownRefuted, AreOpen};
+ghost use Rattle.dw_solve.specs.inner.Ranking.{AreLinedUp, AreLinedUpLast, IsTakenUp};
 ghost use Rattle.dw_solve.specs.inner.Searching.{HasLooked};
 
 use crate::guide::{AnyOrder, Guide};
