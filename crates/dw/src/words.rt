@@ -343,32 +343,41 @@ fn read_by<'a>(words: &ArgMatches<'a>, command: Command) -> Request<'a> {
 /// What a command that searches for wins asks for. The numbers are within their ranges already, but what reads the
 /// words does not say so to the prover.
 fn searched_by<'a>(words: &ArgMatches<'a>, command: Command) -> Request<'a> {
+    let read = read_by(words, command);
+    let positions = words.get_one::<u64>("positions");
+    let cache = words.get_one::<usize>("cache");
     Request {
+        command,
+        form: read.form,
+        only: read.only,
+        board: read.board,
         n: words.get_one::<u8>("n").unwrap_or(1).clamp(1, MOST_MOVES),
-        positions: words
-            .get_one::<u64>("positions")
-            .unwrap_or(MOST_POSITIONS)
-            .max(1),
+        positions: positions.unwrap_or(MOST_POSITIONS).max(1),
         memo: memo_kind(words.get_str("memo")),
-        cache: words
-            .get_one::<usize>("cache")
-            .unwrap_or(USUALLY_KEPT)
-            .clamp(1, MOST_KEPT),
-        ..read_by(words, command)
+        cache: cache.unwrap_or(USUALLY_KEPT).clamp(1, MOST_KEPT),
+        lines: read.lines,
+        after: read.after,
+        file: read.file,
     }
 }
 
 /// What the command that lists lines asks for. A token without the number of a problem is one of problem 1.
 fn listed_by<'a>(words: &ArgMatches<'a>) -> Request<'a> {
-    let request = searched_by(words, Command::List);
+    let asked = searched_by(words, Command::List);
     let after = words.get_str("after");
+    let first = if after.is_some() { Some(1) } else { None };
     Request {
+        command: asked.command,
+        form: asked.form,
+        only: asked.only.or(first),
+        board: asked.board,
+        n: asked.n,
+        positions: asked.positions,
+        memo: asked.memo,
+        cache: asked.cache,
         lines: words.get_one::<u64>("lines").unwrap_or(MOST_LINES).max(1),
         after,
-        only: request
-            .only
-            .or(if after.is_some() { Some(1) } else { None }),
-        ..request
+        file: asked.file,
     }
 }
 

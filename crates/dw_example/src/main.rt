@@ -22,7 +22,7 @@ fn main(rt: HostRuntime) -> anyhow::Result<()> {
     let wins = solver.wins(alloc, &position, 2)?;
     println!(rt; "a win in 2 moves: {wins}")?;
     let mut lister = Lister::start(&mut solver, &position, 2);
-    for number in 1..=2 {
+    for number in 1..3 {
         if let Some(line) = lister.next(alloc)? {
             print!(rt; "line {number}:")?;
             write_moves(&rt, line)?;
