@@ -2,9 +2,11 @@
 //! how many positions are expanded, a second. Counts and answers go to standard output, speeds to standard error.
 //!
 //! Without a word it does some of both. A number gives plies to add to the lines, `deep` counts many plies and no more,
-//! `solve` asks for all problems, and `lines` lists the lines of some forced wins.
+//! `solve` asks for all problems, `lines` lists the lines of some forced wins, and `growth` counts how many positions
+//! are expanded for one move more.
 #![tactic(auto)]
 
+mod growth;
 mod lines;
 mod perft;
 mod problems;
@@ -14,6 +16,7 @@ mod timing;
 use anyhow::Context;
 use dw_board::{Position, Ten, read_fen};
 use dw_moves::Move;
+use growth::count_growth;
 use lines::list_lines;
 use perft::{moves_made, perft};
 use solving::solve_problems;
@@ -58,6 +61,7 @@ fn main(rt: HostRuntime) -> anyhow::Result<()> {
         Some("deep") => count_deep(&rt),
         Some("solve") => solve_problems(&rt, ALL_MOVES),
         Some("lines") => list_lines(&rt),
+        Some("growth") => count_growth(&rt),
         Some(word) => count_all(&rt, plies_added(word)?),
     }
 }

@@ -4,13 +4,14 @@ use Rattle.std.proofs.Common.{inr, arith, ◌↔◌, ◌≤◌}
 use Rattle.std.proofs.lemmas.Bool.{cases_lt}
 use Rattle.std.specs.FinSet as fin
 use Rattle.std.specs.Ordering.{nat_cmp}
-use Rattle.dw_board.specs.Geometry.{Geometry, IsBoard}
+use Rattle.dw_board.specs.Geometry.{Geometry, IsBoard, Squares}
 use Rattle.dw_board.specs.Placement.{Placement, IsPosition, other}
 use Rattle.dw_moves.specs.Moves.{IsBest, CanCapture, Move, Quiet, Path, IsPathOf, Legal, LegalAt, AreLegal, last_of}
+use Rattle.dw_moves.specs.Moves.{AreEnds, In}
 use Rattle.dw_board.specs.Lists.{Member}
 use Rattle.dw_moves.specs.inner.Plain.{quiet_to, Adds}
 use Rattle.dw_moves.specs.Order.{Listed}
-use Rattle.dw_moves.specs.inner.Walks.{Captures, Is, IsMost, Longest, Makes, MovesHeld, number}
+use Rattle.dw_moves.specs.inner.Walks.{Captures, EndsOn, Held, Is, IsMost, Longest, Makes, MovesHeld, number}
 use Rattle.dw_moves.proofs.CaptureBoundLemmas.{path_bound}
 use Rattle.dw_moves.proofs.GroundLemmas.{side_fits}
 use Rattle.dw_moves.proofs.LegalMoveLemmas.{best_only}
@@ -191,3 +192,17 @@ legal_if_sought g p k m most takes =
     ) where
       above : (n : ℕ) → (n ≡ 0 → ⊥) → 0 < n
       above n h = omega arith
+
+-- the squares that are held of the captures of the greatest number are those on which a legal capture ends
+pub ends_legal : (g : Geometry) (p : Placement) (k : ℕ) (ends : Squares)
+    → Held (Captures g p) k EndsOn (λ s. In s ends) → AreEnds g p ends
+ends_legal g p k ends h s =
+    let best : IsBest g p k = best_of g p k h.most in (
+      (λ x.
+          let c = (h.exactly s).0 x in
+          (c.0.step, legal_from_capture g p k c.0.step best (c.0, c.1, c.2, refl), c.1.some, c.3)),
+      (λ l.
+          let takes : 0 < k = omega (arith, l.2, legal_count g p k l.0 best l.1) in
+          let c = capture_from_legal g p k l.0 takes best l.1 in
+          (h.exactly s).1 (c.0, c.1, c.2, ap (λ (m : Move). m.to) c.3 ∙ l.3)),
+    )

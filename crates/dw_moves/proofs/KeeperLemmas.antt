@@ -1,18 +1,21 @@
 -- What each keeper makes of one capture more.
 use Rattle.std.proofs.Common.{◌≡◌, ℕ, ◌<◌, ◌≤◌, List, [], ◌∷◌, ◌++◌, refl, sym, ap, ◌∙◌, subst, ◌⊎◌, ◌↔◌, inl, inr, arith}
-use Rattle.std.proofs.Common.{true, false, max, Option, Some, None}
+use Rattle.std.proofs.Common.{true, false, Option, Some, None}
 use Rattle.std.specs.Prelude.{IsSome}
 use Rattle.std.specs.List.{list_any}
 use Rattle.std.proofs.lemmas.Bool.{true≢false, or_cases, or_left, or_right, cases_lt}
 use Rattle.dw_board.specs.Lists.{Member, NoRepeat}
-use Rattle.dw_moves.specs.Moves.{Move}
+use Rattle.std.specs.FinSet as fin
+use Rattle.dw_board.specs.Geometry.{Squares}
+use Rattle.dw_moves.specs.Moves.{In, Move}
 use Rattle.dw_moves.specs.Order.{Listed}
 use Rattle.dw_moves.specs.inner.LexLemmas.{lex_irrefl, not_less}
 use Rattle.dw_moves.specs.inner.MemberLemmas.{mem_left, mem_right, mem_cases}
 use Rattle.dw_moves.specs.inner.MoveLemmas.{same_moves, same_moves-is}
-use Rattle.dw_moves.specs.inner.Walks.{Along, Covered, Followed, Is, IsMost, Longest, Makes, MovesHeld, PathsHeld}
+use Rattle.dw_moves.specs.inner.Walks.{Along, Covered, EndsOn, Followed, Held, Is, IsMost, Longest, Makes, MovesHeld, PathsHeld}
 use Rattle.dw_moves.specs.inner.Walks.{Sought, TakenIn, These, number, steps_of}
 use Rattle.dw_moves.proofs.QuietOnceLemmas.{once_append}
+use Rattle.dw_moves.proofs.SquareSetLemmas.{in_none, in_more}
 use Rattle.dw_moves.proofs.StepLemmas.{none_some}
 
 -- ---- no capture yet
@@ -21,6 +24,13 @@ most_none = record { reached = inl refl; most = λ l m. absurd m }
 
 none_longest : (C : Listed → Type 0) → Longest (These []) 0 C → ⊥
 none_longest C h = h.1
+
+pub held_none : {X : Type 0} (Has : X → Listed → Type 0) (held : X → Type 0) → ((x : X) → held x → ⊥)
+    → Held (These []) 0 Has held
+held_none {X} Has held none = record {
+  most = most_none;
+  exactly = λ x. ((λ h. absurd (none x h)), (λ h. absurd (none_longest (Has x) h)));
+}
 
 pub moves_none : MovesHeld (These []) 0 []
 moves_none = record {
@@ -66,6 +76,13 @@ longest_same E F C k same = (
 )
 
 module _ (E F : Listed → Type 0) (same : (l : Listed) → E l ↔ F l) (k : ℕ) where
+  pub held_same : {X : Type 0} (Has : X → Listed → Type 0) (held : X → Type 0) → Held E k Has held → Held F k Has held
+  held_same {X} Has held h = record {
+    most = most_same E F k same h.most;
+    exactly = λ x. let both = longest_same E F (Has x) k same in
+        ((λ y. both.0 ((h.exactly x).0 y)), (λ y. (h.exactly x).1 (both.1 y)));
+  }
+
   pub moves_same : (moves : List Move) → MovesHeld E k moves → MovesHeld F k moves
   moves_same moves h = record {
     most = most_same E F k same h.most;
@@ -99,8 +116,8 @@ module _ (E F : Listed → Type 0) (same : (l : Listed) → E l ↔ F l) (k : �
   }
 
 -- ---- one capture more
-in_more : (xs : List Listed) (this l : Listed) → Member l (xs ++ this ∷ []) → Member l xs ⊎ (this ≡ l)
-in_more xs this l m = elim (mem_cases l xs (this ∷ []) m) [
+in_longer : (xs : List Listed) (this l : Listed) → Member l (xs ++ this ∷ []) → Member l xs ⊎ (this ≡ l)
+in_longer xs this l m = elim (mem_cases l xs (this ∷ []) m) [
   | inl x ↦ inl x
   | inr (inl e) ↦ inr (sym e)
   | inr (inr none) ↦ absurd none
@@ -112,7 +129,7 @@ module _ (xs : List Listed) (this : Listed) (k n : ℕ) (is : n ≡ number this)
   pub most_to : k ≤ n → IsMost (These xs) k → IsMost (These (xs ++ this ∷ [])) n
   most_to low h = record {
     reached = inr (this, mem_right this xs (this ∷ []) (inl refl), sym is);
-    most = λ l m. elim (in_more xs this l m) [
+    most = λ l m. elim (in_longer xs this l m) [
       | inl x ↦ omega (arith, h.most l x)
       | inr e ↦ omega (arith, ap number e)
     ];
@@ -121,7 +138,7 @@ module _ (xs : List Listed) (this : Listed) (k n : ℕ) (is : n ≡ number this)
   longest_to : (C : Listed → Type 0) → k ≤ n → IsMost (These xs) k
       → Longest (These (xs ++ this ∷ [])) n C ↔ (((n ≡ k) × Longest (These xs) k C) ⊎ C this)
   longest_to C low h = (
-    (λ x. elim (in_more xs this x.0 x.1) [
+    (λ x. elim (in_longer xs this x.0 x.1) [
       | inl old ↦ let same : n ≡ k = omega (arith, h.most x.0 old, x.2) in inl (same, (x.0, old, x.2 ∙ same, x.3))
       | inr e ↦ inr (subst C (sym e) x.3)
     ]),
@@ -140,25 +157,17 @@ module _ (xs : List Listed) (this : Listed) (k n : ℕ) (is : n ≡ number this)
   pub most_past : n ≤ k → IsMost (These xs) k → IsMost (These (xs ++ this ∷ [])) k
   most_past few h = record {
     reached = elim h.reached [ inl e ↦ inl e | inr r ↦ inr (r.0, mem_left r.0 xs (this ∷ []) r.1, r.2) ];
-    most = λ l m. elim (in_more xs this l m) [ inl x ↦ h.most l x | inr e ↦ omega (arith, ap number e) ];
+    most = λ l m. elim (in_longer xs this l m) [ inl x ↦ h.most l x | inr e ↦ omega (arith, ap number e) ];
   }
 
   longest_past : (C : Listed → Type 0) → n < k → Longest (These (xs ++ this ∷ [])) k C ↔ Longest (These xs) k C
   longest_past C few = (
-    (λ x. elim (in_more xs this x.0 x.1) [
+    (λ x. elim (in_longer xs this x.0 x.1) [
       | inl old ↦ (x.0, old, x.2, x.3)
       | inr e ↦ absurd (omega (arith, ap number e, x.2))
     ]),
     (λ x. (x.0, mem_left x.0 xs (this ∷ []) x.1, x.2, x.3)),
   )
-
-  pub most_max : (now : ℕ) → now ≡ max k n → IsMost (These xs) k → IsMost (These (xs ++ this ∷ [])) now
-  most_max now now_is h = elim (cases_lt k n) [
-    | inl less ↦ let same : n ≡ now = omega (arith, now_is) in
-        subst (IsMost (These (xs ++ this ∷ []))) same (most_to (omega arith) h)
-    | inr more ↦ let same : k ≡ now = omega (arith, now_is) in
-        subst (IsMost (These (xs ++ this ∷ []))) same (most_past more h)
-  ]
 
 -- ---- what is left of a list where a capture takes n pieces, and the kept ones k: nothing where it takes more, else
 -- all of it
@@ -205,6 +214,14 @@ paths_once k n list left (inr l) once = subst (λ z. NoRepeat (steps_of z)) (sym
 module _ (xs : List Listed) (this : Listed) (k n : ℕ) (is : n ≡ number this) (few : n < k) where
   past : IsMost (These xs) k → IsMost (These (xs ++ this ∷ [])) k
   past h = most_past xs this k n is (omega (arith, few)) h
+
+  pub held_past : {X : Type 0} (Has : X → Listed → Type 0) (held : X → Type 0) → Held (These xs) k Has held
+      → Held (These (xs ++ this ∷ [])) k Has held
+  held_past {X} Has held h = record {
+    most = past h.most;
+    exactly = λ x. let both = longest_past xs this k n is (Has x) few in
+        ((λ y. both.1 ((h.exactly x).0 y)), (λ y. (h.exactly x).1 (both.0 y)));
+  }
 
   pub moves_past : (moves : List Move) → MovesHeld (These xs) k moves → MovesHeld (These (xs ++ this ∷ [])) k moves
   moves_past moves h = record {
@@ -283,6 +300,24 @@ module _ (xs : List Listed) (this : Listed) (k n now : ℕ) (is : n ≡ number t
       → Longest (These (xs ++ this ∷ [])) now C ↔ (((n ≡ k) × Longest (These xs) k C) ⊎ C this)
   longest C h = subst (λ z. Longest (These (xs ++ this ∷ [])) z C ↔ (((n ≡ k) × Longest (These xs) k C) ⊎ C this))
       (sym now_is) (longest_to xs this k n is C low h)
+
+  -- what it has is held beside what was held of those that take as many
+  pub held_more : {X : Type 0} (Has : X → Listed → Type 0) (old new : X → Type 0)
+      → ((x : X) → new x ↔ (((n ≡ k) × old x) ⊎ Has x this)) → Held (These xs) k Has old
+      → Held (These (xs ++ this ∷ [])) now Has new
+  held_more {X} Has old new both h = record {
+    most = top h.most;
+    exactly = λ x. (
+      (λ y. (longest (Has x) h.most).1 (elim ((both x).0 y) [
+        | inl o ↦ inl (o.0, (h.exactly x).0 o.1)
+        | inr t ↦ inr t
+      ])),
+      (λ y. (both x).1 (elim ((longest (Has x) h.most).0 y) [
+        | inl o ↦ inl (o.0, (h.exactly x).1 o.1)
+        | inr t ↦ inr t
+      ])),
+    );
+  }
 
   -- it is not there yet, and is added
   pub moves_new : (moves left new : List Move) → Left k n moves left
@@ -393,3 +428,26 @@ module _ (xs : List Listed) (this : Listed) (k n now : ℕ) (is : n ≡ number t
       | inr e ↦ absurd (apart (e ∙ sym (new_is ∙ h.same)))
     ];
   }
+
+  -- the square on which it ends is held beside those that are left
+  pub ends_more : (ends left new : Squares) → ((k < n) × (left ≡ fin.empty)) ⊎ ((k ≡ n) × (left ≡ ends))
+      → new ≡ fin.insert left this.step.to → Held (These xs) k EndsOn (λ s. In s ends)
+      → Held (These (xs ++ this ∷ [])) now EndsOn (λ s. In s new)
+  ends_more ends left new l new_is h = held_more EndsOn (λ s. In s ends) (λ s. In s new) both h where
+    in_left : (s : ℕ) → In s left ↔ ((n ≡ k) × In s ends)
+    in_left s = elim l [
+      | inl none ↦ ((λ x. absurd (in_none left s none.1 x)), (λ x. absurd (omega (arith, none.0, x.0))))
+      | inr all ↦ ((λ x. (sym all.0, subst (In s) all.1 x)), (λ x. subst (In s) (sym all.1) x.1))
+    ]
+
+    both : (s : ℕ) → In s new ↔ (((n ≡ k) × In s ends) ⊎ EndsOn s this)
+    both s = (
+      (λ x. elim ((in_more left this.step.to s).0 (subst (In s) new_is x)) [
+        | inl e ↦ inr e
+        | inr o ↦ inl ((in_left s).0 o)
+      ]),
+      (λ x. subst (In s) (sym new_is) ((in_more left this.step.to s).1 (elim x [
+        | inl o ↦ inr ((in_left s).1 o)
+        | inr e ↦ inl e
+      ]))),
+    )

@@ -83,6 +83,18 @@ not_in v k q e =
       ],
     )
 
+pub in_more : (v : Squares) (k q : ℕ) → In q (fin.insert v k) ↔ ((k ≡ q) ⊎ In q v)
+in_more v k q = (
+  (λ h. elim (or_cases (eqb q k) (fin.contains v q) (sym (contains-insert v k q) ∙ h)) [
+    | inl e ↦ inl (sym (eqb-true q k e))
+    | inr o ↦ inr o
+  ]),
+  (λ h. contains-insert v k q ∙ elim h [
+    | inl e ↦ or_left (eqb q k) (fin.contains v q) (eq-eqb q k (sym e))
+    | inr o ↦ or_right (eqb q k) (fin.contains v q) o
+  ]),
+)
+
 pub out_of : (v : Squares) (k q : ℕ) → q ≢ k → fin.contains v q ≡ false → fin.contains (fin.insert v k) q ≡ false
 out_of v k q ne e = elim (cases_Bool (fin.contains (fin.insert v k) q)) [
   | inl t ↦ elim (or_cases (eqb q k) (fin.contains v q) (sym (contains-insert v k q) ∙ t)) [

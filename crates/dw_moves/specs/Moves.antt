@@ -149,6 +149,10 @@ NoMove g p = (m : Move) → Legal g p m → ⊥
 abbrev pub In : ℕ → Squares → Type 0
 In s v = IsTrue (set.contains v s)
 
+-- the squares on which a legal capture ends
+abbrev pub AreEnds : Geometry → Placement → Squares → Type 0
+AreEnds g p ends = (s : ℕ) → In s ends ↔ (m : Move) × Legal g p m × (0 < set.len m.taken) × (m.to ≡ s)
+
 -- what a move feeds a hasher: its squares, and the word of what it takes
 abbrev pub move_bytes : Geometry → Move → List (List ℕ)
 move_bytes g m = fed.u8 m.from ++ (fed.u8 m.to ++ fed.u64 (word_of g m.taken))

@@ -1,13 +1,13 @@
-//! The greatest number of pieces that can be taken.
-ghost use Rattle.std.specs.Prelude.{◌≤◌, []};
-ghost use Rattle.dw_moves.specs.Moves.{IsBest};
-ghost use Rattle.dw_moves.specs.inner.Walks.{IsMost, These};
+//! The greatest number of pieces that can be taken, and where the moves that take so many end.
+ghost use Rattle.std.specs.Prelude.{◌≡◌, ◌≤◌};
+ghost use Rattle.dw_moves.specs.Moves.{AreEnds, In, IsBest};
+ghost use Rattle.dw_moves.specs.inner.Walks.{EndsOn, Held, These};
 
 pub use crate::glance::has_move;
 use crate::keeper::Keeper;
 use crate::moves::Move;
 use crate::walk::walk_captures;
-use dw_board::{Board, Position, Square};
+use dw_board::{Board, Position, Square, Squares};
 use std::convert::Infallible;
 
 /// The greatest number of pieces that the side to move can take in one move, at most 20; 0 if it can take
@@ -22,22 +22,39 @@ pub fn best<B: Board>(position: &Position<B>) -> u8
     ensures value { IsBest B.geometry position.now result }
     ensures small { result ≤ 20 }
 {
-    let mut greatest = Greatest { most: 0 };
-    match walk_captures(position, &mut greatest) {
-        Ok(()) => greatest.most,
+    best_captures(position).pieces
+}
+
+/// What is seen of the legal captures without a list of them.
+/// See [`best_captures`] for an example.
+#[derive(Drop)]
+pub struct BestCaptures<B: Board> {
+    /// How many pieces each takes, at most 20; 0 if nothing can be taken.
+    pub pieces: u8,
+    /// The squares on which they end.
+    pub ends: Squares<B>,
+}
+
+/// How many pieces the legal captures take, and on which squares they end. It takes no memory.
+/// Example: at `W:WK47:B17,18,24,32,33` they take 4 pieces and end on 38, 43 and 49.
+pub fn best_captures<B: Board>(position: &Position<B>) -> BestCaptures<B>
+    ensures pieces { IsBest B.geometry position.now result.pieces }
+    ensures small { result.pieces ≤ 20 }
+    ensures ends { AreEnds B.geometry position.now result.ends }
+{
+    let mut best = BestCaptures {
+        pieces: 0,
+        ends: Squares::none(),
+    };
+    match walk_captures(position, &mut best) {
+        Ok(()) => best,
     }
 }
 
-/// Keeps the greatest number of pieces that a capture takes, and no capture.
-#[derive(Drop)]
-struct Greatest {
-    most: u8,
-}
-
-impl<B: Board> Keeper<B> for Greatest {
+impl<B: Board> Keeper<B> for BestCaptures<B> {
     type Fault = Infallible;
 
-    ghost holds = { λ first xs k. IsMost (These xs) k.most };
+    ghost holds = { λ first xs k. Held (These xs) k.pieces EndsOn (λ s. In s k.ends) };
 
     ghost is_on = { λ k path. Unit {0} };
 
@@ -48,7 +65,14 @@ impl<B: Board> Keeper<B> for Greatest {
     fn leave(&mut self) {}
 
     fn offer(&mut self, mv: &Move<B>, count: u8) -> Result<(), Infallible> {
-        self.most = self.most.max(count);
+        if count < self.pieces {
+            return Ok(());
+        }
+        if self.pieces < count {
+            self.pieces = count;
+            self.ends = Squares::none();
+        }
+        self.ends = self.ends.with(mv.to);
         Ok(())
     }
 }

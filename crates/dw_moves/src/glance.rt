@@ -1,5 +1,5 @@
 //! Tests of the whole board at once, by sets of squares: no move is listed.
-ghost use Rattle.std.specs.Prelude.{◌≡◌, ◌↔◌, ℕ, IsTrue, IsNone, IfSome};
+ghost use Rattle.std.specs.Prelude.{◌≡◌, ◌≤◌, ◌↔◌, ℕ, IsTrue, IsNone, IfSome};
 ghost use Rattle.dw_moves.specs.Moves.{CanCapture, In, IsQuietCount, Legal, Move};
 ghost use Rattle.dw_moves.specs.inner.Glance.{AreSets, CanStep, MenTake};
 ghost use Rattle.dw_moves.specs.Replies.{passed, OneStep};
@@ -20,12 +20,14 @@ pub fn can_capture<B: Board>(position: &Position<B>) -> bool
     Field::of(position).takes()
 }
 
-/// The number of legal moves if nothing can be taken, or `None` if something can be: then it is not counted.
+/// The number of legal moves if nothing can be taken, at most 400, or `None` if something can be: then it is not
+/// counted.
 /// Example: at `W:W27,45:B16` it is 3, and at `W:W32:B28` it is `None`.
 #[inline]
 pub fn count_if_quiet<B: Board>(position: &Position<B>) -> Option<u32>
     ensures none { IsNone result ↔ CanCapture B.geometry position.now }
     ensures some { IfSome result (IsQuietCount B.geometry position.now) }
+    ensures small { IfSome result (λ count. count ≤ 400) }
 {
     let field = Field::of(position);
     if field.men_take() {
@@ -45,6 +47,7 @@ fn count_unless_kings_take<B: Board>(position: &Position<B>, field: &Field<B>) -
     requires men { (d : Dir) (t : ℕ) → MenTake B.geometry field.now.men field.now.enemies field.now.occupied d t → ⊥ }
     ensures none { IsNone result ↔ CanCapture B.geometry position.now }
     ensures some { IfSome result (IsQuietCount B.geometry position.now) }
+    ensures small { IfSome result (λ count. count ≤ 400) }
 {
     if field.slide_to_take() {
         None

@@ -27,7 +27,8 @@ pub fn quiet_count<B: Board>(position: &Position<B>) -> u32
 #[inline(always)]
 pub(crate) fn count_on<B: Board>(position: &Position<B>, field: &Field<B>) -> u32
     requires { AreSets B.geometry position.now field.now.men field.now.kings field.now.enemies field.now.occupied }
-    ensures { IsQuietCount B.geometry position.now result }
+    ensures value { IsQuietCount B.geometry position.now result }
+    ensures small { result ≤ 400 }
 {
     let up = men_count(position, Dir::UpLeft) + men_count(position, Dir::UpRight);
     let down = men_count(position, Dir::DownLeft) + men_count(position, Dir::DownRight);

@@ -17,7 +17,7 @@ use Rattle.dw_moves.specs.inner.MemberLemmas.{mem_map, mem_map_back}
 use Rattle.dw_moves.specs.inner.MoveLemmas.{same_moves, same_moves-is}
 use Rattle.dw_board.specs.Lists.{Member, NoRepeat}
 use Rattle.dw_solve.specs.Wins.{Win, Lost}
-use Rattle.dw_solve.specs.Ranking.{AreRanked}
+use Rattle.dw_solve.specs.Ranking.{AreRanked, moves_of}
 
 pub get_same : {X : Type 0} (xs : List X) (i : ℕ) (a b : X) → i < length xs → get_or xs i a ≡ get_or xs i b
 get_same [] i a b low = absurd (omega arith)
@@ -35,10 +35,6 @@ index_of x (y ∷ xs) (inl e) = (0, omega arith, e)
 index_of x (y ∷ xs) (inr m) = let r = index_of x xs m in (suc r.0, omega (arith, r.1), r.2)
 
 -- ---- lists of ranked moves
--- the moves, without their ranks
-abbrev pub steps : List (ℕ × Move) → List Move
-steps ranked = map (λ r. r.1) ranked
-
 -- the legal moves are those that stand there with some rank
 ranked_members : (g : Geometry) (p : Placement) (ranked : List (ℕ × Move)) → AreRanked g p ranked → (m : Move)
     → Legal g p m ↔ ((rank : ℕ) × Contains ranked (rank, m))
@@ -52,17 +48,26 @@ ranked_members g p ranked all m = (
 )
 
 -- one more move, with its rank
-pub ranked_more : (moves : List Move) (ranked : List (ℕ × Move)) (i rank : ℕ) (m : Move) → steps ranked ≡ take i moves
-    → i < length moves → m ≡ get_or moves i m → steps (ranked ++ (rank, m) ∷ []) ≡ take (i + 1) moves
+pub ranked_more : (moves : List Move) (ranked : List (ℕ × Move)) (i rank : ℕ) (m : Move) → moves_of ranked ≡ take i moves
+    → i < length moves → m ≡ get_or moves i m → moves_of (ranked ++ (rank, m) ∷ []) ≡ take (i + 1) moves
 ranked_more moves ranked i rank m h low is =
     let next = take-suc moves i m low in
     map-append (λ (r : ℕ × Move). r.1) ranked ((rank, m) ∷ [])
     ∙ (ap (λ z. z ++ m ∷ []) h ∙ (ap (λ z. take i moves ++ z ∷ []) is
     ∙ (sym next ∙ ap (λ n. take n moves) (sym (add-one i)))))
 
-pub ranked_all : (g : Geometry) (p : Placement) (moves : List Move) (ranked : List (ℕ × Move)) (i : ℕ)
-    → AreLegal g p moves → steps ranked ≡ take i moves → length moves ≤ i → AreRanked g p ranked
-ranked_all g p moves ranked i legal h end = subst (AreLegal g p) (sym (h ∙ take_all i moves end)) legal
+pub ranked_all : (moves : List Move) (ranked : List (ℕ × Move)) (i : ℕ) → moves_of ranked ≡ take i moves
+    → length moves ≤ i → moves_of ranked ≡ moves
+ranked_all moves ranked i h end = h ∙ take_all i moves end
+
+-- each move of the list has a rank
+pub rank_of : (ranked : List (ℕ × Move)) (m : Move) → Member m (moves_of ranked) → (rank : ℕ) × Member (rank, m) ranked
+rank_of ranked m there =
+    let f = mem_map_back (λ (r : ℕ × Move). r.1) m ranked there in
+    (f.0.0, subst (λ z. Member (f.0.0, z) ranked) (sym f.2) f.1)
+
+pub move_of : (ranked : List (ℕ × Move)) (r : ℕ × Move) → Member r ranked → Member r.1 (moves_of ranked)
+move_of ranked r there = mem_map (λ (z : ℕ × Move). z.1) r ranked there
 
 -- ---- another order
 same_flip : (a b : Move) → same_moves a b ≡ same_moves b a
@@ -109,12 +114,12 @@ ranked_anyhow g p ranked sorted all moved =
     let there = IsPermutation-map (λ (r : ℕ × Move). r.1) ranked sorted moved in
     record {
       exactly = λ m. (
-        (λ k. (all.exactly m).0 (still_there (steps sorted) (steps ranked)
-            (IsPermutation-sym (steps ranked) (steps sorted) there) m k)),
-        (λ l. still_there (steps ranked) (steps sorted) there m ((all.exactly m).1 l)),
+        (λ k. (all.exactly m).0 (still_there (moves_of sorted) (moves_of ranked)
+            (IsPermutation-sym (moves_of ranked) (moves_of sorted) there) m k)),
+        (λ l. still_there (moves_of ranked) (moves_of sorted) there m ((all.exactly m).1 l)),
       );
-      once = no_repeat (steps sorted) (IsDistinct-IsPermutation same_moves same_flip (steps ranked) (steps sorted) there
-          (distinct (steps ranked) all.once));
+      once = no_repeat (moves_of sorted) (IsDistinct-IsPermutation same_moves same_flip (moves_of ranked) (moves_of sorted) there
+          (distinct (moves_of ranked) all.once));
     }
 
 -- what stands at an index is a legal move

@@ -1,11 +1,13 @@
 //! In which order a search goes through moves.
 ghost use Rattle.std.specs.Prelude.{◌≡◌};
 ghost use Rattle.dw_moves.specs.Moves.{Legal, play};
-ghost use Rattle.dw_solve.specs.Trial.{IsTrial};
+ghost use Rattle.dw_solve.specs.Trial.{IsCaptureRank, IsRankByTrial};
 
 use crate::trial::trial;
 use dw_board::{Board, Position};
 use dw_moves::Move;
+use dw_moves::best::best_captures;
+use dw_moves::play::play as played;
 
 /// Ranks moves: those of a lower rank are tried first, if they leave the attacker two further moves or more. With
 /// fewer, a search goes by orders of its own, which cost less than the ranks. No answer depends on it.
@@ -30,16 +32,38 @@ impl<B: Board> Guide<B> for AnyOrder {
     }
 }
 
-/// Moves that leave the other side less freedom come first.
-/// Example: at `W:W27,45:B16` the rank of `27-21`, which forces a capture, is 0, and that of `45-40` is 1.
+/// What counts for how much in a rank: a quiet move or a square on which a capture ends, and a piece that is taken.
+/// A search with these expands the fewest positions of all that were tried.
+const PER_CHOICE: u32 = 2;
+const PER_PIECE: u32 = 3;
+
+/// Moves that leave the other side less choice come first. The rank is twice the `trial` of the move. If that is 0, and
+/// so the other side must capture or has no move, the rank is twice the number of squares on which a capture ends, and
+/// 3 more for each piece after the first that it takes.
+/// Example: at `W:W27,45:B16` the rank of `27-21`, which forces a capture of one piece, is 2, and that of `45-40` is 2
+/// too, since it leaves one quiet move.
 #[derive(Clone, Copy, Debug, Default)]
 pub struct ByTrial;
 
 impl<B: Board> Guide<B> for ByTrial {
     fn rank(&self, position: &Position<B>, mv: &Move<B>) -> u32
         requires { Legal B.geometry position.now mv.now }
-        ensures { IsTrial B.geometry (play B.geometry position.now mv.now) result }
+        ensures { IsRankByTrial B.geometry (play B.geometry position.now mv.now) result }
     {
-        trial(position, mv)
+        let counted = trial(position, mv);
+        if counted == 0 {
+            capture_rank(&played(position, mv))
+        } else {
+            PER_CHOICE * counted
+        }
     }
+}
+
+/// The rank by the captures of the side to move.
+fn capture_rank<B: Board>(position: &Position<B>) -> u32
+    ensures { IsCaptureRank B.geometry position.now result }
+{
+    let best = best_captures(position);
+    let more = best.pieces.saturating_sub(1);
+    PER_CHOICE * u32::from(best.ends.count()) + PER_PIECE * u32::from(more)
 }

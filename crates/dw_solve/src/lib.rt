@@ -6,6 +6,7 @@
 #![tactic(auto)]
 
 pub mod guide;
+mod history;
 pub mod laws;
 pub mod lineup;
 mod ply;

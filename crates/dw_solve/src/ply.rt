@@ -1,9 +1,8 @@
 //! The moves of one position, in the order in which a search goes through them.
 ghost use Rattle.std.specs.Prelude.{◌≡◌, [], IfOk, OnOk, IfSome};
 ghost use Rattle.std.specs.List.Sorted.{IsNonDecreasingBy};
-ghost use Rattle.dw_moves.specs.Moves.{AreLegal};
-ghost use Rattle.dw_solve.specs.Ranking.{AreRanked};
-ghost use Rattle.dw_solve.specs.inner.Ranking.{IsLastWin, IsSureReply};
+ghost use Rattle.dw_solve.specs.Ranking.{AreRanked, moves_of};
+ghost use Rattle.dw_solve.specs.inner.Ranking.{AreAllLegal, IsLastWin, IsSureReply};
 
 use crate::guide::{AnyOrder, Guide};
 use dw_board::{Board, Position};
@@ -16,6 +15,8 @@ use std::alloc::{AllocError, Global};
 #[derive(Drop)]
 pub(crate) struct Ply<B: Board> {
     pub(crate) moves: Vec<Move<B>>,
+    /// Those of them that the cache does not decide, where it is asked.
+    pub(crate) undecided: Vec<Move<B>>,
     /// Legal moves with their ranks, the lowest first.
     pub(crate) ranked: Vec<(u32, Move<B>)>,
 }
@@ -27,6 +28,7 @@ impl<B: Board> Ply<B> {
     {
         Ply {
             moves: Vec::new(alloc),
+            undecided: Vec::new(alloc),
             ranked: Vec::new(alloc),
         }
     }
@@ -89,16 +91,16 @@ impl<B: Board> Ply<B> {
     }
 }
 
-/// Adds the legal moves with their ranks to an empty list.
+/// Adds legal moves with their ranks to an empty list.
 pub(crate) fn rank_all<B: Board, G: Guide<B>>(
     position: &Position<B>,
     guide: &G,
     moves: &[Move<B>],
     ranked: &mut Vec<(u32, Move<B>)>,
 ) -> Result<(), AllocError>
-    requires legal { AreLegal B.geometry position.now moves.now }
+    requires legal { AreAllLegal B.geometry position.now moves.now }
     requires empty { ranked.old.items ≡ [] }
-    ensures { OnOk result (AreRanked B.geometry position.now ranked.new.items) }
+    ensures { OnOk result (moves_of ranked.new.items ≡ moves.now) }
 {
     'moves: for mv in moves {
         ranked.push((guide.rank(position, mv), *mv))?;

@@ -41,12 +41,10 @@ pub(crate) fn line_up_replies<B: Board, M: Memo<B>, G: Guide<B>>(
         ply.new.ranked.items) }
 {
     if moves == 1 {
-        return line_up_last(ply, position);
+        line_up_last(ply, position)
+    } else {
+        line_up_open(search, ply, position, moves)
     }
-    if line_up_open(search, ply, position, moves)? {
-        return Ok(Replies::Refuted);
-    }
-    Ok(Replies::Open)
 }
 
 /// Takes up the replies at the attacker's last move, or finds one that is sure to refute.
@@ -75,72 +73,73 @@ fn sure_reply<B: Board>(position: &Position<B>) -> Option<Position<B>>
     Some(after)
 }
 
-/// Takes up the replies that the cache does not decide, in the guide's order, or answers that it says of one that it
-/// refutes.
+/// Takes up the replies that the cache does not decide, in the guide's order, unless it says of one that it refutes.
 fn line_up_open<B: Board, M: Memo<B>, G: Guide<B>>(
     search: &mut Search<M, G>,
     ply: &mut Ply<B>,
     position: &Position<B>,
     moves: u8,
-) -> Result<bool, AllocError>
+) -> Result<Replies<B>, AllocError>
     requires { AreTrue B.geometry (M.content search.old.memo) }
     ensures looked { HasLooked B.geometry M.content M.dropped search.old search.new }
-    ensures refuted { IfOk result (λ yes. IsTrue yes →
-        IsKnownRefuted B.geometry (M.content search.old.memo) position.now moves) }
-    ensures open { IfOk result (λ yes. yes ≡ false →
-        AreOpen B.geometry (M.content search.old.memo) position.now moves ply.new.ranked.items) }
+    ensures known { IfOk result (AreLinedUp B.geometry (M.content search.old.memo) position.now moves
+        ply.new.ranked.items) }
 {
     legal_into(position, &mut ply.moves)?;
     ply.ranked.clear();
     if ply.moves.len() <= 1 {
         // Its rank is not needed, and it is looked up when it is searched.
         rank_all(position, &AnyOrder, ply.moves.as_slice(), &mut ply.ranked)?;
-        return Ok(false);
+        return Ok(Replies::Open);
     }
-    let is_refuted = rank_open(
+    ply.undecided.clear();
+    if find_open(
         search,
         position,
         moves,
         ply.moves.as_slice(),
-        &mut ply.ranked,
-    )?;
+        &mut ply.undecided,
+    )? {
+        return Ok(Replies::Refuted);
+    }
+    rank_all(position, &search.guide, ply.undecided.as_slice(), &mut ply.ranked)?;
     ply.ranked.sort_unstable_by_key(|ranked| ranked.0);
-    Ok(is_refuted)
+    Ok(Replies::Open)
 }
 
-/// Adds the replies that the cache does not decide, with their ranks, to an empty list, or answers that it says of one
-/// that it refutes.
-fn rank_open<B: Board, M: Memo<B>, G: Guide<B>>(
+/// Adds the replies that the cache does not decide to an empty list, or answers that it says of one that it refutes.
+/// Nothing else is done between two looks, so that a processor can begin the next before one is answered.
+fn find_open<B: Board, M: Memo<B>, G>(
     search: &mut Search<M, G>,
     position: &Position<B>,
     moves: u8,
     replies: &[Move<B>],
-    ranked: &mut Vec<(u32, Move<B>)>,
+    undecided: &mut Vec<Move<B>>,
 ) -> Result<bool, AllocError>
     requires right { AreTrue B.geometry (M.content search.old.memo) }
     requires legal { AreLegal B.geometry position.now replies.now }
-    requires empty { ranked.old.items ≡ [] }
+    requires empty { undecided.old.items ≡ [] }
     ensures looked { HasLooked B.geometry M.content M.dropped search.old search.new }
     ensures refuted { IfOk result (λ yes. IsTrue yes →
         IsKnownRefuted B.geometry (M.content search.old.memo) position.now moves) }
     ensures open { IfOk result (λ yes. yes ≡ false →
-        AreOpen B.geometry (M.content search.old.memo) position.now moves ranked.new.items) }
+        AreOpen B.geometry (M.content search.old.memo) position.now moves undecided.new.items) }
 {
     'replies: for reply in replies {
-        if take_up(search, position, moves, reply, ranked)? {
+        if take_up(search, position, moves, reply, undecided)? {
             return Ok(true);
         }
     }
     Ok(false)
 }
 
-/// Adds a reply with its rank to a list, if the cache does not decide it, or answers that it says that it refutes.
-fn take_up<B: Board, M: Memo<B>, G: Guide<B>>(
+/// Adds a reply to a list, if the cache does not decide it, or answers that it says that it refutes.
+fn take_up<B: Board, M: Memo<B>, G>(
     search: &mut Search<M, G>,
     position: &Position<B>,
     moves: u8,
     reply: &Move<B>,
-    ranked: &mut Vec<(u32, Move<B>)>,
+    undecided: &mut Vec<Move<B>>,
 ) -> Result<bool, AllocError>
     requires right { AreTrue B.geometry (M.content search.old.memo) }
     requires legal { Legal B.geometry position.now reply.now }
@@ -149,11 +148,11 @@ fn take_up<B: Board, M: Memo<B>, G: Guide<B>>(
         (moves ≡ 0) ⊎ KnownFail (M.content search.old.memo) (play B.geometry position.now reply.now) moves) }
     ensures open { IfOk result (λ yes. yes ≡ false →
         IsTakenUp (M.content search.old.memo) (play B.geometry position.now reply.now) moves reply.now
-        ranked.old.items ranked.new.items) }
+        undecided.old.items undecided.new.items) }
 {
     if let Some(wins) = known(search, &played(position, reply), moves) {
         return Ok(!wins);
     }
-    ranked.push((search.guide.rank(position, reply), *reply))?;
+    undecided.push(*reply)?;
     Ok(false)
 }

@@ -16,6 +16,7 @@ ghost use Rattle.dw_solve.specs.Ranking.{AreRanked};
 ghost use Rattle.dw_solve.specs.inner.Ranking.{IsSureReply};
 
 use crate::guide::Guide;
+use crate::history::{ByHistory, History};
 use crate::ply::Ply;
 use crate::replies::{Replies, line_up_replies};
 use crate::stop::Stop;
@@ -26,13 +27,15 @@ use dw_moves::best::has_move;
 use dw_moves::play::play as played;
 use std::alloc::AllocError;
 
-/// What a search works on: a cache, an order of moves, and how many positions it has expanded and may expand.
+/// What a search works on: a cache, an order of moves, how many positions it has expanded and may expand, and which
+/// moves of the attacker won in it.
 #[derive(Drop)]
 pub(crate) struct Search<M, G> {
     pub(crate) memo: M,
     pub(crate) guide: G,
     pub(crate) expanded: u64,
     pub(crate) limit: u64,
+    pub(crate) history: History,
 }
 
 /// Whether the side to move wins within so many of its moves.
@@ -64,7 +67,7 @@ pub(crate) fn wins<B: Board, M: Memo<B>, G: Guide<B>>(
     }
     count(search)?;
     let (ply, rest) = plies.split_first_mut().unwrap();
-    line_up(ply, position, &search.guide, moves - 1)?;
+    line_up(search, ply, position, moves - 1)?;
     let won = some_move_wins(search, rest, position, ply.ranked.as_slice(), moves - 1)?;
     note(search, position, moves, won);
     Ok(won)
@@ -90,6 +93,7 @@ fn some_move_wins<B: Board, M: Memo<B>, G: Guide<B>>(
     'moves: for candidate in ranked {
         let mv = &candidate.1;
         if loses(search, plies, &played(position, mv), moves)? {
+            search.history.add(mv, moves);
             return Ok(true);
         }
     }
@@ -134,12 +138,12 @@ pub(crate) fn loses<B: Board, M: Memo<B>, G: Guide<B>>(
     Ok(true)
 }
 
-/// Takes up the moves of the attacker, who has so many left after them: in the guide's order if there are two or more.
-/// With one or none left, going through them costs less than their ranks.
-fn line_up<B: Board, G: Guide<B>>(
+/// Takes up the moves of the attacker, who has so many left after them: in the guide's order if there are two or more,
+/// those that won before earlier. With one or none left, going through them costs less than their ranks.
+fn line_up<B: Board, M, G: Guide<B>>(
+    search: &Search<M, G>,
     ply: &mut Ply<B>,
     position: &Position<B>,
-    guide: &G,
     moves: u8,
 ) -> Result<(), AllocError>
     ensures { OnOk result (AreRanked B.geometry position.now ply.new.ranked.items) }
@@ -147,7 +151,11 @@ fn line_up<B: Board, G: Guide<B>>(
     if moves <= 1 {
         ply.fill_anyhow(position)
     } else {
-        ply.fill(position, guide)
+        let guide = ByHistory {
+            guide: &search.guide,
+            history: &search.history,
+        };
+        ply.fill(position, &guide)
     }
 }
 

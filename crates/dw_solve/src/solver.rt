@@ -12,6 +12,7 @@ ghost use Rattle.dw_solve.specs.inner.Searching.{CanSearch, HasSearched, LosesNo
 ghost use Rattle.dw_solve.specs.Certificates.{SaysWin, SaysLost, SaysLeast};
 
 use crate::guide::Guide;
+use crate::history::History;
 use crate::lineup::Lineup;
 use crate::ply::Ply;
 use crate::search::{Search, known, loses, wins};
@@ -65,6 +66,7 @@ impl<B: Board, M: Memo<B>, G: Guide<B>> Solver<B, M, G> {
                 guide,
                 expanded: 0,
                 limit,
+                history: History::new(),
             },
             plies: None,
         }
@@ -246,6 +248,7 @@ fn ask_wins<B: Board, M: Memo<B>, G: Guide<B>>(
         return Ok(answer);
     }
     let mut plies = prepared(alloc, kept.take(), PLIES)?;
+    search.history.forget();
     let answer = wins(search, plies.as_mut_slice(), position, moves);
     *kept = Some(plies);
     answer
@@ -270,6 +273,7 @@ fn ask_loses<B: Board, M: Memo<B>, G: Guide<B>>(
 {
     let needed = if moves == 0 { 0 } else { PLIES };
     let mut plies = prepared(alloc, kept.take(), needed)?;
+    search.history.forget();
     let answer = loses(search, plies.as_mut_slice(), position, moves);
     *kept = Some(plies);
     answer

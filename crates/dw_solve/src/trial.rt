@@ -1,4 +1,5 @@
 //! A guess at how good a move is.
+ghost use Rattle.std.specs.Prelude.{◌≤◌};
 ghost use Rattle.dw_moves.specs.Moves.{Legal, play};
 ghost use Rattle.dw_solve.specs.Trial.{IsTrial};
 
@@ -6,12 +7,13 @@ use dw_board::{Board, Position};
 use dw_moves::play::play as played;
 use dw_moves::{Move, count_if_quiet};
 
-/// How free the other side is after a legal move: the number of its quiet moves, or 0 if it must capture. A move
-/// that leaves less freedom is worth trying first.
+/// How free the other side is after a legal move: the number of its quiet moves, at most 400, or 0 if it must capture.
+/// A move that leaves less freedom is worth trying first.
 /// Example: at `W:W27,32,38:B18` it is 0 for `27-22`, which forces a capture, and 2 for `32-28`.
 pub fn trial<B: Board>(position: &Position<B>, mv: &Move<B>) -> u32
     requires { Legal B.geometry position.now mv.now }
-    ensures { IsTrial B.geometry (play B.geometry position.now mv.now) result }
+    ensures value { IsTrial B.geometry (play B.geometry position.now mv.now) result }
+    ensures small { result ≤ 400 }
 {
     let after = played(position, mv);
     count_if_quiet(&after).unwrap_or(0)

@@ -1,7 +1,7 @@
 //! Moves of worked positions.
 
 use dw_board::{Board, Position, Square, fen_text};
-use dw_moves::best::{best, has_move};
+use dw_moves::best::{best, best_captures, has_move};
 use dw_moves::follow::follow;
 use dw_moves::legal::legal;
 use dw_moves::listed::listed;
@@ -25,14 +25,16 @@ pub fn glance<B: Board>(asked: &str, found: &mut Found) -> Option<()> {
     Some(())
 }
 
-/// How many pieces each move takes and whether any does, how many quiet moves there are, also if one must capture, and
-/// if nothing can be taken, and how many legal moves and whether there is any.
+/// How many pieces each move takes, whether any does, and where those end; how many quiet moves there are, also if one
+/// must capture, and if nothing can be taken; how many legal moves, and whether there is any.
 pub fn count<B: Board>(alloc: Global, asked: &str, found: &mut Found) -> Option<()> {
     let position = read_position::<B>(asked)?;
     found.add("takes ");
     found.say(&best(&position));
     found.add(" ");
     found.say(&can_capture(&position));
+    found.add(" onto ");
+    add_set(best_captures(&position).ends, found);
     found.add(", quiet ");
     found.say(&quiet_count(&position));
     found.add(", if nothing is taken ");

@@ -105,6 +105,15 @@ Along path l = l.path ≡ path
 abbrev pub Is : Listed → Listed → Type 0
 Is l x = x ≡ l
 
+-- of those that take the greatest number, each property is held that one has
+pub record Held {X : Type 0} (E : Listed → Type 0) (k : ℕ) (Has : X → Listed → Type 0) (held : X → Type 0) : Type 0 where
+  pub most : IsMost E k
+  pub exactly : (x : X) → held x ↔ Longest E k (Has x)
+
+-- l ends on this square
+abbrev pub EndsOn : ℕ → Listed → Type 0
+EndsOn s l = l.step.to ≡ s
+
 -- the moves of the greatest number, each once
 pub record MovesHeld (E : Listed → Type 0) (k : ℕ) (moves : List Move) : Type 0 where
   pub most : IsMost E k

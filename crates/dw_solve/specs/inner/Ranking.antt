@@ -7,7 +7,7 @@ use Rattle.dw_moves.specs.Replies.{AlwaysReply}
 use Rattle.dw_memo.specs.Content.{Content}
 use Rattle.dw_board.specs.Lists.{Member}
 use Rattle.dw_solve.specs.Facts.{KnownWin, KnownFail}
-use Rattle.dw_solve.specs.Ranking.{AreRanked}
+use Rattle.dw_solve.specs.Ranking.{AreRanked, moves_of}
 use Rattle.dw_solve.specs.declared.replies.Replies.{Replies}
 use Rattle.dw_solve.specs.declared.replies.Replies.TheVariants.{Refuted, Sure, Open}
 
@@ -24,20 +24,24 @@ pub record IsLastWin (g : Geometry) (p : Placement) (answer : Bool) : Type 0 whe
 abbrev pub IsKnownRefuted : Geometry → Content → Placement → ℕ → Type 0
 IsKnownRefuted g c q n = (r : Move) × Legal g q r × ((n ≡ 0) ⊎ KnownFail c (play g q r) n)
 
--- these are legal, and the cache says of each other legal move that after it there is a win within n
-pub record AreOpen (g : Geometry) (c : Content) (q : Placement) (n : ℕ) (ranked : List (ℕ × Move)) : Type 0 where
-  pub legal : (r : ℕ × Move) → Member r ranked → Legal g q r.1
-  pub others : (m : Move) → Legal g q m → ((rank : ℕ) × Member (rank, m) ranked) ⊎ KnownWin c (play g q m) n
+-- each of these moves is legal
+abbrev pub AreAllLegal : Geometry → Placement → List Move → Type 0
+AreAllLegal g p moves = (m : Move) → Member m moves → Legal g p m
 
--- a reply, after which the position is p, was added to the list with some rank, or the cache says that there is a win
-abbrev pub IsTakenUp : Content → Placement → ℕ → Move → List (ℕ × Move) → List (ℕ × Move) → Type 0
-IsTakenUp c p n m old new = ((new ≡ old) × KnownWin c p n) ⊎ ((rank : ℕ) × (new ≡ old ++ (rank, m) ∷ []))
+-- these are legal, and the cache says of each other legal move that after it there is a win within n
+pub record AreOpen (g : Geometry) (c : Content) (q : Placement) (n : ℕ) (moves : List Move) : Type 0 where
+  pub legal : AreAllLegal g q moves
+  pub others : (m : Move) → Legal g q m → Member m moves ⊎ KnownWin c (play g q m) n
+
+-- a reply, after which the position is p, was added to the list, or the cache says that there is a win
+abbrev pub IsTakenUp : Content → Placement → ℕ → Move → List Move → List Move → Type 0
+IsTakenUp c p n m old new = ((new ≡ old) × KnownWin c p n) ⊎ (new ≡ old ++ m ∷ [])
 
 -- what is known of the replies before one is searched: that one refutes, or which are still open
 abbrev pub AreLinedUp : {B : Type 0} → Geometry → Content → Placement → ℕ → List (ℕ × Move) → Replies B → Type 0
 AreLinedUp g c q n ranked Refuted = IsKnownRefuted g c q n
 AreLinedUp g c q n ranked (Sure after) = (n ≡ 1) × IsSureReply g q after
-AreLinedUp g c q n ranked Open = AreOpen g c q n ranked
+AreLinedUp g c q n ranked Open = AreOpen g c q n (moves_of ranked)
 
 -- the same at the last move of the attacker, where the cache is not asked: it says nothing then
 abbrev pub AreLinedUpLast : {B : Type 0} → Geometry → Placement → List (ℕ × Move) → Replies B → Type 0

@@ -1,11 +1,26 @@
+use Rattle.std.proofs.Common.{◌∙◌, sym, subst}
+use Rattle.dw_board.specs.Lists.{Member}
+use Rattle.dw_solve.specs.inner.Ranking.{AreOpen}
 use Rattle.dw_solve.proofs.OpenLemmas.{open_all, open_anyhow}
 use Rattle.dw_solve.proofs.replies.line_up_open.Goals as goal
 
-pub returns-clause-open : goal.returns-clause-open
-returns-clause-open g c = λ h. open_anyhow g.B.Board.geometry (g.M.Memo.content c.args.search.now.memo)
-    c.args.position.now c.args.moves c.rank_open.new.ranked.items c.sort_unstable_by_key.new.self.items
-    (c.in_ok-is_refuted.ensures.open h) c.sort_unstable_by_key.ensures.permutation
+pub rank_all-requires-clause-legal : goal.rank_all-requires-clause-legal
+rank_all-requires-clause-legal g c = λ m there.
+    (c.in_ok-legal_into.ensures.all.exactly m).0 (subst (Member m) c.as_slice.ensures.value there)
 
-pub returns-then-len-le1-clause-open : goal.returns-then-len-le1-clause-open
-returns-then-len-le1-clause-open g c = λ _. open_all g.B.Board.geometry (g.M.Memo.content c.args.search.now.memo)
-    c.args.position.now c.args.moves c.rank_all.new.ranked.items c.in_ok-rank_all.ensures
+pub returns-then-len-le1-clause-known : goal.returns-then-len-le1-clause-known
+returns-then-len-le1-clause-known g c =
+    let geo = g.B.Board.geometry in
+    let known = g.M.Memo.content c.args.search.now.memo in
+    subst (AreOpen geo known c.args.position.now c.args.moves)
+    (sym (c.in_ok-rank_all.ensures ∙ c.as_slice.ensures.value))
+    (open_all geo known c.args.position.now c.args.moves c.legal_into.new.moves.items c.in_ok-legal_into.ensures.all)
+
+pub returns-then-branch-clause-known : goal.returns-then-branch-clause-known
+returns-then-branch-clause-known g c = c.in_ok-find_open.ensures.refuted c.if-branch.true
+
+pub returns-clause-known : goal.returns-clause-known
+returns-clause-known g c = open_anyhow g.B.Board.geometry (g.M.Memo.content c.args.search.now.memo)
+    c.args.position.now c.args.moves c.find_open.new.undecided.items c.rank_all-2.new.ranked.items
+    c.sort_unstable_by_key.new.self.items (c.in_ok-find_open.ensures.open c.if-branch.false)
+    (c.in_ok-rank_all-2.ensures ∙ c.as_slice-3.ensures.value) c.sort_unstable_by_key.ensures.permutation

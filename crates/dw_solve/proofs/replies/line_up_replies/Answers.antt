@@ -10,6 +10,3 @@ returns-then-moves-eq1-clause-known g c = IfOk-weaker c.line_up_last.result
     c.line_up_last.new.ply.ranked.items)
     (λ r h. last_lined_up g.B.Board.geometry (g.M.Memo.content c.args.search.now.memo) c.args.position.now c.args.moves
     c.line_up_last.new.ply.ranked.items r c.if-moves-eq1.true h) c.line_up_last.ensures
-
-pub returns-then-branch-clause-known : goal.returns-then-branch-clause-known
-returns-then-branch-clause-known g c = c.in_ok-line_up_open.ensures.refuted c.if-branch.true

@@ -10,5 +10,5 @@ returns-in-Some-clause-refuted g c = taken_refuted (g.M.Memo.content c.args.sear
 pub returns-in-Some-clause-open : goal.returns-in-Some-clause-open
 returns-in-Some-clause-open g c = taken_won (g.M.Memo.content c.args.search.now.memo)
     (g.M.Memo.content c.known.new.search.memo) (play g.B.Board.geometry c.args.position.now c.args.reply.now)
-    c.play.result c.args.moves c.args.reply.now c.args.ranked.now.items c.in-Some.wins c.known.ensures.same
+    c.play.result c.args.moves c.args.reply.now c.args.undecided.now.items c.in-Some.wins c.known.ensures.same
     c.play.ensures c.in-Some.ensures.says

@@ -1,4 +1,4 @@
-use Rattle.std.proofs.Common.{◌≡◌, ◌∙◌, ◌+◌, ◌-◌, ◌*◌, ◌≤◌, false, length, refl, sym, subst, arith, inl, inr, ◌↔◌}
+use Rattle.std.proofs.Common.{◌≡◌, ◌∙◌, ◌+◌, ◌-◌, ◌*◌, ◌≤◌, true, false, Ok, length, refl, sym, subst, arith, inl, inr, ◌↔◌}
 use Rattle.std.specs.Prelude.{IsTrue, IfOk}
 use Rattle.std.proofs.lemmas.Result.{on_ok_weaker, IfOk-from_err}
 use Rattle.std.proofs.lemmas.Bool.{true≢false}
@@ -368,13 +368,15 @@ some_move_wins-returns-then-branch-clause-searched g t c =
     let geo = g.B.Board.geometry in
     let content = g.M.Memo.content in
     let lost = g.M.Memo.dropped in
+    let h : HasSearched geo content lost c.args.moves c.args.search.now c.loses.new.search (Ok true) =
     searched_ok geo content lost c.args.moves _ _ _ _
     (searched_on geo content lost c.args.moves _ _ _ _ (record {
       right = c.moves.invariant.0;
       count = c.moves.invariant.1.0;
       stop = λ e. absurd (ok_is_no_err _ _ e);
       work = c.moves.invariant.1.1.1.0;
-    }) c.in_ok-loses.ensures.searched)
+    }) c.in_ok-loses.ensures.searched) in
+    record { right = h.right; count = h.count; stop = h.stop; work = h.work; }
 
 pub some_move_wins-returns-then-branch-clause-says : goal.some_move_wins-returns-then-branch-clause-says
 some_move_wins-returns-then-branch-clause-says g t c =

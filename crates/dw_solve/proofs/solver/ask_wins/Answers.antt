@@ -42,10 +42,11 @@ returns-clause-searched g c =
     let geo = g.B.Board.geometry in
     let content = g.M.Memo.content in
     let lost = g.M.Memo.dropped in
+    let h = c.wins-answer.ensures.searched in
     searched_on geo content lost c.args.moves _ c.known.new.search _ _
     (searched_looked geo content lost c.args.moves _ _ c.requires.ready c.known.ensures.right c.known.ensures.count
     c.known.ensures.limit c.known.ensures.searched)
-    c.wins-answer.ensures.searched
+    (record { right = h.right; count = h.count; stop = h.stop; work = h.work; })
 
 pub returns-in-Some-clause-known : goal.returns-in-Some-clause-known
 returns-in-Some-clause-known g c decided = (refl, (c.known.ensures.count, c.known.ensures.same))

@@ -1,7 +1,7 @@
 use Rattle.std.proofs.Common.{arith}
 use Rattle.dw_moves.specs.inner.MoveLemmas.{listed_is_legal}
 use Rattle.dw_solve.proofs.OpenLemmas.{looked_then, open_more, open_end, refuted_same}
-use Rattle.dw_solve.proofs.replies.rank_open.Goals as goal
+use Rattle.dw_solve.proofs.replies.find_open.Goals as goal
 
 pub take_up-requires-clause-legal : goal.take_up-requires-clause-legal
 take_up-requires-clause-legal g c = listed_is_legal g.B.Board.geometry c.args.position.now c.args.replies.now
@@ -31,7 +31,7 @@ replies-preserved g c = (
       c.args.search.now c.replies.search c.take_up.new.search c.replies.invariant.0 c.take_up.ensures.looked,
   open_more g.B.Board.geometry (g.M.Memo.content c.args.search.now.memo) (g.M.Memo.content c.replies.search.memo)
       c.args.position.now c.args.moves c.args.replies.now c.replies.reply-index c.reply-item.result
-      c.replies.ranked.items c.take_up.new.ranked.items c.replies.invariant.0.same c.replies.invariant.1
+      c.replies.undecided.items c.take_up.new.undecided.items c.replies.invariant.0.same c.replies.invariant.1
       c.replies-test.true c.reply-item.is
       (listed_is_legal g.B.Board.geometry c.args.position.now c.args.replies.now
       c.replies.reply-index c.reply-item.result c.requires.legal c.replies-test.true c.reply-item.is)
@@ -40,5 +40,5 @@ replies-preserved g c = (
 
 pub returns-clause-open : goal.returns-clause-open
 returns-clause-open g c = λ _. open_end g.B.Board.geometry (g.M.Memo.content c.args.search.now.memo)
-    c.args.position.now c.args.moves c.args.replies.now c.replies.reply-index c.replies.ranked.items c.requires.legal
+    c.args.position.now c.args.moves c.args.replies.now c.replies.reply-index c.replies.undecided.items c.requires.legal
     (omega (arith, c.replies-test.false)) c.replies.invariant.1
