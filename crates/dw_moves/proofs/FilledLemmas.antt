@@ -13,7 +13,7 @@ use Rattle.dw_moves.specs.Order.{Listed}
 use Rattle.dw_moves.specs.inner.Walks.{Captures, Is, IsMost, Longest, Makes, MovesHeld, number}
 use Rattle.dw_moves.proofs.CaptureBoundLemmas.{path_bound}
 use Rattle.dw_moves.proofs.GroundLemmas.{side_fits}
-use Rattle.dw_moves.proofs.LegalMoveLemmas.{best_only}
+use Rattle.dw_moves.proofs.LegalMoveLemmas.{legal_best}
 use Rattle.dw_moves.proofs.SquareSetLemmas.{len_list}
 use Rattle.dw_moves.proofs.AddingLemmas.{AreQuiet, are_quiet, move_to}
 
@@ -64,14 +64,11 @@ empty_list [] h = refl
 empty_list (m ∷ ms) h = absurd (h m (inl refl))
 
 none_kept : (g : Geometry) (p : Placement) (kept : List Move) → MovesHeld (Captures g p) 0 kept → kept ≡ []
-none_kept g p kept h = empty_list kept (λ m x. let c = (h.exactly m).0 x in omega (arith, c.1.some, c.2))
+none_kept g p kept h = empty_list kept (λ m x. let c = (h.kept.exactly m).0 x in omega (arith, c.1.some, c.2))
 
 pub quiet_from_legal : (g : Geometry) (p : Placement) (m : Move) → IsBest g p 0 → Legal g p m → Quiet g p m.from m.to
     × (m.taken ≡ fin.empty)
-quiet_from_legal g p m best l = at_k l.0 (best_only g p l.0 0 l.1 best) l.2 where
-  at_k : (k : ℕ) → k ≡ 0 → LegalAt g p k m → Quiet g p m.from m.to × (m.taken ≡ fin.empty)
-  at_k zero e h = h
-  at_k (suc k) e h = absurd (omega arith)
+quiet_from_legal g p m best l = legal_best g p 0 m best l
 
 -- nothing can be taken, and the quiet moves were added
 pub legal_quietly : (g : Geometry) (p : Placement) (k : ℕ) (kept now : List Move) → k ≡ 0
@@ -81,8 +78,7 @@ legal_quietly g p k kept now none h added =
     let best : IsBest g p 0 = best_of g p 0 zero_kept.most in
     let all : now ≡ map move_to added.pairs = added.are ∙ ap (λ z. z ++ map move_to added.pairs)
     (none_kept g p kept zero_kept) in
-    let quiet : AreQuiet g p now = subst (AreQuiet g p) (sym all) (are_quiet g p added.pairs added.exactly
-    added.once) in
+    let quiet : AreQuiet g p now = subst (AreQuiet g p) (sym all) (are_quiet g p added.pairs added.those) in
     record {
       exactly = λ m. (
         (λ x. (0, best, (quiet.exactly m).0 x)),
@@ -94,10 +90,8 @@ legal_quietly g p k kept now none h added =
 -- m is a legal move by this path, if the greatest number is above 0
 pub legal_path : (g : Geometry) (p : Placement) (k : ℕ) (m : Move) → 0 < k → IsBest g p k → Legal g p m
     → (landings : List ℕ) × IsPathOf g p m k landings
-legal_path g p k m some best l = at_k l.0 (best_only g p l.0 k l.1 best) l.2 where
-  at_k : (j : ℕ) → j ≡ k → LegalAt g p j m → (landings : List ℕ) × IsPathOf g p m k landings
-  at_k zero e h = absurd (omega arith)
-  at_k (suc j) e h = subst (λ z. (landings : List ℕ) × IsPathOf g p m z landings) e h
+legal_path g p zero m some best l = absurd (omega arith)
+legal_path g p (suc k) m some best l = legal_best g p (suc k) m best l
 
 pub path_takes : (g : Geometry) (p : Placement) (k : ℕ) (m : Move) (landings : List ℕ) → IsPathOf g p m k landings
     → fin.len m.taken ≡ k
@@ -145,18 +139,18 @@ legal_captures g p k kept some h =
     let best : IsBest g p k = best_of g p k h.most in
     record {
       exactly = λ m. (
-        (λ x. legal_from_capture g p k m best ((h.exactly m).0 x)),
-        (λ l. (h.exactly m).1 (capture_from_legal g p k m some best l)),
+        (λ x. legal_from_capture g p k m best ((h.kept.exactly m).0 x)),
+        (λ l. (h.kept.exactly m).1 (capture_from_legal g p k m some best l)),
       );
-      once = h.once;
+      once = h.kept.once;
     }
 
 -- a legal move takes the greatest number
 pub legal_count : (g : Geometry) (p : Placement) (k : ℕ) (m : Move) → IsBest g p k → Legal g p m → fin.len m.taken ≡ k
-legal_count g p k m best l = at_k l.0 (best_only g p l.0 k l.1 best) l.2 where
-  at_k : (j : ℕ) → j ≡ k → LegalAt g p j m → fin.len m.taken ≡ k
-  at_k zero e h = ap fin.len h.1 ∙ (fin.len-empty nat_cmp ∙ e)
-  at_k (suc j) e h = let is = h.1 in ap fin.len is.takes ∙ (len_list is.over is.path.once ∙ (is.count ∙ e))
+legal_count g p k m best l = count k (legal_best g p k m best l) where
+  count : (k : ℕ) → LegalAt g p k m → fin.len m.taken ≡ k
+  count zero h = ap fin.len h.1 ∙ fin.len-empty nat_cmp
+  count (suc k) h = path_takes g p (suc k) m h.0 h.1
 
 -- nothing is taken where nothing can be
 pub best_none : (g : Geometry) (p : Placement) → (CanCapture g p → ⊥) → IsBest g p 0

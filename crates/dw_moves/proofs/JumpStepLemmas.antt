@@ -17,17 +17,13 @@ use Rattle.dw_moves.specs.inner.Glance.{AreOf}
 use Rattle.dw_moves.proofs.ExactLemmas.{option_cases, same_side_true, same_side_refl}
 use Rattle.dw_moves.proofs.StepLemmas.{none_some, step_is}
 use Rattle.dw_moves.proofs.RayLemmas.{ray_some, ray_none}
-use Rattle.dw_moves.proofs.RunLemmas.{Freed, run_man, run_king, run_stop}
+use Rattle.dw_moves.proofs.RunLemmas.{Freed, man_run, king_run, run_stop}
 
 -- what was added for the squares reached, and what is still to come
 pub record Added {X : Type 0} (f : ℕ → X) (g : Geometry) (p : Placement) (k : Kind) (d : Dir) (from at : ℕ)
     (old now : List X) : Type 0 where
   pub on : OnBoard g at
   pub all : now ++ map f (landings_for k p (ray g at d)) ≡ old ++ map f (landings_for k p (ray g from d))
-
-pub added_none : {X : Type 0} (f : ℕ → X) (g : Geometry) (p : Placement) (k : Kind) (d : Dir) (from : ℕ) (old : List X)
-    → OnBoard g from → Added f g p k d from from old old
-added_none f g p k d from old on = record { on = on; all = refl }
 
 pub append_none : {X : Type 0} (xs : List X) → xs ++ [] ≡ xs
 append_none [] = refl
@@ -39,7 +35,7 @@ pub added_more : {X : Type 0} (f : ℕ → X) (g : Geometry) (p : Placement) (k 
 added_more f g p Man d from s t old now new k h e is = cc
 added_more f g p King d from s t old now new k h e is =
     let one : map f (landings_for King p (ray g s d)) ≡ f t ∷ map f (landings_for King p (ray g t d)) =
-    ap (λ z. map f (landings_for King p z)) e.ray_is ∙ ap (map f) (run_king p t (ray g t d) e.free) in
+    ap (map f) (king_run e) in
     record {
       on = e.on;
       all = ap (λ z. z ++ map f (landings_for King p (ray g t d))) is
@@ -51,8 +47,7 @@ pub added_last : {X : Type 0} (f : ℕ → X) (g : Geometry) (p : Placement) (k 
     (old now new : List X) → k ≡ Man → Added f g p k d from s old now → Freed g p s d t → new ≡ now ++ f t ∷ []
     → new ≡ old ++ map f (landings_for k p (ray g from d))
 added_last f g p Man d from s t old now new k h e is =
-    let one : map f (landings_for Man p (ray g s d)) ≡ f t ∷ [] = ap (λ z. map f (landings_for Man p z)) e.ray_is
-    ∙ ap (map f) (run_man p t (ray g t d) e.free) in
+    let one : map f (landings_for Man p (ray g s d)) ≡ f t ∷ [] = ap (map f) (man_run e) in
     is ∙ (ap (λ z. now ++ z) (sym one) ∙ h.all)
 added_last f g p King d from s t old now new k h e is = cc
 
@@ -162,12 +157,12 @@ met_enemy g b p k side d from before c against enemies there h s against_is are 
     ∙ (met_piece k p side c (ray g c d) (record { side = against; kind = e.1.0 }) e.1.1 ∙ rw (f, over_enemy) refl))
 
 -- what is added one after another
-added_both : {X : Type 0} (f : ℕ → X) (a b : List ℕ) (old now new : List X) → now ≡ old ++ map f a
+pub added_both : {X Y : Type 0} (f : Y → X) (a b : List Y) (old now new : List X) → now ≡ old ++ map f a
     → new ≡ now ++ map f b → new ≡ old ++ map f (a ++ b)
 added_both f a b old now new ha hb = hb ∙ (ap (λ z. z ++ map f b) ha ∙ (append_assoc old (map f a) (map f b)
     ∙ ap (λ z. old ++ z) (sym (map-append f a b))))
 
-pub added_four : {X : Type 0} (f : ℕ → X) (a b c d : List ℕ) (l0 l1 l2 l3 l4 : List X) → l1 ≡ l0 ++ map f a
+pub added_four : {X Y : Type 0} (f : Y → X) (a b c d : List Y) (l0 l1 l2 l3 l4 : List X) → l1 ≡ l0 ++ map f a
     → l2 ≡ l1 ++ map f b → l3 ≡ l2 ++ map f c → l4 ≡ l3 ++ map f d → l4 ≡ l0 ++ map f (a ++ (b ++ (c ++ (d ++ []))))
 added_four f a b c d l0 l1 l2 l3 l4 ha hb hc hd =
     added_both f a (b ++ (c ++ (d ++ []))) l0 l1 l4 ha (added_both f b (c ++ (d ++ [])) l1 l2 l4 hb

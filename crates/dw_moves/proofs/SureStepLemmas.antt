@@ -1,6 +1,6 @@
 -- Steps of one square after which a reply is sure, looked for direction by direction.
-use Rattle.std.proofs.Common.{◌≡◌, ℕ, ◌&&◌, zero, suc, not, refl, sym, ap, ◌∙◌, subst, inl, inr, arith, Some, None}
-use Rattle.std.proofs.lemmas.Bool.{true≢false, cases_eq}
+use Rattle.std.proofs.Common.{◌≡◌, ℕ, zero, suc, refl, sym, ◌∙◌, subst, inl, inr, arith, Some, None}
+use Rattle.std.proofs.lemmas.Bool.{cases_eq}
 use Rattle.std.specs.FinSet as fin
 use Rattle.dw_board.specs.declared.board.Dir.{Dir}
 use Rattle.dw_board.specs.declared.board.Dir.TheVariants.{UpLeft, UpRight, DownLeft, DownRight}
@@ -13,10 +13,10 @@ use Rattle.dw_moves.specs.Replies.{OneStep, HasSureReply, IsSureStep}
 use Rattle.dw_moves.proofs.PlainLemmas.{best}
 use Rattle.dw_moves.proofs.LegalMoveLemmas.{is_best}
 use Rattle.dw_moves.proofs.ReplyLemmas.{step_quiet}
-use Rattle.dw_moves.proofs.SquareSetLemmas.{in_none}
+use Rattle.dw_moves.proofs.SquareSetLemmas.{in_none, in_rest}
 use Rattle.dw_moves.proofs.StepBackLemmas.{step_back}
+use Rattle.dw_moves.proofs.StepLemmas.{some_inj}
 use Rattle.dw_moves.proofs.StepSetLemmas.{step_of, from_step}
-use Rattle.dw_moves.proofs.SquareSetLemmas.{contains-remove, not_removed, apart_false}
 
 -- a step is legal where nothing can be taken
 legal_step : (g : Geometry) → IsBoard g → (p : Placement) (s t : ℕ) → (CanCapture g p → ⊥) → OneStep g p s t
@@ -25,18 +25,6 @@ legal_step g b p s t none h = by_best (best g p) (is_best g p) where
   by_best : (k : ℕ) → IsBest g p k → Legal g p (quiet_to s t)
   by_best zero is = (0, is, (step_quiet g b p s t h, refl))
   by_best (suc k) is = let r = is.reached (omega arith) in absurd (none (r.0, r.1, r.2, r.3, omega (arith, r.4)))
-
--- what stays in a set once one square has left it, and what comes from it
-kept : (v rest : Squares) (s t : ℕ) → rest ≡ fin.remove v s → (t ≡ s → ⊥) → In t v → In t rest
-kept v rest s t is ne h = ap (λ z. fin.contains z t) is
-    ∙ (contains-remove v s t ∙ (ap (λ b. not b && fin.contains v t) (apart_false t s ne) ∙ h))
-
-within : (v rest : Squares) (s t : ℕ) → rest ≡ fin.remove v s → In t rest → In t v
-within v rest s t is h = elim (cases_eq t s) [
-  | inl e ↦ absurd (true≢false (sym (subst (λ z. In z rest) e h) ∙ (ap (λ z. fin.contains z s) is ∙ not_removed v s)))
-  | inr ne ↦ sym (ap (λ z. fin.contains z t) is
-      ∙ (contains-remove v s t ∙ ap (λ b. not b && fin.contains v t) (apart_false t s ne))) ∙ h
-]
 
 -- the goals still to be gone through, where after no step onto another one a reply is sure
 pub record IsLeft (g : Geometry) (p : Placement) (men kings occupied : Squares) (d : Dir) (left : Squares) :
@@ -57,7 +45,7 @@ module _ (g : Geometry) (b : IsBoard g) (p : Placement) (men kings enemies occup
       ≡ Some s → StepsFrom g p.turn men kings occupied d s t
   begun left l t m s leads =
       let h = l.steps t m in
-      let same : h.0 ≡ s = let e : Some h.0 ≡ Some s = sym (start h.0 t (h.1, h.2, h.3)) ∙ leads in cc in
+      let same : h.0 ≡ s = some_inj (sym (start h.0 t (h.1, h.2, h.3)) ∙ leads) in
       subst (λ z. StepsFrom g p.turn men kings occupied d z t) same (h.1, h.2, h.3)
 
   pub all_left : (left : Squares) → ((t : ℕ) → In t left → StepsOn g p.turn men kings occupied d t)
@@ -81,11 +69,11 @@ module _ (g : Geometry) (b : IsBoard g) (p : Placement) (men kings enemies occup
       → ((s : ℕ) → StepsFrom g p.turn men kings occupied d s t → HasSureReply g (play g p (quiet_to s t)) → ⊥)
       → IsLeft g p men kings occupied d rest
   fewer left rest l t is none = record {
-    steps = λ u m. l.steps u (within left rest t u is m);
+    steps = λ u m. l.steps u ((in_rest left t rest u is).0 m).0;
     tried = λ s u h out sure. elim (cases_eq u t) [
       | inl e ↦ none s (subst (λ z. StepsFrom g p.turn men kings occupied d s z) e h)
           (subst (λ z. HasSureReply g (play g p (quiet_to s z))) e sure)
-      | inr ne ↦ l.tried s u h (λ m. out (kept left rest t u is ne m)) sure
+      | inr ne ↦ l.tried s u h (λ m. out ((in_rest left t rest u is).1 (m, ne))) sure
     ];
   }
 
@@ -93,7 +81,7 @@ module _ (g : Geometry) (b : IsBoard g) (p : Placement) (men kings enemies occup
       → (s : ℕ) → step g t (back d) ≡ Some s → (HasSureReply g (play g p (quiet_to s t)) → ⊥)
       → IsLeft g p men kings occupied d rest
   one_tried left rest l t is s leads none = fewer left rest l t is (λ u h sure.
-      let same : u ≡ s = let e : Some u ≡ Some s = sym (start u t h) ∙ leads in cc in
+      let same : u ≡ s = some_inj (sym (start u t h) ∙ leads) in
       none (subst (λ z. HasSureReply g (play g p (quiet_to z t))) same sure))
 
   pub none_begun : (left : Squares) → IsLeft g p men kings occupied d left → (t : ℕ) → In t left → step g t (back d)

@@ -105,24 +105,35 @@ Along path l = l.path ≡ path
 abbrev pub Is : Listed → Listed → Type 0
 Is l x = x ≡ l
 
--- the moves of the greatest number, each once
-pub record MovesHeld (E : Listed → Type 0) (k : ℕ) (moves : List Move) : Type 0 where
+-- k is the greatest number, and this is kept of the captures that take so many
+pub record Held (E : Listed → Type 0) (k : ℕ) (Kept : Type 0) : Type 0 where
   pub most : IsMost E k
+  pub kept : Kept
+
+-- the moves of those that take k, each once
+pub record MovesKept (E : Listed → Type 0) (k : ℕ) (moves : List Move) : Type 0 where
   pub exactly : (m : Move) → Member m moves ↔ Longest E k (Makes m)
   pub once : NoRepeat moves
 
--- whether one move is among them
-pub record Sought (E : Listed → Type 0) (wanted still : Move) (k : ℕ) (found : Type 0) : Type 0 where
-  pub same : still ≡ wanted
-  pub most : IsMost E k
+abbrev pub MovesHeld : (Listed → Type 0) → ℕ → List Move → Type 0
+MovesHeld E k moves = Held E k (MovesKept E k moves)
+
+-- whether one of them makes this move
+pub record MoveKept (E : Listed → Type 0) (wanted : Move) (k : ℕ) (found : Type 0) : Type 0 where
   pub is : found ↔ Longest E k (Makes wanted)
 
+pub record Sought (E : Listed → Type 0) (wanted still : Move) (k : ℕ) (found : Type 0) : Type 0 where
+  pub same : still ≡ wanted
+  pub held : Held E k (MoveKept E wanted k found)
+
 -- the one of them that is made on a given path
-pub record Followed (E : Listed → Type 0) (path still : List ℕ) (k : ℕ) (found : Option Move) : Type 0 where
-  pub same : still ≡ path
-  pub most : IsMost E k
+pub record PathKept (E : Listed → Type 0) (path : List ℕ) (k : ℕ) (found : Option Move) : Type 0 where
   pub is : (m : Move) → found ≡ Some m → Longest E k (λ l. Makes m l × Along path l)
   pub some : Longest E k (Along path) → IsSome found
+
+pub record Followed (E : Listed → Type 0) (path still : List ℕ) (k : ℕ) (found : Option Move) : Type 0 where
+  pub same : still ≡ path
+  pub held : Held E k (PathKept E path k found)
 
 -- the moves of a list, without their paths
 abbrev pub steps_of : List Listed → List Move
@@ -138,12 +149,14 @@ pub record TakenIn (l : Listed) (list kept : List Listed) : Type 0 where
   pub least : (x : Listed) → (x ≡ l) ⊎ Member x list → Covered x kept
   pub once : NoRepeat (steps_of list) → NoRepeat (steps_of kept)
 
--- the moves of the greatest number, each with the least of its paths
-pub record PathsHeld (E : Listed → Type 0) (k : ℕ) (list : List Listed) : Type 0 where
-  pub most : IsMost E k
+-- the moves of those that take k, each with the least of its paths
+pub record PathsKept (E : Listed → Type 0) (k : ℕ) (list : List Listed) : Type 0 where
   pub from : (l : Listed) → Member l list → Longest E k (Is l)
   pub least : (l : Listed) → Longest E k (Is l) → Covered l list
   pub once : NoRepeat (steps_of list)
+
+abbrev pub PathsHeld : (Listed → Type 0) → ℕ → List Listed → Type 0
+PathsHeld E k list = Held E k (PathsKept E k list)
 
 -- ---- lists of moves with their paths
 -- what listed moves are sorted by: the start, the end, and the path

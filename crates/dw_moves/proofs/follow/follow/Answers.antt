@@ -1,27 +1,12 @@
-use Rattle.std.proofs.Common.{[], None}
-use Rattle.dw_moves.specs.inner.Walks.{Captures, These}
-use Rattle.dw_moves.proofs.KeeperLemmas.{followed_none, followed_same}
-use Rattle.dw_moves.proofs.FollowedLemmas.{followed_path, followed_legal}
+use Rattle.std.proofs.Common.{[], None, refl}
+use Rattle.dw_moves.proofs.KeeperLemmas.{held_none, held_same, path_alike, path_bare}
+use Rattle.dw_moves.proofs.FollowedLemmas.{followed}
 use Rattle.dw_moves.proofs.follow.follow.Goals as goal
 
-pub returns-clause-path : goal.returns-clause-path
-returns-clause-path g c =
-    let geo = g.B.Board.geometry in
-    let p = c.args.position.now in
-    let s = c.args.squares.now in
-    let f = c.walk_captures.new.keeper in
+pub returns : goal.returns
+returns g c =
     let o = c.in-Ok.ensures.kept in
-    followed_path geo g.met.B.Board.numbers p s f.squares.now f.most f.found
-    (followed_same (These o.captures) (Captures geo p) o.exactly f.most s f.squares.now f.found
-    (o.held (record { squares = c.args.squares; path = c.new.result; most = 0; found = None }) [] (followed_none s)))
-
-pub returns-clause-legal : goal.returns-clause-legal
-returns-clause-legal g c =
-    let geo = g.B.Board.geometry in
-    let p = c.args.position.now in
-    let s = c.args.squares.now in
-    let f = c.walk_captures.new.keeper in
-    let o = c.in-Ok.ensures.kept in
-    followed_legal geo g.met.B.Board.numbers p s f.squares.now f.most f.found
-    (followed_same (These o.captures) (Captures geo p) o.exactly f.most s f.squares.now f.found
-    (o.held (record { squares = c.args.squares; path = c.new.result; most = 0; found = None }) [] (followed_none s)))
+    let h = o.held (record { squares = c.args.squares; path = c.new.result; most = 0; found = None }) []
+    (record { same = refl; held = held_none path_bare }) in
+    let f = followed g.met.B.Board.numbers (held_same h.held o.exactly path_alike) in
+    record { path = f.0; legal = f.1 }
