@@ -12,6 +12,10 @@ use Rattle.dw_board.specs.Geometry.{Squares}
 use Rattle.dw_board.specs.Lists.{Member, NoRepeat}
 use Rattle.dw_moves.specs.Moves.{In}
 
+pub not_both : (b : Bool) → (b ≡ true → ⊥) → b ≡ false
+not_both true h = absurd (h refl)
+not_both false h = refl
+
 pub in_none : (v : Squares) (s : ℕ) → v ≡ fin.empty → In s v → ⊥
 in_none v s e h = true≢false (sym h ∙ (ap (λ z. fin.contains z s) e ∙ fin.contains-empty nat_cmp s))
 
@@ -34,9 +38,6 @@ in_and a b v s e =
       (λ h. is ∙ and_from (fin.contains a s) (fin.contains b s) h.0 h.1),
     )
 
-not_there : (v : Squares) (s : ℕ) → (In s v → ⊥) → fin.contains v s ≡ false
-not_there v s out = elim (cases_Bool (fin.contains v s)) [ inl t ↦ absurd (out t) | inr f ↦ f ]
-
 pub in_minus : (a b v : Squares) (s : ℕ) → v ≡ fin.difference a b → In s v ↔ (In s a × (In s b → ⊥))
 in_minus a b v s e =
     let is : fin.contains v s ≡ (fin.contains a s && not (fin.contains b s)) = ap (λ z. fin.contains z s) e
@@ -44,7 +45,7 @@ in_minus a b v s e =
       (λ h. let parts = and_parts (fin.contains a s) (not (fin.contains b s)) (sym is ∙ h) in
           (parts.0, λ t. true≢false (sym parts.1 ∙ not_from_true (fin.contains b s) t))),
       (λ h. is ∙ and_from (fin.contains a s) (not (fin.contains b s)) h.0 (not_from_false (fin.contains b s)
-          (not_there b s h.1))),
+          (not_both (fin.contains b s) h.1))),
     )
 
 -- a set that is not empty has a square
@@ -103,10 +104,6 @@ in_list (c ∷ cs) q e = elim (or_cases (eqb q c) (fin.contains (fin.from_list {
 pub contains-remove : (v : Squares) (k q : ℕ) → fin.contains (fin.remove v k) q ≡ (not (eqb q k) && fin.contains v q)
 contains-remove v k q = fin.contains-remove nat_cmp_total v k q
     ∙ ap (λ b. not b && fin.contains v q) (unsigned_tied q k)
-
-pub not_both : (b : Bool) → (b ≡ true → ⊥) → b ≡ false
-not_both true h = absurd (h refl)
-not_both false h = refl
 
 -- a set without a member, and with it again
 pub put_back : (v : Squares) (c : ℕ) → fin.contains v c ≡ true → fin.insert (fin.remove v c) c ≡ v
