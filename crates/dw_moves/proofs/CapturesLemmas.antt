@@ -77,15 +77,15 @@ Past g p d left l = (from : ℕ) × (fin.contains left from ≡ false) × Begins
 
 module _ {K : Type 0} {holds : K → List Listed → K → Type 0} {g : Geometry} {p : Placement} where
   -- a piece was walked in a direction
-  pub begins_of : {d : Dir} {from s a : ℕ} {men kings enemies occupied v behind rest : Squares} {k k1 k2 : K} (kind : Kind)
+  pub begins_of : {d : Dir} {from s a : ℕ} {men kings enemies occupied v behind rest : Squares} {k k1 k2 : K} (kind_of : Kind)
       → AreSets g p men kings enemies occupied
-      → OnBoard g from × (at p from ≡ Some (record { side = p.turn; kind = kind }))
+      → OnBoard g from × (at p from ≡ Some (record { side = p.turn; kind = kind_of }))
       → s ≡ from → a ≡ from → v ≡ fin.empty → behind ≡ enemies → rest ≡ fin.remove occupied from → Stays holds k k1
       → ((q : Placement) (side : Side) → IsGround g q side behind rest
-      → Offers holds (GoesTowards g q (record { side = side; kind = kind }) (so_far s a v (from ∷ [])) d) k1 k2)
+      → Offers holds (GoesTowards g q (record { side = side; kind = kind_of }) (so_far s a v (from ∷ [])) d) k1 k2)
       → Offers holds (Begins g p d from) k k2
-  begins_of {d} {from} {k1 = k1} {k2 = k2} kind sets there s_is a_is v_is behind_is rest_is none kept =
-      let piece : Piece = record { side = p.turn; kind = kind } in
+  begins_of {d} {from} {k1 = k1} {k2 = k2} kind_of sets there s_is a_is v_is behind_is rest_is none kept =
+      let piece : Piece = record { side = p.turn; kind = kind_of } in
       let stands : Stands g p from piece = record { on_board = there.0; there = there.1; own = refl } in
       let walked : Offers holds (GoesTowards g (placed p from None) piece (start from) d) k1 k2 =
       subst (λ z. Offers holds (GoesTowards g (placed p from None) piece z d) k1 k2)

@@ -118,9 +118,9 @@ pub own_in : {g : Geometry} {p : Placement} {men kings enemies occupied : Square
     → AreSets g p men kings enemies occupied → Stands g p s piece
     → ((piece.kind ≡ Man) × In s men) ⊎ ((piece.kind ≡ King) × In s kings)
 own_in {p = p} {men = men} {kings = kings} {s = s} {piece = piece} sets stands = by_kind piece.kind refl where
-  there : (kind : Kind) → piece.kind ≡ kind → at p s ≡ Some (record { side = p.turn; kind = kind })
-  there kind e = stands.there ∙ ap Some (λ i. record { side = stands.own i; kind = e i })
+  there : (kind_of : Kind) → piece.kind ≡ kind_of → at p s ≡ Some (record { side = p.turn; kind = kind_of })
+  there kind_of e = stands.there ∙ ap Some (λ i. record { side = stands.own i; kind = e i })
 
-  by_kind : (kind : Kind) → piece.kind ≡ kind → ((piece.kind ≡ Man) × In s men) ⊎ ((piece.kind ≡ King) × In s kings)
+  by_kind : (kind_of : Kind) → piece.kind ≡ kind_of → ((piece.kind ≡ Man) × In s men) ⊎ ((piece.kind ≡ King) × In s kings)
   by_kind Man e = inl (e, (sets.of_men s).1 (stands.on_board, there Man e))
   by_kind King e = inr (e, (sets.of_kings s).1 (stands.on_board, there King e))

@@ -28,31 +28,34 @@ pub ground_behind : {g : Geometry} {p : Placement} {from : ℕ} {piece : Piece}
     → IsGround g (placed p from None) p.turn behind rest
 ground_behind {p = p} {from = from} {piece = piece} {occupied = occupied} {rest = rest} sets stands behind_is
     rest_is = record {
-  of_enemies = λ s. (
-    (λ h.
-        let e = (sets.of_enemies s).0 (subst (In s) behind_is h) in
-        let ne : s ≢ from = λ same.
-        let one : piece ≡ record { side = other p.turn; kind = e.1.0 } = some_inj (sym stands.there
-        ∙ (ap (at p) (sym same) ∙ e.1.1)) in
-        apart_sides p.turn (sym stands.own ∙ ap (λ (z : Piece). z.side) one) in
-        (e.0, (e.1.0, other_at p from s stands.on_board.0 e.0.0 ne ∙ e.1.1))),
-    (λ h. subst (In s) (sym behind_is) ((sets.of_enemies s).1
-        (h.0, (h.1.0, stood p from s (record { side = other p.turn; kind = h.1.0 }) h.1.1)))),
-  );
-  of_all = λ s. (
-    (λ h.
-        let parts = (in_rest occupied from rest s rest_is).0 h in
-        let e = (sets.of_all s).0 parts.0 in
-        (e.0, ap is_some (other_at p from s stands.on_board.0 e.0.0 parts.1 ∙ e.1.1))),
-    (λ h. elim (option_cases (at (placed p from None) s)) [
-      | inl none ↦ absurd (true≢false (sym h.1 ∙ ap is_some none))
-      | inr q ↦
-          let there : In s occupied = (sets.of_all s).1 (h.0, (q.0, stood p from s q.0 q.1)) in
-          (in_rest occupied from rest s rest_is).1 (there, λ same. none_some q.0 (sym (ap (at (placed p from None)) same
-          ∙ emptied p from) ∙ q.1))
-    ]),
-  );
-}
+      of_enemies = λ s. (
+        (λ h.
+            let e = (sets.of_enemies s).0 (subst (In s) behind_is h) in
+            let ne : s ≢ from = λ same.
+            let one : piece ≡ record { side = other p.turn; kind = e.1.0 } = some_inj (sym stands.there
+            ∙ (ap (at p) (sym same) ∙ e.1.1)) in
+            apart_sides p.turn (sym stands.own ∙ ap (λ (z : Piece). z.side) one) in
+            (e.0, (e.1.0, other_at p from s stands.on_board.0 e.0.0 ne ∙ e.1.1))),
+        (λ h. subst (In s) (sym behind_is) ((sets.of_enemies s).1
+            (h.0, (h.1.0, stood p from s (record { side = other p.turn; kind = h.1.0 }) h.1.1)))),
+      );
+      of_all = λ s. (
+        (λ h.
+            let parts = (in_rest occupied from rest s rest_is).0 h in
+            let e = (sets.of_all s).0 parts.0 in
+            (e.0, ap is_some (other_at p from s stands.on_board.0 e.0.0 parts.1 ∙ e.1.1))),
+        (λ h. elim (option_cases (at (placed p from None) s)) [
+          | inl none ↦ absurd (true≢false (sym h.1 ∙ ap is_some none))
+          | inr q ↦
+              let there : In s occupied = (sets.of_all s).1 (h.0, (q.0, stood p from s q.0 q.1)) in
+              (in_rest occupied from rest s rest_is).1 (
+                there,
+                λ same. none_some q.0 (sym (ap (at (placed p from None)) same
+                    ∙ emptied p from) ∙ q.1),
+              )
+        ]),
+      );
+    }
 
 pub side_fits : (g : Geometry) (p : Placement) (side : Side) → IsPosition g p.cells → count p side ≤ g.side
 side_fits g p White pos = pos.white_fits

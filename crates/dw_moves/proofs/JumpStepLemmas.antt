@@ -89,10 +89,16 @@ man_other g b p side d from c enemies on s are out =
       | inr q ↦
           let enemy_in : same_side q.0.side (other side) ≡ true → In c enemies = λ e.
           let own : q.0.side ≡ other side = same_side_true q.0.side (other side) e in
-          (are c).1 ((step_is g b from c d on s).on, (q.0.kind, q.1 ∙ (λ i. Some (record {
-            side = own i;
-            kind = q.0.kind;
-          })))) in
+          (are c).1 (
+            (step_is g b from c d on s).on,
+            (
+              q.0.kind,
+              q.1 ∙ (λ i. Some (record {
+                side = own i;
+                kind = q.0.kind;
+              })),
+            ),
+          ) in
           let friend : same_side q.0.side (other side) ≡ false = not_both (same_side q.0.side (other side))
           (λ e. true≢false (sym (enemy_in e) ∙ out)) in
           met_piece Man p side c (ray g c d) q.0 q.1 ∙ rw (friend, over_enemy) refl

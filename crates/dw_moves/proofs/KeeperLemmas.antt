@@ -109,13 +109,15 @@ module _ (xs : List Listed) (this : Listed) (k n : ℕ) (is : n ≡ number this)
       → (Alike (These xs) (These (xs ++ this ∷ [])) k → A → B) → Held (These (xs ++ this ∷ [])) k B
   held_past few h alike = record {
     most = most_past xs this k n is (omega (arith, few)) h.most;
-    kept = alike (record { both = λ l count. (
-      mem_left l xs (this ∷ []),
-      (λ m. elim (in_more xs this l m) [
-        | inl x ↦ x
-        | inr e ↦ absurd (omega (arith, few, count, ap number e))
-      ]),
-    ) }) h.kept;
+    kept = alike (record {
+      both = λ l count. (
+        mem_left l xs (this ∷ []),
+        (λ m. elim (in_more xs this l m) [
+          | inl x ↦ x
+          | inr e ↦ absurd (omega (arith, few, count, ap number e))
+        ]),
+      );
+    }) h.kept;
   }
 
   pub held_more : {X A : Type 0} {now : ℕ} {none old left : X} (Kept : ℕ → X → Type 0) → k ≤ n
@@ -255,10 +257,12 @@ move_here {m = m} j same so = record { is = ((λ f. (longest_joined j (Makes m))
 
 pub move_other : {E F : Listed → Type 0} {k : ℕ} {this : Listed} {m : Move} {found : Type 0} → Joined E F k this
     → (this.step ≡ m → ⊥) → MoveKept E m k found → MoveKept F m k found
-move_other {m = m} j apart h = record { is = (
-  (λ f. (longest_joined j (Makes m)).1 (inl (h.is.0 f))),
-  (λ x. elim ((longest_joined j (Makes m)).0 x) [ inl o ↦ h.is.1 o | inr e ↦ absurd (apart e) ]),
-) }
+move_other {m = m} j apart h = record {
+  is = (
+    (λ f. (longest_joined j (Makes m)).1 (inl (h.is.0 f))),
+    (λ x. elim ((longest_joined j (Makes m)).0 x) [ inl o ↦ h.is.1 o | inr e ↦ absurd (apart e) ]),
+  );
+}
 
 -- ---- one path
 pub path_bare : {E : Listed → Type 0} {k : ℕ} {path : List ℕ} → Bare E k → PathKept E path k None

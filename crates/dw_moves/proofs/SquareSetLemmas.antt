@@ -135,8 +135,8 @@ one_fewer v c there =
     ap fin.len (sym (put_back v c there)) ∙ (fin.len-insert nat_cmp_total (fin.remove v c) c
     ∙ ap (λ b. cond b (fin.len (fin.remove v c)) (fin.len (fin.remove v c) + 1)) (not_removed v c))
 
-pub fewer_left : (v : Squares) (c : ℕ) → fin.contains v c ≡ true → fin.len (fin.remove v c) < fin.len v
-fewer_left v c there = omega (arith, one_fewer v c there)
+pub fewer_left : (v : Squares) {rest : Squares} (c : ℕ) → rest ≡ fin.remove v c → In c v → fin.len rest < fin.len v
+fewer_left v c rest_is there = omega (arith, one_fewer v c there, ap fin.len rest_is)
 
 -- as many as the list has, where nothing stands twice in it
 pub len_list : (cs : List ℕ) → NoRepeat cs → fin.len (fin.from_list {R = nat_cmp} cs) ≡ length cs

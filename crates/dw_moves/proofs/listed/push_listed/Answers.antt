@@ -1,4 +1,4 @@
-use Rattle.std.proofs.Common.{◌≡◌, ◌++◌, ◌∷◌, [], sym, ap, ◌∙◌, subst, append_assoc}
+use Rattle.std.proofs.Common.{◌≡◌, ◌++◌, [], sym, ap, ◌∙◌, subst}
 use Rattle.std.proofs.lemmas.Bool.{true≢false}
 use Rattle.std.proofs.lemmas.Result.{on_ok_weaker}
 use Rattle.dw_moves.proofs.KeeperLemmas.{held_none, held_same, paths_alike, paths_bare}
@@ -28,15 +28,6 @@ returns-then-not-can_capture g c =
     c.args.list.now.items c.push_quiet.new.moves.items
     (λ can. true≢false (sym (c.can_capture.ensures.1 can) ∙ c.if-not-can_capture.true)) c.requires added)
     c.push_quiet.ensures
-
-pub paths-preserved : goal.paths-preserved
-paths-preserved g c =
-    let list = c.paths.list.items in
-    let rest = entries_listed c.next.new.self in
-    let same : list ++ entries_listed c.paths.mv-iterator ≡ c.push.new.self.items ++ rest = ap (λ z. list
-    ++ entries_listed z) c.in-Some.ensures.steps ∙ (sym (append_assoc list (_ ∷ []) rest)
-    ∙ ap (λ z. z ++ rest) (sym c.in_ok-push.ensures.items)) in
-    subst (HasAll g.B.Board.geometry c.args.position.now) same c.paths.invariant
 
 pub returns : goal.returns
 returns g c =

@@ -1,4 +1,4 @@
-use Rattle.std.proofs.Common.{◌<◌, sym, subst, refl}
+use Rattle.std.proofs.Common.{subst, refl}
 use Rattle.std.specs.FinSet as fin
 use Rattle.dw_moves.proofs.SquareSetLemmas.{fewer_left}
 use Rattle.dw_board.specs.declared.piece.Kind.TheVariants.{King}
@@ -11,8 +11,7 @@ squares-init g c = going_none g.met.B.Board.numbers (subst (λ z. AreKind g.B.Bo
     c.squares-left.result) c.turn.ensures.value c.squares-left.ensures)
 
 pub squares-smaller : goal.squares-smaller
-squares-smaller g c = subst (λ v. fin.len v < fin.len c.squares.left) (sym c.in-Some.ensures.rest)
-    (fewer_left c.squares.left _ c.in-Some.ensures.member)
+squares-smaller g c = fewer_left _ _ c.in-Some.ensures.rest c.in-Some.ensures.member
 
 pub squares-preserved : goal.squares-preserved
 squares-preserved g c = going_more g.met.B.Board.numbers _ c.in-Some.ensures.member c.in-Some.ensures.rest

@@ -1,4 +1,4 @@
-use Rattle.std.proofs.Common.{◌<◌, [], ◌∷◌, ◌++◌, ap, ◌∙◌, sym, subst, refl}
+use Rattle.std.proofs.Common.{[], ◌∷◌, ◌++◌, ap, ◌∙◌, sym, refl}
 use Rattle.std.specs.FinSet as fin
 use Rattle.dw_moves.proofs.SquareSetLemmas.{fewer_left}
 use Rattle.dw_moves.proofs.AddingLemmas.{stepping_none, stepping_back, stepping_more, stepping_all}
@@ -8,12 +8,10 @@ pub squares-init : goal.squares-init
 squares-init g c = stepping_none g.met.B.Board.numbers c.men_reach-left.ensures
 
 pub squares-smaller : goal.squares-smaller
-squares-smaller g c = subst (λ v. fin.len v < fin.len c.squares.left) (sym c.in-Some.ensures.rest)
-    (fewer_left c.squares.left _ c.in-Some.ensures.member)
+squares-smaller g c = fewer_left _ _ c.in-Some.ensures.rest c.in-Some.ensures.member
 
 pub squares-smaller-in_ok-push : goal.squares-smaller-in_ok-push
-squares-smaller-in_ok-push g c = subst (λ v. fin.len v < fin.len c.squares.left) (sym c.in-Some.ensures.rest)
-    (fewer_left c.squares.left _ c.in-Some.ensures.member)
+squares-smaller-in_ok-push g c = fewer_left _ _ c.in-Some.ensures.rest c.in-Some.ensures.member
 
 pub squares-preserved : goal.squares-preserved
 squares-preserved g c = absurd (stepping_back g.met.B.Board.numbers _ c.opposite.ensures c.in-Some.ensures.member

@@ -74,9 +74,6 @@ walk_towards-landings-init g t c = record {
   walked = λ p side path ground on. landed_none;
 }
 
-pub walk_towards-free_step-requires : goal.walk_towards-free_step-requires
-walk_towards-free_step-requires g t c = c.landings.invariant.on
-
 pub walk_towards-onto-requires : goal.walk_towards-onto-requires
 walk_towards-onto-requires g t c =
     let less = difference_less c.args.field.now.enemies c.args.begun.now.taken c.in-Some.over c.in-Some.ensures.enemy

@@ -1,4 +1,4 @@
-use Rattle.std.proofs.Common.{◌<◌, sym, subst, refl}
+use Rattle.std.proofs.Common.{refl}
 use Rattle.std.specs.FinSet as fin
 use Rattle.dw_moves.proofs.CapturesLemmas.{past_none, past_more, past_all}
 use Rattle.dw_moves.proofs.SquareSetLemmas.{fewer_left}
@@ -8,8 +8,7 @@ pub squares-init : goal.squares-init
 squares-init g c = λ p sets. past_none c.may_take-left.result (λ s. c.may_take-left.ensures p s sets)
 
 pub squares-smaller : goal.squares-smaller
-squares-smaller g c = subst (λ v. fin.len v < fin.len c.squares.left) (sym c.in-Some.ensures.rest)
-    (fewer_left c.squares.left _ c.in-Some.ensures.member)
+squares-smaller g c = fewer_left _ _ c.in-Some.ensures.rest c.in-Some.ensures.member
 
 pub squares-preserved : goal.squares-preserved
 squares-preserved g c = λ p sets.
