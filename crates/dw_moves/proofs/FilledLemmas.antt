@@ -1,6 +1,7 @@
 -- What the walks found is the list of legal moves.
 use Rattle.std.proofs.Common.{◌≡◌, ℕ, ◌<◌, zero, suc, List, [], ◌∷◌, ◌++◌, length, map, refl, sym, ap, ◌∙◌, subst, inl}
-use Rattle.std.proofs.Common.{inr, arith, ◌↔◌, ◌≤◌}
+use Rattle.std.proofs.Common.{inr, arith, ◌↔◌, ◌≤◌, Option, Some, None}
+use Rattle.std.specs.Prelude.{IsSome}
 use Rattle.std.proofs.lemmas.Bool.{cases_lt}
 use Rattle.std.specs.FinSet as fin
 use Rattle.std.specs.Ordering.{nat_cmp}
@@ -10,7 +11,7 @@ use Rattle.dw_moves.specs.Moves.{IsBest, CanCapture, Move, Quiet, Path, IsPathOf
 use Rattle.dw_board.specs.Lists.{Member}
 use Rattle.dw_moves.specs.inner.Plain.{quiet_to, Adds}
 use Rattle.dw_moves.specs.Order.{Listed}
-use Rattle.dw_moves.specs.inner.Walks.{Captures, Is, IsMost, Longest, Makes, MovesHeld, number}
+use Rattle.dw_moves.specs.inner.Walks.{Captures, Held, Is, IsMost, Longest, Makes, MovesHeld, OneKept, number}
 use Rattle.dw_moves.proofs.CaptureBoundLemmas.{path_bound}
 use Rattle.dw_moves.proofs.GroundLemmas.{side_fits}
 use Rattle.dw_moves.proofs.LegalMoveLemmas.{legal_best}
@@ -174,14 +175,22 @@ legal_if_quiet g p m none = (
 )
 
 -- a capture is legal if it is among those that take the greatest number
-pub legal_if_sought : (g : Geometry) (p : Placement) (k : ℕ) (m : Move) → IsMost (Captures g p) k
-    → (fin.len m.taken ≡ 0 → ⊥) → Longest (Captures g p) k (Makes m) ↔ Legal g p m
-legal_if_sought g p k m most takes =
-    let best : IsBest g p k = best_of g p k most in (
-      legal_from_capture g p k m best,
-      (λ l.
-          let count : fin.len m.taken ≡ k = legal_count g p k m best l in
-          capture_from_legal g p k m (above k (λ e. takes (count ∙ e))) best l),
-    ) where
-      above : (n : ℕ) → (n ≡ 0 → ⊥) → 0 < n
-      above n h = omega arith
+pub legal_if_sought : {g : Geometry} {p : Placement} {k : ℕ} {m : Move} {found : Option Move}
+    → Held (Captures g p) k (OneKept (Captures g p) (Makes m) k found) → (fin.len m.taken ≡ 0 → ⊥)
+    → IsSome found ↔ Legal g p m
+legal_if_sought {g} {p} {k} {m} {found} h takes = (
+  (λ some. legal_from_capture g p k m best (one_of found h.kept.is some)),
+  (λ l.
+      let count : fin.len m.taken ≡ k = legal_count g p k m best l in
+      h.kept.some (capture_from_legal g p k m (above k (λ e. takes (count ∙ e))) best l)),
+) where
+  best : IsBest g p k
+  best = best_of g p k h.most
+
+  above : (n : ℕ) → (n ≡ 0 → ⊥) → 0 < n
+  above n h = omega arith
+
+  one_of : (o : Option Move) → ((n : Move) → o ≡ Some n
+      → Longest (Captures g p) k (λ l. Makes n l × Makes m l)) → IsSome o → Longest (Captures g p) k (Makes m)
+  one_of None is some = cc
+  one_of (Some n) is some = let c = is n refl in (c.0, c.1, c.2, c.3.1)

@@ -8,7 +8,7 @@ use Rattle.dw_board.specs.Placement.{Placement}
 use Rattle.dw_moves.specs.Moves.{Move, IsPathOf, Legal, LegalAt, Path, last_of}
 use Rattle.dw_moves.specs.Order.{IsPathFor}
 use Rattle.dw_moves.specs.inner.MoveLemmas.{same_move}
-use Rattle.dw_moves.specs.inner.Walks.{Captures, Held, PathKept}
+use Rattle.dw_moves.specs.inner.Walks.{Along, Captures, Held, OneKept}
 use Rattle.dw_moves.proofs.FilledLemmas.{best_of, path_captures}
 use Rattle.dw_moves.proofs.LegalMoveLemmas.{best_only}
 use Rattle.dw_moves.proofs.PathTellsLemmas.{path_tells}
@@ -38,7 +38,7 @@ path_legal g p m squares h = (h.most, h.best, at_most h.most h.some h.leads) whe
 
 -- what was found is the capture along these squares, and legal
 pub followed : {g : Geometry} → IsBoard g → {p : Placement} {squares : List ℕ} {k : ℕ} {found : Option Move}
-    → Held (Captures g p) k (PathKept (Captures g p) squares k found)
+    → Held (Captures g p) k (OneKept (Captures g p) (Along squares) k found)
     → ((m : Move) → (found ≡ Some m) ↔ IsPathFor g p m squares) × IfSome found (Legal g p)
 followed {g} b {p} {squares} {k} {found} h = ((λ m. (found_path m, path_found m)), legal found refl) where
   found_path : (m : Move) → found ≡ Some m → IsPathFor g p m squares

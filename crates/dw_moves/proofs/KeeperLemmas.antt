@@ -1,6 +1,6 @@
 -- What each keeper makes of one capture more.
 use Rattle.std.proofs.Common.{◌≡◌, ℕ, ◌<◌, ◌≤◌, List, [], ◌∷◌, ◌++◌, refl, sym, ap, ◌∙◌, subst, ◌⊎◌, ◌↔◌, inl, inr, arith}
-use Rattle.std.proofs.Common.{true, false, max, Option, Some, None}
+use Rattle.std.proofs.Common.{true, false, max, Bool, Option, Some, None}
 use Rattle.std.specs.Prelude.{IsTrue}
 use Rattle.std.specs.List.{list_any}
 use Rattle.std.proofs.lemmas.Bool.{true≢false, or_cases, or_left, or_right, cases_lt}
@@ -10,8 +10,8 @@ use Rattle.dw_moves.specs.Order.{Listed}
 use Rattle.dw_moves.specs.inner.LexLemmas.{lex_irrefl, not_less}
 use Rattle.dw_moves.specs.inner.MemberLemmas.{mem_left, mem_right, mem_cases}
 use Rattle.dw_moves.specs.inner.MoveLemmas.{same_moves, same_moves-is}
-use Rattle.dw_moves.specs.inner.Walks.{Along, Covered, Held, Is, IsMost, Longest, Makes, MoveKept, MovesKept}
-use Rattle.dw_moves.specs.inner.Walks.{PathKept, PathsKept, TakenIn, These, number}
+use Rattle.dw_moves.specs.inner.Walks.{Covered, Held, Is, IsMost, Longest, Makes, MovesKept, OneKept}
+use Rattle.dw_moves.specs.inner.Walks.{PathsKept, TakenIn, These, number}
 use Rattle.dw_moves.proofs.QuietOnceLemmas.{once_append}
 use Rattle.dw_moves.proofs.StepLemmas.{none_some, some_inj}
 
@@ -241,54 +241,36 @@ paths_join {left = left} {new = new} j joined h = record {
   once = joined.once h.once;
 }
 
--- ---- one move
-pub move_bare : {E : Listed → Type 0} {k : ℕ} {m : Move} → Bare E k → MoveKept E m k (IsTrue false)
-move_bare {m = m} b = record { is = ((λ f. absurd (true≢false (sym f))), (λ h. absurd (none_longest b (Makes m) h))) }
+-- ---- one that is sought
+pub one_bare : {E C : Listed → Type 0} {k : ℕ} → Bare E k → OneKept E C k None
+one_bare {C = C} b = record { is = λ m e. absurd (none_some m e); some = λ h. absurd (none_longest b C h) }
 
-pub move_alike : {E F : Listed → Type 0} {k : ℕ} {m : Move} {found : Type 0} → Alike E F k → MoveKept E m k found
-    → MoveKept F m k found
-move_alike {m = m} a h =
-    let both = longest_alike a (Makes m) in record { is = ((λ f. both.0 (h.is.0 f)), (λ x. h.is.1 (both.1 x))) }
-
--- it is the move that is sought, or another
-pub move_here : {E F : Listed → Type 0} {k : ℕ} {this : Listed} {m : Move} {found : Type 0} → Joined E F k this
-    → this.step ≡ m → found → MoveKept F m k found
-move_here {m = m} j same so = record { is = ((λ f. (longest_joined j (Makes m)).1 (inr same)), (λ x. so)) }
-
-pub move_other : {E F : Listed → Type 0} {k : ℕ} {this : Listed} {m : Move} {found : Type 0} → Joined E F k this
-    → (this.step ≡ m → ⊥) → MoveKept E m k found → MoveKept F m k found
-move_other {m = m} j apart h = record {
-  is = (
-    (λ f. (longest_joined j (Makes m)).1 (inl (h.is.0 f))),
-    (λ x. elim ((longest_joined j (Makes m)).0 x) [ inl o ↦ h.is.1 o | inr e ↦ absurd (apart e) ]),
-  );
+pub one_alike : {E F C : Listed → Type 0} {k : ℕ} {found : Option Move} → Alike E F k → OneKept E C k found
+    → OneKept F C k found
+one_alike {C = C} a h = record {
+  is = λ m e. (longest_alike a (λ l. Makes m l × C l)).0 (h.is m e);
+  some = λ x. h.some ((longest_alike a C).1 x);
 }
 
--- ---- one path
-pub path_bare : {E : Listed → Type 0} {k : ℕ} {path : List ℕ} → Bare E k → PathKept E path k None
-path_bare {path = path} b = record {
-  is = λ m e. absurd (none_some m e);
-  some = λ h. absurd (none_longest b (Along path) h);
-}
-
-pub path_alike : {E F : Listed → Type 0} {k : ℕ} {path : List ℕ} {found : Option Move} → Alike E F k
-    → PathKept E path k found → PathKept F path k found
-path_alike {path = path} a h = record {
-  is = λ m e. (longest_alike a (λ l. Makes m l × Along path l)).0 (h.is m e);
-  some = λ x. h.some ((longest_alike a (Along path)).1 x);
-}
-
--- it is made on the path that is followed, or on another
-pub path_here : {E F : Listed → Type 0} {k : ℕ} {this : Listed} {path : List ℕ} → Joined E F k this → this.path ≡ path
-    → PathKept F path k (Some this.step)
-path_here {this = this} {path = path} j same = record {
-  is = λ m e. (longest_joined j (λ l. Makes m l × Along path l)).1 (inr (some_inj e, same));
+-- it is met here, or not
+pub one_here : {E F C : Listed → Type 0} {k : ℕ} {this : Listed} → Joined E F k this → C this
+    → OneKept F C k (Some this.step)
+one_here {C = C} j met = record {
+  is = λ m e. (longest_joined j (λ l. Makes m l × C l)).1 (inr (some_inj e, met));
   some = λ x. refl;
 }
 
-pub path_other : {E F : Listed → Type 0} {k : ℕ} {this : Listed} {path : List ℕ} {found : Option Move}
-    → Joined E F k this → (this.path ≡ path → ⊥) → PathKept E path k found → PathKept F path k found
-path_other {path = path} j apart h = record {
-  is = λ m e. (longest_joined j (λ l. Makes m l × Along path l)).1 (inl (h.is m e));
-  some = λ x. elim ((longest_joined j (Along path)).0 x) [ inl o ↦ h.some o | inr e ↦ absurd (apart e) ];
+pub one_other : {E F C : Listed → Type 0} {k : ℕ} {this : Listed} {found : Option Move} → Joined E F k this
+    → (C this → ⊥) → OneKept E C k found → OneKept F C k found
+one_other {C = C} j apart h = record {
+  is = λ m e. (longest_joined j (λ l. Makes m l × C l)).1 (inl (h.is m e));
+  some = λ x. elim ((longest_joined j C).0 x) [ inl o ↦ h.some o | inr e ↦ absurd (apart e) ];
 }
+
+-- a test of a capture, where the aim and the path are the same
+pub same_aim : {A : Type 0} (meets : A → Listed → Type 0) {still aim : A} (m : Move) {seen path : List ℕ} (r : Bool)
+    → still ≡ aim → seen ≡ path → IsTrue r ↔ meets still (record { step = m; path = seen })
+    → IsTrue r ↔ meets aim (record { step = m; path = path })
+same_aim meets {aim = aim} m {seen = seen} r aim_is path_is h =
+    subst (λ z. IsTrue r ↔ meets aim (record { step = m; path = z })) path_is
+    (subst (λ a. IsTrue r ↔ meets a (record { step = m; path = seen })) aim_is h)

@@ -118,22 +118,16 @@ pub record MovesKept (E : Listed → Type 0) (k : ℕ) (moves : List Move) : Typ
 abbrev pub MovesHeld : (Listed → Type 0) → ℕ → List Move → Type 0
 MovesHeld E k moves = Held E k (MovesKept E k moves)
 
--- whether one of them makes this move
-pub record MoveKept (E : Listed → Type 0) (wanted : Move) (k : ℕ) (found : Type 0) : Type 0 where
-  pub is : found ↔ Longest E k (Makes wanted)
+-- the move of one of them that is sought, if there is one
+pub record OneKept (E C : Listed → Type 0) (k : ℕ) (found : Option Move) : Type 0 where
+  pub is : (m : Move) → found ≡ Some m → Longest E k (λ l. Makes m l × C l)
+  pub some : Longest E k C → IsSome found
 
-pub record Sought (E : Listed → Type 0) (wanted still : Move) (k : ℕ) (found : Type 0) : Type 0 where
-  pub same : still ≡ wanted
-  pub held : Held E k (MoveKept E wanted k found)
-
--- the one of them that is made on a given path
-pub record PathKept (E : Listed → Type 0) (path : List ℕ) (k : ℕ) (found : Option Move) : Type 0 where
-  pub is : (m : Move) → found ≡ Some m → Longest E k (λ l. Makes m l × Along path l)
-  pub some : Longest E k (Along path) → IsSome found
-
-pub record Followed (E : Listed → Type 0) (path still : List ℕ) (k : ℕ) (found : Option Move) : Type 0 where
-  pub same : still ≡ path
-  pub held : Held E k (PathKept E path k found)
+-- the aim stays, and one of those that it is met by is held
+pub record Sought {A : Type 0} (E : Listed → Type 0) (is_met_by : A → Listed → Type 0) (aim still : A) (k : ℕ)
+    (found : Option Move) : Type 0 where
+  pub same : still ≡ aim
+  pub held : Held E k (OneKept E (is_met_by aim) k found)
 
 -- the moves of a list, without their paths
 abbrev pub steps_of : List Listed → List Move
