@@ -77,8 +77,8 @@ Past g p d left l = (from : ℕ) × (fin.contains left from ≡ false) × Begins
 
 module _ {K : Type 0} {holds : K → List Listed → K → Type 0} {g : Geometry} {p : Placement} where
   -- a piece was walked in a direction
-  pub begins_of : {d : Dir} {from s a : ℕ} {men kings enemies occupied v behind rest : Squares} {k k1 k2 : K} (kind_of : Kind)
-      → AreSets g p men kings enemies occupied
+  pub begins_of : {d : Dir} {from s a : ℕ} {men kings enemies occupied v behind rest : Squares} {k k1 k2 : K}
+      (kind_of : Kind) → AreSets g p men kings enemies occupied
       → OnBoard g from × (at p from ≡ Some (record { side = p.turn; kind = kind_of }))
       → s ≡ from → a ≡ from → v ≡ fin.empty → behind ≡ enemies → rest ≡ fin.remove occupied from → Stays holds k k1
       → ((q : Placement) (side : Side) → IsGround g q side behind rest
@@ -100,10 +100,11 @@ module _ {K : Type 0} {holds : K → List Listed → K → Type 0} {g : Geometry
   pub begins_nowhere : {d : Dir} {from : ℕ} {men kings enemies occupied : Squares} {k k1 : K}
       → AreSets g p men kings enemies occupied → fin.contains men from ≡ false
       → fin.contains kings from ≡ false → Stays holds k k1 → Offers holds (Begins g p d from) k k1
-  begins_nowhere {d} {from} sets no_man no_king none = offers_none {E = Begins g p d from} none (λ l f. elim (own_in sets f.stands) [
-    | inl man ↦ true≢false (sym man.1 ∙ no_man)
-    | inr king ↦ true≢false (sym king.1 ∙ no_king)
-  ])
+  begins_nowhere {d} {from} sets no_man no_king none = offers_none {E = Begins g p d from} none (λ l f.
+      elim (own_in sets f.stands) [
+        | inl man ↦ true≢false (sym man.1 ∙ no_man)
+        | inr king ↦ true≢false (sym king.1 ∙ no_king)
+      ])
 
   -- each begins on one of those on which one may begin
   pub past_none : {d : Dir} (left : Squares) {k : K} → ((s : ℕ) → CanTakeTowards g p d s → In s left)

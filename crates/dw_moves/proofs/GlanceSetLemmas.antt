@@ -121,6 +121,7 @@ own_in {p = p} {men = men} {kings = kings} {s = s} {piece = piece} sets stands =
   there : (kind_of : Kind) → piece.kind ≡ kind_of → at p s ≡ Some (record { side = p.turn; kind = kind_of })
   there kind_of e = stands.there ∙ ap Some (λ i. record { side = stands.own i; kind = e i })
 
-  by_kind : (kind_of : Kind) → piece.kind ≡ kind_of → ((piece.kind ≡ Man) × In s men) ⊎ ((piece.kind ≡ King) × In s kings)
+  by_kind : (kind_of : Kind) → piece.kind ≡ kind_of
+      → ((piece.kind ≡ Man) × In s men) ⊎ ((piece.kind ≡ King) × In s kings)
   by_kind Man e = inl (e, (sets.of_men s).1 (stands.on_board, there Man e))
   by_kind King e = inr (e, (sets.of_kings s).1 (stands.on_board, there King e))

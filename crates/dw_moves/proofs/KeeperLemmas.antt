@@ -1,6 +1,6 @@
 -- What each keeper makes of one capture more.
-use Rattle.std.proofs.Common.{◌≡◌, ℕ, ◌<◌, ◌≤◌, List, [], ◌∷◌, ◌++◌, refl, sym, ap, ◌∙◌, subst, ◌⊎◌, ◌↔◌, inl, inr, arith}
-use Rattle.std.proofs.Common.{true, false, max, Bool, Option, Some, None}
+use Rattle.std.proofs.Common.{◌≡◌, ℕ, ◌<◌, ◌≤◌, List, [], ◌∷◌, ◌++◌, refl, sym, ap, ◌∙◌, subst, ◌⊎◌, ◌↔◌, inl, inr}
+use Rattle.std.proofs.Common.{arith, true, false, max, Bool, Option, Some, None}
 use Rattle.std.specs.Prelude.{IsTrue}
 use Rattle.std.specs.List.{list_any}
 use Rattle.std.proofs.lemmas.Bool.{true≢false, or_cases, or_left, or_right, cases_lt}
@@ -132,7 +132,8 @@ module _ (xs : List Listed) (this : Listed) (k n : ℕ) (is : n ≡ number this)
       here = mem_right this xs (this ∷ []) (inl refl);
       count = sym is ∙ sym same;
     }) (elim l [
-      | inl a ↦ subst (Kept now) (sym a.2) (bare (record { none = λ l m e. omega (arith, h.most.most l m, a.0, a.1, e) }))
+      | inl a ↦ subst (Kept now) (sym a.2)
+          (bare (record { none = λ l m e. omega (arith, h.most.most l m, a.0, a.1, e) }))
       | inr a ↦ subst (Kept now) (sym a.2) (subst (λ z. Kept z old) (sym a.1) h.kept)
     ]);
   } where
@@ -233,7 +234,10 @@ paths_alike a h = record {
 pub paths_join : {E F : Listed → Type 0} {k : ℕ} {this : Listed} {left new : List Listed} → Joined E F k this
     → TakenIn this left new → PathsKept E k left → PathsKept F k new
 paths_join {left = left} {new = new} j joined h = record {
-  from = λ x m. (longest_joined j (Is x)).1 (elim (joined.from x m) [ inl e ↦ inr (sym e) | inr old ↦ inl (h.from x old) ]);
+  from = λ x m. (longest_joined j (Is x)).1 (elim (joined.from x m) [
+    | inl e ↦ inr (sym e)
+    | inr old ↦ inl (h.from x old)
+  ]);
   least = λ x y. elim ((longest_joined j (Is x)).0 y) [
     | inl old ↦ covered_then x left new (λ r m. joined.least r (inr m)) (h.least x old)
     | inr e ↦ joined.least x (inl (sym e))

@@ -135,4 +135,5 @@ quiet_all_listed g p old now none e added =
     let best : IsBest g p 0 = best_none g p none in
     let whole : now ≡ map with_ends (map move_to added.pairs) = added.are
     ∙ (ap (λ z. z ++ map (λ (q : ℕ × ℕ). quietly_listed q.0 q.1) added.pairs) e ∙ made_of_moves added.pairs) in
-    subst (HasAll g p) (sym whole) (quiet_listing g p (map move_to added.pairs) (are_quiet g p added.pairs added.those) best)
+    subst (HasAll g p) (sym whole)
+    (quiet_listing g p (map move_to added.pairs) (are_quiet g p added.pairs added.those) best)

@@ -59,7 +59,8 @@ from_number (suc n) s m = elim (mem_cases s (numbers_to n) (suc n ∷ []) m) [
 -- a path takes no more than there are cells
 path_short : (g : Geometry) (p : Placement) (from : ℕ) (ts cs : List ℕ) → Path g p from ts cs
     → length cs ≤ length p.cells
-path_short g p from ts cs h = omega (arith, path_bound g p from ts cs h, count_by-le-length (is_of (other p.turn)) p.cells)
+path_short g p from ts cs h =
+    omega (arith, path_bound g p from ts cs h, count_by-le-length (is_of (other p.turn)) p.cells)
 
 captures_of_from : (g : Geometry) (p : Placement) (s : ℕ) (w : Capture) (piece : Piece) → OnBoard g s
     → at p s ≡ Some piece → Member w (captures_of g p s (Some piece)) → Path g p w.start w.landings w.over

@@ -34,8 +34,8 @@ returns-clause-kept g c = on_ok_weaker c.keep_least.result (λ joined path on fi
       | then-self-count w ↦ ap (λ z. z.path.items) w.self-is
       | else-self-count w ↦ ap (λ z. z.path.items) w.self-is
     ]) ∙ on in
-    let here : TakenIn this rest (entries_listed c.keep_least.new.paths.entries) =
-    subst (λ z. TakenIn (record { step = c.args.mv.now; path = z }) rest (entries_listed c.keep_least.new.paths.entries))
-    same joined in
+    let new = entries_listed c.keep_least.new.paths.entries in
+    let here : TakenIn this rest new = subst (λ z. TakenIn (record { step = c.args.mv.now; path = z }) rest new) same
+    joined in
     held_more xs this k c.args.count c.requires (PathsKept (These xs)) c.if-count-self.false left h paths_bare
     (λ more. paths_join more here)) c.keep_least.ensures
