@@ -1,5 +1,5 @@
 //! One capture that is looked for among those that a walk meets.
-ghost use Rattle.std.specs.Prelude.{◌≡◌, ◌↔◌, ◌++◌, ◌∷◌, [], ℕ, List, OnOk, IsTrue};
+ghost use Rattle.std.specs.Prelude.{◌≡◌, ◌↔◌, [], IsTrue};
 ghost use Rattle.dw_moves.specs.Order.{Listed};
 ghost use Rattle.dw_moves.specs.inner.Walks.{Sought, These};
 
