@@ -75,7 +75,7 @@ first_jump g p piece s [] (c ∷ cs) h some = absurd h
 first_jump g p piece s (t ∷ ts) [] h some = absurd h
 first_jump g p piece s (t ∷ ts) (c ∷ cs) h some = (c, t, h.0)
 
-module _ (g : Geometry) (b : IsBoard g) (p : Placement) (men kings enemies occupied : Squares)
+module _ {g : Geometry} (b : IsBoard g) {p : Placement} {men kings enemies occupied : Squares}
     (sets : AreSets g p men kings enemies occupied) where
   -- one jump behind such a run
   jump_of : (kind : Kind) (from : Squares) (d : Dir)

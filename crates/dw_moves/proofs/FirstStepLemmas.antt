@@ -20,7 +20,7 @@ can_step_if {g} b {p} {men} {kings} {enemies} {occupied} sets e {r} h =
     let steps = subst (λ z. IsTrue r ↔ ((d : Dir) × Steps g z men kings occupied d)) e h in (
       (λ t.
           let s = steps.0 t in
-          let one : OneStep g p s.1.0 s.1.1 = step_of g b p men kings enemies occupied sets s.0 s.1.0 s.1.1
+          let one : OneStep g p s.1.0 s.1.1 = step_of b sets s.0 s.1.0 s.1.1
           (s.1.2, s.1.3, s.1.4) in
           (s.1.0, s.1.1, step_quiet g b p s.1.0 s.1.1 one)),
       (λ can. steps.1 (first_step can.0 can.1 can.2)),
@@ -36,5 +36,5 @@ can_step_if {g} b {p} {men} {kings} {enemies} {occupied} sets e {r} h =
             free = next.3;
             man = λ e. (q.man e).1;
           } in
-          let f = from_step g b p men kings enemies occupied sets s next.0 one in
+          let f = from_step b sets s next.0 one in
           (q.dir, (s, next.0, f.0, f.1, f.2))

@@ -38,7 +38,7 @@ abbrev pub TakesFrom : Geometry → Squares → Squares → Squares → ℕ → 
 TakesFrom g men enemies occupied s d = (c : ℕ) × (t : ℕ) × OnBoard g s × In s men × (step g s d ≡ Some c)
     × In c enemies × (step g c d ≡ Some t) × (In t occupied → ⊥)
 
-module _ (g : Geometry) (b : IsBoard g) (p : Placement) (men kings enemies occupied : Squares)
+module _ {g : Geometry} (b : IsBoard g) {p : Placement} {men kings enemies occupied : Squares}
     (sets : AreSets g p men kings enemies occupied) where
   -- a jump begins with a king, or with a man next to an enemy that has an empty square behind it
   jump_begins : (s c t : ℕ) (piece : Piece) → Stands g p s piece → (j : Jump g (placed p s None) piece s c t)
@@ -73,7 +73,7 @@ module _ (g : Geometry) (b : IsBoard g) (p : Placement) (men kings enemies occup
   towards_within movers towards all d s k f all_is h =
       let j = jump_along g (placed p s None) h.2 s h.0 h.1 d h.4 in
       let takes : In s kings → (u : ℕ) × KingsTake g kings enemies occupied d u = λ i.
-      let m = jump_meets g b p men kings enemies occupied sets s h.0 h.1 h.2 h.3 j.0 kings i in
+      let m = jump_meets b sets s h.0 h.1 h.2 h.3 j.0 kings i in
       subst (λ z. (u : ℕ) × KingsTake g kings enemies occupied z u) j.1
       (m.0, (h.0, (length j.0.before, m.1), m.2, m.3)) in
       (in_or movers towards all s all_is).1 (elim (jump_begins s h.0 h.1 h.2 h.3 j.0) [

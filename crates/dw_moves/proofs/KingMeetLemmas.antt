@@ -30,8 +30,8 @@ pub record Meets (g : Geometry) (from : ℕ) (d : Dir) (enemies occupied here re
   pub next_is : IsShifted g reached d next
   pub met_is : met ≡ fin.intersection next enemies
 
-module _ (g : Geometry) (b : IsBoard g) (p : Placement) (side : Side) (from : ℕ) (d : Dir)
-    (enemies occupied here reached next met : Squares) (on : OnBoard g from) (ground : IsGround g p side enemies
+module _ {g : Geometry} (b : IsBoard g) {p : Placement} {side : Side} {from : ℕ} {d : Dir}
+    {enemies occupied here reached next met : Squares} (on : OnBoard g from) (ground : IsGround g p side enemies
     occupied) (m : Meets g from d enemies occupied here reached next met) where
   free_of : (t : ℕ) → OnBoard g t → (In t occupied → ⊥) → at p t ≡ None
   free_of t t_on out = elim (option_cases (at p t)) [

@@ -108,7 +108,7 @@ module _ (g : Geometry) (b : IsBoard g) (p : Placement) (men kings enemies occup
         | inl m ↦ let w = (in_minus men out men_left s men_is).0 m.0 in (inl (w.0, m.1), w.1)
         | inr k ↦ let w = (in_minus kings out kings_left s kings_is).0 k in (inr w.0, w.1)
       ]) in
-      let q : OneStep g p s t = step_of g b p men kings enemies occupied sets d s t (parts.0, h.1, h.2) in (
+      let q : OneStep g p s t = step_of b sets d s t (parts.0, h.1, h.2) in (
         q,
         λ e. parts.1 ((out_is s).1 (
           standing s t q,
@@ -119,7 +119,7 @@ module _ (g : Geometry) (b : IsBoard g) (p : Placement) (men kings enemies occup
   step_left : (s t : ℕ) → OneStep g p s t → (IsExposed g p p.turn s → ⊥) → (d : Dir)
       × StepsOn g p.turn men_left kings_left occupied d t
   step_left s t q safe =
-      let h = from_step g b p men kings enemies occupied sets s t q in
+      let h = from_step b sets s t q in
       let not_out : In s out → ⊥ = λ i. safe ((exposed_there g b p p.turn own own_are s q.stands.on_board).0
       ((out_is s).0 i).1) in
       let mover : (In s men_left × IsForward p.turn q.dir) ⊎ In s kings_left = elim h.0 [

@@ -17,7 +17,7 @@ use Rattle.dw_moves.proofs.SquareSetLemmas.{in_none, in_rest}
 use Rattle.dw_moves.proofs.SlideLemmas.{is_free, is_out}
 use Rattle.dw_moves.proofs.GlanceSetLemmas.{own_in}
 
-module _ (g : Geometry) (b : IsBoard g) (p : Placement) (men kings enemies occupied : Squares)
+module _ {g : Geometry} (b : IsBoard g) {p : Placement} {men kings enemies occupied : Squares}
     (sets : AreSets g p men kings enemies occupied) where
   pub step_of : (d : Dir) (s t : ℕ) → StepsFrom g p.turn men kings occupied d s t → OneStep g p s t
   step_of d s t h = elim h.0 [
@@ -55,8 +55,8 @@ pub all_steps : (g : Geometry) → IsBoard g → (p : Placement) (side : Side) (
     ↔ ((s : ℕ) × OneStep g (passed p) s t)
 all_steps g b p side men kings enemies occupied sets side_is all are t =
     subst (λ z. In t all ↔ ((s : ℕ) × OneStep g (given p z) s t)) side_is (
-      (λ h. let w = (are t).0 h in step_from g b (given p side) men kings enemies occupied sets w.0 t w.1),
-      (λ h. (are t).1 (step_in g b (given p side) men kings enemies occupied sets h.0 t h.1)),
+      (λ h. let w = (are t).0 h in step_from b sets w.0 t w.1),
+      (λ h. (are t).1 (step_in b sets h.0 t h.1)),
     )
 
 -- TWO MEMBERS

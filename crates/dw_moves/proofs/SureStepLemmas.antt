@@ -36,7 +36,7 @@ module _ {g : Geometry} (b : IsBoard g) {p : Placement} {men kings enemies occup
     (sets : AreSets g p men kings enemies occupied) (d : Dir) where
   -- one step back from a goal is where the step began
   start : (s t : ℕ) → StepsFrom g p.turn men kings occupied d s t → step g t (back d) ≡ Some s
-  start s t h = step_back g b s t d (step_of g b p men kings enemies occupied sets d s t h).stands.on_board h.1
+  start s t h = step_back g b s t d (step_of b sets d s t h).stands.on_board h.1
 
   pub all_left : {left : Squares} → ((t : ℕ) → In t left ↔ StepsOn g p.turn men kings occupied d t)
       → IsLeft g p men kings occupied d left
@@ -47,7 +47,7 @@ module _ {g : Geometry} (b : IsBoard g) {p : Placement} {men kings enemies occup
   goal_step l s t m leads =
       let h = l.steps t m in
       let same : h.0 ≡ s = some_inj (sym (start h.0 t (h.1, h.2, h.3)) ∙ leads) in
-      step_of g b p men kings enemies occupied sets d s t
+      step_of b sets d s t
       (subst (λ z. StepsFrom g p.turn men kings occupied d z t) same (h.1, h.2, h.3))
 
   pub one_tried : {left rest : Squares} → IsLeft g p men kings occupied d left → (s t : ℕ) → rest ≡ fin.remove left t
@@ -78,7 +78,7 @@ pub none_anywhere : (g : Geometry) → IsBoard g → (p : Placement) (men kings 
     → (m : Move) → IsSureStep g p m → ⊥
 none_anywhere g b p men kings enemies occupied sets ul ur dl dr m h =
     let same : m ≡ quiet_to m.from m.to = λ i. record { from = m.from; to = m.to; taken = h.1 i } in
-    in_dir h.0.dir (from_step g b p men kings enemies occupied sets m.from m.to h.0)
+    in_dir h.0.dir (from_step b sets m.from m.to h.0)
     (subst (λ z. HasSureReply g (play g p z)) same h.2) where
       out : (t : ℕ) → In t fin.empty → ⊥
       out t m = in_none fin.empty t refl m
