@@ -1,7 +1,7 @@
 -- Ascending lists, made by insertion under a key.
 use Rattle.std.proofs.Common.{◌≡◌, ℕ, List, [], ◌∷◌, refl, sym, ap, ◌∙◌, subst, ◌⊎◌, inl, inr}
 use Rattle.dw_board.specs.Lists.{Member}
-use Rattle.dw_moves.specs.Order.{LexLess, IsAscending, IsListOf}
+use Rattle.dw_moves.specs.Order.{LexLess, IsAscending}
 use Rattle.dw_moves.specs.inner.LexLemmas.{lex_trans, lex_cases}
 
 -- the order by a key

@@ -1,10 +1,9 @@
 -- Pieces of the side to move, and whether it has a legal move.
-use Rattle.std.proofs.Common.{◌≡◌, ℕ, ◌<◌, zero, suc, refl, sym, ◌∙◌, inl, inr, ◌⊎◌, arith, Some}
+use Rattle.std.proofs.Common.{◌≡◌, ℕ, ◌<◌, zero, suc, refl, sym, ◌∙◌, inl, inr, ◌⊎◌, arith}
 use Rattle.std.proofs.Common.{false, true}
 use Rattle.std.proofs.lemmas.Bool.{true≢false}
 use Rattle.std.specs.Prelude.{◌↔◌, Bool, IsTrue}
 use Rattle.std.specs.FinSet as fin
-use Rattle.dw_board.specs.declared.piece.Piece.{Piece}
 use Rattle.dw_board.specs.Geometry.{Geometry}
 use Rattle.dw_board.specs.Placement.{Placement, at}
 use Rattle.dw_moves.specs.Moves.{IsBest, CanCapture, Move, Legal, LegalAt, last_of}
@@ -12,11 +11,8 @@ use Rattle.dw_moves.specs.inner.Glance.{CanStep}
 use Rattle.dw_moves.proofs.PlainLemmas.{best}
 use Rattle.dw_moves.proofs.LegalMoveLemmas.{is_best}
 
-pub some_same : (x y : Piece) → Some x ≡ Some y → x ≡ y
-some_same x y e = cc
-
 -- some move is legal where something can be taken
-pub has_capture : (g : Geometry) (p : Placement) (k : ℕ) → IsBest g p k → 0 < k → (m : Move) × Legal g p m
+has_capture : (g : Geometry) (p : Placement) (k : ℕ) → IsBest g p k → 0 < k → (m : Move) × Legal g p m
 has_capture g p zero h some = absurd (omega arith)
 has_capture g p (suc k) h some =
     let r = h.reached some in (
@@ -28,7 +24,7 @@ pub capture_moves : (g : Geometry) (p : Placement) → CanCapture g p → (m : M
 capture_moves g p h = has_capture g p (best g p) (is_best g p) (omega (arith, (is_best g p).most h.0 h.1 h.2 h.3, h.4))
 
 -- where a quiet move is there, a move is legal: that one, or a capture
-step_moves : (g : Geometry) (p : Placement) → CanStep g p → (m : Move) × Legal g p m
+pub step_moves : (g : Geometry) (p : Placement) → CanStep g p → (m : Move) × Legal g p m
 step_moves g p h = by_most (best g p) (is_best g p) where
   by_most : (k : ℕ) → IsBest g p k → (m : Move) × Legal g p m
   by_most zero most = (record { from = h.0; to = h.1; taken = fin.empty }, (0, most, (h.2, refl)))

@@ -1,19 +1,12 @@
 -- Chains of jumps, and their jumps in each direction.
-use Rattle.std.proofs.Common.{◌≡◌, ℕ, List, [], ◌∷◌, sym, ap, ◌∙◌, subst, inl, inr, refl, false}
+use Rattle.std.proofs.Common.{◌≡◌, ℕ, List, [], ◌∷◌, ap, ◌∙◌, subst, inl, inr, refl, false}
 use Rattle.std.specs.FinSet as fin
-use Rattle.dw_board.specs.declared.board.Dir.{Dir}
-use Rattle.dw_board.specs.declared.piece.Kind.{Kind}
-use Rattle.dw_board.specs.declared.piece.Kind.TheVariants.{Man, King}
 use Rattle.dw_board.specs.declared.piece.Piece.{Piece}
 use Rattle.dw_board.specs.Geometry.{Geometry, Squares}
 use Rattle.dw_board.specs.Placement.{Placement}
 use Rattle.dw_board.specs.Lists.{Member}
-use Rattle.dw_moves.specs.Moves.{Jump, ray}
-use Rattle.dw_moves.specs.inner.MemberLemmas.{mem_flat}
-use Rattle.dw_moves.specs.inner.Plain.{dirs, takes_for, landings_for}
+use Rattle.dw_moves.specs.Moves.{Jump}
 use Rattle.dw_moves.specs.inner.Walks.{Chain}
-use Rattle.dw_moves.proofs.ExactLemmas.{all_dirs, jump_from}
-use Rattle.dw_moves.proofs.RunLemmas.{Freed, run_man, run_king}
 use Rattle.dw_moves.proofs.SquareSetLemmas.{not_in, out_of}
 
 pub chain_none : (g : Geometry) (p : Placement) (piece : Piece) (s : ℕ) (taken : Squares)
@@ -44,16 +37,3 @@ over_of j = j.0
 
 abbrev pub landing_of : ℕ × ℕ → ℕ
 landing_of j = j.1
-
--- the square that comes next is a landing
-pub next_lands : (kind : Kind) (g : Geometry) (p : Placement) (s : ℕ) (d : Dir) (t : ℕ) → Freed g p s d t
-    → Member t (landings_for kind p (ray g s d))
-next_lands Man g p s d t f = subst (Member t) (sym (ap (landings_for Man p) f.ray_is ∙ run_man p t (ray g t d) f.free))
-    (inl refl)
-next_lands King g p s d t f = subst (Member t) (sym (ap (landings_for King p) f.ray_is
-    ∙ run_king p t (ray g t d) f.free)) (inl refl)
-
-pub in_direction : (g : Geometry) (p : Placement) (piece : Piece) (s : ℕ) (d : Dir) (j : ℕ × ℕ)
-    → Member j (takes_for piece.kind p piece.side (ray g s d)) → Jump g p piece s j.0 j.1
-in_direction g p piece s d j m = jump_from g p piece s j (mem_flat (λ d. takes_for piece.kind p piece.side (ray g s d))
-    d j dirs (all_dirs d) m)

@@ -249,20 +249,7 @@ pub jump_from : (g : Geometry) (cells : Placement) (piece : Piece) (s : ℕ) (j 
     → Member j (jump_list g cells piece s) → Jump g cells piece s j.0 j.1
 jump_from g cells piece s j m =
     let f = mem_flat_back (λ d. takes_for piece.kind cells piece.side (ray g s d)) j dirs m in
-    let h = takes_from piece.kind cells piece.side (ray g s f.0) j f.2 in
-    record {
-      dir = f.0;
-      before = h.before;
-      behind = h.behind;
-      beyond = h.beyond;
-      on_ray = h.is;
-      clear = h.clear;
-      enemy =
-          h.enemy;
-      clear_behind = h.clear_behind;
-      free = h.free;
-      man = h.man;
-    }
+    (jump_along g cells piece s j.0 j.1 f.0 f.2).0
 
 pub jump_in : (g : Geometry) (cells : Placement) (piece : Piece) (s c t : ℕ) → Jump g cells piece s c t
     → Member (c, t) (jump_list g cells piece s)

@@ -1,20 +1,21 @@
 -- What the walks found is the list of legal moves.
 use Rattle.std.proofs.Common.{◌≡◌, ℕ, ◌<◌, zero, suc, List, [], ◌∷◌, ◌++◌, length, map, refl, sym, ap, ◌∙◌, subst, inl}
-use Rattle.std.proofs.Common.{inr, arith, ◌↔◌, ◌≤◌}
+use Rattle.std.proofs.Common.{inr, arith, ◌↔◌, ◌≤◌, Option, Some, None}
+use Rattle.std.specs.Prelude.{IsSome}
 use Rattle.std.proofs.lemmas.Bool.{cases_lt}
 use Rattle.std.specs.FinSet as fin
 use Rattle.std.specs.Ordering.{nat_cmp}
 use Rattle.dw_board.specs.Geometry.{Geometry, IsBoard, Squares}
 use Rattle.dw_board.specs.Placement.{Placement, IsPosition, other}
 use Rattle.dw_moves.specs.Moves.{IsBest, CanCapture, Move, Quiet, Path, IsPathOf, Legal, LegalAt, AreLegal, last_of}
-use Rattle.dw_moves.specs.Moves.{AreEnds, In}
+use Rattle.dw_moves.specs.Moves.{AreEnds}
 use Rattle.dw_board.specs.Lists.{Member}
 use Rattle.dw_moves.specs.inner.Plain.{quiet_to, Adds}
 use Rattle.dw_moves.specs.Order.{Listed}
-use Rattle.dw_moves.specs.inner.Walks.{Captures, EndsOn, Held, Is, IsMost, Longest, Makes, MovesHeld, number}
+use Rattle.dw_moves.specs.inner.Walks.{Captures, EndsKept, Held, Is, IsMost, Longest, Makes, MovesHeld, OneKept, number}
 use Rattle.dw_moves.proofs.CaptureBoundLemmas.{path_bound}
 use Rattle.dw_moves.proofs.GroundLemmas.{side_fits}
-use Rattle.dw_moves.proofs.LegalMoveLemmas.{best_only}
+use Rattle.dw_moves.proofs.LegalMoveLemmas.{legal_best}
 use Rattle.dw_moves.proofs.SquareSetLemmas.{len_list}
 use Rattle.dw_moves.proofs.AddingLemmas.{AreQuiet, are_quiet, move_to}
 
@@ -65,14 +66,11 @@ empty_list [] h = refl
 empty_list (m ∷ ms) h = absurd (h m (inl refl))
 
 none_kept : (g : Geometry) (p : Placement) (kept : List Move) → MovesHeld (Captures g p) 0 kept → kept ≡ []
-none_kept g p kept h = empty_list kept (λ m x. let c = (h.exactly m).0 x in omega (arith, c.1.some, c.2))
+none_kept g p kept h = empty_list kept (λ m x. let c = (h.kept.exactly m).0 x in omega (arith, c.1.some, c.2))
 
 pub quiet_from_legal : (g : Geometry) (p : Placement) (m : Move) → IsBest g p 0 → Legal g p m → Quiet g p m.from m.to
     × (m.taken ≡ fin.empty)
-quiet_from_legal g p m best l = at_k l.0 (best_only g p l.0 0 l.1 best) l.2 where
-  at_k : (k : ℕ) → k ≡ 0 → LegalAt g p k m → Quiet g p m.from m.to × (m.taken ≡ fin.empty)
-  at_k zero e h = h
-  at_k (suc k) e h = absurd (omega arith)
+quiet_from_legal g p m best l = legal_best g p 0 m best l
 
 -- nothing can be taken, and the quiet moves were added
 pub legal_quietly : (g : Geometry) (p : Placement) (k : ℕ) (kept now : List Move) → k ≡ 0
@@ -82,8 +80,7 @@ legal_quietly g p k kept now none h added =
     let best : IsBest g p 0 = best_of g p 0 zero_kept.most in
     let all : now ≡ map move_to added.pairs = added.are ∙ ap (λ z. z ++ map move_to added.pairs)
     (none_kept g p kept zero_kept) in
-    let quiet : AreQuiet g p now = subst (AreQuiet g p) (sym all) (are_quiet g p added.pairs added.exactly
-    added.once) in
+    let quiet : AreQuiet g p now = subst (AreQuiet g p) (sym all) (are_quiet g p added.pairs added.those) in
     record {
       exactly = λ m. (
         (λ x. (0, best, (quiet.exactly m).0 x)),
@@ -95,10 +92,8 @@ legal_quietly g p k kept now none h added =
 -- m is a legal move by this path, if the greatest number is above 0
 pub legal_path : (g : Geometry) (p : Placement) (k : ℕ) (m : Move) → 0 < k → IsBest g p k → Legal g p m
     → (landings : List ℕ) × IsPathOf g p m k landings
-legal_path g p k m some best l = at_k l.0 (best_only g p l.0 k l.1 best) l.2 where
-  at_k : (j : ℕ) → j ≡ k → LegalAt g p j m → (landings : List ℕ) × IsPathOf g p m k landings
-  at_k zero e h = absurd (omega arith)
-  at_k (suc j) e h = subst (λ z. (landings : List ℕ) × IsPathOf g p m z landings) e h
+legal_path g p zero m some best l = absurd (omega arith)
+legal_path g p (suc k) m some best l = legal_best g p (suc k) m best l
 
 pub path_takes : (g : Geometry) (p : Placement) (k : ℕ) (m : Move) (landings : List ℕ) → IsPathOf g p m k landings
     → fin.len m.taken ≡ k
@@ -146,18 +141,18 @@ legal_captures g p k kept some h =
     let best : IsBest g p k = best_of g p k h.most in
     record {
       exactly = λ m. (
-        (λ x. legal_from_capture g p k m best ((h.exactly m).0 x)),
-        (λ l. (h.exactly m).1 (capture_from_legal g p k m some best l)),
+        (λ x. legal_from_capture g p k m best ((h.kept.exactly m).0 x)),
+        (λ l. (h.kept.exactly m).1 (capture_from_legal g p k m some best l)),
       );
-      once = h.once;
+      once = h.kept.once;
     }
 
 -- a legal move takes the greatest number
 pub legal_count : (g : Geometry) (p : Placement) (k : ℕ) (m : Move) → IsBest g p k → Legal g p m → fin.len m.taken ≡ k
-legal_count g p k m best l = at_k l.0 (best_only g p l.0 k l.1 best) l.2 where
-  at_k : (j : ℕ) → j ≡ k → LegalAt g p j m → fin.len m.taken ≡ k
-  at_k zero e h = ap fin.len h.1 ∙ (fin.len-empty nat_cmp ∙ e)
-  at_k (suc j) e h = let is = h.1 in ap fin.len is.takes ∙ (len_list is.over is.path.once ∙ (is.count ∙ e))
+legal_count g p k m best l = count k (legal_best g p k m best l) where
+  count : (k : ℕ) → LegalAt g p k m → fin.len m.taken ≡ k
+  count zero h = ap fin.len h.1 ∙ fin.len-empty nat_cmp
+  count (suc k) h = path_takes g p (suc k) m h.0 h.1
 
 -- nothing is taken where nothing can be
 pub best_none : (g : Geometry) (p : Placement) → (CanCapture g p → ⊥) → IsBest g p 0
@@ -181,28 +176,36 @@ legal_if_quiet g p m none = (
 )
 
 -- a capture is legal if it is among those that take the greatest number
-pub legal_if_sought : (g : Geometry) (p : Placement) (k : ℕ) (m : Move) → IsMost (Captures g p) k
-    → (fin.len m.taken ≡ 0 → ⊥) → Longest (Captures g p) k (Makes m) ↔ Legal g p m
-legal_if_sought g p k m most takes =
-    let best : IsBest g p k = best_of g p k most in (
-      legal_from_capture g p k m best,
-      (λ l.
-          let count : fin.len m.taken ≡ k = legal_count g p k m best l in
-          capture_from_legal g p k m (above k (λ e. takes (count ∙ e))) best l),
-    ) where
-      above : (n : ℕ) → (n ≡ 0 → ⊥) → 0 < n
-      above n h = omega arith
+pub legal_if_sought : {g : Geometry} {p : Placement} {k : ℕ} {m : Move} {found : Option Move}
+    → Held (Captures g p) k (OneKept (Captures g p) (Makes m) k found) → (fin.len m.taken ≡ 0 → ⊥)
+    → IsSome found ↔ Legal g p m
+legal_if_sought {g} {p} {k} {m} {found} h takes = (
+  (λ some. legal_from_capture g p k m best (one_of found h.kept.is some)),
+  (λ l.
+      let count : fin.len m.taken ≡ k = legal_count g p k m best l in
+      h.kept.some (capture_from_legal g p k m (above k (λ e. takes (count ∙ e))) best l)),
+) where
+  best : IsBest g p k
+  best = best_of g p k h.most
 
--- the squares that are held of the captures of the greatest number are those on which a legal capture ends
+  above : (n : ℕ) → (n ≡ 0 → ⊥) → 0 < n
+  above n h = omega arith
+
+  one_of : (o : Option Move) → ((n : Move) → o ≡ Some n
+      → Longest (Captures g p) k (λ l. Makes n l × Makes m l)) → IsSome o → Longest (Captures g p) k (Makes m)
+  one_of None is some = cc
+  one_of (Some n) is some = let c = is n refl in (c.0, c.1, c.2, c.3.1)
+
+-- the squares on which those of the greatest number end are those on which a legal capture ends
 pub ends_legal : (g : Geometry) (p : Placement) (k : ℕ) (ends : Squares)
-    → Held (Captures g p) k EndsOn (λ s. In s ends) → AreEnds g p ends
+    → Held (Captures g p) k (EndsKept (Captures g p) k ends) → AreEnds g p ends
 ends_legal g p k ends h s =
     let best : IsBest g p k = best_of g p k h.most in (
       (λ x.
-          let c = (h.exactly s).0 x in
+          let c = (h.kept.exactly s).0 x in
           (c.0.step, legal_from_capture g p k c.0.step best (c.0, c.1, c.2, refl), c.1.some, c.3)),
       (λ l.
           let takes : 0 < k = omega (arith, l.2, legal_count g p k l.0 best l.1) in
           let c = capture_from_legal g p k l.0 takes best l.1 in
-          (h.exactly s).1 (c.0, c.1, c.2, ap (λ (m : Move). m.to) c.3 ∙ l.3)),
+          (h.kept.exactly s).1 (c.0, c.1, c.2, ap (λ (m : Move). m.to) c.3 ∙ l.3)),
     )

@@ -17,8 +17,8 @@ use Rattle.dw_moves.proofs.ExactLemmas.{option_cases}
 use Rattle.dw_moves.proofs.RayLemmas.{Toward, ray_some, ray_of_low, ray_toward}
 use Rattle.dw_moves.proofs.QuietOnceLemmas.{not_toward}
 use Rattle.dw_moves.proofs.CaptureBoundLemmas.{stood}
-use Rattle.dw_moves.proofs.GlanceSetLemmas.{free_at, not_taken}
-use Rattle.dw_moves.proofs.SlideLemmas.{ray_head, run_of, Walked, walk}
+use Rattle.dw_moves.proofs.GlanceSetLemmas.{own_in}
+use Rattle.dw_moves.proofs.SlideLemmas.{is_free, is_out, ray_head, run_of, Walked, walk}
 
 pub empty_member : (p : Placement) (xs : List ℕ) (x : ℕ) → AllEmpty p xs → Member x xs → at p x ≡ None
 empty_member p [] x h m = absurd m
@@ -75,7 +75,7 @@ first_jump g p piece s [] (c ∷ cs) h some = absurd h
 first_jump g p piece s (t ∷ ts) [] h some = absurd h
 first_jump g p piece s (t ∷ ts) (c ∷ cs) h some = (c, t, h.0)
 
-module _ (g : Geometry) (b : IsBoard g) (p : Placement) (men kings enemies occupied : Squares)
+module _ {g : Geometry} (b : IsBoard g) {p : Placement} {men kings enemies occupied : Squares}
     (sets : AreSets g p men kings enemies occupied) where
   -- one jump behind such a run
   jump_of : (kind : Kind) (from : Squares) (d : Dir)
@@ -101,7 +101,7 @@ module _ (g : Geometry) (b : IsBoard g) (p : Placement) (men kings enemies occup
         clear = all_still_empty p h.start h.before h.clear;
         enemy = (enemy.1.0, same_on_ray g b p d h.start c own.0 on_ray ∙ enemy.1.1);
         clear_behind = tt;
-        free = still_empty p h.start t (free_at g p men kings enemies occupied t sets t_on free);
+        free = still_empty p h.start t (is_free g p occupied t sets.of_all t_on free);
         man = λ q. (no_length h.before (h.steps ∙ man q), refl);
       } in
       let path : Path g p h.start (t ∷ []) (c ∷ []) =
@@ -129,7 +129,7 @@ module _ (g : Geometry) (b : IsBoard g) (p : Placement) (men kings enemies occup
       let next = head_free (placed p s None) j.behind t j.beyond j.clear_behind j.free in
       let ray_is : ray g s d ≡ j.before ++ c ∷ (next.0 ∷ next.1) = j.on_ray ∙ ap (λ z. j.before ++ c ∷ z) next.2 in
       let empty_on : (x : ℕ) → Member x (ray g s d) → at (placed p s None) x ≡ None → In x occupied
-      → ⊥ = λ x i e. not_taken g p men kings enemies occupied x sets
+      → ⊥ = λ x i e. is_out g p occupied x sets.of_all
       (sym (same_on_ray g b p d s x stands.on_board i) ∙ e) in
       let free : (x : ℕ) → Member x j.before → In x occupied
       → ⊥ = λ x i. empty_on x (subst (Member x) (sym j.on_ray) (mem_left x j.before (c ∷ (j.behind ++ t ∷ j.beyond))
@@ -151,17 +151,13 @@ module _ (g : Geometry) (b : IsBoard g) (p : Placement) (men kings enemies occup
   jump_takes : (s c t : ℕ) (piece : Piece) → Stands g p s piece → Jump g (placed p s None) piece s c t → (d : Dir)
       × Takes g men kings enemies occupied d
   jump_takes s c t piece stands j =
-      let there : (kind : Kind) → piece.kind ≡ kind → at p s ≡ Some (record { side = p.turn; kind = kind }) =
-      λ kind e. stands.there ∙ ap Some (piece_is piece p.turn kind stands.own e) in
-      elim (kind_cases piece.kind) [
+      elim (own_in sets stands) [
         | inl man ↦
-            let i : In s men = (sets.of_men s).1 (stands.on_board, there Man man) in
-            let m = jump_meets s c t piece stands j men i in
-            let at_once : length j.before ≡ 0 = ap length (j.man man).0 in
+            let m = jump_meets s c t piece stands j men man.1 in
+            let at_once : length j.before ≡ 0 = ap length (j.man man.0).0 in
             (j.dir, (c, m.0, inl (subst (λ n. MeetsBehind g men enemies occupied j.dir n c) at_once m.1), m.2, m.3))
         | inr king ↦
-            let i : In s kings = (sets.of_kings s).1 (stands.on_board, there King king) in
-            let m = jump_meets s c t piece stands j kings i in
+            let m = jump_meets s c t piece stands j kings king.1 in
             (j.dir, (c, m.0, inr (length j.before, m.1), m.2, m.3))
       ]
 

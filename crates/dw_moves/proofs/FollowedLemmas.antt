@@ -8,7 +8,7 @@ use Rattle.dw_board.specs.Placement.{Placement}
 use Rattle.dw_moves.specs.Moves.{Move, IsPathOf, Legal, LegalAt, Path, last_of}
 use Rattle.dw_moves.specs.Order.{IsPathFor}
 use Rattle.dw_moves.specs.inner.MoveLemmas.{same_move}
-use Rattle.dw_moves.specs.inner.Walks.{Captures, Followed}
+use Rattle.dw_moves.specs.inner.Walks.{Along, Captures, Held, OneKept}
 use Rattle.dw_moves.proofs.FilledLemmas.{best_of, path_captures}
 use Rattle.dw_moves.proofs.LegalMoveLemmas.{best_only}
 use Rattle.dw_moves.proofs.PathTellsLemmas.{path_tells}
@@ -36,12 +36,14 @@ path_legal g p m squares h = (h.most, h.best, at_most h.most h.some h.leads) whe
   at_most zero some leads = absurd (omega arith)
   at_most (suc k) some leads = (h.landings, leads)
 
-module _ (g : Geometry) (b : IsBoard g) (p : Placement) (squares still : List ℕ) (k : ℕ) (found : Option Move)
-    (h : Followed (Captures g p) squares still k found) where
-  -- what was found is a capture along the squares
+-- what was found is the capture along these squares, and legal
+pub followed : {g : Geometry} → IsBoard g → {p : Placement} {squares : List ℕ} {k : ℕ} {found : Option Move}
+    → Held (Captures g p) k (OneKept (Captures g p) (Along squares) k found)
+    → ((m : Move) → (found ≡ Some m) ↔ IsPathFor g p m squares) × IfSome found (Legal g p)
+followed {g} b {p} {squares} {k} {found} h = ((λ m. (found_path m, path_found m)), legal found refl) where
   found_path : (m : Move) → found ≡ Some m → IsPathFor g p m squares
   found_path m e =
-      let f = h.is m e in
+      let f = h.kept.is m e in
       let c = f.1 in
       record {
         most = k;
@@ -59,17 +61,12 @@ module _ (g : Geometry) (b : IsBoard g) (p : Placement) (squares still : List �
       let leads : IsPathOf g p m k f.landings = subst (λ z. IsPathOf g p m z f.landings) same f.leads in
       let some : 0 < k = omega (arith, f.some, same) in
       let c = path_captures g p k m f.landings some leads in
-      let one = is_some_has found (h.some (c.0, c.1, c.2, ap (λ z. z.path) c.3 ∙ sym f.are)) in
+      let one = is_some_has found (h.kept.some (c.0, c.1, c.2, ap (λ z. z.path) c.3 ∙ sym f.are)) in
       one.1 ∙ ap Some (one_path g b p one.0 m squares (found_path one.0 one.1) f) where
         is_some_has : (o : Option Move) → IsSome o → (n : Move) × (o ≡ Some n)
         is_some_has None e = cc
         is_some_has (Some n) e = (n, refl)
 
-  pub followed_path : (m : Move) → (found ≡ Some m) ↔ IsPathFor g p m squares
-  followed_path m = (found_path m, path_found m)
-
-  pub followed_legal : IfSome found (Legal g p)
-  followed_legal = by found refl where
-    by : (o : Option Move) → found ≡ o → IfSome o (Legal g p)
-    by None e = tt
-    by (Some m) e = path_legal g p m squares (found_path m e)
+  legal : (o : Option Move) → found ≡ o → IfSome o (Legal g p)
+  legal None e = tt
+  legal (Some m) e = path_legal g p m squares (found_path m e)

@@ -1,24 +1,22 @@
 -- The pieces that move or take are found from the squares that they reach.
-use Rattle.std.proofs.Common.{◌≡◌, ℕ, ◌∷◌, ◌++◌, length, refl, sym, ap, ◌∙◌, subst, ◌⊎◌, inl, inr, ◌↔◌, Some, None}
+use Rattle.std.proofs.Common.{◌≡◌, ℕ, length, sym, ap, ◌∙◌, subst, ◌⊎◌, inl, inr, ◌↔◌, Some, None}
 use Rattle.std.specs.FinSet as fin
 use Rattle.dw_board.specs.declared.board.Dir.{Dir}
-use Rattle.dw_board.specs.declared.board.Dir.TheVariants.{UpLeft, UpRight, DownLeft, DownRight}
-use Rattle.dw_board.specs.declared.piece.Kind.{Kind}
-use Rattle.dw_board.specs.declared.piece.Kind.TheVariants.{Man, King}
 use Rattle.dw_board.specs.declared.piece.Piece.{Piece}
 use Rattle.dw_board.specs.Geometry.{Geometry, IsBoard, OnBoard, step, Squares, back}
 use Rattle.dw_board.specs.Placement.{Placement, at, placed, other}
-use Rattle.dw_moves.specs.Moves.{Stands, Jump, ray, In}
-use Rattle.dw_board.specs.Lists.{Member}
+use Rattle.dw_moves.specs.Moves.{Stands, Jump, In}
 use Rattle.dw_moves.specs.inner.Glance.{AreSets, MenMeet, KingsTake, CanTakeTowards}
 use Rattle.dw_moves.proofs.ExactLemmas.{jump_along}
 use Rattle.dw_moves.proofs.StepLemmas.{step_is}
 use Rattle.dw_moves.proofs.StepBackLemmas.{step_back}
 use Rattle.dw_moves.proofs.SquareSetLemmas.{in_or, in_minus}
-use Rattle.dw_moves.proofs.GlanceSetLemmas.{not_taken}
+use Rattle.dw_moves.proofs.GlanceSetLemmas.{own_in}
 use Rattle.dw_moves.proofs.GlanceRunLemmas.{IsShifted}
-use Rattle.dw_moves.proofs.SlideLemmas.{ray_head}
-use Rattle.dw_moves.proofs.FirstJumpLemmas.{piece_is, kind_cases, same_on_ray, jump_meets}
+use Rattle.dw_moves.proofs.ManJumpLemmas.{man_jump}
+use Rattle.dw_moves.proofs.RayLemmas.{jumped_on_ray, landing_on_ray}
+use Rattle.dw_moves.proofs.SlideLemmas.{is_out}
+use Rattle.dw_moves.proofs.FirstJumpLemmas.{same_on_ray, jump_meets}
 
 -- a man that can take is found from the square behind what it takes
 pub taker_in : (g : Geometry) → IsBoard g → (men enemies occupied met next free over behind : Squares) (d e : Dir)
@@ -35,64 +33,37 @@ taker_in g b men enemies occupied met next free over behind d e e_is met_is next
     (t, (landed, subst (λ z. step g t z ≡ Some c) (sym e_is) (step_back g b c t d c_on further))) in
     (behind_is s).1 (c, (there, subst (λ z. step g c z ≡ Some s) (sym e_is) (step_back g b s c d on to)))
 
--- what a direction's set holds, for all four
-abbrev pub FourSets : (Dir → Type 0) → (ul ur dl dr : Type 0) → Type 0
-FourSets P ul ur dl dr = (P UpLeft → ul) × ((P UpRight → ur) × ((P DownLeft → dl) × (P DownRight → dr)))
-
-by_dir : (P : Dir → Type 0) (ul ur dl dr : Type 0) → FourSets P ul ur dl dr → (d : Dir) → P d → ul ⊎ (ur ⊎ (dl ⊎ dr))
-by_dir P ul ur dl dr f UpLeft h = inl (f.0 h)
-by_dir P ul ur dl dr f UpRight h = inr (inl (f.1.0 h))
-by_dir P ul ur dl dr f DownLeft h = inr (inr (inl (f.1.1.0 h)))
-by_dir P ul ur dl dr f DownRight h = inr (inr (inr (f.1.1.1 h)))
-
 -- a man takes from s in a direction
 abbrev pub TakesFrom : Geometry → Squares → Squares → Squares → ℕ → Dir → Type 0
-TakesFrom g men enemies occupied s d = (c : ℕ) × ((t : ℕ) × (OnBoard g s × (In s men
-    × ((step g s d ≡ Some c) × (In c enemies × ((step g c d ≡ Some t) × (In t occupied → ⊥)))))))
+TakesFrom g men enemies occupied s d = (c : ℕ) × (t : ℕ) × OnBoard g s × In s men × (step g s d ≡ Some c)
+    × In c enemies × (step g c d ≡ Some t) × (In t occupied → ⊥)
 
-module _ (g : Geometry) (b : IsBoard g) (p : Placement) (men kings enemies occupied : Squares)
+module _ {g : Geometry} (b : IsBoard g) {p : Placement} {men kings enemies occupied : Squares}
     (sets : AreSets g p men kings enemies occupied) where
   -- a jump begins with a king, or with a man next to an enemy that has an empty square behind it
   jump_begins : (s c t : ℕ) (piece : Piece) → Stands g p s piece → (j : Jump g (placed p s None) piece s c t)
       → In s kings ⊎ TakesFrom g men enemies occupied s j.dir
   jump_begins s c t piece stands j =
       let on = stands.on_board in
-      let there : (kind_of : Kind) → piece.kind ≡ kind_of → at p s ≡ Some (record { side = p.turn; kind = kind_of }) =
-      λ kind_of e. stands.there ∙ ap Some (piece_is piece p.turn kind_of stands.own e) in
-      elim (kind_cases piece.kind) [
+      elim (own_in sets stands) [
         | inl man ↦
-            let first : ray g s j.dir ≡ c ∷ (t ∷ j.beyond) = j.on_ray
-            ∙ (ap (λ z. z ++ c ∷ (j.behind ++ t ∷ j.beyond)) (j.man man).0
-            ∙ ap (λ z. c ∷ (z ++ t ∷ j.beyond)) (j.man man).1) in
-            let to = ray_head g b s c (t ∷ j.beyond) j.dir on first in
-            let c_on : OnBoard g c = (step_is g b s c j.dir on to.0).on in
-            let further = ray_head g b c t j.beyond j.dir c_on to.1 in
-            let c_in : Member c (ray g s j.dir) = subst (Member c) (sym first) (inl refl) in
-            let t_in : Member t (ray g s j.dir) = subst (Member t) (sym first) (inr (inl refl)) in
+            let m = man_jump g b (placed p s None) piece s c t j man.0 on in
             let c_at : at p c ≡ Some (record { side = other p.turn; kind = j.enemy.0 }) =
-            sym (same_on_ray g b p j.dir s c on c_in)
+            sym (same_on_ray g b p j.dir s c on (jumped_on_ray g (placed p s None) piece s c t j))
             ∙ (j.enemy.1 ∙ ap (λ z. Some (record { side = other z; kind = j.enemy.0 })) stands.own) in
-            let t_at : at p t ≡ None = sym (same_on_ray g b p j.dir s t on t_in) ∙ j.free in
+            let t_at : at p t ≡ None = sym (same_on_ray g b p j.dir s t on
+            (landing_on_ray g (placed p s None) piece s c t j)) ∙ j.free in
             inr (
               c,
-              (
-                t,
-                (
-                  on,
-                  (
-                    (sets.of_men s).1 (on, there Man man),
-                    (
-                      to.0,
-                      (
-                        (sets.of_enemies c).1 (c_on, (j.enemy.0, c_at)),
-                        (further.0, not_taken g p men kings enemies occupied t sets t_at),
-                      ),
-                    ),
-                  ),
-                ),
-              ),
+              t,
+              on,
+              man.1,
+              m.0,
+              (sets.of_enemies c).1 (m.1, (j.enemy.0, c_at)),
+              m.2,
+              is_out g p occupied t sets.of_all t_at,
             )
-        | inr king ↦ inl ((sets.of_kings s).1 (on, there King king))
+        | inr king ↦ inl king.1
       ]
 
   pub towards_within : (movers towards all : Squares) (d : Dir) (s : ℕ)
@@ -102,7 +73,7 @@ module _ (g : Geometry) (b : IsBoard g) (p : Placement) (men kings enemies occup
   towards_within movers towards all d s k f all_is h =
       let j = jump_along g (placed p s None) h.2 s h.0 h.1 d h.4 in
       let takes : In s kings → (u : ℕ) × KingsTake g kings enemies occupied d u = λ i.
-      let m = jump_meets g b p men kings enemies occupied sets s h.0 h.1 h.2 h.3 j.0 kings i in
+      let m = jump_meets b sets s h.0 h.1 h.2 h.3 j.0 kings i in
       subst (λ z. (u : ℕ) × KingsTake g kings enemies occupied z u) j.1
       (m.0, (h.0, (length j.0.before, m.1), m.2, m.3)) in
       (in_or movers towards all s all_is).1 (elim (jump_begins s h.0 h.1 h.2 h.3 j.0) [

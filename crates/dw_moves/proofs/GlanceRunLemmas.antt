@@ -63,32 +63,30 @@ behind_is P g occupied d met behind free is shifted free_is t = (
   (λ h. (in_minus behind occupied free t free_is).1 ((shifted t).1 (h.0, ((is h.0).1 h.1, h.2)), h.3)),
 )
 
--- a square is found in some direction
-pub somewhere : (P : Dir → ℕ → Type 0) (ul ur dl dr up down all : Squares) (r : Bool) → ((t : ℕ) → In t ul ↔ P UpLeft t)
-    → ((t : ℕ) → In t ur ↔ P UpRight t) → ((t : ℕ) → In t dl ↔ P DownLeft t) → ((t : ℕ) → In t dr ↔ P DownRight t)
-    → up ≡ fin.union ul ur → down ≡ fin.union dl dr → all ≡ fin.union up down → IsTrue r ↔ ((t : ℕ) × In t all)
-    → IsTrue r ↔ ((d : Dir) × (t : ℕ) × P d t)
-somewhere P ul ur dl dr up down all r a b c e up_is down_is all_is any = (
-  (λ yes. let t = any.0 yes in found t.0 t.1),
-  (λ h. any.1 (h.1, by_dir h.0 h.1 h.2)),
+-- what leads somewhere in one of the four directions
+pub in_any : (F : Dir → ℕ → Type 0) (ul ur dl dr up down all : Squares) → ((t : ℕ) → In t ul ↔ F UpLeft t)
+    → ((t : ℕ) → In t ur ↔ F UpRight t) → ((t : ℕ) → In t dl ↔ F DownLeft t) → ((t : ℕ) → In t dr ↔ F DownRight t)
+    → up ≡ fin.union ul ur → down ≡ fin.union dl dr → all ≡ fin.union up down → (t : ℕ) → In t all ↔ ((d : Dir) × F d t)
+in_any F ul ur dl dr up down all a b c e up_is down_is all_is t = (
+  (λ h. elim ((in_or up down all t all_is).0 h) [
+    | inl u ↦ elim ((in_or ul ur up t up_is).0 u) [ inl x ↦ (UpLeft, (a t).0 x) | inr x ↦ (UpRight, (b t).0 x) ]
+    | inr u ↦ elim ((in_or dl dr down t down_is).0 u) [ inl x ↦ (DownLeft, (c t).0 x) | inr x ↦ (DownRight, (e t).0 x) ]
+  ]),
+  (λ h. by_dir h.0 h.1),
 ) where
-  by_dir : (d : Dir) (t : ℕ) → P d t → In t all
-  by_dir UpLeft t j = (in_or up down all t all_is).1 (inl ((in_or ul ur up t up_is).1 (inl ((a t).1 j))))
-  by_dir UpRight t j = (in_or up down all t all_is).1 (inl ((in_or ul ur up t up_is).1 (inr ((b t).1 j))))
-  by_dir DownLeft t j = (in_or up down all t all_is).1 (inr ((in_or dl dr down t down_is).1 (inl ((c t).1 j))))
-  by_dir DownRight t j = (in_or up down all t all_is).1 (inr ((in_or dl dr down t down_is).1 (inr ((e t).1 j))))
+  by_dir : (d : Dir) → F d t → In t all
+  by_dir UpLeft h = (in_or up down all t all_is).1 (inl ((in_or ul ur up t up_is).1 (inl ((a t).1 h))))
+  by_dir UpRight h = (in_or up down all t all_is).1 (inl ((in_or ul ur up t up_is).1 (inr ((b t).1 h))))
+  by_dir DownLeft h = (in_or up down all t all_is).1 (inr ((in_or dl dr down t down_is).1 (inl ((c t).1 h))))
+  by_dir DownRight h = (in_or up down all t all_is).1 (inr ((in_or dl dr down t down_is).1 (inr ((e t).1 h))))
 
-  found : (t : ℕ) → In t all → (d : Dir) × (t : ℕ) × P d t
-  found t h = elim ((in_or up down all t all_is).0 h) [
-    | inl u ↦ elim ((in_or ul ur up t up_is).0 u) [
-      | inl x ↦ (UpLeft, t, (a t).0 x)
-      | inr x ↦ (UpRight, t, (b t).0 x)
-    ]
-    | inr u ↦ elim ((in_or dl dr down t down_is).0 u) [
-      | inl x ↦ (DownLeft, t, (c t).0 x)
-      | inr x ↦ (DownRight, t, (e t).0 x)
-    ]
-  ]
+-- a square is found in some direction
+pub somewhere : (P : Dir → ℕ → Type 0) (all : Squares) (r : Bool) → ((t : ℕ) → In t all ↔ ((d : Dir) × P d t))
+    → IsTrue r ↔ ((t : ℕ) × In t all) → IsTrue r ↔ ((d : Dir) × (t : ℕ) × P d t)
+somewhere P all r are any = (
+  (λ yes. let t = any.0 yes in let h = (are t.0).0 t.1 in (h.0, t.0, h.1)),
+  (λ h. any.1 (h.1, (are h.1).1 (h.0, h.2))),
+)
 
 -- a man takes, or a king
 pub men_take_is : (g : Geometry) (men kings enemies occupied : Squares)

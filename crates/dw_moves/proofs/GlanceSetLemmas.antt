@@ -12,10 +12,10 @@ use Rattle.dw_board.specs.declared.piece.Kind.{Kind}
 use Rattle.dw_board.specs.declared.piece.Kind.TheVariants.{Man, King}
 use Rattle.dw_board.specs.Geometry.{Geometry, IsBoard, OnBoard, step, Squares}
 use Rattle.dw_board.specs.Placement.{Placement, at, is_of, other}
-use Rattle.dw_moves.specs.Moves.{In}
+use Rattle.dw_moves.specs.Moves.{In, Stands}
 use Rattle.dw_moves.specs.inner.Plain.{free_if, free_step}
 use Rattle.dw_moves.specs.inner.Glance.{AreOf, AreSets}
-use Rattle.dw_moves.proofs.StepLemmas.{none_some, step_is}
+use Rattle.dw_moves.proofs.StepLemmas.{step_is}
 use Rattle.dw_moves.proofs.ExactLemmas.{option_cases, same_side_true, same_side_refl}
 use Rattle.dw_moves.proofs.SquareSetLemmas.{in_or}
 
@@ -113,14 +113,15 @@ sets_are g p side against men kings own enemies occupied side_is against_is m k 
       );
     }
 
--- a square of the board that is not in the set of all pieces is empty
-pub free_at : (g : Geometry) (p : Placement) (men kings enemies occupied : Squares) (t : ℕ)
-    → AreSets g p men kings enemies occupied → OnBoard g t → (In t occupied → ⊥) → at p t ≡ None
-free_at g p men kings enemies occupied t sets on out = elim (option_cases (at p t)) [
-  | inl e ↦ e
-  | inr q ↦ absurd (out ((sets.of_all t).1 (on, q)))
-]
+-- a piece of the side to move is one of its men, or of its kings
+pub own_in : {g : Geometry} {p : Placement} {men kings enemies occupied : Squares} {s : ℕ} {piece : Piece}
+    → AreSets g p men kings enemies occupied → Stands g p s piece
+    → ((piece.kind ≡ Man) × In s men) ⊎ ((piece.kind ≡ King) × In s kings)
+own_in {p = p} {men = men} {kings = kings} {s = s} {piece = piece} sets stands = by_kind piece.kind refl where
+  there : (kind_of : Kind) → piece.kind ≡ kind_of → at p s ≡ Some (record { side = p.turn; kind = kind_of })
+  there kind_of e = stands.there ∙ ap Some (λ i. record { side = stands.own i; kind = e i })
 
-pub not_taken : (g : Geometry) (p : Placement) (men kings enemies occupied : Squares) (t : ℕ)
-    → AreSets g p men kings enemies occupied → at p t ≡ None → In t occupied → ⊥
-not_taken g p men kings enemies occupied t sets e h = let q = (sets.of_all t).0 h in none_some q.1.0 (sym e ∙ q.1.1)
+  by_kind : (kind_of : Kind) → piece.kind ≡ kind_of
+      → ((piece.kind ≡ Man) × In s men) ⊎ ((piece.kind ≡ King) × In s kings)
+  by_kind Man e = inl (e, (sets.of_men s).1 (stands.on_board, there Man e))
+  by_kind King e = inr (e, (sets.of_kings s).1 (stands.on_board, there King e))

@@ -8,15 +8,15 @@ use Rattle.dw_board.specs.declared.piece.Kind.TheVariants.{King}
 use Rattle.dw_board.specs.declared.piece.Side.{Side}
 use Rattle.dw_board.specs.Geometry.{Geometry, IsBoard, OnBoard, step, Squares}
 use Rattle.dw_board.specs.Lists.{Member}
-use Rattle.dw_board.specs.Placement.{Placement, at, other}
+use Rattle.dw_board.specs.Placement.{Placement, at}
 use Rattle.dw_board.specs.Slides.{SlidesTo}
 use Rattle.dw_moves.specs.Moves.{In, ray}
 use Rattle.dw_moves.specs.inner.Glance.{IsGround}
-use Rattle.dw_moves.specs.inner.Plain.{TakesOver, king_takes, free_if}
+use Rattle.dw_moves.specs.inner.Plain.{TakesOver, king_takes}
 use Rattle.dw_moves.proofs.ExactLemmas.{option_cases, takes_from}
 use Rattle.dw_moves.proofs.FirstJumpLemmas.{empty_member, head_free}
 use Rattle.dw_moves.proofs.GlanceRunLemmas.{IsShifted}
-use Rattle.dw_moves.proofs.JumpStepLemmas.{Before, Reached, reached_more, met_enemy}
+use Rattle.dw_moves.proofs.JumpStepLemmas.{Reached, reached_more, met_enemy}
 use Rattle.dw_moves.proofs.KingSlideLemmas.{one_in, in_one}
 use Rattle.dw_moves.proofs.RayLemmas.{ray_some}
 use Rattle.dw_moves.proofs.SlideLemmas.{Walked, walk, ray_head, room_behind}
@@ -30,8 +30,8 @@ pub record Meets (g : Geometry) (from : ℕ) (d : Dir) (enemies occupied here re
   pub next_is : IsShifted g reached d next
   pub met_is : met ≡ fin.intersection next enemies
 
-module _ (g : Geometry) (b : IsBoard g) (p : Placement) (side : Side) (from : ℕ) (d : Dir)
-    (enemies occupied here reached next met : Squares) (on : OnBoard g from) (ground : IsGround g p side enemies
+module _ {g : Geometry} (b : IsBoard g) {p : Placement} {side : Side} {from : ℕ} {d : Dir}
+    {enemies occupied here reached next met : Squares} (on : OnBoard g from) (ground : IsGround g p side enemies
     occupied) (m : Meets g from d enemies occupied here reached next met) where
   free_of : (t : ℕ) → OnBoard g t → (In t occupied → ⊥) → at p t ≡ None
   free_of t t_on out = elim (option_cases (at p t)) [
@@ -62,14 +62,7 @@ module _ (g : Geometry) (b : IsBoard g) (p : Placement) (side : Side) (from : �
       let last = (m.next_is c).0 both.0 in
       let slide = (m.reached_is last.0).0 last.1.0 in
       let h = slid_reaches slide.0 last.0 slide.2 in
-      let stands = (ground.of_enemies c).0 both.1 in
-      let before : Before g p King side d from last.0 = record {
-        on = h.on;
-        takes = h.takes side;
-        blocked = λ _. ap (free_if p) last.1.1 ∙ rw (stands.1.1, free_if) refl;
-      } in
-      met_enemy g b p King side d from last.0 c (other side) enemies (fin.contains enemies c) before last.1.1 refl
-      ground.of_enemies refl both.1
+      met_enemy g b p King side d from last.0 c enemies h.on (h.takes side) last.1.1 ground.of_enemies both.1
 
   -- what is taken over is met
   meets : (j : ℕ × ℕ) → Member j (king_takes p side (ray g from d)) → In j.0 met

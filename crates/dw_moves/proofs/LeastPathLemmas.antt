@@ -53,7 +53,7 @@ kept_least g p k kept some best once h l m c count =
             let path : IsPathOf g p l.step k others = path_by g p l.step k others some
             (subst (λ z. LandsAt g p l.step z others) (best_only g p o.0 k o.1 best) o.2) in
             let other : Listed = record { step = l.step; path = l.step.from ∷ others } in
-            let r = h.least other (path_captures g p k l.step others some path) in
+            let r = h.kept.least other (path_captures g p k l.step others some path) in
             let same : l ≡ r.0 = once_same kept once l r.0 m r.1 (sym r.2) in
             r.3 (subst (LexLess (l.step.from ∷ others)) (sym c.path ∙ ap (λ (z : Listed). z.path) same)
             (inr (refl, less)));
@@ -67,16 +67,16 @@ pub captures_all : (g : Geometry) (p : Placement) (k : ℕ) (kept : List Listed)
 captures_all g p k kept some h =
     let best : IsBest g p k = best_of g p k h.most in
     record {
-      legal = λ l m. let f = h.from l m in
+      legal = λ l m. let f = h.kept.from l m in
           legal_from_capture g p k l.step best (f.0, f.1, f.2, ap (λ (z : Listed). z.step) f.3);
-      paths = λ l m. let f = h.from l m in
-          kept_least g p k kept some best h.once h l m (subst (Captures g p) f.3 f.1) (ap number (sym f.3) ∙ f.2);
+      paths = λ l m. let f = h.kept.from l m in
+          kept_least g p k kept some best h.kept.once h l m (subst (Captures g p) f.3 f.1) (ap number (sym f.3) ∙ f.2);
       all = λ m legal.
           let way = legal_path g p k m some best legal in
           let this : Listed = record { step = m; path = m.from ∷ way.0 } in
-          let r = h.least this (path_captures g p k m way.0 some way.1) in
+          let r = h.kept.least this (path_captures g p k m way.0 some way.1) in
           subst (λ z. Member z (steps_of kept)) r.2 (mem_map (λ (z : Listed). z.step) r.0 kept r.1);
-      once = h.once;
+      once = h.kept.once;
     }
 
 -- the only path of a quiet move
@@ -135,5 +135,5 @@ quiet_all_listed g p old now none e added =
     let best : IsBest g p 0 = best_none g p none in
     let whole : now ≡ map with_ends (map move_to added.pairs) = added.are
     ∙ (ap (λ z. z ++ map (λ (q : ℕ × ℕ). quietly_listed q.0 q.1) added.pairs) e ∙ made_of_moves added.pairs) in
-    subst (HasAll g p) (sym whole) (quiet_listing g p (map move_to added.pairs) (are_quiet g p added.pairs added.exactly
-    added.once) best)
+    subst (HasAll g p) (sym whole)
+    (quiet_listing g p (map move_to added.pairs) (are_quiet g p added.pairs added.those) best)

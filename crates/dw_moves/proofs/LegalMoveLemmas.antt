@@ -1,9 +1,8 @@
 -- The plain list of moves holds exactly the legal moves.
-use Rattle.std.proofs.Common.{◌≡◌, ℕ, ◌<◌, ◌≤◌, ◌-◌, zero, suc, List, [], ◌∷◌, length, map, refl, sym, ap, ◌∙◌, subst}
-use Rattle.std.proofs.Common.{inl, inr, arith, Bool, true, false, not, Some, None, ◌==◌, get_or, length-append}
-use Rattle.std.proofs.Common.{length-set}
+use Rattle.std.proofs.Common.{◌≡◌, ℕ, ◌<◌, ◌≤◌, ◌-◌, zero, suc, List, [], ◌∷◌, length, map, refl, sym, ap, subst}
+use Rattle.std.proofs.Common.{inl, inr, arith, Bool, true, false, not, Some, None, ◌==◌, length-append}
 use Rattle.std.specs.Prelude.{filter}
-use Rattle.std.proofs.lemmas.List.{get_or_past}
+use Rattle.std.proofs.lemmas.List.Sums.{count_by-le-length}
 use Rattle.std.proofs.lemmas.Bool.{true≢false, eqb-true, eq-eqb, cases_Bool, cases_lt}
 use Rattle.dw_board.specs.declared.piece.Side.{Side}
 use Rattle.dw_board.specs.declared.piece.Side.TheVariants.{White, Black}
@@ -12,20 +11,19 @@ use Rattle.dw_board.specs.declared.piece.Kind.TheVariants.{Man, King}
 use Rattle.dw_board.specs.declared.board.Dir.{Dir}
 use Rattle.dw_board.specs.declared.piece.Piece.{Piece}
 use Rattle.dw_board.specs.Geometry.{Geometry, squares, OnBoard, is_down}
-use Rattle.dw_board.specs.Placement.{Placement, at, placed, same_side}
+use Rattle.dw_board.specs.Placement.{Placement, at, is_of, placed, same_side}
 use Rattle.std.specs.FinSet as set
-use Rattle.dw_moves.specs.Moves.{IsForward, Quiet, Jumps, Path, IsBest, Move, Legal, LegalAt, ray}
+use Rattle.dw_moves.specs.Moves.{IsForward, Quiet, Path, IsBest, Move, Legal, LegalAt, ray}
 use Rattle.dw_board.specs.Lists.{Member}
 use Rattle.dw_board.specs.Placement.{other}
 use Rattle.dw_moves.specs.inner.MoveLemmas.{same_move}
-use Rattle.dw_moves.proofs.RayLemmas.{jump_low}
-use Rattle.dw_moves.proofs.StepLemmas.{none_some}
+use Rattle.dw_moves.proofs.CaptureBoundLemmas.{path_bound}
 use Rattle.dw_moves.specs.inner.Plain.{numbers_to, dirs, is_forward, may_go, goes, quiet_for, targets_of, targets}
 use Rattle.dw_moves.specs.inner.Plain.{quiet_pairs}
 use Rattle.dw_moves.proofs.PlainLemmas.{Capture, captures, captures_of, path_list, longest, best, quiet_move}
 use Rattle.dw_moves.proofs.PlainLemmas.{quiet_list, move_of, legal_at, legal_list}
 use Rattle.dw_moves.specs.inner.MemberLemmas.{mem_map, mem_map_back, mem_flat, mem_flat_back, mem_left, mem_right}
-use Rattle.dw_moves.specs.inner.MemberLemmas.{mem_cases, no_more, mem_filter, mem_filter_back}
+use Rattle.dw_moves.specs.inner.MemberLemmas.{mem_cases, mem_filter, mem_filter_back}
 use Rattle.dw_moves.proofs.ExactLemmas.{option_cases, same_side_true, same_side_refl, Lands, lands_from, lands_in}
 use Rattle.dw_moves.proofs.ExactLemmas.{all_dirs}
 use Rattle.dw_moves.proofs.CaptureLemmas.{captures_from, captures_in}
@@ -58,40 +56,11 @@ from_number (suc n) s m = elim (mem_cases s (numbers_to n) (suc n ∷ []) m) [
   | inr (inr r) ↦ absurd r
 ]
 
--- a piece stands within the cells
-pub occupied_in : (cells : Placement) (s : ℕ) (piece : Piece) → 1 ≤ s → at cells s ≡ Some piece
-    → Member s (numbers_to (length cells.cells))
-occupied_in cells s piece low e = elim (cases_lt (s - 1) (length cells.cells)) [
-  | inl l ↦ number_in (length cells.cells) s low (omega arith)
-  | inr past ↦ let none : get_or cells.cells (s - 1) None ≡ None = get_or_past cells.cells (s - 1) None past in
-      absurd (none_some piece (sym none ∙ e))
-]
-
--- what is jumped is occupied, and a square
-all_occupied : (g : Geometry) (cells : Placement) (piece : Piece) (s : ℕ) (ts cs : List ℕ) → Jumps g cells piece s ts cs
-    → (x : ℕ) → Member x cs → (1 ≤ x) × ((q : Piece) × (at cells x ≡ Some q))
-all_occupied g cells piece s [] [] jumps x m = absurd m
-all_occupied g cells piece s (t ∷ ts) [] jumps x m = absurd jumps
-all_occupied g cells piece s [] (c ∷ cs) jumps x m = absurd jumps
-all_occupied g cells piece s (t ∷ ts) (c ∷ cs) jumps x (inl e) = rw e (
-  jump_low g cells piece s c t jumps.0,
-  (record { side = other piece.side; kind = jumps.0.enemy.0 }, jumps.0.enemy.1),
-)
-all_occupied g cells piece s (t ∷ ts) (c ∷ cs) jumps x (inr m) = all_occupied g cells piece t ts cs jumps.1 x m
-
 -- a path takes no more than there are cells
-pub path_short : (g : Geometry) (p : Placement) (from : ℕ) (ts cs : List ℕ) → Path g p from ts cs
+path_short : (g : Geometry) (p : Placement) (from : ℕ) (ts cs : List ℕ) → Path g p from ts cs
     → length cs ≤ length p.cells
 path_short g p from ts cs h =
-    let cells = placed p from None in
-    let within : (x : ℕ) → Member x cs → Member x (numbers_to (length cells.cells)) = λ x m.
-    let q = all_occupied g cells h.piece from ts cs h.jumps x m in occupied_in cells x q.1.0 q.0 q.1.1 in
-    omega (
-      arith,
-      no_more cs (numbers_to (length cells.cells)) h.once within,
-      squares_length (length cells.cells),
-      length-set p.cells (from - 1) None,
-    )
+    omega (arith, path_bound g p from ts cs h, count_by-le-length (is_of (other p.turn)) p.cells)
 
 captures_of_from : (g : Geometry) (p : Placement) (s : ℕ) (w : Capture) (piece : Piece) → OnBoard g s
     → at p s ≡ Some piece → Member w (captures_of g p s (Some piece)) → Path g p w.start w.landings w.over
@@ -167,6 +136,10 @@ best_below g p j k hj hk = elim (cases_lt 0 j) [
 
 pub best_only : (g : Geometry) (p : Placement) (j k : ℕ) → IsBest g p j → IsBest g p k → j ≡ k
 best_only g p j k hj hk = omega (arith, best_below g p j k hj hk, best_below g p k j hk hj)
+
+-- with this greatest number a legal move is one at it
+pub legal_best : (g : Geometry) (p : Placement) (k : ℕ) (m : Move) → IsBest g p k → Legal g p m → LegalAt g p k m
+legal_best g p k m best l = subst (λ z. LegalAt g p z m) (best_only g p l.0 k l.1 best) l.2
 
 forward_from : (side : Side) (d : Dir) → is_forward side d ≡ true → IsForward side d
 forward_from White d e = not_true (is_down d) e
@@ -305,5 +278,4 @@ pub legal_from : (g : Geometry) (p : Placement) (m : Move) → Member m (legal_l
 legal_from g p m h = (best g p, is_best g p, at_from g p (best g p) m h)
 
 pub legal_in : (g : Geometry) (p : Placement) (m : Move) → Legal g p m → Member m (legal_list g p)
-legal_in g p m h = at_in g p (best g p) m (subst (λ k. LegalAt g p k m) (best_only g p h.0 (best g p) h.1 (is_best g p))
-    h.2)
+legal_in g p m h = at_in g p (best g p) m (legal_best g p (best g p) m (is_best g p) h)

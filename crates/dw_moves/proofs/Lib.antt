@@ -23,6 +23,7 @@ pub mod CapturesLemmas
 pub mod KeeperLemmas
 pub mod FollowedLemmas
 pub mod QuietLemmas
+pub mod PairLemmas
 pub mod AddingLemmas
 pub mod TallyLemmas
 pub mod KingSlideLemmas
@@ -35,6 +36,7 @@ pub mod ShelterSetLemmas
 pub mod SlideLemmas
 pub mod FirstJumpLemmas
 pub mod FirstStepLemmas
+pub mod DirLemmas
 pub mod OrChainLemmas
 pub mod StepBackLemmas
 pub mod GlanceMoverLemmas

@@ -18,6 +18,7 @@ use Rattle.dw_moves.proofs.AscendingLemmas.{ByKey}
 use Rattle.dw_moves.proofs.LegalMoveLemmas.{best_only}
 use Rattle.dw_moves.specs.inner.LexLemmas.{lex_asym, lex_cases, not_less}
 use Rattle.dw_moves.specs.inner.MemberLemmas.{mem_map, mem_map_back}
+use Rattle.dw_moves.proofs.SquareSetLemmas.{not_both}
 use Rattle.dw_moves.proofs.MoveKeyLemmas.{jumps_long, keys_differ}
 
 pub rest_less : (x y : ℕ) (xs ys : List ℕ) → x ≡ y → LexLess xs ys ↔ LexLess (x ∷ xs) (y ∷ ys)
@@ -85,18 +86,16 @@ precedes_by g p l k h f less = (
     | inr last ↦ inr (rest.0, inr (last.0, by_front rest.0 last.0 last.1))
   ]
 
-cons_parts : (x y : ℕ) (xs ys : List ℕ) → x ∷ xs ≡ y ∷ ys → (x ≡ y) × (xs ≡ ys)
-cons_parts x y xs ys e = (cc, cc)
-
 -- moves with the same parts are one
 same_listed : (g : Geometry) → IsBoard g → (p : Placement) (l k : Listed) → HasLeastPath g p l → HasLeastPath g p k
     → sorted_by l ≡ sorted_by k → l.step ≡ k.step
 same_listed g b p l k h f e =
-    let one = cons_parts l.step.from k.step.from (l.step.to ∷ l.path) (k.step.to ∷ k.path) e in
-    let two = cons_parts l.step.to k.step.to l.path k.path one.1 in
-    let three = cons_parts l.step.from k.step.from h.0 f.0 (sym h.2 ∙ (two.1 ∙ f.2)) in
-    let key : l.step.from ∷ l.step.to ∷ front h.0 ≡ k.step.from ∷ k.step.to ∷ front f.0 = λ i. one.0 i ∷ two.0 i
-    ∷ front (three.1 i) in
+    let from : l.step.from ≡ k.step.from = cc in
+    let to : l.step.to ≡ k.step.to = cc in
+    let paths : l.step.from ∷ h.0 ≡ k.step.from ∷ f.0 = cc in
+    let landings : h.0 ≡ f.0 = cc in
+    let key : l.step.from ∷ l.step.to ∷ front h.0 ≡ k.step.from ∷ k.step.to ∷ front f.0 = λ i. from i ∷ to i
+    ∷ front (landings i) in
     keys_differ g b p l.step k.step (k.step.from ∷ k.step.to ∷ front f.0)
     (subst (IsKey g p l.step) key (listed_key g p l h)) (listed_key g p k f)
 
@@ -145,9 +144,6 @@ lex_less_is xs ys = elim (lex_cases xs ys) as (λ c. (elim c [ inl e ↦ false |
 pub comes_first : Listed → Listed → Bool
 comes_first a b = lex_less (sorted_by a) (sorted_by b)
 
-is_false : (b : Bool) → (b ≡ true → ⊥) → b ≡ false
-is_false b h = elim (cases_Bool b) [ inl e ↦ absurd (h e) | inr e ↦ e ]
-
 not_first : (a b : Listed) → comes_first a b ≡ false → ByKey sorted_by a b → ⊥
 unfolding comes_first
 not_first a b e l = true≢false (sym ((lex_less_is (sorted_by a) (sorted_by b)).1 l) ∙ e)
@@ -155,9 +151,9 @@ not_first a b e l = true≢false (sym ((lex_less_is (sorted_by a) (sorted_by b))
 pub first_order : IsStrictWeakOrder comes_first
 unfolding comes_first
 first_order = record {
-  one_way = λ a b e. is_false (comes_first b a) (λ f. lex_asym (sorted_by a) (sorted_by b)
+  one_way = λ a b e. not_both (comes_first b a) (λ f. lex_asym (sorted_by a) (sorted_by b)
       ((lex_less_is (sorted_by a) (sorted_by b)).0 e) ((lex_less_is (sorted_by b) (sorted_by a)).0 f));
-  chain = λ a b c e f. is_false (comes_first a c) (λ g. not_less (sorted_by a) (sorted_by b) (sorted_by c)
+  chain = λ a b c e f. not_both (comes_first a c) (λ g. not_less (sorted_by a) (sorted_by b) (sorted_by c)
       (not_first a b e) (not_first b c f) ((lex_less_is (sorted_by a) (sorted_by c)).0 g));
 }
 
@@ -166,7 +162,7 @@ pub first_is : (b : Bool) (x y : Listed) → ((b ≡ true) ↔ LexLess (sorted_b
 unfolding comes_first
 first_is b x y h = elim (cases_Bool b) [
   | inl e ↦ e ∙ sym ((lex_less_is (sorted_by x) (sorted_by y)).1 (h.0 e))
-  | inr e ↦ e ∙ sym (is_false (comes_first x y)
+  | inr e ↦ e ∙ sym (not_both (comes_first x y)
       (λ f. true≢false (sym (h.1 ((lex_less_is (sorted_by x) (sorted_by y)).0 f)) ∙ e)))
 ]
 
@@ -177,7 +173,7 @@ same_steps a b = same_moves a.step b.step
 same_steps_flip : (a b : Listed) → same_steps a b ≡ same_steps b a
 same_steps_flip a b = elim (cases_Bool (same_steps b a)) [
   | inl e ↦ (same_moves-is a.step b.step).1 (sym ((same_moves-is b.step a.step).0 e)) ∙ sym e
-  | inr e ↦ is_false (same_steps a b)
+  | inr e ↦ not_both (same_steps a b)
       (λ f. true≢false (sym ((same_moves-is b.step a.step).1 (sym ((same_moves-is a.step b.step).0 f))) ∙ e)) ∙ sym e
 ]
 
@@ -185,7 +181,7 @@ steps_apart : (list : List Listed) → NoRepeat (steps_of list) → (i j : ℕ) 
     → same_steps (get_or list i d) (get_or list j d) ≡ false
 steps_apart [] once i j d low high = absurd (omega arith)
 steps_apart (l ∷ list) once i zero d low high = absurd (omega arith)
-steps_apart (l ∷ list) once zero (suc j) d low high = is_false (same_steps l (get_or list j d)) (λ e.
+steps_apart (l ∷ list) once zero (suc j) d low high = not_both (same_steps l (get_or list j d)) (λ e.
     once.0 (subst (λ z. Member z (steps_of list)) (sym ((same_moves-is l.step (get_or list j d).step).0 e))
     (mem_map (λ (l : Listed). l.step) (get_or list j d) list (at_place list j d (omega (arith, high))))))
 steps_apart (l ∷ list) once (suc i) (suc j) d low high = steps_apart list once.1 i j d (omega (arith, low))

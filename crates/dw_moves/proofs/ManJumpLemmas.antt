@@ -1,5 +1,5 @@
 -- How a man sees on sets that he can jump on.
-use Rattle.std.proofs.Common.{◌≡◌, ℕ, ◌∷◌, ◌++◌, refl, sym, ap, ◌∙◌, subst, ◌↔◌, false, is_some}
+use Rattle.std.proofs.Common.{◌≡◌, ℕ, Some, ◌∷◌, ◌++◌, refl, sym, ap, ◌∙◌, subst, ◌↔◌, false, is_some}
 use Rattle.std.proofs.lemmas.Bool.{true≢false}
 use Rattle.std.specs.FinSet as fin
 use Rattle.dw_board.specs.declared.board.Dir.{Dir}
@@ -34,19 +34,25 @@ lands_on g enemies occupied s d here next met behind v here_is next_is met_is be
       (in_minus behind occupied v t v_is).1 ((behind_is t).1 (h.0, (hit, h.3)), h.4)),
 )
 
+-- a man jumps over the next square, onto the one behind it
+pub man_jump : (g : Geometry) → IsBoard g → (p : Placement) (piece : Piece) (s c t : ℕ) (j : Jump g p piece s c t)
+    → piece.kind ≡ Man → OnBoard g s → (step g s j.dir ≡ Some c) × OnBoard g c × (step g c j.dir ≡ Some t)
+man_jump g b p piece s c t j man on =
+    let first : ray g s j.dir ≡ c ∷ (t ∷ j.beyond) = j.on_ray
+    ∙ (ap (λ z. z ++ c ∷ (j.behind ++ t ∷ j.beyond)) (j.man man).0
+    ∙ ap (λ z. c ∷ (z ++ t ∷ j.beyond)) (j.man man).1) in
+    let to = ray_head g b s c (t ∷ j.beyond) j.dir on first in
+    let c_on : OnBoard g c = (step_is g b s c j.dir on to.0).on in
+    (to.0, c_on, (ray_head g b c t j.beyond j.dir c_on to.1).0)
+
 -- a jump of a man over what was not taken
 pub jump_lands : (g : Geometry) → IsBoard g
     → (p : Placement) (piece : Piece) (s c t : ℕ) (enemies occupied taken : Squares) → piece.kind ≡ Man → OnBoard g s
     → IsGround g p piece.side enemies occupied → fin.contains taken c ≡ false
     → (j : Jump g p piece s c t) → JumpsTo g (fin.difference enemies taken) occupied s j.dir t
 jump_lands g b p piece s c t enemies occupied taken man on ground fresh j =
-    let first : ray g s j.dir ≡ c ∷ (t ∷ j.beyond) = j.on_ray
-    ∙ (ap (λ z. z ++ c ∷ (j.behind ++ t ∷ j.beyond)) (j.man man).0
-    ∙ ap (λ z. c ∷ (z ++ t ∷ j.beyond)) (j.man man).1) in
-    let to = ray_head g b s c (t ∷ j.beyond) j.dir on first in
-    let c_on : OnBoard g c = (step_is g b s c j.dir on to.0).on in
-    let further = ray_head g b c t j.beyond j.dir c_on to.1 in
-    let enemy : In c enemies = (ground.of_enemies c).1 (c_on, j.enemy) in
+    let m = man_jump g b p piece s c t j man on in
+    let enemy : In c enemies = (ground.of_enemies c).1 (m.1, j.enemy) in
     let left : In c (fin.difference enemies taken) = (in_minus enemies taken (fin.difference enemies taken) c refl).1
     (enemy, λ h. true≢false (sym h ∙ fresh)) in
-    (c, to.0, left, further.0, λ h. true≢false (sym ((ground.of_all t).0 h).1 ∙ ap is_some j.free))
+    (c, m.0, left, m.2, λ h. true≢false (sym ((ground.of_all t).0 h).1 ∙ ap is_some j.free))

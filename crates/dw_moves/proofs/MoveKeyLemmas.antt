@@ -1,101 +1,63 @@
 -- Each legal move has a key, different ones have different keys, and the legal moves can be put in order.
 use Rattle.std.proofs.Common.{◌≡◌, ℕ, ◌<◌, zero, suc, List, [], ◌∷◌, length, map, refl, sym, ap, ◌∙◌, subst, ◌⊎◌, inl}
-use Rattle.std.proofs.Common.{inr, arith, Bool, true, false, None, ◌==◌, ◌&&◌}
+use Rattle.std.proofs.Common.{inr, arith, Bool, true, None, ◌==◌, ◌&&◌}
 use Rattle.std.specs.Prelude.{filter}
 use Rattle.std.specs.FinSet as set
 use Rattle.std.proofs.lemmas.Bool.{eqb-true, eq-eqb, and_parts, and_from}
 use Rattle.dw_board.specs.declared.piece.Piece.{Piece}
-use Rattle.dw_board.specs.Geometry.{Geometry, IsBoard, Squares}
+use Rattle.dw_board.specs.Geometry.{Geometry, IsBoard}
 use Rattle.dw_board.specs.Placement.{Placement, placed}
-use Rattle.dw_moves.specs.Moves.{Move, Jumps, Path, Legal, LegalAt, last_of}
+use Rattle.dw_moves.specs.Moves.{Move, Jumps, IsPathOf, Path, Legal, LegalAt, last_of}
 use Rattle.dw_board.specs.Lists.{Member}
-use Rattle.dw_moves.specs.inner.MoveLemmas.{same_items, same_move}
+use Rattle.dw_moves.specs.inner.MoveLemmas.{same_move, same_moves, same_moves-is}
 use Rattle.dw_moves.specs.Order.{LexLess, LandsAt, front, IsKey, IsLeastPath, Precedes, IsListOf, Listed, HasLeastPath}
 use Rattle.dw_moves.specs.Order.{AreListed}
-use Rattle.dw_moves.proofs.PlainLemmas.{Capture, path_list, best, legal_list}
+use Rattle.dw_moves.proofs.PlainLemmas.{Capture, path_list, best, legal_list, move_of}
 use Rattle.dw_moves.specs.inner.MemberLemmas.{mem_map, mem_map_back, mem_filter, mem_filter_back}
-use Rattle.dw_moves.proofs.LegalMoveLemmas.{path_from, path_in, is_best, best_only, legal_from, legal_in}
+use Rattle.dw_moves.proofs.LegalMoveLemmas.{path_from, path_in, is_best, best_only, legal_best, legal_from, legal_in}
 use Rattle.dw_moves.proofs.PathTellsLemmas.{path_tells}
 use Rattle.dw_moves.specs.inner.LexLemmas.{lex_irrefl, lex_asym, lex_cases, not_less}
 use Rattle.dw_moves.specs.inner.OneListLemmas.{list_only}
 use Rattle.dw_moves.proofs.AscendingLemmas.{ByKey, arranged, arranged_ascending, arranged_from, arranged_has}
 use Rattle.dw_moves.proofs.AscendingLemmas.{ascending_by}
 
-abbrev pub same_list : List ℕ → List ℕ → Bool
-same_list xs ys = elim (lex_cases xs ys) [ inl e ↦ true | inr l ↦ false ]
-
-same_list_true : (xs ys : List ℕ) → same_list xs ys ≡ true → xs ≡ ys
-same_list_true xs ys = elim (lex_cases xs ys) as (λ c. elim c [ inl e ↦ true | inr l ↦ false ] ≡ true
-    → xs ≡ ys) [ inl e ↦ λ t. e | inr l ↦ λ t. cc ]
-
-same_list_refl : (xs : List ℕ) → same_list xs xs ≡ true
-same_list_refl xs = elim (lex_cases xs xs) as (λ c. elim c [ inl e ↦ true | inr l ↦ false ] ≡ true) [
-  | inl e ↦ refl
-  | inr (inl l) ↦ absurd (lex_irrefl xs l)
-  | inr (inr l) ↦ absurd (lex_irrefl xs l)
-]
-
--- whether two sets are the same
-abbrev pub same_set : Squares → Squares → Bool
-same_set v w = same_list (set.items v) (set.items w)
-
-same_set_true : (v w : Squares) → same_set v w ≡ true → v ≡ w
-same_set_true v w e = same_items v w (same_list_true (set.items v) (set.items w) e)
-
-same_set_refl : (v : Squares) → same_set v v ≡ true
-same_set_refl v = same_list_refl (set.items v)
-
 -- a capture is a path of this move, with so many taken
-abbrev pub leads : Geometry → Move → ℕ → Capture → Bool
-leads g m k w = (w.start == m.from) && (last_of w.start w.landings == m.to) && same_set (set.from_list w.over) m.taken
-    && (length w.over == k)
+abbrev pub leads : Move → ℕ → Capture → Bool
+leads m k w = same_moves (move_of w) m && (length w.over == k)
 
 abbrev pub landings_at : Geometry → Placement → Move → ℕ → List (List ℕ)
 landings_at g p m zero = (m.to ∷ []) ∷ []
-landings_at g p m (suc k) = map (λ (w : Capture). w.landings) (filter (leads g m (suc k)) (path_list g p))
+landings_at g p m (suc k) = map (λ (w : Capture). w.landings) (filter (leads m (suc k)) (path_list g p))
 
 lands_in_list : (g : Geometry) (p : Placement) (m : Move) (k : ℕ) (ts : List ℕ) → LandsAt g p m k ts
     → Member ts (landings_at g p m k)
 lands_in_list g p m zero ts h = inl h.2
 lands_in_list g p m (suc k) ts h =
     let w : Capture = record { start = m.from; landings = ts; over = h.over } in
-    let one = eq-eqb m.from m.from refl in
-    let two = eq-eqb (last_of m.from ts) m.to h.ends in
-    let three : same_set (set.from_list h.over) m.taken ≡ true = subst (λ z. same_set (set.from_list h.over) z
-    ≡ true) (sym h.takes) (same_set_refl (set.from_list h.over)) in
-    let four = eq-eqb (length h.over) (suc k) h.count in
-    let passes : leads g m (suc k) w ≡ true =
-    and_from ((m.from == m.from) && (last_of m.from ts == m.to) && same_set (set.from_list h.over) m.taken)
-    (length h.over == suc k)
-    (and_from ((m.from == m.from) && (last_of m.from ts == m.to)) (same_set (set.from_list h.over) m.taken)
-    (and_from (m.from == m.from) (last_of m.from ts == m.to) one two) three) four in
-    mem_map (λ (w : Capture). w.landings) w (filter (leads g m (suc k)) (path_list g p))
-    (mem_filter (leads g m (suc k)) w (path_list g p) (path_in g p m.from ts h.over h.path) passes)
+    let same : same_moves (move_of w) m ≡ true = (same_moves-is (move_of w) m).1
+    (same_move (move_of w) m refl h.ends (sym h.takes)) in
+    let passes : leads m (suc k) w ≡ true = and_from (same_moves (move_of w) m) (length h.over == suc k) same
+    (eq-eqb (length h.over) (suc k) h.count) in
+    mem_map (λ (w : Capture). w.landings) w (filter (leads m (suc k)) (path_list g p))
+    (mem_filter (leads m (suc k)) w (path_list g p) (path_in g p m.from ts h.over h.path) passes)
 
 lands_from_list : (g : Geometry) (p : Placement) (m : Move) (k : ℕ) (ts : List ℕ) → LegalAt g p k m
     → Member ts (landings_at g p m k) → LandsAt g p m k ts
 lands_from_list g p m zero ts legal (inl e) = (legal.0, legal.1, e)
 lands_from_list g p m zero ts legal (inr h) = absurd h
 lands_from_list g p m (suc k) ts legal h =
-    let f = mem_map_back (λ (w : Capture). w.landings) ts (filter (leads g m (suc k)) (path_list g p)) h in
+    let f = mem_map_back (λ (w : Capture). w.landings) ts (filter (leads m (suc k)) (path_list g p)) h in
     let w : Capture = f.0 in
-    let kept = mem_filter_back (leads g m (suc k)) w (path_list g p) f.1 in
-    let a = and_parts ((w.start == m.from) && (last_of w.start w.landings == m.to) && same_set (set.from_list w.over)
-    m.taken) (length w.over == suc k) kept.1 in
-    let c = and_parts ((w.start == m.from) && (last_of w.start w.landings == m.to))
-    (same_set (set.from_list w.over) m.taken) a.0 in
-    let d = and_parts (w.start == m.from) (last_of w.start w.landings == m.to) c.0 in
-    let start_is = eqb-true w.start m.from d.0 in
-    let ts_is : ts ≡ w.landings = f.2 in
-    record {
+    let kept = mem_filter_back (leads m (suc k)) w (path_list g p) f.1 in
+    let a = and_parts (same_moves (move_of w) m) (length w.over == suc k) kept.1 in
+    let same : move_of w ≡ m = (same_moves-is (move_of w) m).0 a.0 in
+    subst (λ z. IsPathOf g p z (suc k) ts) same (subst (IsPathOf g p (move_of w) (suc k)) (sym f.2) (record {
       over = w.over;
-      path = subst (λ z. Path g p m.from z w.over) (sym ts_is) (subst (λ z. Path g p z w.landings w.over) start_is
-          (path_from g p w kept.0));
+      path = path_from g p w kept.0;
       count = eqb-true (length w.over) (suc k) a.1;
-      ends = ap (last_of m.from) ts_is ∙ ap (λ z. last_of z w.landings) (sym start_is)
-          ∙ eqb-true (last_of w.start w.landings) m.to d.1;
-      takes = sym (same_set_true (set.from_list w.over) m.taken c.1);
-    }
+      ends = refl;
+      takes = refl;
+    }))
 
 -- the least list
 abbrev pub lesser : List ℕ → List ℕ → List ℕ
@@ -173,8 +135,7 @@ least_landings g p m = least_in (landings_at g p m (best g p))
 least_path_is : (g : Geometry) (p : Placement) (m : Move) → Legal g p m → IsLeastPath g p m (least_landings g p m)
 least_path_is g p m legal =
     let k = best g p in
-    let at_best : LegalAt g p k m = subst (λ k. LegalAt g p k m) (best_only g p legal.0 k legal.1 (is_best g p))
-    legal.2 in
+    let at_best : LegalAt g p k m = legal_best g p k m (is_best g p) legal in
     let some = lands_somewhere g p m k at_best in
     let h = least_in_is (landings_at g p m k) some.0 (lands_in_list g p m k some.0 some.1) in
     record {
@@ -187,14 +148,16 @@ least_path_is g p m legal =
 pub key_is : (g : Geometry) (p : Placement) (m : Move) → Legal g p m → IsKey g p m (key_of g p m)
 key_is g p m legal = (least_landings g p m, least_path_is g p m legal, refl)
 
+one_least : (g : Geometry) (p : Placement) (m : Move) (ts us : List ℕ) → IsLeastPath g p m ts → IsLeastPath g p m us
+    → ts ≡ us
+one_least g p m ts us h f = elim (lex_cases ts us) [
+  | inl e ↦ e
+  | inr (inl less) ↦ absurd (f.least ts h.leads less)
+  | inr (inr more) ↦ absurd (h.least us f.leads more)
+]
+
 pub one_key : (g : Geometry) (p : Placement) (m : Move) (k l : List ℕ) → IsKey g p m k → IsKey g p m l → k ≡ l
-one_key g p m k l h f =
-    let same : h.0 ≡ f.0 = elim (lex_cases h.0 f.0) [
-      | inl e ↦ e
-      | inr (inl less) ↦ absurd (f.1.least h.0 h.1.leads less)
-      | inr (inr more) ↦ absurd (h.1.least f.0 f.1.leads more)
-    ] in
-    h.2 ∙ ap (λ z. m.from ∷ m.to ∷ front z) same ∙ sym f.2
+one_key g p m k l h f = h.2 ∙ ap (λ z. m.from ∷ m.to ∷ front z) (one_least g p m h.0 f.0 h.1 f.1) ∙ sym f.2
 
 front_last : (s t u : ℕ) (ts us : List ℕ) → front (t ∷ ts) ≡ front (u ∷ us) → last_of s (t ∷ ts) ≡ last_of s (u ∷ us)
     → t ∷ ts ≡ u ∷ us
@@ -303,12 +266,8 @@ listed_in_order g b p =
 one_path : (g : Geometry) (p : Placement) (l k : Listed) → l.step ≡ k.step → HasLeastPath g p l → HasLeastPath g p k
     → l ≡ k
 one_path g p l k same h f =
-    let f' : IsLeastPath g p l.step f.0 = subst (λ z. IsLeastPath g p z f.0) (sym same) f.1 in
-    let landings : h.0 ≡ f.0 = elim (lex_cases h.0 f.0) [
-      | inl e ↦ e
-      | inr (inl less) ↦ absurd (f'.least h.0 h.1.leads less)
-      | inr (inr more) ↦ absurd (h.1.least f.0 f'.leads more)
-    ] in
+    let landings : h.0 ≡ f.0 = one_least g p l.step h.0 f.0 h.1
+    (subst (λ z. IsLeastPath g p z f.0) (sym same) f.1) in
     let paths : l.path ≡ k.path = h.2 ∙ (ap (λ z. l.step.from ∷ z) landings ∙ (ap (λ (m : Move). m.from ∷ f.0) same
     ∙ sym f.2)) in
     λ i. record { step = same i; path = paths i }

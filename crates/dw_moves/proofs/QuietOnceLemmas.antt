@@ -12,7 +12,7 @@ use Rattle.dw_board.specs.Placement.{Placement, at}
 use Rattle.dw_moves.specs.Moves.{ray_of, ray}
 use Rattle.dw_board.specs.Lists.{Member, NoRepeat}
 use Rattle.dw_moves.specs.inner.Plain.{dirs, free_front, free_next, landings_for, may_go, goes, quiet_for}
-use Rattle.dw_moves.specs.inner.MemberLemmas.{mem_cases, mem_map_back, mem_at}
+use Rattle.dw_moves.specs.inner.MemberLemmas.{mem_cases, mem_map_back, mem_flat_back, mem_at}
 use Rattle.dw_moves.proofs.ExactLemmas.{option_cases}
 use Rattle.dw_moves.proofs.StepLemmas.{step_is}
 use Rattle.dw_moves.proofs.RayLemmas.{Toward, ray_of_toward, ray_of_none, ray_toward, one_dir}
@@ -34,14 +34,6 @@ once_map f same (x ∷ xs) n = (
   once_map f same xs n.1,
 )
 
-mem_flat_in : {X Y : Type 0} (f : X → List Y) → (y : Y) (xs : List X) → Member y (flat_map f xs) → (x : X) × Member x xs
-    × Member y (f x)
-mem_flat_in f y [] m = absurd m
-mem_flat_in f y (x ∷ xs) m = elim (mem_cases y (f x) (flat_map f xs) m) [
-  | inl l ↦ (x, inl refl, l)
-  | inr r ↦ let k = mem_flat_in f y xs r in (k.0, inr k.1, k.2)
-]
-
 -- lists without repeats that share nothing make one without repeats
 pub once_flat : {X Y : Type 0} (f : X → List Y) → (xs : List X) → NoRepeat xs → ((x : X) → Member x xs → NoRepeat (f x))
     → ((x z : X) (y : Y) → Member x xs → Member z xs → Member y (f x) → Member y (f z) → x ≡ z)
@@ -50,10 +42,10 @@ once_flat f [] n each apart = tt
 once_flat f (x ∷ xs) n each apart =
     once_append (f x) (flat_map f xs) (each x (inl refl)) (once_flat f xs n.1 (λ z m. each z (inr m))
     (λ a b y m k. apart a b y (inr m) (inr k)))
-    (λ y l r. let k = mem_flat_in f y xs r in
+    (λ y l r. let k = mem_flat_back f y xs r in
     n.0 (subst (λ z. Member z xs) (sym (apart x k.0 y (inl refl) (inr k.1) l k.2)) k.1))
 
-dirs_once : NoRepeat dirs
+pub dirs_once : NoRepeat dirs
 dirs_once = (
   (λ h. elim h [ inl e ↦ cc | inr (inl e) ↦ cc | inr (inr (inl e)) ↦ cc | inr (inr (inr e)) ↦ e ]),
   (

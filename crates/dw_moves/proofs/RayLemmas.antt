@@ -1,6 +1,6 @@
 -- Rays: their squares lie on the board, and a square lies in at most one direction from another.
 use Rattle.std.proofs.Common.{◌≡◌, ℕ, ◌+◌, ◌*◌, ◌/◌, ◌<◌, ◌≤◌, zero, suc, refl, sym, ap, subst, inl, inr, arith, Option}
-use Rattle.std.proofs.Common.{Some, None, [], ◌∷◌, ◌++◌, true, false, Bool, length, ◌-◌, ◌∙◌}
+use Rattle.std.proofs.Common.{Some, None, [], ◌∷◌, ◌++◌, true, false, Bool, ◌-◌, ◌∙◌}
 use Rattle.dw_board.specs.declared.board.Dir.{Dir}
 use Rattle.dw_board.specs.declared.board.Dir.TheVariants.{UpLeft, UpRight, DownLeft, DownRight}
 use Rattle.dw_board.specs.declared.piece.Piece.{Piece}
@@ -114,14 +114,6 @@ ray_some g b s t d on e =
 
 pub ray_none : (g : Geometry) (s : ℕ) (d : Dir) → step g s d ≡ None → ray g s d ≡ []
 ray_none g s d e = ray_of_none g g.rows s d e
-
-pub ray_of_length : (g : Geometry) (n s : ℕ) (d : Dir) → length (ray_of g n s d) ≤ n
-ray_of_length g zero s d = omega arith
-ray_of_length g (suc n) s d = elim (option_cases (step g s d)) [
-  | inl e ↦ let l : length (ray_of g (suc n) s d) ≡ 0 = rw (e, ray_of) refl in omega arith
-  | inr e ↦ let l : length (ray_of g (suc n) s d) ≡ suc (length (ray_of g n e.0 d)) = rw (e.1, ray_of) refl in
-      omega (arith, ray_of_length g n e.0 d)
-]
 
 -- t lies from s in this direction
 abbrev pub Toward : Geometry → Dir → ℕ → ℕ → Type 0

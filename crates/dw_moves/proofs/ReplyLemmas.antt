@@ -1,10 +1,8 @@
 -- A step of one square goes on where its piece is not taken and no piece comes to where it leads.
 use Rattle.std.proofs.Common.{◌≡◌, ℕ, ◌||◌, zero, suc, [], false, refl, sym, ap, ◌∙◌, inl, inr, arith, cond, None}
-use Rattle.std.proofs.lemmas.Bool.{cases_eq}
+use Rattle.std.proofs.lemmas.Bool.{cases_eq, ne_eqb}
 use Rattle.std.specs.FinSet as fin
 use Rattle.std.specs.Ordering.{nat_cmp}
-use Rattle.dw_board.specs.declared.piece.Side.{Side}
-use Rattle.dw_board.specs.declared.piece.Side.TheVariants.{White, Black}
 use Rattle.dw_board.specs.declared.piece.Piece.{Piece}
 use Rattle.dw_board.specs.Geometry.{Geometry, IsBoard, OnBoard}
 use Rattle.dw_board.specs.Placement.{Placement, at}
@@ -12,14 +10,11 @@ use Rattle.dw_moves.specs.Moves.{Move, Quiet, Stands, Legal, LegalAt, IsBest, pl
 use Rattle.dw_board.specs.Placement.{other}
 use Rattle.dw_moves.specs.Replies.{passed, OneStep, TwoSteps, IsLoose, AlwaysReply}
 use Rattle.dw_moves.specs.Laws.{StepsAreQuiet}
-use Rattle.dw_moves.specs.inner.Glance.{CanStep}
-use Rattle.dw_moves.proofs.StepLemmas.{none_some, step_is}
+use Rattle.dw_moves.proofs.StepLemmas.{none_some, some_inj, step_is}
+use Rattle.dw_moves.proofs.GroundLemmas.{apart_sides}
 use Rattle.dw_moves.proofs.RayLemmas.{ray_some}
-use Rattle.dw_moves.proofs.PlainLemmas.{best}
-use Rattle.dw_moves.proofs.LegalMoveLemmas.{is_best}
-use Rattle.dw_moves.proofs.BestFromLemmas.{some_same, has_capture}
+use Rattle.dw_moves.proofs.BestFromLemmas.{step_moves}
 use Rattle.dw_moves.proofs.SquareSetLemmas.{contains-insert}
-use Rattle.dw_moves.proofs.SquareSetLemmas.{apart_false}
 use Rattle.dw_moves.proofs.PlayStaysLemmas.{emptied, play_at, past_none, legal_ends}
 
 pub step_quiet : StepsAreQuiet
@@ -35,31 +30,20 @@ step_quiet g b p s t h = record {
   man = λ q. (refl, h.man q);
 }
 
--- some move is legal where a quiet one is there
-pub reply_of : (g : Geometry) (q : Placement) → CanStep g q → (r : Move) × Legal g q r
-reply_of g q h = by_best (best g q) (is_best g q) where
-  by_best : (k : ℕ) → IsBest g q k → (r : Move) × Legal g q r
-  by_best zero is = (record { from = h.0; to = h.1; taken = fin.empty }, (0, is, (h.2, refl)))
-  by_best (suc k) is = has_capture g q (suc k) is (omega arith)
-
-other_apart : (a : Side) → other a ≡ a → ⊥
-other_apart White e = cc
-other_apart Black e = cc
-
 module _ (g : Geometry) (b : IsBoard g) (p : Placement) where
   -- the other side's piece stands neither where the move begins nor where it ends
   begins_apart : (from s : ℕ) (piece : Piece) → Stands g p from piece → (q : Piece) → Stands g (passed p) s q → s ≡ from
       → ⊥
   begins_apart from s piece own q theirs e =
-      let same : q ≡ piece = some_same q piece (sym theirs.there ∙ (ap (at p) e ∙ own.there)) in
-      other_apart p.turn (sym theirs.own ∙ (ap (λ z. z.side) same ∙ own.own))
+      let same : piece ≡ q = some_inj (sym own.there ∙ (ap (at p) (sym e) ∙ theirs.there)) in
+      apart_sides p.turn (sym own.own ∙ (ap (λ z. z.side) same ∙ theirs.own))
 
   -- a square that a move does not empty and where it does not end
   stays_at : (m : Move) → OnBoard g m.to → (s : ℕ) → OnBoard g s → (s ≡ m.to → ⊥) → (s ≡ m.from → ⊥)
       → fin.contains m.taken s ≡ false → at (play g p m) s ≡ at p s
   stays_at m to s on ne ne_from out =
       let same : fin.contains (emptied m) s ≡ false = contains-insert m.taken m.from s
-      ∙ (ap (λ z. z || fin.contains m.taken s) (apart_false s m.from ne_from) ∙ out) in
+      ∙ (ap (λ z. z || fin.contains m.taken s) (ne_eqb s m.from ne_from) ∙ out) in
       play_at g p m s on.0 (omega (arith, on.1, b.squares_high)) ne to.0 ∙ ap (λ z. cond z None (at p s)) same
 
   pub step_stays : (m : Move) (piece : Piece) → Stands g p m.from piece → OnBoard g m.to → (s t : ℕ)
@@ -92,7 +76,7 @@ module _ (g : Geometry) (b : IsBoard g) (p : Placement) where
       let out : fin.contains m.taken s ≡ false = ap (λ z. fin.contains z s) none ∙ fin.contains-empty nat_cmp s in
       let after : OneStep g (play g p m) s t = step_stays m q.piece q.stands (legal_ends g b p m legal) s t h s_apart
       apart out in
-      reply_of g (play g p m) (s, t, step_quiet g b (play g p m) s t after)
+      step_moves g (play g p m) (s, t, step_quiet g b (play g p m) s t after)
 
   two_reply : (m : Move) → Legal g p m → Quiet g p m.from m.to → m.taken ≡ fin.empty → TwoSteps g (passed p)
       → (r : Move) × Legal g (play g p m) r

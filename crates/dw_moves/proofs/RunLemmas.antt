@@ -1,5 +1,5 @@
 -- Squares met one after another on a ray.
-use Rattle.std.proofs.Common.{◌≡◌, ℕ, ◌≤◌, ◌<◌, suc, List, [], ◌∷◌, length, refl, sym, ap, ◌∙◌, inl, inr, arith, Option}
+use Rattle.std.proofs.Common.{◌≡◌, ℕ, ◌<◌, suc, List, [], ◌∷◌, length, refl, sym, ap, ◌∙◌, inl, inr, arith, Option}
 use Rattle.std.proofs.Common.{Some, None}
 use Rattle.dw_board.specs.declared.piece.Kind.{Kind}
 use Rattle.dw_board.specs.declared.piece.Kind.TheVariants.{Man, King}
@@ -8,7 +8,7 @@ use Rattle.dw_board.specs.Geometry.{Geometry, IsBoard, OnBoard, step}
 use Rattle.dw_board.specs.Placement.{Placement, at}
 use Rattle.dw_moves.specs.Moves.{ray}
 use Rattle.dw_moves.specs.inner.Plain.{free_front, free_next, landings_for, free_if, free_step}
-use Rattle.dw_moves.proofs.StepLemmas.{step_is, none_some}
+use Rattle.dw_moves.proofs.StepLemmas.{step_is, none_some, some_inj}
 use Rattle.dw_moves.proofs.ExactLemmas.{option_cases}
 use Rattle.dw_moves.proofs.RayLemmas.{ray_some, ray_none}
 
@@ -19,13 +19,10 @@ pub record Freed (g : Geometry) (p : Placement) (s : ℕ) (d : Dir) (t : ℕ) : 
   pub ray_is : ray g s d ≡ t ∷ ray g t d
   pub free : at p t ≡ None
 
-some_inj : (x y : ℕ) → Some x ≡ Some y → x ≡ y
-some_inj x y e = cc
-
 free_if_some : (p : Placement) (o : Option ℕ) (t : ℕ) → free_if p o ≡ Some t → (o ≡ Some t) × (at p t ≡ None)
 free_if_some p None t e = absurd (none_some t e)
 free_if_some p (Some u) t e = elim (option_cases (at p u)) [
-  | inl h ↦ let same : u ≡ t = some_inj u t (rw (h, free_if) at e) in (ap Some same, ap (at p) (sym same) ∙ h)
+  | inl h ↦ let same : u ≡ t = some_inj (rw (h, free_if) at e) in (ap Some same, ap (at p) (sym same) ∙ h)
   | inr h ↦ absurd (none_some t (rw (h.1, free_if) at e))
 ]
 
@@ -35,12 +32,14 @@ freed g b p s d t on e =
     let h = free_if_some p (step g s d) t e in
     record { steps = h.0; on = (step_is g b s t d on h.0).on; ray_is = ray_some g b s t d on h.0; free = h.1 }
 
-pub run_man : (p : Placement) (t : ℕ) (ts : List ℕ) → at p t ≡ None → landings_for Man p (t ∷ ts) ≡ t ∷ []
-run_man p t ts e = rw (e, free_next) refl
+-- a king goes on from there, a man does not
+pub king_run : {g : Geometry} {p : Placement} {s : ℕ} {d : Dir} {t : ℕ} → Freed g p s d t
+    → landings_for King p (ray g s d) ≡ t ∷ landings_for King p (ray g t d)
+king_run {p = p} f = ap (landings_for King p) f.ray_is ∙ rw (f.free, free_front) refl
 
-pub run_king : (p : Placement) (t : ℕ) (ts : List ℕ) → at p t ≡ None → landings_for King p (t ∷ ts)
-    ≡ t ∷ landings_for King p ts
-run_king p t ts e = rw (e, free_front) refl
+pub man_run : {g : Geometry} {p : Placement} {s : ℕ} {d : Dir} {t : ℕ} → Freed g p s d t
+    → landings_for Man p (ray g s d) ≡ t ∷ []
+man_run {p = p} f = ap (landings_for Man p) f.ray_is ∙ rw (f.free, free_next) refl
 
 run_blocked : (k : Kind) (p : Placement) (t : ℕ) (ts : List ℕ) → (at p t ≡ None → ⊥) → landings_for k p (t ∷ ts) ≡ []
 run_blocked Man p t ts ne = elim (option_cases (at p t)) [ inl e ↦ absurd (ne e) | inr e ↦ rw (e.1, free_next) refl ]
@@ -57,14 +56,6 @@ run_stop g b k p s d on e = elim (option_cases (step g s d)) [
   | inr h ↦ ap (landings_for k p) (ray_some g b s h.0 d on h.1) ∙ run_blocked k p h.0 (ray g h.0 d) (λ free.
       let is : free_step g p s d ≡ Some h.0 = ap (free_if p) h.1 ∙ rw (free, free_if) refl in none_some h.0 (sym e
       ∙ is))
-]
-
-front_length : (p : Placement) (xs : List ℕ) → length (free_front p xs) ≤ length xs
-front_length p [] = omega arith
-front_length p (x ∷ xs) = elim (option_cases (at p x)) [
-  | inl e ↦ let l : length (free_front p (x ∷ xs)) ≡ suc (length (free_front p xs)) = rw (e, free_front) refl in
-      omega (arith, front_length p xs)
-  | inr e ↦ let l : length (free_front p (x ∷ xs)) ≡ 0 = rw (e.1, free_front) refl in omega arith
 ]
 
 pub ray_falls : (g : Geometry) (p : Placement) (s : ℕ) (d : Dir) (t : ℕ) → Freed g p s d t

@@ -15,14 +15,15 @@ use Rattle.dw_board.specs.Lists.{Member}
 use Rattle.dw_moves.specs.Moves.{Jump, Jumps, Move, Stands, Legal, LegalAt, play, ray, last_of}
 use Rattle.dw_moves.specs.Replies.{passed, OneStep, IsExposed, SafeStep}
 use Rattle.dw_moves.specs.Laws.{SureReplies}
-use Rattle.dw_moves.proofs.ExactLemmas.{option_cases}
+use Rattle.dw_moves.proofs.ExactLemmas.{option_cases, same_side_refl}
 use Rattle.dw_moves.proofs.StepLemmas.{step_is}
 use Rattle.dw_moves.proofs.StepBackLemmas.{step_back}
 use Rattle.dw_moves.proofs.RayLemmas.{ray_some, ray_none, ray_of_on, landing_on_ray}
 use Rattle.dw_moves.proofs.FirstJumpLemmas.{empty_member, head_free, other_at}
 use Rattle.dw_moves.proofs.SquareSetLemmas.{in_list}
-use Rattle.dw_moves.proofs.PlayStaysLemmas.{legal_ends}
-use Rattle.dw_moves.proofs.ReplyLemmas.{reply_of, step_quiet, step_stays, loose_reply}
+use Rattle.dw_moves.proofs.PlayStaysLemmas.{legal_ends, legal_stands}
+use Rattle.dw_moves.proofs.BestFromLemmas.{step_moves}
+use Rattle.dw_moves.proofs.ReplyLemmas.{step_quiet, step_stays, loose_reply}
 
 -- the square before one on a ray, and the ray from there on
 record Met (g : Geometry) (d : Dir) (s c : ℕ) (before rest : List ℕ) : Type 0 where
@@ -159,19 +160,9 @@ module _ (g : Geometry) (b : IsBoard g) (p : Placement) (m : Move) (legal : Lega
         (subst (λ z. IsPassed g b p m.from path.piece path.stands z) h.1.ends (end_passed g b p m.from path.piece
         path.stands m.from h.0 h.1.over (inl refl) path.jumps)) e
 
-  mover : (piece : Piece) × Stands g p m.from piece
-  mover = at_k legal.0 legal.2 where
-    at_k : (k : ℕ) → LegalAt g p k m → (piece : Piece) × Stands g p m.from piece
-    at_k zero h = (h.0.piece, h.0.stands)
-    at_k (suc k) h = (h.1.path.piece, h.1.path.stands)
-
-  same_refl : (a : Side) → same_side a a ≡ true
-  same_refl White = refl
-  same_refl Black = refl
-
   enemy_there : (s t : ℕ) → OneStep g (passed p) s t → IsTrue (is_of (other p.turn) (at p s))
   enemy_there s t h = ap (is_of (other p.turn)) h.stands.there ∙ (ap (λ z. same_side z (other p.turn)) h.stands.own
-      ∙ same_refl (other p.turn))
+      ∙ same_side_refl (other p.turn))
 
   -- such a step goes on, if the move does not end where it leads
   safe_reply : (s t : ℕ) → SafeStep g p s t → (t ≡ m.to → ⊥) → (r : Move) × Legal g (play g p m) r
@@ -180,8 +171,9 @@ module _ (g : Geometry) (b : IsBoard g) (p : Placement) (m : Move) (legal : Lega
       ∙ enemy_there s t h.0) in
       let out : fin.contains m.taken s ≡ false = elim (cases_Bool (fin.contains m.taken s))
       [ inl e ↦ absurd (h.1 (taken_exposed s e)) | inr e ↦ e ] in
+      let mover = legal_stands g p m legal in
       let after = step_stays g b p m mover.0 mover.1 (legal_ends g b p m legal) s t h.0 s_apart apart out in
-      reply_of g (play g p m) (s, t, step_quiet g b (play g p m) s t after)
+      step_moves g (play g p m) (s, t, step_quiet g b (play g p m) s t after)
 
 pub sure_reply : SureReplies
 sure_reply g b p (inl loose) m legal = loose_reply g b p loose m legal

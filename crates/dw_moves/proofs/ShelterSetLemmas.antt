@@ -12,14 +12,11 @@ use Rattle.dw_moves.specs.Moves.{IsForward, CanCapture, In}
 use Rattle.dw_moves.specs.Replies.{given, passed, OneStep, LeadToTwo, IsOpen, IsExposed, SafeStep, HasSureReply}
 use Rattle.dw_moves.specs.inner.Glance.{AreSets, StepsFrom, StepsOn, HasTwo}
 use Rattle.dw_moves.specs.inner.Shelter.{OpenIn, ExposedIn}
-use Rattle.dw_moves.proofs.StepLemmas.{step_is}
+use Rattle.dw_moves.proofs.StepLemmas.{some_inj, step_is}
 use Rattle.dw_moves.proofs.StepBackLemmas.{step_back}
 use Rattle.dw_moves.proofs.ExactLemmas.{same_side_refl}
 use Rattle.dw_moves.proofs.SquareSetLemmas.{in_or, in_and, in_minus}
 use Rattle.dw_moves.proofs.StepSetLemmas.{step_of, from_step, loose_is}
-
-same_square : (s t : ℕ) → Some s ≡ Some t → s ≡ t
-same_square s t e = cc
 
 -- the next squares outside, and back
 pub open_is : (g : Geometry) → IsBoard g → (pieces shifted next behind : Squares) (d e : Dir)
@@ -33,7 +30,7 @@ open_is g b pieces shifted next behind d e on back_is shifts next_is shifts_back
       let w = (shifts_back s).0 h in
       let n = (in_minus shifted pieces next w.0 next_is).0 w.1.0 in
       let f = (shifts w.0).0 n.0 in
-      let same : f.0 ≡ s = same_square f.0 s (sym (step_back g b f.0 w.0 d (on f.0 f.1.0) f.1.1)
+      let same : f.0 ≡ s = some_inj (sym (step_back g b f.0 w.0 d (on f.0 f.1.0) f.1.1)
       ∙ (ap (step g w.0) (sym back_is) ∙ w.1.1)) in
       (subst (λ z. In z pieces) same f.1.0, (w.0, ap (λ z. step g z d) (sym same) ∙ f.1.1, n.1))),
   (λ h.
@@ -111,7 +108,7 @@ module _ (g : Geometry) (b : IsBoard g) (p : Placement) (men kings enemies occup
         | inl m ↦ let w = (in_minus men out men_left s men_is).0 m.0 in (inl (w.0, m.1), w.1)
         | inr k ↦ let w = (in_minus kings out kings_left s kings_is).0 k in (inr w.0, w.1)
       ]) in
-      let q : OneStep g p s t = step_of g b p men kings enemies occupied sets d s t (parts.0, h.1, h.2) in (
+      let q : OneStep g p s t = step_of b sets d s t (parts.0, h.1, h.2) in (
         q,
         λ e. parts.1 ((out_is s).1 (
           standing s t q,
@@ -122,7 +119,7 @@ module _ (g : Geometry) (b : IsBoard g) (p : Placement) (men kings enemies occup
   step_left : (s t : ℕ) → OneStep g p s t → (IsExposed g p p.turn s → ⊥) → (d : Dir)
       × StepsOn g p.turn men_left kings_left occupied d t
   step_left s t q safe =
-      let h = from_step g b p men kings enemies occupied sets s t q in
+      let h = from_step b sets s t q in
       let not_out : In s out → ⊥ = λ i. safe ((exposed_there g b p p.turn own own_are s q.stands.on_board).0
       ((out_is s).0 i).1) in
       let mover : (In s men_left × IsForward p.turn q.dir) ⊎ In s kings_left = elim h.0 [

@@ -2,7 +2,7 @@
 use Rattle.std.proofs.Common.{◌≡◌, ◌≢◌, ℕ, ◌+◌, ◌<◌, ◌≤◌, List, [], ◌∷◌, length, ◌-◌, refl, sym, ap, ◌∙◌, ◌⊎◌, inl}
 use Rattle.std.proofs.Common.{inr, ◌↔◌, true, false, ◌||◌, ◌&&◌, not, Bool, eqb, cond, arith}
 use Rattle.std.proofs.lemmas.Bool.{true≢false, or_cases, or_left, or_right, and_parts, and_from, cases_Bool}
-use Rattle.std.proofs.lemmas.Bool.{not_from_true, not_from_false, eq-eqb, eqb-true, cases_eq}
+use Rattle.std.proofs.lemmas.Bool.{not_from_true, not_from_false, eq-eqb, eqb-true, ne_eqb, cases_eq}
 use Rattle.std.specs.Prelude.{IsTrue}
 use Rattle.std.specs.List.{list_any}
 use Rattle.std.specs.FinSet as fin
@@ -11,6 +11,10 @@ use Rattle.std.specs.Ordering.{nat_cmp, eq_by_cmp}
 use Rattle.dw_board.specs.Geometry.{Squares}
 use Rattle.dw_board.specs.Lists.{Member, NoRepeat}
 use Rattle.dw_moves.specs.Moves.{In}
+
+pub not_both : (b : Bool) → (b ≡ true → ⊥) → b ≡ false
+not_both true h = absurd (h refl)
+not_both false h = refl
 
 pub in_none : (v : Squares) (s : ℕ) → v ≡ fin.empty → In s v → ⊥
 in_none v s e h = true≢false (sym h ∙ (ap (λ z. fin.contains z s) e ∙ fin.contains-empty nat_cmp s))
@@ -34,9 +38,6 @@ in_and a b v s e =
       (λ h. is ∙ and_from (fin.contains a s) (fin.contains b s) h.0 h.1),
     )
 
-not_there : (v : Squares) (s : ℕ) → (In s v → ⊥) → fin.contains v s ≡ false
-not_there v s out = elim (cases_Bool (fin.contains v s)) [ inl t ↦ absurd (out t) | inr f ↦ f ]
-
 pub in_minus : (a b v : Squares) (s : ℕ) → v ≡ fin.difference a b → In s v ↔ (In s a × (In s b → ⊥))
 in_minus a b v s e =
     let is : fin.contains v s ≡ (fin.contains a s && not (fin.contains b s)) = ap (λ z. fin.contains z s) e
@@ -44,7 +45,7 @@ in_minus a b v s e =
       (λ h. let parts = and_parts (fin.contains a s) (not (fin.contains b s)) (sym is ∙ h) in
           (parts.0, λ t. true≢false (sym parts.1 ∙ not_from_true (fin.contains b s) t))),
       (λ h. is ∙ and_from (fin.contains a s) (not (fin.contains b s)) h.0 (not_from_false (fin.contains b s)
-          (not_there b s h.1))),
+          (not_both (fin.contains b s) h.1))),
     )
 
 -- a set that is not empty has a square
@@ -83,8 +84,8 @@ not_in v k q e =
       ],
     )
 
-pub in_more : (v : Squares) (k q : ℕ) → In q (fin.insert v k) ↔ ((k ≡ q) ⊎ In q v)
-in_more v k q = (
+pub in_insert : (v : Squares) (k q : ℕ) → In q (fin.insert v k) ↔ ((k ≡ q) ⊎ In q v)
+in_insert v k q = (
   (λ h. elim (or_cases (eqb q k) (fin.contains v q) (sym (contains-insert v k q) ∙ h)) [
     | inl e ↦ inl (sym (eqb-true q k e))
     | inr o ↦ inr o
@@ -116,13 +117,6 @@ pub contains-remove : (v : Squares) (k q : ℕ) → fin.contains (fin.remove v k
 contains-remove v k q = fin.contains-remove nat_cmp_total v k q
     ∙ ap (λ b. not b && fin.contains v q) (unsigned_tied q k)
 
-pub not_both : (b : Bool) → (b ≡ true → ⊥) → b ≡ false
-not_both true h = absurd (h refl)
-not_both false h = refl
-
-pub apart_false : (s t : ℕ) → (s ≢ t) → eqb s t ≡ false
-apart_false s t ne = elim (cases_Bool (eqb s t)) [ inl e ↦ absurd (ne (eqb-true s t e)) | inr e ↦ e ]
-
 -- a set without a member, and with it again
 pub put_back : (v : Squares) (c : ℕ) → fin.contains v c ≡ true → fin.insert (fin.remove v c) c ≡ v
 put_back v c there = fin.same_set nat_cmp_total fin.nat_cmp-IsAntisymmetric _ _ (λ q.
@@ -132,6 +126,16 @@ put_back v c there = fin.same_set nat_cmp_total fin.nat_cmp-IsAntisymmetric _ _ 
           ∙ there in ap (λ b. b || (not b && fin.contains v q)) same ∙ sym at
       | inr apart ↦ ap (λ b. b || (not b && fin.contains v q)) apart
     ]))
+
+-- a set without one square
+pub in_rest : (v : Squares) (c : ℕ) (rest : Squares) (t : ℕ) → rest ≡ fin.remove v c → In t rest ↔ (In t v × (t ≢ c))
+in_rest v c rest t e =
+    let is : fin.contains rest t ≡ (not (eqb t c) && fin.contains v t) = ap (λ z. fin.contains z t) e
+    ∙ contains-remove v c t in (
+      (λ h. let parts = and_parts _ _ (sym is ∙ h) in
+          (parts.1, λ same. true≢false (sym parts.0 ∙ not_from_true (eqb t c) (eq-eqb t c same)))),
+      (λ h. is ∙ and_from _ _ (not_from_false (eqb t c) (ne_eqb t c h.1)) h.0),
+    )
 
 -- what is in a set without c is not c
 pub not_removed : (v : Squares) (c : ℕ) → fin.contains (fin.remove v c) c ≡ false
@@ -143,8 +147,8 @@ one_fewer v c there =
     ap fin.len (sym (put_back v c there)) ∙ (fin.len-insert nat_cmp_total (fin.remove v c) c
     ∙ ap (λ b. cond b (fin.len (fin.remove v c)) (fin.len (fin.remove v c) + 1)) (not_removed v c))
 
-pub fewer_left : (v : Squares) (c : ℕ) → fin.contains v c ≡ true → fin.len (fin.remove v c) < fin.len v
-fewer_left v c there = omega (arith, one_fewer v c there)
+pub fewer_left : (v : Squares) {rest : Squares} (c : ℕ) → rest ≡ fin.remove v c → In c v → fin.len rest < fin.len v
+fewer_left v c rest_is there = omega (arith, one_fewer v c there, ap fin.len rest_is)
 
 -- as many as the list has, where nothing stands twice in it
 pub len_list : (cs : List ℕ) → NoRepeat cs → fin.len (fin.from_list {R = nat_cmp} cs) ≡ length cs
@@ -197,7 +201,7 @@ pub past_rest : (left : Squares) (s t : ℕ) → fin.contains (fin.remove left s
     ⊎ (fin.contains left t ≡ false)
 past_rest left s t e = elim (cases_eq t s) [
   | inl same ↦ inl same
-  | inr apart ↦ inr (sym (contains-remove left s t ∙ ap (λ b. not b && fin.contains left t) (apart_false t s apart))
+  | inr apart ↦ inr (sym (contains-remove left s t ∙ ap (λ b. not b && fin.contains left t) (ne_eqb t s apart))
       ∙ e)
 ]
 
@@ -244,7 +248,7 @@ difference_less v w c there fresh =
       by_parts false b c = refl
 
 -- nothing is taken out of a set
-pub difference_none : (v w : Squares) → w ≡ fin.empty → fin.difference v w ≡ v
+difference_none : (v w : Squares) → w ≡ fin.empty → fin.difference v w ≡ v
 difference_none v w none = fin.same_set nat_cmp_total fin.nat_cmp-IsAntisymmetric _ _ (λ q.
     fin.contains-difference nat_cmp_total v w q
     ∙ (ap (λ b. fin.contains v q && not b) (ap (λ z. fin.contains z q) none ∙ fin.contains-empty nat_cmp q)
@@ -252,6 +256,13 @@ difference_none v w none = fin.same_set nat_cmp_total fin.nat_cmp-IsAntisymmetri
       and_true : (b : Bool) → (b && true) ≡ b
       and_true true = refl
       and_true false = refl
+
+-- as before a capture has taken anything
+pub all_left : {v w u : Squares} → w ≡ fin.empty → v ≡ u → fin.len (fin.difference v w) ≡ fin.len u
+all_left {v} {w} none same = ap fin.len (difference_none v w none ∙ same)
+
+pub none_counted : {n : ℕ} {v : Squares} → n ≡ 0 → v ≡ fin.empty → n ≡ fin.len v
+none_counted is none = is ∙ sym (ap fin.len none ∙ fin.len-empty nat_cmp)
 
 -- one more in a set
 pub len_more : (v : Squares) (c : ℕ) → fin.contains v c ≡ false → fin.len (fin.insert v c) ≡ fin.len v + 1

@@ -27,8 +27,8 @@ then_some : (o : Option ℕ) (f : ℕ → Option ℕ) (t : ℕ) → and_then o f
 then_some None f t e = absurd (none_some t e)
 then_some (Some x) f t e = (x, refl, e)
 
-some_inj : (x y : ℕ) → Some x ≡ Some y → x ≡ y
-some_inj x y e = cc
+pub some_inj : {A : Type 0} {x y : A} → Some x ≡ Some y → x ≡ y
+some_inj e = cc
 
 at_most : (rows per_row r q : ℕ) → r < rows → q < per_row → (t : ℕ) → r * per_row + q + 1 ≡ t → t ≤ rows * per_row
 at_most rows per_row r q h k t e =
@@ -69,7 +69,7 @@ step_is g b s t d on e =
     let columns_next = moved_is (is_right d) (2 * g.per_row) (column g s) c k.1 (column_low g b s) in
     let q : ℕ = c / 2 in
     let q_low : q < g.per_row = omega (arith, columns_next.1) in
-    let t_is : r * g.per_row + q + 1 ≡ t = some_inj (r * g.per_row + q + 1) t k.2 in
+    let t_is : r * g.per_row + q + 1 ≡ t = some_inj k.2 in
     let before : t - 1 ≡ r * g.per_row + q = omega arith in
     let up : row g t ≡ r = ap (λ n. n / g.per_row) before ∙ div-mul-add r g.per_row q q_low in
     let over : (t - 1) % g.per_row ≡ q = ap (λ n. n % g.per_row) before ∙ mod-mul-add r g.per_row q q_low in

@@ -1,10 +1,10 @@
 -- Steps of one square after which a reply is sure, looked for direction by direction.
-use Rattle.std.proofs.Common.{◌≡◌, ℕ, ◌&&◌, zero, suc, not, refl, sym, ap, ◌∙◌, subst, inl, inr, arith, Some, None}
-use Rattle.std.proofs.lemmas.Bool.{true≢false, cases_eq}
+use Rattle.std.proofs.Common.{◌≡◌, ℕ, zero, suc, refl, sym, ◌∙◌, subst, inl, inr, arith, Some, None, ◌↔◌}
+use Rattle.std.proofs.lemmas.Bool.{cases_eq}
 use Rattle.std.specs.FinSet as fin
 use Rattle.dw_board.specs.declared.board.Dir.{Dir}
 use Rattle.dw_board.specs.declared.board.Dir.TheVariants.{UpLeft, UpRight, DownLeft, DownRight}
-use Rattle.dw_board.specs.Geometry.{Geometry, IsBoard, OnBoard, step, Squares, back}
+use Rattle.dw_board.specs.Geometry.{Geometry, IsBoard, step, Squares, back}
 use Rattle.dw_board.specs.Placement.{Placement}
 use Rattle.dw_moves.specs.Moves.{CanCapture, IsBest, Legal, Move, play, In}
 use Rattle.dw_moves.specs.inner.Plain.{quiet_to}
@@ -13,30 +13,18 @@ use Rattle.dw_moves.specs.Replies.{OneStep, HasSureReply, IsSureStep}
 use Rattle.dw_moves.proofs.PlainLemmas.{best}
 use Rattle.dw_moves.proofs.LegalMoveLemmas.{is_best}
 use Rattle.dw_moves.proofs.ReplyLemmas.{step_quiet}
-use Rattle.dw_moves.proofs.SquareSetLemmas.{in_none}
+use Rattle.dw_moves.proofs.SquareSetLemmas.{in_none, in_rest}
 use Rattle.dw_moves.proofs.StepBackLemmas.{step_back}
+use Rattle.dw_moves.proofs.StepLemmas.{none_some, some_inj}
 use Rattle.dw_moves.proofs.StepSetLemmas.{step_of, from_step}
-use Rattle.dw_moves.proofs.SquareSetLemmas.{contains-remove, not_removed, apart_false}
 
 -- a step is legal where nothing can be taken
-legal_step : (g : Geometry) → IsBoard g → (p : Placement) (s t : ℕ) → (CanCapture g p → ⊥) → OneStep g p s t
+pub legal_step : (g : Geometry) → IsBoard g → (p : Placement) (s t : ℕ) → (CanCapture g p → ⊥) → OneStep g p s t
     → Legal g p (quiet_to s t)
 legal_step g b p s t none h = by_best (best g p) (is_best g p) where
   by_best : (k : ℕ) → IsBest g p k → Legal g p (quiet_to s t)
   by_best zero is = (0, is, (step_quiet g b p s t h, refl))
   by_best (suc k) is = let r = is.reached (omega arith) in absurd (none (r.0, r.1, r.2, r.3, omega (arith, r.4)))
-
--- what stays in a set once one square has left it, and what comes from it
-kept : (v rest : Squares) (s t : ℕ) → rest ≡ fin.remove v s → (t ≡ s → ⊥) → In t v → In t rest
-kept v rest s t is ne h = ap (λ z. fin.contains z t) is
-    ∙ (contains-remove v s t ∙ (ap (λ b. not b && fin.contains v t) (apart_false t s ne) ∙ h))
-
-within : (v rest : Squares) (s t : ℕ) → rest ≡ fin.remove v s → In t rest → In t v
-within v rest s t is h = elim (cases_eq t s) [
-  | inl e ↦ absurd (true≢false (sym (subst (λ z. In z rest) e h) ∙ (ap (λ z. fin.contains z s) is ∙ not_removed v s)))
-  | inr ne ↦ sym (ap (λ z. fin.contains z t) is
-      ∙ (contains-remove v s t ∙ ap (λ b. not b && fin.contains v t) (apart_false t s ne))) ∙ h
-]
 
 -- the goals still to be gone through, where after no step onto another one a reply is sure
 pub record IsLeft (g : Geometry) (p : Placement) (men kings occupied : Squares) (d : Dir) (left : Squares) :
@@ -44,66 +32,43 @@ pub record IsLeft (g : Geometry) (p : Placement) (men kings occupied : Squares) 
   pub steps : (t : ℕ) → In t left → StepsOn g p.turn men kings occupied d t
   pub tried : NoneSure g p men kings occupied d left
 
-module _ (g : Geometry) (b : IsBoard g) (p : Placement) (men kings enemies occupied : Squares)
+module _ {g : Geometry} (b : IsBoard g) {p : Placement} {men kings enemies occupied : Squares}
     (sets : AreSets g p men kings enemies occupied) (d : Dir) where
-  on_start : (s t : ℕ) → StepsFrom g p.turn men kings occupied d s t → OnBoard g s
-  on_start s t h = (step_of g b p men kings enemies occupied sets d s t h).stands.on_board
-
   -- one step back from a goal is where the step began
   start : (s t : ℕ) → StepsFrom g p.turn men kings occupied d s t → step g t (back d) ≡ Some s
-  start s t h = step_back g b s t d (on_start s t h) h.1
+  start s t h = step_back g b s t d (step_of b sets d s t h).stands.on_board h.1
 
-  begun : (left : Squares) → IsLeft g p men kings occupied d left → (t : ℕ) → In t left → (s : ℕ) → step g t (back d)
-      ≡ Some s → StepsFrom g p.turn men kings occupied d s t
-  begun left l t m s leads =
+  pub all_left : {left : Squares} → ((t : ℕ) → In t left ↔ StepsOn g p.turn men kings occupied d t)
+      → IsLeft g p men kings occupied d left
+  all_left are = record { steps = λ t. (are t).0; tried = λ s t h out _. out ((are t).1 (s, h.0, h.1, h.2)) }
+
+  pub goal_step : {left : Squares} → IsLeft g p men kings occupied d left → (s t : ℕ) → In t left
+      → step g t (back d) ≡ Some s → OneStep g p s t
+  goal_step l s t m leads =
       let h = l.steps t m in
-      let same : h.0 ≡ s = let e : Some h.0 ≡ Some s = sym (start h.0 t (h.1, h.2, h.3)) ∙ leads in cc in
-      subst (λ z. StepsFrom g p.turn men kings occupied d z t) same (h.1, h.2, h.3)
+      let same : h.0 ≡ s = some_inj (sym (start h.0 t (h.1, h.2, h.3)) ∙ leads) in
+      step_of b sets d s t
+      (subst (λ z. StepsFrom g p.turn men kings occupied d z t) same (h.1, h.2, h.3))
 
-  pub all_left : (left : Squares) → ((t : ℕ) → In t left → StepsOn g p.turn men kings occupied d t)
-      → ((t : ℕ) → StepsOn g p.turn men kings occupied d t → In t left) → IsLeft g p men kings occupied d left
-  all_left left to from = record { steps = to; tried = λ s t h out _. out (from t (s, h.0, h.1, h.2)) }
-
-  pub is_legal : (CanCapture g p → ⊥) → (left : Squares) → IsLeft g p men kings occupied d left → (t : ℕ) → In t left
-      → (s : ℕ) → step g t (back d) ≡ Some s → Legal g p (quiet_to s t)
-  is_legal none left l t m s leads = legal_step g b p s t none (step_of g b p men kings enemies occupied sets d s t
-      (begun left l t m s leads))
-
-  pub is_sure_step : (left : Squares) → IsLeft g p men kings occupied d left → (t : ℕ) → In t left → (s : ℕ)
-      → step g t (back d) ≡ Some s → HasSureReply g (play g p (quiet_to s t)) → IsSureStep g p (quiet_to s t)
-  is_sure_step left l t m s leads sure = (
-    step_of g b p men kings enemies occupied sets d s t (begun left l t m s leads),
-    refl,
-    sure,
-  )
-
-  fewer : (left rest : Squares) → IsLeft g p men kings occupied d left → (t : ℕ) → rest ≡ fin.remove left t
-      → ((s : ℕ) → StepsFrom g p.turn men kings occupied d s t → HasSureReply g (play g p (quiet_to s t)) → ⊥)
+  pub one_tried : {left rest : Squares} → IsLeft g p men kings occupied d left → (s t : ℕ) → rest ≡ fin.remove left t
+      → step g t (back d) ≡ Some s → (HasSureReply g (play g p (quiet_to s t)) → ⊥)
       → IsLeft g p men kings occupied d rest
-  fewer left rest l t is none = record {
-    steps = λ u m. l.steps u (within left rest t u is m);
-    tried = λ s u h out sure. elim (cases_eq u t) [
-      | inl e ↦ none s (subst (λ z. StepsFrom g p.turn men kings occupied d s z) e h)
-          (subst (λ z. HasSureReply g (play g p (quiet_to s z))) e sure)
-      | inr ne ↦ l.tried s u h (λ m. out (kept left rest t u is ne m)) sure
+  one_tried {left} {rest} l s t is leads none = record {
+    steps = λ u m. l.steps u ((in_rest left t rest u is).0 m).0;
+    tried = λ r u h out sure. elim (cases_eq u t) [
+      | inl e ↦
+          let there : StepsFrom g p.turn men kings occupied d r t =
+          subst (λ z. StepsFrom g p.turn men kings occupied d r z) e h in
+          let same : r ≡ s = some_inj (sym (start r t there) ∙ leads) in
+          none (subst (λ z. HasSureReply g (play g p (quiet_to z t))) same
+          (subst (λ z. HasSureReply g (play g p (quiet_to r z))) e sure))
+      | inr ne ↦ l.tried r u h (λ m. out ((in_rest left t rest u is).1 (m, ne))) sure
     ];
   }
 
-  pub one_tried : (left rest : Squares) → IsLeft g p men kings occupied d left → (t : ℕ) → rest ≡ fin.remove left t
-      → (s : ℕ) → step g t (back d) ≡ Some s → (HasSureReply g (play g p (quiet_to s t)) → ⊥)
-      → IsLeft g p men kings occupied d rest
-  one_tried left rest l t is s leads none = fewer left rest l t is (λ u h sure.
-      let same : u ≡ s = let e : Some u ≡ Some s = sym (start u t h) ∙ leads in cc in
-      none (subst (λ z. HasSureReply g (play g p (quiet_to z t))) same sure))
-
-  pub none_begun : (left : Squares) → IsLeft g p men kings occupied d left → (t : ℕ) → In t left → step g t (back d)
-      ≡ None → ⊥
-  none_begun left l t m leads = let h = l.steps t m in let e : None ≡ Some h.0 = sym leads
-      ∙ start h.0 t (h.1, h.2, h.3) in cc
-
-  pub all_tried : (left : Squares) → left ≡ fin.empty → IsLeft g p men kings occupied d left
-      → NoneSure g p men kings occupied d fin.empty
-  all_tried left is l s t h out sure = l.tried s t h (λ m. in_none left t is m) sure
+  pub none_begun : {left : Squares} → IsLeft g p men kings occupied d left → (t : ℕ) → In t left
+      → step g t (back d) ≡ None → ⊥
+  none_begun l t m leads = let h = l.steps t m in none_some h.0 (sym leads ∙ start h.0 t (h.1, h.2, h.3))
 
 -- none in all four directions
 pub none_anywhere : (g : Geometry) → IsBoard g → (p : Placement) (men kings enemies occupied : Squares)
@@ -113,7 +78,7 @@ pub none_anywhere : (g : Geometry) → IsBoard g → (p : Placement) (men kings 
     → (m : Move) → IsSureStep g p m → ⊥
 none_anywhere g b p men kings enemies occupied sets ul ur dl dr m h =
     let same : m ≡ quiet_to m.from m.to = λ i. record { from = m.from; to = m.to; taken = h.1 i } in
-    in_dir h.0.dir (from_step g b p men kings enemies occupied sets m.from m.to h.0)
+    in_dir h.0.dir (from_step b sets m.from m.to h.0)
     (subst (λ z. HasSureReply g (play g p z)) same h.2) where
       out : (t : ℕ) → In t fin.empty → ⊥
       out t m = in_none fin.empty t refl m

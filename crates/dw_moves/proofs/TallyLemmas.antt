@@ -1,95 +1,106 @@
--- How the quiet moves are counted: those of men direction by direction, those of kings square by square.
-use Rattle.std.proofs.Common.{◌≡◌, ℕ, ◌+◌, zero, suc, List, [], ◌∷◌, ◌++◌, length, map, refl, sym, ap, ◌∙◌, ◌↔◌, arith}
-use Rattle.std.proofs.Common.{length-append}
-use Rattle.std.proofs.lemmas.List.{length-map}
+-- How pairs are counted, and with them the quiet moves.
+use Rattle.std.proofs.Common.{◌≡◌, ◌≢◌, ℕ, ◌+◌, zero, suc, [], ◌∷◌, ◌++◌, refl, sym, ap, ◌∙◌, subst}
+use Rattle.std.proofs.Common.{inl, inr, ◌↔◌, arith, length-append}
+use Rattle.std.proofs.lemmas.Bool.{cases_eq}
 use Rattle.std.specs.FinSet as fin
 use Rattle.std.specs.Ordering.{nat_cmp}
 use Rattle.dw_board.specs.declared.board.Dir.{Dir}
 use Rattle.dw_board.specs.declared.board.Dir.TheVariants.{UpLeft, UpRight, DownLeft, DownRight}
-use Rattle.dw_board.specs.Geometry.{Geometry, IsBoard, Squares, back}
+use Rattle.dw_board.specs.Geometry.{Geometry, IsBoard, Squares}
 use Rattle.dw_board.specs.Placement.{Placement}
-use Rattle.dw_moves.specs.Moves.{IsQuietCount, Quiet, In}
-use Rattle.dw_moves.specs.inner.Plain.{Adds, Counts, ManSteps, KingGoes}
+use Rattle.dw_moves.specs.Moves.{IsQuietCount, In}
+use Rattle.dw_moves.specs.inner.Plain.{Counts, ManSteps, KingGoes}
+use Rattle.dw_moves.proofs.AddingLemmas.{either_is, not_king, one_step}
+use Rattle.dw_moves.proofs.PairLemmas.{none_are, those_same, those_then, those_four}
+use Rattle.dw_moves.proofs.SquareSetLemmas.{in_none, in_rest, one_fewer, some_in}
 use Rattle.dw_moves.proofs.StepBackLemmas.{step_back}
-use Rattle.dw_moves.proofs.SquareSetLemmas.{some_in}
-use Rattle.dw_moves.proofs.SquareSetLemmas.{one_fewer}
-use Rattle.dw_moves.proofs.AddingLemmas.{Stepping, stepping_none, stepping_more, stepping_all, all_quiet}
+use Rattle.dw_moves.proofs.StepLemmas.{some_inj}
 
-abbrev pair : ℕ → ℕ → ℕ × ℕ
-pair s t = (s, t)
+-- ---- counts
+pub counts_same : {P Q : ℕ → ℕ → Type 0} {n : ℕ} → Counts P n → ((s t : ℕ) → P s t ↔ Q s t) → Counts Q n
+counts_same c same = record { pairs = c.pairs; those = those_same c.those same; count = c.count }
 
-abbrev same_pair : ℕ × ℕ → ℕ × ℕ
-same_pair q = pair q.0 q.1
+-- pairs whose second squares are those of a set, and tell the first
+paired : (P : ℕ → ℕ → Type 0) → ((r s t : ℕ) → P r t → P s t → r ≡ s) → (n : ℕ) (v : Squares) → fin.len v ≡ n
+    → ((t : ℕ) → In t v → (s : ℕ) × P s t) → Counts (λ s t. In t v × P s t) n
+paired P one zero v e from = record {
+  pairs = [];
+  those = none_are (λ s t h. in_none v t (fin.empty_of_len v e) h.0);
+  count = refl;
+}
+paired P one (suc n) v e from =
+    let some = some_in v (λ z. let none : fin.len v ≡ 0 = ap fin.len z ∙ fin.len-empty nat_cmp in omega arith) in
+    let to : ℕ = some.0 in
+    let first = from to some.1 in
+    let rest : Squares = fin.remove v to in
+    let fewer : fin.len rest ≡ n = omega (arith, one_fewer v to some.1) in
+    let left : (t : ℕ) → In t rest ↔ (In t v × (t ≢ to)) = λ t. in_rest v to rest t refl in
+    let h = paired P one n rest fewer (λ t m. from t ((left t).0 m).0) in
+    record {
+      pairs = (first.0, to) ∷ h.pairs;
+      those = record {
+        exactly = λ s t. (
+          (λ m. elim m [
+            | inl same ↦
+                let s_is : s ≡ first.0 = ap (λ q. q.0) same in
+                let t_is : t ≡ to = ap (λ q. q.1) same in (
+                  subst (λ z. In z v) (sym t_is) some.1,
+                  subst (λ z. P z t) (sym s_is) (subst (λ z. P first.0 z) (sym t_is) first.1),
+                )
+            | inr more ↦ let k = (h.those.exactly s t).0 more in (((left t).0 k.0).0, k.1)
+          ]),
+          (λ k. elim (cases_eq t to) [
+            | inl t_is ↦
+                let s_is : s ≡ first.0 = one s first.0 t k.1 (subst (λ z. P first.0 z) (sym t_is) first.1) in
+                inl (ap (λ z. (z, t)) s_is ∙ ap (λ z. (first.0, z)) t_is)
+            | inr ne ↦ inr ((h.those.exactly s t).1 ((left t).1 (k.0, ne), k.1))
+          ]),
+        );
+        once = ((λ m. ((left to).0 ((h.those.exactly first.0 to).0 m).0).1 refl), h.those.once);
+      };
+      count = omega (arith, h.count);
+    }
 
--- a list of pairs, counted
-counted : (P : ℕ → ℕ → Type 0) (list : List (ℕ × ℕ)) (n : ℕ) → Adds pair P [] list → length list ≡ n → Counts P n
-counted P list n h is = record {
-  pairs = h.pairs;
-  exactly = h.exactly;
-  once = h.once;
-  count = sym (ap length h.are ∙ length-map h.pairs same_pair) ∙ is;
+pub counted_by : (P : ℕ → ℕ → Type 0) → ((r s t : ℕ) → P r t → P s t → r ≡ s) → (v : Squares) (n : ℕ)
+    → ((t : ℕ) → In t v ↔ ((s : ℕ) × P s t)) → n ≡ fin.len v → Counts P n
+counted_by P one v n are n_is = counts_same (paired P one n v (sym n_is) (λ t. (are t).0))
+    (λ s t. ((λ h. h.1), (λ k. ((are t).1 (s, k), k))))
+
+-- in the four directions, where a pair tells its direction
+pub counts_four : (P : Dir → ℕ → ℕ → Type 0) → ((d e : Dir) (s t : ℕ) → P d s t → P e s t → d ≡ e)
+    → {n1 n2 n3 n4 : ℕ} → Counts (P UpLeft) n1 → Counts (P UpRight) n2 → Counts (P DownLeft) n3
+    → Counts (P DownRight) n4 → Counts (λ s t. (d : Dir) × P d s t) ((n1 + n2) + (n3 + n4))
+counts_four P tell a b c d = record {
+  pairs = a.pairs ++ (b.pairs ++ (c.pairs ++ (d.pairs ++ [])));
+  those = those_four P tell a.those b.those c.those d.those;
+  count = omega (
+    arith,
+    length-append a.pairs (b.pairs ++ (c.pairs ++ (d.pairs ++ []))),
+    length-append b.pairs (c.pairs ++ (d.pairs ++ [])),
+    length-append c.pairs (d.pairs ++ []),
+    length-append d.pairs [],
+    a.count,
+    b.count,
+    c.count,
+    d.count,
+  );
 }
 
--- the pairs of a count, behind a list
-with_counted : (P : ℕ → ℕ → Type 0) (n : ℕ) (c : Counts P n) (old : List (ℕ × ℕ))
-    → Adds pair P old (old ++ map same_pair c.pairs)
-with_counted P n c old = record { pairs = c.pairs; exactly = c.exactly; once = c.once; are = refl }
-
-longer : (P : ℕ → ℕ → Type 0) (n : ℕ) (c : Counts P n) (old : List (ℕ × ℕ)) → length (old ++ map same_pair c.pairs)
-    ≡ length old + n
-longer P n c old = omega (arith, length-append old (map same_pair c.pairs), length-map c.pairs same_pair, c.count)
-
-pub all_counted : (g : Geometry) → IsBoard g → (p : Placement) (n1 n2 n3 n4 n5 : ℕ) → Counts (ManSteps g p UpLeft) n1
-    → Counts (ManSteps g p UpRight) n2 → Counts (ManSteps g p DownLeft) n3 → Counts (ManSteps g p DownRight) n4
-    → Counts (KingGoes g p) n5
-    → IsQuietCount g p ((n1 + n2) + (n3 + n4) + n5)
-all_counted g b p n1 n2 n3 n4 n5 c1 c2 c3 c4 c5 =
-    let m1 : List (ℕ × ℕ) = [] ++ map same_pair c1.pairs in
-    let m2 : List (ℕ × ℕ) = m1 ++ map same_pair c2.pairs in
-    let m3 : List (ℕ × ℕ) = m2 ++ map same_pair c3.pairs in
-    let m4 : List (ℕ × ℕ) = m3 ++ map same_pair c4.pairs in
-    let m5 : List (ℕ × ℕ) = m4 ++ map same_pair c5.pairs in
-    let all : Adds pair (Quiet g p) [] m5 = all_quiet pair g b p [] m1 m2 m3 m4 m5
-    (with_counted (ManSteps g p UpLeft) n1 c1 []) (with_counted (ManSteps g p UpRight) n2 c2 m1)
-    (with_counted (ManSteps g p DownLeft) n3 c3 m2) (with_counted (ManSteps g p DownRight) n4 c4 m3)
-    (with_counted (KingGoes g p) n5 c5 m4) in
-    let long : length m5 ≡ (n1 + n2) + (n3 + n4) + n5 =
-    omega (
-      arith,
-      longer (ManSteps g p UpLeft) n1 c1 [],
-      longer (ManSteps g p UpRight) n2 c2 m1,
-      longer (ManSteps g p DownLeft) n3 c3 m2,
-      longer (ManSteps g p DownRight) n4 c4 m3,
-      longer (KingGoes g p) n5 c5 m4,
-    ) in
-    let c = counted (Quiet g p) m5 ((n1 + n2) + (n3 + n4) + n5) all long in
-    record { moves = c.pairs; exactly = c.exactly; once = c.once; count = c.count }
-
--- ---- steps of men
-stepped : (g : Geometry) → IsBoard g → (p : Placement) (d : Dir) (n : ℕ) (left : Squares) (now : List (ℕ × ℕ))
-    → fin.len left ≡ n → Stepping pair g p d left [] now → (new : List (ℕ × ℕ)) × Adds pair (ManSteps g p d) [] new
-    × (length new ≡ length now + n)
-stepped g b p d zero left now is h = (
-  now,
-  stepping_all pair g p d left [] now (fin.empty_of_len left is) h,
-  omega arith,
-)
-stepped g b p d (suc n) left now is h =
-    let some = some_in left (λ e. let none : fin.len left ≡ 0 = ap fin.len e ∙ fin.len-empty nat_cmp in omega arith) in
-    let to : ℕ = some.0 in
-    let r = h.reached to some.1 in
-    let rest : Squares = fin.remove left to in
-    let longer_now : List (ℕ × ℕ) = now ++ (r.0, to) ∷ [] in
-    let next = stepping_more pair g b p d (back d) left rest [] now longer_now r.0 to refl some.1 refl
-    (step_back g b r.0 to d r.1.on r.1.steps) h refl in
-    let fewer : fin.len rest ≡ n = omega (arith, one_fewer left to some.1) in
-    let all = stepped g b p d n rest longer_now fewer next in
-    (all.0, all.1, omega (arith, all.2, length-append now ((r.0, to) ∷ [])))
-
--- as many as the squares that they reach
+-- steps of men are as many as the squares that they reach
 pub men_counted : (g : Geometry) → IsBoard g → (p : Placement) (d : Dir) (v : Squares) (n : ℕ)
     → ((t : ℕ) → In t v ↔ ((s : ℕ) × ManSteps g p d s t)) → n ≡ fin.len v → Counts (ManSteps g p d) n
-men_counted g b p d v n are is =
-    let all = stepped g b p d (fin.len v) v [] refl (stepping_none pair g p d v [] are) in
-    let long : length all.0 ≡ n = omega (arith, all.2, is) in
-    counted (ManSteps g p d) all.0 n all.1 long
+men_counted g b p d = counted_by (ManSteps g p d) (λ r s t h k.
+    some_inj (sym (step_back g b r t d h.on h.steps) ∙ step_back g b s t d k.on k.steps))
+
+pub all_counted : {g : Geometry} → IsBoard g → {p : Placement} {n1 n2 n3 n4 n5 : ℕ} → Counts (ManSteps g p UpLeft) n1
+    → Counts (ManSteps g p UpRight) n2 → Counts (ManSteps g p DownLeft) n3 → Counts (ManSteps g p DownRight) n4
+    → Counts (KingGoes g p) n5 → IsQuietCount g p ((n1 + n2) + (n3 + n4) + n5)
+all_counted {g} b {p} c1 c2 c3 c4 kings =
+    let men = counts_four (ManSteps g p) (one_step g b p) c1 c2 c3 c4 in
+    let all = those_same (those_then men.those kings.those (not_king g p)) (either_is g b p) in
+    record {
+      moves = men.pairs ++ kings.pairs;
+      exactly = all.exactly;
+      once = all.once;
+      count = omega (arith, length-append men.pairs kings.pairs, men.count, kings.count);
+    }

@@ -16,31 +16,17 @@ use Rattle.dw_moves.specs.inner.MemberLemmas.{mem_left, mem_right, mem_cases, me
 use Rattle.dw_moves.specs.inner.MoveLemmas.{same_move}
 use Rattle.dw_moves.specs.inner.Plain.{TakesOver, dirs, takes_for, landings_for, free_step, no_jumps}
 use Rattle.dw_moves.specs.inner.Walks.{Chain, GoesOn, GoesTowards, Offers, onward, so_far}
-use Rattle.dw_moves.proofs.ChainLemmas.{chain_none, chain_more, chain_tail, over_of, landing_of, in_direction}
-use Rattle.dw_moves.proofs.ExactLemmas.{jump_in}
+use Rattle.dw_moves.proofs.ChainLemmas.{chain_none, chain_more, chain_tail, over_of, landing_of}
+use Rattle.dw_moves.proofs.DirLemmas.{from_above}
+use Rattle.dw_moves.proofs.ExactLemmas.{jump_along, jump_in}
 use Rattle.dw_moves.proofs.JumpStepLemmas.{append_none}
-use Rattle.dw_moves.proofs.OfferLemmas.{offers_same, offers_none, offers_then}
-use Rattle.dw_moves.proofs.RunLemmas.{Freed, run_man, run_king, run_stop}
+use Rattle.dw_moves.proofs.OfferLemmas.{offers_same, offers_none, offers_then, offers_four}
+use Rattle.dw_moves.proofs.RunLemmas.{Freed, man_run, king_run, run_stop}
 use Rattle.dw_moves.proofs.SquareSetLemmas.{union_more, union_none}
 
 -- moves with the same steps and paths are the same
 pub same_listed_parts : (l r : Listed) → l.step ≡ r.step → l.path ≡ r.path → l ≡ r
 same_listed_parts l r s e = λ i. record { step = s i; path = e i }
-
--- the same capture so far after one jump more
-pub same_onward : (from a b : ℕ) (v w : Squares) (path : List ℕ) (s : ℕ) → s ≡ from → a ≡ b → v ≡ w
-    → so_far s a v (path ++ a ∷ []) ≡ so_far from b w (path ++ b ∷ [])
-same_onward from a b v w path s e f h = λ i. so_far (e i) (f i) (h i) (path ++ f i ∷ [])
-
-pub same_so_far : (from s b a : ℕ) (w v : Squares) (path : List ℕ) → s ≡ from → a ≡ b → v ≡ w
-    → so_far s a v path ≡ so_far from b w path
-same_so_far from s b a w v path e f h = λ i. so_far (e i) (f i) (h i) path
-
--- it goes on in one of the four directions, or ends here
-abbrev pub Onward : Geometry → Placement → Piece → Listed → Listed → Type 0
-Onward g p piece b l =
-    (((GoesTowards g p piece b UpLeft l ⊎ GoesTowards g p piece b UpRight l) ⊎ GoesTowards g p piece b DownLeft l)
-    ⊎ GoesTowards g p piece b DownRight l) ⊎ (l ≡ b)
 
 -- captures that go on over c, onto one of these squares
 pub record Onto (g : Geometry) (p : Placement) (piece : Piece) (b : Listed) (c : ℕ) (ts : List ℕ) (l : Listed) :
@@ -56,7 +42,16 @@ pub record Landed {K : Type 0} (holds : K → List Listed → K → Type 0) (g :
   pub all : passed ++ landings_for piece.kind p (ray g at d) ≡ landings_for piece.kind p (ray g c d)
   pub walked : Offers holds (Onto g p piece b c passed) k now
 
-module _ (g : Geometry) (p : Placement) (piece : Piece) (b : Listed) where
+-- the same capture so far after one jump more
+pub goes_same : {K : Type 0} {holds : K → List Listed → K → Type 0} {g : Geometry} {p : Placement} {piece : Piece}
+    {from s at to : ℕ} {v w : Squares} (path : List ℕ) {k new : K} → s ≡ from → at ≡ to → v ≡ w
+    → Offers holds (GoesOn g p piece (so_far s at v (path ++ at ∷ []))) k new
+    → Offers holds (GoesOn g p piece (so_far from to w (path ++ to ∷ []))) k new
+goes_same {holds = holds} {g = g} {p = p} {piece = piece} path {k = k} {new = new} s_is at_is v_is h =
+    subst (λ z. Offers holds (GoesOn g p piece z) k new)
+    (λ i. so_far (s_is i) (at_is i) (v_is i) (path ++ at_is i ∷ [])) h
+
+module _ {g : Geometry} {p : Placement} {piece : Piece} {b : Listed} where
   -- a chain that ends where it begins
   ends_here : (l : Listed) → l ≡ b → GoesOn g p piece b l
   ends_here l e = record {
@@ -69,34 +64,21 @@ module _ (g : Geometry) (p : Placement) (piece : Piece) (b : Listed) where
     path = ap (λ (z : Listed). z.path) e ∙ sym (append_none b.path);
   }
 
-  abbrev pub towards_goes : (d : Dir) (l : Listed) → GoesTowards g p piece b d l → GoesOn g p piece b l
-  towards_goes d l h = record {
+  abbrev pub towards_goes : {d : Dir} {l : Listed} → GoesTowards g p piece b d l → GoesOn g p piece b l
+  towards_goes {d} h = record {
     landings = h.t ∷ h.rest.landings;
     over = h.c ∷ h.rest.over;
     chain = chain_more g p piece b.step.to h.c h.t b.step.taken h.rest.landings h.rest.over
-        (in_direction g p piece b.step.to d (h.c, h.t) h.jump) h.fresh h.rest.chain;
+        (jump_along g p piece b.step.to h.c h.t d h.jump).0 h.fresh h.rest.chain;
     from = h.rest.from;
     to = h.rest.to;
     taken = h.rest.taken ∙ sym (union_more b.step.taken h.c h.rest.over);
     path = h.rest.path ∙ append_assoc b.path (h.t ∷ []) h.rest.landings;
   }
 
-  onward_goes : (l : Listed) → Onward g p piece b l → GoesOn g p piece b l
-  onward_goes l (inl (inl (inl (inl h)))) = towards_goes UpLeft l h
-  onward_goes l (inl (inl (inl (inr h)))) = towards_goes UpRight l h
-  onward_goes l (inl (inl (inr h))) = towards_goes DownLeft l h
-  onward_goes l (inl (inr h)) = towards_goes DownRight l h
-  onward_goes l (inr e) = ends_here l e
-
-  by_dir : (l : Listed) (d : Dir) → GoesTowards g p piece b d l → Onward g p piece b l
-  by_dir l UpLeft h = inl (inl (inl (inl h)))
-  by_dir l UpRight h = inl (inl (inl (inr h)))
-  by_dir l DownLeft h = inl (inl (inr h))
-  by_dir l DownRight h = inl (inr h)
-
   -- a chain goes on in a direction, or ends where it begins
-  pub goes_some : (l : Listed) → GoesOn g p piece b l → ((d : Dir) × GoesTowards g p piece b d l) ⊎ (l ≡ b)
-  goes_some l h = by_chain h.landings h.over h.chain h.to h.taken h.path where
+  pub goes_some : {l : Listed} → GoesOn g p piece b l → ((d : Dir) × GoesTowards g p piece b d l) ⊎ (l ≡ b)
+  goes_some {l} h = by_chain h.landings h.over h.chain h.to h.taken h.path where
     by_chain : (ts cs : List ℕ) → Chain g p piece b.step.to b.step.taken ts cs → l.step.to ≡ last_of b.step.to ts
         → l.step.taken ≡ fin.union b.step.taken (fin.from_list cs) → l.path ≡ b.path ++ ts
         → ((d : Dir) × GoesTowards g p piece b d l) ⊎ (l ≡ b)
@@ -127,50 +109,37 @@ module _ (g : Geometry) (p : Placement) (piece : Piece) (b : Listed) where
           },
         )
 
-  goes_onward : (l : Listed) → GoesOn g p piece b l → Onward g p piece b l
-  goes_onward l h = elim (goes_some l h) [ inl f ↦ by_dir l f.0 f.1 | inr e ↦ inr e ]
-
-  module _ (K : Type 0) (holds : K → List Listed → K → Type 0) where
+  module _ {K : Type 0} {holds : K → List Listed → K → Type 0} where
     -- all directions were walked, and what ends here was offered
-    pub walked_all : (k0 k1 k2 k3 k4 k : K) → Offers holds (GoesTowards g p piece b UpLeft) k0 k1
+    pub walked_all : {k0 k1 k2 k3 k4 k : K} → Offers holds (GoesTowards g p piece b UpLeft) k0 k1
         → Offers holds (GoesTowards g p piece b UpRight) k1 k2
         → Offers holds (GoesTowards g p piece b DownLeft) k2 k3
         → Offers holds (GoesTowards g p piece b DownRight) k3 k4
         → Offers holds (λ l. l ≡ b) k4 k → Offers holds (GoesOn g p piece b) k0 k
-    walked_all k0 k1 k2 k3 k4 k h1 h2 h3 h4 h =
-        let T : Dir → Listed → Type 0 = λ d l. GoesTowards g p piece b d l in
-        let two = offers_then K holds (T UpLeft) (T UpRight) k0 k1 k2 h1 h2 in
-        let three = offers_then K holds (λ l. T UpLeft l ⊎ T UpRight l) (T DownLeft) k0 k2 k3 two h3 in
-        let four = offers_then K holds (λ l. (T UpLeft l ⊎ T UpRight l) ⊎ T DownLeft l) (T DownRight) k0 k3 k4
-        three h4 in
-        offers_same K holds (Onward g p piece b) (GoesOn g p piece b) k0 k onward_goes goes_onward
-        (offers_then K holds (λ l. ((T UpLeft l ⊎ T UpRight l) ⊎ T DownLeft l) ⊎ T DownRight l) (λ l. l ≡ b) k0
-        k4 k four h)
+    walked_all h1 h2 h3 h4 h = offers_same (offers_then (offers_four (λ d. GoesTowards g p piece b d) UpLeft UpRight
+        DownLeft DownRight h1 h2 h3 h4 (λ l. from_above (λ d. GoesTowards g p piece b d l))) h)
+        (λ l x. elim x [ inl f ↦ towards_goes f.1 | inr e ↦ ends_here l e ]) (λ l. goes_some)
 
     -- what can not jump on ends here
-    pub ends_there : (k k' : K) → ((c t : ℕ) → fin.contains b.step.taken c ≡ false → Jump g p piece b.step.to c t → ⊥)
+    pub ends_there : {k k' : K} → ((c t : ℕ) → fin.contains b.step.taken c ≡ false → Jump g p piece b.step.to c t → ⊥)
         → Offers holds (λ l. l ≡ b) k k' → Offers holds (GoesOn g p piece b) k k'
-    ends_there k k' none h = offers_same K holds (λ l. l ≡ b) (GoesOn g p piece b) k k' ends_here
-        (λ l f. elim (goes_some l f) [
-          | inl j ↦ absurd (none j.1.c j.1.t j.1.fresh (in_direction g p piece b.step.to j.0 (j.1.c, j.1.t) j.1.jump))
-          | inr e ↦ e
-        ]) h
+    ends_there none h = offers_same h ends_here (λ l f. elim (goes_some f) [
+      | inl j ↦ absurd (none j.1.c j.1.t j.1.fresh (jump_along g p piece b.step.to j.1.c j.1.t j.0 j.1.jump).0)
+      | inr e ↦ e
+    ])
 
-    pub landed_none : (c : ℕ) (d : Dir) (k : K) → Landed holds g p piece b c d c k k
-    landed_none c d k = record {
+    pub landed_none : {c : ℕ} {d : Dir} {k : K} → Landed holds g p piece b c d c k k
+    landed_none = record {
       passed = [];
       all = refl;
-      walked = offers_none K holds (Onto g p piece b c []) k k (λ l h. h.lands) (λ first xs h. h);
+      walked = offers_none (λ first xs h. h) (λ l h. h.lands);
     }
 
     -- one square more
-    onto_more : (c : ℕ) (passed : List ℕ) (t : ℕ) (k now new : K) → Offers holds (Onto g p piece b c passed) k now
+    onto_more : {c : ℕ} {passed : List ℕ} (t : ℕ) {k now new : K} → Offers holds (Onto g p piece b c passed) k now
         → Offers holds (GoesOn g p piece (onward b c t)) now new
         → Offers holds (Onto g p piece b c (passed ++ t ∷ [])) k new
-    onto_more c passed t k now new h rest =
-        let E : Listed → Type 0 = Onto g p piece b c passed in
-        let F : Listed → Type 0 = GoesOn g p piece (onward b c t) in
-        offers_same K holds (λ l. E l ⊎ F l) (Onto g p piece b c (passed ++ t ∷ [])) k new
+    onto_more {c} {passed} t h rest = offers_same (offers_then h rest)
         (λ l x. elim x [
           | inl old ↦ record { t = old.t; lands = mem_left old.t passed (t ∷ []) old.lands; rest = old.rest }
           | inr new ↦ record { t = t; lands = mem_right t passed (t ∷ []) (inl refl); rest = new }
@@ -180,48 +149,48 @@ module _ (g : Geometry) (p : Placement) (piece : Piece) (b : Listed) where
           | inr (inl e) ↦ inr (subst (λ z. GoesOn g p piece (onward b c z) l) e f.rest)
           | inr (inr none) ↦ absurd none
         ])
-        (offers_then K holds E F k now new h rest)
 
     -- a king goes on from there
-    pub landed_more : (c : ℕ) (d : Dir) (at t : ℕ) (k now new : K) → piece.kind ≡ King → Landed holds g p piece b c d at k now
-        → Freed g p at d t → Offers holds (GoesOn g p piece (onward b c t)) now new → Landed holds g p piece b c d t k new
-    landed_more c d at t k now new king h f rest =
+    pub landed_more : {c : ℕ} {d : Dir} {at t : ℕ} {k now new : K} → piece.kind ≡ King
+        → Landed holds g p piece b c d at k now → Freed g p at d t
+        → Offers holds (GoesOn g p piece (onward b c t)) now new → Landed holds g p piece b c d t k new
+    landed_more {d = d} {at = at} {t = t} king h f rest =
         let one : landings_for piece.kind p (ray g at d) ≡ t ∷ landings_for piece.kind p (ray g t d) =
-        subst (λ z. landings_for z p (ray g at d) ≡ t ∷ landings_for z p (ray g t d)) (sym king)
-        (ap (landings_for King p) f.ray_is ∙ run_king p t (ray g t d) f.free) in
+        subst (λ z. landings_for z p (ray g at d) ≡ t ∷ landings_for z p (ray g t d)) (sym king) (king_run f) in
         record {
           passed = h.passed ++ t ∷ [];
           all = append_assoc h.passed (t ∷ []) (landings_for piece.kind p (ray g t d))
               ∙ (ap (λ z. h.passed ++ z) (sym one) ∙ h.all);
-          walked = onto_more c h.passed t k now new h.walked rest;
+          walked = onto_more t h.walked rest;
         }
 
     -- a man lands on one square only
-    pub landed_last : (c : ℕ) (d : Dir) (at t : ℕ) (k now new : K) → piece.kind ≡ Man → Landed holds g p piece b c d at k now
-        → Freed g p at d t → Offers holds (GoesOn g p piece (onward b c t)) now new
+    pub landed_last : {c : ℕ} {d : Dir} {at t : ℕ} {k now new : K} → piece.kind ≡ Man
+        → Landed holds g p piece b c d at k now → Freed g p at d t
+        → Offers holds (GoesOn g p piece (onward b c t)) now new
         → Offers holds (Onto g p piece b c (landings_for piece.kind p (ray g c d))) k new
-    landed_last c d at t k now new man h f rest =
+    landed_last {c} {d} {at} {t} {k} {now} {new} man h f rest =
         let one : landings_for piece.kind p (ray g at d) ≡ t ∷ [] =
-        subst (λ z. landings_for z p (ray g at d) ≡ t ∷ []) (sym man)
-        (ap (landings_for Man p) f.ray_is ∙ run_man p t (ray g t d) f.free) in
+        subst (λ z. landings_for z p (ray g at d) ≡ t ∷ []) (sym man) (man_run f) in
         subst (λ z. Offers holds (Onto g p piece b c z) k new) (ap (λ z. h.passed ++ z) (sym one) ∙ h.all)
-        (onto_more c h.passed t k now new h.walked rest)
+        (onto_more t h.walked rest)
 
     -- no square comes next
-    pub landed_stop : IsBoard g → (c : ℕ) (d : Dir) (at : ℕ) (k now : K) → OnBoard g at → Landed holds g p piece b c d at k now
-        → free_step g p at d ≡ None → Offers holds (Onto g p piece b c (landings_for piece.kind p (ray g c d))) k now
-    landed_stop board c d at k now on h stop =
+    pub landed_stop : IsBoard g → {c : ℕ} {d : Dir} {at : ℕ} {k now : K} → OnBoard g at
+        → Landed holds g p piece b c d at k now → free_step g p at d ≡ None
+        → Offers holds (Onto g p piece b c (landings_for piece.kind p (ray g c d))) k now
+    landed_stop board {c} {d} {at} {k} {now} on h stop =
         subst (λ z. Offers holds (Onto g p piece b c z) k now) (sym (append_none h.passed)
         ∙ (ap (λ z. h.passed ++ z) (sym (run_stop g board piece.kind p at d on stop)) ∙ h.all)) h.walked
 
     -- all landings were walked
-    pub onto_towards : (c : ℕ) (d : Dir) (k new : K) → TakesOver piece.kind g p piece.side b.step.to d c
+    pub onto_towards : {c : ℕ} {d : Dir} {k new : K} → TakesOver piece.kind g p piece.side b.step.to d c
         → fin.contains b.step.taken c ≡ false
         → Offers holds (Onto g p piece b c (landings_for piece.kind p (ray g c d))) k new
         → Offers holds (GoesTowards g p piece b d) k new
-    onto_towards c d k new takes fresh h =
+    onto_towards {c} {d} takes fresh h =
         let ts : List ℕ = landings_for piece.kind p (ray g c d) in
-        offers_same K holds (Onto g p piece b c ts) (GoesTowards g p piece b d) k new
+        offers_same h
         (λ l o. record {
           c = c;
           t = o.t;
@@ -238,18 +207,15 @@ module _ (g : Geometry) (p : Placement) (piece : Piece) (b : Listed) where
           lands = r.1;
           rest = subst (λ z. GoesOn g p piece (onward b c z) l) (ap landing_of r.2) over;
         })
-        h
 
     -- nothing is taken in this direction, or what was taken before
-    pub towards_none : (d : Dir) (k : K)
-        → takes_for piece.kind p piece.side (ray g b.step.to d) ≡ no_jumps
+    pub towards_none : {d : Dir} {k : K} → takes_for piece.kind p piece.side (ray g b.step.to d) ≡ no_jumps
         → Offers holds (GoesTowards g p piece b d) k k
-    towards_none d k none = offers_none K holds (GoesTowards g p piece b d) k k
-        (λ l f. subst (Member (f.c, f.t)) none f.jump) (λ first xs h. h)
+    towards_none none = offers_none (λ first xs h. h) (λ l f. subst (Member (f.c, f.t)) none f.jump)
 
-    pub towards_taken : (c : ℕ) (d : Dir) (k : K) → TakesOver piece.kind g p piece.side b.step.to d c
+    pub towards_taken : (c : ℕ) {d : Dir} {k : K} → TakesOver piece.kind g p piece.side b.step.to d c
         → fin.contains b.step.taken c ≡ true → Offers holds (GoesTowards g p piece b d) k k
-    towards_taken c d k takes there = offers_none K holds (GoesTowards g p piece b d) k k (λ l f.
+    towards_taken c {d} takes there = offers_none (λ first xs h. h) (λ l f.
         let r = mem_map_back (λ t. (c, t)) (f.c, f.t) (landings_for piece.kind p (ray g c d))
         (subst (Member (f.c, f.t)) takes f.jump) in
-        true≢false (sym there ∙ (ap (fin.contains b.step.taken) (sym (ap over_of r.2)) ∙ f.fresh))) (λ first xs h. h)
+        true≢false (sym there ∙ (ap (fin.contains b.step.taken) (sym (ap over_of r.2)) ∙ f.fresh)))

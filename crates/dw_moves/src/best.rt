@@ -1,7 +1,7 @@
 //! The greatest number of pieces that can be taken, and where the moves that take so many end.
 ghost use Rattle.std.specs.Prelude.{◌≡◌, ◌≤◌};
-ghost use Rattle.dw_moves.specs.Moves.{AreEnds, In, IsBest};
-ghost use Rattle.dw_moves.specs.inner.Walks.{EndsOn, Held, These};
+ghost use Rattle.dw_moves.specs.Moves.{AreEnds, IsBest};
+ghost use Rattle.dw_moves.specs.inner.Walks.{EndsKept, Held, These};
 
 pub use crate::glance::has_move;
 use crate::keeper::Keeper;
@@ -54,7 +54,7 @@ pub fn best_captures<B: Board>(position: &Position<B>) -> BestCaptures<B>
 impl<B: Board> Keeper<B> for BestCaptures<B> {
     type Fault = Infallible;
 
-    ghost holds = { λ first xs k. Held (These xs) k.pieces EndsOn (λ s. In s k.ends) };
+    ghost holds = { λ first xs k. Held (These xs) k.pieces (EndsKept (These xs) k.pieces k.ends) };
 
     ghost is_on = { λ k path. Unit {0} };
 

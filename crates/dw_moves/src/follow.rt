@@ -3,14 +3,12 @@ ghost use Rattle.std.specs.Prelude.{◌≡◌, ◌↔◌, Some, IfSome, IsTrue};
 ghost use Rattle.dw_moves.specs.Moves as of;
 ghost use Rattle.dw_moves.specs.Moves.{Legal};
 ghost use Rattle.dw_moves.specs.Order.{IsPathFor};
-ghost use Rattle.dw_moves.specs.inner.Walks.{Followed, These};
+ghost use Rattle.dw_moves.specs.inner.Walks.{Along};
 
-use crate::keeper::Keeper;
-use crate::moves::{LONGEST_PATH, Move};
+use crate::moves::Move;
+use crate::seeker::{Aim, Seeker};
 use crate::walk::walk_captures;
-use arrayvec::ArrayVec;
 use dw_board::{Board, Position, Square};
-use std::convert::Infallible;
 
 /// The legal capture of which these squares, its start first, are a path, be it the least one or another; `None`
 /// if there is none.
@@ -19,58 +17,24 @@ pub fn follow<B: Board>(position: &Position<B>, squares: &[Square<B>]) -> Option
     ensures path { (m : of.Move) → (result ≡ Some m) ↔ IsPathFor B.geometry position.now m squares.now }
     ensures legal { IfSome result (Legal B.geometry position.now) }
 {
-    let mut follower = Follower {
-        squares,
-        path: ArrayVec::new(),
-        most: 0,
-        found: None,
-    };
-    match walk_captures(position, &mut follower) {
-        Ok(()) => follower.found,
+    let route = Route { squares };
+    let mut seeker = Seeker::of(&route);
+    match walk_captures(position, &mut seeker) {
+        Ok(()) => seeker.found,
     }
 }
 
-/// Keeps the move that is made on the path of these squares, if none takes more pieces.
+/// A path is met by the captures that are made on it.
 #[derive(Drop)]
-struct Follower<'a, B: Board> {
+struct Route<'a, B: Board> {
     squares: &'a [Square<B>],
-    path: ArrayVec<Square<B>, LONGEST_PATH>,
-    most: u8,
-    found: Option<Move<B>>,
 }
 
-impl<'a, B: Board> Keeper<B> for Follower<'a, B> {
-    type Fault = Infallible;
+impl<'a, B: Board> Aim<B> for Route<'a, B> {
+    ghost is_met_by = { λ route. Along route.squares.now };
 
-    ghost holds = { λ first xs k. Followed (These xs) first.squares.now k.squares.now k.most k.found };
-
-    ghost is_on = { λ k path. k.path.items ≡ path };
-
-    fn begin(&mut self, from: &Square<B>) {
-        self.path.clear();
-        self.path.push(*from);
-    }
-
-    fn enter(&mut self, landing: &Square<B>) {
-        self.path.push(*landing);
-    }
-
-    fn leave(&mut self) {
-        self.path.pop();
-    }
-
-    fn offer(&mut self, mv: &Move<B>, count: u8) -> Result<(), Infallible> {
-        if count < self.most {
-            return Ok(());
-        }
-        if self.most < count {
-            self.most = count;
-            self.found = None;
-        }
-        if is_same(self.path.as_slice(), self.squares) {
-            self.found = Some(*mv);
-        }
-        Ok(())
+    fn is_met(&self, mv: &Move<B>, path: &[Square<B>]) -> bool {
+        is_same(path, self.squares)
     }
 }
 

@@ -3,16 +3,16 @@ ghost use Rattle.std.specs.Prelude.{◌≡◌, ◌↔◌, ◌≤◌, ℕ, List, 
 ghost use Rattle.std.specs.FinSet as set;
 ghost use Rattle.dw_moves.specs.Moves.{Legal, AreLegal};
 ghost use Rattle.dw_moves.specs.Order.{Listed};
-ghost use Rattle.dw_moves.specs.inner.Walks.{MovesHeld, Sought, These};
+ghost use Rattle.dw_moves.specs.inner.Walks.{Makes, MovesHeld, These};
 
 use crate::glance::can_capture;
 use crate::keeper::Keeper;
 use crate::moves::Move;
 use crate::quiet::{is_quiet, push_quiet};
+use crate::seeker::{Aim, Seeker};
 use crate::walk::walk_captures;
 use dw_board::{Board, Position, Square};
 use std::alloc::{AllocError, Global};
-use std::convert::Infallible;
 use std::mem::replace;
 
 /// Whether a move is legal: a quiet one if nothing can be taken, else a capture of the greatest number.
@@ -23,13 +23,9 @@ pub fn is_legal<B: Board>(position: &Position<B>, mv: &Move<B>) -> bool
     if mv.taken.is_empty() {
         return is_quiet(position, mv.from, mv.to) && !can_capture(position);
     }
-    let mut finder = Finder {
-        wanted: *mv,
-        most: 0,
-        found: false,
-    };
-    match walk_captures(position, &mut finder) {
-        Ok(()) => finder.found,
+    let mut seeker = Seeker::of(mv);
+    match walk_captures(position, &mut seeker) {
+        Ok(()) => seeker.found.is_some(),
     }
 }
 
@@ -130,38 +126,11 @@ impl<B: Board> Keeper<B> for LongestMoves<B> {
     }
 }
 
-/// Looks for one move among those that take the greatest number of pieces so far.
-#[derive(Drop)]
-struct Finder<B: Board> {
-    wanted: Move<B>,
-    most: u8,
-    found: bool,
-}
+/// A move is met by the captures that make it.
+impl<B: Board> Aim<B> for Move<B> {
+    ghost is_met_by = { Makes };
 
-impl<B: Board> Keeper<B> for Finder<B> {
-    type Fault = Infallible;
-
-    ghost holds = { λ first xs k. Sought (These xs) first.wanted k.wanted k.most (IsTrue k.found) };
-
-    ghost is_on = { λ k path. Unit {0} };
-
-    fn begin(&mut self, from: &Square<B>) {}
-
-    fn enter(&mut self, landing: &Square<B>) {}
-
-    fn leave(&mut self) {}
-
-    fn offer(&mut self, mv: &Move<B>, count: u8) -> Result<(), Infallible> {
-        if count < self.most {
-            return Ok(());
-        }
-        if self.most < count {
-            self.most = count;
-            self.found = false;
-        }
-        if *mv == self.wanted {
-            self.found = true;
-        }
-        Ok(())
+    fn is_met(&self, mv: &Move<B>, path: &[Square<B>]) -> bool {
+        *mv == *self
     }
 }

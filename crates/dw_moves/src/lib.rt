@@ -18,6 +18,7 @@ pub mod moves;
 pub mod play;
 pub mod quiet;
 pub mod replies;
+mod seeker;
 mod walk;
 
 pub use glance::{can_capture, count_if_quiet, has_move, other_steps};

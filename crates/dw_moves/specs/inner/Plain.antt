@@ -101,18 +101,21 @@ quiet_pairs g p = flat_map (λ s. map (λ t. (s, t)) (targets g p s)) (numbers_t
 abbrev pub quiet_to : ℕ → ℕ → Move
 quiet_to from to = record { from = from; to = to; taken = set.empty }
 
+-- P holds of these pairs alone, and none stands twice
+pub record AreThose (P : ℕ → ℕ → Type 0) (pairs : List (ℕ × ℕ)) : Type 0 where
+  pub exactly : (s t : ℕ) → Member (s, t) pairs ↔ P s t
+  pub once : NoRepeat pairs
+
 -- a list, and after it what is made of the pairs that P holds of, each once
 pub record Adds {X : Type 0} (made : ℕ → ℕ → X) (P : ℕ → ℕ → Type 0) (old new : List X) : Type 0 where
   pub pairs : List (ℕ × ℕ)
-  pub exactly : (s t : ℕ) → Member (s, t) pairs ↔ P s t
-  pub once : NoRepeat pairs
+  pub those : AreThose P pairs
   pub are : new ≡ old ++ map (λ q. made q.0 q.1) pairs
 
 -- P holds of n pairs, each counted once
 pub record Counts (P : ℕ → ℕ → Type 0) (n : ℕ) : Type 0 where
   pub pairs : List (ℕ × ℕ)
-  pub exactly : (s t : ℕ) → Member (s, t) pairs ↔ P s t
-  pub once : NoRepeat pairs
+  pub those : AreThose P pairs
   pub count : length pairs ≡ n
 
 -- a man of the side to move goes from s to t

@@ -7,7 +7,7 @@ use Rattle.dw_board.specs.declared.piece.Piece.{Piece}
 use Rattle.dw_board.specs.Geometry.{Geometry, Squares}
 use Rattle.dw_board.specs.Lists.{Member, NoRepeat}
 use Rattle.dw_board.specs.Placement.{Placement, placed}
-use Rattle.dw_moves.specs.Moves.{Stands, Jumps, Move, IsPathOf, Legal, last_of, ray}
+use Rattle.dw_moves.specs.Moves.{Stands, In, Jumps, Move, IsPathOf, Legal, last_of, ray}
 use Rattle.dw_moves.specs.Order.{LexLess, Listed, HasLeastPath}
 use Rattle.dw_moves.specs.inner.Plain.{quiet_to, takes_for}
 
@@ -105,33 +105,37 @@ Along path l = l.path ≡ path
 abbrev pub Is : Listed → Listed → Type 0
 Is l x = x ≡ l
 
--- of those that take the greatest number, each property is held that one has
-pub record Held {X : Type 0} (E : Listed → Type 0) (k : ℕ) (Has : X → Listed → Type 0) (held : X → Type 0) : Type 0 where
+-- k is the greatest number, and this is kept of the captures that take so many
+pub record Held (E : Listed → Type 0) (k : ℕ) (Kept : Type 0) : Type 0 where
   pub most : IsMost E k
-  pub exactly : (x : X) → held x ↔ Longest E k (Has x)
+  pub kept : Kept
 
 -- l ends on this square
 abbrev pub EndsOn : ℕ → Listed → Type 0
 EndsOn s l = l.step.to ≡ s
 
--- the moves of the greatest number, each once
-pub record MovesHeld (E : Listed → Type 0) (k : ℕ) (moves : List Move) : Type 0 where
-  pub most : IsMost E k
+-- the squares on which those that take k end
+pub record EndsKept (E : Listed → Type 0) (k : ℕ) (ends : Squares) : Type 0 where
+  pub exactly : (s : ℕ) → In s ends ↔ Longest E k (EndsOn s)
+
+-- the moves of those that take k, each once
+pub record MovesKept (E : Listed → Type 0) (k : ℕ) (moves : List Move) : Type 0 where
   pub exactly : (m : Move) → Member m moves ↔ Longest E k (Makes m)
   pub once : NoRepeat moves
 
--- whether one move is among them
-pub record Sought (E : Listed → Type 0) (wanted still : Move) (k : ℕ) (found : Type 0) : Type 0 where
-  pub same : still ≡ wanted
-  pub most : IsMost E k
-  pub is : found ↔ Longest E k (Makes wanted)
+abbrev pub MovesHeld : (Listed → Type 0) → ℕ → List Move → Type 0
+MovesHeld E k moves = Held E k (MovesKept E k moves)
 
--- the one of them that is made on a given path
-pub record Followed (E : Listed → Type 0) (path still : List ℕ) (k : ℕ) (found : Option Move) : Type 0 where
-  pub same : still ≡ path
-  pub most : IsMost E k
-  pub is : (m : Move) → found ≡ Some m → Longest E k (λ l. Makes m l × Along path l)
-  pub some : Longest E k (Along path) → IsSome found
+-- the move of one of them that is sought, if there is one
+pub record OneKept (E C : Listed → Type 0) (k : ℕ) (found : Option Move) : Type 0 where
+  pub is : (m : Move) → found ≡ Some m → Longest E k (λ l. Makes m l × C l)
+  pub some : Longest E k C → IsSome found
+
+-- the aim stays, and one of those that it is met by is held
+pub record Sought {A : Type 0} (E : Listed → Type 0) (is_met_by : A → Listed → Type 0) (aim still : A) (k : ℕ)
+    (found : Option Move) : Type 0 where
+  pub same : still ≡ aim
+  pub held : Held E k (OneKept E (is_met_by aim) k found)
 
 -- the moves of a list, without their paths
 abbrev pub steps_of : List Listed → List Move
@@ -147,12 +151,14 @@ pub record TakenIn (l : Listed) (list kept : List Listed) : Type 0 where
   pub least : (x : Listed) → (x ≡ l) ⊎ Member x list → Covered x kept
   pub once : NoRepeat (steps_of list) → NoRepeat (steps_of kept)
 
--- the moves of the greatest number, each with the least of its paths
-pub record PathsHeld (E : Listed → Type 0) (k : ℕ) (list : List Listed) : Type 0 where
-  pub most : IsMost E k
+-- the moves of those that take k, each with the least of its paths
+pub record PathsKept (E : Listed → Type 0) (k : ℕ) (list : List Listed) : Type 0 where
   pub from : (l : Listed) → Member l list → Longest E k (Is l)
   pub least : (l : Listed) → Longest E k (Is l) → Covered l list
   pub once : NoRepeat (steps_of list)
+
+abbrev pub PathsHeld : (Listed → Type 0) → ℕ → List Listed → Type 0
+PathsHeld E k list = Held E k (PathsKept E k list)
 
 -- ---- lists of moves with their paths
 -- what listed moves are sorted by: the start, the end, and the path

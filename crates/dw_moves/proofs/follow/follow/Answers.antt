@@ -1,27 +1,15 @@
-use Rattle.std.proofs.Common.{[], None}
-use Rattle.dw_moves.specs.inner.Walks.{Captures, These}
-use Rattle.dw_moves.proofs.KeeperLemmas.{followed_none, followed_same}
-use Rattle.dw_moves.proofs.FollowedLemmas.{followed_path, followed_legal}
+use Rattle.std.proofs.Common.{[], subst}
+use Rattle.dw_moves.specs.inner.Walks.{Along, Captures, OneKept}
+use Rattle.dw_moves.proofs.KeeperLemmas.{held_same, one_alike}
+use Rattle.dw_moves.proofs.FollowedLemmas.{followed}
 use Rattle.dw_moves.proofs.follow.follow.Goals as goal
 
-pub returns-clause-path : goal.returns-clause-path
-returns-clause-path g c =
-    let geo = g.B.Board.geometry in
-    let p = c.args.position.now in
-    let s = c.args.squares.now in
-    let f = c.walk_captures.new.keeper in
+pub returns : goal.returns
+returns g c =
+    let E = Captures g.B.Board.geometry c.args.position.now in
     let o = c.in-Ok.ensures.kept in
-    followed_path geo g.met.B.Board.numbers p s f.squares.now f.most f.found
-    (followed_same (These o.captures) (Captures geo p) o.exactly f.most s f.squares.now f.found
-    (o.held (record { squares = c.args.squares; path = c.new.result; most = 0; found = None }) [] (followed_none s)))
-
-pub returns-clause-legal : goal.returns-clause-legal
-returns-clause-legal g c =
-    let geo = g.B.Board.geometry in
-    let p = c.args.position.now in
-    let s = c.args.squares.now in
-    let f = c.walk_captures.new.keeper in
-    let o = c.in-Ok.ensures.kept in
-    followed_legal geo g.met.B.Board.numbers p s f.squares.now f.most f.found
-    (followed_same (These o.captures) (Captures geo p) o.exactly f.most s f.squares.now f.found
-    (o.held (record { squares = c.args.squares; path = c.new.result; most = 0; found = None }) [] (followed_none s)))
+    let k = c.walk_captures.new.keeper in
+    let sought = o.held c.of-seeker.result [] c.of-seeker.ensures.none in
+    let f = followed g.met.B.Board.numbers (held_same sought.held o.exactly (λ a h.
+    subst (λ z. OneKept E (Along z.squares.now) k.most k.found) c.of-seeker.ensures.aim (one_alike a h))) in
+    record { path = f.0; legal = f.1 }

@@ -5,8 +5,6 @@ pub returns : goal.returns
 returns g c =
     let f = c.of.result in (
       (λ e. let h = c.takes.ensures.0 e in
-          takes_capture g.B.Board.geometry g.met.B.Board.numbers c.args.position.now f.men f.kings f.enemies f.occupied
-          c.of.ensures.sets h.0 h.1),
-      (λ h. c.takes.ensures.1 (capture_takes g.B.Board.geometry g.met.B.Board.numbers c.args.position.now f.men f.kings
-          f.enemies f.occupied c.of.ensures.sets h)),
+          takes_capture g.met.B.Board.numbers c.of.ensures.sets h.0 h.1),
+      (λ h. c.takes.ensures.1 (capture_takes g.met.B.Board.numbers c.of.ensures.sets h)),
     )

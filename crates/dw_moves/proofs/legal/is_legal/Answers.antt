@@ -1,12 +1,11 @@
 use Rattle.std.proofs.Common.{◌≡◌, ◌↔◌, [], ap, ◌∙◌, subst, sym, false, inl, inr}
-use Rattle.std.specs.Prelude.{IsTrue}
 use Rattle.std.proofs.lemmas.Bool.{true≢false, not_from_false, not_from_true, cases_Bool}
 use Rattle.std.specs.FinSet as fin
 use Rattle.std.specs.Ordering.{nat_cmp}
 use Rattle.dw_moves.specs.Moves.{CanCapture, Legal, Move, Quiet}
-use Rattle.dw_moves.specs.inner.Walks.{Captures, Sought, These}
+use Rattle.dw_moves.specs.inner.Walks.{Captures, Held, Makes, OneKept}
 use Rattle.dw_moves.proofs.FilledLemmas.{legal_if_quiet, legal_if_sought}
-use Rattle.dw_moves.proofs.KeeperLemmas.{sought_none, sought_same}
+use Rattle.dw_moves.proofs.KeeperLemmas.{held_same, one_alike}
 use Rattle.dw_moves.proofs.legal.is_legal.Goals as goal
 
 pub returns-then-is_quiet : goal.returns-then-is_quiet
@@ -48,12 +47,11 @@ returns g c =
     let n : Move = record { from = c.mv.inside.from; to = c.mv.inside.to; taken = c.mv.inside.taken } in
     let f = c.walk_captures.new.keeper in
     let o = c.in-Ok.ensures.kept in
-    let h : Sought (Captures geo p) n f.wanted f.most (IsTrue f.found) = sought_same (These o.captures)
-    (Captures geo p) o.exactly f.most n f.wanted (IsTrue f.found) (o.held (record { wanted = n; most = 0; found = false }) []
-    (sought_none n (IsTrue false)
-    (λ e. true≢false (sym e)))) in
+    let sought = o.held c.of-seeker.result [] c.of-seeker.ensures.none in
+    let h : Held (Captures geo p) f.most (OneKept (Captures geo p) (Makes c.args.mv.now) f.most f.found) =
+    held_same sought.held o.exactly (λ a k.
+    subst (λ z. OneKept (Captures geo p) (Makes z) f.most f.found) c.of-seeker.ensures.aim (one_alike a k)) in
     let some : fin.len n.taken ≡ 0 → ⊥ = λ e. true≢false (sym (c.is_empty.ensures.1 (fin.empty_of_len n.taken e))
     ∙ c.if-is_empty.false) in
-    let s = legal_if_sought geo p f.most n h.most some in
-    subst (λ z. IsTrue f.found ↔ Legal geo p z) c.mv.view_is
-    ((λ e. s.0 (h.is.0 e)), (λ l. h.is.1 (s.1 l)))
+    let is = legal_if_sought h (subst (λ (z : Move). fin.len z.taken ≡ 0 → ⊥) c.mv.view_is some) in
+    ((λ t. is.0 (sym c.is_some.ensures ∙ t)), (λ l. c.is_some.ensures ∙ is.1 l))

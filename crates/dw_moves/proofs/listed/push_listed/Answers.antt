@@ -1,7 +1,7 @@
-use Rattle.std.proofs.Common.{◌≡◌, ◌++◌, ◌∷◌, [], sym, ap, ◌∙◌, subst, append_assoc}
+use Rattle.std.proofs.Common.{◌≡◌, ◌++◌, [], sym, ap, ◌∙◌, subst}
 use Rattle.std.proofs.lemmas.Bool.{true≢false}
 use Rattle.std.proofs.lemmas.Result.{on_ok_weaker}
-use Rattle.dw_moves.proofs.KeeperLemmas.{paths_none, paths_same}
+use Rattle.dw_moves.proofs.KeeperLemmas.{held_none, held_same, paths_alike, paths_bare}
 use Rattle.dw_moves.specs.inner.Walks.{Captures, HasAll, PathsHeld, These, entries_listed}
 use Rattle.dw_moves.proofs.JumpStepLemmas.{append_none}
 use Rattle.dw_moves.proofs.LeastPathLemmas.{captures_all, some_led, quiet_all_listed}
@@ -15,9 +15,8 @@ paths-init g c =
     let kept = entries_listed least.paths.entries in
     let o = c.in_ok-walk_captures.ensures.kept in
     let none = ap entries_listed c.new-2.ensures.empty in
-    let h : PathsHeld (Captures g.B.Board.geometry p) least.most kept = paths_same (These o.captures)
-    (Captures g.B.Board.geometry p) o.exactly least.most kept
-    (o.held least [] (subst (PathsHeld (These []) 0) (sym none) paths_none)) in
+    let h : PathsHeld (Captures g.B.Board.geometry p) least.most kept = held_same
+    (o.held least [] (subst (PathsHeld (These []) 0) (sym none) (held_none paths_bare))) o.exactly paths_alike in
     let whole : c.args.list.now.items ++ rest ≡ kept = ap (λ z. z ++ rest) c.requires
     ∙ ap entries_listed c.into_iter-mv-iterator.ensures.into_iter_gives.0 in
     let some = some_led g.B.Board.geometry p least.most (c.can_capture.ensures.0 c.if-not-can_capture.false) h.most in
@@ -29,15 +28,6 @@ returns-then-not-can_capture g c =
     c.args.list.now.items c.push_quiet.new.moves.items
     (λ can. true≢false (sym (c.can_capture.ensures.1 can) ∙ c.if-not-can_capture.true)) c.requires added)
     c.push_quiet.ensures
-
-pub paths-preserved : goal.paths-preserved
-paths-preserved g c =
-    let list = c.paths.list.items in
-    let rest = entries_listed c.next.new.self in
-    let same : list ++ entries_listed c.paths.mv-iterator ≡ c.push.new.self.items ++ rest = ap (λ z. list
-    ++ entries_listed z) c.in-Some.ensures.steps ∙ (sym (append_assoc list (_ ∷ []) rest)
-    ∙ ap (λ z. z ++ rest) (sym c.in_ok-push.ensures.items)) in
-    subst (HasAll g.B.Board.geometry c.args.position.now) same c.paths.invariant
 
 pub returns : goal.returns
 returns g c =

@@ -2,10 +2,8 @@ use Rattle.dw_moves.proofs.KingSlideLemmas.{kings_counted, no_kings_counted}
 use Rattle.dw_moves.proofs.quiet.kings_count.Goals as goal
 
 pub returns-clause-value : goal.returns-clause-value
-returns-clause-value g c =
-    kings_counted g.B.Board.geometry g.met.B.Board.numbers c.args.position.now c.kings_run.result c.kings_run-2.result
-    c.kings_run-3.result c.kings_run-4.result
-    c.kings_run.ensures.value c.kings_run-2.ensures.value c.kings_run-3.ensures.value c.kings_run-4.ensures.value
+returns-clause-value g c = kings_counted g.met.B.Board.numbers c.kings_run.ensures.value c.kings_run-2.ensures.value
+    c.kings_run-3.ensures.value c.kings_run-4.ensures.value
 
 pub returns-then-is_empty-clause-value : goal.returns-then-is_empty-clause-value
 returns-then-is_empty-clause-value g c = no_kings_counted g.B.Board.geometry c.args.position.now c.args.field.now.kings

@@ -1,4 +1,4 @@
-use Rattle.std.proofs.Common.{◌<◌, sym, subst, refl}
+use Rattle.std.proofs.Common.{subst, refl}
 use Rattle.std.specs.FinSet as fin
 use Rattle.dw_moves.proofs.SquareSetLemmas.{fewer_left}
 use Rattle.dw_board.specs.declared.piece.Kind.TheVariants.{King}
@@ -7,21 +7,15 @@ use Rattle.dw_moves.proofs.AddingLemmas.{going_none, going_more, going_all}
 use Rattle.dw_moves.proofs.quiet.push_kings.Goals as goal
 
 pub squares-init : goal.squares-init
-squares-init g c =
-    going_none g.T.FromQuiet.made g.B.Board.geometry c.args.position.now c.squares-left.result c.args.moves.now.items
-    (subst (λ z. AreKind g.B.Board.geometry c.args.position.now z King c.squares-left.result) c.turn.ensures.value
-    c.squares-left.ensures)
+squares-init g c = going_none g.met.B.Board.numbers (subst (λ z. AreKind g.B.Board.geometry c.args.position.now z King
+    c.squares-left.result) c.turn.ensures.value c.squares-left.ensures)
 
 pub squares-smaller : goal.squares-smaller
-squares-smaller g c = subst (λ v. fin.len v < fin.len c.squares.left) (sym c.in-Some.ensures.rest)
-    (fewer_left c.squares.left _ c.in-Some.ensures.member)
+squares-smaller g c = fewer_left _ _ c.in-Some.ensures.rest c.in-Some.ensures.member
 
 pub squares-preserved : goal.squares-preserved
-squares-preserved g c =
-    going_more g.T.FromQuiet.made g.B.Board.geometry g.met.B.Board.numbers c.args.position.now c.squares.left _
-    c.args.moves.now.items c.squares.moves.items c.push_king.new.moves.items _
-    c.in-Some.ensures.member c.in-Some.ensures.rest c.squares.invariant c.in_ok-push_king.ensures
+squares-preserved g c = going_more g.met.B.Board.numbers _ c.in-Some.ensures.member c.in-Some.ensures.rest
+    c.squares.invariant c.in_ok-push_king.ensures
 
 pub returns : goal.returns
-returns g c = going_all g.T.FromQuiet.made g.B.Board.geometry c.args.position.now c.squares.left c.args.moves.now.items
-    c.squares.moves.items (c.in_default.ensures.none.0 refl) c.squares.invariant
+returns g c = going_all g.met.B.Board.numbers (c.in_default.ensures.none.0 refl) c.squares.invariant

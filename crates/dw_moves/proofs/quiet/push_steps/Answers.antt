@@ -1,36 +1,27 @@
-use Rattle.std.proofs.Common.{◌<◌, [], ◌∷◌, ◌++◌, ap, ◌∙◌, sym, subst, refl}
+use Rattle.std.proofs.Common.{[], ◌∷◌, ◌++◌, ap, ◌∙◌, sym, refl}
 use Rattle.std.specs.FinSet as fin
 use Rattle.dw_moves.proofs.SquareSetLemmas.{fewer_left}
 use Rattle.dw_moves.proofs.AddingLemmas.{stepping_none, stepping_back, stepping_more, stepping_all}
 use Rattle.dw_moves.proofs.quiet.push_steps.Goals as goal
 
 pub squares-init : goal.squares-init
-squares-init g c = stepping_none g.T.FromQuiet.made g.B.Board.geometry c.args.position.now c.args.direction
-    c.men_reach-left.result c.args.moves.now.items c.men_reach-left.ensures
+squares-init g c = stepping_none g.met.B.Board.numbers c.men_reach-left.ensures
 
 pub squares-smaller : goal.squares-smaller
-squares-smaller g c = subst (λ v. fin.len v < fin.len c.squares.left) (sym c.in-Some.ensures.rest)
-    (fewer_left c.squares.left _ c.in-Some.ensures.member)
+squares-smaller g c = fewer_left _ _ c.in-Some.ensures.rest c.in-Some.ensures.member
 
 pub squares-smaller-in_ok-push : goal.squares-smaller-in_ok-push
-squares-smaller-in_ok-push g c = subst (λ v. fin.len v < fin.len c.squares.left) (sym c.in-Some.ensures.rest)
-    (fewer_left c.squares.left _ c.in-Some.ensures.member)
+squares-smaller-in_ok-push g c = fewer_left _ _ c.in-Some.ensures.rest c.in-Some.ensures.member
 
 pub squares-preserved : goal.squares-preserved
-squares-preserved g c =
-    absurd (stepping_back g.T.FromQuiet.made g.B.Board.geometry g.met.B.Board.numbers c.args.position.now
-    c.args.direction c.opposite.result c.squares.left c.args.moves.now.items c.squares.moves.items _
-    c.opposite.ensures c.in-Some.ensures.member c.squares.invariant (sym c.step.ensures ∙ c.in_default-step.is))
+squares-preserved g c = absurd (stepping_back g.met.B.Board.numbers _ c.opposite.ensures c.in-Some.ensures.member
+    c.squares.invariant (sym c.step.ensures ∙ c.in_default-step.is))
 
 pub squares-preserved-in_ok-push : goal.squares-preserved-in_ok-push
 squares-preserved-in_ok-push g c =
-    stepping_more g.T.FromQuiet.made g.B.Board.geometry g.met.B.Board.numbers c.args.position.now c.args.direction
-    c.opposite.result c.squares.left _ c.args.moves.now.items c.squares.moves.items c.push.new.self.items
-    c.in-Some-step.from _
-    c.opposite.ensures c.in-Some.ensures.member c.in-Some.ensures.rest (sym c.step.ensures ∙ c.in-Some-step.is)
-    c.squares.invariant (c.in_ok-push.ensures.items ∙ ap (λ z. c.squares.moves.items ++ z ∷ [])
-    c.from_quiet.ensures)
+    stepping_more g.met.B.Board.numbers _ _ c.opposite.ensures c.in-Some.ensures.member c.in-Some.ensures.rest
+    (sym c.step.ensures ∙ c.in-Some-step.is) c.squares.invariant
+    (c.in_ok-push.ensures.items ∙ ap (λ z. c.squares.moves.items ++ z ∷ []) c.from_quiet.ensures)
 
 pub returns : goal.returns
-returns g c = stepping_all g.T.FromQuiet.made g.B.Board.geometry c.args.position.now c.args.direction c.squares.left
-    c.args.moves.now.items c.squares.moves.items (c.in_default.ensures.none.0 refl) c.squares.invariant
+returns g c = stepping_all g.met.B.Board.numbers (c.in_default.ensures.none.0 refl) c.squares.invariant

@@ -3,9 +3,6 @@ use Rattle.dw_board.specs.Placement.{other}
 use Rattle.dw_moves.proofs.ShelterSetLemmas.{safe_steps_are}
 use Rattle.dw_moves.proofs.replies.safe_steps.Goals as goal
 
-pub exposed-exposed-requires : goal.exposed-exposed-requires
-exposed-exposed-requires g c = λ s i. ((c.all_of.ensures s).0 i).0
-
 pub returns : goal.returns
 returns g c =
     let f = c.given-field.result in

@@ -13,7 +13,7 @@ use Rattle.dw_moves.proofs.WalkLemmas.{walked_all, ends_there, landed_none, land
 use Rattle.dw_moves.proofs.RunLemmas.{freed, ray_shorter}
 use Rattle.dw_moves.proofs.SquareSetLemmas.{difference_less, len_more}
 use Rattle.dw_moves.proofs.StepLemmas.{step_is}
-use Rattle.dw_moves.proofs.WalkLemmas.{Onto, onto_towards, towards_none, towards_taken, same_listed_parts, same_onward}
+use Rattle.dw_moves.proofs.WalkLemmas.{Onto, onto_towards, towards_none, towards_taken, same_listed_parts, goes_same}
 use Rattle.dw_moves.proofs.walk.+walk.Goals as goal
 use Rattle.dw_moves.proofs.walk.+walk.Goals.{walk_onto-then-goes_on+in_ok-walk, walk_onto-else-goes_on+in_ok-offer}
 use Rattle.dw_moves.proofs.walk.+walk.Goals.{walk_towards-in-Some-free_step+in_ok-walk_onto+in-Man}
@@ -24,82 +24,55 @@ walk-returns-clause-kept g t c =
     let holds = g.K.Keeper.holds in
     let b0 = c.args.begun.now in
     on_ok_weaker c.offer.result (λ kept p side path ground on.
-    let piece : Piece = record { side = side; kind = g.M.Mover.as_kind } in
     let b : Listed = so_far b0.from b0.at b0.taken path in
     let on1 = c.in_ok-walk_towards.ensures.on path on in
     let on2 = c.in_ok-walk_towards-2.ensures.on path on1 in
     let on3 = c.in_ok-walk_towards-3.ensures.on path on2 in
     let on4 = c.in_ok-walk_towards-4.ensures.on path on3 in
     let this : Listed = record { step = c.ended.result; path = path } in
-    let is : this ≡ b = same_listed_parts this b c.ended.ensures refl in
     let last : Offers holds (λ l. l ≡ b) c.walk_towards-4.new.keeper c.offer.new.self =
-    subst (λ z. Offers holds (λ l. l ≡ z) c.walk_towards-4.new.keeper c.offer.new.self) is
-    (offers_one g.row.K.Denot holds this c.walk_towards-4.new.keeper c.offer.new.self (kept path on4)) in
-    walked_all g.B.Board.geometry p piece b g.row.K.Denot holds c.args.keeper.now
-    c.walk_towards.new.keeper c.walk_towards-2.new.keeper c.walk_towards-3.new.keeper c.walk_towards-4.new.keeper
-    c.offer.new.self
-    (c.in_ok-walk_towards.ensures.kept p side path ground on)
+    subst (λ z. Offers holds (λ l. l ≡ z) c.walk_towards-4.new.keeper c.offer.new.self)
+    (same_listed_parts this b c.ended.ensures refl) (offers_one this (kept path on4)) in
+    walked_all (c.in_ok-walk_towards.ensures.kept p side path ground on)
     (c.in_ok-walk_towards-2.ensures.kept p side path ground on1)
     (c.in_ok-walk_towards-3.ensures.kept p side path ground on2)
     (c.in_ok-walk_towards-4.ensures.kept p side path ground on3) last) c.offer.ensures.kept
 
 pub walk_onto-returns-clause-kept : goal.walk_onto-returns-clause-kept
 walk_onto-returns-clause-kept g t c = λ p side path ground on.
-    let K = g.row.K.Denot in
     let holds = g.K.Keeper.holds in
     let b0 = c.args.begun.now in
-    let piece : Piece = record { side = side; kind = g.M.Mover.as_kind } in
     let here : List ℕ = path ++ b0.at ∷ [] in
     let b : Listed = so_far b0.from b0.at b0.taken here in
-    let E : Listed → Type 0 = GoesOn g.B.Board.geometry p piece b in
+    let E : Listed → Type 0 = GoesOn g.B.Board.geometry p (record { side = side; kind = g.M.Mover.as_kind }) b in
     let on1 = c.enter.ensures.on path on in
     let done : Offers holds E c.enter.new.self c.if-goes_on.keeper = elim c.if-goes_on.branch [
       | walk_onto-then-goes_on+in_ok-walk w ↦ subst (λ z. Offers holds E c.enter.new.self z) (sym w.keeper-is)
           (w.in_ok-walk.ensures.kept p side here ground on1)
       | walk_onto-else-goes_on+in_ok-offer w ↦
           let this : Listed = record { step = w.ended.result; path = here } in
-          let is : this ≡ b = same_listed_parts this b w.ended.ensures refl in
-          subst (λ z. Offers holds E c.enter.new.self z) (sym w.keeper-is)
-          (ends_there g.B.Board.geometry p piece b K holds c.enter.new.self w.offer.new.self
-          (λ x u fresh jump. true≢false (sym (c.goes_on.ensures p side x u ground fresh jump) ∙ w.if-goes_on.false))
-          (subst (λ z. Offers holds (λ l. l ≡ z) c.enter.new.self w.offer.new.self) is
-          (offers_one K holds this c.enter.new.self w.offer.new.self (w.in_ok-offer.ensures.kept here on1))))
+          let last : Offers holds (λ l. l ≡ b) c.enter.new.self w.offer.new.self =
+          subst (λ z. Offers holds (λ l. l ≡ z) c.enter.new.self w.offer.new.self)
+          (same_listed_parts this b w.ended.ensures refl) (offers_one this (w.in_ok-offer.ensures.kept here on1)) in
+          subst (λ z. Offers holds E c.enter.new.self z) (sym w.keeper-is) (ends_there (λ x u fresh jump.
+          true≢false (sym (c.goes_on.ensures p side x u ground fresh jump) ∙ w.if-goes_on.false)) last)
     ] in
-    offers_still K holds E c.args.keeper.now c.if-goes_on.keeper c.leave.new.self
-    (offers_late K holds E c.args.keeper.now c.enter.new.self c.if-goes_on.keeper c.enter.ensures.same done)
-    c.leave.ensures.same
+    offers_still (offers_late c.enter.ensures.same done) c.leave.ensures.same
 
 pub walk_towards-returns-in_default-clause-kept : goal.walk_towards-returns-in_default-clause-kept
 walk_towards-returns-in_default-clause-kept g t c = λ p side path ground on.
-    let b0 = c.args.begun.now in
-    let k = c.args.keeper.now in
-    towards_none g.B.Board.geometry p (record { side = side; kind = g.M.Mover.as_kind })
-    (so_far b0.from b0.at b0.taken path) g.row.K.Denot g.K.Keeper.holds c.args.direction k (c.met.ensures.none c.in_default.is p side ground)
+    towards_none (c.met.ensures.none c.in_default.is p side ground)
 
 pub walk_towards-returns-then-has-clause-kept : goal.walk_towards-returns-then-has-clause-kept
 walk_towards-returns-then-has-clause-kept g t c = λ p side path ground on.
-    let b0 = c.args.begun.now in
-    let k = c.args.keeper.now in
-    towards_taken g.B.Board.geometry p (record { side = side; kind = g.M.Mover.as_kind })
-    (so_far b0.from b0.at b0.taken path) g.row.K.Denot g.K.Keeper.holds c.in-Some.over
-    c.args.direction k (c.in-Some.ensures.some p side ground)
-    (sym c.has.ensures ∙ c.if-has.true)
+    towards_taken c.in-Some.over (c.in-Some.ensures.some p side ground) (sym c.has.ensures ∙ c.if-has.true)
 
 pub walk_towards-landings-init : goal.walk_towards-landings-init
-walk_towards-landings-init g t c =
-    let b0 = c.args.begun.now in
-    let k = c.args.keeper.now in
-    record {
-      on = c.in-Some.ensures.on_board;
-      path = λ path on. on;
-      walked = λ p side path ground on.
-          landed_none g.B.Board.geometry p (record { side = side; kind = g.M.Mover.as_kind })
-          (so_far b0.from b0.at b0.taken path) g.row.K.Denot g.K.Keeper.holds c.in-Some.over
-          c.args.direction k;
-    }
-
-pub walk_towards-free_step-requires : goal.walk_towards-free_step-requires
-walk_towards-free_step-requires g t c = c.landings.invariant.on
+walk_towards-landings-init g t c = record {
+  on = c.in-Some.ensures.on_board;
+  path = λ path on. on;
+  walked = λ p side path ground on. landed_none;
+}
 
 pub walk_towards-onto-requires : goal.walk_towards-onto-requires
 walk_towards-onto-requires g t c =
@@ -165,24 +138,19 @@ walk_towards-landings-preserved g t c =
           c.in-Some-free_step.ensures.steps).on;
       path = λ path on. c.in_ok-walk_onto.ensures.on path (inv.path path on);
       walked = λ p side path ground on.
-          let piece : Piece = record { side = side; kind = g.M.Mover.as_kind } in
           let b : Listed = so_far b0.from b0.at b0.taken path in
-          let f = freed geo g.met.B.Board.numbers p c.landings.at c.args.direction landing inv.on
-          (sym (c.free_step.ensures.free p side ground) ∙ c.in-Some-free_step.is) in
-          let rest : Offers g.K.Keeper.holds (GoesOn geo p piece (onward b c.in-Some.over landing)) c.landings.keeper
-          c.walk_onto.new.keeper = subst (λ z. Offers g.K.Keeper.holds (GoesOn geo p piece z) c.landings.keeper
-          c.walk_onto.new.keeper) (same_onward b0.from c.onto.result.at landing c.onto.result.taken
-          (fin.insert b0.taken c.in-Some.over) path c.onto.result.from c.onto.ensures.from c.onto.ensures.at
-          c.onto.ensures.taken) (c.in_ok-walk_onto.ensures.kept p side path ground (inv.path path on)) in
-          landed_more geo p piece b g.row.K.Denot g.K.Keeper.holds c.in-Some.over
-          c.args.direction c.landings.at landing c.args.keeper.now c.landings.keeper c.walk_onto.new.keeper
-          (sym c.kind.ensures ∙ c.in-King.is) (inv.walked p side path ground on) f rest;
+          let rest : Offers g.K.Keeper.holds (GoesOn geo p (record { side = side; kind = g.M.Mover.as_kind })
+          (onward b c.in-Some.over landing)) c.landings.keeper c.walk_onto.new.keeper =
+          goes_same path c.onto.ensures.from c.onto.ensures.at c.onto.ensures.taken
+          (c.in_ok-walk_onto.ensures.kept p side path ground (inv.path path on)) in
+          landed_more (sym c.kind.ensures ∙ c.in-King.is) (inv.walked p side path ground on)
+          (freed geo g.met.B.Board.numbers p c.landings.at c.args.direction landing inv.on
+          (sym (c.free_step.ensures.free p side ground) ∙ c.in-Some-free_step.is)) rest;
     }
 
 pub walk_towards-returns-clause-kept : goal.walk_towards-returns-clause-kept
 walk_towards-returns-clause-kept g t c = λ p side path ground on.
     let geo = g.B.Board.geometry in
-    let K = g.row.K.Denot in
     let holds = g.K.Keeper.holds in
     let b0 = c.args.begun.now in
     let piece : Piece = record { side = side; kind = g.M.Mover.as_kind } in
@@ -190,24 +158,18 @@ walk_towards-returns-clause-kept g t c = λ p side path ground on.
     let inv = c.landings.invariant in
     let E : Listed → Type 0 = Onto geo p piece b c.in-Some.over (landings_for piece.kind p
     (ray geo c.in-Some.over c.args.direction)) in
-    onto_towards geo p piece b K holds c.in-Some.over c.args.direction c.args.keeper.now
-    c.match-free_step.keeper (c.in-Some.ensures.some p side ground) (sym c.has.ensures ∙ c.if-has.false)
-    (elim c.match-free_step.branch [
+    let done : Offers holds E c.args.keeper.now c.match-free_step.keeper = elim c.match-free_step.branch [
       | walk_towards-in-Some-free_step+in_ok-walk_onto+in-Man w ↦
           let landing = w.in-Some-free_step.landing in
-          let f = freed geo g.met.B.Board.numbers p c.landings.at c.args.direction landing inv.on
-          (sym (c.free_step.ensures.free p side ground) ∙ w.in-Some-free_step.is) in
           let rest : Offers holds (GoesOn geo p piece (onward b c.in-Some.over landing)) c.landings.keeper
-          w.walk_onto.new.keeper = subst (λ z. Offers holds (GoesOn geo p piece z) c.landings.keeper
-          w.walk_onto.new.keeper) (same_onward b0.from w.onto.result.at landing w.onto.result.taken
-          (fin.insert b0.taken c.in-Some.over) path w.onto.result.from w.onto.ensures.from w.onto.ensures.at
-          w.onto.ensures.taken) (w.in_ok-walk_onto.ensures.kept p side path ground (inv.path path on)) in
+          w.walk_onto.new.keeper = goes_same path w.onto.ensures.from w.onto.ensures.at w.onto.ensures.taken
+          (w.in_ok-walk_onto.ensures.kept p side path ground (inv.path path on)) in
           subst (λ z. Offers holds E c.args.keeper.now z) (sym w.keeper-is)
-          (landed_last geo p piece b K holds c.in-Some.over c.args.direction c.landings.at landing
-          c.args.keeper.now c.landings.keeper w.walk_onto.new.keeper (sym w.kind.ensures ∙ w.in-Man.is)
-          (inv.walked p side path ground on) f rest)
+          (landed_last (sym w.kind.ensures ∙ w.in-Man.is) (inv.walked p side path ground on)
+          (freed geo g.met.B.Board.numbers p c.landings.at c.args.direction landing inv.on
+          (sym (c.free_step.ensures.free p side ground) ∙ w.in-Some-free_step.is)) rest)
       | walk_towards-in_default-free_step w ↦ subst (λ z. Offers holds E c.args.keeper.now z) (sym w.keeper-is)
-          (landed_stop geo p piece b K holds g.met.B.Board.numbers c.in-Some.over c.args.direction
-          c.landings.at c.args.keeper.now c.landings.keeper inv.on (inv.walked p side path ground on)
+          (landed_stop g.met.B.Board.numbers inv.on (inv.walked p side path ground on)
           (sym (c.free_step.ensures.free p side ground) ∙ w.in_default-free_step.is))
-    ])
+    ] in
+    onto_towards (c.in-Some.ensures.some p side ground) (sym c.has.ensures ∙ c.if-has.false) done

@@ -6,8 +6,5 @@ pub returns-clause-kept : goal.returns-clause-kept
 returns-clause-kept g c =
     let p = c.args.position.now in
     let sets = c.of-field.ensures.sets in
-    on_ok_weaker c.walk_first-4.result (λ last.
-    all_directions g.row.K.Denot g.K.Keeper.holds g.B.Board.geometry p c.args.keeper.now
-    c.walk_first.new.keeper c.walk_first-2.new.keeper c.walk_first-3.new.keeper c.walk_first-4.new.keeper
-    (c.in_ok-walk_first.ensures p sets) (c.in_ok-walk_first-2.ensures p sets) (c.in_ok-walk_first-3.ensures p sets)
-    (last p sets)) c.walk_first-4.ensures
+    on_ok_weaker c.walk_first-4.result (λ last. all_directions (c.in_ok-walk_first.ensures p sets)
+    (c.in_ok-walk_first-2.ensures p sets) (c.in_ok-walk_first-3.ensures p sets) (last p sets)) c.walk_first-4.ensures

@@ -1,26 +1,18 @@
-use Rattle.std.proofs.Common.{◌<◌, sym, subst, refl}
+use Rattle.std.proofs.Common.{refl}
 use Rattle.std.specs.FinSet as fin
 use Rattle.dw_moves.proofs.CapturesLemmas.{past_none, past_more, past_all}
 use Rattle.dw_moves.proofs.SquareSetLemmas.{fewer_left}
 use Rattle.dw_moves.proofs.walk.walk_first.Goals as goal
 
 pub squares-init : goal.squares-init
-squares-init g c = λ p sets.
-    past_none g.row.K.Denot g.K.Keeper.holds g.B.Board.geometry p c.args.direction
-    c.may_take-left.result c.args.keeper.now
-    (λ s h. c.may_take-left.ensures p s sets h)
+squares-init g c = λ p sets. past_none c.may_take-left.result (λ s. c.may_take-left.ensures p s sets)
 
 pub squares-smaller : goal.squares-smaller
-squares-smaller g c = subst (λ v. fin.len v < fin.len c.squares.left) (sym c.in-Some.ensures.rest)
-    (fewer_left c.squares.left _ c.in-Some.ensures.member)
+squares-smaller g c = fewer_left _ _ c.in-Some.ensures.rest c.in-Some.ensures.member
 
 pub squares-preserved : goal.squares-preserved
 squares-preserved g c = λ p sets.
-    past_more g.row.K.Denot g.K.Keeper.holds g.B.Board.geometry p c.args.direction
-    c.squares.left _ _ c.args.keeper.now c.squares.keeper c.walk_from.new.keeper c.in-Some.ensures.rest
-    (c.squares.invariant p sets) (c.in_ok-walk_from.ensures p sets)
+    past_more c.squares.left c.in-Some.ensures.rest (c.squares.invariant p sets) (c.in_ok-walk_from.ensures p sets)
 
 pub returns : goal.returns
-returns g c = λ p sets.
-    past_all g.row.K.Denot g.K.Keeper.holds g.B.Board.geometry p c.args.direction
-    c.squares.left c.args.keeper.now c.squares.keeper (c.in_default.ensures.none.0 refl) (c.squares.invariant p sets)
+returns g c = λ p sets. past_all (c.in_default.ensures.none.0 refl) (c.squares.invariant p sets)

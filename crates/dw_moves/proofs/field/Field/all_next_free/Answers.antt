@@ -1,5 +1,5 @@
 use Rattle.dw_moves.specs.inner.Glance.{StepsOn}
-use Rattle.dw_moves.proofs.StepSetLemmas.{in_any}
+use Rattle.dw_moves.proofs.GlanceRunLemmas.{in_any}
 use Rattle.dw_moves.proofs.field.Field.all_next_free.Goals as goal
 
 pub returns : goal.returns

@@ -4,12 +4,6 @@ use Rattle.dw_moves.specs.Replies.{given}
 use Rattle.dw_moves.proofs.GroundLemmas.{enemies_few}
 use Rattle.dw_moves.proofs.field.Field.of.Goals as goal
 
-pub returns-clause-sets : goal.returns-clause-sets
-returns-clause-sets g c =
-    let f = c.given.result in
-    subst (λ side. AreSets g.B.Board.geometry (given c.args.position.now side) f.men f.kings f.enemies f.occupied)
-    c.turn.ensures.value c.given.ensures
-
 pub returns-clause-few : goal.returns-clause-few
 returns-clause-few g c =
     let f = c.given.result in

@@ -1,0 +1,79 @@
+//! One capture that is looked for among those that a walk meets.
+ghost use Rattle.std.specs.Prelude.{◌≡◌, ◌↔◌, [], IsTrue};
+ghost use Rattle.dw_moves.specs.Order.{Listed};
+ghost use Rattle.dw_moves.specs.inner.Walks.{Sought, These};
+
+use crate::keeper::Keeper;
+use crate::moves::{LONGEST_PATH, Move};
+use arrayvec::ArrayVec;
+use dw_board::{Board, Square};
+use std::convert::Infallible;
+
+/// What is looked for among captures.
+pub(crate) trait Aim<B: Board> {
+    /// It is met by this capture.
+    ghost is_met_by: { Self → Listed → Type 0 };
+
+    /// Whether it is met by this move, made on this path.
+    fn is_met(&self, mv: &Move<B>, path: &[Square<B>]) -> bool
+        ensures { IsTrue result ↔ is_met_by self.now (record { step = mv.now; path = path.now }) };
+}
+
+/// Keeps the last capture that meets an aim, if none takes more pieces.
+#[derive(Drop)]
+pub(crate) struct Seeker<'a, B: Board, A: Aim<B>> {
+    aim: &'a A,
+    path: ArrayVec<Square<B>, LONGEST_PATH>,
+    most: u8,
+    pub(crate) found: Option<Move<B>>,
+}
+
+impl<'a, B: Board, A: Aim<B>> Seeker<'a, B, A> {
+    /// One that has met no capture yet.
+    pub(crate) fn of(aim: &'a A) -> Self
+        ensures aim { result.aim.now ≡ aim.now }
+        ensures none { Sought (These []) A.is_met_by result.aim.now result.aim.now result.most result.found }
+    {
+        Seeker {
+            aim,
+            path: ArrayVec::new(),
+            most: 0,
+            found: None,
+        }
+    }
+}
+
+impl<'a, B: Board, A: Aim<B>> Keeper<B> for Seeker<'a, B, A> {
+    type Fault = Infallible;
+
+    ghost holds = { λ first xs k. Sought (These xs) A.is_met_by first.aim.now k.aim.now k.most k.found };
+
+    ghost is_on = { λ k path. k.path.items ≡ path };
+
+    fn begin(&mut self, from: &Square<B>) {
+        self.path.clear();
+        self.path.push(*from);
+    }
+
+    fn enter(&mut self, landing: &Square<B>) {
+        self.path.push(*landing);
+    }
+
+    fn leave(&mut self) {
+        self.path.pop();
+    }
+
+    fn offer(&mut self, mv: &Move<B>, count: u8) -> Result<(), Infallible> {
+        if count < self.most {
+            return Ok(());
+        }
+        if self.most < count {
+            self.most = count;
+            self.found = None;
+        }
+        if self.aim.is_met(mv, self.path.as_slice()) {
+            self.found = Some(*mv);
+        }
+        Ok(())
+    }
+}
