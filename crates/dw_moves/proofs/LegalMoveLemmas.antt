@@ -1,5 +1,5 @@
 -- The plain list of moves holds exactly the legal moves.
-use Rattle.std.proofs.Common.{◌≡◌, ℕ, ◌<◌, ◌≤◌, ◌-◌, zero, suc, List, [], ◌∷◌, length, map, refl, sym, ap, subst}
+use Rattle.std.proofs.Common.{◌≡◌, ℕ, ◌<◌, ◌≤◌, zero, suc, List, [], ◌∷◌, length, map, refl, sym, ap, subst}
 use Rattle.std.proofs.Common.{inl, inr, arith, Bool, true, false, not, Some, None, ◌==◌, length-append}
 use Rattle.std.specs.Prelude.{filter}
 use Rattle.std.proofs.lemmas.List.Sums.{count_by-le-length}

@@ -7,7 +7,6 @@ use Rattle.dw_board.specs.declared.piece.Piece.{Piece}
 use Rattle.dw_board.specs.Geometry.{Geometry, IsBoard, OnBoard}
 use Rattle.dw_board.specs.Placement.{Placement, at}
 use Rattle.dw_moves.specs.Moves.{Move, Quiet, Stands, Legal, LegalAt, IsBest, play, ray}
-use Rattle.dw_board.specs.Placement.{other}
 use Rattle.dw_moves.specs.Replies.{passed, OneStep, TwoSteps, IsLoose, AlwaysReply}
 use Rattle.dw_moves.specs.Laws.{StepsAreQuiet}
 use Rattle.dw_moves.proofs.StepLemmas.{none_some, some_inj, step_is}

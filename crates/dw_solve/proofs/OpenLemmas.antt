@@ -1,5 +1,5 @@
 -- Replies of which the cache does not say who wins after them.
-use Rattle.std.proofs.Common.{◌≡◌, ℕ, ◌+◌, ◌≤◌, ◌<◌, ◌⊎◌, Bool, true, false, not, List, [], ◌∷◌, ◌++◌, length}
+use Rattle.std.proofs.Common.{◌≡◌, ℕ, ◌+◌, ◌≤◌, ◌<◌, ◌⊎◌, Bool, true, false, not, List, [], ◌∷◌, length}
 use Rattle.std.proofs.Common.{get_or, refl, sym, ◌∙◌, subst, inl, inr, arith, IsTrue}
 use Rattle.std.specs.List.Sorted.{IsPermutation}
 use Rattle.std.proofs.lemmas.Bool.{true≢false}
@@ -148,7 +148,7 @@ open_anyhow g c q n moves ranked sorted o are moved = record {
 -- all legal moves are open
 pub open_all : (g : Geometry) (c : Content) (q : Placement) (n : ℕ) (moves : List Move) → AreLegal g q moves
     → AreOpen g c q n moves
-open_all g c q n moves all = record { legal = λ m. (all.exactly m).0; others = λ m l. inl ((all.exactly m).1 l); }
+open_all g c q n moves all = record { legal = λ m. (all.exactly m).0; others = λ m l. inl ((all.exactly m).1 l) }
 
 -- ---- replies that are searched
 pub open_legal : (g : Geometry) (c : Content) (q : Placement) (n : ℕ) (ranked : List (ℕ × Move)) (i : ℕ) (x : ℕ × Move)

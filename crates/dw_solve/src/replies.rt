@@ -102,7 +102,12 @@ fn line_up_open<B: Board, M: Memo<B>, G: Guide<B>>(
     )? {
         return Ok(Replies::Refuted);
     }
-    rank_all(position, &search.guide, ply.undecided.as_slice(), &mut ply.ranked)?;
+    rank_all(
+        position,
+        &search.guide,
+        ply.undecided.as_slice(),
+        &mut ply.ranked,
+    )?;
     ply.ranked.sort_unstable_by_key(|ranked| ranked.0);
     Ok(Replies::Open)
 }

@@ -1,4 +1,4 @@
-use Rattle.std.proofs.Common.{◌≡◌, ◌↔◌, [], ap, ◌∙◌, subst, sym, false, inl, inr}
+use Rattle.std.proofs.Common.{◌≡◌, ◌↔◌, [], ap, ◌∙◌, subst, sym, inl, inr}
 use Rattle.std.proofs.lemmas.Bool.{true≢false, not_from_false, not_from_true, cases_Bool}
 use Rattle.std.specs.FinSet as fin
 use Rattle.std.specs.Ordering.{nat_cmp}

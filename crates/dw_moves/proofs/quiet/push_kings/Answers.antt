@@ -1,5 +1,4 @@
 use Rattle.std.proofs.Common.{subst, refl}
-use Rattle.std.specs.FinSet as fin
 use Rattle.dw_moves.proofs.SquareSetLemmas.{fewer_left}
 use Rattle.dw_board.specs.declared.piece.Kind.TheVariants.{King}
 use Rattle.dw_moves.proofs.GlanceSetLemmas.{AreKind}

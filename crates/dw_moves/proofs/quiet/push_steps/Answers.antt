@@ -1,5 +1,4 @@
 use Rattle.std.proofs.Common.{[], ◌∷◌, ◌++◌, ap, ◌∙◌, sym, refl}
-use Rattle.std.specs.FinSet as fin
 use Rattle.dw_moves.proofs.SquareSetLemmas.{fewer_left}
 use Rattle.dw_moves.proofs.AddingLemmas.{stepping_none, stepping_back, stepping_more, stepping_all}
 use Rattle.dw_moves.proofs.quiet.push_steps.Goals as goal

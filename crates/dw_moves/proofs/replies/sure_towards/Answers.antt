@@ -1,6 +1,5 @@
 use Rattle.std.proofs.Common.{ℕ, ◌↔◌, ◌∙◌, ap, refl, sym, subst}
 use Rattle.std.proofs.lemmas.Bool.{true≢false}
-use Rattle.std.specs.FinSet as fin
 use Rattle.dw_board.specs.Geometry.{step}
 use Rattle.dw_moves.specs.Moves.{In, Legal, play}
 use Rattle.dw_moves.specs.inner.Glance.{StepsOn}

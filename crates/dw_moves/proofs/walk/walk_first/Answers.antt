@@ -1,5 +1,4 @@
 use Rattle.std.proofs.Common.{refl}
-use Rattle.std.specs.FinSet as fin
 use Rattle.dw_moves.proofs.CapturesLemmas.{past_none, past_more, past_all}
 use Rattle.dw_moves.proofs.SquareSetLemmas.{fewer_left}
 use Rattle.dw_moves.proofs.walk.walk_first.Goals as goal

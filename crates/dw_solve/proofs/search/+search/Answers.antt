@@ -376,7 +376,7 @@ some_move_wins-returns-then-branch-clause-searched g t c =
       stop = λ e. absurd (ok_is_no_err _ _ e);
       work = c.moves.invariant.1.1.1.0;
     }) c.in_ok-loses.ensures.searched) in
-    record { right = h.right; count = h.count; stop = h.stop; work = h.work; }
+    record { right = h.right; count = h.count; stop = h.stop; work = h.work }
 
 pub some_move_wins-returns-then-branch-clause-says : goal.some_move_wins-returns-then-branch-clause-says
 some_move_wins-returns-then-branch-clause-says g t c =

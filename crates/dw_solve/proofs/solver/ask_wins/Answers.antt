@@ -46,7 +46,7 @@ returns-clause-searched g c =
     searched_on geo content lost c.args.moves _ c.known.new.search _ _
     (searched_looked geo content lost c.args.moves _ _ c.requires.ready c.known.ensures.right c.known.ensures.count
     c.known.ensures.limit c.known.ensures.searched)
-    (record { right = h.right; count = h.count; stop = h.stop; work = h.work; })
+    (record { right = h.right; count = h.count; stop = h.stop; work = h.work })
 
 pub returns-in-Some-clause-known : goal.returns-in-Some-clause-known
 returns-in-Some-clause-known g c decided = (refl, (c.known.ensures.count, c.known.ensures.same))
