@@ -18,7 +18,7 @@ pub record IsCaptureRank (g : Geometry) (p : Placement) (n : ℕ) : Type 0 where
   pub are : AreEnds g p ends
   pub sum : n ≡ 2 * set.len ends + 3 * (pieces - 1)
 
--- the rank of a move after which the position is p: two for each move that its trial counts; if that is none, by captures
+-- the rank of a move after which the position is p: two for each move that its trial counts; if it is 0, by captures
 pub record IsRankByTrial (g : Geometry) (p : Placement) (n : ℕ) : Type 0 where
   pub counted : ℕ
   pub trial : IsTrial g p counted

@@ -32,10 +32,10 @@ impl<B: Board> Guide<B> for AnyOrder {
     }
 }
 
-/// What counts for how much in a rank: a quiet move or a square on which a capture ends, and a piece that is taken.
-/// A search with these expands the fewest positions of all that were tried.
+/// What a quiet move counts in a rank, and a square on which a capture ends.
 const PER_CHOICE: u32 = 2;
 
+/// What a piece counts that is taken. With this a search expands the fewest positions of all that were tried.
 const PER_PIECE: u32 = 3;
 
 /// Moves that leave the other side less choice come first. The rank is twice the `trial` of the move. If that is 0, and
