@@ -18,7 +18,7 @@ use dw_solve::{Guide, Solver, Stop};
 use std::alloc::{AllocError, Global};
 
 /// All lines in which the side to move wins within so many of its moves, 1 to 20, in ascending order and each once.
-/// After a stop all bounds in the cache are right, and the call can be made again.
+/// After a stop all bounds in the memo are right, and the call can be made again.
 /// Example: at `W:W27,45:B16` there is one within 2 moves: `45-40`, `16-21`, `27x16`.
 pub fn all_lines<B: Board, M: Memo<B>, G: Guide<B>>(
     alloc: Global,

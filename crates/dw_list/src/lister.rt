@@ -117,7 +117,7 @@ impl<'a, B: Board, M: Memo<B>, G: Guide<B>> Lister<'a, B, M, G> {
         self.solver.expanded()
     }
 
-    /// How many entries the solver's cache has lost so far.
+    /// How many entries the solver's memo has lost so far.
     /// Example: over a new memo it is 0 at the start.
     pub fn dropped(&self) -> u64
         ensures { result ≡ M.dropped (solver_of self.now).memo }

@@ -7,7 +7,7 @@ ghost use Rattle.dw_memo.specs.inner.Pairs as of;
 use crate::bounds::Bounds;
 
 /// What is known of a position, and how old it is, up to 255: how many facts of two moves or more came into the other
-/// place of its pair since, or how often a cache let it live on.
+/// place of its pair since, or how often a memo let it live on.
 #[derive(Clone, Copy)]
 pub(crate) struct Fact {
     pub(crate) bounds: Bounds,

@@ -1,6 +1,6 @@
-//! Caches of what is known of positions: in how many moves the side to move wins, and in how many it doesn't.
+//! Memos, caches of what is known of positions: in how many moves the side to move wins, and in how many not.
 //!
-//! A caller works over the trait `Memo` and uses only its clauses: a cache may lose what was noted, and counts it.
+//! A caller works over the trait `Memo` and uses only its clauses: a memo may lose what was noted, and counts it.
 //! Begin with `Memo` and `Bounds`. `NoMemo`, `LruMemo`, `SlotMemo` and `DeepMemo` are memos, and `AnyMemo` is one of
 //! them.
 //!

@@ -1,4 +1,4 @@
-//! What a cache of bounds is.
+//! What a memo is: a cache of bounds.
 ghost use Rattle.std.specs.Prelude.{◌≡◌, ℕ};
 ghost use Rattle.dw_memo.specs.Content.{Content, IsMap, SameEntries, IsFound};
 ghost use Rattle.dw_memo.specs.Noting.{IsNote};

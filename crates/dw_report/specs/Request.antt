@@ -1,4 +1,4 @@
--- What a report is asked for, and so which problems it is on. No limit, no cache and no order of moves is among it.
+-- What a report is asked for, and so which problems it is on. No limit, no memo and no order of moves is among it.
 use Rattle.std.specs.Prelude.{ℕ, Option, option_map, List, ◌==◌, Bool, true, false, Some, None}
 use Rattle.dw_moves.specs.Moves.{Move}
 use Rattle.dw_notation.specs.declared.problems.Form.{Form}

@@ -21,7 +21,7 @@ use dw_solve::{Guide, Solver, Stop};
 use std::alloc::Global;
 
 /// The verdict on a position and its tries, for a win within so many moves of the side to move, 1 to 20.
-/// After a stop all bounds in the cache are right, and the call can be made again.
+/// After a stop all bounds in the memo are right, and the call can be made again.
 /// Example: at `W:W27,45:B16`, within 2 moves, it is sound by `45-40`; the tries are `27-21` and `27-22`.
 pub fn judge<B: Board, M: Memo<B>, G: Guide<B>>(
     alloc: Global,

@@ -1,6 +1,8 @@
--- Replies of which the cache does not say who wins after them.
-use Rattle.std.proofs.Common.{◌≡◌, ℕ, ◌+◌, ◌≤◌, ◌<◌, ◌⊎◌, Bool, true, false, not, List, [], ◌∷◌, length}
-use Rattle.std.proofs.Common.{get_or, refl, sym, ◌∙◌, subst, inl, inr, arith, IsTrue}
+-- Replies of which the memo does not say who wins after them.
+use Rattle.std.proofs.Common.{◌≡◌, ℕ, ◌+◌, ◌≤◌, ◌<◌, ◌⊎◌, Bool, true, false, not, List, [], ◌∷◌, ◌++◌, length}
+use Rattle.std.proofs.Common.{add-one, get_or, map, take, refl, sym, ap, ◌∙◌, subst, inl, inr, arith, IsTrue}
+use Rattle.std.proofs.lemmas.List.{map-append, take_all}
+use Rattle.std.proofs.Math.Seq.{take-suc}
 use Rattle.std.specs.List.Sorted.{IsPermutation}
 use Rattle.std.proofs.lemmas.Bool.{true≢false}
 use Rattle.std.proofs.lemmas.List.Sorted.{IsPermutation-sym}
@@ -9,7 +11,7 @@ use Rattle.dw_board.specs.Lists.{Member}
 use Rattle.dw_board.specs.Placement.{Placement}
 use Rattle.dw_memo.specs.Content.{Content, SameEntries}
 use Rattle.dw_moves.specs.Moves.{Move, Legal, AreLegal, play}
-use Rattle.dw_moves.specs.inner.MemberLemmas.{mem_left, mem_right, mem_cases}
+use Rattle.dw_moves.specs.inner.MemberLemmas.{mem_left, mem_right, mem_cases, mem_map, mem_map_back}
 use Rattle.dw_solve.specs.Wins.{Win, Lost}
 use Rattle.dw_solve.specs.Facts.{KnownWin, KnownFail, AreTrue}
 use Rattle.dw_solve.specs.Ranking.{moves_of}
@@ -19,14 +21,14 @@ use Rattle.dw_solve.specs.Work.{Moment, NothingLost}
 use Rattle.dw_solve.specs.declared.search.Search.{Search}
 use Rattle.dw_solve.specs.declared.replies.Replies.{Replies}
 use Rattle.dw_solve.specs.declared.replies.Replies.TheVariants.{Refuted, Sure, Open}
-use Rattle.dw_solve.specs.inner.Ranking.{AreAllLegal, IsKnownRefuted, AreOpen, AreLinedUp, AreLinedUpLast, IsTakenUp}
+use Rattle.dw_solve.specs.inner.Ranking.{IsKnownRefuted, AreOpen, ArePlayed, AreLinedUp, AreLinedUpLast, AreLeft, OneFails, IsTakenUp}
 use Rattle.dw_solve.specs.inner.Searching.{at_time, HasLooked}
 use Rattle.dw_solve.proofs.MemoLemmas.{same_win, same_fail}
 use Rattle.dw_solve.proofs.RankLemmas.{get_same, member_at, index_of, split, still_there, AllWon, move_of, rank_of}
 use Rattle.dw_solve.proofs.TriedLemmas.{Answered, Tried, searched_after}
 use Rattle.dw_solve.proofs.WorkLemmas.{searched_none}
 
--- ---- looks at the cache, one after another
+-- ---- looks at the memo, one after another
 flip : (c d : Content) → SameEntries c d → SameEntries d c
 flip c d same e = ((same e).1, (same e).0)
 
@@ -58,74 +60,112 @@ counted_looked a l b l' low count limit = record {
 }
 
 -- ---- one reply
-pub taken_refuted : (old new : Content) (p q : Placement) (n : ℕ) (wins : Bool) → SameEntries old new → q ≡ p
-    → SaysWin new q n wins → IsTrue (not wins) → (n ≡ 0) ⊎ KnownFail old p n
-taken_refuted old new p q n true same at says h = absurd (true≢false (sym h))
-taken_refuted old new p q n false same at says h = elim (says.unless (λ t. true≢false (sym t))) [
+pub taken_refuted : (old new : Content) (p : Placement) (n : ℕ) (wins : Bool) → SameEntries old new
+    → SaysWin new p n wins → IsTrue (not wins) → (n ≡ 0) ⊎ KnownFail old p n
+taken_refuted old new p n true same says h = absurd (true≢false (sym h))
+taken_refuted old new p n false same says h = elim (says.unless (λ t. true≢false (sym t))) [
   | inl none ↦ inl none
-  | inr f ↦ inr (subst (λ z. KnownFail old z n) at (same_fail old new same q n f))
+  | inr f ↦ inr (same_fail old new same p n f)
 ]
 
-pub taken_won : (old new : Content) (p q : Placement) (n : ℕ) (m : Move) (moves : List Move) (wins : Bool)
-    → SameEntries old new → q ≡ p → SaysWin new q n wins → not wins ≡ false → IsTakenUp old p n m moves moves
-taken_won old new p q n m moves true same at says h = inl
-    (refl, subst (λ z. KnownWin old z n) at (same_win old new same q n (says.when refl)))
-taken_won old new p q n m moves false same at says h = absurd (true≢false h)
+pub taken_won : (old new : Content) (n : ℕ) (r : Move × Placement) (moves : List Move) (wins : Bool)
+    → SameEntries old new → SaysWin new r.1 n wins → not wins ≡ false → IsTakenUp old n r moves moves
+taken_won old new n r moves true same says h = inl (refl, same_win old new same r.1 n (says.when refl))
+taken_won old new n r moves false same says h = absurd (true≢false h)
 
 -- ---- one after another
--- of the replies below i some were added to the list, and the cache says of the others that there is a win after them
-pub record AreOpenBelow (g : Geometry) (c : Content) (q : Placement) (n : ℕ) (replies : List Move) (i : ℕ)
-    (moves : List Move) : Type 0 where
-  pub legal : AreAllLegal g q moves
-  pub others : (k : ℕ) (m : Move) → k < i → m ≡ get_or replies k m → Member m moves ⊎ KnownWin c (play g q m) n
+-- the moves were added of some of the replies below i, and the memo says of the others that there is a win after them
+pub record AreLeftBelow (c : Content) (n : ℕ) (played : List (Move × Placement)) (i : ℕ) (moves : List Move) : Type 0
+    where
+  pub from : (m : Move) → Member m moves → (r : Move × Placement) × Member r played × (r.0 ≡ m)
+  pub others : (k : ℕ) (r : Move × Placement) → k < i → r ≡ get_or played k r → Member r.0 moves ⊎ KnownWin c r.1 n
 
-pub open_none : (g : Geometry) (c : Content) (q : Placement) (n : ℕ) (replies : List Move) (moves : List Move)
-    → moves ≡ [] → AreOpenBelow g c q n replies 0 moves
-open_none g c q n replies moves none = record {
-  legal = λ m there. absurd (subst (Member m) none there);
-  others = λ k m low e. absurd (omega (arith, low));
+pub left_none : (c : Content) (n : ℕ) (played : List (Move × Placement)) (moves : List Move) → moves ≡ []
+    → AreLeftBelow c n played 0 moves
+left_none c n played moves none = record {
+  from = λ m there. absurd (subst (Member m) none there);
+  others = λ k r low e. absurd (omega (arith, low));
 }
 
-module _ (g : Geometry) (c d : Content) (q : Placement) (n : ℕ) (replies : List Move) (i : ℕ) (m : Move)
-    (old new : List Move) (same : SameEntries c d) (h : AreOpenBelow g c q n replies i old)
-    (low : i < length replies) (is : m ≡ get_or replies i m) (legal : Legal g q m) where
-  this_one : (k : ℕ) (x : Move) → k ≡ i → x ≡ get_or replies k x → x ≡ m
+module _ (c d : Content) (n : ℕ) (played : List (Move × Placement)) (i : ℕ) (r : Move × Placement)
+    (old new : List Move) (same : SameEntries c d) (h : AreLeftBelow c n played i old) (low : i < length played)
+    (is : r ≡ get_or played i r) where
+  this_one : (k : ℕ) (x : Move × Placement) → k ≡ i → x ≡ get_or played k x → x ≡ r
   this_one k x e at =
-      let at_i : x ≡ get_or replies i x = subst (λ z. x ≡ get_or replies z x) e at in
-      at_i ∙ (get_same replies i x m low ∙ sym is)
+      let at_i : x ≡ get_or played i x = subst (λ z. x ≡ get_or played z x) e at in
+      at_i ∙ (get_same played i x r low ∙ sym is)
 
-  pub open_more : IsTakenUp d (play g q m) n m old new → AreOpenBelow g c q n replies (i + 1) new
-  open_more (inl won) = record {
-    legal = λ x there. h.legal x (subst (Member x) won.0 there);
+  pub left_more : IsTakenUp d n r old new → AreLeftBelow c n played (i + 1) new
+  left_more (inl won) = record {
+    from = λ m there. h.from m (subst (Member m) won.0 there);
     others = λ k x under at. elim (split k i under) [
-      | inl e ↦ inr (subst (λ z. KnownWin c (play g q z) n) (sym (this_one k x e at))
-          (same_win c d same (play g q m) n won.1))
-      | inr less ↦ subst (λ z. Member x z ⊎ KnownWin c (play g q x) n) (sym won.0) (h.others k x less at)
+      | inl e ↦ inr (subst (λ (z : Move × Placement). KnownWin c z.1 n) (sym (this_one k x e at))
+          (same_win c d same r.1 n won.1))
+      | inr less ↦ subst (λ z. Member x.0 z ⊎ KnownWin c x.1 n) (sym won.0) (h.others k x less at)
     ];
   }
-  open_more (inr added) = record {
-    legal = λ x there. elim (mem_cases x old (m ∷ []) (subst (Member x) added there)) [
-      | inl o ↦ h.legal x o
-      | inr (inl e) ↦ subst (Legal g q) (sym e) legal
+  left_more (inr added) = record {
+    from = λ m there. elim (mem_cases m old (r.0 ∷ []) (subst (Member m) added there)) [
+      | inl o ↦ h.from m o
+      | inr (inl e) ↦ (r, member_at played i r low is, sym e)
       | inr (inr none) ↦ absurd none
     ];
-    others = λ k x under at. subst (λ z. Member x z ⊎ KnownWin c (play g q x) n) (sym added)
-        (elim (split k i under) [
-          | inl e ↦ inl (mem_right x old (m ∷ []) (inl (this_one k x e at)))
-          | inr less ↦ elim (h.others k x less at) [
-            | inl o ↦ inl (mem_left x old (m ∷ []) o)
-            | inr known ↦ inr known
-          ]
-        ]);
+    others = λ k x under at. subst (λ z. Member x.0 z ⊎ KnownWin c x.1 n) (sym added) (elim (split k i under) [
+      | inl e ↦ inl (mem_right x.0 old (r.0 ∷ []) (inl (ap (λ (z : Move × Placement). z.0) (this_one k x e at))))
+      | inr less ↦ elim (h.others k x less at) [
+        | inl o ↦ inl (mem_left x.0 old (r.0 ∷ []) o)
+        | inr known ↦ inr known
+      ]
+    ]);
   }
 
-pub open_end : (g : Geometry) (c : Content) (q : Placement) (n : ℕ) (replies : List Move) (i : ℕ)
-    (moves : List Move) → AreLegal g q replies → length replies ≤ i → AreOpenBelow g c q n replies i moves
-    → AreOpen g c q n moves
-open_end g c q n replies i moves all end h = record {
-  legal = h.legal;
-  others = λ m l. let k = index_of m replies ((all.exactly m).1 l) in
-      h.others k.0 m (omega (arith, k.1, end)) k.2;
+pub left_end : (c : Content) (n : ℕ) (played : List (Move × Placement)) (i : ℕ) (moves : List Move)
+    → length played ≤ i → AreLeftBelow c n played i moves → AreLeft c n played moves
+left_end c n played i moves end h = record {
+  from = h.from;
+  others = λ r there. let k = index_of r played there in h.others k.0 r (omega (arith, k.1, end)) k.2;
+}
+
+-- ---- all of them
+-- one more move with the position after it
+pub played_more : (g : Geometry) (q : Placement) (moves : List Move) (played : List (Move × Placement)) (i : ℕ)
+    (m : Move) (p : Placement) → played ≡ map (λ m. (m, play g q m)) (take i moves) → i < length moves
+    → m ≡ get_or moves i m → p ≡ play g q m
+    → played ++ (m, p) ∷ [] ≡ map (λ m. (m, play g q m)) (take (i + 1) moves)
+played_more g q moves played i m p h low is at =
+    ap (λ z. played ++ (m, z) ∷ []) at
+    ∙ (ap (λ z. z ++ (m, play g q m) ∷ []) h
+    ∙ (sym (map-append (λ m. (m, play g q m)) (take i moves) (m ∷ []))
+    ∙ (ap (λ z. map (λ m. (m, play g q m)) (take i moves ++ z ∷ [])) is
+    ∙ ap (map (λ m. (m, play g q m))) (sym (take-suc moves i m low) ∙ ap (λ n. take n moves) (sym (add-one i))))))
+
+-- ---- all of them
+-- the moves with the positions after them
+pub all_played : (g : Geometry) (q : Placement) (moves : List Move) (played : List (Move × Placement)) (i : ℕ)
+    → AreLegal g q moves → played ≡ map (λ m. (m, play g q m)) (take i moves) → length moves ≤ i
+    → ArePlayed g q played
+all_played g q moves played i legal h end = record {
+  each = λ r there.
+      let f = mem_map_back (λ m. (m, play g q m)) r moves (subst (Member r) is there) in
+      subst (λ (z : Move × Placement). Legal g q z.0 × (z.1 ≡ play g q z.0)) (sym f.2)
+          ((legal.exactly f.0).0 f.1, refl);
+  all = λ m l. subst (Member (m, play g q m)) (sym is)
+      (mem_map (λ z. (z, play g q z)) m moves ((legal.exactly m).1 l));
+} where
+  is : played ≡ map (λ m. (m, play g q m)) moves
+  is = h ∙ ap (map (λ m. (m, play g q m))) (take_all i moves end)
+
+pub one_fails : (g : Geometry) (c : Content) (q : Placement) (n : ℕ) (played : List (Move × Placement))
+    → ArePlayed g q played → OneFails c n played → IsKnownRefuted g c q n
+one_fails g c q n played p f =
+    let is = p.each f.0 f.1 in
+    (f.0.0, is.0, elim f.2 [ inl none ↦ inl none | inr fail ↦ inr (subst (λ z. KnownFail c z n) is.1 fail) ])
+
+pub open_left : (g : Geometry) (c : Content) (q : Placement) (n : ℕ) (played : List (Move × Placement))
+    (moves : List Move) → ArePlayed g q played → AreLeft c n played moves → AreOpen g c q n moves
+open_left g c q n played moves p l = record {
+  legal = λ m there. let f = l.from m there in subst (Legal g q) f.2 (p.each f.0 f.1).0;
+  others = λ m legal. l.others (m, play g q m) (p.all m legal);
 }
 
 -- they may stand in any order

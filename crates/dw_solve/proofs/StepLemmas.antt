@@ -100,7 +100,7 @@ module _ {M G : Type 0} (g : Geometry) (content : M → Content) (lost : M → �
     work = searched_looser g n 0 n (at_time content lost a) (at_time content lost b) (omega arith) h.work;
   }
 
-  -- the cache was looked at
+  -- the memo was looked at
   pub searched_looked : (n : ℕ) (a b : Search M G) → CanSearch g content a → AreTrue g (content b.memo)
       → b.expanded ≡ a.expanded → b.limit ≡ a.limit → Searched g 0 0 (at_time content lost a) (at_time content lost b)
       → HasSearched g content lost n a b answered

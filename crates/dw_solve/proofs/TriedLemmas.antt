@@ -1,4 +1,4 @@
--- Moves that were tried one after another, and what the cache says of them.
+-- Moves that were tried one after another, and what the memo says of them.
 use Rattle.std.proofs.Common.{◌≡◌, ℕ, ◌+◌, ◌≤◌, ◌<◌, List, length, get_or, refl, sym, ◌∙◌, subst, ◌⊎◌, inl, inr, arith}
 use Rattle.std.proofs.Common.{Bool, true, false}
 use Rattle.std.proofs.lemmas.Bool.{cases_lt, true≢false}
@@ -14,7 +14,7 @@ use Rattle.dw_solve.specs.inner.Searching.{SaysMove}
 use Rattle.dw_solve.proofs.RankLemmas.{Below, below_none, below_more, below_all}
 use Rattle.dw_solve.proofs.WorkLemmas.{first_kept, second_kept, searched_none, searched_then, searched_wider}
 
--- the cache says of a move that some reply to it leads to no win; of a reply, that it leads to a win
+-- the memo says of a move that some reply to it leads to no win; of a reply, that it leads to a win
 abbrev pub Refuted : Geometry → Placement → ℕ → Content → Move → Type 0
 Refuted g p n c m = (r : Move) × Legal g (play g p m) r × ((n ≡ 0) ⊎ KnownFail c (play g (play g p m) r) n)
 
@@ -30,7 +30,7 @@ answered_stays : (g : Geometry) (q : Placement) (n : ℕ) (c d : Content) → St
     → Answered g q n d r
 answered_stays g q n c d s r h = s.wins (play g q r) n h
 
--- a search, and after it the cache says so of each move at an index below i
+-- a search, and after it the memo says so of each move at an index below i
 abbrev pub Tried : Geometry → ℕ → (Content → Move → Type 0) → List (ℕ × Move) → ℕ → Moment → Moment → Type 0
 Tried g n P ranked i a c = Searched g n 0 a c × (NothingLost a c → Below (P c.content) ranked i)
 
@@ -115,7 +115,7 @@ says_refuted g n q r p answer a b c v w legal at answered says kept = record {
   );
 }
 
--- numbers of moves that were tried one after another: the cache decides those below i
+-- numbers of moves that were tried one after another: the memo decides those below i
 abbrev pub AllDecided : Geometry → ℕ → Placement → ℕ → Moment → Moment → Type 0
 AllDecided g most p i a c = Searched g most 0 a c × (NothingLost a c → (k : ℕ) → 1 ≤ k → k < i
     → IsDecided c.content p k)

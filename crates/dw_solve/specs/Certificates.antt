@@ -1,4 +1,4 @@
--- What a cache itself says of an answer: the certificate of it.
+-- What a memo itself says of an answer: the certificate of it.
 use Rattle.std.specs.Prelude.{◌≡◌, ℕ, ◌≤◌, ◌⊎◌, Bool, IsTrue}
 use Rattle.dw_board.specs.Geometry.{Geometry}
 use Rattle.dw_board.specs.Placement.{Placement}
@@ -6,7 +6,7 @@ use Rattle.dw_moves.specs.Moves.{Move, Legal, play}
 use Rattle.dw_memo.specs.Content.{Content}
 use Rattle.dw_solve.specs.Facts.{KnownWin, KnownFail, IsDecided}
 
--- the cache itself says whether there is a win within n moves
+-- the memo itself says whether there is a win within n moves
 pub record SaysWin (c : Content) (p : Placement) (n : ℕ) (answer : Bool) : Type 0 where
   pub when : IsTrue answer → KnownWin c p n
   pub unless : (IsTrue answer → ⊥) → (n ≡ 0) ⊎ KnownFail c p n

@@ -1,4 +1,4 @@
--- What searches leave in a cache, and how much they do.
+-- What searches leave in a memo, and how much they do.
 use Rattle.std.specs.Prelude.{◌≡◌, ℕ, ◌+◌, ◌-◌, ◌^◌, ◌≤◌, ◌<◌, ◌⊎◌, List, length, filter, Result, Ok, Err}
 use Rattle.std.proofs.Common.{zero, suc}
 use Rattle.dw_board.specs.Geometry.{Geometry}
@@ -8,7 +8,7 @@ use Rattle.dw_memo.specs.Content.{Entry, Content}
 use Rattle.dw_board.specs.Lists.{Member}
 use Rattle.dw_solve.specs.Facts.{KnownWin, KnownFail, IsClosed}
 
--- a search at one time: what its cache holds, how many entries the cache has lost, how many positions were expanded
+-- a search at one time: what its memo holds, how many entries the memo has lost, how many positions were expanded
 pub record Moment : Type 0 where
   pub content : Content
   pub lost : ℕ
@@ -17,7 +17,7 @@ pub record Moment : Type 0 where
 abbrev pub moment : {M : Type 0} → (M → Content) → (M → ℕ) → M → ℕ → Moment
 moment content lost memo expanded = record { content = content memo; lost = lost memo; expanded = expanded }
 
--- what the cache says it goes on saying
+-- what the memo says it goes on saying
 pub record Stronger (old new : Content) : Type 0 where
   pub wins : (p : Placement) (n : ℕ) → KnownWin old p n → KnownWin new p n
   pub fails : (p : Placement) (n : ℕ) → KnownFail old p n → KnownFail new p n
@@ -42,11 +42,11 @@ pub record LossIsCounted (before after : ℕ) : Type 0 where
   pub rises : before < 2 ^ 64 → before ≤ after
   pub within : before < 2 ^ 64 → after < 2 ^ 64
 
--- the cache lost nothing: its count is what it was, and could still rise
+-- the memo lost nothing: its count is what it was, and could still rise
 abbrev pub NothingLost : Moment → Moment → Type 0
 NothingLost before after = (before.lost ≡ after.lost) × (after.lost < 2 ^ 64 - 1)
 
--- What searches for wins within n moves do to a cache that loses nothing: what is known stays known; if each bound
+-- What searches for wins within n moves do to a memo that loses nothing: what is known stays known; if each bound
 -- followed from others, each still does; and each expansion added a pair of a position and a number of moves, up to n
 -- or any greater one, that is decided, but for so many that were cut off.
 pub record Worked (g : Geometry) (n cut : ℕ) (before after : Moment) : Type 0 where
@@ -55,7 +55,7 @@ pub record Worked (g : Geometry) (n cut : ℕ) (before after : Moment) : Type 0 
   pub growth : (k : ℕ) → n ≤ k → after.expanded + decided_to before.content k
       ≤ before.expanded + decided_to after.content k + cut
 
--- what searches for wins within n moves do to any cache
+-- what searches for wins within n moves do to any memo
 pub record Searched (g : Geometry) (n cut : ℕ) (before after : Moment) : Type 0 where
   pub few : FewNew before after
   pub counted : LossIsCounted before.lost after.lost

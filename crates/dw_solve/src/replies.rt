@@ -2,31 +2,30 @@
 ghost use Rattle.std.specs.Prelude.{◌≡◌, false, IfOk, IfSome, IsTrue, ◌⊎◌, []};
 ghost use Rattle.dw_moves.specs.Moves.{Legal, AreLegal, play};
 ghost use Rattle.dw_solve.specs.Facts.{AreTrue, KnownFail};
-ghost use Rattle.dw_solve.specs.inner.Ranking.{IsSureReply, IsKnownRefuted, AreOpen};
+ghost use Rattle.dw_solve.specs.inner.Ranking.{IsSureReply, OneFails, AreLeft};
 ghost use Rattle.dw_solve.specs.inner.Ranking.{AreLinedUp, AreLinedUpLast, IsTakenUp};
 ghost use Rattle.dw_solve.specs.inner.Searching.{HasLooked};
 
 use crate::guide::{AnyOrder, Guide};
-use crate::ply::{Ply, rank_all};
+use crate::ply::{Ply, play_all, rank_all};
 use crate::search::{Search, known};
 use dw_board::{Board, Position};
 use dw_memo::Memo;
-use dw_moves::play::play as played;
 use dw_moves::{Move, legal_into, sure_step};
 use std::alloc::AllocError;
 
 /// What is known of the replies before one is searched.
 pub(crate) enum Replies<B: Board> {
-    /// The cache says of one that the attacker has no win after it.
+    /// The memo says of one that the attacker has no win after it.
     Refuted,
     /// After one, the position is this, and it is seen at a glance that the attacker does not win with his last move.
     Sure(Position<B>),
-    /// They are taken up, but for those of which the cache says that the attacker wins.
+    /// They are taken up, but for those of which the memo says that the attacker wins.
     Open,
 }
 
 /// Takes up the replies, while the attacker has so many moves left. If there are two or more, all are looked up in the
-/// cache first: one may refute, those that are known to lose are left out, and the others come in the guide's order. At
+/// memo first: one may refute, those that are known to lose are left out, and the others come in the guide's order. At
 /// his last move one reply is enough after which it is seen at a glance that he does not win. Mostly it is a step of
 /// one square, which is found without a list of moves.
 pub(crate) fn line_up_replies<B: Board, M: Memo<B>, G: Guide<B>>(
@@ -73,7 +72,7 @@ fn sure_reply<B: Board>(position: &Position<B>) -> Option<Position<B>>
     Some(after)
 }
 
-/// Takes up the replies that the cache does not decide, in the guide's order, unless it says of one that it refutes.
+/// Takes up the replies that the memo does not decide, in the guide's order, unless it says of one that it refutes.
 fn line_up_open<B: Board, M: Memo<B>, G: Guide<B>>(
     search: &mut Search<M, G>,
     ply: &mut Ply<B>,
@@ -92,12 +91,13 @@ fn line_up_open<B: Board, M: Memo<B>, G: Guide<B>>(
         rank_all(position, &AnyOrder, ply.moves.as_slice(), &mut ply.ranked)?;
         return Ok(Replies::Open);
     }
+    ply.reached.clear();
+    play_all(position, ply.moves.as_slice(), &mut ply.reached)?;
     ply.undecided.clear();
-    if find_open(
+    if find_undecided(
         search,
-        position,
+        ply.reached.as_slice(),
         moves,
-        ply.moves.as_slice(),
         &mut ply.undecided,
     )? {
         return Ok(Replies::Refuted);
@@ -112,52 +112,46 @@ fn line_up_open<B: Board, M: Memo<B>, G: Guide<B>>(
     Ok(Replies::Open)
 }
 
-/// Adds the replies that the cache does not decide to an empty list, or answers that it says of one that it refutes.
-/// Nothing else is done between two looks, so that a processor can begin the next before one is answered.
-fn find_open<B: Board, M: Memo<B>, G>(
+/// Adds the replies that the memo does not decide to an empty list, or answers that it says of one that it refutes.
+/// Nothing is done between two looks, so that the processor waits for the memory of several at once.
+fn find_undecided<B: Board, M: Memo<B>, G>(
     search: &mut Search<M, G>,
-    position: &Position<B>,
+    reached: &[(Move<B>, Position<B>)],
     moves: u8,
-    replies: &[Move<B>],
     undecided: &mut Vec<Move<B>>,
 ) -> Result<bool, AllocError>
     requires right { AreTrue B.geometry (M.content search.old.memo) }
-    requires legal { AreLegal B.geometry position.now replies.now }
     requires empty { undecided.old.items ≡ [] }
     ensures looked { HasLooked B.geometry M.content M.dropped search.old search.new }
-    ensures refuted { IfOk result (λ yes. IsTrue yes →
-        IsKnownRefuted B.geometry (M.content search.old.memo) position.now moves) }
+    ensures refuted { IfOk result (λ yes. IsTrue yes → OneFails (M.content search.old.memo) moves reached.now) }
     ensures open { IfOk result (λ yes. yes ≡ false →
-        AreOpen B.geometry (M.content search.old.memo) position.now moves undecided.new.items) }
+        AreLeft (M.content search.old.memo) moves reached.now undecided.new.items) }
 {
-    'replies: for reply in replies {
-        if take_up(search, position, moves, reply, undecided)? {
+    'replies: for reply in reached {
+        if take_up(search, reply, moves, undecided)? {
             return Ok(true);
         }
     }
     Ok(false)
 }
 
-/// Adds a reply to a list, if the cache does not decide it, or answers that it says that it refutes.
+/// Adds a reply to a list, if the memo does not decide it, or answers that it says that it refutes.
 fn take_up<B: Board, M: Memo<B>, G>(
     search: &mut Search<M, G>,
-    position: &Position<B>,
+    reply: &(Move<B>, Position<B>),
     moves: u8,
-    reply: &Move<B>,
     undecided: &mut Vec<Move<B>>,
 ) -> Result<bool, AllocError>
-    requires right { AreTrue B.geometry (M.content search.old.memo) }
-    requires legal { Legal B.geometry position.now reply.now }
+    requires { AreTrue B.geometry (M.content search.old.memo) }
     ensures looked { HasLooked B.geometry M.content M.dropped search.old search.new }
     ensures refuted { IfOk result (λ yes. IsTrue yes →
-        (moves ≡ 0) ⊎ KnownFail (M.content search.old.memo) (play B.geometry position.now reply.now) moves) }
+        (moves ≡ 0) ⊎ KnownFail (M.content search.old.memo) reply.now.1 moves) }
     ensures open { IfOk result (λ yes. yes ≡ false →
-        IsTakenUp (M.content search.old.memo) (play B.geometry position.now reply.now) moves reply.now
-        undecided.old.items undecided.new.items) }
+        IsTakenUp (M.content search.old.memo) moves reply.now undecided.old.items undecided.new.items) }
 {
-    if let Some(wins) = known(search, &played(position, reply), moves) {
+    if let Some(wins) = known(search, &reply.1, moves) {
         return Ok(!wins);
     }
-    undecided.push(*reply)?;
+    undecided.push(reply.0)?;
     Ok(false)
 }

@@ -27,7 +27,7 @@ use dw_moves::best::has_move;
 use dw_moves::play::play as played;
 use std::alloc::AllocError;
 
-/// What a search works on: a cache, an order of moves, how many positions it has expanded and may expand, and which
+/// What a search works on: a memo, an order of moves, how many positions it has expanded and may expand, and which
 /// moves of the attacker won in it.
 #[derive(Drop)]
 pub(crate) struct Search<M, G> {
@@ -160,7 +160,7 @@ fn line_up<B: Board, M, G: Guide<B>>(
 }
 
 /// Takes it up that the attacker does not win with his last move, if that is seen at a glance: the position is
-/// counted and noted, unless the cache decides it.
+/// counted and noted, unless the memo decides it.
 fn refute<B: Board, M: Memo<B>, G>(
     search: &mut Search<M, G>,
     position: &Position<B>,
@@ -183,7 +183,7 @@ fn refute<B: Board, M: Memo<B>, G>(
 }
 
 /// Whether the side to move wins with its next move, which is its last. Nothing else comes between the look at the
-/// cache and the note, so the bounds are looked up once.
+/// memo and the note, so the bounds are looked up once.
 fn wins_at_once<B: Board, M: Memo<B>, G>(
     search: &mut Search<M, G>,
     ply: &mut Ply<B>,
@@ -257,7 +257,7 @@ fn count<M, G>(search: &mut Search<M, G>) -> Result<(), Stop>
     Ok(())
 }
 
-/// Notes whether there is a win within so many moves, beside what the cache says of the position by now.
+/// Notes whether there is a win within so many moves, beside what the memo says of the position by now.
 fn note<B: Board, M: Memo<B>, G>(
     search: &mut Search<M, G>,
     position: &Position<B>,

@@ -1,4 +1,4 @@
-//! The solver: forced wins of any position, over one cache.
+//! The solver: forced wins of any position, over one memo.
 ghost use Rattle.std.specs.Prelude.{◌≡◌, ℕ, ◌≤◌, ◌<◌, ◌↔◌, ◌⊎◌, length, IfOk, OnOk, IsOk, IsErrOf, IsTrue};
 ghost use Rattle.std.specs.List.Sorted.{IsNonDecreasingBy};
 ghost use Rattle.dw_solve.specs.declared.stop.Stop.TheVariants.{Limit};
@@ -25,7 +25,7 @@ use std::marker::Model;
 /// Moves of both sides in the longest line: 20 of the attacker with a reply to each, and one before them.
 const PLIES: usize = 41;
 
-/// Answers in how many moves a side wins. What it finds out it notes in a cache, and it counts each position that it
+/// Answers in how many moves a side wins. What it finds out it notes in a memo, and it counts each position that it
 /// expands, that is whose moves it goes through, up to a limit.
 /// See [`Solver::wins`] for an example.
 #[derive(Drop)]
@@ -52,7 +52,7 @@ impl<B: Board, M: Memo<B>, G: Guide<B>> Model for Solver<B, M, G> {
 }
 
 impl<B: Board, M: Memo<B>, G: Guide<B>> Solver<B, M, G> {
-    /// A solver over a cache, all of whose bounds are right, as those of an empty one are. It may expand as many
+    /// A solver over a memo, all of whose bounds are right, as those of an empty one are. It may expand as many
     /// positions as the limit says, at least 1.
     /// Example: `Solver::<Ten, NoMemo, AnyOrder>::new(NoMemo::new(), AnyOrder, 1_000)` may expand 1,000 positions.
     pub fn new(memo: M, guide: G, limit: u64) -> Self
@@ -98,7 +98,7 @@ impl<B: Board, M: Memo<B>, G: Guide<B>> Solver<B, M, G> {
         let _ = &self.search;
     }
 
-    /// All bounds in a solver's cache are right, and a position stands there once: a law, which does nothing.
+    /// All bounds in a solver's memo are right, and a position stands there once: a law, which does nothing.
     /// Example: of a solver over a new memo it says that no bound is wrong.
     pub fn keeps_its_facts(&self)
         ensures right { AreTrue B.geometry (M.content self.now.memo) }
@@ -107,7 +107,7 @@ impl<B: Board, M: Memo<B>, G: Guide<B>> Solver<B, M, G> {
         let _lost = self.search.memo.dropped();
     }
 
-    /// How many entries the cache has lost so far.
+    /// How many entries the memo has lost so far.
     /// Example: over a new memo it is 0 at the start.
     pub fn dropped(&self) -> u64
         ensures count { result ≡ M.dropped self.now.memo }
@@ -127,8 +127,8 @@ impl<B: Board, M: Memo<B>, G: Guide<B>> Solver<B, M, G> {
     }
 
     /// Whether the side to move wins within so many of its moves, 0 to 20. It is answered without a search, without
-    /// memory and without an expansion if the cache decides it or the number is 0. After a stop all bounds in the
-    /// cache are right, and it can be asked again.
+    /// memory and without an expansion if the memo decides it or the number is 0. After a stop all bounds in the
+    /// memo are right, and it can be asked again.
     /// Example: at `W:W27,45:B16` it is `Ok(false)` within 1 move, and `Ok(true)` within 2.
     pub fn wins(&mut self, alloc: Global, position: &Position<B>, moves: u8) -> Result<bool, Stop>
         requires { moves ≤ 20 }
@@ -151,7 +151,7 @@ impl<B: Board, M: Memo<B>, G: Guide<B>> Solver<B, M, G> {
     }
 
     /// Whether the side to move has lost: whatever it plays, the other wins within so many of its moves, 0 to 20. If
-    /// the cache decides each reply, nothing is counted, and the limit is no hindrance. At 0 it takes no memory.
+    /// the memo decides each reply, nothing is counted, and the limit is no hindrance. At 0 it takes no memory.
     /// Example: at `B:W27,40:B16` it is `Ok(false)` within 0 moves, and `Ok(true)` within 1.
     pub fn loses(&mut self, alloc: Global, position: &Position<B>, moves: u8) -> Result<bool, Stop>
         requires { moves ≤ 20 }
@@ -172,7 +172,7 @@ impl<B: Board, M: Memo<B>, G: Guide<B>> Solver<B, M, G> {
 
     /// The least number of moves, from 1 to the given one, within which the side to move wins, or `None` if it has
     /// no win within that number, which is at most 20. It is answered without memory and without an expansion if the
-    /// cache decides each of these numbers.
+    /// memo decides each of these numbers.
     /// Example: at `W:W27,45:B16` it is `Ok(None)` up to 1 move, and `Ok(Some(2))` up to 20.
     pub fn least(
         &mut self,
@@ -212,7 +212,7 @@ impl<B: Board, M: Memo<B>, G: Guide<B>> Solver<B, M, G> {
         lineup.ply.fill(position, &self.search.guide)
     }
 
-    /// The cache. All its bounds are right.
+    /// The memo. All its bounds are right.
     /// Example: what the memo then says it dropped is what `dropped` said before.
     pub fn into_memo(self) -> M
     where

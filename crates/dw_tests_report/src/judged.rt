@@ -84,7 +84,7 @@ fn question<B: Board>(asked: &Asked<'_>) -> Option<(Position<B>, u8)>
     Some((position, asked.moves()?))
 }
 
-/// What is judged of a position, with no cache.
+/// What is judged of a position, with no memo.
 pub fn judged<B: Board>(alloc: Global, asked: &Asked<'_>, found: &mut Found) -> Option<()> {
     let (position, moves) = question::<B>(asked)?;
     let memo = AnyMemo::None(NoMemo::new());
@@ -96,7 +96,7 @@ pub fn judged<B: Board>(alloc: Global, asked: &Asked<'_>, found: &mut Found) -> 
     }
 }
 
-/// What is judged under limits that rise by one, with a cache: the solver is asked again until it has an answer.
+/// What is judged under limits that rise by one, with a memo: the solver is asked again until it has an answer.
 pub fn stopped<B: Board>(alloc: Global, asked: &Asked<'_>, found: &mut Found) -> Option<()> {
     let (position, moves) = question::<B>(asked)?;
     let memo = AnyMemo::Lru(LruMemo::new(alloc, 1_000).ok()?);
@@ -104,7 +104,7 @@ pub fn stopped<B: Board>(alloc: Global, asked: &Asked<'_>, found: &mut Found) ->
     add_at_last(alloc, &mut solver, &position, moves, found)
 }
 
-/// What is judged with the cache that the head names. Where a cache or the solver is refused memory it says so, and
+/// What is judged with the memo that the head names. Where a memo or the solver is refused memory it says so, and
 /// then it can be asked again (`checks/refused_search.py` refuses it).
 pub fn refused<B: Board>(alloc: Global, asked: &Asked<'_>, found: &mut Found) -> Option<()> {
     let (position, moves) = question::<B>(asked)?;

@@ -77,7 +77,7 @@ fn is_stopped(ran: &Ran, whole: &[u8], limit: u64, most: usize) -> bool {
         && taken.len() >= most
 }
 
-/// A run with no cache, under this limit of expansions.
+/// A run with no memo, under this limit of expansions.
 fn limited<B: Board>(alloc: Global, asked: &Asked<'_>, text: &[u8], limit: u64) -> Option<Ran> {
     let settings = asked.settings::<B>(limit)?;
     in_pieces(alloc, &settings, "none", text, 4096)

@@ -1,4 +1,4 @@
-//! Rows are asked with each cache and each order of moves that the head of their section names.
+//! Rows are asked with each memo and each order of moves that the head of their section names.
 ghost use Rattle.std.specs.Prelude.{◌≡◌, ◌≤◌, [], IfSome};
 ghost use Rattle.dw_memo.specs.Choice.{content_of};
 ghost use Rattle.dw_solve.specs.Facts.{AreTrue};
@@ -15,7 +15,7 @@ use dw_tests_common::tally::Tally;
 use std::alloc::Global;
 use std::slice;
 
-/// Asks the rows of a section with each cache.
+/// Asks the rows of a section with each memo.
 pub fn ask_on<B: Board>(alloc: Global, kind: Kind, section: &Section, tally: &mut Tally) {
     let guides = word(section.head.as_str(), 3);
     let rows = section.rows.as_slice();
@@ -28,7 +28,7 @@ pub fn ask_on<B: Board>(alloc: Global, kind: Kind, section: &Section, tally: &mu
     }
 }
 
-/// Asks each row with a new cache.
+/// Asks each row with a new memo.
 fn ask_each<B: Board>(
     alloc: Global,
     kind: Kind,
@@ -60,7 +60,7 @@ fn ask_with<B: Board>(
     }
 }
 
-/// Asks rows of a cache; a spare one is made with it.
+/// Asks rows of a memo; a spare one is made with it.
 fn ask_memo<B: Board>(
     alloc: Global,
     kind: Kind,
@@ -74,7 +74,7 @@ fn ask_memo<B: Board>(
     ask_kind(alloc, kind, memo, spare, guide, rows, tally)
 }
 
-/// A new cache, `none`, `lru:SIZE`, `slots:SIZE` or `deep:SIZE`.
+/// A new memo, `none`, `lru:SIZE`, `slots:SIZE` or `deep:SIZE`.
 fn new_memo<B: Board>(alloc: Global, text: &str) -> Option<AnyMemo<B>>
     ensures { IfSome result (λ m. content_of m ≡ []) }
 {
@@ -89,7 +89,7 @@ fn new_memo<B: Board>(alloc: Global, text: &str) -> Option<AnyMemo<B>>
     }
 }
 
-/// A new cache of the positions used latest; it is made again if memory is refused once.
+/// A new memo of the positions used latest; it is made again if memory is refused once.
 fn latest<B: Board>(alloc: Global, size: usize) -> Option<LruMemo<B>>
     requires some { 1 ≤ size }
     requires most { size ≤ 4_000_000 }
@@ -101,7 +101,7 @@ fn latest<B: Board>(alloc: Global, size: usize) -> Option<LruMemo<B>>
     }
 }
 
-/// A new cache of slots; it is made again if memory is refused once.
+/// A new memo of slots; it is made again if memory is refused once.
 fn slots<B: Board>(alloc: Global, size: usize) -> Option<SlotMemo<B>>
     requires some { 1 ≤ size }
     requires most { size ≤ 4_000_000 }
@@ -113,7 +113,7 @@ fn slots<B: Board>(alloc: Global, size: usize) -> Option<SlotMemo<B>>
     }
 }
 
-/// A new cache of pairs of places; it is made again if memory is refused once.
+/// A new memo of pairs of places; it is made again if memory is refused once.
 fn pairs<B: Board>(alloc: Global, size: usize) -> Option<DeepMemo<B>>
     requires some { 1 ≤ size }
     requires most { size ≤ 4_000_000 }
@@ -125,7 +125,7 @@ fn pairs<B: Board>(alloc: Global, size: usize) -> Option<DeepMemo<B>>
     }
 }
 
-/// Asks rows of a cache, or of a solver or a lister over it, in this order of moves.
+/// Asks rows of a memo, or of a solver or a lister over it, in this order of moves.
 fn ask_kind<B: Board, M: Memo<B> + Drop>(
     alloc: Global,
     kind: Kind,

@@ -1,9 +1,9 @@
-//! What is asked of a cache, a solver or a lister.
+//! What is asked of a memo, a solver or a lister.
 
 /// What is asked of each row.
 #[derive(Clone, Copy)]
 pub enum Kind {
-    /// What a cache holds.
+    /// What a memo holds.
     Notes,
     Crowded,
     /// What a solver answers.
@@ -48,7 +48,7 @@ impl Kind {
         }
     }
 
-    /// Whether one cache is asked about all rows of a section, and not a new one about each.
+    /// Whether one memo is asked about all rows of a section, and not a new one about each.
     pub fn keeps(self) -> bool {
         match self {
             Kind::Notes | Kind::Crowded | Kind::Ask | Kind::Least => true,

@@ -111,7 +111,7 @@ pub fn limit<B: Board, M: Memo<B>, G: Guide<B>>(
     Some(())
 }
 
-/// What the cache decides is not searched again, not even at the limit.
+/// What the memo decides is not searched again, not even at the limit.
 pub fn known<B: Board, M: Memo<B>, G: Guide<B>>(
     alloc: Global,
     solver: &mut Solver<B, M, G>,

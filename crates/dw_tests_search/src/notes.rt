@@ -1,4 +1,4 @@
-//! What is found again in a cache, what is lost, and what is counted.
+//! What is found again in a memo, what is lost, and what is counted.
 
 use dw_board::{Board, Position};
 use dw_memo::{Bounds, Memo, Noted};
@@ -15,7 +15,7 @@ pub fn bounds_of(fails: &str, wins: &str) -> Bounds {
     }
 }
 
-/// What a cache answers when it notes bounds, what it finds of a position, and how many entries were lost.
+/// What a memo answers when it notes bounds, what it finds of a position, and how many entries were lost.
 fn note<B: Board, M: Memo<B>>(memo: &mut M, asked: &str, found: &mut Found) -> Option<()> {
     if asked == "lost" {
         found.say(&memo.dropped());
@@ -55,7 +55,7 @@ fn keep<B: Board, M: Memo<B>>(
     });
 }
 
-/// All rows are asked of one cache.
+/// All rows are asked of one memo.
 pub fn notes<B: Board, M: Memo<B> + Drop>(
     mut memo: M,
     rows: &[Row],
@@ -109,7 +109,7 @@ fn lost_after<B: Board, M: Memo<B>>(
     Some(lost)
 }
 
-/// All rows are noted in one cache, which is too small for them: a note loses at most one of the entries that were
+/// All rows are noted in one memo, which is too small for them: a note loses at most one of the entries that were
 /// held, and that is counted. There is room for seven.
 pub fn crowded<B: Board, M: Memo<B> + Drop>(
     alloc: Global,

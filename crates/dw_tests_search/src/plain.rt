@@ -1,4 +1,4 @@
-//! Rows that are asked of no cache.
+//! Rows that are asked of no memo.
 ghost use Rattle.std.specs.Prelude.{◌≡◌, ◌⊎◌};
 
 use crate::laws::law;

@@ -21,13 +21,13 @@ use Rattle.dw_solve.specs.declared.stop.Stop.TheVariants.{Limit}
 abbrev pub at_time : {M G : Type 0} → (M → Content) → (M → ℕ) → Search M G → Moment
 at_time content lost s = moment content lost s.memo s.expanded
 
--- it can go on: all bounds in its cache are right, and it has expanded no more positions than it may
+-- it can go on: all bounds in its memo are right, and it has expanded no more positions than it may
 pub record CanSearch {M G : Type 0} (g : Geometry) (content : M → Content) (s : Search M G) : Type 0 where
   pub right : AreTrue g (content s.memo)
   pub within : s.expanded ≤ s.limit
 
 -- It went on for wins within n moves: all bounds are still right, each expansion is counted, up to the limit, and the
--- cache is as searches leave it.
+-- memo is as searches leave it.
 pub record HasSearched {M G A : Type 0} (g : Geometry) (content : M → Content) (lost : M → ℕ) (n : ℕ)
     (old new : Search M G) (answer : Result A Stop) : Type 0 where
   pub right : AreTrue g (content new.memo)
@@ -35,7 +35,7 @@ pub record HasSearched {M G A : Type 0} (g : Geometry) (content : M → Content)
   pub stop : IsErrOf answer Limit → new.expanded ≡ new.limit
   pub work : Searched g n (cut_off answer n) (at_time content lost old) (at_time content lost new)
 
--- The cache was looked at, and nothing else was done.
+-- The memo was looked at, and nothing else was done.
 pub record HasLooked {M G : Type 0} (g : Geometry) (content : M → Content) (lost : M → ℕ) (old new : Search M G)
     : Type 0 where
   pub right : AreTrue g (content new.memo)
@@ -44,11 +44,11 @@ pub record HasLooked {M G : Type 0} (g : Geometry) (content : M → Content) (lo
   pub same : SameEntries (content old.memo) (content new.memo)
   pub work : Searched g 0 0 (at_time content lost old) (at_time content lost new)
 
--- the cache lost nothing meanwhile
+-- the memo lost nothing meanwhile
 abbrev pub LosesNothing : {M G : Type 0} → (M → Content) → (M → ℕ) → Search M G → Search M G → Type 0
 LosesNothing content lost old new = NothingLost (at_time content lost old) (at_time content lost new)
 
--- nothing was expanded, and the cache holds what it held
+-- nothing was expanded, and the memo holds what it held
 abbrev pub StaysIdle : {M G : Type 0} → (M → Content) → Search M G → Search M G → Type 0
 StaysIdle content old new = (new.expanded ≡ old.expanded) × SameEntries (content old.memo) (content new.memo)
 
@@ -56,7 +56,7 @@ StaysIdle content old new = (new.expanded ≡ old.expanded) × SameEntries (cont
 abbrev pub HasBounds : Content → Placement → Bounds → Type 0
 HasBounds c p b = Member (entry p b) c ⊎ ((b ≡ nothing) × (Member p (positions c) → ⊥))
 
--- A note of an answer: the bounds that the position had, and whether there is a win within n, are given to the cache.
+-- A note of an answer: the bounds that the position had, and whether there is a win within n, are given to the memo.
 pub record IsNoted (p : Placement) (n : ℕ) (won : Bool) (before after : Moment) : Type 0 where
   pub had : Bounds
   pub held : HasBounds before.content p had
