@@ -32,6 +32,8 @@ pub enum Kind {
     BrokenPdn,
     Many,
     Write,
+    Movetext,
+    Repeated,
     Law,
 }
 
@@ -68,6 +70,8 @@ impl Kind {
             "broken-pdn" => Some(Kind::BrokenPdn),
             "many" => Some(Kind::Many),
             "write" => Some(Kind::Write),
+            "movetext" => Some(Kind::Movetext),
+            "repeated" => Some(Kind::Repeated),
             "law" => Some(Kind::Law),
             _ => None,
         }

@@ -1,9 +1,11 @@
-//! Tests of boards, moves, texts and problems, over public calls: at the boards of ten and of eight rows, and at a
-//! small one of six. Each row of standard input is asked, and of each section it is said how many rows were right.
+//! Tests of boards, moves, texts, problems and solutions, over public calls: at the boards of ten and of eight rows,
+//! and at a small one of six. Each row of standard input is asked, and of each section it is said how many rows were
+//! right.
 //!
 //! The rows hold what no clause says: worked positions and texts, a call of each public function, streams that fail.
 #![tactic(auto)]
 
+mod games;
 mod kind;
 mod laws;
 mod lines;
@@ -87,6 +89,8 @@ fn answer<B: Board>(alloc: Global, kind: Kind, asked: &str, found: &mut Found) -
         Kind::BrokenPdn => problems::broken::<B>(alloc, Form::Pdn, asked, found),
         Kind::Many => problems::many::<B>(asked, found),
         Kind::Write => streams::write(alloc, asked, found),
+        Kind::Movetext => games::movetext::<B>(alloc, asked, found),
+        Kind::Repeated => games::repeated::<B>(alloc, asked, found),
         Kind::Law => {
             laws::law(found);
             Some(())
