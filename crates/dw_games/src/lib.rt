@@ -1,0 +1,17 @@
+//! The solution that an author gave: the moves and variations behind the tags of a PDN section, as a tree of moves.
+//!
+//! Begin with `read_movetext`, and walk the `Tree` that it reads.
+//!
+//! An example tells a position by its FEN text, on the board of ten rows if it names no other.
+#![tactic(auto)]
+
+mod class;
+pub mod fault;
+pub mod movetext;
+mod reader;
+pub mod tokens;
+pub mod tree;
+
+pub use fault::{MovetextFault, MovetextFaultKind};
+pub use movetext::{MAX_MOVETEXT, MAX_OPEN, MAX_PATH, read_movetext};
+pub use tree::{Node, Tree};
