@@ -12,19 +12,20 @@ use Rattle.dw_games.specs.Play.{IsResult, crossed, after, IsVariation, IsPlay, I
 use Rattle.dw_games.specs.declared.tokens.TokenKind.TheVariants.{Comment, Written, Opens, Closes, CutOff, Unknown}
 use Rattle.dw_games.specs.declared.movetext.TheConstants.{MAX_PATH, MAX_OPEN, MAX_MOVETEXT}
 use Rattle.dw_games.specs.declared.fault.MovetextFaultKind.{MovetextFaultKind}
-use Rattle.dw_games.specs.declared.fault.MovetextFaultKind.TheVariants.{Token as NoToken, NoSuchMove, Ambiguous, Variation}
-use Rattle.dw_games.specs.declared.fault.MovetextFaultKind.TheVariants.{Unclosed, Rest, TooDeep, TooLong, TooLarge, Empty}
+use Rattle.dw_games.specs.declared.fault.MovetextFaultKind.TheVariants.{Token as NoToken, NoSuchMove, Ambiguous}
+use Rattle.dw_games.specs.declared.fault.MovetextFaultKind.TheVariants.{Variation, Unclosed, Rest, TooDeep, TooLong}
+use Rattle.dw_games.specs.declared.fault.MovetextFaultKind.TheVariants.{TooLarge, Empty}
 
 -- After these tokens no result stands yet: the innermost of the variations that are open begins after the moves
 -- before, and has these moves. So many more may be open in it.
 pub data IsOpen (g : Geometry) (p : Placement) : ℕ → List Token → (before moves : List Move) → Type 0 where
   outermost : {ts : List Token} {moves : List Move} {paths : List (List Move)}
       → IsVariation g p MAX_OPEN [] ts moves paths → IsOpen g p MAX_OPEN ts [] moves
-  inner : {room : ℕ} {ts us : List Token} {before moves others : List Move} {open : Token} {last : Move}
-      {paths : List (List Move)}
-      → IsOpen g p (suc room) ts before (moves ++ last ∷ []) → open.what ≡ Opens
+  inner : {room : ℕ} {ts us : List Token} {before others : List Move} {paths : List (List Move)}
+      (moves : List Move) (last : Move) (opening : Token)
+      → IsOpen g p (suc room) ts before (moves ++ last ∷ []) → opening.what ≡ Opens
       → IsVariation g p room (before ++ moves) us others paths
-      → IsOpen g p room (ts ++ open ∷ us) (before ++ moves) others
+      → IsOpen g p room (ts ++ opening ∷ us) (before ++ moves) others
 
 -- a token is no result, and its text has the form of a move
 pub record HasForm (g : Geometry) (t : Token) : Type 0 where
@@ -68,7 +69,7 @@ pub data FaultAt (g : Geometry) (p : Placement) : List Token → Token → Movet
       → t.what ≢ CutOff → FaultAt g p ts t Rest
   cut_off : {ts : List Token} {paths : List (List Move)} {t : Token} → IsOver g p ts paths → t.what ≡ CutOff
       → FaultAt g p ts t NoToken
-  too_deep : {ts : List Token} {before moves : List Move} {last : Move} {t : Token}
+  too_deep : {ts : List Token} {before : List Move} {t : Token} (moves : List Move) (last : Move)
       → IsOpen g p zero ts before (moves ++ last ∷ []) → t.what ≡ Opens → FaultAt g p ts t TooDeep
   too_long : {room : ℕ} {ts : List Token} {before moves : List Move} {t : Token}
       → IsOpen g p room ts before moves → length (before ++ moves) ≡ MAX_PATH → HasForm g t

@@ -1,5 +1,5 @@
 -- Laws of movetexts.
-use Rattle.std.specs.Prelude.{◌≡◌, ◌⊎◌, ℕ, List}
+use Rattle.std.specs.Prelude.{◌≡◌, ◌⊎◌, ℕ, true, List}
 use Rattle.dw_board.specs.Geometry.{Geometry, IsBoard}
 use Rattle.dw_board.specs.Placement.{Placement, IsPosition}
 use Rattle.dw_moves.specs.Moves.{Move}
@@ -8,12 +8,13 @@ use Rattle.dw_games.specs.Movetext.{IsTree}
 use Rattle.dw_games.specs.Faults.{IsFirstFault}
 use Rattle.dw_games.specs.declared.fault.MovetextFaultKind.{MovetextFaultKind}
 
--- a text has one row of tokens
+-- a row of tokens of a text, which is the only one
 pub record HasOneRow (text : List ℕ) : Type 0 where
   pub tokens : List Token
   pub are : AreTokens 1 true text tokens
   pub one : (others : List Token) → AreTokens 1 true text others → others ≡ tokens
 
+-- each text has exactly one row of tokens
 abbrev pub OneRow : Type 0
 OneRow = (text : List ℕ) → HasOneRow text
 
@@ -29,7 +30,8 @@ pub record HasFault (g : Geometry) (p : Placement) (text : List ℕ) : Type 0 wh
   pub what : MovetextFaultKind
   pub place : ℕ
   pub first : IsFirstFault g p text what place
-  pub one : (other : MovetextFaultKind) (there : ℕ) → IsFirstFault g p text other there → (other ≡ what) × (there ≡ place)
+  pub one : (other : MovetextFaultKind) (there : ℕ) → IsFirstFault g p text other there
+      → (other ≡ what) × (there ≡ place)
   pub no_tree : (tree : List (List Move)) → IsTree g p text tree → ⊥
 
 -- each text has either exactly one tree or exactly one first fault

@@ -15,9 +15,9 @@ IsGame g p ts paths = IsPlay g p ts paths ⊎ IsOver g p ts paths
 -- a list without its repeats: of each path what stands first
 pub data AreDistinct : (paths tree : List (List Move)) → Type 0 where
   nothing : AreDistinct [] []
-  again : {paths tree : List (List Move)} {path : List Move} → AreDistinct paths tree → Member path tree
+  again : {paths tree : List (List Move)} (path : List Move) → AreDistinct paths tree → Member path tree
       → AreDistinct (paths ++ path ∷ []) tree
-  first : {paths tree : List (List Move)} {path : List Move} → AreDistinct paths tree → (Member path tree → ⊥)
+  first : {paths tree : List (List Move)} (path : List Move) → AreDistinct paths tree → (Member path tree → ⊥)
       → AreDistinct (paths ++ path ∷ []) (tree ++ path ∷ [])
 
 -- The tree of a movetext: its paths, each once, in the order in which they first stand in the text. There is one at

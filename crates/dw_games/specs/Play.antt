@@ -11,7 +11,8 @@ use Rattle.dw_notation.specs.Text.{cross}
 use Rattle.dw_notation.specs.MoveReading.{IsRead}
 use Rattle.dw_games.specs.Tokens.{Token}
 use Rattle.dw_games.specs.declared.tokens.TokenKind.{TokenKind}
-use Rattle.dw_games.specs.declared.tokens.TokenKind.TheVariants.{Comment, Passed, Written, Opens, Closes, CutOff, Unknown}
+use Rattle.dw_games.specs.declared.tokens.TokenKind.TheVariants.{Comment, Passed, Written, Opens, Closes, CutOff}
+use Rattle.dw_games.specs.declared.tokens.TokenKind.TheVariants.{Unknown}
 use Rattle.dw_games.specs.declared.movetext.TheConstants.{MAX_PATH, MAX_OPEN}
 
 -- the texts of results
@@ -49,24 +50,24 @@ IsPassed Closes = ⊥
 IsPassed CutOff = ⊥
 IsPassed Unknown = ⊥
 
--- A variation: the moves before it, its tokens, its own moves, and all paths that it goes through, in turn. So many
--- variations may stand within one another in it. It is empty, or a variation behind which stands something that is passed
--- over, or a move, or another variation between parentheses, which begins before the last move.
+-- A variation: how many variations may be open in it, the moves before it, its tokens, its own moves, and all paths
+-- that it goes through, in turn. It is empty, or a variation and behind it something that is passed over, or a move, or
+-- between parentheses another variation, which begins before the last move.
 pub data IsVariation (g : Geometry) (p : Placement)
     : ℕ → (before : List Move) → List Token → (moves : List Move) → (paths : List (List Move)) → Type 0 where
   empty : {room : ℕ} {before : List Move} → IsVariation g p room before [] [] []
-  passed : {room : ℕ} {before moves : List Move} {ts : List Token} {paths : List (List Move)} {t : Token}
+  passed : {room : ℕ} {before moves : List Move} {ts : List Token} {paths : List (List Move)} (t : Token)
       → IsVariation g p room before ts moves paths → IsPassed t.what
       → IsVariation g p room before (ts ++ t ∷ []) moves paths
   move : {room : ℕ} {before moves : List Move} {ts : List Token} {paths : List (List Move)} {t : Token} {m : Move}
       → IsVariation g p room before ts moves paths → length (before ++ moves) < MAX_PATH
       → IsMove g (after g p (before ++ moves)) t m
       → IsVariation g p room before (ts ++ t ∷ []) (moves ++ m ∷ []) (paths ++ (before ++ (moves ++ m ∷ [])) ∷ [])
-  variation : {room : ℕ} {before moves others : List Move} {ts us : List Token} {paths more : List (List Move)}
-      {open close : Token} {last : Move}
-      → IsVariation g p (suc room) before ts (moves ++ last ∷ []) paths → open.what ≡ Opens
-      → IsVariation g p room (before ++ moves) us others more → close.what ≡ Closes
-      → IsVariation g p (suc room) before (ts ++ open ∷ (us ++ close ∷ [])) (moves ++ last ∷ []) (paths ++ more)
+  variation : {room : ℕ} {before others : List Move} {ts us : List Token} {paths more : List (List Move)}
+      (moves : List Move) (last : Move) (opening closing : Token)
+      → IsVariation g p (suc room) before ts (moves ++ last ∷ []) paths → opening.what ≡ Opens
+      → IsVariation g p room (before ++ moves) us others more → closing.what ≡ Closes
+      → IsVariation g p (suc room) before (ts ++ opening ∷ (us ++ closing ∷ [])) (moves ++ last ∷ []) (paths ++ more)
 
 -- comments alone
 abbrev pub AreComments : List Token → Type 0

@@ -5,7 +5,8 @@ use Rattle.std.specs.List.{list_all, list_any}
 use Rattle.dw_board.specs.FenTokens.{is_digit, full_stop}
 use Rattle.dw_notation.specs.Tags.{open_brace, close_brace, ends_line, is_space}
 use Rattle.dw_games.specs.declared.tokens.TokenKind.{TokenKind}
-use Rattle.dw_games.specs.declared.tokens.TokenKind.TheVariants.{Comment, Passed, Written, Opens, Closes, CutOff, Unknown}
+use Rattle.dw_games.specs.declared.tokens.TokenKind.TheVariants.{Comment, Passed, Written, Opens, Closes, CutOff}
+use Rattle.dw_games.specs.declared.tokens.TokenKind.TheVariants.{Unknown}
 
 -- the signs of a movetext
 abbrev pub semicolon : ℕ
@@ -58,7 +59,8 @@ pub record IsRun (test : ℕ → Bool) (run after : List ℕ) : Type 0 where
 
 -- whether a byte begins a token; a per cent sign does at the beginning of a line alone
 abbrev pub begins_token : Bool → ℕ → Bool
-begins_token fresh byte = is_digit byte || list_any (λ sign. byte == sign) (codes "{;.$!?()*") || fresh && byte == per_cent
+begins_token fresh byte = (is_digit byte || list_any (λ sign. byte == sign) (codes "{;.$!?()*"))
+    || (fresh && (byte == per_cent))
 
 -- A token of some kind, by its bytes and those after it, and by whether it stands at the beginning of a line.
 pub data IsToken : Bool → TokenKind → (text after : List ℕ) → Type 0 where
@@ -71,7 +73,7 @@ pub data IsToken : Bool → TokenKind → (text after : List ℕ) → Type 0 whe
   -- a whole line that is a comment
   whole_line : {line after : List ℕ} → IsRun is_in_line line after → IsToken true Comment (per_cent ∷ line) after
   -- the number of a move: digits and dots behind them, or dots alone
-  number : {fresh : Bool} {digits dots after : List ℕ} → list_all is_digit digits ≡ true → 0 < length dots
+  number : {fresh : Bool} (digits : List ℕ) {dots after : List ℕ} → list_all is_digit digits ≡ true → 0 < length dots
       → IsRun is_dot dots after → IsToken fresh Passed (digits ++ dots) after
   -- a mark by its number
   numbered_mark : {fresh : Bool} {digits after : List ℕ} → 0 < length digits → IsRun is_digit digits after

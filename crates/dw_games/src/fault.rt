@@ -1,4 +1,6 @@
 //! Why a text is no movetext.
+ghost use Rattle.std.specs.Prelude.{◌≡◌};
+ghost use Rattle.dw_games.specs.declared.fault.MovetextFault.TheVariants.{Memory};
 
 use std::alloc::AllocError;
 use std::fmt;
@@ -31,12 +33,6 @@ pub enum MovetextFaultKind {
 }
 
 impl MovetextFaultKind {
-    /// Its number, from 1 on.
-    /// Example: that of `MovetextFaultKind::Unclosed` is 5.
-    pub fn number(self) -> u8 {
-        self as u8 + 1
-    }
-
     /// Its name in texts.
     fn name(self) -> &'static str {
         match self {
@@ -77,6 +73,8 @@ pub enum MovetextFault {
 }
 
 impl From<AllocError> for MovetextFault {
+    ghost from_gives = { λ _ e. e ≡ Memory };
+
     fn from(_refused: AllocError) -> MovetextFault {
         MovetextFault::Memory
     }

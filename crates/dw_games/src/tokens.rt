@@ -1,7 +1,9 @@
 //! The tokens of a movetext, read from the front.
-ghost use Rattle.std.specs.Prelude.{◌≡◌, ◌+◌, ◌≤◌, ◌<◌, ◌↔◌, ℕ, List, [], ◌∷◌, false, length, drop, IsTrue, slice_range};
-ghost use Rattle.std.specs.Prelude.{MatchOption};
-ghost use Rattle.dw_games.specs.Tokens.{IsRun};
+ghost use Rattle.std.specs.Prelude.{◌≡◌, ◌+◌, ◌≤◌, ◌<◌, ℕ, List, [], ◌∷◌, true, false, length, take, drop, MatchOption};
+ghost use Rattle.std.specs.Prelude.{IfSome};
+ghost use Rattle.dw_board.specs.FenTokens.{is_digit};
+ghost use Rattle.dw_notation.specs.Tags.{is_space as is_space_byte};
+ghost use Rattle.dw_games.specs.Tokens.{IsRun, IsToken, AreTokens, begins_with};
 ghost use Rattle.dw_games.specs.inner.Classes.{test_of};
 
 use crate::class::{Class, ends_line, is_space};
@@ -39,7 +41,9 @@ pub(crate) struct Token<'a> {
 
 impl<'a> Token<'a> {
     /// The fault at its place.
-    pub(crate) fn fault(&self, what: MovetextFaultKind) -> MovetextFault {
+    pub(crate) fn fault(&self, what: MovetextFaultKind) -> MovetextFault
+        ensures { result ≡ MovetextFault.Refused what self.now.place }
+    {
         MovetextFault::Refused {
             what,
             place: self.place,
@@ -59,10 +63,14 @@ pub(crate) struct Tokens<'a> {
 }
 
 impl<'a> Tokens<'a> {
+    ghost use Rattle.dw_games.specs.inner.Ahead.{AreAhead, bytes_ahead, end_of, token_value};
+
     /// The tokens of a text.
     /// Example: of ` 1.` the first is `1.`, at place 2.
     pub(crate) fn new(text: &'a [u8]) -> Tokens<'a>
         requires { length text.now ≤ MAX_MOVETEXT }
+        ensures tokens { (tokens : _) → AreAhead result tokens → AreTokens 1 true text.entry.now tokens }
+        ensures end { end_of result ≡ length text.entry.now + 1 }
     {
         Tokens {
             text,
@@ -73,84 +81,114 @@ impl<'a> Tokens<'a> {
 
     /// The next token, or `None` if blanks alone are left.
     /// Example: at the start of ` (` it is the `(` at place 2.
-    pub(crate) fn next(&mut self) -> Option<Token<'a>> {
+    pub(crate) fn next(&mut self) -> Option<Token<'a>>
+        ensures token { MatchOption result (AreAhead self.old [])
+            (λ t. (tokens : _) → AreAhead self.new tokens → AreAhead self.old (token_value t ∷ tokens)) }
+        ensures shorter { IfSome result (λ _. length (bytes_ahead self.new) < length (bytes_ahead self.old)) }
+        ensures end { end_of self.new ≡ end_of self.old }
+    {
         self.pass_blanks();
-        let rest = &self.text[self.at..];
-        let (first, _) = rest.split_first()?;
-        let (what, length) = token_of(*first, rest, self.fresh);
-        let place = self.at as u32 + 1;
-        self.at += length;
+        let (first, behind) = self.text[self.at..].split_first()?;
+        let (what, more) = token_of(*first, behind, self.fresh);
+        let from = self.at;
+        self.at += 1 + more;
         self.fresh = false;
         Some(Token {
             what,
-            text: &rest[..length],
-            place,
+            text: &self.text[from..self.at],
+            place: from as u32 + 1,
         })
     }
 
     /// Goes past the blanks that stand next.
-    fn pass_blanks(&mut self) {
-        let text = self.text;
-        let mut at = self.at;
-        let mut fresh = self.fresh;
-        'blanks: while at < text.len() && is_space(text[at]) {
-            fresh = ends_line(text[at]);
-            at += 1;
-        }
+    fn pass_blanks(&mut self)
+        ensures tokens { (tokens : _) → AreAhead self.new tokens → AreAhead self.old tokens }
+        ensures no_blank { begins_with is_space_byte (bytes_ahead self.new) ≡ false }
+        ensures not_longer { length (bytes_ahead self.new) ≤ length (bytes_ahead self.old) }
+        ensures same { self.new.text ≡ self.old.text }
+    {
+        let (at, fresh) = past_blanks(self.text, self.at, self.fresh);
         self.at = at;
         self.fresh = fresh;
     }
 }
 
-/// The token that begins with a byte, the first of the rest of a text: its kind, and how many bytes it has.
-fn token_of(first: u8, rest: &[u8], fresh: bool) -> (TokenKind, usize) {
+/// The first place from this one on where no blank stands, and whether a line begins there, by whether one does here.
+fn past_blanks(text: &[u8], from: usize, begins: bool) -> (usize, bool)
+    requires { from ≤ length text.now }
+    ensures low { from ≤ result.0 }
+    ensures high { result.0 ≤ length text.now }
+    ensures no_blank { begins_with is_space_byte (drop result.0 text.now) ≡ false }
+    ensures tokens { (tokens : _) → AreTokens (result.0 + 1) result.1 (drop result.0 text.now) tokens
+        → AreTokens (from + 1) begins (drop from text.now) tokens }
+{
+    let mut at = from;
+    let mut fresh = begins;
+    'blanks: while at < text.len() && is_space(text[at]) {
+        fresh = ends_line(text[at]);
+        at += 1;
+    }
+    (at, fresh)
+}
+
+/// The token that begins with this byte, which is no blank: its kind, and how many of the bytes behind are part of it.
+fn token_of(first: u8, behind: &[u8], fresh: bool) -> (TokenKind, usize)
+    requires { is_space_byte first ≡ false }
+    ensures within { result.1 ≤ length behind.now }
+    ensures token { IsToken fresh result.0 (first ∷ take result.1 behind.now) (drop result.1 behind.now) }
+{
     match first {
-        b'{' => comment(rest),
-        b';' => line_comment(rest),
-        b'%' if fresh => line_comment(rest),
-        b'$' => numbered_mark(rest),
-        b'!' | b'?' => (TokenKind::Passed, run_of(rest, Class::Praise)),
-        b'.' => (TokenKind::Passed, run_of(rest, Class::Dot)),
-        b'(' => (TokenKind::Opens, 1),
-        b')' => (TokenKind::Closes, 1),
-        b'*' => (TokenKind::Written, 1),
-        b'0'..=b'9' => number_or_written(rest),
-        _ => (TokenKind::Unknown, 1),
+        b'{' => comment(behind),
+        b';' => (TokenKind::Comment, run_of(behind, Class::InLine)),
+        b'%' if fresh => (TokenKind::Comment, run_of(behind, Class::InLine)),
+        b'$' => numbered_mark(behind),
+        b'!' | b'?' => (TokenKind::Passed, run_of(behind, Class::Praise)),
+        b'.' => (TokenKind::Passed, run_of(behind, Class::Dot)),
+        b'(' => (TokenKind::Opens, 0),
+        b')' => (TokenKind::Closes, 0),
+        b'*' => (TokenKind::Written, 0),
+        b'0'..=b'9' => number_or_written(first, behind),
+        _ => (TokenKind::Unknown, 0),
     }
 }
 
-/// The comment in braces that begins a text, or the brace that none closes with all after it.
-fn comment(rest: &[u8]) -> (TokenKind, usize) {
-    let length = 1 + run_of(&rest[1..], Class::Inside);
-    if length < rest.len() {
+/// The comment that begins with a brace before these bytes, or the brace that none closes with all of them.
+fn comment(behind: &[u8]) -> (TokenKind, usize)
+    ensures within { result.1 ≤ length behind.now }
+    ensures token { (fresh : _) → IsToken fresh result.0 (123 ∷ take result.1 behind.now) (drop result.1 behind.now) }
+{
+    let length = run_of(behind, Class::Inside);
+    if length < behind.len() {
         (TokenKind::Comment, length + 1)
     } else {
         (TokenKind::CutOff, length)
     }
 }
 
-/// The comment that begins a text and goes to the end of its line.
-fn line_comment(rest: &[u8]) -> (TokenKind, usize) {
-    (TokenKind::Comment, 1 + run_of(&rest[1..], Class::InLine))
-}
-
-/// The mark that begins a text with `$`.
-fn numbered_mark(rest: &[u8]) -> (TokenKind, usize) {
-    let digits = run_of(&rest[1..], Class::Digit);
+/// The mark that begins with `$` before these bytes.
+fn numbered_mark(behind: &[u8]) -> (TokenKind, usize)
+    ensures within { result.1 ≤ length behind.now }
+    ensures token { (fresh : _) → IsToken fresh result.0 (36 ∷ take result.1 behind.now) (drop result.1 behind.now) }
+{
+    let digits = run_of(behind, Class::Digit);
     if digits == 0 {
-        (TokenKind::CutOff, 1)
+        (TokenKind::CutOff, 0)
     } else {
-        (TokenKind::Passed, 1 + digits)
+        (TokenKind::Passed, digits)
     }
 }
 
-/// The token that begins a text with a digit: its digits with the dots behind them, if there is a dot, or all bytes that
-/// moves and results are written with.
-fn number_or_written(rest: &[u8]) -> (TokenKind, usize) {
-    let digits = run_of(rest, Class::Digit);
-    let dots = run_of(&rest[digits..], Class::Dot);
+/// The token that begins with a digit before these bytes: its digits with the dots behind them, if there is a dot, or
+/// all bytes that moves and results are written with.
+fn number_or_written(first: u8, behind: &[u8]) -> (TokenKind, usize)
+    requires { is_digit first ≡ true }
+    ensures within { result.1 ≤ length behind.now }
+    ensures token { (fresh : _) → IsToken fresh result.0 (first ∷ take result.1 behind.now) (drop result.1 behind.now) }
+{
+    let digits = run_of(behind, Class::Digit);
+    let dots = run_of(&behind[digits..], Class::Dot);
     if dots == 0 {
-        (TokenKind::Written, run_of(rest, Class::Written))
+        (TokenKind::Written, run_of(behind, Class::Written))
     } else {
         (TokenKind::Passed, digits + dots)
     }

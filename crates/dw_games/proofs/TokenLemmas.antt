@@ -1,0 +1,107 @@
+-- Tokens at the front of bytes, told by how many of these are part of them.
+use Rattle.std.proofs.Common.{◌≡◌, ◌==◌, ℕ, zero, suc, ◌+◌, ◌<◌, ◌≤◌, Bool, true, false, ◌&&◌, ◌||◌, not, List, [], ◌∷◌, ◌++◌}
+use Rattle.std.proofs.Common.{length, take, drop, get_or, refl, sym, ap, subst, ◌∙◌, arith, add-one, add-zero, drop-cons}
+use Rattle.std.proofs.Common.{◌⊎◌, inl, inr}
+use Rattle.std.proofs.Math.Seq.{take-add, take-suc, take-length}
+use Rattle.std.proofs.lemmas.List.{drop_all, length-take-le, take-append-drop, drop-drop}
+use Rattle.std.proofs.lemmas.Bool.{not-false, eqb-true, cases_Bool, true≢false, or_cases}
+use Rattle.std.proofs.lemmas.Grind.{common_steps}
+use Rattle.std.specs.List.{list_all}
+use Rattle.dw_board.specs.FenTokens.{is_digit}
+use Rattle.dw_notation.specs.Tags.{is_space, ends_line}
+use Rattle.dw_games.specs.Tokens.{IsRun, IsToken, Token, AreTokens, begins_with, is_inside, is_in_line, is_dot, is_written}
+use Rattle.dw_games.specs.Tokens.{in_braces, unclosed, numbered_mark, no_number, number, written}
+use Rattle.dw_games.specs.Tokens.{nothing, blank, token}
+use Rattle.dw_games.specs.declared.tokens.TokenKind.{TokenKind}
+use Rattle.dw_games.specs.declared.tokens.TokenKind.TheVariants.{Comment, Passed, Written, CutOff}
+
+-- ---- comments
+closing : (byte : ℕ) → is_inside byte ≡ false → byte ≡ 125
+closing byte h = eqb-true byte 125 (not-false _ h)
+
+-- bytes up to the first brace that closes, and it
+pub comment_token : (fresh : Bool) (xs : List ℕ) (n : ℕ) → n < length xs → IsRun is_inside (take n xs) (drop n xs)
+    → IsToken fresh Comment (123 ∷ take (n + 1) xs) (drop (n + 1) xs)
+comment_token fresh xs n fits run =
+    let cut : drop n xs ≡ get_or xs n 0 ∷ drop (suc n) xs = drop-cons xs n 0 fits in
+    let brace : get_or xs n 0 ≡ 125 = closing _ (rw cut at run.ends) in
+    let taken : take (suc n) xs ≡ take n xs ++ 125 ∷ [] =
+        take-suc xs n 0 fits ∙ ap (λ byte. take n xs ++ byte ∷ []) brace in
+    let inner : IsRun is_inside (take n xs) (125 ∷ drop (suc n) xs) = record { all = run.all; ends = refl } in
+    rw (add-one, taken) (in_braces inner)
+
+-- all bytes, if no brace closes
+pub unclosed_token : (fresh : Bool) (xs : List ℕ) (n : ℕ) → length xs ≤ n → IsRun is_inside (take n xs) (drop n xs)
+    → IsToken fresh CutOff (123 ∷ take n xs) (drop n xs)
+unclosed_token fresh xs n all run = rw (drop_all n xs all) (unclosed run.all)
+
+-- ---- marks
+pub mark_token : (fresh : Bool) (xs : List ℕ) (n : ℕ) → 0 < n → n ≤ length xs → IsRun is_digit (take n xs) (drop n xs)
+    → IsToken fresh Passed (36 ∷ take n xs) (drop n xs)
+mark_token fresh xs n some fits run =
+    let more : 0 < length (take n xs) = rw (length-take-le n xs fits) some in numbered_mark more run
+
+-- ---- numbers
+pub number_token : (fresh : Bool) (first : ℕ) (xs : List ℕ) (d e : ℕ) → is_digit first ≡ true
+    → IsRun is_digit (take d xs) (drop d xs) → 0 < e → e ≤ length (drop d xs)
+    → IsRun is_dot (take e (drop d xs)) (drop e (drop d xs))
+    → IsToken fresh Passed (first ∷ take (d + e) xs) (drop (d + e) xs)
+number_token fresh first xs d e is digits some fits dots =
+    let more : 0 < length (take e (drop d xs)) = rw (length-take-le e (drop d xs) fits) some in
+    let all : list_all is_digit (first ∷ take d xs) ≡ true = rw is digits.all in
+    let behind : IsRun is_dot (take e (drop d xs)) (drop (d + e) xs) = rw (← drop-drop d e xs) dots in
+    rw (take-add d e xs) (number (first ∷ take d xs) all more behind)
+
+-- ---- moves and results
+absent : {A : Type 0} → true ≡ false → A
+absent h = absurd (true≢false h)
+
+-- two runs of one class at the front of the same bytes are equally long
+one_run : (test : ℕ → Bool) (xs : List ℕ) (m n : ℕ) → m ≤ length xs → n ≤ length xs
+    → list_all test (take m xs) ≡ true → begins_with test (drop m xs) ≡ false
+    → list_all test (take n xs) ≡ true → begins_with test (drop n xs) ≡ false → m ≡ n
+one_run test [] m n ms ns a b c d = omega (arith, ms, ns)
+one_run test (x ∷ xs) zero zero ms ns a b c d = refl
+one_run test (x ∷ xs) zero (suc n) ms ns a b c d = absent (sym (rw b at c))
+one_run test (x ∷ xs) (suc m) zero ms ns a b c d = absent (sym (rw d at a))
+one_run test (x ∷ xs) (suc m) (suc n) ms ns a b c d = elim (cases_Bool (test x)) [
+  | inl is ↦ ap suc (one_run test xs m n (omega arith) (omega arith) (rw is at a) b (rw is at c) d)
+  | inr other ↦ absent (sym (rw other at a))
+]
+
+no_digit : (byte : ℕ) → is_written byte ≡ false → is_digit byte ≡ false
+no_digit byte h = elim (cases_Bool (is_digit byte)) [
+  | inl is ↦ absent (rw is at h)
+  | inr other ↦ other
+]
+
+no_digit_first : (xs : List ℕ) → begins_with is_written xs ≡ false → begins_with is_digit xs ≡ false
+no_digit_first [] h = refl
+no_digit_first (x ∷ xs) h = no_digit x h
+
+is_written_digit : (byte : ℕ) → is_digit byte ≡ true → is_written byte ≡ true
+is_written_digit byte h = rw h refl
+
+-- bytes written like moves, if no dot stands behind their digits
+pub written_token : (fresh : Bool) (first : ℕ) (xs : List ℕ) (d n : ℕ) → is_digit first ≡ true → d ≤ length xs
+    → IsRun is_digit (take d xs) (drop d xs) → begins_with is_dot (drop d xs) ≡ false → n ≤ length xs
+    → IsRun is_written (take n xs) (drop n xs) → IsToken fresh Written (first ∷ take n xs) (drop n xs)
+written_token fresh first xs d n is fits digits no_dot within run =
+    let all : list_all is_written (first ∷ take n xs) ≡ true = rw (is_written_digit first is) run.all in
+    let whole : IsRun is_written (first ∷ take n xs) (drop n xs) = record { all = all; ends = run.ends } in
+    let dotless : list_all is_digit (first ∷ take n xs) ≡ true → begins_with is_dot (drop n xs) ≡ false =
+        λ h. let same : d ≡ n = one_run is_digit xs d n fits within digits.all digits.ends (rw is at h)
+            (no_digit_first _ run.ends) in rw (← same) no_dot in
+    written is whole dotless
+
+-- ---- rows of tokens
+-- a token stands in front of those behind it
+pub token_next : (place n m : ℕ) (fresh : Bool) (what : TokenKind) (text rest : List ℕ) (tokens : List Token)
+    → IsToken fresh what (take n text) (drop n text) → n ≤ length text → drop n text ≡ rest → place + n ≡ m
+    → AreTokens m false rest tokens
+    → AreTokens place fresh text ((record { what = what; text = take n text; place = place }) ∷ tokens)
+token_next place n m fresh what text rest tokens is fits same sum are =
+    let ahead : AreTokens (place + length (take n text)) false (drop n text) tokens =
+        rw (length-take-le n text fits, same, sum) are in
+    subst (λ xs. AreTokens place fresh xs ((record { what = what; text = take n text; place = place }) ∷ tokens))
+    (take-append-drop n text) (token (take n text) (drop n text) is ahead)
