@@ -1,6 +1,6 @@
 -- Tokens at the front of bytes, told by how many of these are part of them.
 use Rattle.std.proofs.Common.{◌≡◌, ◌==◌, ℕ, zero, suc, ◌+◌, ◌<◌, ◌≤◌, Bool, true, false, ◌&&◌, ◌||◌, not, List, [], ◌∷◌, ◌++◌}
-use Rattle.std.proofs.Common.{length, take, drop, get_or, refl, sym, ap, subst, ◌∙◌, arith, add-one, add-zero, drop-cons}
+use Rattle.std.proofs.Common.{length, take, drop, get_or, refl, sym, ap, subst, ◌∙◌, arith, add-one, add-zero, drop-cons, one-add}
 use Rattle.std.proofs.Common.{◌⊎◌, inl, inr}
 use Rattle.std.proofs.Math.Seq.{take-add, take-suc, take-length}
 use Rattle.std.proofs.lemmas.List.{drop_all, length-take-le, take-append-drop, drop-drop}
@@ -10,10 +10,11 @@ use Rattle.std.specs.List.{list_all}
 use Rattle.dw_board.specs.FenTokens.{is_digit}
 use Rattle.dw_notation.specs.Tags.{is_space, ends_line}
 use Rattle.dw_games.specs.Tokens.{IsRun, IsToken, Token, AreTokens, begins_with, is_inside, is_in_line, is_dot, is_written}
+use Rattle.dw_games.specs.Tokens.{is_praise, praise, begins_token, unknown}
 use Rattle.dw_games.specs.Tokens.{in_braces, unclosed, numbered_mark, no_number, number, written}
 use Rattle.dw_games.specs.Tokens.{nothing, blank, token}
 use Rattle.dw_games.specs.declared.tokens.TokenKind.{TokenKind}
-use Rattle.dw_games.specs.declared.tokens.TokenKind.TheVariants.{Comment, Passed, Written, CutOff}
+use Rattle.dw_games.specs.declared.tokens.TokenKind.TheVariants.{Comment, Passed, Written, CutOff, Unknown}
 
 -- ---- comments
 closing : (byte : ℕ) → is_inside byte ≡ false → byte ≡ 125
@@ -41,6 +42,13 @@ pub mark_token : (fresh : Bool) (xs : List ℕ) (n : ℕ) → 0 < n → n ≤ le
 mark_token fresh xs n some fits run =
     let more : 0 < length (take n xs) = rw (length-take-le n xs fits) some in numbered_mark more run
 
+pub praise_token : (fresh : Bool) (first : ℕ) (xs : List ℕ) (n : ℕ) → is_praise first ≡ true
+    → IsRun is_praise (take n xs) (drop n xs) → IsToken fresh Passed (first ∷ take n xs) (drop n xs)
+praise_token fresh first xs n is run =
+    let all : list_all is_praise (first ∷ take n xs) ≡ true = rw is run.all in
+    let whole : IsRun is_praise (first ∷ take n xs) (drop n xs) = record { all = all; ends = run.ends } in
+    let some : 0 < length (first ∷ take n xs) = omega arith in praise some whole
+
 -- ---- numbers
 pub number_token : (fresh : Bool) (first : ℕ) (xs : List ℕ) (d e : ℕ) → is_digit first ≡ true
     → IsRun is_digit (take d xs) (drop d xs) → 0 < e → e ≤ length (drop d xs)
@@ -49,8 +57,14 @@ pub number_token : (fresh : Bool) (first : ℕ) (xs : List ℕ) (d e : ℕ) → 
 number_token fresh first xs d e is digits some fits dots =
     let more : 0 < length (take e (drop d xs)) = rw (length-take-le e (drop d xs) fits) some in
     let all : list_all is_digit (first ∷ take d xs) ≡ true = rw is digits.all in
-    let behind : IsRun is_dot (take e (drop d xs)) (drop (d + e) xs) = rw (← drop-drop d e xs) dots in
+    let behind : IsRun is_dot (take e (drop d xs)) (drop (d + e) xs) = rw (← drop-drop e d xs) dots in
     rw (take-add d e xs) (number (first ∷ take d xs) all more behind)
+
+pub dots_token : (fresh : Bool) (xs : List ℕ) (n : ℕ) → IsRun is_dot (take n xs) (drop n xs)
+    → IsToken fresh Passed (46 ∷ take n xs) (drop n xs)
+dots_token fresh xs n run =
+    let whole : IsRun is_dot (46 ∷ take n xs) (drop n xs) = record { all = run.all; ends = run.ends } in
+    let some : 0 < length (46 ∷ take n xs) = omega arith in number [] refl some whole
 
 -- ---- moves and results
 absent : {A : Type 0} → true ≡ false → A
@@ -91,8 +105,24 @@ written_token fresh first xs d n is fits digits no_dot within run =
     let whole : IsRun is_written (first ∷ take n xs) (drop n xs) = record { all = all; ends = run.ends } in
     let dotless : list_all is_digit (first ∷ take n xs) ≡ true → begins_with is_dot (drop n xs) ≡ false =
         λ h. let same : d ≡ n = one_run is_digit xs d n fits within digits.all digits.ends (rw is at h)
-            (no_digit_first _ run.ends) in rw (← same) no_dot in
+            (no_digit_first (drop n xs) run.ends) in rw (← same) no_dot in
     written is whole dotless
+
+-- ---- bytes that begin no token
+and_no : (b : Bool) → (b && false) ≡ false
+and_no true = refl
+and_no false = refl
+
+differ : (a b : ℕ) → (a ≡ b → ⊥) → (a == b) ≡ false
+differ a b ne = elim (cases_Bool (a == b)) [ inl is ↦ absurd (ne (eqb-true a b is)) | inr other ↦ other ]
+
+pub unknown_token : (fresh : Bool) (b : ℕ) (rest : List ℕ) → is_space b ≡ false → is_digit b ≡ false
+    → is_praise b ≡ false → (b ≡ 123 → ⊥) → (b ≡ 59 → ⊥) → (b ≡ 46 → ⊥) → (b ≡ 36 → ⊥) → (b ≡ 40 → ⊥)
+    → (b ≡ 41 → ⊥) → (b ≡ 42 → ⊥) → (b ≡ 37 → ⊥) → IsToken fresh Unknown (b ∷ []) rest
+unknown_token fresh b rest space digit praised brace semi dot sign opened closed starred cent =
+    let none : begins_token fresh b ≡ false = rw (digit, praised, differ b 123 brace, differ b 59 semi,
+        differ b 46 dot, differ b 36 sign, differ b 40 opened, differ b 41 closed, differ b 42 starred,
+        differ b 37 cent) (and_no fresh) in unknown none space
 
 -- ---- rows of tokens
 -- a token stands in front of those behind it
@@ -105,3 +135,34 @@ token_next place n m fresh what text rest tokens is fits same sum are =
         rw (length-take-le n text fits, same, sum) are in
     subst (λ xs. AreTokens place fresh xs ((record { what = what; text = take n text; place = place }) ∷ tokens))
     (take-append-drop n text) (token (take n text) (drop n text) is ahead)
+
+-- what stands ahead behind a blank stands ahead before it
+pub blank_next : (text : List ℕ) (n : ℕ) (fresh next : Bool) (tokens : List Token) → n < length text
+    → true ≡ is_space (get_or text n 0) → next ≡ ends_line (get_or text n 0)
+    → AreTokens (n + 1 + 1) next (drop (n + 1) text) tokens → AreTokens (n + 1) fresh (drop n text) tokens
+blank_next text n fresh next tokens inside is ends are =
+    let there : AreTokens (n + 1 + 1) (ends_line (get_or text n 0)) (drop (suc n) text) tokens =
+        rw (← ends) (rw (← add-one n) are) in
+    let ahead : AreTokens (n + 1) fresh (get_or text n 0 ∷ drop (suc n) text) tokens = blank (sym is) there in
+    rw (drop-cons text n 0 inside) ahead
+
+-- no token is ahead of nothing
+pub none_ahead : (place : ℕ) (fresh : Bool) (text : List ℕ) → text ≡ [] → AreTokens place fresh text []
+none_ahead place fresh text e = rw e nothing
+
+-- the token at the front of the bytes that are ahead, and then those behind it
+pub first_ahead : (text rest behind bytes : List ℕ) (n more : ℕ) (fresh : Bool) (what : TokenKind) (first : ℕ)
+    (tokens : List Token)
+    → rest ≡ drop n text → rest ≡ first ∷ behind → bytes ≡ take (1 + more) rest → more ≤ length behind
+    → IsToken fresh what (first ∷ take more behind) (drop more behind)
+    → AreTokens (n + (1 + more) + 1) false (drop (n + (1 + more)) text) tokens
+    → AreTokens (n + 1) fresh (drop n text) ((record { what = what; text = bytes; place = n + 1 }) ∷ tokens)
+first_ahead text rest behind bytes n more fresh what first tokens start is cut fits readable are =
+    let whole : drop n text ≡ first ∷ behind = sym start ∙ is in
+    let taken : bytes ≡ first ∷ take more behind = cut ∙ rw (is, one-add) refl in
+    let beyond : drop more behind ≡ drop (n + (1 + more)) text =
+        rw (← drop-drop (1 + more) n text) (rw (whole, one-add) refl) in
+    let inside : suc more ≤ length (first ∷ behind) = omega arith in
+    let core = token_next (n + 1) (suc more) (n + (1 + more) + 1) fresh what (first ∷ behind)
+        (drop (n + (1 + more)) text) tokens readable inside beyond (omega arith) are in
+    rw (whole, taken) core

@@ -59,8 +59,8 @@ pub record IsRun (test : ℕ → Bool) (run after : List ℕ) : Type 0 where
 
 -- whether a byte begins a token; a per cent sign does at the beginning of a line alone
 abbrev pub begins_token : Bool → ℕ → Bool
-begins_token fresh byte = (is_digit byte || list_any (λ sign. byte == sign) (codes "{;.$!?()*"))
-    || (fresh && (byte == per_cent))
+begins_token fresh byte = (is_digit byte || is_praise byte)
+    || (list_any (λ sign. byte == sign) (codes "{;.$()*") || (fresh && (byte == per_cent)))
 
 -- A token of some kind, by its bytes and those after it, and by whether it stands at the beginning of a line.
 pub data IsToken : Bool → TokenKind → (text after : List ℕ) → Type 0 where

@@ -88,16 +88,14 @@ impl<'a> Tokens<'a> {
         ensures end { end_of self.new ≡ end_of self.old }
     {
         self.pass_blanks();
-        let (first, behind) = self.text[self.at..].split_first()?;
+        let (_, rest) = self.text.split_at(self.at);
+        let (first, behind) = rest.split_first()?;
         let (what, more) = token_of(*first, behind, self.fresh);
-        let from = self.at;
+        let (text, _) = rest.split_at(1 + more);
+        let place = self.at as u32 + 1;
         self.at += 1 + more;
         self.fresh = false;
-        Some(Token {
-            what,
-            text: &self.text[from..self.at],
-            place: from as u32 + 1,
-        })
+        Some(Token { what, text, place })
     }
 
     /// Goes past the blanks that stand next.
@@ -140,14 +138,14 @@ fn token_of(first: u8, behind: &[u8], fresh: bool) -> (TokenKind, usize)
     match first {
         b'{' => comment(behind),
         b';' => (TokenKind::Comment, run_of(behind, Class::InLine)),
-        b'%' if fresh => (TokenKind::Comment, run_of(behind, Class::InLine)),
+        b'%' => line_comment(behind, fresh),
         b'$' => numbered_mark(behind),
-        b'!' | b'?' => (TokenKind::Passed, run_of(behind, Class::Praise)),
         b'.' => (TokenKind::Passed, run_of(behind, Class::Dot)),
         b'(' => (TokenKind::Opens, 0),
         b')' => (TokenKind::Closes, 0),
         b'*' => (TokenKind::Written, 0),
-        b'0'..=b'9' => number_or_written(first, behind),
+        _ if Class::Praise.has(first) => (TokenKind::Passed, run_of(behind, Class::Praise)),
+        _ if Class::Digit.has(first) => number_or_written(first, behind),
         _ => (TokenKind::Unknown, 0),
     }
 }
@@ -162,6 +160,18 @@ fn comment(behind: &[u8]) -> (TokenKind, usize)
         (TokenKind::Comment, length + 1)
     } else {
         (TokenKind::CutOff, length)
+    }
+}
+
+/// The line that begins with a per cent sign before these bytes, if a line begins there.
+fn line_comment(behind: &[u8], fresh: bool) -> (TokenKind, usize)
+    ensures within { result.1 ≤ length behind.now }
+    ensures token { IsToken fresh result.0 (37 ∷ take result.1 behind.now) (drop result.1 behind.now) }
+{
+    if fresh {
+        (TokenKind::Comment, run_of(behind, Class::InLine))
+    } else {
+        (TokenKind::Unknown, 0)
     }
 }
 
@@ -186,7 +196,8 @@ fn number_or_written(first: u8, behind: &[u8]) -> (TokenKind, usize)
     ensures token { (fresh : _) → IsToken fresh result.0 (first ∷ take result.1 behind.now) (drop result.1 behind.now) }
 {
     let digits = run_of(behind, Class::Digit);
-    let dots = run_of(&behind[digits..], Class::Dot);
+    let (_, rest) = behind.split_at(digits);
+    let dots = run_of(rest, Class::Dot);
     if dots == 0 {
         (TokenKind::Written, run_of(behind, Class::Written))
     } else {
