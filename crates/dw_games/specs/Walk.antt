@@ -1,6 +1,13 @@
 -- Walking a tree: from a beginning to those that are one move longer.
-use Rattle.std.specs.Prelude.{◌≡◌, ℕ, ◌≤◌, ◌<◌, Option, Some, None, List, [], ◌∷◌, ◌++◌, slice_get}
+use Rattle.std.specs.Prelude.{◌≡◌, ◌⊎◌, ℕ, ◌≤◌, ◌<◌, Option, Some, None, List, [], ◌∷◌, ◌++◌, slice_get}
+use Rattle.std.specs.Prelude.{option_map}
+use Rattle.dw_board.specs.Lists.{Member}
 use Rattle.dw_moves.specs.Moves.{Move}
+use Rattle.dw_games.specs.declared.tree.Node.{Node}
+
+-- the place of a node in the tree, or none for the root
+abbrev pub place_of : Option Node → Option ℕ
+place_of node = option_map (λ n. n.0) node
 
 -- the beginning before a node, which is that at its place in the tree; the empty one at the root
 abbrev pub beginning_at : List (List Move) → Option ℕ → Option (List Move)
@@ -16,3 +23,7 @@ abbrev pub IsNext : List (List Move) → List Move → ℕ → Option ℕ → Ty
 IsNext tree beginning from None = (n : ℕ) → from ≤ n → GoesOn tree beginning n → ⊥
 IsNext tree beginning from (Some n) = (from ≤ n) × GoesOn tree beginning n
     × ((k : ℕ) → from ≤ k → k < n → GoesOn tree beginning k → ⊥)
+
+-- a path stands in a tree already, or is put behind all others
+abbrev pub IsNoted : List (List Move) → List Move → List (List Move) → Type 0
+IsNoted old path new = (Member path old × (new ≡ old)) ⊎ ((Member path old → ⊥) × (new ≡ old ++ path ∷ []))

@@ -135,7 +135,7 @@ impl<B: Board> Reader<B> {
     fn play(&mut self, token: Token<'_>) -> Result<bool, MovetextFault> {
         let now = self.line.now;
         let mv = self.move_of(token)?;
-        let node = self.tree.note(now.node, mv)?;
+        let node = self.tree.note(now.node, &mv)?;
         self.line = Line {
             now: Spot {
                 node: Some(node),
