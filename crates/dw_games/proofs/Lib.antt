@@ -1,1 +1,5 @@
 pub mod TokenLemmas
+pub mod PlaceLemmas
+pub mod LinkLemmas
+pub mod PathLemmas
+pub mod BranchLemmas

@@ -3,7 +3,7 @@ use Rattle.std.specs.Prelude.{◌≡◌, ◌⊎◌, ℕ, ◌≤◌, ◌<◌, Opt
 use Rattle.std.specs.Prelude.{option_map}
 use Rattle.dw_board.specs.Lists.{Member}
 use Rattle.dw_moves.specs.Moves.{Move}
-use Rattle.dw_games.specs.declared.tree.Node.{Node}
+use Rattle.dw_games.specs.declared.branches.Node.{Node}
 
 -- the place of a node in the tree, or none for the root
 abbrev pub place_of : Option Node → Option ℕ

@@ -5,6 +5,7 @@
 //! An example tells a position by its FEN text, on the board of ten rows if it names no other.
 #![tactic(auto)]
 
+mod branches;
 mod class;
 pub mod fault;
 pub mod movetext;

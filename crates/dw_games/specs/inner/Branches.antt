@@ -1,9 +1,11 @@
 -- How the nodes of a tree hang together, and the paths that lead to them.
 use Rattle.std.specs.Prelude.{◌≡◌, ◌⊎◌, ℕ, ◌+◌, ◌≤◌, ◌<◌, Option, Some, None, List, [], ◌∷◌, ◌++◌, length, map, slice_get}
-use Rattle.std.specs.Prelude.{slice_index_or}
+use Rattle.std.specs.Prelude.{slice_index_or, slice_set}
 use Rattle.dw_moves.specs.Moves.{Move}
 use Rattle.dw_games.specs.Walk.{place_of}
-use Rattle.dw_games.specs.declared.tree.Branch.{Branch}
+use Rattle.dw_games.specs.declared.branches.Branch.{Branch}
+use Rattle.dw_games.specs.declared.branches.Found.{Found}
+use Rattle.dw_games.specs.declared.branches.Found.TheVariants.{Child, Last}
 
 -- the move before a node, and the node before that move, or none at the root
 pub record Step : Type 0 where
@@ -67,3 +69,33 @@ pub record AreLinked (steps : List Step) (firsts nexts : List (Option ℕ)) : Ty
 -- nodes hang together
 abbrev pub Hang : {B : Type 0} → List (Branch B) → Type 0
 Hang branches = AreLinked (steps_of branches) (firsts_of branches) (nexts_of branches)
+
+-- the first children and the next siblings with a new node linked: behind the last child of its parent, if there is one
+abbrev pub first_linked : List (Option ℕ) → (last parent : Option ℕ) → ℕ → List (Option ℕ)
+first_linked firsts (Some last) parent n = firsts
+first_linked firsts None None n = firsts
+first_linked firsts None (Some parent) n = slice_set firsts parent (Some n)
+
+abbrev pub next_linked : List (Option ℕ) → (last : Option ℕ) → ℕ → List (Option ℕ)
+next_linked nexts None n = nexts
+next_linked nexts (Some last) n = slice_set nexts last (Some n)
+
+-- a node with this step; or no node has it, and this is the last one with this parent
+abbrev pub IsFound : List Step → Option ℕ → Move → Found → Type 0
+IsFound steps parent m (Child n) = slice_get steps n.0 ≡ Some (record { parent = parent; mv = m })
+IsFound steps parent m (Last last) = ((n : ℕ) → slice_get steps n ≡ Some (record { parent = parent; mv = m }) → ⊥)
+    × IsLastChild steps parent (place_of last)
+
+-- the place behind a node, or the first one of all
+abbrev pub behind : Option ℕ → ℕ
+behind None = 0
+behind (Some n) = n + 1
+
+-- a child of a node, if there is a node at all
+abbrev pub IsChildOrNone : List Step → Option ℕ → Option ℕ → Type 0
+IsChildOrNone steps parent None = Unit {0}
+IsChildOrNone steps parent (Some n) = IsChild steps parent n
+
+-- no node before this place has this step
+abbrev pub IsUnseen : List Step → Option ℕ → Move → ℕ → Type 0
+IsUnseen steps parent m end = (n : ℕ) → n < end → slice_get steps n ≡ Some (record { parent = parent; mv = m }) → ⊥
