@@ -14,7 +14,7 @@ use Rattle.dw_games.specs.inner.Branches.{IsLastChild, IsUnseen, IsChildOrNone, 
 use Rattle.dw_games.proofs.PlaceLemmas.{absent, same}
 use Rattle.dw_games.proofs.PathLemmas.{got_some}
 
-abbrev step_of : {B : Type 0} → Branch B → Step
+abbrev pub step_of : {B : Type 0} → Branch B → Step
 step_of b = record { parent = place_of b.parent; mv = b.mv }
 
 module _ {B : Type 0} (branches : List (Branch B)) (i : ℕ) (b : Branch B) (inside : i < length branches)

@@ -3,3 +3,4 @@ pub mod PlaceLemmas
 pub mod LinkLemmas
 pub mod PathLemmas
 pub mod BranchLemmas
+pub mod TreeLemmas

@@ -143,7 +143,7 @@ module _ (steps : List Step) (above : (n k : ℕ) → IsChild steps (Some n) k �
   parents_same end ih (Some m) (Some n) low pp qp e =
       ap Some (ih m n (get_or (paths_of steps) m []) (low m refl) (at_node m pp) (at_node n qp ∙ ap Some (sym e)))
 
-  parent_place : (k : ℕ) (s : Step) → slice_get steps k ≡ Some s → (p : Option ℕ) → s.parent ≡ p → IsPlace steps p
+  pub parent_place : (k : ℕ) (s : Step) → slice_get steps k ≡ Some s → (p : Option ℕ) → s.parent ≡ p → IsPlace steps p
   parent_place k s e None is = tt
   parent_place k s e (Some n) is =
       let lower : n < k = above n k (s.mv, parent_is steps s n k is e) in

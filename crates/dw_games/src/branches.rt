@@ -77,17 +77,18 @@ fn is_by<B: Board>(branches: &[Branch<B>], node: Node, mv: &Move<B>) -> bool
 
 /// Links the last node to the one before it that has the same parent, or to its parent.
 pub(crate) fn link<B: Board>(
-    branches: &mut [Branch<B>],
+    branches: &mut Vec<Branch<B>>,
     parent: Option<Node>,
     last: Option<Node>,
     node: Node,
 )
-    requires parent { IsPlace (steps_of branches.old) (place_of parent) }
-    requires last { IsPlace (steps_of branches.old) (place_of last) }
-    ensures steps { steps_of branches.new ≡ steps_of branches.old }
-    ensures firsts { firsts_of branches.new
-        ≡ first_linked (firsts_of branches.old) (place_of last) (place_of parent) node.0 }
-    ensures nexts { nexts_of branches.new ≡ next_linked (nexts_of branches.old) (place_of last) node.0 }
+    requires parent { IsPlace (steps_of branches.old.items) (place_of parent) }
+    requires last { IsPlace (steps_of branches.old.items) (place_of last) }
+    ensures steps { steps_of branches.new.items ≡ steps_of branches.old.items }
+    ensures firsts { firsts_of branches.new.items
+        ≡ first_linked (firsts_of branches.old.items) (place_of last) (place_of parent) node.0 }
+    ensures nexts { nexts_of branches.new.items
+        ≡ next_linked (nexts_of branches.old.items) (place_of last) node.0 }
 {
     if let Some(before) = last {
         branches[before.0].next_sibling = Some(node);

@@ -49,7 +49,7 @@ impl<B: Board> Tree<B> {
     pub(crate) fn is_empty(&self) -> bool
         ensures { result ≡ (length self.now == 0) }
     {
-        self.branches.is_empty()
+        self.branches.as_slice().is_empty()
     }
 
     /// The node behind the first move after a node, or after the root.
@@ -93,14 +93,14 @@ impl<B: Board> Tree<B> {
             Found::Child(node) => return Ok(node),
             Found::Last(last) => last,
         };
-        let place = self.branches.len();
+        let place = self.branches.as_slice().len();
         self.branches.push(Branch {
             mv: *mv,
             parent,
             first_child: None,
             next_sibling: None,
         })?;
-        link(self.branches.as_mut_slice(), parent, last, Node(place));
+        link(&mut self.branches, parent, last, Node(place));
         Ok(Node(place))
     }
 }
