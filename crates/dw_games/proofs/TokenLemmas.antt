@@ -126,43 +126,45 @@ unknown_token fresh b rest space digit praised brace semi dot sign opened closed
 
 -- ---- rows of tokens
 -- a token stands in front of those behind it
-pub token_next : (place n m : ℕ) (fresh : Bool) (what : TokenKind) (text rest : List ℕ) (tokens : List Token)
-    → IsToken fresh what (take n text) (drop n text) → n ≤ length text → drop n text ≡ rest → place + n ≡ m
-    → AreTokens m false rest tokens
-    → AreTokens place fresh text ((record { what = what; text = take n text; place = place }) ∷ tokens)
-token_next place n m fresh what text rest tokens is fits same sum are =
-    let ahead : AreTokens (place + length (take n text)) false (drop n text) tokens =
+pub token_next : (place n m : ℕ) (fresh : Bool) (what : TokenKind) (text rest left : List ℕ)
+    (tokens : List Token) → IsToken fresh what (take n text) (drop n text) → n ≤ length text → drop n text ≡ rest → place + n ≡ m
+    → AreTokens m false rest tokens left
+    → AreTokens place fresh text ((record { what = what; text = take n text; place = place }) ∷ tokens) left
+token_next place n m fresh what text rest left tokens is fits same sum are =
+    let ahead : AreTokens (place + length (take n text)) false (drop n text) tokens left =
         rw (length-take-le n text fits, same, sum) are in
-    subst (λ xs. AreTokens place fresh xs ((record { what = what; text = take n text; place = place }) ∷ tokens))
+    subst (λ xs. AreTokens place fresh xs ((record { what = what; text = take n text; place = place }) ∷ tokens) left)
     (take-append-drop n text) (token (take n text) (drop n text) is ahead)
 
 -- what stands ahead behind a blank stands ahead before it
-pub blank_next : (text : List ℕ) (n : ℕ) (fresh next : Bool) (tokens : List Token) → n < length text
+pub blank_next : (text : List ℕ) (n : ℕ) (fresh next : Bool) (tokens : List Token) (left : List ℕ)
+    → n < length text
     → true ≡ is_space (get_or text n 0) → next ≡ ends_line (get_or text n 0)
-    → AreTokens (n + 1 + 1) next (drop (n + 1) text) tokens → AreTokens (n + 1) fresh (drop n text) tokens
-blank_next text n fresh next tokens inside is ends are =
-    let there : AreTokens (n + 1 + 1) (ends_line (get_or text n 0)) (drop (suc n) text) tokens =
+    → AreTokens (n + 1 + 1) next (drop (n + 1) text) tokens left
+    → AreTokens (n + 1) fresh (drop n text) tokens left
+blank_next text n fresh next tokens left inside is ends are =
+    let there : AreTokens (n + 1 + 1) (ends_line (get_or text n 0)) (drop (suc n) text) tokens left =
         rw (← ends) (rw (← add-one n) are) in
-    let ahead : AreTokens (n + 1) fresh (get_or text n 0 ∷ drop (suc n) text) tokens = blank (sym is) there in
+    let ahead : AreTokens (n + 1) fresh (get_or text n 0 ∷ drop (suc n) text) tokens left = blank (sym is) there in
     rw (drop-cons text n 0 inside) ahead
 
 -- no token is ahead of nothing
-pub none_ahead : (place : ℕ) (fresh : Bool) (text : List ℕ) → text ≡ [] → AreTokens place fresh text []
+pub none_ahead : (place : ℕ) (fresh : Bool) (text : List ℕ) → text ≡ [] → AreTokens place fresh text [] []
 none_ahead place fresh text e = rw e nothing
 
 -- the token at the front of the bytes that are ahead, and then those behind it
 pub first_ahead : (text rest behind bytes : List ℕ) (n more : ℕ) (fresh : Bool) (what : TokenKind) (first : ℕ)
-    (tokens : List Token)
+    (tokens : List Token) (left : List ℕ)
     → rest ≡ drop n text → rest ≡ first ∷ behind → bytes ≡ take (1 + more) rest → more ≤ length behind
     → IsToken fresh what (first ∷ take more behind) (drop more behind)
-    → AreTokens (n + (1 + more) + 1) false (drop (n + (1 + more)) text) tokens
-    → AreTokens (n + 1) fresh (drop n text) ((record { what = what; text = bytes; place = n + 1 }) ∷ tokens)
-first_ahead text rest behind bytes n more fresh what first tokens start is cut fits readable are =
+    → AreTokens (n + (1 + more) + 1) false (drop (n + (1 + more)) text) tokens left
+    → AreTokens (n + 1) fresh (drop n text) ((record { what = what; text = bytes; place = n + 1 }) ∷ tokens) left
+first_ahead text rest behind bytes n more fresh what first tokens left start is cut fits readable are =
     let whole : drop n text ≡ first ∷ behind = sym start ∙ is in
     let taken : bytes ≡ first ∷ take more behind = cut ∙ rw (is, one-add) refl in
     let beyond : drop more behind ≡ drop (n + (1 + more)) text =
         rw (← drop-drop (1 + more) n text) (rw (whole, one-add) refl) in
     let inside : suc more ≤ length (first ∷ behind) = omega arith in
     let core = token_next (n + 1) (suc more) (n + (1 + more) + 1) fresh what (first ∷ behind)
-        (drop (n + (1 + more)) text) tokens readable inside beyond (omega arith) are in
+        (drop (n + (1 + more)) text) left tokens readable inside beyond (omega arith) are in
     rw (whole, taken) core

@@ -85,8 +85,8 @@ pub data FaultAtEnd (g : Geometry) (p : Placement) : List Token → MovetextFaul
 -- large has no other.
 pub data IsFirstFault (g : Geometry) (p : Placement) : List ℕ → MovetextFaultKind → ℕ → Type 0 where
   too_large : {text : List ℕ} → MAX_MOVETEXT < length text → IsFirstFault g p text TooLarge (MAX_MOVETEXT + 1)
-  at_token : {text : List ℕ} (before : List Token) (t : Token) (rest : List Token) {what : MovetextFaultKind}
-      → length text ≤ MAX_MOVETEXT → AreTokens 1 true text (before ++ t ∷ rest) → FaultAt g p before t what
+  at_token : {text : List ℕ} (before : List Token) (t : Token) (rest : List ℕ) {what : MovetextFaultKind}
+      → length text ≤ MAX_MOVETEXT → AreTokens 1 true text (before ++ t ∷ []) rest → FaultAt g p before t what
       → IsFirstFault g p text what t.place
   at_end : {text : List ℕ} (tokens : List Token) {what : MovetextFaultKind} → length text ≤ MAX_MOVETEXT
-      → AreTokens 1 true text tokens → FaultAtEnd g p tokens what → IsFirstFault g p text what (length text + 1)
+      → AreTokens 1 true text tokens [] → FaultAtEnd g p tokens what → IsFirstFault g p text what (length text + 1)

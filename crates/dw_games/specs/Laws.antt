@@ -1,5 +1,5 @@
 -- Laws of movetexts.
-use Rattle.std.specs.Prelude.{◌≡◌, ◌⊎◌, ℕ, true, List}
+use Rattle.std.specs.Prelude.{◌≡◌, ◌⊎◌, ℕ, true, List, []}
 use Rattle.dw_board.specs.Geometry.{Geometry, IsBoard}
 use Rattle.dw_board.specs.Placement.{Placement, IsPosition}
 use Rattle.dw_moves.specs.Moves.{Move}
@@ -11,8 +11,8 @@ use Rattle.dw_games.specs.declared.fault.MovetextFaultKind.{MovetextFaultKind}
 -- a row of tokens of a text, which is the only one
 pub record HasOneRow (text : List ℕ) : Type 0 where
   pub tokens : List Token
-  pub are : AreTokens 1 true text tokens
-  pub one : (others : List Token) → AreTokens 1 true text others → others ≡ tokens
+  pub are : AreTokens 1 true text tokens []
+  pub one : (others : List Token) → AreTokens 1 true text others [] → others ≡ tokens
 
 -- each text has exactly one row of tokens
 abbrev pub OneRow : Type 0

@@ -25,7 +25,7 @@ pub data AreDistinct : (paths tree : List (List Move)) → Type 0 where
 pub record IsTree (g : Geometry) (p : Placement) (text : List ℕ) (tree : List (List Move)) : Type 0 where
   pub size : length text ≤ MAX_MOVETEXT
   pub tokens : List Token
-  pub are_tokens : AreTokens 1 true text tokens
+  pub are_tokens : AreTokens 1 true text tokens []
   pub paths : List (List Move)
   pub game : IsGame g p tokens paths
   pub distinct : AreDistinct paths tree

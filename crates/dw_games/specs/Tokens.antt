@@ -107,12 +107,12 @@ pub record Token : Type 0 where
   pub text : List ℕ
   pub place : ℕ
 
--- these are the tokens of bytes, the first of which stands at this place, by whether it stands at the beginning of a
--- line: blanks may stand before, between and after them
-pub data AreTokens : ℕ → Bool → List ℕ → List Token → Type 0 where
-  nothing : {place : ℕ} {fresh : Bool} → AreTokens place fresh [] []
-  blank : {place : ℕ} {fresh : Bool} {byte : ℕ} {bytes : List ℕ} {tokens : List Token} → is_space byte ≡ true
-      → AreTokens (place + 1) (ends_line byte) bytes tokens → AreTokens place fresh (byte ∷ bytes) tokens
-  token : {place : ℕ} {fresh : Bool} {what : TokenKind} (text after : List ℕ) {tokens : List Token}
-      → IsToken fresh what text after → AreTokens (place + length text) false after tokens
-      → AreTokens place fresh (text ++ after) ((record { what = what; text = text; place = place }) ∷ tokens)
+-- these are the tokens of bytes up to the rest of them, by the place of the first byte, and by whether it stands at the
+-- beginning of a line: blanks may stand before, between and after them
+pub data AreTokens : ℕ → Bool → (text : List ℕ) → List Token → (rest : List ℕ) → Type 0 where
+  nothing : {place : ℕ} {fresh : Bool} {rest : List ℕ} → AreTokens place fresh rest [] rest
+  blank : {place : ℕ} {fresh : Bool} {byte : ℕ} {bytes rest : List ℕ} {tokens : List Token} → is_space byte ≡ true
+      → AreTokens (place + 1) (ends_line byte) bytes tokens rest → AreTokens place fresh (byte ∷ bytes) tokens rest
+  token : {place : ℕ} {fresh : Bool} {what : TokenKind} {rest : List ℕ} (text after : List ℕ) {tokens : List Token}
+      → IsToken fresh what text after → AreTokens (place + length text) false after tokens rest
+      → AreTokens place fresh (text ++ after) ((record { what = what; text = text; place = place }) ∷ tokens) rest

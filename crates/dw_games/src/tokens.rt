@@ -69,7 +69,8 @@ impl<'a> Tokens<'a> {
     /// Example: of ` 1.` the first is `1.`, at place 2.
     pub(crate) fn new(text: &'a [u8]) -> Tokens<'a>
         requires { length text.now ≤ MAX_MOVETEXT }
-        ensures tokens { (tokens : _) → AreAhead result tokens → AreTokens 1 true text.entry.now tokens }
+        ensures tokens { (tokens : _) (rest : _) → AreAhead result tokens rest
+            → AreTokens 1 true text.entry.now tokens rest }
         ensures end { end_of result ≡ length text.entry.now + 1 }
     {
         Tokens {
@@ -82,8 +83,9 @@ impl<'a> Tokens<'a> {
     /// The next token, or `None` if blanks alone are left.
     /// Example: at the start of ` (` it is the `(` at place 2.
     pub(crate) fn next(&mut self) -> Option<Token<'a>>
-        ensures token { MatchOption result (AreAhead self.old [])
-            (λ t. (tokens : _) → AreAhead self.new tokens → AreAhead self.old (token_value t ∷ tokens)) }
+        ensures token { MatchOption result (AreAhead self.old [] [])
+            (λ t. (tokens : _) (rest : _) → AreAhead self.new tokens rest
+            → AreAhead self.old (token_value t ∷ tokens) rest) }
         ensures shorter { IfSome result (λ _. length (bytes_ahead self.new) < length (bytes_ahead self.old)) }
         ensures end { end_of self.new ≡ end_of self.old }
     {
@@ -100,7 +102,8 @@ impl<'a> Tokens<'a> {
 
     /// Goes past the blanks that stand next.
     fn pass_blanks(&mut self)
-        ensures tokens { (tokens : _) → AreAhead self.new tokens → AreAhead self.old tokens }
+        ensures tokens { (tokens : _) (rest : _) → AreAhead self.new tokens rest
+            → AreAhead self.old tokens rest }
         ensures no_blank { begins_with is_space_byte (bytes_ahead self.new) ≡ false }
         ensures not_longer { length (bytes_ahead self.new) ≤ length (bytes_ahead self.old) }
         ensures same { self.new.text ≡ self.old.text }
@@ -117,8 +120,8 @@ fn past_blanks(text: &[u8], from: usize, begins: bool) -> (usize, bool)
     ensures low { from ≤ result.0 }
     ensures high { result.0 ≤ length text.now }
     ensures no_blank { begins_with is_space_byte (drop result.0 text.now) ≡ false }
-    ensures tokens { (tokens : _) → AreTokens (result.0 + 1) result.1 (drop result.0 text.now) tokens
-        → AreTokens (from + 1) begins (drop from text.now) tokens }
+    ensures tokens { (tokens : _) (rest : _) → AreTokens (result.0 + 1) result.1 (drop result.0 text.now) tokens rest
+        → AreTokens (from + 1) begins (drop from text.now) tokens rest }
 {
     let mut at = from;
     let mut fresh = begins;

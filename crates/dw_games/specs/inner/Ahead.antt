@@ -8,9 +8,9 @@ use Rattle.dw_games.specs.declared.tokens.Tokens.{Tokens}
 abbrev pub bytes_ahead : Tokens → List ℕ
 bytes_ahead t = drop t.at t.text.now
 
--- these are the tokens still to be read
-abbrev pub AreAhead : Tokens → List of.Token → Type 0
-AreAhead t tokens = of.AreTokens (t.at + 1) t.fresh (bytes_ahead t) tokens
+-- these are the tokens still to be read, up to the rest of the bytes
+abbrev pub AreAhead : Tokens → List of.Token → List ℕ → Type 0
+AreAhead t tokens rest = of.AreTokens (t.at + 1) t.fresh (bytes_ahead t) tokens rest
 
 -- the place behind the text
 abbrev pub end_of : Tokens → ℕ

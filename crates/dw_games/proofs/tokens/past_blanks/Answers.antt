@@ -7,7 +7,7 @@ blanks-preserved c = record {
   low = omega arith;
   high = omega arith;
   ahead =
-      λ tokens are. c.blanks.invariant.ahead tokens
-      (blank_next c.args.text.now c.blanks.at c.blanks.fresh c.ends_line-fresh.result tokens c.blanks-test.true
+      λ tokens rest are. c.blanks.invariant.ahead tokens rest
+      (blank_next c.args.text.now c.blanks.at c.blanks.fresh c.ends_line-fresh.result tokens rest c.blanks-test.true
       c.if-is_space.ensures c.ends_line-fresh.ensures are);
 }
