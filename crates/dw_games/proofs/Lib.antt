@@ -4,3 +4,5 @@ pub mod LinkLemmas
 pub mod PathLemmas
 pub mod BranchLemmas
 pub mod TreeLemmas
+pub mod ReadingLemmas
+pub mod LongLemmas

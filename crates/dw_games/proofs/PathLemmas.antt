@@ -31,7 +31,7 @@ got_some (x ∷ xs) (suc k) h = got_some xs k (omega arith)
 join_step : (s t : Step) → s.parent ≡ t.parent → s.mv ≡ t.mv → s ≡ t
 join_step s t p m = λ i. record { parent = p i; mv = m i }
 
-filled : {A B : Type 0} (xs : List A) (x : A) → [] ≡ xs ++ x ∷ [] → B
+pub filled : {A B : Type 0} (xs : List A) (x : A) → [] ≡ xs ++ x ∷ [] → B
 filled [] x e = cc
 filled (y ∷ xs) x e = cc
 

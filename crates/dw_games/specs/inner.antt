@@ -3,3 +3,4 @@ pub mod Classes
 pub mod Ahead
 pub mod Branches
 pub mod TreeCodes
+pub mod Reading

@@ -1,4 +1,9 @@
 //! Reading a movetext token by token.
+ghost use Rattle.std.specs.Prelude.{◌≡◌, ◌↔◌, ◌≤◌, ◌<◌, [], true, false, Bool, Result, Ok, Err, MatchResult, length, IfOk};
+ghost use Rattle.std.specs.Prelude.{IsTrue};
+ghost use Rattle.dw_board.specs.Lists.{Member};
+ghost use Rattle.dw_notation.specs.MoveReading.{IsRead};
+ghost use Rattle.dw_games.specs.Play.{IsResult, IsMove, after, crossed, results};
 
 use crate::fault::{MovetextFault, MovetextFaultKind};
 use crate::movetext::{MAX_OPEN, MAX_PATH};
@@ -32,7 +37,9 @@ struct Line<B: Board> {
 
 impl<B: Board> Line<B> {
     /// A variation without moves.
-    fn from(now: Spot<B>) -> Self {
+    fn from(now: Spot<B>) -> Self
+        ensures { result ≡ record { now = now; before = None } }
+    {
         Line { now, before: None }
     }
 }
@@ -58,8 +65,13 @@ pub(crate) struct Reader<B: Board> {
 }
 
 impl<B: Board> Reader<B> {
+    ghost use Rattle.dw_games.specs.inner.Ahead.{token_value};
+    ghost use Rattle.dw_games.specs.inner.Reading.{HasRead, IsTaken, IsLine, IsMoveOf};
+
     /// Nothing is read, and no variation in parentheses is open.
-    pub(crate) fn new(alloc: Global, position: Position<B>) -> Self {
+    pub(crate) fn new(alloc: Global, position: Position<B>) -> Self
+        ensures { HasRead B.geometry position [] result }
+    {
         Reader {
             alloc,
             tree: Tree::new(alloc),
@@ -73,12 +85,16 @@ impl<B: Board> Reader<B> {
     }
 
     /// Whether a variation in parentheses is open.
-    pub(crate) fn is_within(&self) -> bool {
+    pub(crate) fn is_within(&self) -> bool
+        ensures { IsTrue result ↔ (0 < length self.now.outer.items) }
+    {
         !self.outer.is_empty()
     }
 
     /// The moves that were read.
-    pub(crate) fn into_tree(self) -> Tree<B> {
+    pub(crate) fn into_tree(self) -> Tree<B>
+        ensures { result ≡ self.tree }
+    {
         let Reader {
             alloc: _,
             tree,
@@ -89,7 +105,10 @@ impl<B: Board> Reader<B> {
     }
 
     /// Reads a token, and says whether it is the result.
-    pub(crate) fn take(&mut self, token: Token<'_>) -> Result<bool, MovetextFault> {
+    pub(crate) fn take(&mut self, token: Token<'_>) -> Result<bool, MovetextFault>
+        ensures { (p : _) (ts : _) → HasRead B.geometry p ts self.old
+            → IsTaken B.geometry p ts (token_value token.entry) self.new result }
+    {
         match token.what {
             TokenKind::Comment | TokenKind::Passed => Ok(false),
             TokenKind::Opens => self.open(token),
@@ -101,7 +120,11 @@ impl<B: Board> Reader<B> {
     }
 
     /// Begins a variation before the last move.
-    fn open(&mut self, token: Token<'_>) -> Result<bool, MovetextFault> {
+    fn open(&mut self, token: Token<'_>) -> Result<bool, MovetextFault>
+        requires { token.what ≡ TokenKind.Opens }
+        ensures { (p : _) (ts : _) → HasRead B.geometry p ts self.old
+            → IsTaken B.geometry p ts (token_value token.entry) self.new result }
+    {
         let Some(before) = self.line.before else {
             return Err(token.fault(MovetextFaultKind::Variation));
         };
@@ -114,7 +137,11 @@ impl<B: Board> Reader<B> {
     }
 
     /// Goes back to the variation around this one.
-    fn close(&mut self, token: Token<'_>) -> Result<bool, MovetextFault> {
+    fn close(&mut self, token: Token<'_>) -> Result<bool, MovetextFault>
+        requires { token.what ≡ TokenKind.Closes }
+        ensures { (p : _) (ts : _) → HasRead B.geometry p ts self.old
+            → IsTaken B.geometry p ts (token_value token.entry) self.new result }
+    {
         let Some(line) = self.outer.pop() else {
             return Err(token.fault(MovetextFaultKind::Variation));
         };
@@ -123,7 +150,11 @@ impl<B: Board> Reader<B> {
     }
 
     /// Ends with the result.
-    fn end(&mut self, token: Token<'_>) -> Result<bool, MovetextFault> {
+    fn end(&self, token: Token<'_>) -> Result<bool, MovetextFault>
+        requires { IsResult (token_value token) }
+        ensures { (p : _) (ts : _) → HasRead B.geometry p ts self.now
+            → IsTaken B.geometry p ts (token_value token.entry) self.now result }
+    {
         if self.is_within() {
             Err(token.fault(MovetextFaultKind::Unclosed))
         } else {
@@ -132,7 +163,12 @@ impl<B: Board> Reader<B> {
     }
 
     /// Plays a move.
-    fn play(&mut self, token: Token<'_>) -> Result<bool, MovetextFault> {
+    fn play(&mut self, token: Token<'_>) -> Result<bool, MovetextFault>
+        requires written { token.what ≡ TokenKind.Written }
+        requires no_result { IsResult (token_value token) → ⊥ }
+        ensures { (p : _) (ts : _) → HasRead B.geometry p ts self.old
+            → IsTaken B.geometry p ts (token_value token.entry) self.new result }
+    {
         let now = self.line.now;
         let mv = self.move_of(token)?;
         let node = self.tree.note(now.node, &mv)?;
@@ -148,7 +184,12 @@ impl<B: Board> Reader<B> {
     }
 
     /// The legal move that a token names, where a path may have one more move.
-    fn move_of(&self, token: Token<'_>) -> Result<Move<B>, MovetextFault> {
+    fn move_of(&self, token: Token<'_>) -> Result<Move<B>, MovetextFault>
+        requires written { token.what ≡ TokenKind.Written }
+        requires no_result { IsResult (token_value token) → ⊥ }
+        ensures { (p : _) (ts : _) → HasRead B.geometry p ts self.now
+            → IsMoveOf B.geometry p ts (token_value token.entry) self.now result }
+    {
         let found = move_named(self.alloc, &self.line.now.position, token.text);
         match found {
             Err(MoveFault::Syntax) => Err(token.fault(MovetextFaultKind::Token)),
@@ -166,7 +207,9 @@ fn move_named<B: Board>(
     alloc: Global,
     position: &Position<B>,
     text: &[u8],
-) -> Result<Move<B>, MoveFault> {
+) -> Result<Move<B>, MoveFault>
+    ensures { IsRead B.geometry position.now (crossed text.now) result }
+{
     if text.len() > MAX_MOVE {
         return Err(MoveFault::Syntax);
     }
@@ -178,7 +221,9 @@ fn move_named<B: Board>(
 }
 
 /// Whether a text is a result.
-fn is_result(text: &[u8]) -> bool {
+fn is_result(text: &[u8]) -> bool
+    ensures { IsTrue result ↔ Member text.now results }
+{
     matches!(
         text,
         b"2-0" | b"0-2" | b"1-1" | b"0-0" | b"1-0" | b"0-1" | b"1/2-1/2" | b"*"
