@@ -6,3 +6,4 @@ pub mod BranchLemmas
 pub mod TreeLemmas
 pub mod ReadingLemmas
 pub mod LongLemmas
+pub mod TakenLemmas

@@ -1,6 +1,9 @@
 -- A text that is too long names no move.
 use Rattle.std.proofs.Common.{◌≡◌, ℕ, zero, suc, ◌+◌, ◌*◌, ◌<◌, ◌≤◌, List, [], ◌∷◌, ◌++◌, length, Some, None, arith, length-append}
 use Rattle.std.proofs.lemmas.List.{length-map}
+use Rattle.std.specs.Prelude.{◌==◌, if◌then◌else◌}
+use Rattle.dw_board.specs.FenTokens.{colon}
+use Rattle.dw_notation.specs.Text.{cross}
 use Rattle.dw_board.specs.Geometry.{Geometry}
 use Rattle.dw_notation.specs.MoveReading.{IsNumber, AreCrossed, single, more, Named, Names, by_dash, by_crosses}
 use Rattle.dw_games.specs.Play.{crossed}
@@ -14,6 +17,7 @@ number_short g (d ∷ e ∷ f ∷ text) s h = absent s h
 
 crossed_short : (g : Geometry) (text squares : List ℕ) → AreCrossed g text squares
     → length text + 1 ≤ 3 * length squares
+crossed_short g text [] h = elim h [ ]
 crossed_short g text (s ∷ []) (single h) = let n = number_short g text s h in omega (arith, n)
 crossed_short g text (s ∷ squares) (more front cross rest h is others) =
     let n = number_short g front s h in
@@ -30,4 +34,4 @@ names_short g text named (by_crosses {squares = squares} h low high) =
 
 pub names_nothing : (g : Geometry) (text : List ℕ) (named : Named) → 62 < length text → Names g (crossed text) named → ⊥
 names_nothing g text named long h =
-    let n = names_short g (crossed text) named h in omega (arith, n, long, length-map text _)
+    let n = names_short g (crossed text) named h in omega (arith, n, long, length-map text (λ byte. if byte == colon then cross else byte))

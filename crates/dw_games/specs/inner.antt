@@ -4,3 +4,4 @@ pub mod Ahead
 pub mod Branches
 pub mod TreeCodes
 pub mod Reading
+pub mod Refusals

@@ -3,6 +3,7 @@ ghost use Rattle.std.specs.Prelude.{◌≡◌, ◌↔◌, ◌≤◌, ◌<◌, []
 ghost use Rattle.std.specs.Prelude.{IsTrue};
 ghost use Rattle.dw_board.specs.Lists.{Member};
 ghost use Rattle.dw_notation.specs.MoveReading.{IsRead};
+ghost use Rattle.dw_games.specs.inner.Refusals.{refusal_of};
 ghost use Rattle.dw_games.specs.Play.{IsResult, IsMove, after, crossed, results};
 
 use crate::fault::{MovetextFault, MovetextFaultKind};
@@ -190,15 +191,25 @@ impl<B: Board> Reader<B> {
         ensures { (p : _) (ts : _) → HasRead B.geometry p ts self.now
             → IsMoveOf B.geometry p ts (token_value token.entry) self.now result }
     {
-        let found = move_named(self.alloc, &self.line.now.position, token.text);
-        match found {
-            Err(MoveFault::Syntax) => Err(token.fault(MovetextFaultKind::Token)),
-            Err(MoveFault::Memory) => Err(MovetextFault::Memory),
-            _ if self.line.now.moves >= MAX_PATH => Err(token.fault(MovetextFaultKind::TooLong)),
-            Err(MoveFault::NoSuchMove) => Err(token.fault(MovetextFaultKind::NoSuchMove)),
-            Err(MoveFault::Ambiguous) => Err(token.fault(MovetextFaultKind::Ambiguous)),
-            Ok(mv) => Ok(mv),
+        let is_full = self.line.now.moves >= MAX_PATH;
+        match move_named(self.alloc, &self.line.now.position, token.text) {
+            Ok(mv) if !is_full => Ok(mv),
+            Ok(_) => Err(token.fault(MovetextFaultKind::TooLong)),
+            Err(why) => Err(refusal(token, is_full, why)),
         }
+    }
+}
+
+/// The fault of a token of which no move was read, by whether the path has as many moves as it may.
+fn refusal(token: Token<'_>, is_full: bool, why: MoveFault) -> MovetextFault
+    ensures { result ≡ refusal_of token.entry.place is_full why }
+{
+    match why {
+        MoveFault::Memory => MovetextFault::Memory,
+        MoveFault::Syntax => token.fault(MovetextFaultKind::Token),
+        _ if is_full => token.fault(MovetextFaultKind::TooLong),
+        MoveFault::NoSuchMove => token.fault(MovetextFaultKind::NoSuchMove),
+        MoveFault::Ambiguous => token.fault(MovetextFaultKind::Ambiguous),
     }
 }
 

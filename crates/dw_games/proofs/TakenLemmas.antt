@@ -1,0 +1,123 @@
+-- What a reader makes of a token.
+use Rattle.std.proofs.Common.{◌≡◌, ℕ, zero, suc, ◌+◌, ◌<◌, ◌≤◌, Bool, true, false, List, [], ◌∷◌, ◌++◌, length, Option, Some, None}
+use Rattle.std.proofs.Common.{refl, sym, ap, subst, ◌∙◌, arith, append_assoc, append-nil, length-append, inl, inr, Ok, Err}
+use Rattle.dw_board.specs.Geometry.{Geometry}
+use Rattle.dw_board.specs.Placement.{Placement}
+use Rattle.dw_moves.specs.Moves.{Move}
+use Rattle.dw_notation.specs.MoveReading.{IsRead, IsAnswered}
+use Rattle.dw_notation.specs.declared.read_move.MoveFault.{MoveFault}
+use Rattle.dw_notation.specs.declared.read_move.MoveFault.TheVariants as reading
+use Rattle.dw_games.specs.Tokens.{Token}
+use Rattle.dw_games.specs.Play.{IsResult, IsMove, IsPassed, crossed, after, IsVariation, empty, passed, move, variation}
+use Rattle.dw_games.specs.Walk.{IsNoted}
+use Rattle.dw_games.specs.Faults.{IsOpen, FaultAt, HasForm, IsUnreadable, unreadable, no_such_move, ambiguous}
+use Rattle.dw_games.specs.Faults.{no_move_before, none_open, within, too_deep, too_long}
+use Rattle.dw_games.specs.inner.Reading.{IsSpot, IsBefore, Opened, outermost, inner, HasRead, IsFaultOf, IsMoveOf}
+use Rattle.dw_games.specs.inner.Refusals.{refusal_of}
+use Rattle.dw_games.specs.declared.tokens.TokenKind.TheVariants.{Written, Opens, Closes}
+use Rattle.dw_games.specs.declared.movetext.TheConstants.{MAX_OPEN, MAX_PATH}
+use Rattle.dw_games.specs.declared.fault.MovetextFaultKind.TheVariants.{Token as NoToken, NoSuchMove, Ambiguous, Variation}
+use Rattle.dw_games.specs.declared.fault.MovetextFaultKind.TheVariants.{Unclosed, TooDeep, TooLong}
+use Rattle.dw_games.specs.declared.branches.Node.{Node}
+use Rattle.dw_games.specs.declared.reader.Spot.{Spot}
+use Rattle.dw_games.specs.declared.reader.Line.{Line}
+use Rattle.dw_games.specs.declared.reader.Reader.{Reader}
+use Rattle.dw_games.proofs.ReadingLemmas.{opened_open, opened_line, opened_room, read_passed, read_opens, read_closes}
+use Rattle.dw_games.proofs.ReadingLemmas.{none_around, read_move, distinct_noted}
+
+-- ---- no path is too long
+variation_short : (g : Geometry) (p : Placement) {room : ℕ} {before moves : List Move} {ts : List Token}
+    {paths : List (List Move)} → IsVariation g p room before ts moves paths → length before ≤ MAX_PATH
+    → length (before ++ moves) ≤ MAX_PATH
+variation_short g p {before = before} empty short = rw append-nil short
+variation_short g p (passed t v is) short = variation_short g p v short
+variation_short g p {before = before} (move {moves = moves} {m = m} v low is) short =
+    omega (arith, low, length-append before moves, length-append before (moves ++ m ∷ []), length-append moves (m ∷ []))
+variation_short g p (variation moves last opening closing v o w c) short = variation_short g p v short
+
+pub opened_short : {B : Type 0} (g : Geometry) (p : Placement) (tree : List (List Move)) {room : ℕ} {ts : List Token}
+    {line : Line B} {outer : List (Line B)} {before moves : List Move} {paths : List (List Move)}
+    → Opened g p tree room ts line outer before moves paths → length (before ++ moves) ≤ MAX_PATH
+opened_short g p tree (outermost v l) = variation_short g p v (omega arith)
+opened_short g p tree (inner {before = before} moves last opening o e v l) =
+    let h = opened_short g p tree o in
+    variation_short g p v (omega (arith, h, length-append before moves, length-append before (moves ++ last ∷ []),
+    length-append moves (last ∷ [])))
+
+one_less : (n : ℕ) → 0 < n → (m : ℕ) × (n ≡ suc m)
+one_less zero h = absurd (omega (arith, h))
+one_less (suc n) h = (n, refl)
+
+module _ {B : Type 0} (g : Geometry) (p : Placement) (ts : List Token) (r : Reader B) (h : HasRead g p ts r)
+    (t : Token) where
+  pub taken_passed : IsPassed t.what → HasRead g p (ts ++ t ∷ []) r
+  taken_passed is = record {
+    room = h.room;
+    before = h.before;
+    moves = h.moves;
+    paths = h.paths;
+    opened = read_passed g p r.tree t h.opened is;
+    distinct = h.distinct;
+  }
+
+  pub fault_unreadable : IsUnreadable g t → FaultAt g p ts t NoToken
+  fault_unreadable is = unreadable (opened_open g p r.tree h.opened) is
+
+  pub fault_within : IsResult t → 0 < length r.outer.items → FaultAt g p ts t Unclosed
+  fault_within is some =
+      let room = opened_room g p r.tree h.opened in
+      within (opened_open g p r.tree h.opened) (omega (arith, room, some)) is
+
+  -- ---- variations
+  pub fault_no_move : r.line.before ≡ None → t.what ≡ Opens → FaultAt g p ts t Variation
+  fault_no_move none is =
+      let line = opened_line g p r.tree h.opened in
+      let no : h.moves ≡ [] = subst (λ x. IsBefore g p r.tree x h.before h.moves) none line.earlier in
+      no_move_before (subst (λ x. IsOpen g p h.room ts h.before x) no (opened_open g p r.tree h.opened)) is
+
+  earlier : (spot : Spot B) → r.line.before ≡ Some spot → IsBefore g p r.tree (Some spot) h.before h.moves
+  earlier spot e =
+      let line = opened_line g p r.tree h.opened in
+      subst (λ x. IsBefore g p r.tree x h.before h.moves) e line.earlier
+
+  pub fault_deep : (spot : Spot B) → r.line.before ≡ Some spot → MAX_OPEN ≤ length r.outer.items → t.what ≡ Opens
+      → FaultAt g p ts t TooDeep
+  fault_deep spot e full is =
+      let before = earlier spot e in
+      let room = opened_room g p r.tree h.opened in
+      let none : h.room ≡ zero = omega (arith, room, full) in
+      too_deep before.0 before.1 (subst (λ x. IsOpen g p x ts h.before (before.0 ++ before.1 ∷ [])) none
+      (subst (λ x. IsOpen g p h.room ts h.before x) before.2 (opened_open g p r.tree h.opened))) is
+
+  pub taken_opens : (next : Reader B) (spot : Spot B) → r.line.before ≡ Some spot → length r.outer.items < MAX_OPEN
+      → t.what ≡ Opens → next.tree ≡ r.tree → next.line ≡ record { now = spot; before = None }
+      → next.outer.items ≡ r.outer.items ++ r.line ∷ [] → HasRead g p (ts ++ t ∷ []) next
+  taken_opens next spot e fits is tree line outer =
+      let room = opened_room g p r.tree h.opened in
+      let left = one_less h.room (omega (arith, room, fits)) in
+      let opened = read_opens g p r.tree t spot (subst (λ x. Opened g p r.tree x ts r.line r.outer.items h.before h.moves
+          h.paths) left.1 h.opened) is (earlier spot e) in
+      record {
+        room = left.0;
+        before = h.before ++ opened.0;
+        moves = [];
+        paths = h.paths;
+        opened = rw (tree, line, outer) opened.1;
+        distinct = rw tree h.distinct;
+      }
+
+  pub fault_none_open : r.outer.items ≡ [] → t.what ≡ Closes → FaultAt g p ts t Variation
+  fault_none_open none is = none_open (none_around g p r.tree h.opened none) is
+
+  pub taken_closes : (next : Reader B) (around : Line B) → r.outer.items ≡ next.outer.items ++ around ∷ []
+      → t.what ≡ Closes → next.tree ≡ r.tree → next.line ≡ around → HasRead g p (ts ++ t ∷ []) next
+  taken_closes next around outer is tree line =
+      let opened = read_closes g p r.tree t next.outer.items around h.opened outer is in
+      record {
+        room = suc h.room;
+        before = opened.0;
+        moves = opened.1;
+        paths = h.paths;
+        opened = rw (tree, line) opened.2;
+        distinct = rw tree h.distinct;
+      }
