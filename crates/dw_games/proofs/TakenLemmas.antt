@@ -3,13 +3,18 @@ use Rattle.std.proofs.Common.{◌≡◌, ℕ, zero, suc, ◌+◌, ◌<◌, ◌�
 use Rattle.std.proofs.Common.{refl, sym, ap, subst, ◌∙◌, arith, append_assoc, append-nil, length-append, inl, inr, Ok, Err}
 use Rattle.dw_board.specs.Geometry.{Geometry}
 use Rattle.dw_board.specs.Placement.{Placement}
-use Rattle.dw_moves.specs.Moves.{Move}
+use Rattle.dw_moves.specs.Moves.{Move, play, Legal}
 use Rattle.dw_notation.specs.MoveReading.{IsRead, IsAnswered}
 use Rattle.dw_notation.specs.declared.read_move.MoveFault.{MoveFault}
 use Rattle.dw_notation.specs.declared.read_move.MoveFault.TheVariants as reading
 use Rattle.dw_games.specs.Tokens.{Token}
 use Rattle.dw_games.specs.Play.{IsResult, IsMove, IsPassed, crossed, after, IsVariation, empty, passed, move, variation}
-use Rattle.dw_games.specs.Walk.{IsNoted}
+use Rattle.std.specs.List.{slice_get}
+use Rattle.std.specs.Prelude.{◌==◌}
+use Rattle.std.proofs.Math.Nat.{eq-or-lt_of_le}
+use Rattle.std.proofs.lemmas.Bool.{eqb-true, eq-eqb, true≢false}
+use Rattle.dw_notation.specs.MoveReading.{Named, QuietMove, Capture, Fits, FitsSquares}
+use Rattle.dw_games.specs.Walk.{IsNoted, beginning_at, place_of}
 use Rattle.dw_games.specs.Faults.{IsOpen, FaultAt, HasForm, IsUnreadable, unreadable, no_such_move, ambiguous}
 use Rattle.dw_games.specs.Faults.{no_move_before, none_open, within, too_deep, too_long}
 use Rattle.dw_games.specs.inner.Reading.{IsSpot, IsBefore, Opened, outermost, inner, HasRead, IsFaultOf, IsMoveOf}
@@ -121,3 +126,114 @@ module _ {B : Type 0} (g : Geometry) (p : Placement) (ts : List Token) (r : Read
         opened = rw (tree, line) opened.2;
         distinct = rw tree h.distinct;
       }
+
+  -- ---- moves
+  length_now : r.line.now.moves ≡ length (h.before ++ h.moves)
+  length_now = (opened_line g p r.tree h.opened).now.many
+
+  position_now : r.line.now.position ≡ after g p (h.before ++ h.moves)
+  position_now = (opened_line g p r.tree h.opened).now.position
+
+  fault_form_long : HasForm g t → MAX_PATH ≤ r.line.now.moves → FaultAt g p ts t TooLong
+  fault_form_long form long =
+      let short = opened_short g p r.tree h.opened in
+      too_long (opened_open g p r.tree h.opened) (omega (arith, long, short, length_now)) form
+
+  form_of : {answer : _} → t.what ≡ Written → (IsResult t → ⊥) → (q : Placement)
+      → IsAnswered g q (crossed t.text) answer → HasForm g t
+  form_of written no_result q a = record {
+    written = written;
+    no_result = no_result;
+    named = a.named;
+    form = a.names;
+  }
+
+  pub fault_long : (m : Move) → t.what ≡ Written → (IsResult t → ⊥)
+      → IsRead g r.line.now.position (crossed t.text) (Ok m) → MAX_PATH ≤ r.line.now.moves → FaultAt g p ts t TooLong
+  fault_long m written no_result read long =
+      fault_form_long (form_of written no_result r.line.now.position read) long
+
+  here : (why : MoveFault) → IsRead g r.line.now.position (crossed t.text) (Err why)
+      → IsRead g (after g p (h.before ++ h.moves)) (crossed t.text) (Err why)
+  here why read = subst (λ x. IsRead g x (crossed t.text) (Err why)) position_now read
+
+  pub fault_refused : (why : MoveFault) (full : Bool) → t.what ≡ Written → (IsResult t → ⊥)
+      → IsRead g r.line.now.position (crossed t.text) (Err why) → (full ≡ true → MAX_PATH ≤ r.line.now.moves)
+      → (full ≡ false → r.line.now.moves < MAX_PATH) → IsFaultOf g p ts t (refusal_of t.place full why)
+  fault_refused reading.Syntax full written no_result read long short =
+      (fault_unreadable (inr (inr (record {
+        written = written;
+        no_result = no_result;
+        no_form = λ f. read f.named f.form;
+      }))), refl)
+  fault_refused reading.NoSuchMove true written no_result read long short =
+      (fault_form_long (form_of written no_result r.line.now.position read) (long refl), refl)
+  fault_refused reading.NoSuchMove false written no_result read long short =
+      (no_such_move (opened_open g p r.tree h.opened) (omega (arith, short refl, length_now)) (record {
+        form = form_of written no_result r.line.now.position read;
+        refused = here reading.NoSuchMove read;
+      }), refl)
+  fault_refused reading.Ambiguous true written no_result read long short =
+      (fault_form_long (form_of written no_result r.line.now.position read) (long refl), refl)
+  fault_refused reading.Ambiguous false written no_result read long short =
+      (ambiguous (opened_open g p r.tree h.opened) (omega (arith, short refl, length_now)) (record {
+        form = form_of written no_result r.line.now.position read;
+        refused = here reading.Ambiguous read;
+      }), refl)
+  fault_refused reading.Memory full written no_result read long short = tt
+
+  -- the path before a move stands in the tree
+  pub known_now : beginning_at r.tree (place_of r.line.now.node) ≡ Some (h.before ++ h.moves)
+  known_now = (opened_line g p r.tree h.opened).now.there
+
+  pub taken_move : (next : Reader B) (m : Move) (node : Node) → IsMove g r.line.now.position t m
+      → r.line.now.moves < MAX_PATH
+      → ((b : List Move) → beginning_at r.tree (place_of r.line.now.node) ≡ Some b → IsNoted r.tree (b ++ m ∷ []) next.tree)
+      → ((b : List Move) → beginning_at r.tree (place_of r.line.now.node) ≡ Some b
+        → slice_get next.tree node.0 ≡ Some (b ++ m ∷ []))
+      → next.line ≡ record {
+        now = record {
+          node = Some node;
+          position = play g r.line.now.position m;
+          moves = r.line.now.moves + 1;
+        };
+        before = Some r.line.now;
+      } → next.outer.items ≡ r.outer.items → HasRead g p (ts ++ t ∷ []) next
+  taken_move next m node is short noted there line outer =
+      let path : List Move = h.before ++ h.moves in
+      record {
+        room = h.room;
+        before = h.before;
+        moves = h.moves ++ m ∷ [];
+        paths = h.paths ++ (path ++ m ∷ []) ∷ [];
+        opened =
+            rw (line, outer) (read_move g p r.tree next.tree h.room ts r.line r.outer.items h.before h.moves h.paths t m node
+            h.opened (omega (arith, short, length_now)) (subst (λ x. IsMove g x t m) position_now is)
+            (noted path known_now) (there path known_now));
+        distinct = distinct_noted h.paths r.tree next.tree (path ++ m ∷ []) h.distinct (noted path known_now);
+      }
+
+-- ---- what fits a text is a legal move
+squares_legal : (g : Geometry) (p : Placement) (squares : List ℕ) (m : Move) → FitsSquares g p squares m → Legal g p m
+squares_legal g p [] m h = absurd h
+squares_legal g p (s ∷ []) m h = absurd h
+squares_legal g p (s ∷ u ∷ []) m h = h.0
+squares_legal g p (s ∷ u ∷ v ∷ squares) m h = ?
+
+fits_legal : (g : Geometry) (p : Placement) (named : Named) (m : Move) → Fits g p named m → Legal g p m
+fits_legal g p (QuietMove from to) m h = h.0
+fits_legal g p (Capture squares) m h = squares_legal g p squares m h
+
+pub read_legal : (g : Geometry) (p : Placement) (text : List ℕ) (m : Move) → IsRead g p text (Ok m) → Legal g p m
+read_legal g p text m h = fits_legal g p h.named m h.answers.fits
+
+-- ---- how many may be open
+pub full_length : (n : ℕ) → true ≡ (n == 40) → 40 ≤ n
+full_length n e = let is = eqb-true n 40 (sym e) in omega (arith, is)
+
+pub not_full : (n : ℕ) → false ≡ (n == 40) → n ≤ 40 → n < 40
+not_full n e le = elim (eq-or-lt_of_le le) [ inl is ↦ absurd (true≢false (sym (eq-eqb n 40 is) ∙ sym e)) | inr lt ↦ lt ]
+
+pub none_left : {A : Type 0} (xs : List A) → (0 < length xs → false ≡ true) → xs ≡ []
+none_left [] h = refl
+none_left (x ∷ xs) h = absurd (true≢false (sym (h (omega arith))))

@@ -67,7 +67,7 @@ pub(crate) struct Reader<B: Board> {
 
 impl<B: Board> Reader<B> {
     ghost use Rattle.dw_games.specs.inner.Ahead.{token_value};
-    ghost use Rattle.dw_games.specs.inner.Reading.{HasRead, IsTaken, IsLine, IsMoveOf};
+    ghost use Rattle.dw_games.specs.inner.Reading.{HasRead, IsReading, IsTaken, IsMoveOf};
 
     /// Nothing is read, and no variation in parentheses is open.
     pub(crate) fn new(alloc: Global, position: Position<B>) -> Self
@@ -107,6 +107,7 @@ impl<B: Board> Reader<B> {
 
     /// Reads a token, and says whether it is the result.
     pub(crate) fn take(&mut self, token: Token<'_>) -> Result<bool, MovetextFault>
+        requires reading { IsReading B.geometry self.old }
         ensures { (p : _) (ts : _) → HasRead B.geometry p ts self.old
             → IsTaken B.geometry p ts (token_value token.entry) self.new result }
     {
@@ -165,6 +166,7 @@ impl<B: Board> Reader<B> {
 
     /// Plays a move.
     fn play(&mut self, token: Token<'_>) -> Result<bool, MovetextFault>
+        requires reading { IsReading B.geometry self.old }
         requires written { token.what ≡ TokenKind.Written }
         requires no_result { IsResult (token_value token) → ⊥ }
         ensures { (p : _) (ts : _) → HasRead B.geometry p ts self.old
@@ -186,6 +188,7 @@ impl<B: Board> Reader<B> {
 
     /// The legal move that a token names, where a path may have one more move.
     fn move_of(&self, token: Token<'_>) -> Result<Move<B>, MovetextFault>
+        requires reading { IsReading B.geometry self.now }
         requires written { token.what ≡ TokenKind.Written }
         requires no_result { IsResult (token_value token) → ⊥ }
         ensures { (p : _) (ts : _) → HasRead B.geometry p ts self.now

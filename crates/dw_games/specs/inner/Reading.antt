@@ -75,3 +75,7 @@ abbrev pub IsMoveOf : {B : Type 0} → Geometry → Placement → List Token →
     → Type 0
 IsMoveOf g p ts t reader (Ok m) = IsMove g reader.line.now.position t m × (reader.line.now.moves < MAX_PATH)
 IsMoveOf g p ts t reader (Err why) = IsFaultOf g p ts t why
+
+-- a reader has read some tokens, from some position on
+abbrev pub IsReading : {B : Type 0} → Geometry → Reader B → Type 0
+IsReading g reader = (p : Placement) × (ts : List Token) × HasRead g p ts reader
