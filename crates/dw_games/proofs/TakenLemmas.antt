@@ -1,16 +1,17 @@
 -- What a reader makes of a token.
 use Rattle.std.proofs.Common.{◌≡◌, ℕ, zero, suc, ◌+◌, ◌<◌, ◌≤◌, Bool, true, false, List, [], ◌∷◌, ◌++◌, length, Option, Some, None}
-use Rattle.std.proofs.Common.{refl, sym, ap, subst, ◌∙◌, arith, append_assoc, append-nil, length-append, inl, inr, Ok, Err}
+use Rattle.std.proofs.Common.{refl, sym, ap, subst, ◌∙◌, arith, append_assoc, append-nil, length-append, ◌⊎◌, inl, inr, Ok, Err}
 use Rattle.dw_board.specs.Geometry.{Geometry}
 use Rattle.dw_board.specs.Placement.{Placement}
-use Rattle.dw_moves.specs.Moves.{Move, play, Legal}
+use Rattle.dw_moves.specs.Moves.{Move, play, Legal, LegalAt, IsPathOf}
 use Rattle.dw_notation.specs.MoveReading.{IsRead, IsAnswered}
 use Rattle.dw_notation.specs.declared.read_move.MoveFault.{MoveFault}
 use Rattle.dw_notation.specs.declared.read_move.MoveFault.TheVariants as reading
 use Rattle.dw_games.specs.Tokens.{Token}
 use Rattle.dw_games.specs.Play.{IsResult, IsMove, IsPassed, crossed, after, IsVariation, empty, passed, move, variation}
 use Rattle.std.specs.List.{slice_get}
-use Rattle.std.specs.Prelude.{◌==◌}
+use Rattle.std.specs.Prelude.{◌==◌, IsSome}
+use Rattle.dw_games.specs.Movetext.{nothing}
 use Rattle.std.proofs.Math.Nat.{eq-or-lt_of_le}
 use Rattle.std.proofs.lemmas.Bool.{eqb-true, eq-eqb, true≢false}
 use Rattle.dw_notation.specs.MoveReading.{Named, QuietMove, Capture, Fits, FitsSquares}
@@ -19,7 +20,8 @@ use Rattle.dw_games.specs.Faults.{IsOpen, FaultAt, HasForm, IsUnreadable, unread
 use Rattle.dw_games.specs.Faults.{no_move_before, none_open, within, too_deep, too_long}
 use Rattle.dw_games.specs.inner.Reading.{IsSpot, IsBefore, Opened, outermost, inner, HasRead, IsFaultOf, IsMoveOf}
 use Rattle.dw_games.specs.inner.Refusals.{refusal_of}
-use Rattle.dw_games.specs.declared.tokens.TokenKind.TheVariants.{Written, Opens, Closes}
+use Rattle.dw_games.specs.declared.tokens.TokenKind.TheVariants.{Comment, Passed, Written, Opens, Closes}
+use Rattle.dw_games.specs.declared.tokens.TokenKind.{TokenKind}
 use Rattle.dw_games.specs.declared.movetext.TheConstants.{MAX_OPEN, MAX_PATH}
 use Rattle.dw_games.specs.declared.fault.MovetextFaultKind.TheVariants.{Token as NoToken, NoSuchMove, Ambiguous, Variation}
 use Rattle.dw_games.specs.declared.fault.MovetextFaultKind.TheVariants.{Unclosed, TooDeep, TooLong}
@@ -214,11 +216,16 @@ module _ {B : Type 0} (g : Geometry) (p : Placement) (ts : List Token) (r : Read
       }
 
 -- ---- what fits a text is a legal move
+legal_at : (g : Geometry) (p : Placement) (m : Move) (k : ℕ) → 0 < k → (landings : List ℕ) → IsPathOf g p m k landings
+    → LegalAt g p k m
+legal_at g p m zero some landings h = absurd (omega (arith, some))
+legal_at g p m (suc k) some landings h = (landings, h)
+
 squares_legal : (g : Geometry) (p : Placement) (squares : List ℕ) (m : Move) → FitsSquares g p squares m → Legal g p m
 squares_legal g p [] m h = absurd h
 squares_legal g p (s ∷ []) m h = absurd h
 squares_legal g p (s ∷ u ∷ []) m h = h.0
-squares_legal g p (s ∷ u ∷ v ∷ squares) m h = ?
+squares_legal g p (s ∷ u ∷ v ∷ squares) m h = (h.most, h.best, legal_at g p m h.most h.some h.landings h.leads)
 
 fits_legal : (g : Geometry) (p : Placement) (named : Named) (m : Move) → Fits g p named m → Legal g p m
 fits_legal g p (QuietMove from to) m h = h.0
@@ -237,3 +244,26 @@ not_full n e le = elim (eq-or-lt_of_le le) [ inl is ↦ absurd (true≢false (sy
 pub none_left : {A : Type 0} (xs : List A) → (0 < length xs → false ≡ true) → xs ≡ []
 none_left [] h = refl
 none_left (x ∷ xs) h = absurd (true≢false (sym (h (omega arith))))
+
+pub some_is : {A : Type 0} (o : Option A) (x : A) → o ≡ Some x → IsSome o
+some_is o x e = rw e refl
+
+-- a reader that has read nothing
+pub read_nothing : {B : Type 0} (g : Geometry) (p : Placement) (r : Reader B) → r.tree ≡ [] → r.outer.items ≡ []
+    → r.line ≡ record { now = record { node = None; position = p; moves = 0 }; before = None } → HasRead g p [] r
+read_nothing g p r tree outer line = record {
+  room = MAX_OPEN;
+  before = [];
+  moves = [];
+  paths = [];
+  opened =
+      rw (tree, outer, line) (outermost empty (record {
+        now = record { there = refl; position = refl; many = refl };
+        earlier = refl;
+      }));
+  distinct = rw tree nothing;
+}
+
+pub passed_either : (w : TokenKind) → (w ≡ Comment) ⊎ (w ≡ Passed) → IsPassed w
+passed_either w (inl e) = subst IsPassed (sym e) tt
+passed_either w (inr e) = subst IsPassed (sym e) tt

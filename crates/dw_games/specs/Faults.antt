@@ -1,5 +1,5 @@
 -- The first fault of a movetext, by the grammar: what may stand behind the tokens before it, and does not.
-use Rattle.std.specs.Prelude.{◌≡◌, ◌≢◌, ◌⊎◌, ℕ, ◌+◌, ◌<◌, ◌≤◌, true, Err, List, [], ◌∷◌, ◌++◌, length}
+use Rattle.std.specs.Prelude.{◌≡◌, ◌≢◌, ◌⊎◌, ℕ, ◌+◌, ◌<◌, ◌≤◌, true, Result, Ok, Err, List, [], ◌∷◌, ◌++◌, length}
 use Rattle.std.proofs.Common.{zero, suc}
 use Rattle.dw_board.specs.Geometry.{Geometry}
 use Rattle.dw_board.specs.Placement.{Placement}
@@ -11,6 +11,9 @@ use Rattle.dw_games.specs.Tokens.{Token, AreTokens}
 use Rattle.dw_games.specs.Play.{IsResult, crossed, after, IsVariation, IsPlay, IsOver}
 use Rattle.dw_games.specs.declared.tokens.TokenKind.TheVariants.{Comment, Written, Opens, Closes, CutOff, Unknown}
 use Rattle.dw_games.specs.declared.movetext.TheConstants.{MAX_PATH, MAX_OPEN, MAX_MOVETEXT}
+use Rattle.dw_games.specs.Movetext.{IsTree}
+use Rattle.dw_games.specs.declared.fault.MovetextFault.{MovetextFault}
+use Rattle.dw_games.specs.declared.fault.MovetextFault.TheVariants.{Refused, Memory}
 use Rattle.dw_games.specs.declared.fault.MovetextFaultKind.{MovetextFaultKind}
 use Rattle.dw_games.specs.declared.fault.MovetextFaultKind.TheVariants.{Token as NoToken, NoSuchMove, Ambiguous}
 use Rattle.dw_games.specs.declared.fault.MovetextFaultKind.TheVariants.{Variation, Unclosed, Rest, TooDeep, TooLong}
@@ -90,3 +93,9 @@ pub data IsFirstFault (g : Geometry) (p : Placement) : List ℕ → MovetextFaul
       → IsFirstFault g p text what t.place
   at_end : {text : List ℕ} (tokens : List Token) {what : MovetextFaultKind} → length text ≤ MAX_MOVETEXT
       → AreTokens 1 true text tokens [] → FaultAtEnd g p tokens what → IsFirstFault g p text what (length text + 1)
+
+-- The answer to a text: its tree, or its first fault. Memory can be refused for any text.
+abbrev pub IsAnswer : Geometry → Placement → List ℕ → Result (List (List Move)) MovetextFault → Type 0
+IsAnswer g p text (Ok tree) = IsTree g p text tree
+IsAnswer g p text (Err (Refused what place)) = IsFirstFault g p text what place
+IsAnswer g p text (Err Memory) = Unit {0}

@@ -1,5 +1,7 @@
 //! Reading the movetext of an author's solution.
-ghost use Rattle.std.specs.Prelude.{◌≡◌, ◌≤◌, ◌<◌, length};
+ghost use Rattle.std.specs.Prelude.{◌≡◌, ◌≤◌, ◌<◌, ◌+◌, [], length, MatchResult};
+ghost use Rattle.dw_games.specs.Faults.{IsAnswer};
+ghost use Rattle.dw_games.specs.inner.Reading.{IsReading, HasRead, HasEnded, AreLast};
 
 use crate::fault::{MovetextFault, MovetextFaultKind};
 use crate::reader::Reader;
@@ -30,26 +32,40 @@ pub fn read_movetext<B: Board>(
     alloc: Global,
     position: &Position<B>,
     text: &[u8],
-) -> Result<Tree<B>, MovetextFault> {
+) -> Result<Tree<B>, MovetextFault>
+    ensures { IsAnswer B.geometry position.now text.now result }
+{
     if text.len() > MAX_MOVETEXT {
         return Err(behind(MovetextFaultKind::TooLarge, MAX_MOVETEXT));
     }
     let mut tokens = Tokens::new(text);
     let mut reader = Reader::new(alloc, *position);
-    if !reads_result(&mut reader, &mut tokens)? && reader.is_within() {
+    if reads_result(&mut reader, &mut tokens)? {
+        read_comments(&mut tokens)?;
+    } else if reader.is_within() {
         return Err(behind(MovetextFaultKind::Unclosed, text.len()));
     }
-    read_comments(&mut tokens)?;
+    tree_of(reader, text.len())
+}
+
+/// The tree that was read from a text of so many bytes, if it has a move.
+fn tree_of<B: Board>(reader: Reader<B>, bytes: usize) -> Result<Tree<B>, MovetextFault>
+    requires { bytes ≤ MAX_MOVETEXT }
+    ensures { MatchResult result (λ tree. (tree ≡ reader.tree) × (0 < length tree))
+        (λ why. (why ≡ MovetextFault.Refused MovetextFaultKind.Empty (bytes + 1)) × (reader.tree ≡ [])) }
+{
     let tree = reader.into_tree();
     if tree.is_empty() {
-        return Err(behind(MovetextFaultKind::Empty, text.len()));
+        Err(behind(MovetextFaultKind::Empty, bytes))
+    } else {
+        Ok(tree)
     }
-    Ok(tree)
 }
 
 /// A fault behind so many bytes.
 fn behind(what: MovetextFaultKind, bytes: usize) -> MovetextFault
     requires { bytes ≤ MAX_MOVETEXT }
+    ensures { result ≡ MovetextFault.Refused what (bytes + 1) }
 {
     MovetextFault::Refused {
         what,
@@ -61,7 +77,11 @@ fn behind(what: MovetextFaultKind, bytes: usize) -> MovetextFault
 fn reads_result<B: Board>(
     reader: &mut Reader<B>,
     tokens: &mut Tokens<'_>,
-) -> Result<bool, MovetextFault> {
+) -> Result<bool, MovetextFault>
+    requires { IsReading B.geometry reader.old }
+    ensures { (p : _) → HasRead B.geometry p [] reader.old
+        → HasEnded B.geometry p tokens.old tokens.new reader.new result }
+{
     'tokens: while let Some(token) = tokens.next() {
         if reader.take(token)? {
             return Ok(true);
@@ -71,7 +91,9 @@ fn reads_result<B: Board>(
 }
 
 /// Reads what stands behind a result: comments alone.
-fn read_comments(tokens: &mut Tokens<'_>) -> Result<(), MovetextFault> {
+fn read_comments(tokens: &mut Tokens<'_>) -> Result<(), MovetextFault>
+    ensures { AreLast tokens.old result }
+{
     'tokens: while let Some(token) = tokens.next() {
         match token.what {
             TokenKind::Comment => {}

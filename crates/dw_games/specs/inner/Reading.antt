@@ -1,15 +1,18 @@
 -- What a reader of a movetext holds: the tree so far, and where it stands in the variations that are open.
-use Rattle.std.specs.Prelude.{◌≡◌, ◌<◌, ℕ, Bool, true, false, Option, Some, None, Result, Ok, Err, List, [], ◌∷◌, ◌++◌, length}
+use Rattle.std.specs.Prelude.{◌≡◌, ◌≢◌, ◌⊎◌, ◌<◌, ℕ, Bool, true, false, Option, Some, None, Result, Ok, Err, List, [], ◌∷◌, ◌++◌, length}
 use Rattle.std.proofs.Common.{suc}
 use Rattle.dw_board.specs.Geometry.{Geometry}
 use Rattle.dw_board.specs.Placement.{Placement}
 use Rattle.dw_moves.specs.Moves.{Move}
 use Rattle.dw_games.specs.Tokens.{Token}
-use Rattle.dw_games.specs.Play.{IsResult, IsMove, after, IsVariation}
+use Rattle.dw_games.specs.Play.{IsResult, IsMove, after, IsVariation, AreComments}
 use Rattle.dw_games.specs.Movetext.{AreDistinct}
 use Rattle.dw_games.specs.Faults.{FaultAt}
 use Rattle.dw_games.specs.Walk.{place_of, beginning_at}
-use Rattle.dw_games.specs.declared.tokens.TokenKind.TheVariants.{Opens}
+use Rattle.dw_games.specs.inner.Ahead.{AreAhead}
+use Rattle.dw_games.specs.declared.tokens.Tokens.{Tokens}
+use Rattle.dw_games.specs.declared.tokens.TokenKind.TheVariants.{Comment, Opens, CutOff}
+use Rattle.dw_games.specs.declared.fault.MovetextFaultKind.TheVariants.{Token as NoToken, Rest}
 use Rattle.dw_games.specs.declared.movetext.TheConstants.{MAX_OPEN, MAX_PATH}
 use Rattle.dw_games.specs.declared.fault.MovetextFault.{MovetextFault}
 use Rattle.dw_games.specs.declared.fault.MovetextFault.TheVariants.{Refused, Memory}
@@ -79,3 +82,37 @@ IsMoveOf g p ts t reader (Err why) = IsFaultOf g p ts t why
 -- a reader has read some tokens, from some position on
 abbrev pub IsReading : {B : Type 0} → Geometry → Reader B → Type 0
 IsReading g reader = (p : Placement) × (ts : List Token) × HasRead g p ts reader
+
+-- some tokens were read: what is ahead now was ahead behind them
+abbrev pub ReadOn : Tokens → List Token → Tokens → Type 0
+ReadOn old ts now = (more : List Token) (rest : List ℕ) → AreAhead now more rest → AreAhead old (ts ++ more) rest
+
+-- one of the tokens that were ahead is at fault
+abbrev pub IsStopped : Geometry → Placement → Tokens → MovetextFault → Type 0
+IsStopped g p old (Refused what place) = (ts : List Token) × (t : Token) × (rest : List ℕ)
+    × AreAhead old (ts ++ t ∷ []) rest × FaultAt g p ts t what × (place ≡ t.place)
+IsStopped g p old Memory = Unit {0}
+
+-- all tokens were read, or those up to and with the result, or one is at fault
+abbrev pub HasEnded : {B : Type 0} → Geometry → Placement → Tokens → Tokens → Reader B → Result Bool MovetextFault
+    → Type 0
+HasEnded g p old now reader (Ok false) = (ts : List Token) × HasRead g p ts reader × AreAhead old ts []
+HasEnded g p old now reader (Ok true) = (ts : List Token) × (t : Token) × HasRead g p ts reader
+    × (reader.outer.items ≡ []) × IsResult t × ReadOn old (ts ++ t ∷ []) now
+HasEnded g p old now reader (Err why) = IsStopped g p old why
+
+-- so far some tokens were read
+abbrev pub HasGoneOn : {B : Type 0} → Geometry → Placement → Tokens → Tokens → Reader B → Type 0
+HasGoneOn g p old now reader = (ts : List Token) × HasRead g p ts reader × ReadOn old ts now
+
+-- a token is none that may stand behind a result
+abbrev pub IsOdd : Token → MovetextFault → Type 0
+IsOdd t (Refused what place) = (((what ≡ NoToken) × (t.what ≡ CutOff))
+    ⊎ ((what ≡ Rest) × (t.what ≢ Comment) × (t.what ≢ CutOff))) × (place ≡ t.place)
+IsOdd t Memory = ⊥
+
+-- comments alone are ahead, or another token behind some comments
+abbrev pub AreLast : {A : Type 0} → Tokens → Result A MovetextFault → Type 0
+AreLast old (Ok done) = (cs : List Token) × AreComments cs × AreAhead old cs []
+AreLast old (Err why) = (cs : List Token) × (t : Token) × (rest : List ℕ) × AreComments cs
+    × AreAhead old (cs ++ t ∷ []) rest × IsOdd t why
