@@ -7,3 +7,4 @@ pub mod TreeLemmas
 pub mod ReadingLemmas
 pub mod LongLemmas
 pub mod TakenLemmas
+pub mod WholeLemmas
