@@ -1,7 +1,7 @@
 -- What the reads of a list of nodes find, if these hang together.
-use Rattle.std.proofs.Common.{◌≡◌, ◌==◌, ℕ, zero, suc, ◌+◌, ◌<◌, ◌≤◌, Bool, true, false, List, [], ◌∷◌, ◌++◌, length, Option, Some, None}
-use Rattle.std.proofs.Common.{refl, sym, ap, subst, ◌∙◌, get_or, arith, zero-le, ◌⊎◌, inl, inr}
-use Rattle.std.specs.Prelude.{map, option_map, ◌↔◌, MatchOption}
+use Rattle.std.proofs.Common.{◌≡◌, ◌==◌, ℕ, zero, suc, ◌+◌, ◌<◌, ◌≤◌, true, false, List, length, Option, Some, None}
+use Rattle.std.proofs.Common.{refl, sym, ap, subst, ◌∙◌, get_or, arith, zero-le, inl, inr}
+use Rattle.std.specs.Prelude.{option_map, ◌↔◌, MatchOption}
 use Rattle.std.specs.List.{slice_get}
 use Rattle.std.proofs.lemmas.Option.{slice_get_within, slice_get_read, slice_get-map}
 use Rattle.std.proofs.lemmas.List.{length-map}
@@ -9,9 +9,9 @@ use Rattle.std.proofs.lemmas.Bool.{cases_lt, true≢false}
 use Rattle.dw_moves.specs.Moves.{Move}
 use Rattle.dw_games.specs.declared.branches.Branch.{Branch}
 use Rattle.dw_games.specs.Walk.{place_of}
-use Rattle.dw_games.specs.inner.Branches.{Step, steps_of, firsts_of, nexts_of, Hang, AreLinked, IsChild, IsFirstChild}
+use Rattle.dw_games.specs.inner.Branches.{Step, steps_of, firsts_of, nexts_of, Hang, IsChild, IsFirstChild}
 use Rattle.dw_games.specs.inner.Branches.{IsLastChild, IsUnseen, IsChildOrNone, behind}
-use Rattle.dw_games.proofs.PlaceLemmas.{absent, same}
+use Rattle.dw_games.proofs.PlaceLemmas.{same}
 use Rattle.dw_games.proofs.PathLemmas.{got_some}
 
 abbrev pub step_of : {B : Type 0} → Branch B → Step
@@ -54,9 +54,12 @@ top steps (Some n) above h = let no : n < 0 = above n h in absurd (omega (arith,
 pub root_first : (steps : List Step) → ((n k : ℕ) → IsChild steps (Some n) k → n < k) → 0 < length steps
     → IsFirstChild steps None 0 (Some 0)
 root_first steps above some =
-    let first = got_some steps 0 some in
-    (zero-le, top steps first.0.parent (λ n h. above n 0 h) (child_step steps first.0 0 first.1), λ k low high child.
-    omega (arith, high))
+    let first = got_some steps 0 some in (
+      zero-le,
+      top steps first.0.parent (λ n h. above n 0 h) (child_step steps first.0 0 first.1),
+      λ k low high child.
+          omega (arith, high),
+    )
 
 pub not_empty : (n : ℕ) → false ≡ (n == 0) → 0 < n
 not_empty zero e = absurd (true≢false (sym e))
@@ -80,8 +83,8 @@ unseen_next steps p m other from n unseen first here ne = λ k low e. elim (case
   | inr after ↦ elim (cases_lt k n) [
     | inl between ↦ first.2 k after between (m, e)
     | inr last ↦
-      let is : k ≡ n = omega arith in
-      ne ((same_step steps p p other m n here (subst (λ x. slice_get steps x ≡ Some (record { parent = p; mv = m })) is e)).1)
+        let is : k ≡ n = omega arith in
+        ne ((same_step steps p p other m n here (subst (λ x. slice_get steps x ≡ Some (record { parent = p; mv = m })) is e)).1)
   ]
 ]
 
@@ -94,16 +97,18 @@ last_of steps p (Some n) is none = (is, none)
 pub unseen_all : (steps : List Step) (p : Option ℕ) (m : Move) (last : Option ℕ) → IsChildOrNone steps p last
     → IsFirstChild steps p (behind last) None → IsUnseen steps p m (behind last)
     → ((n : ℕ) → slice_get steps n ≡ Some (record { parent = p; mv = m }) → ⊥) × IsLastChild steps p last
-unseen_all steps p m last is none unseen =
-    ((λ n e. elim (cases_lt n (behind last)) [
-      | inl before ↦ unseen n before e
-      | inr after ↦ none n after (m, e)
-    ]), last_of steps p last is none)
+unseen_all steps p m last is none unseen = (
+  (λ n e. elim (cases_lt n (behind last)) [
+    | inl before ↦ unseen n before e
+    | inr after ↦ none n after (m, e)
+  ]),
+  last_of steps p last is none,
+)
 
 -- the next child, if it is by this move
 pub found_by : (steps : List Step) (p : Option ℕ) (m : Move) (n : ℕ) → IsChild steps p n
     → ((parent : Option ℕ) (other : Move) → slice_get steps n ≡ Some (record { parent = parent; mv = other })
-      → (true ≡ true) ↔ (other ≡ m))
+    → (true ≡ true) ↔ (other ≡ m))
     → slice_get steps n ≡ Some (record { parent = p; mv = m })
 found_by steps p m n child by =
     let is : child.0 ≡ m = (by p child.0 child.1).0 refl in
@@ -113,13 +118,16 @@ found_by steps p m n child by =
 pub goes_on : (P : Type 0) (steps : List Step) (p : Option ℕ) (m : Move) (from n : ℕ) (next : Option ℕ) → IsUnseen steps p m from
     → IsFirstChild steps p from (Some n)
     → ((parent : Option ℕ) (other : Move) → slice_get steps n ≡ Some (record { parent = parent; mv = other })
-      → (false ≡ true) ↔ (other ≡ m))
+    → (false ≡ true) ↔ (other ≡ m))
     → MatchOption (slice_get steps n) P (λ s. IsFirstChild steps s.parent (n + 1) next)
     → IsChild steps p n × IsFirstChild steps p (n + 1) next × IsUnseen steps p m (n + 1)
 goes_on P steps p m from n next unseen first by behind =
-    let there = first.1.1 in
-    (first.1, rw there at behind, unseen_next steps p m first.1.0 from n unseen first there
-    (λ e. true≢false (sym ((by p first.1.0 there).1 e))))
+    let there = first.1.1 in (
+      first.1,
+      rw there at behind,
+      unseen_next steps p m first.1.0 from n unseen first there
+          (λ e. true≢false (sym ((by p first.1.0 there).1 e))),
+    )
 
 pub child_inside : {B : Type 0} → (branches : List (Branch B)) (p : Option ℕ) (n : ℕ) → IsChild (steps_of branches) p n
     → n < length branches

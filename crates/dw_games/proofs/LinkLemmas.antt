@@ -1,6 +1,6 @@
 -- Links between nodes stay right if a new node is put behind all others and linked.
-use Rattle.std.proofs.Common.{◌≡◌, ℕ, zero, suc, ◌+◌, ◌<◌, ◌≤◌, List, [], ◌∷◌, ◌++◌, length, Option, Some, None, ◌⊎◌, inl, inr}
-use Rattle.std.proofs.Common.{refl, sym, ap, subst, ◌∙◌, set, arith, length-append, zero-le}
+use Rattle.std.proofs.Common.{◌≡◌, ℕ, ◌+◌, ◌<◌, ◌≤◌, List, [], ◌∷◌, ◌++◌, length, Option, Some, None, ◌⊎◌, inl, inr}
+use Rattle.std.proofs.Common.{refl, sym, ap, subst, ◌∙◌, arith, length-append, zero-le}
 use Rattle.std.proofs.lemmas.List.{length-set}
 use Rattle.std.specs.List.{slice_get}
 use Rattle.std.proofs.lemmas.Option.{slice_get_within}
@@ -30,12 +30,14 @@ child_new steps p q mv k h = elim (got_new steps (step p mv) (step q h.0) k h.1)
 -- a first child stays the first
 first_stays : (steps : List Step) (p q : Option ℕ) (mv : Move) (from n : ℕ) → IsFirstChild steps q from (Some n)
     → IsFirstChild (with_step steps p mv) q from (Some n)
-first_stays steps p q mv from n h =
-    (h.0, (h.1.0, got_old steps (step p mv ∷ []) (step q h.1.0) n h.1.1),
-    λ k low high child. elim (child_new steps p q mv k child) [
-      | inl old ↦ h.2 k low high old
-      | inr new ↦ let small : n < length steps = child_within steps q n h.1 in omega (arith, small, new.0)
-    ])
+first_stays steps p q mv from n h = (
+  h.0,
+  (h.1.0, got_old steps (step p mv ∷ []) (step q h.1.0) n h.1.1),
+  λ k low high child. elim (child_new steps p q mv k child) [
+    | inl old ↦ h.2 k low high old
+    | inr new ↦ let small : n < length steps = child_within steps q n h.1 in omega (arith, small, new.0)
+  ],
+)
 
 -- where there is none, there is none still, if the new node is no child
 none_stays : (steps : List Step) (p q : Option ℕ) (mv : Move) (from : ℕ) → IsFirstChild steps q from None
@@ -48,11 +50,14 @@ none_stays steps p q mv from h ne = λ k low child. elim (child_new steps p q mv
 -- and the new node is the first child else
 first_new : (steps : List Step) (p : Option ℕ) (mv : Move) (from : ℕ) → IsFirstChild steps p from None
     → from ≤ length steps → IsFirstChild (with_step steps p mv) p from (Some (length steps))
-first_new steps p mv from h low =
-    (low, (mv, got_last steps (step p mv)), λ k above below child. elim (child_new steps p p mv k child) [
-      | inl old ↦ h k above old
-      | inr new ↦ omega (arith, new.0)
-    ])
+first_new steps p mv from h low = (
+  low,
+  (mv, got_last steps (step p mv)),
+  λ k above below child. elim (child_new steps p p mv k child) [
+    | inl old ↦ h k above old
+    | inr new ↦ omega (arith, new.0)
+  ],
+)
 
 -- a link that was right stays right, if it is one to a node, or the new node is no child
 link_stays : (steps : List Step) (p q : Option ℕ) (mv : Move) (from : ℕ) (r : Option ℕ) → IsFirstChild steps q from r
@@ -70,7 +75,7 @@ no_child : (steps : List Step) (p : Option ℕ) (mv : Move)
     → IsFirstChild (with_step steps p mv) (Some (length steps)) 0 None
 no_child steps p mv above place = λ k low child. elim (child_new steps p (Some (length steps)) mv k child) [
   | inl old ↦ let far : length steps < k = above _ k old in
-    let near : k < length steps = child_within steps _ k old in omega arith
+      let near : k < length steps = child_within steps _ k old in omega arith
   | inr new ↦ out steps p new.1 place
 ]
 
@@ -91,10 +96,10 @@ children_of : (steps : List Step) (firsts nexts : List (Option ℕ)) → AreLink
 children_of steps firsts nexts linked p mv place ne k r e = elim (got_new firsts None r k e) [
   | inl old ↦ link_stays steps p (Some k) mv 0 r (linked.children k r old) (ne k)
   | inr new ↦
-    let here : k ≡ length steps = new.0 ∙ linked.many in
-    subst (λ x. IsFirstChild (with_step steps p mv) (Some k) 0 x) new.1
-    (subst (λ x. IsFirstChild (with_step steps p mv) (Some x) 0 None) (sym here)
-    (no_child steps p mv linked.above place))
+      let here : k ≡ length steps = new.0 ∙ linked.many in
+      subst (λ x. IsFirstChild (with_step steps p mv) (Some k) 0 x) new.1
+      (subst (λ x. IsFirstChild (with_step steps p mv) (Some x) 0 None) (sym here)
+      (no_child steps p mv linked.above place))
 ]
 
 -- at any place but the parent's
@@ -103,12 +108,12 @@ elsewhere : (steps : List Step) (firsts nexts : List (Option ℕ)) → AreLinked
     → IsFirstChild (with_step steps (Some q) mv) (Some k) 0 r
 elsewhere steps firsts nexts linked q mv place k r ne e = elim (got_new firsts None r k e) [
   | inl old ↦ link_stays steps (Some q) (Some k) mv 0 r (linked.children k r old)
-    (λ none e. ne (sym (same q k e)))
+      (λ none e. ne (sym (same q k e)))
   | inr new ↦
-    let here : k ≡ length steps = new.0 ∙ linked.many in
-    subst (λ x. IsFirstChild (with_step steps (Some q) mv) (Some k) 0 x) new.1
-    (subst (λ x. IsFirstChild (with_step steps (Some q) mv) (Some x) 0 None) (sym here)
-    (no_child steps (Some q) mv linked.above place))
+      let here : k ≡ length steps = new.0 ∙ linked.many in
+      subst (λ x. IsFirstChild (with_step steps (Some q) mv) (Some k) 0 x) new.1
+      (subst (λ x. IsFirstChild (with_step steps (Some q) mv) (Some x) 0 None) (sym here)
+      (no_child steps (Some q) mv linked.above place))
 ]
 
 children_new : (steps : List Step) (firsts nexts : List (Option ℕ)) → AreLinked steps firsts nexts
@@ -125,9 +130,9 @@ children_new steps firsts nexts linked (Some q) (Some l) mv place is k r e =
 children_new steps firsts nexts linked (Some q) None mv place is k r e =
     elim (got_set (firsts ++ None ∷ []) q (Some (length steps)) r k e) [
       | inl here ↦
-        subst (λ x. IsFirstChild (with_step steps (Some q) mv) (Some k) 0 x) here.1
-        (subst (λ x. IsFirstChild (with_step steps (Some q) mv) (Some x) 0 (Some (length steps))) (sym here.0)
-        (first_new steps (Some q) mv 0 is zero-le))
+          subst (λ x. IsFirstChild (with_step steps (Some q) mv) (Some k) 0 x) here.1
+          (subst (λ x. IsFirstChild (with_step steps (Some q) mv) (Some x) 0 (Some (length steps))) (sym here.0)
+          (first_new steps (Some q) mv 0 is zero-le))
       | inr other ↦ elsewhere steps firsts nexts linked q mv place k r other.0 other.1
     ]
 
@@ -148,7 +153,7 @@ linked_behind steps p q mv l k r m is here link known =
     let parent : p ≡ q = ap (λ s. s.parent) one in
     let inside : l < length steps = child_within steps p l is.0 in
     let first : IsFirstChild (with_step steps p mv) p (l + 1) (Some (length steps)) =
-        first_new steps p mv (l + 1) is.1 (omega arith) in
+    first_new steps p mv (l + 1) is.1 (omega arith) in
     subst (λ x. IsFirstChild (with_step steps p mv) q (k + 1) x) link
     (subst (λ x. IsFirstChild (with_step steps p mv) q (x + 1) (Some (length steps))) (sym here)
     (subst (λ x. IsFirstChild (with_step steps p mv) x (l + 1) (Some (length steps))) parent first))
@@ -168,9 +173,9 @@ siblings_new : (steps : List Step) (firsts nexts : List (Option ℕ)) → AreLin
 siblings_new steps firsts nexts linked p None mv is k r q m e there = elim (got_new nexts None r k e) [
   | inl old ↦ elim (got_new steps (step p mv) (step q m) k there) [
     | inl known ↦ link_stays steps p q mv (k + 1) r (linked.siblings k r q m old known)
-      (λ none e. is k zero-le (m, subst (λ x. slice_get steps k ≡ Some (step x m)) (sym e) known))
+        (λ none e. is k zero-le (m, subst (λ x. slice_get steps k ≡ Some (step x m)) (sym e) known))
     | inr new ↦ let inside : k < length nexts = slice_get_within nexts k r old in
-      let no : ⊥ = omega (arith, new.0, linked.many_too) in absurd no
+        let no : ⊥ = omega (arith, new.0, linked.many_too) in absurd no
   ]
   | inr new ↦ at_end steps p q mv k r (new.0 ∙ linked.many_too) new.1
 ]
@@ -179,14 +184,14 @@ siblings_new steps firsts nexts linked p (Some l) mv is k r q m e there =
       | inl here ↦ elim (got_new steps (step p mv) (step q m) k there) [
         | inl known ↦ linked_behind steps p q mv l k r m is here.0 here.1 known
         | inr new ↦ let inside : l < length steps = child_within steps p l is.0 in
-          let no : ⊥ = omega (arith, new.0, here.0) in absurd no
+            let no : ⊥ = omega (arith, new.0, here.0) in absurd no
       ]
       | inr other ↦ elim (got_new nexts None r k other.1) [
         | inl old ↦ elim (got_new steps (step p mv) (step q m) k there) [
           | inl known ↦ link_stays steps p q mv (k + 1) r (linked.siblings k r q m old known)
-            (λ none e. only_last steps p q l k m is other.0 none e known)
+              (λ none e. only_last steps p q l k m is other.0 none e known)
           | inr new ↦ let inside : k < length nexts = slice_get_within nexts k r old in
-            let no : ⊥ = omega (arith, new.0, linked.many_too) in absurd no
+              let no : ⊥ = omega (arith, new.0, linked.many_too) in absurd no
         ]
         | inr new ↦ at_end steps p q mv k r (new.0 ∙ linked.many_too) new.1
       ]
@@ -232,7 +237,7 @@ pub linked_new : (steps : List Step) (firsts nexts : List (Option ℕ)) → AreL
     → (p last : Option ℕ) (mv : Move) → IsPlace steps p → IsLastChild steps p last
     → ((k : ℕ) → slice_get steps k ≡ Some (step p mv) → ⊥)
     → AreLinked (with_step steps p mv) (first_linked (firsts ++ None ∷ []) last p (length steps))
-      (next_linked (nexts ++ None ∷ []) last (length steps))
+    (next_linked (nexts ++ None ∷ []) last (length steps))
 linked_new steps firsts nexts linked p last mv place is unseen = record {
   many = length_first (firsts ++ None ∷ []) last p (length steps)
       ∙ longer firsts steps None (step p mv) linked.many;

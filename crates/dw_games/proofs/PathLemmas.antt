@@ -1,12 +1,12 @@
 -- The paths to the nodes of a tree.
-use Rattle.std.proofs.Common.{◌≡◌, ℕ, zero, suc, ◌+◌, ◌<◌, ◌≤◌, List, [], ◌∷◌, ◌++◌, length, Option, Some, None, ◌⊎◌, inl, inr}
+use Rattle.std.proofs.Common.{◌≡◌, ℕ, zero, suc, ◌+◌, ◌<◌, List, [], ◌∷◌, ◌++◌, length, Option, Some, None, inl, inr}
 use Rattle.std.proofs.Common.{refl, sym, ap, subst, ◌∙◌, get_or, arith, length-append, add-zero, zero-add}
 use Rattle.std.specs.List.{slice_get}
 use Rattle.std.proofs.lemmas.Option.{slice_get_within, slice_get-get_or, get_or_from_slice_get}
 use Rattle.dw_board.specs.Lists.{Member}
 use Rattle.dw_moves.specs.Moves.{Move}
-use Rattle.dw_games.specs.Walk.{GoesOn, IsNext}
-use Rattle.dw_games.specs.inner.Branches.{Step, path_to, grown, paths_of, IsChild, IsFirstChild, IsPlace, AreLinked}
+use Rattle.dw_games.specs.Walk.{IsNext}
+use Rattle.dw_games.specs.inner.Branches.{Step, path_to, grown, paths_of, IsChild, IsFirstChild, IsPlace}
 use Rattle.dw_games.proofs.PlaceLemmas.{absent, same, got_old, got_last}
 
 -- ---- lists
@@ -84,9 +84,9 @@ at_grown paths (x ∷ steps) zero s e h =
     let is : x ≡ s = same x s e in
     let next : List (List Move) = paths ++ path_of paths x ∷ [] in
     let stays : path_to (grown paths (x ∷ steps)) s.parent ≡ path_to paths s.parent =
-        path_kept paths (x ∷ steps) s.parent (λ n e. omega (arith, h n e)) in
+    path_kept paths (x ∷ steps) s.parent (λ n e. omega (arith, h n e)) in
     let there : slice_get (grown paths (x ∷ steps)) (length paths) ≡ Some (path_of paths x) =
-        kept next steps (length paths) (path_of paths x) (got_last paths (path_of paths x)) in
+    kept next steps (length paths) (path_of paths x) (got_last paths (path_of paths x)) in
     rw (add-zero, stays, ← is) there
 at_grown paths (x ∷ steps) (suc k) s e h =
     let next : List (List Move) = paths ++ path_of paths x ∷ [] in
@@ -110,8 +110,8 @@ module _ (steps : List Step) (above : (n k : ℕ) → IsChild steps (Some n) k �
       → slice_get (paths_of steps) k ≡ Some (path_of (paths_of steps) s)
   node_path k s e =
       let there : slice_get (paths_of steps) (0 + k) ≡ Some (path_of (paths_of steps) s) =
-          at_grown [] steps k s e
-          (λ n is. let lower : n < k = above n k (s.mv, parent_is steps s n k is e) in omega arith) in
+      at_grown [] steps k s e
+      (λ n is. let lower : n < k = above n k (s.mv, parent_is steps s n k is e) in omega arith) in
       subst (λ n. slice_get (paths_of steps) n ≡ Some (path_of (paths_of steps) s)) (zero-add k) there
 
   -- each path is that of a node
@@ -157,9 +157,9 @@ module _ (steps : List Step) (above : (n k : ℕ) → IsChild steps (Some n) k �
       let h = path_node k b c in
       let both = last_same _ _ f.0.mv h.0.mv (sym f.2 ∙ h.2) in
       let parents : f.0.parent ≡ h.0.parent =
-          parents_same end (distinct end) f.0.parent h.0.parent
-          (λ n is. let lower : n < j = above n j (f.0.mv, parent_is steps f.0 n j is f.1) in omega arith)
-          (parent_place j f.0 f.1 _ refl) (parent_place k h.0 h.1 _ refl) both.0 in
+      parents_same end (distinct end) f.0.parent h.0.parent
+      (λ n is. let lower : n < j = above n j (f.0.mv, parent_is steps f.0 n j is f.1) in omega arith)
+      (parent_place j f.0 f.1 _ refl) (parent_place k h.0 h.1 _ refl) both.0 in
       let steps_same : f.0 ≡ h.0 = join_step f.0 h.0 parents both.1 in
       once j k f.0 f.1 (subst (λ s. slice_get steps k ≡ Some s) (sym steps_same) h.1)
 
@@ -171,8 +171,8 @@ module _ (steps : List Step) (above : (n k : ℕ) → IsChild steps (Some n) k �
       let f = path_node k (path_to (paths_of steps) p ++ m ∷ []) e in
       let both = last_same (path_to (paths_of steps) p) (path_to (paths_of steps) f.0.parent) m f.0.mv f.2 in
       let parents : f.0.parent ≡ p = parents_same (length steps) (distinct (length steps)) f.0.parent p
-          (λ n is. subst (IsPlace steps) is (parent_place k f.0 f.1 _ refl))
-          (parent_place k f.0 f.1 _ refl) place (sym both.0) in
+      (λ n is. subst (IsPlace steps) is (parent_place k f.0 f.1 _ refl))
+      (parent_place k f.0 f.1 _ refl) place (sym both.0) in
       let is : f.0 ≡ record { parent = p; mv = m } = join_step f.0 (record { parent = p; mv = m }) parents (sym both.1) in
       subst (λ s. slice_get steps k ≡ Some s) is f.1
 
@@ -180,6 +180,8 @@ module _ (steps : List Step) (above : (n k : ℕ) → IsChild steps (Some n) k �
   pub first_next : (p : Option ℕ) (from : ℕ) (r : Option ℕ) → IsPlace steps p → IsFirstChild steps p from r
       → IsNext (paths_of steps) (path_to (paths_of steps) p) from r
   first_next p from None place none = λ k low goes. none k low (goes.0, goes_step p goes.0 k place goes.1)
-  first_next p from (Some n) place first =
-      (first.0, (first.1.0, node_path n (record { parent = p; mv = first.1.0 }) first.1.1),
-      λ k low high goes. first.2 k low high (goes.0, goes_step p goes.0 k place goes.1))
+  first_next p from (Some n) place first = (
+    first.0,
+    (first.1.0, node_path n (record { parent = p; mv = first.1.0 }) first.1.1),
+    λ k low high goes. first.2 k low high (goes.0, goes_step p goes.0 k place goes.1),
+  )

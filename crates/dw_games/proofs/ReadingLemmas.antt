@@ -1,10 +1,9 @@
 -- What a reader holds after each kind of token.
-use Rattle.std.proofs.Common.{◌≡◌, ℕ, zero, suc, ◌+◌, ◌<◌, ◌≤◌, List, [], ◌∷◌, ◌++◌, length, Option, Some, None, ◌⊎◌, inl, inr}
+use Rattle.std.proofs.Common.{◌≡◌, ℕ, suc, ◌+◌, ◌<◌, List, [], ◌∷◌, ◌++◌, length, Option, Some, None, inl, inr}
 use Rattle.std.proofs.Common.{refl, sym, ap, subst, ◌∙◌, arith, append_assoc, append-nil, length-append}
 use Rattle.std.specs.List.{slice_get}
 use Rattle.dw_board.specs.Geometry.{Geometry}
 use Rattle.dw_board.specs.Placement.{Placement}
-use Rattle.dw_board.specs.Lists.{Member}
 use Rattle.dw_moves.specs.Moves.{Move, play}
 use Rattle.dw_games.specs.Tokens.{Token}
 use Rattle.dw_games.specs.Play.{IsMove, IsPassed, IsPlay, after, IsVariation, empty, passed, move, variation}
@@ -52,7 +51,7 @@ module _ {B : Type 0} (g : Geometry) (p : Placement) (tree : List (List Move)) w
       {paths : List (List Move)} (next : Line B) (more : List Token) (now : List Move) (others : List (List Move))
       → Opened g p tree room ts line outer before moves paths
       → ((us : List Token) (ps : List (List Move)) → IsVariation g p room before us moves ps
-        → IsVariation g p room before (us ++ more) now (ps ++ others))
+      → IsVariation g p room before (us ++ more) now (ps ++ others))
       → IsLine g p tree next before now
       → Opened g p tree room (ts ++ more) next outer before now (paths ++ others)
   goes_on next more now others (outermost {ts = ts} {paths = paths} v l) f line = outermost (f ts paths v) line
@@ -74,15 +73,17 @@ module _ {B : Type 0} (g : Geometry) (p : Placement) (tree : List (List Move)) w
       {paths : List (List Move)} (t : Token) (spot : Spot B) → Opened g p tree (suc room) ts line outer before moves paths
       → t.what ≡ Opens → IsBefore g p tree (Some spot) before moves
       → (front : List Move) × Opened g p tree room (ts ++ t ∷ []) (record { now = spot; before = None })
-        (outer ++ line ∷ []) (before ++ front) [] paths
+      (outer ++ line ∷ []) (before ++ front) [] paths
   read_opens {room = room} {ts = ts} {line = line} {outer = outer} {before = before} {paths = paths} t spot o e is =
       let last : Opened g p tree (suc room) ts line outer before (is.0 ++ is.1 ∷ []) paths =
-          subst (λ x. Opened g p tree (suc room) ts line outer before x paths) is.2 o in
+      subst (λ x. Opened g p tree (suc room) ts line outer before x paths) is.2 o in
       let now : IsSpot g p tree spot ((before ++ is.0) ++ []) = rw append-nil is.3 in
       let start : IsLine g p tree (record { now = spot; before = None }) (before ++ is.0) [] =
-          record { now = now; earlier = refl } in
-      (is.0, subst (λ x. Opened g p tree room (ts ++ t ∷ []) (record { now = spot; before = None }) (outer ++ line ∷ [])
-      (before ++ is.0) [] x) (append-nil paths) (inner is.0 is.1 t last e empty start))
+      record { now = now; earlier = refl } in (
+        is.0,
+        subst (λ x. Opened g p tree room (ts ++ t ∷ []) (record { now = spot; before = None }) (outer ++ line ∷ [])
+            (before ++ is.0) [] x) (append-nil paths) (inner is.0 is.1 t last e empty start),
+      )
 
   -- ---- where one ends
   closed : {R : ℕ} {ts : List Token} {line : Line B} {outer : List (Line B)} {before now : List Move}
@@ -94,13 +95,13 @@ module _ {B : Type 0} (g : Geometry) (p : Placement) (tree : List (List Move)) w
   closed {R = R} {line = line} {before = before} {now = now} room moves last opening t us others more o r m e v c =
       goes_on line (opening ∷ (us ++ t ∷ [])) now more o
       (λ vs ps w.
-        let inside : IsVariation g p (suc room) before vs (moves ++ last ∷ []) ps =
-            subst (λ x. IsVariation g p x before vs (moves ++ last ∷ []) ps) r
-            (subst (λ x. IsVariation g p R before vs x ps) m w) in
-        let whole : IsVariation g p (suc room) before (vs ++ opening ∷ (us ++ t ∷ [])) (moves ++ last ∷ []) (ps ++ more) =
-            variation moves last opening t inside e v c in
-        subst (λ x. IsVariation g p x before (vs ++ opening ∷ (us ++ t ∷ [])) now (ps ++ more)) (sym r)
-        (subst (λ x. IsVariation g p (suc room) before (vs ++ opening ∷ (us ++ t ∷ [])) x (ps ++ more)) (sym m) whole))
+      let inside : IsVariation g p (suc room) before vs (moves ++ last ∷ []) ps =
+      subst (λ x. IsVariation g p x before vs (moves ++ last ∷ []) ps) r
+      (subst (λ x. IsVariation g p R before vs x ps) m w) in
+      let whole : IsVariation g p (suc room) before (vs ++ opening ∷ (us ++ t ∷ [])) (moves ++ last ∷ []) (ps ++ more) =
+      variation moves last opening t inside e v c in
+      subst (λ x. IsVariation g p x before (vs ++ opening ∷ (us ++ t ∷ [])) now (ps ++ more)) (sym r)
+      (subst (λ x. IsVariation g p (suc room) before (vs ++ opening ∷ (us ++ t ∷ [])) x (ps ++ more)) (sym m) whole))
       (opened_line o)
 
   pub read_closes : {room : ℕ} {ts : List Token} {line : Line B} {outer : List (Line B)} {before moves : List Move}
@@ -177,21 +178,21 @@ module _ {B : Type 0} (g : Geometry) (p : Placement) where
       → IsNoted tree ((before ++ moves) ++ m ∷ []) now
       → slice_get now node.0 ≡ Some ((before ++ moves) ++ m ∷ [])
       → Opened g p now room (ts ++ t ∷ [])
-        (record {
-          now = record {
-            node = Some node;
-            position = play g line.now.position m;
-            moves = line.now.moves + 1;
-          };
-          before = Some line.now;
-        }) outer before (moves ++ m ∷ []) (paths ++ ((before ++ moves) ++ m ∷ []) ∷ [])
+      (record {
+        now = record {
+          node = Some node;
+          position = play g line.now.position m;
+          moves = line.now.moves + 1;
+        };
+        before = Some line.now;
+      }) outer before (moves ++ m ∷ []) (paths ++ ((before ++ moves) ++ m ∷ []) ∷ [])
   read_move tree now room ts line outer before moves paths t m node o short is noted there =
       let kept = noted_kept tree now ((before ++ moves) ++ m ∷ []) noted o in
       let old = opened_line g p now kept in
       let longer : before ++ (moves ++ m ∷ []) ≡ (before ++ moves) ++ m ∷ [] = sym (append_assoc before moves (m ∷ [])) in
       goes_on g p now _ (t ∷ []) (moves ++ m ∷ []) (((before ++ moves) ++ m ∷ []) ∷ []) kept
       (λ us ps v. subst (λ x. IsVariation g p room before (us ++ t ∷ []) (moves ++ m ∷ []) (ps ++ x ∷ [])) longer
-        (move v short is))
+      (move v short is))
       (record {
         now = record {
           there = there ∙ ap Some (sym longer);

@@ -1,6 +1,6 @@
 -- What a reader makes of a token.
 use Rattle.std.proofs.Common.{◌≡◌, ℕ, zero, suc, ◌+◌, ◌<◌, ◌≤◌, Bool, true, false, List, [], ◌∷◌, ◌++◌, length, Option, Some, None}
-use Rattle.std.proofs.Common.{refl, sym, ap, subst, ◌∙◌, arith, append_assoc, append-nil, length-append, ◌⊎◌, inl, inr, Ok, Err}
+use Rattle.std.proofs.Common.{refl, sym, subst, ◌∙◌, arith, append-nil, length-append, ◌⊎◌, inl, inr, Ok, Err}
 use Rattle.dw_board.specs.Geometry.{Geometry}
 use Rattle.dw_board.specs.Placement.{Placement}
 use Rattle.dw_moves.specs.Moves.{Move, play, Legal, LegalAt, IsPathOf}
@@ -18,12 +18,12 @@ use Rattle.dw_notation.specs.MoveReading.{Named, QuietMove, Capture, Fits, FitsS
 use Rattle.dw_games.specs.Walk.{IsNoted, beginning_at, place_of}
 use Rattle.dw_games.specs.Faults.{IsOpen, FaultAt, HasForm, IsUnreadable, unreadable, no_such_move, ambiguous}
 use Rattle.dw_games.specs.Faults.{no_move_before, none_open, within, too_deep, too_long}
-use Rattle.dw_games.specs.inner.Reading.{IsSpot, IsBefore, Opened, outermost, inner, HasRead, IsFaultOf, IsMoveOf}
+use Rattle.dw_games.specs.inner.Reading.{IsBefore, Opened, outermost, inner, HasRead, IsFaultOf}
 use Rattle.dw_games.specs.inner.Refusals.{refusal_of}
 use Rattle.dw_games.specs.declared.tokens.TokenKind.TheVariants.{Comment, Passed, Written, Opens, Closes}
 use Rattle.dw_games.specs.declared.tokens.TokenKind.{TokenKind}
 use Rattle.dw_games.specs.declared.movetext.TheConstants.{MAX_OPEN, MAX_PATH}
-use Rattle.dw_games.specs.declared.fault.MovetextFaultKind.TheVariants.{Token as NoToken, NoSuchMove, Ambiguous, Variation}
+use Rattle.dw_games.specs.declared.fault.MovetextFaultKind.TheVariants.{Token as NoToken, Variation}
 use Rattle.dw_games.specs.declared.fault.MovetextFaultKind.TheVariants.{Unclosed, TooDeep, TooLong}
 use Rattle.dw_games.specs.declared.branches.Node.{Node}
 use Rattle.dw_games.specs.declared.reader.Spot.{Spot}
@@ -48,8 +48,13 @@ pub opened_short : {B : Type 0} (g : Geometry) (p : Placement) (tree : List (Lis
 opened_short g p tree (outermost v l) = variation_short g p v (omega arith)
 opened_short g p tree (inner {before = before} moves last opening o e v l) =
     let h = opened_short g p tree o in
-    variation_short g p v (omega (arith, h, length-append before moves, length-append before (moves ++ last ∷ []),
-    length-append moves (last ∷ [])))
+    variation_short g p v (omega (
+      arith,
+      h,
+      length-append before moves,
+      length-append before (moves ++ last ∷ []),
+      length-append moves (last ∷ []),
+    ))
 
 one_less : (n : ℕ) → 0 < n → (m : ℕ) × (n ≡ suc m)
 one_less zero h = absurd (omega (arith, h))
@@ -103,7 +108,7 @@ module _ {B : Type 0} (g : Geometry) (p : Placement) (ts : List Token) (r : Read
       let room = opened_room g p r.tree h.opened in
       let left = one_less h.room (omega (arith, room, fits)) in
       let opened = read_opens g p r.tree t spot (subst (λ x. Opened g p r.tree x ts r.line r.outer.items h.before h.moves
-          h.paths) left.1 h.opened) is (earlier spot e) in
+      h.paths) left.1 h.opened) is (earlier spot e) in
       record {
         room = left.0;
         before = h.before ++ opened.0;
@@ -162,26 +167,32 @@ module _ {B : Type 0} (g : Geometry) (p : Placement) (ts : List Token) (r : Read
   pub fault_refused : (why : MoveFault) (full : Bool) → t.what ≡ Written → (IsResult t → ⊥)
       → IsRead g r.line.now.position (crossed t.text) (Err why) → (full ≡ true → MAX_PATH ≤ r.line.now.moves)
       → (full ≡ false → r.line.now.moves < MAX_PATH) → IsFaultOf g p ts t (refusal_of t.place full why)
-  fault_refused reading.Syntax full written no_result read long short =
-      (fault_unreadable (inr (inr (record {
-        written = written;
-        no_result = no_result;
-        no_form = λ f. read f.named f.form;
-      }))), refl)
+  fault_refused reading.Syntax full written no_result read long short = (
+    fault_unreadable (inr (inr (record {
+      written = written;
+      no_result = no_result;
+      no_form = λ f. read f.named f.form;
+    }))),
+    refl,
+  )
   fault_refused reading.NoSuchMove true written no_result read long short =
       (fault_form_long (form_of written no_result r.line.now.position read) (long refl), refl)
-  fault_refused reading.NoSuchMove false written no_result read long short =
-      (no_such_move (opened_open g p r.tree h.opened) (omega (arith, short refl, length_now)) (record {
-        form = form_of written no_result r.line.now.position read;
-        refused = here reading.NoSuchMove read;
-      }), refl)
+  fault_refused reading.NoSuchMove false written no_result read long short = (
+    no_such_move (opened_open g p r.tree h.opened) (omega (arith, short refl, length_now)) (record {
+      form = form_of written no_result r.line.now.position read;
+      refused = here reading.NoSuchMove read;
+    }),
+    refl,
+  )
   fault_refused reading.Ambiguous true written no_result read long short =
       (fault_form_long (form_of written no_result r.line.now.position read) (long refl), refl)
-  fault_refused reading.Ambiguous false written no_result read long short =
-      (ambiguous (opened_open g p r.tree h.opened) (omega (arith, short refl, length_now)) (record {
-        form = form_of written no_result r.line.now.position read;
-        refused = here reading.Ambiguous read;
-      }), refl)
+  fault_refused reading.Ambiguous false written no_result read long short = (
+    ambiguous (opened_open g p r.tree h.opened) (omega (arith, short refl, length_now)) (record {
+      form = form_of written no_result r.line.now.position read;
+      refused = here reading.Ambiguous read;
+    }),
+    refl,
+  )
   fault_refused reading.Memory full written no_result read long short = tt
 
   -- the path before a move stands in the tree
@@ -192,7 +203,7 @@ module _ {B : Type 0} (g : Geometry) (p : Placement) (ts : List Token) (r : Read
       → r.line.now.moves < MAX_PATH
       → ((b : List Move) → beginning_at r.tree (place_of r.line.now.node) ≡ Some b → IsNoted r.tree (b ++ m ∷ []) next.tree)
       → ((b : List Move) → beginning_at r.tree (place_of r.line.now.node) ≡ Some b
-        → slice_get next.tree node.0 ≡ Some (b ++ m ∷ []))
+      → slice_get next.tree node.0 ≡ Some (b ++ m ∷ []))
       → next.line ≡ record {
         now = record {
           node = Some node;

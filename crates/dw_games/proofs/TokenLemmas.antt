@@ -1,17 +1,16 @@
 -- Tokens at the front of bytes, told by how many of these are part of them.
-use Rattle.std.proofs.Common.{◌≡◌, ◌==◌, ℕ, zero, suc, ◌+◌, ◌<◌, ◌≤◌, Bool, true, false, ◌&&◌, ◌||◌, not, List, [], ◌∷◌, ◌++◌}
-use Rattle.std.proofs.Common.{length, take, drop, get_or, refl, sym, ap, subst, ◌∙◌, arith, add-one, add-zero, drop-cons, one-add}
-use Rattle.std.proofs.Common.{◌⊎◌, inl, inr}
-use Rattle.std.proofs.Math.Seq.{take-add, take-suc, take-length}
+use Rattle.std.proofs.Common.{◌≡◌, ◌==◌, ℕ, zero, suc, ◌+◌, ◌<◌, ◌≤◌, Bool, true, false, ◌&&◌, List, [], ◌∷◌, ◌++◌}
+use Rattle.std.proofs.Common.{length, take, drop, get_or, refl, sym, ap, subst, ◌∙◌, arith, add-one, drop-cons, one-add}
+use Rattle.std.proofs.Common.{inl, inr}
+use Rattle.std.proofs.Math.Seq.{take-add, take-suc}
 use Rattle.std.proofs.lemmas.List.{drop_all, length-take-le, take-append-drop, drop-drop}
-use Rattle.std.proofs.lemmas.Bool.{not-false, eqb-true, cases_Bool, true≢false, or_cases}
-use Rattle.std.proofs.lemmas.Grind.{common_steps}
+use Rattle.std.proofs.lemmas.Bool.{not-false, eqb-true, cases_Bool, true≢false}
 use Rattle.std.specs.List.{list_all}
 use Rattle.dw_board.specs.FenTokens.{is_digit}
 use Rattle.dw_notation.specs.Tags.{is_space, ends_line}
-use Rattle.dw_games.specs.Tokens.{IsRun, IsToken, Token, AreTokens, begins_with, is_inside, is_in_line, is_dot, is_written}
+use Rattle.dw_games.specs.Tokens.{IsRun, IsToken, Token, AreTokens, begins_with, is_inside, is_dot, is_written}
 use Rattle.dw_games.specs.Tokens.{is_praise, praise, begins_token, unknown}
-use Rattle.dw_games.specs.Tokens.{in_braces, unclosed, numbered_mark, no_number, number, written}
+use Rattle.dw_games.specs.Tokens.{in_braces, unclosed, numbered_mark, number, written}
 use Rattle.dw_games.specs.Tokens.{nothing, blank, token}
 use Rattle.dw_games.specs.declared.tokens.TokenKind.{TokenKind}
 use Rattle.dw_games.specs.declared.tokens.TokenKind.TheVariants.{Comment, Passed, Written, CutOff, Unknown}
@@ -27,7 +26,7 @@ comment_token fresh xs n fits run =
     let cut : drop n xs ≡ get_or xs n 0 ∷ drop (suc n) xs = drop-cons xs n 0 fits in
     let brace : get_or xs n 0 ≡ 125 = closing _ (rw cut at run.ends) in
     let taken : take (suc n) xs ≡ take n xs ++ 125 ∷ [] =
-        take-suc xs n 0 fits ∙ ap (λ byte. take n xs ++ byte ∷ []) brace in
+    take-suc xs n 0 fits ∙ ap (λ byte. take n xs ++ byte ∷ []) brace in
     let inner : IsRun is_inside (take n xs) (125 ∷ drop (suc n) xs) = record { all = run.all; ends = refl } in
     rw (add-one, taken) (in_braces inner)
 
@@ -104,8 +103,8 @@ written_token fresh first xs d n is fits digits no_dot within run =
     let all : list_all is_written (first ∷ take n xs) ≡ true = rw (is_written_digit first is) run.all in
     let whole : IsRun is_written (first ∷ take n xs) (drop n xs) = record { all = all; ends = run.ends } in
     let dotless : list_all is_digit (first ∷ take n xs) ≡ true → begins_with is_dot (drop n xs) ≡ false =
-        λ h. let same : d ≡ n = one_run is_digit xs d n fits within digits.all digits.ends (rw is at h)
-            (no_digit_first (drop n xs) run.ends) in rw (← same) no_dot in
+    λ h. let same : d ≡ n = one_run is_digit xs d n fits within digits.all digits.ends (rw is at h)
+    (no_digit_first (drop n xs) run.ends) in rw (← same) no_dot in
     written is whole dotless
 
 -- ---- bytes that begin no token
@@ -120,9 +119,18 @@ pub unknown_token : (fresh : Bool) (b : ℕ) (rest : List ℕ) → is_space b �
     → is_praise b ≡ false → (b ≡ 123 → ⊥) → (b ≡ 59 → ⊥) → (b ≡ 46 → ⊥) → (b ≡ 36 → ⊥) → (b ≡ 40 → ⊥)
     → (b ≡ 41 → ⊥) → (b ≡ 42 → ⊥) → (b ≡ 37 → ⊥) → IsToken fresh Unknown (b ∷ []) rest
 unknown_token fresh b rest space digit praised brace semi dot sign opened closed starred cent =
-    let none : begins_token fresh b ≡ false = rw (digit, praised, differ b 123 brace, differ b 59 semi,
-        differ b 46 dot, differ b 36 sign, differ b 40 opened, differ b 41 closed, differ b 42 starred,
-        differ b 37 cent) (and_no fresh) in unknown none space
+    let none : begins_token fresh b ≡ false = rw (
+      digit,
+      praised,
+      differ b 123 brace,
+      differ b 59 semi,
+      differ b 46 dot,
+      differ b 36 sign,
+      differ b 40 opened,
+      differ b 41 closed,
+      differ b 42 starred,
+      differ b 37 cent,
+    ) (and_no fresh) in unknown none space
 
 -- ---- rows of tokens
 -- a token stands in front of those behind it
@@ -132,7 +140,7 @@ pub token_next : (place n m : ℕ) (fresh : Bool) (what : TokenKind) (text rest 
     → AreTokens place fresh text ((record { what = what; text = take n text; place = place }) ∷ tokens) left
 token_next place n m fresh what text rest left tokens is fits same sum are =
     let ahead : AreTokens (place + length (take n text)) false (drop n text) tokens left =
-        rw (length-take-le n text fits, same, sum) are in
+    rw (length-take-le n text fits, same, sum) are in
     subst (λ xs. AreTokens place fresh xs ((record { what = what; text = take n text; place = place }) ∷ tokens) left)
     (take-append-drop n text) (token (take n text) (drop n text) is ahead)
 
@@ -144,7 +152,7 @@ pub blank_next : (text : List ℕ) (n : ℕ) (fresh next : Bool) (tokens : List 
     → AreTokens (n + 1) fresh (drop n text) tokens left
 blank_next text n fresh next tokens left inside is ends are =
     let there : AreTokens (n + 1 + 1) (ends_line (get_or text n 0)) (drop (suc n) text) tokens left =
-        rw (← ends) (rw (← add-one n) are) in
+    rw (← ends) (rw (← add-one n) are) in
     let ahead : AreTokens (n + 1) fresh (get_or text n 0 ∷ drop (suc n) text) tokens left = blank (sym is) there in
     rw (drop-cons text n 0 inside) ahead
 
@@ -163,8 +171,8 @@ first_ahead text rest behind bytes n more fresh what first tokens left start is 
     let whole : drop n text ≡ first ∷ behind = sym start ∙ is in
     let taken : bytes ≡ first ∷ take more behind = cut ∙ rw (is, one-add) refl in
     let beyond : drop more behind ≡ drop (n + (1 + more)) text =
-        rw (← drop-drop (1 + more) n text) (rw (whole, one-add) refl) in
+    rw (← drop-drop (1 + more) n text) (rw (whole, one-add) refl) in
     let inside : suc more ≤ length (first ∷ behind) = omega arith in
     let core = token_next (n + 1) (suc more) (n + (1 + more) + 1) fresh what (first ∷ behind)
-        (drop (n + (1 + more)) text) left tokens readable inside beyond (omega arith) are in
+    (drop (n + (1 + more)) text) left tokens readable inside beyond (omega arith) are in
     rw (whole, taken) core

@@ -1,6 +1,6 @@
 -- What the calls of a tree say of its paths.
-use Rattle.std.proofs.Common.{◌≡◌, ◌==◌, ℕ, zero, suc, ◌+◌, ◌<◌, ◌≤◌, List, [], ◌∷◌, ◌++◌, length, Option, Some, None}
-use Rattle.std.proofs.Common.{refl, sym, ap, subst, ◌∙◌, get_or, arith, ◌⊎◌, inl, inr, length-append}
+use Rattle.std.proofs.Common.{◌≡◌, ℕ, ◌+◌, ◌<◌, ◌≤◌, List, [], ◌∷◌, ◌++◌, length, Option, Some, None}
+use Rattle.std.proofs.Common.{refl, sym, ap, subst, ◌∙◌, arith, inl, inr, length-append}
 use Rattle.std.specs.Prelude.{MatchOption, IsSome}
 use Rattle.std.specs.List.{slice_get}
 use Rattle.std.proofs.lemmas.Bool.{true≢false}
@@ -9,13 +9,13 @@ use Rattle.dw_board.specs.Lists.{Member}
 use Rattle.dw_moves.specs.Moves.{Move}
 use Rattle.dw_games.specs.declared.branches.Node.{Node}
 use Rattle.dw_games.specs.Walk.{place_of, beginning_at, IsNext, IsNoted}
-use Rattle.dw_games.specs.inner.Branches.{Step, path_to, grown, paths_of, IsChild, IsFirstChild, IsPlace, AreLinked}
+use Rattle.dw_games.specs.inner.Branches.{Step, path_to, paths_of, IsFirstChild, IsPlace, AreLinked}
 use Rattle.dw_games.specs.inner.Branches.{IsLastChild, Hang, steps_of, firsts_of, nexts_of, first_linked, next_linked}
 use Rattle.dw_games.specs.declared.branches.Branch.{Branch}
 use Rattle.std.proofs.lemmas.List.{map-append}
 use Rattle.dw_games.proofs.LinkLemmas.{linked_new}
 use Rattle.dw_games.proofs.BranchLemmas.{steps_length}
-use Rattle.dw_games.proofs.PlaceLemmas.{absent, same, got_last}
+use Rattle.dw_games.proofs.PlaceLemmas.{same, got_last}
 use Rattle.dw_games.proofs.PathLemmas.{length_paths, last_same, at_member, member_at, grown_append, node_path, path_node}
 use Rattle.dw_games.proofs.PathLemmas.{goes_step, first_next, parent_place}
 
@@ -79,8 +79,8 @@ module _ (steps : List Step) (firsts nexts : List (Option ℕ)) (linked : AreLin
   noted_again p m n e b there =
       let h = place_at p b there in
       let is : slice_get (paths_of steps) n ≡ Some (b ++ m ∷ []) =
-          subst (λ x. slice_get (paths_of steps) n ≡ Some (x ++ m ∷ [])) (sym h.1)
-          (node_path steps linked.above linked.once n _ e) in
+      subst (λ x. slice_get (paths_of steps) n ≡ Some (x ++ m ∷ [])) (sym h.1)
+      (node_path steps linked.above linked.once n _ e) in
       (inl (at_member (b ++ m ∷ []) (paths_of steps) n is, refl), is)
 
   -- a new step is noted behind all others
@@ -93,16 +93,16 @@ module _ (steps : List Step) (firsts nexts : List (Option ℕ)) (linked : AreLin
   noted_new p m now unseen e b there =
       let h = place_at p b there in
       let grows : paths_of now ≡ paths_of steps ++ (b ++ m ∷ []) ∷ [] =
-          ap paths_of e ∙ (grown_append [] steps (record { parent = p; mv = m })
-          ∙ ap (λ x. paths_of steps ++ (x ++ m ∷ []) ∷ []) (sym h.1)) in
+      ap paths_of e ∙ (grown_append [] steps (record { parent = p; mv = m })
+      ∙ ap (λ x. paths_of steps ++ (x ++ m ∷ []) ∷ []) (sym h.1)) in
       let new : Member (b ++ m ∷ []) (paths_of steps) → ⊥ = λ member.
-          let found = member_at (b ++ m ∷ []) (paths_of steps) member in
-          unseen found.0 (goes_step steps linked.above linked.once p m found.0 h.0
-          (subst (λ x. slice_get (paths_of steps) found.0 ≡ Some (x ++ m ∷ [])) h.1 found.1)) in
+      let found = member_at (b ++ m ∷ []) (paths_of steps) member in
+      unseen found.0 (goes_step steps linked.above linked.once p m found.0 h.0
+      (subst (λ x. slice_get (paths_of steps) found.0 ≡ Some (x ++ m ∷ [])) h.1 found.1)) in
       let last : slice_get (paths_of now) (length steps) ≡ Some (b ++ m ∷ []) =
-          subst (λ n. slice_get (paths_of now) n ≡ Some (b ++ m ∷ [])) (length_paths steps)
-          (subst (λ x. slice_get x (length (paths_of steps)) ≡ Some (b ++ m ∷ [])) (sym grows)
-          (got_last (paths_of steps) (b ++ m ∷ []))) in
+      subst (λ n. slice_get (paths_of now) n ≡ Some (b ++ m ∷ [])) (length_paths steps)
+      (subst (λ x. slice_get x (length (paths_of steps)) ≡ Some (b ++ m ∷ [])) (sym grows)
+      (got_last (paths_of steps) (b ++ m ∷ []))) in
       (inr (new, grows), last)
 
   pub first_clause : (p : Option ℕ) (r : Option Node) → IsFirstChild steps p 0 (place_of r)
@@ -111,8 +111,8 @@ module _ (steps : List Step) (firsts nexts : List (Option ℕ)) (linked : AreLin
       match_by (beginning_at (paths_of steps) p) (r ≡ None) (λ b. IsNext (paths_of steps) b 0 (place_of r))
       (λ none. none_beyond p r none first)
       (λ b e. let h = place_at p b e in
-        subst (λ x. IsNext (paths_of steps) x 0 (place_of r)) (sym h.1)
-        (first_next steps linked.above linked.once p 0 (place_of r) h.0 first))
+      subst (λ x. IsNext (paths_of steps) x 0 (place_of r)) (sym h.1)
+      (first_next steps linked.above linked.once p 0 (place_of r) h.0 first))
 
 pub some_value : {A : Type 0} (o : Option A) → IsSome o → (x : A) × (o ≡ Some x)
 some_value None h = absurd (true≢false (sym h))
@@ -160,5 +160,11 @@ pub linked_now : {B : Type 0} → (branches pushed now : List (Branch B)) (paren
 linked_now branches pushed now parent last m n hang place is unseen here e s f x =
     let b : Branch _ = record { mv = m; parent = parent; first_child = None; next_sibling = None } in
     let end : n ≡ length (steps_of branches) = here ∙ sym (steps_length branches) in
-    rw (new_steps branches pushed now parent m e s, f, x, firsts_now branches pushed b e, nexts_now branches pushed b e,
-    end) (linked_new _ _ _ hang (place_of parent) (place_of last) m place is unseen)
+    rw (
+      new_steps branches pushed now parent m e s,
+      f,
+      x,
+      firsts_now branches pushed b e,
+      nexts_now branches pushed b e,
+      end,
+    ) (linked_new _ _ _ hang (place_of parent) (place_of last) m place is unseen)

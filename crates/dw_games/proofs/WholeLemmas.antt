@@ -1,6 +1,6 @@
 -- The answer to a whole text, from what was read of its tokens.
-use Rattle.std.proofs.Common.{◌≡◌, ◌≢◌, ℕ, zero, suc, ◌+◌, ◌<◌, ◌≤◌, Bool, true, false, List, [], ◌∷◌, ◌++◌, length, Ok, Err}
-use Rattle.std.proofs.Common.{refl, sym, ap, subst, ◌∙◌, arith, append_assoc, append-nil, inl, inr, ◌⊎◌, Result}
+use Rattle.std.proofs.Common.{◌≡◌, ℕ, ◌+◌, ◌<◌, ◌≤◌, true, List, [], ◌∷◌, ◌++◌, length, Ok, Err}
+use Rattle.std.proofs.Common.{refl, sym, subst, ◌∙◌, arith, append_assoc, append-nil, inl, inr, Result}
 use Rattle.std.specs.Prelude.{MatchResult}
 use Rattle.dw_board.specs.Geometry.{Geometry}
 use Rattle.dw_board.specs.Placement.{Placement}
@@ -8,17 +8,16 @@ use Rattle.dw_board.specs.Lists.{Member}
 use Rattle.dw_moves.specs.Moves.{Move}
 use Rattle.dw_games.specs.Tokens as of
 use Rattle.dw_games.specs.Tokens.{Token, AreTokens}
-use Rattle.dw_games.specs.Play.{IsResult, IsPlay, IsOver, AreComments}
-use Rattle.dw_games.specs.Movetext.{IsGame, IsTree, AreDistinct, nothing, again, first}
+use Rattle.dw_games.specs.Play.{IsResult, IsOver, AreComments}
+use Rattle.dw_games.specs.Movetext.{IsGame, AreDistinct, nothing, again, first}
 use Rattle.dw_games.specs.Faults.{IsFirstFault, IsAnswer, at_token, at_end, unclosed, no_move, cut_off, behind_result}
 use Rattle.dw_games.specs.inner.Ahead.{AreAhead, bytes_ahead}
-use Rattle.dw_games.specs.inner.Reading.{HasRead, IsFaultOf, ReadOn, IsStopped, IsOdd, AreLast, HasEnded}
+use Rattle.dw_games.specs.inner.Reading.{HasRead, IsFaultOf, ReadOn, IsStopped, IsOdd}
 use Rattle.dw_games.specs.declared.tokens.Tokens.{Tokens}
 use Rattle.dw_games.specs.declared.tokens.TokenKind.TheVariants.{Comment}
-use Rattle.dw_games.specs.declared.movetext.TheConstants.{MAX_OPEN, MAX_MOVETEXT}
+use Rattle.dw_games.specs.declared.movetext.TheConstants.{MAX_MOVETEXT}
 use Rattle.dw_games.specs.declared.fault.MovetextFault.{MovetextFault}
 use Rattle.dw_games.specs.declared.fault.MovetextFault.TheVariants.{Refused, Memory}
-use Rattle.dw_games.specs.declared.fault.MovetextFaultKind.{MovetextFaultKind}
 use Rattle.dw_games.specs.declared.fault.MovetextFaultKind.TheVariants.{Unclosed, Empty}
 use Rattle.dw_games.specs.declared.reader.Reader.{Reader}
 use Rattle.dw_games.proofs.PathLemmas.{filled}
@@ -77,13 +76,13 @@ module _ (g : Geometry) (p : Placement) (text : List ℕ) (size : length text �
       → AreComments cs → AreAhead now (cs ++ u ∷ []) rest → IsOdd u why → IsAnswer g p text (Err why)
   odd_answer r now ts cs t u rest (Refused what place) h none is on comments ahead odd =
       let tokens : AreTokens 1 true text ((ts ++ t ∷ cs) ++ u ∷ []) rest =
-          subst (λ x. AreTokens 1 true text x rest) (sym (joined ts cs t u)) (whole _ _ (on _ _ ahead)) in
+      subst (λ x. AreTokens 1 true text x rest) (sym (joined ts cs t u)) (whole _ _ (on _ _ ahead)) in
       let end = over r ts t cs h none is comments in
       subst (λ x. IsFirstFault g p text what x) (sym odd.1) (elim odd.0 [
         | inl cut ↦ subst (λ x. IsFirstFault g p text x u.place) (sym cut.0)
-          (at_token (ts ++ t ∷ cs) u rest size tokens (cut_off end cut.1))
+            (at_token (ts ++ t ∷ cs) u rest size tokens (cut_off end cut.1))
         | inr other ↦ subst (λ x. IsFirstFault g p text x u.place) (sym other.0)
-          (at_token (ts ++ t ∷ cs) u rest size tokens (behind_result end other.1 other.2))
+            (at_token (ts ++ t ∷ cs) u rest size tokens (behind_result end other.1 other.2))
       ])
   odd_answer r now ts cs t u rest Memory h none is on comments ahead odd = absurd odd
 
@@ -104,7 +103,7 @@ module _ (g : Geometry) (p : Placement) (text : List ℕ) (size : length text �
       → AreAhead start tokens [] → IsGame g p tokens paths → AreDistinct paths tree
       → (answer : Result (List (List Move)) MovetextFault)
       → MatchResult answer (λ t. (t ≡ tree) × (0 < length t))
-        (λ why. (why ≡ Refused Empty (length text + 1)) × (tree ≡ []))
+      (λ why. (why ≡ Refused Empty (length text + 1)) × (tree ≡ []))
       → IsAnswer g p text answer
   tree_answer tree tokens paths ahead game distinct (Ok t) h = record {
     size = size;
@@ -124,17 +123,17 @@ module _ (g : Geometry) (p : Placement) (text : List ℕ) (size : length text �
       → r.outer.items ≡ [] → IsResult t → ReadOn start (ts ++ t ∷ []) now → AreComments cs → AreAhead now cs []
       → (answer : Result (List (List Move)) MovetextFault)
       → MatchResult answer (λ x. (x ≡ r.tree) × (0 < length x))
-        (λ why. (why ≡ Refused Empty (length text + 1)) × (r.tree ≡ []))
+      (λ why. (why ≡ Refused Empty (length text + 1)) × (r.tree ≡ []))
       → IsAnswer g p text answer
   with_result r now ts cs t h none is on comments ahead answer match =
       let tokens : AreAhead start (ts ++ t ∷ cs) [] =
-          subst (λ x. AreAhead start x []) (append_assoc ts (t ∷ []) cs) (on cs [] ahead) in
+      subst (λ x. AreAhead start x []) (append_assoc ts (t ∷ []) cs) (on cs [] ahead) in
       tree_answer r.tree (ts ++ t ∷ cs) h.paths tokens (inr (over r ts t cs h none is comments)) h.distinct answer match
 
   pub without_result : {B : Type 0} (r : Reader B) (ts : List Token) → (h : HasRead g p ts r) → r.outer.items ≡ []
       → AreAhead start ts [] → (answer : Result (List (List Move)) MovetextFault)
       → MatchResult answer (λ x. (x ≡ r.tree) × (0 < length x))
-        (λ why. (why ≡ Refused Empty (length text + 1)) × (r.tree ≡ []))
+      (λ why. (why ≡ Refused Empty (length text + 1)) × (r.tree ≡ []))
       → IsAnswer g p text answer
   without_result r ts h none ahead answer match =
       tree_answer r.tree ts h.paths ahead (inl (none_around g p r.tree h.opened none)) h.distinct answer match

@@ -49,7 +49,11 @@ pub(crate) fn next_sibling<B: Board>(branches: &[Branch<B>], node: Node) -> Opti
 }
 
 /// The child of a node by a move, or its last child, if it has one, where none is by this move.
-pub(crate) fn child_by<B: Board>(branches: &[Branch<B>], parent: Option<Node>, mv: &Move<B>) -> Found
+pub(crate) fn child_by<B: Board>(
+    branches: &[Branch<B>],
+    parent: Option<Node>,
+    mv: &Move<B>,
+) -> Found
     requires { Hang branches.now }
     ensures { IsFound (steps_of branches.now) (place_of parent) mv.now result }
 {

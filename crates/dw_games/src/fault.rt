@@ -63,10 +63,7 @@ impl fmt::Display for MovetextFaultKind {
 pub enum MovetextFault {
     /// The first fault of the text.
     #[error("{what} at {place}")]
-    Refused {
-        what: MovetextFaultKind,
-        place: u32,
-    },
+    Refused { what: MovetextFaultKind, place: u32 },
     /// Memory was refused.
     #[error("memory")]
     Memory,

@@ -1,5 +1,5 @@
 -- How the nodes of a tree hang together, and the paths that lead to them.
-use Rattle.std.specs.Prelude.{◌≡◌, ◌⊎◌, ℕ, ◌+◌, ◌≤◌, ◌<◌, Option, Some, None, List, [], ◌∷◌, ◌++◌, length, map, slice_get}
+use Rattle.std.specs.Prelude.{◌≡◌, ℕ, ◌+◌, ◌≤◌, ◌<◌, Option, Some, None, List, [], ◌∷◌, ◌++◌, length, map, slice_get}
 use Rattle.std.specs.Prelude.{slice_index_or, slice_set}
 use Rattle.dw_moves.specs.Moves.{Move}
 use Rattle.dw_games.specs.Walk.{place_of}

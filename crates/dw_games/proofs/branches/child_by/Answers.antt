@@ -22,8 +22,8 @@ pub siblings-preserved : goal.siblings-preserved
 siblings-preserved g c =
     let next = rw c.in-Some.is at c.siblings.invariant.next in
     let on = goes_on (c.next_sibling-next.result ≡ None) (steps_of c.args.branches.now) (place_of c.args.parent)
-        c.args.mv.now (behind (place_of c.siblings.last)) c.in-Some.node.0 (place_of c.next_sibling-next.result)
-        c.siblings.invariant.unseen next c.if-is_by.ensures c.next_sibling-next.ensures in
+    c.args.mv.now (behind (place_of c.siblings.last)) c.in-Some.node.0 (place_of c.next_sibling-next.result)
+    c.siblings.invariant.unseen next c.if-is_by.ensures c.next_sibling-next.ensures in
     record { last = on.0; next = on.1; unseen = on.2 }
 
 pub returns : goal.returns

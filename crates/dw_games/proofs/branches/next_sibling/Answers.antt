@@ -1,4 +1,3 @@
-use Rattle.std.proofs.Common.{refl}
 use Rattle.dw_games.proofs.BranchLemmas.{step_at, next_at}
 use Rattle.dw_games.proofs.branches.next_sibling.Goals as goal
 

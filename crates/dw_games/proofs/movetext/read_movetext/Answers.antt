@@ -32,13 +32,13 @@ returns-then-is_within g c =
 pub returns : goal.returns
 returns g c = elim c.if-branch.branch [
   | then-branch+in_ok-read_comments w ↦
-    let h = rw w.if-branch.true at (c.in_ok-reads_result.ensures c.args.position.now c.new-reader.ensures) in
-    let l = w.in_ok-read_comments.ensures in
-    with_result _ c.args.position.now c.args.text.now (omega arith) c.new-tokens.result c.new-tokens.ensures.tokens
-    c.reads_result.new.reader c.reads_result.new.tokens h.0 l.0 h.1 h.2 h.3 h.4 h.5 l.1 l.2 _ c.tree_of.ensures
+      let h = rw w.if-branch.true at (c.in_ok-reads_result.ensures c.args.position.now c.new-reader.ensures) in
+      let l = w.in_ok-read_comments.ensures in
+      with_result _ c.args.position.now c.args.text.now (omega arith) c.new-tokens.result c.new-tokens.ensures.tokens
+      c.reads_result.new.reader c.reads_result.new.tokens h.0 l.0 h.1 h.2 h.3 h.4 h.5 l.1 l.2 _ c.tree_of.ensures
   | else-branch+else-is_within w ↦
-    let h = rw w.if-branch.false at (c.in_ok-reads_result.ensures c.args.position.now c.new-reader.ensures) in
-    without_result _ c.args.position.now c.args.text.now (omega arith) c.new-tokens.result c.new-tokens.ensures.tokens
-    c.reads_result.new.reader h.0 h.1
-    (none_left _ (λ some. sym w.if-is_within.false ∙ w.is_within.ensures.1 some)) h.2 _ c.tree_of.ensures
+      let h = rw w.if-branch.false at (c.in_ok-reads_result.ensures c.args.position.now c.new-reader.ensures) in
+      without_result _ c.args.position.now c.args.text.now (omega arith) c.new-tokens.result c.new-tokens.ensures.tokens
+      c.reads_result.new.reader h.0 h.1
+      (none_left _ (λ some. sym w.if-is_within.false ∙ w.is_within.ensures.1 some)) h.2 _ c.tree_of.ensures
 ]

@@ -14,18 +14,25 @@ returns-in_err-take g c = λ p h.
 pub returns-then-branch : goal.returns-then-branch
 returns-then-branch g c = λ p h.
     let on = c.tokens.invariant.gone_on p h in
-    let taken = rw c.if-branch.true at (c.in_ok-take.ensures p on.0 on.1) in
-    (on.0, token_value c.in-Some.token, taken.1, taken.2, taken.0,
-    read_more c.args.tokens.now c.tokens.tokens c.next.new.self on.0 (token_value c.in-Some.token) on.2 c.in-Some.ensures.token)
+    let taken = rw c.if-branch.true at (c.in_ok-take.ensures p on.0 on.1) in (
+      on.0,
+      token_value c.in-Some.token,
+      taken.1,
+      taken.2,
+      taken.0,
+      read_more c.args.tokens.now c.tokens.tokens c.next.new.self on.0 (token_value c.in-Some.token) on.2 c.in-Some.ensures.token,
+    )
 
 pub tokens-preserved : goal.tokens-preserved
 tokens-preserved g c = record {
   reading =
       let r = c.tokens.invariant.reading in (r.0, _, rw c.if-branch.false at (c.in_ok-take.ensures r.0 r.1 r.2));
   gone_on =
-      λ p h. let on = c.tokens.invariant.gone_on p h in
-      (_, rw c.if-branch.false at (c.in_ok-take.ensures p on.0 on.1),
-      read_more c.args.tokens.now c.tokens.tokens c.next.new.self on.0 (token_value c.in-Some.token) on.2 c.in-Some.ensures.token);
+      λ p h. let on = c.tokens.invariant.gone_on p h in (
+        _,
+        rw c.if-branch.false at (c.in_ok-take.ensures p on.0 on.1),
+        read_more c.args.tokens.now c.tokens.tokens c.next.new.self on.0 (token_value c.in-Some.token) on.2 c.in-Some.ensures.token,
+      );
 }
 
 pub returns : goal.returns

@@ -1,4 +1,4 @@
-use Rattle.std.proofs.Common.{arith, sym, ◌∙◌}
+use Rattle.std.proofs.Common.{arith}
 use Rattle.dw_games.proofs.TokenLemmas.{blank_next}
 use Rattle.dw_games.proofs.tokens.past_blanks.Goals as goal
 

@@ -1,4 +1,4 @@
-use Rattle.std.proofs.Common.{◌≡◌, ◌+◌, ◌≤◌, ◌-◌, ℕ, List, length, drop}
+use Rattle.std.proofs.Common.{◌+◌, ◌≤◌, ◌-◌, ℕ, List, length, drop}
 use Rattle.dw_games.specs.Tokens.{Token, AreTokens}
 use Rattle.dw_games.proofs.tokens.past_blanks.Given as goal
 

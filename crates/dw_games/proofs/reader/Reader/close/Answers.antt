@@ -5,8 +5,11 @@ use Rattle.dw_games.proofs.reader.Reader.close.Goals as goal
 
 pub returns-in_default : goal.returns-in_default
 returns-in_default g c = λ p ts h.
-    rw c.fault.ensures (fault_none_open _ p ts c.args.self.now h (token_value c.args.token) (none_left _ c.in_default.ensures.variant.1)
-    c.requires, refl)
+    rw c.fault.ensures (
+      fault_none_open _ p ts c.args.self.now h (token_value c.args.token) (none_left _ c.in_default.ensures.variant.1)
+          c.requires,
+      refl,
+    )
 
 pub returns : goal.returns
 returns g c = λ p ts h.

@@ -5,5 +5,8 @@ use Rattle.dw_games.proofs.reader.Reader.end.Goals as goal
 
 pub returns-then-is_within : goal.returns-then-is_within
 returns-then-is_within g c = λ p ts h.
-    rw c.fault.ensures (fault_within _ p ts c.args.self.now h (token_value c.args.token) c.requires
-    (c.is_within.ensures.0 c.if-is_within.true), refl)
+    rw c.fault.ensures (
+      fault_within _ p ts c.args.self.now h (token_value c.args.token) c.requires
+          (c.is_within.ensures.0 c.if-is_within.true),
+      refl,
+    )

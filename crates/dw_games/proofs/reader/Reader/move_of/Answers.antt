@@ -6,8 +6,11 @@ use Rattle.dw_games.proofs.reader.Reader.move_of.Goals as goal
 
 pub returns-in-Ok-2 : goal.returns-in-Ok-2
 returns-in-Ok-2 g c = λ p ts h.
-    rw c.fault.ensures (fault_long _ p ts c.args.self.now h (token_value c.args.token) c.in-Ok-2.field-0
-    c.requires.written c.requires.no_result c.in-Ok-2.ensures (omega (arith, c.if-not-is_full.false)), refl)
+    rw c.fault.ensures (
+      fault_long _ p ts c.args.self.now h (token_value c.args.token) c.in-Ok-2.field-0
+          c.requires.written c.requires.no_result c.in-Ok-2.ensures (omega (arith, c.if-not-is_full.false)),
+      refl,
+    )
 
 pub returns-in-Err : goal.returns-in-Err
 returns-in-Err g c = λ p ts h.

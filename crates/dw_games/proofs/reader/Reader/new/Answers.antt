@@ -1,4 +1,3 @@
-use Rattle.std.proofs.Common.{refl}
 use Rattle.dw_games.proofs.TakenLemmas.{read_nothing}
 use Rattle.dw_games.proofs.reader.Reader.new.Goals as goal
 

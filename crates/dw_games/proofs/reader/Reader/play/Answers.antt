@@ -5,7 +5,7 @@ use Rattle.dw_games.proofs.TakenLemmas.{known_now, some_is, read_legal, taken_mo
 use Rattle.dw_games.proofs.reader.Reader.play.Goals as goal
 
 pub returns-in_err-mv : goal.returns-in_err-mv
-returns-in_err-mv g c = λ p ts h. 
+returns-in_err-mv g c = λ p ts h.
     let e = err_from_is_err_and c.from_residual.result c.from_residual.ensures.1 in
     rw (e.1, e.2) (c.in_err-mv.ensures p ts h)
 

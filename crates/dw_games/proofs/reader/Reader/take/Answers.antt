@@ -4,11 +4,14 @@ use Rattle.dw_games.proofs.TakenLemmas.{taken_passed, fault_unreadable, passed_e
 use Rattle.dw_games.proofs.reader.Reader.take.Goals as goal
 
 pub returns-in-Comment : goal.returns-in-Comment
-returns-in-Comment g c = λ p ts h. 
+returns-in-Comment g c = λ p ts h.
     taken_passed _ p ts c.args.self.now h (token_value c.args.token)
     (passed_either c.args.token.what c.in-Comment.is)
 
 pub returns-in-CutOff : goal.returns-in-CutOff
-returns-in-CutOff g c = λ p ts h. 
-    rw c.fault.ensures (fault_unreadable _ p ts c.args.self.now h (token_value c.args.token)
-    (elim c.in-CutOff.is [ inl e ↦ inr (inl e) | inr e ↦ inl e ]), refl)
+returns-in-CutOff g c = λ p ts h.
+    rw c.fault.ensures (
+      fault_unreadable _ p ts c.args.self.now h (token_value c.args.token)
+          (elim c.in-CutOff.is [ inl e ↦ inr (inl e) | inr e ↦ inl e ]),
+      refl,
+    )

@@ -47,7 +47,7 @@ pub returns-clause-node : goal.returns-clause-node
 returns-clause-node g c =
     let found = rw c.as_slice.ensures.value at c.in-Last.ensures in
     let here : length (steps_of c.self.inside.branches.items) ≡ length c.as_slice-place.result.now =
-        steps_length c.self.inside.branches.items ∙ sym (ap length c.as_slice-place.ensures.value) in
+    steps_length c.self.inside.branches.items ∙ sym (ap length c.as_slice-place.ensures.value) in
     rw (← here, ← c.self.view_is) (λ b e. (noted_new _ _ _ c.self.invariant (place_of c.args.parent) c.args.mv.now
     (steps_of c.link.new.branches.items) found.0 (new_steps c.self.inside.branches.items c.push.new.self.items
     c.link.new.branches.items c.args.parent c.args.mv.now c.in_ok-push.ensures.items c.link.ensures.steps) b e).1)
