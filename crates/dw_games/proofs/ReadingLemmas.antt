@@ -10,7 +10,8 @@ use Rattle.dw_games.specs.Play.{IsMove, IsPassed, IsPlay, after, IsVariation, em
 use Rattle.dw_games.specs.Movetext.{AreDistinct, again, first}
 use Rattle.dw_games.specs.Faults.{IsOpen}
 use Rattle.dw_games.specs.Faults as faults
-use Rattle.dw_games.specs.Walk.{place_of, beginning_at, IsNoted}
+use Rattle.dw_games.specs.Walk.{place_of, beginning_at}
+use Rattle.dw_games.specs.inner.Noting.{IsNoted}
 use Rattle.dw_games.specs.inner.Reading.{IsSpot, IsBefore, IsLine, Opened, outermost, inner}
 use Rattle.dw_games.specs.declared.tokens.TokenKind.TheVariants.{Opens, Closes}
 use Rattle.dw_games.specs.declared.movetext.TheConstants.{MAX_OPEN, MAX_PATH}

@@ -15,7 +15,8 @@ use Rattle.dw_games.specs.Movetext.{nothing}
 use Rattle.std.proofs.Math.Nat.{eq-or-lt_of_le}
 use Rattle.std.proofs.lemmas.Bool.{eqb-true, eq-eqb, true≢false}
 use Rattle.dw_notation.specs.MoveReading.{Named, QuietMove, Capture, Fits, FitsSquares}
-use Rattle.dw_games.specs.Walk.{IsNoted, beginning_at, place_of}
+use Rattle.dw_games.specs.Walk.{beginning_at, place_of}
+use Rattle.dw_games.specs.inner.Noting.{IsNoted}
 use Rattle.dw_games.specs.Faults.{IsOpen, FaultAt, HasForm, IsUnreadable, unreadable, no_such_move, ambiguous}
 use Rattle.dw_games.specs.Faults.{no_move_before, none_open, within, too_deep, too_long}
 use Rattle.dw_games.specs.inner.Reading.{IsBefore, Opened, outermost, inner, HasRead, IsFaultOf}

@@ -8,7 +8,8 @@ use Rattle.std.proofs.lemmas.Option.{slice_get_within, slice_get_past, slice_get
 use Rattle.dw_board.specs.Lists.{Member}
 use Rattle.dw_moves.specs.Moves.{Move}
 use Rattle.dw_games.specs.declared.branches.Node.{Node}
-use Rattle.dw_games.specs.Walk.{place_of, beginning_at, IsNext, IsNoted}
+use Rattle.dw_games.specs.Walk.{place_of, beginning_at, IsNext}
+use Rattle.dw_games.specs.inner.Noting.{IsNoted}
 use Rattle.dw_games.specs.inner.Branches.{Step, path_to, paths_of, IsFirstChild, IsPlace, AreLinked}
 use Rattle.dw_games.specs.inner.Branches.{IsLastChild, Hang, steps_of, firsts_of, nexts_of, first_linked, next_linked}
 use Rattle.dw_games.specs.declared.branches.Branch.{Branch}

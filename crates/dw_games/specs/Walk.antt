@@ -1,7 +1,6 @@
 -- Walking a tree: from a beginning to those that are one move longer.
-use Rattle.std.specs.Prelude.{◌≡◌, ◌⊎◌, ℕ, ◌≤◌, ◌<◌, Option, Some, None, List, [], ◌∷◌, ◌++◌, slice_get}
+use Rattle.std.specs.Prelude.{◌≡◌, ℕ, ◌≤◌, ◌<◌, Option, Some, None, List, [], ◌∷◌, ◌++◌, slice_get}
 use Rattle.std.specs.Prelude.{option_map}
-use Rattle.dw_board.specs.Lists.{Member}
 use Rattle.dw_moves.specs.Moves.{Move}
 use Rattle.dw_games.specs.declared.branches.Node.{Node}
 
@@ -23,7 +22,3 @@ abbrev pub IsNext : List (List Move) → List Move → ℕ → Option ℕ → Ty
 IsNext tree beginning from None = (n : ℕ) → from ≤ n → GoesOn tree beginning n → ⊥
 IsNext tree beginning from (Some n) = (from ≤ n) × GoesOn tree beginning n
     × ((k : ℕ) → from ≤ k → k < n → GoesOn tree beginning k → ⊥)
-
--- a path stands in a tree already, or is put behind all others
-abbrev pub IsNoted : List (List Move) → List Move → List (List Move) → Type 0
-IsNoted old path new = (Member path old × (new ≡ old)) ⊎ ((Member path old → ⊥) × (new ≡ old ++ path ∷ []))

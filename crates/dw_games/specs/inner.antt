@@ -5,3 +5,4 @@ pub mod Branches
 pub mod TreeCodes
 pub mod Reading
 pub mod Refusals
+pub mod Noting

@@ -1,5 +1,6 @@
 //! Reading a movetext token by token.
-ghost use Rattle.std.specs.Prelude.{◌≡◌, ◌↔◌, ◌≤◌, ◌<◌, [], true, false, Bool, Result, Ok, Err, MatchResult, length, IfOk};
+ghost use Rattle.std.specs.Prelude.{◌≡◌, ◌↔◌, ◌≤◌, ◌<◌, [], true, false, Bool};
+ghost use Rattle.std.specs.Prelude.{Result, Ok, Err, MatchResult, length, IfOk};
 ghost use Rattle.std.specs.Prelude.{IsTrue};
 ghost use Rattle.dw_board.specs.Lists.{Member};
 ghost use Rattle.dw_notation.specs.MoveReading.{IsRead};

@@ -34,7 +34,8 @@ impl<B: Board> Model for Tree<B> {
 }
 
 impl<B: Board> Tree<B> {
-    ghost use Rattle.dw_games.specs.Walk.{place_of, beginning_at, IsNext, IsNoted};
+    ghost use Rattle.dw_games.specs.Walk.{place_of, beginning_at, IsNext};
+    ghost use Rattle.dw_games.specs.inner.Noting.{IsNoted};
 
     /// The tree without a move.
     pub(crate) fn new(alloc: Global) -> Self
