@@ -8,3 +8,4 @@ pub mod ReadingLemmas
 pub mod LongLemmas
 pub mod TakenLemmas
 pub mod WholeLemmas
+pub mod LexLemmas

@@ -66,7 +66,7 @@ dots_token fresh xs n run =
     let some : 0 < length (46 ∷ take n xs) = omega arith in number [] refl some whole
 
 -- ---- moves and results
-absent : {A : Type 0} → true ≡ false → A
+pub absent : {A : Type 0} → true ≡ false → A
 absent h = absurd (true≢false h)
 
 -- two runs of one class at the front of the same bytes are equally long
