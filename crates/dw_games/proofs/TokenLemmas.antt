@@ -82,7 +82,7 @@ one_run test (x ∷ xs) (suc m) (suc n) ms ns a b c d = elim (cases_Bool (test x
   | inr other ↦ absent (sym (rw other at a))
 ]
 
-no_digit : (byte : ℕ) → is_written byte ≡ false → is_digit byte ≡ false
+pub no_digit : (byte : ℕ) → is_written byte ≡ false → is_digit byte ≡ false
 no_digit byte h = elim (cases_Bool (is_digit byte)) [
   | inl is ↦ absent (rw is at h)
   | inr other ↦ other
@@ -92,7 +92,7 @@ no_digit_first : (xs : List ℕ) → begins_with is_written xs ≡ false → beg
 no_digit_first [] h = refl
 no_digit_first (x ∷ xs) h = no_digit x h
 
-is_written_digit : (byte : ℕ) → is_digit byte ≡ true → is_written byte ≡ true
+pub is_written_digit : (byte : ℕ) → is_digit byte ≡ true → is_written byte ≡ true
 is_written_digit byte h = rw h refl
 
 -- bytes written like moves, if no dot stands behind their digits

@@ -8,6 +8,7 @@
 mod branches;
 mod class;
 pub mod fault;
+pub mod laws;
 pub mod movetext;
 mod reader;
 pub mod tokens;
