@@ -1,11 +1,11 @@
 -- Each text has one row of tokens.
-use Rattle.std.proofs.Common.{◌≡◌, ◌==◌, ℕ, zero, suc, ◌+◌, ◌<◌, ◌≤◌, Bool, true, false, ◌&&◌, ◌||◌, not, List, [], ◌∷◌, ◌++◌}
-use Rattle.std.proofs.Common.{length, take, drop, refl, sym, ap, subst, ◌∙◌, arith, ◌⊎◌, inl, inr, append_assoc, append-nil, length-append, add-one}
-use Rattle.std.specs.Prelude.{if◌then◌else◌, nat_lt}
+use Rattle.std.proofs.Common.{◌≡◌, ◌==◌, ℕ, zero, suc, ◌+◌, ◌<◌, ◌≤◌, Bool, true, false, ◌&&◌, ◌||◌, List, [], ◌∷◌, ◌++◌}
+use Rattle.std.proofs.Common.{length, take, drop, refl, sym, ap, subst, ◌∙◌, arith, inl, inr, append_assoc, append-nil, length-append, add-one}
+use Rattle.std.specs.Prelude.{if◌then◌else◌}
 use Rattle.std.specs.List.{list_all}
-use Rattle.std.proofs.Math.Seq.{take-append_seam, drop-append_seam, take-length}
-use Rattle.std.proofs.lemmas.List.{take-append-drop, length-take-le, drop_all}
-use Rattle.std.proofs.lemmas.Bool.{cases_Bool, true≢false, or_cases, eqb-true, not-false}
+use Rattle.std.proofs.Math.Seq.{take-append_seam, drop-append_seam}
+use Rattle.std.proofs.lemmas.List.{drop_all}
+use Rattle.std.proofs.lemmas.Bool.{cases_Bool, or_cases, eqb-true}
 use Rattle.dw_board.specs.FenTokens.{is_digit}
 use Rattle.dw_notation.specs.Tags.{is_space, ends_line}
 use Rattle.dw_games.specs.Tokens.{IsRun, IsToken, Token, AreTokens, begins_with, is_inside, is_in_line, is_dot, is_written}
@@ -19,7 +19,7 @@ use Rattle.std.proofs.lemmas.Bool.{cases_lt}
 use Rattle.std.proofs.lemmas.Bool.Decides.{eqb_tells}
 use Rattle.dw_games.proofs.TokenLemmas.{absent, comment_token, unclosed_token, mark_token, dots_token, praise_token}
 use Rattle.dw_games.proofs.TokenLemmas.{number_token, written_token, unknown_token, token_next}
-use Rattle.dw_games.proofs.TokenLemmas.{no_digit, is_written_digit}
+use Rattle.dw_games.proofs.TokenLemmas.{no_digit}
 use Rattle.std.proofs.lemmas.Bool.{and_parts}
 
 -- the longest run at the front

@@ -6,3 +6,4 @@ pub mod TreeCodes
 pub mod Reading
 pub mod Refusals
 pub mod Noting
+pub mod WholeLaw

@@ -12,10 +12,11 @@ pub record Step : Type 0 where
   pub parent : Option ℕ
   pub mv : Move
 
--- the steps, the first children and the next siblings of nodes
+-- Sealed: the steps of nodes. The clauses of a tree say all that is to be known of them.
 abbrev pub steps_of : {B : Type 0} → List (Branch B) → List Step
 steps_of branches = map (λ b. record { parent = place_of b.parent; mv = b.mv }) branches
 
+-- their first children and next siblings
 abbrev pub firsts_of : {B : Type 0} → List (Branch B) → List (Option ℕ)
 firsts_of branches = map (λ b. place_of b.first_child) branches
 
@@ -32,7 +33,7 @@ abbrev pub grown : List (List Move) → List Step → List (List Move)
 grown paths [] = paths
 grown paths (s ∷ steps) = grown (paths ++ (path_to paths s.parent ++ s.mv ∷ []) ∷ []) steps
 
--- the paths to all nodes
+-- Sealed: the paths to all nodes. The clauses of a tree say all that is to be known of them.
 abbrev pub paths_of : List Step → List (List Move)
 paths_of steps = grown [] steps
 
@@ -66,7 +67,7 @@ pub record AreLinked (steps : List Step) (firsts nexts : List (Option ℕ)) : Ty
   pub siblings : (k : ℕ) (r parent : Option ℕ) (m : Move) → slice_get nexts k ≡ Some r
       → slice_get steps k ≡ Some (record { parent = parent; mv = m }) → IsFirstChild steps parent (k + 1) r
 
--- nodes hang together
+-- Sealed: nodes hang together. The clauses of a tree say all that is to be known of it.
 abbrev pub Hang : {B : Type 0} → List (Branch B) → Type 0
 Hang branches = AreLinked (steps_of branches) (firsts_of branches) (nexts_of branches)
 
