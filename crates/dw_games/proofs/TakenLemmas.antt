@@ -1,6 +1,6 @@
 -- What a reader makes of a token.
 use Rattle.std.proofs.Common.{◌≡◌, ℕ, zero, suc, ◌+◌, ◌<◌, ◌≤◌, Bool, true, false, List, [], ◌∷◌, ◌++◌, length, Option, Some, None}
-use Rattle.std.proofs.Common.{refl, sym, subst, ◌∙◌, arith, append-nil, length-append, ◌⊎◌, inl, inr, Ok, Err}
+use Rattle.std.proofs.Common.{refl, sym, subst, ◌∙◌, arith, append-nil, length-append, inl, inr, Ok, Err}
 use Rattle.dw_board.specs.Geometry.{Geometry}
 use Rattle.dw_board.specs.Placement.{Placement}
 use Rattle.dw_moves.specs.Moves.{Move, play, Legal, LegalAt, IsPathOf}
@@ -21,8 +21,7 @@ use Rattle.dw_games.specs.Faults.{IsOpen, FaultAt, HasForm, IsUnreadable, unread
 use Rattle.dw_games.specs.Faults.{no_move_before, none_open, within, too_deep, too_long}
 use Rattle.dw_games.specs.inner.Reading.{IsBefore, Opened, outermost, inner, HasRead, IsFaultOf}
 use Rattle.dw_games.specs.inner.Refusals.{refusal_of}
-use Rattle.dw_games.specs.declared.tokens.TokenKind.TheVariants.{Comment, Passed, Written, Opens, Closes}
-use Rattle.dw_games.specs.declared.tokens.TokenKind.{TokenKind}
+use Rattle.dw_games.specs.declared.tokens.TokenKind.TheVariants.{Written, Opens, Closes}
 use Rattle.dw_games.specs.declared.movetext.TheConstants.{MAX_OPEN, MAX_PATH}
 use Rattle.dw_games.specs.declared.fault.MovetextFaultKind.TheVariants.{Token as NoToken, Variation}
 use Rattle.dw_games.specs.declared.fault.MovetextFaultKind.TheVariants.{Unclosed, TooDeep, TooLong}
@@ -275,7 +274,3 @@ read_nothing g p r tree outer line = record {
       }));
   distinct = rw tree nothing;
 }
-
-pub passed_either : (w : TokenKind) → (w ≡ Comment) ⊎ (w ≡ Passed) → IsPassed w
-passed_either w (inl e) = subst IsPassed (sym e) tt
-passed_either w (inr e) = subst IsPassed (sym e) tt

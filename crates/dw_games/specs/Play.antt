@@ -1,5 +1,5 @@
 -- The play of a movetext: its variations, as a grammar on its tokens, and the paths that they go through.
-use Rattle.std.specs.Prelude.{◌≡◌, ℕ, ◌==◌, ◌<◌, if◌then◌else◌, List, [], ◌∷◌, ◌++◌, length, map, codes}
+use Rattle.std.specs.Prelude.{◌≡◌, ◌⊎◌, ℕ, ◌==◌, ◌<◌, if◌then◌else◌, List, [], ◌∷◌, ◌++◌, length, map, codes}
 use Rattle.std.specs.Prelude.{Ok}
 use Rattle.std.proofs.Common.{suc}
 use Rattle.dw_board.specs.Geometry.{Geometry}
@@ -11,8 +11,7 @@ use Rattle.dw_notation.specs.Text.{cross}
 use Rattle.dw_notation.specs.MoveReading.{IsRead}
 use Rattle.dw_games.specs.Tokens.{Token}
 use Rattle.dw_games.specs.declared.tokens.TokenKind.{TokenKind}
-use Rattle.dw_games.specs.declared.tokens.TokenKind.TheVariants.{Comment, Passed, Written, Opens, Closes, CutOff}
-use Rattle.dw_games.specs.declared.tokens.TokenKind.TheVariants.{Unknown}
+use Rattle.dw_games.specs.declared.tokens.TokenKind.TheVariants.{Comment, Passed, Written, Opens, Closes}
 use Rattle.dw_games.specs.declared.movetext.TheConstants.{MAX_PATH, MAX_OPEN}
 
 -- the texts of results
@@ -42,13 +41,7 @@ pub record IsMove (g : Geometry) (p : Placement) (t : Token) (m : Move) : Type 0
 
 -- what is passed over within a variation: comments, numbers and marks
 abbrev pub IsPassed : TokenKind → Type 0
-IsPassed Comment = Unit {0}
-IsPassed Passed = Unit {0}
-IsPassed Written = ⊥
-IsPassed Opens = ⊥
-IsPassed Closes = ⊥
-IsPassed CutOff = ⊥
-IsPassed Unknown = ⊥
+IsPassed what = (what ≡ Comment) ⊎ (what ≡ Passed)
 
 -- A variation: how many variations may be open in it, the moves before it, its tokens, its own moves, and all paths
 -- that it goes through, in turn. It is empty, or a variation and behind it something that is passed over, or a move, or
