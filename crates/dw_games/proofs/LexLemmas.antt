@@ -41,7 +41,7 @@ run_exists : (test : ℕ → Bool) (xs : List ℕ) → (n : ℕ) × (n ≤ lengt
 run_exists test [] = (0, omega arith, record { all = refl; ends = refl })
 run_exists test (x ∷ xs) = elim (cases_Bool (test x)) [
   | inl is ↦
-    let h = run_exists test xs in (suc h.0, omega (arith, h.1), record { all = rw is h.2.all; ends = h.2.ends })
+      let h = run_exists test xs in (suc h.0, omega (arith, h.1), record { all = rw is h.2.all; ends = h.2.ends })
   | inr other ↦ (0, omega arith, record { all = refl; ends = other })
 ]
 
@@ -86,9 +86,12 @@ digit_by : (fresh : Bool) (b : ℕ) (bs : List ℕ) → is_digit b ≡ true
 digit_by fresh b bs is d (zero, fits, run) =
     let w = run_exists is_written bs in
     (Written, w.0, w.1, written_token fresh b bs d.0 w.0 is d.1 d.2 run.ends w.1 w.2)
-digit_by fresh b bs is d (suc n, fits, run) =
-    (Passed, d.0 + suc n, omega (arith, d.1, fits, length-drop d.0 bs),
-    number_token fresh b bs d.0 (suc n) is d.2 (omega arith) fits run)
+digit_by fresh b bs is d (suc n, fits, run) = (
+  Passed,
+  d.0 + suc n,
+  omega (arith, d.1, fits, length-drop d.0 bs),
+  number_token fresh b bs d.0 (suc n) is d.2 (omega arith) fits run,
+)
 
 front_digit : (fresh : Bool) (b : ℕ) (bs : List ℕ) → is_digit b ≡ true → Front fresh b bs
 front_digit fresh b bs is =
@@ -113,8 +116,13 @@ front_sign fresh b bs space digit praised = elim (eqb_tells b 123) [
               | inl e ↦ subst (λ x. Front fresh x bs) (sym e.1) (Written, 0, omega arith, open_result)
               | inr starred ↦ elim (eqb_tells b 37) [
                 | inl e ↦ subst (λ x. Front fresh x bs) (sym e.1) (front_whole fresh bs)
-                | inr cent ↦ (Unknown, 0, omega arith, unknown_token fresh b bs space digit praised brace.1 semi.1 dot.1
-                  sign.1 opened.1 closed.1 starred.1 cent.1)
+                | inr cent ↦ (
+                  Unknown,
+                  0,
+                  omega arith,
+                  unknown_token fresh b bs space digit praised brace.1 semi.1 dot.1
+                      sign.1 opened.1 closed.1 starred.1 cent.1,
+                )
               ]
             ]
           ]
@@ -139,13 +147,15 @@ rows fuel place fresh [] fits = ([], nothing)
 rows zero place fresh (b ∷ bs) fits = absurd (omega (arith, fits))
 rows (suc fuel) place fresh (b ∷ bs) fits = elim (cases_Bool (is_space b)) [
   | inl is ↦
-    let more = rows fuel (place + 1) (ends_line b) bs (omega (arith, fits)) in (more.0, blank is more.1)
+      let more = rows fuel (place + 1) (ends_line b) bs (omega (arith, fits)) in (more.0, blank is more.1)
   | inr space ↦
-    let h = front fresh b bs space in
-    let left : length (drop h.1 bs) ≤ fuel = omega (arith, fits, length-drop h.1 bs) in
-    let more = rows fuel (place + suc h.1) false (drop h.1 bs) left in
-    (_, token_next place (suc h.1) (place + suc h.1) fresh h.0 (b ∷ bs) (drop h.1 bs) [] more.0 h.3 (omega (arith, h.2))
-    refl refl more.1)
+      let h = front fresh b bs space in
+      let left : length (drop h.1 bs) ≤ fuel = omega (arith, fits, length-drop h.1 bs) in
+      let more = rows fuel (place + suc h.1) false (drop h.1 bs) left in (
+        _,
+        token_next place (suc h.1) (place + suc h.1) fresh h.0 (b ∷ bs) (drop h.1 bs) [] more.0 h.3 (omega (arith, h.2))
+            refl refl more.1,
+      )
 ]
 
 -- ---- and only one
@@ -181,7 +191,7 @@ abbrev lexed : Bool → List ℕ → TokenKind × ℕ
 lexed fresh [] = (Unknown, 0)
 lexed fresh (b ∷ bs) =
     if is_digit b then digit_lexed (run_len is_digit bs) (run_len is_dot (drop (run_len is_digit bs) bs))
-      (run_len is_written bs)
+    (run_len is_written bs)
     else (if is_praise b then (Passed, suc (run_len is_praise bs)) else sign_lexed fresh b bs)
 
 no_dot_written : (b : ℕ) → is_written b ≡ true → is_dot b ≡ false
@@ -208,7 +218,7 @@ no_dot [] (y ∷ after) all ends dotless =
     rw (run_no is_digit y after (no_digit y ends)) (run_no is_dot y after (dotless refl))
 no_dot (x ∷ xs) after all ends dotless = elim (cases_Bool (is_digit x)) [
   | inl is ↦
-    rw (run_yes is_digit x (xs ++ after) is) (no_dot xs after (and_parts _ _ all).1 ends (λ h. dotless (rw is h)))
+      rw (run_yes is_digit x (xs ++ after) is) (no_dot xs after (and_parts _ _ all).1 ends (λ h. dotless (rw is h)))
   | inr other ↦ rw (run_no is_digit x (xs ++ after) other) (run_no is_dot x (xs ++ after) (no_dot_written x (and_parts _ _ all).0))
 ]
 
@@ -227,7 +237,7 @@ dot_lexed fresh b bs is =
 
 digit_front : (fresh : Bool) (b : ℕ) (bs : List ℕ) → is_digit b ≡ true
     → lexed fresh (b ∷ bs) ≡ digit_lexed (run_len is_digit bs) (run_len is_dot (drop (run_len is_digit bs) bs))
-      (run_len is_written bs)
+    (run_len is_written bs)
 digit_front fresh b bs is = rw is refl
 
 mark_some : (n : ℕ) → 0 < n → mark_lexed n ≡ (Passed, suc n)
@@ -265,10 +275,14 @@ number_lexed fresh [] (b ∷ dots) after all some run =
 number_lexed fresh (d ∷ digits) dots after all some run =
     let rest : list_all is_digit digits ≡ true = (and_parts _ _ all).1 in
     digit_front fresh d ((digits ++ dots) ++ after) (and_parts _ _ all).0
-    ∙ rw (append_assoc digits dots after,
+    ∙ rw (
+      append_assoc digits dots after,
       run_front is_digit digits (dots ++ after) rest (dots_no_digit dots after some run.all),
-      drop-append_seam digits (dots ++ after), run_front is_dot dots after run.all run.ends, length-append digits dots)
-      (dots_some (length digits) (length dots) _ some)
+      drop-append_seam digits (dots ++ after),
+      run_front is_dot dots after run.all run.ends,
+      length-append digits dots,
+    )
+    (dots_some (length digits) (length dots) _ some)
 
 or_no : (a b : Bool) → (a || b) ≡ false → (a ≡ false) × (b ≡ false)
 or_no true b h = absent h
@@ -322,8 +336,13 @@ no_space_praise b h = elim (or_cases _ _ h) [
 is_lexed : {fresh : Bool} {what : TokenKind} {text after : List ℕ} → IsToken fresh what text after
     → lexed fresh (text ++ after) ≡ (what, length text)
 is_lexed (in_braces {inside = inside} {after = after} run) =
-    rw (append_assoc inside (125 ∷ []) after, run_front is_inside inside (125 ∷ after) run.all refl,
-    drop-append_seam inside (125 ∷ after), length-append inside (125 ∷ []), add-one) refl
+    rw (
+      append_assoc inside (125 ∷ []) after,
+      run_front is_inside inside (125 ∷ after) run.all refl,
+      drop-append_seam inside (125 ∷ after),
+      length-append inside (125 ∷ []),
+      add-one,
+    ) refl
 is_lexed (to_line_end {line = line} {after = after} run) = rw (run_front is_in_line line after run.all run.ends) refl
 is_lexed (whole_line {line = line} {after = after} run) = rw (run_front is_in_line line after run.all run.ends) refl
 is_lexed (number {fresh = fresh} digits {dots = dots} {after = after} all some run) =
@@ -371,10 +390,11 @@ token_one : {fresh : Bool} {w v : TokenKind} {a b c d : List ℕ} → IsToken fr
     → a ++ b ≡ c ++ d → (w ≡ v) × (a ≡ c) × (b ≡ d)
 token_one {fresh = fresh} {a = a} {b = b} {c = c} {d = d} t u e =
     let both = sym (is_lexed t) ∙ (ap (lexed fresh) e ∙ is_lexed u) in
-    let many : length a ≡ length c = ap (λ x. x.1) both in
-    (ap (λ x. x.0) both,
-    sym (take-append_seam a b) ∙ (ap (λ n. take n (a ++ b)) many ∙ (ap (take (length c)) e ∙ take-append_seam c d)),
-    sym (drop-append_seam a b) ∙ (ap (λ n. drop n (a ++ b)) many ∙ (ap (drop (length c)) e ∙ drop-append_seam c d)))
+    let many : length a ≡ length c = ap (λ x. x.1) both in (
+      ap (λ x. x.0) both,
+      sym (take-append_seam a b) ∙ (ap (λ n. take n (a ++ b)) many ∙ (ap (take (length c)) e ∙ take-append_seam c d)),
+      sym (drop-append_seam a b) ∙ (ap (λ n. drop n (a ++ b)) many ∙ (ap (drop (length c)) e ∙ drop-append_seam c d)),
+    )
 
 -- a blank and a token do not begin the same bytes
 apart : {A : Type 0} {fresh : Bool} {what : TokenKind} {text after : List ℕ} (b : ℕ) (bs : List ℕ)
@@ -414,7 +434,7 @@ row_one (token {place = place} {what = w} {rest = end} a b {tokens = ts} u more)
     (token {what = v} {rest = last} c d {tokens = us} x others) e l f t =
     let one = token_one (subst (λ z. IsToken z w a b) f u) x t in
     let there : AreTokens (place + length a) false d us last =
-        subst (λ n. AreTokens (place + n) false d us last) (ap length (sym one.1)) others in
+    subst (λ n. AreTokens (place + n) false d us last) (ap length (sym one.1)) others in
     let tail : ts ≡ us = row_one more there e l refl one.2 in
     cons_same _ _ ts us (token_same place w v a c one.0 one.1) tail
 
