@@ -1,0 +1,10 @@
+use Rattle.std.proofs.Common.{◌==◌, length, sym, ap, ◌∙◌}
+use Rattle.dw_games.specs.inner.Branches.{steps_of}
+use Rattle.dw_games.proofs.BranchLemmas.{steps_length}
+use Rattle.dw_games.proofs.PathLemmas.{length_paths}
+use Rattle.dw_games.proofs.tree.Tree.is_empty.Goals as goal
+
+pub returns : goal.returns
+returns g c = c.is_empty.ensures ∙ ap (λ n. n == 0) (ap length c.as_slice.ensures.value
+    ∙ (sym (steps_length c.self.inside.branches.items) ∙ (sym (length_paths (steps_of c.self.inside.branches.items))
+    ∙ ap length c.self.view_is)))

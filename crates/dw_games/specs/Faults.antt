@@ -1,0 +1,101 @@
+-- The first fault of a movetext, by the grammar: what may stand behind the tokens before it, and does not.
+use Rattle.std.specs.Prelude.{◌≡◌, ◌≢◌, ◌⊎◌, ℕ, ◌+◌, ◌<◌, ◌≤◌, true, Result, Ok, Err, List, [], ◌∷◌, ◌++◌, length}
+use Rattle.std.proofs.Common.{zero, suc}
+use Rattle.dw_board.specs.Geometry.{Geometry}
+use Rattle.dw_board.specs.Placement.{Placement}
+use Rattle.dw_moves.specs.Moves.{Move}
+use Rattle.dw_notation.specs.MoveReading.{Named, Names, IsRead}
+use Rattle.dw_notation.specs.declared.read_move.MoveFault.{MoveFault}
+use Rattle.dw_notation.specs.declared.read_move.MoveFault.TheVariants as reading
+use Rattle.dw_games.specs.Tokens.{Token, AreTokens}
+use Rattle.dw_games.specs.Play.{IsResult, crossed, after, IsVariation, IsPlay, IsOver}
+use Rattle.dw_games.specs.declared.tokens.TokenKind.TheVariants.{Comment, Written, Opens, Closes, CutOff, Unknown}
+use Rattle.dw_games.specs.declared.movetext.TheConstants.{MAX_PATH, MAX_OPEN, MAX_MOVETEXT}
+use Rattle.dw_games.specs.Movetext.{IsTree}
+use Rattle.dw_games.specs.declared.fault.MovetextFault.{MovetextFault}
+use Rattle.dw_games.specs.declared.fault.MovetextFault.TheVariants.{Refused, Memory}
+use Rattle.dw_games.specs.declared.fault.MovetextFaultKind.{MovetextFaultKind}
+use Rattle.dw_games.specs.declared.fault.MovetextFaultKind.TheVariants.{Token as NoToken, NoSuchMove, Ambiguous}
+use Rattle.dw_games.specs.declared.fault.MovetextFaultKind.TheVariants.{Variation, Unclosed, Rest, TooDeep, TooLong}
+use Rattle.dw_games.specs.declared.fault.MovetextFaultKind.TheVariants.{TooLarge, Empty}
+
+-- After these tokens no result stands yet: the innermost of the variations that are open begins after the moves
+-- before, and has these moves. So many more may be open in it.
+pub data IsOpen (g : Geometry) (p : Placement) : ℕ → List Token → (before moves : List Move) → Type 0 where
+  outermost : {ts : List Token} {moves : List Move} {paths : List (List Move)}
+      → IsVariation g p MAX_OPEN [] ts moves paths → IsOpen g p MAX_OPEN ts [] moves
+  inner : {room : ℕ} {ts us : List Token} {before others : List Move} {paths : List (List Move)}
+      (moves : List Move) (last : Move) (opening : Token)
+      → IsOpen g p (suc room) ts before (moves ++ last ∷ []) → opening.what ≡ Opens
+      → IsVariation g p room (before ++ moves) us others paths
+      → IsOpen g p room (ts ++ opening ∷ us) (before ++ moves) others
+
+-- a token is no result, and its text has the form of a move
+pub record HasForm (g : Geometry) (t : Token) : Type 0 where
+  pub written : t.what ≡ Written
+  pub no_result : IsResult t → ⊥
+  pub named : Named
+  pub form : Names g (crossed t.text) named
+
+-- a token has this form, and the position has no such move or several
+pub record IsRefused (g : Geometry) (p : Placement) (t : Token) (why : MoveFault) : Type 0 where
+  pub form : HasForm g t
+  pub refused : IsRead g p (crossed t.text) (Err why)
+
+-- a token is neither a result nor of the form of a move
+pub record IsNeither (g : Geometry) (t : Token) : Type 0 where
+  pub written : t.what ≡ Written
+  pub no_result : IsResult t → ⊥
+  pub no_form : HasForm g t → ⊥
+
+-- bytes that are no token, or a token that ends too soon
+abbrev pub IsUnreadable : Geometry → Token → Type 0
+IsUnreadable g t = (t.what ≡ Unknown) ⊎ ((t.what ≡ CutOff) ⊎ IsNeither g t)
+
+-- behind the tokens before, this one is at fault
+pub data FaultAt (g : Geometry) (p : Placement) : List Token → Token → MovetextFaultKind → Type 0 where
+  unreadable : {room : ℕ} {ts : List Token} {before moves : List Move} {t : Token}
+      → IsOpen g p room ts before moves → IsUnreadable g t → FaultAt g p ts t NoToken
+  no_such_move : {room : ℕ} {ts : List Token} {before moves : List Move} {t : Token}
+      → IsOpen g p room ts before moves → length (before ++ moves) < MAX_PATH
+      → IsRefused g (after g p (before ++ moves)) t reading.NoSuchMove → FaultAt g p ts t NoSuchMove
+  ambiguous : {room : ℕ} {ts : List Token} {before moves : List Move} {t : Token}
+      → IsOpen g p room ts before moves → length (before ++ moves) < MAX_PATH
+      → IsRefused g (after g p (before ++ moves)) t reading.Ambiguous → FaultAt g p ts t Ambiguous
+  no_move_before : {room : ℕ} {ts : List Token} {before : List Move} {t : Token} → IsOpen g p room ts before []
+      → t.what ≡ Opens → FaultAt g p ts t Variation
+  none_open : {ts : List Token} {paths : List (List Move)} {t : Token} → IsPlay g p ts paths → t.what ≡ Closes
+      → FaultAt g p ts t Variation
+  within : {room : ℕ} {ts : List Token} {before moves : List Move} {t : Token} → IsOpen g p room ts before moves
+      → room < MAX_OPEN → IsResult t → FaultAt g p ts t Unclosed
+  behind_result : {ts : List Token} {paths : List (List Move)} {t : Token} → IsOver g p ts paths → t.what ≢ Comment
+      → t.what ≢ CutOff → FaultAt g p ts t Rest
+  cut_off : {ts : List Token} {paths : List (List Move)} {t : Token} → IsOver g p ts paths → t.what ≡ CutOff
+      → FaultAt g p ts t NoToken
+  too_deep : {ts : List Token} {before : List Move} {t : Token} (moves : List Move) (last : Move)
+      → IsOpen g p zero ts before (moves ++ last ∷ []) → t.what ≡ Opens → FaultAt g p ts t TooDeep
+  too_long : {room : ℕ} {ts : List Token} {before moves : List Move} {t : Token}
+      → IsOpen g p room ts before moves → length (before ++ moves) ≡ MAX_PATH → HasForm g t
+      → FaultAt g p ts t TooLong
+
+-- behind all tokens something is missing: the end of a variation, or any move
+pub data FaultAtEnd (g : Geometry) (p : Placement) : List Token → MovetextFaultKind → Type 0 where
+  unclosed : {room : ℕ} {ts : List Token} {before moves : List Move} → IsOpen g p room ts before moves
+      → room < MAX_OPEN → FaultAtEnd g p ts Unclosed
+  no_move : {ts : List Token} → IsPlay g p ts [] ⊎ IsOver g p ts [] → FaultAtEnd g p ts Empty
+
+-- The first fault of a text, and its place: that of the token at fault, or the one behind the text. A text that is too
+-- large has no other.
+pub data IsFirstFault (g : Geometry) (p : Placement) : List ℕ → MovetextFaultKind → ℕ → Type 0 where
+  too_large : {text : List ℕ} → MAX_MOVETEXT < length text → IsFirstFault g p text TooLarge (MAX_MOVETEXT + 1)
+  at_token : {text : List ℕ} (before : List Token) (t : Token) (rest : List ℕ) {what : MovetextFaultKind}
+      → length text ≤ MAX_MOVETEXT → AreTokens 1 true text (before ++ t ∷ []) rest → FaultAt g p before t what
+      → IsFirstFault g p text what t.place
+  at_end : {text : List ℕ} (tokens : List Token) {what : MovetextFaultKind} → length text ≤ MAX_MOVETEXT
+      → AreTokens 1 true text tokens [] → FaultAtEnd g p tokens what → IsFirstFault g p text what (length text + 1)
+
+-- The answer to a text: its tree, or its first fault. Memory can be refused for any text.
+abbrev pub IsAnswer : Geometry → Placement → List ℕ → Result (List (List Move)) MovetextFault → Type 0
+IsAnswer g p text (Ok tree) = IsTree g p text tree
+IsAnswer g p text (Err (Refused what place)) = IsFirstFault g p text what place
+IsAnswer g p text (Err Memory) = Unit {0}

@@ -1,0 +1,82 @@
+-- The play of a movetext: its variations, as a grammar on its tokens, and the paths that they go through.
+use Rattle.std.specs.Prelude.{◌≡◌, ◌⊎◌, ℕ, ◌==◌, ◌<◌, if◌then◌else◌, List, [], ◌∷◌, ◌++◌, length, map, codes}
+use Rattle.std.specs.Prelude.{Ok}
+use Rattle.std.proofs.Common.{suc}
+use Rattle.dw_board.specs.Geometry.{Geometry}
+use Rattle.dw_board.specs.Placement.{Placement}
+use Rattle.dw_board.specs.FenTokens.{colon}
+use Rattle.dw_board.specs.Lists.{Member}
+use Rattle.dw_moves.specs.Moves.{Move, play}
+use Rattle.dw_notation.specs.Text.{cross}
+use Rattle.dw_notation.specs.MoveReading.{IsRead}
+use Rattle.dw_games.specs.Tokens.{Token}
+use Rattle.dw_games.specs.declared.tokens.TokenKind.{TokenKind}
+use Rattle.dw_games.specs.declared.tokens.TokenKind.TheVariants.{Comment, Passed, Written, Opens, Closes}
+use Rattle.dw_games.specs.declared.movetext.TheConstants.{MAX_PATH, MAX_OPEN}
+
+-- the texts of results
+abbrev pub results : List (List ℕ)
+results = codes "2-0" ∷ codes "0-2" ∷ codes "1-1" ∷ codes "0-0" ∷ codes "1-0" ∷ codes "0-1" ∷ codes "1/2-1/2"
+    ∷ codes "*" ∷ []
+
+-- a token is a result
+pub record IsResult (t : Token) : Type 0 where
+  pub written : t.what ≡ Written
+  pub result : Member t.text results
+
+-- the text with x for each colon
+abbrev pub crossed : List ℕ → List ℕ
+crossed text = map (λ byte. if byte == colon then cross else byte) text
+
+-- the position after moves that are played one after another
+abbrev pub after : Geometry → Placement → List Move → Placement
+after g p [] = p
+after g p (m ∷ moves) = after g (play g p m) moves
+
+-- a token is no result, and names this legal move of a position
+pub record IsMove (g : Geometry) (p : Placement) (t : Token) (m : Move) : Type 0 where
+  pub written : t.what ≡ Written
+  pub no_result : IsResult t → ⊥
+  pub named : IsRead g p (crossed t.text) (Ok m)
+
+-- what is passed over within a variation: comments, numbers and marks
+abbrev pub IsPassed : TokenKind → Type 0
+IsPassed what = (what ≡ Comment) ⊎ (what ≡ Passed)
+
+-- A variation: how many variations may be open in it, the moves before it, its tokens, its own moves, and all paths
+-- that it goes through, in turn. It is empty, or a variation and behind it something that is passed over, or a move, or
+-- between parentheses another variation, which begins before the last move.
+pub data IsVariation (g : Geometry) (p : Placement)
+    : ℕ → (before : List Move) → List Token → (moves : List Move) → (paths : List (List Move)) → Type 0 where
+  empty : {room : ℕ} {before : List Move} → IsVariation g p room before [] [] []
+  passed : {room : ℕ} {before moves : List Move} {ts : List Token} {paths : List (List Move)} (t : Token)
+      → IsVariation g p room before ts moves paths → IsPassed t.what
+      → IsVariation g p room before (ts ++ t ∷ []) moves paths
+  move : {room : ℕ} {before moves : List Move} {ts : List Token} {paths : List (List Move)} {t : Token} {m : Move}
+      → IsVariation g p room before ts moves paths → length (before ++ moves) < MAX_PATH
+      → IsMove g (after g p (before ++ moves)) t m
+      → IsVariation g p room before (ts ++ t ∷ []) (moves ++ m ∷ []) (paths ++ (before ++ (moves ++ m ∷ [])) ∷ [])
+  variation : {room : ℕ} {before others : List Move} {ts us : List Token} {paths more : List (List Move)}
+      (moves : List Move) (last : Move) (opening closing : Token)
+      → IsVariation g p (suc room) before ts (moves ++ last ∷ []) paths → opening.what ≡ Opens
+      → IsVariation g p room (before ++ moves) us others more → closing.what ≡ Closes
+      → IsVariation g p (suc room) before (ts ++ opening ∷ (us ++ closing ∷ [])) (moves ++ last ∷ []) (paths ++ more)
+
+-- comments alone
+abbrev pub AreComments : List Token → Type 0
+AreComments [] = Unit {0}
+AreComments (t ∷ ts) = (t.what ≡ Comment) × AreComments ts
+
+-- the play that is not within parentheses, and the paths that it goes through
+abbrev pub IsPlay : Geometry → Placement → List Token → List (List Move) → Type 0
+IsPlay g p ts paths = (moves : List Move) × IsVariation g p MAX_OPEN [] ts moves paths
+
+-- the play with its result, and then comments alone
+pub record IsOver (g : Geometry) (p : Placement) (ts : List Token) (paths : List (List Move)) : Type 0 where
+  pub front : List Token
+  pub result : Token
+  pub comments : List Token
+  pub played : IsPlay g p front paths
+  pub is_result : IsResult result
+  pub are_comments : AreComments comments
+  pub joined : ts ≡ front ++ result ∷ comments

@@ -1,0 +1,119 @@
+-- What a reader of a movetext holds: the tree so far, and where it stands in the variations that are open.
+use Rattle.std.specs.Prelude.{◌≡◌, ◌≢◌, ◌⊎◌, ◌<◌, ℕ, Bool, true, false, Option, Some, None, Result}
+use Rattle.std.specs.Prelude.{Ok, Err, List, [], ◌∷◌, ◌++◌, length}
+use Rattle.std.proofs.Common.{suc}
+use Rattle.dw_board.specs.Geometry.{Geometry}
+use Rattle.dw_board.specs.Placement.{Placement}
+use Rattle.dw_moves.specs.Moves.{Move}
+use Rattle.dw_games.specs.Tokens.{Token}
+use Rattle.dw_games.specs.Play.{IsResult, IsMove, after, IsVariation, AreComments}
+use Rattle.dw_games.specs.Movetext.{AreDistinct}
+use Rattle.dw_games.specs.Faults.{FaultAt}
+use Rattle.dw_games.specs.Walk.{place_of, beginning_at}
+use Rattle.dw_games.specs.inner.Ahead.{AreAhead}
+use Rattle.dw_games.specs.declared.tokens.Tokens.{Tokens}
+use Rattle.dw_games.specs.declared.tokens.TokenKind.TheVariants.{Comment, Opens, CutOff}
+use Rattle.dw_games.specs.declared.fault.MovetextFaultKind.TheVariants.{Token as NoToken, Rest}
+use Rattle.dw_games.specs.declared.movetext.TheConstants.{MAX_OPEN, MAX_PATH}
+use Rattle.dw_games.specs.declared.fault.MovetextFault.{MovetextFault}
+use Rattle.dw_games.specs.declared.fault.MovetextFault.TheVariants.{Refused, Memory}
+use Rattle.dw_games.specs.declared.reader.Spot.{Spot}
+use Rattle.dw_games.specs.declared.reader.Line.{Line}
+use Rattle.dw_games.specs.declared.reader.Reader.{Reader}
+
+-- a spot is behind this path of a tree
+pub record IsSpot {B : Type 0} (g : Geometry) (p : Placement) (tree : List (List Move)) (spot : Spot B)
+    (path : List Move) : Type 0 where
+  pub there : beginning_at tree (place_of spot.node) ≡ Some path
+  pub position : spot.position ≡ after g p path
+  pub many : spot.moves ≡ length path
+
+-- a spot is before the last of these moves, or there is none
+abbrev pub IsBefore : {B : Type 0} → Geometry → Placement → List (List Move) → Option (Spot B) → List Move → List Move
+    → Type 0
+IsBefore g p tree None before moves = moves ≡ []
+IsBefore g p tree (Some spot) before moves = (front : List Move) × (last : Move) × (moves ≡ front ++ last ∷ [])
+    × IsSpot g p tree spot (before ++ front)
+
+-- a line stands in a variation that begins after some moves and has some of its own
+pub record IsLine {B : Type 0} (g : Geometry) (p : Placement) (tree : List (List Move)) (line : Line B)
+    (before moves : List Move) : Type 0 where
+  pub now : IsSpot g p tree line.now (before ++ moves)
+  pub earlier : IsBefore g p tree line.before before moves
+
+-- the lines of all variations that are open, the innermost one first, and the paths so far
+pub data Opened {B : Type 0} (g : Geometry) (p : Placement) (tree : List (List Move))
+    : ℕ → List Token → Line B → (outer : List (Line B)) → (before moves : List Move) → List (List Move) → Type 0 where
+  outermost : {ts : List Token} {line : Line B} {moves : List Move} {paths : List (List Move)}
+      → IsVariation g p MAX_OPEN [] ts moves paths → IsLine g p tree line [] moves
+      → Opened g p tree MAX_OPEN ts line [] [] moves paths
+  inner : {room : ℕ} {ts us : List Token} {line around : Line B} {outer : List (Line B)} {before others : List Move}
+      {paths more : List (List Move)} (moves : List Move) (last : Move) (opening : Token)
+      → Opened g p tree (suc room) ts around outer before (moves ++ last ∷ []) paths → opening.what ≡ Opens
+      → IsVariation g p room (before ++ moves) us others more → IsLine g p tree line (before ++ moves) others
+      → Opened g p tree room (ts ++ opening ∷ us) line (outer ++ around ∷ []) (before ++ moves) others (paths ++ more)
+
+-- a reader has read these tokens, and no result among them
+pub record HasRead {B : Type 0} (g : Geometry) (p : Placement) (ts : List Token) (reader : Reader B) : Type 0 where
+  pub room : ℕ
+  pub before : List Move
+  pub moves : List Move
+  pub paths : List (List Move)
+  pub opened : Opened g p reader.tree room ts reader.line reader.outer.items before moves paths
+  pub distinct : AreDistinct paths reader.tree
+
+-- a fault is that of a token behind those before it
+abbrev pub IsFaultOf : Geometry → Placement → List Token → Token → MovetextFault → Type 0
+IsFaultOf g p ts t (Refused what place) = FaultAt g p ts t what × (place ≡ t.place)
+IsFaultOf g p ts t Memory = Unit {0}
+
+-- a token is read as one more, or as the result where no variation in parentheses is open, or is at fault
+abbrev pub IsTaken : {B : Type 0} → Geometry → Placement → List Token → Token → Reader B → Result Bool MovetextFault
+    → Type 0
+IsTaken g p ts t reader (Ok false) = HasRead g p (ts ++ t ∷ []) reader
+IsTaken g p ts t reader (Ok true) = IsResult t × HasRead g p ts reader × (reader.outer.items ≡ [])
+IsTaken g p ts t reader (Err why) = IsFaultOf g p ts t why
+
+-- a token names a move that can be read as one more, or is at fault
+abbrev pub IsMoveOf : {B : Type 0} → Geometry → Placement → List Token → Token → Reader B → Result Move MovetextFault
+    → Type 0
+IsMoveOf g p ts t reader (Ok m) = IsMove g reader.line.now.position t m × (reader.line.now.moves < MAX_PATH)
+IsMoveOf g p ts t reader (Err why) = IsFaultOf g p ts t why
+
+-- a reader has read some tokens, from some position on
+abbrev pub IsReading : {B : Type 0} → Geometry → Reader B → Type 0
+IsReading g reader = (p : Placement) × (ts : List Token) × HasRead g p ts reader
+
+-- some tokens were read: what is ahead now was ahead behind them
+abbrev pub ReadOn : Tokens → List Token → Tokens → Type 0
+ReadOn old ts now = (more : List Token) (rest : List ℕ) → AreAhead now more rest → AreAhead old (ts ++ more) rest
+
+-- one of the tokens that were ahead is at fault
+abbrev pub IsStopped : Geometry → Placement → Tokens → MovetextFault → Type 0
+IsStopped g p old (Refused what place) = (ts : List Token) × (t : Token) × (rest : List ℕ)
+    × AreAhead old (ts ++ t ∷ []) rest × FaultAt g p ts t what × (place ≡ t.place)
+IsStopped g p old Memory = Unit {0}
+
+-- all tokens were read, or those up to and with the result, or one is at fault
+abbrev pub HasEnded : {B : Type 0} → Geometry → Placement → Tokens → Tokens → Reader B → Result Bool MovetextFault
+    → Type 0
+HasEnded g p old now reader (Ok false) = (ts : List Token) × HasRead g p ts reader × AreAhead old ts []
+HasEnded g p old now reader (Ok true) = (ts : List Token) × (t : Token) × HasRead g p ts reader
+    × (reader.outer.items ≡ []) × IsResult t × ReadOn old (ts ++ t ∷ []) now
+HasEnded g p old now reader (Err why) = IsStopped g p old why
+
+-- so far some tokens were read
+abbrev pub HasGoneOn : {B : Type 0} → Geometry → Placement → Tokens → Tokens → Reader B → Type 0
+HasGoneOn g p old now reader = (ts : List Token) × HasRead g p ts reader × ReadOn old ts now
+
+-- a token is none that may stand behind a result
+abbrev pub IsOdd : Token → MovetextFault → Type 0
+IsOdd t (Refused what place) = (((what ≡ NoToken) × (t.what ≡ CutOff))
+    ⊎ ((what ≡ Rest) × (t.what ≢ Comment) × (t.what ≢ CutOff))) × (place ≡ t.place)
+IsOdd t Memory = ⊥
+
+-- comments alone are ahead, or another token behind some comments
+abbrev pub AreLast : {A : Type 0} → Tokens → Result A MovetextFault → Type 0
+AreLast old (Ok done) = (cs : List Token) × AreComments cs × AreAhead old cs []
+AreLast old (Err why) = (cs : List Token) × (t : Token) × (rest : List ℕ) × AreComments cs
+    × AreAhead old (cs ++ t ∷ []) rest × IsOdd t why

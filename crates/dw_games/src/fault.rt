@@ -1,0 +1,78 @@
+//! Why a text is no movetext.
+ghost use Rattle.std.specs.Prelude.{◌≡◌};
+ghost use Rattle.dw_games.specs.declared.fault.MovetextFault.TheVariants.{Memory};
+
+use std::alloc::AllocError;
+use std::fmt;
+use thiserror::Error;
+
+/// What is wrong with a text that is no movetext. Its number is that of the variant, from 1 on.
+/// Example: in ` 1. 32-28 (` the variation does not end: `MovetextFaultKind::Unclosed`, whose number is 5.
+#[derive(Clone, Copy, Debug, PartialEq, Eq)]
+pub enum MovetextFaultKind {
+    /// A byte that begins no token, or a token that ends too soon.
+    Token,
+    /// The move is not legal there.
+    NoSuchMove,
+    /// Several legal moves have this text.
+    Ambiguous,
+    /// A variation begins with no move before it in its own variation, or one ends and none is open.
+    Variation,
+    /// The text ends, or its result comes, within a variation.
+    Unclosed,
+    /// Something other than a comment stands after the result.
+    Rest,
+    /// More than 40 variations are open.
+    TooDeep,
+    /// The 40th move of a path.
+    TooLong,
+    /// More than 1,048,576 bytes.
+    TooLarge,
+    /// No move at all.
+    Empty,
+}
+
+impl MovetextFaultKind {
+    /// Its name in texts.
+    fn name(self) -> &'static str {
+        match self {
+            MovetextFaultKind::Token => "token",
+            MovetextFaultKind::NoSuchMove => "no such move",
+            MovetextFaultKind::Ambiguous => "ambiguous",
+            MovetextFaultKind::Variation => "variation",
+            MovetextFaultKind::Unclosed => "unclosed",
+            MovetextFaultKind::Rest => "rest",
+            MovetextFaultKind::TooDeep => "too deep",
+            MovetextFaultKind::TooLong => "too long",
+            MovetextFaultKind::TooLarge => "too large",
+            MovetextFaultKind::Empty => "empty",
+        }
+    }
+}
+
+impl fmt::Display for MovetextFaultKind {
+    fn fmt<W: fmt::Write>(&self, f: &mut fmt::Formatter<W>) -> fmt::Result {
+        f.write_str(self.name())
+    }
+}
+
+/// Why no tree was read from a text: its first fault, and the place of the token where it is found, the number from 1
+/// on of that token's first byte; or that memory was refused.
+/// Example: that of ` 1. 32-27` at `W:W27,32:B18` is `no such move at 5`.
+#[derive(Clone, Copy, Debug, PartialEq, Eq, Error)]
+pub enum MovetextFault {
+    /// The first fault of the text.
+    #[error("{what} at {place}")]
+    Refused { what: MovetextFaultKind, place: u32 },
+    /// Memory was refused.
+    #[error("memory")]
+    Memory,
+}
+
+impl From<AllocError> for MovetextFault {
+    ghost from_gives = { λ _ e. e ≡ Memory };
+
+    fn from(_refused: AllocError) -> MovetextFault {
+        MovetextFault::Memory
+    }
+}

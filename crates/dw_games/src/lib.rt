@@ -1,0 +1,21 @@
+//! The solution that an author gave: the moves and variations behind the tags of a PDN section, as a tree of moves.
+//!
+//! Everything is generic over the board. Memory is taken by the tree, and at a move by `dw_notation`'s `read_move`.
+//!
+//! Begin with `read_movetext`, and walk the `Tree` that it reads.
+//!
+//! An example tells a position by its FEN text, on the board of ten rows if it names no other.
+#![tactic(auto)]
+
+mod branches;
+mod class;
+pub mod fault;
+pub mod laws;
+pub mod movetext;
+mod reader;
+pub mod tokens;
+pub mod tree;
+
+pub use fault::{MovetextFault, MovetextFaultKind};
+pub use movetext::{MAX_MOVETEXT, MAX_OPEN, MAX_PATH, read_movetext};
+pub use tree::{Node, Tree};

@@ -1,0 +1,221 @@
+//! The tokens of a movetext, read from the front.
+ghost use Rattle.std.specs.Prelude.{◌≡◌, ◌+◌, ◌≤◌, ◌<◌, ℕ, List, [], ◌∷◌, true, false, length, take, drop, MatchOption};
+ghost use Rattle.std.specs.Prelude.{IfSome};
+ghost use Rattle.dw_board.specs.FenTokens.{is_digit};
+ghost use Rattle.dw_notation.specs.Tags.{is_space as is_space_byte};
+ghost use Rattle.dw_games.specs.Tokens.{IsRun, IsToken, AreTokens, begins_with};
+ghost use Rattle.dw_games.specs.inner.Classes.{test_of};
+
+use crate::class::{Class, ends_line, is_space};
+use crate::fault::{MovetextFault, MovetextFaultKind};
+use crate::movetext::MAX_MOVETEXT;
+
+/// What a token of a movetext is.
+/// Example: `32-28!` has a token that is `Written` and one that is `Passed`.
+#[derive(Clone, Copy, Debug, PartialEq, Eq)]
+pub enum TokenKind {
+    /// `{` up to the first `}`; `;` to the end of the line, and `%` too if it begins the line.
+    Comment,
+    /// The number of a move, or a mark: `1.`, `...`, `$5`, `!?`. It is passed over.
+    Passed,
+    /// A move or a result, or bytes that are written like these and are neither.
+    Written,
+    /// `(`, which begins a variation.
+    Opens,
+    /// `)`, which ends one.
+    Closes,
+    /// A comment without its `}`, or `$` without digits.
+    CutOff,
+    /// A byte that begins no token.
+    Unknown,
+}
+
+/// A token: its kind, its bytes, and the place of the first of them in the text, counted from 1.
+/// Example: the second token of `1. 32-28` is `Written`, with the bytes `32-28` and the place 4.
+#[derive(Clone, Copy)]
+pub(crate) struct Token<'a> {
+    pub(crate) what: TokenKind,
+    pub(crate) text: &'a [u8],
+    pub(crate) place: u32,
+}
+
+impl<'a> Token<'a> {
+    /// The fault at its place.
+    pub(crate) fn fault(&self, what: MovetextFaultKind) -> MovetextFault
+        ensures { result ≡ MovetextFault.Refused what self.now.place }
+    {
+        MovetextFault::Refused {
+            what,
+            place: self.place,
+        }
+    }
+}
+
+/// A text, the place in it up to which it is read, and whether a line begins there.
+/// Example: `1. 32-28` has the tokens `1.` and `32-28`.
+#[derive(Drop)]
+pub(crate) struct Tokens<'a> {
+    text: &'a [u8],
+    at: usize,
+    fresh: bool,
+    ghost inside: { at ≤ length text.now },
+    ghost small: { length text.now ≤ 1048576 },
+}
+
+impl<'a> Tokens<'a> {
+    ghost use Rattle.dw_games.specs.inner.Ahead.{AreAhead, bytes_ahead, end_of, token_value};
+
+    /// The tokens of a text.
+    /// Example: of ` 1.` the first is `1.`, at place 2.
+    pub(crate) fn new(text: &'a [u8]) -> Tokens<'a>
+        requires { length text.now ≤ MAX_MOVETEXT }
+        ensures tokens { (tokens : _) (rest : _) → AreAhead result tokens rest
+            → AreTokens 1 true text.entry.now tokens rest }
+        ensures end { end_of result ≡ length text.entry.now + 1 }
+    {
+        Tokens {
+            text,
+            at: 0,
+            fresh: true,
+        }
+    }
+
+    /// The next token, or `None` if blanks alone are left.
+    /// Example: at the start of ` (` it is the `(` at place 2.
+    pub(crate) fn next(&mut self) -> Option<Token<'a>>
+        ensures token { MatchOption result (AreAhead self.old [] [])
+            (λ t. (tokens : _) (rest : _) → AreAhead self.new tokens rest
+            → AreAhead self.old (token_value t ∷ tokens) rest) }
+        ensures shorter { IfSome result (λ _. length (bytes_ahead self.new) < length (bytes_ahead self.old)) }
+        ensures end { end_of self.new ≡ end_of self.old }
+    {
+        self.pass_blanks();
+        let (_, rest) = self.text.split_at(self.at);
+        let (first, behind) = rest.split_first()?;
+        let (what, more) = token_of(*first, behind, self.fresh);
+        let (text, _) = rest.split_at(1 + more);
+        let place = self.at as u32 + 1;
+        self.at += 1 + more;
+        self.fresh = false;
+        Some(Token { what, text, place })
+    }
+
+    /// Goes past the blanks that stand next.
+    fn pass_blanks(&mut self)
+        ensures tokens { (tokens : _) (rest : _) → AreAhead self.new tokens rest
+            → AreAhead self.old tokens rest }
+        ensures no_blank { begins_with is_space_byte (bytes_ahead self.new) ≡ false }
+        ensures not_longer { length (bytes_ahead self.new) ≤ length (bytes_ahead self.old) }
+        ensures same { self.new.text ≡ self.old.text }
+    {
+        let (at, fresh) = past_blanks(self.text, self.at, self.fresh);
+        self.at = at;
+        self.fresh = fresh;
+    }
+}
+
+/// The first place from this one on where no blank stands, and whether a line begins there, by whether one does here.
+fn past_blanks(text: &[u8], from: usize, begins: bool) -> (usize, bool)
+    requires { from ≤ length text.now }
+    ensures low { from ≤ result.0 }
+    ensures high { result.0 ≤ length text.now }
+    ensures no_blank { begins_with is_space_byte (drop result.0 text.now) ≡ false }
+    ensures tokens { (tokens : _) (rest : _) → AreTokens (result.0 + 1) result.1 (drop result.0 text.now) tokens rest
+        → AreTokens (from + 1) begins (drop from text.now) tokens rest }
+{
+    let mut at = from;
+    let mut fresh = begins;
+    'blanks: while at < text.len() && is_space(text[at]) {
+        fresh = ends_line(text[at]);
+        at += 1;
+    }
+    (at, fresh)
+}
+
+/// The token that begins with this byte, which is no blank: its kind, and how many of the bytes behind are part of it.
+fn token_of(first: u8, behind: &[u8], fresh: bool) -> (TokenKind, usize)
+    requires { is_space_byte first ≡ false }
+    ensures within { result.1 ≤ length behind.now }
+    ensures token { IsToken fresh result.0 (first ∷ take result.1 behind.now) (drop result.1 behind.now) }
+{
+    match first {
+        b'{' => comment(behind),
+        b';' => (TokenKind::Comment, run_of(behind, Class::InLine)),
+        b'%' => line_comment(behind, fresh),
+        b'$' => numbered_mark(behind),
+        b'.' => (TokenKind::Passed, run_of(behind, Class::Dot)),
+        b'(' => (TokenKind::Opens, 0),
+        b')' => (TokenKind::Closes, 0),
+        b'*' => (TokenKind::Written, 0),
+        _ if Class::Praise.has(first) => (TokenKind::Passed, run_of(behind, Class::Praise)),
+        _ if Class::Digit.has(first) => number_or_written(first, behind),
+        _ => (TokenKind::Unknown, 0),
+    }
+}
+
+/// The comment that begins with a brace before these bytes, or the brace that none closes with all of them.
+fn comment(behind: &[u8]) -> (TokenKind, usize)
+    ensures within { result.1 ≤ length behind.now }
+    ensures token { (fresh : _) → IsToken fresh result.0 (123 ∷ take result.1 behind.now) (drop result.1 behind.now) }
+{
+    let length = run_of(behind, Class::Inside);
+    if length < behind.len() {
+        (TokenKind::Comment, length + 1)
+    } else {
+        (TokenKind::CutOff, length)
+    }
+}
+
+/// The line that begins with a per cent sign before these bytes, if a line begins there.
+fn line_comment(behind: &[u8], fresh: bool) -> (TokenKind, usize)
+    ensures within { result.1 ≤ length behind.now }
+    ensures token { IsToken fresh result.0 (37 ∷ take result.1 behind.now) (drop result.1 behind.now) }
+{
+    if fresh {
+        (TokenKind::Comment, run_of(behind, Class::InLine))
+    } else {
+        (TokenKind::Unknown, 0)
+    }
+}
+
+/// The mark that begins with `$` before these bytes.
+fn numbered_mark(behind: &[u8]) -> (TokenKind, usize)
+    ensures within { result.1 ≤ length behind.now }
+    ensures token { (fresh : _) → IsToken fresh result.0 (36 ∷ take result.1 behind.now) (drop result.1 behind.now) }
+{
+    let digits = run_of(behind, Class::Digit);
+    if digits == 0 {
+        (TokenKind::CutOff, 0)
+    } else {
+        (TokenKind::Passed, digits)
+    }
+}
+
+/// The token that begins with a digit before these bytes: its digits with the dots behind them, if there is a dot, or
+/// all bytes that moves and results are written with.
+fn number_or_written(first: u8, behind: &[u8]) -> (TokenKind, usize)
+    requires { is_digit first ≡ true }
+    ensures within { result.1 ≤ length behind.now }
+    ensures token { (fresh : _) → IsToken fresh result.0 (first ∷ take result.1 behind.now) (drop result.1 behind.now) }
+{
+    let digits = run_of(behind, Class::Digit);
+    let (_, rest) = behind.split_at(digits);
+    let dots = run_of(rest, Class::Dot);
+    if dots == 0 {
+        (TokenKind::Written, run_of(behind, Class::Written))
+    } else {
+        (TokenKind::Passed, digits + dots)
+    }
+}
+
+/// How many bytes of a class stand at the front of a text.
+fn run_of(text: &[u8], class: Class) -> usize
+    ensures within { result ≤ length text.now }
+    ensures run { IsRun (test_of class) (take result text.now) (drop result text.now) }
+{
+    let mut count = 0;
+    'bytes: while count < text.len() && class.has(text[count]) {
+        count += 1;
+    }
+    count
+}
