@@ -76,9 +76,9 @@ taken_won old new n r moves false same says h = absurd (true≢false h)
 -- ---- one after another
 -- the moves were added of some of the replies below i, and the memo says of the others that there is a win after them
 pub record AreLeftBelow (c : Content) (n : ℕ) (played : List (Move × Placement)) (i : ℕ) (moves : List Move) : Type 0
-    where
-  pub from : (m : Move) → Member m moves → (r : Move × Placement) × Member r played × (r.0 ≡ m)
-  pub others : (k : ℕ) (r : Move × Placement) → k < i → r ≡ get_or played k r → Member r.0 moves ⊎ KnownWin c r.1 n
+  where
+    pub from : (m : Move) → Member m moves → (r : Move × Placement) × Member r played × (r.0 ≡ m)
+    pub others : (k : ℕ) (r : Move × Placement) → k < i → r ≡ get_or played k r → Member r.0 moves ⊎ KnownWin c r.1 n
 
 pub left_none : (c : Content) (n : ℕ) (played : List (Move × Placement)) (moves : List Move) → moves ≡ []
     → AreLeftBelow c n played 0 moves
@@ -148,7 +148,7 @@ all_played g q moves played i legal h end = record {
   each = λ r there.
       let f = mem_map_back (λ m. (m, play g q m)) r moves (subst (Member r) is there) in
       subst (λ (z : Move × Placement). Legal g q z.0 × (z.1 ≡ play g q z.0)) (sym f.2)
-          ((legal.exactly f.0).0 f.1, refl);
+      ((legal.exactly f.0).0 f.1, refl);
   all = λ m l. subst (Member (m, play g q m)) (sym is)
       (mem_map (λ z. (z, play g q z)) m moves ((legal.exactly m).1 l));
 } where

@@ -1,7 +1,7 @@
 //! In which order a search goes through moves.
 ghost use Rattle.std.specs.Prelude.{◌≡◌};
 ghost use Rattle.dw_moves.specs.Moves.{Legal, play};
-ghost use Rattle.dw_solve.specs.Trial.{IsCaptureRank, IsRankByTrial};
+ghost use Rattle.dw_solve.specs.Trial.{IsCaptureRank, IsRankByTrial, IsTrial};
 
 use crate::trial::trial;
 use dw_board::{Board, Position};
@@ -17,6 +17,27 @@ pub trait Guide<B: Board> {
     /// Example: `AnyOrder` gives each move the rank 0.
     fn rank(&self, position: &Position<B>, mv: &Move<B>) -> u32
         requires { Legal B.geometry position.now mv.now };
+
+    /// A rank that costs less, for moves of the attacker, and for replies to them if he has two moves left. If a guide
+    /// says nothing else, it is the rank.
+    /// Example: by `ByTrial` it is the `trial` of the move.
+    fn quick_rank(&self, position: &Position<B>, mv: &Move<B>) -> u32
+        requires { Legal B.geometry position.now mv.now }
+    {
+        self.rank(position, mv)
+    }
+}
+
+/// The quick ranks of a guide.
+#[derive(Drop)]
+pub(crate) struct Quickly<'a, G> {
+    pub(crate) guide: &'a G,
+}
+
+impl<'a, B: Board, G: Guide<B>> Guide<B> for Quickly<'a, G> {
+    fn rank(&self, position: &Position<B>, mv: &Move<B>) -> u32 {
+        self.guide.quick_rank(position, mv)
+    }
 }
 
 /// Moves come in any order.
@@ -57,6 +78,13 @@ impl<B: Board> Guide<B> for ByTrial {
         } else {
             PER_CHOICE * counted
         }
+    }
+
+    fn quick_rank(&self, position: &Position<B>, mv: &Move<B>) -> u32
+        requires { Legal B.geometry position.now mv.now }
+        ensures { IsTrial B.geometry (play B.geometry position.now mv.now) result }
+    {
+        trial(position, mv)
     }
 }
 

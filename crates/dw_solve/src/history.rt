@@ -64,7 +64,7 @@ fn place_of<B: Board>(mv: &Move<B>) -> usize
     usize::from(mv.from.number()) * 51 + usize::from(mv.to.number())
 }
 
-/// The order of a guide, in which moves that won before come earlier.
+/// The quick order of a guide, in which moves that won before come earlier.
 #[derive(Drop)]
 pub(crate) struct ByHistory<'a, G> {
     pub(crate) guide: &'a G,
@@ -73,7 +73,7 @@ pub(crate) struct ByHistory<'a, G> {
 
 impl<'a, B: Board, G: Guide<B>> Guide<B> for ByHistory<'a, G> {
     fn rank(&self, position: &Position<B>, mv: &Move<B>) -> u32 {
-        let rank = self.guide.rank(position, mv).saturating_mul(2);
+        let rank = self.guide.quick_rank(position, mv).saturating_mul(4);
         rank.saturating_add(self.history.rank(mv))
     }
 }

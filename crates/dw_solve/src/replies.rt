@@ -1,12 +1,13 @@
 //! The defender's replies, before one of them is searched.
-ghost use Rattle.std.specs.Prelude.{◌≡◌, false, IfOk, IfSome, IsTrue, ◌⊎◌, []};
+ghost use Rattle.std.specs.Prelude.{◌≡◌, false, IfOk, OnOk, IfSome, IsTrue, ◌⊎◌, []};
 ghost use Rattle.dw_moves.specs.Moves.{Legal, AreLegal, play};
 ghost use Rattle.dw_solve.specs.Facts.{AreTrue, KnownFail};
-ghost use Rattle.dw_solve.specs.inner.Ranking.{IsSureReply, OneFails, AreLeft};
+ghost use Rattle.dw_solve.specs.inner.Ranking.{AreAllLegal, IsSureReply, OneFails, AreLeft};
 ghost use Rattle.dw_solve.specs.inner.Ranking.{AreLinedUp, AreLinedUpLast, IsTakenUp};
+ghost use Rattle.dw_solve.specs.Ranking.{moves_of};
 ghost use Rattle.dw_solve.specs.inner.Searching.{HasLooked};
 
-use crate::guide::{AnyOrder, Guide};
+use crate::guide::{AnyOrder, Guide, Quickly};
 use crate::ply::{Ply, play_all, rank_all};
 use crate::search::{Search, known};
 use dw_board::{Board, Position};
@@ -94,22 +95,31 @@ fn line_up_open<B: Board, M: Memo<B>, G: Guide<B>>(
     ply.reached.clear();
     play_all(position, ply.moves.as_slice(), &mut ply.reached)?;
     ply.undecided.clear();
-    if find_undecided(
-        search,
-        ply.reached.as_slice(),
-        moves,
-        &mut ply.undecided,
-    )? {
+    if find_undecided(search, ply.reached.as_slice(), moves, &mut ply.undecided)? {
         return Ok(Replies::Refuted);
     }
-    rank_all(
-        position,
-        &search.guide,
-        ply.undecided.as_slice(),
-        &mut ply.ranked,
-    )?;
+    rank_undecided(&search.guide, ply, position, moves)?;
     ply.ranked.sort_unstable_by_key(|ranked| ranked.0);
     Ok(Replies::Open)
+}
+
+/// Takes up the replies that the memo does not decide with their ranks: quick ones if the attacker has two moves left.
+fn rank_undecided<B: Board, G: Guide<B>>(
+    guide: &G,
+    ply: &mut Ply<B>,
+    position: &Position<B>,
+    moves: u8,
+) -> Result<(), AllocError>
+    requires legal { AreAllLegal B.geometry position.now ply.old.undecided.items }
+    requires empty { ply.old.ranked.items ≡ [] }
+    ensures { OnOk result (moves_of ply.new.ranked.items ≡ ply.old.undecided.items) }
+{
+    let undecided = ply.undecided.as_slice();
+    if moves <= 2 {
+        rank_all(position, &Quickly { guide }, undecided, &mut ply.ranked)
+    } else {
+        rank_all(position, guide, undecided, &mut ply.ranked)
+    }
 }
 
 /// Adds the replies that the memo does not decide to an empty list, or answers that it says of one that it refutes.

@@ -1,4 +1,4 @@
-use Rattle.std.proofs.Common.{◌≡◌, ◌+◌, ◌++◌, ◌∷◌, [], map, ap, ◌∙◌, sym, take, arith}
+use Rattle.std.proofs.Common.{◌∙◌, arith}
 use Rattle.dw_moves.specs.inner.MoveLemmas.{listed_is_legal}
 use Rattle.dw_solve.proofs.OpenLemmas.{all_played, played_more}
 use Rattle.dw_solve.proofs.ply.play_all.Goals as goal

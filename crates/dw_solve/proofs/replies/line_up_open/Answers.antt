@@ -16,13 +16,13 @@ returns-then-len-le1-clause-known g c =
     (sym (c.in_ok-rank_all.ensures ∙ c.as_slice.ensures.value))
     (open_all geo known c.args.position.now c.args.moves c.legal_into.new.moves.items c.in_ok-legal_into.ensures.all)
 
-pub rank_all-requires-2-clause-legal : goal.rank_all-requires-2-clause-legal
-rank_all-requires-2-clause-legal g c = λ m there.
+pub rank_undecided-requires-clause-legal : goal.rank_undecided-requires-clause-legal
+rank_undecided-requires-clause-legal g c =
     (open_left g.B.Board.geometry (g.M.Memo.content c.args.search.now.memo) c.args.position.now c.args.moves
     c.play_all.new.reached.items c.find_undecided.new.undecided.items c.in_ok-play_all.ensures
     (subst (λ z. AreLeft (g.M.Memo.content c.args.search.now.memo) c.args.moves z
     c.find_undecided.new.undecided.items) c.as_slice-3.ensures.value
-    (c.in_ok-find_undecided.ensures.open c.if-branch.false))).legal m (subst (Member m) c.as_slice-4.ensures.value there)
+    (c.in_ok-find_undecided.ensures.open c.if-branch.false))).legal
 
 pub returns-then-branch-clause-known : goal.returns-then-branch-clause-known
 returns-then-branch-clause-known g c = one_fails g.B.Board.geometry (g.M.Memo.content c.args.search.now.memo)
@@ -35,9 +35,9 @@ returns-clause-known g c =
     let geo = g.B.Board.geometry in
     let known = g.M.Memo.content c.args.search.now.memo in
     open_anyhow geo known c.args.position.now c.args.moves c.find_undecided.new.undecided.items
-    c.rank_all-2.new.ranked.items c.sort_unstable_by_key.new.self.items
+    c.rank_undecided.new.ply.ranked.items c.sort_unstable_by_key.new.self.items
     (open_left geo known c.args.position.now c.args.moves c.play_all.new.reached.items
     c.find_undecided.new.undecided.items c.in_ok-play_all.ensures
     (subst (λ z. AreLeft known c.args.moves z c.find_undecided.new.undecided.items) c.as_slice-3.ensures.value
     (c.in_ok-find_undecided.ensures.open c.if-branch.false)))
-    (c.in_ok-rank_all-2.ensures ∙ c.as_slice-4.ensures.value) c.sort_unstable_by_key.ensures.permutation
+    c.in_ok-rank_undecided.ensures c.sort_unstable_by_key.ensures.permutation
