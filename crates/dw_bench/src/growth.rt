@@ -34,10 +34,12 @@ const POSITIONS: [&str; 21] = [
 
 /// So many moves are asked for, and each number up to the next.
 const FEWEST_MOVES: u8 = 3;
+
 const MOST_MOVES: u8 = 9;
 
 /// How many positions the memos hold.
 const RECENT: usize = 100_000;
+
 const DEEP: usize = 1_000_000;
 
 /// How many positions are expanded for one question.

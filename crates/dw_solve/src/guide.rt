@@ -10,7 +10,7 @@ use dw_moves::best::best_captures;
 use dw_moves::play::play as played;
 
 /// Ranks moves: those of a lower rank are tried first, if they leave the attacker two further moves or more. With
-/// fewer, a search goes by orders of its own, which cost less than the ranks. No answer depends on it.
+/// fewer, a search goes by orders of its own, which cost less than ranks. No answer depends on it.
 /// See [`ByTrial`] for an example.
 pub trait Guide<B: Board> {
     /// The rank of a legal move.

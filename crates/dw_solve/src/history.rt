@@ -5,8 +5,11 @@ use crate::guide::Guide;
 use dw_board::{Board, Position};
 use dw_moves::Move;
 
-/// From each square to each, and none from or to 0.
-const PLACES: usize = 51 * 51;
+/// The numbers of squares, and 0, which no square has.
+const NUMBERS: usize = 51;
+
+/// From each square to each.
+const PLACES: usize = NUMBERS * NUMBERS;
 
 /// A win with fewer moves left is not counted: a search puts no moves of the attacker in order there.
 const FEWEST_LEFT: u8 = 2;
@@ -61,7 +64,7 @@ impl History {
 fn place_of<B: Board>(mv: &Move<B>) -> usize
     ensures { result < 2601 }
 {
-    usize::from(mv.from.number()) * 51 + usize::from(mv.to.number())
+    usize::from(mv.from.number()) * NUMBERS + usize::from(mv.to.number())
 }
 
 /// The quick order of a guide, in which moves that won before come earlier.

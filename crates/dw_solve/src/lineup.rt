@@ -39,7 +39,7 @@ impl<B: Board> Lineup<B> {
     }
 
     /// The moves with their ranks, that which is tried first before the others.
-    /// Example: lined up by a solver with `ByTrial` at `W:W27,45:B16`, the first is `27-21` with the rank 0.
+    /// Example: lined up by a solver with `ByTrial` at `W:W27,32,38:B18`, the first is `27-22` with the rank 2.
     pub fn moves(&self) -> &[(u32, Move<B>)]
         ensures { result.now ≡ self.now }
     {

@@ -15,6 +15,9 @@ use dw_memo::Memo;
 use dw_moves::{Move, legal_into, sure_step};
 use std::alloc::AllocError;
 
+/// With so few moves left a search costs less than ranks by captures.
+const FEW_MOVES: u8 = 2;
+
 /// What is known of the replies before one is searched.
 pub(crate) enum Replies<B: Board> {
     /// The memo says of one that the attacker has no win after it.
@@ -115,7 +118,7 @@ fn rank_undecided<B: Board, G: Guide<B>>(
     ensures { OnOk result (moves_of ply.new.ranked.items ≡ ply.old.undecided.items) }
 {
     let undecided = ply.undecided.as_slice();
-    if moves <= 2 {
+    if moves <= FEW_MOVES {
         rank_all(position, &Quickly { guide }, undecided, &mut ply.ranked)
     } else {
         rank_all(position, guide, undecided, &mut ply.ranked)

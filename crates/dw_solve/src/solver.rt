@@ -202,9 +202,9 @@ impl<B: Board, M: Memo<B>, G: Guide<B>> Solver<B, M, G> {
     }
 
     /// Takes up the legal moves of a position, in the order in which `loses` goes through replies while the attacker
-    /// has two moves or more: by rank, the lowest first. Nothing is searched.
-    /// Example: with `ByTrial` at `W:W27,45:B16` the move `27-21`, which forces a capture, comes first, and others come
-    /// after it, as `45-40` does.
+    /// has three moves or more: by rank, the lowest first. Nothing is searched.
+    /// Example: with `ByTrial` at `W:W27,32,38:B18` the move `27-22`, which forces a capture, comes first, and others
+    /// come after it, as `32-28` does.
     pub fn line_up(&self, position: &Position<B>, lineup: &mut Lineup<B>) -> Result<(), AllocError>
         ensures ranked { OnOk result (AreRanked B.geometry position.now lineup.new) }
         ensures order { OnOk result (IsNonDecreasingBy (λ r. r.0) lineup.new) }

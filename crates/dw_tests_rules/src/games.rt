@@ -15,7 +15,12 @@ const MOST_STEPS: usize = 1_000;
 /// The tree of a movetext, or its first fault. The text stands in quotes.
 pub fn movetext<B: Board>(alloc: Global, asked: &str, found: &mut Found) -> Option<()> {
     let text = column(asked, 1).strip_prefix('"')?.strip_suffix('"')?;
-    add_read::<B>(alloc, column(asked, 0), unescaped(alloc, text)?.as_slice(), found)
+    add_read::<B>(
+        alloc,
+        column(asked, 0),
+        unescaped(alloc, text)?.as_slice(),
+        found,
+    )
 }
 
 /// The same of a text that stands there so many times, one after another.
