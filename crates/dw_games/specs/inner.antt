@@ -6,4 +6,3 @@ pub mod TreeCodes
 pub mod Reading
 pub mod Refusals
 pub mod Noting
-pub mod WholeLaw
