@@ -17,7 +17,7 @@ use Rattle.dw_games.specs.Faults.{behind_result, cut_off, too_deep, too_long, to
 use Rattle.dw_games.specs.Faults as faults
 use Rattle.dw_games.specs.Laws.{OneAnswer}
 use Rattle.dw_games.specs.declared.tokens.TokenKind.{TokenKind}
-use Rattle.dw_games.specs.declared.tokens.TokenKind.TheVariants.{Comment, Passed, Written, Opens, Closes, CutOff, Unknown}
+use Rattle.dw_games.specs.declared.tokens.TokenKind.TheVariants.{Comment, Written, Opens, Closes, CutOff, Unknown}
 use Rattle.dw_games.specs.declared.movetext.TheConstants.{MAX_PATH, MAX_OPEN}
 use Rattle.dw_games.specs.declared.fault.MovetextFaultKind.{MovetextFaultKind}
 use Rattle.dw_games.specs.declared.fault.MovetextFaultKind.TheVariants.{Token as NoToken, NoSuchMove, Ambiguous}
@@ -190,12 +190,8 @@ module _ (g : Geometry) (p : Placement) where
   rest_next : (what : TokenKind) (s : State) (t : Token) → (what ≡ Comment → ⊥) → (what ≡ CutOff → ⊥)
       → IsNext g p true what s t (Err Rest)
   rest_next Comment s t none other = absurd (none refl)
-  rest_next Passed s t none other = refl
-  rest_next Written s t none other = refl
-  rest_next Opens s t none other = refl
-  rest_next Closes s t none other = refl
   rest_next CutOff s t none other = absurd (other refl)
-  rest_next Unknown s t none other = refl
+  rest_next what s t none other = refl
 
   over_fails : {ts : List Token} {paths : List (List Move)} (t : Token) (what : MovetextFaultKind) → IsOver g p ts paths
       → ((s : State) → IsNext g p true t.what s t (Err what)) → Fails g p ts t what

@@ -88,6 +88,12 @@ moved s (Err reading.Ambiguous) = Err Ambiguous
 moved s (Err reading.Syntax) = Err NoToken
 moved s (Err reading.Memory) = Err NoToken
 
+-- what a token leads to behind the result
+abbrev behind_result : TokenKind → State → Next
+behind_result Comment s = Ok s
+behind_result CutOff s = Err NoToken
+behind_result what s = Err Rest
+
 -- what something written leads to
 pub data IsWritten (g : Geometry) (p : Placement) (s : State) (t : Token) (r : Next) : Type 0 where
   result : IsResult t → r ≡ ended s s.outer → IsWritten g p s t r
@@ -100,13 +106,7 @@ pub data IsWritten (g : Geometry) (p : Placement) (s : State) (t : Token) (r : N
 
 -- what a token leads to, by whether the result has been read, and by its kind
 abbrev pub IsNext : Geometry → Placement → Bool → TokenKind → State → Token → Next → Type 0
-IsNext g p true Comment s t r = r ≡ Ok s
-IsNext g p true Passed s t r = r ≡ Err Rest
-IsNext g p true Written s t r = r ≡ Err Rest
-IsNext g p true Opens s t r = r ≡ Err Rest
-IsNext g p true Closes s t r = r ≡ Err Rest
-IsNext g p true CutOff s t r = r ≡ Err NoToken
-IsNext g p true Unknown s t r = r ≡ Err Rest
+IsNext g p true what s t r = r ≡ behind_result what s
 IsNext g p false Comment s t r = r ≡ Ok s
 IsNext g p false Passed s t r = r ≡ Ok s
 IsNext g p false Written s t r = IsWritten g p s t r
@@ -146,16 +146,10 @@ written_one one g p s t q r (long a form high e) (long b other too f) = e ∙ sy
 
 pub next_one : HasOneAnswer → (g : Geometry) (p : Placement) (over : Bool) (what : TokenKind) (s : State) (t : Token)
     (q r : Next) → IsNext g p over what s t q → IsNext g p over what s t r → q ≡ r
-next_one one g p true Comment s t q r a b = a ∙ sym b
-next_one one g p true Passed s t q r a b = a ∙ sym b
-next_one one g p true Written s t q r a b = a ∙ sym b
-next_one one g p true Opens s t q r a b = a ∙ sym b
-next_one one g p true Closes s t q r a b = a ∙ sym b
-next_one one g p true CutOff s t q r a b = a ∙ sym b
-next_one one g p true Unknown s t q r a b = a ∙ sym b
+next_one one g p false Written s t q r a b = written_one one g p s t q r a b
+next_one one g p true what s t q r a b = a ∙ sym b
 next_one one g p false Comment s t q r a b = a ∙ sym b
 next_one one g p false Passed s t q r a b = a ∙ sym b
-next_one one g p false Written s t q r a b = written_one one g p s t q r a b
 next_one one g p false Opens s t q r a b = a ∙ sym b
 next_one one g p false Closes s t q r a b = a ∙ sym b
 next_one one g p false CutOff s t q r a b = a ∙ sym b
