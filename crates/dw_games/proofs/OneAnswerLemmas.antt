@@ -299,7 +299,7 @@ module _ (one : reading.HasOneAnswer) (g : Geometry) (p : Placement) (text : Lis
       elim lacks [
         | inl h ↦ omega (arith, h.0, ap length a.none)
         | inr h ↦ let none : [] ≡ tree = distinct_one nothing t.distinct (sym h.1 ∙ a.same) in
-        omega (arith, t.some, ap length none)
+            omega (arith, t.some, ap length none)
       ]
 
   one_fault : (what other : MovetextFaultKind) (place there : ℕ) → IsFirstFault g p text what place
