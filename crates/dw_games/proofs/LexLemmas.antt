@@ -4,7 +4,7 @@ use Rattle.std.proofs.Common.{length, take, drop, refl, sym, ap, subst, ◌∙�
 use Rattle.std.specs.Prelude.{if◌then◌else◌}
 use Rattle.std.specs.List.{list_all}
 use Rattle.std.proofs.Math.Seq.{take-append_seam, drop-append_seam}
-use Rattle.std.proofs.lemmas.List.{drop_all}
+use Rattle.std.proofs.lemmas.List.{drop_all, nil_from_length}
 use Rattle.std.proofs.lemmas.Bool.{cases_Bool, or_cases, eqb-true}
 use Rattle.dw_board.specs.FenTokens.{is_digit}
 use Rattle.dw_notation.specs.Tags.{is_space, ends_line}
@@ -417,28 +417,38 @@ token_same place w v a c p q = λ i. record { what = p i; text = q i; place = pl
 cons_same : (t u : Token) (ts us : List Token) → t ≡ u → ts ≡ us → t ∷ ts ≡ u ∷ us
 cons_same t u ts us h k = cc
 
-row_one : {place : ℕ} {fresh other : Bool} {text same : List ℕ} {ts us : List Token} {end last : List ℕ}
-    → AreTokens place fresh text ts end → AreTokens place other same us last → end ≡ [] → last ≡ [] → fresh ≡ other
-    → text ≡ same → ts ≡ us
-row_one nothing nothing e l f t = refl
-row_one nothing (blank is more) e l f t = let no : [] ≡ _ = sym e ∙ t in cc
-row_one nothing (token a b u more) e l f t = some_bytes u (sym e ∙ t)
-row_one (blank is more) nothing e l f t = let no : _ ≡ [] = t ∙ l in cc
-row_one (blank {byte = x} {bytes = xs} is more) (blank {byte = y} {bytes = ys} too others) e l f t =
+-- tokens up to some rest of a text are the first ones of all its tokens
+pub row_front : {place : ℕ} {fresh other : Bool} {text same : List ℕ} {ts us : List Token} {rest last : List ℕ}
+    → AreTokens place fresh text us rest → AreTokens place other same ts last → last ≡ [] → fresh ≡ other → text ≡ same
+    → (more : List Token) × (ts ≡ us ++ more)
+row_front {ts = ts} nothing others l f t = (ts, refl)
+row_front (blank is more) nothing l f t = let no : _ ≡ [] = t ∙ l in cc
+row_front (blank {byte = x} {bytes = xs} is more) (blank {byte = y} {bytes = ys} too others) l f t =
     let first : x ≡ y = cc in
-    let rest : xs ≡ ys = cc in row_one more others e l (ap ends_line first) rest
-row_one (blank {byte = x} {bytes = xs} is more) (token a b u others) e l f t = apart x xs is u t
-row_one (token a b u more) nothing e l f t = some_bytes u (sym l ∙ sym t)
-row_one (token a b u more) (blank {byte = y} {bytes = ys} is others) e l f t = apart y ys is u (sym t)
-row_one (token {place = place} {what = w} {rest = end} a b {tokens = ts} u more)
-    (token {what = v} {rest = last} c d {tokens = us} x others) e l f t =
+    let rest : xs ≡ ys = cc in row_front more others l (ap ends_line first) rest
+row_front (blank {byte = x} {bytes = xs} is more) (token a b u others) l f t = apart x xs is u t
+row_front (token a b u more) nothing l f t = some_bytes u (sym l ∙ sym t)
+row_front (token a b u more) (blank {byte = y} {bytes = ys} is others) l f t = apart y ys is u (sym t)
+row_front (token {place = place} {what = w} {rest = rest} a b {tokens = us} u more)
+    (token {what = v} {rest = last} c d {tokens = ts} x others) l f t =
     let one = token_one (subst (λ z. IsToken z w a b) f u) x t in
-    let there : AreTokens (place + length a) false d us last =
-    subst (λ n. AreTokens (place + n) false d us last) (ap length (sym one.1)) others in
-    let tail : ts ≡ us = row_one more there e l refl one.2 in
-    cons_same _ _ ts us (token_same place w v a c one.0 one.1) tail
+    let there : AreTokens (place + length a) false d ts last =
+    subst (λ n. AreTokens (place + n) false d ts last) (ap length (sym one.1)) others in
+    let tail = row_front more there l refl one.2 in (
+      tail.0,
+      cons_same _ _ ts (us ++ tail.0) (sym (token_same place w v a c one.0 one.1)) tail.1,
+    )
+
+row_one : {place : ℕ} {fresh : Bool} {text : List ℕ} {ts us : List Token} → AreTokens place fresh text ts []
+    → AreTokens place fresh text us [] → ts ≡ us
+row_one {ts = ts} {us = us} h k =
+    let there = row_front h k refl refl refl in
+    let back = row_front k h refl refl refl in
+    let none : there.0 ≡ [] =
+    nil_from_length there.0 (omega (arith, ap length there.1, ap length back.1, length-append ts there.0, length-append us back.0)) in
+    sym (there.1 ∙ (ap (λ x. ts ++ x) none ∙ append-nil ts))
 
 pub one_row : (text : List ℕ) → HasOneRow text
 one_row text =
     let h = rows (length text) 1 true text (omega arith) in
-    record { tokens = h.0; are = h.1; one = λ others are. row_one are h.1 refl refl refl refl }
+    record { tokens = h.0; are = h.1; one = λ others are. row_one are h.1 }

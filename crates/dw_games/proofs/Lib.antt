@@ -9,3 +9,5 @@ pub mod LongLemmas
 pub mod TakenLemmas
 pub mod WholeLemmas
 pub mod LexLemmas
+pub mod StepLemmas
+pub mod OneAnswerLemmas

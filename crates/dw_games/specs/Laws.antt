@@ -1,6 +1,12 @@
--- Laws of the tokens of movetexts.
+-- Laws of movetexts and their tokens.
 use Rattle.std.specs.Prelude.{◌≡◌, ℕ, true, List, []}
+use Rattle.dw_board.specs.Geometry.{Geometry}
+use Rattle.dw_board.specs.Placement.{Placement}
+use Rattle.dw_moves.specs.Moves.{Move}
 use Rattle.dw_games.specs.Tokens.{Token, AreTokens}
+use Rattle.dw_games.specs.Movetext.{IsTree}
+use Rattle.dw_games.specs.Faults.{IsFirstFault}
+use Rattle.dw_games.specs.declared.fault.MovetextFaultKind.{MovetextFaultKind}
 
 -- a row of tokens of a text, which is the only one
 pub record HasOneRow (text : List ℕ) : Type 0 where
@@ -11,3 +17,15 @@ pub record HasOneRow (text : List ℕ) : Type 0 where
 -- each text has exactly one row of tokens
 abbrev pub OneRow : Type 0
 OneRow = (text : List ℕ) → HasOneRow text
+
+-- a text has at most one tree and at most one first fault, and never both
+pub record HasOneAnswer (g : Geometry) (p : Placement) (text : List ℕ) : Type 0 where
+  pub one_tree : (tree other : List (List Move)) → IsTree g p text tree → IsTree g p text other → tree ≡ other
+  pub one_fault : (what other : MovetextFaultKind) (place there : ℕ) → IsFirstFault g p text what place
+      → IsFirstFault g p text other there → (what ≡ other) × (place ≡ there)
+  pub never_both : (tree : List (List Move)) (what : MovetextFaultKind) (place : ℕ) → IsTree g p text tree
+      → IsFirstFault g p text what place → ⊥
+
+-- at each position a text has at most one answer
+abbrev pub OneAnswer : Type 0
+OneAnswer = (g : Geometry) (p : Placement) (text : List ℕ) → HasOneAnswer g p text

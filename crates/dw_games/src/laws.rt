@@ -1,8 +1,16 @@
 //! Laws of the definitions, each the contract of a function that does nothing.
-ghost use Rattle.dw_games.specs.Laws.{OneRow};
+ghost use Rattle.dw_games.specs.Laws.{OneRow, OneAnswer};
 
 /// Each text has exactly one row of tokens.
 /// Example: `1-1.` has the two tokens `1-1` and `.`, and `1.-1` has `1.`, a byte that begins none, and `1`.
 pub fn one_row()
     ensures { OneRow }
 {}
+
+/// At each position a text has at most one tree and at most one first fault, and never both.
+/// Example: at `W:W27,32:B18` the text ` 1. 32-27` has the first fault `no such move at 5`: no other, and no tree.
+pub fn one_answer()
+    ensures { OneAnswer }
+{
+    dw_notation::laws::texts_have_one_answer();
+}

@@ -22,7 +22,8 @@ pub const MAX_PATH: usize = 39;
 /// Example: the last of 41 `(` that none closes is refused as `too deep`.
 pub const MAX_OPEN: usize = 40;
 
-/// Reads the movetext of a solution to a position: the tree of its moves, or the first fault.
+/// Reads the movetext of a solution to a position: the tree of its moves, or the first fault. By `laws::one_answer` a
+/// text has no other tree or first fault there.
 ///
 /// # Errors
 ///
