@@ -1,0 +1,4 @@
+pub mod Finding
+pub mod Telling
+pub mod Slices
+pub mod inner

@@ -1,0 +1,90 @@
+//! Searches are cut into slices, so that a program can show how far it is.
+ghost use Rattle.std.specs.Prelude.{◌≡◌, ◌+◌, ◌-◌, ◌<◌, ◌≤◌};
+
+/// Is told between two slices of a search how far it is.
+/// Example: one that keeps the two numbers shows them in a line at a terminal.
+pub trait Watcher {
+    /// Takes the number of moves within which a win is looked for, and how many positions were expanded in all slices
+    /// up to now.
+    fn watch(&mut self, moves: u8, expanded: u64);
+}
+
+/// Tells nobody.
+/// Example: `Slices::whole()` has it.
+#[derive(Clone, Copy, Debug, Default)]
+pub struct Unwatched;
+
+impl Watcher for Unwatched {
+    fn watch(&mut self, _moves: u8, _expanded: u64) {}
+}
+
+/// How searches are cut into slices, each larger than all before it together. So even if a memo keeps nothing, a slice
+/// comes that is large enough for the whole search.
+/// Example: if the first slice is of 1,000 positions, those of 2,000, 4,000 and 8,000 come next.
+#[derive(Clone, Copy, Debug, Drop)]
+pub struct Slices<W> {
+    /// How many positions the first slice expands; 0 counts as 1.
+    pub first: u64,
+    /// How many positions the solver had expanded before it.
+    pub start: u64,
+    /// Is told between two slices how far the search is.
+    pub watcher: W,
+}
+
+impl Slices<Unwatched> {
+    /// No slices: the first one is as large as can be.
+    /// Example: a search that takes them is stopped at the solver's own limit alone.
+    pub fn whole() -> Self {
+        Slices {
+            first: u64::MAX,
+            start: 0,
+            watcher: Unwatched,
+        }
+    }
+}
+
+impl<W: Watcher> Slices<W> {
+    /// Slices with a first one of so many positions.
+    /// Example: `Slices::new(1_000, Unwatched)` has a first slice of 1,000 positions.
+    pub fn new(first: u64, watcher: W) -> Self
+        ensures first { result.first ≡ first }
+        ensures watcher { result.watcher ≡ watcher }
+    {
+        Slices {
+            first,
+            start: 0,
+            watcher,
+        }
+    }
+
+    /// The slices begin where so many positions were expanded.
+    pub fn begin(&mut self, expanded: u64)
+        ensures { self.new ≡ record self.old { start = expanded } }
+    {
+        self.start = expanded;
+    }
+
+    /// The limit of the next slice of a search that has expanded so many positions and may go on up to `most`. It is
+    /// below that only if the slice is larger than all before it together.
+    /// Example: of a first slice of 1,000 positions that begins at 0, it is 1,000 at 0, and 3,000 at 1,000.
+    pub fn next_limit(&self, expanded: u64, most: u64) -> u64
+        requires { expanded ≤ most }
+        ensures within { result ≤ most }
+        ensures rises { expanded < most → expanded < result }
+        ensures kept { expanded ≤ result }
+        ensures large { result < most → expanded + (expanded - self.now.start) + self.now.first ≤ result }
+    {
+        let before = expanded.saturating_sub(self.start);
+        let size = before.saturating_add(self.first).max(1);
+        expanded.saturating_add(size).min(most)
+    }
+
+    /// Tells the watcher how far a search is.
+    pub(crate) fn tell(&mut self, moves: u8, expanded: u64)
+        ensures first { self.new.first ≡ self.old.first }
+        ensures start { self.new.start ≡ self.old.start }
+    {
+        self.watcher
+            .watch(moves, expanded.saturating_sub(self.start));
+    }
+}
