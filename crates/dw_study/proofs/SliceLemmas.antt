@@ -98,11 +98,15 @@ module _ {M : Type 0} (g : Geometry) (content : M → Content) (lost : M → ℕ
             wide s.searched here;
       }
 
-  -- a search within some more moves
-  pub goes_on_then : (n k first start cut : ℕ) (a b c : Solving M) → n ≤ k → GoesOn g content lost k first start 0 a b
-      → GoesOn g content lost n first start cut b c → GoesOn g content lost k first start cut a c
-  goes_on_then n k first start cut a b c less before here began most wide same h =
-      let within : n ≤ most = omega (arith, less, wide) in here began most within same (before began most wide same h)
+  -- a search within some more moves, which takes the slices as they now are
+  pub goes_on_then : (n k first start first' start' cut : ℕ) (a b c : Solving M) → n ≤ k → first' ≡ first
+      → start' ≡ start → GoesOn g content lost k first start 0 a b → GoesOn g content lost n first' start' cut b c
+      → GoesOn g content lost k first start cut a c
+  goes_on_then n k first start first' start' cut a b c less same_first same_start before here began most wide same h =
+      let within : n ≤ most = omega (arith, less, wide) in
+      subst (λ z. GoesOn g content lost n z start cut b c) same_first
+      (subst (λ z. GoesOn g content lost n first' z cut b c) same_start here)
+      began most within same (before began most wide same h)
 
   -- more may be cut off
   pub goes_on_looser : (n first start cut more : ℕ) (a b : Solving M) → cut ≤ more
