@@ -1,6 +1,7 @@
 -- Slices of a search, one after another.
 use Rattle.std.proofs.Common.{◌≡◌, ℕ, ◌+◌, ◌-◌, ◌*◌, ◌^◌, ◌<◌, ◌≤◌, refl, sym, subst, ap, ◌∙◌, arith, suc, add-one}
 use Rattle.std.proofs.Common.{Result, Ok, Err, OnOk, ◌⊎◌, inl, inr}
+use Rattle.std.specs.Result.{IsErrAnd}
 use Rattle.std.proofs.lemmas.Nat.{pow_pos}
 use Rattle.std.proofs.lemmas.Grind.{pow_more}
 use Rattle.std.proofs.Math.Nat.{mul-le-mul_left}
@@ -14,6 +15,8 @@ use Rattle.dw_solve.specs.Questions.{moment_of, Idle, LostNothing}
 use Rattle.dw_solve.specs.Searching.{IsCounted}
 use Rattle.dw_solve.specs.Solving.{Solving}
 use Rattle.dw_solve.specs.Work.{Moment, Searched, LossIsCounted, NothingLost, cut_off}
+use Rattle.dw_study.specs.declared.finding.Finding as findings
+use Rattle.dw_study.specs.Telling.{cut_short}
 use Rattle.dw_study.specs.Slices.{SearchedInSlices}
 use Rattle.dw_study.specs.inner.Looking.{GoesOn}
 
@@ -119,15 +122,38 @@ module _ {M : Type 0} (g : Geometry) (content : M → Content) (lost : M → ℕ
             (moment_of content lost b) (omega (arith, less)) s.searched;
       }
 
-  -- a search that began here
-  pub begun_here : SearchesAddUp → (n first cut : ℕ) (a b : Solving M) → GoesOn g content lost n first a.expanded cut a b
+  -- a search whose slices began here
+  pub begun_here : SearchesAddUp → (n first first' start' cut : ℕ) (a b : Solving M) → first' ≡ first
+      → start' ≡ a.expanded → GoesOn g content lost n first' start' cut a b
       → SearchedInSlices g n first cut (moment_of content lost a) (moment_of content lost b)
-  begun_here law n first cut a b here = here (moment_of content lost a) n (omega arith) refl record {
-    ended = 0;
-    doubled = omega arith;
-    searched = subst (λ z. Searched g n z (moment_of content lost a) (moment_of content lost a)) (no_cut n)
-        (law.none g n (moment_of content lost a));
+  begun_here law n first first' start' cut a b same_first same_start here =
+      subst (λ z. GoesOn g content lost n z start' cut a b) same_first here
+      (moment_of content lost a) n (omega arith) (sym same_start) record {
+        ended = 0;
+        doubled = omega arith;
+        searched = subst (λ z. Searched g n z (moment_of content lost a) (moment_of content lost a)) (no_cut n)
+            (law.none g n (moment_of content lost a));
+      }
+
+  -- another search after one in slices, within as many moves or fewer
+  pub then_searched : SearchesAddUp → (n k first cut more : ℕ) (a b c : Solving M) → k ≤ n → cut ≤ more
+      → b.expanded ≤ c.expanded
+      → SearchedInSlices g n first 0 (moment_of content lost a) (moment_of content lost b)
+      → Searched g k cut (moment_of content lost b) (moment_of content lost c)
+      → SearchedInSlices g n first more (moment_of content lost a) (moment_of content lost c)
+  then_searched law n k first cut more a b c less looser rises s here = record {
+    ended = s.ended;
+    doubled = let d = s.doubled in omega (arith, d, rises);
+    searched = searched_then law g k n s.ended more (moment_of content lost a) (moment_of content lost b)
+        (moment_of content lost c) less s.searched
+        (searched_looser g k cut more (moment_of content lost b) (moment_of content lost c) looser here);
   }
+
+-- after a stop as much is cut off as a stop cuts off
+pub stop_cuts : {B : Type 0} (r : Result (findings.Finding B) Stop) (e : Stop) (n : ℕ) → IsErrAnd r (λ d. d ≡ e)
+    → n ≡ cut_short r n
+stop_cuts (Ok x) e n is = absurd is
+stop_cuts (Err d) e n is = refl
 
 pub counted_then : (a l b m c o : ℕ) → IsCounted a l b m → IsCounted b m c o → IsCounted a l c o
 counted_then a l b m c o h k = record {

@@ -46,6 +46,7 @@ pub fn find<B: Board, M: Memo<B>, G: Guide<B>, W: Watcher>(
     ensures map { IsMap (M.content solver.new.memo) }
     ensures first { slices.new.first ≡ slices.old.first }
 {
+    dw_solve::laws::searches_add_up();
     let start = solver.expanded();
     slices.begin(start);
     match number_within(alloc, solver, position, bounds, slices) {

@@ -45,6 +45,7 @@ pub fn wins_in_slices<B: Board, M: Memo<B>, G: Guide<B>, W: Watcher>(
         → IfOk result (SaysWin (M.content solver.new.memo) position.now moves) }
     ensures first { slices.new.first ≡ slices.old.first }
 {
+    dw_solve::laws::searches_add_up();
     slices.begin(solver.expanded());
     wins_on(alloc, solver, position, moves, slices)
 }

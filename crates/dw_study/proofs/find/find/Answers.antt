@@ -1,0 +1,51 @@
+use Rattle.std.proofs.Common.{◌≤◌, ◌∙◌, ap, arith, subst}
+use Rattle.dw_study.specs.Slices.{SearchedInSlices}
+use Rattle.dw_solve.specs.Questions.{moment_of}
+use Rattle.dw_study.proofs.SliceLemmas.{begun_here, then_searched, stop_cuts}
+use Rattle.dw_study.proofs.find.find.Goals as goal
+
+pub returns-in_err-judged-in-Ok-clause-searched : goal.returns-in_err-judged-in-Ok-clause-searched
+returns-in_err-judged-in-Ok-clause-searched g c =
+    let geo = g.B.Board.geometry in
+    let content = g.M.Memo.content in
+    let lost = g.M.Memo.dropped in
+    let n = c.args.bounds.most in
+    let less = c.in-Ok.ensures.number.1 in
+    subst (λ z. SearchedInSlices geo n c.args.slices.now.first z (moment_of content lost c.args.solver.now)
+    (moment_of content lost c.judge.new.solver)) (stop_cuts c.from_residual.result c.in_err-judged-in-Ok.field-0.0 n
+    c.from_residual.ensures.1)
+    (then_searched geo content lost c.searches_add_up.ensures n c.in-Ok.moves c.args.slices.now.first c.in-Ok.moves n
+    c.args.solver.now c.number_within.new.solver c.judge.new.solver less less
+    c.in_err-judged-in-Ok.ensures.count.rises
+    (begun_here geo content lost c.searches_add_up.ensures n c.args.slices.now.first c.begin.new.self.first
+    c.begin.new.self.start 0 c.args.solver.now c.number_within.new.solver (ap (λ z. z.first) c.begin.ensures)
+    (ap (λ z. z.start) c.begin.ensures ∙ c.expanded-start.ensures) c.in-Ok.ensures.on)
+    c.in_err-judged-in-Ok.ensures.searched)
+
+pub returns-in_ok-judged-in-Ok-clause-searched : goal.returns-in_ok-judged-in-Ok-clause-searched
+returns-in_ok-judged-in-Ok-clause-searched g c =
+    let geo = g.B.Board.geometry in
+    let content = g.M.Memo.content in
+    let lost = g.M.Memo.dropped in
+    let n = c.args.bounds.most in
+    then_searched geo content lost c.searches_add_up.ensures n c.in-Ok.moves c.args.slices.now.first 0 0
+    c.args.solver.now c.number_within.new.solver c.judge.new.solver c.in-Ok.ensures.number.1 (omega arith)
+    c.in_ok-judged-in-Ok.ensures.count.rises
+    (begun_here geo content lost c.searches_add_up.ensures n c.args.slices.now.first c.begin.new.self.first
+    c.begin.new.self.start 0 c.args.solver.now c.number_within.new.solver (ap (λ z. z.first) c.begin.ensures)
+    (ap (λ z. z.start) c.begin.ensures ∙ c.expanded-start.ensures) c.in-Ok.ensures.on)
+    c.in_ok-judged-in-Ok.ensures.searched
+
+pub returns-in-Err-Limit-clause-searched : goal.returns-in-Err-Limit-clause-searched
+returns-in-Err-Limit-clause-searched g c =
+    begun_here g.B.Board.geometry g.M.Memo.content g.M.Memo.dropped c.searches_add_up.ensures c.args.bounds.most
+    c.args.slices.now.first c.begin.new.self.first c.begin.new.self.start c.args.bounds.most c.args.solver.now
+    c.number_within.new.solver (ap (λ z. z.first) c.begin.ensures)
+    (ap (λ z. z.start) c.begin.ensures ∙ c.expanded-start.ensures) c.in-Err-Limit.ensures.on
+
+pub returns-in-Err-clause-searched : goal.returns-in-Err-clause-searched
+returns-in-Err-clause-searched g c =
+    begun_here g.B.Board.geometry g.M.Memo.content g.M.Memo.dropped c.searches_add_up.ensures c.args.bounds.most
+    c.args.slices.now.first c.begin.new.self.first c.begin.new.self.start c.args.bounds.most c.args.solver.now
+    c.number_within.new.solver (ap (λ z. z.first) c.begin.ensures)
+    (ap (λ z. z.start) c.begin.ensures ∙ c.expanded-start.ensures) c.in-Err.ensures.on
