@@ -1,5 +1,5 @@
 -- Slices of a search, one after another.
-use Rattle.std.proofs.Common.{◌≡◌, ℕ, ◌+◌, ◌-◌, ◌*◌, ◌^◌, ◌<◌, ◌≤◌, refl, sym, subst, ap, ◌∙◌, arith, suc, add-one}
+use Rattle.std.proofs.Common.{◌≡◌, ℕ, ◌+◌, ◌-◌, ◌*◌, ◌^◌, ◌<◌, ◌≤◌, refl, sym, subst, ap, ◌∙◌, arith}
 use Rattle.std.proofs.Common.{Result, Ok, Err, OnOk, ◌⊎◌, inl, inr}
 use Rattle.std.specs.Result.{IsErrAnd}
 use Rattle.std.proofs.lemmas.Nat.{pow_pos}
@@ -14,7 +14,7 @@ use Rattle.dw_solve.specs.Laws.{SearchesAddUp}
 use Rattle.dw_solve.specs.Questions.{moment_of, Idle, LostNothing}
 use Rattle.dw_solve.specs.Searching.{IsCounted}
 use Rattle.dw_solve.specs.Solving.{Solving}
-use Rattle.dw_solve.specs.Work.{Moment, Searched, LossIsCounted, NothingLost, cut_off}
+use Rattle.dw_solve.specs.Work.{Moment, Searched, LossIsCounted}
 use Rattle.dw_study.specs.declared.finding.Finding as findings
 use Rattle.dw_study.specs.Telling.{cut_short}
 use Rattle.dw_study.specs.Slices.{SearchedInSlices}
@@ -165,10 +165,20 @@ counted_then a l b m c o h k = record {
 -- what is decided is so in a memo with the same entries
 decided_same : (c d : Content) (p : Placement) (n : ℕ) → SameEntries c d → IsDecided c p n → IsDecided d p n
 decided_same c d p n same (inl w) = inl record {
-  entry = w.entry; held = (same w.entry).0 w.held; about = w.about; bound = w.bound; is = w.is; enough = w.enough;
+  entry = w.entry;
+  held = (same w.entry).0 w.held;
+  about = w.about;
+  bound = w.bound;
+  is = w.is;
+  enough = w.enough;
 }
 decided_same c d p n same (inr f) = inr record {
-  entry = f.entry; held = (same f.entry).0 f.held; about = f.about; bound = f.bound; is = f.is; enough = f.enough;
+  entry = f.entry;
+  held = (same f.entry).0 f.held;
+  about = f.about;
+  bound = f.bound;
+  is = f.is;
+  enough = f.enough;
 }
 
 module _ {M : Type 0} (content : M → Content) (p : Placement) (n : ℕ) where

@@ -54,10 +54,12 @@ pub fn find<B: Board, M: Memo<B>, G: Guide<B>, W: Watcher>(
             let judged = judge(alloc, solver, position, moves)?;
             Ok(Finding::Judged { moves, judged })
         }
-        Err(Cut {
-            no_win_in,
-            stop: Stop::Limit,
-        }) if solver.expanded() - start == bounds.each => Ok(Finding::Undecided { no_win_in }),
+        Err(
+            Cut {
+                no_win_in,
+                stop: Stop::Limit,
+            },
+        ) if solver.expanded() - start == bounds.each => Ok(Finding::Undecided { no_win_in }),
         Err(cut) => Err(cut.stop),
     }
 }

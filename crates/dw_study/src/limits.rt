@@ -6,7 +6,10 @@ use dw_memo::Memo;
 use dw_solve::{Guide, Solver};
 
 /// Lowers the limit of a solver, if it is greater than this one, and answers what it was.
-pub(crate) fn lower<B: Board, M: Memo<B>, G: Guide<B>>(solver: &mut Solver<B, M, G>, until: u64) -> u64
+pub(crate) fn lower<B: Board, M: Memo<B>, G: Guide<B>>(
+    solver: &mut Solver<B, M, G>,
+    until: u64,
+) -> u64
     requires some { until < solver.old.limit → 1 ≤ until }
     requires enough { solver.old.expanded ≤ until }
     ensures was { result ≡ solver.old.limit }

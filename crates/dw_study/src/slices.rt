@@ -1,5 +1,5 @@
 //! Searches are cut into slices, so that a program can show how far it is.
-ghost use Rattle.std.specs.Prelude.{◌≡◌, ◌+◌, ◌-◌, ◌<◌, ◌≤◌};
+ghost use Rattle.std.specs.Prelude.{◌≡◌, ◌+◌, ◌-◌, ◌^◌, ◌<◌, ◌≤◌};
 
 /// Is told between two slices of a search how far it is.
 /// Example: one that keeps the two numbers shows them in a line at a terminal.
@@ -34,7 +34,9 @@ pub struct Slices<W> {
 impl Slices<Unwatched> {
     /// No slices: the first one is as large as can be.
     /// Example: a search that takes them is stopped at the solver's own limit alone.
-    pub fn whole() -> Self {
+    pub fn whole() -> Self
+        ensures { result.first ≡ 2 ^ 64 - 1 }
+    {
         Slices {
             first: u64::MAX,
             start: 0,

@@ -7,7 +7,6 @@ use Rattle.dw_solve.specs.Solving.{Solving}
 use Rattle.dw_solve.specs.Wins.{Win}
 use Rattle.dw_solve.specs.Questions.{moment_of}
 use Rattle.dw_solve.specs.Work.{Moment}
-use Rattle.dw_solve.specs.declared.stop.Stop.{Stop}
 use Rattle.dw_solve.specs.declared.stop.Stop.TheVariants.{Limit}
 use Rattle.dw_study.specs.declared.looking.Cut.{Cut}
 use Rattle.dw_study.specs.Finding.{IsNumber}

@@ -1,4 +1,4 @@
-use Rattle.std.proofs.Common.{◌≤◌, ◌∙◌, ap, arith, subst}
+use Rattle.std.proofs.Common.{◌∙◌, ap, arith, subst}
 use Rattle.dw_study.specs.Slices.{SearchedInSlices}
 use Rattle.dw_solve.specs.Questions.{moment_of}
 use Rattle.dw_study.proofs.SliceLemmas.{begun_here, then_searched, stop_cuts}

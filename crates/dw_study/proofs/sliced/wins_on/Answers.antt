@@ -1,7 +1,7 @@
 use Rattle.std.proofs.Common.{◌∙◌, refl, sym, inl, inr, arith, ap, Err}
 use Rattle.std.proofs.lemmas.Bool.{true≢false}
 use Rattle.dw_study.proofs.SliceLemmas.{goes_on_none, goes_on_more, goes_on_last, counted_then, idle_none, idle_then}
-use Rattle.dw_study.proofs.SliceLemmas.{still_decided, spent_later, loss_then, loss_none, lost_nothing_later}
+use Rattle.dw_study.proofs.SliceLemmas.{still_decided, spent_later, loss_then, loss_none}
 use Rattle.dw_study.proofs.sliced.wins_on.Goals as goal
 
 pub slices-init : goal.slices-init
