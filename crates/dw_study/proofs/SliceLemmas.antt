@@ -2,6 +2,7 @@
 use Rattle.std.proofs.Common.{◌≡◌, ℕ, ◌+◌, ◌-◌, ◌*◌, ◌^◌, ◌<◌, ◌≤◌, refl, sym, subst, ap, ◌∙◌, arith}
 use Rattle.std.proofs.Common.{Result, Ok, Err, OnOk, ◌⊎◌, inl, inr}
 use Rattle.std.specs.Result.{IsErrAnd}
+use Rattle.std.proofs.lemmas.Bool.{cases_lt}
 use Rattle.std.proofs.lemmas.Nat.{pow_pos}
 use Rattle.std.proofs.lemmas.Grind.{pow_more}
 use Rattle.std.proofs.Math.Nat.{mul-le-mul_left}
@@ -12,6 +13,7 @@ use Rattle.dw_solve.specs.Facts.{IsDecided}
 use Rattle.dw_solve.specs.declared.stop.Stop.{Stop}
 use Rattle.dw_solve.specs.Laws.{SearchesAddUp}
 use Rattle.dw_solve.specs.Questions.{moment_of, Idle, LostNothing}
+use Rattle.dw_solve.specs.Certificates.{SaysLeast}
 use Rattle.dw_solve.specs.Searching.{IsCounted}
 use Rattle.dw_solve.specs.Solving.{Solving}
 use Rattle.dw_solve.specs.Work.{Moment, Searched, LossIsCounted}
@@ -135,25 +137,19 @@ module _ {M : Type 0} (g : Geometry) (content : M → Content) (lost : M → ℕ
             (law.none g n (moment_of content lost a));
       }
 
-  -- another search after one in slices, within as many moves or fewer
-  pub then_searched : SearchesAddUp → (n k first cut more : ℕ) (a b c : Solving M) → k ≤ n → cut ≤ more
-      → b.expanded ≤ c.expanded
-      → SearchedInSlices g n first 0 (moment_of content lost a) (moment_of content lost b)
-      → Searched g k cut (moment_of content lost b) (moment_of content lost c)
-      → SearchedInSlices g n first more (moment_of content lost a) (moment_of content lost c)
-  then_searched law n k first cut more a b c less looser rises s here = record {
-    ended = s.ended;
-    doubled = let d = s.doubled in omega (arith, d, rises);
-    searched = searched_then law g k n s.ended more (moment_of content lost a) (moment_of content lost b)
-        (moment_of content lost c) less s.searched
-        (searched_looser g k cut more (moment_of content lost b) (moment_of content lost c) looser here);
-  }
-
 -- after a stop as much is cut off as a stop cuts off
 pub stop_cuts : {B : Type 0} (r : Result (findings.Finding B) Stop) (e : Stop) (n : ℕ) → IsErrAnd r (λ d. d ≡ e)
     → n ≡ cut_short r n
 stop_cuts (Ok x) e n is = absurd is
 stop_cuts (Err d) e n is = refl
+
+-- a solver whose limit was changed
+pub same_memo : {M : Type 0} (a b : Solving M) (limit : ℕ) → b ≡ record a { limit = limit } → b.memo ≡ a.memo
+same_memo a b limit e = ap (λ z. z.memo) e
+
+pub same_count : {M : Type 0} (a b : Solving M) (limit : ℕ) → b ≡ record a { limit = limit }
+    → b.expanded ≡ a.expanded
+same_count a b limit e = ap (λ z. z.expanded) e
 
 pub counted_then : (a l b m c o : ℕ) → IsCounted a l b m → IsCounted b m c o → IsCounted a l c o
 counted_then a l b m c o h k = record {
@@ -194,6 +190,12 @@ module _ {M : Type 0} (content : M → Content) (p : Placement) (n : ℕ) where
       → (n ≡ 0) ⊎ IsDecided (content b.memo) p n
   still_decided a b idle (inl none) = inl none
   still_decided a b idle (inr d) = inr (decided_same (content a.memo) (content b.memo) p n idle.1 d)
+
+  -- nothing happens as far as the memo says of each number of moves whether there is a win within it
+  pub idle_on : {X : Type 0} (j : ℕ) (a b c : Solving M) → SaysLeast (content a.memo) p j → 1 ≤ n → n ≤ j
+      → Idle content a b → ((n ≡ 0) ⊎ IsDecided (content b.memo) p n → X × Idle content b c) → X × Idle content a c
+  idle_on j a b c says some few idle known =
+      let here = known (still_decided a b idle (inr (says n some few))) in (here.0, idle_then a b c idle here.1)
 
   -- a search that was not decided at its beginning has expanded some position
   pub spent_later : {A : Type 0} (a b c : Solving M) (r : Result A Stop) → (b ≡ a) ⊎ (a.expanded < b.expanded)
@@ -244,3 +246,7 @@ pub lost_nothing_later : {M : Type 0} (content : M → Content) (lost : M → �
     → LostNothing content lost a c → LostNothing content lost b c
 lost_nothing_later content lost law a b c h k kept = (law.parts (moment_of content lost a) (moment_of content lost b)
     (moment_of content lost c) h k kept).1
+
+-- the memo says nothing of the number at which a search was stopped, and so of no higher one
+pub known_below : (m j : ℕ) → 1 ≤ m → (m ≤ j → ⊥) → j ≤ m - 1
+known_below m j some not = elim (cases_lt j m) [ inl below ↦ omega (arith, below) | inr above ↦ absurd (not above) ]

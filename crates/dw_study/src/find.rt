@@ -1,6 +1,7 @@
 //! The least number of moves within which a position is won, and the verdict at it.
 ghost use Rattle.std.specs.Prelude.{◌≡◌, ℕ, ◌≤◌, ◌+◌, IfOk, IsErrOf};
 ghost use Rattle.dw_memo.specs.Content.{IsMap};
+ghost use Rattle.dw_solve.specs.Certificates.{SaysLeast};
 ghost use Rattle.dw_solve.specs.declared.stop.Stop.TheVariants.{Limit};
 ghost use Rattle.dw_solve.specs.Facts.{AreTrue};
 ghost use Rattle.dw_solve.specs.Searching.{IsCounted};
@@ -11,11 +12,11 @@ ghost use Rattle.dw_study.specs.Telling.{told_by, cut_short};
 ghost use Rattle.dw_study.specs.declared.finding.Finding.TheVariants.{Undecided};
 
 use crate::finding::{FindBounds, Finding};
+use crate::judging::judge_on;
 use crate::looking::{Cut, number_within};
 use crate::slices::{Slices, Watcher};
 use dw_board::{Board, Position};
 use dw_memo::Memo;
-use dw_report::judge::judge;
 use dw_solve::{Guide, Solver, Stop};
 use std::alloc::Global;
 
@@ -37,6 +38,8 @@ pub fn find<B: Board, M: Memo<B>, G: Guide<B>, W: Watcher>(
     ensures finding { IfOk result (λ finding. IsFinding B.geometry position.now bounds.most (told_by finding)) }
     ensures undecided { (k : ℕ) → result ≡ Ok (Undecided k)
         → solver.new.expanded ≡ solver.old.expanded + bounds.each }
+    ensures known { (j k : ℕ) → SaysLeast (M.content solver.old.memo) position.now j → result ≡ Ok (Undecided k)
+        → j ≤ k }
     ensures count { IsCounted solver.old.expanded solver.old.limit solver.new.expanded solver.new.limit }
     ensures stop { IsErrOf result Limit → solver.new.expanded ≡ solver.new.limit }
     ensures searched { SearchedInSlices B.geometry bounds.most slices.old.first (cut_short result bounds.most)
@@ -51,7 +54,7 @@ pub fn find<B: Board, M: Memo<B>, G: Guide<B>, W: Watcher>(
     slices.begin(start);
     match number_within(alloc, solver, position, bounds, slices) {
         Ok(moves) => {
-            let judged = judge(alloc, solver, position, moves)?;
+            let judged = judge_on(alloc, solver, position, moves, slices)?;
             Ok(Finding::Judged { moves, judged })
         }
         Err(

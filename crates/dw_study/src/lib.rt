@@ -8,11 +8,13 @@
 
 pub mod find;
 pub mod finding;
+pub mod judging;
 mod limits;
 mod looking;
 pub mod sliced;
 pub mod slices;
 
 pub use finding::{FindBounds, Finding};
+pub use judging::judge_in_slices;
 pub use sliced::wins_in_slices;
 pub use slices::{Slices, Unwatched, Watcher};

@@ -21,7 +21,7 @@ impl Watcher for Unwatched {
 /// How searches are cut into slices, each larger than all before it together. So even if a memo keeps nothing, a slice
 /// comes that is large enough for the whole search.
 /// Example: if the first slice is of 1,000 positions, those of 2,000, 4,000 and 8,000 come next.
-#[derive(Clone, Copy, Debug, Drop)]
+#[derive(Debug, Drop)]
 pub struct Slices<W> {
     /// How many positions the first slice expands; 0 counts as 1.
     pub first: u64,
@@ -59,7 +59,8 @@ impl<W: Watcher> Slices<W> {
         }
     }
 
-    /// The slices begin where so many positions were expanded.
+    /// The slices begin anew, after the solver has expanded so many positions.
+    /// Example: after `begin(500)` the first slice ends 500 positions later than it would at 0.
     pub fn begin(&mut self, expanded: u64)
         ensures { self.new ≡ record self.old { start = expanded } }
     {
@@ -82,7 +83,8 @@ impl<W: Watcher> Slices<W> {
     }
 
     /// Tells the watcher how far a search is.
-    pub(crate) fn tell(&mut self, moves: u8, expanded: u64)
+    /// Example: of slices that began at 500, it is told of 700 positions if the solver has expanded 1,200.
+    pub fn tell(&mut self, moves: u8, expanded: u64)
         ensures first { self.new.first ≡ self.old.first }
         ensures start { self.new.start ≡ self.old.start }
     {

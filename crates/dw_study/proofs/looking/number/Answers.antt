@@ -1,6 +1,6 @@
 use Rattle.std.proofs.Common.{◌≤◌, ◌∙◌, sym, arith, below_more}
 use Rattle.std.proofs.lemmas.Bool.{true≢false}
-use Rattle.dw_study.proofs.SliceLemmas.{goes_on_then, goes_on_looser, counted_then}
+use Rattle.dw_study.proofs.SliceLemmas.{goes_on_then, goes_on_looser, counted_then, idle_on, known_below}
 use Rattle.dw_study.proofs.looking.number.Goals as goal
 
 pub moves-preserved : goal.moves-preserved
@@ -9,6 +9,9 @@ moves-preserved g c =
     let here = c.in-Ok-false.ensures in
     record {
       none = below_more _ _ now.none (λ win. true≢false (sym (here.answer.1 win) ∙ c.in-Ok-false.field-0-test));
+      idle = λ j says within. (idle_on g.M.Memo.content c.args.position.now c.moves.moves j c.args.solver.now
+          c.moves.solver c.wins_on.new.solver says c.moves.auto.moves (omega (arith, within))
+          (now.idle j says (omega (arith, within))) here.known).1;
       count = counted_then _ _ _ _ _ _ now.count here.count;
       on = goes_on_then g.B.Board.geometry g.M.Memo.content g.M.Memo.dropped c.moves.moves c.args.most
           c.args.slices.now.first c.args.slices.now.start c.moves.slices.first c.moves.slices.start 0 c.args.solver.now
@@ -37,3 +40,10 @@ returns-in-Err-clause-on g c =
     (goes_on_then geo content lost c.moves.moves c.args.most c.args.slices.now.first c.args.slices.now.start
     c.moves.slices.first c.moves.slices.start c.moves.moves c.args.solver.now c.moves.solver c.wins_on.new.solver less
     now.first now.start now.on c.in-Err.ensures.on)
+
+pub returns-in-Err-clause-known : goal.returns-in-Err-clause-known
+returns-in-Err-clause-known g c j says =
+    known_below c.moves.moves j c.moves.auto.moves
+    (λ within. true≢false (sym (idle_on g.M.Memo.content c.args.position.now c.moves.moves j c.args.solver.now
+    c.moves.solver c.wins_on.new.solver says c.moves.auto.moves within
+    (c.moves.invariant.idle j says (omega (arith, within))) c.in-Err.ensures.known).0))
