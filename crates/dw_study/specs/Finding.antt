@@ -9,8 +9,8 @@ use Rattle.dw_report.specs.Verdict.{Verdict, IsVerdict, Tries}
 
 -- the number of moves at which a position is judged: the least up to `most` within which there is a win, or `most`
 -- itself if there is none
-abbrev pub IsNumber : Geometry → Placement → ℕ → ℕ → Type 0
-IsNumber g p most k = IsLeast g p most (Some k) ⊎ (IsLeast g p most None × (k ≡ most))
+abbrev pub IsJudgedAt : Geometry → Placement → ℕ → ℕ → Type 0
+IsJudgedAt g p most k = IsLeast g p most (Some k) ⊎ (IsLeast g p most None × (k ≡ most))
 
 pub data Finding : Type 0 where
   judged : (moves : ℕ) (verdict : Verdict) (tries : List (Move × Move)) → Finding
@@ -18,5 +18,5 @@ pub data Finding : Type 0 where
 
 -- the number of moves, the verdict and the tries at it; or that there is no win within fewer moves than `most`
 abbrev pub IsFinding : Geometry → Placement → ℕ → Finding → Type 0
-IsFinding g p most (judged k verdict tries) = IsNumber g p most k × IsVerdict g p k verdict × Tries g p k tries
+IsFinding g p most (judged k verdict tries) = IsJudgedAt g p most k × IsVerdict g p k verdict × Tries g p k tries
 IsFinding g p most (undecided k) = (k < most) × (Win g p k → ⊥)

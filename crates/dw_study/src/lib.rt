@@ -9,6 +9,7 @@
 pub mod find;
 pub mod finding;
 pub mod judging;
+pub mod laws;
 mod limits;
 mod looking;
 pub mod sliced;

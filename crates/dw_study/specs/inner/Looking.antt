@@ -9,7 +9,7 @@ use Rattle.dw_solve.specs.Questions.{moment_of}
 use Rattle.dw_solve.specs.Work.{Moment}
 use Rattle.dw_solve.specs.declared.stop.Stop.TheVariants.{Limit}
 use Rattle.dw_study.specs.declared.looking.Cut.{Cut}
-use Rattle.dw_study.specs.Finding.{IsNumber}
+use Rattle.dw_study.specs.Finding.{IsJudgedAt}
 use Rattle.dw_study.specs.Slices.{SearchedInSlices}
 
 -- a search in slices, which began when so many positions were expanded, goes on with one within n moves
@@ -21,7 +21,7 @@ GoesOn g content lost n first start cut old new = (began : Moment) (most : ℕ) 
 
 -- the number was found, or it was found that there is no win within some lower number of moves
 abbrev pub IsLooked : Geometry → Placement → ℕ → Result ℕ Cut → Type 0
-IsLooked g p most (Ok k) = (1 ≤ k) × (k ≤ most) × IsNumber g p most k
+IsLooked g p most (Ok k) = (1 ≤ k) × (k ≤ most) × IsJudgedAt g p most k
 IsLooked g p most (Err cut) = (cut.no_win_in < most) × (Win g p cut.no_win_in → ⊥)
 
 -- if the limit is why the search stopped, it was met
