@@ -72,8 +72,8 @@ judged_only stay g p most k j (inr none) (inl other) = absurd (never stay g p mo
 judged_only stay g p most k j (inr none) (inr same) = omega (arith, none.1, same.1)
 
 -- each position is judged in one way
-pub finding_some : WinsAreDecided → OneVerdict → TriesAreListed → (g : Geometry) → IsBoard g → (p : Placement) (most : ℕ)
-    → (k : ℕ) × (v : Verdict) × (tries : List (Move × Move)) × IsFinding g p most (judged k v tries)
+pub finding_some : WinsAreDecided → OneVerdict → TriesAreListed → (g : Geometry) → IsBoard g → (p : Placement)
+    (most : ℕ) → (k : ℕ) × (v : Verdict) × (tries : List (Move × Move)) × IsFinding g p most (judged k v tries)
 finding_some decided verdicts listed g board p most =
     let at = judged_some decided g p most in
     let verdict = verdicts.some g board p at.0 in

@@ -228,7 +228,8 @@ module _ {M : Type 0} (content : M → Content) (p : Placement) (n : ℕ) where
       → OnOk r (1 ≤ n → (IsDecided (content b.memo) p n → ⊥) → b.expanded < c.expanded)
       → OnOk r (1 ≤ n → (IsDecided (content a.memo) p n → ⊥) → a.expanded < d.expanded)
   spent_between a b c d (Ok x) held count count' here = λ some unknown.
-      let h = here some (subst (λ z. IsDecided (content z) p n → ⊥) (sym held) unknown) in omega (arith, h, count, count')
+      let h = here some (subst (λ z. IsDecided (content z) p n → ⊥) (sym held) unknown) in
+      omega (arith, h, count, count')
   spent_between a b c d (Err e) held count count' here = here
 
 pub loss_then : (a b c : ℕ) → LossIsCounted a b → LossIsCounted b c → LossIsCounted a c

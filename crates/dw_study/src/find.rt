@@ -21,9 +21,10 @@ use dw_solve::{Guide, Solver, Stop};
 use std::alloc::Global;
 
 /// The least number of moves within which the side to move wins, with the verdict and the tries at it; or those at the
-/// most moves asked for, if there is no win within them. If so many positions were expanded as the bounds allow before
-/// the number was known, it is undecided; what the verdict and the tries then take is not bounded so. After a stop all
-/// bounds in the memo are right, and the call can be made again.
+/// most moves asked for, if there is no win within them. It is undecided if as many positions were expanded as the
+/// bounds allow before the number was known, also if the solver's limit is met with the last of them. What the verdict
+/// and the tries then take has no limit but the solver's own, which stays what it is. After a stop all bounds in the
+/// memo are right, and the call can be made again. The slices begin anew; no answer depends on them.
 /// Example: at `W:W27,45:B16`, within 20 moves, it is 2 moves and sound by `45-40`.
 pub fn find<B: Board, M: Memo<B>, G: Guide<B>, W: Watcher>(
     alloc: Global,

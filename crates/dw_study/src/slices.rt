@@ -1,5 +1,5 @@
 //! Searches are cut into slices, so that a program can show how far it is.
-ghost use Rattle.std.specs.Prelude.{◌≡◌, ◌+◌, ◌-◌, ◌^◌, ◌<◌, ◌≤◌};
+ghost use Rattle.std.specs.Prelude.{◌≡◌, ◌+◌, ◌-◌, ◌^◌, min, max};
 
 /// Is told between two slices of a search how far it is.
 /// Example: one that keeps the two numbers shows them in a line at a terminal.
@@ -67,15 +67,11 @@ impl<W: Watcher> Slices<W> {
         self.start = expanded;
     }
 
-    /// The limit of the next slice of a search that has expanded so many positions and may go on up to `most`. It is
-    /// below that only if the slice is larger than all before it together.
+    /// The limit of the next slice of a search that has expanded so many positions and may go on up to `most`. The slice
+    /// is as large as all before it and the first one together, and at least of one position.
     /// Example: of a first slice of 1,000 positions that begins at 0, it is 1,000 at 0, and 3,000 at 1,000.
     pub fn next_limit(&self, expanded: u64, most: u64) -> u64
-        requires { expanded ≤ most }
-        ensures within { result ≤ most }
-        ensures rises { expanded < most → expanded < result }
-        ensures kept { expanded ≤ result }
-        ensures large { result < most → expanded + (expanded - self.now.start) + self.now.first ≤ result }
+        ensures { result ≡ min (expanded + max (expanded - self.now.start + self.now.first) 1) most }
     {
         let before = expanded.saturating_sub(self.start);
         let size = before.saturating_add(self.first).max(1);

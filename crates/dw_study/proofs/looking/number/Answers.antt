@@ -35,8 +35,8 @@ returns-in-Err-clause-on g c =
     let lost = g.M.Memo.dropped in
     let now = c.moves.invariant in
     let less : c.moves.moves ≤ c.args.most = omega (arith, c.moves-test.true) in
-    goes_on_looser geo content lost c.args.most c.args.slices.now.first c.args.slices.now.start c.moves.moves c.args.most
-    c.args.solver.now c.wins_on.new.solver less
+    goes_on_looser geo content lost c.args.most c.args.slices.now.first c.args.slices.now.start c.moves.moves
+    c.args.most c.args.solver.now c.wins_on.new.solver less
     (goes_on_then geo content lost c.moves.moves c.args.most c.args.slices.now.first c.args.slices.now.start
     c.moves.slices.first c.moves.slices.start c.moves.moves c.args.solver.now c.moves.solver c.wins_on.new.solver less
     now.first now.start now.on c.in-Err.ensures.on)

@@ -61,7 +61,8 @@ returns-in_default-3-clause-known g c decided =
     let p = c.args.position.now in
     let n = c.args.moves in
     let before = c.slices.invariant.idle decided in
-    let here = c.wins_until.ensures.known (still_decided content p n c.args.solver.now c.slices.solver before decided) in
+    let here = c.wins_until.ensures.known (still_decided content p n c.args.solver.now c.slices.solver before decided)
+    in
     (here.0, idle_then content p n c.args.solver.now c.slices.solver c.wins_until.new.solver before here.1)
 
 pub returns-in_default-3-clause-spent : goal.returns-in_default-3-clause-spent
