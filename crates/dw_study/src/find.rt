@@ -49,6 +49,7 @@ pub fn find<B: Board, M: Memo<B>, G: Guide<B>, W: Watcher>(
     ensures right { AreTrue B.geometry (M.content solver.new.memo) }
     ensures map { IsMap (M.content solver.new.memo) }
     ensures first { slices.new.first ≡ slices.old.first }
+    ensures begun { slices.new.start ≡ solver.old.expanded }
 {
     dw_solve::laws::searches_add_up();
     let start = solver.expanded();

@@ -40,6 +40,7 @@ pub fn judge_in_slices<B: Board, M: Memo<B>, G: Guide<B>, W: Watcher>(
     ensures right { AreTrue B.geometry (M.content solver.new.memo) }
     ensures map { IsMap (M.content solver.new.memo) }
     ensures first { slices.new.first ≡ slices.old.first }
+    ensures begun { slices.new.start ≡ solver.old.expanded }
 {
     dw_solve::laws::searches_add_up();
     slices.begin(solver.expanded());
@@ -65,6 +66,7 @@ pub(crate) fn judge_on<B: Board, M: Memo<B>, G: Guide<B>, W: Watcher>(
     ensures right { AreTrue B.geometry (M.content solver.new.memo) }
     ensures map { IsMap (M.content solver.new.memo) }
     ensures first { slices.new.first ≡ slices.old.first }
+    ensures start { slices.new.start ≡ slices.old.start }
 {
     dw_solve::laws::searches_add_up();
     solver.keeps_its_limit();

@@ -44,6 +44,7 @@ pub fn wins_in_slices<B: Board, M: Memo<B>, G: Guide<B>, W: Watcher>(
     ensures says { LostNothing M.content M.dropped solver.old solver.new
         → IfOk result (SaysWin (M.content solver.new.memo) position.now moves) }
     ensures first { slices.new.first ≡ slices.old.first }
+    ensures begun { slices.new.start ≡ solver.old.expanded }
 {
     dw_solve::laws::searches_add_up();
     slices.begin(solver.expanded());

@@ -1,12 +1,16 @@
 //! Searches are cut into slices, so that a program can show how far it is.
-ghost use Rattle.std.specs.Prelude.{◌≡◌, ◌+◌, ◌-◌, ◌^◌, min, max};
+ghost use Rattle.std.specs.Prelude.{◌≡◌, ℕ, ◌+◌, ◌-◌, ◌^◌, min, max};
 
 /// Is told between two slices of a search how far it is.
 /// Example: one that keeps the two numbers shows them in a line at a terminal.
 pub trait Watcher {
+    /// What it is like before and after it was told these two numbers, as far as it says that.
+    ghost told: { Self → ℕ → ℕ → Self → Type 0 } = { λ old moves expanded new. Unit {0} };
+
     /// Takes the number of moves within which a win is looked for, and how many positions were expanded in all slices
     /// up to now.
-    fn watch(&mut self, moves: u8, expanded: u64);
+    fn watch(&mut self, moves: u8, expanded: u64)
+        ensures { told self.old moves expanded self.new };
 }
 
 /// Tells nobody.
@@ -49,8 +53,7 @@ impl<W: Watcher> Slices<W> {
     /// Slices with a first one of so many positions.
     /// Example: `Slices::new(1_000, Unwatched)` has a first slice of 1,000 positions.
     pub fn new(first: u64, watcher: W) -> Self
-        ensures first { result.first ≡ first }
-        ensures watcher { result.watcher ≡ watcher }
+        ensures { result ≡ record { first = first; start = 0; watcher = watcher } }
     {
         Slices {
             first,
@@ -67,8 +70,8 @@ impl<W: Watcher> Slices<W> {
         self.start = expanded;
     }
 
-    /// The limit of the next slice of a search that has expanded so many positions and may go on up to `most`. The slice
-    /// is as large as all before it and the first one together, and at least of one position.
+    /// The limit of the next slice of a search that has expanded so many positions and may go on up to `most`. The
+    /// slice is as large as all before it and the first one together, and at least of one position.
     /// Example: of a first slice of 1,000 positions that begins at 0, it is 1,000 at 0, and 3,000 at 1,000.
     pub fn next_limit(&self, expanded: u64, most: u64) -> u64
         ensures { result ≡ min (expanded + max (expanded - self.now.start + self.now.first) 1) most }
@@ -81,6 +84,7 @@ impl<W: Watcher> Slices<W> {
     /// Tells the watcher how far a search is.
     /// Example: of slices that began at 500, it is told of 700 positions if the solver has expanded 1,200.
     pub fn tell(&mut self, moves: u8, expanded: u64)
+        ensures told { W.told self.old.watcher moves (expanded - self.old.start) self.new.watcher }
         ensures first { self.new.first ≡ self.old.first }
         ensures start { self.new.start ≡ self.old.start }
     {
