@@ -13,7 +13,7 @@ ghost use Rattle.dw_study.specs.declared.finding.Finding.TheVariants.{Undecided}
 
 use crate::finding::{FindBounds, Finding};
 use crate::judging::judge_on;
-use crate::looking::{Cut, number_within};
+use crate::looking::number_within;
 use crate::slices::{Slices, Watcher};
 use dw_board::{Board, Position};
 use dw_memo::Memo;
@@ -59,12 +59,11 @@ pub fn find<B: Board, M: Memo<B>, G: Guide<B>, W: Watcher>(
             let judged = judge_on(alloc, solver, position, moves, slices)?;
             Ok(Finding::Judged { moves, judged })
         }
-        Err(
-            Cut {
-                no_win_in,
-                stop: Stop::Limit,
-            },
-        ) if solver.expanded() - start == bounds.each => Ok(Finding::Undecided { no_win_in }),
+        Err(cut) if cut.stop == Stop::Limit && solver.expanded() - start == bounds.each => {
+            Ok(Finding::Undecided {
+                no_win_in: cut.no_win_in,
+            })
+        }
         Err(cut) => Err(cut.stop),
     }
 }

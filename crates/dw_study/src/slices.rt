@@ -23,7 +23,8 @@ impl Watcher for Unwatched {
 }
 
 /// How searches are cut into slices, each larger than all before it together. So even if a memo keeps nothing, a slice
-/// comes that is large enough for the whole search.
+/// comes that is large enough for the whole search. Any search whose solver has a limit can be cut so: before each call
+/// the limit is set to that of `next_limit`, and after a stop there `tell` is called, and the search asked again.
 /// Example: if the first slice is of 1,000 positions, those of 2,000, 4,000 and 8,000 come next.
 #[derive(Debug, Drop)]
 pub struct Slices<W> {

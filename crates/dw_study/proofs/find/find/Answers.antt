@@ -42,16 +42,16 @@ returns-in_ok-judged-in-Ok-clause-searched g c =
     c.args.solver.now c.number_within.new.solver c.judge_on.new.solver found.number.1 found.first found.start found.on
     c.in_ok-judged-in-Ok.ensures.on)
 
-pub returns-in-Err-Limit-clause-searched : goal.returns-in-Err-Limit-clause-searched
-returns-in-Err-Limit-clause-searched g c =
-    begun_here g.B.Board.geometry g.M.Memo.content g.M.Memo.dropped c.searches_add_up.ensures c.args.bounds.most
-    c.args.slices.now.first c.begin.new.self.first c.begin.new.self.start c.args.bounds.most c.args.solver.now
-    c.number_within.new.solver (ap (λ z. z.first) c.begin.ensures)
-    (ap (λ z. z.start) c.begin.ensures ∙ c.expanded-start.ensures) c.in-Err-Limit.ensures.on
-
 pub returns-in-Err-clause-searched : goal.returns-in-Err-clause-searched
 returns-in-Err-clause-searched g c =
     begun_here g.B.Board.geometry g.M.Memo.content g.M.Memo.dropped c.searches_add_up.ensures c.args.bounds.most
     c.args.slices.now.first c.begin.new.self.first c.begin.new.self.start c.args.bounds.most c.args.solver.now
     c.number_within.new.solver (ap (λ z. z.first) c.begin.ensures)
     (ap (λ z. z.start) c.begin.ensures ∙ c.expanded-start.ensures) c.in-Err.ensures.on
+
+pub returns-in-Err-2-clause-searched : goal.returns-in-Err-2-clause-searched
+returns-in-Err-2-clause-searched g c =
+    begun_here g.B.Board.geometry g.M.Memo.content g.M.Memo.dropped c.searches_add_up.ensures c.args.bounds.most
+    c.args.slices.now.first c.begin.new.self.first c.begin.new.self.start c.args.bounds.most c.args.solver.now
+    c.number_within.new.solver (ap (λ z. z.first) c.begin.ensures)
+    (ap (λ z. z.start) c.begin.ensures ∙ c.expanded-start.ensures) c.in-Err-2.ensures.on
