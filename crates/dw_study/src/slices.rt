@@ -1,5 +1,5 @@
 //! Searches are cut into slices, so that a program can show how far it is.
-ghost use Rattle.std.specs.Prelude.{◌≡◌, ℕ, ◌+◌, ◌-◌, ◌^◌, min, max};
+ghost use Rattle.std.specs.Prelude.{◌≡◌, ℕ, ◌+◌, ◌-◌, ◌^◌, ◌≤◌, min, max};
 
 /// Is told between two slices of a search how far it is.
 /// Example: one that keeps the two numbers shows them in a line at a terminal.
@@ -28,12 +28,13 @@ impl Watcher for Unwatched {
 /// Example: if the first slice is of 1,000 positions, those of 2,000, 4,000 and 8,000 come next.
 #[derive(Debug, Drop)]
 pub struct Slices<W> {
-    /// How many positions the first slice expands; 0 counts as 1.
+    /// How many positions the first slice expands, at least 1.
     pub first: u64,
     /// How many positions the solver had expanded before it.
     pub start: u64,
     /// Is told between two slices how far the search is.
     pub watcher: W,
+    pub ghost some: { 1 ≤ first },
 }
 
 impl Slices<Unwatched> {
@@ -51,13 +52,15 @@ impl Slices<Unwatched> {
 }
 
 impl<W: Watcher> Slices<W> {
-    /// Slices with a first one of so many positions.
+    /// Slices with a first one of so many positions; 0 counts as 1.
     /// Example: `Slices::new(1_000, Unwatched)` has a first slice of 1,000 positions.
     pub fn new(first: u64, watcher: W) -> Self
-        ensures { result ≡ record { first = first; start = 0; watcher = watcher } }
+        ensures first { result.first ≡ max first 1 }
+        ensures start { result.start ≡ 0 }
+        ensures watcher { result.watcher ≡ watcher }
     {
         Slices {
-            first,
+            first: first.max(1),
             start: 0,
             watcher,
         }
@@ -72,14 +75,16 @@ impl<W: Watcher> Slices<W> {
     }
 
     /// The limit of the next slice of a search that has expanded so many positions and may go on up to `most`. The
-    /// slice is as large as all before it and the first one together, and at least of one position.
+    /// slice is as large as all before it and the first one together.
     /// Example: of a first slice of 1,000 positions that begins at 0, it is 1,000 at 0, and 3,000 at 1,000.
     pub fn next_limit(&self, expanded: u64, most: u64) -> u64
-        ensures { result ≡ min (expanded + max (expanded - self.now.start + self.now.first) 1) most }
+        ensures { result ≡ min (expanded + (expanded - self.now.start) + self.now.first) most }
     {
         let before = expanded.saturating_sub(self.start);
-        let size = before.saturating_add(self.first).max(1);
-        expanded.saturating_add(size).min(most)
+        expanded
+            .saturating_add(before)
+            .saturating_add(self.first)
+            .min(most)
     }
 
     /// Tells the watcher how far a search is.
