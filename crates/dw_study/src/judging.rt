@@ -19,7 +19,8 @@ use dw_report::judge::judge;
 use dw_solve::{Guide, Solver, Stop};
 use std::alloc::Global;
 
-/// What `judge` answers, with searches that are cut into slices.
+/// What `judge` answers, with searches that are cut into slices, which begin anew. After a stop all bounds in the memo
+/// are right, and the call can be made again.
 /// Example: at `W:W27,45:B16`, within 2 moves, it is sound by `45-40`, whatever the slices are.
 pub fn judge_in_slices<B: Board, M: Memo<B>, G: Guide<B>, W: Watcher>(
     alloc: Global,

@@ -18,7 +18,8 @@ use dw_memo::Memo;
 use dw_solve::{Guide, Solver, Stop};
 use std::alloc::Global;
 
-/// What `Solver::wins` answers, with a search that is cut into slices.
+/// What `Solver::wins` answers, with a search that is cut into slices, which begin anew. After a stop all bounds in the
+/// memo are right, and it can be asked again.
 /// Example: at `W:W27,45:B16` it is `Ok(false)` within 1 move, and `Ok(true)` within 2, whatever the slices are.
 pub fn wins_in_slices<B: Board, M: Memo<B>, G: Guide<B>, W: Watcher>(
     alloc: Global,

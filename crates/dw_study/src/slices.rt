@@ -9,6 +9,7 @@ pub trait Watcher {
 
     /// Takes the number of moves within which a win is looked for, and how many positions were expanded in all slices
     /// up to now.
+    /// Example: of a first slice of 1,000 positions it takes 1,000 as that one ends.
     fn watch(&mut self, moves: u8, expanded: u64)
         ensures { told self.old moves expanded self.new };
 }
