@@ -1,0 +1,2 @@
+pub mod SliceLemmas
+pub mod FindingLemmas

@@ -1,0 +1,253 @@
+-- Slices of a search, one after another.
+use Rattle.std.proofs.Common.{◌≡◌, ℕ, ◌+◌, ◌-◌, ◌*◌, ◌^◌, ◌<◌, ◌≤◌, refl, sym, subst, ap, ◌∙◌, arith}
+use Rattle.std.proofs.Common.{Result, Ok, Err, OnOk, ◌⊎◌, inl, inr}
+use Rattle.std.specs.Result.{IsErrAnd}
+use Rattle.std.proofs.lemmas.Bool.{cases_lt}
+use Rattle.std.proofs.lemmas.Nat.{pow_pos}
+use Rattle.std.proofs.lemmas.Grind.{pow_more}
+use Rattle.std.proofs.Math.Nat.{mul-le-mul_left}
+use Rattle.dw_board.specs.Geometry.{Geometry}
+use Rattle.dw_board.specs.Placement.{Placement}
+use Rattle.dw_memo.specs.Content.{Content, SameEntries}
+use Rattle.dw_solve.specs.Facts.{IsDecided}
+use Rattle.dw_solve.specs.declared.stop.Stop.{Stop}
+use Rattle.dw_solve.specs.Laws.{SearchesAddUp}
+use Rattle.dw_solve.specs.Questions.{moment_of, Idle, LostNothing}
+use Rattle.dw_solve.specs.Certificates.{SaysLeast}
+use Rattle.dw_solve.specs.Searching.{IsCounted}
+use Rattle.dw_solve.specs.Solving.{Solving}
+use Rattle.dw_solve.specs.Work.{Moment, Searched, LossIsCounted}
+use Rattle.dw_study.specs.declared.finding.Finding as findings
+use Rattle.dw_study.specs.Telling.{cut_short}
+use Rattle.dw_study.specs.Slices.{SearchedInSlices}
+use Rattle.dw_study.specs.inner.Looking.{GoesOn}
+
+pub searched_looser : (g : Geometry) (n cut more : ℕ) (a c : Moment) → cut ≤ more → Searched g n cut a c
+    → Searched g n more a c
+searched_looser g n cut more a c less s = record {
+  few = s.few;
+  counted = s.counted;
+  worked = λ kept. let w = s.worked kept in record {
+    stronger = w.stronger;
+    closed = w.closed;
+    growth = λ i h. let r = w.growth i h in omega (arith, r, less);
+  };
+}
+
+doubled : (a b : ℕ) → a * (b * 2) ≡ a * b + a * b
+doubled a b = grind arith
+
+-- twice as much
+twice : (first k : ℕ) → first * 2 ^ (k + 1) ≡ first * 2 ^ k + first * 2 ^ k
+twice first k = ap (λ z. first * z) (pow_more 2 k) ∙ doubled first (2 ^ k)
+
+once_at_least : (first k : ℕ) → first ≤ first * 2 ^ k
+once_at_least first k = grind (arith, pow_pos, mul-le-mul_left)
+
+-- a slice larger than all before it together, which began at `start`, has doubled what was expanded
+doubled_more : (first k start b c : ℕ) → start + first * 2 ^ k ≤ b + first → b + (b - start) + first ≤ c
+    → start + first * 2 ^ (k + 1) ≤ c + first
+doubled_more first k start b c before large =
+    let more = twice first k in let some = once_at_least first k in omega (arith, before, large, more, some)
+
+-- one slice has come to its end
+more_ended : (e n : ℕ) → e * n + 0 + n ≡ (e + 1) * n + 0
+more_ended e n = grind arith
+
+no_cut : (n : ℕ) → 0 ≡ 0 * n + 0
+no_cut n = omega arith
+
+nothing_cut : (e n cut : ℕ) → e * n + 0 + cut ≡ e * n + cut
+nothing_cut e n cut = grind arith
+
+-- searches one after another, of which the first was cut off nowhere
+searched_then : SearchesAddUp → (g : Geometry) (n k e cut : ℕ) (a b c : Moment) → n ≤ k → Searched g k (e * k + 0) a b
+    → Searched g n cut b c → Searched g k (e * k + cut) a c
+searched_then law g n k e cut a b c wide s t =
+    subst (λ z. Searched g k z a c) (nothing_cut e k cut)
+    (law.next g k (e * k + 0) cut a b c s (law.wider g n k cut b c wide t))
+
+module _ {M : Type 0} (g : Geometry) (content : M → Content) (lost : M → ℕ) where
+  -- no search
+  pub goes_on_none : (n first start : ℕ) (s : Solving M) → GoesOn g content lost n first start 0 s s
+  goes_on_none n first start s began most wide same h = h
+
+  -- one more slice has come to its end
+  pub goes_on_more : SearchesAddUp → (n first start : ℕ) (a b c : Solving M)
+      → GoesOn g content lost n first start 0 a b
+      → b.expanded + (b.expanded - start) + first ≤ c.expanded
+      → Searched g n n (moment_of content lost b) (moment_of content lost c)
+      → GoesOn g content lost n first start 0 a c
+  goes_on_more law n first start a b c before large here began most wide same h =
+      let s = before began most wide same h in record {
+        ended = s.ended + 1;
+        doubled = subst (λ z. z + first * 2 ^ (s.ended + 1) ≤ c.expanded + first) (sym same)
+            (doubled_more first s.ended start b.expanded c.expanded
+            (subst (λ z. z + first * 2 ^ s.ended ≤ b.expanded + first) same s.doubled) large);
+        searched = subst (λ z. Searched g most z began (moment_of content lost c)) (more_ended s.ended most)
+            (law.next g most (s.ended * most + 0) most began (moment_of content lost b) (moment_of content lost c)
+            s.searched (law.wider g n most most (moment_of content lost b) (moment_of content lost c) wide
+            (searched_looser g n n most (moment_of content lost b) (moment_of content lost c) wide here)));
+      }
+
+  -- the last slice
+  pub goes_on_last : SearchesAddUp → (n first start cut : ℕ) (a b c : Solving M)
+      → GoesOn g content lost n first start 0 a b → b.expanded ≤ c.expanded
+      → Searched g n cut (moment_of content lost b) (moment_of content lost c)
+      → GoesOn g content lost n first start cut a c
+  goes_on_last law n first start cut a b c before rises here began most wide same h =
+      let s = before began most wide same h in record {
+        ended = s.ended;
+        doubled = let d = s.doubled in omega (arith, d, rises);
+        searched = searched_then law g n most s.ended cut began (moment_of content lost b) (moment_of content lost c)
+            wide s.searched here;
+      }
+
+  -- a search within some more moves, which takes the slices as they now are
+  pub goes_on_then : (n k first start first' start' cut : ℕ) (a b c : Solving M) → n ≤ k → first' ≡ first
+      → start' ≡ start → GoesOn g content lost k first start 0 a b → GoesOn g content lost n first' start' cut b c
+      → GoesOn g content lost k first start cut a c
+  goes_on_then n k first start first' start' cut a b c less same_first same_start before here began most wide same h =
+      let within : n ≤ most = omega (arith, less, wide) in
+      subst (λ z. GoesOn g content lost n z start cut b c) same_first
+      (subst (λ z. GoesOn g content lost n first' z cut b c) same_start here)
+      began most within same (before began most wide same h)
+
+  -- more may be cut off
+  pub goes_on_looser : (n first start cut more : ℕ) (a b : Solving M) → cut ≤ more
+      → GoesOn g content lost n first start cut a b → GoesOn g content lost n first start more a b
+  goes_on_looser n first start cut more a b less here began most wide same h =
+      let s = here began most wide same h in record {
+        ended = s.ended;
+        doubled = s.doubled;
+        searched = searched_looser g most (s.ended * most + cut) (s.ended * most + more) began
+            (moment_of content lost b) (omega (arith, less)) s.searched;
+      }
+
+  -- a search whose slices began here
+  pub begun_here : SearchesAddUp → (n first first' start' cut : ℕ) (a b : Solving M) → first' ≡ first
+      → start' ≡ a.expanded → GoesOn g content lost n first' start' cut a b
+      → SearchedInSlices g n first cut (moment_of content lost a) (moment_of content lost b)
+  begun_here law n first first' start' cut a b same_first same_start here =
+      subst (λ z. GoesOn g content lost n z start' cut a b) same_first here
+      (moment_of content lost a) n (omega arith) (sym same_start) record {
+        ended = 0;
+        doubled = omega arith;
+        searched = subst (λ z. Searched g n z (moment_of content lost a) (moment_of content lost a)) (no_cut n)
+            (law.none g n (moment_of content lost a));
+      }
+
+-- after a stop as much is cut off as a stop cuts off
+pub stop_cuts : {B : Type 0} (r : Result (findings.Finding B) Stop) (e : Stop) (n : ℕ) → IsErrAnd r (λ d. d ≡ e)
+    → n ≡ cut_short r n
+stop_cuts (Ok x) e n is = absurd is
+stop_cuts (Err d) e n is = refl
+
+-- a solver whose limit was changed
+pub same_memo : {M : Type 0} (a b : Solving M) (limit : ℕ) → b ≡ record a { limit = limit } → b.memo ≡ a.memo
+same_memo a b limit e = ap (λ z. z.memo) e
+
+pub same_count : {M : Type 0} (a b : Solving M) (limit : ℕ) → b ≡ record a { limit = limit }
+    → b.expanded ≡ a.expanded
+same_count a b limit e = ap (λ z. z.expanded) e
+
+pub counted_then : (a l b m c o : ℕ) → IsCounted a l b m → IsCounted b m c o → IsCounted a l c o
+counted_then a l b m c o h k = record {
+  rises = omega (arith, h.rises, k.rises);
+  within = subst (λ z. c ≤ z) h.same k.within;
+  same = k.same ∙ h.same;
+}
+
+-- what is decided is so in a memo with the same entries
+decided_same : (c d : Content) (p : Placement) (n : ℕ) → SameEntries c d → IsDecided c p n → IsDecided d p n
+decided_same c d p n same (inl w) = inl record {
+  entry = w.entry;
+  held = (same w.entry).0 w.held;
+  about = w.about;
+  bound = w.bound;
+  is = w.is;
+  enough = w.enough;
+}
+decided_same c d p n same (inr f) = inr record {
+  entry = f.entry;
+  held = (same f.entry).0 f.held;
+  about = f.about;
+  bound = f.bound;
+  is = f.is;
+  enough = f.enough;
+}
+
+module _ {M : Type 0} (content : M → Content) (p : Placement) (n : ℕ) where
+  pub idle_none : (s : Solving M) → Idle content s s
+  idle_none s = (refl, λ e. ((λ m. m), (λ m. m)))
+
+  pub idle_then : (a b c : Solving M) → Idle content a b → Idle content b c → Idle content a c
+  idle_then a b c u v =
+      (v.0 ∙ u.0, λ e. ((λ m. (v.1 e).0 ((u.1 e).0 m)), (λ m. (u.1 e).1 ((v.1 e).1 m))))
+
+  -- what was decided still is while nothing happens
+  pub still_decided : (a b : Solving M) → Idle content a b → (n ≡ 0) ⊎ IsDecided (content a.memo) p n
+      → (n ≡ 0) ⊎ IsDecided (content b.memo) p n
+  still_decided a b idle (inl none) = inl none
+  still_decided a b idle (inr d) = inr (decided_same (content a.memo) (content b.memo) p n idle.1 d)
+
+  -- nothing happens as far as the memo says of each number of moves whether there is a win within it
+  pub idle_on : {X : Type 0} (j : ℕ) (a b c : Solving M) → SaysLeast (content a.memo) p j → 1 ≤ n → n ≤ j
+      → Idle content a b → ((n ≡ 0) ⊎ IsDecided (content b.memo) p n → X × Idle content b c) → X × Idle content a c
+  idle_on j a b c says some few idle known =
+      let here = known (still_decided a b idle (inr (says n some few))) in (here.0, idle_then a b c idle here.1)
+
+  -- a search that was not decided at its beginning has expanded some position
+  pub spent_later : {A : Type 0} (a b c : Solving M) (r : Result A Stop) → (b ≡ a) ⊎ (a.expanded < b.expanded)
+      → b.expanded ≤ c.expanded
+      → OnOk r (1 ≤ n → (IsDecided (content b.memo) p n → ⊥) → b.expanded < c.expanded)
+      → OnOk r (1 ≤ n → (IsDecided (content a.memo) p n → ⊥) → a.expanded < c.expanded)
+  spent_later a b c (Ok x) (inl same) rises here = λ some unknown.
+      subst (λ z. z.expanded < c.expanded) same
+      (here some (subst (λ z. IsDecided (content z.memo) p n → ⊥) (sym same) unknown))
+  spent_later a b c (Ok x) (inr less) rises here = λ some unknown. omega (arith, less, rises)
+  spent_later a b c (Err e) before rises here = here
+
+  -- the same with a limit that is changed before and after
+  pub idle_between : {X : Type 0} (a b c d : Solving M) → b.memo ≡ a.memo → b.expanded ≡ a.expanded
+      → d.memo ≡ c.memo → d.expanded ≡ c.expanded
+      → ((n ≡ 0) ⊎ IsDecided (content b.memo) p n → X × Idle content b c)
+      → (n ≡ 0) ⊎ IsDecided (content a.memo) p n → X × Idle content a d
+  idle_between a b c d held count held' count' here decided =
+      let h = here (subst (λ z. (n ≡ 0) ⊎ IsDecided (content z) p n) (sym held) decided) in (
+        h.0,
+        (
+          count' ∙ h.1.0 ∙ count,
+          subst (λ z. SameEntries (content a.memo) (content z)) (sym held')
+              (subst (λ z. SameEntries (content z) (content c.memo)) held h.1.1),
+        ),
+      )
+
+  pub spent_between : {A : Type 0} (a b c d : Solving M) (r : Result A Stop) → b.memo ≡ a.memo
+      → b.expanded ≡ a.expanded → d.expanded ≡ c.expanded
+      → OnOk r (1 ≤ n → (IsDecided (content b.memo) p n → ⊥) → b.expanded < c.expanded)
+      → OnOk r (1 ≤ n → (IsDecided (content a.memo) p n → ⊥) → a.expanded < d.expanded)
+  spent_between a b c d (Ok x) held count count' here = λ some unknown.
+      let h = here some (subst (λ z. IsDecided (content z) p n → ⊥) (sym held) unknown) in
+      omega (arith, h, count, count')
+  spent_between a b c d (Err e) held count count' here = here
+
+pub loss_then : (a b c : ℕ) → LossIsCounted a b → LossIsCounted b c → LossIsCounted a c
+loss_then a b c h k = record {
+  rises = λ l. let f = h.rises l in let s = k.rises (h.within l) in omega (arith, f, s);
+  within = λ l. k.within (h.within l);
+}
+
+pub loss_none : (l : ℕ) → LossIsCounted l l
+loss_none l = record { rises = λ h. omega arith; within = λ h. h }
+
+-- if nothing was lost in all, nothing was lost in the last slice
+pub lost_nothing_later : {M : Type 0} (content : M → Content) (lost : M → ℕ) → SearchesAddUp → (a b c : Solving M)
+    → LossIsCounted (lost a.memo) (lost b.memo) → LossIsCounted (lost b.memo) (lost c.memo)
+    → LostNothing content lost a c → LostNothing content lost b c
+lost_nothing_later content lost law a b c h k kept = (law.parts (moment_of content lost a) (moment_of content lost b)
+    (moment_of content lost c) h k kept).1
+
+-- the memo says nothing of the number at which a search was stopped, and so of no higher one
+pub known_below : (m j : ℕ) → 1 ≤ m → (m ≤ j → ⊥) → j ≤ m - 1
+known_below m j some not = elim (cases_lt j m) [ inl below ↦ omega (arith, below) | inr above ↦ absurd (not above) ]

@@ -1,0 +1,49 @@
+use Rattle.std.proofs.Common.{◌≤◌, ◌∙◌, sym, arith, below_more}
+use Rattle.std.proofs.lemmas.Bool.{true≢false}
+use Rattle.dw_study.proofs.SliceLemmas.{goes_on_then, goes_on_looser, counted_then, idle_on, known_below}
+use Rattle.dw_study.proofs.looking.number.Goals as goal
+
+pub moves-preserved : goal.moves-preserved
+moves-preserved g c =
+    let now = c.moves.invariant in
+    let here = c.in-Ok-false.ensures in
+    record {
+      none = below_more _ _ now.none (λ win. true≢false (sym (here.answer.1 win) ∙ c.in-Ok-false.field-0-test));
+      idle = λ j says within. (idle_on g.M.Memo.content c.args.position.now c.moves.moves j c.args.solver.now
+          c.moves.solver c.wins_on.new.solver says c.moves.auto.moves (omega (arith, within))
+          (now.idle j says (omega (arith, within))) here.known).1;
+      count = counted_then _ _ _ _ _ _ now.count here.count;
+      on = goes_on_then g.B.Board.geometry g.M.Memo.content g.M.Memo.dropped c.moves.moves c.args.most
+          c.args.slices.now.first c.args.slices.now.start c.moves.slices.first c.moves.slices.start 0 c.args.solver.now
+          c.moves.solver c.wins_on.new.solver (omega (arith, c.moves-test.true)) now.first now.start now.on here.on;
+      first = here.first ∙ now.first;
+      start = here.start ∙ now.start;
+    }
+
+pub returns-in-Ok-true-clause-on : goal.returns-in-Ok-true-clause-on
+returns-in-Ok-true-clause-on g c =
+    let now = c.moves.invariant in
+    goes_on_then g.B.Board.geometry g.M.Memo.content g.M.Memo.dropped c.moves.moves c.args.most
+    c.args.slices.now.first c.args.slices.now.start c.moves.slices.first c.moves.slices.start 0 c.args.solver.now
+    c.moves.solver c.wins_on.new.solver (omega (arith, c.moves-test.true)) now.first now.start now.on
+    c.in-Ok-true.ensures.on
+
+pub returns-in-Err-clause-on : goal.returns-in-Err-clause-on
+returns-in-Err-clause-on g c =
+    let geo = g.B.Board.geometry in
+    let content = g.M.Memo.content in
+    let lost = g.M.Memo.dropped in
+    let now = c.moves.invariant in
+    let less : c.moves.moves ≤ c.args.most = omega (arith, c.moves-test.true) in
+    goes_on_looser geo content lost c.args.most c.args.slices.now.first c.args.slices.now.start c.moves.moves
+    c.args.most c.args.solver.now c.wins_on.new.solver less
+    (goes_on_then geo content lost c.moves.moves c.args.most c.args.slices.now.first c.args.slices.now.start
+    c.moves.slices.first c.moves.slices.start c.moves.moves c.args.solver.now c.moves.solver c.wins_on.new.solver less
+    now.first now.start now.on c.in-Err.ensures.on)
+
+pub returns-in-Err-clause-known : goal.returns-in-Err-clause-known
+returns-in-Err-clause-known g c j says =
+    known_below c.moves.moves j c.moves.auto.moves
+    (λ within. true≢false (sym (idle_on g.M.Memo.content c.args.position.now c.moves.moves j c.args.solver.now
+    c.moves.solver c.wins_on.new.solver says c.moves.auto.moves within
+    (c.moves.invariant.idle j says (omega (arith, within))) c.in-Err.ensures.known).0))

@@ -1,0 +1,19 @@
+use Rattle.std.proofs.Common.{◌≡◌, ℕ, ◌+◌, ◌<◌, ◌≤◌}
+use Rattle.dw_solve.specs.Certificates.{SaysLeast}
+use Rattle.dw_solve.specs.Questions.{Idle}
+use Rattle.dw_solve.specs.Searching.{IsCounted}
+use Rattle.dw_solve.specs.Wins.{Win}
+use Rattle.dw_study.specs.inner.Looking.{GoesOn}
+use Rattle.dw_study.proofs.looking.number.Given as goal
+
+abbrev pub invariant-moves : goal.invariant-moves
+invariant-moves g l = record {
+  none : (j : ℕ) → j < l.moves → Win g.B.Board.geometry l.position j → ⊥;
+  idle : (j : ℕ) → SaysLeast (g.M.Memo.content l.initial.solver.memo) l.position j → l.moves ≤ j + 1
+      → Idle g.M.Memo.content l.initial.solver l.solver;
+  count : IsCounted l.initial.solver.expanded l.initial.solver.limit l.solver.expanded l.solver.limit;
+  on : GoesOn g.B.Board.geometry g.M.Memo.content g.M.Memo.dropped l.most l.initial.slices.first
+      l.initial.slices.start 0 l.initial.solver l.solver;
+  first : l.slices.first ≡ l.initial.slices.first;
+  start : l.slices.start ≡ l.initial.slices.start;
+}

@@ -1,0 +1,5 @@
+pub mod Finding
+pub mod Telling
+pub mod Slices
+pub mod Laws
+pub mod inner

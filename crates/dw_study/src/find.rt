@@ -1,0 +1,69 @@
+//! The least number of moves within which a position is won, and the verdict at it.
+ghost use Rattle.std.specs.Prelude.{◌≡◌, ℕ, ◌≤◌, ◌+◌, IfOk, IsErrOf};
+ghost use Rattle.dw_memo.specs.Content.{IsMap};
+ghost use Rattle.dw_solve.specs.Certificates.{SaysLeast};
+ghost use Rattle.dw_solve.specs.declared.stop.Stop.TheVariants.{Limit};
+ghost use Rattle.dw_solve.specs.Facts.{AreTrue};
+ghost use Rattle.dw_solve.specs.Searching.{IsCounted};
+ghost use Rattle.dw_solve.specs.Work.{moment};
+ghost use Rattle.dw_study.specs.Finding.{IsFinding};
+ghost use Rattle.dw_study.specs.Slices.{SearchedInSlices};
+ghost use Rattle.dw_study.specs.Telling.{told_by, cut_short};
+ghost use Rattle.dw_study.specs.declared.finding.Finding.TheVariants.{Undecided};
+
+use crate::finding::{FindBounds, Finding};
+use crate::judging::judge_on;
+use crate::looking::number_within;
+use crate::slices::{Slices, Watcher};
+use dw_board::{Board, Position};
+use dw_memo::Memo;
+use dw_solve::{Guide, Solver, Stop};
+use std::alloc::Global;
+
+/// The least number of moves within which the side to move wins, with the verdict and the tries at it; or those at the
+/// most moves asked for, if there is no win within them. It is undecided if as many positions were expanded as the
+/// bounds allow before the number was known, also if the solver's limit is met with the last of them. What the verdict
+/// and the tries then take has no limit but the solver's own, which stays what it is. After a stop all bounds in the
+/// memo are right, and the call can be made again. The slices begin anew; no answer depends on them.
+/// Example: at `W:W27,45:B16`, within 20 moves, it is 2 moves and sound by `45-40`.
+pub fn find<B: Board, M: Memo<B>, G: Guide<B>, W: Watcher>(
+    alloc: Global,
+    solver: &mut Solver<B, M, G>,
+    position: &Position<B>,
+    bounds: FindBounds,
+    slices: &mut Slices<W>,
+) -> Result<Finding<B>, Stop>
+    requires some { 1 ≤ bounds.most }
+    requires few { bounds.most ≤ 20 }
+    requires room { 1 ≤ bounds.each }
+    ensures finding { IfOk result (λ finding. IsFinding B.geometry position.now bounds.most (told_by finding)) }
+    ensures undecided { (k : ℕ) → result ≡ Ok (Undecided k)
+        → solver.new.expanded ≡ solver.old.expanded + bounds.each }
+    ensures known { (j k : ℕ) → SaysLeast (M.content solver.old.memo) position.now j → result ≡ Ok (Undecided k)
+        → j ≤ k }
+    ensures count { IsCounted solver.old.expanded solver.old.limit solver.new.expanded solver.new.limit }
+    ensures stop { IsErrOf result Limit → solver.new.expanded ≡ solver.new.limit }
+    ensures searched { SearchedInSlices B.geometry bounds.most slices.old.first (cut_short result bounds.most)
+        (moment M.content M.dropped solver.old.memo solver.old.expanded)
+        (moment M.content M.dropped solver.new.memo solver.new.expanded) }
+    ensures right { AreTrue B.geometry (M.content solver.new.memo) }
+    ensures map { IsMap (M.content solver.new.memo) }
+    ensures first { slices.new.first ≡ slices.old.first }
+    ensures begun { slices.new.start ≡ solver.old.expanded }
+{
+    dw_solve::laws::searches_add_up();
+    let start = solver.expanded();
+    slices.begin(start);
+    match number_within(alloc, solver, position, bounds, slices) {
+        Ok(moves) => {
+            let judged = judge_on(alloc, solver, position, moves, slices)?;
+            Ok(Finding::Judged { moves, judged })
+        }
+        Err(cut) if cut.stop == Stop::Limit && solver.expanded() - start == bounds.each => {
+            Ok(Finding::Undecided {
+                no_win_in: cut.no_win_in,
+            })
+        }
+        Err(cut) => Err(cut.stop),
+    }
+}

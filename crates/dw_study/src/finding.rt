@@ -1,0 +1,32 @@
+//! What is found of a position.
+use dw_board::Board;
+use dw_report::Judged;
+
+/// How far is looked for a win.
+/// Example: `FindBounds { most: 20, each: 1_000_000 }` looks for one within 20 moves, until 1,000,000 positions were
+/// expanded.
+#[derive(Clone, Copy, Debug, PartialEq, Eq)]
+pub struct FindBounds {
+    /// The most moves, 1 to 20.
+    pub most: u8,
+    /// How many positions may be expanded until the number of moves is known, at least 1.
+    pub each: u64,
+}
+
+/// What is found of a position.
+/// See [`find`] for an example.
+#[derive(Drop)]
+pub enum Finding<B: Board> {
+    /// The number of moves is known, and the position is judged at it.
+    Judged {
+        /// The least number of moves within which there is a win, or the most that were asked for if there is none.
+        moves: u8,
+        /// The verdict and the tries at this number.
+        judged: Judged<B>,
+    },
+    /// So many positions were expanded as was allowed, before the number was known.
+    Undecided {
+        /// The greatest number of moves of which it was found out that there is no win within it; at least 0.
+        no_win_in: u8,
+    },
+}

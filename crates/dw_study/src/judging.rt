@@ -1,0 +1,108 @@
+//! Verdicts and tries, searched for in slices.
+ghost use Rattle.std.specs.Prelude.{◌≡◌, ◌≤◌, ◌<◌, IfOk, IsErrOf, min};
+ghost use Rattle.dw_memo.specs.Content.{IsMap};
+ghost use Rattle.dw_solve.specs.declared.stop.Stop.TheVariants.{Limit};
+ghost use Rattle.dw_solve.specs.Facts.{AreTrue};
+ghost use Rattle.dw_solve.specs.Searching.{IsCounted};
+ghost use Rattle.dw_solve.specs.Work.{moment, Searched, cut_off};
+ghost use Rattle.dw_report.specs.Verdict.{IsVerdict, Tries};
+ghost use Rattle.dw_report.specs.Judging.{said_by};
+ghost use Rattle.dw_study.specs.Slices.{SearchedInSlices};
+ghost use Rattle.dw_study.specs.inner.Looking.{GoesOn};
+
+use crate::limits::{lower, raise};
+use crate::slices::{Slices, Watcher};
+use dw_board::{Board, Position};
+use dw_memo::Memo;
+use dw_report::Judged;
+use dw_report::judge::judge;
+use dw_solve::{Guide, Solver, Stop};
+use std::alloc::Global;
+
+/// What `judge` answers, with searches that are cut into slices, which begin anew. After a stop all bounds in the memo
+/// are right, and the call can be made again.
+/// Example: at `W:W27,45:B16`, within 2 moves, it is sound by `45-40`, whatever the slices are.
+pub fn judge_in_slices<B: Board, M: Memo<B>, G: Guide<B>, W: Watcher>(
+    alloc: Global,
+    solver: &mut Solver<B, M, G>,
+    position: &Position<B>,
+    moves: u8,
+    slices: &mut Slices<W>,
+) -> Result<Judged<B>, Stop>
+    requires some { 1 ≤ moves }
+    requires few { moves ≤ 20 }
+    ensures verdict { IfOk result (λ judged. IsVerdict B.geometry position.now moves (said_by judged.verdict)) }
+    ensures tries { IfOk result (λ judged. Tries B.geometry position.now moves judged.tries.items) }
+    ensures count { IsCounted solver.old.expanded solver.old.limit solver.new.expanded solver.new.limit }
+    ensures stop { IsErrOf result Limit → solver.new.expanded ≡ solver.new.limit }
+    ensures searched { SearchedInSlices B.geometry moves slices.old.first (cut_off result moves)
+        (moment M.content M.dropped solver.old.memo solver.old.expanded)
+        (moment M.content M.dropped solver.new.memo solver.new.expanded) }
+    ensures right { AreTrue B.geometry (M.content solver.new.memo) }
+    ensures map { IsMap (M.content solver.new.memo) }
+    ensures first { slices.new.first ≡ slices.old.first }
+    ensures begun { slices.new.start ≡ solver.old.expanded }
+{
+    dw_solve::laws::searches_add_up();
+    slices.begin(solver.expanded());
+    judge_on(alloc, solver, position, moves, slices)
+}
+
+/// What `judge_in_slices` answers, in slices that began before.
+pub(crate) fn judge_on<B: Board, M: Memo<B>, G: Guide<B>, W: Watcher>(
+    alloc: Global,
+    solver: &mut Solver<B, M, G>,
+    position: &Position<B>,
+    moves: u8,
+    slices: &mut Slices<W>,
+) -> Result<Judged<B>, Stop>
+    requires some { 1 ≤ moves }
+    requires few { moves ≤ 20 }
+    ensures verdict { IfOk result (λ judged. IsVerdict B.geometry position.now moves (said_by judged.verdict)) }
+    ensures tries { IfOk result (λ judged. Tries B.geometry position.now moves judged.tries.items) }
+    ensures count { IsCounted solver.old.expanded solver.old.limit solver.new.expanded solver.new.limit }
+    ensures stop { IsErrOf result Limit → solver.new.expanded ≡ solver.new.limit }
+    ensures on { GoesOn B.geometry M.content M.dropped moves slices.old.first slices.old.start (cut_off result moves)
+        solver.old solver.new }
+    ensures right { AreTrue B.geometry (M.content solver.new.memo) }
+    ensures map { IsMap (M.content solver.new.memo) }
+    ensures first { slices.new.first ≡ slices.old.first }
+    ensures start { slices.new.start ≡ slices.old.start }
+{
+    dw_solve::laws::searches_add_up();
+    solver.keeps_its_limit();
+    'slices: loop {
+        let until = slices.next_limit(solver.expanded(), solver.limit());
+        match judge_until(alloc, solver, position, moves, until) {
+            Err(Stop::Limit) if until < solver.limit() => slices.tell(moves, solver.expanded()),
+            answer => return answer,
+        }
+    }
+}
+
+/// What `judge` answers, under a limit that may be lower.
+fn judge_until<B: Board, M: Memo<B>, G: Guide<B>>(
+    alloc: Global,
+    solver: &mut Solver<B, M, G>,
+    position: &Position<B>,
+    moves: u8,
+    until: u64,
+) -> Result<Judged<B>, Stop>
+    requires few { (1 ≤ moves) × (moves ≤ 20) }
+    requires enough { solver.old.expanded ≤ until }
+    requires some { until < solver.old.limit → 1 ≤ until }
+    ensures verdict { IfOk result (λ judged. IsVerdict B.geometry position.now moves (said_by judged.verdict)) }
+    ensures tries { IfOk result (λ judged. Tries B.geometry position.now moves judged.tries.items) }
+    ensures count { IsCounted solver.old.expanded solver.old.limit solver.new.expanded solver.new.limit }
+    ensures stop { IsErrOf result Limit → solver.new.expanded ≡ min solver.old.limit until }
+    ensures searched { Searched B.geometry moves (cut_off result moves)
+        (moment M.content M.dropped solver.old.memo solver.old.expanded)
+        (moment M.content M.dropped solver.new.memo solver.new.expanded) }
+    ensures right { AreTrue B.geometry (M.content solver.new.memo) }
+    ensures map { IsMap (M.content solver.new.memo) }
+{
+    let limit = lower(solver, until);
+    let judged = judge(alloc, solver, position, moves);
+    raise(solver, limit);
+    judged
+}

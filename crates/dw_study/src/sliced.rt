@@ -1,0 +1,123 @@
+//! Searches in slices.
+ghost use Rattle.std.specs.Prelude.{◌≡◌, ◌≤◌, ◌<◌, ◌⊎◌, ◌↔◌, IfOk, OnOk, IsOk, IsErrOf, IsTrue, min};
+ghost use Rattle.dw_memo.specs.Content.{IsMap};
+ghost use Rattle.dw_solve.specs.declared.stop.Stop.TheVariants.{Limit};
+ghost use Rattle.dw_solve.specs.Certificates.{SaysWin};
+ghost use Rattle.dw_solve.specs.Facts.{AreTrue, IsDecided};
+ghost use Rattle.dw_solve.specs.Questions.{Idle, LostNothing};
+ghost use Rattle.dw_solve.specs.Searching.{IsCounted};
+ghost use Rattle.dw_solve.specs.Wins.{Win};
+ghost use Rattle.dw_solve.specs.Work.{moment, Searched, cut_off};
+ghost use Rattle.dw_study.specs.Slices.{SearchedInSlices};
+ghost use Rattle.dw_study.specs.inner.Looking.{GoesOn};
+
+use crate::limits::{lower, raise};
+use crate::slices::{Slices, Watcher};
+use dw_board::{Board, Position};
+use dw_memo::Memo;
+use dw_solve::{Guide, Solver, Stop};
+use std::alloc::Global;
+
+/// What `Solver::wins` answers, with a search that is cut into slices, which begin anew. After a stop all bounds in the
+/// memo are right, and it can be asked again.
+/// Example: at `W:W27,45:B16` it is `Ok(false)` within 1 move, and `Ok(true)` within 2, whatever the slices are.
+pub fn wins_in_slices<B: Board, M: Memo<B>, G: Guide<B>, W: Watcher>(
+    alloc: Global,
+    solver: &mut Solver<B, M, G>,
+    position: &Position<B>,
+    moves: u8,
+    slices: &mut Slices<W>,
+) -> Result<bool, Stop>
+    requires { moves ≤ 20 }
+    ensures answer { IfOk result (λ yes. IsTrue yes ↔ Win B.geometry position.now moves) }
+    ensures right { AreTrue B.geometry (M.content solver.new.memo) }
+    ensures map { IsMap (M.content solver.new.memo) }
+    ensures count { IsCounted solver.old.expanded solver.old.limit solver.new.expanded solver.new.limit }
+    ensures stop { IsErrOf result Limit → solver.new.expanded ≡ solver.new.limit }
+    ensures searched { SearchedInSlices B.geometry moves slices.old.first (cut_off result moves)
+        (moment M.content M.dropped solver.old.memo solver.old.expanded)
+        (moment M.content M.dropped solver.new.memo solver.new.expanded) }
+    ensures known { (moves ≡ 0) ⊎ IsDecided (M.content solver.old.memo) position.now moves
+        → IsOk result × Idle M.content solver.old solver.new }
+    ensures spent { OnOk result (1 ≤ moves →
+        (IsDecided (M.content solver.old.memo) position.now moves → ⊥)
+        → solver.old.expanded < solver.new.expanded) }
+    ensures says { LostNothing M.content M.dropped solver.old solver.new
+        → IfOk result (SaysWin (M.content solver.new.memo) position.now moves) }
+    ensures first { slices.new.first ≡ slices.old.first }
+    ensures begun { slices.new.start ≡ solver.old.expanded }
+{
+    dw_solve::laws::searches_add_up();
+    slices.begin(solver.expanded());
+    wins_on(alloc, solver, position, moves, slices)
+}
+
+/// What `wins_in_slices` answers, in slices that began before.
+pub(crate) fn wins_on<B: Board, M: Memo<B>, G: Guide<B>, W: Watcher>(
+    alloc: Global,
+    solver: &mut Solver<B, M, G>,
+    position: &Position<B>,
+    moves: u8,
+    slices: &mut Slices<W>,
+) -> Result<bool, Stop>
+    requires { moves ≤ 20 }
+    ensures answer { IfOk result (λ yes. IsTrue yes ↔ Win B.geometry position.now moves) }
+    ensures right { AreTrue B.geometry (M.content solver.new.memo) }
+    ensures map { IsMap (M.content solver.new.memo) }
+    ensures count { IsCounted solver.old.expanded solver.old.limit solver.new.expanded solver.new.limit }
+    ensures stop { IsErrOf result Limit → solver.new.expanded ≡ solver.new.limit }
+    ensures on { GoesOn B.geometry M.content M.dropped moves slices.old.first slices.old.start (cut_off result moves)
+        solver.old solver.new }
+    ensures known { (moves ≡ 0) ⊎ IsDecided (M.content solver.old.memo) position.now moves
+        → IsOk result × Idle M.content solver.old solver.new }
+    ensures spent { OnOk result (1 ≤ moves →
+        (IsDecided (M.content solver.old.memo) position.now moves → ⊥)
+        → solver.old.expanded < solver.new.expanded) }
+    ensures says { LostNothing M.content M.dropped solver.old solver.new
+        → IfOk result (SaysWin (M.content solver.new.memo) position.now moves) }
+    ensures first { slices.new.first ≡ slices.old.first }
+    ensures start { slices.new.start ≡ slices.old.start }
+{
+    dw_solve::laws::searches_add_up();
+    solver.keeps_its_limit();
+    'slices: loop {
+        let until = slices.next_limit(solver.expanded(), solver.limit());
+        match wins_until(alloc, solver, position, moves, until) {
+            Err(Stop::Limit) if until < solver.limit() => slices.tell(moves, solver.expanded()),
+            answer => return answer,
+        }
+    }
+}
+
+/// What `Solver::wins` answers, under a limit that may be lower.
+fn wins_until<B: Board, M: Memo<B>, G: Guide<B>>(
+    alloc: Global,
+    solver: &mut Solver<B, M, G>,
+    position: &Position<B>,
+    moves: u8,
+    until: u64,
+) -> Result<bool, Stop>
+    requires few { moves ≤ 20 }
+    requires enough { solver.old.expanded ≤ until }
+    requires some { until < solver.old.limit → 1 ≤ until }
+    ensures answer { IfOk result (λ yes. IsTrue yes ↔ Win B.geometry position.now moves) }
+    ensures right { AreTrue B.geometry (M.content solver.new.memo) }
+    ensures map { IsMap (M.content solver.new.memo) }
+    ensures count { IsCounted solver.old.expanded solver.old.limit solver.new.expanded solver.new.limit }
+    ensures stop { IsErrOf result Limit → solver.new.expanded ≡ min solver.old.limit until }
+    ensures searched { Searched B.geometry moves (cut_off result moves)
+        (moment M.content M.dropped solver.old.memo solver.old.expanded)
+        (moment M.content M.dropped solver.new.memo solver.new.expanded) }
+    ensures known { (moves ≡ 0) ⊎ IsDecided (M.content solver.old.memo) position.now moves
+        → IsOk result × Idle M.content solver.old solver.new }
+    ensures spent { OnOk result (1 ≤ moves →
+        (IsDecided (M.content solver.old.memo) position.now moves → ⊥)
+        → solver.old.expanded < solver.new.expanded) }
+    ensures says { LostNothing M.content M.dropped solver.old solver.new
+        → IfOk result (SaysWin (M.content solver.new.memo) position.now moves) }
+{
+    let limit = lower(solver, until);
+    let answer = solver.wins(alloc, position, moves);
+    raise(solver, limit);
+    answer
+}
