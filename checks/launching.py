@@ -259,7 +259,7 @@ def at_once():
         source = made.top / "crates/dw_tests_rules/src"
         (source / "lib.rt").rename(source / "main.rt")
         made.environment["DW_BUILD"] = "dw_tests_rules dw"
-        assert made.call("x")[:2] == (0, "") and len(made.asked()) == 10
+        assert made.call("x")[:2] == (0, "") and len(made.asked()) == 11
         assert (source.parent / "out/dw_tests_rules").exists() and made.program.exists()
         assert made.call() == (0, "", "")
     print("two programs named by DW_BUILD: built once, and none is run")
