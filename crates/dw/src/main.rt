@@ -1,7 +1,7 @@
 //! `dw`: problems of international draughts.
 #![tactic(auto)]
 
-ghost use Rattle.std.specs.Prelude.{◌≡◌, ◌≤◌, [], IfOk};
+ghost use Rattle.std.specs.Prelude.{◌≡◌, ◌≤◌, []};
 ghost use Rattle.dw_memo.specs.Choice.{content_of};
 
 mod outcome;
@@ -12,21 +12,21 @@ use clap::error::ErrorKind;
 use clap::{ArgMatches, Error};
 use dw_board::{Board, Eight, Ten};
 use dw_list::read_token;
-use dw_memo::{AnyMemo, DeepMemo, LruMemo, NoMemo, SlotMemo};
+use dw_memo::AnyMemo;
 use dw_moves::Move;
 use dw_notation::MAX_MOVES;
+use dw_program::{BoardSize, memo_of};
 use dw_report::run::run;
 use dw_report::streams::{Reading, Writing};
 use dw_report::{RunFault, Settings, Summary};
 use dw_solve::ByTrial;
 use outcome::{Ending, outcome};
-use std::alloc::{AllocError, Global};
 use std::fmt::Display;
 use std::fs::File;
 use std::io::Read;
 use std::process::ExitCode;
 use std::{env, io};
-use words::{BoardSize, MemoKind, Request, command, requested};
+use words::{Request, command, requested};
 
 /// What is said of arguments that are not UTF-8, in the form of what is said of others that are no command.
 const NOT_UTF8: &str = "\
@@ -99,23 +99,10 @@ fn obey_on<B: Board>(rt: &HostRuntime, request: &Request<'_>) -> ExitCode {
         Some(Ok(line)) => Some(line),
         Some(Err(fault)) => return end_with(rt, Ending::TokenRefused(fault), None),
     };
-    match memo_of(rt.alloc(), request) {
+    match memo_of(rt.alloc(), request.memo, request.cache) {
         Ok(memo) => report_with(rt, request, &settings_of(request, after), memo),
         Err(_) => end_with(rt, Ending::Memory, None),
     }
-}
-
-/// The memo that was asked for, in which nothing is noted yet, or an error if out of memory.
-fn memo_of<B: Board>(alloc: Global, request: &Request<'_>) -> Result<AnyMemo<B>, AllocError>
-    ensures { IfOk result (λ memo. content_of memo ≡ []) }
-{
-    let memo = match request.memo {
-        MemoKind::None => AnyMemo::None(NoMemo::new()),
-        MemoKind::Lru => AnyMemo::Lru(LruMemo::new(alloc, request.cache)?),
-        MemoKind::Slots => AnyMemo::Slots(SlotMemo::new(alloc, request.cache)?),
-        MemoKind::Deep => AnyMemo::Deep(DeepMemo::new(alloc, request.cache)?),
-    };
-    Ok(memo)
 }
 
 /// What is asked of the run, with the line after which lines are listed.

@@ -2,35 +2,14 @@
 ghost use Rattle.std.specs.Prelude.{◌≤◌};
 
 use clap::builder::ValueParser;
-use clap::{Arg, ArgAction, ArgMatches, Command as Words, value_parser};
+use clap::{Arg, ArgMatches, Command as Words, value_parser};
 use dw_notation::Form;
 use dw_notation::problems::MAX_PROBLEMS;
+use dw_program::options::{MOST_KEPT, MOST_MOVES, MOST_POSITIONS};
+use dw_program::options::{board, cache, file, memo, option, pdn};
+use dw_program::{BoardSize, MemoKind};
 use dw_report::Command;
 use std::alloc::{AllocError, Global};
-
-/// The boards that the program plays on.
-/// Example: `--board 8` asks for `BoardSize::Eight`.
-#[derive(Clone, Copy)]
-pub enum BoardSize {
-    /// 10 by 10, with 50 squares.
-    Ten,
-    /// 8 by 8, with 32 squares.
-    Eight,
-}
-
-/// What keeps the bounds that a search has found.
-/// Example: `--memo slots` asks for `MemoKind::Slots`.
-#[derive(Clone, Copy)]
-pub enum MemoKind {
-    /// Nothing.
-    None,
-    /// A cache of the positions used last, an `LruMemo`.
-    Lru,
-    /// A table in which each position has its one place.
-    Slots,
-    /// A table in which each position has two places, and what tells of more moves stays, a `DeepMemo`.
-    Deep,
-}
 
 /// What the arguments ask for.
 /// See [`requested`] for an example.
@@ -62,20 +41,13 @@ pub struct Request<'a> {
     ghost some_lines: { 1 ≤ lines },
 }
 
-/// The most moves within which a win is looked for.
-const MOST_MOVES: u8 = 20;
-
-/// The most positions that a run may expand, and what it may if the arguments say nothing.
-const MOST_POSITIONS: u64 = 1_000_000_000_000;
-
 /// The most lines that a run may list, and what it may if the arguments say nothing.
 const MOST_LINES: u64 = 1_000_000_000;
 
-/// The most positions that a memo may keep.
-const MOST_KEPT: usize = 4_000_000;
-
 /// How many positions a memo keeps if the arguments say nothing.
 const USUALLY_KEPT: usize = 100_000;
+
+const CACHE_HELP: &str = "Keep at most C positions, 1 to 4000000 [default: 100000]";
 
 const VERSION: &str = "0.9.0";
 
@@ -149,13 +121,6 @@ Examples:
   echo W:W27,32,38:B18 | dw list -n 2
   echo W:W27,32,38:B18 | dw list -n 2 --lines 2";
 
-const MEMO_HELP: &str = "\
-What is kept of the search:
-none, nothing: if there is no memory to spare
-lru, the positions used last: for most problems
-slots, a table with one place for each position: for many short problems
-deep, a table that holds on to what took long: for long problems, with a large C";
-
 /// The commands that the program knows.
 /// Example: `dw show a.fen` is one of them, and `dw solve` is none.
 pub fn command<'a>(alloc: Global) -> Result<Words<'a>, AllocError> {
@@ -225,7 +190,7 @@ fn reading<'a>(alloc: Global) -> Result<Vec<Arg<'a>>, AllocError> {
 
 /// The arguments of a command that searches for wins.
 fn searching<'a>(alloc: Global) -> Result<Vec<Arg<'a>>, AllocError> {
-    Ok(vec![in alloc; within(alloc), positions(alloc), memo(alloc), cache(alloc)]?)
+    Ok(vec![in alloc; within(alloc), positions(alloc), memo(alloc, "lru"), cache(alloc, CACHE_HELP)]?)
 }
 
 /// The arguments of the command that lists lines.
@@ -233,26 +198,10 @@ fn listing<'a>(alloc: Global) -> Result<Vec<Arg<'a>>, AllocError> {
     Ok(vec![in alloc; lines(alloc), after(alloc)]?)
 }
 
-fn board<'a>(alloc: Global) -> Arg<'a> {
-    let help = "The board: 10 by 10 or 8 by 8";
-    option(alloc, "board", "ROWS", ["10", "8"].as_slice().into(), help).default_value("10")
-}
-
-fn pdn<'a>(alloc: Global) -> Arg<'a> {
-    Arg::new(alloc, "pdn")
-        .long("pdn")
-        .action(ArgAction::SetTrue)
-        .help("Read a PDN file: one problem for each section of tags")
-}
-
 fn problem<'a>(alloc: Global) -> Arg<'a> {
     let numbers = value_parser!(u32).range(1..=i64::from(MAX_PROBLEMS));
     let help = "Report on the problem of this number alone, 1 to 1000000 [default: all]";
     option(alloc, "problem", "I", numbers, help)
-}
-
-fn file<'a>(alloc: Global) -> Arg<'a> {
-    Arg::new(alloc, "FILE").help("The problems [default: standard input]")
 }
 
 fn within<'a>(alloc: Global) -> Arg<'a> {
@@ -270,17 +219,6 @@ fn positions<'a>(alloc: Global) -> Arg<'a> {
     option(alloc, "positions", "L", numbers, help)
 }
 
-fn memo<'a>(alloc: Global) -> Arg<'a> {
-    let kinds = ["none", "lru", "slots", "deep"].as_slice().into();
-    option(alloc, "memo", "KIND", kinds, MEMO_HELP).default_value("lru")
-}
-
-fn cache<'a>(alloc: Global) -> Arg<'a> {
-    let numbers = value_parser!(u32).range(1..=MOST_KEPT as i64);
-    let help = "Keep at most C positions, 1 to 4000000 [default: 100000]";
-    option(alloc, "cache", "C", numbers, help)
-}
-
 fn lines<'a>(alloc: Global) -> Arg<'a> {
     let numbers = value_parser!(u64).range(1..=MOST_LINES as i64);
     let help = "List at most K lines, 1 to 1000000000 [default: 1000000000]";
@@ -290,21 +228,6 @@ fn lines<'a>(alloc: Global) -> Arg<'a> {
 fn after<'a>(alloc: Global) -> Arg<'a> {
     let help = "Begin after the line of this token, of problem 1 or that of --problem";
     option(alloc, "after", "TOKEN", ValueParser::string(), help)
-}
-
-/// An argument that is named `--name` and has a value.
-fn option<'a>(
-    alloc: Global,
-    name: &'a str,
-    value_name: &'a str,
-    values: ValueParser<'a>,
-    help: &'a str,
-) -> Arg<'a> {
-    Arg::new(alloc, name)
-        .long(name)
-        .value_name(value_name)
-        .value_parser(values)
-        .help(help)
 }
 
 /// What parsed arguments ask for.
@@ -329,7 +252,7 @@ fn read_by<'a>(words: &ArgMatches<'a>, command: Command) -> Request<'a> {
         command,
         form: form(words.get_flag("pdn")),
         only: words.get_one::<u32>("problem"),
-        board: board_size(words.get_str("board")),
+        board: BoardSize::named(words.get_str("board")),
         n: 1,
         positions: MOST_POSITIONS,
         memo: MemoKind::None,
@@ -353,7 +276,7 @@ fn searched_by<'a>(words: &ArgMatches<'a>, command: Command) -> Request<'a> {
         board: read.board,
         n: words.get_one::<u8>("n").unwrap_or(1).clamp(1, MOST_MOVES),
         positions: positions.unwrap_or(MOST_POSITIONS).max(1),
-        memo: memo_kind(words.get_str("memo")),
+        memo: MemoKind::named(words.get_str("memo")),
         cache: cache.unwrap_or(USUALLY_KEPT).clamp(1, MOST_KEPT),
         lines: read.lines,
         after: read.after,
@@ -383,20 +306,4 @@ fn listed_by<'a>(words: &ArgMatches<'a>) -> Request<'a> {
 
 fn form(is_pdn: bool) -> Form {
     if is_pdn { Form::Pdn } else { Form::Fens }
-}
-
-fn board_size(rows: Option<&str>) -> BoardSize {
-    match rows {
-        Some("8") => BoardSize::Eight,
-        _ => BoardSize::Ten,
-    }
-}
-
-fn memo_kind(kind: Option<&str>) -> MemoKind {
-    match kind {
-        Some("none") => MemoKind::None,
-        Some("slots") => MemoKind::Slots,
-        Some("deep") => MemoKind::Deep,
-        _ => MemoKind::Lru,
-    }
 }

@@ -38,7 +38,7 @@ one_of_them [] i x low is = absurd (omega (arith, low))
 one_of_them (y ∷ xs) zero x low is = inl is
 one_of_them (y ∷ xs) (suc i) x low is = inr (one_of_them xs i x (omega (arith, low)) is)
 
-move_texts_more : (g : Geometry) (p : Placement) (ms : List Move) (m : Move) (texts : List (List ℕ)) (t : List ℕ)
+pub move_texts_more : (g : Geometry) (p : Placement) (ms : List Move) (m : Move) (texts : List (List ℕ)) (t : List ℕ)
     → AreMoveTexts g p ms texts → IsMoveText g p m t → AreMoveTexts g p (ms ++ m ∷ []) (texts ++ t ∷ [])
 move_texts_more g p [] m texts t none is = (t, [], is, refl, ap (λ (z : List (List ℕ)). z ++ t ∷ []) none)
 move_texts_more g p (n ∷ ms) m texts t (one, rest, here, are, e) is =

@@ -16,6 +16,7 @@ pub mod RefutingLemmas
 pub mod TryListLemmas
 pub mod ChoiceLoopLemmas
 pub mod JoiningLemmas
+pub mod MoveTextLemmas
 pub mod VerdictTextLemmas
 pub mod TryTextLemmas
 pub mod SpendingLemmas

@@ -4,7 +4,7 @@ use Rattle.std.proofs.Common.{refl, sym, ap, ◌∙◌, subst, inl, inr, arith, 
 use Rattle.std.proofs.Common.{None, Result, Err}
 use Rattle.std.specs.Io.KnownBytes.{Appends}
 use Rattle.std.proofs.KnownBytes.{Appends-trans, Appends-nil}
-use Rattle.std.proofs.lemmas.List.{take_all}
+use Rattle.std.proofs.lemmas.List.{take_all, take_more}
 use Rattle.dw_board.specs.Geometry.{Geometry, IsBoard}
 use Rattle.dw_board.specs.Placement.{Placement}
 use Rattle.dw_moves.specs.Moves.{Move, Legal, play}
@@ -17,9 +17,9 @@ use Rattle.dw_notation.specs.inner.Writes.{WritesShort}
 use Rattle.dw_solve.specs.declared.stop.Stop.{Stop}
 use Rattle.dw_solve.specs.Laws.{WinsAreDecided}
 use Rattle.dw_list.specs.inner.ListLemmas.{at_item}
-use Rattle.dw_report.specs.Verdict.{IsRefutation}
+use Rattle.dw_report.specs.Verdict.{Verdict, IsVerdict, IsRefutation, IsTry, Tries}
 use Rattle.dw_report.specs.inner.Judging.{FindsRefutation}
-use Rattle.dw_report.specs.JudgedText.{IsTryLine, AreTryLines}
+use Rattle.dw_report.specs.JudgedText.{IsVerdictText, IsTryLine, AreTryLines, IsJudgedText}
 use Rattle.dw_report.specs.inner.JudgedText.{AreTriesListed}
 use Rattle.dw_report.specs.inner.JudgedText.{IsTryText}
 use Rattle.dw_report.specs.Running.{AreWholeLines, AreLinesOf}
@@ -27,6 +27,7 @@ use Rattle.dw_report.specs.inner.Running.{TextEnds}
 use Rattle.dw_report.specs.declared.problem.TextFault.{TextFault}
 use Rattle.dw_report.specs.declared.problem.TextFault.TheVariants.{Stopped, Sink}
 use Rattle.dw_report.proofs.GatheredLemmas.{AreGathered, gathered_none, gathered_more, gathered_same}
+use Rattle.dw_report.proofs.JoiningLemmas.{one_of_them}
 use Rattle.dw_report.proofs.VerdictLemmas.{refutation_some, tries_listed}
 use Rattle.dw_report.proofs.WritingLemmas.{stops_within}
 
@@ -95,6 +96,48 @@ try_lines_more g p (s ∷ tries) t text line (one, rest, here, are, e) is = (
   here,
   try_lines_more g p tries t rest line are is,
   ap (λ z. z ++ line) e ∙ append_assoc one rest line,
+)
+
+-- a try that stands in the list of all
+pub try_among : (g : Geometry) (p : Placement) (n : ℕ) (tries : List (Move × Move)) (i : ℕ) (t : Move × Move)
+    → Tries g p n tries → i < length tries → t ≡ get_or tries i t → IsTry g p n t
+try_among g p n tries i t all low is = (all.exactly t).0 (one_of_them tries i t low is)
+
+-- the line of a verdict, and the lines of the first so many tries
+pub record TextTo (g : Geometry) (p : Placement) (n : ℕ) (verdict : Verdict) (tries : List (Move × Move)) (i : ℕ)
+    (text : List ℕ) : Type 0 where
+  pub line : List ℕ
+  pub lines : List ℕ
+  pub said : IsVerdictText g p n verdict line
+  pub are : AreTryLines g p (take i tries) lines
+  pub joined : text ≡ line ++ lines
+
+pub text_first : (g : Geometry) (p : Placement) (n : ℕ) (verdict : Verdict) (tries : List (Move × Move))
+    (text : List ℕ) → IsVerdictText g p n verdict text → TextTo g p n verdict tries 0 text
+text_first g p n verdict tries text said =
+    record { line = text; lines = []; said = said; are = refl; joined = sym (append-nil text) }
+
+pub text_next : (g : Geometry) (p : Placement) (n : ℕ) (verdict : Verdict) (tries : List (Move × Move)) (i : ℕ)
+    (t : Move × Move) (text one : List ℕ) → TextTo g p n verdict tries i text → i < length tries
+    → t ≡ get_or tries i t → IsTryLine g p t one → TextTo g p n verdict tries (i + 1) (text ++ one)
+text_next g p n verdict tries i t text one h low is line = record {
+  line = h.line;
+  lines = h.lines ++ one;
+  said = h.said;
+  are = subst (λ z. AreTryLines g p z (h.lines ++ one)) (ap (λ z. take i tries ++ z ∷ []) is
+      ∙ sym (take_more tries i t low)) (try_lines_more g p (take i tries) t h.lines one h.are line);
+  joined = ap (λ z. z ++ one) h.joined ∙ append_assoc h.line h.lines one;
+}
+
+pub text_whole : (g : Geometry) (p : Placement) (n : ℕ) (verdict : Verdict) (tries : List (Move × Move)) (i : ℕ)
+    (text : List ℕ) → IsVerdict g p n verdict → Tries g p n tries → TextTo g p n verdict tries i text
+    → length tries ≤ i → IsJudgedText g p n text
+text_whole g p n verdict tries i text judged all h end = (
+  h.line,
+  h.lines,
+  (verdict, judged, h.said),
+  (tries, all, subst (λ z. AreTryLines g p z h.lines) (take_all i tries end) h.are),
+  h.joined,
 )
 
 -- one move more

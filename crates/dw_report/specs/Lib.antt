@@ -3,6 +3,7 @@ pub mod Verdict
 pub mod VerdictLaws
 pub mod Judging
 pub mod JudgedText
+pub mod MoveTexts
 pub mod ListedText
 pub mod Report
 pub mod Running

@@ -5,7 +5,7 @@ ghost use Rattle.dw_moves.specs.Moves.{Legal};
 ghost use Rattle.dw_board.specs.Lists.{Member};
 ghost use Rattle.dw_moves.specs.Moves as of;
 ghost use Rattle.dw_notation.specs.Text.{ArePlayable, AreJoined};
-ghost use Rattle.dw_report.specs.Verdict.{IsVerdict, reach, cooked, dual};
+ghost use Rattle.dw_report.specs.Verdict.{IsVerdict, Tries, reach, cooked, dual};
 ghost use Rattle.dw_report.specs.Judging.{said_by};
 ghost use Rattle.dw_report.specs.JudgedText.{IsVerdictText, IsTryLine};
 ghost use Rattle.dw_report.specs.inner.JudgedText.{IsVerdictLine, AreTriesListed};
@@ -17,7 +17,7 @@ ghost use Rattle.dw_report.specs.inner.Running.{TextEnds, SinkEnds, Spends};
 use crate::judge::verdict;
 use crate::problem::TextFault;
 use crate::tries::refutation;
-use crate::verdict::Verdict;
+use crate::verdict::{Judged, Verdict};
 use dw_board::{Board, Position};
 use dw_memo::Memo;
 use dw_moves::Move;
@@ -51,6 +51,27 @@ pub(crate) fn write_judged<B: Board, K: Sink, M: Memo<B>, G: Guide<B>>(
     dw_notation::laws::lines_have_texts();
     write_verdict(alloc, sink, solver, position, moves)?;
     write_tries(alloc, sink, solver, position, moves)
+}
+
+/// The text of a verdict and of the tries that `judge` answered, which `run` writes after a problem's first line.
+/// Example: at `W:W27,45:B16`, within 2 moves, it has the three lines `sound in 2: 45-40`, `try 27-21 refuted by 16x27`
+/// and `try 27-22 refuted by 16-21`.
+pub fn judged_text<B: Board>(
+    alloc: Global,
+    position: &Position<B>,
+    moves: u8,
+    judged: &Judged<B>,
+) -> Result<String, AllocError>
+    requires verdict { IsVerdict B.geometry position.now moves (said_by judged.now.verdict) }
+    requires tries { Tries B.geometry position.now moves judged.now.tries.items }
+    ensures { IfOk result (λ text. IsJudgedText B.geometry position.now moves (string_bytes text)) }
+{
+    let mut text = verdict_line(alloc, position, moves, &judged.verdict)?;
+    'tries: for tried in judged.tries.as_slice() {
+        let line = try_line(alloc, position, &tried.0, &tried.1)?;
+        text.push_str(line.as_str())?;
+    }
+    Ok(text)
 }
 
 /// Writes the line of the verdict. A stop comes before anything is written.
@@ -249,7 +270,7 @@ fn try_line<B: Board>(
 }
 
 /// The position after moves, each legal after those before it.
-fn reached<B: Board>(position: &Position<B>, moves: &[Move<B>]) -> Position<B>
+pub(crate) fn reached<B: Board>(position: &Position<B>, moves: &[Move<B>]) -> Position<B>
     requires { ArePlayable B.geometry position.now moves.now }
     ensures { result ≡ reach B.geometry position.now moves.now }
 {

@@ -12,6 +12,7 @@ mod judged;
 mod keys;
 pub mod laws;
 mod listing;
+mod move_texts;
 mod problem;
 pub mod run;
 pub mod settings;
@@ -20,5 +21,8 @@ mod tries;
 pub mod verdict;
 
 pub use dw_notation::{problems, streams};
+pub use judged::judged_text;
+pub use move_texts::{dual_texts, key_texts, try_texts};
 pub use settings::{Command, RunFault, Settings, Stop, Summary};
+pub use text::{problem_line, refusal_text};
 pub use verdict::{Judged, Verdict};

@@ -17,8 +17,11 @@ use dw_notation::move_text::move_text;
 use dw_notation::{Problem, ProblemFault};
 use itoa::Buffer;
 
+/// The bytes that suffice for the first line of a problem's text.
+const LINE_ROOM: usize = 254;
+
 /// The bytes that suffice for what is known at once of a problem's text.
-const KNOWN_ROOM: usize = 254 + DIAGRAM_ROOM;
+const KNOWN_ROOM: usize = LINE_ROOM + DIAGRAM_ROOM;
 
 /// What is known at once of a problem's text: its first line and, if positions are shown, the diagram.
 /// Example: of problem 1, which is `W:W32:B28` and judged, it is `problem 1: W:W32:B28` and a line end.
@@ -30,19 +33,29 @@ pub(crate) fn known_text<B: Board>(
         ++ at_once B.geometry (numbered problem.now).found command }
 {
     let mut text = ArrayString::new();
-    let mut digits = Buffer::new();
-    text.push_str("problem ");
-    text.push_str(digits.format(problem.number));
-    text.push_str(": ");
-    match &problem.found {
-        Ok(position) => text.push_str(fen_text(position).as_str()),
-        Err(fault) => text.push_str(refused_text(*fault).as_str()),
-    }
-    text.push_str("\n");
+    text.push_str(problem_line(problem).as_str());
     if let (Ok(position), Command::Show) = (&problem.found, command) {
         text.push_str(diagram(position).as_str());
     }
     text
+}
+
+/// The first line of a problem's text: its number, and its position or why it is refused.
+/// Example: of problem 1, which is `W:W32:B28`, it is `problem 1: W:W32:B28` and a line end.
+pub fn problem_line<B: Board>(problem: &Problem<B>) -> ArrayString<LINE_ROOM>
+    ensures { result.bytes ≡ line_of B.geometry (numbered problem.now) }
+{
+    let mut line = ArrayString::new();
+    let mut digits = Buffer::new();
+    line.push_str("problem ");
+    line.push_str(digits.format(problem.number));
+    line.push_str(": ");
+    match &problem.found {
+        Ok(position) => line.push_str(fen_text(position).as_str()),
+        Err(fault) => line.push_str(refused_text(*fault).as_str()),
+    }
+    line.push_str("\n");
+    line
 }
 
 /// The line of a legal move: its text, and the position after it. The place is that of the move in the list of all.
@@ -79,11 +92,21 @@ pub(crate) fn count_line(moves: usize, taken: u8) -> ArrayString<64>
     line
 }
 
-fn refused_text(fault: ProblemFault) -> ArrayString<192>
+fn refused_text(fault: ProblemFault) -> ArrayString<201>
     ensures { result.bytes ≡ codes "refused: " ++ refusal_text fault }
 {
     let mut text = ArrayString::new();
     text.push_str("refused: ");
+    text.push_str(refusal_text(fault).as_str());
+    text
+}
+
+/// Why a problem is refused: the number and the name of its fault.
+/// Example: of `ProblemFault::NoFen` it is `2 no fen`.
+pub fn refusal_text(fault: ProblemFault) -> ArrayString<192>
+    ensures { result.bytes ≡ refusal_text fault }
+{
+    let mut text = ArrayString::new();
     match fault {
         ProblemFault::Fen(fault) => text.push_str(fen_refusal(fault).as_str()),
         ProblemFault::NoFen => text.push_str("2 no fen"),

@@ -1,5 +1,6 @@
 pub mod Finding
 pub mod Telling
+pub mod FoundText
 pub mod Slices
 pub mod Laws
 pub mod inner

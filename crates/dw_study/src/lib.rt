@@ -14,8 +14,10 @@ mod limits;
 mod looking;
 pub mod sliced;
 pub mod slices;
+mod text;
 
 pub use finding::{FindBounds, Finding};
 pub use judging::judge_in_slices;
 pub use sliced::wins_in_slices;
 pub use slices::{Slices, Unwatched, Watcher};
+pub use text::found_text;

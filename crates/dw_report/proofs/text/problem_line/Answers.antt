@@ -1,6 +1,6 @@
 use Rattle.std.proofs.Common.{ap, length, arith}
-use Rattle.dw_report.proofs.text.known_text.Goals.{in-Ok, in-Err}
-use Rattle.dw_report.proofs.text.known_text.Goals as goal
+use Rattle.dw_report.proofs.text.problem_line.Goals.{in-Ok, in-Err}
+use Rattle.dw_report.proofs.text.problem_line.Goals as goal
 
 pub push_str-requires-in-Ok : goal.push_str-requires-in-Ok
 push_str-requires-in-Ok g c = (
@@ -10,7 +10,7 @@ push_str-requires-in-Ok g c = (
     c.push_str-3.ensures.len,
     c.push_str-2.ensures.len,
     c.push_str.ensures.len,
-    ap length c.new-text.ensures,
+    ap length c.new-line.ensures,
     c.format.ensures.short,
     c.as_str.ensures.fits,
   ),
@@ -24,7 +24,7 @@ push_str-requires-in-Err g c = (
     c.push_str-3.ensures.len,
     c.push_str-2.ensures.len,
     c.push_str.ensures.len,
-    ap length c.new-text.ensures,
+    ap length c.new-line.ensures,
     c.format.ensures.short,
     c.as_str-in-Err.ensures.fits,
   ),
@@ -37,12 +37,12 @@ push_str-requires-4 g c =
         omega arith,
         omega (
           arith,
-          ap (λ t. length t.bytes) w.text-is,
+          ap (λ t. length t.bytes) w.line-is,
           w.push_str-in-Ok.ensures.len,
           c.push_str-3.ensures.len,
           c.push_str-2.ensures.len,
           c.push_str.ensures.len,
-          ap length c.new-text.ensures,
+          ap length c.new-line.ensures,
           c.format.ensures.short,
           w.as_str.ensures.fits,
         ),
@@ -51,12 +51,12 @@ push_str-requires-4 g c =
         omega arith,
         omega (
           arith,
-          ap (λ t. length t.bytes) w.text-is,
+          ap (λ t. length t.bytes) w.line-is,
           w.push_str-in-Err.ensures.len,
           c.push_str-3.ensures.len,
           c.push_str-2.ensures.len,
           c.push_str.ensures.len,
-          ap length c.new-text.ensures,
+          ap length c.new-line.ensures,
           c.format.ensures.short,
           w.as_str-in-Err.ensures.fits,
         ),

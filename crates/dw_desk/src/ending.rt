@@ -1,0 +1,50 @@
+//! How the program ends: its exit status, and the line on standard error.
+use dw_report::{RunFault, Stop};
+use std::fmt;
+use std::fmt::{Display, Formatter};
+
+/// The fault if memory was refused before anything was done.
+pub const NO_MEMORY: RunFault = RunFault::Stopped {
+    why: Stop::Memory,
+    expanded: 0,
+};
+
+/// How the program ended. `T` is the type of the texts that its line names.
+/// Example: `Ending::NoProblem(7)` is written `dw-desk: no problem 7`, with a line end; its status is 1.
+pub enum Ending<T> {
+    /// All was done, and nothing refused.
+    Done,
+    /// A problem was refused, or stayed undecided. The output says so.
+    Refused,
+    /// The problem that was asked for is not there.
+    NoProblem(u32),
+    /// The arguments are no command; the text says why, with its own line ends.
+    Words(T),
+    /// This FILE could not be opened.
+    NotOpened(T),
+    /// The program was stopped, or a stream failed.
+    Failed(RunFault),
+}
+
+impl<T: Display> Display for Ending<T> {
+    fn fmt<W: fmt::Write>(&self, f: &mut Formatter<W>) -> fmt::Result {
+        match self {
+            Ending::Done | Ending::Refused => Ok(()),
+            Ending::NoProblem(number) => write!(f, "dw-desk: no problem {number}\n"),
+            Ending::Words(text) => write!(f, "{text}"),
+            Ending::NotOpened(file) => write!(f, "dw-desk: cannot open {file}\n"),
+            Ending::Failed(fault) => write!(f, "dw-desk: {fault}\n"),
+        }
+    }
+}
+
+/// The exit status: 0 is done, 1 that something was refused, undecided or is not there, 2 that the arguments are no
+/// command, 3 that the program was stopped or a stream failed.
+pub fn status_of<T>(ending: &Ending<T>) -> u8 {
+    match ending {
+        Ending::Done => 0,
+        Ending::Refused | Ending::NoProblem(_) => 1,
+        Ending::Words(_) => 2,
+        Ending::NotOpened(_) | Ending::Failed(_) => 3,
+    }
+}

@@ -1,0 +1,79 @@
+//! The line at a terminal that shows how far a search is.
+use dw_study::Watcher;
+use std::time::{Duration, Instant};
+
+/// How long a search takes before the line is shown.
+const PATIENCE: Duration = Duration::from_millis(500);
+
+/// How long the line stays as it is.
+const PAUSE: Duration = Duration::from_millis(100);
+
+/// Shows how far the search for one problem is, in a line on standard error that each new one takes the place of.
+#[derive(Drop)]
+pub struct Progress<'a> {
+    rt: &'a HostRuntime,
+    /// The problem that is searched.
+    problem: u32,
+    /// When its search began, if it is to be shown.
+    begun: Option<Instant>,
+    /// When the line was written last, if it stands there.
+    written: Option<Instant>,
+}
+
+impl<'a> Progress<'a> {
+    /// No search has begun.
+    pub fn new(rt: &'a HostRuntime) -> Progress<'a> {
+        Progress {
+            rt,
+            problem: 0,
+            begun: None,
+            written: None,
+        }
+    }
+
+    /// The search for a problem begins. Without a clock it is not shown.
+    pub fn begin(&mut self, problem: u32) {
+        self.problem = problem;
+        self.begun = Instant::now(self.rt).ok();
+    }
+
+    /// Takes the line away.
+    pub fn end(&mut self) {
+        self.begun = None;
+        if self.written.is_some() {
+            self.written = None;
+            let _ = eprint!(self.rt; "\r\x1b[K");
+        }
+    }
+
+    /// Whether the line may be written now.
+    fn is_due(&self) -> bool {
+        let Some(begun) = self.begun else {
+            return false;
+        };
+        self.has_passed(&begun, PATIENCE)
+            && match self.written {
+                None => true,
+                Some(written) => self.has_passed(&written, PAUSE),
+            }
+    }
+
+    /// Whether so much time has passed since a moment.
+    fn has_passed(&self, since: &Instant, time: Duration) -> bool {
+        match since.elapsed(self.rt) {
+            Ok(passed) => passed >= time,
+            Err(_) => false,
+        }
+    }
+}
+
+impl Watcher for Progress<'_> {
+    fn watch(&mut self, moves: u8, expanded: u64) {
+        if !self.is_due() {
+            return;
+        }
+        self.written = Instant::now(self.rt).ok();
+        let problem = self.problem;
+        let _ = eprint!(self.rt; "\r\x1b[Kproblem {problem}: {moves} moves, {expanded} positions");
+    }
+}

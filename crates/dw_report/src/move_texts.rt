@@ -1,0 +1,113 @@
+//! The texts of the moves that a verdict and the tries name, one by one.
+ghost use Rattle.std.specs.Prelude.{◌≡◌, ℕ, ◌∷◌, [], ◌≤◌, List, map, length, IfOk};
+ghost use Rattle.std.specs.String.{string_bytes};
+ghost use Rattle.dw_board.specs.Lists.{Member};
+ghost use Rattle.dw_moves.specs.Moves.{Legal, play as after};
+ghost use Rattle.dw_moves.specs.Moves as of;
+ghost use Rattle.dw_notation.specs.Text.{AreMoveTexts, IsLineText, IsMoveText};
+ghost use Rattle.dw_report.specs.Judging.{said_by};
+ghost use Rattle.dw_report.specs.MoveTexts.{AreKeyTexts, AreTryTexts, AreChoices};
+ghost use Rattle.dw_report.specs.Verdict.{IsVerdict, Tries, reach, dual};
+ghost use Rattle.dw_report.specs.inner.MoveTexts.{IsTryWords};
+
+use crate::judged::reached;
+use crate::verdict::Verdict;
+use dw_board::{Board, Position};
+use dw_moves::Move;
+use dw_moves::play::play;
+use dw_notation::line_text::line_text;
+use dw_notation::text_in;
+use std::alloc::{AllocError, Global};
+use std::slice;
+
+/// The texts of the keys that a verdict names: all first moves that win, in order.
+/// Example: at `W:W27,32,38:B18`, which is cooked in 2 moves, they are `27-22` and `32-28`.
+pub fn key_texts<B: Board>(
+    alloc: Global,
+    position: &Position<B>,
+    verdict: &Verdict<B>,
+) -> Result<Vec<String>, AllocError>
+    requires { (n : ℕ) × IsVerdict B.geometry position.now n (said_by verdict.now) }
+    ensures { (n : ℕ) → IsVerdict B.geometry position.now n (said_by verdict.now)
+        → IfOk result (λ texts. AreKeyTexts B.geometry position.now n (map string_bytes texts.items)) }
+{
+    match verdict {
+        Verdict::Unsolvable => Ok(Vec::new(alloc)),
+        Verdict::Cooked { keys, .. } => move_texts(alloc, position, keys.as_slice()),
+        Verdict::Dual { at, .. } => move_texts(alloc, position, &at.as_slice()[..1]),
+        Verdict::Sound { key } => move_texts(alloc, position, slice::from_ref(key)),
+    }
+}
+
+/// The text of the line before a choice, and the texts of the choices.
+/// Example: at `W:W27,32:B18`, which has a dual in 2 moves, they are `1. 32-28 18-22`, and `27x18` and `28x17`.
+pub fn dual_texts<B: Board>(
+    alloc: Global,
+    position: &Position<B>,
+    at: &[Move<B>],
+    choices: &[Move<B>],
+) -> Result<(String, Vec<String>), AllocError>
+    requires few { length at.now ≤ 38 }
+    requires dual { (n : ℕ) × IsVerdict B.geometry position.now n (dual at.now choices.now) }
+    ensures { IfOk result (λ texts. AreChoices B.geometry position.now at.now choices.now (string_bytes texts.0)
+        (map string_bytes texts.1.items)) }
+{
+    let line = line_text(alloc, position, at)?;
+    let choices = move_texts(alloc, &reached(position, at), choices)?;
+    Ok((String::from_str(alloc, line.as_str())?, choices))
+}
+
+/// The texts of tries, each with its reply.
+/// Example: at `W:W27,45:B16`, within 2 moves, they are `27-21` with `16x27`, and `27-22` with `16-21`.
+pub fn try_texts<B: Board>(
+    alloc: Global,
+    position: &Position<B>,
+    tries: &[(Move<B>, Move<B>)],
+) -> Result<Vec<(String, String)>, AllocError>
+    requires { (n : ℕ) × Tries B.geometry position.now n tries.now }
+    ensures { IfOk result (λ texts. AreTryTexts B.geometry position.now tries.now
+        (map (λ t. (string_bytes t.0, string_bytes t.1)) texts.items)) }
+{
+    let mut texts = Vec::new(alloc);
+    'tries: for tried in tries {
+        texts.push(try_words(alloc, position, &tried.0, &tried.1)?)?;
+    }
+    Ok(texts)
+}
+
+/// The text of a move and of a reply to it.
+pub(crate) fn try_words<B: Board>(
+    alloc: Global,
+    position: &Position<B>,
+    mv: &Move<B>,
+    reply: &Move<B>,
+) -> Result<(String, String), AllocError>
+    requires step { Legal B.geometry position.now mv.now }
+    requires reply { Legal B.geometry (after B.geometry position.now mv.now) reply.now }
+    ensures { IfOk result (λ words. IsTryWords B.geometry position.now (mv.now, reply.now) (string_bytes words.0)
+        (string_bytes words.1)) }
+{
+    let first = text_in(alloc, position, mv)?;
+    let second = text_in(alloc, &play(position, mv), reply)?;
+    Ok((
+        String::from_str(alloc, first.as_str())?,
+        String::from_str(alloc, second.as_str())?,
+    ))
+}
+
+/// The texts of legal moves of a position, in their order.
+fn move_texts<B: Board>(
+    alloc: Global,
+    position: &Position<B>,
+    moves: &[Move<B>],
+) -> Result<Vec<String>, AllocError>
+    requires { (m : of.Move) → Member m moves.now → Legal B.geometry position.now m }
+    ensures { IfOk result (λ texts. AreMoveTexts B.geometry position.now moves.now (map string_bytes texts.items)) }
+{
+    let mut texts = Vec::new(alloc);
+    'moves: for mv in moves {
+        let text = text_in(alloc, position, mv)?;
+        texts.push(String::from_str(alloc, text.as_str())?)?;
+    }
+    Ok(texts)
+}
