@@ -42,6 +42,7 @@ class Check:
 # The longest first.
 CHECKS = [
     Check("judging", slow=("--count", "5000")),
+    Check("desk", slow=("--count", "3000")),
     Check("refused_memory"),
     Check("long_list"),
     Check("random_moves", slow=("--count", "1000000")),

@@ -7,8 +7,9 @@ Each link of the pages has to lead to a file, and to a heading of it, and each f
 there has more than 120 columns. The contract in docs/PROVED.md has to be that of `run`, word for word, and each
 definition in its reading order has to stand in the file that is named for it. The rows on FEN texts in docs/FORMATS.md
 have to be what `dw show` answers, the program in docs/LIBRARY.md that of the crate `dw_example`, and the problems in
-docs/REPORT.md and README.md have to have the diagrams, verdicts and lines that stand there. Each function on the way
-of a problem in docs/ARCHITECTURE.md has to be in the file that is named for it.
+docs/REPORT.md have to have the diagrams, verdicts and lines that stand there. What README.md and docs/DESK.md show the
+programs to answer has to be what they answer. Each function on the way of a problem in docs/ARCHITECTURE.md has to be
+in the file that is named for it.
 """
 import pathlib
 import re
@@ -17,8 +18,8 @@ import subprocess
 TOP = pathlib.Path(__file__).resolve().parent.parent
 DW = TOP / "dw"
 TEXTS = [TOP / "README.md", TOP / "examples/README.md", *sorted((TOP / "docs").glob("*.md"))]
-README, PROVED, FORMATS, REPORT = TOP / "README.md", *(TOP / f"docs/{name}.md" for name in
-                                                       ("PROVED", "FORMATS", "REPORT"))
+README, PROVED, FORMATS, REPORT, DESK = TOP / "README.md", *(TOP / f"docs/{name}.md" for name in
+                                                             ("PROVED", "FORMATS", "REPORT", "DESK"))
 RUN = TOP / "crates/dw_report/src/run.rt"
 ARCHITECTURE, LIBRARY, EXAMPLE = TOP / "docs/ARCHITECTURE.md", TOP / "docs/LIBRARY.md", TOP / "crates/dw_example"
 LINK = re.compile(r"\[[^\]]*\]\(([^)\s]+)\)")
@@ -34,7 +35,7 @@ def anchors(text):
 
 def check_links():
     count = 0
-    for path in [*TEXTS, TOP / "docs/dw.1", TOP / "docs/dw.bash"]:
+    for path in [*TEXTS, *sorted((TOP / "docs").glob("dw*"))]:
         text = path.read_text()
         wide = [number for number, line in enumerate(text.splitlines(), 1) if len(line) > MOST]
         assert not wide, f"{path.name}: over {MOST} columns in line {wide}"
@@ -138,11 +139,21 @@ def check_verdicts():
         assert drawn in ([], answer(["show"], fen)[1:]), fen
         said = [line[12:].strip() if line.startswith("|") else line for line in lines]
         assert [line for line in said if line] == answer(["judge", "-n", n], fen)[1:], (fen, said)
-    calls = re.findall(r"^ {4}\$ echo (\S+) \| \./dw (.*)\n((?: {4}[^$\n].*\n)+)", README.read_text(), re.MULTILINE)
-    assert len(calls) >= 2, calls
-    for fen, words, block in calls:
-        assert [line[4:] for line in block.splitlines()] == answer(words.split(), fen), (fen, words)
-    print(f"{len(problems)} problems in docs/REPORT.md and {len(calls)} in README.md, as told")
+    print(f"{len(problems)} problems in docs/REPORT.md, as told")
+
+
+def check_calls():
+    """What a page shows a program to answer is what it answers."""
+    for page in (README, DESK):
+        called = r"^ {4}\$ echo (\S+) \| \./(\S+) (.*)\n((?: {4}[^$\n].*\n)+)"
+        calls = re.findall(called, page.read_text(), re.MULTILINE)
+        assert len(calls) >= 2, calls
+        for fen, program, words, block in calls:
+            ran = subprocess.run([TOP / program, *words.split()], input=fen.encode() + b"\n", capture_output=True,
+                                 timeout=3600, check=False)
+            wanted = [line[4:] for line in block.splitlines()]
+            assert ran.returncode < 2 and ran.stdout.decode().splitlines() == wanted, (fen, program, words, ran)
+        print(f"{page.name}: {len(calls)} calls, with the answers that it has")
 
 
 def check_way():
@@ -174,6 +185,7 @@ def main():
     check_definitions()
     check_fen_texts()
     check_verdicts()
+    check_calls()
 
 
 if __name__ == "__main__":

@@ -1,11 +1,11 @@
 #!/usr/bin/env python3
-"""installing.py: installs the program into folders of its own, by `./install` and as a Debian package, runs it there
-with nothing but the C library, and takes it away again.
+"""installing.py: installs the programs into folders of their own, by `./install` and as a Debian package, runs them
+there with nothing but the C library, and takes them away again.
 
     checks/installing.py
 
-What is installed has to be the files that belong there and no more, with the bytes of the repository. The program runs
-there with no environment, as another user, and gives the answers of examples/. After `--uninstall`, and after the
+What is installed has to be the files that belong there and no more, with the bytes of the repository. The programs run
+there with no environment, as another user, and give the answers of examples/. After `--uninstall`, and after the
 package is removed, nothing of it is left, and what lay there before is. The package is installed into a root of its
 own, whose C library is the one of this machine, so that what it depends on counts. To run as another user this has to
 be started by root, or by a user who may call `sudo` without a password.
@@ -19,9 +19,12 @@ import subprocess
 import tempfile
 
 TOP = pathlib.Path(__file__).resolve().parent.parent
-INSTALL, PROGRAM = TOP / "install", TOP / "crates/dw/out/dw"
-FILES = {"bin/dw": PROGRAM, "share/man/man1/dw.1": TOP / "docs/dw.1",
-         "share/bash-completion/completions/dw": TOP / "docs/dw.bash"}
+INSTALL = TOP / "install"
+PROGRAMS = {"dw": TOP / "crates/dw/out/dw", "dw-desk": TOP / "crates/dw_desk/out/dw_desk"}
+PROGRAM = PROGRAMS["dw"]
+FILES = {place: source for name, program in PROGRAMS.items() for place, source in (
+    (f"bin/{name}", program), (f"share/man/man1/{name}.1", TOP / "docs" / f"{name}.1"),
+    (f"share/bash-completion/completions/{name}", TOP / "docs" / f"{name}.bash"))}
 NOBODY = ["setpriv", "--reuid=65534", "--regid=65534", "--clear-groups"]
 LIBRARIES = {"libc.so.6", "ld-linux-x86-64.so.2"}
 
@@ -54,31 +57,36 @@ def as_another_user():
     return NOBODY if os.geteuid() == 0 else ["sudo", "-n", *NOBODY]
 
 
-def check_run(program):
-    """The program as another user, without an environment, gives the answers of examples/."""
-    problems, wanted = TOP / "examples/problems.fen", (TOP / "examples/problems.judged").read_text()
-    ran = subprocess.run([*as_another_user(), shutil.which("env"), "-i", program, "judge", "-n", "2"], cwd="/",
-                         input=problems.read_text(), capture_output=True, text=True, timeout=600, check=False)
-    assert (ran.returncode, ran.stdout, ran.stderr) == (0, wanted, ""), ran
+def check_run(folder):
+    """The programs as another user, without an environment, give the answers of examples/."""
+    for words, problems, wanted in ((["dw", "judge", "-n", "2"], "problems.fen", "problems.judged"),
+                                    (["dw-desk", "find"], "large7.fen", "large7.judged")):
+        ran = subprocess.run([*as_another_user(), shutil.which("env"), "-i", folder / words[0], *words[1:]], cwd="/",
+                             input=(TOP / "examples" / problems).read_text(), capture_output=True, text=True,
+                             timeout=600, check=False)
+        assert (ran.returncode, ran.stdout, ran.stderr) == (0, (TOP / "examples" / wanted).read_text(), ""), ran
 
 
 def check_libraries():
-    needed = set(re.findall(r"NEEDED +(\S+)", well(run(["objdump", "-p", PROGRAM]))))
-    assert needed <= LIBRARIES, needed
-    print(f"the program needs {', '.join(sorted(needed)) or 'no library'}")
+    for name, program in PROGRAMS.items():
+        needed = set(re.findall(r"NEEDED +(\S+)", well(run(["objdump", "-p", program]))))
+        assert needed <= LIBRARIES, needed
+        print(f"{name} needs {', '.join(sorted(needed)) or 'no library'}")
 
 
 def check_files(root):
     for name, source in FILES.items():
         path = root / name
         assert path.read_bytes() == source.read_bytes(), name
-        assert path.stat().st_mode & 0o777 == (0o755 if name == "bin/dw" else 0o644), (name, path.stat())
-    check_run(root / "bin/dw")
+        assert path.stat().st_mode & 0o777 == (0o755 if name.startswith("bin/") else 0o644), (name, path.stat())
+    check_run(root / "bin")
 
 
-def check_completion(file):
-    script = f'source "{file}"; COMP_WORDS=(dw ju) COMP_CWORD=1; _dw; echo "${{COMPREPLY[@]}}"'
-    assert well(run(["bash", "-c", script])) == "judge\n"
+def check_completion(folder):
+    for name, function, begun, whole in (("dw", "_dw", "ju", "judge"), ("dw-desk", "_dw_desk", "fi", "find")):
+        script = (f'source "{folder / name}"; COMP_WORDS=({name} {begun}) COMP_CWORD=1; {function}; '
+                  'echo "${COMPREPLY[@]}"')
+        assert well(run(["bash", "-c", script])) == f"{whole}\n"
 
 
 def folders(room):
@@ -87,7 +95,7 @@ def folders(room):
     well(install(str(new)))
     assert below(new) == with_folders([*FILES, "share/dw/folders"]), below(new)
     check_files(new)
-    check_completion(new / "share/bash-completion/completions/dw")
+    check_completion(new / "share/bash-completion/completions")
     well(install(str(new)))  # once more, over what is there
     well(install("--uninstall", str(new)))
     assert not (room / "new").exists(), below(room)
@@ -155,15 +163,16 @@ def package(room):
     ran = run([*dpkg, "-i", file], env=paths)
     assert ran.returncode == 0, ran
     documents = root / "usr/share/doc/dw"
-    manual = root / "usr/share/man/man1/dw.1.gz"
-    assert gzip.decompress(manual.read_bytes()) == (TOP / "docs/dw.1").read_bytes()
-    assert (root / "usr/bin/dw").read_bytes() == PROGRAM.read_bytes()
+    for name, program in PROGRAMS.items():
+        manual = root / f"usr/share/man/man1/{name}.1.gz"
+        assert gzip.decompress(manual.read_bytes()) == (TOP / "docs" / f"{name}.1").read_bytes()
+        assert (root / "usr/bin" / name).read_bytes() == program.read_bytes()
     assert (documents / "README.md").read_bytes() == (TOP / "README.md").read_bytes()
     for path in (TOP / "examples").iterdir():
         assert (documents / "examples" / path.name).read_bytes() == path.read_bytes(), path
     assert "licence" in (documents / "copyright").read_text()
-    check_run(root / "usr/bin/dw")
-    check_completion(root / "usr/share/bash-completion/completions/dw")
+    check_run(root / "usr/bin")
+    check_completion(root / "usr/share/bash-completion/completions")
     assert well(run([*dpkg, "--verify", "dw"], env=paths)) == ""
     ran = run([*dpkg, "-P", "dw"], env=paths)
     assert ran.returncode == 0, ran
@@ -173,7 +182,8 @@ def package(room):
 
 
 def main():
-    subprocess.run([TOP / "dw", "--help"], stdout=subprocess.DEVNULL, check=True)  # so that it is built
+    for name in PROGRAMS:
+        subprocess.run([TOP / name, "--help"], stdout=subprocess.DEVNULL, check=True)  # so that it is built
     check_libraries()
     with tempfile.TemporaryDirectory(prefix="dw-installing-") as name:
         room = pathlib.Path(name)

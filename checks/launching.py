@@ -20,6 +20,7 @@ import time
 
 TOP = pathlib.Path(__file__).resolve().parent.parent
 PATIENCE = 60  # seconds that anything may take here
+PROGRAMS = ("dw", "dw_desk")
 SIGNALS = (signal.SIGINT, signal.SIGTERM, signal.SIGHUP, signal.SIGKILL)
 # A prover's call: it waits, writes half of what is asked for, waits once more, and writes the rest. The file `fails`
 # names a crate that is not proved, and `slow` one for which it takes long.
@@ -82,11 +83,12 @@ class Copy:
         self.top, self.kit = room / "copy", room / "kit"
         self.crates = [line.partition(":")[0] for line in (TOP / "crates.txt").read_text().splitlines()]
         for crate in self.crates:
-            source = self.top / "crates" / crate / "src" / ("main.rt" if crate == "dw" else "lib.rt")
+            source = self.top / "crates" / crate / "src" / ("main.rt" if crate in PROGRAMS else "lib.rt")
             source.parent.mkdir(parents=True)
             source.write_text("")
         shutil.copy2(TOP / "crates.txt", self.top)
-        shutil.copy2(TOP / "dw", self.top)
+        for name in ("dw", "dw-desk"):
+            shutil.copy2(TOP / name, self.top, follow_symlinks=False)
         write_program(self.kit / "bin/rattle", PROVER)
         write_program(self.kit / "bin/rattle-link", LINKER)
         write_program(room / "path/rt", RT.format(kit=self.kit))
@@ -97,14 +99,14 @@ class Copy:
                                          "TMPDIR": str(room / "temporary")}
         self.program = self.top / "crates/dw/out/dw"
 
-    def start(self, *words):
-        """A call of the launcher, in a process group of its own."""
-        return subprocess.Popen([self.top / "dw", *words], env=self.environment, stdin=subprocess.DEVNULL,
+    def start(self, *words, name="dw"):
+        """A call of the launcher by one of its names, in a process group of its own."""
+        return subprocess.Popen([self.top / name, *words], env=self.environment, stdin=subprocess.DEVNULL,
                                 stdout=subprocess.PIPE, stderr=subprocess.PIPE, text=True, start_new_session=True,
                                 preexec_fn=heed_signals)
 
-    def call(self, *words):
-        process = self.start(*words)
+    def call(self, *words, name="dw"):
+        process = self.start(*words, name=name)
         out, complained = process.communicate(timeout=PATIENCE)
         return process.returncode, out, complained
 
@@ -168,11 +170,14 @@ def builds():
     with copy() as made:
         status, out, complained = made.call("judge", "-n", "2", "a b")
         asked = made.asked()
-        assert (status, out) == (0, "program 8 judge -n 2 a b\n"), (status, out, complained)
-        assert len(asked) == 8 and asked[0] == "dw_board" and asked[-1] == "dw", asked
+        assert (status, out) == (0, "program 9 judge -n 2 a b\n"), (status, out, complained)
+        assert len(asked) == 9 and asked[0] == "dw_board" and asked[-1] == "dw", asked
         assert "dw: built" in complained, complained
         assert made.libraries() == sorted(f"{crate}.rlib" for crate in asked[:-1]) and made.is_whole()
-        assert made.call("x") == (0, "program 8 x\n", "") and not made.asked()
+        assert made.call("x") == (0, "program 9 x\n", "") and not made.asked()
+        status, out, complained = made.call("find", name="dw-desk")
+        assert (status, out) == (0, "program 2 find\n") and "dw-desk: built" in complained, (status, out, complained)
+        assert sorted(made.asked()) == ["dw_desk", "dw_study"], "what dw stands on is proved again"
         later = time.time() + 1
         os.utime(made.top / "crates/dw_solve/src/lib.rt", (later, later))
         time.sleep(1.2)
@@ -186,7 +191,7 @@ def builds():
         assert made.call()[2] == "" and not made.asked(), "the program of the gate is not taken"
         (made.kit / "version").write_text("kit 2\n")
         os.utime(made.top / "crates/dw/src/main.rt")
-        assert made.call()[0] == 0 and len(made.asked()) == 8
+        assert made.call()[0] == 0 and len(made.asked()) == 9
     print("a first call, later ones, a newer source, the gate's program, another kit: as stated")
 
 
@@ -252,14 +257,14 @@ def at_once():
         second = made.start("second")
         ends = [process.communicate(timeout=PATIENCE) for process in (first, second)]
         assert (first.returncode, second.returncode) == (0, 0), ends
-        assert (ends[0][0], ends[1][0]) == ("program 8 first\n", "program 8 second\n"), ends
+        assert (ends[0][0], ends[1][0]) == ("program 9 first\n", "program 9 second\n"), ends
         assert ends[1][1] == "dw: another call builds the program; waiting for it\n", ends[1]
-        assert len(made.asked()) == 8
+        assert len(made.asked()) == 9
     with copy() as made:
         source = made.top / "crates/dw_tests_rules/src"
         (source / "lib.rt").rename(source / "main.rt")
         made.environment["DW_BUILD"] = "dw_tests_rules dw"
-        assert made.call("x")[:2] == (0, "") and len(made.asked()) == 11
+        assert made.call("x")[:2] == (0, "") and len(made.asked()) == 12
         assert (source.parent / "out/dw_tests_rules").exists() and made.program.exists()
         assert made.call() == (0, "", "")
     print("two programs named by DW_BUILD: built once, and none is run")

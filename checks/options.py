@@ -1,29 +1,35 @@
 #!/usr/bin/env python3
-"""options.py: compares the man page and the bash completion with the options that the program has.
+"""options.py: compares the man pages and the bash completions with the options that the programs have.
 
-    checks/options.py [PROGRAM]
+    checks/options.py
 
 The commands and options are read from `dw --help` and `dw COMMAND --help`. Each of them has to stand in docs/dw.1, in
 the synopsis of its command and with a text of its own, and has to be offered by docs/dw.bash; and neither may have one
 that is in no help. So it is with the values that `--board` and `--memo` take, and with FILE, for which the completion
-has to offer files.
+has to offer files. The same is looked at for `dw-desk`.
 """
 import pathlib
 import re
 import subprocess
-import sys
 import tempfile
 
 TOP = pathlib.Path(__file__).resolve().parent.parent
-DW = pathlib.Path(sys.argv[1]).resolve() if len(sys.argv) > 1 else TOP / "dw"
-MAN, COMPLETION = TOP / "docs" / "dw.1", TOP / "docs" / "dw.bash"
+PROGRAMS = ("dw", "dw-desk")
 OPTION = re.compile(r"(?<![\w-])--?[A-Za-z][\w-]*")
 HELPS = {"-h", "--help"}
 
 
-def help_of(*words):
-    ran = subprocess.run([DW, *words, "--help"], capture_output=True, text=True, timeout=3600, check=False)
-    assert (ran.returncode, ran.stderr) == (0, ""), (words, ran)
+def manual(program):
+    return TOP / "docs" / f"{program}.1"
+
+
+def completion(program):
+    return TOP / "docs" / f"{program}.bash"
+
+
+def help_of(program, *words):
+    ran = subprocess.run([TOP / program, *words, "--help"], capture_output=True, text=True, timeout=3600, check=False)
+    assert (ran.returncode, ran.stderr) == (0, ""), (program, words, ran)
     return ran.stdout
 
 
@@ -46,7 +52,7 @@ def values_in(text):
     """The options with a closed list of values, and these."""
     rows = " ".join(section(text, "Options"))
     return {option: re.split(r", *", values) for option, values in
-            re.findall(r"(--[\w-]+) <\w+>(?:(?! --).)*?\[possible values: ([^\]]*)\]", rows)}
+            re.findall(r"(--[\w-]+) <[\w|-]+>(?:(?! --).)*?\[possible values: ([^\]]*)\]", rows)}
 
 
 def asked_by(text):
@@ -62,10 +68,10 @@ def plain(line):
     return re.sub(r"\\f[A-Z]", "", line).replace("\\-", "-").replace('"', "").replace("\\(aq", "'")
 
 
-def man_sections():
+def man_sections(program):
     """The lines of each section."""
     found, name = {}, None
-    for line in MAN.read_text().splitlines():
+    for line in manual(program).read_text().splitlines():
         if line.startswith(".SH "):
             name = line[4:]
         elif name:
@@ -78,10 +84,10 @@ def described(lines):
     return [plain(line) for before, line in zip(lines, lines[1:]) if before == ".TP"]
 
 
-def synopses(lines):
+def synopses(program, lines):
     """The synopsis of each command, as one line."""
     text = " ".join(plain(line) for line in lines)
-    return {part.split()[0]: part for part in re.split(r"\bdw ", " ".join(text.split())) if part}
+    return {part.split()[0]: part for part in re.split(rf"\b{program} ", " ".join(text.split())) if part}
 
 
 def text_of(lines, option):
@@ -91,9 +97,9 @@ def text_of(lines, option):
         plain(part.splitlines()[0]) if part else ""))
 
 
-def check_man(top, commands):
-    sections = man_sections()
-    synopsis = synopses(sections["SYNOPSIS"])
+def check_man(program, top, commands):
+    sections = man_sections(program)
+    synopsis = synopses(program, sections["SYNOPSIS"])
     assert set(synopsis) == set(commands) | {"help", "--version"}, sorted(synopsis)
     assert [head.split()[0] for head in described(sections["COMMANDS"])] == [*commands, "help"]
     for command, text in commands.items():
@@ -107,18 +113,18 @@ def check_man(top, commands):
             assert not missing, (option, missing)
     has = {option for head in described(sections["OPTIONS"]) for option in OPTION.findall(head)}
     wanted = options_in(top).union(*map(options_in, commands.values()))
-    assert has == wanted, f"docs/dw.1: {sorted(has ^ wanted)} in one of the man page and the helps alone"
-    everywhere = set(OPTION.findall("\n".join(map(plain, MAN.read_text().splitlines()))))
+    assert has == wanted, f"docs/{program}.1: {sorted(has ^ wanted)} in one of the man page and the helps alone"
+    everywhere = set(OPTION.findall("\n".join(map(plain, manual(program).read_text().splitlines()))))
     assert everywhere - wanted <= {"-k"}, sorted(everywhere - wanted)  # parallel's own
-    print(f"docs/dw.1: {len(commands)} commands and {len(wanted)} options, as in the helps")
+    print(f"docs/{program}.1: {len(commands)} commands and {len(wanted)} options, as in the helps")
 
 
 # THE COMPLETION
 
 def completed(words, folder):
-    """What bash offers for the last of these words."""
-    script = f"""source "{COMPLETION}"
-        COMP_WORDS=("$@") COMP_CWORD=$(($# - 1)) && _dw
+    """What bash offers for the last of these words, of which the first is a program."""
+    script = f"""source "{completion(words[0])}"
+        COMP_WORDS=("$@") COMP_CWORD=$(($# - 1)) && _{words[0].replace("-", "_")}
         [ ${{#COMPREPLY[@]}} = 0 ] || printf '%s\\n' "${{COMPREPLY[@]}}\""""
     ran = subprocess.run(["bash", "-c", script, "bash", *words], cwd=folder, capture_output=True, text=True, timeout=60,
                          check=False)
@@ -126,43 +132,45 @@ def completed(words, folder):
     return ran.stdout.splitlines()
 
 
-def check_completion(top, commands, folder):
+def check_completion(program, top, commands, folder):
     (folder / "a file.fen").touch()
     named = [*commands, "help"]
-    assert completed(["dw", ""], folder) == named, completed(["dw", ""], folder)
-    assert completed(["dw", "help", ""], folder) == named
-    for begun in ("s", "mo", "j", "l", "h"):
-        assert completed(["dw", begun], folder) == [name for name in named if name.startswith(begun)], begun
-    assert set(completed(["dw", "-"], folder)) == options_in(top), completed(["dw", "-"], folder)
+    assert completed([program, ""], folder) == named, completed([program, ""], folder)
+    assert completed([program, "help", ""], folder) == named
+    for begun in {name[: 1 + name.startswith("mo")] for name in named}:
+        wanted = [name for name in named if name.startswith(begun)]
+        assert completed([program, begun], folder) == wanted, begun
+    assert set(completed([program, "-"], folder)) == options_in(top), completed([program, "-"], folder)
     count = 0
     for command, text in commands.items():
-        offered = completed(["dw", command, "-"], folder)
+        offered = completed([program, command, "-"], folder)
         assert len(offered) == len(set(offered)) and set(offered) == options_in(text), (command, offered)
-        files = completed(["dw", command, "a"], folder)
+        files = completed([program, command, "a"], folder)
         assert files == ["a file.fen"], (command, files)
         for option in options_in(text):
-            assert completed(["dw", command, option], folder)[0].startswith(option), (command, option)
+            assert completed([program, command, option], folder)[0].startswith(option), (command, option)
         closed = values_in(text)
         for head in heads(text, "Options"):
             if "<" not in head:
                 continue
             option = OPTION.findall(head)[-1]
             values = closed.get(option, [])
-            assert completed(["dw", command, option, ""], folder) == values, (command, option, values)
-            assert completed(["dw", command, option, "=", ""], folder) == values, (command, option, values)
+            assert completed([program, command, option, ""], folder) == values, (command, option, values)
+            assert completed([program, command, option, "=", ""], folder) == values, (command, option, values)
             for value in values:
-                assert completed(["dw", command, option, value[:1]], folder) == [value], (command, option, value)
+                assert completed([program, command, option, value[:1]], folder) == [value], (command, option, value)
             count += len(values)
-    print(f"docs/dw.bash: {len(commands)} commands, their options and {count} values, as in the helps")
+    print(f"docs/{program}.bash: {len(commands)} commands, their options and {count} values, as in the helps")
 
 
 def main():
-    top = help_of()
-    commands = {name: help_of(name) for name in heads(top, "Commands") if name != "help"}
-    assert len(commands) >= 4, top
-    check_man(top, commands)
-    with tempfile.TemporaryDirectory() as name:
-        check_completion(top, commands, pathlib.Path(name))
+    for program in PROGRAMS:
+        top = help_of(program)
+        commands = {name: help_of(program, name) for name in heads(top, "Commands") if name != "help"}
+        assert commands, top
+        check_man(program, top, commands)
+        with tempfile.TemporaryDirectory() as name:
+            check_completion(program, top, commands, pathlib.Path(name))
 
 
 if __name__ == "__main__":

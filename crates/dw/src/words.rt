@@ -5,7 +5,7 @@ use clap::builder::ValueParser;
 use clap::{Arg, ArgMatches, Command as Words, value_parser};
 use dw_notation::Form;
 use dw_notation::problems::MAX_PROBLEMS;
-use dw_program::options::{MOST_KEPT, MOST_MOVES, MOST_POSITIONS};
+use dw_program::options::{MOST_KEPT, MOST_MOVES, MOST_POSITIONS, VERSION};
 use dw_program::options::{board, cache, file, memo, option, pdn};
 use dw_program::{BoardSize, MemoKind};
 use dw_report::Command;
@@ -48,8 +48,6 @@ const MOST_LINES: u64 = 1_000_000_000;
 const USUALLY_KEPT: usize = 100_000;
 
 const CACHE_HELP: &str = "Keep at most C positions, 1 to 4000000 [default: 100000]";
-
-const VERSION: &str = "0.9.0";
 
 const ABOUT: &str =
     "Solves problems of international draughts: verdicts, and every line of a forced win.";

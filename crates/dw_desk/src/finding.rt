@@ -1,16 +1,18 @@
 //! The command `find`: the least number of moves within which each problem is won, with the verdict.
-ghost use Rattle.std.specs.Prelude.{◌≤◌};
+ghost use Rattle.std.specs.Prelude.{◌≡◌, ◌≤◌, false, [], IfOk};
+ghost use Rattle.dw_study.specs.Finding.{IsFinding};
+ghost use Rattle.dw_study.specs.Telling.{told_by};
 
 use crate::ending::{Ending, NO_MEMORY};
-use crate::json::json_line;
+use crate::json::{found_row, json_line, refused_row};
 use crate::progress::Progress;
 use crate::words::Request;
-use dw_board::{Board, Position};
+use dw_board::{Board, Position, fen_text};
 use dw_memo::AnyMemo;
 use dw_notation::{Problem, Problems, ReadFault, Sink, Source, WriteFault, write_all};
 use dw_program::memo_of;
 use dw_report::streams::{Reading, Writing};
-use dw_report::{RunFault, Stop, problem_line};
+use dw_report::{RunFault, Stop, problem_line, refusal_text};
 use dw_solve::{ByTrial, Solver};
 use dw_study::find::find;
 use dw_study::{FindBounds, Finding, Slices, found_text};
@@ -139,7 +141,10 @@ fn report_all<B: Board, S: Source, K: Sink>(
     request: &Request<'_>,
     source: &mut S,
     sink: &mut K,
-) -> Result<Counts, FindFault> {
+) -> Result<Counts, FindFault>
+    requires source { S.is_failed source.old ≡ false }
+    requires sink { K.is_failed sink.old ≡ false }
+{
     let mut problems = Problems::<B, S>::new(source, request.form);
     let mut counts = Counts::default();
     'problems: loop {
@@ -166,22 +171,49 @@ fn report<B: Board, K: Sink>(
     request: &Request<'_>,
     problem: &Problem<B>,
     sink: &mut K,
-) -> Result<bool, FindFault> {
+) -> Result<bool, FindFault>
+    requires { K.is_failed sink.old ≡ false }
+    ensures { IfOk result (λ _. K.is_failed sink.new ≡ false) }
+{
     if !request.json {
         write_all(sink, problem_line(problem).as_str().as_bytes())?;
     }
-    let finding = match &problem.found {
-        Ok(position) => Some(search(finder, request, problem.number, position)?),
-        Err(_) => None,
-    };
-    if request.json {
-        let line = json_line(finder.alloc, problem, finding.as_ref())?;
-        write_all(sink, line.as_str().as_bytes())?;
-    } else if let (Ok(position), Some(finding)) = (&problem.found, &finding) {
-        let text = found_text(finder.alloc, position, finding)?;
-        write_all(sink, text.as_str().as_bytes())?;
+    match &problem.found {
+        Ok(position) => report_position(finder, request, problem.number, position, sink),
+        Err(fault) => {
+            if request.json {
+                let why = refusal_text(*fault);
+                let line = json_line(finder.alloc, &refused_row(problem.number, why.as_str()))?;
+                write_all(sink, line.as_str().as_bytes())?;
+            }
+            Ok(true)
+        }
     }
-    Ok(!matches!(finding, Some(Finding::Judged { .. })))
+}
+
+/// Reports what is found of a position, and answers whether it stayed undecided.
+fn report_position<B: Board, K: Sink>(
+    finder: &mut Finder<'_, B>,
+    request: &Request<'_>,
+    number: u32,
+    position: &Position<B>,
+    sink: &mut K,
+) -> Result<bool, FindFault>
+    requires { K.is_failed sink.old ≡ false }
+    ensures { IfOk result (λ _. K.is_failed sink.new ≡ false) }
+{
+    let finding = search(finder, request, number, position)?;
+    let text = if request.json {
+        let fen = fen_text(position);
+        json_line(
+            finder.alloc,
+            &found_row(finder.alloc, number, fen.as_str(), position, &finding)?,
+        )?
+    } else {
+        found_text(finder.alloc, position, &finding)?
+    };
+    write_all(sink, text.as_str().as_bytes())?;
+    Ok(matches!(finding, Finding::Undecided { .. }))
 }
 
 /// Searches for one problem, and shows how far it is. If the number of positions is bounded, the memo is empty first,
@@ -191,7 +223,9 @@ fn search<B: Board>(
     request: &Request<'_>,
     number: u32,
     position: &Position<B>,
-) -> Result<Finding<B>, FindFault> {
+) -> Result<Finding<B>, FindFault>
+    ensures { IfOk result (λ finding. IsFinding B.geometry position.now request.now.most (told_by finding)) }
+{
     if request.each.is_some() {
         finder.solver = solver_of(finder.alloc, request)?;
     }

@@ -15,6 +15,10 @@ pub const MOST_POSITIONS: u64 = 1_000_000_000_000;
 /// Example: `--cache 4000001` is no command.
 pub const MOST_KEPT: usize = 4_000_000;
 
+/// The version of the programs.
+/// Example: `dw --version` tells it.
+pub const VERSION: &str = "0.9.0";
+
 const MEMO_HELP: &str = "\
 What is kept of the search:
 none, nothing: if there is no memory to spare

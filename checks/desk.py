@@ -1,0 +1,191 @@
+#!/usr/bin/env python3
+"""desk.py: compares `dw-desk find` with calls of `dw judge`, and looks at its portions, bounds, errors and progress.
+
+    checks/desk.py [--count POSITIONS]
+
+For random small positions (250 on each board if not said) `dw judge` is asked for 1 move, 2 and so on; the first
+verdict with a win, or the last one, has to be what `find` writes, byte for byte, and what its lines of JSON say. The
+portions of a file that are joined in order are the whole. A bound on the positions of each problem leaves some
+undecided, each at a number at which there is no win; and it counts from the beginning of each problem, whatever came
+before. At a terminal a line shows how far a long search is, and is gone at the end; nothing of it comes to a file.
+"""
+import json
+import os
+import pathlib
+import pty
+import random
+import re
+import subprocess
+import tempfile
+
+from judging import count_asked
+from perft import Board
+from wins import drawn, fen
+
+TOP = pathlib.Path(__file__).resolve().parent.parent
+DW, DESK = TOP / "dw", TOP / "dw-desk"
+SEED, MOST = 23, 4
+# A search of some seconds.
+LONG, LONG_MOVES = "W:WK39,41,50:B5,12,29", 9
+
+
+def run(*words, text="", status=0, complaint=""):
+    """What the program writes; it has to end with this status, and to say just this on standard error."""
+    ran = subprocess.run(words, input=text, capture_output=True, text=True, timeout=3600, check=False)
+    assert (ran.returncode, ran.stderr) == (status, complaint), (words, ran)
+    return ran.stdout
+
+
+def texts(report):
+    """The text of each problem: its first line, and all others."""
+    return [tuple(part.split("\n", 1)) for part in re.split(r"^(?=problem )", report, flags=re.MULTILINE) if part]
+
+
+def least(judged):
+    """The first of these texts of a problem that tells of a win, with its number, or the last."""
+    for number, (_, text) in enumerate(judged, 1):
+        if not text.startswith("unsolvable"):
+            return number, text
+    return len(judged), judged[-1][1]
+
+
+def told(row):
+    """A line of JSON as the text that it stands for."""
+    first = f"problem {row['problem']}: "
+    if "refused" in row:
+        return f"{first}refused: {row['refused']}\n"
+    first += row["fen"] + "\n"
+    verdict, keys = row["verdict"], ", ".join(row.get("keys", []))
+    if verdict == "undecided":
+        return f"{first}undecided, no win in {row['no_win_in']}\n"
+    lines = {"unsolvable": "", "cooked": f", shortest {row.get('shortest')}: {keys}", "sound": f": {keys}"}
+    if verdict == "dual":
+        turn = len(re.findall(r"\d+\. ", row["at"])) + 1
+        lines["dual"] = f": {row['at']} {turn}. {' / '.join(row['choices'])}"
+        assert row["at"].split()[1:2] == row["keys"], row
+    tries = "".join(f"try {move} refuted by {reply}\n" for move, reply in row["tries"])
+    return f"{first}{verdict} in {row['n']}{lines[verdict]}\n{tries}"
+
+
+def check_findings(rows, count, source, folder):
+    board = Board(rows)
+    file = folder / "positions.fen"
+    positions = [fen(drawn(source, board), source.choice("WB")) for _ in range(count)] + ["W:W3:B20", "x"]
+    file.write_text("".join(position + "\n" for position in positions))
+    words = ["--board", str(rows), str(file)]
+    judged = [texts(run(DW, "judge", "-n", str(n), *words, status=1)) for n in range(1, MOST + 1)]
+    found = [least(judgements) for judgements in zip(*judged)]
+    wanted = "".join(f"{first}\n{text}" for (first, _), (_, text) in zip(judged[0], found))
+    for more in ([], ["--memo", "none"], ["--memo", "lru", "--cache", "20"], ["--each", "1000000000000"]):
+        written = run(DESK, "find", "--most", str(MOST), *more, *words, status=1)
+        assert written == wanted, (rows, more, [pair for pair in zip(texts(written), texts(wanted)) if pair[0] != pair[1]])
+    lines = run(DESK, "find", "--most", str(MOST), "--json", *words, status=1).splitlines()
+    assert len(lines) == len(positions)
+    for line in lines:
+        row = json.loads(line)
+        assert json.dumps(row, separators=(",", ":")) == line, line
+    assert "".join(told(json.loads(line)) for line in lines) == wanted
+    kinds = {kind: wanted.count(f"\n{kind} in") for kind in ("unsolvable", "cooked", "dual", "sound")}
+    print(f"{rows} rows: {count} positions, {kinds}: find is judge at the least number, in words and in JSON")
+    check_portions(words, wanted, len(positions))
+    check_bounds(words, [number for number, _ in found], wanted)
+
+
+def check_portions(words, wanted, count):
+    """Portions in order are the whole; one that begins behind the last problem is none."""
+    size, whole = 60, ""
+    for begin in range(1, count + 1, size):
+        part = f"{begin}-{begin + size - 1}"
+        status = int("refused" in "".join(map("".join, texts(wanted)[begin - 1 : begin + size - 1])))
+        whole += run(DESK, "find", "--most", str(MOST), "--problem", part, *words, status=status)
+    assert whole == wanted
+    one = run(DESK, "find", "--most", str(MOST), "--problem", "7", *words)
+    assert "\n".join(texts(wanted)[6]) == one
+    for part in (f"{count + 1}", f"{count + 1}-{count + 9}"):
+        run(DESK, "find", "--problem", part, *words, status=1, complaint=f"dw-desk: no problem {count + 1}\n")
+    print(f"{count} problems in portions of {size}: joined they are the whole")
+
+
+def check_bounds(words, numbers, wanted):
+    """Of what is undecided under a bound it is known up to which number there is no win."""
+    undecided = 0
+    for each in (1, 7, 40):
+        report = texts(run(DESK, "find", "--most", str(MOST), "--each", str(each), *words, status=1))
+        for number, (first, text), (same, whole) in zip(numbers, report, texts(wanted)):
+            bound = re.fullmatch(r"undecided, no win in (\d+)\n", text)
+            assert first == same and (int(bound[1]) < number if bound else text == whole), (each, first, text, whole)
+            undecided += bool(bound)
+        alone = texts(run(DESK, "find", "--most", str(MOST), "--each", str(each), "--problem", "9-20", *words,
+                          status=int(any("undecided" in text for _, text in report[8:20]))))
+        assert alone == report[8:20], each
+    assert undecided > 0
+    print(f"{undecided} undecided under bounds of 1, 7 and 40 positions, each below its number")
+
+
+def check_errors():
+    """Arguments that are none, a file that is not there, and one that can not be written."""
+    for words in (["find", "--most", "0"], ["find", "--most", "21"], ["find", "--each", "0"], ["find", "-n", "2"],
+                  ["find", "--problem", "2-1"], ["find", "--problem", "0"], ["find", "--problem", "1-"],
+                  ["find", "--problem", "1000001"], ["find", "--problem", "a"], ["find", "a", "b"], ["seek"]):
+        ran = subprocess.run([DESK, *words], capture_output=True, text=True, input="", timeout=60, check=False)
+        assert (ran.returncode, ran.stdout) == (2, "") and ran.stderr.startswith("error: "), (words, ran)
+    run(DESK, "find", "/none/there", status=3, complaint="dw-desk: cannot open /none/there\n")
+    with open("/dev/full", "w", encoding="ascii") as full:
+        ran = subprocess.run([DESK, "find"], input=b"W:W32:B28\n", stdout=full, stderr=subprocess.PIPE, timeout=60,
+                             check=False)
+    assert (ran.returncode, ran.stderr) == (3, b"dw-desk: write failed\n"), ran
+    run(DESK, "find", "/", status=3, complaint="dw-desk: read failed\n")
+    version = run(DW, "--version").replace("dw ", "dw-desk ")
+    assert run(DESK, "--version") == version and "find" in run(DESK, "--help")
+    pdn = '[Event "a"]\n[FEN "W:W27,45:B16"]\n\n1. 45-40 *\n\n[FEN "W:W32:B28"]\n'
+    assert run(DESK, "find", "--pdn", text=pdn) == ("problem 1: W:W27,45:B16\nsound in 2: 45-40\ntry 27-21 refuted by "
+                                                    "16x27\ntry 27-22 refuted by 16-21\nproblem 2: W:W32:B28\n"
+                                                    "sound in 1: 32x23\n")
+    print("wrong arguments, streams that fail, a PDN file, the version: as told")
+
+
+def at_terminal(words):
+    """What the program writes on standard error if that is a terminal."""
+    reader, writer = pty.openpty()
+    with subprocess.Popen(words, stdin=subprocess.DEVNULL, stdout=subprocess.DEVNULL, stderr=writer) as process:
+        os.close(writer)
+        said = b""
+        while True:
+            try:
+                piece = os.read(reader, 4096)
+            except OSError:  # the terminal's other end is closed
+                piece = b""
+            if not piece:
+                break
+            said += piece
+        os.close(reader)
+        assert process.wait(timeout=3600) == 0, words
+    return said.decode()
+
+
+def check_progress(folder):
+    file = folder / "long.fen"
+    file.write_text(f"{LONG}\nW:W32:B28\n")
+    words = [DESK, "find", "--most", str(LONG_MOVES), "--cache", "1000", str(file)]
+    said = at_terminal(words)
+    steps = [int(number) for number in re.findall(r"problem 1: \d+ moves, (\d+) positions", said)]
+    assert steps == sorted(set(steps)) and len(steps) >= 2, said
+    assert said.endswith("\r\x1b[K") and "problem 2" not in said, said
+    assert at_terminal([*words, "--problem", "2"]) == ""
+    written = run(*words)
+    asked = subprocess.run([*words, "--progress"], capture_output=True, text=True, timeout=3600, check=False)
+    assert asked.stdout == written and "problem 1: " in asked.stderr, asked
+    print(f"a search of {steps[-1]} positions and more: shown {len(steps)} times at a terminal, and taken away")
+
+
+def main():
+    count, source = count_asked(250), random.Random(SEED)
+    with tempfile.TemporaryDirectory() as name:
+        for rows in (10, 8):
+            check_findings(rows, count, source, pathlib.Path(name))
+        check_errors()
+        check_progress(pathlib.Path(name))
+
+
+if __name__ == "__main__":
+    main()

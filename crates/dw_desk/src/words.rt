@@ -1,0 +1,206 @@
+//! The arguments of the command line.
+ghost use Rattle.std.specs.Prelude.{◌≤◌};
+
+use clap::builder::ValueParser;
+use clap::{Arg, ArgMatches, Command as Words, value_parser};
+use dw_notation::Form;
+use dw_notation::problems::MAX_PROBLEMS;
+use dw_program::options::{MOST_KEPT, MOST_MOVES, MOST_POSITIONS, VERSION};
+use dw_program::options::{board, cache, file, flag, memo, option, pdn};
+use dw_program::{BoardSize, MemoKind};
+use std::alloc::{AllocError, Global};
+
+/// The problems that are chosen.
+#[derive(Clone, Copy, Debug, PartialEq, Eq)]
+pub struct Portion {
+    /// The number of the first.
+    pub first: u32,
+    /// The number of the last, if reading ends after it.
+    pub last: Option<u32>,
+    /// Whether these numbers were given.
+    pub is_asked: bool,
+}
+
+/// What the arguments ask for.
+#[derive(Clone, Copy)]
+pub struct Request<'a> {
+    pub board: BoardSize,
+    pub form: Form,
+    pub portion: Portion,
+    pub memo: MemoKind,
+    /// The most positions that the memo keeps, 1 to `MOST_KEPT`.
+    pub cache: usize,
+    /// The most moves within which a win is looked for, 1 to `MOST_MOVES`.
+    pub most: u8,
+    /// How many positions may be expanded for each problem until its number of moves is known.
+    pub each: Option<u64>,
+    /// Whether a line of JSON is written for each problem.
+    pub json: bool,
+    /// Whether the progress line was asked for.
+    pub progress: bool,
+    /// The file to read, or standard input.
+    pub file: Option<&'a str>,
+    ghost some_kept: { 1 ≤ cache },
+    ghost few_kept: { cache ≤ 4_000_000 },
+    ghost some_moves: { 1 ≤ most },
+    ghost few_moves: { most ≤ 20 },
+}
+
+/// How many positions a memo keeps if the arguments say nothing.
+const USUALLY_KEPT: usize = 1_000_000;
+
+const ABOUT: &str = "Finds out what composers, editors and judges ask about problems of draughts.";
+
+const EXAMPLES: &str = "\
+Problems are read from FILE, or from standard input: one FEN text a line, as W:W27,45:B16,
+or with --pdn out of the tags of a PDN file, as [FEN \"W:W27,45:B16\"]. At a terminal end them
+with Ctrl-D.
+`dw-desk COMMAND --help` says what a command does, with an example.
+
+Example:
+  dw-desk find examples/problems.fen
+
+Exit status: 0 done, 1 a problem was refused, undecided or is not there, 2 the arguments are no
+command, 3 the program was stopped or a file could not be read or written.";
+
+const FIND_ABOUT: &str =
+    "Finds in how many moves each problem is won, and judges it at that number.";
+
+const FIND_EXAMPLES: &str = "\
+What is written is what `dw judge -n N` writes for the least N with a win, or for --most if there
+is none. With --each a problem that takes too long is left undecided, and the next one begins:
+it is told in how many moves there is no win. The problems before do not matter then, since each
+begins with an empty memo.
+
+Examples:
+  echo W:W10,16,48:B13 | dw-desk find
+  dw-desk find --most 6 --each 1000000 examples/problems.fen
+  dw-desk find --json --problem 1-3 examples/problems.fen";
+
+const PROBLEM_HELP: &str =
+    "Report on the problem I alone, or on those from I to J, 1 to 1000000 [default: all]";
+
+const CACHE_HELP: &str = "Keep at most C positions, 1 to 4000000 [default: 1000000]";
+
+/// What is said of numbers of problems that are none.
+const NO_PORTION: &str = "\
+error: invalid value for '--problem <I|I-J>': I and J are 1 to 1000000, and I is at most J
+
+For more information, try '--help'.
+";
+
+/// The commands that the program knows.
+pub fn command<'a>(alloc: Global) -> Result<Words<'a>, AllocError> {
+    let find = find_command(alloc)?;
+    Words::new(alloc, "dw-desk")
+        .version(VERSION)
+        .about(ABOUT)
+        .after_help(EXAMPLES)
+        .subcommand_required(true)
+        .arg_required_else_help(true)
+        .subcommand(find)
+}
+
+fn find_command<'a>(alloc: Global) -> Result<Words<'a>, AllocError> {
+    let arguments = vec![in alloc;
+        board(alloc), pdn(alloc), problem(alloc), file(alloc),
+        most(alloc), each(alloc), json(alloc), memo(alloc, "deep"), cache(alloc, CACHE_HELP), progress(alloc)]?;
+    Words::new(alloc, "find")
+        .about(FIND_ABOUT)
+        .after_help(FIND_EXAMPLES)
+        .args(arguments)
+}
+
+fn problem<'a>(alloc: Global) -> Arg<'a> {
+    option(
+        alloc,
+        "problem",
+        "I|I-J",
+        ValueParser::string(),
+        PROBLEM_HELP,
+    )
+}
+
+fn most<'a>(alloc: Global) -> Arg<'a> {
+    let numbers = value_parser!(u8).range(1..=i64::from(MOST_MOVES));
+    let help = "Look for a win in at most N moves of the side to move, 1 to 20 [default: 20]";
+    option(alloc, "most", "N", numbers, help)
+}
+
+fn each<'a>(alloc: Global) -> Arg<'a> {
+    let numbers = value_parser!(u64).range(1..=MOST_POSITIONS as i64);
+    let help = "Go to the next problem after L positions, 1 to 1000000000000 [default: never]";
+    option(alloc, "each", "L", numbers, help)
+}
+
+fn json<'a>(alloc: Global) -> Arg<'a> {
+    flag(alloc, "json", "Write one line of JSON for each problem")
+}
+
+fn progress<'a>(alloc: Global) -> Arg<'a> {
+    flag(
+        alloc,
+        "progress",
+        "Show how far a search is on standard error, also if that is no terminal",
+    )
+}
+
+/// What parsed arguments ask for, or what is said of them if they are no command.
+pub fn requested<'a>(matches: &ArgMatches<'a>) -> Result<Request<'a>, &'static str> {
+    let Some(words) = matches.subcommand_matches("find") else {
+        return Err("dw-desk: no command\n");
+    };
+    let Some(portion) = portion_of(words.get_str("problem")) else {
+        return Err(NO_PORTION);
+    };
+    let cache = words.get_one::<usize>("cache").unwrap_or(USUALLY_KEPT);
+    let most = words.get_one::<u8>("most").unwrap_or(MOST_MOVES);
+    Ok(Request {
+        board: BoardSize::named(words.get_str("board")),
+        form: form(words.get_flag("pdn")),
+        portion,
+        memo: MemoKind::named(words.get_str("memo")),
+        cache: cache.clamp(1, MOST_KEPT),
+        most: most.clamp(1, MOST_MOVES),
+        each: words.get_one::<u64>("each"),
+        json: words.get_flag("json"),
+        progress: words.get_flag("progress"),
+        file: words.get_str("FILE"),
+    })
+}
+
+fn form(is_pdn: bool) -> Form {
+    if is_pdn { Form::Pdn } else { Form::Fens }
+}
+
+/// The problems that a text names: `I`, or `I-J` from I to J; all, if there is no text.
+fn portion_of(text: Option<&str>) -> Option<Portion> {
+    let Some(text) = text else {
+        return Some(Portion {
+            first: 1,
+            last: None,
+            is_asked: false,
+        });
+    };
+    let (first, last) = match text.split_once('-') {
+        Some((first, last)) => (number_of(first)?, number_of(last)?),
+        None => (number_of(text)?, number_of(text)?),
+    };
+    if first > last {
+        return None;
+    }
+    Some(Portion {
+        first,
+        last: Some(last),
+        is_asked: true,
+    })
+}
+
+/// A problem's number, 1 to `MAX_PROBLEMS`.
+fn number_of(text: &str) -> Option<u32> {
+    let number = text.parse::<u32>().ok()?;
+    if number < 1 || number > MAX_PROBLEMS {
+        return None;
+    }
+    Some(number)
+}

@@ -1,0 +1,44 @@
+# Completion of dw-desk for bash. Read it in with
+#
+#     source docs/dw-desk.bash
+#
+# or copy it to ~/.local/share/bash-completion/completions/dw-desk, where bash finds it by itself. `./install` puts it
+# into such a place too.
+
+_dw_desk() {
+    local current=${COMP_WORDS[COMP_CWORD]} previous=${COMP_WORDS[COMP_CWORD - 1]}
+    local commands="find help"
+    local command="" options="" word
+    # bash cuts --memo=lru into three words.
+    if [ "$current" = "=" ]; then
+        current=""
+    elif [ "$previous" = "=" ] && [ "$COMP_CWORD" -ge 2 ]; then
+        previous=${COMP_WORDS[COMP_CWORD - 2]}
+    fi
+    for word in "${COMP_WORDS[@]:1:COMP_CWORD-1}"; do
+        case $word in
+            find | help) command=$word && break ;;
+        esac
+    done
+    case $command in
+        find) options="--board --pdn --problem --most --each --json --memo --cache --progress -h --help" ;;
+        help) options="" ;;
+        *) options="-h --help -V --version" ;;
+    esac
+    COMPREPLY=()
+    case $previous in
+        --board) COMPREPLY=($(compgen -W "10 8" -- "$current")) && return ;;
+        --memo) COMPREPLY=($(compgen -W "none lru slots deep" -- "$current")) && return ;;
+        --problem | --most | --each | --cache) return ;;
+    esac
+    case $command:$current in
+        *:-*) COMPREPLY=($(compgen -W "$options" -- "$current")) ;;
+        :* | help:*) COMPREPLY=($(compgen -W "$commands" -- "$current")) ;;
+        *)
+            compopt -o filenames 2>/dev/null
+            mapfile -t COMPREPLY < <(compgen -f -- "$current")
+            ;;
+    esac
+}
+
+complete -F _dw_desk dw-desk
