@@ -26,7 +26,7 @@ TOP = pathlib.Path(__file__).resolve().parent.parent
 DW, DESK = TOP / "dw", TOP / "dw-desk"
 SEED, MOST = 23, 4
 # A search of some seconds.
-LONG, LONG_MOVES = "W:WK39,41,50:B5,12,29", 9
+LONG, LONG_MOVES = "W:WK39,41,50:B5,12,29", 8
 
 
 def run(*words, text="", status=0, complaint=""):
@@ -166,7 +166,7 @@ def at_terminal(words):
 def check_progress(folder):
     file = folder / "long.fen"
     file.write_text(f"{LONG}\nW:W32:B28\n")
-    words = [DESK, "find", "--most", str(LONG_MOVES), "--cache", "1000", str(file)]
+    words = [DESK, "find", "--most", str(LONG_MOVES), "--cache", "300", str(file)]
     said = at_terminal(words)
     steps = [int(number) for number in re.findall(r"problem 1: \d+ moves, (\d+) positions", said)]
     assert steps == sorted(set(steps)) and len(steps) >= 2, said

@@ -11,6 +11,7 @@ pub const NO_MEMORY: RunFault = RunFault::Stopped {
 
 /// How the program ended. `T` is the type of the texts that its line names.
 /// Example: `Ending::NoProblem(7)` is written `dw-desk: no problem 7`, with a line end; its status is 1.
+#[derive(Drop)]
 pub enum Ending<T> {
     /// All was done, and nothing refused.
     Done,

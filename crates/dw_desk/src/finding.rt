@@ -81,12 +81,11 @@ impl From<WriteFault> for FindFault {
     }
 }
 
-/// What searches for the problems, and shows how far it is.
+/// What searches for the problems.
 #[derive(Drop)]
-struct Finder<'a, B: Board> {
+struct Finder<B: Board> {
     alloc: Global,
     solver: Solver<B, AnyMemo<B>, ByTrial>,
-    slices: Slices<Progress<'a>>,
 }
 
 /// Finds what was asked for of the problems that the reader gives. A file and standard input are read through the same
@@ -102,11 +101,11 @@ fn find_in<B: Board>(
     let mut finder = Finder {
         alloc: rt.alloc(),
         solver,
-        slices: Slices::new(first_slice(rt, request), Progress::new(rt)),
     };
+    let mut slices = Slices::new(first_slice(rt, request), Progress::new(rt));
     let mut source = Reading::new(reader);
     let mut sink = Writing::new(rt.stdout());
-    match report_all(&mut finder, request, &mut source, &mut sink) {
+    match report_all(&mut finder, &mut slices, request, &mut source, &mut sink) {
         Ok(counts) => Ok(counts),
         Err(FindFault::Read) => Err(RunFault::Read),
         Err(FindFault::Write) => Err(RunFault::Write),
@@ -137,7 +136,8 @@ fn first_slice(rt: &HostRuntime, request: &Request<'_>) -> u64 {
 
 /// Reports the chosen problems, each as soon as it is read.
 fn report_all<B: Board, S: Source, K: Sink>(
-    finder: &mut Finder<'_, B>,
+    finder: &mut Finder<B>,
+    slices: &mut Slices<Progress<'_>>,
     request: &Request<'_>,
     source: &mut S,
     sink: &mut K,
@@ -156,7 +156,7 @@ fn report_all<B: Board, S: Source, K: Sink>(
                 shown: counts.shown.saturating_add(1),
                 refused: counts
                     .refused
-                    .saturating_add(u32::from(report(finder, request, &problem, sink)?)),
+                    .saturating_add(u32::from(report(finder, slices, request, &problem, sink)?)),
             };
         }
         if request.portion.last == Some(problem.number) {
@@ -167,7 +167,8 @@ fn report_all<B: Board, S: Source, K: Sink>(
 
 /// Reports one problem, and answers whether it was refused or stayed undecided.
 fn report<B: Board, K: Sink>(
-    finder: &mut Finder<'_, B>,
+    finder: &mut Finder<B>,
+    slices: &mut Slices<Progress<'_>>,
     request: &Request<'_>,
     problem: &Problem<B>,
     sink: &mut K,
@@ -179,7 +180,7 @@ fn report<B: Board, K: Sink>(
         write_all(sink, problem_line(problem).as_str().as_bytes())?;
     }
     match &problem.found {
-        Ok(position) => report_position(finder, request, problem.number, position, sink),
+        Ok(position) => report_position(finder, slices, request, problem.number, position, sink),
         Err(fault) => {
             if request.json {
                 let why = refusal_text(*fault);
@@ -193,7 +194,8 @@ fn report<B: Board, K: Sink>(
 
 /// Reports what is found of a position, and answers whether it stayed undecided.
 fn report_position<B: Board, K: Sink>(
-    finder: &mut Finder<'_, B>,
+    finder: &mut Finder<B>,
+    slices: &mut Slices<Progress<'_>>,
     request: &Request<'_>,
     number: u32,
     position: &Position<B>,
@@ -202,7 +204,7 @@ fn report_position<B: Board, K: Sink>(
     requires { K.is_failed sink.old ≡ false }
     ensures { IfOk result (λ _. K.is_failed sink.new ≡ false) }
 {
-    let finding = search(finder, request, number, position)?;
+    let finding = search(finder, slices, request, number, position)?;
     let text = if request.json {
         let fen = fen_text(position);
         json_line(
@@ -219,7 +221,8 @@ fn report_position<B: Board, K: Sink>(
 /// Searches for one problem, and shows how far it is. If the number of positions is bounded, the memo is empty first,
 /// so that nothing depends on the problems before.
 fn search<B: Board>(
-    finder: &mut Finder<'_, B>,
+    finder: &mut Finder<B>,
+    slices: &mut Slices<Progress<'_>>,
     request: &Request<'_>,
     number: u32,
     position: &Position<B>,
@@ -231,16 +234,10 @@ fn search<B: Board>(
     }
     let bounds = FindBounds {
         most: request.most,
-        each: request.each.unwrap_or(u64::MAX),
+        each: request.each.unwrap_or(u64::MAX).max(1),
     };
-    finder.slices.watcher.begin(number);
-    let finding = find(
-        finder.alloc,
-        &mut finder.solver,
-        position,
-        bounds,
-        &mut finder.slices,
-    );
-    finder.slices.watcher.end();
+    slices.watcher.begin(number);
+    let finding = find(finder.alloc, &mut finder.solver, position, bounds, slices);
+    slices.watcher.end();
     Ok(finding?)
 }

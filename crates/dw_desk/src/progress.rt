@@ -2,11 +2,11 @@
 use dw_study::Watcher;
 use std::time::{Duration, Instant};
 
-/// How long a search takes before the line is shown.
-const PATIENCE: Duration = Duration::from_millis(500);
+/// How many milliseconds a search takes before the line is shown.
+const PATIENCE: u64 = 500;
 
-/// How long the line stays as it is.
-const PAUSE: Duration = Duration::from_millis(100);
+/// How many milliseconds the line stays as it is.
+const PAUSE: u64 = 100;
 
 /// Shows how far the search for one problem is, in a line on standard error that each new one takes the place of.
 #[derive(Drop)]
@@ -58,10 +58,10 @@ impl<'a> Progress<'a> {
             }
     }
 
-    /// Whether so much time has passed since a moment.
-    fn has_passed(&self, since: &Instant, time: Duration) -> bool {
+    /// Whether so many milliseconds have passed since a moment.
+    fn has_passed(&self, since: &Instant, millis: u64) -> bool {
         match since.elapsed(self.rt) {
-            Ok(passed) => passed >= time,
+            Ok(passed) => passed >= Duration::from_millis(millis),
             Err(_) => false,
         }
     }

@@ -93,6 +93,7 @@ For more information, try '--help'.
 pub fn command<'a>(alloc: Global) -> Result<Words<'a>, AllocError> {
     let find = find_command(alloc)?;
     Words::new(alloc, "dw-desk")
+        .bin_name("dw-desk")?
         .version(VERSION)
         .about(ABOUT)
         .after_help(EXAMPLES)
