@@ -3,3 +3,4 @@ pub mod Rows
 pub mod JudgedText
 pub mod Judging
 pub mod Running
+pub mod GatheredLemmas
