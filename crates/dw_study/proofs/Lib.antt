@@ -1,2 +1,5 @@
 pub mod SliceLemmas
 pub mod FindingLemmas
+pub mod WentLemmas
+pub mod ChildLemmas
+pub mod SeenLemmas
