@@ -1,10 +1,10 @@
 -- The nodes behind a beginning, met one after another, and the moves that are none of theirs.
 use Rattle.std.proofs.Common.{◌≡◌, ℕ, zero, suc, ◌+◌, ◌-◌, ◌<◌, ◌≤◌, List, [], ◌∷◌, ◌++◌, length, map, take, get_or}
 use Rattle.std.proofs.Common.{Option, Some, None, refl, sym, ap, subst, ◌∙◌, ◌⊎◌, inl, inr, arith}
-use Rattle.std.proofs.Common.{Bool, true, false, IsTrue}
+use Rattle.std.proofs.Common.{Bool, true, false, IsTrue, ◌==◌, Vec, Global, vec_len}
 use Rattle.std.specs.Prelude.{MatchOption, IsNone}
 use Rattle.std.specs.List.{slice_get}
-use Rattle.std.proofs.lemmas.Bool.{cases_lt}
+use Rattle.std.proofs.lemmas.Bool.{cases_lt, eqb-true, eqb-false}
 use Rattle.std.proofs.lemmas.List.{take_all, map-append}
 use Rattle.std.proofs.lemmas.Option.{slice_get_within}
 use Rattle.dw_board.specs.Geometry.{Geometry}
@@ -268,3 +268,12 @@ is_not_so b e h = cc
 
 pub is_so : (b : Bool) → b ≡ true → IsTrue b
 is_so b e = cc
+
+-- ---- whether a list is empty
+pub none_there : {A : Type 0} (v : Vec A Global) (b : Bool) → b ≡ (vec_len v == 0) → b ≡ true → length v.items ≡ 0
+none_there v b is e =
+    let none : vec_len v ≡ 0 = eqb-true (vec_len v) 0 (sym is ∙ e) in omega (arith, v.ok.0, none)
+
+pub some_there : {A : Type 0} (v : Vec A Global) (b : Bool) → b ≡ (vec_len v == 0) → b ≡ false → 0 < length v.items
+some_there v b is e =
+    let no = eqb-false (vec_len v) 0 (sym is ∙ e) in omega (arith, v.ok.0, no)

@@ -1,9 +1,12 @@
 -- What is seen of a beginning, and what is remarked behind it.
 use Rattle.std.proofs.Common.{◌≡◌, ℕ, zero, suc, ◌+◌, ◌-◌, ◌<◌, ◌≤◌, List, [], ◌∷◌, ◌++◌, length, map, take, drop}
-use Rattle.std.proofs.Common.{get_or}
+use Rattle.std.proofs.Common.{get_or, Vec, Global, Result, Ok, Err}
+use Rattle.std.specs.Prelude.{IfOk}
+use Rattle.std.specs.declared.alloc.AllocError.{AllocError}
 use Rattle.std.proofs.Common.{Option, Some, None, refl, sym, ap, subst, ◌∙◌, inl, inr, arith, Bool, true, false, IsTrue}
 use Rattle.std.proofs.Common.{◌↔◌, append-nil, append_assoc, not}
-use Rattle.std.specs.Prelude.{option_map}
+use Rattle.std.specs.Prelude.{option_map, is_some}
+use Rattle.std.proofs.lemmas.Bool.{true≢false}
 use Rattle.std.specs.List.{slice_get}
 use Rattle.std.proofs.lemmas.List.{take_all, map-append, map-id}
 use Rattle.dw_board.specs.Geometry.{Geometry}
@@ -28,8 +31,8 @@ use Rattle.dw_study.specs.Remarks.{Remark, fails, also, leaves_open, ends, GoesO
 use Rattle.dw_study.specs.Remarks.{IsFailing, if_any, AtAttacker, without_move, with_moves, AtDefender, over}
 use Rattle.dw_study.specs.Remarks.{without_reply, with_replies, InTurn, nothing, one_more}
 use Rattle.dw_study.specs.Telling.{remark_in, Say}
-use Rattle.dw_study.specs.inner.Checking.{AreChildren, AreOthers, AreOtherKeys, IsSorted, IsSeen, At}
-use Rattle.dw_study.specs.inner.Checking.{Behind, IsKept, left_after}
+use Rattle.dw_study.specs.inner.Checking.{AreChildren, AreOthers, AreOtherKeys, FindsFirst, IsSorted, IsSeen}
+use Rattle.dw_study.specs.inner.Checking.{At, Behind, IsKept, left_after}
 
 -- ---- the first reply that refutes
 -- the attacker wins after each of the first so many replies
@@ -109,6 +112,21 @@ pub refuted : (g : Geometry) (p : Placement) (n : ℕ) (m r : Move) → IsFirstR
     → IsWinning g p n m → ⊥
 refuted g p n m r first h = let lost = (key_lost g p n m h).2 in first.refutes.1 (lost r first.refutes.0)
 
+-- a move that was looked at wins if no reply was found, and else does not
+pub wins_found : (g : Geometry) (p after : Placement) (n : ℕ) (m : Move) (found : Option Move) (none : Bool) → 1 ≤ n
+    → Legal g p m → after ≡ play g p m → FindsFirst g after (n - 1) found → is_some found ≡ not none → none ≡ true
+    → IsWinning g p n m
+wins_found g p after n m None none some legal there lost is e =
+    wins_if g p n m some legal (subst (λ z. Lost g z (n - 1)) there lost)
+wins_found g p after n m (Some r) none some legal there first is e = absurd (true≢false (is ∙ ap not e))
+
+pub fails_found : (g : Geometry) (p after : Placement) (n : ℕ) (m : Move) (found : Option Move) (none : Bool)
+    → after ≡ play g p m → FindsFirst g after (n - 1) found → is_some found ≡ not none → none ≡ false
+    → IsWinning g p n m → ⊥
+fails_found g p after n m None none there lost is e wins = true≢false (sym (is ∙ ap not e))
+fails_found g p after n m (Some r) none there first is e wins =
+    refuted g p n m r (subst (λ z. IsFirstRefutation g z (n - 1) r) there first) wins
+
 pub item_member : {A : Type 0} (xs : List A) (i : ℕ) (x : A) → i < length xs → x ≡ get_or xs i x → Member x xs
 item_member [] i x low at = absurd (omega (arith, low))
 item_member (y ∷ xs) zero x low at = inl at
@@ -152,7 +170,7 @@ module _ {B : Type 0} (g : Geometry) (p : Placement) (n : ℕ) (tree : List (Lis
       record {
         failing = h.failing ++ (c.mv, reply) ∷ [];
         said = pushed ∙ (ap (λ z. z ++ Fails node c.mv reply ∷ []) h.said
-            ∙ sym (map-append (λ (t : Move × Move). Fails {B = B} node t.0 t.1) h.failing ((c.mv, reply) ∷ [])));
+            ∙ sym (map-append (λ (t : Move × Move). Fails node t.0 t.1) h.failing ((c.mv, reply) ∷ [])));
         fail = to_more (λ (x : Child B). x.mv) (StandsBefore tree b) (λ (t : Move × Move). t.0)
             (λ (t : Move × Move). IsFirstRefutation g (play g p t.0) (n - 1) t.1) children i c h.failing (c.mv, reply)
             all.in_order.ascending low at refl here
@@ -218,6 +236,17 @@ winning_all g p n given others keys i all end h =
     (to_all (λ m. m) (Precedes g p) (λ m. m) (IsWinning g p n) (λ m. Legal g p m × (Member m given → ⊥)) others i keys
     end (subst (IsListOf (Precedes g p) (λ m. Legal g p m × (Member m given → ⊥))) (sym (map-id others)) all) h)
 
+-- those that are none of a list's are none of the same list's
+pub others_of : {B : Type 0} (g : Geometry) (p : Placement) (given children : List (Child B)) (others : List Move)
+    → given ≡ children → AreOthers g p (map (λ c. c.mv) given) others → AreOthers g p (map (λ c. c.mv) children) others
+others_of {B} g p given children others same h =
+    subst (λ z. AreOthers g p (map (λ (c : Child B). c.mv) z) others) same h
+
+pub sorted_of : {B : Type 0} (g : Geometry) (p : Placement) (n : ℕ) (tree : List (List Move)) (b : List Move)
+    (node : Option Node) (given children : List (Child B)) (seen : Seen B) → given ≡ children
+    → IsSorted g p n tree b node given seen → IsSorted g p n tree b node children seen
+sorted_of g p n tree b node given children seen same h = subst (λ z. IsSorted g p n tree b node z seen) same h
+
 -- ---- what is said
 pub if_none : (remark : List Move → Remark) (moves : List Move) → length moves ≡ 0 → if_any remark moves ≡ []
 if_none remark [] none = refl
@@ -228,29 +257,33 @@ pub if_some : (remark : List Move → Remark) (moves : List Move) → 0 < length
 if_some remark [] some = absurd (omega (arith, some))
 if_some remark (m ∷ moves) some = refl
 
-module _ {B : Type 0} (tree : List (List Move)) (node : Option Node) (b : List Move)
+both_same : {A : Type 0} {x y : A} {xs ys : List A} → x ≡ y → xs ≡ ys → x ∷ xs ≡ y ∷ ys
+both_same h t = cc
+
+module _ (B : Type 0) (tree : List (List Move)) (node : Option Node) (b : List Move)
     (there : beginning_at tree (place_of node) ≡ Some b) where
   said_fails : (failing : List (Move × Move))
-      → map (remark_in tree) (map (λ t. Fails {B = B} node t.0 t.1) failing)
-      ≡ map (λ r. Some r) (map (λ t. fails b t.0 t.1) failing)
+      → map (remark_in {B = B} tree) (map (λ t. Fails node t.0 t.1) failing)
+      ≡ map (λ (r : Remark). Some r) (map (λ t. fails b t.0 t.1) failing)
   said_fails [] = refl
   said_fails (t ∷ failing) =
-      rw (said_fails failing, there) refl
+      both_same (ap (option_map (λ z. fails z t.0 t.1)) there) (said_fails failing)
 
-  said_also : (keys : _) → remark_in {B = B} tree (Also node keys) ≡ Some (also b keys.items)
-  said_also keys = rw there refl
+  said_also : (keys : Vec Move Global) → remark_in {B = B} tree (Also node keys) ≡ Some (also b keys.items)
+  said_also keys = ap (option_map (λ z. also z keys.items)) there
 
-  said_open : (replies : _) → remark_in {B = B} tree (Open node replies) ≡ Some (leaves_open b replies.items)
-  said_open replies = rw there refl
+  said_open : (replies : Vec Move Global) → remark_in {B = B} tree (Open node replies)
+      ≡ Some (leaves_open b replies.items)
+  said_open replies = ap (option_map (λ z. leaves_open z replies.items)) there
 
   said_ends : remark_in {B = B} tree (Ends node) ≡ Some (ends b)
-  said_ends = rw there refl
+  said_ends = ap (option_map (λ z. ends z)) there
 
-  -- one remark
-  pub one_said : (r : code.Remark B) (remark : Remark) (items : List (code.Remark B)) → items ≡ r ∷ []
-      → remark_in tree r ≡ Some remark
-      → map (remark_in tree) items ≡ map (λ (x : Remark). Some x) (remark ∷ [])
-  one_said r remark items is says = rw (is, says) refl
+-- one remark
+one_said : (B : Type 0) (tree : List (List Move)) (r : code.Remark B) (remark : Remark) (items : List (code.Remark B))
+    → items ≡ r ∷ [] → remark_in tree r ≡ Some remark
+    → map (remark_in tree) items ≡ map (λ (x : Remark). Some x) (remark ∷ [])
+one_said B tree r remark items is says = ap (map (remark_in tree)) is ∙ ap (λ z. z ∷ []) says
 
 -- remarks, and then others
 pub say_then : {B : Type 0} (tree : List (List Move)) (items more : List (code.Remark B)) (said others : List Remark)
@@ -296,8 +329,8 @@ module _ {B : Type 0} (g : Geometry) (p : Placement) (n : ℕ) (tree : List (Lis
   ends_seen attacks seen none may said nobody = record {
     here = (
       ends b ∷ [],
-      one_said {B = B} tree node b there (Ends node) (ends b) seen.remarks.items said
-          (said_ends {B = B} tree node b there),
+      one_said B tree (Ends node) (ends b) seen.remarks.items said
+          (said_ends B tree node b there),
       subst (At g tree attacks n p b (ends b ∷ []))
           (sym (ap (map (λ (c : Child B). c.mv)) nobody)) (stop attacks may),
     );
@@ -334,7 +367,7 @@ module _ {B : Type 0} (g : Geometry) (p : Placement) (n : ℕ) (tree : List (Lis
   attacker_seen seen keys sorted some other none = record {
     here = (
       map (λ t. fails b t.0 t.1) sorted.failing ++ if_any (also b) keys,
-      ap (map (remark_in tree)) sorted.said ∙ (said_fails {B = B} tree node b there sorted.failing
+      ap (map (remark_in tree)) sorted.said ∙ (said_fails B tree node b there sorted.failing
           ∙ ap (map (λ (r : Remark). Some r)) (sym (ap (λ z. map (λ t. fails b t.0 t.1) sorted.failing ++ z)
           (if_none (also b) keys none) ∙ append-nil _))),
       at_attacker seen sorted keys keys some other,
@@ -344,7 +377,7 @@ module _ {B : Type 0} (g : Geometry) (p : Placement) (n : ℕ) (tree : List (Lis
   }
 
   -- some are
-  pub attacker_misses : (seen now : Seen B) (keys : _) → IsSorted g p n tree b node children seen
+  pub attacker_misses : (seen now : Seen B) (keys : Vec Move Global) → IsSorted g p n tree b node children seen
       → 0 < length children → AreOtherKeys g p n (map (λ c. c.mv) children) keys.items → 0 < length keys.items
       → now.remarks.items ≡ seen.remarks.items ++ Also node keys ∷ []
       → now.followed.items ≡ seen.followed.items → IsSeen g tree true n p b now
@@ -353,9 +386,9 @@ module _ {B : Type 0} (g : Geometry) (p : Placement) (n : ℕ) (tree : List (Lis
       map (λ t. fails b t.0 t.1) sorted.failing ++ if_any (also b) keys.items,
       ap (map (remark_in tree)) pushed ∙ say_then tree seen.remarks.items (Also node keys ∷ [])
           (map (λ t. fails b t.0 t.1) sorted.failing) (if_any (also b) keys.items)
-          (ap (map (remark_in tree)) sorted.said ∙ said_fails {B = B} tree node b there sorted.failing)
-          (one_said {B = B} tree node b there (Also node keys) (also b keys.items) (Also node keys ∷ []) refl
-          (said_also {B = B} tree node b there keys)
+          (ap (map (remark_in tree)) sorted.said ∙ said_fails B tree node b there sorted.failing)
+          (one_said B tree (Also node keys) (also b keys.items) (Also node keys ∷ []) refl
+          (said_also B tree node b there keys)
           ∙ ap (map (λ (r : Remark). Some r)) (sym (if_some (also b) keys.items any))),
       subst (λ z. AtAttacker g p n tree b (map (λ t. fails b t.0 t.1) sorted.failing ++ if_any (also b) keys.items)
           (map (λ (c : Child B). c.mv) z)) (sym same_ones) (at_attacker seen sorted keys.items keys.items some other),
@@ -397,7 +430,7 @@ module _ {B : Type 0} (g : Geometry) (p : Placement) (n : ℕ) (tree : List (Lis
   }
 
   -- some are not
-  pub defender_misses : (seen : Seen B) (replies : _) → AreOthers g p (map (λ c. c.mv) children) replies.items
+  pub defender_misses : (seen : Seen B) (replies : Vec Move Global) → AreOthers g p (map (λ c. c.mv) children) replies.items
       → 0 < length replies.items
       → 0 < length children → Lost g p n → seen.remarks.items ≡ Open node replies ∷ []
       → seen.followed.items ≡ children → IsSeen g tree false n p b seen
@@ -405,8 +438,8 @@ module _ {B : Type 0} (g : Geometry) (p : Placement) (n : ℕ) (tree : List (Lis
       let first = some_child g p tree b children all some in record {
         here = (
           if_any (leaves_open b) replies.items,
-          one_said {B = B} tree node b there (Open node replies) (leaves_open b replies.items) seen.remarks.items said
-              (said_open {B = B} tree node b there replies)
+          one_said B tree (Open node replies) (leaves_open b replies.items) seen.remarks.items said
+              (said_open B tree node b there replies)
               ∙ ap (map (λ (r : Remark). Some r)) (sym (if_some (leaves_open b) replies.items any)),
           subst (λ z. AtDefender g p tree b (if_any (leaves_open b) replies.items) (map (λ (c : Child B). c.mv) z))
               (sym same_ones) (with_replies first.0 first.1 (lacking replies.items other) all.in_order),
@@ -420,6 +453,16 @@ module _ {B : Type 0} (g : Geometry) (p : Placement) (n : ℕ) (tree : List (Lis
       → (r : Move) × Legal g p r
   one_lacks [] other some = absurd (omega (arith, some))
   one_lacks (r ∷ others) other some = (r, ((other.exactly r).0 (inl refl)).0)
+
+-- the same of an answer that may be none
+pub ends_if : {B : Type 0} (g : Geometry) (p : Placement) (n : ℕ) (tree : List (List Move)) (b : List Move)
+    (node : Option Node) → beginning_at tree (place_of node) ≡ Some b → (children : List (Child B))
+    → AreChildren g p tree b children → (attacks : Bool) (r : Result (Seen B) AllocError) → length children ≡ 0
+    → (attacks ≡ false → (m : Move) × Legal g p m) → IfOk r (λ seen. seen.remarks.items ≡ Ends node ∷ [])
+    → IfOk r (λ seen. seen.followed.items ≡ []) → IfOk r (IsSeen g tree attacks n p b)
+ends_if g p n tree b node there children all attacks (Ok seen) none may said nobody =
+    ends_seen g p n tree b node there children all attacks seen none may said nobody
+ends_if g p n tree b node there children all attacks (Err e) none may said nobody = tt
 
 -- ---- what is remarked behind the moves that are followed
 -- the remarks so far: on the beginning, and behind the first so many of these moves

@@ -36,7 +36,6 @@ pub(crate) fn seen_by_attacker<B: Board, M: Memo<B>, G: Guide<B>, W: Watcher>(
     ensures went { Went B.geometry M.content M.dropped spot.now.left slices.old slices.new solver.old solver.new
         result }
 {
-    dw_solve::laws::searches_add_up();
     solver.keeps_its_limit();
     let children = children(alloc, tree, spot.node, &spot.position)?;
     if children.is_empty() {
@@ -115,7 +114,7 @@ fn sorted<B: Board, M: Memo<B>, G: Guide<B>, W: Watcher>(
     ensures went { Went B.geometry M.content M.dropped spot.now.left slices.old slices.new solver.old solver.new
         result }
 {
-    dw_solve::laws::searches_add_up();
+    dw_moves::laws::moves_have_keys();
     solver.keeps_its_limit();
     let mut remarks = Vec::new(alloc);
     let mut followed = Vec::new(alloc);
@@ -152,7 +151,6 @@ fn winning<B: Board, M: Memo<B>, G: Guide<B>, W: Watcher>(
     ensures went { Went B.geometry M.content M.dropped spot.now.left slices.old slices.new solver.old solver.new
         result }
 {
-    dw_solve::laws::searches_add_up();
     solver.keeps_its_limit();
     let mut keys = Vec::new(alloc);
     'moves: for mv in moves {
@@ -176,7 +174,6 @@ fn refutation<B: Board, M: Memo<B>, G: Guide<B>, W: Watcher>(
     ensures found { IfOk result (FindsFirst B.geometry position.now left) }
     ensures went { Went B.geometry M.content M.dropped left slices.old slices.new solver.old solver.new result }
 {
-    dw_solve::laws::searches_add_up();
     solver.keeps_its_limit();
     let list = listed(alloc, position)?;
     'replies: for reply in list.as_slice() {

@@ -75,7 +75,6 @@ fn check_on<B: Board, M: Memo<B>, G: Guide<B>, W: Watcher>(
         (AreRemarks B.geometry tree.now moves position.now [])) }
     ensures went { Went B.geometry M.content M.dropped moves slices.old slices.new solver.old solver.new result }
 {
-    dw_solve::laws::searches_add_up();
     let wins = wins_on(alloc, solver, position, moves, slices)?;
     let root = Spot {
         node: None,
@@ -104,7 +103,6 @@ fn remarks_from<B: Board, M: Memo<B>, G: Guide<B>, W: Watcher>(
     ensures went { Went B.geometry M.content M.dropped spot.now.left slices.old slices.new solver.old solver.new
         result }
 {
-    dw_solve::laws::searches_add_up();
     let Seen {
         mut remarks,
         followed,
@@ -132,7 +130,6 @@ fn seen<B: Board, M: Memo<B>, G: Guide<B>, W: Watcher>(
     ensures went { Went B.geometry M.content M.dropped spot.now.left slices.old slices.new solver.old solver.new
         result }
 {
-    dw_solve::laws::searches_add_up();
     if spot.attacks {
         return seen_by_attacker(alloc, solver, slices, tree, spot);
     }

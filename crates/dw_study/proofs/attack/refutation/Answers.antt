@@ -1,7 +1,8 @@
-use Rattle.std.proofs.Common.{◌+◌, map, sym, ap, subst, arith}
+use Rattle.std.proofs.Common.{map, sym, ap, ◌∙◌, subst, arith}
 use Rattle.dw_moves.specs.Moves.{Legal, play}
 use Rattle.dw_moves.specs.Order.{Precedes, IsListOf}
 use Rattle.dw_report.specs.inner.GatheredLemmas.{item_among}
+use Rattle.dw_study.specs.Remarks.{IsFirstRefutation}
 use Rattle.dw_study.proofs.SeenLemmas.{won_more, won_all, first_found, no_win, a_win}
 use Rattle.dw_study.proofs.WentLemmas.{answered, went_none, went_then, went_ok, went_stop, went_memory}
 use Rattle.dw_study.proofs.attack.refutation.Goals as goal
@@ -29,11 +30,12 @@ replies-preserved g c =
     let q = c.args.position.now in
     let n = c.args.left in
     let here = c.in_ok-wins_on.ensures in
+    let is = ap (λ l. l.step) c.reply.view_is in
     record {
       won = won_more (λ item. item.step) geo q n c.as_slice-reply-items.result.now c.replies.reply-index
           c.reply-item.result c.replies-test.true c.reply-item.is
-          (a_win geo q c.play-after.result n _ c.in_ok-wins_on.field-0 c.play-after.ensures here.answer
-          c.if-not-branch.false) c.replies.invariant.won;
+          (a_win geo q c.play-after.result n c.reply-item.result.step c.in_ok-wins_on.field-0
+          (c.play-after.ensures ∙ ap (play geo q) is) here.answer c.if-not-branch.false) c.replies.invariant.won;
       went = went_then geo g.M.Memo.content g.M.Memo.dropped n n c.args.slices.now c.replies.slices
           c.wins_on.new.slices c.args.solver.now c.replies.solver c.wins_on.new.solver answered (omega arith)
           c.replies.invariant.went (went_ok geo g.M.Memo.content g.M.Memo.dropped n c.replies.slices
@@ -48,10 +50,13 @@ returns-then-not-branch-clause-found g c =
     let n = c.args.left in
     let all = subst (λ z. IsListOf (Precedes geo q) (Legal geo q) (map (λ item. item.step) z))
     (sym c.as_slice-reply-items.ensures.value) c.in_ok-list.ensures.in_order in
-    first_found (λ item. item.step) geo q n c.as_slice-reply-items.result.now c.replies.reply-index
+    let is = ap (λ l. l.step) c.reply.view_is in
+    subst (IsFirstRefutation geo q n) (sym is)
+    (first_found (λ item. item.step) geo q n c.as_slice-reply-items.result.now c.replies.reply-index
     c.reply-item.result all c.replies-test.true c.reply-item.is
-    (no_win geo q c.play-after.result n _ c.in_ok-wins_on.field-0 c.play-after.ensures c.in_ok-wins_on.ensures.answer
-    c.if-not-branch.true) c.replies.invariant.won
+    (no_win geo q c.play-after.result n c.reply-item.result.step c.in_ok-wins_on.field-0
+    (c.play-after.ensures ∙ ap (play geo q) is) c.in_ok-wins_on.ensures.answer c.if-not-branch.true)
+    c.replies.invariant.won)
 
 pub returns-clause-found : goal.returns-clause-found
 returns-clause-found g c =
