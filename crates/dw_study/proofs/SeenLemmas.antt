@@ -1,6 +1,6 @@
 -- What is seen of a beginning, and what is remarked behind it.
 use Rattle.std.proofs.Common.{◌≡◌, ℕ, zero, suc, ◌+◌, ◌-◌, ◌<◌, ◌≤◌, List, [], ◌∷◌, ◌++◌, length, map, take, drop}
-use Rattle.std.proofs.Common.{get_or, Vec, Global, Result, Ok, Err}
+use Rattle.std.proofs.Common.{get_or, Vec, Global, Result, Ok, Err, cond, ◌*◌}
 use Rattle.std.specs.Prelude.{IfOk}
 use Rattle.std.specs.declared.alloc.AllocError.{AllocError}
 use Rattle.std.proofs.Common.{Option, Some, None, refl, sym, ap, subst, ◌∙◌, inl, inr, arith, Bool, true, false, IsTrue}
@@ -23,6 +23,7 @@ use Rattle.dw_report.specs.Verdict.{IsWinning, Refutes}
 use Rattle.dw_report.specs.inner.GatheredLemmas.{GatheredTo, to_none, to_more, to_same, to_all, item_among}
 use Rattle.dw_games.specs.Walk.{place_of, beginning_at}
 use Rattle.dw_games.specs.declared.branches.Node.{Node}
+use Rattle.dw_study.specs.declared.branch.Spot.{Spot}
 use Rattle.dw_study.specs.declared.branch.Child.{Child}
 use Rattle.dw_study.specs.declared.branch.Seen.{Seen}
 use Rattle.dw_study.specs.declared.remark.Remark as code
@@ -553,3 +554,70 @@ module _ {B : Type 0} (g : Geometry) (tree : List (List Move)) (attacks : Bool) 
         (subst (λ z. SoFar (λ here. At g tree attacks n p b here (map (λ (c : Child B). c.mv) followed))
         (Later g tree attacks n p b) (map (λ (c : Child B). c.mv) z) h.0) (take_all i followed end) h.2),
   )
+
+-- ---- going on behind a move
+-- what holds of a child that is followed
+pub child_kept : {B : Type 0} (g : Geometry) (tree : List (List Move)) (attacks : Bool) (n : ℕ) (p : Placement)
+    (b : List Move) (seen : Seen B) (items : List (Child B)) (i : ℕ) (c : Child B)
+    → IsSeen g tree attacks n p b seen → items ≡ seen.followed.items → i < length items → c ≡ get_or items i c
+    → Legal g p c.mv × IsKept g (not attacks) (left_after attacks n) (play g p c.mv)
+    × (slice_get tree c.node.0 ≡ Some (b ++ c.mv ∷ []))
+child_kept {B} g tree attacks n p b seen items i c h same low at =
+    let member = subst (Member c) same (item_member items i c low at) in
+    let kept = h.kept c.mv (mem_map (λ (x : Child B). x.mv) c seen.followed.items member) in
+    (kept.0, kept.1, h.each c member)
+
+pub left_less : (attacks : Bool) (n : ℕ) → left_after attacks n ≤ n
+left_less true zero = omega arith
+left_less true (suc n) = omega arith
+left_less false n = omega arith
+
+pub falls : (g : Geometry) (attacks : Bool) (n : ℕ) (p : Placement) → IsKept g attacks n p
+    → 2 * left_after attacks n + cond (not attacks) 0 1 < 2 * n + cond attacks 0 1
+falls g true zero p kept = absurd (omega (arith, kept))
+falls g true (suc n) p kept = omega arith
+falls g false n p kept = omega arith
+
+pub kept_some : (g : Geometry) (attacks : Bool) (n : ℕ) (p : Placement) → IsKept g attacks n p → attacks ≡ true → 1 ≤ n
+kept_some g true n p kept e = kept
+kept_some g false n p kept e = absurd (true≢false (sym e))
+
+-- the beginning with one move more
+abbrev pub after_child : {B : Type 0} → Geometry → Spot B → Child B → Spot B
+after_child g spot c = record {
+  node = Some c.node;
+  position = play g spot.position c.mv;
+  attacks = not spot.attacks;
+  left = left_after spot.attacks spot.left;
+}
+
+pub after_there : {B : Type 0} (g : Geometry) (tree : List (List Move)) (spot after : Spot B) (c : Child B)
+    (b : List Move) → after ≡ after_child g spot c → slice_get tree c.node.0 ≡ Some (b ++ c.mv ∷ [])
+    → beginning_at tree (place_of after.node) ≡ Some (b ++ c.mv ∷ [])
+after_there {B} g tree spot after c b is there =
+    subst (λ (z : Spot B). beginning_at tree (place_of z.node) ≡ Some (b ++ c.mv ∷ [])) (sym is) there
+
+pub after_kept : {B : Type 0} (g : Geometry) (spot after : Spot B) (c : Child B) → after ≡ after_child g spot c
+    → IsKept g (not spot.attacks) (left_after spot.attacks spot.left) (play g spot.position c.mv)
+    → IsKept g after.attacks after.left after.position
+after_kept {B} g spot after c is kept =
+    subst (λ (z : Spot B). IsKept g z.attacks z.left z.position) (sym is) kept
+
+pub after_less : {B : Type 0} (g : Geometry) (spot after : Spot B) (c : Child B) → after ≡ after_child g spot c
+    → after.left ≤ spot.left
+after_less {B} g spot after c is =
+    subst (λ (z : Spot B). z.left ≤ spot.left) (sym is) (left_less spot.attacks spot.left)
+
+pub after_falls : {B : Type 0} (g : Geometry) (spot after : Spot B) (c : Child B) → after ≡ after_child g spot c
+    → IsKept g spot.attacks spot.left spot.position
+    → 2 * after.left + cond after.attacks 0 1 < 2 * spot.left + cond spot.attacks 0 1
+after_falls {B} g spot after c is kept =
+    subst (λ (z : Spot B). 2 * z.left + cond z.attacks 0 1 < 2 * spot.left + cond spot.attacks 0 1) (sym is)
+    (falls g spot.attacks spot.left spot.position kept)
+
+pub after_says : {B : Type 0} (g : Geometry) (tree : List (List Move)) (spot after : Spot B) (c : Child B)
+    (b : List Move) (items : List (code.Remark B)) → after ≡ after_child g spot c
+    → Say tree items (Behind g tree after.attacks after.left after.position (b ++ c.mv ∷ []))
+    → Say tree items (Later g tree spot.attacks spot.left spot.position b c.mv)
+after_says {B} g tree spot after c b items is says =
+    subst (λ (z : Spot B). Say tree items (Behind g tree z.attacks z.left z.position (b ++ c.mv ∷ []))) is says
