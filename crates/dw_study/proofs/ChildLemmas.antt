@@ -2,7 +2,7 @@
 use Rattle.std.proofs.Common.{◌≡◌, ℕ, zero, suc, ◌+◌, ◌-◌, ◌<◌, ◌≤◌, List, [], ◌∷◌, ◌++◌, length, map, take, get_or}
 use Rattle.std.proofs.Common.{Option, Some, None, refl, sym, ap, subst, ◌∙◌, ◌⊎◌, inl, inr, arith}
 use Rattle.std.proofs.Common.{Bool, true, false, IsTrue, ◌==◌, Vec, Global, vec_len}
-use Rattle.std.specs.Prelude.{MatchOption, IsNone}
+use Rattle.std.specs.Prelude.{MatchOption}
 use Rattle.std.specs.List.{slice_get}
 use Rattle.std.proofs.lemmas.Bool.{cases_lt, eqb-true, eqb-false}
 use Rattle.std.proofs.lemmas.List.{take_all, map-append}
@@ -12,7 +12,7 @@ use Rattle.dw_board.specs.Placement.{Placement}
 use Rattle.dw_board.specs.Lists.{Member}
 use Rattle.dw_moves.specs.Moves.{Move, Legal}
 use Rattle.dw_moves.specs.Order.{IsAscending}
-use Rattle.dw_moves.specs.inner.MemberLemmas.{mem_left, mem_right, mem_cases, mem_map, mem_map_back}
+use Rattle.dw_moves.specs.inner.MemberLemmas.{mem_left, mem_right, mem_cases, mem_map_back}
 use Rattle.dw_list.specs.inner.ListLemmas.{at_item}
 use Rattle.dw_games.specs.Walk.{place_of, beginning_at, IsNext}
 use Rattle.dw_games.specs.declared.branches.Node.{Node}

@@ -12,14 +12,14 @@ use Rattle.std.proofs.lemmas.List.{take_all, map-append, map-id}
 use Rattle.dw_board.specs.Geometry.{Geometry}
 use Rattle.dw_board.specs.Placement.{Placement}
 use Rattle.dw_board.specs.Lists.{Member}
-use Rattle.dw_moves.specs.Moves.{Move, Legal, NoMove, play}
+use Rattle.dw_moves.specs.Moves.{Move, Legal, play}
 use Rattle.dw_moves.specs.Order.{Precedes, IsAscending, IsListOf}
 use Rattle.dw_moves.specs.Laws.{MovesHaveKeys}
-use Rattle.dw_moves.specs.inner.MemberLemmas.{mem_right, mem_cases, mem_map}
+use Rattle.dw_moves.specs.inner.MemberLemmas.{mem_cases, mem_map}
 use Rattle.dw_list.specs.inner.ListLemmas.{at_item, ascending_parts, listed_as}
 use Rattle.dw_list.specs.inner.LineOrderLemmas.{precedes_asym}
 use Rattle.dw_solve.specs.Wins.{Win, Lost}
-use Rattle.dw_report.specs.Verdict.{IsWinning, Refutes}
+use Rattle.dw_report.specs.Verdict.{IsWinning}
 use Rattle.dw_report.specs.inner.GatheredLemmas.{GatheredTo, to_none, to_more, to_same, to_all, item_among}
 use Rattle.dw_games.specs.Walk.{place_of, beginning_at}
 use Rattle.dw_games.specs.declared.branches.Node.{Node}
@@ -29,7 +29,7 @@ use Rattle.dw_study.specs.declared.branch.Seen.{Seen}
 use Rattle.dw_study.specs.declared.remark.Remark as code
 use Rattle.dw_study.specs.declared.remark.Remark.TheVariants.{Fails, Also, Open, Ends}
 use Rattle.dw_study.specs.Remarks.{Remark, fails, also, leaves_open, ends, GoesOnBy, StandsBefore, IsFirstRefutation}
-use Rattle.dw_study.specs.Remarks.{IsFailing, if_any, AtAttacker, without_move, with_moves, AtDefender, over}
+use Rattle.dw_study.specs.Remarks.{if_any, AtAttacker, without_move, with_moves, AtDefender, over}
 use Rattle.dw_study.specs.Remarks.{without_reply, with_replies, InTurn, nothing, one_more}
 use Rattle.dw_study.specs.Telling.{remark_in, Say}
 use Rattle.dw_study.specs.inner.Checking.{AreChildren, AreOthers, AreOtherKeys, FindsFirst, IsSorted, IsSeen}
@@ -461,9 +461,9 @@ pub ends_if : {B : Type 0} (g : Geometry) (p : Placement) (n : ℕ) (tree : List
     → AreChildren g p tree b children → (attacks : Bool) (r : Result (Seen B) AllocError) → length children ≡ 0
     → (attacks ≡ false → (m : Move) × Legal g p m) → IfOk r (λ seen. seen.remarks.items ≡ Ends node ∷ [])
     → IfOk r (λ seen. seen.followed.items ≡ []) → IfOk r (IsSeen g tree attacks n p b)
-ends_if g p n tree b node there children all attacks (Ok seen) none may said nobody =
-    ends_seen g p n tree b node there children all attacks seen none may said nobody
-ends_if g p n tree b node there children all attacks (Err e) none may said nobody = tt
+ends_if g p n tree b spot there children all attacks (Ok seen) none may said nobody =
+    ends_seen g p n tree b spot there children all attacks seen none may said nobody
+ends_if g p n tree b spot there children all attacks (Err e) none may said nobody = tt
 
 -- ---- what is remarked behind the moves that are followed
 -- the remarks so far: on the beginning, and behind the first so many of these moves

@@ -1,9 +1,9 @@
-use Rattle.std.proofs.Common.{◌≤◌, sym, ap, ◌∙◌, subst, arith, map, true, refl}
+use Rattle.std.proofs.Common.{◌≤◌, sym, subst, arith, map, true, refl}
 use Rattle.dw_board.specs.Lists.{Member}
 use Rattle.dw_study.specs.inner.Checking.{IsSeen, AreChildren, AreOthers}
 use Rattle.dw_study.proofs.ChildLemmas.{none_there, some_there}
 use Rattle.dw_study.proofs.SeenLemmas.{ends_seen, attacker_seen, attacker_misses, others_of, sorted_of}
-use Rattle.dw_study.proofs.WentLemmas.{answered, went_none, went_then, went_ok, went_stop, went_memory}
+use Rattle.dw_study.proofs.WentLemmas.{answered, went_then, went_ok, went_memory}
 use Rattle.dw_study.proofs.attack.seen_by_attacker.Goals.{then-not-is_empty+in_ok-push, else-not-is_empty}
 use Rattle.dw_study.proofs.attack.seen_by_attacker.Goals as goal
 

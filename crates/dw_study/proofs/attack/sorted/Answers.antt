@@ -1,4 +1,4 @@
-use Rattle.std.proofs.Common.{◌+◌, ◌-◌, ◌≤◌, sym, ap, ◌∙◌, subst, arith, refl}
+use Rattle.std.proofs.Common.{◌+◌, ◌-◌, ◌≤◌, sym, ap, ◌∙◌, subst, arith}
 use Rattle.dw_moves.specs.inner.MemberLemmas.{mem_map}
 use Rattle.dw_study.specs.inner.Checking.{FindsFirst}
 use Rattle.dw_study.proofs.SeenLemmas.{SortedTo, sorted_none, sorted_fail, sorted_key, sorted_all, item_member}

@@ -1,4 +1,4 @@
-use Rattle.std.proofs.Common.{◌≤◌, ◌∷◌, ◌++◌, [], sym, ap, ◌∙◌, subst, arith}
+use Rattle.std.proofs.Common.{◌∷◌, ◌++◌, [], sym, subst, arith}
 use Rattle.dw_study.proofs.SeenLemmas.{SaidTo, said_none, said_more, said_all, child_kept, kept_some, after_there}
 use Rattle.dw_study.proofs.SeenLemmas.{after_kept, after_less, after_falls, after_says}
 use Rattle.dw_study.proofs.WentLemmas.{answered, went_then, went_ok, went_stop, went_memory}

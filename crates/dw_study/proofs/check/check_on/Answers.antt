@@ -1,5 +1,5 @@
 use Rattle.std.proofs.Common.{◌≤◌, refl, arith}
-use Rattle.dw_study.proofs.WentLemmas.{answered, went_then, went_ok, went_stop}
+use Rattle.dw_study.proofs.WentLemmas.{went_then, went_ok, went_stop}
 use Rattle.dw_study.proofs.check.check_on.Goals as goal
 
 pub returns-in_err-remarks-clause-went : goal.returns-in_err-remarks-clause-went
