@@ -1,4 +1,4 @@
-//! What an author's solution says where the attacker is to move, and where the defender is.
+//! What is seen of a beginning of an author's solution, where the attacker is to move, and where the defender is.
 ghost use Rattle.std.specs.Prelude.{◌≡◌, ◌≤◌, ◌∷◌, [], true, false, Some, IfOk, map};
 ghost use Rattle.dw_board.specs.Lists.{Member};
 ghost use Rattle.dw_moves.specs.Moves.{Legal};

@@ -1,5 +1,6 @@
 //! Beginnings of an author's solution, and how it goes on from them.
-ghost use Rattle.std.specs.Prelude.{◌≡◌, ◌↔◌, ◌++◌, ◌∷◌, [], Some, IfOk, OnOk, IsTrue, MatchOption, map, not, slice_get};
+ghost use Rattle.std.specs.Prelude.{◌≡◌, ◌↔◌, ◌++◌, ◌∷◌, [], Some, IfOk, OnOk, IsTrue, MatchOption, map, not};
+ghost use Rattle.std.specs.Prelude.{slice_get};
 ghost use Rattle.dw_board.specs.Lists.{Member};
 ghost use Rattle.dw_moves.specs.Moves.{Legal};
 ghost use Rattle.dw_games.specs.Walk.{beginning_at, place_of};

@@ -1,8 +1,8 @@
 //! What a composer or an editor asks of a position: the least number of moves within which it is won, with the verdict;
 //! and what an author's solution gets wrong or leaves out.
 //!
-//! Begin with `find`, which answers a `Finding`, or `check`, which answers what is `Checked`; `Slices` say how its searches are cut into slices, and who is told
-//! between two of them how far it is.
+//! Begin with `find`, which answers a `Finding`, or with `check`, which answers what is `Checked`; `Slices` say how
+//! their searches are cut into slices, and who is told between two of them how far it is.
 //!
 //! An example tells a position by its FEN text, on the board of ten rows if it names no other.
 #![tactic(auto)]
