@@ -23,7 +23,7 @@ use Rattle.dw_study.specs.inner.Checking.{AreChildren}
 pub same : {A : Type 0} (x y : A) → Some x ≡ Some y → x ≡ y
 same x y e = cc
 
-absent : {A B : Type 0} (x : A) → None ≡ Some x → B
+pub absent : {A B : Type 0} (x : A) → None ≡ Some x → B
 absent x e = cc
 
 member_at : {A : Type 0} → (x : A) (xs : List A) → Member x xs → (k : ℕ) × (slice_get xs k ≡ Some x)
@@ -31,7 +31,7 @@ member_at x [] h = absurd h
 member_at x (y ∷ xs) (inl e) = (zero, ap Some (sym e))
 member_at x (y ∷ xs) (inr h) = let more = member_at x xs h in (suc more.0, more.1)
 
-at_member : {A : Type 0} → (x : A) (xs : List A) (k : ℕ) → slice_get xs k ≡ Some x → Member x xs
+pub at_member : {A : Type 0} → (x : A) (xs : List A) (k : ℕ) → slice_get xs k ≡ Some x → Member x xs
 at_member x [] k e = absent x e
 at_member x (y ∷ xs) zero e = inl (sym (same y x e))
 at_member x (y ∷ xs) (suc k) e = inr (at_member x xs k e)

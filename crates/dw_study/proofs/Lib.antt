@@ -3,3 +3,4 @@ pub mod FindingLemmas
 pub mod WentLemmas
 pub mod ChildLemmas
 pub mod SeenLemmas
+pub mod RemarkLemmas
