@@ -72,6 +72,26 @@ module _ (steps : List Step) (firsts nexts : List (Option ℕ)) (linked : AreLin
       → (b : List Move) × (slice_get (paths_of steps) n ≡ Some (b ++ m ∷ []))
   move_clause n p m e = (path_to (paths_of steps) p, node_path steps linked.above linked.once n _ e)
 
+  place_is : (p : Option ℕ) → IsPlace steps p → beginning_at (paths_of steps) p ≡ Some (path_to (paths_of steps) p)
+  place_is None h = refl
+  place_is (Some n) h = slice_get-get_or (paths_of steps) n [] (omega (arith, h, length_paths steps))
+
+  -- the beginning before a node's move is that at its parent
+  pub parent_clause : (n : ℕ) (p : Option ℕ) (m : Move) → slice_get steps n ≡ Some (record { parent = p; mv = m })
+      → (b : List Move) (o : Move) → slice_get (paths_of steps) n ≡ Some (b ++ o ∷ [])
+      → beginning_at (paths_of steps) p ≡ Some b
+  parent_clause n p m e b o there =
+      let is = node_path steps linked.above linked.once n _ e in
+      let both = last_same b (path_to (paths_of steps) p) o m (same _ _ (sym there ∙ is)) in
+      subst (λ x. beginning_at (paths_of steps) p ≡ Some x) (sym both.0)
+      (place_is p (parent_place steps linked.above linked.once n _ e p refl))
+
+  pub no_parent : (n : ℕ) → length steps ≤ n → (p : Option ℕ) (b : List Move) (o : Move)
+      → slice_get (paths_of steps) n ≡ Some (b ++ o ∷ []) → beginning_at (paths_of steps) p ≡ Some b
+  no_parent n past p b o there =
+      absurd (none_some (b ++ o ∷ []) (sym (slice_get_past (paths_of steps) n (omega (arith, past, length_paths steps)))
+      ∙ there))
+
   -- a step that stands there is noted again
   pub noted_again : (p : Option ℕ) (m : Move) (n : ℕ) → slice_get steps n ≡ Some (record { parent = p; mv = m })
       → (b : List Move) → beginning_at (paths_of steps) p ≡ Some b

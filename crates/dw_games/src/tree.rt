@@ -81,6 +81,15 @@ impl<B: Board> Tree<B> {
         Some(self.branches.get(node.0)?.mv)
     }
 
+    /// The node before the move before a node, or `None` if that is the root.
+    /// Example: in `1. 32-28 18-22` that of the node behind `18-22` is the one behind `32-28`.
+    pub fn parent(&self, node: Node) -> Option<Node>
+        ensures { (b : _) (m : _) → slice_get self.now node.0 ≡ Some (b ++ m ∷ [])
+            → beginning_at self.now (place_of result) ≡ Some b }
+    {
+        self.branches.get(node.0)?.parent
+    }
+
     /// The node behind a move after a node. If there is none yet, it is put behind all others.
     pub(crate) fn note(&mut self, parent: Option<Node>, mv: &Move<B>) -> Result<Node, AllocError>
         requires { IsSome (beginning_at self.old (place_of parent)) }

@@ -7,7 +7,7 @@ use Rattle.dw_moves.specs.Moves.{Move, Legal, play}
 use Rattle.dw_moves.specs.Order.{Precedes, IsListOf}
 use Rattle.dw_solve.specs.Wins.{Win, Lost}
 use Rattle.dw_report.specs.Verdict.{Keys}
-use Rattle.dw_report.proofs.GatheredLemmas.{GatheredTo, to_all}
+use Rattle.dw_report.specs.inner.GatheredLemmas.{GatheredTo, to_all}
 use Rattle.dw_report.proofs.VerdictLemmas.{key_wins}
 
 pub keys_whole : {V : Type 0} (step : V → Move) (g : Geometry) (p : Placement) (n : ℕ) (xs : List V) (i : ℕ)

@@ -10,7 +10,6 @@ pub mod TextLemmas
 pub mod WritingLemmas
 pub mod ChoiceLemmas
 pub mod VerdictLemmas
-pub mod GatheredLemmas
 pub mod KeyListLemmas
 pub mod RefutingLemmas
 pub mod TryListLemmas

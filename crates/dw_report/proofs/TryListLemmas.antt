@@ -5,7 +5,7 @@ use Rattle.dw_board.specs.Placement.{Placement}
 use Rattle.dw_moves.specs.Moves.{Move, Legal, play}
 use Rattle.dw_moves.specs.Order.{Precedes, IsListOf}
 use Rattle.dw_report.specs.Verdict.{IsRefutation, Tries}
-use Rattle.dw_report.proofs.GatheredLemmas.{GatheredTo, to_all}
+use Rattle.dw_report.specs.inner.GatheredLemmas.{GatheredTo, to_all}
 use Rattle.dw_report.proofs.VerdictLemmas.{refuted_fails}
 
 abbrev pub TriesTo : {V : Type 0} → (V → Move) → Geometry → Placement → ℕ → List V → ℕ → List (Move × Move) → Type 0

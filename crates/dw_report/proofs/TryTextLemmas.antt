@@ -26,7 +26,7 @@ use Rattle.dw_report.specs.Running.{AreWholeLines, AreLinesOf}
 use Rattle.dw_report.specs.inner.Running.{TextEnds}
 use Rattle.dw_report.specs.declared.problem.TextFault.{TextFault}
 use Rattle.dw_report.specs.declared.problem.TextFault.TheVariants.{Stopped, Sink}
-use Rattle.dw_report.proofs.GatheredLemmas.{AreGathered, gathered_none, gathered_more, gathered_same}
+use Rattle.dw_report.specs.inner.GatheredLemmas.{AreGathered, gathered_none, gathered_more, gathered_same}
 use Rattle.dw_report.proofs.JoiningLemmas.{one_of_them}
 use Rattle.dw_report.proofs.VerdictLemmas.{refutation_some, tries_listed}
 use Rattle.dw_report.proofs.WritingLemmas.{stops_within}

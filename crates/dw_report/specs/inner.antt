@@ -4,3 +4,4 @@ pub mod JudgedText
 pub mod MoveTexts
 pub mod Judging
 pub mod Running
+pub mod GatheredLemmas

@@ -1,10 +1,12 @@
--- Laws of findings, for every board.
-use Rattle.std.specs.Prelude.{◌≡◌, ℕ, ◌<◌, List}
+-- Laws of findings and of remarks, for every board.
+use Rattle.std.specs.Prelude.{◌≡◌, ℕ, ◌<◌, List, []}
 use Rattle.dw_board.specs.Geometry.{Geometry, IsBoard}
 use Rattle.dw_board.specs.Placement.{Placement}
 use Rattle.dw_moves.specs.Moves.{Move}
+use Rattle.dw_games.specs.Movetext.{IsTree}
 use Rattle.dw_report.specs.Verdict.{Verdict}
 use Rattle.dw_study.specs.Finding.{judged, undecided, IsFinding}
+use Rattle.dw_study.specs.Remarks.{Remark, AreRemarks}
 
 -- each position is judged in one way, and only in one; if it is undecided, then at a lower number of moves
 pub record OneFinding : Type 0 where
@@ -15,3 +17,9 @@ pub record OneFinding : Type 0 where
       → IsFinding g p most (judged j w others) → judged k v tries ≡ judged j w others
   pub below : (g : Geometry) (p : Placement) (most k j : ℕ) (v : Verdict) (tries : List (Move × Move))
       → IsFinding g p most (undecided j) → IsFinding g p most (judged k v tries) → j < k
+
+-- there is only one list of remarks on the tree of a movetext
+abbrev pub OneListOfRemarks : Type 0
+OneListOfRemarks = (g : Geometry) (p : Placement) (text : List ℕ) (tree : List (List Move)) → IsTree g p text tree
+    → (n : ℕ) (remarks others : List Remark) → AreRemarks g tree n p [] remarks → AreRemarks g tree n p [] others
+    → remarks ≡ others

@@ -1,4 +1,5 @@
 pub mod Finding
+pub mod Remarks
 pub mod Telling
 pub mod FoundText
 pub mod Slices

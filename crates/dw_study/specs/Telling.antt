@@ -1,10 +1,15 @@
--- How a finding is told.
-use Rattle.std.specs.Prelude.{ℕ, Result, Ok, Err}
+-- How findings and remarks are told.
+use Rattle.std.specs.Prelude.{◌≡◌, ℕ, Result, Ok, Err, Option, Some, option_map, List, map}
 use Rattle.dw_solve.specs.declared.stop.Stop.{Stop}
 use Rattle.dw_report.specs.Judging.{said_by}
+use Rattle.dw_moves.specs.Moves.{Move}
+use Rattle.dw_games.specs.Walk.{place_of, beginning_at}
 use Rattle.dw_study.specs.Finding.{Finding, judged, undecided}
+use Rattle.dw_study.specs.Remarks.{Remark, fails, also, leaves_open, ends}
 use Rattle.dw_study.specs.declared.finding.Finding as findings
 use Rattle.dw_study.specs.declared.finding.Finding.TheVariants.{Judged, Undecided}
+use Rattle.dw_study.specs.declared.remark.Remark as remarks
+use Rattle.dw_study.specs.declared.remark.Remark.TheVariants.{Fails, Also, Open, Ends}
 
 -- what a finding says
 abbrev pub told_by : {B : Type 0} → findings.Finding B → Finding
@@ -16,3 +21,14 @@ abbrev pub cut_short : {B : Type 0} → Result (findings.Finding B) Stop → ℕ
 cut_short (Ok (Judged k it)) n = 0
 cut_short (Ok (Undecided k)) n = n
 cut_short (Err stop) n = n
+
+-- what a remark says, whose beginning is told by its place in a tree
+abbrev pub remark_in : {B : Type 0} → List (List Move) → remarks.Remark B → Option Remark
+remark_in tree (Fails at mv reply) = option_map (λ b. fails b mv reply) (beginning_at tree (place_of at))
+remark_in tree (Also at keys) = option_map (λ b. also b keys.items) (beginning_at tree (place_of at))
+remark_in tree (Open at replies) = option_map (λ b. leaves_open b replies.items) (beginning_at tree (place_of at))
+remark_in tree (Ends at) = option_map (λ b. ends b) (beginning_at tree (place_of at))
+
+-- these remarks on a tree say what holds
+abbrev pub Say : {B : Type 0} → List (List Move) → List (remarks.Remark B) → (List Remark → Type 0) → Type 0
+Say tree items Holds = (said : List Remark) × (map (remark_in tree) items ≡ map (λ r. Some r) said) × Holds said

@@ -1,5 +1,5 @@
-//! Laws of findings, each the contract of a function that does nothing.
-ghost use Rattle.dw_study.specs.Laws.{OneFinding};
+//! Laws of findings and of remarks, each the contract of a function that does nothing.
+ghost use Rattle.dw_study.specs.Laws.{OneFinding, OneListOfRemarks};
 
 /// Each position is judged in one way, and only in one. If it is undecided, then at a lower number of moves.
 /// Example: within 20 moves `W:W27,45:B16` is judged at 2 moves, and undecided only at 0 or 1.
@@ -10,4 +10,12 @@ pub fn one_finding()
     dw_solve::laws::wins_stay();
     dw_report::laws::one_verdict();
     dw_report::laws::tries_are_listed();
+}
+
+/// There is only one list of remarks on the tree of a movetext within so many moves.
+/// Example: at `W:W27,32:B18` all that can be remarked of `1. 32-28`, within 2 moves, is that it ends there.
+pub fn one_list_of_remarks()
+    ensures { OneListOfRemarks }
+{
+    dw_moves::laws::moves_have_keys();
 }

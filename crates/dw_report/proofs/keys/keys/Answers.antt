@@ -4,7 +4,7 @@ use Rattle.dw_moves.specs.Order.{Precedes, IsListOf}
 use Rattle.dw_solve.specs.Wins.{Lost}
 use Rattle.dw_list.specs.inner.QuestionLemmas.{answered, asked_none, asked_then, asked_wider, asked_ok, asked_stop}
 use Rattle.dw_list.specs.inner.QuestionLemmas.{asked_memory}
-use Rattle.dw_report.proofs.GatheredLemmas.{GatheredTo, to_none, to_more, to_same, item_among}
+use Rattle.dw_report.specs.inner.GatheredLemmas.{GatheredTo, to_none, to_more, to_same, item_among}
 use Rattle.dw_report.proofs.KeyListLemmas.{keys_whole, not_lost, keys_within_none}
 use Rattle.dw_report.proofs.keys.keys.Goals.{then-branch+in_ok-push, else-branch}
 use Rattle.dw_report.proofs.keys.keys.Goals as goal

@@ -4,7 +4,7 @@ use Rattle.dw_moves.specs.Order.{Precedes}
 use Rattle.dw_solve.specs.Wins.{Lost}
 use Rattle.dw_solve.specs.Questions.{Asked}
 use Rattle.dw_list.specs.inner.QuestionLemmas.{answered}
-use Rattle.dw_report.proofs.GatheredLemmas.{GatheredTo}
+use Rattle.dw_report.specs.inner.GatheredLemmas.{GatheredTo}
 use Rattle.dw_report.proofs.keys.keys.Given as goal
 
 abbrev pub invariant-moves : goal.invariant-moves

@@ -3,7 +3,7 @@ use Rattle.dw_moves.specs.Moves.{Move, Legal, play}
 use Rattle.dw_moves.specs.Order.{Precedes, IsListOf}
 use Rattle.dw_list.specs.inner.QuestionLemmas.{answered, asked_none, asked_then, asked_wider, asked_ok, asked_stop}
 use Rattle.dw_list.specs.inner.QuestionLemmas.{asked_memory}
-use Rattle.dw_report.proofs.GatheredLemmas.{item_among, to_none, to_more, to_same}
+use Rattle.dw_report.specs.inner.GatheredLemmas.{item_among, to_none, to_more, to_same}
 use Rattle.dw_report.specs.Verdict.{IsRefutation}
 use Rattle.dw_report.specs.inner.Judging.{FindsRefutation}
 use Rattle.dw_report.proofs.TryListLemmas.{TriesTo, tries_whole}

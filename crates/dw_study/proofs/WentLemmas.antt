@@ -1,0 +1,87 @@
+-- Searches in slices, one after another.
+use Rattle.std.proofs.Common.{◌≡◌, ℕ, ◌≤◌, refl, sym, ap, ◌∙◌, arith, Result, Ok, Err, IsErrOf}
+use Rattle.std.specs.Result.{IsErrAnd}
+use Rattle.dw_board.specs.Geometry.{Geometry}
+use Rattle.dw_memo.specs.Content.{Content}
+use Rattle.dw_solve.specs.declared.stop.Stop.{Stop}
+use Rattle.dw_solve.specs.declared.stop.Stop.TheVariants.{Limit, Memory}
+use Rattle.dw_solve.specs.Solving.{Solving}
+use Rattle.dw_study.specs.declared.slices.Slices.{Slices}
+use Rattle.dw_study.specs.inner.Checking.{Went}
+use Rattle.dw_study.proofs.SliceLemmas.{goes_on_none, goes_on_then, goes_on_looser, counted_then}
+
+-- an answer, whatever it is
+abbrev pub answered : Result ℕ Stop
+answered = Ok 0
+
+err_is : {B : Type 0} (d : Stop) → IsErrOf {T = B} (Err d) Limit → d ≡ Limit
+err_is d same = cc
+
+memory_apart : Memory ≡ Limit → ⊥
+memory_apart e = cc
+
+module _ {M W : Type 0} (g : Geometry) (content : M → Content) (lost : M → ℕ) where
+  -- no search
+  pub went_none : (n : ℕ) (t : Slices W) (s : Solving M) → s.expanded ≤ s.limit
+      → Went g content lost n t t s s answered
+  went_none n t s within = record {
+    count = record { rises = omega arith; within = within; same = refl };
+    stop = λ e. cc;
+    on = goes_on_none g content lost n t.first t.start s;
+    first = refl;
+    start = refl;
+  }
+
+  -- then one within no more moves
+  pub went_then : {A : Type 0} (m n : ℕ) (t u v : Slices W) (a b c : Solving M) (r : Result A Stop) → m ≤ n
+      → Went g content lost n t u a b answered → Went g content lost m u v b c r → Went g content lost n t v a c r
+  went_then m n t u v a b c (Ok x) less h k = record {
+    count = counted_then _ _ _ _ _ _ h.count k.count;
+    stop = k.stop;
+    on = goes_on_then g content lost m n t.first t.start u.first u.start 0 a b c less h.first h.start h.on k.on;
+    first = k.first ∙ h.first;
+    start = k.start ∙ h.start;
+  }
+  went_then m n t u v a b c (Err e) less h k = record {
+    count = counted_then _ _ _ _ _ _ h.count k.count;
+    stop = k.stop;
+    on = goes_on_looser g content lost n t.first t.start m n a c less
+        (goes_on_then g content lost m n t.first t.start u.first u.start m a b c less h.first h.start h.on k.on);
+    first = k.first ∙ h.first;
+    start = k.start ∙ h.start;
+  }
+
+  -- another answer
+  pub went_ok : {A B : Type 0} (n : ℕ) (t u : Slices W) (a b : Solving M) (x : A) (y : B)
+      → Went g content lost n t u a b (Ok x) → Went g content lost n t u a b (Ok y)
+  went_ok n t u a b x y h = record {
+    count = h.count;
+    stop = λ e. cc;
+    on = h.on;
+    first = h.first;
+    start = h.start;
+  }
+
+  -- the same stop
+  pub went_stop : {A B : Type 0} (n : ℕ) (t u : Slices W) (a b : Solving M) (e : Stop) (r : Result B Stop)
+      → IsErrAnd r (λ d. d ≡ e) → Went {A = A} g content lost n t u a b (Err e) → Went g content lost n t u a b r
+  went_stop n t u a b e (Ok x) is h = absurd is
+  went_stop n t u a b e (Err d) is h = record {
+    count = h.count;
+    stop = λ same. h.stop (ap (λ z. Err z) (sym is ∙ err_is d same));
+    on = h.on;
+    first = h.first;
+    start = h.start;
+  }
+
+  -- out of memory after answers
+  pub went_memory : {B : Type 0} (n : ℕ) (t u : Slices W) (a b : Solving M) (r : Result B Stop)
+      → IsErrAnd r (λ d. d ≡ Memory) → Went g content lost n t u a b answered → Went g content lost n t u a b r
+  went_memory n t u a b (Ok x) is h = absurd is
+  went_memory n t u a b (Err d) is h = record {
+    count = h.count;
+    stop = λ same. absurd (memory_apart (sym is ∙ err_is d same));
+    on = goes_on_looser g content lost n t.first t.start 0 n a b (omega arith) h.on;
+    first = h.first;
+    start = h.start;
+  }

@@ -1,0 +1,97 @@
+use Rattle.std.proofs.Common.{map, sym, ap, ◌∙◌, subst, arith}
+use Rattle.dw_moves.specs.Moves.{Legal, play}
+use Rattle.dw_moves.specs.Order.{Precedes, IsListOf}
+use Rattle.dw_report.specs.inner.GatheredLemmas.{item_among}
+use Rattle.dw_study.specs.Remarks.{IsFirstRefutation}
+use Rattle.dw_study.proofs.SeenLemmas.{won_more, won_all, first_found, no_win, a_win}
+use Rattle.dw_study.proofs.WentLemmas.{answered, went_none, went_then, went_ok, went_stop}
+use Rattle.dw_study.proofs.attack.refutation.Goals as goal
+
+pub play-after-requires : goal.play-after-requires
+play-after-requires g c =
+    let geo = g.B.Board.geometry in
+    let q = c.args.position.now in
+    let all = subst (λ z. IsListOf (Precedes geo q) (Legal geo q) (map (λ item. item.step) z))
+    (sym c.as_slice-reply-items.ensures.value) c.in_ok-list.ensures.in_order in
+    subst (Legal geo q) (sym (ap (λ l. l.step) c.reply.view_is))
+    (item_among (λ item. item.step) (Precedes geo q) (Legal geo q) c.as_slice-reply-items.result.now
+    c.replies.reply-index c.reply-item.result all c.replies-test.true c.reply-item.is)
+
+pub replies-init : goal.replies-init
+replies-init g c = record {
+  won = λ m none. absurd none;
+  went = went_none g.B.Board.geometry g.M.Memo.content g.M.Memo.dropped c.args.left c.args.slices.now c.args.solver.now
+      c.keeps_its_limit.ensures;
+}
+
+pub replies-preserved : goal.replies-preserved
+replies-preserved g c =
+    let geo = g.B.Board.geometry in
+    let q = c.args.position.now in
+    let n = c.args.left in
+    let here = c.in_ok-wins_on.ensures in
+    let is = ap (λ l. l.step) c.reply.view_is in
+    record {
+      won = won_more (λ item. item.step) geo q n c.as_slice-reply-items.result.now c.replies.reply-index
+          c.reply-item.result c.replies-test.true c.reply-item.is
+          (a_win geo q c.play-after.result n c.reply-item.result.step c.in_ok-wins_on.field-0
+          (c.play-after.ensures ∙ ap (play geo q) is) here.answer c.if-not-branch.false) c.replies.invariant.won;
+      went = went_then geo g.M.Memo.content g.M.Memo.dropped n n c.args.slices.now c.replies.slices
+          c.wins_on.new.slices c.args.solver.now c.replies.solver c.wins_on.new.solver answered (omega arith)
+          c.replies.invariant.went (went_ok geo g.M.Memo.content g.M.Memo.dropped n c.replies.slices
+          c.wins_on.new.slices c.replies.solver c.wins_on.new.solver c.in_ok-wins_on.field-0 0
+          (record { count = here.count; stop = here.stop; on = here.on; first = here.first; start = here.start }));
+    }
+
+pub returns-then-not-branch-clause-found : goal.returns-then-not-branch-clause-found
+returns-then-not-branch-clause-found g c =
+    let geo = g.B.Board.geometry in
+    let q = c.args.position.now in
+    let n = c.args.left in
+    let all = subst (λ z. IsListOf (Precedes geo q) (Legal geo q) (map (λ item. item.step) z))
+    (sym c.as_slice-reply-items.ensures.value) c.in_ok-list.ensures.in_order in
+    let is = ap (λ l. l.step) c.reply.view_is in
+    subst (IsFirstRefutation geo q n) (sym is)
+    (first_found (λ item. item.step) geo q n c.as_slice-reply-items.result.now c.replies.reply-index
+    c.reply-item.result all c.replies-test.true c.reply-item.is
+    (no_win geo q c.play-after.result n c.reply-item.result.step c.in_ok-wins_on.field-0
+    (c.play-after.ensures ∙ ap (play geo q) is) c.in_ok-wins_on.ensures.answer c.if-not-branch.true)
+    c.replies.invariant.won)
+
+pub returns-clause-found : goal.returns-clause-found
+returns-clause-found g c =
+    let geo = g.B.Board.geometry in
+    let q = c.args.position.now in
+    let all = subst (λ z. IsListOf (Precedes geo q) (Legal geo q) (map (λ item. item.step) z))
+    (sym c.as_slice-reply-items.ensures.value) c.in_ok-list.ensures.in_order in
+    won_all (λ item. item.step) geo q c.args.left c.as_slice-reply-items.result.now c.replies.reply-index all
+    (omega (arith, c.replies-test.false)) c.replies.invariant.won
+
+pub returns-in_err-wins_on-clause-went : goal.returns-in_err-wins_on-clause-went
+returns-in_err-wins_on-clause-went g c =
+    let geo = g.B.Board.geometry in
+    let n = c.args.left in
+    let here = c.in_err-wins_on.ensures in
+    went_then geo g.M.Memo.content g.M.Memo.dropped n n c.args.slices.now c.replies.slices c.wins_on.new.slices
+    c.args.solver.now c.replies.solver c.wins_on.new.solver c.from_residual-in_err-wins_on.result (omega arith)
+    c.replies.invariant.went
+    (went_stop geo g.M.Memo.content g.M.Memo.dropped n c.replies.slices c.wins_on.new.slices c.replies.solver
+    c.wins_on.new.solver c.in_err-wins_on.field-0.0 c.from_residual-in_err-wins_on.result
+    c.from_residual-in_err-wins_on.ensures.1
+    (record { count = here.count; stop = here.stop; on = here.on; first = here.first; start = here.start }))
+
+pub returns-then-not-branch-clause-went : goal.returns-then-not-branch-clause-went
+returns-then-not-branch-clause-went g c =
+    let geo = g.B.Board.geometry in
+    let n = c.args.left in
+    let here = c.in_ok-wins_on.ensures in
+    went_then geo g.M.Memo.content g.M.Memo.dropped n n c.args.slices.now c.replies.slices c.wins_on.new.slices
+    c.args.solver.now c.replies.solver c.wins_on.new.solver _ (omega arith) c.replies.invariant.went
+    (went_ok geo g.M.Memo.content g.M.Memo.dropped n c.replies.slices c.wins_on.new.slices c.replies.solver
+    c.wins_on.new.solver c.in_ok-wins_on.field-0 _
+    (record { count = here.count; stop = here.stop; on = here.on; first = here.first; start = here.start }))
+
+pub returns-clause-went : goal.returns-clause-went
+returns-clause-went g c =
+    went_ok g.B.Board.geometry g.M.Memo.content g.M.Memo.dropped c.args.left c.args.slices.now c.replies.slices
+    c.args.solver.now c.replies.solver 0 _ c.replies.invariant.went

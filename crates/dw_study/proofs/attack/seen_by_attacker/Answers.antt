@@ -1,0 +1,90 @@
+use Rattle.std.proofs.Common.{◌≤◌, sym, subst, arith, map, true, refl}
+use Rattle.dw_board.specs.Lists.{Member}
+use Rattle.dw_study.specs.inner.Checking.{IsSeen, AreChildren, AreOthers}
+use Rattle.dw_study.proofs.ChildLemmas.{none_there, some_there}
+use Rattle.dw_study.proofs.SeenLemmas.{ends_seen, attacker_seen, attacker_misses, others_of, sorted_of}
+use Rattle.dw_study.proofs.WentLemmas.{answered, went_then, went_ok, went_memory}
+use Rattle.dw_study.proofs.attack.seen_by_attacker.Goals.{then-not-is_empty+in_ok-push, else-not-is_empty}
+use Rattle.dw_study.proofs.attack.seen_by_attacker.Goals as goal
+
+pub returns-then-is_empty-clause-seen : goal.returns-then-is_empty-clause-seen
+returns-then-is_empty-clause-seen g c = λ b there.
+    ends_seen g.B.Board.geometry c.args.spot.now.position c.args.spot.now.left c.args.tree.now b c.args.spot.now.node
+    there c.in_ok-children.children.items (c.in_ok-children.ensures b there) _ c.in_ok-end.field-0
+    (none_there c.in_ok-children.children _ c.is_empty.ensures c.if-is_empty.true) (λ e. cc) c.in_ok-end.ensures.remarks
+    c.in_ok-end.ensures.followed
+
+pub sorted-requires-clause-legal : goal.sorted-requires-clause-legal
+sorted-requires-clause-legal g c = λ m member.
+    let all = c.in_ok-children.ensures c.requires.there.0 c.requires.there.1 in
+    ((all.in_order.exactly m).0 (subst (λ z. Member m (map (λ d. d.mv) z)) c.as_slice.ensures.value member)).0
+
+pub returns-in_err-others-clause-went : goal.returns-in_err-others-clause-went
+returns-in_err-others-clause-went g c =
+    went_memory g.B.Board.geometry g.M.Memo.content g.M.Memo.dropped c.args.spot.now.left c.args.slices.now
+    c.sorted.new.slices c.args.solver.now c.sorted.new.solver c.from_residual-in_err-others.result
+    c.from_residual-in_err-others.ensures.1
+    (went_ok g.B.Board.geometry g.M.Memo.content g.M.Memo.dropped c.args.spot.now.left c.args.slices.now
+    c.sorted.new.slices c.args.solver.now c.sorted.new.solver c.in_ok-seen.seen 0 c.in_ok-seen.ensures.went)
+
+pub winning-requires-clause-legal : goal.winning-requires-clause-legal
+winning-requires-clause-legal g c = λ m member.
+    ((c.in_ok-others.ensures.exactly m).0 (subst (Member m) c.as_slice-3.ensures.value member)).0
+
+pub returns-in_err-push-clause-went : goal.returns-in_err-push-clause-went
+returns-in_err-push-clause-went g c =
+    let geo = g.B.Board.geometry in
+    let content = g.M.Memo.content in
+    let lost = g.M.Memo.dropped in
+    let n = c.args.spot.now.left in
+    let less : n ≤ n = omega arith in
+    went_memory geo content lost n c.args.slices.now c.winning.new.slices c.args.solver.now c.winning.new.solver
+    c.from_residual-in_err-push.result c.from_residual-in_err-push.ensures.1
+    (went_then geo content lost n n c.args.slices.now c.sorted.new.slices c.winning.new.slices c.args.solver.now
+    c.sorted.new.solver c.winning.new.solver answered less
+    (went_ok geo content lost n c.args.slices.now c.sorted.new.slices c.args.solver.now c.sorted.new.solver
+    c.in_ok-seen.seen 0 c.in_ok-seen.ensures.went)
+    (went_ok geo content lost n c.sorted.new.slices c.winning.new.slices c.sorted.new.solver c.winning.new.solver
+    c.in_ok-keys.keys 0 c.in_ok-keys.ensures.went))
+
+pub returns-clause-went : goal.returns-clause-went
+returns-clause-went g c =
+    let geo = g.B.Board.geometry in
+    let content = g.M.Memo.content in
+    let lost = g.M.Memo.dropped in
+    let n = c.args.spot.now.left in
+    let less : n ≤ n = omega arith in
+    went_then geo content lost n n c.args.slices.now c.sorted.new.slices c.winning.new.slices c.args.solver.now
+    c.sorted.new.solver c.winning.new.solver _ less
+    (went_ok geo content lost n c.args.slices.now c.sorted.new.slices c.args.solver.now c.sorted.new.solver
+    c.in_ok-seen.seen 0 c.in_ok-seen.ensures.went)
+    (went_ok geo content lost n c.sorted.new.slices c.winning.new.slices c.sorted.new.solver c.winning.new.solver
+    c.in_ok-keys.keys _ c.in_ok-keys.ensures.went)
+
+pub returns-clause-seen : goal.returns-clause-seen
+returns-clause-seen g c = λ b there.
+    let geo = g.B.Board.geometry in
+    let p = c.args.spot.now.position in
+    let n = c.args.spot.now.left in
+    let tree = c.args.tree.now in
+    let node = c.args.spot.now.node in
+    let children = c.in_ok-children.children.items in
+    let all = c.in_ok-children.ensures b there in
+    let seen = c.in_ok-seen.seen in
+    let sorted = sorted_of geo p n tree b node c.as_slice.result.now children seen c.as_slice.ensures.value
+    (c.in_ok-seen.ensures.sorted tree b (subst (AreChildren geo p tree b) (sym c.as_slice.ensures.value) all)) in
+    let others = others_of geo p c.as_slice-2.result.now children c.in_ok-others.others.items
+    c.as_slice-2.ensures.value c.in_ok-others.ensures in
+    let keys = c.in_ok-keys.ensures.keys (map (λ d. d.mv) children) (subst (AreOthers geo p (map (λ d. d.mv) children))
+    (sym c.as_slice-3.ensures.value) others) in
+    let some = some_there c.in_ok-children.children _ c.is_empty.ensures c.if-is_empty.false in
+    elim c.if-not-is_empty.branch [
+      | then-not-is_empty+in_ok-push w ↦
+          subst (IsSeen geo tree true n p b) (sym w.seen-is)
+          (attacker_misses geo p n tree b node there children all seen _ c.in_ok-keys.keys sorted some keys
+          (some_there c.in_ok-keys.keys _ c.is_empty-2.ensures w.if-not-is_empty.true) w.in_ok-push.ensures refl)
+      | else-not-is_empty w ↦
+          subst (IsSeen geo tree true n p b) (sym w.seen-is)
+          (attacker_seen geo p n tree b node there children all seen c.in_ok-keys.keys.items sorted some keys
+          (none_there c.in_ok-keys.keys _ c.is_empty-2.ensures w.if-not-is_empty.false))
+    ]

@@ -1,0 +1,16 @@
+use Rattle.std.proofs.Common.{List}
+use Rattle.dw_moves.specs.Moves.{Move}
+use Rattle.dw_study.specs.inner.Checking.{Went, AreChildren}
+use Rattle.dw_study.proofs.SeenLemmas.{SortedTo}
+use Rattle.dw_study.proofs.WentLemmas.{answered}
+use Rattle.dw_study.proofs.attack.sorted.Given as goal
+
+abbrev pub invariant-children : goal.invariant-children
+invariant-children g l = record {
+  sorted : (tree : List (List Move)) (b : List Move)
+      → AreChildren g.B.Board.geometry l.spot.position tree b l.children
+      → SortedTo g.B.Board.geometry l.spot.position l.spot.left tree b l.spot.node l.children l.child-index
+      l.remarks.items l.followed.items;
+  went : Went g.B.Board.geometry g.M.Memo.content g.M.Memo.dropped l.spot.left l.initial.slices l.slices
+      l.initial.solver l.solver answered;
+}

@@ -1,0 +1,39 @@
+use Rattle.std.proofs.Common.{◌≤◌, refl, arith}
+use Rattle.dw_study.proofs.WentLemmas.{went_then, went_ok, went_stop}
+use Rattle.dw_study.proofs.check.check_on.Goals as goal
+
+pub returns-in_err-remarks-clause-went : goal.returns-in_err-remarks-clause-went
+returns-in_err-remarks-clause-went g c =
+    let geo = g.B.Board.geometry in
+    let content = g.M.Memo.content in
+    let lost = g.M.Memo.dropped in
+    let n = c.args.moves in
+    let less : n ≤ n = omega arith in
+    let won = c.in_ok-wins.ensures in
+    went_then geo content lost n n c.args.slices.now c.wins_on.new.slices c.remarks_from.new.slices c.args.solver.now
+    c.wins_on.new.solver c.remarks_from.new.solver c.from_residual-in_err-remarks.result less
+    (went_ok geo content lost n c.args.slices.now c.wins_on.new.slices c.args.solver.now c.wins_on.new.solver
+    c.in_ok-wins.wins 0
+    (record { count = won.count; stop = won.stop; on = won.on; first = won.first; start = won.start }))
+    (went_stop geo content lost n c.wins_on.new.slices c.remarks_from.new.slices c.wins_on.new.solver
+    c.remarks_from.new.solver c.in_err-remarks.field-0.0 c.from_residual-in_err-remarks.result
+    c.from_residual-in_err-remarks.ensures.1 c.in_err-remarks.ensures.went)
+
+pub returns-clause-remarks : goal.returns-clause-remarks
+returns-clause-remarks g c = c.in_ok-remarks.ensures.remarks _ refl
+
+pub returns-clause-went : goal.returns-clause-went
+returns-clause-went g c =
+    let geo = g.B.Board.geometry in
+    let content = g.M.Memo.content in
+    let lost = g.M.Memo.dropped in
+    let n = c.args.moves in
+    let less : n ≤ n = omega arith in
+    let won = c.in_ok-wins.ensures in
+    went_then geo content lost n n c.args.slices.now c.wins_on.new.slices c.remarks_from.new.slices c.args.solver.now
+    c.wins_on.new.solver c.remarks_from.new.solver _ less
+    (went_ok geo content lost n c.args.slices.now c.wins_on.new.slices c.args.solver.now c.wins_on.new.solver
+    c.in_ok-wins.wins 0
+    (record { count = won.count; stop = won.stop; on = won.on; first = won.first; start = won.start }))
+    (went_ok geo content lost n c.wins_on.new.slices c.remarks_from.new.slices c.wins_on.new.solver
+    c.remarks_from.new.solver c.in_ok-remarks.remarks _ c.in_ok-remarks.ensures.went)

@@ -1,0 +1,94 @@
+-- How an author's solution is checked.
+use Rattle.std.specs.Prelude.{◌≡◌, ℕ, ◌≤◌, Bool, true, false, not, Some, List, [], ◌∷◌, ◌++◌, map, slice_get}
+use Rattle.std.specs.Prelude.{Option, None, Result, IsErrOf}
+use Rattle.std.proofs.Common.{zero, suc}
+use Rattle.dw_board.specs.Geometry.{Geometry}
+use Rattle.dw_board.specs.Placement.{Placement}
+use Rattle.dw_board.specs.Lists.{Member}
+use Rattle.dw_memo.specs.Content.{Content}
+use Rattle.dw_moves.specs.Moves.{Move, Legal, play}
+use Rattle.dw_moves.specs.Order.{Precedes, IsListOf}
+use Rattle.dw_solve.specs.declared.stop.Stop.{Stop}
+use Rattle.dw_solve.specs.declared.stop.Stop.TheVariants.{Limit}
+use Rattle.dw_solve.specs.Searching.{IsCounted}
+use Rattle.dw_solve.specs.Solving.{Solving}
+use Rattle.dw_solve.specs.Wins.{Lost}
+use Rattle.dw_solve.specs.Work.{cut_off}
+use Rattle.dw_report.specs.Verdict.{IsWinning}
+use Rattle.dw_study.specs.declared.branch.Child.{Child}
+use Rattle.dw_study.specs.declared.branch.Seen.{Seen}
+use Rattle.dw_study.specs.declared.remark.Remark.TheVariants.{Fails}
+use Rattle.dw_study.specs.declared.slices.Slices.{Slices}
+use Rattle.dw_games.specs.declared.branches.Node.{Node}
+use Rattle.dw_study.specs.Remarks.{Remark, GoesOnBy, StandsBefore, IsFirstRefutation, IsFailing, AtAttacker, AtDefender}
+use Rattle.dw_study.specs.Remarks.{AfterKey, AreRemarks}
+use Rattle.dw_study.specs.Telling.{Say}
+use Rattle.dw_study.specs.inner.Looking.{GoesOn}
+
+-- searches for wins within n moves in slices that began before: each expansion is counted, up to the limit, and the
+-- slices go on
+pub record Went {M A W : Type 0} (g : Geometry) (content : M → Content) (lost : M → ℕ) (n : ℕ)
+    (before after : Slices W) (old new : Solving M) (answer : Result A Stop) : Type 0 where
+  pub count : IsCounted old.expanded old.limit new.expanded new.limit
+  pub stop : IsErrOf answer Limit → new.expanded ≡ new.limit
+  pub on : GoesOn g content lost n before.first before.start (cut_off answer n) old new
+  pub first : after.first ≡ before.first
+  pub start : after.start ≡ before.start
+
+-- the nodes behind a beginning by moves that are legal there, in the tree's order
+pub record AreChildren {B : Type 0} (g : Geometry) (p : Placement) (tree : List (List Move)) (b : List Move)
+    (children : List (Child B)) : Type 0 where
+  pub in_order : IsListOf (StandsBefore tree b) (GoesOnBy g p tree b) (map (λ c. c.mv) children)
+  pub each : (c : Child B) → Member c children → slice_get tree c.node.0 ≡ Some (b ++ c.mv ∷ [])
+
+-- the legal moves that are none of these, in order
+abbrev pub AreOthers : Geometry → Placement → List Move → List Move → Type 0
+AreOthers g p moves others = IsListOf (Precedes g p) (λ m. Legal g p m × (Member m moves → ⊥)) others
+
+-- those of them that win
+abbrev pub AreOtherKeys : Geometry → Placement → ℕ → List Move → List Move → Type 0
+AreOtherKeys g p n moves keys = IsListOf (Precedes g p) (λ m. IsWinning g p n m × (Member m moves → ⊥)) keys
+
+-- the children that win are followed, and there is a remark on each that fails
+pub record IsSorted {B : Type 0} (g : Geometry) (p : Placement) (n : ℕ) (tree : List (List Move)) (b : List Move)
+    (node : Option Node) (children : List (Child B)) (seen : Seen B) : Type 0 where
+  pub failing : List (Move × Move)
+  pub fail : IsListOf (λ s t. StandsBefore tree b s.0 t.0) (IsFailing g p n tree b) failing
+  pub said : seen.remarks.items ≡ map (λ t. Fails node t.0 t.1) failing
+  pub win : IsListOf (StandsBefore tree b) (λ k. GoesOnBy g p tree b k × IsWinning g p n k)
+      (map (λ c. c.mv) seen.followed.items)
+  pub each : (c : Child B) → Member c seen.followed.items → Member c children
+
+-- the first reply after which the attacker has no win, or that he has one after each
+abbrev pub FindsFirst : Geometry → Placement → ℕ → Option Move → Type 0
+FindsFirst g q n None = Lost g q n
+FindsFirst g q n (Some reply) = IsFirstRefutation g q n reply
+
+-- what is remarked where the attacker (true) or the defender (false) is to move, and the moves behind which more is
+-- looked at
+abbrev pub At : Geometry → List (List Move) → Bool → ℕ → Placement → List Move → List Remark → List Move → Type 0
+At g tree true n p b here moves = AtAttacker g p n tree b here moves
+At g tree false n q b here moves = AtDefender g q tree b here moves
+
+abbrev pub Behind : Geometry → List (List Move) → Bool → ℕ → Placement → List Move → List Remark → Type 0
+Behind g tree true n p b remarks = AreRemarks g tree n p b remarks
+Behind g tree false n q b remarks = AfterKey (AreRemarks g tree n) g tree q b remarks
+
+-- what holds there: the attacker has a move left, or the defender has lost
+abbrev pub IsKept : Geometry → Bool → ℕ → Placement → Type 0
+IsKept g true n p = 1 ≤ n
+IsKept g false n q = Lost g q n
+
+-- how many moves the attacker has left after a move
+abbrev pub left_after : Bool → ℕ → ℕ
+left_after true zero = zero
+left_after true (suc n) = n
+left_after false n = n
+
+-- what was seen of a beginning
+pub record IsSeen {B : Type 0} (g : Geometry) (tree : List (List Move)) (attacks : Bool) (n : ℕ) (p : Placement)
+    (b : List Move) (seen : Seen B) : Type 0 where
+  pub here : Say tree seen.remarks.items (λ here. At g tree attacks n p b here (map (λ c. c.mv) seen.followed.items))
+  pub each : (c : Child B) → Member c seen.followed.items → slice_get tree c.node.0 ≡ Some (b ++ c.mv ∷ [])
+  pub kept : (m : Move) → Member m (map (λ c. c.mv) seen.followed.items)
+      → Legal g p m × IsKept g (not attacks) (left_after attacks n) (play g p m)

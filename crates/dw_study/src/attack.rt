@@ -1,0 +1,186 @@
+//! What is seen of a beginning of an author's solution, where the attacker is to move, and where the defender is.
+ghost use Rattle.std.specs.Prelude.{◌≡◌, ◌≤◌, ◌∷◌, [], true, false, Some, IfOk, map};
+ghost use Rattle.dw_board.specs.Lists.{Member};
+ghost use Rattle.dw_moves.specs.Moves.{Legal};
+ghost use Rattle.dw_solve.specs.Wins.{Lost};
+ghost use Rattle.dw_games.specs.Walk.{beginning_at, place_of};
+ghost use Rattle.dw_study.specs.inner.Checking.{Went, AreChildren, AreOthers, AreOtherKeys};
+ghost use Rattle.dw_study.specs.inner.Checking.{FindsFirst, IsSeen, IsSorted};
+
+use crate::branch::{Child, Seen, Spot, children, others, push};
+use crate::remark::Remark;
+use crate::sliced::wins_on;
+use crate::slices::{Slices, Watcher};
+use dw_board::{Board, Position};
+use dw_games::Tree;
+use dw_memo::Memo;
+use dw_moves::Move;
+use dw_moves::listed::listed;
+use dw_moves::play::play;
+use dw_solve::{Guide, Solver, Stop};
+use std::alloc::{AllocError, Global};
+
+/// What is seen where the attacker is to move: he can follow the children that win.
+pub(crate) fn seen_by_attacker<B: Board, M: Memo<B>, G: Guide<B>, W: Watcher>(
+    alloc: Global,
+    solver: &mut Solver<B, M, G>,
+    slices: &mut Slices<W>,
+    tree: &Tree<B>,
+    spot: &Spot<B>,
+) -> Result<Seen<B>, Stop>
+    requires there { (b : _) × (beginning_at tree.now (place_of spot.now.node) ≡ Some b) }
+    requires some { 1 ≤ spot.now.left }
+    requires few { spot.now.left ≤ 20 }
+    ensures seen { (b : _) → beginning_at tree.now (place_of spot.now.node) ≡ Some b
+        → IfOk result (IsSeen B.geometry tree.now true spot.now.left spot.now.position b) }
+    ensures went { Went B.geometry M.content M.dropped spot.now.left slices.old slices.new solver.old solver.new
+        result }
+{
+    solver.keeps_its_limit();
+    let children = children(alloc, tree, spot.node, &spot.position)?;
+    if children.is_empty() {
+        return Ok(end(alloc, spot)?);
+    }
+    let mut seen = sorted(alloc, solver, slices, spot, children.as_slice())?;
+    let others = others(alloc, &spot.position, children.as_slice())?;
+    let keys = winning(alloc, solver, slices, spot, others.as_slice())?;
+    if !keys.is_empty() {
+        let also = Remark::Also {
+            at: spot.node,
+            keys,
+        };
+        push(&mut seen.remarks, also)?;
+    }
+    Ok(seen)
+}
+
+/// What is seen where the defender is to move: he can follow all children.
+pub(crate) fn seen_by_defender<B: Board>(
+    alloc: Global,
+    tree: &Tree<B>,
+    spot: &Spot<B>,
+) -> Result<Seen<B>, AllocError>
+    requires there { (b : _) × (beginning_at tree.now (place_of spot.now.node) ≡ Some b) }
+    requires lost { Lost B.geometry spot.now.position spot.now.left }
+    ensures { (b : _) → beginning_at tree.now (place_of spot.now.node) ≡ Some b
+        → IfOk result (IsSeen B.geometry tree.now false spot.now.left spot.now.position b) }
+{
+    let followed = children(alloc, tree, spot.node, &spot.position)?;
+    let replies = others(alloc, &spot.position, followed.as_slice())?;
+    if replies.is_empty() {
+        return Ok(Seen {
+            remarks: Vec::new(alloc),
+            followed,
+        });
+    }
+    if followed.is_empty() {
+        return end(alloc, spot);
+    }
+    let mut remarks = Vec::new(alloc);
+    let open = Remark::Open {
+        at: spot.node,
+        replies,
+    };
+    push(&mut remarks, open)?;
+    Ok(Seen { remarks, followed })
+}
+
+/// What is seen where the solution ends.
+fn end<B: Board>(alloc: Global, spot: &Spot<B>) -> Result<Seen<B>, AllocError>
+    ensures remarks { IfOk result (λ seen. seen.remarks.items ≡ Remark.Ends spot.now.node ∷ []) }
+    ensures followed { IfOk result (λ seen. seen.followed.items ≡ []) }
+{
+    let mut remarks = Vec::new(alloc);
+    push(&mut remarks, Remark::Ends { at: spot.node })?;
+    Ok(Seen {
+        remarks,
+        followed: Vec::new(alloc),
+    })
+}
+
+/// The children that win, and remarks on those that fail.
+fn sorted<B: Board, M: Memo<B>, G: Guide<B>, W: Watcher>(
+    alloc: Global,
+    solver: &mut Solver<B, M, G>,
+    slices: &mut Slices<W>,
+    spot: &Spot<B>,
+    children: &[Child<B>],
+) -> Result<Seen<B>, Stop>
+    requires legal { (m : _) → Member m (map (λ c. c.mv) children.now) → Legal B.geometry spot.now.position m }
+    requires some { 1 ≤ spot.now.left }
+    requires few { spot.now.left ≤ 20 }
+    ensures sorted { (tree : _) (b : _) → AreChildren B.geometry spot.now.position tree b children.now
+        → IfOk result (IsSorted B.geometry spot.now.position spot.now.left tree b spot.now.node children.now) }
+    ensures went { Went B.geometry M.content M.dropped spot.now.left slices.old slices.new solver.old solver.new
+        result }
+{
+    dw_moves::laws::moves_have_keys();
+    solver.keeps_its_limit();
+    let mut remarks = Vec::new(alloc);
+    let mut followed = Vec::new(alloc);
+    'children: for child in children {
+        let after = play(&spot.position, &child.mv);
+        match refutation(alloc, solver, slices, &after, spot.left - 1)? {
+            Some(reply) => {
+                let fails = Remark::Fails {
+                    at: spot.node,
+                    mv: child.mv,
+                    reply,
+                };
+                push(&mut remarks, fails)?;
+            }
+            None => push(&mut followed, *child)?,
+        }
+    }
+    Ok(Seen { remarks, followed })
+}
+
+/// Those of some legal moves that win.
+fn winning<B: Board, M: Memo<B>, G: Guide<B>, W: Watcher>(
+    alloc: Global,
+    solver: &mut Solver<B, M, G>,
+    slices: &mut Slices<W>,
+    spot: &Spot<B>,
+    moves: &[Move<B>],
+) -> Result<Vec<Move<B>>, Stop>
+    requires legal { (m : _) → Member m moves.now → Legal B.geometry spot.now.position m }
+    requires some { 1 ≤ spot.now.left }
+    requires few { spot.now.left ≤ 20 }
+    ensures keys { (given : _) → AreOthers B.geometry spot.now.position given moves.now
+        → IfOk result (λ keys. AreOtherKeys B.geometry spot.now.position spot.now.left given keys.items) }
+    ensures went { Went B.geometry M.content M.dropped spot.now.left slices.old slices.new solver.old solver.new
+        result }
+{
+    solver.keeps_its_limit();
+    let mut keys = Vec::new(alloc);
+    'moves: for mv in moves {
+        let after = play(&spot.position, mv);
+        if refutation(alloc, solver, slices, &after, spot.left - 1)?.is_none() {
+            push(&mut keys, *mv)?;
+        }
+    }
+    Ok(keys)
+}
+
+/// The first reply after which the attacker has no win within so many moves, if there is one.
+fn refutation<B: Board, M: Memo<B>, G: Guide<B>, W: Watcher>(
+    alloc: Global,
+    solver: &mut Solver<B, M, G>,
+    slices: &mut Slices<W>,
+    position: &Position<B>,
+    left: u8,
+) -> Result<Option<Move<B>>, Stop>
+    requires { left ≤ 20 }
+    ensures found { IfOk result (FindsFirst B.geometry position.now left) }
+    ensures went { Went B.geometry M.content M.dropped left slices.old slices.new solver.old solver.new result }
+{
+    solver.keeps_its_limit();
+    let list = listed(alloc, position)?;
+    'replies: for reply in list.as_slice() {
+        let after = play(position, &reply.step);
+        if !wins_on(alloc, solver, &after, left, slices)? {
+            return Ok(Some(reply.step));
+        }
+    }
+    Ok(None)
+}

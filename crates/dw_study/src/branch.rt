@@ -1,0 +1,140 @@
+//! Beginnings of an author's solution, and how it goes on from them.
+ghost use Rattle.std.specs.Prelude.{◌≡◌, ◌↔◌, ◌++◌, ◌∷◌, [], Some, IfOk, OnOk, IsTrue, MatchOption, map, not};
+ghost use Rattle.std.specs.Prelude.{slice_get};
+ghost use Rattle.dw_board.specs.Lists.{Member};
+ghost use Rattle.dw_moves.specs.Moves.{Legal};
+ghost use Rattle.dw_games.specs.Walk.{beginning_at, place_of};
+ghost use Rattle.dw_study.specs.inner.Checking.{AreChildren, AreOthers, left_after};
+ghost use Rattle.dw_moves.specs.Moves as of;
+
+use crate::remark::Remark;
+use dw_board::{Board, Position};
+use dw_games::{Node, Tree};
+use dw_moves::Move;
+use dw_moves::legal::is_legal;
+use dw_moves::listed::listed;
+use dw_moves::play::play;
+use std::alloc::{AllocError, Global};
+
+/// A beginning of a path: its node, `None` at the root, and the position behind it; whether the attacker is to move
+/// there, and how many moves he has left.
+#[derive(Clone, Copy)]
+pub(crate) struct Spot<B: Board> {
+    pub(crate) node: Option<Node>,
+    pub(crate) position: Position<B>,
+    pub(crate) attacks: bool,
+    pub(crate) left: u8,
+}
+
+/// A node, and the move before it.
+#[derive(Clone, Copy)]
+pub(crate) struct Child<B: Board> {
+    pub(crate) node: Node,
+    pub(crate) mv: Move<B>,
+}
+
+/// What was seen of a beginning: the remarks on it, and the children behind which more is looked at.
+#[derive(Drop)]
+pub(crate) struct Seen<B: Board> {
+    pub(crate) remarks: Vec<Remark<B>>,
+    pub(crate) followed: Vec<Child<B>>,
+}
+
+impl<B: Board> Spot<B> {
+    /// The beginning with one move more.
+    pub(crate) fn after(&self, child: &Child<B>) -> Self
+        requires { Legal B.geometry self.now.position child.now.mv }
+        ensures { result ≡ record {
+          node = Some child.now.node;
+          position = of.play B.geometry self.now.position child.now.mv;
+          attacks = not self.now.attacks;
+          left = left_after self.now.attacks self.now.left;
+        } }
+    {
+        Spot {
+            node: Some(child.node),
+            position: play(&self.position, &child.mv),
+            attacks: !self.attacks,
+            left: if self.attacks {
+                self.left.saturating_sub(1)
+            } else {
+                self.left
+            },
+        }
+    }
+}
+
+/// The nodes behind a node by moves that are legal at the position there, in the tree's order.
+pub(crate) fn children<B: Board>(
+    alloc: Global,
+    tree: &Tree<B>,
+    node: Option<Node>,
+    position: &Position<B>,
+) -> Result<Vec<Child<B>>, AllocError>
+    requires { (b : _) × (beginning_at tree.now (place_of node) ≡ Some b) }
+    ensures { (b : _) → beginning_at tree.now (place_of node) ≡ Some b
+        → IfOk result (λ children. AreChildren B.geometry position.now tree.now b children.items) }
+{
+    let mut children = Vec::new(alloc);
+    let mut next = tree.first_child(node);
+    'children: while let Some(here) = next {
+        if let Some(child) = legal_child(tree, here, position) {
+            push(&mut children, child)?;
+        }
+        next = tree.next_sibling(here);
+    }
+    Ok(children)
+}
+
+/// A node with the move before it, if that is legal.
+fn legal_child<B: Board>(tree: &Tree<B>, node: Node, position: &Position<B>) -> Option<Child<B>>
+    ensures { (b : _) (m : _) → slice_get tree.now node.0 ≡ Some (b ++ m ∷ [])
+        → MatchOption result (Legal B.geometry position.now m → ⊥)
+        (λ child. Legal B.geometry position.now m × (child ≡ record { node = node; mv = m })) }
+{
+    let mv = tree.mv(node)?;
+    if is_legal(position, &mv) {
+        Some(Child { node, mv })
+    } else {
+        None
+    }
+}
+
+/// The legal moves that are none of these children's, in order.
+pub(crate) fn others<B: Board>(
+    alloc: Global,
+    position: &Position<B>,
+    children: &[Child<B>],
+) -> Result<Vec<Move<B>>, AllocError>
+    ensures { IfOk result (λ others. AreOthers B.geometry position.now (map (λ c. c.mv) children.now)
+        others.items) }
+{
+    let mut others = Vec::new(alloc);
+    let list = listed(alloc, position)?;
+    'moves: for item in list.as_slice() {
+        if !has(children, &item.step) {
+            push(&mut others, item.step)?;
+        }
+    }
+    Ok(others)
+}
+
+/// Whether one of these children is by this move.
+fn has<B: Board>(children: &[Child<B>], mv: &Move<B>) -> bool
+    ensures { IsTrue result ↔ Member mv.now (map (λ c. c.mv) children.now) }
+{
+    'children: for child in children {
+        if child.mv == *mv {
+            return true;
+        }
+    }
+    false
+}
+
+/// Adds an item to a list.
+pub(crate) fn push<T: Drop>(list: &mut Vec<T>, item: T) -> Result<(), AllocError>
+    ensures { OnOk result (list.new.items ≡ list.old.items ++ item ∷ []) }
+{
+    list.push(item)?;
+    Ok(())
+}

@@ -1,0 +1,138 @@
+//! What an author's solution gets wrong, and what it leaves out.
+ghost use Rattle.std.specs.Prelude.{◌≡◌, ◌≤◌, ◌↔◌, [], Some, IfOk, IsErrOf, IsTrue};
+ghost use Rattle.dw_memo.specs.Content.{IsMap};
+ghost use Rattle.dw_solve.specs.declared.stop.Stop.TheVariants.{Limit};
+ghost use Rattle.dw_solve.specs.Facts.{AreTrue};
+ghost use Rattle.dw_solve.specs.Searching.{IsCounted};
+ghost use Rattle.dw_solve.specs.Wins.{Win};
+ghost use Rattle.dw_solve.specs.Work.{moment, cut_off};
+ghost use Rattle.dw_games.specs.Walk.{beginning_at, place_of};
+ghost use Rattle.dw_study.specs.Remarks.{AreRemarks};
+ghost use Rattle.dw_study.specs.Slices.{SearchedInSlices};
+ghost use Rattle.dw_study.specs.Telling.{Say};
+ghost use Rattle.dw_study.specs.inner.Checking.{Went, Behind, IsKept, IsSeen};
+
+use crate::attack::{seen_by_attacker, seen_by_defender};
+use crate::branch::{Seen, Spot};
+use crate::remark::{Checked, Remark};
+use crate::sliced::wins_on;
+use crate::slices::{Slices, Watcher};
+use dw_board::{Board, Position};
+use dw_games::Tree;
+use dw_memo::Memo;
+use dw_solve::{Guide, Solver, Stop};
+use std::alloc::Global;
+
+/// Compares an author's solution to a position with the truth, within so many moves of the side to move, 1 to 20, and
+/// says whether it can win within them. Where a move is no key, nothing behind it is looked at; moves of the tree that
+/// are not legal where they stand are passed over. After a stop all bounds in the memo are right, and the call can be
+/// made again. The slices begin anew; no answer depends on them.
+/// Example: at `W:W27,32:B18` the solution `1. 32-28 18-22 2. 27x18`, within 2 moves, leaves the reply `18-23` open,
+/// and `28x17` is a key also.
+pub fn check<B: Board, M: Memo<B>, G: Guide<B>, W: Watcher>(
+    alloc: Global,
+    solver: &mut Solver<B, M, G>,
+    position: &Position<B>,
+    tree: &Tree<B>,
+    moves: u8,
+    slices: &mut Slices<W>,
+) -> Result<Checked<B>, Stop>
+    requires some { 1 ≤ moves }
+    requires few { moves ≤ 20 }
+    ensures wins { IfOk result (λ checked. IsTrue checked.wins ↔ Win B.geometry position.now moves) }
+    ensures remarks { IfOk result (λ checked. Say tree.now checked.remarks.items
+        (AreRemarks B.geometry tree.now moves position.now [])) }
+    ensures count { IsCounted solver.old.expanded solver.old.limit solver.new.expanded solver.new.limit }
+    ensures stop { IsErrOf result Limit → solver.new.expanded ≡ solver.new.limit }
+    ensures searched { SearchedInSlices B.geometry moves slices.old.first (cut_off result moves)
+        (moment M.content M.dropped solver.old.memo solver.old.expanded)
+        (moment M.content M.dropped solver.new.memo solver.new.expanded) }
+    ensures right { AreTrue B.geometry (M.content solver.new.memo) }
+    ensures map { IsMap (M.content solver.new.memo) }
+    ensures first { slices.new.first ≡ slices.old.first }
+    ensures begun { slices.new.start ≡ solver.old.expanded }
+{
+    dw_solve::laws::searches_add_up();
+    slices.begin(solver.expanded());
+    let checked = check_on(alloc, solver, position, tree, moves, slices);
+    solver.keeps_its_facts();
+    checked
+}
+
+/// What `check` answers, in slices that began before.
+fn check_on<B: Board, M: Memo<B>, G: Guide<B>, W: Watcher>(
+    alloc: Global,
+    solver: &mut Solver<B, M, G>,
+    position: &Position<B>,
+    tree: &Tree<B>,
+    moves: u8,
+    slices: &mut Slices<W>,
+) -> Result<Checked<B>, Stop>
+    requires some { 1 ≤ moves }
+    requires few { moves ≤ 20 }
+    ensures wins { IfOk result (λ checked. IsTrue checked.wins ↔ Win B.geometry position.now moves) }
+    ensures remarks { IfOk result (λ checked. Say tree.now checked.remarks.items
+        (AreRemarks B.geometry tree.now moves position.now [])) }
+    ensures went { Went B.geometry M.content M.dropped moves slices.old slices.new solver.old solver.new result }
+{
+    let wins = wins_on(alloc, solver, position, moves, slices)?;
+    let root = Spot {
+        node: None,
+        position: *position,
+        attacks: true,
+        left: moves,
+    };
+    let remarks = remarks_from(alloc, solver, slices, tree, &root)?;
+    Ok(Checked { wins, remarks })
+}
+
+/// The remarks on a beginning, and on all that is longer: those on it, and then those behind each child in turn.
+fn remarks_from<B: Board, M: Memo<B>, G: Guide<B>, W: Watcher>(
+    alloc: Global,
+    solver: &mut Solver<B, M, G>,
+    slices: &mut Slices<W>,
+    tree: &Tree<B>,
+    spot: &Spot<B>,
+) -> Result<Vec<Remark<B>>, Stop>
+    requires there { (b : _) × (beginning_at tree.now (place_of spot.now.node) ≡ Some b) }
+    requires kept { IsKept B.geometry spot.now.attacks spot.now.left spot.now.position }
+    requires few { spot.now.left ≤ 20 }
+    ensures remarks { (b : _) → beginning_at tree.now (place_of spot.now.node) ≡ Some b
+        → IfOk result (λ remarks. Say tree.now remarks.items
+        (Behind B.geometry tree.now spot.now.attacks spot.now.left spot.now.position b)) }
+    ensures went { Went B.geometry M.content M.dropped spot.now.left slices.old slices.new solver.old solver.new
+        result }
+{
+    let Seen {
+        mut remarks,
+        followed,
+    } = seen(alloc, solver, slices, tree, spot)?;
+    'followed: for child in followed.as_slice() {
+        let mut behind = remarks_from(alloc, solver, slices, tree, &spot.after(child))?;
+        remarks.append(&mut behind)?;
+    }
+    Ok(remarks)
+}
+
+/// What is seen of a beginning.
+fn seen<B: Board, M: Memo<B>, G: Guide<B>, W: Watcher>(
+    alloc: Global,
+    solver: &mut Solver<B, M, G>,
+    slices: &mut Slices<W>,
+    tree: &Tree<B>,
+    spot: &Spot<B>,
+) -> Result<Seen<B>, Stop>
+    requires there { (b : _) × (beginning_at tree.now (place_of spot.now.node) ≡ Some b) }
+    requires kept { IsKept B.geometry spot.now.attacks spot.now.left spot.now.position }
+    requires few { spot.now.left ≤ 20 }
+    ensures seen { (b : _) → beginning_at tree.now (place_of spot.now.node) ≡ Some b
+        → IfOk result (IsSeen B.geometry tree.now spot.now.attacks spot.now.left spot.now.position b) }
+    ensures went { Went B.geometry M.content M.dropped spot.now.left slices.old slices.new solver.old solver.new
+        result }
+{
+    if spot.attacks {
+        return seen_by_attacker(alloc, solver, slices, tree, spot);
+    }
+    solver.keeps_its_limit();
+    Ok(seen_by_defender(alloc, tree, spot)?)
+}
