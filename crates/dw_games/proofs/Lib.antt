@@ -1,3 +1,7 @@
+pub mod InputLemmas
+pub mod PlayLemmas
+pub mod SectionLemmas
+pub mod ReadLemmas
 pub mod TokenLemmas
 pub mod PlaceLemmas
 pub mod LinkLemmas

@@ -4,4 +4,5 @@ pub mod Movetext
 pub mod Faults
 pub mod Laws
 pub mod Walk
+pub mod Games
 pub mod inner

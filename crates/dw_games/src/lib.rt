@@ -10,9 +10,14 @@
 mod branches;
 mod class;
 pub mod fault;
+pub mod games;
+mod input;
+mod kept;
 pub mod laws;
 pub mod movetext;
+mod play;
 mod reader;
+mod section;
 pub mod tokens;
 pub mod tree;
 
