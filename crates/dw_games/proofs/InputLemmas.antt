@@ -1,11 +1,11 @@
 -- Lemmas on the bytes of an input that are passed, and on what is kept of them.
-use Rattle.std.proofs.Common.{◌≡◌, ℕ, ◌+◌, ◌-◌, ◌*◌, ◌<◌, ◌≤◌, ◌||◌, List, [], ◌∷◌, ◌++◌, length, take, drop, Bool, true}
+use Rattle.std.proofs.Common.{◌≡◌, ℕ, ◌+◌, ◌-◌, ◌<◌, ◌≤◌, ◌||◌, List, [], ◌∷◌, ◌++◌, length, take, drop, Bool, true}
 use Rattle.std.proofs.Common.{false, Option, refl, sym, ap, ◌∙◌, subst, arith, append_assoc, append-nil, length-append}
 use Rattle.std.proofs.lemmas.List.{length-take, take-append-drop, take-append-le, take_all, drop-take, drop-drop}
 use Rattle.std.proofs.KnownBytes.{Consumes-nil, Consumes-trans}
 use Rattle.std.specs.List.{slice_range}
 use Rattle.std.specs.Io.KnownBytes.{Consumes}
-use Rattle.dw_games.specs.inner.Inputs.{unread_of, Passes, EndIsKnown, weight}
+use Rattle.dw_games.specs.inner.Inputs.{unread_of, Passes, EndIsKnown}
 use Rattle.dw_games.specs.declared.input.Input.{Input}
 
 or-false : (b : Bool) → (b || false) ≡ b

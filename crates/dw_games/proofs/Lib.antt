@@ -2,6 +2,9 @@ pub mod InputLemmas
 pub mod PlayLemmas
 pub mod SectionLemmas
 pub mod ReadLemmas
+pub mod GameLemmas
+pub mod HandLemmas
+pub mod SayingLemmas
 pub mod TokenLemmas
 pub mod PlaceLemmas
 pub mod LinkLemmas

@@ -1,20 +1,18 @@
 -- Lemmas on bytes without a section.
-use Rattle.std.proofs.Common.{◌≡◌, ◌==◌, ◌||◌, ◌&&◌, ◌<◌, ◌≤◌, ℕ, not, List, [], ◌∷◌, ◌++◌, length, take, drop, Bool, true}
-use Rattle.std.proofs.Common.{false, Option, Result, Ok, Err, OnOk, IfOk, refl, sym, ap, ◌∙◌, subst, arith, append_assoc}
+use Rattle.std.proofs.Common.{◌≡◌, ◌==◌, ◌&&◌, ℕ, not, List, [], ◌∷◌, ◌++◌, take, drop, Bool, true}
+use Rattle.std.proofs.Common.{false, Option, Result, Ok, Err, refl, sym, ap, subst, append_assoc}
 use Rattle.std.proofs.Common.{append-nil, ◌⊎◌, inl, inr}
 use Rattle.std.proofs.lemmas.Bool.{cases_Bool, eqb-true, ne_eqb}
-use Rattle.std.specs.List.{list_all}
 use Rattle.dw_board.specs.Geometry.{Geometry}
-use Rattle.dw_notation.specs.WholeTexts.{IsOpen}
 use Rattle.dw_games.specs.Games.{Said, HasGames}
-use Rattle.dw_games.specs.Games.HasGames.{nothing, other, comment, last_comment, section, last_section}
-use Rattle.dw_games.specs.inner.Inputs.{unread_of, Passes, has_failed}
+use Rattle.dw_games.specs.Games.HasGames.{nothing, other, comment, last_comment}
+use Rattle.dw_games.specs.GameReading.{is_failure}
+use Rattle.dw_games.specs.inner.Inputs.{unread_of, Passes}
 use Rattle.dw_games.specs.inner.Keeping.{IsKept}
-use Rattle.dw_games.specs.inner.Playing.{InComment, is_in_comment, unclosed, HasGamesFrom, Follows, EndsAt, ReadsPlay}
+use Rattle.dw_games.specs.inner.Playing.{InComment, is_in_comment, unclosed, HasGamesFrom, ReadsPlay}
 use Rattle.dw_games.specs.inner.Playing.{PlaysOn}
 use Rattle.dw_games.specs.inner.Playing.InComment.{closed, left_open}
 use Rattle.dw_games.specs.declared.games.GameFault.{GameFault}
-use Rattle.dw_games.specs.declared.games.GameFault.TheVariants.{Failed, Memory}
 use Rattle.dw_games.specs.declared.input.Input.{Input}
 use Rattle.dw_games.specs.declared.kept.Kept.{Kept}
 use Rattle.dw_games.specs.declared.play.PlayEnd.{PlayEnd}
@@ -146,11 +144,11 @@ module _ {S : Type 0} (coming : S → Option (List ℕ)) (has_ended is_failed : 
   -- the source fails, or memory is refused
   pub PlaysOn-fault : (old mid now : Input S) (before kept after : Kept) (was : Bool) (fault : GameFault)
       → On old mid before kept was
-      → Passes coming has_ended is_failed pulls mid now [] (has_failed {A = PlayEnd} (Err fault))
+      → Passes coming has_ended is_failed pulls mid now [] (is_failure {A = PlayEnd} (Err fault))
       → Result-of old now before after (Err fault)
   PlaysOn-fault old mid now before kept after was fault on peek = record {
     passed = on.passed;
-    passes = subst (λ l. Passes coming has_ended is_failed pulls old now l (has_failed {A = PlayEnd} (Err fault)))
+    passes = subst (λ l. Passes coming has_ended is_failed pulls old now l (is_failure {A = PlayEnd} (Err fault)))
         (append-nil on.passed) (Passes-trans coming has_ended is_failed pulls old mid now on.passed [] _ on.passes peek);
     kept = tt;
     said = tt;

@@ -1,17 +1,19 @@
 -- Lemmas on reading a section.
-use Rattle.std.proofs.Common.{◌≡◌, ◌==◌, ℕ, List, [], ◌∷◌, ◌++◌, length, take, drop, Bool, true, false, Option, Some, None}
-use Rattle.std.proofs.Common.{Result, Ok, Err, MatchOption, refl, sym, ap, ◌∙◌, subst, arith, append_assoc, append-nil, cond}
+use Rattle.std.proofs.Common.{◌≡◌, ℕ, List, [], ◌∷◌, ◌++◌, take, drop, Bool, true, false, Option, Some, None}
+use Rattle.std.proofs.Common.{Ok, Err, MatchOption, refl, sym, ap, ◌∙◌, subst, append_assoc, append-nil, cond}
 use Rattle.std.proofs.Common.{option_to_list}
 use Rattle.dw_board.specs.Geometry.{Geometry}
 use Rattle.dw_notation.specs.TextLines.{Found}
 use Rattle.dw_notation.specs.Tags.{is_space}
-use Rattle.dw_notation.specs.WholeTexts.{SectionsSay, TextsOfTagsSay}
+use Rattle.dw_notation.specs.WholeTexts.{SectionsSay}
+use Rattle.dw_notation.specs.TagLaws.{TextsOfTagsSay}
 use Rattle.dw_notation.specs.inner.Readers.{ahead_of}
 use Rattle.dw_notation.specs.declared.problems.section_reader.SectionReader.{SectionReader}
 use Rattle.dw_games.specs.Games.{Said, said_with, HasGames}
-use Rattle.dw_games.specs.inner.Inputs.{unread_of, Passes, has_failed}
+use Rattle.dw_games.specs.GameReading.{is_failure}
+use Rattle.dw_games.specs.inner.Inputs.{unread_of, Passes}
 use Rattle.dw_games.specs.inner.Keeping.{IsKept, spaces_on}
-use Rattle.dw_games.specs.inner.Sectioning.{IsCut, IsLast, ReadsOn, ReadsSection}
+use Rattle.dw_games.specs.inner.Sectioning.{ReadsOn, ReadsSection}
 use Rattle.dw_games.specs.declared.games.GameFault.{GameFault}
 use Rattle.dw_games.specs.declared.input.Input.{Input}
 use Rattle.dw_games.specs.declared.kept.Kept.{Kept}
@@ -139,11 +141,11 @@ module _ {B S : Type 0} (g : Geometry) (coming : S → Option (List ℕ)) (has_e
   -- the source fails, or memory is refused
   pub ReadsOn-fault : (old mid now : Input S) (before kept after : Kept) (reader : SectionReader B) (fault : GameFault)
       → On old mid before kept reader
-      → Passes coming has_ended is_failed pulls mid now [] (has_failed {A = Option Found} (Err fault))
+      → Passes coming has_ended is_failed pulls mid now [] (is_failure {A = Option Found} (Err fault))
       → ReadsSection g coming has_ended is_failed pulls old now before after (Err fault)
   ReadsOn-fault old mid now before kept after reader fault on peek = record {
     passed = on.passed;
-    passes = subst (λ l. Passes coming has_ended is_failed pulls old now l (has_failed {A = Option Found} (Err fault)))
+    passes = subst (λ l. Passes coming has_ended is_failed pulls old now l (is_failure {A = Option Found} (Err fault)))
         (append-nil on.passed) (Passes-trans coming has_ended is_failed pulls old mid now on.passed [] _ on.passes peek);
     kept = tt;
     said = tt;

@@ -1,8 +1,8 @@
 -- Lemmas on a section that is read byte by byte.
-use Rattle.std.proofs.Common.{◌≡◌, ◌==◌, ◌||◌, ◌⊎◌, ℕ, not, List, [], ◌∷◌, ◌++◌, length, take, drop, Bool, true, false}
-use Rattle.std.proofs.Common.{Option, Some, None, Result, Ok, Err, MatchBool, refl, sym, ap, ◌∙◌, subst, arith, append_assoc}
+use Rattle.std.proofs.Common.{◌≡◌, ◌==◌, ◌||◌, ◌⊎◌, ℕ, not, List, [], ◌∷◌, ◌++◌, length, Bool, true, false}
+use Rattle.std.proofs.Common.{Option, Some, None, Ok, Err, MatchBool, refl, sym, ap, ◌∙◌, subst, arith, append_assoc}
 use Rattle.std.proofs.Common.{append-nil, inl, inr, option_to_list, cond, nat_lt}
-use Rattle.std.proofs.lemmas.Bool.{cases_Bool, and_parts}
+use Rattle.std.proofs.lemmas.Bool.{and_parts}
 use Rattle.std.proofs.lemmas.List.{same_from_push}
 use Rattle.std.specs.List.{list_all}
 use Rattle.dw_board.specs.Geometry.{Geometry}
@@ -10,7 +10,8 @@ use Rattle.dw_board.specs.Placement.{Placement}
 use Rattle.dw_notation.specs.TextLines.{Found}
 use Rattle.dw_notation.specs.Tags.{Tag, IsTag, is_space, IsGap, IsSection, SectionSays}
 use Rattle.dw_notation.specs.Tags.IsSection.{single, broken, longer, longer_broken}
-use Rattle.dw_notation.specs.WholeTexts.{SectionsSay, TextsOfTagsSay}
+use Rattle.dw_notation.specs.WholeTexts.{SectionsSay}
+use Rattle.dw_notation.specs.TagLaws.{TextsOfTagsSay}
 use Rattle.dw_notation.specs.WholeTexts.SectionsSay.{nothing, other, comment, last_comment, section, last_section}
 use Rattle.dw_notation.specs.declared.problems.TheConstants.{MAX_SECTION}
 use Rattle.dw_notation.specs.declared.problems.ProblemFault.TheVariants.{SectionTooLong, UnclosedTag}
@@ -114,19 +115,19 @@ module _ (law : TextsOfTagsSay) where
   last_at g seen rest result (section {tags} {some} {last} {more} text gap b said is spaces ends says here) joined begins
       all none = absurd (ended_says g tags some last seen text gap more b said is spaces ends says joined none)
   last_at g seen rest result (last_section {tags} {some} {last} text gap said is spaces says) joined begins all none = (
-      said,
-      one_said said result all,
-      record {
-        tags = tags;
-        some = some;
-        last = last;
-        text = text;
-        gap = gap;
-        is = is;
-        spaces = spaces;
-        says = says;
-        joined = sym joined;
-      },
+    said,
+    one_said said result all,
+    record {
+      tags = tags;
+      some = some;
+      last = last;
+      text = text;
+      gap = gap;
+      is = is;
+      spaces = spaces;
+      says = says;
+      joined = sym joined;
+    },
   )
 
 -- ---- the spaces behind a section that is not refused

@@ -1,5 +1,5 @@
 -- The games of a text of tags: what each of its sections says, with the movetext behind its tags.
-use Rattle.std.specs.Prelude.{◌≡◌, ◌==◌, ◌+◌, ◌||◌, ◌⊎◌, if◌then◌else◌, ℕ, not, List, [], ◌∷◌, ◌++◌, length, map, take}
+use Rattle.std.specs.Prelude.{◌≡◌, ◌==◌, ◌+◌, ◌||◌, ◌⊎◌, if◌then◌else◌, ℕ, not, List, [], ◌∷◌, ◌++◌, length, take}
 use Rattle.std.specs.Prelude.{Bool, true, false, Ok, Err, nat_lt}
 use Rattle.dw_board.specs.Geometry.{Geometry}
 use Rattle.dw_notation.specs.TextLines.{Found, without_mark}
@@ -16,9 +16,12 @@ pub record Said : Type 0 where
   pub movetext : List ℕ
 
 -- Of a movetext so many bytes are told that one which is too large is seen to be; of that of a refused section none.
+abbrev pub told : Found → List ℕ → List ℕ
+told (Ok position) movetext = take (MAX_MOVETEXT + 1) movetext
+told (Err fault) movetext = []
+
 abbrev pub said_with : Found → List ℕ → Said
-said_with (Ok position) movetext = record { found = Ok position; movetext = take (MAX_MOVETEXT + 1) movetext }
-said_with (Err fault) movetext = record { found = Err fault; movetext = [] }
+said_with found movetext = record { found = found; movetext = told found movetext }
 
 -- A row of comments, sections and other bytes: its front, before the first section, and what the sections say in turn.
 -- The movetext of a section is what stands behind its last tag, up to the next section.

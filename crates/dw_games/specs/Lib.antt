@@ -5,4 +5,6 @@ pub mod Faults
 pub mod Laws
 pub mod Walk
 pub mod Games
+pub mod GameReading
+pub mod GameLaws
 pub mod inner

@@ -10,3 +10,4 @@ pub mod Inputs
 pub mod Keeping
 pub mod Playing
 pub mod Sectioning
+pub mod GameReaders

@@ -1,6 +1,6 @@
 //! The bytes of a source, one after another.
 ghost use Rattle.std.specs.Prelude.{◌≡◌, ◌<◌, ◌≤◌, [], ◌∷◌, true, false, length, take, drop, IfOk, MatchOption};
-ghost use Rattle.std.specs.Prelude.{OnErr, IsErr};
+ghost use Rattle.std.specs.Prelude.{OnErr};
 
 use crate::games::GameFault;
 use dw_notation::Source;
@@ -19,7 +19,8 @@ pub(crate) struct Input<'a, S> {
 }
 
 impl<'a, S: Source> Input<'a, S> {
-    ghost use Rattle.dw_games.specs.inner.Inputs.{unread_of, Passes, has_failed};
+    ghost use Rattle.dw_games.specs.GameReading.{is_failure};
+    ghost use Rattle.dw_games.specs.inner.Inputs.{unread_of, Passes};
 
     /// Nothing was read.
     pub(crate) fn new(source: &'a mut S) -> Input<'a, S>
@@ -39,7 +40,7 @@ impl<'a, S: Source> Input<'a, S> {
 
     /// The next byte, which stays the next until it is passed; `None` at the end.
     pub(crate) fn peek(&mut self) -> Result<Option<u8>, GameFault>
-        ensures passes { Passes S.coming S.has_ended S.is_failed S.pulls_left self.old self.new [] (has_failed result) }
+        ensures passes { Passes S.coming S.has_ended S.is_failed S.pulls_left self.old self.new [] (is_failure result) }
         ensures next { IfOk result (λ next. MatchOption next
             ((unread_of self.new ≡ []) × (self.new.met_end ≡ true))
             (λ byte. unread_of self.new ≡ byte ∷ drop 1 (unread_of self.new))) }
@@ -70,7 +71,7 @@ impl<'a, S: Source> Input<'a, S> {
     fn fill(&mut self) -> Result<(), GameFault>
         requires none { unread_of self.old ≡ [] }
         requires met_end { self.old.met_end ≡ false }
-        ensures passes { Passes S.coming S.has_ended S.is_failed S.pulls_left self.old self.new [] (has_failed result) }
+        ensures passes { Passes S.coming S.has_ended S.is_failed S.pulls_left self.old self.new [] (is_failure result) }
         ensures more { IfOk result (λ _. unread_of self.new ≡ [] → self.new.met_end ≡ true) }
         ensures fault { OnErr result (unread_of self.new ≡ []) }
     {

@@ -1,5 +1,5 @@
 //! What is kept of a text.
-ghost use Rattle.std.specs.Prelude.{◌≡◌, ◌∷◌, ◌++◌, [], OnOk, length, List, ℕ};
+ghost use Rattle.std.specs.Prelude.{◌≡◌, ◌∷◌, ◌++◌, [], OnOk, List, ℕ};
 ghost use Rattle.dw_games.specs.inner.Keeping.{IsKept};
 
 use std::alloc::{AllocError, Global};

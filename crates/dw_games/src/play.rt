@@ -1,5 +1,5 @@
 //! What stands behind the tags of a section, up to the next one: comments and other bytes.
-ghost use Rattle.std.specs.Prelude.{◌≡◌, ◌==◌, not, if◌then◌else◌};
+ghost use Rattle.std.specs.Prelude.{◌≡◌};
 ghost use Rattle.dw_games.specs.inner.Playing.{ReadsPlay, is_in_comment};
 
 use crate::games::GameFault;

@@ -3,7 +3,8 @@ use Rattle.std.proofs.Common.{◌≡◌, ℕ, List, Bool, refl, sym, ap, ◌∙�
 use Rattle.dw_board.specs.Geometry.{Geometry}
 use Rattle.dw_notation.specs.TextLines.{Found, without_mark}
 use Rattle.dw_notation.specs.Problems.{number_from, TextSays, AreProblems, TextsHaveProblems}
-use Rattle.dw_notation.specs.WholeTexts.{SectionsSay, TextsOfTagsSay}
+use Rattle.dw_notation.specs.WholeTexts.{SectionsSay}
+use Rattle.dw_notation.specs.TagLaws.{TextsOfTagsSay}
 use Rattle.dw_notation.specs.inner.Cutting.{found_ahead, problems_from}
 use Rattle.dw_notation.specs.inner.Problems.{found_of}
 use Rattle.dw_notation.specs.inner.Tags.{outside_found}

@@ -28,9 +28,3 @@ pub data SectionsSay : Geometry → Bool → List ℕ → List Found → Type 0 
   last_section : {g : Geometry} {over : Bool} {tags : List Tag} {some last : Bool} (text gap : List ℕ) (said : Found)
       → IsSection text tags some last → IsGap last gap ⊎ (gap ≡ []) → SectionSays g (length text) some tags said
       → SectionsSay g over (text ++ gap) (if_over over (said ∷ []))
-
--- each text of tags says one row of problems, and no other
-pub record TextsOfTagsSay : Type 0 where
-  pub some : (g : Geometry) (over : Bool) (bytes : List ℕ) → (found : List Found) × SectionsSay g over bytes found
-  pub only : (g : Geometry) (over : Bool) (bytes : List ℕ) (found others : List Found) → SectionsSay g over bytes found
-      → SectionsSay g over bytes others → found ≡ others

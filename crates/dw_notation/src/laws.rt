@@ -1,6 +1,6 @@
 //! Laws of the definitions, each the contract of a function that does nothing.
 ghost use Rattle.dw_notation.specs.Problems.{TextsHaveProblems, EndedComeFirst};
-ghost use Rattle.dw_notation.specs.WholeTexts.{TextsOfTagsSay};
+ghost use Rattle.dw_notation.specs.TagLaws.{TextsOfTagsSay};
 ghost use Rattle.dw_notation.specs.TextLaws.{MovesHaveTexts, EndsTell, LinesHaveTexts};
 ghost use Rattle.dw_notation.specs.MoveReadingLaws.{NamesOneThing, HasOneAnswer, WrittenMoveIsNamed, WrittenMoveIsRead};
 

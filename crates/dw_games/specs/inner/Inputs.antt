@@ -1,21 +1,12 @@
 -- What an input holds, and what is done to it.
-use Rattle.std.specs.Prelude.{◌≡◌, ℕ, ◌+◌, ◌*◌, ◌≤◌, ◌||◌, List, [], ◌++◌, length, Bool, true, false, Option}
-use Rattle.std.specs.Prelude.{Result, Ok, Err}
+use Rattle.std.specs.Prelude.{◌≡◌, ℕ, ◌+◌, ◌*◌, ◌≤◌, ◌||◌, List, [], ◌++◌, length, Bool, true, Option}
 use Rattle.std.specs.List.{slice_range}
 use Rattle.std.specs.Io.KnownBytes.{Consumes, IsAtEnd}
-use Rattle.dw_games.specs.declared.games.GameFault.{GameFault}
-use Rattle.dw_games.specs.declared.games.GameFault.TheVariants.{Failed, Memory}
 use Rattle.dw_games.specs.declared.input.Input.{Input}
 
 -- the bytes read and not yet passed
 abbrev pub unread_of : {S : Type 0} → Input S → List ℕ
 unread_of input = slice_range input.buffer input.start input.end
-
--- the source has failed
-abbrev pub has_failed : {A : Type 0} → Result A GameFault → Bool
-has_failed (Ok value) = false
-has_failed (Err Failed) = true
-has_failed (Err Memory) = false
 
 -- the end that was met is the source's, which has nothing left
 abbrev pub EndIsKnown : Option (List ℕ) → Bool → Bool → Type 0

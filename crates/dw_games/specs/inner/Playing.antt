@@ -6,7 +6,8 @@ use Rattle.dw_notation.specs.Tags.{open_bracket, open_brace, close_brace}
 use Rattle.dw_notation.specs.WholeTexts.{IsOpen}
 use Rattle.dw_notation.specs.declared.problems.ProblemFault.TheVariants.{UnclosedComment}
 use Rattle.dw_games.specs.Games.{Said, said_with, HasGames}
-use Rattle.dw_games.specs.inner.Inputs.{unread_of, Passes, has_failed}
+use Rattle.dw_games.specs.GameReading.{is_failure}
+use Rattle.dw_games.specs.inner.Inputs.{unread_of, Passes}
 use Rattle.dw_games.specs.inner.Keeping.{IsKept}
 use Rattle.dw_games.specs.declared.games.GameFault.{GameFault}
 use Rattle.dw_games.specs.declared.input.Input.{Input}
@@ -48,7 +49,7 @@ EndsAt Open input = (unread_of input ≡ []) × (input.met_end ≡ true)
 pub record ReadsPlay {S : Type 0} (coming : S → Option (List ℕ)) (has_ended is_failed : S → Bool) (pulls : S → ℕ)
     (old new : Input S) (before after : Kept) (result : Result PlayEnd GameFault) : Type 0 where
   pub passed : List ℕ
-  pub passes : Passes coming has_ended is_failed pulls old new passed (has_failed result)
+  pub passes : Passes coming has_ended is_failed pulls old new passed (is_failure result)
   pub kept : OnOk result ((limit : ℕ) (text : List ℕ) → IsKept limit text before → IsKept limit (text ++ passed) after)
   pub said : IfOk result (λ end. (g : Geometry) (bytes : List ℕ) (games : List Said)
       → Follows g end (unread_of new ++ bytes) games → HasGames g (passed ++ (unread_of new ++ bytes)) passed games)

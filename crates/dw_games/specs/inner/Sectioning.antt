@@ -1,6 +1,6 @@
 -- A section, read byte by byte.
-use Rattle.std.specs.Prelude.{◌≡◌, ◌==◌, ◌||◌, ◌⊎◌, not, ℕ, List, [], ◌∷◌, ◌++◌, length, Bool, true, false, Option, Result}
-use Rattle.std.specs.Prelude.{OnOk, IfOk, MatchOption}
+use Rattle.std.specs.Prelude.{◌≡◌, ◌==◌, ◌||◌, ◌⊎◌, not, ℕ, List, [], ◌∷◌, ◌++◌, length, Bool, true, false}
+use Rattle.std.specs.Prelude.{Option, Result, OnOk, IfOk, MatchOption}
 use Rattle.dw_board.specs.Geometry.{Geometry}
 use Rattle.dw_notation.specs.TextLines.{Found}
 use Rattle.dw_notation.specs.Tags.{open_bracket, is_space, Tag, IsGap, IsSection, SectionSays}
@@ -8,7 +8,8 @@ use Rattle.dw_notation.specs.WholeTexts.{SectionsSay}
 use Rattle.dw_notation.specs.inner.Readers.{ahead_of}
 use Rattle.dw_notation.specs.declared.problems.section_reader.SectionReader.{SectionReader}
 use Rattle.dw_games.specs.Games.{Said, said_with, HasGames}
-use Rattle.dw_games.specs.inner.Inputs.{unread_of, Passes, has_failed}
+use Rattle.dw_games.specs.GameReading.{is_failure}
+use Rattle.dw_games.specs.inner.Inputs.{unread_of, Passes}
 use Rattle.dw_games.specs.inner.Keeping.{IsKept, spaces_on}
 use Rattle.dw_games.specs.declared.games.GameFault.{GameFault}
 use Rattle.dw_games.specs.declared.input.Input.{Input}
@@ -52,7 +53,7 @@ pub record ReadsOn {B S : Type 0} (g : Geometry) (coming : S → Option (List �
 pub record ReadsSection {S : Type 0} (g : Geometry) (coming : S → Option (List ℕ)) (has_ended is_failed : S → Bool)
     (pulls : S → ℕ) (old new : Input S) (before after : Kept) (result : Result (Option Found) GameFault) : Type 0 where
   pub passed : List ℕ
-  pub passes : Passes coming has_ended is_failed pulls old new passed (has_failed result)
+  pub passes : Passes coming has_ended is_failed pulls old new passed (is_failure result)
   pub kept : OnOk result ((limit : ℕ) → IsKept limit [] before → IsKept limit (spaces_on [] passed) after)
   pub said : IfOk result (λ said. MatchOption said ⊥ (λ found. (bytes front : List ℕ) (games : List Said)
       → (new.met_end ≡ true → bytes ≡ []) → HasGames g (unread_of new ++ bytes) front games

@@ -1,6 +1,5 @@
-use Rattle.std.proofs.Common.{◌≡◌, ◌==◌, ◌&&◌, not, true, false, sym, ◌∙◌, ap, inl, inr}
+use Rattle.std.proofs.Common.{◌≡◌, ◌==◌, ◌&&◌, not, true, false, inl, inr}
 use Rattle.std.proofs.lemmas.Result.{err_from_is_err_and}
-use Rattle.dw_games.specs.inner.Playing.{PlaysOn}
 use Rattle.dw_games.proofs.InputLemmas.{Passes-refl}
 use Rattle.dw_games.proofs.PlayLemmas.{no_section, PlaysOn-peek, PlaysOn-byte, PlaysOn-section, PlaysOn-text}
 use Rattle.dw_games.proofs.PlayLemmas.{PlaysOn-open, PlaysOn-fault}

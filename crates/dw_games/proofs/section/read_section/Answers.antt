@@ -1,4 +1,3 @@
-use Rattle.std.proofs.Common.{◌≡◌}
 use Rattle.std.proofs.lemmas.Result.{err_from_is_err_and}
 use Rattle.dw_games.proofs.InputLemmas.{Passes-refl}
 use Rattle.dw_games.proofs.ReadLemmas.{ReadsOn-peek, ReadsOn-byte, ReadsOn-cut, ReadsOn-last}
