@@ -5,6 +5,7 @@ pub mod ReadLemmas
 pub mod GameLemmas
 pub mod HandLemmas
 pub mod SayingLemmas
+pub mod OneGamesLemmas
 pub mod TokenLemmas
 pub mod PlaceLemmas
 pub mod LinkLemmas

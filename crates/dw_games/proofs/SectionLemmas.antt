@@ -45,7 +45,7 @@ init_last byte (next ∷ more) = let r = init_last next more in (byte ∷ r.0, r
 
 module _ (law : TextsOfTagsSay) where
   -- a section that is ended says something
-  ended_says : (g : Geometry) (tags : List Tag) (some last : Bool) (seen text gap more : List ℕ) (byte : ℕ)
+  pub ended_says : (g : Geometry) (tags : List Tag) (some last : Bool) (seen text gap more : List ℕ) (byte : ℕ)
       (said : Found) → IsSection text tags some last → IsGap last gap → not ((byte == 91) || is_space byte) ≡ true
       → SectionSays g (length text) some tags said → text ++ (gap ++ byte ∷ more) ≡ seen
       → SectionsSay g false seen [] → ⊥
@@ -195,7 +195,7 @@ gap_is_spaces text gap tags some last is spaces whole =
     ∙ ap (λ l. spaces_on l gap) (ap (spaces_on []) closed.1.1 ∙ spaces_on-bracket [] closed.1.0)
     ∙ spaces_on-gap [] gap all)
 
-said_gap : (g : Geometry) (text gap front : List ℕ) (tags : List Tag) (some last : Bool) (found : Found)
+pub said_gap : (g : Geometry) (text gap front : List ℕ) (tags : List Tag) (some last : Bool) (found : Found)
     → IsSection text tags some last → IsGap last gap ⊎ (gap ≡ []) → SectionSays g (length text) some tags found
     → said_with found (gap ++ front) ≡ said_with found (spaces_on [] (text ++ gap) ++ front)
 said_gap g text gap front tags some last (Ok p) is spaces says =

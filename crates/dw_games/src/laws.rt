@@ -21,3 +21,11 @@ pub fn one_answer()
 pub fn games_say_problems()
     ensures { GamesSayProblems }
 {}
+
+/// Each text has its games, and no others.
+/// Example: `[FEN "x"] *` has no other game than the one of its section.
+pub fn texts_have_games()
+    ensures { TextsHaveGames }
+{
+    dw_notation::laws::texts_of_tags_say();
+}
