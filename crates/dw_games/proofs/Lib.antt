@@ -1,3 +1,11 @@
+pub mod InputLemmas
+pub mod PlayLemmas
+pub mod SectionLemmas
+pub mod ReadLemmas
+pub mod GameLemmas
+pub mod HandLemmas
+pub mod SayingLemmas
+pub mod OneGamesLemmas
 pub mod TokenLemmas
 pub mod PlaceLemmas
 pub mod LinkLemmas

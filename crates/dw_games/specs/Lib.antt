@@ -4,4 +4,7 @@ pub mod Movetext
 pub mod Faults
 pub mod Laws
 pub mod Walk
+pub mod Games
+pub mod GameReading
+pub mod GameLaws
 pub mod inner

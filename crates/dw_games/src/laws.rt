@@ -1,4 +1,5 @@
 //! Laws of the definitions, each the contract of a function that does nothing.
+ghost use Rattle.dw_games.specs.GameLaws.{GamesSayProblems, TextsHaveGames};
 ghost use Rattle.dw_games.specs.Laws.{OneRow, OneAnswer};
 
 /// Each text has exactly one row of tokens.
@@ -13,4 +14,18 @@ pub fn one_answer()
     ensures { OneAnswer }
 {
     dw_notation::laws::texts_have_one_answer();
+}
+
+/// What the games of a text say are its problems in the form `Pdn`, under the same numbers.
+/// Example: `[FEN "x"] *` has one game, whose problem is refused as the text's problem 1 is.
+pub fn games_say_problems()
+    ensures { GamesSayProblems }
+{}
+
+/// Each text has its games, and no others.
+/// Example: `[FEN "x"] *` has no other game than the one of its section.
+pub fn texts_have_games()
+    ensures { TextsHaveGames }
+{
+    dw_notation::laws::texts_of_tags_say();
 }

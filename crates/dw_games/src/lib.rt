@@ -1,21 +1,30 @@
-//! The solution that an author gave: the moves and variations behind the tags of a PDN section, as a tree of moves.
+//! The games of a PDN text, and the solution that an author gave in one: the moves and variations behind the tags of
+//! its section, as a tree of moves.
 //!
-//! Everything is generic over the board. Memory is taken by the tree, and at a move by `dw_notation`'s `read_move`.
+//! Everything is generic over the board. Memory is taken by a movetext and by the tree, and at a move by `dw_notation`'s
+//! `read_move`.
 //!
-//! Begin with `read_movetext`, and walk the `Tree` that it reads.
+//! Begin with `Games`, which reads the games of a `Source`, and with `read_movetext`; walk the `Tree` that it reads.
 //!
 //! An example tells a position by its FEN text, on the board of ten rows if it names no other.
 #![tactic(auto)]
 
 mod branches;
 mod class;
+mod count;
 pub mod fault;
+pub mod games;
+mod input;
+mod kept;
 pub mod laws;
 pub mod movetext;
+mod play;
 mod reader;
+mod section;
 pub mod tokens;
 pub mod tree;
 
 pub use fault::{MovetextFault, MovetextFaultKind};
+pub use games::{Game, GameFault, Games};
 pub use movetext::{MAX_MOVETEXT, MAX_OPEN, MAX_PATH, read_movetext};
 pub use tree::{Node, Tree};

@@ -1,13 +1,20 @@
 -- The problems of a text are what is found in it.
-use Rattle.std.proofs.Common.{◌≡◌, ℕ, List, Bool, refl, sym, ap, ◌∙◌}
+use Rattle.std.proofs.Common.{◌≡◌, ℕ, List, Bool, refl, sym, ap, ◌∙◌, subst}
 use Rattle.dw_board.specs.Geometry.{Geometry}
 use Rattle.dw_notation.specs.TextLines.{Found, without_mark}
 use Rattle.dw_notation.specs.Problems.{number_from, TextSays, AreProblems, TextsHaveProblems}
+use Rattle.dw_notation.specs.WholeTexts.{SectionsSay}
+use Rattle.dw_notation.specs.TagLaws.{TextsOfTagsSay}
 use Rattle.dw_notation.specs.inner.Cutting.{found_ahead, problems_from}
 use Rattle.dw_notation.specs.inner.Problems.{found_of}
+use Rattle.dw_notation.specs.inner.Tags.{outside_found}
+use Rattle.dw_notation.specs.inner.HeldSection.{held_of, held_bare, held_from, sections_ahead}
 use Rattle.dw_notation.specs.declared.problems.Form.{Form}
 use Rattle.dw_notation.specs.declared.problems.Form.TheVariants.{Fens, Pdn}
+use Rattle.dw_notation.specs.declared.problems.pdn.automaton.State.TheVariants.{Outside}
+use Rattle.dw_notation.specs.declared.problems.pdn.Sections.{Sections}
 use Rattle.dw_notation.specs.declared.problems.reader.Cutter.{Cutter}
+use Rattle.dw_notation.proofs.HoldingLemmas.{held_from-bare}
 use Rattle.dw_notation.proofs.TextSaysLemmas.{FensAreRead, lines_say, lines_say-only}
 use Rattle.dw_notation.proofs.WholeTextLemmas.{sections_say, sections_say-only}
 
@@ -47,3 +54,17 @@ module _ (law : FensAreRead) where
     said = text_says g form over bytes;
     numbers = ap (λ n. number_from n (found_ahead over g cutter bytes)) none ∙ ap (number_from 0) found;
   }
+
+  pub texts_of_tags_say : TextsOfTagsSay
+  texts_of_tags_say = record {
+    some = λ g over bytes. (outside_found over g bytes, sections_say law g over bytes);
+    only = λ g over bytes found others h k. sections_say-only law h ∙ sym (sections_say-only law k);
+  }
+
+  -- what a reader of sections will say that was given nothing
+  pub sections-fresh : (g : Geometry) (over : Bool) (bytes : List ℕ) (sections : Sections) → (sections.state ≡ Outside)
+      → held_of sections.section ≡ held_bare → SectionsSay g over bytes (sections_ahead over g sections bytes)
+  sections-fresh g over bytes sections state section =
+      subst (SectionsSay g over bytes) (sym (ap (λ p. held_from over g p (held_of sections.section) bytes) state
+      ∙ ap (λ h. held_from over g Outside h bytes) section ∙ held_from-bare over g Outside bytes))
+      (sections_say law g over bytes)

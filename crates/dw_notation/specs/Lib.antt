@@ -7,6 +7,7 @@ pub mod LineTexts
 pub mod TextLines
 pub mod Tags
 pub mod WholeTexts
+pub mod TagLaws
 pub mod Problems
 pub mod Reading
 pub mod MoveReading

@@ -1,5 +1,6 @@
 //! Laws of the definitions, each the contract of a function that does nothing.
 ghost use Rattle.dw_notation.specs.Problems.{TextsHaveProblems, EndedComeFirst};
+ghost use Rattle.dw_notation.specs.TagLaws.{TextsOfTagsSay};
 ghost use Rattle.dw_notation.specs.TextLaws.{MovesHaveTexts, EndsTell, LinesHaveTexts};
 ghost use Rattle.dw_notation.specs.MoveReadingLaws.{NamesOneThing, HasOneAnswer, WrittenMoveIsNamed, WrittenMoveIsRead};
 
@@ -7,6 +8,14 @@ ghost use Rattle.dw_notation.specs.MoveReadingLaws.{NamesOneThing, HasOneAnswer,
 /// Example: `{x}*[FEN "W:W32:B28"]` is a comment, another byte and a section, and has the problem of the section.
 pub fn texts_have_problems()
     ensures { TextsHaveProblems }
+{
+    dw_board::laws::reading_is_grammar();
+}
+
+/// Each text of tags says one row of problems, and no other: before they are numbered, and with its mark.
+/// Example: `{x}*[FEN "W:W32:B28"]` says one position.
+pub fn texts_of_tags_say()
+    ensures { TextsOfTagsSay }
 {
     dw_board::laws::reading_is_grammar();
 }

@@ -19,7 +19,7 @@ pub mod writes;
 
 pub use line_text::{LINE_ROOM, LineText, MAX_MOVES};
 pub use move_text::{MOVE_ROOM, text_in};
-pub use problems::{Form, Problem, ProblemFault, Problems, ReadFault};
+pub use problems::{Form, Problem, ProblemFault, Problems, ReadFault, SectionReader};
 pub use read_move::MoveFault;
 pub use streams::{Reading, Sink, Source, Writing};
 pub use writes::{WriteFault, write_all};

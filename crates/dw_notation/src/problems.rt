@@ -6,9 +6,11 @@
 mod fens;
 mod pdn;
 mod reader;
+mod section_reader;
 
 use dw_board::{Board, FenFault, Position};
 pub use reader::Problems;
+pub use section_reader::SectionReader;
 use thiserror::Error;
 
 /// The most problems of one text. Where there are more, the next is `TooManyProblems`, and it is the last.

@@ -1,8 +1,18 @@
--- What a reader of problems is to its callers.
+-- What readers of problems and of sections are to their callers.
+use Rattle.std.specs.Prelude.{ℕ, List, Bool}
+use Rattle.dw_board.specs.Geometry.{Geometry}
+use Rattle.dw_notation.specs.TextLines.{Found}
 use Rattle.dw_notation.specs.Reading.{Reader}
 use Rattle.dw_notation.specs.inner.Cutting.{reader_at}
+use Rattle.dw_notation.specs.inner.HeldSection.{sections_ahead}
 use Rattle.dw_notation.specs.declared.problems.reader.Problems.{Problems}
+use Rattle.dw_notation.specs.declared.problems.section_reader.SectionReader.{SectionReader}
 
 -- Sealed: the clauses of public calls name it, and say all that is to be known of it.
 unfoldable pub reader_of : {B S : Type 0} → Problems B S → Reader
 reader_of problems = reader_at problems.cutter
+
+-- What is said by what a reader was given and then these bytes, if it was not yet told. Sealed: the clauses of public
+-- calls name it, and say all that is to be known of it.
+unfoldable pub ahead_of : {B : Type 0} → SectionReader B → Geometry → Bool → List ℕ → List Found
+ahead_of reader g over bytes = sections_ahead over g reader.sections bytes

@@ -71,7 +71,7 @@ impl Sections {
     }
 
     /// Reads a byte, and answers whether it ends a section, which is then cut off.
-    fn add(&mut self, byte: u8) -> bool
+    pub(super) fn add(&mut self, byte: u8) -> bool
         ensures { (g : Geometry) (at_end : Bool) (more : List ℕ) → sections_ahead at_end g self.old (byte ∷ more)
             ≡ (if result then option_to_list (sections_cut g self.new) else [])
             ++ sections_ahead at_end g self.new more }

@@ -1,0 +1,32 @@
+use Rattle.std.proofs.Common.{refl, ◌++◌}
+use Rattle.std.proofs.lemmas.Result.{err_from_is_err_and}
+use Rattle.dw_games.proofs.InputLemmas.{Passes-trans}
+use Rattle.dw_games.proofs.HandLemmas.{ReadsGame-fault, ReadsGame-section}
+use Rattle.dw_games.proofs.games.Games.read_game.Goals as goal
+
+pub returns-in_err-found : goal.returns-in_err-found
+returns-in_err-found g c =
+    let s = g.S.Source in
+    let e = err_from_is_err_and c.from_residual.result c.from_residual.ensures.1 in
+    rw (e.1, e.2) (ReadsGame-fault g.B.Board.geometry s.coming s.has_ended s.is_failed s.pulls_left _ _
+    c.in_err-found.ensures.passed c.in_err-found.field-0.0 c.in_err-found.ensures.passes)
+
+pub returns-in_err-read_play : goal.returns-in_err-read_play
+returns-in_err-read_play g c =
+    let s = g.S.Source in
+    let section = rw c.in-Some.is at c.in_ok-found.ensures in
+    let e = err_from_is_err_and c.from_residual-in_err-read_play.result c.from_residual-in_err-read_play.ensures.1 in
+    rw (e.1, e.2) (ReadsGame-fault g.B.Board.geometry s.coming s.has_ended s.is_failed s.pulls_left _ _
+    (section.passed ++ c.in_err-read_play.ensures.passed) c.in_err-read_play.field-0.0
+    (Passes-trans s.coming s.has_ended s.is_failed s.pulls_left _ c.read_section.new.input _ section.passed
+    c.in_err-read_play.ensures.passed _ section.passes c.in_err-read_play.ensures.passes))
+
+pub returns : goal.returns
+returns g c =
+    let s = g.S.Source in
+    let section = rw c.in-Some.is at c.in_ok-found.ensures in
+    ReadsGame-section g.B.Board.geometry s.coming s.has_ended s.is_failed s.pulls_left c.texts_of_tags_say.ensures _
+    _ c.hand_out.new.self c.read_section.new.input c.new-spaces.result c.read_section.new.spaces
+    c.kept_for-movetext.result c.read_play.new.kept c.in-Some.found c.in_ok-read_play.field-0 c.into_bytes.result.items
+    c.hand_out.result section c.in_ok-read_play.ensures c.new-spaces.ensures c.kept_for-movetext.ensures
+    c.into_bytes.ensures c.stage_behind-self.ensures refl c.hand_out.ensures.input c.hand_out.ensures.given

@@ -1,0 +1,64 @@
+use Rattle.std.proofs.Common.{◌≡◌, ◌==◌, ◌&&◌, not, true, false, inl, inr}
+use Rattle.std.proofs.lemmas.Result.{err_from_is_err_and}
+use Rattle.dw_games.proofs.InputLemmas.{Passes-refl}
+use Rattle.dw_games.proofs.PlayLemmas.{no_section, PlaysOn-peek, PlaysOn-byte, PlaysOn-section, PlaysOn-text}
+use Rattle.dw_games.proofs.PlayLemmas.{PlaysOn-open, PlaysOn-fault}
+use Rattle.dw_games.proofs.play.read_play.Goals as goal
+use Rattle.dw_games.proofs.play.read_play.Goals.{else-byte-eq91-via-then-byte-eq91+else-not-is_comment}
+use Rattle.dw_games.proofs.play.read_play.Goals.{else-byte-eq91-via-else-byte-eq91}
+
+pub returns-in_err-byte : goal.returns-in_err-byte
+returns-in_err-byte g c =
+    let s = g.S.Source in
+    let e = err_from_is_err_and c.from_residual.result c.from_residual.ensures.1 in
+    rw (e.1, e.2) (PlaysOn-fault s.coming s.has_ended s.is_failed s.pulls_left _ c.bytes.input _ _ c.bytes.kept _
+    c.bytes.is_comment c.in_err-byte.field-0.0 c.bytes.invariant c.in_err-byte.ensures.passes)
+
+pub returns-then-not-is_comment : goal.returns-then-not-is_comment
+returns-then-not-is_comment g c =
+    let s = g.S.Source in
+    let next = rw c.in-Some.is at c.in_ok-byte.ensures.next in
+    PlaysOn-section s.coming s.has_ended s.is_failed s.pulls_left _ c.peek.new.self _ c.bytes.kept
+    (PlaysOn-peek s.coming s.has_ended s.is_failed s.pulls_left _ c.bytes.input _ _ _ false
+    (rw c.if-not-is_comment.true at c.bytes.invariant) c.in_ok-byte.ensures.passes)
+    (rw c.if-byte-eq91.true at next)
+
+pub returns-in_err-push : goal.returns-in_err-push
+returns-in_err-push g c =
+    let s = g.S.Source in
+    let e = err_from_is_err_and c.from_residual-in_err-push.result c.from_residual-in_err-push.ensures.1 in
+    rw (e.1, e.2) (PlaysOn-fault s.coming s.has_ended s.is_failed s.pulls_left _ c.peek.new.self _ _ c.bytes.kept _
+    c.bytes.is_comment _
+    (PlaysOn-peek s.coming s.has_ended s.is_failed s.pulls_left _ c.bytes.input _ _ _ c.bytes.is_comment
+    c.bytes.invariant c.in_ok-byte.ensures.passes)
+    (Passes-refl s.coming s.has_ended s.is_failed s.pulls_left c.peek.new.self))
+
+pub bytes-preserved : goal.bytes-preserved
+bytes-preserved g c =
+    let s = g.S.Source in
+    let none : ((c.in-Some.byte == 91) && not c.bytes.is_comment) ≡ false = elim c.else-byte-eq91.branch [
+      | else-byte-eq91-via-then-byte-eq91+else-not-is_comment w ↦ no_section c.in-Some.byte c.bytes.is_comment
+          (inr w.if-not-is_comment.false)
+      | else-byte-eq91-via-else-byte-eq91 w ↦ no_section c.in-Some.byte c.bytes.is_comment (inl w.if-byte-eq91.false)
+    ] in
+    rw c.is_in_comment-is_comment.ensures (PlaysOn-byte s.coming s.has_ended s.is_failed s.pulls_left _ c.peek.new.self
+    c.pass.new.self _ c.bytes.kept c.push.new.self c.bytes.is_comment c.in-Some.byte
+    (PlaysOn-peek s.coming s.has_ended s.is_failed s.pulls_left _ c.bytes.input _ _ _ c.bytes.is_comment
+    c.bytes.invariant c.in_ok-byte.ensures.passes)
+    (rw c.in-Some.is at c.in_ok-byte.ensures.next) none c.in_ok-push.ensures c.pass.ensures.passes)
+
+pub returns-then-is_comment : goal.returns-then-is_comment
+returns-then-is_comment g c =
+    let s = g.S.Source in
+    PlaysOn-open s.coming s.has_ended s.is_failed s.pulls_left _ c.peek.new.self _ c.bytes.kept
+    (PlaysOn-peek s.coming s.has_ended s.is_failed s.pulls_left _ c.bytes.input _ _ _ true
+    (rw c.if-is_comment.true at c.bytes.invariant) c.in_ok-byte.ensures.passes)
+    (rw c.in_default.is at c.in_ok-byte.ensures.next)
+
+pub returns-else-is_comment : goal.returns-else-is_comment
+returns-else-is_comment g c =
+    let s = g.S.Source in
+    PlaysOn-text s.coming s.has_ended s.is_failed s.pulls_left _ c.peek.new.self _ c.bytes.kept
+    (PlaysOn-peek s.coming s.has_ended s.is_failed s.pulls_left _ c.bytes.input _ _ _ false
+    (rw c.if-is_comment.false at c.bytes.invariant) c.in_ok-byte.ensures.passes)
+    (rw c.in_default.is at c.in_ok-byte.ensures.next)

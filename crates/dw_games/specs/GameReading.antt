@@ -1,0 +1,72 @@
+-- What a reader of games shows its caller, and what a call for the next game does.
+use Rattle.std.specs.Prelude.{◌≡◌, ℕ, List, [], ◌∷◌, ◌++◌, Bool, true, false, Option, Some, None, Result, Ok, Err}
+use Rattle.std.specs.Borrow.{GName}
+use Rattle.std.specs.Io.KnownBytes.{Consumes, IsAtEnd}
+use Rattle.dw_board.specs.Geometry.{Geometry}
+use Rattle.dw_games.specs.Games.{NumberedGame}
+use Rattle.dw_games.specs.declared.games.Game.{Game}
+use Rattle.dw_games.specs.declared.games.Games.{Games}
+use Rattle.dw_games.specs.declared.games.GameFault.{GameFault}
+use Rattle.dw_games.specs.declared.games.GameFault.TheVariants.{Failed, Memory}
+
+-- what a game handed out says, whatever the type of its board
+abbrev pub numbered_game : {B : Type 0} → Game B → NumberedGame
+numbered_game game = record {
+  number = game.problem.number;
+  said = record { found = game.problem.found; movetext = game.movetext.items };
+}
+
+-- the name of the reference to the source that the reader holds
+abbrev pub lender : {B S : Type 0} → Games B S → GName
+lender games = games.input.source.ghost_name
+
+-- the source as it stands now
+abbrev pub source_of : {B S : Type 0} → Games B S → S
+source_of games = games.input.source.now
+
+-- How far a reader has come. Callers know of it what the clauses say, and nothing else.
+pub record Reader : Type 1 where
+  -- the games not yet handed out, if these bytes are still to be read and the text ends with them
+  pub ahead : Geometry → List ℕ → List NumberedGame → Type 0
+  -- whether the source's end was met
+  pub met_end : Bool
+  -- whether all games are handed out
+  pub is_over : Bool
+  -- the fault that has stopped the reader
+  pub fault : Option GameFault
+
+-- these bytes may still be to be read: none, if the end was met
+abbrev pub MayCome : Reader → List ℕ → Type 0
+MayCome reader bytes = reader.met_end ≡ true → bytes ≡ []
+
+-- what a call of `next` that read these bytes did
+abbrev pub Gives : {B : Type 0} → Geometry → Reader → Reader → List ℕ → Result (Option (Game B)) GameFault → Type 0
+Gives g old new read (Ok (Some game)) =
+    ((bytes : List ℕ) (games : List NumberedGame) → new.ahead g bytes games
+    → old.ahead g (read ++ bytes) (numbered_game game ∷ games))
+    × ((bytes : List ℕ) → MayCome new bytes → (games : List NumberedGame) × new.ahead g bytes games)
+Gives g old new read (Ok None) =
+    (new.is_over ≡ true) × ((bytes : List ℕ) → MayCome new bytes → old.ahead g (read ++ bytes) [])
+Gives g old new read (Err fault) = new.fault ≡ Some fault
+
+-- a call that took these bytes off the source gave this
+pub record GivesNext {B : Type 0} (g : Geometry) (coming left : Option (List ℕ)) (old new : Reader)
+    (result : Result (Option (Game B)) GameFault) : Type 0 where
+  pub read : List ℕ
+  pub took : Consumes coming left read
+  pub gives : Gives g old new read result
+
+-- the end that a reader has met is the source's, which has nothing left
+abbrev pub EndIsTrue : Option (List ℕ) → Bool → Reader → Type 0
+EndIsTrue coming has_ended reader = reader.met_end ≡ true → IsAtEnd coming × (has_ended ≡ true)
+
+-- what a reader answers that is over, or that a fault has stopped: the same each time
+abbrev pub StandsStill : {B : Type 0} → Reader → Result (Option (Game B)) GameFault → Type 0
+StandsStill old result =
+    (old.is_over ≡ true → result ≡ Ok None) × ((fault : GameFault) → old.fault ≡ Some fault → result ≡ Err fault)
+
+-- the answer is that the source has failed
+abbrev pub is_failure : {A : Type 0} → Result A GameFault → Bool
+is_failure (Ok value) = false
+is_failure (Err Failed) = true
+is_failure (Err Memory) = false

@@ -1,0 +1,21 @@
+-- What is kept of a text.
+use Rattle.std.specs.Prelude.{◌≡◌, ◌+◌, ℕ, List, [], ◌∷◌, ◌++◌, take, if◌then◌else◌, Ok, Err}
+use Rattle.dw_notation.specs.TextLines.{Found}
+use Rattle.dw_notation.specs.Tags.{is_space}
+use Rattle.dw_games.specs.declared.movetext.TheConstants.{MAX_MOVETEXT}
+use Rattle.dw_games.specs.declared.kept.Kept.{Kept}
+
+-- so many bytes of a text are kept
+pub record IsKept (limit : ℕ) (text : List ℕ) (kept : Kept) : Type 0 where
+  pub most : kept.limit ≡ limit
+  pub bytes : kept.bytes.items ≡ take limit text
+
+-- of a text what is kept that is a movetext's beginning, by what its section says
+abbrev pub IsKeptFor : Found → List ℕ → Kept → Type 0
+IsKeptFor (Ok position) text kept = IsKept (MAX_MOVETEXT + 1) text kept
+IsKeptFor (Err fault) text kept = IsKept 0 text kept
+
+-- the spaces at the end of a text, behind those that stand before it
+abbrev pub spaces_on : List ℕ → List ℕ → List ℕ
+spaces_on spaces [] = spaces
+spaces_on spaces (byte ∷ text) = spaces_on (if is_space byte then spaces ++ byte ∷ [] else []) text

@@ -1,0 +1,65 @@
+-- Bytes without a section, read one by one.
+use Rattle.std.specs.Prelude.{◌≡◌, ◌==◌, ℕ, not, if◌then◌else◌, List, [], ◌∷◌, ◌++◌, drop, Bool, true, false, Option}
+use Rattle.std.specs.Prelude.{Result, Err, OnOk, IfOk}
+use Rattle.dw_board.specs.Geometry.{Geometry}
+use Rattle.dw_notation.specs.Tags.{open_bracket, open_brace, close_brace}
+use Rattle.dw_notation.specs.WholeTexts.{IsOpen}
+use Rattle.dw_notation.specs.declared.problems.ProblemFault.TheVariants.{UnclosedComment}
+use Rattle.dw_games.specs.Games.{Said, said_with, HasGames}
+use Rattle.dw_games.specs.GameReading.{is_failure}
+use Rattle.dw_games.specs.inner.Inputs.{unread_of, Passes}
+use Rattle.dw_games.specs.inner.Keeping.{IsKept}
+use Rattle.dw_games.specs.declared.games.GameFault.{GameFault}
+use Rattle.dw_games.specs.declared.input.Input.{Input}
+use Rattle.dw_games.specs.declared.kept.Kept.{Kept}
+use Rattle.dw_games.specs.declared.play.PlayEnd.{PlayEnd}
+use Rattle.dw_games.specs.declared.play.PlayEnd.TheVariants.{Section, Text, Open}
+
+abbrev pub is_in_comment : Bool → ℕ → Bool
+is_in_comment was byte = if was then not (byte == close_brace) else (byte == open_brace)
+
+-- what a comment left open says
+abbrev pub unclosed : Said
+unclosed = said_with (Err UnclosedComment) []
+
+-- a text that begins in a comment, its front, and its games
+pub data InComment : Geometry → (text front : List ℕ) → List Said → Type 0 where
+  closed : {g : Geometry} {more front : List ℕ} {games : List Said} (text : List ℕ) → IsOpen text
+      → HasGames g more front games → InComment g (text ++ close_brace ∷ more) (text ++ close_brace ∷ front) games
+  left_open : {g : Geometry} (text : List ℕ) → IsOpen text → InComment g text text (unclosed ∷ [])
+
+-- a text that begins in a comment or outside
+abbrev pub HasGamesFrom : Bool → Geometry → (text front : List ℕ) → List Said → Type 0
+HasGamesFrom true g text front games = InComment g text front games
+HasGamesFrom false g text front games = HasGames g text front games
+
+-- the text behind bytes without a section, and its games
+abbrev pub Follows : Geometry → PlayEnd → List ℕ → List Said → Type 0
+Follows g Section text games = HasGames g text [] games
+Follows g Text text games = (text ≡ []) × (games ≡ [])
+Follows g Open text games = (text ≡ []) × (games ≡ unclosed ∷ [])
+
+-- what is known where bytes without a section end
+abbrev pub EndsAt : {S : Type 0} → PlayEnd → Input S → Type 0
+EndsAt Section input = unread_of input ≡ open_bracket ∷ drop 1 (unread_of input)
+EndsAt Text input = (unread_of input ≡ []) × (input.met_end ≡ true)
+EndsAt Open input = (unread_of input ≡ []) × (input.met_end ≡ true)
+
+-- bytes without a section are passed and kept
+pub record ReadsPlay {S : Type 0} (coming : S → Option (List ℕ)) (has_ended is_failed : S → Bool) (pulls : S → ℕ)
+    (old new : Input S) (before after : Kept) (result : Result PlayEnd GameFault) : Type 0 where
+  pub passed : List ℕ
+  pub passes : Passes coming has_ended is_failed pulls old new passed (is_failure result)
+  pub kept : OnOk result ((limit : ℕ) (text : List ℕ) → IsKept limit text before → IsKept limit (text ++ passed) after)
+  pub said : IfOk result (λ end. (g : Geometry) (bytes : List ℕ) (games : List Said)
+      → Follows g end (unread_of new ++ bytes) games → HasGames g (passed ++ (unread_of new ++ bytes)) passed games)
+  pub ends : IfOk result (λ end. EndsAt end new)
+
+-- so far bytes without a section were passed and kept
+pub record PlaysOn {S : Type 0} (coming : S → Option (List ℕ)) (has_ended is_failed : S → Bool) (pulls : S → ℕ)
+    (old now : Input S) (before kept : Kept) (is_comment : Bool) : Type 0 where
+  pub passed : List ℕ
+  pub passes : Passes coming has_ended is_failed pulls old now passed false
+  pub keeps : (limit : ℕ) (text : List ℕ) → IsKept limit text before → IsKept limit (text ++ passed) kept
+  pub said : (g : Geometry) (more front : List ℕ) (games : List Said) → HasGamesFrom is_comment g more front games
+      → HasGames g (passed ++ more) (passed ++ front) games

@@ -1,0 +1,215 @@
+//! The games of a text of tags: what its sections say, each with the movetext behind it.
+ghost use Rattle.std.specs.Prelude.{◌≡◌, ◌∷◌, ◌+◌, ◌||◌, [], false, None, List, ℕ, drop};
+ghost use Rattle.dw_games.specs.declared.games.GameFault.TheVariants.{Memory};
+ghost use Rattle.dw_games.specs.declared.games.Stage.TheVariants.{Over};
+ghost use Rattle.dw_games.specs.inner.GameReaders.{stage_behind};
+ghost use Rattle.dw_games.specs.inner.Keeping.{IsKept, IsKeptFor};
+
+use crate::count::Count;
+use crate::input::Input;
+use crate::kept::Kept;
+use crate::movetext::MAX_MOVETEXT;
+use crate::play::{PlayEnd, read_play};
+use crate::section::read_section;
+use dw_board::{Board, Position};
+use dw_notation::{Problem, ProblemFault, Source};
+use std::alloc::{AllocError, Global};
+use std::marker::PhantomData;
+use thiserror::Error;
+
+/// A game of a text: the problem that its section poses, and the movetext behind the section's tags, up to the next
+/// section. Of a movetext at most `MAX_MOVETEXT` + 1 bytes are held, of which `read_movetext` says that it is too
+/// large. That of a refused problem is empty.
+/// Example: `[FEN "W:W27,32:B18"] 1. 32-28 *` has a position and the movetext ` 1. 32-28 *`.
+#[derive(Drop)]
+pub struct Game<B: Board> {
+    pub problem: Problem<B>,
+    pub movetext: Vec<u8>,
+}
+
+/// Why a game could not be read. It says nothing of the text.
+/// Example: `GameFault::Failed` is written `the source failed`.
+#[derive(Clone, Copy, Debug, PartialEq, Eq, Error)]
+pub enum GameFault {
+    #[error("the source failed")]
+    Failed,
+    #[error("memory")]
+    Memory,
+}
+
+impl From<AllocError> for GameFault {
+    ghost from_gives = { λ _ e. e ≡ Memory };
+
+    fn from(_refused: AllocError) -> GameFault {
+        GameFault::Memory
+    }
+}
+
+/// Where a reader of games stands.
+#[derive(Clone, Copy)]
+enum Stage {
+    /// Before a section, or outside.
+    Reading,
+    /// Behind a comment that the text's end leaves open, which is a problem of its own.
+    Open,
+    Over,
+    Stopped(GameFault),
+}
+
+/// Where a reader stands behind a movetext that ends so.
+fn stage_behind(end: PlayEnd) -> Stage
+    ensures { result ≡ stage_behind end }
+{
+    match end {
+        PlayEnd::Section | PlayEnd::Text => Stage::Reading,
+        PlayEnd::Open => Stage::Open,
+    }
+}
+
+/// What is kept of a movetext that begins so, by what its section says.
+fn kept_for<B: Board>(alloc: Global, found: &Result<Position<B>, ProblemFault>, begun: Kept) -> Kept
+    ensures { (text : List ℕ) → IsKept (MAX_MOVETEXT + 1) text begun → IsKeptFor found.now text result }
+{
+    match found {
+        Ok(_) => begun,
+        Err(_) => Kept::new(alloc, 0),
+    }
+}
+
+/// The games of a source. Of its input it holds 2,048 bytes of the last read, and the movetext that is read.
+/// See [`Games::next`] for an example.
+#[derive(Drop)]
+pub struct Games<'a, B: Board, S> {
+    alloc: Global,
+    input: Input<'a, S>,
+    stage: Stage,
+    handed: Count,
+    board: PhantomData<B>,
+}
+
+impl<'a, B: Board, S: Source> Games<'a, B, S> {
+    ghost use Rattle.dw_games.specs.Games.{AreGames, NumberedGame, games_from};
+    ghost use Rattle.dw_games.specs.GameReading.{lender, source_of, numbered_game, is_failure};
+    ghost use Rattle.dw_games.specs.GameReading.{GivesNext, EndIsTrue, StandsStill};
+    ghost use Rattle.dw_games.specs.inner.GameReaders.{reader_of, IsHandedOut, ReadsGame};
+    ghost use Rattle.dw_games.specs.inner.Inputs.{unread_of};
+    ghost use Rattle.dw_games.specs.inner.Playing.{unclosed};
+
+    /// A reader of all games that the source has still to give.
+    /// See [`Games::next`] for an example.
+    #[tactic(auto, unfolding(crate::specs::inner::GameReaders::reader_of))]
+    pub fn new(alloc: Global, source: &'a mut S) -> Games<'a, B, S>
+        ensures lender { lender result ≡ source.entry.ghost_name }
+        ensures source { source_of result ≡ source.old }
+        ensures ahead { (bytes : List ℕ) (games : List NumberedGame) → (reader_of result).ahead B.geometry bytes games
+            → AreGames B.geometry bytes games }
+        ensures met_end { (reader_of result).met_end ≡ false }
+        ensures is_over { (reader_of result).is_over ≡ false }
+        ensures fault { (reader_of result).fault ≡ None }
+    {
+        Games {
+            alloc,
+            input: Input::new(source),
+            stage: Stage::Reading,
+            handed: Count::new(),
+            board: PhantomData,
+        }
+    }
+
+    /// Hands out what a section says, and its movetext.
+    fn hand_out(&mut self, found: Result<Position<B>, ProblemFault>, movetext: Vec<u8>) -> Game<B>
+        ensures input { self.new.input ≡ self.old.input }
+        ensures given { IsHandedOut self.old self.new (record { found = found; movetext = movetext.items }) result }
+    {
+        let number = self.handed.next();
+        match self.handed.increased() {
+            Some(handed) => {
+                self.handed = handed;
+                let problem = Problem { number, found };
+                Game { problem, movetext }
+            }
+            None => {
+                self.stage = Stage::Over;
+                let found = Err(ProblemFault::TooManyProblems);
+                let problem = Problem { number, found };
+                let movetext = Vec::new(self.alloc);
+                Game { problem, movetext }
+            }
+        }
+    }
+
+    /// Hands out the problem that a comment is which the end of the text leaves open.
+    fn hand_out_open(&mut self) -> Game<B>
+        ensures input { self.new.input ≡ self.old.input }
+        ensures stage { self.new.stage ≡ Over }
+        ensures given { numbered_game result ∷ [] ≡ games_from self.old.handed.games (unclosed ∷ []) }
+    {
+        self.stage = Stage::Over;
+        self.hand_out(Err(ProblemFault::UnclosedComment), Vec::new(self.alloc))
+    }
+
+    /// Reads the game of the section that begins here.
+    fn read_game(&mut self) -> Result<Option<Game<B>>, GameFault>
+        requires { unread_of self.old.input ≡ 91 ∷ drop 1 (unread_of self.old.input) }
+        ensures { ReadsGame B.geometry S.coming S.has_ended S.is_failed S.pulls_left self.old self.new result }
+    {
+        dw_notation::laws::texts_of_tags_say();
+        let mut spaces = Kept::new(self.alloc, MAX_MOVETEXT + 1);
+        let Some(found) = read_section::<B, S>(&mut self.input, &mut spaces)? else {
+            return Ok(None);
+        };
+        let mut movetext = kept_for(self.alloc, &found, spaces);
+        self.stage = stage_behind(read_play(&mut self.input, &mut movetext)?);
+        Ok(Some(self.hand_out(found, movetext.into_bytes())))
+    }
+
+    /// Reads up to the end of the next game.
+    fn read_on(&mut self) -> Result<Option<Game<B>>, GameFault>
+        ensures { ReadsGame B.geometry S.coming S.has_ended S.is_failed S.pulls_left self.old self.new result }
+    {
+        dw_notation::laws::texts_of_tags_say();
+        let mut front = Kept::new(self.alloc, 0);
+        match read_play(&mut self.input, &mut front)? {
+            PlayEnd::Section => self.read_game(),
+            PlayEnd::Open => Ok(Some(self.hand_out_open())),
+            PlayEnd::Text => {
+                self.stage = Stage::Over;
+                Ok(None)
+            }
+        }
+    }
+
+    /// The next game, or `None` if the text has no more. It is read up to the next section, or to the end of the text.
+    ///
+    /// # Errors
+    ///
+    /// `Failed` is the source's fault, and `Memory` says that memory was refused: the game that was begun is lost, and
+    /// each later call answers the same.
+    /// Example: of `[FEN "W:W32:B28"] 1. 32x23 [FEN "x"]` it gives a position with the movetext ` 1. 32x23 `, then a
+    /// problem that was refused, and then `None`.
+    #[tactic(auto, unfolding(crate::specs::inner::GameReaders::reader_of))]
+    pub fn next(&mut self) -> Result<Option<Game<B>>, GameFault>
+        ensures lender { lender self.new ≡ lender self.old }
+        ensures given { GivesNext B.geometry
+            (S.coming (source_of self.old)) (S.coming (source_of self.new))
+            (reader_of self.old) (reader_of self.new) result }
+        ensures end { EndIsTrue (S.coming (source_of self.old)) (S.has_ended (source_of self.old)) (reader_of self.old)
+            → EndIsTrue (S.coming (source_of self.new)) (S.has_ended (source_of self.new)) (reader_of self.new) }
+        ensures failed { (reader_of self.old).fault ≡ None
+            → S.is_failed (source_of self.new) ≡ (S.is_failed (source_of self.old) || is_failure result) }
+        ensures still { StandsStill (reader_of self.old) result }
+    {
+        match self.stage {
+            Stage::Over => Ok(None),
+            Stage::Stopped(fault) => Err(fault),
+            Stage::Open => Ok(Some(self.hand_out_open())),
+            Stage::Reading => match self.read_on() {
+                Ok(game) => Ok(game),
+                Err(fault) => {
+                    self.stage = Stage::Stopped(fault);
+                    Err(fault)
+                }
+            },
+        }
+    }
+}

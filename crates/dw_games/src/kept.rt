@@ -1,0 +1,56 @@
+//! What is kept of a text.
+ghost use Rattle.std.specs.Prelude.{◌≡◌, ◌∷◌, ◌++◌, [], OnOk, List, ℕ};
+ghost use Rattle.dw_games.specs.inner.Keeping.{IsKept};
+
+use std::alloc::{AllocError, Global};
+
+/// The first bytes of a text, no more than a limit.
+#[derive(Drop)]
+pub(crate) struct Kept {
+    alloc: Global,
+    bytes: Vec<u8>,
+    limit: usize,
+}
+
+impl Kept {
+    /// Of the empty text.
+    pub(crate) fn new(alloc: Global, limit: usize) -> Kept
+        ensures { IsKept limit [] result }
+    {
+        Kept {
+            alloc,
+            bytes: Vec::new(alloc),
+            limit,
+        }
+    }
+
+    /// Puts a byte behind the text.
+    pub(crate) fn push(&mut self, byte: u8) -> Result<(), AllocError>
+        ensures { (limit : ℕ) (text : List ℕ) → IsKept limit text self.old
+            → OnOk result (IsKept limit (text ++ byte ∷ []) self.new) }
+    {
+        if self.bytes.len() < self.limit {
+            self.bytes.push(byte)?;
+        }
+        Ok(())
+    }
+
+    /// Begins again with the empty text.
+    pub(crate) fn clear(&mut self)
+        ensures { (limit : ℕ) (text : List ℕ) → IsKept limit text self.old → IsKept limit [] self.new }
+    {
+        self.bytes.clear();
+    }
+
+    /// The bytes that were kept.
+    pub(crate) fn into_bytes(self) -> Vec<u8>
+        ensures { result.items ≡ self.bytes.items }
+    {
+        let Kept {
+            alloc: _,
+            bytes,
+            limit: _,
+        } = self;
+        bytes
+    }
+}

@@ -1,0 +1,49 @@
+//! What stands behind the tags of a section, up to the next one: comments and other bytes.
+ghost use Rattle.std.specs.Prelude.{◌≡◌};
+ghost use Rattle.dw_games.specs.inner.Playing.{ReadsPlay, is_in_comment};
+
+use crate::games::GameFault;
+use crate::input::Input;
+use crate::kept::Kept;
+use dw_notation::Source;
+
+/// What stands behind bytes without a section.
+#[derive(Clone, Copy)]
+pub(crate) enum PlayEnd {
+    /// The bracket that begins a section.
+    Section,
+    /// The end of the text.
+    Text,
+    /// The end of the text, in a comment.
+    Open,
+}
+
+/// Whether text goes on in a comment behind a byte, by whether that byte stands in one.
+fn is_in_comment(was: bool, byte: u8) -> bool
+    ensures { result ≡ is_in_comment was byte }
+{
+    if was { byte != b'}' } else { byte == b'{' }
+}
+
+/// Passes the bytes up to a section or the end of the text, and keeps them.
+pub(crate) fn read_play<S: Source>(
+    input: &mut Input<'_, S>,
+    kept: &mut Kept,
+) -> Result<PlayEnd, GameFault>
+    ensures { ReadsPlay S.coming S.has_ended S.is_failed S.pulls_left input.old input.new kept.old kept.new result }
+{
+    let mut is_comment = false;
+    'bytes: while let Some(byte) = input.peek()? {
+        if byte == b'[' && !is_comment {
+            return Ok(PlayEnd::Section);
+        }
+        is_comment = is_in_comment(is_comment, byte);
+        kept.push(byte)?;
+        input.pass();
+    }
+    Ok(if is_comment {
+        PlayEnd::Open
+    } else {
+        PlayEnd::Text
+    })
+}

@@ -1,0 +1,48 @@
+//! A section of tags, and the spaces behind it.
+ghost use Rattle.std.specs.Prelude.{◌≡◌, ℕ, List, [], ◌∷◌, ◌++◌, drop, OnOk, if◌then◌else◌};
+ghost use Rattle.dw_notation.specs.Tags.{open_bracket, is_space as is_space_byte};
+ghost use Rattle.dw_games.specs.inner.Inputs.{unread_of};
+ghost use Rattle.dw_games.specs.inner.Keeping.{IsKept};
+ghost use Rattle.dw_games.specs.inner.Sectioning.{ReadsSection};
+
+use crate::class::is_space;
+use crate::games::GameFault;
+use crate::input::Input;
+use crate::kept::Kept;
+use dw_board::{Board, Position};
+use dw_notation::{ProblemFault, SectionReader, Source};
+use std::alloc::AllocError;
+
+/// Keeps a byte, if it is a space, behind the spaces that stand before it.
+fn keep_space(spaces: &mut Kept, byte: u8) -> Result<(), AllocError>
+    ensures { (limit : ℕ) (text : List ℕ) → IsKept limit text spaces.old
+        → OnOk result (IsKept limit (if is_space_byte byte then text ++ byte ∷ [] else []) spaces.new) }
+{
+    if is_space(byte) {
+        spaces.push(byte)
+    } else {
+        spaces.clear();
+        Ok(())
+    }
+}
+
+/// Passes the bytes of a section and the spaces behind it, which are kept, and answers what it says.
+pub(crate) fn read_section<B: Board, S: Source>(
+    input: &mut Input<'_, S>,
+    spaces: &mut Kept,
+) -> Result<Option<Result<Position<B>, ProblemFault>>, GameFault>
+    requires { unread_of input.old ≡ open_bracket ∷ drop 1 (unread_of input.old) }
+    ensures { ReadsSection B.geometry S.coming S.has_ended S.is_failed S.pulls_left input.old input.new
+        spaces.old spaces.new result }
+{
+    dw_notation::laws::texts_of_tags_say();
+    let mut reader = SectionReader::<B>::new();
+    'bytes: while let Some(byte) = input.peek()? {
+        if let Some(found) = reader.add(byte) {
+            return Ok(Some(found));
+        }
+        keep_space(spaces, byte)?;
+        input.pass();
+    }
+    Ok(reader.finish())
+}
