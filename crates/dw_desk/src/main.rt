@@ -1,6 +1,8 @@
 //! `dw-desk`: what composers, editors and judges ask about problems of international draughts.
 #![tactic(auto)]
 
+mod checking;
+mod desk;
 mod ending;
 mod finding;
 mod json;
@@ -9,11 +11,11 @@ mod words;
 
 use clap::Error;
 use clap::error::ErrorKind;
+use desk::obey_on;
 use dw_board::{Eight, Ten};
 use dw_program::BoardSize;
 use dw_report::RunFault;
 use ending::{Ending, NO_MEMORY, status_of};
-use finding::find_all;
 use std::fmt::Display;
 use std::process::ExitCode;
 use std::{env, io};
@@ -78,8 +80,8 @@ fn end_without_words(rt: &HostRuntime, error: &Error) -> ExitCode {
 /// Does what the arguments ask for, on the board that they name.
 fn obey(rt: &HostRuntime, request: &Request<'_>) -> ExitCode {
     let ending = match request.board {
-        BoardSize::Ten => find_all::<Ten>(rt, request),
-        BoardSize::Eight => find_all::<Eight>(rt, request),
+        BoardSize::Ten => obey_on::<Ten>(rt, request),
+        BoardSize::Eight => obey_on::<Eight>(rt, request),
     };
     end_with(rt, &ending)
 }

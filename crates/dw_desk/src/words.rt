@@ -21,29 +21,44 @@ pub struct Portion {
     pub is_asked: bool,
 }
 
-/// What the arguments ask for.
+/// What the command `find` is asked for.
 #[derive(Clone, Copy)]
-pub struct Request<'a> {
-    pub board: BoardSize,
-    pub form: Form,
-    pub portion: Portion,
-    pub memo: MemoKind,
-    /// The most positions that the memo keeps, 1 to `MOST_KEPT`.
-    pub cache: usize,
+pub struct FindWords {
     /// The most moves within which a win is looked for, 1 to `MOST_MOVES`.
     pub most: u8,
     /// How many positions may be expanded for each problem until its number of moves is known.
     pub each: Option<u64>,
     /// Whether a line of JSON is written for each problem.
     pub json: bool,
+    ghost some_moves: { 1 ≤ most },
+    ghost few_moves: { most ≤ 20 },
+}
+
+/// What is done with each problem.
+#[derive(Clone, Copy)]
+pub enum Command {
+    /// The number of moves and the verdict are found.
+    Find(FindWords),
+    /// The solution is checked, within `n` moves, or as many as it has.
+    Check { n: Option<u8> },
+}
+
+/// What the arguments ask for.
+#[derive(Clone, Copy)]
+pub struct Request<'a> {
+    pub command: Command,
+    pub board: BoardSize,
+    pub form: Form,
+    pub portion: Portion,
+    pub memo: MemoKind,
+    /// The most positions that the memo keeps, 1 to `MOST_KEPT`.
+    pub cache: usize,
     /// Whether the progress line was asked for.
     pub progress: bool,
     /// The file to read, or standard input.
     pub file: Option<&'a str>,
     ghost some_kept: { 1 ≤ cache },
     ghost few_kept: { cache ≤ 4_000_000 },
-    ghost some_moves: { 1 ≤ most },
-    ghost few_moves: { most ≤ 20 },
 }
 
 /// How many positions a memo keeps if the arguments say nothing.
@@ -77,6 +92,24 @@ Examples:
   dw-desk find --most 6 --each 1000000 examples/problems.fen
   dw-desk find --json --problem 1-3 examples/problems.fen";
 
+const CHECK_ABOUT: &str =
+    "Compares the solution in each game of a PDN file with the truth: what is wrong, what is missing.";
+
+const CHECK_EXAMPLES: &str = "\
+A solution is what stands behind the tags of a game: moves, and variations in parentheses. Each
+remark stands in a line:
+  fails  a move of the attacker that is no key, with the reply that refutes it
+  also   keys that the solution does not have
+  open   replies that it does not have
+  ends   it ends here, though the play goes on
+The last line says whether the solution holds in N moves, and how many remarks there are of each
+kind. It holds if nothing fails and nothing ends; it is whole if nothing is open and no key is left.
+Without -n, N is the number of the attacker's moves that the solution has.
+
+Examples:
+  dw-desk check examples/solutions.pdn
+  dw-desk check -n 3 --problem 2 examples/solutions.pdn";
+
 const PROBLEM_HELP: &str =
     "Report on the problem I alone, or on those from I to J, 1 to 1000000 [default: all]";
 
@@ -92,6 +125,7 @@ For more information, try '--help'.
 /// The commands that the program knows.
 pub fn command<'a>(alloc: Global) -> Result<Words<'a>, AllocError> {
     let find = find_command(alloc)?;
+    let check = check_command(alloc)?;
     Words::new(alloc, "dw-desk")
         .bin_name("dw-desk")?
         .version(VERSION)
@@ -99,7 +133,8 @@ pub fn command<'a>(alloc: Global) -> Result<Words<'a>, AllocError> {
         .after_help(EXAMPLES)
         .subcommand_required(true)
         .arg_required_else_help(true)
-        .subcommand(find)
+        .subcommand(find)?
+        .subcommand(check)
 }
 
 fn find_command<'a>(alloc: Global) -> Result<Words<'a>, AllocError> {
@@ -112,6 +147,16 @@ fn find_command<'a>(alloc: Global) -> Result<Words<'a>, AllocError> {
         .args(arguments)
 }
 
+fn check_command<'a>(alloc: Global) -> Result<Words<'a>, AllocError> {
+    let arguments = vec![in alloc;
+        board(alloc), pdn(alloc), problem(alloc), file(alloc),
+        within(alloc), memo(alloc, "deep"), cache(alloc, CACHE_HELP), progress(alloc)]?;
+    Words::new(alloc, "check")
+        .about(CHECK_ABOUT)
+        .after_help(CHECK_EXAMPLES)
+        .args(arguments)
+}
+
 fn problem<'a>(alloc: Global) -> Arg<'a> {
     option(
         alloc,
@@ -120,6 +165,14 @@ fn problem<'a>(alloc: Global) -> Arg<'a> {
         ValueParser::string(),
         PROBLEM_HELP,
     )
+}
+
+fn within<'a>(alloc: Global) -> Arg<'a> {
+    Arg::new(alloc, "n")
+        .short('n')
+        .value_name("N")
+        .value_parser(value_parser!(u8).range(1..=i64::from(MOST_MOVES)))
+        .help("Look for a win in N moves of the side to move, 1 to 20 [default: as the solution]")
 }
 
 fn most<'a>(alloc: Global) -> Arg<'a> {
@@ -148,26 +201,42 @@ fn progress<'a>(alloc: Global) -> Arg<'a> {
 
 /// What parsed arguments ask for, or what is said of them if they are no command.
 pub fn requested<'a>(matches: &ArgMatches<'a>) -> Result<Request<'a>, &'static str> {
-    let Some(words) = matches.subcommand_matches("find") else {
-        return Err("dw-desk: no command\n");
-    };
+    if let Some(words) = matches.subcommand_matches("find") {
+        return request_of(words, Command::Find(find_words(words)));
+    }
+    if let Some(words) = matches.subcommand_matches("check") {
+        let n = words.get_one::<u8>("n");
+        return request_of(words, Command::Check { n });
+    }
+    Err("dw-desk: no command\n")
+}
+
+/// What a command asks for.
+fn request_of<'a>(words: &ArgMatches<'a>, command: Command) -> Result<Request<'a>, &'static str> {
     let Some(portion) = portion_of(words.get_str("problem")) else {
         return Err(NO_PORTION);
     };
     let cache = words.get_one::<usize>("cache").unwrap_or(USUALLY_KEPT);
-    let most = words.get_one::<u8>("most").unwrap_or(MOST_MOVES);
     Ok(Request {
+        command,
         board: BoardSize::named(words.get_str("board")),
         form: form(words.get_flag("pdn")),
         portion,
         memo: MemoKind::named(words.get_str("memo")),
         cache: cache.clamp(1, MOST_KEPT),
-        most: most.clamp(1, MOST_MOVES),
-        each: words.get_one::<u64>("each"),
-        json: words.get_flag("json"),
         progress: words.get_flag("progress"),
         file: words.get_str("FILE"),
     })
+}
+
+/// What the command `find` is asked for.
+fn find_words(words: &ArgMatches<'_>) -> FindWords {
+    let most = words.get_one::<u8>("most").unwrap_or(MOST_MOVES);
+    FindWords {
+        most: most.clamp(1, MOST_MOVES),
+        each: words.get_one::<u64>("each"),
+        json: words.get_flag("json"),
+    }
 }
 
 fn form(is_pdn: bool) -> Form {

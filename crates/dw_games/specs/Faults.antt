@@ -19,6 +19,19 @@ use Rattle.dw_games.specs.declared.fault.MovetextFaultKind.TheVariants.{Token as
 use Rattle.dw_games.specs.declared.fault.MovetextFaultKind.TheVariants.{Variation, Unclosed, Rest, TooDeep, TooLong}
 use Rattle.dw_games.specs.declared.fault.MovetextFaultKind.TheVariants.{TooLarge, Empty}
 
+-- the number of a fault
+abbrev pub number_of : MovetextFaultKind → ℕ
+number_of NoToken = 1
+number_of NoSuchMove = 2
+number_of Ambiguous = 3
+number_of Variation = 4
+number_of Unclosed = 5
+number_of Rest = 6
+number_of TooDeep = 7
+number_of TooLong = 8
+number_of TooLarge = 9
+number_of Empty = 10
+
 -- After these tokens no result stands yet: the innermost of the variations that are open begins after the moves
 -- before, and has these moves. So many more may be open in it.
 pub data IsOpen (g : Geometry) (p : Placement) : ℕ → List Token → (before moves : List Move) → Type 0 where

@@ -1,6 +1,7 @@
 //! Why a text is no movetext.
 ghost use Rattle.std.specs.Prelude.{◌≡◌};
 ghost use Rattle.dw_games.specs.declared.fault.MovetextFault.TheVariants.{Memory};
+ghost use Rattle.dw_games.specs.Faults.{number_of};
 
 use std::alloc::AllocError;
 use std::fmt;
@@ -33,6 +34,25 @@ pub enum MovetextFaultKind {
 }
 
 impl MovetextFaultKind {
+    /// Its number, from 1 on.
+    /// Example: of `MovetextFaultKind::Unclosed` it is 5.
+    pub fn number(self) -> u8
+        ensures { result ≡ number_of self }
+    {
+        match self {
+            MovetextFaultKind::Token => 1,
+            MovetextFaultKind::NoSuchMove => 2,
+            MovetextFaultKind::Ambiguous => 3,
+            MovetextFaultKind::Variation => 4,
+            MovetextFaultKind::Unclosed => 5,
+            MovetextFaultKind::Rest => 6,
+            MovetextFaultKind::TooDeep => 7,
+            MovetextFaultKind::TooLong => 8,
+            MovetextFaultKind::TooLarge => 9,
+            MovetextFaultKind::Empty => 10,
+        }
+    }
+
     /// Its name in texts.
     fn name(self) -> &'static str {
         match self {

@@ -1,6 +1,6 @@
 //! The tree of an author's solution.
 ghost use Rattle.std.specs.Prelude.{◌≡◌, ◌++◌, ◌∷◌, [], OnOk, OnErr, IfOk, None, Some, MatchOption, slice_get, length};
-ghost use Rattle.std.specs.Prelude.{◌==◌, ◌+◌, ◌≤◌, IsSome};
+ghost use Rattle.std.specs.Prelude.{◌==◌, ◌+◌, ◌≤◌, ◌<◌, IsSome};
 
 pub use crate::branches::Node;
 use crate::branches::{Branch, Found, child_by, first_child, link, next_sibling};
@@ -50,7 +50,27 @@ impl<B: Board> Tree<B> {
     pub(crate) fn is_empty(&self) -> bool
         ensures { result ≡ (length self.now == 0) }
     {
-        self.branches.as_slice().is_empty()
+        self.len() == 0
+    }
+
+    /// How many nodes it has.
+    /// Example: `1. 32-28 (1. 27-22) 18-22` has 3.
+    pub fn len(&self) -> usize
+        ensures { result ≡ length self.now }
+    {
+        self.branches.as_slice().len()
+    }
+
+    /// The node of a place, from 0 on, in the order in which the beginnings first stand in the text.
+    /// Example: in `1. 32-28 (1. 27-22) 18-22` that of place 1 is the one behind `27-22`.
+    pub fn node(&self, place: usize) -> Option<Node>
+        ensures { MatchOption result (length self.now ≤ place) (λ n. (n.0 ≡ place) × (place < length self.now)) }
+    {
+        if place < self.len() {
+            Some(Node(place))
+        } else {
+            None
+        }
     }
 
     /// The node behind the first move after a node, or after the root.

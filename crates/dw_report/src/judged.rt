@@ -204,7 +204,7 @@ fn cooked_line<B: Board>(
     ensures { IfOk result (λ line. IsVerdictText B.geometry position.now moves (cooked shortest keys.now)
         (string_bytes line)) }
 {
-    let keys = joined(alloc, position, keys, ", ")?;
+    let keys = joined_text(alloc, position, keys, ", ")?;
     [
         "cooked in ",
         Buffer::new().format(moves),
@@ -231,7 +231,7 @@ fn dual_line<B: Board>(
         (string_bytes line)) }
 {
     let line = line_text(alloc, position, at)?;
-    let choices = joined(alloc, &reached(position, at), choices, " / ")?;
+    let choices = joined_text(alloc, &reached(position, at), choices, " / ")?;
     [
         "dual in ",
         Buffer::new().format(moves),
@@ -282,7 +282,8 @@ pub(crate) fn reached<B: Board>(position: &Position<B>, moves: &[Move<B>]) -> Po
 }
 
 /// The texts of legal moves of a position, with a mark between them.
-fn joined<B: Board>(
+/// Example: of the two moves of `W:W32:B` with the mark ` / ` it is `32-27 / 32-28`.
+pub fn joined_text<B: Board>(
     alloc: Global,
     position: &Position<B>,
     moves: &[Move<B>],

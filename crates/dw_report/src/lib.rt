@@ -21,7 +21,7 @@ mod tries;
 pub mod verdict;
 
 pub use dw_notation::{problems, streams};
-pub use judged::judged_text;
+pub use judged::{joined_text, judged_text};
 pub use move_texts::{dual_texts, key_texts, try_texts};
 pub use settings::{Command, RunFault, Settings, Stop, Summary};
 pub use text::{problem_line, refusal_text};

@@ -4,3 +4,6 @@ pub mod WentLemmas
 pub mod ChildLemmas
 pub mod SeenLemmas
 pub mod RemarkLemmas
+pub mod BeginningLemmas
+pub mod TurnLemmas
+pub mod RemarkTextLemmas

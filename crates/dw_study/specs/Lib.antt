@@ -2,6 +2,8 @@ pub mod Finding
 pub mod Remarks
 pub mod Telling
 pub mod FoundText
+pub mod RemarkText
+pub mod Turns
 pub mod Slices
 pub mod Laws
 pub mod inner

@@ -8,6 +8,7 @@
 #![tactic(auto)]
 
 mod attack;
+mod beginning;
 mod branch;
 pub mod check;
 pub mod find;
@@ -17,13 +18,17 @@ pub mod laws;
 mod limits;
 mod looking;
 pub mod remark;
+mod remark_texts;
 pub mod sliced;
 pub mod slices;
 mod text;
+pub mod turns;
 
 pub use finding::{FindBounds, Finding};
 pub use judging::judge_in_slices;
 pub use remark::{Checked, Remark};
+pub use remark_texts::remark_text;
 pub use sliced::wins_in_slices;
 pub use slices::{Slices, Unwatched, Watcher};
 pub use text::found_text;
+pub use turns::turns_of;

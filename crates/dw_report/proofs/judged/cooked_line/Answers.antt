@@ -4,8 +4,8 @@ use Rattle.dw_report.proofs.JudgedTextLemmas.{keys_legal}
 use Rattle.dw_report.proofs.VerdictTextLemmas.{cooked_made}
 use Rattle.dw_report.proofs.judged.cooked_line.Goals as goal
 
-pub joined-requires : goal.joined-requires
-joined-requires g c = keys_legal g.B.Board.geometry c.args.position.now c.args.moves c.args.keys.now c.requires.0
+pub joined_text-requires : goal.joined_text-requires
+joined_text-requires g c = keys_legal g.B.Board.geometry c.args.position.now c.args.moves c.args.keys.now c.requires.0
 
 pub returns : goal.returns
 returns g c =

@@ -2,7 +2,7 @@ use Rattle.std.proofs.Common.{◌++◌, sym, ap, ◌∙◌, subst, inr}
 use Rattle.std.specs.String.{string_bytes}
 use Rattle.dw_board.specs.Lists.{Member}
 use Rattle.dw_report.proofs.JoiningLemmas.{one_of_them, joined_one, joined_more, joined_all, joined_none}
-use Rattle.dw_report.proofs.judged.joined.Goals as goal
+use Rattle.dw_report.proofs.judged.joined_text.Goals as goal
 
 pub rest-init : goal.rest-init
 rest-init g c =

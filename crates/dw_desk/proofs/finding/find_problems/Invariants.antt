@@ -1,6 +1,6 @@
 use Rattle.std.proofs.Common.{◌≡◌, ◌≤◌, ◌-◌, false}
 use Rattle.dw_notation.specs.inner.Readers.{reader_of}
-use Rattle.dw_desk.proofs.finding.report_all.Given as goal
+use Rattle.dw_desk.proofs.finding.find_problems.Given as goal
 
 abbrev pub invariant-problems : goal.invariant-problems
 invariant-problems g l = record {

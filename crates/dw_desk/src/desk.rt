@@ -1,0 +1,165 @@
+//! What every command does: it opens its file, searches with a solver, and counts what it reports.
+ghost use Rattle.std.specs.Prelude.{◌≡◌, ◌≤◌, false, [], IfOk};
+
+use crate::checking::check_games;
+use crate::ending::{Ending, NO_MEMORY};
+use crate::finding::find_problems;
+use crate::progress::Progress;
+use crate::words::{Command, Request};
+use dw_board::Board;
+use dw_games::GameFault;
+use dw_memo::AnyMemo;
+use dw_notation::{ReadFault, WriteFault};
+use dw_program::memo_of;
+use dw_report::streams::{Reading, Writing};
+use dw_report::{RunFault, Stop};
+use dw_solve::{ByTrial, Solver};
+use dw_study::Slices;
+use std::alloc::{AllocError, Global};
+use std::fs::File;
+use std::io::{IsTerminal, Read};
+
+/// How many positions the first slice of a search expands that is shown.
+const FIRST_SLICE: u64 = 50_000;
+
+/// How many problems were reported, and how many of them were refused, stayed undecided or fail.
+#[derive(Clone, Copy, Default)]
+pub struct Counts {
+    shown: u32,
+    refused: u32,
+}
+
+impl Counts {
+    /// One problem more is reported.
+    pub fn with(self, is_refused: bool) -> Counts {
+        Counts {
+            shown: self.shown.saturating_add(1),
+            refused: self.refused.saturating_add(u32::from(is_refused)),
+        }
+    }
+}
+
+/// Why a problem was not reported to its end.
+#[derive(Clone, Copy)]
+pub enum DeskFault {
+    Stopped(Stop),
+    Read,
+    Write,
+}
+
+impl From<AllocError> for DeskFault {
+    fn from(_refused: AllocError) -> DeskFault {
+        DeskFault::Stopped(Stop::Memory)
+    }
+}
+
+impl From<Stop> for DeskFault {
+    fn from(stop: Stop) -> DeskFault {
+        DeskFault::Stopped(stop)
+    }
+}
+
+impl From<ReadFault> for DeskFault {
+    fn from(_failed: ReadFault) -> DeskFault {
+        DeskFault::Read
+    }
+}
+
+impl From<GameFault> for DeskFault {
+    fn from(fault: GameFault) -> DeskFault {
+        match fault {
+            GameFault::Failed => DeskFault::Read,
+            GameFault::Memory => DeskFault::Stopped(Stop::Memory),
+        }
+    }
+}
+
+impl From<WriteFault> for DeskFault {
+    fn from(_failed: WriteFault) -> DeskFault {
+        DeskFault::Write
+    }
+}
+
+/// What searches for the problems.
+#[derive(Drop)]
+pub struct Desk<B: Board> {
+    pub alloc: Global,
+    pub solver: Solver<B, AnyMemo<B>, ByTrial>,
+}
+
+/// Does what was asked for, with the problems of the file or of standard input.
+pub fn obey_on<'a, B: Board>(rt: &HostRuntime, request: &Request<'a>) -> Ending<&'a str> {
+    let reported = match request.file {
+        None => report::<B>(rt, request, &mut rt.stdin()),
+        Some(path) => match File::open(rt, path) {
+            Ok(mut file) => report::<B>(rt, request, &mut file),
+            Err(_) => return Ending::NotOpened(path),
+        },
+    };
+    match reported {
+        Ok(Counts { shown: 0, .. }) if request.portion.is_asked => {
+            Ending::NoProblem(request.portion.first)
+        }
+        Ok(Counts { refused: 0, .. }) => Ending::Done,
+        Ok(_) => Ending::Refused,
+        Err(fault) => Ending::Failed(fault),
+    }
+}
+
+/// Reports on the problems that the reader gives. A file and standard input are read through the same code.
+fn report<B: Board>(
+    rt: &HostRuntime,
+    request: &Request<'_>,
+    reader: &mut dyn Read,
+) -> Result<Counts, RunFault> {
+    let Ok(solver) = solver_of::<B>(rt.alloc(), request) else {
+        return Err(NO_MEMORY);
+    };
+    let mut desk = Desk {
+        alloc: rt.alloc(),
+        solver,
+    };
+    let mut slices = Slices::new(first_slice(rt, request), Progress::new(rt));
+    let mut source = Reading::new(reader);
+    let mut sink = Writing::new(rt.stdout());
+    let reported = match request.command {
+        Command::Find(asked) => find_problems(
+            &mut desk,
+            &mut slices,
+            request,
+            &asked,
+            &mut source,
+            &mut sink,
+        ),
+        Command::Check { n } => {
+            check_games(&mut desk, &mut slices, request, n, &mut source, &mut sink)
+        }
+    };
+    match reported {
+        Ok(counts) => Ok(counts),
+        Err(DeskFault::Read) => Err(RunFault::Read),
+        Err(DeskFault::Write) => Err(RunFault::Write),
+        Err(DeskFault::Stopped(why)) => Err(RunFault::Stopped {
+            why,
+            expanded: desk.solver.expanded(),
+        }),
+    }
+}
+
+/// The solver for one problem or for all, over an empty memo.
+pub fn solver_of<B: Board>(
+    alloc: Global,
+    request: &Request<'_>,
+) -> Result<Solver<B, AnyMemo<B>, ByTrial>, AllocError> {
+    let memo = memo_of(alloc, request.memo, request.cache)?;
+    Ok(Solver::new(memo, ByTrial, u64::MAX))
+}
+
+/// How large the first slice of a search is: all of it, if nobody looks on.
+fn first_slice(rt: &HostRuntime, request: &Request<'_>) -> u64 {
+    if request.progress || rt.stderr().is_terminal() {
+        FIRST_SLICE
+    } else {
+        u64::MAX
+    }
+}

@@ -1,0 +1,10 @@
+use Rattle.dw_study.proofs.BeginningLemmas.{PlayedTo, played_more}
+use Rattle.std.proofs.Common.{◌+◌, refl, sym, subst}
+use Rattle.dw_study.proofs.beginning.played.Goals as goal
+
+pub moves-preserved : goal.moves-preserved
+moves-preserved g c =
+    subst (PlayedTo g.B.Board.geometry c.args.position.now c.args.moves.now (c.moves.mv-index + 1))
+    (sym c.play-behind.ensures) (played_more g.B.Board.geometry c.args.position.now c.args.moves.now c.moves.mv-index
+    c.moves.behind c.mv-item.result c.moves.invariant c.moves-test.true c.mv-item.is
+    (c.is_legal.ensures.0 c.if-not-is_legal.false))

@@ -1,0 +1,30 @@
+-- What is written of a remark on an author's solution.
+use Rattle.std.specs.Prelude.{◌≡◌, ℕ, List, [], ◌∷◌, ◌++◌, codes, decimal}
+use Rattle.dw_board.specs.Geometry.{Geometry}
+use Rattle.dw_board.specs.Placement.{Placement}
+use Rattle.dw_moves.specs.Moves.{Move, play}
+use Rattle.dw_notation.specs.Text.{IsMoveText, IsLineText, AreJoined}
+use Rattle.dw_report.specs.Verdict.{reach}
+use Rattle.dw_report.specs.JudgedText.{next_number}
+use Rattle.dw_study.specs.Remarks.{Remark, fails, also, leaves_open, ends}
+
+-- a line with a blank before it, or nothing if it has no move
+abbrev pub behind_blank : List ℕ → List ℕ
+behind_blank [] = []
+behind_blank (byte ∷ line) = codes " " ++ byte ∷ line
+
+-- a remark in words: the beginning, and what stands or is missing behind it
+abbrev pub IsRemarkText : Geometry → Placement → Remark → List ℕ → Type 0
+IsRemarkText g p (fails b m r) text = (line : List ℕ) × (move : List ℕ) × (reply : List ℕ) × IsLineText g p b line
+    × IsMoveText g (reach g p b) m move × IsMoveText g (play g (reach g p b) m) r reply
+    × (text ≡ codes "fails" ++ behind_blank line ++ codes " " ++ decimal (next_number b) ++ codes ". " ++ move
+    ++ codes " refuted by " ++ reply ++ codes "\n")
+IsRemarkText g p (also b keys) text = (line : List ℕ) × (moves : List ℕ) × IsLineText g p b line
+    × AreJoined g (reach g p b) (codes " / ") keys moves
+    × (text ≡ codes "also" ++ behind_blank line ++ codes " " ++ decimal (next_number b) ++ codes ". " ++ moves
+    ++ codes "\n")
+IsRemarkText g p (leaves_open b replies) text = (line : List ℕ) × (moves : List ℕ) × IsLineText g p b line
+    × AreJoined g (reach g p b) (codes ", ") replies moves
+    × (text ≡ codes "open" ++ behind_blank line ++ codes ": " ++ moves ++ codes "\n")
+IsRemarkText g p (ends b) text = (line : List ℕ) × IsLineText g p b line
+    × (text ≡ codes "ends" ++ behind_blank line ++ codes "\n")

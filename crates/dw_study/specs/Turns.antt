@@ -1,0 +1,14 @@
+-- How many moves of the attacker a tree has.
+use Rattle.std.specs.Prelude.{◌≡◌, ◌⊎◌, ℕ, ◌+◌, ◌/◌, ◌≤◌, List, length}
+use Rattle.dw_board.specs.Lists.{Member}
+use Rattle.dw_moves.specs.Moves.{Move}
+use Rattle.dw_notation.specs.declared.line_text.TheConstants.{MAX_MOVES}
+
+-- the moves of the attacker among these
+abbrev pub turns_in : List Move → ℕ
+turns_in moves = (length moves + 1) / 2
+
+-- no path of at most 39 moves has more, and one has as many, if there is any
+pub record HasTurns (tree : List (List Move)) (n : ℕ) : Type 0 where
+  pub most : (path : List Move) → Member path tree → length path ≤ MAX_MOVES → turns_in path ≤ n
+  pub met : (n ≡ 0) ⊎ ((path : List Move) × Member path tree × (turns_in path ≡ n))

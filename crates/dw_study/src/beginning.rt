@@ -1,0 +1,95 @@
+//! Beginnings of an author's solution: their moves, the positions behind them, their texts.
+ghost use Rattle.std.specs.Prelude.{◌≡◌, ◌<◌, None, Some, length, IfOk, IfSome};
+ghost use Rattle.std.specs.String.{string_bytes};
+ghost use Rattle.dw_notation.specs.Text.{ArePlayable};
+ghost use Rattle.dw_games.specs.Walk.{beginning_at, place_of};
+ghost use Rattle.dw_report.specs.Verdict.{reach};
+ghost use Rattle.dw_study.specs.RemarkText.{behind_blank};
+ghost use Rattle.dw_study.specs.inner.Beginnings.{IsBegun};
+
+use arrayvec::ArrayVec;
+use dw_board::{Board, Position};
+use dw_games::{Node, Tree};
+use dw_moves::Move;
+use dw_moves::legal::is_legal;
+use dw_moves::play::play;
+use dw_notation::MAX_MOVES;
+use dw_notation::line_text::line_text;
+use std::alloc::{AllocError, Global};
+
+/// A beginning of a path: its moves, the position behind it, and its text with a blank before it.
+#[derive(Drop)]
+pub(crate) struct Beginning<B: Board> {
+    pub(crate) moves: ArrayVec<Move<B>, MAX_MOVES>,
+    pub(crate) position: Position<B>,
+    pub(crate) text: String,
+}
+
+/// The beginning before a node, if it can be played from a position.
+pub(crate) fn beginning_of<B: Board>(
+    alloc: Global,
+    position: &Position<B>,
+    tree: &Tree<B>,
+    node: Option<Node>,
+) -> Result<Option<Beginning<B>>, AllocError>
+    ensures { (b : _) → beginning_at tree.now (place_of node) ≡ Some b
+        → IfOk result (λ made. IfSome made (IsBegun B.geometry position.now b)) }
+{
+    let Some(moves) = moves_to(tree, node) else {
+        return Ok(None);
+    };
+    let Some(behind) = played(position, moves.as_slice()) else {
+        return Ok(None);
+    };
+    let line = line_text(alloc, position, moves.as_slice())?;
+    let text = with_blank(alloc, line.as_str())?;
+    Ok(Some(Beginning {
+        moves,
+        position: behind,
+        text,
+    }))
+}
+
+/// A text with a blank before it, or nothing, if it is empty.
+fn with_blank(alloc: Global, text: &str) -> Result<String, AllocError>
+    ensures { IfOk result (λ made. string_bytes made ≡ behind_blank text.now) }
+{
+    if text.is_empty() {
+        return Ok(String::new(alloc));
+    }
+    [" ", text].concat(alloc)
+}
+
+/// The moves of the beginning before a node, if there are at most 39.
+pub(crate) fn moves_to<B: Board>(tree: &Tree<B>, node: Option<Node>) -> Option<ArrayVec<Move<B>, MAX_MOVES>>
+    ensures moves { (b : _) → beginning_at tree.now (place_of node) ≡ Some b → IfSome result (λ moves. moves.items ≡ b) }
+    ensures none { (b : _) → beginning_at tree.now (place_of node) ≡ Some b → result ≡ None → 39 < length b }
+{
+    let mut moves = ArrayVec::new();
+    let mut at = node;
+    'moves: while let Some(here) = at {
+        let mv = tree.mv(here)?;
+        if moves.is_full() {
+            return None;
+        }
+        moves.push(mv);
+        at = tree.parent(here);
+    }
+    moves.as_mut_slice().reverse();
+    Some(moves)
+}
+
+/// The position after moves, if each is legal after those before it.
+fn played<B: Board>(position: &Position<B>, moves: &[Move<B>]) -> Option<Position<B>>
+    ensures { IfSome result (λ behind. ArePlayable B.geometry position.now moves.now
+        × (behind ≡ reach B.geometry position.now moves.now)) }
+{
+    let mut behind = *position;
+    'moves: for mv in moves {
+        if !is_legal(&behind, mv) {
+            return None;
+        }
+        behind = play(&behind, mv);
+    }
+    Some(behind)
+}

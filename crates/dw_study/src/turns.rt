@@ -1,0 +1,23 @@
+//! How many moves of the attacker an author's solution has.
+ghost use Rattle.std.specs.Prelude.{◌≤◌};
+ghost use Rattle.dw_study.specs.Turns.{HasTurns};
+
+use crate::beginning::moves_to;
+use dw_board::Board;
+use dw_games::Tree;
+
+/// The most moves of the attacker on a path of a tree, of those that have at most 39 moves: 0 to 20.
+/// Example: `1. 32-28 18-22 2. 27x18` has 2.
+pub fn turns_of<B: Board>(tree: &Tree<B>) -> u8
+    ensures turns { HasTurns tree.now result }
+    ensures few { result ≤ 20 }
+{
+    let mut most = 0;
+    'nodes: for place in 0..tree.len() {
+        if let Some(moves) = moves_to(tree, tree.node(place)) {
+            let turns = (moves.len() + 1) / 2;
+            most = turns.max(most);
+        }
+    }
+    most as u8
+}
