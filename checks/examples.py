@@ -1,12 +1,13 @@
 #!/usr/bin/env python3
-"""examples.py: compares the answers in examples/ with what the program writes, and runs the examples of its help.
+"""examples.py: compares the answers in examples/ with what the programs write, and runs the examples of their helps.
 
     checks/examples.py
 
-The table in examples/README.md has each answer and its command. It has to be what the program writes, and what the
-bare recursion of judging.py makes of the positions; of examples/games.pdn bad_input.py tells these, and what is
-refused. Each file of problems has to have an answer. Each example of `dw --help`, `dw show --help` and so on, a line
-that begins with two blanks and `dw` or `echo`, has to end with status 0 or 1 and with nothing on standard error.
+The tables in examples/README.md have each answer and its command. It has to be what the program writes, and what the
+bare recursion of judging.py makes of the positions, or that of solutions.py of the solutions; of examples/games.pdn
+bad_input.py tells these, and what is refused. Each file of problems has to have an answer. Each example of `dw --help`,
+`dw show --help` and so on, a line that begins with two blanks and `dw` or `echo`, has to end with status 0 or 1 and
+with nothing on standard error; so has each of `dw-desk`.
 """
 import argparse
 import pathlib
@@ -15,20 +16,25 @@ import subprocess
 
 import bad_input
 import judging
+import solutions
 from perft import Board, pieces
 from wins import fen
 
 TOP = pathlib.Path(__file__).resolve().parent.parent
 DW = TOP / "dw"
+DESK = TOP / "dw-desk"
 EXAMPLES = TOP / "examples"
 ROW = re.compile(r"^\| `([^`]+)` \| `dw ([^`]+)` \|$", re.MULTILINE)
-COMMANDS = ["show", "moves", "judge", "list"]
-EXAMPLE = re.compile(r"  ((?:echo .* \| )?dw .*)")
+DESK_ROW = re.compile(r"^\| `([^`]+)` \| `dw-desk check ([^`]+)` \|$", re.MULTILINE)
+COMMANDS = {DW: ["show", "moves", "judge", "list"], DESK: ["find", "check"]}
+EXAMPLE = re.compile(r"  ((?:echo .* \| )?dw(?:-desk)? .*)")
+# The tags of a section, and its movetext.
+SECTION = re.compile(rb"((?:\[[^\]]*\]\s*)*\[[^\]]*\])([^\[]*)")
 ALL_LINES = 1_000_000_000
 
 
-def run(words, folder=TOP):
-    return subprocess.run([DW, *words], cwd=folder, capture_output=True, timeout=600, check=False)
+def run(words, folder=TOP, program=DW):
+    return subprocess.run([program, *words], cwd=folder, capture_output=True, timeout=600, check=False)
 
 
 def position(text):
@@ -78,7 +84,11 @@ def compare_reports():
     rows = ROW.findall((EXAMPLES / "README.md").read_text())
     requests = {name: asked(words.split()) for name, words in rows}
     there = {path.name for path in EXAMPLES.iterdir()} - {"README.md"}
-    assert there == set(requests) | {request.file for request in requests.values()}, there
+    desk = dict(DESK_ROW.findall((EXAMPLES / "README.md").read_text()))
+    files = {request.file for request in requests.values()} | set(desk.values())
+    assert there == set(requests) | set(desk) | files, there
+    for name, file in desk.items():
+        compare_solutions(name, file)
     for name, words in rows:
         ran, wanted = run(words.split(), EXAMPLES), (EXAMPLES / name).read_bytes()
         assert ran.stderr == b"", (name, ran.stderr)
@@ -89,19 +99,35 @@ def compare_reports():
         print(f"examples/{name}: {count} problems, {lines} lines, the same bytes; status {ran.returncode}", flush=True)
 
 
+def compare_solutions(name, file):
+    """What is said of the solutions in a file is what the recursion says."""
+    said = bad = b""
+    for number, (tags, movetext) in enumerate(SECTION.findall((EXAMPLES / file).read_bytes()), 1):
+        text = re.search(rb'\[FEN "([^"]*)"\]', tags)[1].decode()
+        cells, turn = position(text)
+        lines, fails = solutions.expected(judging.Problems(Board(10)), movetext, cells, turn, None)
+        said += "".join(f"{line}\n" for line in [f"problem {number}: {fen(cells, turn)}", *lines]).encode()
+        bad += b"x" * fails
+    ran = run(["check", file], EXAMPLES, DESK)
+    assert (ran.returncode, ran.stdout, ran.stderr) == (int(bool(bad)), said, b""), (name, ran, said)
+    assert said == (EXAMPLES / name).read_bytes(), f"{name} is not what dw-desk check {file} writes"
+    print(f"examples/{name}: {said.count(b'problem ')} solutions, the same bytes; status {ran.returncode}", flush=True)
+
+
 def helps():
     """The examples of all help texts."""
-    for words in [[], *([command] for command in COMMANDS)]:
-        ran = run([*words, "--help"])
-        assert (ran.returncode, ran.stderr) == (0, b""), (words, ran)
-        found = [match[1] for match in map(EXAMPLE.fullmatch, ran.stdout.decode().splitlines()) if match]
-        assert len(found) >= 2, f"dw {' '.join(words)} --help has {len(found)} examples"
-        yield from found
+    for program, commands in COMMANDS.items():
+        for words in [[], *([command] for command in commands)]:
+            ran = run([*words, "--help"], program=program)
+            assert (ran.returncode, ran.stderr) == (0, b""), (words, ran)
+            found = [match[1] for match in map(EXAMPLE.fullmatch, ran.stdout.decode().splitlines()) if match]
+            assert len(found) >= 2, f"{program.name} {' '.join(words)} --help has {len(found)} examples"
+            yield from found
 
 
 def run_helps():
     for example in helps():
-        given = f'dw() {{ "{DW}" "$@"; }}\n{example}'
+        given = f'dw() {{ "{DW}" "$@"; }}\ndw-desk() {{ "{DESK}" "$@"; }}\n{example}'
         ran = subprocess.run(["bash", "-c", given], cwd=TOP, capture_output=True, timeout=600, check=False)
         assert ran.returncode in (0, 1) and ran.stderr == b"" and ran.stdout, (example, ran)
         print(f"{example}: status {ran.returncode}, {ran.stdout.count(bytes([10]))} lines")

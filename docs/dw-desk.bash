@@ -7,7 +7,7 @@
 
 _dw_desk() {
     local current=${COMP_WORDS[COMP_CWORD]} previous=${COMP_WORDS[COMP_CWORD - 1]}
-    local commands="find help"
+    local commands="find check help"
     local command="" options="" word
     # bash cuts --memo=lru into three words.
     if [ "$current" = "=" ]; then
@@ -17,11 +17,12 @@ _dw_desk() {
     fi
     for word in "${COMP_WORDS[@]:1:COMP_CWORD-1}"; do
         case $word in
-            find | help) command=$word && break ;;
+            find | check | help) command=$word && break ;;
         esac
     done
     case $command in
         find) options="--board --pdn --problem --most --each --json --memo --cache --progress -h --help" ;;
+        check) options="-n --board --pdn --problem --memo --cache --progress -h --help" ;;
         help) options="" ;;
         *) options="-h --help -V --version" ;;
     esac
@@ -29,7 +30,7 @@ _dw_desk() {
     case $previous in
         --board) COMPREPLY=($(compgen -W "10 8" -- "$current")) && return ;;
         --memo) COMPREPLY=($(compgen -W "none lru slots deep" -- "$current")) && return ;;
-        --problem | --most | --each | --cache) return ;;
+        -n | --problem | --most | --each | --cache) return ;;
     esac
     case $command:$current in
         *:-*) COMPREPLY=($(compgen -W "$options" -- "$current")) ;;

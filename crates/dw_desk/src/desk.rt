@@ -5,7 +5,7 @@ use crate::checking::check_games;
 use crate::ending::{Ending, NO_MEMORY};
 use crate::finding::find_problems;
 use crate::progress::Progress;
-use crate::words::{Command, Request};
+use crate::words::{Request, Task};
 use dw_board::Board;
 use dw_games::GameFault;
 use dw_memo::AnyMemo;
@@ -122,8 +122,8 @@ fn report<B: Board>(
     let mut slices = Slices::new(first_slice(rt, request), Progress::new(rt));
     let mut source = Reading::new(reader);
     let mut sink = Writing::new(rt.stdout());
-    let reported = match request.command {
-        Command::Find(asked) => find_problems(
+    let reported = match request.task {
+        Task::Find(asked) => find_problems(
             &mut desk,
             &mut slices,
             request,
@@ -131,7 +131,7 @@ fn report<B: Board>(
             &mut source,
             &mut sink,
         ),
-        Command::Check { n } => {
+        Task::Check { n } => {
             check_games(&mut desk, &mut slices, request, n, &mut source, &mut sink)
         }
     };

@@ -36,7 +36,7 @@ pub struct FindWords {
 
 /// What is done with each problem.
 #[derive(Clone, Copy)]
-pub enum Command {
+pub enum Task {
     /// The number of moves and the verdict are found.
     Find(FindWords),
     /// The solution is checked, within `n` moves, or as many as it has.
@@ -46,7 +46,7 @@ pub enum Command {
 /// What the arguments ask for.
 #[derive(Clone, Copy)]
 pub struct Request<'a> {
-    pub command: Command,
+    pub task: Task,
     pub board: BoardSize,
     pub form: Form,
     pub portion: Portion,
@@ -72,8 +72,9 @@ or with --pdn out of the tags of a PDN file, as [FEN \"W:W27,45:B16\"]. At a ter
 with Ctrl-D.
 `dw-desk COMMAND --help` says what a command does, with an example.
 
-Example:
+Examples:
   dw-desk find examples/problems.fen
+  dw-desk check examples/solutions.pdn
 
 Exit status: 0 done, 1 a problem was refused, undecided or is not there, 2 the arguments are no
 command, 3 the program was stopped or a file could not be read or written.";
@@ -202,23 +203,23 @@ fn progress<'a>(alloc: Global) -> Arg<'a> {
 /// What parsed arguments ask for, or what is said of them if they are no command.
 pub fn requested<'a>(matches: &ArgMatches<'a>) -> Result<Request<'a>, &'static str> {
     if let Some(words) = matches.subcommand_matches("find") {
-        return request_of(words, Command::Find(find_words(words)));
+        return request_of(words, Task::Find(find_words(words)));
     }
     if let Some(words) = matches.subcommand_matches("check") {
         let n = words.get_one::<u8>("n");
-        return request_of(words, Command::Check { n });
+        return request_of(words, Task::Check { n });
     }
     Err("dw-desk: no command\n")
 }
 
 /// What a command asks for.
-fn request_of<'a>(words: &ArgMatches<'a>, command: Command) -> Result<Request<'a>, &'static str> {
+fn request_of<'a>(words: &ArgMatches<'a>, task: Task) -> Result<Request<'a>, &'static str> {
     let Some(portion) = portion_of(words.get_str("problem")) else {
         return Err(NO_PORTION);
     };
     let cache = words.get_one::<usize>("cache").unwrap_or(USUALLY_KEPT);
     Ok(Request {
-        command,
+        task,
         board: BoardSize::named(words.get_str("board")),
         form: form(words.get_flag("pdn")),
         portion,

@@ -1,0 +1,378 @@
+#!/usr/bin/env python3
+"""solutions.py: compares `dw-desk check` with remarks made here by bare recursion, and the faults of movetexts with
+those of a second reader.
+
+    checks/solutions.py [--count TREES]
+
+For so many random small positions (150 on each board if not said) a tree of moves is made of all lines of a win, and
+then spoilt: a path is cut, a move is changed for another one, a variation or a reply is taken out. It is written as a
+movetext with comments, marks and numbers of all kinds. What `dw-desk check` says of a file of these games has to be
+the remarks that the recursion of judging.py makes, byte for byte, for the right number of moves, for one less, and for
+the number that the tree has. Then bytes of the movetexts are dropped, doubled and changed: a reader written here from
+the table of tokens in docs/DESK.md has to find the same fault at the same place, or the same tree.
+"""
+import pathlib
+import random
+import re
+import subprocess
+import tempfile
+
+from judging import TooMany, Problems, count_asked, paths
+from perft import Board, play
+from wins import drawn, fen, other
+
+TOP = pathlib.Path(__file__).resolve().parent.parent
+DESK = TOP / "dw-desk"
+SEED, MOST, MOST_LINES = 29, 3, 40
+SPOILT = 12  # movetexts made of each
+RESULTS = {"2-0", "0-2", "1-1", "0-0", "1-0", "0-1", "1/2-1/2", "*"}
+NAMES = {1: "token", 2: "no such move", 3: "ambiguous", 4: "variation", 5: "unclosed", 6: "rest", 7: "too deep",
+         8: "too long", 10: "empty"}
+BYTES = b" \n\r\t0123456789-xX:/.$!?(){};%*[]a\xff"
+
+
+class Refused(Exception):
+    """A movetext has a fault: its number and its place."""
+
+
+# TREES: a move leads to the tree behind it, in the order of the text
+
+def tree_of(lines):
+    tree = {}
+    for line in lines:
+        here = tree
+        for move in line:
+            here = here.setdefault(move, {})
+    return tree
+
+
+def places(tree, cells, turn, board):
+    """Each beginning of the tree: the tree behind it, the position and who is to move."""
+    yield tree, cells, turn
+    for move, rest in tree.items():
+        yield from places(rest, play(board, cells, move), other(turn), board)
+
+
+def spoil(source, problems, tree, cells, turn):
+    """Changes the tree at a random place."""
+    found = list(places(tree, cells, turn, problems.board))
+    here, there, side = source.choice(found)
+    moves = [move for move, _ in problems.moves(there, side)]
+    way = source.randrange(4)
+    if way == 0:
+        here.clear()
+    elif way == 1 and here:
+        del here[source.choice(list(here))]
+    elif moves and here:
+        move = source.choice(moves)
+        if way == 2:
+            old = list(here.items())
+            gone = source.randrange(len(old))
+            here.clear()
+            for place, (name, rest) in enumerate(old):
+                here.setdefault(move if place == gone else name, {} if place == gone else rest)
+        else:
+            here.setdefault(move, {})
+
+
+def turns(tree, ply=0):
+    return max([(ply + 1) // 2, *(turns(rest, ply + 1) for rest in tree.values())])
+
+
+# THE REMARKS
+
+class Remarks:
+    def __init__(self, problems, cells, turn):
+        self.problems, self.cells, self.turn = problems, cells, turn
+        self.kinds = {"fail": 0, "end": 0, "open": 0, "also": 0}
+
+    def behind(self, line):
+        text = self.problems.line_text(self.cells, self.turn, line)
+        return f" {text}" if text else ""
+
+    def attacker(self, tree, cells, n, line):
+        problems, then = self.problems, other(self.turn)
+        keys = problems.keys(cells, self.turn, n)
+        number = len(line) // 2 + 1
+        if not tree:
+            yield self.told("end", f"ends{self.behind(line)}")
+            return
+        for move in tree:
+            if move not in keys:
+                after = play(problems.board, cells, move)
+                reply = next(r for r, later in problems.after(after, then) if not problems.wins(later, self.turn, n - 1))
+                texts = problems.text(cells, self.turn, move), problems.text(after, then, reply)
+                yield self.told("fail", f"fails{self.behind(line)} {number}. {texts[0]} refuted by {texts[1]}")
+        left = " / ".join(problems.text(cells, self.turn, key) for key in keys if key not in tree)
+        if left:
+            yield self.told("also", f"also{self.behind(line)} {number}. {left}")
+        for move, rest in tree.items():
+            if move in keys:
+                yield from self.defender(rest, play(problems.board, cells, move), n - 1, [*line, move])
+
+    def defender(self, tree, cells, n, line):
+        problems, side = self.problems, other(self.turn)
+        replies = [move for move, _ in problems.moves(cells, side)]
+        if replies and not tree:
+            yield self.told("end", f"ends{self.behind(line)}")
+            return
+        left = ", ".join(problems.text(cells, side, reply) for reply in replies if reply not in tree)
+        if left:
+            yield self.told("open", f"open{self.behind(line)}: {left}")
+        for move, rest in tree.items():
+            yield from self.attacker(rest, play(problems.board, cells, move), n, [*line, move])
+
+    def told(self, kind, text):
+        self.kinds[kind] += 1
+        return text
+
+
+def checked(problems, cells, turn, tree, n):
+    """What is said of a tree within n moves, and whether it fails."""
+    remarks = Remarks(problems, cells, turn)
+    lines = [] if problems.wins(cells, turn, n) else [f"no win in {n}"]
+    lines += remarks.attacker(tree, cells, n, [])
+    fails = remarks.kinds["fail"] + remarks.kinds["end"] > 0
+    numbers = ", ".join(f"{number} {kind}" for kind, number in remarks.kinds.items())
+    return [*lines, f"{'fails' if fails else 'holds'} in {n}: {numbers}"], fails
+
+
+# MOVETEXTS
+
+def marked(source, text):
+    """A move as one program or another may write it."""
+    text = source.choice([text, text, text.replace("x", ":"), text.replace("x", "X")])
+    return text + source.choice(["", "", "", "!", "?!", "$1", " $22", " {so (it) goes; [no]\n1. 2-3}"])
+
+
+def written(source, problems, tree, cells, turn, ply):
+    """The tokens of a tree, from its first move on."""
+    if not tree:
+        return
+    first, *others = tree
+    numbers = ["", f"{ply // 2 + 1}." if ply % 2 == 0 else f"{ply // 2 + 1}...", "7.", "..."]
+
+    def named(move):
+        return source.choice(numbers) + source.choice(["", " "]) + marked(source, problems.text(cells, turn, move))
+
+    yield named(first)
+    for move in others:
+        rest = list(written(source, problems, tree[move], play(problems.board, cells, move), other(turn), ply + 1))
+        yield "(" + source.choice(["", " "]) + " ".join([named(move), *rest]) + source.choice([")", " )", "\n% )\n)"])
+    yield from written(source, problems, tree[first], play(problems.board, cells, first), other(turn), ply + 1)
+
+
+def movetext(source, problems, tree, cells, turn):
+    tokens = list(written(source, problems, tree, cells, turn, 0))
+    text = "".join(token + source.choice([" ", "\n", "\r\n", "\t "]) for token in tokens)
+    return source.choice([" ", "\n\n", "\r\n"]) + text + source.choice(["*", "2-0", "1-0 {end}", "", "0-2 ; end"])
+
+
+def tokens(text):
+    """Kind, bytes and place of each token."""
+    at, fresh = 0, True
+    while at < len(text):
+        byte = text[at : at + 1]
+        if byte in b" \t\r\n":
+            at, fresh = at + 1, byte in b"\r\n"
+            continue
+        rest = text[at:]
+        for kind, form in (("comment", rb"\{[^}]*\}"), ("cut off", rb"\{"), ("comment", rb";[^\r\n]*"),
+                           ("comment", rb"%[^\r\n]*" if fresh else rb"(?!)"), ("passed", rb"\$[0-9]+"),
+                           ("cut off", rb"\$"), ("passed", rb"[!?]+"), ("opens", rb"\("), ("closes", rb"\)"),
+                           ("written", rb"\*"), ("passed", rb"[0-9]*\.+"), ("written", rb"[0-9][0-9xX:/-]*"),
+                           ("unknown", rb"(?s:.)")):
+            found = re.match(form, rest)
+            if found:
+                break
+        whole = rest if rest.startswith(b"{") and kind == "cut off" else found[0]
+        yield kind, whole, at + 1
+        at, fresh = at + len(whole), False
+
+
+def named_moves(problems, cells, turn, text):
+    """The legal moves that a text names, or none if it names nothing."""
+    board = problems.board
+    numbers = [int(number) for number in re.findall(rb"[0-9]+", text)]
+    squares = 50 if board.rows == 10 else 32
+    if any(not 1 <= number <= squares for number in numbers) or len(numbers) > 21:
+        return None
+    moves = [move for move, _ in problems.moves(cells, turn)]
+    if re.fullmatch(rb"[0-9]{1,2}-[0-9]{1,2}", text):
+        return [move for move in moves if list(move[:2]) == numbers and not move[2]]
+    if not re.fullmatch(rb"[0-9]{1,2}([xX][0-9]{1,2})+", text):
+        return None
+    if len(numbers) == 2:
+        return [move for move in moves if list(move[:2]) == numbers and move[2]]
+    start = numbers[0]
+    if cells.get(start, ("", 0))[0] != turn:
+        return []
+    side, king = cells[start]
+    without = {square: piece for square, piece in cells.items() if square != start}
+    found = {(start, path[-1], taken) for path, taken in paths(board, without, start, side, king, frozenset(), [start])
+             if path == numbers}
+    return [move for move in moves if move in found]
+
+
+def read(problems, text, cells, turn):
+    """The tree of a movetext; Refused tells its first fault."""
+    tree, over = {}, False
+    line, outer = [(tree, cells, turn, 0)], []  # the places of the innermost variation, and those around it
+    for kind, whole, place in tokens(text):
+        if over and kind not in ("comment", "cut off"):
+            raise Refused(6, place)
+        if kind in ("cut off", "unknown"):
+            raise Refused(1, place)
+        if kind == "opens":
+            if len(line) == 1:
+                raise Refused(4, place)
+            if len(outer) == 40:
+                raise Refused(7, place)
+            outer.append(line)
+            line = [line[-2]]
+        elif kind == "closes":
+            if not outer:
+                raise Refused(4, place)
+            line = outer.pop()
+        elif kind == "written" and whole.decode() in RESULTS:
+            if outer:
+                raise Refused(5, place)
+            over = True
+        elif kind == "written":
+            here, there, side, ply = line[-1]
+            moves = named_moves(problems, there, side, whole.replace(b":", b"x"))
+            if moves is None:
+                raise Refused(1, place)
+            if ply == 39:
+                raise Refused(8, place)
+            if len(moves) != 1:
+                raise Refused(3 if moves else 2, place)
+            rest = here.setdefault(moves[0], {})
+            line.append((rest, play(problems.board, there, moves[0]), other(side), ply + 1))
+    if outer:
+        raise Refused(5, len(text) + 1)
+    if not tree:
+        raise Refused(10, len(text) + 1)
+    return tree
+
+
+def mutated(source, text):
+    """A movetext with some bytes dropped, doubled or changed."""
+    text = bytearray(text)
+    for _ in range(source.randrange(1, 4)):
+        place, way = source.randrange(len(text) + 1), source.randrange(3)
+        if way == 0:
+            del text[place : place + source.randrange(1, 4)]
+        elif way == 1:
+            text[place:place] = text[place : place + source.randrange(1, 9)]
+        else:
+            text[place : place + 1] = bytes([source.choice(BYTES)])
+        if not text:
+            return b" "
+    return bytes(text)
+
+
+def is_one_section(text):
+    """Whether it is a movetext alone: not blank, and outside braces no bracket stands, and no brace is open."""
+    outside = re.sub(rb"\{[^}]*\}", b"", text)
+    return bool(text.strip(b" \t\r\n")) and not set(b"[{") & set(outside)
+
+
+def expected(problems, text, cells, turn, n):
+    """What is said of a movetext within n moves, and whether it is refused or fails."""
+    try:
+        tree = read(problems, text, cells, turn)
+    except Refused as fault:
+        number, place = fault.args
+        return [f"solution refused: {number} {NAMES[number]} at {place}"], True
+    return checked(problems, cells, turn, tree, n or max(1, turns(tree)))
+
+
+def compare(words, games, n, file):
+    """Has the program check a file of games, and compares what it says."""
+    file.write_bytes(b"".join(f'[Event "x"]\n[FEN "{first}"]'.encode() + text for _, first, _, _, text in games))
+    wanted, bad = "", 0
+    for number, (problems, first, cells, turn, text) in enumerate(games, 1):
+        lines, fails = expected(problems, text, cells, turn, n)
+        wanted += "".join(f"{line}\n" for line in [f"problem {number}: {first}", *lines])
+        bad += fails
+    ran = subprocess.run([DESK, "check", *words, *(["-n", str(n)] if n else []), file], capture_output=True, text=True,
+                         timeout=3600, check=False)
+    if (ran.returncode, ran.stdout, ran.stderr) != (int(bad > 0), wanted, ""):
+        rows = zip(ran.stdout.splitlines(), wanted.splitlines())
+        raise AssertionError((ran.returncode, ran.stderr, next((pair for pair in rows if pair[0] != pair[1]), None)))
+    return wanted
+
+
+def game(source, board):
+    """A random position with a win in some moves, that number, and a spoilt tree."""
+    while True:
+        cells, turn, problems = drawn(source, board), source.choice("WB"), Problems(board)
+        try:
+            n = next((n for n in range(1, MOST + 1) if problems.wins(cells, turn, n)), None)
+            if n is None:
+                continue
+            n = min(MOST, n + source.randrange(2))
+            lines = [line for line, _ in zip(problems.lines(cells, turn, n), range(MOST_LINES + 1))]
+            if len(lines) > MOST_LINES:
+                continue
+            tree = tree_of(lines)
+            for _ in range(source.randrange(4)):
+                spoil(source, problems, tree, cells, turn)
+            if not tree:
+                continue
+            for within in {n, n - 1, turns(tree)} - {0}:
+                checked(problems, cells, turn, tree, within)
+        except TooMany:
+            continue
+        return problems, cells, turn, n, tree
+
+
+def check(rows, count, source, folder):
+    board, file = Board(rows), folder / "games.pdn"
+    words = ["--board", str(rows)]
+    found, games = [], {}
+    for _ in range(count):
+        problems, cells, turn, n, tree = game(source, board)
+        text = movetext(source, problems, tree, cells, turn).encode()
+        if is_one_section(text + b" "):
+            found.append((problems, fen(cells, turn), cells, turn, text + b"\n\n"))
+            games.setdefault(n, []).append(found[-1])
+    kinds = {}
+    for n, of_number in sorted(games.items()):
+        for within in {n, n - 1} - {0}:
+            said = compare(words, of_number, within, file)
+            for kind in ("holds", "fails in", "no win", "fails 1.", "also", "open", "ends"):
+                kinds[kind] = kinds.get(kind, 0) + len(re.findall(rf"^{kind}", said, re.MULTILINE))
+    compare(words, found, None, file)
+    print(f"{rows} rows: {len(found)} trees, {kinds}: the same remarks", flush=True)
+    spoilt = []
+    for problems, first, cells, turn, text in found:
+        for _ in range(SPOILT):
+            other_text = mutated(source, text)
+            if is_one_section(other_text):
+                spoilt.append((problems, first, cells, turn, other_text + source.choice([b"", b"\n"])))
+    said = compare(words, [g for g in spoilt if usable(g)], 2, file)
+    faults = {name: len(re.findall(rf"refused: \d+ {name} at", said)) for name in NAMES.values()}
+    print(f"{rows} rows: {said.count('problem ')} mutated movetexts, {faults}: the same faults and remarks", flush=True)
+
+
+def usable(entry):
+    """Whether the recursion has room for a mutated movetext, and it does not go on in the next section's tags."""
+    problems, _, cells, turn, text = entry
+    try:
+        expected(problems, text, cells, turn, 2)
+    except TooMany:
+        return False
+    return True
+
+
+def main():
+    count, source = count_asked(150), random.Random(SEED)
+    with tempfile.TemporaryDirectory() as name:
+        for rows in (10, 8):
+            check(rows, count, source, pathlib.Path(name))
+
+
+if __name__ == "__main__":
+    main()
