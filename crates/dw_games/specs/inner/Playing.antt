@@ -1,6 +1,6 @@
 -- Bytes without a section, read one by one.
-use Rattle.std.specs.Prelude.{◌≡◌, ◌==◌, ◌&&◌, ℕ, not, if◌then◌else◌, List, [], ◌∷◌, ◌++◌, drop, Bool, true, false, Option}
-use Rattle.std.specs.Prelude.{Result, Err, OnOk, IfOk}
+use Rattle.std.specs.Prelude.{◌≡◌, ◌==◌, ◌&&◌, ℕ, not, if◌then◌else◌, List, [], ◌∷◌, ◌++◌, drop, Bool, true, false}
+use Rattle.std.specs.Prelude.{Option, Result, Err, OnOk, IfOk}
 use Rattle.dw_board.specs.Geometry.{Geometry}
 use Rattle.dw_notation.specs.Tags.{open_bracket, open_brace, close_brace}
 use Rattle.dw_notation.specs.WholeTexts.{IsOpen}
