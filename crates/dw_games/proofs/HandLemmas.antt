@@ -14,7 +14,7 @@ use Rattle.dw_games.specs.inner.Keeping.{IsKept, IsKeptFor, spaces_on}
 use Rattle.dw_games.specs.inner.Playing.{unclosed, Follows, EndsAt, ReadsPlay}
 use Rattle.dw_games.specs.inner.Sectioning.{ReadsSection}
 use Rattle.dw_games.specs.inner.GameReaders.{Stands, IsAhead, stage_behind, IsHandedOut, ReadsGame}
-use Rattle.dw_games.specs.inner.GameReaders.{reader_of}
+use Rattle.dw_games.specs.inner.GameReaders.{reading_of}
 use Rattle.dw_games.specs.declared.games.Game.{Game}
 use Rattle.dw_games.specs.declared.games.Games.{Games}
 use Rattle.dw_games.specs.declared.games.GameFault.{GameFault}
@@ -344,9 +344,9 @@ fresh g input handed bytes games none zero ahead =
 pub open_given : {B S : Type 0} (g : Geometry) (coming : S → Option (List ℕ)) (old new : Games B S) (game : Game B)
     → (old.stage ≡ Open) → new.input ≡ old.input → (new.stage ≡ Over)
     → numbered_game game ∷ [] ≡ games_from old.handed.games (unclosed ∷ [])
-    → GivesNext g (coming old.input.source.now) (coming new.input.source.now) (reader_of old) (reader_of new)
+    → GivesNext g (coming old.input.source.now) (coming new.input.source.now) (reading_of old) (reading_of new)
     (Ok (Some game))
-unfolding reader_of
+unfolding reading_of
 open_given g coming old new game here input stage given = record {
   read = [];
   took = subst (λ i. Consumes (coming old.input.source.now) (coming i.source.now) []) (sym input)

@@ -6,6 +6,7 @@ pub mod GameLemmas
 pub mod HandLemmas
 pub mod SayingLemmas
 pub mod OneGamesLemmas
+pub mod ToldLemmas
 pub mod TokenLemmas
 pub mod PlaceLemmas
 pub mod LinkLemmas

@@ -1,8 +1,8 @@
 -- Lemmas on bytes without a section.
 use Rattle.std.proofs.Common.{◌≡◌, ◌==◌, ◌&&◌, ℕ, not, List, [], ◌∷◌, ◌++◌, take, drop, Bool, true}
 use Rattle.std.proofs.Common.{false, Option, Result, Ok, Err, refl, sym, ap, subst, append_assoc}
-use Rattle.std.proofs.Common.{append-nil, ◌⊎◌, inl, inr}
-use Rattle.std.proofs.lemmas.Bool.{cases_Bool, eqb-true, ne_eqb}
+use Rattle.std.proofs.Common.{append-nil, inl, inr}
+use Rattle.std.proofs.lemmas.Bool.{cases_Bool, eqb-true, and_parts}
 use Rattle.dw_board.specs.Geometry.{Geometry}
 use Rattle.dw_games.specs.Games.{Said, HasGames}
 use Rattle.dw_games.specs.Games.HasGames.{nothing, other, comment, last_comment}
@@ -47,12 +47,11 @@ byte_on g false byte more front games none has = elim (cases_Bool (byte == 123))
   ]
 ]
 
-pub no_section : (byte : ℕ) (was : Bool) → (byte ≡ 91 → ⊥) ⊎ (was ≡ true) → ((byte == 91) && not was) ≡ false
-no_section byte was (inl differs) = rw (ne_eqb byte 91 differs) refl
-no_section byte was (inr within) = rw within (never (byte == 91)) where
-  never : (b : Bool) → (b && false) ≡ false
-  never true = refl
-  never false = refl
+pub section_byte : (byte : ℕ) (was : Bool) → ((byte == 91) && not was) ≡ true → (byte ≡ 91) × (was ≡ false)
+section_byte byte true h =
+    let both = and_parts (byte == 91) false h in let bad : true ≡ false = sym both.1 in (eqb-true byte 91 both.0, bad)
+section_byte byte false h =
+    let both = and_parts (byte == 91) true h in (eqb-true byte 91 both.0, refl)
 
 module _ {S : Type 0} (coming : S → Option (List ℕ)) (has_ended is_failed : S → Bool) (pulls : S → ℕ) where
   abbrev On : Input S → Input S → Kept → Kept → Bool → Type 0

@@ -1,9 +1,13 @@
 -- Laws of the games of a text.
-use Rattle.std.specs.Prelude.{◌≡◌, ℕ, List, true, map}
+use Rattle.std.specs.Prelude.{◌≡◌, ℕ, List, true, map, Ok, Result}
 use Rattle.dw_board.specs.Geometry.{Geometry}
+use Rattle.dw_board.specs.Placement.{Placement}
+use Rattle.dw_moves.specs.Moves.{Move}
 use Rattle.dw_notation.specs.Problems.{AreProblems}
 use Rattle.dw_notation.specs.declared.problems.Form.TheVariants.{Pdn}
-use Rattle.dw_games.specs.Games.{NumberedGame, AreGames, problem_of}
+use Rattle.dw_games.specs.Faults.{IsAnswer}
+use Rattle.dw_games.specs.Games.{NumberedGame, AreGames, problem_of, told}
+use Rattle.dw_games.specs.declared.fault.MovetextFault.{MovetextFault}
 
 -- what the games of a text say are its problems, under the same numbers
 abbrev pub GamesSayProblems : Type 0
@@ -15,3 +19,8 @@ pub record TextsHaveGames : Type 0 where
   pub some : (g : Geometry) (bytes : List ℕ) → (games : List NumberedGame) × AreGames g bytes games
   pub only : (g : Geometry) (bytes : List ℕ) (games others : List NumberedGame) → AreGames g bytes games
       → AreGames g bytes others → games ≡ others
+
+-- what is told of a movetext has the answers of the whole
+abbrev pub ToldIsEnough : Type 0
+ToldIsEnough = (g : Geometry) (p : Placement) (movetext : List ℕ) (answer : Result (List (List Move)) MovetextFault)
+    → IsAnswer g p (told (Ok p) movetext) answer → IsAnswer g p movetext answer

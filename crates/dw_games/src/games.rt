@@ -91,21 +91,21 @@ impl<'a, B: Board, S: Source> Games<'a, B, S> {
     ghost use Rattle.dw_games.specs.Games.{AreGames, NumberedGame, games_from};
     ghost use Rattle.dw_games.specs.GameReading.{lender, source_of, numbered_game, is_failure};
     ghost use Rattle.dw_games.specs.GameReading.{GivesNext, EndIsTrue, StandsStill};
-    ghost use Rattle.dw_games.specs.inner.GameReaders.{reader_of, IsHandedOut, ReadsGame};
+    ghost use Rattle.dw_games.specs.inner.GameReaders.{reading_of, IsHandedOut, ReadsGame};
     ghost use Rattle.dw_games.specs.inner.Inputs.{unread_of};
     ghost use Rattle.dw_games.specs.inner.Playing.{unclosed};
 
     /// A reader of all games that the source has still to give.
     /// See [`Games::next`] for an example.
-    #[tactic(auto, unfolding(crate::specs::inner::GameReaders::reader_of))]
+    #[tactic(auto, unfolding(crate::specs::inner::GameReaders::reading_of))]
     pub fn new(alloc: Global, source: &'a mut S) -> Games<'a, B, S>
         ensures lender { lender result ≡ source.entry.ghost_name }
         ensures source { source_of result ≡ source.old }
-        ensures ahead { (bytes : List ℕ) (games : List NumberedGame) → (reader_of result).ahead B.geometry bytes games
-            → AreGames B.geometry bytes games }
-        ensures met_end { (reader_of result).met_end ≡ false }
-        ensures is_over { (reader_of result).is_over ≡ false }
-        ensures fault { (reader_of result).fault ≡ None }
+        ensures ahead { (bytes : List ℕ) (games : List NumberedGame)
+            → (reading_of result).ahead B.geometry bytes games → AreGames B.geometry bytes games }
+        ensures met_end { (reading_of result).met_end ≡ false }
+        ensures is_over { (reading_of result).is_over ≡ false }
+        ensures fault { (reading_of result).fault ≡ None }
     {
         Games {
             alloc,
@@ -187,17 +187,17 @@ impl<'a, B: Board, S: Source> Games<'a, B, S> {
     /// each later call answers the same.
     /// Example: of `[FEN "W:W32:B28"] 1. 32x23 [FEN "x"]` it gives a position with the movetext ` 1. 32x23 `, then a
     /// problem that was refused, and then `None`.
-    #[tactic(auto, unfolding(crate::specs::inner::GameReaders::reader_of))]
+    #[tactic(auto, unfolding(crate::specs::inner::GameReaders::reading_of))]
     pub fn next(&mut self) -> Result<Option<Game<B>>, GameFault>
         ensures lender { lender self.new ≡ lender self.old }
         ensures given { GivesNext B.geometry
             (S.coming (source_of self.old)) (S.coming (source_of self.new))
-            (reader_of self.old) (reader_of self.new) result }
-        ensures end { EndIsTrue (S.coming (source_of self.old)) (S.has_ended (source_of self.old)) (reader_of self.old)
-            → EndIsTrue (S.coming (source_of self.new)) (S.has_ended (source_of self.new)) (reader_of self.new) }
-        ensures failed { (reader_of self.old).fault ≡ None
+            (reading_of self.old) (reading_of self.new) result }
+        ensures end { EndIsTrue (S.coming (source_of self.old)) (S.has_ended (source_of self.old)) (reading_of self.old)
+            → EndIsTrue (S.coming (source_of self.new)) (S.has_ended (source_of self.new)) (reading_of self.new) }
+        ensures failed { (reading_of self.old).fault ≡ None
             → S.is_failed (source_of self.new) ≡ (S.is_failed (source_of self.old) || is_failure result) }
-        ensures still { StandsStill (reader_of self.old) result }
+        ensures still { StandsStill (reading_of self.old) result }
     {
         match self.stage {
             Stage::Over => Ok(None),

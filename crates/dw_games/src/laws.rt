@@ -1,5 +1,5 @@
 //! Laws of the definitions, each the contract of a function that does nothing.
-ghost use Rattle.dw_games.specs.GameLaws.{GamesSayProblems, TextsHaveGames};
+ghost use Rattle.dw_games.specs.GameLaws.{GamesSayProblems, TextsHaveGames, ToldIsEnough};
 ghost use Rattle.dw_games.specs.Laws.{OneRow, OneAnswer};
 
 /// Each text has exactly one row of tokens.
@@ -29,3 +29,9 @@ pub fn texts_have_games()
 {
     dw_notation::laws::texts_of_tags_say();
 }
+
+/// What is told of a movetext has the answers of the whole: where it is cut, both are too large.
+/// Example: of a movetext of 2,000,000 bytes the first 1,048,577 are told, which are refused as `too large at 1048577`.
+pub fn told_is_enough()
+    ensures { ToldIsEnough }
+{}

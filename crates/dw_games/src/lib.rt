@@ -1,8 +1,8 @@
 //! The games of a PDN text, and the solution that an author gave in one: the moves and variations behind the tags of
 //! its section, as a tree of moves.
 //!
-//! Everything is generic over the board. Memory is taken by a movetext and by the tree, and at a move by `dw_notation`'s
-//! `read_move`.
+//! Everything is generic over the board. Memory is taken by a movetext and by the tree, and at a move by `read_move`
+//! of `dw_notation`.
 //!
 //! Begin with `Games`, which reads the games of a `Source`, and with `read_movetext`; walk the `Tree` that it reads.
 //!

@@ -1,6 +1,6 @@
 //! What stands behind the tags of a section, up to the next one: comments and other bytes.
 ghost use Rattle.std.specs.Prelude.{◌≡◌};
-ghost use Rattle.dw_games.specs.inner.Playing.{ReadsPlay, is_in_comment};
+ghost use Rattle.dw_games.specs.inner.Playing.{ReadsPlay, begins_section, is_in_comment};
 
 use crate::games::GameFault;
 use crate::input::Input;
@@ -16,6 +16,13 @@ pub(crate) enum PlayEnd {
     Text,
     /// The end of the text, in a comment.
     Open,
+}
+
+/// Whether a byte begins a section, by whether it stands in a comment.
+fn begins_section(is_comment: bool, byte: u8) -> bool
+    ensures { result ≡ begins_section is_comment byte }
+{
+    byte == b'[' && !is_comment
 }
 
 /// Whether text goes on in a comment behind a byte, by whether that byte stands in one.
@@ -34,7 +41,7 @@ pub(crate) fn read_play<S: Source>(
 {
     let mut is_comment = false;
     'bytes: while let Some(byte) = input.peek()? {
-        if byte == b'[' && !is_comment {
+        if begins_section(is_comment, byte) {
             return Ok(PlayEnd::Section);
         }
         is_comment = is_in_comment(is_comment, byte);

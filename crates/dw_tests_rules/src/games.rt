@@ -1,13 +1,98 @@
-//! Solutions of authors.
+//! Games, and the solutions of authors.
 
+use crate::problems::{add_problem, whole_text};
 use dw_board::Board;
-use dw_games::{Node, Tree, read_movetext};
+use dw_games::{Game, Games, Node, Tree, read_movetext};
 use dw_moves::Move;
+use dw_notation::Reading;
 use dw_tests_common::escapes::unescaped;
 use dw_tests_common::rows::column;
+use dw_tests_common::streams::Chopped;
 use dw_tests_common::tally::Found;
 use dw_tests_common::texts::read_position;
 use std::alloc::{AllocError, Global};
+use std::io;
+
+/// The most answers of a reader that are looked at.
+const ANSWERS: u32 = 8;
+
+/// The most bytes of a movetext that is shown, and not counted.
+const SHOWN: usize = 100;
+
+/// The games of a text: of each what its section says, and its movetext. Whatever the pieces in which the text is read,
+/// it has the same games.
+pub fn games<B: Board>(alloc: Global, asked: &str, found: &mut Found) -> Option<()> {
+    let text = whole_text(alloc, asked)?;
+    add_games::<B, _>(alloc, text.as_slice(), found)?;
+    for step in [1, 2, 3, 7, 1000, 4096] {
+        let mut chopped = Found::new(alloc).ok()?;
+        add_games::<B, _>(
+            alloc,
+            Chopped::new(text.as_slice(), step, 0, 0),
+            &mut chopped,
+        )?;
+        if chopped.as_str() != found.as_str() {
+            return None;
+        }
+    }
+    Some(())
+}
+
+/// A text, the bytes of each read, the read that fails, and the one that gives nothing, which is the end.
+pub fn broken<B: Board>(alloc: Global, asked: &str, found: &mut Found) -> Option<()> {
+    let text = unescaped(alloc, column(asked, 0))?;
+    let step = column(asked, 1).parse::<usize>().ok()?;
+    let fails_at = column(asked, 2).parse::<u64>().ok()?;
+    let pauses_at = column(asked, 3).parse::<u64>().ok()?;
+    let reader = Chopped::new(text.as_slice(), step, fails_at, pauses_at);
+    add_games::<B, _>(alloc, reader, found)
+}
+
+/// Adds the games of a reader, whose numbers count from 1, and whether they end.
+fn add_games<B: Board, R: io::Read + Drop>(
+    alloc: Global,
+    reader: R,
+    found: &mut Found,
+) -> Option<()> {
+    let mut source = Reading::new(reader);
+    let mut games: Games<'_, B, Reading<R>> = Games::new(alloc, &mut source);
+    for number in 1..ANSWERS + 1 {
+        match games.next() {
+            Err(fault) => {
+                found.say(&fault);
+                found.add("; ");
+            }
+            Ok(Some(game)) if game.problem.number == number => add_game(&game, found),
+            Ok(Some(_)) => return None,
+            Ok(None) => {
+                let is_end = matches!(games.next(), Ok(None));
+                found.add(if is_end { "end" } else { "no end" });
+                return Some(());
+            }
+        }
+    }
+    found.add("and so on");
+    Some(())
+}
+
+/// Adds a game: its problem, and its movetext in angles, or how many bytes that has.
+fn add_game<B: Board>(game: &Game<B>, found: &mut Found) {
+    let movetext = game.movetext.as_slice();
+    if movetext.len() > SHOWN {
+        found.say(&movetext.len());
+        found.add(" bytes ");
+    } else {
+        found.add("<");
+        for byte in movetext {
+            match *byte {
+                b'\n' => found.add("\\n"),
+                byte => found.say(&char::from(byte)),
+            }
+        }
+        found.add("> ");
+    }
+    add_problem(&game.problem, found);
+}
 
 /// No tree of a row has more ends and beginnings of moves.
 const MOST_STEPS: usize = 1_000;

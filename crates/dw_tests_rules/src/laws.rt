@@ -1,6 +1,7 @@
 //! The laws.
 
 use dw_board::laws as boards;
+use dw_games::laws as games;
 use dw_moves::laws as moves;
 use dw_notation::laws as texts;
 use dw_tests_common::tally::Found;
@@ -27,11 +28,17 @@ pub fn law(found: &mut Found) {
     moves::sure_replies();
     moves::worked_positions();
     texts::texts_have_problems();
+    texts::texts_of_tags_say();
     texts::ended_come_first();
     texts::ends_tell();
     texts::lines_have_texts();
     texts::moves_have_texts();
     texts::texts_have_one_answer();
     texts::written_moves_are_read();
+    games::one_row();
+    games::one_answer();
+    games::games_say_problems();
+    games::texts_have_games();
+    games::told_is_enough();
     found.add("called");
 }

@@ -89,6 +89,8 @@ fn answer<B: Board>(alloc: Global, kind: Kind, asked: &str, found: &mut Found) -
         Kind::BrokenPdn => problems::broken::<B>(alloc, Form::Pdn, asked, found),
         Kind::Many => problems::many::<B>(asked, found),
         Kind::Write => streams::write(alloc, asked, found),
+        Kind::Games => games::games::<B>(alloc, asked, found),
+        Kind::BrokenGames => games::broken::<B>(alloc, asked, found),
         Kind::Movetext => games::movetext::<B>(alloc, asked, found),
         Kind::Repeated => games::repeated::<B>(alloc, asked, found),
         Kind::Law => {

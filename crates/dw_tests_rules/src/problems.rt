@@ -13,7 +13,7 @@ use std::io;
 const ANSWERS: u32 = 8;
 
 /// Adds what is said of a problem: the written FEN or the fault.
-fn add_problem<B: Board>(problem: &Problem<B>, found: &mut Found) {
+pub fn add_problem<B: Board>(problem: &Problem<B>, found: &mut Found) {
     match problem.found {
         Ok(position) => found.add(fen_text(&position).as_str()),
         Err(fault) => found.say(&fault),
@@ -48,7 +48,7 @@ fn add_said<B: Board, R: io::Read + Drop>(reader: R, form: Form, found: &mut Fou
 }
 
 /// A text: a front, and if there are more columns a byte, how many times it follows, and a back.
-fn whole_text(alloc: Global, asked: &str) -> Option<Vec<u8>> {
+pub fn whole_text(alloc: Global, asked: &str) -> Option<Vec<u8>> {
     let mut text = unescaped(alloc, column(asked, 0))?;
     let repeated = unescaped(alloc, column(asked, 1))?;
     for _ in 0..column(asked, 2).parse::<u32>().unwrap_or(0) {

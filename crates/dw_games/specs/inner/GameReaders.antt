@@ -50,8 +50,8 @@ fault_of Over = None
 fault_of (Stopped fault) = Some fault
 
 -- Sealed: the clauses of public calls name it, and say all that is to be known of it.
-unfoldable pub reader_of : {B S : Type 0} → Games B S → Reader
-reader_of games = record {
+unfoldable pub reading_of : {B S : Type 0} → Games B S → Reader
+reading_of games = record {
   ahead = λ g bytes numbered. IsAhead g games.input games.stage games.handed.games bytes numbered;
   met_end = games.input.met_end;
   is_over = is_over games.stage;

@@ -1,6 +1,6 @@
 -- Bytes without a section, read one by one.
-use Rattle.std.specs.Prelude.{◌≡◌, ◌==◌, ℕ, not, if◌then◌else◌, List, [], ◌∷◌, ◌++◌, drop, Bool, true, false, Option}
-use Rattle.std.specs.Prelude.{Result, Err, OnOk, IfOk}
+use Rattle.std.specs.Prelude.{◌≡◌, ◌==◌, ◌&&◌, ℕ, not, if◌then◌else◌, List, [], ◌∷◌, ◌++◌, drop, Bool, true, false}
+use Rattle.std.specs.Prelude.{Option, Result, Err, OnOk, IfOk}
 use Rattle.dw_board.specs.Geometry.{Geometry}
 use Rattle.dw_notation.specs.Tags.{open_bracket, open_brace, close_brace}
 use Rattle.dw_notation.specs.WholeTexts.{IsOpen}
@@ -14,6 +14,9 @@ use Rattle.dw_games.specs.declared.input.Input.{Input}
 use Rattle.dw_games.specs.declared.kept.Kept.{Kept}
 use Rattle.dw_games.specs.declared.play.PlayEnd.{PlayEnd}
 use Rattle.dw_games.specs.declared.play.PlayEnd.TheVariants.{Section, Text, Open}
+
+abbrev pub begins_section : Bool → ℕ → Bool
+begins_section is_comment byte = (byte == open_bracket) && not is_comment
 
 abbrev pub is_in_comment : Bool → ℕ → Bool
 is_in_comment was byte = if was then not (byte == close_brace) else (byte == open_brace)

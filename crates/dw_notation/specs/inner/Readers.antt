@@ -12,7 +12,7 @@ use Rattle.dw_notation.specs.declared.problems.section_reader.SectionReader.{Sec
 unfoldable pub reader_of : {B S : Type 0} → Problems B S → Reader
 reader_of problems = reader_at problems.cutter
 
--- What is said by what a reader was given and then these bytes, if it was not yet told. Sealed: the clauses of public
--- calls name it, and say all that is to be known of it.
+-- Sealed: the clauses of public calls name it, and say all that is to be known of it. It is what is said by the bytes
+-- that a reader was given and by these, as far as it was not told yet.
 unfoldable pub ahead_of : {B : Type 0} → SectionReader B → Geometry → Bool → List ℕ → List Found
 ahead_of reader g over bytes = sections_ahead over g reader.sections bytes

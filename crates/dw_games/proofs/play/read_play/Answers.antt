@@ -1,11 +1,9 @@
-use Rattle.std.proofs.Common.{◌≡◌, ◌==◌, ◌&&◌, not, true, false, inl, inr}
+use Rattle.std.proofs.Common.{true, false, sym, ◌∙◌}
 use Rattle.std.proofs.lemmas.Result.{err_from_is_err_and}
 use Rattle.dw_games.proofs.InputLemmas.{Passes-refl}
-use Rattle.dw_games.proofs.PlayLemmas.{no_section, PlaysOn-peek, PlaysOn-byte, PlaysOn-section, PlaysOn-text}
+use Rattle.dw_games.proofs.PlayLemmas.{section_byte, PlaysOn-peek, PlaysOn-byte, PlaysOn-section, PlaysOn-text}
 use Rattle.dw_games.proofs.PlayLemmas.{PlaysOn-open, PlaysOn-fault}
 use Rattle.dw_games.proofs.play.read_play.Goals as goal
-use Rattle.dw_games.proofs.play.read_play.Goals.{else-byte-eq91-via-then-byte-eq91+else-not-is_comment}
-use Rattle.dw_games.proofs.play.read_play.Goals.{else-byte-eq91-via-else-byte-eq91}
 
 pub returns-in_err-byte : goal.returns-in_err-byte
 returns-in_err-byte g c =
@@ -14,14 +12,15 @@ returns-in_err-byte g c =
     rw (e.1, e.2) (PlaysOn-fault s.coming s.has_ended s.is_failed s.pulls_left _ c.bytes.input _ _ c.bytes.kept _
     c.bytes.is_comment c.in_err-byte.field-0.0 c.bytes.invariant c.in_err-byte.ensures.passes)
 
-pub returns-then-not-is_comment : goal.returns-then-not-is_comment
-returns-then-not-is_comment g c =
+pub returns-then-begins_section : goal.returns-then-begins_section
+returns-then-begins_section g c =
     let s = g.S.Source in
     let next = rw c.in-Some.is at c.in_ok-byte.ensures.next in
+    let is = section_byte c.in-Some.byte c.bytes.is_comment (sym c.begins_section.ensures ∙ c.if-begins_section.true) in
     PlaysOn-section s.coming s.has_ended s.is_failed s.pulls_left _ c.peek.new.self _ c.bytes.kept
     (PlaysOn-peek s.coming s.has_ended s.is_failed s.pulls_left _ c.bytes.input _ _ _ false
-    (rw c.if-not-is_comment.true at c.bytes.invariant) c.in_ok-byte.ensures.passes)
-    (rw c.if-byte-eq91.true at next)
+    (rw is.1 at c.bytes.invariant) c.in_ok-byte.ensures.passes)
+    (rw is.0 at next)
 
 pub returns-in_err-push : goal.returns-in_err-push
 returns-in_err-push g c =
@@ -36,11 +35,7 @@ returns-in_err-push g c =
 pub bytes-preserved : goal.bytes-preserved
 bytes-preserved g c =
     let s = g.S.Source in
-    let none : ((c.in-Some.byte == 91) && not c.bytes.is_comment) ≡ false = elim c.else-byte-eq91.branch [
-      | else-byte-eq91-via-then-byte-eq91+else-not-is_comment w ↦ no_section c.in-Some.byte c.bytes.is_comment
-          (inr w.if-not-is_comment.false)
-      | else-byte-eq91-via-else-byte-eq91 w ↦ no_section c.in-Some.byte c.bytes.is_comment (inl w.if-byte-eq91.false)
-    ] in
+    let none = sym c.begins_section.ensures ∙ c.if-begins_section.false in
     rw c.is_in_comment-is_comment.ensures (PlaysOn-byte s.coming s.has_ended s.is_failed s.pulls_left _ c.peek.new.self
     c.pass.new.self _ c.bytes.kept c.push.new.self c.bytes.is_comment c.in-Some.byte
     (PlaysOn-peek s.coming s.has_ended s.is_failed s.pulls_left _ c.bytes.input _ _ _ c.bytes.is_comment
