@@ -11,3 +11,4 @@ pub mod WholeLemmas
 pub mod LexLemmas
 pub mod StepLemmas
 pub mod OneAnswerLemmas
+pub mod PlayedLemmas
