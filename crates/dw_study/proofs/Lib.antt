@@ -4,3 +4,4 @@ pub mod WentLemmas
 pub mod ChildLemmas
 pub mod SeenLemmas
 pub mod RemarkLemmas
+pub mod HoldsLemmas

@@ -1,0 +1,7 @@
+use Rattle.dw_study.proofs.HoldsLemmas.{holds}
+use Rattle.dw_study.proofs.laws.solutions_hold.Goals as goal
+
+pub returns : goal.returns
+returns c = λ g board p text tree is n remarks are right path there whole.
+    holds c.wins_are_decided.ensures c.moves_in_order.ensures g board p tree
+    (c.trees_are_played.ensures g p text tree is) n remarks are right path there whole
