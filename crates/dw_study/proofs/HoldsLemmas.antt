@@ -1,4 +1,5 @@
--- If no remark on a tree is a fault, each of its paths that goes on nowhere is a line.
+-- If no remark on a tree is a fault, each of its paths that goes on nowhere is a line; if there is no remark at all,
+-- these are all lines.
 use Rattle.std.proofs.Common.{◌≡◌, ◌⊎◌, ℕ, zero, suc, ◌-◌, ◌≤◌, List, [], ◌∷◌, ◌++◌, length, map, refl, sym, ap, subst}
 use Rattle.std.proofs.Common.{◌∙◌, inl, inr, arith, append-nil, append_assoc}
 use Rattle.dw_board.specs.Geometry.{Geometry, IsBoard}
@@ -7,6 +8,9 @@ use Rattle.dw_board.specs.Lists.{Member}
 use Rattle.dw_moves.specs.Moves.{Move, Legal, NoMove, play}
 use Rattle.dw_moves.specs.Order.{Precedes, IsAscending}
 use Rattle.dw_moves.specs.Laws.{MovesInOrder}
+use Rattle.std.proofs.Common.{Bool, true, false}
+use Rattle.std.proofs.lemmas.Bool.{true≢false}
+use Rattle.dw_moves.specs.inner.MoveLemmas.{same_moves, same_moves-is}
 use Rattle.dw_moves.specs.inner.MemberLemmas.{mem_left, mem_right, mem_cases, mem_map}
 use Rattle.dw_list.specs.Lines.{Line}
 use Rattle.dw_solve.specs.Wins.{Win, Lost}
@@ -16,7 +20,7 @@ use Rattle.dw_games.specs.Laws.{IsPlayed}
 use Rattle.dw_report.specs.Verdict.{IsWinning}
 use Rattle.dw_study.specs.Remarks.{Remark, fails, ends, GoesOnBy, IsFirstRefutation, AtAttacker, without_move, with_moves}
 use Rattle.dw_study.specs.Remarks.{AtDefender, over, without_reply, with_replies, InTurn, nothing, one_more, AndBehind}
-use Rattle.dw_study.specs.Remarks.{AfterKey, AreRemarks}
+use Rattle.dw_study.specs.Remarks.{also, leaves_open, if_any, AfterKey, AreRemarks}
 use Rattle.dw_study.specs.Laws.{IsFault}
 use Rattle.dw_study.proofs.RemarkLemmas.{last_same}
 
@@ -79,9 +83,54 @@ behind_of {Behind = Behind} (one_more {moves = moves} {before = before} {remarks
       | inr (inr gone) ↦ absurd gone
     ]
 
+-- whether a path stands in a tree
+same_decided : (m n : Move) (b : Bool) → same_moves m n ≡ b → (m ≡ n) ⊎ (m ≡ n → ⊥)
+same_decided m n true is = inl ((same_moves-is m n).0 is)
+same_decided m n false is = inr (λ e. true≢false (sym ((same_moves-is m n).1 e) ∙ is))
+
+first_same : (m n : Move) (l k : List Move) → m ∷ l ≡ n ∷ k → m ≡ n
+first_same m n l k e = cc
+
+rest_same : (m n : Move) (l k : List Move) → m ∷ l ≡ n ∷ k → l ≡ k
+rest_same m n l k e = cc
+
+unlike : {A : Type 0} (m : Move) (l : List Move) → m ∷ l ≡ [] → A
+unlike m l e = cc
+
+path_decided : (l k : List Move) → (l ≡ k) ⊎ (l ≡ k → ⊥)
+path_decided [] [] = inl refl
+path_decided [] (n ∷ k) = inr (λ e. unlike n k (sym e))
+path_decided (m ∷ l) [] = inr (λ e. unlike m l e)
+path_decided (m ∷ l) (n ∷ k) = elim (same_decided m n (same_moves m n) refl) [
+  | inr differ ↦ inr (λ e. differ (first_same m n l k e))
+  | inl e ↦ elim (path_decided l k) [
+    | inr differ ↦ inr (λ f. differ (rest_same m n l k f))
+    | inl f ↦ inl (λ i. e i ∷ f i)
+  ]
+]
+
+stands_decided : (path : List Move) (tree : List (List Move)) → Member path tree ⊎ (Member path tree → ⊥)
+stands_decided path [] = inr (λ m. m)
+stands_decided path (other ∷ tree) = elim (path_decided path other) [
+  | inl e ↦ inl (inl e)
+  | inr differ ↦ elim (stands_decided path tree) [
+    | inl m ↦ inl (inr m)
+    | inr not_there ↦ inr (λ m. elim m [ inl e ↦ differ e | inr old ↦ not_there old ])
+  ]
+]
+
+if_any_said : (remark : List Move → Remark) (moves : List Move) (m : Move) → Member m moves
+    → Member (remark moves) (if_any remark moves)
+if_any_said remark [] m there = absurd there
+if_any_said remark (n ∷ moves) m there = inl refl
+
 -- no remark is a fault
 abbrev NoFault : List Remark → Type 0
 NoFault rs = (r : Remark) → Member r rs → IsFault r → ⊥
+
+-- there is no remark
+abbrev Silent : List Remark → Type 0
+Silent rs = (r : Remark) → Member r rs → ⊥
 
 -- a path goes on nowhere
 abbrev IsWhole : List (List Move) → List Move → Type 0
@@ -198,3 +247,63 @@ module _ (decided : WinsAreDecided) (order : MovesInOrder) (g : Geometry) (board
   pub holds : (n : ℕ) (rs : List Remark) → AreRemarks g tree n start [] rs → ((r : Remark) → Member r rs → IsFault r → ⊥)
       → (path : List Move) → Member path tree → ((m : Move) → Member (path ++ m ∷ []) tree → ⊥) → Line g start n path
   holds n rs h right path there whole = leads_on n start [] rs refl h right path there whole
+
+  -- ---- no remark at all
+  attacker_whole : (p : Placement) (n : ℕ) (b : List Move) {here : List Remark} {moves : List Move}
+      → AtAttacker g p n tree b here moves → Silent here → (m : Move) → IsWinning g p n m
+      → Legal g p m → GoesOnBy g p tree b m × Member m moves
+  attacker_whole p n b (without_move never) none m wins legal = absurd (none (ends b) (inl refl))
+  attacker_whole p n b (with_moves {failing = failing} {others = others} x goes' f o k) none m wins legal =
+      elim (stands_decided (b ++ m ∷ []) tree) [
+        | inl there ↦ ((legal, there), (k.exactly m).1 ((legal, there), wins))
+        | inr not_there ↦
+            absurd (none (also b others) (mem_right (also b others) (map (λ t. fails b t.0 t.1) failing) _
+            (if_any_said (also b) others m ((o.exactly m).1 (wins, λ goes. not_there goes.1)))))
+      ]
+
+  defender_whole : (q : Placement) (b : List Move) {here : List Remark} {moves : List Move}
+      → AtDefender g q tree b here moves → Silent here → (r : Move) → Legal g q r
+      → GoesOnBy g q tree b r × Member r moves
+  defender_whole q b (over never) none r legal = absurd (never r legal)
+  defender_whole q b (without_reply x lawful never) none r legal = absurd (none (ends b) (inl refl))
+  defender_whole q b (with_replies {others = others} x goes' o k) none r legal =
+      elim (stands_decided (b ++ r ∷ []) tree) [
+        | inl there ↦ ((legal, there), (k.exactly r).1 (legal, there))
+        | inr not_there ↦
+            absurd (none (leaves_open b others)
+            (if_any_said (leaves_open b) others r ((o.exactly r).1 (legal, λ goes. not_there goes.1))))
+      ]
+
+  -- a line stands in the tree, and goes on nowhere
+  stands_there : (n : ℕ) (p : Placement) (b : List Move) (rs : List Remark) → p ≡ after g start b
+      → AreRemarks g tree n p b rs → Silent rs → (rest : List Move) → Line g p n rest
+      → Member (b ++ rest) tree × IsWhole tree (b ++ rest)
+  stands_there zero p b rs at h none rest line = absurd h
+  stands_there (suc n) p b rs at h none [] line = absurd line
+  stands_there (suc n) p b rs at h none (m ∷ []) line =
+      let here : Silent h.here = λ x y. none x (subst (Member x) (sym h.joined) (mem_left x h.here h.later y)) in
+      let won = attacker_whole p (suc n) b h.at here m (line.0, line.1) line.0 in
+      let to : play g p m ≡ after g start (b ++ m ∷ []) = ap (λ z. play g z m) at ∙ sym (after_more g start b m) in
+      (won.0.1, λ x there. line.2 x (goes_on_by (play g p m) (b ++ m ∷ []) x to there).0)
+  stands_there (suc n) p b rs at h none (m ∷ r ∷ l) line =
+      let here : Silent h.here = λ x y. none x (subst (Member x) (sym h.joined) (mem_left x h.here h.later y)) in
+      let won = attacker_whole p (suc n) b h.at here m (line.0, line.1) line.0 in
+      let next = behind_of h.behind m won.1 in
+      let still : Silent next.0 = λ x y. none x (subst (Member x) (sym h.joined) (mem_right x h.here h.later (next.2 x y))) in
+      let q : Placement = play g p m in
+      let c : List Move = b ++ m ∷ [] in
+      let to : q ≡ after g start c = ap (λ z. play g z m) at ∙ sym (after_more g start b m) in
+      let there : Silent next.1.here = λ x y. still x (subst (Member x) (sym next.1.joined) (mem_left x next.1.here next.1.later y)) in
+      let reply = defender_whole q c next.1.at there r line.2 in
+      let deeper = behind_of next.1.behind r reply.1 in
+      let last : Silent deeper.0 = λ x y. still x (subst (Member x) (sym next.1.joined) (mem_right x next.1.here next.1.later
+      (deeper.2 x y))) in
+      let whole_path : (c ++ r ∷ []) ++ l ≡ b ++ m ∷ r ∷ l =
+      append_assoc c (r ∷ []) l ∙ append_assoc b (m ∷ []) (r ∷ l) in
+      subst (λ z. Member z tree × IsWhole tree z) whole_path
+      (stands_there n (play g q r) (c ++ r ∷ []) deeper.0
+      (ap (λ z. play g z r) to ∙ sym (after_more g start c r)) deeper.1 last l line.3)
+
+  pub all_lines : (n : ℕ) → AreRemarks g tree n start [] [] → (path : List Move) → Line g start n path
+      → Member path tree × ((m : Move) → Member (path ++ m ∷ []) tree → ⊥)
+  all_lines n h path line = stands_there n start [] [] refl h (λ r m. m) path line

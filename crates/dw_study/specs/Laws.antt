@@ -33,9 +33,17 @@ IsFault (also b keys) = ⊥
 IsFault (leaves_open b replies) = ⊥
 IsFault (ends b) = Unit {0}
 
--- if no remark on the tree of a movetext tells of a fault, each of its paths that goes on nowhere is a line
-abbrev pub SolutionsHold : Type 0
-SolutionsHold = (g : Geometry) → IsBoard g → (p : Placement) (text : List ℕ) (tree : List (List Move))
-    → IsTree g p text tree → (n : ℕ) (remarks : List Remark) → AreRemarks g tree n p [] remarks
-    → ((r : Remark) → Member r remarks → IsFault r → ⊥) → (path : List Move) → Member path tree
-    → ((m : Move) → Member (path ++ m ∷ []) tree → ⊥) → Line g p n path
+-- a path of a tree that goes on nowhere
+abbrev pub IsWholePath : List (List Move) → List Move → Type 0
+IsWholePath tree path = Member path tree × ((m : Move) → Member (path ++ m ∷ []) tree → ⊥)
+
+-- if no remark on the tree of a movetext tells of a fault, each of its paths that goes on nowhere is a line; if there is
+-- no remark at all, these are all lines
+pub record SolutionsHold : Type 0 where
+  pub lines : (g : Geometry) → IsBoard g → (p : Placement) (text : List ℕ) (tree : List (List Move))
+      → IsTree g p text tree → (n : ℕ) (remarks : List Remark) → AreRemarks g tree n p [] remarks
+      → ((r : Remark) → Member r remarks → IsFault r → ⊥) → (path : List Move) → IsWholePath tree path
+      → Line g p n path
+  pub all : (g : Geometry) → IsBoard g → (p : Placement) (text : List ℕ) (tree : List (List Move))
+      → IsTree g p text tree → (n : ℕ) → AreRemarks g tree n p [] [] → (path : List Move) → Line g p n path
+      → IsWholePath tree path

@@ -20,8 +20,9 @@ pub fn one_list_of_remarks()
     dw_moves::laws::moves_have_keys();
 }
 
-/// If no move of a solution fails and no path of it ends too soon, each path that goes on nowhere is a line.
-/// Example: at `W:W27,32:B18`, within 2 moves, `1. 32-28 18-22 2. 27x18` has no such remark, and it is a line.
+/// If no move of a solution fails and no path of it ends too soon, each path that goes on nowhere is a line. If nothing
+/// at all is remarked, these are all lines.
+/// Example: at `W:W27,45:B16`, within 2 moves, nothing is remarked of `1. 45-40 16-21 2. 27x16`, the only line.
 pub fn solutions_hold()
     ensures { SolutionsHold }
 {
