@@ -59,7 +59,7 @@ lost_or_first decided order g board q n =
     ]
 
 -- ---- lists
-split_last : {A : Type 0} (y : A) (ys : List A) → (front : List A) × (last : A) × (y ∷ ys ≡ front ++ last ∷ [])
+pub split_last : {A : Type 0} (y : A) (ys : List A) → (front : List A) × (last : A) × (y ∷ ys ≡ front ++ last ∷ [])
     × (length front ≡ length ys)
 split_last y [] = ([], y, refl, refl)
 split_last y (z ∷ ys) = let h = split_last z ys in (y ∷ h.0, h.1, ap (λ w. y ∷ w) h.2, ap suc h.3)
@@ -68,7 +68,7 @@ some_list : {A B : Type 0} (xs ys : List A) (x : A) → xs ++ x ∷ ys ≡ [] �
 some_list [] ys x e = cc
 some_list (y ∷ xs) ys x e = cc
 
-after_more : (g : Geometry) (p : Placement) (b : List Move) (m : Move) → after g p (b ++ m ∷ [])
+pub after_more : (g : Geometry) (p : Placement) (b : List Move) (m : Move) → after g p (b ++ m ∷ [])
     ≡ play g (after g p b) m
 after_more g p [] m = refl
 after_more g p (x ∷ b) m = after_more g (play g p x) b m
@@ -84,17 +84,17 @@ behind_of {Behind = Behind} (one_more {moves = moves} {before = before} {remarks
     ]
 
 -- whether a path stands in a tree
-same_decided : (m n : Move) (b : Bool) → same_moves m n ≡ b → (m ≡ n) ⊎ (m ≡ n → ⊥)
+pub same_decided : (m n : Move) (b : Bool) → same_moves m n ≡ b → (m ≡ n) ⊎ (m ≡ n → ⊥)
 same_decided m n true is = inl ((same_moves-is m n).0 is)
 same_decided m n false is = inr (λ e. true≢false (sym ((same_moves-is m n).1 e) ∙ is))
 
-first_same : (m n : Move) (l k : List Move) → m ∷ l ≡ n ∷ k → m ≡ n
+pub first_same : (m n : Move) (l k : List Move) → m ∷ l ≡ n ∷ k → m ≡ n
 first_same m n l k e = cc
 
-rest_same : (m n : Move) (l k : List Move) → m ∷ l ≡ n ∷ k → l ≡ k
+pub rest_same : (m n : Move) (l k : List Move) → m ∷ l ≡ n ∷ k → l ≡ k
 rest_same m n l k e = cc
 
-unlike : {A : Type 0} (m : Move) (l : List Move) → m ∷ l ≡ [] → A
+pub unlike : {A : Type 0} (m : Move) (l : List Move) → m ∷ l ≡ [] → A
 unlike m l e = cc
 
 path_decided : (l k : List Move) → (l ≡ k) ⊎ (l ≡ k → ⊥)
@@ -109,7 +109,7 @@ path_decided (m ∷ l) (n ∷ k) = elim (same_decided m n (same_moves m n) refl)
   ]
 ]
 
-stands_decided : (path : List Move) (tree : List (List Move)) → Member path tree ⊎ (Member path tree → ⊥)
+pub stands_decided : (path : List Move) (tree : List (List Move)) → Member path tree ⊎ (Member path tree → ⊥)
 stands_decided path [] = inr (λ m. m)
 stands_decided path (other ∷ tree) = elim (path_decided path other) [
   | inl e ↦ inl (inl e)
@@ -123,6 +123,9 @@ if_any_said : (remark : List Move → Remark) (moves : List Move) (m : Move) →
     → Member (remark moves) (if_any remark moves)
 if_any_said remark [] m there = absurd there
 if_any_said remark (n ∷ moves) m there = inl refl
+
+pub none_among : (rs : List Remark) → rs ≡ [] → (r : Remark) → Member r rs → IsFault r → ⊥
+none_among rs none r there fault = subst (Member r) none there
 
 -- no remark is a fault
 abbrev NoFault : List Remark → Type 0
@@ -139,7 +142,7 @@ IsWhole tree path = (m : Move) → Member (path ++ m ∷ []) tree → ⊥
 module _ (decided : WinsAreDecided) (order : MovesInOrder) (g : Geometry) (board : IsBoard g) (start : Placement)
     (tree : List (List Move)) (played : (path : List Move) → Member path tree → IsPlayed g start tree path) where
   -- the beginnings of a path stand in the tree
-  begins : (k : ℕ) (b : List Move) (m : Move) (rest : List Move) → length rest ≤ k → Member (b ++ m ∷ rest) tree
+  pub begins : (k : ℕ) (b : List Move) (m : Move) (rest : List Move) → length rest ≤ k → Member (b ++ m ∷ rest) tree
       → Member (b ++ m ∷ []) tree
   begins k b m [] few there = there
   begins zero b m (r ∷ rest) few there = absurd (omega (arith, few))
@@ -155,7 +158,7 @@ module _ (decided : WinsAreDecided) (order : MovesInOrder) (g : Geometry) (board
             begins k b m split.0 (omega (arith, few, split.3)) (subst (λ z. Member z tree) (sym front) in_it)
       ]
 
-  goes_on_by : (p : Placement) (b : List Move) (m : Move) → p ≡ after g start b → Member (b ++ m ∷ []) tree
+  pub goes_on_by : (p : Placement) (b : List Move) (m : Move) → p ≡ after g start b → Member (b ++ m ∷ []) tree
       → GoesOnBy g p tree b m
   goes_on_by p b m at there =
       let path = played (b ++ m ∷ []) there in

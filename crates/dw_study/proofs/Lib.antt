@@ -5,3 +5,4 @@ pub mod ChildLemmas
 pub mod SeenLemmas
 pub mod RemarkLemmas
 pub mod HoldsLemmas
+pub mod ExactLemmas

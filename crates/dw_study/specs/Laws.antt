@@ -1,5 +1,5 @@
 -- Laws of findings and of remarks, for every board.
-use Rattle.std.specs.Prelude.{◌≡◌, ℕ, ◌<◌, List, [], ◌∷◌, ◌++◌}
+use Rattle.std.specs.Prelude.{◌≡◌, ◌↔◌, ℕ, ◌<◌, List, [], ◌∷◌, ◌++◌}
 use Rattle.dw_board.specs.Geometry.{Geometry, IsBoard}
 use Rattle.dw_board.specs.Placement.{Placement}
 use Rattle.dw_board.specs.Lists.{Member}
@@ -37,13 +37,13 @@ IsFault (ends b) = Unit {0}
 abbrev pub IsWholePath : List (List Move) → List Move → Type 0
 IsWholePath tree path = Member path tree × ((m : Move) → Member (path ++ m ∷ []) tree → ⊥)
 
--- if no remark on the tree of a movetext tells of a fault, each of its paths that goes on nowhere is a line; if there is
--- no remark at all, these are all lines
+-- no remark on the tree of a movetext tells of a fault exactly if each of its paths that goes on nowhere is a line; and
+-- there is no remark at all exactly if these are just the lines
 pub record SolutionsHold : Type 0 where
   pub lines : (g : Geometry) → IsBoard g → (p : Placement) (text : List ℕ) (tree : List (List Move))
       → IsTree g p text tree → (n : ℕ) (remarks : List Remark) → AreRemarks g tree n p [] remarks
-      → ((r : Remark) → Member r remarks → IsFault r → ⊥) → (path : List Move) → IsWholePath tree path
-      → Line g p n path
+      → ((r : Remark) → Member r remarks → IsFault r → ⊥)
+      ↔ ((path : List Move) → IsWholePath tree path → Line g p n path)
   pub all : (g : Geometry) → IsBoard g → (p : Placement) (text : List ℕ) (tree : List (List Move))
-      → IsTree g p text tree → (n : ℕ) → AreRemarks g tree n p [] [] → (path : List Move) → Line g p n path
-      → IsWholePath tree path
+      → IsTree g p text tree → (n : ℕ) (remarks : List Remark) → AreRemarks g tree n p [] remarks
+      → (remarks ≡ []) ↔ ((path : List Move) → IsWholePath tree path ↔ Line g p n path)

@@ -20,8 +20,8 @@ pub fn one_list_of_remarks()
     dw_moves::laws::moves_have_keys();
 }
 
-/// If no move of a solution fails and no path of it ends too soon, each path that goes on nowhere is a line. If nothing
-/// at all is remarked, these are all lines.
+/// No move of a solution fails and no path of it ends too soon exactly if each path that goes on nowhere is a line; and
+/// nothing at all is remarked exactly if these are just the lines.
 /// Example: at `W:W27,45:B16`, within 2 moves, nothing is remarked of `1. 45-40 16-21 2. 27x16`, the only line.
 pub fn solutions_hold()
     ensures { SolutionsHold }
