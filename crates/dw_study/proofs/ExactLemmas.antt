@@ -1,10 +1,10 @@
 -- If each path of a tree that goes on nowhere is a line, no remark is a fault; if these are all lines, there is none.
-use Rattle.std.proofs.Common.{◌≡◌, ◌⊎◌, ℕ, zero, suc, ◌+◌, ◌-◌, ◌<◌, ◌≤◌, List, [], ◌∷◌, ◌++◌, length, map, max, refl, sym, ap}
+use Rattle.std.proofs.Common.{◌≡◌, ◌⊎◌, ℕ, zero, suc, ◌+◌, ◌<◌, ◌≤◌, List, [], ◌∷◌, ◌++◌, length, map, max, refl, sym, ap}
 use Rattle.std.proofs.Common.{subst, ◌∙◌, inl, inr, arith, append-nil, append_assoc, length-append}
 use Rattle.dw_board.specs.Geometry.{Geometry, IsBoard}
 use Rattle.dw_board.specs.Placement.{Placement}
 use Rattle.dw_board.specs.Lists.{Member}
-use Rattle.dw_moves.specs.Moves.{Move, Legal, NoMove, play}
+use Rattle.dw_moves.specs.Moves.{Move, Legal, play}
 use Rattle.dw_moves.specs.Order.{Precedes, IsListOf}
 use Rattle.dw_moves.specs.Laws.{MovesInOrder}
 use Rattle.dw_moves.specs.inner.MoveLemmas.{same_moves}
@@ -14,9 +14,9 @@ use Rattle.dw_solve.specs.Wins.{Win, Lost}
 use Rattle.dw_games.specs.Play.{after}
 use Rattle.dw_games.specs.Laws.{IsPlayed}
 use Rattle.dw_report.specs.Verdict.{IsWinning}
-use Rattle.dw_study.specs.Remarks.{Remark, fails, also, leaves_open, ends, GoesOnBy, IsFailing, if_any, AtAttacker}
+use Rattle.dw_study.specs.Remarks.{Remark, fails, also, leaves_open, GoesOnBy, if_any, AtAttacker}
 use Rattle.dw_study.specs.Remarks.{without_move, with_moves, AtDefender, over, without_reply, with_replies, InTurn, nothing}
-use Rattle.dw_study.specs.Remarks.{one_more, AndBehind, AfterKey, AreRemarks}
+use Rattle.dw_study.specs.Remarks.{one_more, AreRemarks}
 use Rattle.dw_study.specs.Laws.{IsFault, IsWholePath}
 use Rattle.dw_study.proofs.HoldsLemmas.{same_decided, first_same, rest_same, unlike, after_more, begins, goes_on_by}
 use Rattle.dw_study.proofs.SeenLemmas.{refuted}

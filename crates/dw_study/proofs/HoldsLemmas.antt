@@ -19,8 +19,8 @@ use Rattle.dw_games.specs.Play.{after}
 use Rattle.dw_games.specs.Laws.{IsPlayed}
 use Rattle.dw_report.specs.Verdict.{IsWinning}
 use Rattle.dw_study.specs.Remarks.{Remark, fails, ends, GoesOnBy, IsFirstRefutation, AtAttacker, without_move, with_moves}
-use Rattle.dw_study.specs.Remarks.{AtDefender, over, without_reply, with_replies, InTurn, nothing, one_more, AndBehind}
-use Rattle.dw_study.specs.Remarks.{also, leaves_open, if_any, AfterKey, AreRemarks}
+use Rattle.dw_study.specs.Remarks.{AtDefender, over, without_reply, with_replies, InTurn, nothing, one_more}
+use Rattle.dw_study.specs.Remarks.{also, leaves_open, if_any, AreRemarks}
 use Rattle.dw_study.specs.Laws.{IsFault}
 use Rattle.dw_study.proofs.RemarkLemmas.{last_same}
 
