@@ -7,7 +7,6 @@
 //! An example tells a position by its FEN text, on the board of ten rows if it names no other.
 #![tactic(auto)]
 
-mod attack;
 mod branch;
 pub mod check;
 pub mod find;
@@ -17,6 +16,7 @@ pub mod laws;
 mod limits;
 mod looking;
 pub mod remark;
+mod seen;
 pub mod sliced;
 pub mod slices;
 
