@@ -5,14 +5,13 @@ use crate::desk::{Counts, Desk, DeskFault};
 use crate::progress::Progress;
 use crate::words::Request;
 use dw_board::{Board, Position};
-use dw_games::{Game, Games, MovetextFault, MovetextFaultKind, Tree, read_movetext};
+use dw_games::{Game, Games, MovetextFault, Tree, read_movetext};
+use dw_notation::problems::MAX_PROBLEMS;
 use dw_notation::{Sink, Source, write_all};
+use dw_program::options::MOST_MOVES;
 use dw_report::{Stop, problem_line};
 use dw_study::check::check;
 use dw_study::{Checked, Remark, Slices, remark_text, turns_of};
-
-/// The most moves within which a win is looked for.
-const MOST_MOVES: u8 = 20;
 
 /// Checks the solutions of the chosen games, each as soon as it is read, within `n` moves, or as many as each has.
 pub fn check_games<B: Board, S: Source, K: Sink>(
@@ -28,18 +27,19 @@ pub fn check_games<B: Board, S: Source, K: Sink>(
 {
     let mut games = Games::<B, S>::new(desk.alloc, source);
     let mut counts = Counts::default();
-    'games: loop {
+    'games: for _ in 0..=MAX_PROBLEMS {
         let Some(game) = games.next()? else {
-            return Ok(counts);
+            break;
         };
         let number = game.problem.number;
         if number >= request.portion.first {
             counts = counts.with(report(desk, slices, n, &game, sink)?);
         }
         if request.portion.last == Some(number) {
-            return Ok(counts);
+            break;
         }
     }
+    Ok(counts)
 }
 
 /// Reports one game, and answers whether it or its solution is refused, or the solution fails.

@@ -20,3 +20,4 @@ pub mod WholeLemmas
 pub mod LexLemmas
 pub mod StepLemmas
 pub mod OneAnswerLemmas
+pub mod PlayedLemmas

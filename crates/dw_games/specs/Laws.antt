@@ -1,8 +1,10 @@
 -- Laws of movetexts and their tokens.
-use Rattle.std.specs.Prelude.{◌≡◌, ℕ, true, List, []}
+use Rattle.std.specs.Prelude.{◌≡◌, ◌⊎◌, ℕ, true, List, [], ◌∷◌, ◌++◌}
 use Rattle.dw_board.specs.Geometry.{Geometry}
 use Rattle.dw_board.specs.Placement.{Placement}
-use Rattle.dw_moves.specs.Moves.{Move}
+use Rattle.dw_board.specs.Lists.{Member}
+use Rattle.dw_moves.specs.Moves.{Move, Legal}
+use Rattle.dw_games.specs.Play.{after}
 use Rattle.dw_games.specs.Tokens.{Token, AreTokens}
 use Rattle.dw_games.specs.Movetext.{IsTree}
 use Rattle.dw_games.specs.Faults.{IsFirstFault}
@@ -29,3 +31,17 @@ pub record HasOneAnswer (g : Geometry) (p : Placement) (text : List ℕ) : Type 
 -- at each position a text has at most one answer
 abbrev pub OneAnswer : Type 0
 OneAnswer = (g : Geometry) (p : Placement) (text : List ℕ) → HasOneAnswer g p text
+
+-- a path of a tree is played: its last move is legal after the moves before it, if there are any, and these stand in
+-- the tree too
+pub record IsPlayed (g : Geometry) (p : Placement) (tree : List (List Move)) (path : List Move) : Type 0 where
+  pub front : List Move
+  pub last : Move
+  pub is : path ≡ front ++ last ∷ []
+  pub legal : Legal g (after g p front) last
+  pub there : (front ≡ []) ⊎ Member front tree
+
+-- all paths of a tree are played
+abbrev pub TreesArePlayed : Type 0
+TreesArePlayed = (g : Geometry) (p : Placement) (text : List ℕ) (tree : List (List Move)) → IsTree g p text tree
+    → (path : List Move) → Member path tree → IsPlayed g p tree path

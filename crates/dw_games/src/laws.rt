@@ -1,6 +1,6 @@
 //! Laws of the definitions, each the contract of a function that does nothing.
 ghost use Rattle.dw_games.specs.GameLaws.{GamesSayProblems, TextsHaveGames, ToldIsEnough};
-ghost use Rattle.dw_games.specs.Laws.{OneRow, OneAnswer};
+ghost use Rattle.dw_games.specs.Laws.{OneRow, OneAnswer, TreesArePlayed};
 
 /// Each text has exactly one row of tokens.
 /// Example: `1-1.` has the two tokens `1-1` and `.`, and `1.-1` has `1.`, a byte that begins none, and `1`.
@@ -34,4 +34,10 @@ pub fn texts_have_games()
 /// Example: of a movetext of 2,000,000 bytes the first 1,048,577 are told, which are refused as `too large at 1048577`.
 pub fn told_is_enough()
     ensures { ToldIsEnough }
+{}
+
+/// Each path of a tree that is read at a position can be played from it, and its beginnings stand in the tree too.
+/// Example: at `W:W27,32:B18` the tree of `1. 32-28 18-22` has the path `32-28`, and `32-28 18-22` with a legal reply.
+pub fn trees_are_played()
+    ensures { TreesArePlayed }
 {}

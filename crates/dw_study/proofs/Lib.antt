@@ -7,3 +7,5 @@ pub mod RemarkLemmas
 pub mod BeginningLemmas
 pub mod TurnLemmas
 pub mod RemarkTextLemmas
+pub mod HoldsLemmas
+pub mod ExactLemmas

@@ -1,12 +1,14 @@
 -- Laws of findings and of remarks, for every board.
-use Rattle.std.specs.Prelude.{◌≡◌, ℕ, ◌<◌, List, []}
+use Rattle.std.specs.Prelude.{◌≡◌, ◌↔◌, ℕ, ◌<◌, List, [], ◌∷◌, ◌++◌}
 use Rattle.dw_board.specs.Geometry.{Geometry, IsBoard}
 use Rattle.dw_board.specs.Placement.{Placement}
+use Rattle.dw_board.specs.Lists.{Member}
+use Rattle.dw_list.specs.Lines.{Line}
 use Rattle.dw_moves.specs.Moves.{Move}
 use Rattle.dw_games.specs.Movetext.{IsTree}
 use Rattle.dw_report.specs.Verdict.{Verdict}
 use Rattle.dw_study.specs.Finding.{judged, undecided, IsFinding}
-use Rattle.dw_study.specs.Remarks.{Remark, AreRemarks}
+use Rattle.dw_study.specs.Remarks.{Remark, fails, also, leaves_open, ends, AreRemarks}
 
 -- each position is judged in one way, and only in one; if it is undecided, then at a lower number of moves
 pub record OneFinding : Type 0 where
@@ -23,3 +25,25 @@ abbrev pub OneListOfRemarks : Type 0
 OneListOfRemarks = (g : Geometry) (p : Placement) (text : List ℕ) (tree : List (List Move)) → IsTree g p text tree
     → (n : ℕ) (remarks others : List Remark) → AreRemarks g tree n p [] remarks → AreRemarks g tree n p [] others
     → remarks ≡ others
+
+-- a remark tells of a fault: a move fails, or a path ends too soon
+abbrev pub IsFault : Remark → Type 0
+IsFault (fails b m r) = Unit {0}
+IsFault (also b keys) = ⊥
+IsFault (leaves_open b replies) = ⊥
+IsFault (ends b) = Unit {0}
+
+-- a path of a tree that goes on nowhere
+abbrev pub IsWholePath : List (List Move) → List Move → Type 0
+IsWholePath tree path = Member path tree × ((m : Move) → Member (path ++ m ∷ []) tree → ⊥)
+
+-- no remark on the tree of a movetext tells of a fault exactly if each of its paths that goes on nowhere is a line; and
+-- there is no remark at all exactly if these are just the lines
+pub record SolutionsHold : Type 0 where
+  pub lines : (g : Geometry) → IsBoard g → (p : Placement) (text : List ℕ) (tree : List (List Move))
+      → IsTree g p text tree → (n : ℕ) (remarks : List Remark) → AreRemarks g tree n p [] remarks
+      → ((r : Remark) → Member r remarks → IsFault r → ⊥)
+      ↔ ((path : List Move) → IsWholePath tree path → Line g p n path)
+  pub all : (g : Geometry) → IsBoard g → (p : Placement) (text : List ℕ) (tree : List (List Move))
+      → IsTree g p text tree → (n : ℕ) (remarks : List Remark) → AreRemarks g tree n p [] remarks
+      → (remarks ≡ []) ↔ ((path : List Move) → IsWholePath tree path ↔ Line g p n path)

@@ -12,9 +12,9 @@ ghost use Rattle.dw_study.specs.Slices.{SearchedInSlices};
 ghost use Rattle.dw_study.specs.Telling.{Say};
 ghost use Rattle.dw_study.specs.inner.Checking.{Went, Behind, IsKept, IsSeen};
 
-use crate::attack::{seen_by_attacker, seen_by_defender};
 use crate::branch::{Seen, Spot};
 use crate::remark::{Checked, Remark};
+use crate::seen::{seen_by_attacker, seen_by_defender};
 use crate::sliced::wins_on;
 use crate::slices::{Slices, Watcher};
 use dw_board::{Board, Position};

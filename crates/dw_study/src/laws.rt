@@ -1,5 +1,5 @@
 //! Laws of findings and of remarks, each the contract of a function that does nothing.
-ghost use Rattle.dw_study.specs.Laws.{OneFinding, OneListOfRemarks};
+ghost use Rattle.dw_study.specs.Laws.{OneFinding, OneListOfRemarks, SolutionsHold};
 
 /// Each position is judged in one way, and only in one. If it is undecided, then at a lower number of moves.
 /// Example: within 20 moves `W:W27,45:B16` is judged at 2 moves, and undecided only at 0 or 1.
@@ -18,4 +18,15 @@ pub fn one_list_of_remarks()
     ensures { OneListOfRemarks }
 {
     dw_moves::laws::moves_have_keys();
+}
+
+/// No move of a solution fails and no path of it ends too soon exactly if each path that goes on nowhere is a line; and
+/// nothing at all is remarked exactly if these are just the lines.
+/// Example: at `W:W27,45:B16`, within 2 moves, nothing is remarked of `1. 45-40 16-21 2. 27x16`, the only line.
+pub fn solutions_hold()
+    ensures { SolutionsHold }
+{
+    dw_games::laws::trees_are_played();
+    dw_moves::laws::moves_in_order();
+    dw_solve::laws::wins_are_decided();
 }

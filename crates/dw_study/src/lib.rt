@@ -7,7 +7,6 @@
 //! An example tells a position by its FEN text, on the board of ten rows if it names no other.
 #![tactic(auto)]
 
-mod attack;
 mod beginning;
 mod branch;
 pub mod check;
@@ -19,6 +18,7 @@ mod limits;
 mod looking;
 pub mod remark;
 mod remark_texts;
+mod seen;
 pub mod sliced;
 pub mod slices;
 mod text;

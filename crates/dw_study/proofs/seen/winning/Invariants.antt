@@ -3,7 +3,7 @@ use Rattle.dw_report.specs.Verdict.{IsWinning}
 use Rattle.dw_report.specs.inner.GatheredLemmas.{GatheredTo}
 use Rattle.dw_study.specs.inner.Checking.{Went}
 use Rattle.dw_study.proofs.WentLemmas.{answered}
-use Rattle.dw_study.proofs.attack.winning.Given as goal
+use Rattle.dw_study.proofs.seen.winning.Given as goal
 
 abbrev pub invariant-moves : goal.invariant-moves
 invariant-moves g l = record {

@@ -2,7 +2,7 @@ use Rattle.std.proofs.Common.{ap, ◌∙◌, refl, ◌++◌, ◌∷◌, []}
 use Rattle.dw_study.specs.declared.remark.Remark.TheVariants.{Open}
 use Rattle.dw_study.proofs.ChildLemmas.{none_there, some_there}
 use Rattle.dw_study.proofs.SeenLemmas.{defender_seen, defender_misses, ends_if, one_lacks, others_of}
-use Rattle.dw_study.proofs.attack.seen_by_defender.Goals as goal
+use Rattle.dw_study.proofs.seen.seen_by_defender.Goals as goal
 
 pub returns-then-is_empty : goal.returns-then-is_empty
 returns-then-is_empty g c = λ b there.

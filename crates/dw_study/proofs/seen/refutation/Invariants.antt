@@ -1,7 +1,7 @@
 use Rattle.dw_study.specs.inner.Checking.{Went}
 use Rattle.dw_study.proofs.SeenLemmas.{WonTo}
 use Rattle.dw_study.proofs.WentLemmas.{answered}
-use Rattle.dw_study.proofs.attack.refutation.Given as goal
+use Rattle.dw_study.proofs.seen.refutation.Given as goal
 
 abbrev pub invariant-replies : goal.invariant-replies
 invariant-replies g l = record {

@@ -3,8 +3,8 @@ use Rattle.dw_moves.specs.inner.MemberLemmas.{mem_map}
 use Rattle.dw_study.specs.inner.Checking.{FindsFirst}
 use Rattle.dw_study.proofs.SeenLemmas.{SortedTo, sorted_none, sorted_fail, sorted_key, sorted_all, item_member}
 use Rattle.dw_study.proofs.WentLemmas.{answered, went_none, went_then, went_ok, went_stop, went_memory}
-use Rattle.dw_study.proofs.attack.sorted.Goals.{in-Some+in_ok-push-in-Some, in-None+in_ok-push-in-None}
-use Rattle.dw_study.proofs.attack.sorted.Goals as goal
+use Rattle.dw_study.proofs.seen.sorted.Goals.{in-Some+in_ok-push-in-Some, in-None+in_ok-push-in-None}
+use Rattle.dw_study.proofs.seen.sorted.Goals as goal
 
 pub children-init : goal.children-init
 children-init g c = record {

@@ -4,8 +4,8 @@ use Rattle.dw_report.specs.Verdict.{IsWinning}
 use Rattle.dw_report.specs.inner.GatheredLemmas.{GatheredTo, to_none, to_more, to_same}
 use Rattle.dw_study.proofs.SeenLemmas.{winning_all, item_member, wins_found, fails_found}
 use Rattle.dw_study.proofs.WentLemmas.{answered, went_none, went_then, went_ok, went_stop, went_memory}
-use Rattle.dw_study.proofs.attack.winning.Goals.{then-is_none+in_ok-push, else-is_none}
-use Rattle.dw_study.proofs.attack.winning.Goals as goal
+use Rattle.dw_study.proofs.seen.winning.Goals.{then-is_none+in_ok-push, else-is_none}
+use Rattle.dw_study.proofs.seen.winning.Goals as goal
 
 pub moves-init : goal.moves-init
 moves-init g c =

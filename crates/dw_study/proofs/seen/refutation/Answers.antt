@@ -5,7 +5,7 @@ use Rattle.dw_report.specs.inner.GatheredLemmas.{item_among}
 use Rattle.dw_study.specs.Remarks.{IsFirstRefutation}
 use Rattle.dw_study.proofs.SeenLemmas.{won_more, won_all, first_found, no_win, a_win}
 use Rattle.dw_study.proofs.WentLemmas.{answered, went_none, went_then, went_ok, went_stop}
-use Rattle.dw_study.proofs.attack.refutation.Goals as goal
+use Rattle.dw_study.proofs.seen.refutation.Goals as goal
 
 pub play-after-requires : goal.play-after-requires
 play-after-requires g c =

@@ -4,8 +4,8 @@ use Rattle.dw_study.specs.inner.Checking.{IsSeen, AreChildren, AreOthers}
 use Rattle.dw_study.proofs.ChildLemmas.{none_there, some_there}
 use Rattle.dw_study.proofs.SeenLemmas.{ends_seen, attacker_seen, attacker_misses, others_of, sorted_of}
 use Rattle.dw_study.proofs.WentLemmas.{answered, went_then, went_ok, went_memory}
-use Rattle.dw_study.proofs.attack.seen_by_attacker.Goals.{then-not-is_empty+in_ok-push, else-not-is_empty}
-use Rattle.dw_study.proofs.attack.seen_by_attacker.Goals as goal
+use Rattle.dw_study.proofs.seen.seen_by_attacker.Goals.{then-not-is_empty+in_ok-push, else-not-is_empty}
+use Rattle.dw_study.proofs.seen.seen_by_attacker.Goals as goal
 
 pub returns-then-is_empty-clause-seen : goal.returns-then-is_empty-clause-seen
 returns-then-is_empty-clause-seen g c = λ b there.

@@ -3,7 +3,7 @@ use Rattle.dw_moves.specs.Moves.{Move}
 use Rattle.dw_study.specs.inner.Checking.{Went, AreChildren}
 use Rattle.dw_study.proofs.SeenLemmas.{SortedTo}
 use Rattle.dw_study.proofs.WentLemmas.{answered}
-use Rattle.dw_study.proofs.attack.sorted.Given as goal
+use Rattle.dw_study.proofs.seen.sorted.Given as goal
 
 abbrev pub invariant-children : goal.invariant-children
 invariant-children g l = record {
