@@ -27,7 +27,7 @@ pub fn check_games<B: Board, S: Source, K: Sink>(
 {
     let mut games = Games::<B, S>::new(desk.alloc, source);
     let mut counts = Counts::default();
-    'games: for _ in 0..=MAX_PROBLEMS {
+    'games: for _ in 0..MAX_PROBLEMS + 1 {
         let Some(game) = games.next()? else {
             break;
         };
