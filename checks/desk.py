@@ -78,7 +78,8 @@ def check_findings(rows, count, source, folder):
     wanted = "".join(f"{first}\n{text}" for (first, _), (_, text) in zip(judged[0], found))
     for more in ([], ["--memo", "none"], ["--memo", "lru", "--cache", "20"], ["--each", "1000000000000"]):
         written = run(DESK, "find", "--most", str(MOST), *more, *words, status=1)
-        assert written == wanted, (rows, more, [pair for pair in zip(texts(written), texts(wanted)) if pair[0] != pair[1]])
+        differ = [pair for pair in zip(texts(written), texts(wanted)) if pair[0] != pair[1]]
+        assert written == wanted, (rows, more, differ)
     lines = run(DESK, "find", "--most", str(MOST), "--json", *words, status=1).splitlines()
     assert len(lines) == len(positions)
     for line in lines:

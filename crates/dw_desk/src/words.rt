@@ -5,8 +5,9 @@ use clap::builder::ValueParser;
 use clap::{Arg, ArgMatches, Command as Words, value_parser};
 use dw_notation::Form;
 use dw_notation::problems::MAX_PROBLEMS;
-use dw_program::options::{MOST_KEPT, MOST_MOVES, MOST_POSITIONS, VERSION};
-use dw_program::options::{board, cache, file, flag, memo, option, pdn};
+use dw_program::options::{
+    MOST_KEPT, MOST_MOVES, MOST_POSITIONS, VERSION, board, cache, file, flag, memo, option, pdn,
+};
 use dw_program::{BoardSize, MemoKind};
 use std::alloc::{AllocError, Global};
 
@@ -140,8 +141,17 @@ pub fn command<'a>(alloc: Global) -> Result<Words<'a>, AllocError> {
 
 fn find_command<'a>(alloc: Global) -> Result<Words<'a>, AllocError> {
     let arguments = vec![in alloc;
-        board(alloc), pdn(alloc), problem(alloc), file(alloc),
-        most(alloc), each(alloc), json(alloc), memo(alloc, "deep"), cache(alloc, CACHE_HELP), progress(alloc)]?;
+        board(alloc),
+        pdn(alloc),
+        problem(alloc),
+        file(alloc),
+        most(alloc),
+        each(alloc),
+        json(alloc),
+        memo(alloc, "deep"),
+        cache(alloc, CACHE_HELP),
+        progress(alloc),
+    ]?;
     Words::new(alloc, "find")
         .about(FIND_ABOUT)
         .after_help(FIND_EXAMPLES)
@@ -150,8 +160,15 @@ fn find_command<'a>(alloc: Global) -> Result<Words<'a>, AllocError> {
 
 fn check_command<'a>(alloc: Global) -> Result<Words<'a>, AllocError> {
     let arguments = vec![in alloc;
-        board(alloc), pdn(alloc), problem(alloc), file(alloc),
-        within(alloc), memo(alloc, "deep"), cache(alloc, CACHE_HELP), progress(alloc)]?;
+        board(alloc),
+        pdn(alloc),
+        problem(alloc),
+        file(alloc),
+        within(alloc),
+        memo(alloc, "deep"),
+        cache(alloc, CACHE_HELP),
+        progress(alloc),
+    ]?;
     Words::new(alloc, "check")
         .about(CHECK_ABOUT)
         .after_help(CHECK_EXAMPLES)
