@@ -1,5 +1,5 @@
 -- Reading a written line: no variation is open, and the tree holds the beginnings of its moves, in turn.
-use Rattle.std.proofs.Common.{◌≡◌, ◌≢◌, ◌⊎◌, ℕ, zero, suc, ◌+◌, ◌<◌, ◌≤◌, true, List, [], ◌∷◌, ◌++◌, length, Some, None}
+use Rattle.std.proofs.Common.{◌≡◌, ◌≢◌, ◌⊎◌, ℕ, zero, suc, ◌+◌, ◌≤◌, true, List, [], ◌∷◌, ◌++◌, length, Some, None}
 use Rattle.std.proofs.Common.{refl, sym, ap, subst, ◌∙◌, arith, append_assoc, append-nil, length-append, inl, inr}
 use Rattle.std.proofs.Common.{Result, Ok, Err}
 use Rattle.std.specs.List.{slice_get}
@@ -12,19 +12,18 @@ use Rattle.dw_games.specs.Tokens.{Token, AreTokens}
 use Rattle.dw_games.specs.Play.{IsResult, IsOver, AreComments, IsVariation, empty, passed, move, variation}
 use Rattle.dw_games.specs.Movetext.{AreDistinct, nothing, again, first}
 use Rattle.dw_games.specs.Faults.{cut_off, behind_result}
-use Rattle.dw_games.specs.Lines.{IsStraight, IsPlainGame, going_on, ended, IsWrittenLine, line_fault_of, LineFaultAt}
-use Rattle.dw_games.specs.Lines.{begins_variation, other, IsFirstLineFault, at_token, no_move, even, IsLineRefusal}
+use Rattle.dw_games.specs.Lines.{IsStraight, IsPlainGame, going_on, ended, IsWrittenLine, line_fault_of}
+use Rattle.dw_games.specs.Lines.{other, IsFirstLineFault, at_token, no_move, even, IsLineRefusal}
 use Rattle.dw_games.specs.inner.Ahead.{AreAhead}
-use Rattle.dw_games.specs.inner.Reading.{Opened, outermost, inner, HasRead, IsFaultOf, ReadOn, IsOdd}
+use Rattle.dw_games.specs.inner.Reading.{Opened, outermost, inner, IsFaultOf, ReadOn, IsOdd}
 use Rattle.dw_games.specs.inner.LineReading.{NoneOpens, beginnings_after, HasReadLine, LineHasEnded, IsNoOddNumber}
 use Rattle.dw_games.specs.declared.tokens.Tokens.{Tokens}
 use Rattle.dw_games.specs.declared.tokens.TokenKind.TheVariants.{Opens}
-use Rattle.dw_games.specs.declared.movetext.TheConstants.{MAX_MOVETEXT, MAX_PATH, MAX_OPEN}
+use Rattle.dw_games.specs.declared.movetext.TheConstants.{MAX_MOVETEXT, MAX_PATH}
 use Rattle.dw_games.specs.declared.fault.MovetextFault.{MovetextFault}
 use Rattle.dw_games.specs.declared.fault.MovetextFault.TheVariants.{Refused, Memory}
-use Rattle.dw_games.specs.declared.fault.MovetextFaultKind.TheVariants.{Empty}
 use Rattle.dw_games.specs.declared.fault.LineFault.{LineFault}
-use Rattle.dw_games.specs.declared.fault.LineFaultKind.TheVariants.{Movetext, Even}
+use Rattle.dw_games.specs.declared.fault.LineFaultKind.TheVariants.{Movetext}
 use Rattle.dw_games.specs.declared.reader.Line.{Line}
 use Rattle.dw_games.specs.declared.reader.Reader.{Reader}
 use Rattle.dw_games.proofs.PlaceLemmas.{absent, same}
@@ -37,8 +36,8 @@ none_parts [] us h = (tt, h)
 none_parts (t ∷ ts) us h = let more = none_parts ts us h.1 in ((h.0, more.0), more.1)
 
 pub none_more : (ts : List Token) (t : Token) → NoneOpens ts → t.what ≢ Opens → NoneOpens (ts ++ t ∷ [])
-none_more [] t h other = (other, tt)
-none_more (u ∷ ts) t h other = (h.0, none_more ts t h.1 other)
+none_more [] t h differs = (differs, tt)
+none_more (u ∷ ts) t h differs = (h.0, none_more ts t h.1 differs)
 
 module _ (g : Geometry) (p : Placement) where
   any_room : {room : ℕ} {before moves : List Move} {ts : List Token} {paths : List (List Move)}
@@ -163,12 +162,15 @@ module _ {B : Type 0} (g : Geometry) (p : Placement) (ts : List Token) (r : Read
   abbrev pub moves_read : List Move
   moves_read = h.read.moves
 
+  straight_play : IsVariation g p zero [] ts moves_read h.read.paths
+  straight_play = (straight_read g p r.tree h.read.opened h.none_opens).1
+
   pub is_straight : IsStraight g p ts moves_read
-  is_straight = (h.read.paths, (straight_read g p r.tree h.read.opened h.none_opens).1)
+  is_straight = (h.read.paths, straight_play)
 
   pub tree_read : r.tree ≡ beginnings_after [] moves_read
   tree_read =
-      let is : h.read.paths ≡ beginnings_after [] moves_read = paths_are g p is_straight.1 refl in
+      let is : h.read.paths ≡ beginnings_after [] moves_read = paths_are g p straight_play refl in
       tree_is h.read.distinct moves_read is ∙ is
 
   pub tree_short : length r.tree ≤ MAX_PATH

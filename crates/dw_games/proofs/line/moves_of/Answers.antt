@@ -19,7 +19,8 @@ moves-smaller g c =
 pub moves-preserved : goal.moves-preserved
 moves-preserved g c = λ all is.
     let h = c.moves.invariant all is in
-    moves_on c.args.tree.now c.len.result c.moves.moves.items all h.0 is h.1 c.len.ensures.value _ c.in-Some.ensures.0
+    moves_on c.args.tree.now c.len.result c.moves.moves.items all h.0 is h.1 c.len.ensures.value
+    c.push.new.self.items c.in-Some.ensures.0
     c.in-Some.mv c.in-Some.ensures.1 c.push.ensures.items
 
 pub returns : goal.returns
