@@ -1,5 +1,5 @@
 //! Reading a written line: a movetext without variations, of an odd number of moves.
-ghost use Rattle.std.specs.Prelude.{◌≡◌, ◌≤◌, ◌%◌, [], length, MatchResult};
+ghost use Rattle.std.specs.Prelude.{◌≡◌, ◌≤◌, ◌↔◌, ◌%◌, [], length, MatchResult, IsTrue};
 ghost use Rattle.dw_games.specs.Lines.{IsWrittenLine, IsLineRefusal};
 ghost use Rattle.dw_games.specs.inner.Reading.{IsReading, HasRead};
 ghost use Rattle.dw_games.specs.inner.LineReading.{LineHasEnded, IsNoOddNumber, beginnings_after};
@@ -52,7 +52,7 @@ fn reads_line<B: Board>(
         → LineHasEnded B.geometry p tokens.old tokens.new reader.new result }
 {
     'tokens: while let Some(token) = tokens.next() {
-        if matches!(token.what, TokenKind::Opens) {
+        if is_opening(token.what) {
             return Err(token.fault(MovetextFaultKind::Variation));
         }
         if reader.take(token)? {
@@ -60,6 +60,13 @@ fn reads_line<B: Board>(
         }
     }
     Ok(false)
+}
+
+/// Whether a token of a kind begins a variation.
+fn is_opening(what: TokenKind) -> bool
+    ensures { IsTrue result ↔ (what ≡ TokenKind.Opens) }
+{
+    matches!(what, TokenKind::Opens)
 }
 
 /// The moves that were read from a text of so many bytes, if they are odd in number.

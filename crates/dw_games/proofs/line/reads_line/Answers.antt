@@ -1,4 +1,5 @@
-use Rattle.std.proofs.Common.{◌≡◌, ◌≢◌, refl}
+use Rattle.std.proofs.Common.{◌≢◌, refl, sym, ◌∙◌}
+use Rattle.std.proofs.lemmas.Bool.{true≢false}
 use Rattle.std.proofs.lemmas.Result.{err_from_is_err_and}
 use Rattle.dw_games.specs.Lines.{begins_variation}
 use Rattle.dw_games.specs.inner.Ahead.{token_value}
@@ -6,21 +7,16 @@ use Rattle.dw_games.specs.declared.tokens.TokenKind.TheVariants.{Opens}
 use Rattle.dw_games.proofs.WholeLemmas.{read_more, ahead_all, ahead_end}
 use Rattle.dw_games.proofs.LineLemmas.{is_straight, line_stopped, none_more}
 use Rattle.dw_games.proofs.line.reads_line.Goals as goal
-use Rattle.dw_games.proofs.line.reads_line.Goals.{in-Opens, in_default-matches}
 
-pub returns-then-matches : goal.returns-then-matches
-returns-then-matches g c = λ p h.
+pub returns-then-is_opening : goal.returns-then-is_opening
+returns-then-is_opening g c = λ p h.
     let on = c.tokens.invariant.gone_on p h in
-    let opens : c.in-Some.token.what ≡ Opens = elim c.match-matches.branch [
-      | in-Opens w ↦ w.in-Opens.is
-      | in_default-matches w ↦ let a = w.matches-is in let b = c.if-matches.true in cc
-    ] in
     rw c.fault.ensures (
       on.0,
       token_value c.in-Some.token,
       _,
       ahead_all c.args.tokens.now c.next.new.self _ (read_more c.args.tokens.now c.tokens.tokens c.next.new.self on.0 (token_value c.in-Some.token) on.2 c.in-Some.ensures.token),
-      begins_variation (is_straight _ p on.0 c.tokens.reader on.1) opens,
+      begins_variation (is_straight _ p on.0 c.tokens.reader on.1) (c.is_opening.ensures.0 c.if-is_opening.true),
       refl,
     )
 
@@ -46,10 +42,8 @@ returns-then-branch g c = λ p h.
 
 pub tokens-preserved : goal.tokens-preserved
 tokens-preserved g c =
-    let other : c.in-Some.token.what ≢ Opens = elim c.match-matches.branch [
-      | in-Opens w ↦ let a = w.matches-is in let b = c.if-matches.false in cc
-      | in_default-matches w ↦ w.in_default-matches.not-Opens
-    ] in
+    let other : c.in-Some.token.what ≢ Opens =
+    λ opens. true≢false (sym (sym c.if-is_opening.false ∙ c.is_opening.ensures.1 opens)) in
     record {
       reading =
           let r = c.tokens.invariant.reading in (r.0, _, rw c.if-branch.false at (c.in_ok-take.ensures r.0 r.1 r.2));
