@@ -21,3 +21,4 @@ pub mod LexLemmas
 pub mod StepLemmas
 pub mod OneAnswerLemmas
 pub mod PlayedLemmas
+pub mod LineLemmas

@@ -2,6 +2,7 @@ pub mod Tokens
 pub mod Play
 pub mod Movetext
 pub mod Faults
+pub mod Lines
 pub mod Laws
 pub mod Walk
 pub mod Games

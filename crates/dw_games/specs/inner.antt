@@ -11,3 +11,4 @@ pub mod Keeping
 pub mod Playing
 pub mod Sectioning
 pub mod GameReaders
+pub mod LineReading

@@ -1,7 +1,8 @@
-//! Why a text is no movetext.
+//! Why a text is no movetext, or no written line.
 ghost use Rattle.std.specs.Prelude.{◌≡◌};
 ghost use Rattle.dw_games.specs.declared.fault.MovetextFault.TheVariants.{Memory};
 ghost use Rattle.dw_games.specs.Faults.{number_of};
+ghost use Rattle.dw_games.specs.Lines.{line_number_of, line_fault_of};
 
 use std::alloc::AllocError;
 use std::fmt;
@@ -94,5 +95,70 @@ impl From<AllocError> for MovetextFault {
 
     fn from(_refused: AllocError) -> MovetextFault {
         MovetextFault::Memory
+    }
+}
+
+/// What is wrong with a text that is no written line. Its number is 11 for `Even`, and else that of the fault of a
+/// movetext.
+/// Example: `1. 32-28 18-22` has two moves: `LineFaultKind::Even`, whose number is 11.
+#[derive(Clone, Copy, Debug, PartialEq, Eq)]
+pub enum LineFaultKind {
+    /// A fault that movetexts have too. `Variation` is any variation.
+    Movetext(MovetextFaultKind),
+    /// An even number of moves, but not none.
+    Even,
+}
+
+impl LineFaultKind {
+    /// Its number, from 1 on.
+    /// Example: of `LineFaultKind::Even` it is 11.
+    pub fn number(self) -> u8
+        ensures { result ≡ line_number_of self }
+    {
+        match self {
+            LineFaultKind::Movetext(what) => what.number(),
+            LineFaultKind::Even => 11,
+        }
+    }
+
+    /// Its name in texts.
+    fn name(self) -> &'static str {
+        match self {
+            LineFaultKind::Movetext(what) => what.name(),
+            LineFaultKind::Even => "even",
+        }
+    }
+}
+
+impl fmt::Display for LineFaultKind {
+    fn fmt<W: fmt::Write>(&self, f: &mut fmt::Formatter<W>) -> fmt::Result {
+        f.write_str(self.name())
+    }
+}
+
+/// Why no line was read from a text: its first fault, and the place of the token where it is found, the number from 1
+/// on of that token's first byte; or that memory was refused.
+/// Example: that of ` 1. 32-28 18-22` at `W:W27,32:B18` is `even at 16`.
+#[derive(Clone, Copy, Debug, PartialEq, Eq, Error)]
+pub enum LineFault {
+    /// The first fault of the text.
+    #[error("{what} at {place}")]
+    Refused { what: LineFaultKind, place: u32 },
+    /// Memory was refused.
+    #[error("memory")]
+    Memory,
+}
+
+impl From<MovetextFault> for LineFault {
+    ghost from_gives = { λ why e. e ≡ line_fault_of why };
+
+    fn from(why: MovetextFault) -> LineFault {
+        match why {
+            MovetextFault::Refused { what, place } => LineFault::Refused {
+                what: LineFaultKind::Movetext(what),
+                place,
+            },
+            MovetextFault::Memory => LineFault::Memory,
+        }
     }
 }

@@ -17,6 +17,7 @@ pub mod games;
 mod input;
 mod kept;
 pub mod laws;
+pub mod line;
 pub mod movetext;
 mod play;
 mod reader;
@@ -24,7 +25,8 @@ mod section;
 pub mod tokens;
 pub mod tree;
 
-pub use fault::{MovetextFault, MovetextFaultKind};
+pub use fault::{LineFault, LineFaultKind, MovetextFault, MovetextFaultKind};
 pub use games::{Game, GameFault, Games};
+pub use line::read_line;
 pub use movetext::{MAX_MOVETEXT, MAX_OPEN, MAX_PATH, read_movetext};
 pub use tree::{Node, Tree};

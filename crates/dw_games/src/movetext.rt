@@ -64,7 +64,7 @@ fn tree_of<B: Board>(reader: Reader<B>, bytes: usize) -> Result<Tree<B>, Movetex
 }
 
 /// A fault behind so many bytes.
-fn behind(what: MovetextFaultKind, bytes: usize) -> MovetextFault
+pub(crate) fn behind(what: MovetextFaultKind, bytes: usize) -> MovetextFault
     requires { bytes ≤ MAX_MOVETEXT }
     ensures { result ≡ MovetextFault.Refused what (bytes + 1) }
 {
@@ -92,7 +92,7 @@ fn reads_result<B: Board>(
 }
 
 /// Reads what stands behind a result: comments alone.
-fn read_comments(tokens: &mut Tokens<'_>) -> Result<(), MovetextFault>
+pub(crate) fn read_comments(tokens: &mut Tokens<'_>) -> Result<(), MovetextFault>
     ensures { AreLast tokens.old result }
 {
     'tokens: while let Some(token) = tokens.next() {

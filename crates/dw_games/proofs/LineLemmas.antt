@@ -1,0 +1,271 @@
+-- Reading a written line: no variation is open, and the tree holds the beginnings of its moves, in turn.
+use Rattle.std.proofs.Common.{◌≡◌, ◌≢◌, ◌⊎◌, ℕ, zero, suc, ◌+◌, ◌≤◌, true, List, [], ◌∷◌, ◌++◌, length, Some, None}
+use Rattle.std.proofs.Common.{refl, sym, ap, subst, ◌∙◌, arith, append_assoc, append-nil, length-append, inl, inr}
+use Rattle.std.proofs.Common.{Result, Ok, Err}
+use Rattle.std.specs.List.{slice_get}
+use Rattle.std.specs.Prelude.{◌%◌, MatchResult}
+use Rattle.dw_board.specs.Geometry.{Geometry}
+use Rattle.dw_board.specs.Placement.{Placement}
+use Rattle.dw_board.specs.Lists.{Member}
+use Rattle.dw_moves.specs.Moves.{Move}
+use Rattle.dw_games.specs.Tokens.{Token, AreTokens}
+use Rattle.dw_games.specs.Play.{IsResult, IsOver, AreComments, IsVariation, empty, passed, move, variation}
+use Rattle.dw_games.specs.Movetext.{AreDistinct, nothing, again, first}
+use Rattle.dw_games.specs.Faults.{cut_off, behind_result}
+use Rattle.dw_games.specs.Lines.{IsStraight, IsPlainGame, going_on, ended, IsWrittenLine, line_fault_of}
+use Rattle.dw_games.specs.Lines.{other, IsFirstLineFault, at_token, no_move, even, IsLineRefusal}
+use Rattle.dw_games.specs.inner.Ahead.{AreAhead}
+use Rattle.dw_games.specs.inner.Reading.{Opened, outermost, inner, IsFaultOf, ReadOn, IsOdd}
+use Rattle.dw_games.specs.inner.LineReading.{NoneOpens, beginnings_after, HasReadLine, LineHasEnded, IsNoOddNumber}
+use Rattle.dw_games.specs.declared.tokens.Tokens.{Tokens}
+use Rattle.dw_games.specs.declared.tokens.TokenKind.TheVariants.{Opens}
+use Rattle.dw_games.specs.declared.movetext.TheConstants.{MAX_MOVETEXT, MAX_PATH}
+use Rattle.dw_games.specs.declared.fault.MovetextFault.{MovetextFault}
+use Rattle.dw_games.specs.declared.fault.MovetextFault.TheVariants.{Refused, Memory}
+use Rattle.dw_games.specs.declared.fault.LineFault.{LineFault}
+use Rattle.dw_games.specs.declared.fault.LineFaultKind.TheVariants.{Movetext}
+use Rattle.dw_games.specs.declared.reader.Line.{Line}
+use Rattle.dw_games.specs.declared.reader.Reader.{Reader}
+use Rattle.dw_games.proofs.PlaceLemmas.{absent, same}
+use Rattle.dw_games.proofs.PathLemmas.{filled, last_same}
+use Rattle.dw_games.proofs.TakenLemmas.{opened_short}
+
+-- ---- where no token begins a variation
+none_parts : (ts us : List Token) → NoneOpens (ts ++ us) → NoneOpens ts × NoneOpens us
+none_parts [] us h = (tt, h)
+none_parts (t ∷ ts) us h = let more = none_parts ts us h.1 in ((h.0, more.0), more.1)
+
+pub none_more : (ts : List Token) (t : Token) → NoneOpens ts → t.what ≢ Opens → NoneOpens (ts ++ t ∷ [])
+none_more [] t h differs = (differs, tt)
+none_more (u ∷ ts) t h differs = (h.0, none_more ts t h.1 differs)
+
+module _ (g : Geometry) (p : Placement) where
+  any_room : {room : ℕ} {before moves : List Move} {ts : List Token} {paths : List (List Move)}
+      → IsVariation g p room before ts moves paths → NoneOpens ts → IsVariation g p zero before ts moves paths
+  any_room empty h = empty
+  any_room (passed {ts = ts} t v is) h = passed t (any_room v (none_parts ts (t ∷ []) h).0) is
+  any_room (move {ts = ts} {t = t} v low is) h = move (any_room v (none_parts ts (t ∷ []) h).0) low is
+  any_room (variation {ts = ts} {us = us} moves last opening closing v o w c) h =
+      let rest = none_parts ts (opening ∷ (us ++ closing ∷ [])) h in absurd (rest.1.0 o)
+
+  roomier : {room wanted : ℕ} {before moves : List Move} {ts : List Token} {paths : List (List Move)}
+      → IsVariation g p room before ts moves paths → room ≡ zero → IsVariation g p wanted before ts moves paths
+  roomier empty e = empty
+  roomier (passed t v is) e = passed t (roomier v e) is
+  roomier (move v low is) e = move (roomier v e) low is
+  roomier (variation moves last opening closing v o w c) e = absurd (omega (arith, e))
+
+  pub more_room : {room : ℕ} {before moves : List Move} {ts : List Token} {paths : List (List Move)}
+      → IsVariation g p zero before ts moves paths → IsVariation g p room before ts moves paths
+  more_room v = roomier v refl
+
+  straight_read : {B : Type 0} (tree : List (List Move)) {room : ℕ} {ts : List Token} {line : Line B}
+      {outer : List (Line B)} {before moves : List Move} {paths : List (List Move)}
+      → Opened g p tree room ts line outer before moves paths → NoneOpens ts
+      → (before ≡ []) × IsVariation g p zero [] ts moves paths
+  straight_read tree (outermost v l) h = (refl, any_room v h)
+  straight_read tree (inner {ts = ts} {us = us} moves last opening o e v l) h =
+      let rest = none_parts ts (opening ∷ us) h in absurd (rest.1.0 e)
+
+-- ---- the beginnings of some moves
+beginnings_more : (before moves : List Move) (m : Move)
+    → beginnings_after before (moves ++ m ∷ []) ≡ beginnings_after before moves ++ (before ++ (moves ++ m ∷ [])) ∷ []
+beginnings_more before [] m = refl
+beginnings_more before (x ∷ moves) m =
+    ap (λ z. (before ++ x ∷ []) ∷ z) (beginnings_more (before ++ x ∷ []) moves m
+    ∙ ap (λ z. beginnings_after (before ++ x ∷ []) moves ++ z ∷ []) (append_assoc before (x ∷ []) (moves ++ m ∷ [])))
+
+length_beginnings : (before moves : List Move) → length (beginnings_after before moves) ≡ length moves
+length_beginnings before [] = refl
+length_beginnings before (m ∷ moves) = ap suc (length_beginnings (before ++ m ∷ []) moves)
+
+none_longer : (before moves path : List Move) → Member path (beginnings_after before moves)
+    → length path ≤ length before + length moves
+none_longer before [] path h = absurd h
+none_longer before (m ∷ moves) path (inl e) = omega (arith, ap length e, length-append before (m ∷ []))
+none_longer before (m ∷ moves) path (inr h) =
+    let more = none_longer (before ++ m ∷ []) moves path h in omega (arith, more, length-append before (m ∷ []))
+
+-- the paths of play without variations
+paths_are : (g : Geometry) (p : Placement) {room : ℕ} {before moves : List Move} {ts : List Token}
+    {paths : List (List Move)} → IsVariation g p room before ts moves paths → room ≡ zero
+    → paths ≡ beginnings_after before moves
+paths_are g p empty e = refl
+paths_are g p (passed t v is) e = paths_are g p v e
+paths_are g p (move {before = before} {moves = moves} {m = m} v low is) e =
+    ap (λ z. z ++ (before ++ (moves ++ m ∷ [])) ∷ []) (paths_are g p v e) ∙ sym (beginnings_more before moves m)
+paths_are g p (variation moves last opening closing v o w c) e = absurd (omega (arith, e))
+
+parted : (moves : List Move) → (moves ≡ []) ⊎ ((front : List Move) × (last : Move) × (moves ≡ front ++ last ∷ []))
+parted [] = inl refl
+parted (m ∷ moves) = elim (parted moves) [
+  | inl e ↦ inr ([], m, ap (λ z. m ∷ z) e)
+  | inr h ↦ inr (m ∷ h.0, h.1, ap (λ z. m ∷ z) h.2)
+]
+
+last_beginning : {A : Type 0} (paths : List (List Move)) (path moves : List Move)
+    → paths ++ path ∷ [] ≡ beginnings_after [] moves
+    → ((front : List Move) → paths ≡ beginnings_after [] front → length path ≡ length front + 1 → A) → A
+last_beginning paths path moves e on = elim (parted moves) [
+  | inl none ↦ filled paths path (sym (e ∙ ap (beginnings_after []) none))
+  | inr h ↦ let both = last_same paths (beginnings_after [] h.0) path (h.0 ++ h.1 ∷ [])
+      (e ∙ ap (beginnings_after []) h.2 ∙ beginnings_more [] h.0 h.1) in
+      on h.0 both.0 (ap length both.1 ∙ length-append h.0 (h.1 ∷ []))
+]
+
+-- they are distinct
+tree_is : {paths tree : List (List Move)} → AreDistinct paths tree → (moves : List Move)
+    → paths ≡ beginnings_after [] moves → tree ≡ paths
+tree_is nothing moves e = refl
+tree_is (again {paths = ps} {tree = tree} path d there) moves e = last_beginning ps path moves e (λ front is long.
+    let old : tree ≡ ps = tree_is d front is in
+    let short = none_longer [] front path (subst (λ z. Member path z) (old ∙ is) there) in
+    absurd (omega (arith, short, long)))
+tree_is (first {paths = ps} {tree = tree} path d new) moves e =
+    last_beginning ps path moves e (λ front is long. ap (λ z. z ++ path ∷ []) (tree_is d front is))
+
+-- ---- the moves, beginning by beginning
+next_is : (before moves rest b : List Move) (m : Move)
+    → slice_get (beginnings_after before (moves ++ rest)) (length moves) ≡ Some (b ++ m ∷ [])
+    → (more : List Move) × (rest ≡ m ∷ more)
+next_is before [] [] b m e = absent (b ++ m ∷ []) e
+next_is before [] (x ∷ rest) b m e =
+    (rest, ap (λ z. z ∷ rest) (last_same before b x m (same (before ++ x ∷ []) (b ++ m ∷ []) e)).1)
+next_is before (x ∷ moves) rest b m e = next_is (before ++ x ∷ []) moves rest b m e
+
+none_is : (before moves rest : List Move)
+    → slice_get (beginnings_after before (moves ++ rest)) (length moves) ≡ None → rest ≡ []
+none_is before [] [] e = refl
+none_is before [] (x ∷ rest) e = absent (before ++ x ∷ []) (sym e)
+none_is before (x ∷ moves) rest e = none_is (before ++ x ∷ []) moves rest e
+
+module _ (tree : List (List Move)) (n : ℕ) (moves all rest : List Move) (is : tree ≡ beginnings_after [] all)
+    (split : all ≡ moves ++ rest) (many : n ≡ length moves) where
+  here : {o : _} → slice_get tree n ≡ o → slice_get (beginnings_after [] (moves ++ rest)) (length moves) ≡ o
+  here got = ap (λ k. slice_get (beginnings_after [] (moves ++ rest)) k) (sym many)
+      ∙ (ap (λ z. slice_get z n) (sym (is ∙ ap (beginnings_after []) split)) ∙ got)
+
+  pub moves_on : (now b : List Move) (m : Move) → slice_get tree n ≡ Some (b ++ m ∷ []) → now ≡ moves ++ m ∷ []
+      → (more : List Move) × (all ≡ now ++ more)
+  moves_on now b m got added =
+      let next = next_is [] moves rest b m (here got) in (
+        next.0,
+        split ∙ (ap (λ z. moves ++ z) next.1 ∙ (sym (append_assoc moves (m ∷ []) next.0)
+            ∙ ap (λ z. z ++ next.0) (sym added))),
+      )
+
+  pub moves_over : slice_get tree n ≡ None → moves ≡ all
+  moves_over got = sym (split ∙ (ap (λ z. moves ++ z) (none_is [] moves rest (here got)) ∙ append-nil moves))
+
+-- ---- what a reader has read
+module _ {B : Type 0} (g : Geometry) (p : Placement) (ts : List Token) (r : Reader B) (h : HasReadLine g p ts r) where
+  abbrev pub moves_read : List Move
+  moves_read = h.read.moves
+
+  straight_play : IsVariation g p zero [] ts moves_read h.read.paths
+  straight_play = (straight_read g p r.tree h.read.opened h.none_opens).1
+
+  pub is_straight : IsStraight g p ts moves_read
+  is_straight = (h.read.paths, straight_play)
+
+  pub tree_read : r.tree ≡ beginnings_after [] moves_read
+  tree_read =
+      let is : h.read.paths ≡ beginnings_after [] moves_read = paths_are g p straight_play refl in
+      tree_is h.read.distinct moves_read is ∙ is
+
+  pub tree_short : length r.tree ≤ MAX_PATH
+  tree_short =
+      let short = opened_short g p r.tree h.read.opened in
+      omega (arith, short, ap length tree_read, length_beginnings [] moves_read, length-append h.read.before moves_read)
+
+-- a token is at fault
+pub line_stopped : {B : Type 0} (g : Geometry) (p : Placement) (old now : Tokens) (r before : Reader B)
+    (ts : List Token) (t : Token) (rest : List ℕ) (why : MovetextFault) → HasReadLine g p ts before
+    → AreAhead old (ts ++ t ∷ []) rest → IsFaultOf g p ts t why → LineHasEnded g p old now r (Err why)
+line_stopped g p old now r before ts t rest (Refused what place) h ahead fault =
+    (ts, t, rest, ahead, other (going_on (is_straight g p ts before h)) fault.0, fault.1)
+line_stopped g p old now r before ts t rest Memory h ahead fault = tt
+
+-- ---- answers
+module _ (g : Geometry) (p : Placement) (text : List ℕ) (size : length text ≤ MAX_MOVETEXT) (start : Tokens)
+    (whole : (ts : List Token) (rest : List ℕ) → AreAhead start ts rest → AreTokens 1 true text ts rest) where
+  pub line_stopped_answer : {B : Type 0} (now : Tokens) (r : Reader B) (why : MovetextFault)
+      → LineHasEnded g p start now r (Err why) → IsLineRefusal g p text (line_fault_of why)
+  line_stopped_answer now r (Refused what place) h =
+      subst (λ x. IsFirstLineFault g p text (Movetext what) x) (sym h.5) (at_token h.0 h.1 h.2 size (whole _ _ h.3) h.4)
+  line_stopped_answer now r Memory h = tt
+
+  over : {B : Type 0} (r : Reader B) (ts : List Token) (t : Token) (cs : List Token) → HasReadLine g p ts r
+      → IsResult t → AreComments cs → (paths : List (List Move)) × IsOver g p (ts ++ t ∷ cs) paths
+  over r ts t cs h is comments =
+      let v = is_straight g p ts r h in (
+        v.0,
+        record {
+          front = ts;
+          result = t;
+          comments = cs;
+          played = (moves_read g p ts r h, more_room g p v.1);
+          is_result = is;
+          are_comments = comments;
+          joined = refl;
+        },
+      )
+
+  joined : (ts cs : List Token) (t u : Token) → (ts ++ t ∷ cs) ++ u ∷ [] ≡ (ts ++ t ∷ []) ++ (cs ++ u ∷ [])
+  joined ts cs t u = append_assoc ts (t ∷ cs) (u ∷ []) ∙ sym (append_assoc ts (t ∷ []) (cs ++ u ∷ []))
+
+  -- behind the result another token is at fault
+  pub line_odd_answer : {B : Type 0} (r : Reader B) (now : Tokens) (ts cs : List Token) (t u : Token) (rest : List ℕ)
+      (why : MovetextFault) → HasReadLine g p ts r → IsResult t → ReadOn start (ts ++ t ∷ []) now
+      → AreComments cs → AreAhead now (cs ++ u ∷ []) rest → IsOdd u why → IsLineRefusal g p text (line_fault_of why)
+  line_odd_answer r now ts cs t u rest (Refused what place) h is on comments ahead odd =
+      let tokens : AreTokens 1 true text ((ts ++ t ∷ cs) ++ u ∷ []) rest =
+      subst (λ x. AreTokens 1 true text x rest) (sym (joined ts cs t u)) (whole _ _ (on _ _ ahead)) in
+      let game : IsPlainGame g p (ts ++ t ∷ cs) (moves_read g p ts r h) =
+      ended cs (is_straight g p ts r h) is comments in
+      let end = over r ts t cs h is comments in
+      subst (λ x. IsFirstLineFault g p text (Movetext what) x) (sym odd.1) (elim odd.0 [
+        | inl cut ↦ subst (λ x. IsFirstLineFault g p text (Movetext x) u.place) (sym cut.0)
+            (at_token (ts ++ t ∷ cs) u rest size tokens (other game (cut_off end.1 cut.1)))
+        | inr rest_is ↦ subst (λ x. IsFirstLineFault g p text (Movetext x) u.place) (sym rest_is.0)
+            (at_token (ts ++ t ∷ cs) u rest size tokens (other game (behind_result end.1 rest_is.1 rest_is.2)))
+      ])
+  line_odd_answer r now ts cs t u rest Memory h is on comments ahead odd = absurd odd
+
+  -- the moves, if they are odd in number
+  odd_answer : {A : Type 0} (items : A → List Move) (tokens : List Token) (moves : List Move) → AreAhead start tokens []
+      → IsPlainGame g p tokens moves → (answer : Result A LineFault)
+      → MatchResult answer (λ line. (items line ≡ moves) × (length moves % 2 ≡ 1))
+      (λ why. IsNoOddNumber moves (length text) why)
+      → MatchResult answer (λ line. IsWrittenLine g p text (items line)) (λ why. IsLineRefusal g p text why)
+  odd_answer items tokens moves ahead game (Ok line) h = record {
+    size = size;
+    tokens = tokens;
+    are_tokens = whole tokens [] ahead;
+    game = subst (λ x. IsPlainGame g p tokens x) (sym h.0) game;
+    odd = ap (λ x. length x % 2) h.0 ∙ h.1;
+  }
+  odd_answer items tokens moves ahead game (Err why) (inl h) = subst (λ x. IsLineRefusal g p text x) (sym h.1)
+      (no_move tokens size (whole tokens [] ahead) (subst (λ x. IsPlainGame g p tokens x) h.0 game))
+  odd_answer items tokens moves ahead game (Err why) (inr h) = subst (λ x. IsLineRefusal g p text x) (sym h.2)
+      (even tokens moves size (whole tokens [] ahead) game h.0 h.1)
+
+  pub line_with_result : {A B : Type 0} (items : A → List Move) (r : Reader B) (now : Tokens) (ts cs : List Token)
+      (t : Token) → (h : HasReadLine g p ts r) → IsResult t → ReadOn start (ts ++ t ∷ []) now → AreComments cs
+      → AreAhead now cs [] → (answer : Result A LineFault)
+      → MatchResult answer (λ line. (items line ≡ moves_read g p ts r h) × (length (moves_read g p ts r h) % 2 ≡ 1))
+      (λ why. IsNoOddNumber (moves_read g p ts r h) (length text) why)
+      → MatchResult answer (λ line. IsWrittenLine g p text (items line)) (λ why. IsLineRefusal g p text why)
+  line_with_result items r now ts cs t h is on comments ahead answer odd =
+      let tokens : AreAhead start (ts ++ t ∷ cs) [] =
+      subst (λ x. AreAhead start x []) (append_assoc ts (t ∷ []) cs) (on cs [] ahead) in
+      odd_answer items (ts ++ t ∷ cs) (moves_read g p ts r h) tokens (ended cs (is_straight g p ts r h) is comments) answer
+      odd
+
+  pub line_without_result : {A B : Type 0} (items : A → List Move) (r : Reader B) (ts : List Token)
+      → (h : HasReadLine g p ts r) → AreAhead start ts [] → (answer : Result A LineFault)
+      → MatchResult answer (λ line. (items line ≡ moves_read g p ts r h) × (length (moves_read g p ts r h) % 2 ≡ 1))
+      (λ why. IsNoOddNumber (moves_read g p ts r h) (length text) why)
+      → MatchResult answer (λ line. IsWrittenLine g p text (items line)) (λ why. IsLineRefusal g p text why)
+  line_without_result items r ts h ahead answer odd =
+      odd_answer items ts (moves_read g p ts r h) ahead (going_on (is_straight g p ts r h)) answer odd
