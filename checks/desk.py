@@ -30,6 +30,50 @@ SEED, MOST = 23, 4
 LONG, LONG_MOVES = "W:WK39,41,50:B5,12,29", 8
 
 
+# Options, a problem, and what is written.
+FINDS = [
+    (["--most", "6"], "W:W10,16,48:B13", "problem 1: W:W10,16,48:B13\ndual in 3: 1. 10-5 13-18 2. 5-28 18-22 "
+     "3. 28x6 / 28x11 / 28x17\ntry 10-4 refuted by 13-19\n"),
+    (["--most", "2"], "W:W10,16,48:B13", "problem 1: W:W10,16,48:B13\nunsolvable in 2\ntry 10-4 refuted by 13-19\n"
+     "try 10-5 refuted by 13-18\n"),
+]
+# Options, a problem, and its line of JSON.
+ROWS = [
+    ([], "W:W27,32:B18", '{"problem":1,"fen":"W:W27,32:B18","n":2,"verdict":"dual","keys":["32-28"],"at":"1. 32-28 '
+     '18-22","choices":["27x18","28x17"],"tries":[["27-22","18x38"]]}'),
+    ([], "W:W27,45:B16", '{"problem":2,"fen":"W:W27,45:B16","n":2,"verdict":"sound","keys":["45-40"],"tries":'
+     '[["27-21","16x27"],["27-22","16-21"]]}'),
+    ([], "W:W27,32,38:B18", '{"problem":3,"fen":"W:W27,32,38:B18","n":2,"verdict":"cooked","shortest":2,"keys":'
+     '["27-22","32-28"],"tries":[["38-33","18-23"]]}'),
+    (["--most", "3"], "W:W27:B16", '{"problem":4,"fen":"W:W27:B16","n":3,"verdict":"unsolvable","keys":[],"tries":'
+     '[["27-21","16x27"],["27-22","16-21"]]}'),
+    (["--each", "3"], "W:W27,45:B16", '{"problem":5,"fen":"W:W27,45:B16","verdict":"undecided","no_win_in":1}'),
+    ([], "W:W3:B20", '{"problem":6,"refused":"1 fen: 7 last row at 4"}'),
+]
+TWO = "W:W27,32:B18"
+# A position, its movetext, options, the status and what is written behind the first line.
+SOLUTIONS = [
+    ("W:W27,45:B16", " 1. 45-40 16-21 2. 27x16 *", [], 0, ["holds in 2: 0 fail, 0 end, 0 open, 0 also"]),
+    (TWO, " 1. 32-28 18-22 2. 27x18 2-0", [], 0,
+     ["open 1. 32-28: 18-23", "also 1. 32-28 18-22 2. 28x17", "holds in 2: 0 fail, 0 end, 1 open, 1 also"]),
+    (TWO, " 1. 27-22! {why not} 18x38 *", ["-n", "2"], 1,
+     ["fails 1. 27-22 refuted by 18x38", "also 1. 32-28", "fails in 2: 1 fail, 0 end, 0 open, 1 also"]),
+    (TWO, " 1. 27-22! {why not} 18x38 *", [], 1,
+     ["no win in 1", "fails 1. 27-22 refuted by 18x38", "fails in 1: 1 fail, 0 end, 0 open, 0 also"]),
+    (TWO, " 1. 32-28 *", ["-n", "2"], 1, ["ends 1. 32-28", "fails in 2: 0 fail, 1 end, 0 open, 0 also"]),
+    (TWO, " 1. 32-28 (1. 27-22 18x38) 1... 18-22 (1... 18-23 2. 28x19) 2. 27x18 (2. 28x17) 2-0", [], 1,
+     ["fails 1. 27-22 refuted by 18x38", "fails in 2: 1 fail, 0 end, 0 open, 0 also"]),
+    (TWO, " 1. 32-27", [], 1, ["solution refused: 2 no such move at 5"]),
+    (TWO, " 1. 32-28 (", [], 1, ["solution refused: 5 unclosed at 12"]),
+    (TWO, " ( 1. 32-28", [], 1, ["solution refused: 4 variation at 2"]),
+    (TWO, " 1. 32-28 2-0 x", [], 1, ["solution refused: 6 rest at 15"]),
+    (TWO, " *", [], 1, ["solution refused: 10 empty at 3"]),
+    (TWO, " 32_28", [], 1, ["solution refused: 1 token at 2"]),
+    (TWO, f" 1. 32-28 {'(1. 32-28 ' * 41}", [], 1, ["solution refused: 7 too deep at 411"]),
+    (TWO, " ;" + "x" * 1048576, [], 1, ["solution refused: 9 too large at 1048577"]),
+]
+
+
 def run(*words, text="", status=0, complaint=""):
     """What the program writes; it has to end with this status, and to say just this on standard error."""
     ran = subprocess.run(words, input=text, capture_output=True, text=True, timeout=3600, check=False)
@@ -124,6 +168,24 @@ def check_bounds(words, numbers, wanted):
     print(f"{undecided} undecided under bounds of 1, 7 and 40 positions, each below its number")
 
 
+def check_rows(folder):
+    """Worked rows of each command."""
+    for words, problem, wanted in FINDS:
+        assert run(DESK, "find", *words, text=f"{problem}\n") == wanted, (words, problem)
+    file = folder / "six.fen"
+    file.write_text("".join(f"{problem}\n" for _, problem, _ in ROWS))
+    written = ""
+    for number, (words, _, _) in enumerate(ROWS, 1):
+        status = int(number > 4)
+        written += run(DESK, "find", "--json", "--problem", str(number), *words, str(file), status=status)
+    assert written == "".join(f"{row}\n" for _, _, row in ROWS), written
+    for position, movetext, words, status, wanted in SOLUTIONS:
+        text = f'[FEN "{position}"]{movetext}'
+        said = run(DESK, "check", *words, text=text, status=status)
+        assert said == "".join(f"{line}\n" for line in [f"problem 1: {position}", *wanted]), (text, said)
+    print(f"{len(FINDS) + len(ROWS)} rows of find and {len(SOLUTIONS)} of check: as worked")
+
+
 def check_errors():
     """Arguments that are none, a file that is not there, and one that can not be written."""
     for words in (["find", "--most", "0"], ["find", "--most", "21"], ["find", "--each", "0"], ["find", "-n", "2"],
@@ -209,6 +271,7 @@ def main():
     with tempfile.TemporaryDirectory() as name:
         for rows in (10, 8):
             check_findings(rows, count, source, pathlib.Path(name))
+        check_rows(pathlib.Path(name))
         check_errors()
         check_tokens(pathlib.Path(name))
         check_progress(pathlib.Path(name))

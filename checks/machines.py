@@ -8,7 +8,7 @@ The command is taken from the page, with fewer problems a job. The servers liste
 machine, with keys, lists of keys and settings in a temporary folder, and are reached by settings there; the folder
 ~/.ssh is neither read nor written. The 200 problems are those of parallel.py. First both machines and this one solve
 them, and the log has to name all three. Then the two do it, and one of them is ended with all that it started once some
-jobs are done: the other has to do the rest.
+jobs are done: the other has to do the rest. The portions of a contest go the same way, by `dw-desk`.
 """
 import contextlib
 import getpass
@@ -28,6 +28,7 @@ TOP = pathlib.Path(__file__).resolve().parent.parent
 MACHINES = {"one": "127.0.0.2", "two": "127.0.0.3"}
 WORDS = ["judge", "-n", "3"]
 EACH = 10  # problems a job
+CONTEST = ["find", "--each", "2000"]
 PRIVILEGES = pathlib.Path("/run/sshd")  # an empty folder that a server of root wants
 SERVER = """ListenAddress {address}:{port}
 HostKey {folder}/host
@@ -142,6 +143,15 @@ def on_machines(folder, names, log):
     return commands.replace("parallel ", f"parallel --joblog {log} ")
 
 
+def contest(folder, log):
+    """The page's command for a contest, with smaller portions, for two machines, with a log."""
+    commands = recipe("-S one,two,:", program="dw-desk").replace("/full/path/problems.fen", f"{folder}/problems.fen")
+    commands = commands.replace("1 100 $n", f"1 {EACH} $n").replace("+ 99", f"+ {EACH - 1}")
+    commands = commands.replace("--each 100000000", CONTEST[1] + " " + CONTEST[2]).replace("one,two,:", "1/one,1/two")
+    commands = commands.replace("        dw-desk ", f"        {PROGRAMS.parent.parent / 'dw_desk/out/dw_desk'} ")
+    return commands.replace("parallel ", f"parallel --joblog {log} ")
+
+
 def start(folder, commands):
     reached = {"PARALLEL_SSH": f"ssh -F {folder}/config"}
     return subprocess.Popen(["bash", "-c", commands], cwd=folder, env=environment(folder) | reached,
@@ -167,7 +177,8 @@ def check(name, folder, process, log, wanted):
 
 
 def main():
-    subprocess.run([TOP / "dw", "--help"], stdout=subprocess.DEVNULL, check=True)  # so that it is built
+    for name in ("dw", "dw-desk"):
+        subprocess.run([TOP / name, "--help"], stdout=subprocess.DEVNULL, check=True)  # so that it is built
     with tempfile.TemporaryDirectory(prefix="dw-machines-") as name, servers(pathlib.Path(name)) as running:
         folder = pathlib.Path(name)
         (folder / "problems.fen").write_text("".join(line + "\n" for line in problems()))
@@ -176,6 +187,10 @@ def main():
         used = check("two machines and this one", folder, start(folder, on_machines(folder, "1/one,1/two,1/:", log)),
                      log, wanted)
         assert set(used) == {"one", "two", ":"}, (used, running.said("one"), running.said("two"))
+        log = folder / "log-3"
+        used = check("a contest on two machines", folder, start(folder, contest(folder, log)), log,
+                     one_run(CONTEST, folder, TOP / "dw-desk"))
+        assert set(used) == {"one", "two"}, used
         log = folder / "log-2"
         process = start(folder, on_machines(folder, "1/one,1/two", log))
         last = time.monotonic() + 60

@@ -5,9 +5,9 @@
 
 The commands are taken from the page: GNU parallel with `-k`, with `--joblog` and `--resume`, and `xargs`. The problems
 are those of examples/problems.fen, two that are refused, and random small ones as judging.py has them, 200 in all. What
-comes has to be the same bytes as the report of one run on the whole file, for `judge` and for `list`. The run that may
-be interrupted is killed in the middle and started again. A run that a limit stops, or `--timeout`, has to be found in
-the log as the page says.
+comes has to be the same bytes as the report of one run on the whole file, for `judge` and for `list`, and for the
+portions of a contest by `dw-desk find`. The run that may be interrupted is killed in the middle and started again. A
+run that a limit stops, or `--timeout`, has to be found in the log as the page says.
 """
 import os
 import pathlib
@@ -42,29 +42,29 @@ def problems():
     return [*lines[:10], "", *lines[10:]]
 
 
-def recipe(word, words=("judge", "-n", "3")):
-    """The block of commands on the page that has this word, for these words of the program."""
+def recipe(word, words=("judge", "-n", "3"), program="dw"):
+    """The block of commands on the page that calls this program and has this word, for these words of the program."""
     blocks = re.findall(r"(?:^ {4}.*\n)+", PAGE.read_text(), re.MULTILINE)
-    found, = (block for block in blocks if word in block)
+    found, = (block for block in blocks if word in block and ("dw-desk" in block) == (program == "dw-desk"))
     assert "judge -n 3" in found or words == ("judge", "-n", "3"), found
     return found.replace("judge -n 3", " ".join(words)).replace("FILE", "problems.fen")
 
 
 def environment(folder):
-    """The program on the PATH, and a place for what GNU parallel keeps."""
-    return os.environ | {"PATH": f"{PROGRAMS}{os.pathsep}{os.environ['PATH']}", "n": str(COUNT),
+    """The programs on the PATH, and a place for what GNU parallel keeps."""
+    return os.environ | {"PATH": f"{PROGRAMS}{os.pathsep}{TOP}{os.pathsep}{os.environ['PATH']}", "n": str(COUNT),
                          "PARALLEL_HOME": str(folder / "home")}
 
 
-def follow(commands, folder, **more):
+def follow(commands, folder, ends=ENDS, **more):
     ran = subprocess.run(["bash", "-c", commands], cwd=folder, env=environment(folder) | more, stdin=subprocess.DEVNULL,
                          capture_output=True, timeout=600, check=False)
-    assert ran.returncode in ENDS, (commands, ran)
+    assert ran.returncode in ends, (commands, ran)
     return ran
 
 
-def one_run(words, folder):
-    one = subprocess.run([PROGRAMS / "dw", *words, "problems.fen"], cwd=folder, capture_output=True, timeout=600,
+def one_run(words, folder, program=PROGRAMS / "dw"):
+    one = subprocess.run([program, *words, "problems.fen"], cwd=folder, capture_output=True, timeout=600,
                          check=False)
     assert (one.returncode, one.stderr) == (1, b"") and one.stdout.count(b"problem ") == COUNT, one
     return one.stdout
@@ -112,8 +112,30 @@ def stopped(folder):
     print("runs that a limit or --timeout stopped: named as the page says")
 
 
+def contest(folder):
+    """The portions of a contest, whole and after an end in the middle, as `dw-desk find` gives them in one run."""
+    words = ["find", "--each", "2000"]
+    wanted = one_run(words, folder, TOP / "dw-desk")
+    assert b"undecided" in wanted
+    jobs = range(COUNT // 20 + 1)  # so many may have something that is refused or undecided
+
+    def smaller(text):
+        return text.replace("--each 100000000", "--each 2000").replace("1 100 $n", "1 20 $n").replace("+ 99", "+ 19")
+
+    follow(smaller(recipe("parallel -k '", program="dw-desk")), folder, jobs)
+    compare("portions", words, folder, wanted)
+    commands = smaller(recipe("--resume", program="dw-desk"))
+    follow(commands.replace("$n", "100"), folder, jobs)
+    (folder / "report").unlink()
+    follow(commands, folder, jobs)
+    assert (folder / "log").read_text().count("\n") - 1 == COUNT // 20, "portions that had ended were started again"
+    compare("portions, --resume after the first half", words, folder, wanted)
+    follow("rm -r log parts", folder)
+
+
 def main():
-    subprocess.run([TOP / "dw", "--help"], stdout=subprocess.DEVNULL, check=True)  # so that it is built
+    for name in ("dw", "dw-desk"):
+        subprocess.run([TOP / name, "--help"], stdout=subprocess.DEVNULL, check=True)  # so that it is built
     with tempfile.TemporaryDirectory(prefix="dw-parallel-") as name:
         folder = pathlib.Path(name)
         (folder / "problems.fen").write_text("".join(line + "\n" for line in problems()))
@@ -127,6 +149,7 @@ def main():
             follow(recipe("xargs -P", words), folder)
             compare("xargs", words, folder, wanted)
             follow("rm -r parts", folder)
+        contest(folder)
         stopped(folder)
 
 
