@@ -31,7 +31,7 @@ use Rattle.dw_games.proofs.PathLemmas.{filled, last_same}
 use Rattle.dw_games.proofs.TakenLemmas.{opened_short}
 
 -- ---- where no token begins a variation
-none_parts : (ts us : List Token) → NoneOpens (ts ++ us) → NoneOpens ts × NoneOpens us
+pub none_parts : (ts us : List Token) → NoneOpens (ts ++ us) → NoneOpens ts × NoneOpens us
 none_parts [] us h = (tt, h)
 none_parts (t ∷ ts) us h = let more = none_parts ts us h.1 in ((h.0, more.0), more.1)
 
@@ -87,7 +87,7 @@ none_longer before (m ∷ moves) path (inr h) =
     let more = none_longer (before ++ m ∷ []) moves path h in omega (arith, more, length-append before (m ∷ []))
 
 -- the paths of play without variations
-paths_are : (g : Geometry) (p : Placement) {room : ℕ} {before moves : List Move} {ts : List Token}
+pub paths_are : (g : Geometry) (p : Placement) {room : ℕ} {before moves : List Move} {ts : List Token}
     {paths : List (List Move)} → IsVariation g p room before ts moves paths → room ≡ zero
     → paths ≡ beginnings_after before moves
 paths_are g p empty e = refl
