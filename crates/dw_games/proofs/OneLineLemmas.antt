@@ -1,7 +1,6 @@
 -- A text is at most one line and has at most one first fault as a line, and never both.
-use Rattle.std.proofs.Common.{◌≡◌, ◌≢◌, ◌⊎◌, ℕ, zero, suc, ◌+◌, ◌<◌, List, [], ◌∷◌, ◌++◌, length, Ok, Err}
+use Rattle.std.proofs.Common.{◌≡◌, ◌≢◌, ◌⊎◌, ℕ, zero, List, [], ◌∷◌, ◌++◌, length, Err}
 use Rattle.std.proofs.Common.{true, false, refl, sym, ap, subst, ◌∙◌, arith, inl, inr}
-use Rattle.std.specs.Prelude.{◌%◌}
 use Rattle.dw_board.specs.Geometry.{Geometry}
 use Rattle.dw_board.specs.Placement.{Placement}
 use Rattle.dw_moves.specs.Moves.{Move}
@@ -11,7 +10,8 @@ use Rattle.dw_games.specs.Play.{AreComments, IsVariation, IsPassed, empty, passe
 use Rattle.dw_games.specs.Movetext.{IsGame}
 use Rattle.dw_games.specs.Faults.{FaultAt}
 use Rattle.dw_games.specs.Lines.{IsStraight, IsPlainGame, going_on, ended, IsWrittenLine, LineFaultAt, begins_variation}
-use Rattle.dw_games.specs.Lines.{other, IsFirstLineFault, too_large, at_token, no_move, even, OneLine}
+use Rattle.dw_games.specs.Lines.{other, IsFirstLineFault, too_large, at_token, no_move, even}
+use Rattle.dw_games.specs.Laws.{OneLine}
 use Rattle.dw_games.specs.inner.LineReading.{NoneOpens, beginnings_after}
 use Rattle.dw_games.specs.declared.tokens.TokenKind.{TokenKind}
 use Rattle.dw_games.specs.declared.tokens.TokenKind.TheVariants.{Comment, Passed, Written, Opens}
@@ -19,14 +19,14 @@ use Rattle.dw_games.specs.declared.movetext.TheConstants.{MAX_OPEN}
 use Rattle.dw_games.specs.declared.fault.MovetextFaultKind.{MovetextFaultKind}
 use Rattle.dw_games.specs.declared.fault.MovetextFaultKind.TheVariants.{Variation}
 use Rattle.dw_games.specs.declared.fault.LineFaultKind.{LineFaultKind}
-use Rattle.dw_games.specs.declared.fault.LineFaultKind.TheVariants.{Movetext, Even}
+use Rattle.dw_games.specs.declared.fault.LineFaultKind.TheVariants.{Movetext}
 use Rattle.dw_games.proofs.PathLemmas.{last_same}
 use Rattle.dw_games.proofs.LexLemmas.{one_row}
 use Rattle.dw_games.proofs.StepLemmas.{State, start, Next, IsNext, Leads, varied, leads_one, stopped, fault_one}
 use Rattle.dw_games.proofs.StepLemmas.{begun, as_kind, ok_err, same_err}
 use Rattle.dw_games.proofs.StepLemmas as step
 use Rattle.dw_games.proofs.OneAnswerLemmas.{whole, fails, state_same, up_to, no_fault}
-use Rattle.dw_games.proofs.LineLemmas.{none_parts, none_more, more_room, paths_are}
+use Rattle.dw_games.proofs.LineLemmas.{none_parts, none_more, paths_are}
 
 -- ---- no token of a line begins a variation
 no_opening : (what kind : TokenKind) → what ≡ kind → (kind ≡ Opens → ⊥) → what ≢ Opens
@@ -58,24 +58,31 @@ module _ (g : Geometry) (p : Placement) where
   opens_none (ended {ts = ts} {result = t} cs v is comments) = none_join ts (t ∷ cs) (play_opens_none v.1 refl)
       (no_opening t.what Written is.written (λ e. cc), comments_open_none cs comments)
 
+  roomier : {room wanted : ℕ} {before moves : List Move} {ts : List Token} {paths : List (List Move)}
+      → IsVariation g p room before ts moves paths → room ≡ zero → IsVariation g p wanted before ts moves paths
+  roomier empty e = empty
+  roomier (passed t v is) e = passed t (roomier v e) is
+  roomier (move v low is) e = move (roomier v e) low is
+  roomier (variation moves last opening closing v o w c) e = absurd (omega (arith, e))
+
+  more_room : {room : ℕ} {before moves : List Move} {ts : List Token} {paths : List (List Move)}
+      → IsVariation g p zero before ts moves paths → IsVariation g p room before ts moves paths
+  more_room v = roomier v refl
+
   -- such play is that of a movetext
   game_of : {ts : List Token} {moves : List Move} → IsPlainGame g p ts moves → IsGame g p ts (beginnings_after [] moves)
   game_of {ts = ts} {moves = moves} (going_on v) =
-      inl (moves, subst (λ x. IsVariation g p MAX_OPEN [] ts moves x) (paths_are g p v.1 refl) (more_room g p v.1))
+      inl (moves, subst (λ x. IsVariation g p MAX_OPEN [] ts moves x) (paths_are g p v.1 refl) (more_room v.1))
   game_of {moves = moves} (ended {ts = ts} {result = t} cs v is comments) = inr (record {
     front = ts;
     result = t;
     comments = cs;
     played =
-        (moves, subst (λ x. IsVariation g p MAX_OPEN [] ts moves x) (paths_are g p v.1 refl) (more_room g p v.1));
+        (moves, subst (λ x. IsVariation g p MAX_OPEN [] ts moves x) (paths_are g p v.1 refl) (more_room v.1));
     is_result = is;
     are_comments = comments;
     joined = refl;
   })
-
-tail_of : List (List Move) → List (List Move)
-tail_of [] = []
-tail_of (x ∷ xs) = xs
 
 beginnings_one : (before moves others : List Move) → beginnings_after before moves ≡ beginnings_after before others
     → moves ≡ others

@@ -71,15 +71,3 @@ pub data IsFirstLineFault (g : Geometry) (p : Placement) : List ℕ → LineFaul
 abbrev pub IsLineRefusal : Geometry → Placement → List ℕ → LineFault → Type 0
 IsLineRefusal g p text (Refused what place) = IsFirstLineFault g p text what place
 IsLineRefusal g p text Memory = Unit {0}
-
--- a text is at most one line and has at most one first fault as a line, and never both
-pub record HasOneLine (g : Geometry) (p : Placement) (text : List ℕ) : Type 0 where
-  pub one_line : (moves other : List Move) → IsWrittenLine g p text moves → IsWrittenLine g p text other → moves ≡ other
-  pub one_fault : (what other : LineFaultKind) (place there : ℕ) → IsFirstLineFault g p text what place
-      → IsFirstLineFault g p text other there → (what ≡ other) × (place ≡ there)
-  pub never_both : (moves : List Move) (what : LineFaultKind) (place : ℕ) → IsWrittenLine g p text moves
-      → IsFirstLineFault g p text what place → ⊥
-
--- at each position a text has at most one answer as a line
-abbrev pub OneLine : Type 0
-OneLine = (g : Geometry) (p : Placement) (text : List ℕ) → HasOneLine g p text
