@@ -1,5 +1,6 @@
 #!/usr/bin/env python3
-"""desk.py: compares `dw-desk find` with calls of `dw judge`, and looks at its portions, bounds, errors and progress.
+"""desk.py: compares `dw-desk find` with calls of `dw judge`, looks at its portions, bounds, errors and progress, and
+goes on with lists by `dw-desk token`.
 
     checks/desk.py [--count POSITIONS]
 
@@ -78,7 +79,8 @@ def check_findings(rows, count, source, folder):
     wanted = "".join(f"{first}\n{text}" for (first, _), (_, text) in zip(judged[0], found))
     for more in ([], ["--memo", "none"], ["--memo", "lru", "--cache", "20"], ["--each", "1000000000000"]):
         written = run(DESK, "find", "--most", str(MOST), *more, *words, status=1)
-        assert written == wanted, (rows, more, [pair for pair in zip(texts(written), texts(wanted)) if pair[0] != pair[1]])
+        differ = [pair for pair in zip(texts(written), texts(wanted)) if pair[0] != pair[1]]
+        assert written == wanted, (rows, more, differ)
     lines = run(DESK, "find", "--most", str(MOST), "--json", *words, status=1).splitlines()
     assert len(lines) == len(positions)
     for line in lines:
@@ -126,7 +128,8 @@ def check_errors():
     """Arguments that are none, a file that is not there, and one that can not be written."""
     for words in (["find", "--most", "0"], ["find", "--most", "21"], ["find", "--each", "0"], ["find", "-n", "2"],
                   ["find", "--problem", "2-1"], ["find", "--problem", "0"], ["find", "--problem", "1-"],
-                  ["find", "--problem", "1000001"], ["find", "--problem", "a"], ["find", "a", "b"], ["seek"]):
+                  ["find", "--problem", "1000001"], ["find", "--problem", "a"], ["find", "a", "b"], ["seek"],
+                  ["token"], ["token", "--line", "x", "--problem", "1-2"], ["check", "-n", "21"], ["check", "--json"]):
         ran = subprocess.run([DESK, *words], capture_output=True, text=True, input="", timeout=60, check=False)
         assert (ran.returncode, ran.stdout) == (2, "") and ran.stderr.startswith("error: "), (words, ran)
     run(DESK, "find", "/none/there", status=3, complaint="dw-desk: cannot open /none/there\n")
@@ -142,6 +145,29 @@ def check_errors():
                                                     "16x27\ntry 27-22 refuted by 16-21\nproblem 2: W:W32:B28\n"
                                                     "sound in 1: 32x23\n")
     print("wrong arguments, streams that fail, a PDN file, the version: as told")
+
+
+def check_tokens(folder):
+    """Behind each line the list goes on with the rest; what is no line is refused at its place."""
+    file = folder / "one.fen"
+    file.write_text("x\nW:W27,32,38:B18\n")
+    words = ["--problem", "2", str(file)]
+    first, *lines, last = run(DW, "list", "-n", "2", *words).splitlines()
+    assert len(lines) == 4 and last == "complete 4", lines
+    for place, line in enumerate(lines, 1):
+        token = run(DESK, "token", "--line", line, *words)
+        rest = "".join(f"{text}\n" for text in [first, *lines[place:], f"complete {4 - place}"])
+        assert run(DW, "list", "-n", "2", "--after", token.strip(), *words) == rest, line
+        assert token == run(DESK, "token", "--line", f"{{a}} {line.replace('x', ':')}! 2-0 ; b", *words)
+    for line, fault in (("1. 32-28 18-22", "11 even at 15"), ("", "10 empty at 1"), ("1. 32-27", "2 no such move at 4"),
+                        ("1. 32-28 (1. 38-33)", "4 variation at 10"), ("(1. 32-28)", "4 variation at 1"),
+                        ("1. 32-28 2-0 (", "6 rest at 14"), ("32_28", "1 token at 1")):
+        run(DESK, "token", "--line", line, *words, status=1, complaint=f"dw-desk: line refused: {fault}\n")
+    run(DESK, "token", "--line", "1. 32-28", str(file), status=1,
+        complaint="dw-desk: problem refused: 1 fen: 1 turn at 1\n")
+    run(DESK, "token", "--line", "1. 32-28", "--problem", "3", str(file), status=1,
+        complaint="dw-desk: no problem 3\n")
+    print(f"lists go on behind each of {len(lines)} lines by its token; what is no line is refused")
 
 
 def at_terminal(words):
@@ -184,6 +210,7 @@ def main():
         for rows in (10, 8):
             check_findings(rows, count, source, pathlib.Path(name))
         check_errors()
+        check_tokens(pathlib.Path(name))
         check_progress(pathlib.Path(name))
 
 

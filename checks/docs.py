@@ -13,6 +13,7 @@ in the file that is named for it.
 """
 import pathlib
 import re
+import shlex
 import subprocess
 
 TOP = pathlib.Path(__file__).resolve().parent.parent
@@ -149,7 +150,7 @@ def check_calls():
         calls = re.findall(called, page.read_text(), re.MULTILINE)
         assert len(calls) >= 2, calls
         for fen, program, words, block in calls:
-            ran = subprocess.run([TOP / program, *words.split()], input=fen.encode() + b"\n", capture_output=True,
+            ran = subprocess.run([TOP / program, *shlex.split(words)], input=fen.encode() + b"\n", capture_output=True,
                                  timeout=3600, check=False)
             wanted = [line[4:] for line in block.splitlines()]
             assert ran.returncode < 2 and ran.stdout.decode().splitlines() == wanted, (fen, program, words, ran)

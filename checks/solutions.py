@@ -100,7 +100,8 @@ class Remarks:
         for move in tree:
             if move not in keys:
                 after = play(problems.board, cells, move)
-                reply = next(r for r, later in problems.after(after, then) if not problems.wins(later, self.turn, n - 1))
+                reply = next(reply for reply, later in problems.after(after, then)
+                             if not problems.wins(later, self.turn, n - 1))
                 texts = problems.text(cells, self.turn, move), problems.text(after, then, reply)
                 yield self.told("fail", f"fails{self.behind(line)} {number}. {texts[0]} refuted by {texts[1]}")
         left = " / ".join(problems.text(cells, self.turn, key) for key in keys if key not in tree)

@@ -5,8 +5,9 @@ use clap::builder::ValueParser;
 use clap::{Arg, ArgMatches, Command as Words, value_parser};
 use dw_notation::Form;
 use dw_notation::problems::MAX_PROBLEMS;
-use dw_program::options::{MOST_KEPT, MOST_MOVES, MOST_POSITIONS, VERSION};
-use dw_program::options::{board, cache, file, memo, option, pdn};
+use dw_program::options::{
+    MOST_KEPT, MOST_MOVES, MOST_POSITIONS, VERSION, board, cache, file, memo, option, pdn,
+};
 use dw_program::{BoardSize, MemoKind};
 use dw_report::Command;
 use std::alloc::{AllocError, Global};
@@ -188,7 +189,12 @@ fn reading<'a>(alloc: Global) -> Result<Vec<Arg<'a>>, AllocError> {
 
 /// The arguments of a command that searches for wins.
 fn searching<'a>(alloc: Global) -> Result<Vec<Arg<'a>>, AllocError> {
-    Ok(vec![in alloc; within(alloc), positions(alloc), memo(alloc, "lru"), cache(alloc, CACHE_HELP)]?)
+    Ok(vec![in alloc;
+        within(alloc),
+        positions(alloc),
+        memo(alloc, "lru"),
+        cache(alloc, CACHE_HELP),
+    ]?)
 }
 
 /// The arguments of the command that lists lines.

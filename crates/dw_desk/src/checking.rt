@@ -122,10 +122,17 @@ fn write_checked<B: Board, K: Sink>(
         }
         tally = tally.with(remark);
     }
-    let Tally { fails, ends, open, also } = tally;
+    let Tally {
+        fails,
+        ends,
+        open,
+        also,
+    } = tally;
     let holds = fails == 0 && ends == 0;
     let word = if holds { "holds" } else { "fails" };
-    let text = format!(in desk.alloc; "{word} in {n}: {fails} fail, {ends} end, {open} open, {also} also\n")?;
+    let text = format!(in desk.alloc;
+        "{word} in {n}: {fails} fail, {ends} end, {open} open, {also} also\n"
+    )?;
     write_all(sink, text.as_str().as_bytes())?;
     Ok(!holds)
 }

@@ -1,11 +1,12 @@
 //! What every command does: it opens its file, searches with a solver, and counts what it reports.
-ghost use Rattle.std.specs.Prelude.{◌≡◌, ◌≤◌, false, [], IfOk};
+ghost use Rattle.std.specs.Prelude.{◌≡◌, ◌⊎◌};
 
 use crate::checking::check_games;
 use crate::ending::{Ending, NO_MEMORY};
 use crate::finding::find_problems;
 use crate::progress::Progress;
 use crate::words::{Request, Task};
+use crate::writing::write_line;
 use dw_board::Board;
 use dw_games::GameFault;
 use dw_memo::AnyMemo;
@@ -30,6 +31,17 @@ pub struct Counts {
 }
 
 impl Counts {
+    /// How the program ends after these.
+    fn ending<T>(self, request: &Request<'_>) -> Ending<T> {
+        if self.shown == 0 && request.portion.is_asked {
+            Ending::NoProblem(request.portion.first)
+        } else if self.refused == 0 {
+            Ending::Done
+        } else {
+            Ending::Refused
+        }
+    }
+
     /// One problem more is reported.
     pub fn with(self, is_refused: bool) -> Counts {
         Counts {
@@ -45,6 +57,17 @@ pub enum DeskFault {
     Stopped(Stop),
     Read,
     Write,
+}
+
+impl DeskFault {
+    /// The fault as that of a run, after so many expansions.
+    fn in_run(self, expanded: u64) -> RunFault {
+        match self {
+            DeskFault::Stopped(why) => RunFault::Stopped { why, expanded },
+            DeskFault::Read => RunFault::Read,
+            DeskFault::Write => RunFault::Write,
+        }
+    }
 }
 
 impl From<AllocError> for DeskFault {
@@ -88,32 +111,29 @@ pub struct Desk<B: Board> {
 }
 
 /// Does what was asked for, with the problems of the file or of standard input.
-pub fn obey_on<'a, B: Board>(rt: &HostRuntime, request: &Request<'a>) -> Ending<&'a str> {
-    let reported = match request.file {
-        None => report::<B>(rt, request, &mut rt.stdin()),
+pub fn obey_on<'a, B: Board>(rt: &HostRuntime, request: &Request<'a>) -> Ending<&'a str>
+    requires { (B.geometry.rows ≡ 10) ⊎ (B.geometry.rows ≡ 8) }
+{
+    match request.file {
+        None => obey_with::<B>(rt, request, &mut rt.stdin()),
         Some(path) => match File::open(rt, path) {
-            Ok(mut file) => report::<B>(rt, request, &mut file),
-            Err(_) => return Ending::NotOpened(path),
+            Ok(mut file) => obey_with::<B>(rt, request, &mut file),
+            Err(_) => Ending::NotOpened(path),
         },
-    };
-    match reported {
-        Ok(Counts { shown: 0, .. }) if request.portion.is_asked => {
-            Ending::NoProblem(request.portion.first)
-        }
-        Ok(Counts { refused: 0, .. }) => Ending::Done,
-        Ok(_) => Ending::Refused,
-        Err(fault) => Ending::Failed(fault),
     }
 }
 
-/// Reports on the problems that the reader gives. A file and standard input are read through the same code.
-fn report<B: Board>(
+/// Does what was asked for, with the problems that the reader gives. A file and standard input are read through the
+/// same code.
+fn obey_with<'a, B: Board>(
     rt: &HostRuntime,
-    request: &Request<'_>,
+    request: &Request<'a>,
     reader: &mut dyn Read,
-) -> Result<Counts, RunFault> {
+) -> Ending<&'a str>
+    requires { (B.geometry.rows ≡ 10) ⊎ (B.geometry.rows ≡ 8) }
+{
     let Ok(solver) = solver_of::<B>(rt.alloc(), request) else {
-        return Err(NO_MEMORY);
+        return Ending::Failed(NO_MEMORY);
     };
     let mut desk = Desk {
         alloc: rt.alloc(),
@@ -122,28 +142,38 @@ fn report<B: Board>(
     let mut slices = Slices::new(first_slice(rt, request), Progress::new(rt));
     let mut source = Reading::new(reader);
     let mut sink = Writing::new(rt.stdout());
-    let reported = match request.task {
-        Task::Find(asked) => find_problems(
-            &mut desk,
-            &mut slices,
+    let ended = match request.task {
+        Task::Find(asked) => ending_of(
             request,
-            &asked,
-            &mut source,
-            &mut sink,
+            find_problems(
+                &mut desk,
+                &mut slices,
+                request,
+                &asked,
+                &mut source,
+                &mut sink,
+            ),
         ),
-        Task::Check { n } => {
-            check_games(&mut desk, &mut slices, request, n, &mut source, &mut sink)
+        Task::Check { n } => ending_of(
+            request,
+            check_games(&mut desk, &mut slices, request, n, &mut source, &mut sink),
+        ),
+        Task::Token { line } => {
+            write_line::<_, B, _, _>(desk.alloc, request, line, &mut source, &mut sink)
         }
     };
-    match reported {
-        Ok(counts) => Ok(counts),
-        Err(DeskFault::Read) => Err(RunFault::Read),
-        Err(DeskFault::Write) => Err(RunFault::Write),
-        Err(DeskFault::Stopped(why)) => Err(RunFault::Stopped {
-            why,
-            expanded: desk.solver.expanded(),
-        }),
+    match ended {
+        Ok(ending) => ending,
+        Err(fault) => Ending::Failed(fault.in_run(desk.solver.expanded())),
     }
+}
+
+/// How a report on problems ends.
+fn ending_of<T>(
+    request: &Request<'_>,
+    reported: Result<Counts, DeskFault>,
+) -> Result<Ending<T>, DeskFault> {
+    Ok(reported?.ending(request))
 }
 
 /// The solver for one problem or for all, over an empty memo.

@@ -1,5 +1,7 @@
 //! How the program ends: its exit status, and the line on standard error.
-use dw_report::{RunFault, Stop};
+use dw_games::LineFaultKind;
+use dw_notation::ProblemFault;
+use dw_report::{RunFault, Stop, refusal_text};
 use std::fmt;
 use std::fmt::{Display, Formatter};
 
@@ -19,6 +21,10 @@ pub enum Ending<T> {
     Refused,
     /// The problem that was asked for is not there.
     NoProblem(u32),
+    /// The problem of which a line is given is refused.
+    ProblemRefused(ProblemFault),
+    /// A line is refused.
+    LineRefused { what: LineFaultKind, place: u32 },
     /// The arguments are no command; the text says why, with its own line ends.
     Words(T),
     /// This FILE could not be opened.
@@ -32,6 +38,17 @@ impl<T: Display> Display for Ending<T> {
         match self {
             Ending::Done | Ending::Refused => Ok(()),
             Ending::NoProblem(number) => write!(f, "dw-desk: no problem {number}\n"),
+            Ending::ProblemRefused(fault) => {
+                write!(
+                    f,
+                    "dw-desk: problem refused: {}\n",
+                    refusal_text(*fault).as_str()
+                )
+            }
+            Ending::LineRefused { what, place } => {
+                let number = what.number();
+                write!(f, "dw-desk: line refused: {number} {what} at {place}\n")
+            }
             Ending::Words(text) => write!(f, "{text}"),
             Ending::NotOpened(file) => write!(f, "dw-desk: cannot open {file}\n"),
             Ending::Failed(fault) => write!(f, "dw-desk: {fault}\n"),
@@ -44,7 +61,10 @@ impl<T: Display> Display for Ending<T> {
 pub fn status_of<T>(ending: &Ending<T>) -> u8 {
     match ending {
         Ending::Done => 0,
-        Ending::Refused | Ending::NoProblem(_) => 1,
+        Ending::Refused
+        | Ending::NoProblem(_)
+        | Ending::ProblemRefused(_)
+        | Ending::LineRefused { .. } => 1,
         Ending::Words(_) => 2,
         Ending::NotOpened(_) | Ending::Failed(_) => 3,
     }

@@ -56,7 +56,15 @@ fn report<B: Board, K: Sink>(
         write_all(sink, problem_line(problem).as_str().as_bytes())?;
     }
     match &problem.found {
-        Ok(position) => report_position(desk, slices, request, asked, problem.number, position, sink),
+        Ok(position) => report_position(
+            desk,
+            slices,
+            request,
+            asked,
+            problem.number,
+            position,
+            sink,
+        ),
         Err(fault) => {
             if asked.json {
                 let why = refusal_text(*fault);

@@ -8,6 +8,7 @@ mod finding;
 mod json;
 mod progress;
 mod words;
+mod writing;
 
 use clap::Error;
 use clap::error::ErrorKind;

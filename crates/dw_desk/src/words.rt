@@ -5,8 +5,9 @@ use clap::builder::ValueParser;
 use clap::{Arg, ArgMatches, Command as Words, value_parser};
 use dw_notation::Form;
 use dw_notation::problems::MAX_PROBLEMS;
-use dw_program::options::{MOST_KEPT, MOST_MOVES, MOST_POSITIONS, VERSION};
-use dw_program::options::{board, cache, file, flag, memo, option, pdn};
+use dw_program::options::{
+    MOST_KEPT, MOST_MOVES, MOST_POSITIONS, VERSION, board, cache, file, flag, memo, option, pdn,
+};
 use dw_program::{BoardSize, MemoKind};
 use std::alloc::{AllocError, Global};
 
@@ -34,19 +35,21 @@ pub struct FindWords {
     ghost few_moves: { most ≤ 20 },
 }
 
-/// What is done with each problem.
+/// What is done.
 #[derive(Clone, Copy)]
-pub enum Task {
+pub enum Task<'a> {
     /// The number of moves and the verdict are found.
     Find(FindWords),
     /// The solution is checked, within `n` moves, or as many as it has.
     Check { n: Option<u8> },
+    /// The token of this line of the first of the chosen problems is written.
+    Token { line: &'a str },
 }
 
 /// What the arguments ask for.
 #[derive(Clone, Copy)]
 pub struct Request<'a> {
-    pub task: Task,
+    pub task: Task<'a>,
     pub board: BoardSize,
     pub form: Form,
     pub portion: Portion,
@@ -111,6 +114,16 @@ Examples:
   dw-desk check examples/solutions.pdn
   dw-desk check -n 3 --problem 2 examples/solutions.pdn";
 
+const TOKEN_ABOUT: &str =
+    "Writes the token of a line, with which `dw list --after` goes on behind that line.";
+
+const TOKEN_EXAMPLES: &str = "\
+So a list that was cut off goes on behind its last whole line.
+
+Examples:
+  echo W:W27,32,38:B18 | dw-desk token --line '1. 32-28 18-22 2. 27x18'
+  dw-desk token --problem 2 --line '1. 32-28 18-22 2. 27x18' examples/problems.fen";
+
 const PROBLEM_HELP: &str =
     "Report on the problem I alone, or on those from I to J, 1 to 1000000 [default: all]";
 
@@ -127,6 +140,7 @@ For more information, try '--help'.
 pub fn command<'a>(alloc: Global) -> Result<Words<'a>, AllocError> {
     let find = find_command(alloc)?;
     let check = check_command(alloc)?;
+    let token = token_command(alloc)?;
     Words::new(alloc, "dw-desk")
         .bin_name("dw-desk")?
         .version(VERSION)
@@ -135,13 +149,23 @@ pub fn command<'a>(alloc: Global) -> Result<Words<'a>, AllocError> {
         .subcommand_required(true)
         .arg_required_else_help(true)
         .subcommand(find)?
-        .subcommand(check)
+        .subcommand(check)?
+        .subcommand(token)
 }
 
 fn find_command<'a>(alloc: Global) -> Result<Words<'a>, AllocError> {
     let arguments = vec![in alloc;
-        board(alloc), pdn(alloc), problem(alloc), file(alloc),
-        most(alloc), each(alloc), json(alloc), memo(alloc, "deep"), cache(alloc, CACHE_HELP), progress(alloc)]?;
+        board(alloc),
+        pdn(alloc),
+        problem(alloc),
+        file(alloc),
+        most(alloc),
+        each(alloc),
+        json(alloc),
+        memo(alloc, "deep"),
+        cache(alloc, CACHE_HELP),
+        progress(alloc),
+    ]?;
     Words::new(alloc, "find")
         .about(FIND_ABOUT)
         .after_help(FIND_EXAMPLES)
@@ -150,12 +174,44 @@ fn find_command<'a>(alloc: Global) -> Result<Words<'a>, AllocError> {
 
 fn check_command<'a>(alloc: Global) -> Result<Words<'a>, AllocError> {
     let arguments = vec![in alloc;
-        board(alloc), pdn(alloc), problem(alloc), file(alloc),
-        within(alloc), memo(alloc, "deep"), cache(alloc, CACHE_HELP), progress(alloc)]?;
+        board(alloc),
+        pdn(alloc),
+        problem(alloc),
+        file(alloc),
+        within(alloc),
+        memo(alloc, "deep"),
+        cache(alloc, CACHE_HELP),
+        progress(alloc),
+    ]?;
     Words::new(alloc, "check")
         .about(CHECK_ABOUT)
         .after_help(CHECK_EXAMPLES)
         .args(arguments)
+}
+
+fn token_command<'a>(alloc: Global) -> Result<Words<'a>, AllocError> {
+    let arguments = vec![in alloc;
+        board(alloc),
+        pdn(alloc),
+        one_problem(alloc),
+        line(alloc),
+        file(alloc),
+    ]?;
+    Words::new(alloc, "token")
+        .about(TOKEN_ABOUT)
+        .after_help(TOKEN_EXAMPLES)
+        .args(arguments)
+}
+
+fn one_problem<'a>(alloc: Global) -> Arg<'a> {
+    let numbers = value_parser!(u32).range(1..=i64::from(MAX_PROBLEMS));
+    let help = "The line is one of the problem I, 1 to 1000000 [default: 1]";
+    option(alloc, "problem", "I", numbers, help)
+}
+
+fn line<'a>(alloc: Global) -> Arg<'a> {
+    let help = "The line: moves without variations, the last one the attacker's";
+    option(alloc, "line", "TEXT", ValueParser::string(), help).required(true)
 }
 
 fn problem<'a>(alloc: Global) -> Arg<'a> {
@@ -203,17 +259,41 @@ fn progress<'a>(alloc: Global) -> Arg<'a> {
 /// What parsed arguments ask for, or what is said of them if they are no command.
 pub fn requested<'a>(matches: &ArgMatches<'a>) -> Result<Request<'a>, &'static str> {
     if let Some(words) = matches.subcommand_matches("find") {
-        return request_of(words, Task::Find(find_words(words)));
+        return searched_by(words, Task::Find(find_words(words)));
     }
     if let Some(words) = matches.subcommand_matches("check") {
         let n = words.get_one::<u8>("n");
-        return request_of(words, Task::Check { n });
+        return searched_by(words, Task::Check { n });
     }
-    Err("dw-desk: no command\n")
+    match matches.subcommand_matches("token") {
+        Some(words) => Ok(written_by(words)),
+        None => Err("dw-desk: no command\n"),
+    }
 }
 
-/// What a command asks for.
-fn request_of<'a>(words: &ArgMatches<'a>, task: Task) -> Result<Request<'a>, &'static str> {
+/// What the command that writes a token asks for, of problem 1 if no other is named. It searches nothing.
+fn written_by<'a>(words: &ArgMatches<'a>) -> Request<'a> {
+    let number = words.get_one::<u32>("problem").unwrap_or(1);
+    Request {
+        task: Task::Token {
+            line: words.get_str("line").unwrap_or(""),
+        },
+        board: BoardSize::named(words.get_str("board")),
+        form: form(words.get_flag("pdn")),
+        portion: Portion {
+            first: number,
+            last: Some(number),
+            is_asked: true,
+        },
+        memo: MemoKind::None,
+        cache: 1,
+        progress: false,
+        file: words.get_str("FILE"),
+    }
+}
+
+/// What a command that searches asks for.
+fn searched_by<'a>(words: &ArgMatches<'a>, task: Task<'a>) -> Result<Request<'a>, &'static str> {
     let Some(portion) = portion_of(words.get_str("problem")) else {
         return Err(NO_PORTION);
     };

@@ -1,5 +1,5 @@
 -- What a reader of games shows its caller, and what a call for the next game does.
-use Rattle.std.specs.Prelude.{◌≡◌, ℕ, List, [], ◌∷◌, ◌++◌, Bool, true, false, Option, Some, None, Result, Ok, Err}
+use Rattle.std.specs.Prelude.{◌≡◌, ◌⊎◌, ℕ, List, [], ◌∷◌, ◌++◌, Bool, true, false, Option, Some, None, Result, Ok, Err}
 use Rattle.std.specs.Borrow.{GName}
 use Rattle.std.specs.Io.KnownBytes.{Consumes, IsAtEnd}
 use Rattle.dw_board.specs.Geometry.{Geometry}
@@ -64,6 +64,10 @@ EndIsTrue coming has_ended reader = reader.met_end ≡ true → IsAtEnd coming �
 abbrev pub StandsStill : {B : Type 0} → Reader → Result (Option (Game B)) GameFault → Type 0
 StandsStill old result =
     (old.is_over ≡ true → result ≡ Ok None) × ((fault : GameFault) → old.fault ≡ Some fault → result ≡ Err fault)
+
+-- it is over, or a fault has stopped it
+abbrev pub Rests : Reader → Type 0
+Rests reader = (reader.is_over ≡ true) ⊎ ((fault : GameFault) × (reader.fault ≡ Some fault))
 
 -- the answer is that the source has failed
 abbrev pub is_failure : {A : Type 0} → Result A GameFault → Bool

@@ -90,7 +90,7 @@ pub struct Games<'a, B: Board, S> {
 impl<'a, B: Board, S: Source> Games<'a, B, S> {
     ghost use Rattle.dw_games.specs.Games.{AreGames, NumberedGame, games_from};
     ghost use Rattle.dw_games.specs.GameReading.{lender, source_of, numbered_game, is_failure};
-    ghost use Rattle.dw_games.specs.GameReading.{GivesNext, EndIsTrue, StandsStill};
+    ghost use Rattle.dw_games.specs.GameReading.{GivesNext, EndIsTrue, StandsStill, Rests};
     ghost use Rattle.dw_games.specs.inner.GameReaders.{reading_of, IsHandedOut, ReadsGame};
     ghost use Rattle.dw_games.specs.inner.Inputs.{unread_of};
     ghost use Rattle.dw_games.specs.inner.Playing.{unclosed};
@@ -198,6 +198,7 @@ impl<'a, B: Board, S: Source> Games<'a, B, S> {
         ensures failed { (reading_of self.old).fault ≡ None
             → S.is_failed (source_of self.new) ≡ (S.is_failed (source_of self.old) || is_failure result) }
         ensures still { StandsStill (reading_of self.old) result }
+        ensures rests { Rests (reading_of self.old) → source_of self.new ≡ source_of self.old }
     {
         match self.stage {
             Stage::Over => Ok(None),

@@ -58,7 +58,7 @@ gathered_long tree node n moves m before many h b is =
     let c = before.0 in
     let same : found.0 ≡ c ++ m ∷ [] = some_same found.0 (c ++ m ∷ []) (sym found.1 ∙ before.1) in
     let whole : length b ≡ length (c ++ m ∷ []) + length (reverse moves) =
-        ap length (found.2 ∙ ap (λ z. z ++ reverse moves) same) ∙ length-append (c ++ m ∷ []) (reverse moves) in
+    ap length (found.2 ∙ ap (λ z. z ++ reverse moves) same) ∙ length-append (c ++ m ∷ []) (reverse moves) in
     let front : length (c ++ m ∷ []) ≡ length c + 1 = length-append c (m ∷ []) in
     let back : length (reverse moves) ≡ length moves = length-reverse moves in
     omega (arith, whole, front, back, many)
@@ -118,9 +118,9 @@ legal_among : (g : Geometry) (p : Placement) (front : List Move) (o : Move)
 legal_among g p front o all legal m here = elim (mem_cases m front (o ∷ []) here) [
   | inl before ↦ all m before
   | inr last ↦ elim last [
-      | inl same ↦ subst (Legal g p) (sym same) legal
-      | inr none ↦ absurd none
-    ]
+    | inl same ↦ subst (Legal g p) (sym same) legal
+    | inr none ↦ absurd none
+  ]
 ]
 
 pub legal_more : (g : Geometry) (p : Placement) (moves : List Move) (i : ℕ) (m : Move) → LegalTo g p moves i

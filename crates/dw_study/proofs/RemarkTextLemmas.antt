@@ -40,16 +40,16 @@ pub fails_made : (g : Geometry) (p q then : Placement) (b : List Move) (m r : Mo
     ++ (two ++ (codes "\n" ++ [])))))))) → IsRemarkText g p (fails b m r) text
 fails_made g p q then b m r line move reply begun digits one two text written blank there played is answers number first
     second e = (
-  line,
-  move,
-  reply,
-  written,
-  subst (λ z. IsMoveText g z m move) there is,
-  subst (λ z. IsMoveText g z r reply) (played ∙ ap (λ z. play g z m) there) answers,
-  e ∙ (joined_9 (codes "fails") begun (codes " ") digits (codes ". ") one (codes " refuted by ") two (codes "\n")
-      ∙ (λ i. codes "fails" ++ blank i ++ codes " " ++ number i ++ codes ". " ++ first i ++ codes " refuted by "
-      ++ second i ++ codes "\n")),
-)
+      line,
+      move,
+      reply,
+      written,
+      subst (λ z. IsMoveText g z m move) there is,
+      subst (λ z. IsMoveText g z r reply) (played ∙ ap (λ z. play g z m) there) answers,
+      e ∙ (joined_9 (codes "fails") begun (codes " ") digits (codes ". ") one (codes " refuted by ") two (codes "\n")
+          ∙ (λ i. codes "fails" ++ blank i ++ codes " " ++ number i ++ codes ". " ++ first i ++ codes " refuted by "
+          ++ second i ++ codes "\n")),
+    )
 
 pub also_made : (g : Geometry) (p q : Placement) (b keys : List Move) (line moves begun digits all text : List ℕ)
     → IsLineText g p b line → begun ≡ behind_blank line → q ≡ reach g p b → AreJoined g q (codes " / ") keys moves

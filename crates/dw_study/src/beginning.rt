@@ -61,8 +61,12 @@ fn with_blank(alloc: Global, text: &str) -> Result<String, AllocError>
 }
 
 /// The moves of the beginning before a node, if there are at most 39.
-pub(crate) fn moves_to<B: Board>(tree: &Tree<B>, node: Option<Node>) -> Option<ArrayVec<Move<B>, MAX_MOVES>>
-    ensures moves { (b : _) → beginning_at tree.now (place_of node) ≡ Some b → IfSome result (λ moves. moves.items ≡ b) }
+pub(crate) fn moves_to<B: Board>(
+    tree: &Tree<B>,
+    node: Option<Node>,
+) -> Option<ArrayVec<Move<B>, MAX_MOVES>>
+    ensures moves { (b : _) → beginning_at tree.now (place_of node) ≡ Some b
+        → IfSome result (λ moves. moves.items ≡ b) }
     ensures none { (b : _) → beginning_at tree.now (place_of node) ≡ Some b → result ≡ None → 39 < length b }
 {
     let mut moves = ArrayVec::new();

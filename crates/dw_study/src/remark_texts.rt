@@ -62,7 +62,8 @@ fn fails_text<B: Board>(
     reply: &Move<B>,
 ) -> Result<Option<String>, AllocError>
     ensures { (p : _) (b : List of.Move) → IsBegun B.geometry p b beginning.now
-        → IfOk result (λ made. IfSome made (λ text. IsRemarkText B.geometry p (fails b mv.now reply.now) (string_bytes text))) }
+        → IfOk result (λ made. IfSome made (λ text. IsRemarkText B.geometry p (fails b mv.now reply.now)
+        (string_bytes text))) }
 {
     if !is_legal(&beginning.position, mv) {
         return Ok(None);
@@ -121,20 +122,14 @@ fn open_text<B: Board>(
     replies: &[Move<B>],
 ) -> Result<Option<String>, AllocError>
     ensures { (p : _) (b : List of.Move) → IsBegun B.geometry p b beginning.now
-        → IfOk result (λ made. IfSome made (λ text. IsRemarkText B.geometry p (leaves_open b replies.now) (string_bytes text))) }
+        → IfOk result (λ made. IfSome made (λ text. IsRemarkText B.geometry p (leaves_open b replies.now)
+        (string_bytes text))) }
 {
     if !are_legal(&beginning.position, replies) {
         return Ok(None);
     }
     let moves = joined_text(alloc, &beginning.position, replies, ", ")?;
-    let text = [
-        "open",
-        beginning.text.as_str(),
-        ": ",
-        moves.as_str(),
-        "\n",
-    ]
-    .concat(alloc)?;
+    let text = ["open", beginning.text.as_str(), ": ", moves.as_str(), "\n"].concat(alloc)?;
     Ok(Some(text))
 }
 

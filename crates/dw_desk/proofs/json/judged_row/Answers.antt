@@ -8,6 +8,8 @@ dual_texts-requires-clause-dual g c =
     let geo = g.B.Board.geometry in
     let p = c.args.position.now in
     let n = c.args.moves in
-    let said = subst (λ v. IsVerdict geo p n (said_by v)) c.in-Dual.is c.requires.verdict in
-    (n, subst (λ z. IsVerdict geo p n (dual z c.as_slice-in-Dual-2.result.now)) (sym c.as_slice-in-Dual.ensures.value)
-    (subst (λ z. IsVerdict geo p n (dual c.in-Dual.at.items z)) (sym c.as_slice-in-Dual-2.ensures.value) said))
+    let said = subst (λ v. IsVerdict geo p n (said_by v)) c.in-Dual.is c.requires.verdict in (
+      n,
+      subst (λ z. IsVerdict geo p n (dual z c.as_slice-in-Dual-2.result.now)) (sym c.as_slice-in-Dual.ensures.value)
+          (subst (λ z. IsVerdict geo p n (dual c.in-Dual.at.items z)) (sym c.as_slice-in-Dual-2.ensures.value) said),
+    )

@@ -39,5 +39,9 @@ returns-in-Dual g c = λ n v.
     let at = c.as_slice-in-Dual.result.now in
     let said = subst (λ w. IsVerdict geo p n (said_by w)) c.in-Dual.is v in
     ok_map _ _ c.move_texts-in-Dual.result
-    (λ texts e. (take 1 at, subst (λ z. Keys geo p n (take 1 z)) (sym c.as_slice-in-Dual.ensures.value)
-    (dual_opens geo p n c.in-Dual.at.items c.in-Dual.choices.items said), e)) c.move_texts-in-Dual.ensures
+    (λ texts e. (
+      take 1 at,
+      subst (λ z. Keys geo p n (take 1 z)) (sym c.as_slice-in-Dual.ensures.value)
+          (dual_opens geo p n c.in-Dual.at.items c.in-Dual.choices.items said),
+      e,
+    )) c.move_texts-in-Dual.ensures

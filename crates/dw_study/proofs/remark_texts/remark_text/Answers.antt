@@ -13,9 +13,9 @@ returns-in-Some g c = λ r is.
     let p = c.args.position.now in
     let tree = c.args.tree.now in
     let said = told (beginning_at tree (place_of c.in-Fails.at)) (λ b. fails b c.in-Fails.mv c.in-Fails.reply) r
-        (subst (λ z. remark_in tree z ≡ Some r) c.in-Fails.is is) in
+    (subst (λ z. remark_in tree z ≡ Some r) c.in-Fails.is is) in
     let begun = subst (λ made. IfSome made (IsBegun g.B.Board.geometry p said.0)) c.in-Some.is
-        (c.in_ok-beginning-in-Fails.ensures said.0 said.1) in
+    (c.in_ok-beginning-in-Fails.ensures said.0 said.1) in
     subst (λ z. IfOk c.fails_text.result (λ made. IfSome made (λ text. IsRemarkText g.B.Board.geometry p z
     (string_bytes text)))) said.2 (c.fails_text.ensures p said.0 begun)
 
@@ -24,9 +24,9 @@ returns-in-Some-2 g c = λ r is.
     let p = c.args.position.now in
     let tree = c.args.tree.now in
     let said = told (beginning_at tree (place_of c.in-Also.at)) (λ b. also b c.in-Also.keys.items) r
-        (subst (λ z. remark_in tree z ≡ Some r) c.in-Also.is is) in
+    (subst (λ z. remark_in tree z ≡ Some r) c.in-Also.is is) in
     let begun = subst (λ made. IfSome made (IsBegun g.B.Board.geometry p said.0)) c.in-Some-2.is
-        (c.in_ok-beginning-in-Also.ensures said.0 said.1) in
+    (c.in_ok-beginning-in-Also.ensures said.0 said.1) in
     subst (λ z. IfOk c.also_text.result (λ made. IfSome made (λ text. IsRemarkText g.B.Board.geometry p z
     (string_bytes text)))) (ap (also said.0) c.as_slice.ensures.value ∙ said.2) (c.also_text.ensures p said.0 begun)
 
@@ -35,9 +35,9 @@ returns-in-Some-3 g c = λ r is.
     let p = c.args.position.now in
     let tree = c.args.tree.now in
     let said = told (beginning_at tree (place_of c.in-Open.at)) (λ b. leaves_open b c.in-Open.replies.items) r
-        (subst (λ z. remark_in tree z ≡ Some r) c.in-Open.is is) in
+    (subst (λ z. remark_in tree z ≡ Some r) c.in-Open.is is) in
     let begun = subst (λ made. IfSome made (IsBegun g.B.Board.geometry p said.0)) c.in-Some-3.is
-        (c.in_ok-beginning-in-Open.ensures said.0 said.1) in
+    (c.in_ok-beginning-in-Open.ensures said.0 said.1) in
     subst (λ z. IfOk c.open_text.result (λ made. IfSome made (λ text. IsRemarkText g.B.Board.geometry p z
     (string_bytes text)))) (ap (leaves_open said.0) c.as_slice-in-Some-3.ensures.value ∙ said.2) (c.open_text.ensures p said.0 begun)
 
@@ -46,8 +46,8 @@ returns-in-Some-4 g c = λ r is.
     let p = c.args.position.now in
     let tree = c.args.tree.now in
     let said = told (beginning_at tree (place_of c.in-Ends.at)) (λ b. ends b) r
-        (subst (λ z. remark_in tree z ≡ Some r) c.in-Ends.is is) in
+    (subst (λ z. remark_in tree z ≡ Some r) c.in-Ends.is is) in
     let begun = subst (λ made. IfSome made (IsBegun g.B.Board.geometry p said.0)) c.in-Some-4.is
-        (c.in_ok-beginning-in-Ends.ensures said.0 said.1) in
+    (c.in_ok-beginning-in-Ends.ensures said.0 said.1) in
     subst (λ z. IfOk c.ends_text.result (λ made. IfSome made (λ text. IsRemarkText g.B.Board.geometry p z
     (string_bytes text)))) said.2 (c.ends_text.ensures p said.0 begun)

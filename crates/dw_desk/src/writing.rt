@@ -1,0 +1,50 @@
+//! The command `token`: a line of play as a token.
+ghost use Rattle.std.specs.Prelude.{◌≡◌, ◌⊎◌, false};
+
+use crate::desk::DeskFault;
+use crate::ending::Ending;
+use crate::words::Request;
+use dw_board::Board;
+use dw_games::{LineFault, read_line};
+use dw_list::write_token;
+use dw_notation::{Problems, Sink, Source, write_all};
+use dw_report::Stop;
+use std::alloc::Global;
+
+/// Writes the token of a line of the chosen problem, and tells how that ended. If anything is refused, nothing is
+/// written.
+pub fn write_line<T, B: Board, S: Source, K: Sink>(
+    alloc: Global,
+    request: &Request<'_>,
+    line: &str,
+    source: &mut S,
+    sink: &mut K,
+) -> Result<Ending<T>, DeskFault>
+    requires rows { (B.geometry.rows ≡ 10) ⊎ (B.geometry.rows ≡ 8) }
+    requires source { S.is_failed source.old ≡ false }
+    requires sink { K.is_failed sink.old ≡ false }
+{
+    let number = request.portion.first;
+    let mut problems = Problems::<B, S>::new(source, request.form);
+    'problems: loop {
+        let Some(problem) = problems.next()? else {
+            return Ok(Ending::NoProblem(number));
+        };
+        if problem.number != number {
+            continue;
+        }
+        let position = match problem.found {
+            Ok(position) => position,
+            Err(fault) => return Ok(Ending::ProblemRefused(fault)),
+        };
+        return match read_line(alloc, &position, line.as_bytes()) {
+            Ok(moves) => {
+                write_token(moves.as_slice(), sink)?;
+                write_all(sink, b"\n")?;
+                Ok(Ending::Done)
+            }
+            Err(LineFault::Refused { what, place }) => Ok(Ending::LineRefused { what, place }),
+            Err(LineFault::Memory) => Err(DeskFault::Stopped(Stop::Memory)),
+        };
+    }
+}
