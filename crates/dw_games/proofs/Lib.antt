@@ -22,3 +22,4 @@ pub mod StepLemmas
 pub mod OneAnswerLemmas
 pub mod PlayedLemmas
 pub mod LineLemmas
+pub mod OneLineLemmas

@@ -9,7 +9,7 @@ use Rattle.dw_board.specs.Placement.{Placement}
 use Rattle.dw_board.specs.Lists.{Member}
 use Rattle.dw_moves.specs.Moves.{Move}
 use Rattle.dw_games.specs.Tokens.{Token, AreTokens}
-use Rattle.dw_games.specs.Play.{IsResult, IsOver, AreComments, IsVariation, empty, passed, move, variation}
+use Rattle.dw_games.specs.Play.{IsResult, AreComments, IsVariation, empty, passed, move, variation}
 use Rattle.dw_games.specs.Movetext.{AreDistinct, nothing, again, first}
 use Rattle.dw_games.specs.Faults.{cut_off, behind_result}
 use Rattle.dw_games.specs.Lines.{IsStraight, IsPlainGame, going_on, ended, IsWrittenLine, line_fault_of}
@@ -29,9 +29,10 @@ use Rattle.dw_games.specs.declared.reader.Reader.{Reader}
 use Rattle.dw_games.proofs.PlaceLemmas.{absent, same}
 use Rattle.dw_games.proofs.PathLemmas.{filled, last_same}
 use Rattle.dw_games.proofs.TakenLemmas.{opened_short}
+use Rattle.dw_games.proofs.WholeLemmas.{over, joined}
 
 -- ---- where no token begins a variation
-none_parts : (ts us : List Token) → NoneOpens (ts ++ us) → NoneOpens ts × NoneOpens us
+pub none_parts : (ts us : List Token) → NoneOpens (ts ++ us) → NoneOpens ts × NoneOpens us
 none_parts [] us h = (tt, h)
 none_parts (t ∷ ts) us h = let more = none_parts ts us h.1 in ((h.0, more.0), more.1)
 
@@ -48,22 +49,11 @@ module _ (g : Geometry) (p : Placement) where
   any_room (variation {ts = ts} {us = us} moves last opening closing v o w c) h =
       let rest = none_parts ts (opening ∷ (us ++ closing ∷ [])) h in absurd (rest.1.0 o)
 
-  roomier : {room wanted : ℕ} {before moves : List Move} {ts : List Token} {paths : List (List Move)}
-      → IsVariation g p room before ts moves paths → room ≡ zero → IsVariation g p wanted before ts moves paths
-  roomier empty e = empty
-  roomier (passed t v is) e = passed t (roomier v e) is
-  roomier (move v low is) e = move (roomier v e) low is
-  roomier (variation moves last opening closing v o w c) e = absurd (omega (arith, e))
-
-  pub more_room : {room : ℕ} {before moves : List Move} {ts : List Token} {paths : List (List Move)}
-      → IsVariation g p zero before ts moves paths → IsVariation g p room before ts moves paths
-  more_room v = roomier v refl
-
   straight_read : {B : Type 0} (tree : List (List Move)) {room : ℕ} {ts : List Token} {line : Line B}
       {outer : List (Line B)} {before moves : List Move} {paths : List (List Move)}
       → Opened g p tree room ts line outer before moves paths → NoneOpens ts
-      → (before ≡ []) × IsVariation g p zero [] ts moves paths
-  straight_read tree (outermost v l) h = (refl, any_room v h)
+      → (outer ≡ []) × (before ≡ []) × IsVariation g p zero [] ts moves paths
+  straight_read tree (outermost v l) h = (refl, refl, any_room v h)
   straight_read tree (inner {ts = ts} {us = us} moves last opening o e v l) h =
       let rest = none_parts ts (opening ∷ us) h in absurd (rest.1.0 e)
 
@@ -87,7 +77,7 @@ none_longer before (m ∷ moves) path (inr h) =
     let more = none_longer (before ++ m ∷ []) moves path h in omega (arith, more, length-append before (m ∷ []))
 
 -- the paths of play without variations
-paths_are : (g : Geometry) (p : Placement) {room : ℕ} {before moves : List Move} {ts : List Token}
+pub paths_are : (g : Geometry) (p : Placement) {room : ℕ} {before moves : List Move} {ts : List Token}
     {paths : List (List Move)} → IsVariation g p room before ts moves paths → room ≡ zero
     → paths ≡ beginnings_after before moves
 paths_are g p empty e = refl
@@ -163,7 +153,10 @@ module _ {B : Type 0} (g : Geometry) (p : Placement) (ts : List Token) (r : Read
   moves_read = h.read.moves
 
   straight_play : IsVariation g p zero [] ts moves_read h.read.paths
-  straight_play = (straight_read g p r.tree h.read.opened h.none_opens).1
+  straight_play = (straight_read g p r.tree h.read.opened h.none_opens).2
+
+  pub none_around_line : r.outer.items ≡ []
+  none_around_line = (straight_read g p r.tree h.read.opened h.none_opens).0
 
   pub is_straight : IsStraight g p ts moves_read
   is_straight = (h.read.paths, straight_play)
@@ -195,40 +188,22 @@ module _ (g : Geometry) (p : Placement) (text : List ℕ) (size : length text �
       subst (λ x. IsFirstLineFault g p text (Movetext what) x) (sym h.5) (at_token h.0 h.1 h.2 size (whole _ _ h.3) h.4)
   line_stopped_answer now r Memory h = tt
 
-  over : {B : Type 0} (r : Reader B) (ts : List Token) (t : Token) (cs : List Token) → HasReadLine g p ts r
-      → IsResult t → AreComments cs → (paths : List (List Move)) × IsOver g p (ts ++ t ∷ cs) paths
-  over r ts t cs h is comments =
-      let v = is_straight g p ts r h in (
-        v.0,
-        record {
-          front = ts;
-          result = t;
-          comments = cs;
-          played = (moves_read g p ts r h, more_room g p v.1);
-          is_result = is;
-          are_comments = comments;
-          joined = refl;
-        },
-      )
-
-  joined : (ts cs : List Token) (t u : Token) → (ts ++ t ∷ cs) ++ u ∷ [] ≡ (ts ++ t ∷ []) ++ (cs ++ u ∷ [])
-  joined ts cs t u = append_assoc ts (t ∷ cs) (u ∷ []) ∙ sym (append_assoc ts (t ∷ []) (cs ++ u ∷ []))
-
   -- behind the result another token is at fault
   pub line_odd_answer : {B : Type 0} (r : Reader B) (now : Tokens) (ts cs : List Token) (t u : Token) (rest : List ℕ)
       (why : MovetextFault) → HasReadLine g p ts r → IsResult t → ReadOn start (ts ++ t ∷ []) now
       → AreComments cs → AreAhead now (cs ++ u ∷ []) rest → IsOdd u why → IsLineRefusal g p text (line_fault_of why)
   line_odd_answer r now ts cs t u rest (Refused what place) h is on comments ahead odd =
       let tokens : AreTokens 1 true text ((ts ++ t ∷ cs) ++ u ∷ []) rest =
-      subst (λ x. AreTokens 1 true text x rest) (sym (joined ts cs t u)) (whole _ _ (on _ _ ahead)) in
+      subst (λ x. AreTokens 1 true text x rest) (sym (joined g p text size start whole ts cs t u))
+      (whole _ _ (on _ _ ahead)) in
       let game : IsPlainGame g p (ts ++ t ∷ cs) (moves_read g p ts r h) =
       ended cs (is_straight g p ts r h) is comments in
-      let end = over r ts t cs h is comments in
+      let end = over g p text size start whole r ts t cs h.read (none_around_line g p ts r h) is comments in
       subst (λ x. IsFirstLineFault g p text (Movetext what) x) (sym odd.1) (elim odd.0 [
         | inl cut ↦ subst (λ x. IsFirstLineFault g p text (Movetext x) u.place) (sym cut.0)
-            (at_token (ts ++ t ∷ cs) u rest size tokens (other game (cut_off end.1 cut.1)))
+            (at_token (ts ++ t ∷ cs) u rest size tokens (other game (cut_off end cut.1)))
         | inr rest_is ↦ subst (λ x. IsFirstLineFault g p text (Movetext x) u.place) (sym rest_is.0)
-            (at_token (ts ++ t ∷ cs) u rest size tokens (other game (behind_result end.1 rest_is.1 rest_is.2)))
+            (at_token (ts ++ t ∷ cs) u rest size tokens (other game (behind_result end rest_is.1 rest_is.2)))
       ])
   line_odd_answer r now ts cs t u rest Memory h is on comments ahead odd = absurd odd
 

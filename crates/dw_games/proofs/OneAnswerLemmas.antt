@@ -57,11 +57,11 @@ record Stands (g : Geometry) (p : Placement) (room : ℕ) (ts : List Token) (bef
   many : room + length outer ≡ MAX_OPEN
 
 -- no variation in parentheses is open
-record Whole (g : Geometry) (p : Placement) (ts : List Token) (paths : List (List Move)) : Type 0 where
-  state : State
-  leads : Leads g p start ts state
-  none : state.outer ≡ []
-  same : state.paths ≡ paths
+pub record Whole (g : Geometry) (p : Placement) (ts : List Token) (paths : List (List Move)) : Type 0 where
+  pub state : State
+  pub leads : Leads g p start ts state
+  pub none : state.outer ≡ []
+  pub same : state.paths ≡ paths
 
 -- the result has been read
 record Over (g : Geometry) (p : Placement) (ts : List Token) (paths : List (List Move)) : Type 0 where
@@ -72,10 +72,10 @@ record Over (g : Geometry) (p : Placement) (ts : List Token) (paths : List (List
   same : state.paths ≡ paths
 
 -- a token is at fault
-record Fails (g : Geometry) (p : Placement) (ts : List Token) (t : Token) (what : MovetextFaultKind) : Type 0 where
-  state : State
-  leads : Leads g p start ts state
-  fails : IsNext g p state.over t.what state t (Err what)
+pub record Fails (g : Geometry) (p : Placement) (ts : List Token) (t : Token) (what : MovetextFaultKind) : Type 0 where
+  pub state : State
+  pub leads : Leads g p start ts state
+  pub fails : IsNext g p state.over t.what state t (Err what)
 
 -- what is missing behind all tokens
 abbrev Lacks : State → MovetextFaultKind → Type 0
@@ -147,7 +147,7 @@ module _ (g : Geometry) (p : Placement) where
         same = refl;
       }
 
-  whole : {ts : List Token} {paths : List (List Move)} → IsGame g p ts paths → Whole g p ts paths
+  pub whole : {ts : List Token} {paths : List (List Move)} → IsGame g p ts paths → Whole g p ts paths
   whole {paths = paths} (inl play) = record {
     state = step.within MAX_OPEN [] play.0 [] paths;
     leads = varied g p play.1 [] [];
@@ -202,7 +202,7 @@ module _ (g : Geometry) (p : Placement) where
         fails = subst (λ x. IsNext g p x t.what h.state t (Err what)) (sym h.over) (f h.state);
       }
 
-  fails : {ts : List Token} {t : Token} {what : MovetextFaultKind} → FaultAt g p ts t what → Fails g p ts t what
+  pub fails : {ts : List Token} {t : Token} {what : MovetextFaultKind} → FaultAt g p ts t what → Fails g p ts t what
   fails (unreadable {room = room} {before = before} {moves = moves} {t = t} o is) =
       failing t NoToken o (λ outer paths many. unreadable_next (step.within room before moves outer paths) t is)
   fails (no_such_move {room = room} {before = before} {moves = moves} {t = t} o low is) =
@@ -259,19 +259,19 @@ module _ (one : reading.HasOneAnswer) (g : Geometry) (p : Placement) (text : Lis
   all_same : (ts us : List Token) → AreTokens 1 true text ts [] → AreTokens 1 true text us [] → ts ≡ us
   all_same ts us a b = let row = one_row text in row.one ts a ∙ sym (row.one us b)
 
-  state_same : (ts us : List Token) (a b : State) → AreTokens 1 true text ts [] → AreTokens 1 true text us []
+  pub state_same : (ts us : List Token) (a b : State) → AreTokens 1 true text ts [] → AreTokens 1 true text us []
       → Leads g p start ts a → Leads g p start us b → a ≡ b
   state_same ts us a b x y h k =
       leads_one one g p ts start a b h (subst (λ z. Leads g p start z b) (all_same us ts y x) k)
 
   -- the tokens up to one, and those behind it
-  up_to : (before : List Token) (t : Token) (rest : List ℕ) (ts : List Token) → AreTokens 1 true text (before ++ t ∷ []) rest
+  pub up_to : (before : List Token) (t : Token) (rest : List ℕ) (ts : List Token) → AreTokens 1 true text (before ++ t ∷ []) rest
       → AreTokens 1 true text ts [] → (more : List Token) × (ts ≡ before ++ t ∷ more)
   up_to before t rest ts a b =
       let h = row_front a b refl refl refl in (h.0, h.1 ∙ append_assoc before (t ∷ []) h.0)
 
   -- what leads on through all tokens has no token at fault
-  no_fault : {A : Type 0} (ts : List Token) (s : State) (before : List Token) (t : Token) (rest : List ℕ)
+  pub no_fault : {A : Type 0} (ts : List Token) (s : State) (before : List Token) (t : Token) (rest : List ℕ)
       (what : MovetextFaultKind) → AreTokens 1 true text ts [] → Leads g p start ts s
       → AreTokens 1 true text (before ++ t ∷ []) rest → FaultAt g p before t what → A
   no_fault ts s before t rest what are leads row fault =

@@ -164,7 +164,7 @@ ok_err a what e = cc
 pub same_reason : (why other : MoveFault) → ◌≡◌ {A = Result Move MoveFault} (Err why) (Err other) → why ≡ other
 same_reason why other e = cc
 
-same_err : (what other : MovetextFaultKind) → ◌≡◌ {A = Next} (Err what) (Err other) → what ≡ other
+pub same_err : (what other : MovetextFaultKind) → ◌≡◌ {A = Next} (Err what) (Err other) → what ≡ other
 same_err what other e = cc
 
 module _ (one : HasOneAnswer) (g : Geometry) (p : Placement) where

@@ -55,7 +55,7 @@ module _ (g : Geometry) (p : Placement) (text : List ℕ) (size : length text �
       subst (λ x. IsFirstFault g p text what x) (sym h.5) (at_token h.0 h.1 h.2 size (whole _ _ h.3) h.4)
   stopped_answer Memory h = tt
 
-  over : {B : Type 0} (r : Reader B) (ts : List Token) (t : Token) (cs : List Token) → (h : HasRead g p ts r)
+  pub over : {B : Type 0} (r : Reader B) (ts : List Token) (t : Token) (cs : List Token) → (h : HasRead g p ts r)
       → r.outer.items ≡ [] → IsResult t → AreComments cs → IsOver g p (ts ++ t ∷ cs) h.paths
   over r ts t cs h none is comments = record {
     front = ts;
@@ -67,7 +67,7 @@ module _ (g : Geometry) (p : Placement) (text : List ℕ) (size : length text �
     joined = refl;
   }
 
-  joined : (ts cs : List Token) (t u : Token) → (ts ++ t ∷ cs) ++ u ∷ [] ≡ (ts ++ t ∷ []) ++ (cs ++ u ∷ [])
+  pub joined : (ts cs : List Token) (t u : Token) → (ts ++ t ∷ cs) ++ u ∷ [] ≡ (ts ++ t ∷ []) ++ (cs ++ u ∷ [])
   joined ts cs t u = append_assoc ts (t ∷ cs) (u ∷ []) ∙ sym (append_assoc ts (t ∷ []) (cs ++ u ∷ []))
 
   -- behind the result another token is at fault

@@ -1,4 +1,4 @@
--- Laws of movetexts and their tokens.
+-- Laws of movetexts, their tokens, and written lines.
 use Rattle.std.specs.Prelude.{◌≡◌, ◌⊎◌, ℕ, true, List, [], ◌∷◌, ◌++◌}
 use Rattle.dw_board.specs.Geometry.{Geometry}
 use Rattle.dw_board.specs.Placement.{Placement}
@@ -8,6 +8,8 @@ use Rattle.dw_games.specs.Play.{after}
 use Rattle.dw_games.specs.Tokens.{Token, AreTokens}
 use Rattle.dw_games.specs.Movetext.{IsTree}
 use Rattle.dw_games.specs.Faults.{IsFirstFault}
+use Rattle.dw_games.specs.Lines.{IsWrittenLine, IsFirstLineFault}
+use Rattle.dw_games.specs.declared.fault.LineFaultKind.{LineFaultKind}
 use Rattle.dw_games.specs.declared.fault.MovetextFaultKind.{MovetextFaultKind}
 
 -- a row of tokens of a text, which is the only one
@@ -45,3 +47,15 @@ pub record IsPlayed (g : Geometry) (p : Placement) (tree : List (List Move)) (pa
 abbrev pub TreesArePlayed : Type 0
 TreesArePlayed = (g : Geometry) (p : Placement) (text : List ℕ) (tree : List (List Move)) → IsTree g p text tree
     → (path : List Move) → Member path tree → IsPlayed g p tree path
+
+-- a text is at most one line and has at most one first fault as a line, and never both
+pub record HasOneLine (g : Geometry) (p : Placement) (text : List ℕ) : Type 0 where
+  pub one_line : (moves other : List Move) → IsWrittenLine g p text moves → IsWrittenLine g p text other → moves ≡ other
+  pub one_fault : (what other : LineFaultKind) (place there : ℕ) → IsFirstLineFault g p text what place
+      → IsFirstLineFault g p text other there → (what ≡ other) × (place ≡ there)
+  pub never_both : (moves : List Move) (what : LineFaultKind) (place : ℕ) → IsWrittenLine g p text moves
+      → IsFirstLineFault g p text what place → ⊥
+
+-- at each position a text has at most one answer as a line
+abbrev pub OneLine : Type 0
+OneLine = (g : Geometry) (p : Placement) (text : List ℕ) → HasOneLine g p text

@@ -1,6 +1,6 @@
 //! Laws of the definitions, each the contract of a function that does nothing.
 ghost use Rattle.dw_games.specs.GameLaws.{GamesSayProblems, TextsHaveGames, ToldIsEnough};
-ghost use Rattle.dw_games.specs.Laws.{OneRow, OneAnswer, TreesArePlayed};
+ghost use Rattle.dw_games.specs.Laws.{OneRow, OneAnswer, OneLine, TreesArePlayed};
 
 /// Each text has exactly one row of tokens.
 /// Example: `1-1.` has the two tokens `1-1` and `.`, and `1.-1` has `1.`, a byte that begins none, and `1`.
@@ -12,6 +12,14 @@ pub fn one_row()
 /// Example: at `W:W27,32:B18` the text ` 1. 32-27` has the first fault `no such move at 5`: no other, and no tree.
 pub fn one_answer()
     ensures { OneAnswer }
+{
+    dw_notation::laws::texts_have_one_answer();
+}
+
+/// At each position a text is at most one written line and has at most one first fault as a line, and never both.
+/// Example: at `W:W27,32:B18` the text `1. 32-28 *` is the line of the move `32-28` alone, and has no fault as a line.
+pub fn one_line()
+    ensures { OneLine }
 {
     dw_notation::laws::texts_have_one_answer();
 }

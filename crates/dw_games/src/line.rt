@@ -15,7 +15,7 @@ use dw_moves::Move;
 use std::alloc::Global;
 
 /// Reads a written line from a position: the moves of a movetext without variations, 1 to 39 and odd in number, or the
-/// first fault.
+/// first fault. By `laws::one_line` a text has no other moves or first fault there.
 ///
 /// # Errors
 ///

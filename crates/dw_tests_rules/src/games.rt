@@ -2,7 +2,7 @@
 
 use crate::problems::{add_problem, whole_text};
 use dw_board::Board;
-use dw_games::{Game, Games, Node, Tree, read_movetext};
+use dw_games::{Game, Games, LineFault, Node, Tree, read_line, read_movetext};
 use dw_moves::Move;
 use dw_notation::Reading;
 use dw_tests_common::escapes::unescaped;
@@ -123,6 +123,30 @@ fn add_read<B: Board>(alloc: Global, fen: &str, text: &[u8], found: &mut Found) 
     match read_movetext(alloc, &read_position::<B>(fen)?, text) {
         Ok(tree) => add_tree(alloc, &tree, found).ok()?,
         Err(fault) => found.say(&fault),
+    }
+    Some(())
+}
+
+/// The moves of a written line by their ends, or the number of its first fault and the fault. The text stands in
+/// quotes.
+pub fn written_line<B: Board>(alloc: Global, asked: &str, found: &mut Found) -> Option<()> {
+    let quoted = column(asked, 1).strip_prefix('"')?.strip_suffix('"')?;
+    let text = unescaped(alloc, quoted)?;
+    let position = read_position::<B>(column(asked, 0))?;
+    match read_line(alloc, &position, text.as_slice()) {
+        Ok(line) => {
+            for mv in line.as_slice() {
+                add_move(Some(*mv), found);
+            }
+            found.add("end");
+        }
+        Err(fault) => {
+            if let LineFault::Refused { what, place: _ } = fault {
+                found.say(&what.number());
+                found.add(" ");
+            }
+            found.say(&fault);
+        }
     }
     Some(())
 }

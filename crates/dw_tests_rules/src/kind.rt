@@ -36,6 +36,7 @@ pub enum Kind {
     BrokenGames,
     Movetext,
     Repeated,
+    WrittenLine,
     Law,
 }
 
@@ -76,6 +77,7 @@ impl Kind {
             "broken-games" => Some(Kind::BrokenGames),
             "movetext" => Some(Kind::Movetext),
             "repeated" => Some(Kind::Repeated),
+            "written-line" => Some(Kind::WrittenLine),
             "law" => Some(Kind::Law),
             _ => None,
         }

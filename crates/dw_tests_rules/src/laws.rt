@@ -37,6 +37,8 @@ pub fn law(found: &mut Found) {
     texts::written_moves_are_read();
     games::one_row();
     games::one_answer();
+    games::one_line();
+    games::trees_are_played();
     games::games_say_problems();
     games::texts_have_games();
     games::told_is_enough();

@@ -93,6 +93,7 @@ fn answer<B: Board>(alloc: Global, kind: Kind, asked: &str, found: &mut Found) -
         Kind::BrokenGames => games::broken::<B>(alloc, asked, found),
         Kind::Movetext => games::movetext::<B>(alloc, asked, found),
         Kind::Repeated => games::repeated::<B>(alloc, asked, found),
+        Kind::WrittenLine => games::written_line::<B>(alloc, asked, found),
         Kind::Law => {
             laws::law(found);
             Some(())
