@@ -1,5 +1,5 @@
 -- Beginnings, gathered move by move from their ends; and moves that are played.
-use Rattle.std.proofs.Common.{◌≡◌, ℕ, ◌+◌, ◌<◌, ◌≤◌, List, [], ◌∷◌, ◌++◌, length, take, drop, get_or, refl}
+use Rattle.std.proofs.Common.{◌≡◌, ℕ, zero, suc, ◌+◌, ◌<◌, ◌≤◌, List, [], ◌∷◌, ◌++◌, length, take, drop, get_or, refl}
 use Rattle.std.proofs.Common.{sym, ap, ◌∙◌, subst, inl, inr, arith, append_assoc, append-nil, Option, Some}
 use Rattle.std.proofs.Common.{None, reverse, slice_get}
 use Rattle.std.proofs.lemmas.List.{take_all, take_more, reverse-append, length-append, length-reverse}
@@ -133,3 +133,24 @@ legal_more g p moves i m all low is legal =
 pub legal_all : (g : Geometry) (p : Placement) (moves : List Move) (i : ℕ) → LegalTo g p moves i → length moves ≤ i
     → (m : Move) → Member m moves → Legal g p m
 legal_all g p moves i all end m here = all m (subst (Member m) (sym (take_all i moves end)) here)
+
+-- each of the moves that can be played is legal behind those before it
+playable_at : (g : Geometry) (p : Placement) (moves : List Move) (i : ℕ) (m : Move) → ArePlayable g p moves
+    → i < length moves → m ≡ get_or moves i m → Legal g (reach g p (take i moves)) m
+playable_at g p [] i m h low is = absurd (omega (arith, low))
+playable_at g p (k ∷ moves) zero m h low is = subst (Legal g p) (sym is) h.0
+playable_at g p (k ∷ moves) (suc i) m h low is = playable_at g (play g p k) moves i m h.1 (omega (arith, low)) is
+
+pub played_no : (g : Geometry) (p : Placement) (moves : List Move) (i : ℕ) (current : Placement) (m : Move)
+    → PlayedTo g p moves i current → i < length moves → m ≡ get_or moves i m → (Legal g current m → ⊥)
+    → ArePlayable g p moves → ⊥
+played_no g p moves i current m h low is not playable =
+    not (subst (λ z. Legal g z m) (sym h.there) (playable_at g p moves i m playable low is))
+
+pub legal_no : (g : Geometry) (p : Placement) (moves : List Move) (i : ℕ) (m : Move) → i < length moves
+    → m ≡ get_or moves i m → (Legal g p m → ⊥) → ((o : Move) → Member o moves → Legal g p o) → ⊥
+legal_no g p moves i m low is not all = not (all m (stands moves i m low is)) where
+  stands : (xs : List Move) (i : ℕ) (x : Move) → i < length xs → x ≡ get_or xs i x → Member x xs
+  stands [] i x low is = absurd (omega (arith, low))
+  stands (y ∷ xs) zero x low is = inl is
+  stands (y ∷ xs) (suc i) x low is = inr (stands xs i x (omega (arith, low)) is)

@@ -1,9 +1,10 @@
 -- What is written of a remark on an author's solution.
-use Rattle.std.specs.Prelude.{◌≡◌, ℕ, List, [], ◌∷◌, ◌++◌, codes, decimal}
+use Rattle.std.specs.Prelude.{◌≡◌, ◌≤◌, ℕ, List, [], ◌∷◌, ◌++◌, length, codes, decimal}
 use Rattle.dw_board.specs.Geometry.{Geometry}
 use Rattle.dw_board.specs.Placement.{Placement}
-use Rattle.dw_moves.specs.Moves.{Move, play}
-use Rattle.dw_notation.specs.Text.{IsMoveText, IsLineText, AreJoined}
+use Rattle.dw_board.specs.Lists.{Member}
+use Rattle.dw_moves.specs.Moves.{Move, Legal, play}
+use Rattle.dw_notation.specs.Text.{IsMoveText, IsLineText, ArePlayable, AreJoined}
 use Rattle.dw_report.specs.Verdict.{reach}
 use Rattle.dw_report.specs.JudgedText.{next_number}
 use Rattle.dw_study.specs.Remarks.{Remark, fails, also, leaves_open, ends}
@@ -12,6 +13,16 @@ use Rattle.dw_study.specs.Remarks.{Remark, fails, also, leaves_open, ends}
 abbrev pub behind_blank : List ℕ → List ℕ
 behind_blank [] = []
 behind_blank (byte ∷ line) = codes " " ++ byte ∷ line
+
+-- its moves can be played where they stand, behind at most 39 others
+abbrev pub CanBeTold : Geometry → Placement → Remark → Type 0
+CanBeTold g p (fails b m r) = (length b ≤ 39) × ArePlayable g p b × Legal g (reach g p b) m
+    × Legal g (play g (reach g p b) m) r
+CanBeTold g p (also b keys) =
+    (length b ≤ 39) × ArePlayable g p b × ((m : Move) → Member m keys → Legal g (reach g p b) m)
+CanBeTold g p (leaves_open b replies) =
+    (length b ≤ 39) × ArePlayable g p b × ((m : Move) → Member m replies → Legal g (reach g p b) m)
+CanBeTold g p (ends b) = (length b ≤ 39) × ArePlayable g p b
 
 -- a remark in words: the beginning, and what stands or is missing behind it
 abbrev pub IsRemarkText : Geometry → Placement → Remark → List ℕ → Type 0

@@ -1,5 +1,5 @@
 //! Beginnings of an author's solution: their moves, the positions behind them, their texts.
-ghost use Rattle.std.specs.Prelude.{◌≡◌, ◌<◌, None, Some, length, IfOk, IfSome};
+ghost use Rattle.std.specs.Prelude.{◌≡◌, ◌<◌, ◌≤◌, None, Some, length, IfOk, IfSome, IsSome, MatchOption};
 ghost use Rattle.std.specs.String.{string_bytes};
 ghost use Rattle.dw_notation.specs.Text.{ArePlayable};
 ghost use Rattle.dw_games.specs.Walk.{beginning_at, place_of};
@@ -32,8 +32,10 @@ pub(crate) fn beginning_of<B: Board>(
     tree: &Tree<B>,
     node: Option<Node>,
 ) -> Result<Option<Beginning<B>>, AllocError>
-    ensures { (b : _) → beginning_at tree.now (place_of node) ≡ Some b
+    ensures begun { (b : _) → beginning_at tree.now (place_of node) ≡ Some b
         → IfOk result (λ made. IfSome made (IsBegun B.geometry position.now b)) }
+    ensures some { (b : _) → beginning_at tree.now (place_of node) ≡ Some b → length b ≤ 39
+        → ArePlayable B.geometry position.now b → IfOk result (λ made. IsSome made) }
 {
     let Some(moves) = moves_to(tree, node) else {
         return Ok(None);
@@ -85,7 +87,8 @@ pub(crate) fn moves_to<B: Board>(
 
 /// The position after moves, if each is legal after those before it.
 fn played<B: Board>(position: &Position<B>, moves: &[Move<B>]) -> Option<Position<B>>
-    ensures { IfSome result (λ behind. ArePlayable B.geometry position.now moves.now
+    ensures { MatchOption result (ArePlayable B.geometry position.now moves.now → ⊥)
+        (λ behind. ArePlayable B.geometry position.now moves.now
         × (behind ≡ reach B.geometry position.now moves.now)) }
 {
     let mut behind = *position;

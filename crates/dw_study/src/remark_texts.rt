@@ -1,10 +1,10 @@
 //! The texts of remarks on an author's solution.
-ghost use Rattle.std.specs.Prelude.{◌≡◌, Some, true, List, IfOk, IfSome};
+ghost use Rattle.std.specs.Prelude.{◌≡◌, ◌↔◌, Some, true, List, IfOk, IfSome, IsSome};
 ghost use Rattle.std.specs.String.{string_bytes};
 ghost use Rattle.dw_board.specs.Lists.{Member};
 ghost use Rattle.dw_moves.specs.Moves.{Legal};
 ghost use Rattle.dw_moves.specs.Moves as of;
-ghost use Rattle.dw_study.specs.RemarkText.{IsRemarkText};
+ghost use Rattle.dw_study.specs.RemarkText.{IsRemarkText, CanBeTold};
 ghost use Rattle.dw_study.specs.Remarks.{fails, also, leaves_open, ends};
 ghost use Rattle.dw_study.specs.Telling.{remark_in};
 ghost use Rattle.dw_study.specs.inner.Beginnings.{IsBegun};
@@ -31,8 +31,10 @@ pub fn remark_text<B: Board>(
     tree: &Tree<B>,
     remark: &Remark<B>,
 ) -> Result<Option<String>, AllocError>
-    ensures { (r : _) → remark_in tree.now remark.now ≡ Some r
+    ensures text { (r : _) → remark_in tree.now remark.now ≡ Some r
         → IfOk result (λ made. IfSome made (λ text. IsRemarkText B.geometry position.now r (string_bytes text))) }
+    ensures some { (r : _) → remark_in tree.now remark.now ≡ Some r → CanBeTold B.geometry position.now r
+        → IfOk result (λ made. IsSome made) }
 {
     match remark {
         Remark::Fails { at, mv, reply } => match beginning_of(alloc, position, tree, *at)? {
@@ -61,9 +63,11 @@ fn fails_text<B: Board>(
     mv: &Move<B>,
     reply: &Move<B>,
 ) -> Result<Option<String>, AllocError>
-    ensures { (p : _) (b : List of.Move) → IsBegun B.geometry p b beginning.now
+    ensures text { (p : _) (b : List of.Move) → IsBegun B.geometry p b beginning.now
         → IfOk result (λ made. IfSome made (λ text. IsRemarkText B.geometry p (fails b mv.now reply.now)
         (string_bytes text))) }
+    ensures some { (p : _) (b : List of.Move) → IsBegun B.geometry p b beginning.now
+        → CanBeTold B.geometry p (fails b mv.now reply.now) → IfOk result (λ made. IsSome made) }
 {
     if !is_legal(&beginning.position, mv) {
         return Ok(None);
@@ -95,8 +99,10 @@ fn also_text<B: Board>(
     beginning: &Beginning<B>,
     keys: &[Move<B>],
 ) -> Result<Option<String>, AllocError>
-    ensures { (p : _) (b : List of.Move) → IsBegun B.geometry p b beginning.now
+    ensures text { (p : _) (b : List of.Move) → IsBegun B.geometry p b beginning.now
         → IfOk result (λ made. IfSome made (λ text. IsRemarkText B.geometry p (also b keys.now) (string_bytes text))) }
+    ensures some { (p : _) (b : List of.Move) → IsBegun B.geometry p b beginning.now
+        → CanBeTold B.geometry p (also b keys.now) → IfOk result (λ made. IsSome made) }
 {
     if !are_legal(&beginning.position, keys) {
         return Ok(None);
@@ -121,9 +127,11 @@ fn open_text<B: Board>(
     beginning: &Beginning<B>,
     replies: &[Move<B>],
 ) -> Result<Option<String>, AllocError>
-    ensures { (p : _) (b : List of.Move) → IsBegun B.geometry p b beginning.now
+    ensures text { (p : _) (b : List of.Move) → IsBegun B.geometry p b beginning.now
         → IfOk result (λ made. IfSome made (λ text. IsRemarkText B.geometry p (leaves_open b replies.now)
         (string_bytes text))) }
+    ensures some { (p : _) (b : List of.Move) → IsBegun B.geometry p b beginning.now
+        → CanBeTold B.geometry p (leaves_open b replies.now) → IfOk result (λ made. IsSome made) }
 {
     if !are_legal(&beginning.position, replies) {
         return Ok(None);
@@ -138,8 +146,9 @@ fn ends_text<B: Board>(
     alloc: Global,
     beginning: &Beginning<B>,
 ) -> Result<Option<String>, AllocError>
-    ensures { (p : _) (b : List of.Move) → IsBegun B.geometry p b beginning.now
+    ensures text { (p : _) (b : List of.Move) → IsBegun B.geometry p b beginning.now
         → IfOk result (λ made. IfSome made (λ text. IsRemarkText B.geometry p (ends b) (string_bytes text))) }
+    ensures some { IfOk result (λ made. IsSome made) }
 {
     let text = ["ends", beginning.text.as_str(), "\n"].concat(alloc)?;
     Ok(Some(text))
@@ -147,7 +156,7 @@ fn ends_text<B: Board>(
 
 /// Whether all moves are legal at a position.
 fn are_legal<B: Board>(position: &Position<B>, moves: &[Move<B>]) -> bool
-    ensures { result ≡ true → ((m : of.Move) → Member m moves.now → Legal B.geometry position.now m) }
+    ensures { (result ≡ true) ↔ ((m : of.Move) → Member m moves.now → Legal B.geometry position.now m) }
 {
     'moves: for mv in moves {
         if !is_legal(position, mv) {
