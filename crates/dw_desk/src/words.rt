@@ -122,7 +122,7 @@ So a list that was cut off goes on behind its last whole line.
 
 Examples:
   echo W:W27,32,38:B18 | dw-desk token --line '1. 32-28 18-22 2. 27x18'
-  dw-desk token --problem 2 --line '1. 32-28 18-22 2. 27x18' examples/problems.fen";
+  dw-desk token --problem 3 --line '1. 32-28 18-22 2. 27x18' examples/problems.fen";
 
 const PROBLEM_HELP: &str =
     "Report on the problem I alone, or on those from I to J, 1 to 1000000 [default: all]";
