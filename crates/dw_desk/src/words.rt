@@ -76,7 +76,7 @@ with Ctrl-D.
 `dw-desk COMMAND --help` says what a command does, with an example.
 
 Examples:
-  dw-desk find examples/problems.fen
+  dw-desk find --most 6 examples/problems.fen
   dw-desk check examples/solutions.pdn
 
 Exit status: 0 done, 1 a problem was refused, undecided or is not there, 2 the arguments are no
