@@ -14,7 +14,7 @@ pub(crate) struct Entered {
     pub(crate) noted: Noted,
     /// How many entries were lost by it, the given one too.
     pub(crate) lost: u64,
-    /// Whether a place was taken that had been free.
+    /// Whether a place was taken that counts as free in `is_crowded`.
     pub(crate) fills: bool,
 }
 
@@ -47,6 +47,6 @@ pub(crate) trait Bucket<B: Board>: Copy {
         requires map { IsMap (entries self.now) }
         ensures { IsSplit B.geometry buckets index (entries self.now) (entries result.0) (entries result.1) };
 
-    /// Whether a table of so many buckets, of whose places so many are taken, loses too much.
+    /// Whether a table of so many buckets, with so many filled places, loses too much.
     fn is_crowded(buckets: usize, taken: usize) -> bool;
 }

@@ -4,7 +4,7 @@ ghost use Rattle.dw_memo.specs.Content.{IsMap};
 ghost use Rattle.dw_memo.specs.Noting.{IsNote};
 ghost use Rattle.dw_memo.specs.inner.Pairs.{pair_entries, depth, worth, IsChoice};
 ghost use Rattle.dw_memo.specs.inner.Slots.{standing};
-ghost use Rattle.dw_memo.specs.declared.memo.Noted.TheVariants.{NotKept};
+ghost use Rattle.dw_memo.specs.declared.memo.Noted.TheVariants.{Kept, NotKept};
 ghost use Rattle.dw_memo.specs.inner.Keeping.{bounds_in};
 
 use crate::bounds::Bounds;
@@ -33,9 +33,9 @@ impl<B: Board> Pair<B> {
         ensures choice { IsChoice self.old position.now bounds result.noted self.new }
     {
         if self.first.holds(position) {
-            self.first.enter(position, bounds)
+            enter_into(&mut self.first, position, bounds)
         } else if self.second.holds(position) {
-            self.second.enter(position, bounds)
+            enter_into(&mut self.second, position, bounds)
         } else if self.second.worth() < self.first.worth() {
             contend(&mut self.second, &mut self.first, position, bounds)
         } else {
@@ -67,7 +67,22 @@ fn contend<B: Board>(
             fills: false,
         };
     }
-    lesser.enter(position, bounds)
+    enter_into(lesser, position, bounds)
+}
+
+/// Puts the bounds of a position into a place. The place counts as filled if they tell of two moves or more, and what
+/// stood there did not: most facts tell of one move alone, and a table that grew for them would be slower to look into
+/// for all that it holds.
+#[inline]
+fn enter_into<B: Board>(place: &mut Slot<B>, position: &Position<B>, bounds: Bounds) -> Entered
+    ensures kept { result.noted ≡ Kept }
+    ensures note { IsNote (standing place.old) position.now bounds result.noted (standing place.new) 0 result.lost }
+{
+    let fills = 1 < bounds.depth() && place.worth() <= 2;
+    Entered {
+        fills,
+        ..place.enter(position, bounds)
+    }
 }
 
 impl<B: Board> Bucket<B> for Pair<B> {
@@ -106,7 +121,8 @@ impl<B: Board> Bucket<B> for Pair<B> {
         (Pair { first, second }, away)
     }
 
-    /// Three quarters are taken. The fuller a table is, the more of its pairs are full, and lose what comes to them.
+    /// Three quarters of its places have facts of two moves or more. The fuller a table is, the more of its pairs are
+    /// full, and lose what comes to them.
     fn is_crowded(buckets: usize, taken: usize) -> bool {
         buckets - buckets / 4 < taken / 2
     }

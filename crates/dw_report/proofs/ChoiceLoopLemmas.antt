@@ -74,10 +74,6 @@ pub after_reply : (g : Geometry) (n : ℕ) (q x : Placement) (r : Move) (d : Opt
 after_reply g n q x r d there legal h = replies_as g n q r d legal
     (subst (λ z. FindsLeast (Before g z) (ComesToChoices g n z) d) there h)
 
-pub winning_legal : (g : Geometry) (p : Placement) (n : ℕ) (m : Move) → IsWinning g p n m → Legal g p m
-winning_legal g p zero m h = absurd h
-winning_legal g p (suc n) m h = h.0
-
 -- lists that are the same
 pub least_is : (Less P : List Move → List Move → Type 0) (l cs k ds : List Move) → l ≡ k → cs ≡ ds → IsLeast Less P k ds
     → IsLeast Less P l cs

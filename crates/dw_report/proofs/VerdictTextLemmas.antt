@@ -1,6 +1,6 @@
 -- The lines of verdicts and of tries, put together.
 use Rattle.std.proofs.Common.{◌≡◌, ℕ, ◌+◌, ◌-◌, ◌/◌, List, [], ◌∷◌, ◌++◌, length, refl, sym, ap, ◌∙◌, subst, inl}
-use Rattle.std.proofs.Common.{append_assoc, append-nil, codes, decimal}
+use Rattle.std.proofs.Common.{codes, decimal}
 use Rattle.dw_board.specs.Geometry.{Geometry}
 use Rattle.dw_board.specs.Placement.{Placement}
 use Rattle.dw_moves.specs.Moves.{Move, Legal, play}
@@ -8,6 +8,7 @@ use Rattle.dw_board.specs.Lists.{Member}
 use Rattle.dw_notation.specs.Text.{IsMoveText, IsLineText, ArePlayable, AreJoined}
 use Rattle.dw_report.specs.Verdict.{unsolvable, cooked, dual, sound, reach, IsVerdict}
 use Rattle.dw_report.specs.JudgedText.{next_number, IsVerdictText, IsTryLine}
+use Rattle.dw_report.specs.inner.JoinedLemmas.{joined_3, joined_5, joined_7, joined_9}
 use Rattle.dw_report.proofs.JudgedTextLemmas.{keys_legal, line_playable, playable_front}
 
 -- the moves that a verdict names can be played
@@ -28,21 +29,6 @@ dual_is g p n l cs k ds e f h = subst (λ (z : List Move). IsVerdict g p n (dual
 
 pub key_legal : (g : Geometry) (p : Placement) (n : ℕ) (m : Move) → IsVerdict g p n (sound m) → Legal g p m
 key_legal g p n m h = keys_legal g p n (m ∷ []) h.0.0 m (inl refl)
-
--- pieces one behind another
-joined_3 : (a b c : List ℕ) → a ++ (b ++ (c ++ [])) ≡ a ++ b ++ c
-joined_3 a b c = simp (append_assoc, append-nil)
-
-joined_5 : (a b c d e : List ℕ) → a ++ (b ++ (c ++ (d ++ (e ++ [])))) ≡ a ++ b ++ c ++ d ++ e
-joined_5 a b c d e = simp (append_assoc, append-nil)
-
-joined_7 : (a b c d e f g : List ℕ) → a ++ (b ++ (c ++ (d ++ (e ++ (f ++ (g ++ [])))))) ≡ a ++ b ++ c ++ d ++ e ++ f
-    ++ g
-joined_7 a b c d e f g = simp (append_assoc, append-nil)
-
-joined_9 : (a b c d e f g h i : List ℕ) → a ++ (b ++ (c ++ (d ++ (e ++ (f ++ (g ++ (h ++ (i ++ []))))))))
-    ≡ a ++ b ++ c ++ d ++ e ++ f ++ g ++ h ++ i
-joined_9 a b c d e f g h i = simp (append_assoc, append-nil)
 
 pub unsolvable_made : (g : Geometry) (p : Placement) (n : ℕ) (digits text : List ℕ) → digits ≡ decimal n
     → text ≡ codes "unsolvable in " ++ (digits ++ (codes "\n" ++ [])) → IsVerdictText g p n unsolvable text

@@ -5,3 +5,4 @@ pub mod MoveTexts
 pub mod Judging
 pub mod Running
 pub mod GatheredLemmas
+pub mod JoinedLemmas

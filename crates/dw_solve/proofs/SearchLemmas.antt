@@ -1,17 +1,21 @@
 -- Steps of a search.
 use Rattle.std.proofs.Common.{◌≡◌, ℕ, ◌+◌, ◌-◌, ◌*◌, ◌≤◌, ◌<◌, ◌⊎◌, inl, inr, Bool, true, false, refl, sym, ◌∙◌, subst}
 use Rattle.std.proofs.Common.{◌↔◌, arith, IsTrue, Ok, Err}
-use Rattle.std.specs.Prelude.{not, Option, Some, None, IsSome, MatchOption}
+use Rattle.std.specs.Prelude.{not, Option, Some, None, IsSome, MatchOption, Result, OnOk}
 use Rattle.std.proofs.lemmas.Bool.{true≢false}
 use Rattle.dw_board.specs.Geometry.{Geometry}
 use Rattle.dw_board.specs.Placement.{Placement}
-use Rattle.dw_memo.specs.Content.{Content, SameEntries}
+use Rattle.dw_board.specs.Lists.{Member}
+use Rattle.dw_memo.specs.Content.{Content, IsMap, SameEntries, entry}
+use Rattle.dw_memo.specs.Bounding.{decided}
+use Rattle.dw_memo.specs.declared.bounds.Bounds.{Bounds}
 use Rattle.dw_moves.specs.Moves.{Move, Legal, play}
 use Rattle.dw_solve.specs.Wins.{Win, Lost}
 use Rattle.dw_solve.specs.Certificates.{SaysLost}
-use Rattle.dw_solve.specs.Facts.{IsDecided, RepliesAreDecided}
+use Rattle.dw_solve.specs.Facts.{AreTrue, IsDecided, RepliesAreDecided}
 use Rattle.dw_solve.specs.Searching.{IsCounted}
-use Rattle.dw_solve.proofs.MemoLemmas.{same_win, same_fail}
+use Rattle.dw_solve.specs.inner.Searching.{IsUndecided, IsLookedUp}
+use Rattle.dw_solve.proofs.MemoLemmas.{same_win, same_fail, decided_right, decided_known, decided_says, undecided_open}
 
 pub counted_none : (a l : ℕ) → a ≤ l → IsCounted a l a l
 counted_none a l h = record { rises = omega arith; within = h; same = refl }
@@ -35,17 +39,6 @@ answer_no P no_win = ((λ e. absurd (true≢false (sym e))), (λ p. absurd (no_w
 
 pub answer_yes : (P : Type 0) → P → IsTrue true ↔ P
 answer_yes P p = ((λ _. p), (λ _. refl))
-
--- what isn't known in a memo isn't in one with the same entries, so an answer has counted one
-pub spent_later : (c d : Content) (p : Placement) (n a b e : ℕ) → SameEntries c d → b ≡ a
-    → (1 ≤ n → (IsDecided d p n → ⊥) → b < e) → 1 ≤ n → (IsDecided c p n → ⊥) → a < e
-spent_later c d p n a b e same is h some none =
-    let less = h some (λ k. none (elim k [
-      | inl w ↦ inl (same_win c d same p n w)
-      | inr f ↦
-          inr (same_fail c d same p n f)
-    ])) in
-    omega (arith, less, is)
 
 -- no win within any number below i
 abbrev pub NoneBelow : Geometry → Placement → ℕ → Type 0
@@ -113,6 +106,32 @@ ok_is_no_err x e q = cc
 pub never_known : (Q : Type 0) (n : ℕ) (P : Type 0) → 1 ≤ n → (P → ⊥) → (n ≡ 0) ⊎ P → Q
 never_known Q n P some unknown (inl none) = absurd (omega (arith, some, none))
 never_known Q n P some unknown (inr known) = absurd (unknown known)
+
+-- nor is what a memo with the same entries does not decide
+pub not_known : (Q : Type 0) (c d : Content) (p : Placement) (n : ℕ) → SameEntries c d → IsUndecided d p n
+    → (n ≡ 0) ⊎ IsDecided c p n → Q
+not_known Q c d p n same none = never_known Q n (IsDecided c p n) none.some
+    (λ known. none.undecided (decided_same c d p n same known))
+
+-- an answer that has counted one has counted it since an earlier time, at which the count was the same
+pub spent_in : {A E : Type 0} (P Q : Type 0) (answer : Result A E) (a b e : ℕ) → b ≡ a → OnOk answer (b < e)
+    → OnOk answer (P → Q → a < e)
+spent_in P Q (Ok x) a b e same spent = λ _ _. omega (arith, same, spent)
+spent_in P Q (Err x) a b e same spent = tt
+
+-- what the bounds of a position tell of a win within n moves
+pub looked_up : (g : Geometry) (c d : Content) (p : Placement) (b : Bounds) (n : ℕ) (r : Option Bool) → AreTrue g c
+    → IsMap d → SameEntries c d → Member (entry p b) c → r ≡ decided b n → 1 ≤ n → IsLookedUp g c d p n r
+looked_up g c d p b n (Some won) right map same held is some = record {
+  answer = decided_right g c p b n (Some won) right held is;
+  sure = inr (decided_known c p b n (Some won) held is refl);
+  says = decided_says d p b n (Some won) ((same (entry p b)).0 held) is;
+}
+looked_up g c d p b n None right map same held is some = record {
+  some = some;
+  undecided = undecided_open d p b n None map ((same (entry p b)).0 held) is refl;
+  map = map;
+}
 
 -- of a list that is not empty there is a first item
 pub some_first : {X : Type 0} (o : Option X) (n : ℕ) (Q : X → Type 0) → MatchOption o (n ≡ 0) Q → 1 ≤ n → IsSome o

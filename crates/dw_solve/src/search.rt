@@ -9,7 +9,8 @@ ghost use Rattle.dw_solve.specs.declared.stop.Stop.TheVariants.{Limit};
 ghost use Rattle.dw_solve.specs.Wins.{Win, Lost};
 ghost use Rattle.dw_solve.specs.Facts.{AreTrue, IsDecided, RepliesAreDecided};
 ghost use Rattle.dw_solve.specs.inner.Searching.{at_time, CanSearch, HasSearched, LosesNothing, StaysIdle};
-ghost use Rattle.dw_solve.specs.inner.Searching.{HasBounds, IsNoted, SaysMove};
+ghost use Rattle.dw_solve.specs.inner.Searching.{HasLooked, IsLookedUp};
+ghost use Rattle.dw_solve.specs.inner.Searching.{HasBounds, IsNoted, SaysMove, IsUndecided};
 ghost use Rattle.dw_solve.specs.Work.{Searched};
 ghost use Rattle.dw_solve.specs.Certificates.{SaysWin, SaysLost};
 ghost use Rattle.dw_solve.specs.Ranking.{AreRanked};
@@ -65,6 +66,27 @@ pub(crate) fn wins<B: Board, M: Memo<B>, G: Guide<B>>(
     if let Some(answer) = known(search, position, moves) {
         return Ok(answer);
     }
+    expand(search, plies, position, moves)
+}
+
+/// Whether the side to move wins within so many of its moves, if the memo does not decide it: the position is counted,
+/// its moves are gone through, and what is found out is noted.
+#[cycle(search)]
+pub(crate) fn expand<B: Board, M: Memo<B>, G: Guide<B>>(
+    search: &mut Search<M, G>,
+    plies: &mut [Ply<B>],
+    position: &Position<B>,
+    moves: u8,
+) -> Result<bool, Stop>
+    requires ready { CanSearch B.geometry M.content search.old }
+    requires undecided { IsUndecided (M.content search.old.memo) position.now moves }
+    requires room { 2 * moves ≤ length plies.old }
+    ensures answer { IfOk result (λ yes. IsTrue yes ↔ Win B.geometry position.now moves) }
+    ensures spent { OnOk result (search.old.expanded < search.new.expanded) }
+    ensures searched { HasSearched B.geometry M.content M.dropped moves search.old search.new result }
+    ensures says { LosesNothing M.content M.dropped search.old search.new
+        → IfOk result (SaysWin (M.content search.new.memo) position.now moves) }
+{
     count(search)?;
     let (ply, rest) = plies.split_first_mut().unwrap();
     line_up(search, ply, position, moves - 1)?;
@@ -216,19 +238,9 @@ pub(crate) fn known<B: Board, M: Memo<B>, G>(
     moves: u8,
 ) -> Option<bool>
     requires { AreTrue B.geometry (M.content search.old.memo) }
-    ensures answer { IfSome result (λ yes. IsTrue yes ↔ Win B.geometry position.now moves) }
-    ensures right { AreTrue B.geometry (M.content search.new.memo) }
-    ensures count { search.new.expanded ≡ search.old.expanded }
-    ensures limit { search.new.limit ≡ search.old.limit }
-    ensures same { SameEntries (M.content search.old.memo) (M.content search.new.memo) }
-    ensures sure { IsSome result
-        → (moves ≡ 0) ⊎ IsDecided (M.content search.old.memo) position.now moves }
-    ensures some { IsNone result → 1 ≤ moves }
-    ensures open { IsNone result → IsDecided (M.content search.old.memo) position.now moves → ⊥ }
-    ensures map { IsNone result → IsMap (M.content search.old.memo) }
-    ensures searched { Searched B.geometry 0 0
-        (at_time M.content M.dropped search.old) (at_time M.content M.dropped search.new) }
-    ensures says { IfSome result (SaysWin (M.content search.new.memo) position.now moves) }
+    ensures looked { HasLooked B.geometry M.content M.dropped search.old search.new }
+    ensures answer { IsLookedUp B.geometry (M.content search.old.memo) (M.content search.new.memo) position.now moves
+        result }
 {
     if moves == 0 {
         return Some(false);

@@ -15,7 +15,7 @@ use crate::guide::Guide;
 use crate::history::History;
 use crate::lineup::Lineup;
 use crate::ply::Ply;
-use crate::search::{Search, known, loses, wins};
+use crate::search::{Search, expand, known, loses};
 use crate::stop::Stop;
 use dw_board::{Board, Position};
 use dw_memo::Memo;
@@ -249,7 +249,7 @@ fn ask_wins<B: Board, M: Memo<B>, G: Guide<B>>(
     }
     let mut plies = prepared(alloc, kept.take(), PLIES)?;
     search.history.forget();
-    let answer = wins(search, plies.as_mut_slice(), position, moves);
+    let answer = expand(search, plies.as_mut_slice(), position, moves);
     *kept = Some(plies);
     answer
 }

@@ -1,11 +1,12 @@
 -- The texts of remarks, put together.
-use Rattle.std.proofs.Common.{◌≡◌, ℕ, ◌+◌, ◌/◌, List, [], ◌∷◌, ◌++◌, length, refl, sym, ap, ◌∙◌, subst, append_assoc}
-use Rattle.std.proofs.Common.{append-nil, codes, decimal, Option, Some, None, option_map}
+use Rattle.std.proofs.Common.{◌≡◌, ℕ, ◌+◌, ◌/◌, List, [], ◌∷◌, ◌++◌, length, refl, sym, ap, ◌∙◌, subst}
+use Rattle.std.proofs.Common.{codes, decimal, Option, Some, None, option_map}
 use Rattle.dw_board.specs.Geometry.{Geometry}
 use Rattle.dw_board.specs.Placement.{Placement}
 use Rattle.dw_moves.specs.Moves.{Move, play}
 use Rattle.dw_notation.specs.Text.{IsLineText, IsMoveText, AreJoined}
 use Rattle.dw_report.specs.Verdict.{reach}
+use Rattle.dw_report.specs.inner.JoinedLemmas.{joined_3, joined_5, joined_7, joined_9}
 use Rattle.dw_study.specs.Remarks.{Remark, fails, also, leaves_open, ends}
 use Rattle.dw_study.specs.RemarkText.{behind_blank, IsRemarkText}
 
@@ -17,20 +18,6 @@ told (Some b) f r e = (b, refl, ap inside e) where
   inside : Option Remark → Remark
   inside None = r
   inside (Some z) = z
-
-joined_3 : (a b c : List ℕ) → a ++ (b ++ (c ++ [])) ≡ a ++ b ++ c
-joined_3 a b c = simp (append_assoc, append-nil)
-
-joined_5 : (a b c d e : List ℕ) → a ++ (b ++ (c ++ (d ++ (e ++ [])))) ≡ a ++ b ++ c ++ d ++ e
-joined_5 a b c d e = simp (append_assoc, append-nil)
-
-joined_7 : (a b c d e f g : List ℕ) → a ++ (b ++ (c ++ (d ++ (e ++ (f ++ (g ++ [])))))) ≡ a ++ b ++ c ++ d ++ e ++ f
-    ++ g
-joined_7 a b c d e f g = simp (append_assoc, append-nil)
-
-joined_9 : (a b c d e f g h i : List ℕ) → a ++ (b ++ (c ++ (d ++ (e ++ (f ++ (g ++ (h ++ (i ++ []))))))))
-    ≡ a ++ b ++ c ++ d ++ e ++ f ++ g ++ h ++ i
-joined_9 a b c d e f g h i = simp (append_assoc, append-nil)
 
 pub fails_made : (g : Geometry) (p q then : Placement) (b : List Move) (m r : Move)
     (line move reply begun digits one two text : List ℕ) → IsLineText g p b line → begun ≡ behind_blank line

@@ -1,9 +1,9 @@
 -- What the parts of a search do.
-use Rattle.std.specs.Prelude.{◌≡◌, ◌⊎◌, ℕ, ◌≤◌, Bool, cond, IsTrue, Result, IsErrOf}
+use Rattle.std.specs.Prelude.{◌≡◌, ◌⊎◌, ◌↔◌, ℕ, ◌≤◌, Bool, cond, IsTrue, Option, Some, None, Result, IsErrOf}
 use Rattle.dw_memo.specs.declared.bounds.Bounds.{Bounds}
 use Rattle.dw_memo.specs.inner.Keeping.{nothing}
 use Rattle.dw_board.specs.Placement.{Placement}
-use Rattle.dw_memo.specs.Content.{entry, Content, positions, SameEntries}
+use Rattle.dw_memo.specs.Content.{entry, Content, positions, IsMap, SameEntries}
 use Rattle.dw_board.specs.Lists.{Member}
 use Rattle.dw_memo.specs.declared.memo.Noted.{Noted}
 use Rattle.dw_memo.specs.Bounding.{with_win, with_fail}
@@ -11,7 +11,9 @@ use Rattle.dw_memo.specs.Noting.{IsNote}
 use Rattle.dw_solve.specs.Work.{Moment, moment, NothingLost, Searched, cut_off}
 use Rattle.dw_board.specs.Geometry.{Geometry}
 use Rattle.dw_moves.specs.Moves.{Move, Legal, play}
-use Rattle.dw_solve.specs.Facts.{KnownWin, KnownFail, AreTrue}
+use Rattle.dw_solve.specs.Wins.{Win}
+use Rattle.dw_solve.specs.Facts.{KnownWin, KnownFail, AreTrue, IsDecided}
+use Rattle.dw_solve.specs.Certificates.{SaysWin}
 use Rattle.dw_solve.specs.Searching.{IsCounted}
 use Rattle.dw_solve.specs.declared.search.Search.{Search}
 use Rattle.dw_solve.specs.declared.stop.Stop.{Stop}
@@ -43,6 +45,23 @@ pub record HasLooked {M G : Type 0} (g : Geometry) (content : M → Content) (lo
   pub limit : new.limit ≡ old.limit
   pub same : SameEntries (content old.memo) (content new.memo)
   pub work : Searched g 0 0 (at_time content lost old) (at_time content lost new)
+
+-- the memo does not decide whether there is a win within n moves, and n is 1 at least
+pub record IsUndecided (c : Content) (p : Placement) (n : ℕ) : Type 0 where
+  pub some : 1 ≤ n
+  pub undecided : IsDecided c p n → ⊥
+  pub map : IsMap c
+
+-- a memo that held the one content decides whether there is a win within n moves, and with the other it still says so
+pub record IsKnown (g : Geometry) (before after : Content) (p : Placement) (n : ℕ) (won : Bool) : Type 0 where
+  pub answer : IsTrue won ↔ Win g p n
+  pub sure : (n ≡ 0) ⊎ IsDecided before p n
+  pub says : SaysWin after p n won
+
+-- what a look at the memo tells of a win within n moves: whether there is one, or that the memo does not decide it
+abbrev pub IsLookedUp : Geometry → Content → Content → Placement → ℕ → Option Bool → Type 0
+IsLookedUp g before after p n (Some won) = IsKnown g before after p n won
+IsLookedUp g before after p n None = IsUndecided after p n
 
 -- the memo lost nothing meanwhile
 abbrev pub LosesNothing : {M G : Type 0} → (M → Content) → (M → ℕ) → Search M G → Search M G → Type 0

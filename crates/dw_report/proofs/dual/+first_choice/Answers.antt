@@ -9,8 +9,9 @@ use Rattle.dw_report.specs.Verdict.{IsWinning, Keys}
 use Rattle.dw_report.specs.inner.Judging.{LeadsToChoices, ComesToChoices, RepliesToChoices, FindsLeast, parts_of}
 use Rattle.dw_report.specs.inner.GatheredLemmas.{item_among}
 use Rattle.dw_report.proofs.ChoiceLemmas.{leads_begin, replies_begin, comes_later}
+use Rattle.dw_report.proofs.JudgedTextLemmas.{winning_legal}
 use Rattle.dw_report.proofs.ChoiceLoopLemmas.{none_to_more, none_to_all, found_at, map_same, after_key, some_left}
-use Rattle.dw_report.proofs.ChoiceLoopLemmas.{room_for_key, room_for_reply, after_reply, winning_legal, least_is}
+use Rattle.dw_report.proofs.ChoiceLoopLemmas.{room_for_key, room_for_reply, after_reply, least_is}
 use Rattle.dw_report.proofs.ChoiceLoopLemmas.{ok_map, first_here}
 use Rattle.dw_report.proofs.dual.+first_choice.Goals as goal
 

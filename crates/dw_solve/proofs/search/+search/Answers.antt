@@ -22,7 +22,7 @@ use Rattle.dw_solve.proofs.StepLemmas.{searched_memory, searched_looked, memory_
 use Rattle.dw_solve.proofs.TriedLemmas.{Refuted, Answered, tried_none, tried_later, refuted_more, answered_more}
 use Rattle.dw_solve.proofs.TriedLemmas.{says_winning, says_none, says_refuted}
 use Rattle.dw_solve.proofs.WinLemmas.{hopeless_is}
-use Rattle.dw_solve.proofs.SearchLemmas.{ok_is_no_err, never_known, unchanged_none, unchanged_then, reply_decided}
+use Rattle.dw_solve.proofs.SearchLemmas.{ok_is_no_err, not_known, spent_in, unchanged_none, unchanged_then, reply_decided}
 use Rattle.dw_solve.proofs.SearchLemmas.{lost_at_none, says_at_none, decided_same, counted_none, counted_then, is_so, is_not}
 use Rattle.dw_solve.proofs.SearchLemmas.{answer_no, answer_yes, some_first, counted_within, same_within, one_spent}
 use Rattle.dw_solve.proofs.SearchLemmas.{none_below_none, none_or_one, none_or_some, one_at_most, one_less}
@@ -230,18 +230,18 @@ some_move_wins-returns-clause-answer g t c =
 
 pub wins-returns-in-Some-clause-spent : goal.wins-returns-in-Some-clause-spent
 wins-returns-in-Some-clause-spent g t c some undecided =
-    absurd (elim (c.in-Some.ensures.sure refl) [
+    absurd (elim (c.in-Some.ensures.answer.sure) [
       | inl none ↦ none_or_some c.args.moves none some
       | inr known ↦ undecided known
     ])
 
-pub wins-some_move_wins-requires : goal.wins-some_move_wins-requires
-wins-some_move_wins-requires g t c κs within =
+pub expand-some_move_wins-requires : goal.expand-some_move_wins-requires
+expand-some_move_wins-requires g t c κs within =
     let geo = g.B.Board.geometry in
     let rest = (MatchOption-at_some (length c.args.plies.now ≡ 0) (λ p. IsFirstAndRest c.args.plies.now p.0.now p.1.now)
-    c.unwrap-2.result c.unwrap-2.ensures c.split_first_mut-2.ensures.cases).1 in
+    c.unwrap.result c.unwrap.ensures c.split_first_mut.ensures.cases).1 in
     let f = c.decreases in
-    let some = c.in_default.ensures.some refl in (
+    let some = c.requires.undecided.some in (
       omega (arith, f, some),
       (
         within.0,
@@ -254,10 +254,10 @@ wins-some_move_wins-requires g t c κs within =
               (
                 record {
                   right = subst (λ m. AreTrue geo (g.M.Memo.content m)) (sym c.count.ensures.memo)
-                      c.known.ensures.right;
+                      c.requires.ready.right;
                   within = c.count.ensures.within;
                 },
-                room_after c.args.moves (length c.args.plies.now) (length c.unwrap-2.result.1.now) some rest
+                room_after c.args.moves (length c.args.plies.now) (length c.unwrap.result.1.now) some rest
                     c.requires.room,
               ),
             ),
@@ -407,52 +407,52 @@ wins-returns-in-Some-clause-searched g t c =
     let lost = g.M.Memo.dropped in
     searched_ok geo content lost c.args.moves _ _ 0 _ (searched_looked geo content lost c.args.moves _
     c.known.new.search c.requires.ready
-    c.known.ensures.right c.known.ensures.count c.known.ensures.limit c.known.ensures.searched)
+    c.known.ensures.looked.right c.known.ensures.looked.count c.known.ensures.looked.limit c.known.ensures.looked.work)
 
-pub wins-returns-in_err-line_up-clause-searched : goal.wins-returns-in_err-line_up-clause-searched
-wins-returns-in_err-line_up-clause-searched g t c = record {
-  right = subst (λ m. AreTrue g.B.Board.geometry (g.M.Memo.content m)) (sym c.count.ensures.memo) c.known.ensures.right;
-  count = counted_one c.args.search.now.expanded c.args.search.now.limit c.known.new.search.expanded
-      c.known.new.search.limit c.count.new.search.expanded c.count.new.search.limit c.requires.ready.within
-      c.known.ensures.count c.known.ensures.limit c.count.ensures.rises c.count.ensures.limit c.count.ensures.within;
+pub expand-returns-in_err-line_up-clause-searched : goal.expand-returns-in_err-line_up-clause-searched
+expand-returns-in_err-line_up-clause-searched g t c = record {
+  right = subst (λ m. AreTrue g.B.Board.geometry (g.M.Memo.content m)) (sym c.count.ensures.memo) c.requires.ready.right;
+  count = counted_one c.args.search.now.expanded c.args.search.now.limit c.args.search.now.expanded
+      c.args.search.now.limit c.count.new.search.expanded c.count.new.search.limit c.requires.ready.within
+      refl refl c.count.ensures.rises c.count.ensures.limit c.count.ensures.within;
   stop = memory_is_no_limit c.from_residual-in_err-line_up.result _ c.from_residual-in_err-line_up.ensures.1;
   work =
       let geo = g.B.Board.geometry in
       searched_stop geo c.args.moves c.from_residual-in_err-line_up.result _ _ c.from_residual-in_err-line_up.ensures.0
-      (wins_stopped geo c.args.moves 0 _ (moment g.M.Memo.content g.M.Memo.dropped c.known.new.search.memo
-      c.known.new.search.expanded) _ _ (c.in_default.ensures.some refl) (none_at_most (c.args.moves - 1))
+      (wins_stopped geo c.args.moves 0 _ (moment g.M.Memo.content g.M.Memo.dropped c.args.search.now.memo
+      c.args.search.now.expanded) _ _ c.requires.undecided.some (none_at_most (c.args.moves - 1))
       (begun_is g.M.Memo.content g.M.Memo.dropped _ _ _ _ c.count.ensures.memo c.in_ok-count.ensures.more)
-      c.known.ensures.searched (searched_none _ _ _ _));
+      (searched_none _ 0 0 _) (searched_none _ _ _ _));
 }
 
-pub wins-returns-in_err-won-clause-searched : goal.wins-returns-in_err-won-clause-searched
-wins-returns-in_err-won-clause-searched g t c = record {
+pub expand-returns-in_err-won-clause-searched : goal.expand-returns-in_err-won-clause-searched
+expand-returns-in_err-won-clause-searched g t c = record {
   right = c.in_err-won.ensures.searched.right;
   count = counted_then _ _ _ _ _ _ (counted_one c.args.search.now.expanded c.args.search.now.limit
-      c.known.new.search.expanded
-      c.known.new.search.limit c.count.new.search.expanded c.count.new.search.limit c.requires.ready.within
-      c.known.ensures.count c.known.ensures.limit c.count.ensures.rises c.count.ensures.limit c.count.ensures.within)
+      c.args.search.now.expanded
+      c.args.search.now.limit c.count.new.search.expanded c.count.new.search.limit c.requires.ready.within
+      refl refl c.count.ensures.rises c.count.ensures.limit c.count.ensures.within)
       c.in_err-won.ensures.searched.count;
   stop = stop_passed c.in_err-won.field-0.0 c.from_residual-in_err-won.result _ c.from_residual-in_err-won.ensures.1
       c.in_err-won.ensures.searched.stop;
   work =
       let geo = g.B.Board.geometry in
-      let some = c.in_default.ensures.some refl in
+      let some = c.requires.undecided.some in
       searched_stop geo c.args.moves c.from_residual-in_err-won.result _ _ c.from_residual-in_err-won.ensures.0
       (wins_stopped geo c.args.moves (c.args.moves - 1) _ (moment g.M.Memo.content g.M.Memo.dropped
-      c.known.new.search.memo c.known.new.search.expanded) _ _ some (same_at_most (c.args.moves - 1))
+      c.args.search.now.memo c.args.search.now.expanded) _ _ some (same_at_most (c.args.moves - 1))
       (begun_is g.M.Memo.content g.M.Memo.dropped _ _ _ _ c.count.ensures.memo c.in_ok-count.ensures.more)
-      c.known.ensures.searched c.in_err-won.ensures.searched.work);
+      (searched_none _ 0 0 _) c.in_err-won.ensures.searched.work);
 }
 
-pub wins-returns-clause-searched : goal.wins-returns-clause-searched
-wins-returns-clause-searched g t c = record {
+pub expand-returns-clause-searched : goal.expand-returns-clause-searched
+expand-returns-clause-searched g t c = record {
   right = c.note.ensures.right;
   count =
       let found = counted_then _ _ _ _ _ _ (counted_one c.args.search.now.expanded c.args.search.now.limit
-      c.known.new.search.expanded
-      c.known.new.search.limit c.count.new.search.expanded c.count.new.search.limit c.requires.ready.within
-      c.known.ensures.count c.known.ensures.limit c.count.ensures.rises c.count.ensures.limit c.count.ensures.within)
+      c.args.search.now.expanded
+      c.args.search.now.limit c.count.new.search.expanded c.count.new.search.limit c.requires.ready.within
+      refl refl c.count.ensures.rises c.count.ensures.limit c.count.ensures.within)
       c.in_ok-won.ensures.searched.count in
       record {
         rises = subst (λ e. c.args.search.now.expanded ≤ e) (sym c.note.ensures.count) found.rises;
@@ -462,26 +462,26 @@ wins-returns-clause-searched g t c = record {
   stop = λ e. absurd (ok_is_no_err _ _ e);
   work =
       let geo = g.B.Board.geometry in
-      let some = c.in_default.ensures.some refl in
+      let some = c.requires.undecided.some in
       (wins_ended geo c.args.moves c.args.position.now c.in_ok-won.won _ (moment g.M.Memo.content g.M.Memo.dropped
-      c.known.new.search.memo c.known.new.search.expanded) _ (moment g.M.Memo.content g.M.Memo.dropped
+      c.args.search.now.memo c.args.search.now.expanded) _ (moment g.M.Memo.content g.M.Memo.dropped
       c.some_move_wins.new.search.memo c.some_move_wins.new.search.expanded) _ some
       (begun_is g.M.Memo.content g.M.Memo.dropped _ _ _ _ c.count.ensures.memo c.in_ok-count.ensures.more)
-      (c.in_default.ensures.open refl) (c.in_default.ensures.map refl)
-      c.known.ensures.searched c.in_ok-won.ensures.searched.work c.in_ok-won.ensures.says
+      c.requires.undecided.undecided c.requires.undecided.map
+      (searched_none _ 0 0 _) c.in_ok-won.ensures.searched.work c.in_ok-won.ensures.says
       c.note.ensures.noted).searched;
 }
 
-pub wins-returns-clause-says : goal.wins-returns-clause-says
-wins-returns-clause-says g t c =
+pub expand-returns-clause-says : goal.expand-returns-clause-says
+expand-returns-clause-says g t c =
     let geo = g.B.Board.geometry in
-    let some = c.in_default.ensures.some refl in
+    let some = c.requires.undecided.some in
     (wins_ended geo c.args.moves c.args.position.now c.in_ok-won.won _ (moment g.M.Memo.content g.M.Memo.dropped
-    c.known.new.search.memo c.known.new.search.expanded) _ (moment g.M.Memo.content g.M.Memo.dropped
+    c.args.search.now.memo c.args.search.now.expanded) _ (moment g.M.Memo.content g.M.Memo.dropped
     c.some_move_wins.new.search.memo c.some_move_wins.new.search.expanded) _ some
     (begun_is g.M.Memo.content g.M.Memo.dropped _ _ _ _ c.count.ensures.memo c.in_ok-count.ensures.more)
-    (c.in_default.ensures.open refl) (c.in_default.ensures.map refl)
-    c.known.ensures.searched c.in_ok-won.ensures.searched.work c.in_ok-won.ensures.says c.note.ensures.noted).says
+    c.requires.undecided.undecided c.requires.undecided.map
+    (searched_none _ 0 0 _) c.in_ok-won.ensures.searched.work c.in_ok-won.ensures.says c.note.ensures.noted).says
 
 pub loses-returns-in_err-wins-clause-known : goal.loses-returns-in_err-wins-clause-known
 loses-returns-in_err-wins-clause-known g t c all =
@@ -515,16 +515,8 @@ loses-returns-then-not-branch-clause-known g t c all =
 pub loses-returns-clause-known : goal.loses-returns-clause-known
 loses-returns-clause-known g t c all = let u = c.replies.invariant.1.1.2 all in ((λ none. ok_is_no_err _ _ none), u)
 
-pub wins-returns-in_err-won-clause-known : goal.wins-returns-in_err-won-clause-known
-wins-returns-in_err-won-clause-known g t c = never_known _ c.args.moves _ (c.in_default.ensures.some refl)
-    (c.in_default.ensures.open refl)
-
-pub wins-returns-clause-known : goal.wins-returns-clause-known
-wins-returns-clause-known g t c = never_known _ c.args.moves _ (c.in_default.ensures.some refl)
-    (c.in_default.ensures.open refl)
-
 pub wins-returns-in-Some-clause-answer : goal.wins-returns-in-Some-clause-answer
-wins-returns-in-Some-clause-answer g t c = c.in-Some.ensures.answer
+wins-returns-in-Some-clause-answer g t c = c.in-Some.ensures.answer.answer
 
 pub loses-returns-in_err-refute-in-Sure-clause-known : goal.loses-returns-in_err-refute-in-Sure-clause-known
 loses-returns-in_err-refute-in-Sure-clause-known g t c all =
@@ -656,59 +648,51 @@ wins-returns-then-moves-eq1-clause-says g t c kept =
     (λ n. IfOk c.wins_at_once.result (SaysWin (g.M.Memo.content c.wins_at_once.new.search.memo) c.args.position.now n))
     (sym c.if-moves-eq1.true) (c.wins_at_once.ensures.says kept)
 
-pub wins-returns-in_err-count-clause-searched : goal.wins-returns-in_err-count-clause-searched
-wins-returns-in_err-count-clause-searched g t c =
+pub expand-returns-in_err-count-clause-searched : goal.expand-returns-in_err-count-clause-searched
+expand-returns-in_err-count-clause-searched g t c =
     let geo = g.B.Board.geometry in
     let content = g.M.Memo.content in
     let lost = g.M.Memo.dropped in
-    let same = moment_is content lost c.known.new.search.memo c.count.new.search.memo c.known.new.search.expanded
+    let same = moment_is content lost c.args.search.now.memo c.count.new.search.memo c.args.search.now.expanded
     c.count.new.search.expanded c.count.ensures.memo (c.in_err-count.ensures.same refl) in
     record {
-      right = subst (λ m. AreTrue geo (content m)) (sym c.count.ensures.memo) c.known.ensures.right;
-      count = counted_one c.args.search.now.expanded c.args.search.now.limit c.known.new.search.expanded
-          c.known.new.search.limit c.count.new.search.expanded c.count.new.search.limit c.requires.ready.within
-          c.known.ensures.count c.known.ensures.limit c.count.ensures.rises c.count.ensures.limit
+      right = subst (λ m. AreTrue geo (content m)) (sym c.count.ensures.memo) c.requires.ready.right;
+      count = counted_one c.args.search.now.expanded c.args.search.now.limit c.args.search.now.expanded
+          c.args.search.now.limit c.count.new.search.expanded c.count.new.search.limit c.requires.ready.within
+          refl refl c.count.ensures.rises c.count.ensures.limit
           c.count.ensures.within;
       stop = stop_passed c.in_err-count.field-0.0 c.from_residual.result _ c.from_residual.ensures.1
           c.in_err-count.ensures.stop;
       work = searched_stop geo c.args.moves c.from_residual.result _ _ c.from_residual.ensures.0
           (subst (Searched geo c.args.moves c.args.moves (at_time content lost c.args.search.now)) (sym same)
           (searched_looser geo c.args.moves 0 c.args.moves _ _ (none_at_most c.args.moves)
-          (searched_wider geo 0 c.args.moves 0 _ _ (none_at_most c.args.moves) c.known.ensures.searched)));
+          (searched_wider geo 0 c.args.moves 0 _ _ (none_at_most c.args.moves) (searched_none _ 0 0 _))));
     }
 
-pub wins-returns-clause-spent : goal.wins-returns-clause-spent
-wins-returns-clause-spent g t c some undecided =
-    one_spent c.args.search.now.expanded c.known.new.search.expanded c.count.new.search.expanded
-    c.some_move_wins.new.search.expanded c.note.new.search.expanded c.known.ensures.count c.in_ok-count.ensures.more
+pub expand-returns-clause-spent : goal.expand-returns-clause-spent
+expand-returns-clause-spent g t c =
+    one_spent c.args.search.now.expanded c.args.search.now.expanded c.count.new.search.expanded
+    c.some_move_wins.new.search.expanded c.note.new.search.expanded refl c.in_ok-count.ensures.more
     c.in_ok-won.ensures.searched.count.rises c.note.ensures.count
 
-pub wins-note-requires-clause-right : goal.wins-note-requires-clause-right
-wins-note-requires-clause-right g t c = c.in_ok-won.ensures.searched.right
+pub expand-note-requires-clause-right : goal.expand-note-requires-clause-right
+expand-note-requires-clause-right g t c = c.in_ok-won.ensures.searched.right
 
-pub wins-note-requires-clause-answer : goal.wins-note-requires-clause-answer
-wins-note-requires-clause-answer g t c =
-    let all = one_less c.args.moves (c.in_default.ensures.some refl) in
+pub expand-note-requires-clause-answer : goal.expand-note-requires-clause-answer
+expand-note-requires-clause-answer g t c =
+    let all = one_less c.args.moves c.requires.undecided.some in
     subst (λ n. IsTrue c.in_ok-won.won ↔ Win g.B.Board.geometry c.args.position.now n) all c.in_ok-won.ensures.answer
 
-pub wins-returns-clause-answer : goal.wins-returns-clause-answer
-wins-returns-clause-answer g t c =
-    let all = one_less c.args.moves (c.in_default.ensures.some refl) in
+pub expand-returns-clause-answer : goal.expand-returns-clause-answer
+expand-returns-clause-answer g t c =
+    let all = one_less c.args.moves c.requires.undecided.some in
     subst (λ n. IsTrue c.in_ok-won.won ↔ Win g.B.Board.geometry c.args.position.now n) all c.in_ok-won.ensures.answer
 
 pub wins-returns-in-Some-clause-says : goal.wins-returns-in-Some-clause-says
-wins-returns-in-Some-clause-says g t c kept = c.in-Some.ensures.says
+wins-returns-in-Some-clause-says g t c kept = c.in-Some.ensures.answer.says
 
 pub wins-returns-in-Some-clause-known : goal.wins-returns-in-Some-clause-known
-wins-returns-in-Some-clause-known g t c decided = (refl, (c.known.ensures.count, c.known.ensures.same))
-
-pub wins-returns-in_err-count-clause-known : goal.wins-returns-in_err-count-clause-known
-wins-returns-in_err-count-clause-known g t c = never_known _ c.args.moves _ (c.in_default.ensures.some refl)
-    (c.in_default.ensures.open refl)
-
-pub wins-returns-in_err-line_up-clause-known : goal.wins-returns-in_err-line_up-clause-known
-wins-returns-in_err-line_up-clause-known g t c = never_known _ c.args.moves _ (c.in_default.ensures.some refl)
-    (c.in_default.ensures.open refl)
+wins-returns-in-Some-clause-known g t c decided = (refl, (c.known.ensures.looked.count, c.known.ensures.looked.same))
 
 pub loses-returns-then-moves-eq0-clause-known : goal.loses-returns-then-moves-eq0-clause-known
 loses-returns-then-moves-eq0-clause-known g t c all = ((λ none. ok_is_no_err _ _ none), unchanged_none _ _)
@@ -722,10 +706,10 @@ loses-returns-in_err-line_up_replies-clause-known g t c all = (
 pub wins-known-requires : goal.wins-known-requires
 wins-known-requires g t c = c.requires.ready.right
 
-pub wins-count-requires : goal.wins-count-requires
-wins-count-requires g t c =
-    same_within c.args.search.now.expanded c.args.search.now.limit c.known.new.search.expanded c.known.new.search.limit
-    c.requires.ready.within c.known.ensures.count c.known.ensures.limit
+pub expand-count-requires : goal.expand-count-requires
+expand-count-requires g t c =
+    same_within c.args.search.now.expanded c.args.search.now.limit c.args.search.now.expanded c.args.search.now.limit
+    c.requires.ready.within refl refl
 
 pub loses-unwrap-requires : goal.loses-unwrap-requires
 loses-unwrap-requires g t c =
@@ -738,10 +722,10 @@ wins-unwrap-requires g t c =
     (room_for_moves c.args.moves (length c.args.plies.now) c.requires.room
     (one_at_most c.args.moves c.if-moves-eq1.true))
 
-pub wins-unwrap-requires-2 : goal.wins-unwrap-requires-2
-wins-unwrap-requires-2 g t c =
-    some_first c.split_first_mut-2.result (length c.args.plies.now) _ c.split_first_mut-2.ensures.cases
-    (room_for_moves c.args.moves (length c.args.plies.now) c.requires.room (c.in_default.ensures.some refl))
+pub expand-unwrap-requires : goal.expand-unwrap-requires
+expand-unwrap-requires g t c =
+    some_first c.split_first_mut.result (length c.args.plies.now) _ c.split_first_mut.ensures.cases
+    (room_for_moves c.args.moves (length c.args.plies.now) c.requires.room c.requires.undecided.some)
 
 pub loses-returns-in_err-line_up_replies-clause-answer : goal.loses-returns-in_err-line_up_replies-clause-answer
 loses-returns-in_err-line_up_replies-clause-answer g t c = IfOk-from_err c.from_residual.result _ c.from_residual.ensures.0
@@ -773,37 +757,37 @@ pub some_move_wins-returns-in_err-loses-clause-says : goal.some_move_wins-return
 some_move_wins-returns-in_err-loses-clause-says g t c kept =
     IfOk-from_err c.from_residual.result _ c.from_residual.ensures.0
 
-pub wins-returns-in_err-count-clause-answer : goal.wins-returns-in_err-count-clause-answer
-wins-returns-in_err-count-clause-answer g t c = IfOk-from_err c.from_residual.result _ c.from_residual.ensures.0
+pub expand-returns-in_err-count-clause-answer : goal.expand-returns-in_err-count-clause-answer
+expand-returns-in_err-count-clause-answer g t c = IfOk-from_err c.from_residual.result _ c.from_residual.ensures.0
 
-pub wins-returns-in_err-count-clause-says : goal.wins-returns-in_err-count-clause-says
-wins-returns-in_err-count-clause-says g t c kept = IfOk-from_err c.from_residual.result _ c.from_residual.ensures.0
+pub expand-returns-in_err-count-clause-says : goal.expand-returns-in_err-count-clause-says
+expand-returns-in_err-count-clause-says g t c kept = IfOk-from_err c.from_residual.result _ c.from_residual.ensures.0
 
-pub wins-returns-in_err-count-clause-spent : goal.wins-returns-in_err-count-clause-spent
-wins-returns-in_err-count-clause-spent g t c = IfOk-from_err c.from_residual.result _ c.from_residual.ensures.0
+pub expand-returns-in_err-count-clause-spent : goal.expand-returns-in_err-count-clause-spent
+expand-returns-in_err-count-clause-spent g t c = IfOk-from_err c.from_residual.result _ c.from_residual.ensures.0
 
-pub wins-returns-in_err-line_up-clause-answer : goal.wins-returns-in_err-line_up-clause-answer
-wins-returns-in_err-line_up-clause-answer g t c =
+pub expand-returns-in_err-line_up-clause-answer : goal.expand-returns-in_err-line_up-clause-answer
+expand-returns-in_err-line_up-clause-answer g t c =
     IfOk-from_err c.from_residual-in_err-line_up.result _ c.from_residual-in_err-line_up.ensures.0
 
-pub wins-returns-in_err-line_up-clause-says : goal.wins-returns-in_err-line_up-clause-says
-wins-returns-in_err-line_up-clause-says g t c kept =
+pub expand-returns-in_err-line_up-clause-says : goal.expand-returns-in_err-line_up-clause-says
+expand-returns-in_err-line_up-clause-says g t c kept =
     IfOk-from_err c.from_residual-in_err-line_up.result _ c.from_residual-in_err-line_up.ensures.0
 
-pub wins-returns-in_err-line_up-clause-spent : goal.wins-returns-in_err-line_up-clause-spent
-wins-returns-in_err-line_up-clause-spent g t c =
+pub expand-returns-in_err-line_up-clause-spent : goal.expand-returns-in_err-line_up-clause-spent
+expand-returns-in_err-line_up-clause-spent g t c =
     IfOk-from_err c.from_residual-in_err-line_up.result _ c.from_residual-in_err-line_up.ensures.0
 
-pub wins-returns-in_err-won-clause-answer : goal.wins-returns-in_err-won-clause-answer
-wins-returns-in_err-won-clause-answer g t c =
+pub expand-returns-in_err-won-clause-answer : goal.expand-returns-in_err-won-clause-answer
+expand-returns-in_err-won-clause-answer g t c =
     IfOk-from_err c.from_residual-in_err-won.result _ c.from_residual-in_err-won.ensures.0
 
-pub wins-returns-in_err-won-clause-says : goal.wins-returns-in_err-won-clause-says
-wins-returns-in_err-won-clause-says g t c kept =
+pub expand-returns-in_err-won-clause-says : goal.expand-returns-in_err-won-clause-says
+expand-returns-in_err-won-clause-says g t c kept =
     IfOk-from_err c.from_residual-in_err-won.result _ c.from_residual-in_err-won.ensures.0
 
-pub wins-returns-in_err-won-clause-spent : goal.wins-returns-in_err-won-clause-spent
-wins-returns-in_err-won-clause-spent g t c =
+pub expand-returns-in_err-won-clause-spent : goal.expand-returns-in_err-won-clause-spent
+expand-returns-in_err-won-clause-spent g t c =
     IfOk-from_err c.from_residual-in_err-won.result _ c.from_residual-in_err-won.ensures.0
 
 pub loses-returns-in-Refuted-clause-answer : goal.loses-returns-in-Refuted-clause-answer
@@ -837,3 +821,50 @@ loses-returns-in-Refuted-clause-known g t c all = (
   (λ none. ok_is_no_err _ _ none),
   (c.line_up_replies.ensures.looked.count, c.line_up_replies.ensures.looked.same),
 )
+
+pub wins-expand-requires : goal.wins-expand-requires
+wins-expand-requires g t c κs within =
+    let looked = c.known.ensures.looked in
+    let f = c.decreases in (
+      omega (arith, f),
+      (
+        within.0,
+        (
+          within.1.0,
+          (
+            within.1.1,
+            (
+              record {
+                right = looked.right;
+                within = same_within c.args.search.now.expanded c.args.search.now.limit c.known.new.search.expanded
+                    c.known.new.search.limit c.requires.ready.within looked.count looked.limit;
+              },
+              (
+                c.in_default.ensures.answer,
+                c.requires.room,
+              ),
+            ),
+          ),
+        ),
+      ),
+    )
+
+pub wins-returns-clause-spent : goal.wins-returns-clause-spent
+wins-returns-clause-spent g t c = spent_in _ _ c.expand.result _ _ _ c.known.ensures.looked.count c.expand.ensures.spent
+
+pub wins-returns-clause-searched : goal.wins-returns-clause-searched
+wins-returns-clause-searched g t c =
+    let geo = g.B.Board.geometry in
+    let content = g.M.Memo.content in
+    let lost = g.M.Memo.dropped in
+    let looked = c.known.ensures.looked in
+    let h = c.expand.ensures.searched in
+    searched_on geo content lost c.args.moves _ c.known.new.search _ _
+    (searched_looked geo content lost c.args.moves _ _ c.requires.ready looked.right looked.count looked.limit
+    looked.work)
+    (record { right = h.right; count = h.count; stop = h.stop; work = h.work })
+
+pub wins-returns-clause-known : goal.wins-returns-clause-known
+wins-returns-clause-known g t c =
+    not_known _ (g.M.Memo.content c.args.search.now.memo) (g.M.Memo.content c.known.new.search.memo) c.args.position.now
+    c.args.moves c.known.ensures.looked.same c.in_default.ensures.answer

@@ -8,13 +8,16 @@ use Rattle.dw_solve.proofs.TriedLemmas.{Tried, Refuted, Answered}
 use Rattle.dw_solve.proofs.search.+search.Given as goal
 
 abbrev pub decreases-wins : goal.decreases-wins
-decreases-wins g l = 3 * l.moves + 2
+decreases-wins g l = 4 * l.moves + 2
+
+abbrev pub decreases-expand : goal.decreases-expand
+decreases-expand g l = 4 * l.moves + 1
 
 abbrev pub decreases-some_move_wins : goal.decreases-some_move_wins
-decreases-some_move_wins g l = 3 * l.moves + 4
+decreases-some_move_wins g l = 4 * l.moves + 4
 
 abbrev pub decreases-loses : goal.decreases-loses
-decreases-loses g l = 3 * l.moves + 3
+decreases-loses g l = 4 * l.moves + 3
 
 abbrev pub invariant-some_move_wins-moves : goal.invariant-some_move_wins-moves
 invariant-some_move_wins-moves g l =
