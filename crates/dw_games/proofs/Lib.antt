@@ -6,6 +6,7 @@ pub mod ReadLemmas
 pub mod GameLemmas
 pub mod HandLemmas
 pub mod SayingLemmas
+pub mod TellingLemmas
 pub mod OneGamesLemmas
 pub mod ToldLemmas
 pub mod TagNameLemmas

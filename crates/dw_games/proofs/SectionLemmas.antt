@@ -183,7 +183,7 @@ all_spaces true gap whole h = cc
 all_spaces false gap whole (inl spaces) = spaces
 all_spaces false gap whole (inr none) = rw none refl
 
-not_refused : (g : Geometry) (size : ℕ) (some : Bool) (tags : List Tag) (p : Placement)
+pub not_refused : (g : Geometry) (size : ℕ) (some : Bool) (tags : List Tag) (p : Placement)
     → SectionSays g size some tags (Ok p) → some ≡ false
 not_refused g size some tags p says = whole p _ (nat_lt MAX_SECTION size) some says
 

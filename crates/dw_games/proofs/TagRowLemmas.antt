@@ -1,20 +1,23 @@
 -- Lemmas on the whole tags of a text: it has one row of them, and those of a section are its own.
-use Rattle.std.proofs.Common.{◌≡◌, ◌-◌, ◌<◌, ◌≤◌, ◌+◌, ℕ, List, [], ◌∷◌, ◌++◌, length, take, drop, Bool, true, false, map, reverse}
+use Rattle.std.proofs.Common.{◌≡◌, ◌==◌, ◌-◌, ◌<◌, ◌≤◌, ◌⊎◌, ℕ, zero, suc, List, [], ◌∷◌, ◌++◌, length, take, drop, Bool, true}
+use Rattle.std.proofs.Common.{false, Option, Some, None, map, reverse}
 use Rattle.std.proofs.Common.{refl, sym, ap, ◌∙◌, subst, arith, append_assoc, append-nil, length-append, inl, inr}
 use Rattle.std.proofs.Math.Seq.{take-append_seam, drop-append_seam}
-use Rattle.std.proofs.lemmas.Bool.{and_parts}
+use Rattle.std.proofs.lemmas.Bool.{and_parts, cases_Bool, cases_lt, eqb-true, eq-eqb}
 use Rattle.std.proofs.lemmas.List.{append_cancel_right, map-append, reverse-append}
 use Rattle.std.specs.List.{list_all}
-use Rattle.dw_notation.specs.Tags.{Tag, IsTag, is_space, IsGap, IsSection}
+use Rattle.dw_board.specs.FenTokens.{is_blank}
+use Rattle.dw_notation.specs.Tags.{Tag, IsTag, is_name_byte, is_space, IsGap, IsSection}
 use Rattle.dw_notation.specs.Tags.IsSection.{single, broken, longer, longer_broken}
-use Rattle.dw_games.specs.Tokens.{begins_with}
+use Rattle.dw_games.specs.Tokens.{IsRun, begins_with}
 use Rattle.dw_games.specs.TagRows.{TagText, NoTag, AreTags, tag_text}
 use Rattle.dw_games.specs.TagRows.AreTags.{nothing, space, tag}
 use Rattle.dw_games.specs.TagRowLaws.{OneRowOfTags, SectionsHaveTheirTags}
-use Rattle.dw_games.specs.inner.TagReading.{IsHead, IsSpelled, IsTail}
+use Rattle.dw_games.specs.inner.TagReading.{IsHead, IsSpelled, IsTail, Spelling, spelled}
 use Rattle.dw_games.specs.declared.tags.Tag.{Tag as ReadTag}
 use Rattle.dw_games.proofs.SectionLemmas.{first, section_closed, all_spaces}
-use Rattle.dw_games.proofs.TagPartLemmas.{one_head, one_tail, one_spelled}
+use Rattle.dw_games.proofs.TagPartLemmas.{one_head, one_tail, one_spelled, head_runs, head_is, head_read, tail_is, tail_read}
+use Rattle.dw_games.proofs.TagPartLemmas.{spelled_is, none_spelled}
 
 -- ---- a tag and its parts
 tag_front : (a b c d e more : List ℕ) → (91 ∷ (a ++ (b ++ (c ++ 34 ∷ (d ++ 34 ∷ (e ++ 93 ∷ [])))))) ++ more
@@ -181,9 +184,6 @@ one_row (tag {bytes} {said} {tags} text is are) second e =
     let r = at_tag text bytes said is second e in
     r.2 ∙ ap (λ l. record { text = text; tag = said } ∷ l) (one_row are r.1 refl)
 
-pub one_row_of_tags : OneRowOfTags
-one_row_of_tags text tags others are those = one_row those are refl
-
 -- ---- a row of tags that is read
 pub spaces_before : (gap bytes : List ℕ) (tags : List TagText) → list_all is_space gap ≡ true → AreTags bytes tags
     → AreTags (gap ++ bytes) tags
@@ -213,6 +213,150 @@ pub tags_over : (section rest : List ℕ) (read : List ReadTag)
     → begins_with is_space rest ≡ false → NoTag rest → AreTags section (map tag_text read)
 tags_over section rest read ahead stops none =
     subst (AreTags section) (append-nil (map tag_text read)) (ahead [] (nothing stops none))
+
+-- ---- each text has one
+-- the run at the front of a text
+record FrontRun (test : ℕ → Bool) (text : List ℕ) : Type 0 where
+  pub run : List ℕ
+  pub after : List ℕ
+  pub is : IsRun test run after
+  pub joined : text ≡ run ++ after
+
+front_run : (test : ℕ → Bool) (text : List ℕ) → FrontRun test text
+front_run test [] = record { run = []; after = []; is = record { all = refl; ends = refl }; joined = refl }
+front_run test (byte ∷ text) = elim (cases_Bool (test byte)) [
+  | inl passes ↦
+      let r = front_run test text in
+      let all : list_all test (byte ∷ r.run) ≡ true = rw passes r.is.all in
+      record {
+        run = byte ∷ r.run;
+        after = r.after;
+        is = record { all = all; ends = r.is.ends };
+        joined = ap (λ l. byte ∷ l) r.joined;
+      }
+  | inr fails ↦ record {
+    run = [];
+    after = byte ∷ text;
+    is = record { all = refl; ends = fails };
+    joined = refl;
+  }
+]
+
+front_byte : (byte : ℕ) (text : List ℕ) → ((more : List ℕ) × (text ≡ byte ∷ more))
+    ⊎ ((more : List ℕ) → text ≡ byte ∷ more → ⊥)
+front_byte byte [] = inr (λ more e. let bad : byte ∷ more ≡ [] = sym e in cc)
+front_byte byte (other ∷ text) = elim (cases_Bool (other == byte)) [
+  | inl same ↦ inl (text, ap (λ b. b ∷ text) (eqb-true other byte same))
+  | inr differ ↦ inr (λ more e. no_true (sym (eq-eqb other byte (ap first e)) ∙ differ))
+]
+
+record FrontHead (text : List ℕ) : Type 0 where
+  pub name : List ℕ
+  pub more : List ℕ
+  pub is : IsHead text name more
+
+front_head : (text : List ℕ) → FrontHead text ⊎ ((name more : List ℕ) → IsHead text name more → ⊥)
+front_head text = elim (front_byte 91 text) [
+  | inr closed ↦ inr (λ name more is. closed _ is.joined)
+  | inl opens ↦
+      let a = front_run is_blank opens.0 in
+      let b = front_run is_name_byte a.after in
+      let c = front_run is_blank b.after in
+      let runs = head_runs text opens.0 a.run a.after b.run b.after c.run c.after opens.1 a.joined b.joined c.joined a.is
+      b.is c.is in
+      elim (front_byte 34 c.after) [
+        | inr none ↦ inr (λ name more is.
+            none more (head_read text opens.0 a.run a.after b.run b.after c.run c.after name more runs is).quoted)
+        | inl quote ↦ elim (cases_lt 0 (length b.run)) [
+          | inl some ↦ inl (record {
+            name = b.run;
+            more = quote.0;
+            is = head_is text opens.0 a.run a.after b.run b.after c.run c.after quote.0 runs quote.1 some;
+          })
+          | inr empty ↦ inr (λ name more is.
+              let same = ap length
+              (head_read text opens.0 a.run a.after b.run b.after c.run c.after name more runs is).named in
+              omega (arith, same, is.some, empty))
+        ]
+      ]
+]
+
+record FrontValue (text : List ℕ) : Type 0 where
+  pub value : List ℕ
+  pub more : List ℕ
+  pub is : IsSpelled text value more
+
+front_value : (text : List ℕ) → FrontValue text ⊎ ((value more : List ℕ) → IsSpelled text value more → ⊥)
+front_value text = by_option (spelled false text) refl where
+  by_option : (o : Option Spelling) → spelled false text ≡ o
+      → FrontValue text ⊎ ((value more : List ℕ) → IsSpelled text value more → ⊥)
+  by_option None e = inr (λ value more is. none_spelled text value more e is)
+  by_option (Some s) e = inl (record { value = s.value; more = s.more; is = spelled_is false text s e })
+
+record FrontTail (text : List ℕ) : Type 0 where
+  pub more : List ℕ
+  pub is : IsTail text more
+
+front_tail : (text : List ℕ) → FrontTail text ⊎ ((more : List ℕ) → IsTail text more → ⊥)
+front_tail text =
+    let a = front_run is_blank text in elim (front_byte 93 a.after) [
+      | inl bracket ↦ inl (record {
+        more = bracket.0;
+        is = tail_is text a.run a.after bracket.0 a.is a.joined bracket.1;
+      })
+      | inr none ↦ inr (λ more is. none more (tail_read text a.run a.after more a.is a.joined is))
+    ]
+
+record AnyFront (text : List ℕ) : Type 0 where
+  pub name : List ℕ
+  pub value : List ℕ
+  pub more : List ℕ
+  pub is : FrontTag text name value more
+
+front_tag : (text : List ℕ) → AnyFront text ⊎ NoTag text
+front_tag text = elim (front_head text) [
+  | inr none ↦ inr (no_head text none)
+  | inl head ↦ elim (front_value head.more) [
+    | inr none ↦ inr (no_value text head.name head.more head.is none)
+    | inl value ↦ elim (front_tail value.more) [
+      | inr none ↦ inr (no_tail text head.name head.more value.value value.more head.is value.is none)
+      | inl tail ↦ inl (record {
+        name = head.name;
+        value = value.value;
+        more = tail.more;
+        is = tag_is text head.name head.more value.value value.more tail.more head.is value.is tail.is;
+      })
+    ]
+  ]
+]
+
+no_tag : NoTag []
+no_tag text more said e is = no_cons (e ∙ (tag_opens text more said is).1) where
+  no_cons : {rest : List ℕ} → [] ≡ 91 ∷ rest → ⊥
+  no_cons h = cc
+
+shorter : (text name value more : List ℕ) → FrontTag text name value more → length more < length text
+shorter text name value more t =
+    omega (arith, ap length t.joined, length-append t.front more, ap length t.is.joined)
+
+tags_within : (n : ℕ) (text : List ℕ) → length text ≤ n → (tags : List TagText) × AreTags text tags
+tags_within n [] fits = ([], nothing refl no_tag)
+tags_within zero (byte ∷ text) fits = absurd (omega (arith, fits))
+tags_within (suc n) (byte ∷ text) fits = elim (cases_Bool (is_space byte)) [
+  | inl blank ↦ let r = tags_within n text (omega (arith, fits)) in (r.0, space blank r.1)
+  | inr stops ↦ elim (front_tag (byte ∷ text)) [
+    | inr none ↦ ([], nothing stops none)
+    | inl t ↦
+        let r = tags_within n t.more (omega (arith, fits, shorter (byte ∷ text) t.name t.value t.more t.is)) in
+        let one : TagText = record { text = t.is.front; tag = record { name = t.name; value = t.value } } in
+        (one ∷ r.0, subst (λ l. AreTags l (one ∷ r.0)) (sym t.is.joined) (tag t.is.front t.is.is r.1))
+  ]
+]
+
+pub one_row_of_tags : OneRowOfTags
+one_row_of_tags text =
+    let r = tags_within (length text) text (omega arith) in
+    record { tags = r.0; are = r.1; one = λ others are. one_row r.1 are refl }
 
 -- ---- those of a section
 record HasTags (text : List ℕ) (tags : List Tag) : Type 0 where
@@ -245,11 +389,6 @@ section_has (longer text gap next {tags} {tag = said} {last} is spaces next_is) 
           (subst (AreTags (text ++ (gap ++ (next ++ more)))) (sym (append_assoc r.texts (one ∷ []) later)) behind);
     }
 section_has (longer_broken text gap next is spaces unclosed) whole = absurd (no_true whole)
-
-no_tag : NoTag []
-no_tag text more said e is = no_cons (e ∙ (tag_opens text more said is).1) where
-  no_cons : {rest : List ℕ} → [] ≡ 91 ∷ rest → ⊥
-  no_cons h = cc
 
 pub sections_have_their_tags : SectionsHaveTheirTags
 sections_have_their_tags text tags found is are =

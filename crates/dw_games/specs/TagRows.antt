@@ -1,5 +1,5 @@
 -- The whole tags of a text, each as it stands there.
-use Rattle.std.specs.Prelude.{◌≡◌, ℕ, Bool, true, false, List, [], ◌∷◌, ◌++◌}
+use Rattle.std.specs.Prelude.{◌≡◌, ℕ, Bool, true, false, List, [], ◌∷◌, ◌++◌, map}
 use Rattle.dw_notation.specs.Tags.{Tag, IsTag, is_space}
 use Rattle.dw_games.specs.Tokens.{begins_with}
 use Rattle.dw_games.specs.declared.tags.Tag.{Tag as ReadTag}
@@ -25,3 +25,7 @@ pub data AreTags : List ℕ → List TagText → Type 0 where
 -- a tag that was read, whatever holds its bytes
 abbrev pub tag_text : ReadTag → TagText
 tag_text read = record { text = read.text.now; tag = record { name = read.name.now; value = read.value.items } }
+
+-- what the tags say that were read
+abbrev pub said_by : List ReadTag → List Tag
+said_by read = map (λ (t : ReadTag). (tag_text t).tag) read

@@ -1,5 +1,5 @@
 //! Laws of the definitions, each the contract of a function that does nothing.
-ghost use Rattle.dw_games.specs.GameLaws.{GamesSayProblems, TextsHaveGames, ToldIsEnough};
+ghost use Rattle.dw_games.specs.GameLaws.{GamesSayProblems, GamesTellSections, TextsHaveGames, ToldIsEnough};
 ghost use Rattle.dw_games.specs.Laws.{OneRow, OneAnswer, OneLine, TreesArePlayed};
 ghost use Rattle.dw_games.specs.TagRowLaws.{OneRowOfTags, SectionsHaveTheirTags};
 
@@ -39,8 +39,14 @@ pub fn texts_have_games()
     dw_notation::laws::texts_of_tags_say();
 }
 
-/// Each text has at most one row of whole tags, which is what `read_tags` reads of it.
-/// Example: `[A "1"] [B "2"] *` has no other whole tags than `[A "1"]` and `[B "2"]`.
+/// Of a game that poses a position the whole section is told, which leaves no tag unclosed and says that position.
+/// Example: ` [FEN "W:W32:B28"]  1. 32x23` has one game, whose tags are the section `[FEN "W:W32:B28"]`.
+pub fn games_tell_sections()
+    ensures { GamesTellSections }
+{}
+
+/// Each text has exactly one row of whole tags, which `read_tags` reads of it.
+/// Example: `[A "1"] [B "2"] *` has the whole tags `[A "1"]` and `[B "2"]` and no others.
 pub fn one_row_of_tags()
     ensures { OneRowOfTags }
 {}

@@ -3,7 +3,7 @@ ghost use Rattle.std.specs.Prelude.{◌≡◌, ◌≤◌, ◌<◌, ℕ, List, []
 ghost use Rattle.std.specs.Prelude.{IfOk, IfSome, IfNone, MatchOption};
 ghost use Rattle.dw_notation.specs.Tags.{Tag, IsTag, is_space, same_name, values_named};
 ghost use Rattle.dw_games.specs.Tokens.{begins_with};
-ghost use Rattle.dw_games.specs.TagRows.{NoTag, AreTags, TagText, tag_text};
+ghost use Rattle.dw_games.specs.TagRows.{NoTag, AreTags, TagText, tag_text, said_by};
 ghost use Rattle.dw_games.specs.inner.TagReading.{IsHead, IsSpelled, IsTail, sign_of};
 
 use crate::class::{Class, ends_line};
@@ -45,6 +45,20 @@ pub fn read_tags<'t>(alloc: Global, section: &'t [u8]) -> Result<Vec<Tag<'t>>, A
         tags.push(tag)?;
     }
     Ok(tags)
+}
+
+/// The value of the first of these tags that has this name, without regard to the case of letters.
+/// Example: of the tags of `[Event "a"] [EVENT "b"]` the first named `event` has the value `a`.
+pub fn value_named<'v>(tags: &'v [Tag<'_>], name: &[u8]) -> Option<&'v [u8]>
+    ensures { MatchOption result (values_named name.now (said_by tags.now) ≡ [])
+        (λ value. (others : List (List ℕ)) × (values_named name.now (said_by tags.now) ≡ value.now ∷ others)) }
+{
+    'tags: for tag in tags {
+        if tag.is_named(name) {
+            return Some(tag.value.as_slice());
+        }
+    }
+    None
 }
 
 /// What stands behind the spaces at the front of a text.
