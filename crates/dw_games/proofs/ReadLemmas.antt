@@ -70,19 +70,19 @@ module _ {B S : Type 0} (g : Geometry) (coming : S → Option (List ℕ)) (has_e
       → On old now begun longer before after next
   ReadsOn-byte old mid now begun row longer before kept after reader next byte result on here add unsaid none push keep
       pass = record {
-    passed = on.passed ++ byte ∷ [];
-    passes = subst (λ l. Passes coming has_ended is_failed pulls old now (on.passed ++ l) false) (ap (take 1) here)
-        (Passes-trans coming has_ended is_failed pulls old mid now on.passed (take 1 (unread_of mid)) false on.passes
-        pass);
-    rows = λ limit is. push limit on.passed (on.rows limit is);
-    keeps = λ limit is. subst (λ l. IsKept limit l after) (sym (spaces_on-append [] on.passed (byte ∷ [])))
-        (keep limit (spaces_on [] on.passed) (on.keeps limit is));
-    said = λ over more. subst (SectionsSay g over ((on.passed ++ byte ∷ []) ++ more))
-        (add over more ∙ ap (λ r. option_to_list r ++ ahead_of next g over more) none)
-        (subst (λ l. SectionsSay g over l (ahead_of reader g over (byte ∷ more)))
-        (sym (append_assoc on.passed (byte ∷ []) more)) (on.said over (byte ∷ more)));
-    unsaid = unsaid;
-  }
+        passed = on.passed ++ byte ∷ [];
+        passes = subst (λ l. Passes coming has_ended is_failed pulls old now (on.passed ++ l) false) (ap (take 1) here)
+            (Passes-trans coming has_ended is_failed pulls old mid now on.passed (take 1 (unread_of mid)) false on.passes
+            pass);
+        rows = λ limit is. push limit on.passed (on.rows limit is);
+        keeps = λ limit is. subst (λ l. IsKept limit l after) (sym (spaces_on-append [] on.passed (byte ∷ [])))
+            (keep limit (spaces_on [] on.passed) (on.keeps limit is));
+        said = λ over more. subst (SectionsSay g over ((on.passed ++ byte ∷ []) ++ more))
+            (add over more ∙ ap (λ r. option_to_list r ++ ahead_of next g over more) none)
+            (subst (λ l. SectionsSay g over l (ahead_of reader g over (byte ∷ more)))
+            (sym (append_assoc on.passed (byte ∷ []) more)) (on.said over (byte ∷ more)));
+        unsaid = unsaid;
+      }
 
   nothing_ended : (old now : Input S) (begun row before kept : Kept) (reader : SectionReader B)
       → (on : On old now begun row before kept reader) → SectionsSay g false on.passed []

@@ -61,8 +61,7 @@ module _ (name : List ℕ) (tags : List ReadTag) (i : ℕ) (one : ReadTag) where
       let whole : tags ≡ take i tags ++ one ∷ behind = sym (take-append-drop i tags)
       ∙ ap (λ l. take i tags ++ l) (drop_more tags i one inside ∙ ap (λ t. t ∷ behind) (sym is)) in
       let here : values_named name (said_by (one ∷ behind)) ≡ one.value.items ∷ values_named name (said_by behind) =
-      rw same refl in
-      (
+      rw same refl in (
         values_named name (said_by behind),
         ap (λ l. values_named name (said_by l)) whole
             ∙ ap (values_named name) (map-append said_of (take i tags) (one ∷ behind))

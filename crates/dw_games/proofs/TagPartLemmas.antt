@@ -1,11 +1,11 @@
 -- Lemmas on the parts of a tag: each stands in a text in one way alone.
-use Rattle.std.proofs.Common.{◌≡◌, ◌==◌, ◌+◌, ◌<◌, ◌≤◌, ◌||◌, ℕ, List, [], ◌∷◌, ◌++◌, length, drop, get_or, Bool, true, false, not}
+use Rattle.std.proofs.Common.{◌≡◌, ◌==◌, ◌+◌, ◌<◌, ◌≤◌, ◌||◌, ℕ, List, [], ◌∷◌, ◌++◌, length, drop, get_or, Bool, true, false}
 use Rattle.std.proofs.Common.{Option, Some, None, MatchOption, cond, refl, sym, ap, ◌∙◌, subst, arith, append_assoc, append-nil, inl, inr}
-use Rattle.std.proofs.lemmas.Bool.{and_parts, or_parts, not-false, not-true, eqb-true, ne_eqb, cases_Bool}
+use Rattle.std.proofs.lemmas.Bool.{and_parts, or_parts, not-true, eqb-true, ne_eqb, cases_Bool}
 use Rattle.std.proofs.lemmas.List.{drop_more, drop_all}
 use Rattle.std.specs.List.{list_all}
 use Rattle.dw_board.specs.FenTokens.{is_blank}
-use Rattle.dw_notation.specs.Tags.{Tag, IsTag, Spells, is_plain, is_name_byte, ends_line, is_space}
+use Rattle.dw_notation.specs.Tags.{Spells, is_plain, is_name_byte, ends_line}
 use Rattle.dw_notation.specs.Tags.Spells.{nothing, quotation, backslash, lone, plain}
 use Rattle.dw_games.specs.Tokens.{IsRun, begins_with}
 use Rattle.dw_games.specs.inner.TagReading.{IsHead, IsSpelled, IsTail, Spelling, sign_of, by_sign, onto, spelled}

@@ -7,7 +7,7 @@ use Rattle.std.proofs.lemmas.Bool.{and_parts, cases_Bool, cases_lt, eqb-true, eq
 use Rattle.std.proofs.lemmas.List.{append_cancel_right, map-append, reverse-append}
 use Rattle.std.specs.List.{list_all}
 use Rattle.dw_board.specs.FenTokens.{is_blank}
-use Rattle.dw_notation.specs.Tags.{Tag, IsTag, is_name_byte, is_space, IsGap, IsSection}
+use Rattle.dw_notation.specs.Tags.{Tag, IsTag, is_name_byte, is_space, IsSection}
 use Rattle.dw_notation.specs.Tags.IsSection.{single, broken, longer, longer_broken}
 use Rattle.dw_games.specs.Tokens.{IsRun, begins_with}
 use Rattle.dw_games.specs.TagRows.{TagText, NoTag, AreTags, tag_text}

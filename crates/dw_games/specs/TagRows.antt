@@ -1,5 +1,5 @@
 -- The whole tags of a text, each as it stands there.
-use Rattle.std.specs.Prelude.{◌≡◌, ℕ, Bool, true, false, List, [], ◌∷◌, ◌++◌, map}
+use Rattle.std.specs.Prelude.{◌≡◌, ℕ, true, false, List, [], ◌∷◌, ◌++◌, map}
 use Rattle.dw_notation.specs.Tags.{Tag, IsTag, is_space}
 use Rattle.dw_games.specs.Tokens.{begins_with}
 use Rattle.dw_games.specs.declared.tags.Tag.{Tag as ReadTag}

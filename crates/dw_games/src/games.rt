@@ -19,9 +19,9 @@ use std::marker::PhantomData;
 use thiserror::Error;
 
 /// A game of a text: the problem that its section poses, the section's tags as they stand in the text, from the first
-/// bracket to the last, and the movetext behind them, up to the next section. A section has at most `MAX_SECTION` bytes.
-/// Of a movetext at most `MAX_MOVETEXT` + 1 are held, of which `read_movetext` says that it is too large. Tags and
-/// movetext of a refused problem are empty.
+/// bracket to the last, and the movetext behind them, up to the next section. Of tags at most `MAX_SECTION` bytes are
+/// held. Of a movetext at most `MAX_MOVETEXT` + 1 bytes are held, of which `read_movetext` says that it is too large.
+/// The tags and the movetext of a refused problem are empty.
 /// Example: `[FEN "W:W27,32:B18"] 1. 32-28 *` has a position, the tags `[FEN "W:W27,32:B18"]` and the movetext
 /// ` 1. 32-28 *`.
 #[derive(Drop)]
@@ -81,7 +81,11 @@ fn kept_for<B: Board>(alloc: Global, found: &Result<Position<B>, ProblemFault>, 
 }
 
 /// What is told of a section's tags, by what it says and by what is kept of it and of the spaces behind.
-fn told_tags<B: Board>(alloc: Global, found: &Result<Position<B>, ProblemFault>, row: Kept) -> Vec<u8>
+fn told_tags<B: Board>(
+    alloc: Global,
+    found: &Result<Position<B>, ProblemFault>,
+    row: Kept,
+) -> Vec<u8>
     ensures { IsTold found.now row.bytes.items result.items }
 {
     match found {

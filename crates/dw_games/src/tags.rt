@@ -1,7 +1,7 @@
 //! The tags of a section, read from its bytes.
-ghost use Rattle.std.specs.Prelude.{◌≡◌, ◌≤◌, ◌<◌, ℕ, List, [], ◌∷◌, ◌++◌, false, true, length, take, drop, map};
+ghost use Rattle.std.specs.Prelude.{◌≡◌, ◌≤◌, ℕ, List, [], ◌∷◌, ◌++◌, false, length, map};
 ghost use Rattle.std.specs.Prelude.{IfOk, IfSome, IfNone, MatchOption};
-ghost use Rattle.dw_notation.specs.Tags.{Tag, IsTag, is_space, same_name, values_named};
+ghost use Rattle.dw_notation.specs.Tags.{IsTag, is_space, same_name, values_named};
 ghost use Rattle.dw_games.specs.Tokens.{begins_with};
 ghost use Rattle.dw_games.specs.TagRows.{NoTag, AreTags, TagText, tag_text, said_by};
 ghost use Rattle.dw_games.specs.inner.TagReading.{IsHead, IsSpelled, IsTail, sign_of};

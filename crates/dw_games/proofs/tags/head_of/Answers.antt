@@ -1,4 +1,4 @@
-use Rattle.std.proofs.Common.{◌≡◌, length, sym, ap, arith}
+use Rattle.std.proofs.Common.{length, sym, ap, arith}
 use Rattle.std.proofs.lemmas.Bool.{eqb-true}
 use Rattle.dw_games.proofs.TagPartLemmas.{head_runs, head_read}
 use Rattle.dw_games.proofs.tags.head_of.Goals as goal
@@ -24,4 +24,4 @@ returns-then-is_empty-clause-none c =
     (rw (c.split_at-3.ensures.front, c.split_at-3.ensures.back) c.run_of-3.ensures.run) in
     let empty = eqb-true (length c.split_at-2.result.0.now) 0 (sym c.if-is_empty.ensures) in
     λ name more is. let same = ap length (head_read _ _ _ _ _ _ _ _ name more runs is).named in
-        omega (arith, empty, same, is.some)
+    omega (arith, empty, same, is.some)

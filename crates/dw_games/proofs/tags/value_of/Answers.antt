@@ -1,4 +1,3 @@
-use Rattle.std.proofs.Common.{get_or, arith}
 use Rattle.dw_games.proofs.TagPartLemmas.{value_close, value_break, value_open}
 use Rattle.dw_games.proofs.tags.value_of.Goals as goal
 
