@@ -25,9 +25,9 @@ from_says g (comment text is says) =
 from_says g (last_comment text is) = (123 ∷ text, unclosed ∷ [], open_comment text is)
 from_says g (section text gap byte found is spaces ends says more) =
     let r = from_says g more in
-    ([], said_with found (gap ++ r.0) ∷ r.1, with_section text gap byte found is spaces ends says r.2)
+    ([], said_with found text (gap ++ r.0) ∷ r.1, with_section text gap byte found is spaces ends says r.2)
 from_says g (last_section text gap found is spaces says) =
-    ([], said_with found gap ∷ [], with_last text gap found is spaces says)
+    ([], said_with found text gap ∷ [], with_last text gap found is spaces says)
 
 pub games_some : TextsOfTagsSay → (g : Geometry) (text : List ℕ)
     → (front : List ℕ) × (games : List Said) × HasGames g text front games
@@ -112,5 +112,5 @@ pub games_from-next : (handed : ℕ) (said : Said) (more : List Said) → handed
 games_from-next handed said more less = rw (lt-ltb handed 1000000 less) refl
 
 pub games_from-last : (handed : ℕ) (said : Said) (more : List Said) → handed ≡ 1000000
-    → games_from handed (said ∷ more) ≡ record { number = handed + 1; said = said_with (Err TooManyProblems) [] } ∷ []
+    → games_from handed (said ∷ more) ≡ record { number = handed + 1; said = said_with (Err TooManyProblems) [] [] } ∷ []
 games_from-last handed said more full = rw full refl

@@ -7,12 +7,13 @@ use Rattle.std.specs.Io.KnownBytes.{Consumes}
 use Rattle.dw_board.specs.Geometry.{Geometry}
 use Rattle.dw_notation.specs.TextLines.{Found}
 use Rattle.dw_notation.specs.TagLaws.{TextsOfTagsSay}
-use Rattle.dw_games.specs.Games.{Said, said_with, HasGames, NumberedGame, games_from, AreGames}
+use Rattle.dw_notation.specs.declared.problems.TheConstants.{MAX_SECTION}
+use Rattle.dw_games.specs.Games.{Said, told, told_tags, said_with, HasGames, NumberedGame, games_from, AreGames}
 use Rattle.dw_games.specs.GameReading.{is_failure, numbered_game, GivesNext}
 use Rattle.dw_games.specs.inner.Inputs.{unread_of, Passes}
-use Rattle.dw_games.specs.inner.Keeping.{IsKept, IsKeptFor, spaces_on}
+use Rattle.dw_games.specs.inner.Keeping.{IsKept, IsKeptFor, IsTold, spaces_on, row_of}
 use Rattle.dw_games.specs.inner.Playing.{unclosed, Follows, EndsAt, ReadsPlay}
-use Rattle.dw_games.specs.inner.Sectioning.{ReadsSection}
+use Rattle.dw_games.specs.inner.Sectioning.{ReadsSection, EndsWell}
 use Rattle.dw_games.specs.inner.GameReaders.{Stands, IsAhead, stage_behind, IsHandedOut, ReadsGame}
 use Rattle.dw_games.specs.inner.GameReaders.{reading_of}
 use Rattle.dw_games.specs.declared.games.Game.{Game}
@@ -25,7 +26,8 @@ use Rattle.dw_games.specs.declared.kept.Kept.{Kept}
 use Rattle.dw_games.specs.declared.play.PlayEnd.{PlayEnd}
 use Rattle.dw_games.specs.declared.play.PlayEnd.TheVariants.{Section, Text, Open as LeftOpen}
 use Rattle.dw_games.proofs.InputLemmas.{Passes-trans}
-use Rattle.dw_games.proofs.SectionLemmas.{empty_games}
+use Rattle.dw_games.proofs.SectionLemmas.{empty_games, row-of_closed}
+use Rattle.dw_games.proofs.TrimLemmas.{kept_trimmed}
 use Rattle.dw_games.proofs.GameLemmas.{games_some, bracket_front, mark_passed, games_from-next, games_from-last}
 
 -- ---- what may come
@@ -120,11 +122,25 @@ kept_on : (found : Found) (text passed : List ℕ) (old new : Kept)
 kept_on (Ok p) text passed old new push is = push _ text is
 kept_on (Err fault) text passed old new push is = push _ text is
 
-kept_said : (found : Found) (text items : List ℕ) (kept : Kept) → IsKeptFor found text kept → items ≡ kept.bytes.items
-    → said_with found text ≡ record { found = found; movetext = items }
-kept_said (Ok p) text items kept is same = ap (λ l. record { found = Ok p; movetext = l }) (sym is.bytes ∙ sym same)
-kept_said (Err fault) text items kept is same =
-    ap (λ l. record { found = Err fault; movetext = l }) (sym (take-none text) ∙ sym is.bytes ∙ sym same)
+told_kept : (found : Found) (text items : List ℕ) (kept : Kept) → IsKeptFor found text kept → items ≡ kept.bytes.items
+    → told found text ≡ items
+told_kept (Ok p) text items kept is same = sym is.bytes ∙ sym same
+told_kept (Err fault) text items kept is same = sym (take-none text) ∙ sym is.bytes ∙ sym same
+
+-- ---- what is kept of a section
+told_row : (found : Found) (seen kept tags : List ℕ) → EndsWell found seen → kept ≡ take MAX_SECTION seen
+    → IsTold found kept tags → told_tags found (row_of seen) ≡ tags
+told_row (Ok p) seen kept tags row same is = row-of_closed seen row ∙ sym (kept_trimmed seen kept tags row same is)
+told_row (Err fault) seen kept tags row same is = sym is
+
+kept_said : (found : Found) (seen text tags items : List ℕ) (row kept : Kept) → EndsWell found seen
+    → IsKept MAX_SECTION seen row → IsTold found row.bytes.items tags → IsKeptFor found text kept
+    → items ≡ kept.bytes.items
+    → said_with found (row_of seen) text ≡ record { found = found; tags = tags; movetext = items }
+kept_said found seen text tags items row kept ends whole is keeps same =
+    ap (λ l. record { found = found; tags = l; movetext = told found text })
+    (told_row found seen row.bytes.items tags ends whole.bytes is)
+    ∙ ap (λ l. record { found = found; tags = tags; movetext = l }) (told_kept found text items kept keeps same)
 
 -- ---- what is passed, and what comes behind it
 module _ {S : Type 0} (coming : S → Option (List ℕ)) (has_ended is_failed : S → Bool) (pulls : S → ℕ) where
@@ -161,28 +177,31 @@ module _ {B S : Type 0} (g : Geometry) (coming : S → Option (List ℕ)) (has_e
 
   -- a section is read, and what stands behind it
   pub ReadsGame-section : TextsOfTagsSay → (old mid new : Games B S) (between : Input S)
-      (spaces read kept movetext : Kept) (found : Found) (end : PlayEnd) (items : List ℕ) (game : Game B)
-      → (section : ReadsSection g coming has_ended is_failed pulls old.input between spaces read (Ok (Some found)))
+      (begun row spaces read kept movetext : Kept) (found : Found) (end : PlayEnd) (tags items : List ℕ) (game : Game B)
+      → (section : ReadsSection g coming has_ended is_failed pulls old.input between begun row spaces read (Ok (Some found)))
       → (play : ReadsPlay coming has_ended is_failed pulls between mid.input kept movetext (Ok end))
+      → IsKept MAX_SECTION [] begun → IsTold found row.bytes.items tags
       → IsKept 1048577 [] spaces → ((text : List ℕ) → IsKept 1048577 text read → IsKeptFor found text kept)
       → items ≡ movetext.bytes.items → (mid.stage ≡ stage_behind end) → mid.handed ≡ old.handed
-      → new.input ≡ mid.input → IsHandedOut mid new (record { found = found; movetext = items }) game
+      → new.input ≡ mid.input → IsHandedOut mid new (record { found = found; tags = tags; movetext = items }) game
       → Reads old new (Ok (Some game))
-  ReadsGame-section law old mid new between spaces read kept movetext found end items game section play begun keep same
-      stage handed input given =
+  ReadsGame-section law old mid new between begun row spaces read kept movetext found end tags items game section play
+      empty told none keep same stage handed input given =
       let passes = subst (λ i. Passes coming has_ended is_failed pulls old.input i (section.passed ++ play.passed) false)
       (sym input) (Passes-trans coming has_ended is_failed pulls old.input between mid.input section.passed play.passed
       false section.passes play.passes) in
       let is_kept = kept_on found (spaces_on [] section.passed) play.passed kept movetext play.kept
-      (keep (spaces_on [] section.passed) (section.kept 1048577 begun)) in
-      let x : said_with found (spaces_on [] section.passed ++ play.passed) ≡ record { found = found; movetext = items } =
-      kept_said found (spaces_on [] section.passed ++ play.passed) items movetext is_kept same in
+      (keep (spaces_on [] section.passed) (section.kept 1048577 none)) in
+      let x : said_with found (row_of section.passed) (spaces_on [] section.passed ++ play.passed)
+      ≡ record { found = found; tags = tags; movetext = items } =
+      kept_said found section.passed (spaces_on [] section.passed ++ play.passed) tags items row movetext section.ends
+      (section.rows MAX_SECTION empty) told is_kept same in
       record {
         passed = section.passed ++ play.passed;
         passes = passes;
         gives = (
           λ bytes games ahead.
-              let f = handed_follows law g mid new end (record { found = found; movetext = items }) game play.ends stage
+              let f = handed_follows law g mid new end (record { found = found; tags = tags; movetext = items }) game play.ends stage
               input given bytes games ahead in
               let over = over_same new.input mid.input bytes input ahead.over in
               let behind = play.said g bytes f.0 f.1 in
@@ -197,15 +216,15 @@ module _ {B S : Type 0} (g : Geometry) (coming : S → Option (List ℕ)) (has_e
               ∙ append_assoc section.passed play.passed (unread_of mid.input ++ bytes)
               ∙ ap (λ l. section.passed ++ l) (sym (text_on coming has_ended is_failed pulls between mid.input play.passed bytes false play.passes)) in
               record {
-                said = record { found = found; movetext = items } ∷ f.0;
+                said = record { found = found; tags = tags; movetext = items } ∷ f.0;
                 over = over_on coming has_ended is_failed pulls old.input new.input (section.passed ++ play.passed) bytes false passes ahead.over;
                 stands = (
                   [],
-                  subst (λ l. HasGames g l [] (record { found = found; movetext = items } ∷ f.0)) (sym whole)
+                  subst (λ l. HasGames g l [] (record { found = found; tags = tags; movetext = items } ∷ f.0)) (sym whole)
                       (subst (λ y. HasGames g (section.passed ++ (unread_of between ++ (play.passes.read ++ bytes))) []
                       (y ∷ f.0)) x all),
                 );
-                numbers = f.2 ∙ ap (λ c. games_from c.games (record { found = found; movetext = items } ∷ f.0)) handed;
+                numbers = f.2 ∙ ap (λ c. games_from c.games (record { found = found; tags = tags; movetext = items } ∷ f.0)) handed;
               },
           λ bytes over. ahead_some law g new.input new.stage new.handed.games bytes over,
         );

@@ -1,12 +1,17 @@
 pub mod InputLemmas
 pub mod PlayLemmas
 pub mod SectionLemmas
+pub mod TrimLemmas
 pub mod ReadLemmas
 pub mod GameLemmas
 pub mod HandLemmas
 pub mod SayingLemmas
+pub mod TellingLemmas
 pub mod OneGamesLemmas
 pub mod ToldLemmas
+pub mod TagNameLemmas
+pub mod TagPartLemmas
+pub mod TagRowLemmas
 pub mod TokenLemmas
 pub mod PlaceLemmas
 pub mod LinkLemmas

@@ -12,7 +12,7 @@ use Rattle.dw_games.specs.Games.{Said, said_with, HasGames, games_from}
 use Rattle.dw_games.specs.Games.HasGames.{nothing as no_games, other as no_section, comment as no_comment}
 use Rattle.dw_games.specs.Games.HasGames.{last_comment as open_comment, section as with_section, last_section as with_last}
 use Rattle.dw_games.specs.GameLaws.{TextsHaveGames}
-use Rattle.dw_games.specs.inner.Keeping.{spaces_on}
+use Rattle.dw_games.specs.inner.Keeping.{spaces_on, row_of}
 use Rattle.dw_games.specs.inner.Playing.{unclosed}
 use Rattle.dw_games.specs.inner.Sectioning.{IsCut, IsLast}
 use Rattle.dw_games.proofs.SectionLemmas.{first, IsSection-begins, ended_says, said_gap, empty_games}
@@ -179,7 +179,7 @@ module _ (law : TextsOfTagsSay) where
   at_cut : (g : Geometry) (a : List ℕ) (x : ℕ) (more : List ℕ) (found : Found) → IsCut g a x found
       → {text front : List ℕ} {games : List Said} → HasGames g text front games → text ≡ a ++ x ∷ more
       → (behind : List ℕ) × (later : List Said) × HasGames g (x ∷ more) behind later × (front ≡ [])
-      × (games ≡ said_with found (spaces_on [] a ++ behind) ∷ later)
+      × (games ≡ said_with found (row_of a) (spaces_on [] a ++ behind) ∷ later)
   at_cut g a x more found c no_games e =
       let begins = cut_begins g a x found c (x ∷ more) in absurd (no_cons 91 begins.0 (sym begins.1 ∙ sym e))
   at_cut g a x more found c (no_section b neither has) e =
@@ -212,8 +212,8 @@ module _ (law : TextsOfTagsSay) where
             (subst (λ l. HasGames g (b ∷ l) front games) same.behind has),
         refl,
         ap (λ z. z ∷ games) (said_gap g text gap front tags some last other is (inl spaces) says
-            ∙ ap (λ l. said_with other (spaces_on [] l ++ front)) same.front
-            ∙ ap (λ f. said_with f (spaces_on [] a ++ front)) found_same),
+            ∙ ap (λ l. said_with other (row_of l) (spaces_on [] l ++ front)) same.front
+            ∙ ap (λ f. said_with f (row_of a) (spaces_on [] a ++ front)) found_same),
       )
   at_cut g a x more found c (with_last {tags} {some} {last} text gap other is spaces says) e =
       let d : IsLast g (text ++ gap) other = record {
@@ -231,7 +231,7 @@ module _ (law : TextsOfTagsSay) where
 
   at_last : (g : Geometry) (a : List ℕ) (found : Found) → IsLast g a found → {text front : List ℕ} {games : List Said}
       → HasGames g text front games → text ≡ a
-      → (front ≡ []) × (games ≡ said_with found (spaces_on [] a ++ []) ∷ [])
+      → (front ≡ []) × (games ≡ said_with found (row_of a) (spaces_on [] a ++ []) ∷ [])
   at_last g a found c no_games e =
       let begins = last_begins g a found c in absurd (no_cons 91 begins.0 (sym begins.1 ∙ sym e))
   at_last g a found c (no_section b neither has) e =
@@ -267,10 +267,10 @@ module _ (law : TextsOfTagsSay) where
         joined = sym e;
       } in (
         refl,
-        ap (λ z. z ∷ []) (ap (said_with other) (sym (append-nil gap))
+        ap (λ z. z ∷ []) (ap (said_with other text) (sym (append-nil gap))
             ∙ said_gap g text gap [] tags some last other is spaces says
-            ∙ ap (λ l. said_with other (spaces_on [] l ++ [])) e
-            ∙ ap (λ f. said_with f (spaces_on [] a ++ [])) (one_found g a other found d c)),
+            ∙ ap (λ l. said_with other (row_of l) (spaces_on [] l ++ [])) e
+            ∙ ap (λ f. said_with f (row_of a) (spaces_on [] a ++ [])) (one_found g a other found d c)),
       )
 
   -- ---- one row of games
@@ -301,8 +301,8 @@ module _ (law : TextsOfTagsSay) where
       let r = at_cut g (text ++ gap) b more found c second (e ∙ sym (append_assoc text gap (b ∷ more))) in
       let same = one_row g has r.2 refl in (
         r.3,
-        r.4 ∙ ap (λ l. said_with found (spaces_on [] (text ++ gap) ++ l) ∷ r.1) same.0
-            ∙ ap (λ l. said_with found (spaces_on [] (text ++ gap) ++ front) ∷ l) same.1
+        r.4 ∙ ap (λ l. said_with found (row_of (text ++ gap)) (spaces_on [] (text ++ gap) ++ l) ∷ r.1) same.0
+            ∙ ap (λ l. said_with found (row_of (text ++ gap)) (spaces_on [] (text ++ gap) ++ front) ∷ l) same.1
             ∙ ap (λ z. z ∷ games) (sym (said_gap g text gap front tags some last found is (inl spaces) says)),
       )
   one_row g (with_last {tags} {some} {last} text gap found is spaces says) second e =
@@ -319,7 +319,7 @@ module _ (law : TextsOfTagsSay) where
       } in
       let r = at_last g (text ++ gap) found c second e in (
         r.0,
-        r.1 ∙ ap (λ z. z ∷ []) (sym (ap (said_with found) (sym (append-nil gap))
+        r.1 ∙ ap (λ z. z ∷ []) (sym (ap (said_with found text) (sym (append-nil gap))
             ∙ said_gap g text gap [] tags some last found is spaces says)),
       )
 

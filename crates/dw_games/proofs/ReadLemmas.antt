@@ -12,13 +12,14 @@ use Rattle.dw_notation.specs.declared.problems.section_reader.SectionReader.{Sec
 use Rattle.dw_games.specs.Games.{Said, said_with, HasGames}
 use Rattle.dw_games.specs.GameReading.{is_failure}
 use Rattle.dw_games.specs.inner.Inputs.{unread_of, Passes}
-use Rattle.dw_games.specs.inner.Keeping.{IsKept, spaces_on}
-use Rattle.dw_games.specs.inner.Sectioning.{ReadsOn, ReadsSection}
+use Rattle.dw_games.specs.inner.Keeping.{IsKept, spaces_on, row_of}
+use Rattle.dw_games.specs.inner.Sectioning.{ReadsOn, ReadsSection, EndsWell}
 use Rattle.dw_games.specs.declared.games.GameFault.{GameFault}
 use Rattle.dw_games.specs.declared.input.Input.{Input}
 use Rattle.dw_games.specs.declared.kept.Kept.{Kept}
 use Rattle.dw_games.proofs.InputLemmas.{Passes-refl, Passes-trans}
 use Rattle.dw_games.proofs.SectionLemmas.{first, cut_at, last_at, cut_games, last_games, empty_games, spaces_on-append}
+use Rattle.dw_games.proofs.SectionLemmas.{cut_ends_well, last_ends_well}
 
 front_begins : (passed behind rest : List ℕ) (byte : ℕ) → passed ++ byte ∷ behind ≡ 91 ∷ rest
     → (more : List ℕ) × (passed ++ byte ∷ [] ≡ 91 ∷ more)
@@ -27,70 +28,76 @@ front_begins (p ∷ passed) behind rest byte e = (passed ++ byte ∷ [], ap (λ 
 
 module _ {B S : Type 0} (g : Geometry) (coming : S → Option (List ℕ)) (has_ended is_failed : S → Bool)
     (pulls : S → ℕ) where
-  abbrev On : Input S → Input S → Kept → Kept → SectionReader B → Type 0
+  abbrev On : Input S → Input S → Kept → Kept → Kept → Kept → SectionReader B → Type 0
   On = ReadsOn g coming has_ended is_failed pulls
 
-  pub ReadsOn-start : (old : Input S) (before : Kept) (reader : SectionReader B)
+  pub ReadsOn-start : (old : Input S) (begun before : Kept) (reader : SectionReader B)
       → ((over : Bool) (bytes : List ℕ) → SectionsSay g over bytes (ahead_of reader g over bytes))
-      → ahead_of reader g false [] ≡ [] → On old old before before reader
-  ReadsOn-start old before reader said begun = record {
+      → ahead_of reader g false [] ≡ [] → On old old begun begun before before reader
+  ReadsOn-start old begun before reader said unsaid = record {
     passed = [];
     passes = Passes-refl coming has_ended is_failed pulls old;
+    rows = λ limit is. is;
     keeps = λ limit is. is;
     said = said;
-    begun = begun;
+    unsaid = unsaid;
   }
 
   -- the next byte is known
-  pub ReadsOn-peek : (old mid now : Input S) (before kept : Kept) (reader : SectionReader B)
-      → On old mid before kept reader → Passes coming has_ended is_failed pulls mid now [] false
-      → On old now before kept reader
-  ReadsOn-peek old mid now before kept reader on peek = record {
+  pub ReadsOn-peek : (old mid now : Input S) (begun row before kept : Kept) (reader : SectionReader B)
+      → On old mid begun row before kept reader → Passes coming has_ended is_failed pulls mid now [] false
+      → On old now begun row before kept reader
+  ReadsOn-peek old mid now begun row before kept reader on peek = record {
     passed = on.passed;
     passes = subst (λ l. Passes coming has_ended is_failed pulls old now l false) (append-nil on.passed)
         (Passes-trans coming has_ended is_failed pulls old mid now on.passed [] false on.passes peek);
+    rows = on.rows;
     keeps = on.keeps;
     said = on.said;
-    begun = on.begun;
+    unsaid = on.unsaid;
   }
 
   -- it does not end the section
-  pub ReadsOn-byte : (old mid now : Input S) (before kept after : Kept) (reader next : SectionReader B) (byte : ℕ)
-      (result : Option Found) → On old mid before kept reader → unread_of mid ≡ byte ∷ drop 1 (unread_of mid)
+  pub ReadsOn-byte : (old mid now : Input S) (begun row longer before kept after : Kept) (reader next : SectionReader B)
+      (byte : ℕ) (result : Option Found) → On old mid begun row before kept reader → unread_of mid ≡ byte ∷ drop 1 (unread_of mid)
       → ((over : Bool) (more : List ℕ) → ahead_of reader g over (byte ∷ more)
       ≡ option_to_list result ++ ahead_of next g over more)
       → ahead_of next g false [] ≡ [] → result ≡ None
+      → ((limit : ℕ) (text : List ℕ) → IsKept limit text row → IsKept limit (text ++ byte ∷ []) longer)
       → ((limit : ℕ) (text : List ℕ) → IsKept limit text kept
       → IsKept limit (cond (is_space byte) (text ++ byte ∷ []) []) after)
       → Passes coming has_ended is_failed pulls mid now (take 1 (unread_of mid)) false
-      → On old now before after next
-  ReadsOn-byte old mid now before kept after reader next byte result on here add begun none keep pass = record {
-    passed = on.passed ++ byte ∷ [];
-    passes = subst (λ l. Passes coming has_ended is_failed pulls old now (on.passed ++ l) false) (ap (take 1) here)
-        (Passes-trans coming has_ended is_failed pulls old mid now on.passed (take 1 (unread_of mid)) false on.passes
-        pass);
-    keeps = λ limit is. subst (λ l. IsKept limit l after) (sym (spaces_on-append [] on.passed (byte ∷ [])))
-        (keep limit (spaces_on [] on.passed) (on.keeps limit is));
-    said = λ over more. subst (SectionsSay g over ((on.passed ++ byte ∷ []) ++ more))
-        (add over more ∙ ap (λ r. option_to_list r ++ ahead_of next g over more) none)
-        (subst (λ l. SectionsSay g over l (ahead_of reader g over (byte ∷ more)))
-        (sym (append_assoc on.passed (byte ∷ []) more)) (on.said over (byte ∷ more)));
-    begun = begun;
-  }
+      → On old now begun longer before after next
+  ReadsOn-byte old mid now begun row longer before kept after reader next byte result on here add unsaid none push keep
+      pass = record {
+        passed = on.passed ++ byte ∷ [];
+        passes = subst (λ l. Passes coming has_ended is_failed pulls old now (on.passed ++ l) false) (ap (take 1) here)
+            (Passes-trans coming has_ended is_failed pulls old mid now on.passed (take 1 (unread_of mid)) false on.passes
+            pass);
+        rows = λ limit is. push limit on.passed (on.rows limit is);
+        keeps = λ limit is. subst (λ l. IsKept limit l after) (sym (spaces_on-append [] on.passed (byte ∷ [])))
+            (keep limit (spaces_on [] on.passed) (on.keeps limit is));
+        said = λ over more. subst (SectionsSay g over ((on.passed ++ byte ∷ []) ++ more))
+            (add over more ∙ ap (λ r. option_to_list r ++ ahead_of next g over more) none)
+            (subst (λ l. SectionsSay g over l (ahead_of reader g over (byte ∷ more)))
+            (sym (append_assoc on.passed (byte ∷ []) more)) (on.said over (byte ∷ more)));
+        unsaid = unsaid;
+      }
 
-  nothing_ended : (old now : Input S) (before kept : Kept) (reader : SectionReader B) → (on : On old now before kept reader)
-      → SectionsSay g false on.passed []
-  nothing_ended old now before kept reader on = subst (SectionsSay g false on.passed) on.begun
+  nothing_ended : (old now : Input S) (begun row before kept : Kept) (reader : SectionReader B)
+      → (on : On old now begun row before kept reader) → SectionsSay g false on.passed []
+  nothing_ended old now begun row before kept reader on = subst (SectionsSay g false on.passed) on.unsaid
       (subst (λ l. SectionsSay g false l (ahead_of reader g false [])) (append-nil on.passed) (on.said false []))
 
   -- it ends the section
-  pub ReadsOn-cut : TextsOfTagsSay → (old now : Input S) (before kept : Kept) (reader next : SectionReader B) (byte : ℕ)
-      (result : Option Found) (found : Found) → On old now before kept reader
+  pub ReadsOn-cut : TextsOfTagsSay → (old now : Input S) (begun row before kept : Kept) (reader next : SectionReader B)
+      (byte : ℕ) (result : Option Found) (found : Found) → On old now begun row before kept reader
       → unread_of old ≡ 91 ∷ drop 1 (unread_of old) → unread_of now ≡ byte ∷ drop 1 (unread_of now)
       → ((over : Bool) (more : List ℕ) → ahead_of reader g over (byte ∷ more)
       ≡ option_to_list result ++ ahead_of next g over more)
-      → result ≡ Some found → ReadsSection g coming has_ended is_failed pulls old now before kept (Ok (Some found))
-  ReadsOn-cut law old now before kept reader next byte result found on begins here add is =
+      → result ≡ Some found
+      → ReadsSection g coming has_ended is_failed pulls old now begun row before kept (Ok (Some found))
+  ReadsOn-cut law old now begun row before kept reader next byte result found on begins here add is =
       let behind = drop 1 (unread_of now) in
       let joined : on.passed ++ byte ∷ behind ≡ 91 ∷ (drop 1 (unread_of old) ++ on.passes.read) =
       ap (λ l. on.passed ++ l) (sym here) ∙ sym on.passes.same ∙ ap (λ l. l ++ on.passes.read) begins in
@@ -98,55 +105,62 @@ module _ {B S : Type 0} (g : Geometry) (coming : S → Option (List ℕ)) (has_e
       let all : ahead_of reader g false (byte ∷ []) ≡ found ∷ ahead_of next g false [] =
       add false [] ∙ ap (λ r. option_to_list r ++ ahead_of next g false []) is in
       let cut = cut_at law g on.passed front.0 byte found _ (on.said false (byte ∷ [])) refl front.1 all
-      (nothing_ended old now before kept reader on) in
+      (nothing_ended old now begun row before kept reader on) in
       record {
         passed = on.passed;
         passes = on.passes;
+        rows = on.rows;
         kept = on.keeps;
+        ends = cut_ends_well g on.passed byte found cut;
         said = λ bytes front games over has.
             let text : unread_of now ++ bytes ≡ byte ∷ (behind ++ bytes) = ap (λ l. l ++ bytes) here in
-            subst (λ l. HasGames g (on.passed ++ l) [] (said_with found (spaces_on [] on.passed ++ front) ∷ games))
+            subst (λ l. HasGames g (on.passed ++ l) [] (said_with found (row_of on.passed) (spaces_on [] on.passed ++ front) ∷ games))
             (sym text) (cut_games g on.passed (behind ++ bytes) front byte found games cut
             (subst (λ l. HasGames g l front games) text has));
       }
 
   -- the text ends it
-  pub ReadsOn-last : TextsOfTagsSay → (old now : Input S) (before kept : Kept) (reader : SectionReader B)
-      (result : Option Found) → On old now before kept reader → unread_of old ≡ 91 ∷ drop 1 (unread_of old)
+  pub ReadsOn-last : TextsOfTagsSay → (old now : Input S) (begun row before kept : Kept) (reader : SectionReader B)
+      (result : Option Found) → On old now begun row before kept reader → unread_of old ≡ 91 ∷ drop 1 (unread_of old)
       → (unread_of now ≡ []) × (now.met_end ≡ true) → ahead_of reader g true [] ≡ option_to_list result
-      → ReadsSection g coming has_ended is_failed pulls old now before kept (Ok result)
-  ReadsOn-last law old now before kept reader result on begins end finish =
+      → ReadsSection g coming has_ended is_failed pulls old now begun row before kept (Ok result)
+  ReadsOn-last law old now begun row before kept reader result on begins end finish =
       let joined : on.passed ++ [] ≡ 91 ∷ (drop 1 (unread_of old) ++ on.passes.read) =
       ap (λ l. on.passed ++ l) (sym end.0) ∙ sym on.passes.same ∙ ap (λ l. l ++ on.passes.read) begins in
       let last = last_at law g on.passed _ result (on.said true []) (append-nil on.passed) joined finish
-      (nothing_ended old now before kept reader on) in
+      (nothing_ended old now begun row before kept reader on) in
       record {
         passed = on.passed;
         passes = on.passes;
+        rows = on.rows;
         kept = on.keeps;
+        ends = subst (λ r. MatchOption r ⊥ (λ found. EndsWell found on.passed)) (sym last.1)
+            (last_ends_well g on.passed last.0 last.2);
         said = subst (λ r. MatchOption r ⊥ (λ found. (bytes front : List ℕ) (games : List Said)
             → (now.met_end ≡ true → bytes ≡ []) → HasGames g (unread_of now ++ bytes) front games
             → HasGames g (on.passed ++ (unread_of now ++ bytes)) []
-            (said_with found (spaces_on [] on.passed ++ front) ∷ games))) (sym last.1)
+            (said_with found (row_of on.passed) (spaces_on [] on.passed ++ front) ∷ games))) (sym last.1)
             (λ bytes front games over has.
             let none : unread_of now ++ bytes ≡ [] = ap (λ l. l ++ bytes) end.0 ∙ over end.1 in
             let empty = empty_games g has none in
-            subst (λ l. HasGames g l [] (said_with last.0 (spaces_on [] on.passed ++ front) ∷ games))
+            subst (λ l. HasGames g l [] (said_with last.0 (row_of on.passed) (spaces_on [] on.passed ++ front) ∷ games))
             (sym (ap (λ l. on.passed ++ l) none ∙ append-nil on.passed))
-            (subst (λ l. HasGames g on.passed [] (said_with last.0 (spaces_on [] on.passed ++ l) ∷ games)) (sym empty.0)
-            (subst (λ l. HasGames g on.passed [] (said_with last.0 (spaces_on [] on.passed ++ []) ∷ l)) (sym empty.1)
+            (subst (λ l. HasGames g on.passed [] (said_with last.0 (row_of on.passed) (spaces_on [] on.passed ++ l) ∷ games)) (sym empty.0)
+            (subst (λ l. HasGames g on.passed [] (said_with last.0 (row_of on.passed) (spaces_on [] on.passed ++ []) ∷ l)) (sym empty.1)
             (last_games g on.passed last.0 last.2))));
       }
 
   -- the source fails, or memory is refused
-  pub ReadsOn-fault : (old mid now : Input S) (before kept after : Kept) (reader : SectionReader B) (fault : GameFault)
-      → On old mid before kept reader
+  pub ReadsOn-fault : (old mid now : Input S) (begun row longer before kept after : Kept) (reader : SectionReader B)
+      (fault : GameFault) → On old mid begun row before kept reader
       → Passes coming has_ended is_failed pulls mid now [] (is_failure {A = Option Found} (Err fault))
-      → ReadsSection g coming has_ended is_failed pulls old now before after (Err fault)
-  ReadsOn-fault old mid now before kept after reader fault on peek = record {
+      → ReadsSection g coming has_ended is_failed pulls old now begun longer before after (Err fault)
+  ReadsOn-fault old mid now begun row longer before kept after reader fault on peek = record {
     passed = on.passed;
     passes = subst (λ l. Passes coming has_ended is_failed pulls old now l (is_failure {A = Option Found} (Err fault)))
         (append-nil on.passed) (Passes-trans coming has_ended is_failed pulls old mid now on.passed [] _ on.passes peek);
+    rows = tt;
     kept = tt;
+    ends = tt;
     said = tt;
   }

@@ -1,8 +1,9 @@
 -- Lemmas on a section that is read byte by byte.
-use Rattle.std.proofs.Common.{◌≡◌, ◌==◌, ◌||◌, ◌⊎◌, ℕ, not, List, [], ◌∷◌, ◌++◌, length, Bool, true, false}
+use Rattle.std.proofs.Common.{◌≡◌, ◌==◌, ◌-◌, ◌||◌, ◌⊎◌, ℕ, not, List, [], ◌∷◌, ◌++◌, length, take, Bool, true, false}
 use Rattle.std.proofs.Common.{Option, Some, None, Ok, Err, MatchBool, refl, sym, ap, ◌∙◌, subst, arith, append_assoc}
-use Rattle.std.proofs.Common.{append-nil, inl, inr, option_to_list, cond, nat_lt}
-use Rattle.std.proofs.lemmas.Bool.{and_parts}
+use Rattle.std.proofs.Common.{append-nil, inl, inr, option_to_list, cond, nat_lt, length-append}
+use Rattle.std.proofs.Math.Seq.{take-append_seam}
+use Rattle.std.proofs.lemmas.Bool.{and_parts, ltb-false}
 use Rattle.std.proofs.lemmas.List.{same_from_push}
 use Rattle.std.specs.List.{list_all}
 use Rattle.dw_board.specs.Geometry.{Geometry}
@@ -18,8 +19,8 @@ use Rattle.dw_notation.specs.declared.problems.ProblemFault.TheVariants.{Section
 use Rattle.dw_games.specs.Games.{Said, said_with, HasGames}
 use Rattle.dw_games.specs.Games.HasGames.{nothing as no_games, other as no_section, comment as no_comment}
 use Rattle.dw_games.specs.Games.HasGames.{last_comment as open_comment, section as with_section, last_section as with_last}
-use Rattle.dw_games.specs.inner.Keeping.{spaces_on}
-use Rattle.dw_games.specs.inner.Sectioning.{IsCut, IsLast}
+use Rattle.dw_games.specs.inner.Keeping.{spaces_on, row_of}
+use Rattle.dw_games.specs.inner.Sectioning.{IsCut, IsLast, IsRow, EndsWell}
 
 abbrev pub first : List ℕ → ℕ
 first [] = 0
@@ -155,7 +156,7 @@ tag_closed text tag is = (
   is.joined ∙ tag_joined is.first tag.name is.middle is.spelling is.last,
 )
 
-section_closed : {text : List ℕ} {tags : List Tag} {some last : Bool} → IsSection text tags some last → some ≡ false
+pub section_closed : {text : List ℕ} {tags : List Tag} {some last : Bool} → IsSection text tags some last → some ≡ false
     → (last ≡ false) × ((front : List ℕ) × (text ≡ front ++ 93 ∷ []))
 section_closed (single {text} {tag} is) whole = (refl, tag_closed text tag is)
 section_closed (broken is) whole = cc
@@ -177,53 +178,102 @@ whole p A true false h = refl
 whole p A false true h = cc
 whole p A false false h = refl
 
-all_spaces : (last : Bool) (gap : List ℕ) → last ≡ false → IsGap last gap ⊎ (gap ≡ []) → list_all is_space gap ≡ true
+pub all_spaces : (last : Bool) (gap : List ℕ) → last ≡ false → IsGap last gap ⊎ (gap ≡ []) → list_all is_space gap ≡ true
 all_spaces true gap whole h = cc
 all_spaces false gap whole (inl spaces) = spaces
 all_spaces false gap whole (inr none) = rw none refl
 
-not_refused : (g : Geometry) (size : ℕ) (some : Bool) (tags : List Tag) (p : Placement)
+pub not_refused : (g : Geometry) (size : ℕ) (some : Bool) (tags : List Tag) (p : Placement)
     → SectionSays g size some tags (Ok p) → some ≡ false
 not_refused g size some tags p says = whole p _ (nat_lt MAX_SECTION size) some says
+
+-- the spaces behind a bracket, and what stands before them
+spaces_on-closed : (text front gap : List ℕ) → list_all is_space gap ≡ true → text ≡ front ++ 93 ∷ []
+    → gap ≡ spaces_on [] (text ++ gap)
+spaces_on-closed text front gap all closed =
+    sym (spaces_on-append [] text gap
+    ∙ ap (λ l. spaces_on l gap) (ap (spaces_on []) closed ∙ spaces_on-bracket [] front)
+    ∙ spaces_on-gap [] gap all)
+
+row_cut : (text gap : List ℕ) → gap ≡ spaces_on [] (text ++ gap) → text ≡ row_of (text ++ gap)
+row_cut text gap e =
+    let size : length (text ++ gap) - length (spaces_on [] (text ++ gap)) ≡ length text =
+    omega (arith, length-append text gap, ap length e) in
+    sym (ap (λ n. take n (text ++ gap)) size ∙ take-append_seam text gap)
 
 gap_is_spaces : (text gap : List ℕ) (tags : List Tag) (some last : Bool) → IsSection text tags some last
     → IsGap last gap ⊎ (gap ≡ []) → some ≡ false → gap ≡ spaces_on [] (text ++ gap)
 gap_is_spaces text gap tags some last is spaces whole =
     let closed = section_closed is whole in
-    let all = all_spaces last gap closed.0 spaces in
-    sym (spaces_on-append [] text gap
-    ∙ ap (λ l. spaces_on l gap) (ap (spaces_on []) closed.1.1 ∙ spaces_on-bracket [] closed.1.0)
-    ∙ spaces_on-gap [] gap all)
+    spaces_on-closed text closed.1.0 gap (all_spaces last gap closed.0 spaces) closed.1.1
 
 pub said_gap : (g : Geometry) (text gap front : List ℕ) (tags : List Tag) (some last : Bool) (found : Found)
     → IsSection text tags some last → IsGap last gap ⊎ (gap ≡ []) → SectionSays g (length text) some tags found
-    → said_with found (gap ++ front) ≡ said_with found (spaces_on [] (text ++ gap) ++ front)
+    → said_with found text (gap ++ front) ≡ said_with found (row_of (text ++ gap)) (spaces_on [] (text ++ gap) ++ front)
 said_gap g text gap front tags some last (Ok p) is spaces says =
-    ap (λ l. said_with (Ok p) (l ++ front))
-    (gap_is_spaces text gap tags some last is spaces (not_refused g (length text) some tags p says))
+    let e = gap_is_spaces text gap tags some last is spaces (not_refused g (length text) some tags p says) in
+    ap (λ l. said_with (Ok p) text (l ++ front)) e
+    ∙ ap (λ l. said_with (Ok p) l (spaces_on [] (text ++ gap) ++ front)) (row_cut text gap e)
 said_gap g text gap front tags some last (Err fault) is spaces says = refl
+
+-- ---- a section that is not refused ends with a bracket
+short : (p : Placement) (A : Type 0) (long some : Bool) → MatchBool long (Ok p ≡ Err SectionTooLong)
+    (MatchBool some (Ok p ≡ Err UnclosedTag) A) → long ≡ false
+short p A true some h = cc
+short p A false some h = refl
+
+ends_well : (g : Geometry) (seen text gap : List ℕ) (tags : List Tag) (some last : Bool) (found : Found)
+    → IsSection text tags some last → IsGap last gap ⊎ (gap ≡ []) → SectionSays g (length text) some tags found
+    → seen ≡ text ++ gap → EndsWell found seen
+ends_well g seen text gap tags some last (Ok p) is spaces says joined =
+    let closed = section_closed is (not_refused g (length text) some tags p says) in
+    let few = ltb-false MAX_SECTION (length text) (short p _ (nat_lt MAX_SECTION (length text)) some says) in
+    record {
+      front = closed.1.0;
+      gap = gap;
+      spaces = all_spaces last gap closed.0 spaces;
+      few = omega (arith, few, ap length closed.1.1, length-append closed.1.0 (93 ∷ []));
+      joined = joined ∙ ap (λ l. l ++ gap) closed.1.1 ∙ append_assoc closed.1.0 (93 ∷ []) gap;
+    }
+ends_well g seen text gap tags some last (Err fault) is spaces says joined = tt
+
+pub cut_ends_well : (g : Geometry) (seen : List ℕ) (byte : ℕ) (found : Found) → IsCut g seen byte found
+    → EndsWell found seen
+cut_ends_well g seen byte found c =
+    ends_well g seen c.text c.gap c.tags c.some c.last found c.is (inl c.spaces) c.says c.joined
+
+pub last_ends_well : (g : Geometry) (seen : List ℕ) (found : Found) → IsLast g seen found → EndsWell found seen
+last_ends_well g seen found c =
+    ends_well g seen c.text c.gap c.tags c.some c.last found c.is c.spaces c.says c.joined
+
+-- ---- what is told of it
+pub row-of_closed : (seen : List ℕ) → (r : IsRow seen) → row_of seen ≡ r.front ++ 93 ∷ []
+row-of_closed seen r =
+    let text = r.front ++ 93 ∷ [] in
+    let whole : seen ≡ text ++ r.gap = r.joined ∙ sym (append_assoc r.front (93 ∷ []) r.gap) in
+    ap row_of whole ∙ sym (row_cut text r.gap (spaces_on-closed text r.front r.gap r.spaces refl))
 
 -- ---- what a section says, and what a text says that goes on behind it
 pub cut_games : (g : Geometry) (seen more front : List ℕ) (byte : ℕ) (found : Found) (games : List Said)
     → IsCut g seen byte found → HasGames g (byte ∷ more) front games
-    → HasGames g (seen ++ byte ∷ more) [] (said_with found (spaces_on [] seen ++ front) ∷ games)
+    → HasGames g (seen ++ byte ∷ more) [] (said_with found (row_of seen) (spaces_on [] seen ++ front) ∷ games)
 cut_games g seen more front byte found games c has =
-    let gap : said_with found (c.gap ++ front) ≡ said_with found (spaces_on [] seen ++ front) =
+    let gap : said_with found c.text (c.gap ++ front) ≡ said_with found (row_of seen) (spaces_on [] seen ++ front) =
     said_gap g c.text c.gap front c.tags c.some c.last found c.is (inl c.spaces) c.says
-    ∙ ap (λ l. said_with found (spaces_on [] l ++ front)) (sym c.joined) in
-    subst (λ l. HasGames g l [] (said_with found (spaces_on [] seen ++ front) ∷ games))
+    ∙ ap (λ l. said_with found (row_of l) (spaces_on [] l ++ front)) (sym c.joined) in
+    subst (λ l. HasGames g l [] (said_with found (row_of seen) (spaces_on [] seen ++ front) ∷ games))
     (sym (append_assoc c.text c.gap (byte ∷ more)) ∙ ap (λ l. l ++ byte ∷ more) (sym c.joined))
     (subst (λ x. HasGames g (c.text ++ (c.gap ++ byte ∷ more)) [] (x ∷ games)) gap
     (with_section c.text c.gap byte found c.is c.spaces c.ends c.says has))
 
 pub last_games : (g : Geometry) (seen : List ℕ) (found : Found) → IsLast g seen found
-    → HasGames g seen [] (said_with found (spaces_on [] seen ++ []) ∷ [])
+    → HasGames g seen [] (said_with found (row_of seen) (spaces_on [] seen ++ []) ∷ [])
 last_games g seen found c =
-    let gap : said_with found c.gap ≡ said_with found (spaces_on [] seen ++ []) =
-    ap (said_with found) (sym (append-nil c.gap))
+    let gap : said_with found c.text c.gap ≡ said_with found (row_of seen) (spaces_on [] seen ++ []) =
+    ap (said_with found c.text) (sym (append-nil c.gap))
     ∙ said_gap g c.text c.gap [] c.tags c.some c.last found c.is c.spaces c.says
-    ∙ ap (λ l. said_with found (spaces_on [] l ++ [])) (sym c.joined) in
-    subst (λ l. HasGames g l [] (said_with found (spaces_on [] seen ++ []) ∷ [])) (sym c.joined)
+    ∙ ap (λ l. said_with found (row_of l) (spaces_on [] l ++ [])) (sym c.joined) in
+    subst (λ l. HasGames g l [] (said_with found (row_of seen) (spaces_on [] seen ++ []) ∷ [])) (sym c.joined)
     (subst (λ x. HasGames g (c.text ++ c.gap) [] (x ∷ [])) gap (with_last c.text c.gap found c.is c.spaces c.says))
 
 -- the empty text has no games

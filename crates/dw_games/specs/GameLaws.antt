@@ -1,8 +1,10 @@
 -- Laws of the games of a text.
-use Rattle.std.specs.Prelude.{◌≡◌, ℕ, List, true, map, Ok, Result}
+use Rattle.std.specs.Prelude.{◌≡◌, ℕ, List, length, true, false, map, Ok, Result}
 use Rattle.dw_board.specs.Geometry.{Geometry}
 use Rattle.dw_board.specs.Placement.{Placement}
+use Rattle.dw_board.specs.Lists.{Member}
 use Rattle.dw_moves.specs.Moves.{Move}
+use Rattle.dw_notation.specs.Tags.{Tag, IsSection, SectionSays}
 use Rattle.dw_notation.specs.Problems.{AreProblems}
 use Rattle.dw_notation.specs.declared.problems.Form.TheVariants.{Pdn}
 use Rattle.dw_games.specs.Faults.{IsAnswer}
@@ -19,6 +21,18 @@ pub record TextsHaveGames : Type 0 where
   pub some : (g : Geometry) (bytes : List ℕ) → (games : List NumberedGame) × AreGames g bytes games
   pub only : (g : Geometry) (bytes : List ℕ) (games others : List NumberedGame) → AreGames g bytes games
       → AreGames g bytes others → games ≡ others
+
+-- a section of whole tags that says a position
+pub record SaysPosition (g : Geometry) (position : Placement) (text : List ℕ) : Type 0 where
+  pub tags : List Tag
+  pub is : IsSection text tags false false
+  pub says : SectionSays g (length text) false tags (Ok position)
+
+-- of a game with a position the section is told that says it
+abbrev pub GamesTellSections : Type 0
+GamesTellSections = (g : Geometry) (bytes : List ℕ) (games : List NumberedGame) (game : NumberedGame)
+    (position : Placement) → AreGames g bytes games → Member game games → game.said.found ≡ Ok position
+    → SaysPosition g position game.said.tags
 
 -- what is told of a movetext has the answers of the whole
 abbrev pub ToldIsEnough : Type 0

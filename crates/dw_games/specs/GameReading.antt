@@ -13,7 +13,7 @@ use Rattle.dw_games.specs.declared.games.GameFault.TheVariants.{Failed, Memory}
 abbrev pub numbered_game : {B : Type 0} → Game B → NumberedGame
 numbered_game game = record {
   number = game.problem.number;
-  said = record { found = game.problem.found; movetext = game.movetext.items };
+  said = record { found = game.problem.found; tags = game.tags.items; movetext = game.movetext.items };
 }
 
 -- the name of the reference to the source that the reader holds

@@ -1,4 +1,4 @@
--- The games of a text of tags: what each of its sections says, with the movetext behind its tags.
+-- The games of a text of tags: what each of its sections says, with the section's bytes and the movetext behind them.
 use Rattle.std.specs.Prelude.{◌≡◌, ◌==◌, ◌+◌, ◌||◌, ◌⊎◌, if◌then◌else◌, ℕ, not, List, [], ◌∷◌, ◌++◌, length, take}
 use Rattle.std.specs.Prelude.{Bool, true, false, Ok, Err, nat_lt}
 use Rattle.dw_board.specs.Geometry.{Geometry}
@@ -10,18 +10,24 @@ use Rattle.dw_notation.specs.declared.problems.TheConstants.{MAX_PROBLEMS}
 use Rattle.dw_notation.specs.declared.problems.ProblemFault.TheVariants.{UnclosedComment, TooManyProblems}
 use Rattle.dw_games.specs.declared.movetext.TheConstants.{MAX_MOVETEXT}
 
--- what a section says, and its movetext
+-- what a section says, its bytes up to the end of its last tag, and its movetext
 pub record Said : Type 0 where
   pub found : Found
+  pub tags : List ℕ
   pub movetext : List ℕ
+
+-- a section is told as it stands in the text; of a refused one nothing is
+abbrev pub told_tags : Found → List ℕ → List ℕ
+told_tags (Ok position) text = text
+told_tags (Err fault) text = []
 
 -- Of a movetext so many bytes are told that one which is too large is seen to be; of that of a refused section none.
 abbrev pub told : Found → List ℕ → List ℕ
 told (Ok position) movetext = take (MAX_MOVETEXT + 1) movetext
 told (Err fault) movetext = []
 
-abbrev pub said_with : Found → List ℕ → Said
-said_with found movetext = record { found = found; movetext = told found movetext }
+abbrev pub said_with : Found → (text movetext : List ℕ) → Said
+said_with found text movetext = record { found = found; tags = told_tags found text; movetext = told found movetext }
 
 -- A row of comments, sections and other bytes: its front, before the first section, and what the sections say in turn.
 -- The movetext of a section is what stands behind its last tag, up to the next section.
@@ -34,15 +40,15 @@ pub data HasGames : Geometry → (text front : List ℕ) → List Said → Type 
       → HasGames g more front games
       → HasGames g (open_brace ∷ (text ++ close_brace ∷ more)) (open_brace ∷ (text ++ close_brace ∷ front)) games
   last_comment : {g : Geometry} (text : List ℕ) → IsOpen text
-      → HasGames g (open_brace ∷ text) (open_brace ∷ text) (said_with (Err UnclosedComment) [] ∷ [])
+      → HasGames g (open_brace ∷ text) (open_brace ∷ text) (said_with (Err UnclosedComment) [] [] ∷ [])
   section : {g : Geometry} {tags : List Tag} {some last : Bool} {more front : List ℕ} {games : List Said}
       (text gap : List ℕ) (byte : ℕ) (found : Found)
       → IsSection text tags some last → IsGap last gap → not ((byte == open_bracket) || is_space byte) ≡ true
       → SectionSays g (length text) some tags found → HasGames g (byte ∷ more) front games
-      → HasGames g (text ++ (gap ++ byte ∷ more)) [] (said_with found (gap ++ front) ∷ games)
+      → HasGames g (text ++ (gap ++ byte ∷ more)) [] (said_with found text (gap ++ front) ∷ games)
   last_section : {g : Geometry} {tags : List Tag} {some last : Bool} (text gap : List ℕ) (found : Found)
       → IsSection text tags some last → IsGap last gap ⊎ (gap ≡ []) → SectionSays g (length text) some tags found
-      → HasGames g (text ++ gap) [] (said_with found gap ∷ [])
+      → HasGames g (text ++ gap) [] (said_with found text gap ∷ [])
 
 -- a numbered game
 pub record NumberedGame : Type 0 where
@@ -55,7 +61,7 @@ games_from handed [] = []
 games_from handed (said ∷ more) =
     if nat_lt handed MAX_PROBLEMS then record { number = handed + 1; said = said } ∷ games_from (handed + 1) more
     else (if handed == MAX_PROBLEMS
-    then record { number = handed + 1; said = said_with (Err TooManyProblems) [] } ∷ [] else [])
+    then record { number = handed + 1; said = said_with (Err TooManyProblems) [] [] } ∷ [] else [])
 
 -- the games of a text
 pub record AreGames (g : Geometry) (bytes : List ℕ) (games : List NumberedGame) : Type 0 where

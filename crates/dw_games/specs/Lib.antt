@@ -8,4 +8,6 @@ pub mod Walk
 pub mod Games
 pub mod GameReading
 pub mod GameLaws
+pub mod TagRows
+pub mod TagRowLaws
 pub mod inner

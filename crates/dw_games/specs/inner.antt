@@ -12,3 +12,4 @@ pub mod Playing
 pub mod Sectioning
 pub mod GameReaders
 pub mod LineReading
+pub mod TagReading

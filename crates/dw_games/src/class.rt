@@ -1,9 +1,9 @@
-//! Classes of the bytes of a movetext.
+//! Classes of bytes.
 ghost use Rattle.std.specs.Prelude.{◌≡◌};
 ghost use Rattle.dw_notation.specs.Tags.{ends_line as line_end_test, is_space as space_test};
 ghost use Rattle.dw_games.specs.inner.Classes.{test_of};
 
-/// Bytes that stand in a row in a token.
+/// Bytes that stand in a row in a token or in a tag.
 #[derive(Clone, Copy)]
 pub(crate) enum Class {
     Digit,
@@ -16,6 +16,12 @@ pub(crate) enum Class {
     Inside,
     /// All but the end of a line.
     InLine,
+    /// A blank within a tag.
+    Blank,
+    /// What a tag's name is written with.
+    Name,
+    /// What stands between tags.
+    Space,
 }
 
 impl Class {
@@ -32,6 +38,9 @@ impl Class {
             }
             Class::Inside => byte != b'}',
             Class::InLine => !ends_line(byte),
+            Class::Blank => byte == b' ' || byte == b'\t',
+            Class::Name => byte.is_ascii_alphanumeric() || byte == b'_',
+            Class::Space => is_space(byte),
         }
     }
 }

@@ -1,9 +1,9 @@
-//! The games of a text of tags: what its sections say, each with the movetext behind it.
+//! The games of a text of tags: what its sections say, each with its bytes and the movetext behind it.
 ghost use Rattle.std.specs.Prelude.{◌≡◌, ◌∷◌, ◌+◌, ◌||◌, [], false, None, List, ℕ, drop};
 ghost use Rattle.dw_games.specs.declared.games.GameFault.TheVariants.{Memory};
 ghost use Rattle.dw_games.specs.declared.games.Stage.TheVariants.{Over};
 ghost use Rattle.dw_games.specs.inner.GameReaders.{stage_behind};
-ghost use Rattle.dw_games.specs.inner.Keeping.{IsKept, IsKeptFor};
+ghost use Rattle.dw_games.specs.inner.Keeping.{IsKept, IsKeptFor, IsTold};
 
 use crate::count::Count;
 use crate::input::Input;
@@ -12,18 +12,22 @@ use crate::movetext::MAX_MOVETEXT;
 use crate::play::{PlayEnd, read_play};
 use crate::section::read_section;
 use dw_board::{Board, Position};
+use dw_notation::problems::MAX_SECTION;
 use dw_notation::{Problem, ProblemFault, Source};
 use std::alloc::{AllocError, Global};
 use std::marker::PhantomData;
 use thiserror::Error;
 
-/// A game of a text: the problem that its section poses, and the movetext behind the section's tags, up to the next
-/// section. Of a movetext at most `MAX_MOVETEXT` + 1 bytes are held, of which `read_movetext` says that it is too
-/// large. That of a refused problem is empty.
-/// Example: `[FEN "W:W27,32:B18"] 1. 32-28 *` has a position and the movetext ` 1. 32-28 *`.
+/// A game of a text: the problem that its section poses, the section's tags as they stand in the text, from the first
+/// bracket to the last, and the movetext behind them, up to the next section. Of tags at most `MAX_SECTION` bytes are
+/// held. Of a movetext at most `MAX_MOVETEXT` + 1 bytes are held, of which `read_movetext` says that it is too large.
+/// The tags and the movetext of a refused problem are empty.
+/// Example: `[FEN "W:W27,32:B18"] 1. 32-28 *` has a position, the tags `[FEN "W:W27,32:B18"]` and the movetext
+/// ` 1. 32-28 *`.
 #[derive(Drop)]
 pub struct Game<B: Board> {
     pub problem: Problem<B>,
+    pub tags: Vec<u8>,
     pub movetext: Vec<u8>,
 }
 
@@ -76,7 +80,22 @@ fn kept_for<B: Board>(alloc: Global, found: &Result<Position<B>, ProblemFault>, 
     }
 }
 
-/// The games of a source. Of its input it holds 2,048 bytes of the last read, and the movetext that is read.
+/// What is told of a section's tags, by what it says and by what is kept of it and of the spaces behind.
+fn told_tags<B: Board>(
+    alloc: Global,
+    found: &Result<Position<B>, ProblemFault>,
+    row: Kept,
+) -> Vec<u8>
+    ensures { IsTold found.now row.bytes.items result.items }
+{
+    match found {
+        Ok(_) => row.into_trimmed(),
+        Err(_) => Vec::new(alloc),
+    }
+}
+
+/// The games of a source. Of its input it holds 2,048 bytes of the last read, and the tags and the movetext that are
+/// read.
 /// See [`Games::next`] for an example.
 #[derive(Drop)]
 pub struct Games<'a, B: Board, S> {
@@ -116,24 +135,37 @@ impl<'a, B: Board, S: Source> Games<'a, B, S> {
         }
     }
 
-    /// Hands out what a section says, and its movetext.
-    fn hand_out(&mut self, found: Result<Position<B>, ProblemFault>, movetext: Vec<u8>) -> Game<B>
+    /// Hands out what a section says, its tags and its movetext.
+    fn hand_out(
+        &mut self,
+        found: Result<Position<B>, ProblemFault>,
+        tags: Vec<u8>,
+        movetext: Vec<u8>,
+    ) -> Game<B>
         ensures input { self.new.input ≡ self.old.input }
-        ensures given { IsHandedOut self.old self.new (record { found = found; movetext = movetext.items }) result }
+        ensures given { IsHandedOut self.old self.new
+            (record { found = found; tags = tags.items; movetext = movetext.items }) result }
     {
         let number = self.handed.next();
         match self.handed.increased() {
             Some(handed) => {
                 self.handed = handed;
                 let problem = Problem { number, found };
-                Game { problem, movetext }
+                Game {
+                    problem,
+                    tags,
+                    movetext,
+                }
             }
             None => {
                 self.stage = Stage::Over;
                 let found = Err(ProblemFault::TooManyProblems);
                 let problem = Problem { number, found };
-                let movetext = Vec::new(self.alloc);
-                Game { problem, movetext }
+                Game {
+                    problem,
+                    tags: Vec::new(self.alloc),
+                    movetext: Vec::new(self.alloc),
+                }
             }
         }
     }
@@ -145,7 +177,11 @@ impl<'a, B: Board, S: Source> Games<'a, B, S> {
         ensures given { numbered_game result ∷ [] ≡ games_from self.old.handed.games (unclosed ∷ []) }
     {
         self.stage = Stage::Over;
-        self.hand_out(Err(ProblemFault::UnclosedComment), Vec::new(self.alloc))
+        self.hand_out(
+            Err(ProblemFault::UnclosedComment),
+            Vec::new(self.alloc),
+            Vec::new(self.alloc),
+        )
     }
 
     /// Reads the game of the section that begins here.
@@ -154,13 +190,15 @@ impl<'a, B: Board, S: Source> Games<'a, B, S> {
         ensures { ReadsGame B.geometry S.coming S.has_ended S.is_failed S.pulls_left self.old self.new result }
     {
         dw_notation::laws::texts_of_tags_say();
+        let mut row = Kept::new(self.alloc, MAX_SECTION);
         let mut spaces = Kept::new(self.alloc, MAX_MOVETEXT + 1);
-        let Some(found) = read_section::<B, S>(&mut self.input, &mut spaces)? else {
+        let Some(found) = read_section::<B, S>(&mut self.input, &mut row, &mut spaces)? else {
             return Ok(None);
         };
+        let tags = told_tags(self.alloc, &found, row);
         let mut movetext = kept_for(self.alloc, &found, spaces);
         self.stage = stage_behind(read_play(&mut self.input, &mut movetext)?);
-        Ok(Some(self.hand_out(found, movetext.into_bytes())))
+        Ok(Some(self.hand_out(found, tags, movetext.into_bytes())))
     }
 
     /// Reads up to the end of the next game.
@@ -185,8 +223,8 @@ impl<'a, B: Board, S: Source> Games<'a, B, S> {
     ///
     /// `Failed` is the source's fault, and `Memory` says that memory was refused: the game that was begun is lost, and
     /// each later call answers the same.
-    /// Example: of `[FEN "W:W32:B28"] 1. 32x23 [FEN "x"]` it gives a position with the movetext ` 1. 32x23 `, then a
-    /// problem that was refused, and then `None`.
+    /// Example: of `[FEN "W:W32:B28"] 1. 32x23 [FEN "x"]` it gives a position with the tags `[FEN "W:W32:B28"]` and the
+    /// movetext ` 1. 32x23 `, then a problem that was refused, and then `None`.
     #[tactic(auto, unfolding(crate::specs::inner::GameReaders::reading_of))]
     pub fn next(&mut self) -> Result<Option<Game<B>>, GameFault>
         ensures lender { lender self.new ≡ lender self.old }

@@ -1,5 +1,6 @@
 //! What is kept of a text.
 ghost use Rattle.std.specs.Prelude.{◌≡◌, ◌∷◌, ◌++◌, [], OnOk, List, ℕ};
+ghost use Rattle.std.specs.Str.{IsTrimAsciiEnd};
 ghost use Rattle.dw_games.specs.inner.Keeping.{IsKept};
 
 use std::alloc::{AllocError, Global};
@@ -51,6 +52,16 @@ impl Kept {
             bytes,
             limit: _,
         } = self;
+        bytes
+    }
+
+    /// The bytes that were kept, without the spaces at their end.
+    pub(crate) fn into_trimmed(self) -> Vec<u8>
+        ensures { IsTrimAsciiEnd self.bytes.items result.items }
+    {
+        let mut bytes = self.into_bytes();
+        let size = bytes.as_slice().trim_ascii_end().len();
+        bytes.truncate(size);
         bytes
     }
 }

@@ -1,6 +1,7 @@
 //! Laws of the definitions, each the contract of a function that does nothing.
-ghost use Rattle.dw_games.specs.GameLaws.{GamesSayProblems, TextsHaveGames, ToldIsEnough};
+ghost use Rattle.dw_games.specs.GameLaws.{GamesSayProblems, GamesTellSections, TextsHaveGames, ToldIsEnough};
 ghost use Rattle.dw_games.specs.Laws.{OneRow, OneAnswer, OneLine, TreesArePlayed};
+ghost use Rattle.dw_games.specs.TagRowLaws.{OneRowOfTags, SectionsHaveTheirTags};
 
 /// Each text has exactly one row of tokens.
 /// Example: `1-1.` has the two tokens `1-1` and `.`, and `1.-1` has `1.`, a byte that begins none, and `1`.
@@ -37,6 +38,24 @@ pub fn texts_have_games()
 {
     dw_notation::laws::texts_of_tags_say();
 }
+
+/// Of a game that poses a position the whole section is told, which leaves no tag unclosed and says that position.
+/// Example: ` [FEN "W:W32:B28"]  1. 32x23` has one game, whose tags are the section `[FEN "W:W32:B28"]`.
+pub fn games_tell_sections()
+    ensures { GamesTellSections }
+{}
+
+/// Each text has exactly one row of whole tags, which `read_tags` reads of it.
+/// Example: `[A "1"] [B "2"] *` has the whole tags `[A "1"]` and `[B "2"]` and no others.
+pub fn one_row_of_tags()
+    ensures { OneRowOfTags }
+{}
+
+/// The whole tags of a section that leaves no tag unclosed are the tags that the section has, in their order.
+/// Example: the section `[A "1"] [B "2"]` has the tag `A` with the value `1`, and `B` with `2`.
+pub fn sections_have_their_tags()
+    ensures { SectionsHaveTheirTags }
+{}
 
 /// What is told of a movetext has the answers of the whole: where it is cut, both are too large.
 /// Example: of a movetext of 2,000,000 bytes the first 1,048,577 are told, which are refused as `too large at 1048577`.

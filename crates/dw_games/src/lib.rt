@@ -22,6 +22,7 @@ pub mod movetext;
 mod play;
 mod reader;
 mod section;
+pub mod tags;
 pub mod tokens;
 pub mod tree;
 
@@ -29,4 +30,5 @@ pub use fault::{LineFault, LineFaultKind, MovetextFault, MovetextFaultKind};
 pub use games::{Game, GameFault, Games};
 pub use line::read_line;
 pub use movetext::{MAX_MOVETEXT, MAX_OPEN, MAX_PATH, read_movetext};
+pub use tags::{Tag, read_tags, value_named};
 pub use tree::{Node, Tree};

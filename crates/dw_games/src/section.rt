@@ -26,14 +26,16 @@ fn keep_space(spaces: &mut Kept, byte: u8) -> Result<(), AllocError>
     }
 }
 
-/// Passes the bytes of a section and the spaces behind it, which are kept, and answers what it says.
+/// Passes the bytes of a section and the spaces behind it, and answers what it says. All of them are kept in a row, and
+/// the spaces also alone.
 pub(crate) fn read_section<B: Board, S: Source>(
     input: &mut Input<'_, S>,
+    row: &mut Kept,
     spaces: &mut Kept,
 ) -> Result<Option<Result<Position<B>, ProblemFault>>, GameFault>
     requires { unread_of input.old ≡ open_bracket ∷ drop 1 (unread_of input.old) }
     ensures { ReadsSection B.geometry S.coming S.has_ended S.is_failed S.pulls_left input.old input.new
-        spaces.old spaces.new result }
+        row.old row.new spaces.old spaces.new result }
 {
     dw_notation::laws::texts_of_tags_say();
     let mut reader = SectionReader::<B>::new();
@@ -41,6 +43,7 @@ pub(crate) fn read_section<B: Board, S: Source>(
         if let Some(found) = reader.add(byte) {
             return Ok(Some(found));
         }
+        row.push(byte)?;
         keep_space(spaces, byte)?;
         input.pass();
     }

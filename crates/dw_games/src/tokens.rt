@@ -209,7 +209,7 @@ fn number_or_written(first: u8, behind: &[u8]) -> (TokenKind, usize)
 }
 
 /// How many bytes of a class stand at the front of a text.
-fn run_of(text: &[u8], class: Class) -> usize
+pub(crate) fn run_of(text: &[u8], class: Class) -> usize
     ensures within { result ≤ length text.now }
     ensures run { IsRun (test_of class) (take result text.now) (drop result text.now) }
 {

@@ -39,7 +39,10 @@ pub fn law(found: &mut Found) {
     games::one_answer();
     games::one_line();
     games::trees_are_played();
+    games::one_row_of_tags();
+    games::sections_have_their_tags();
     games::games_say_problems();
+    games::games_tell_sections();
     games::texts_have_games();
     games::told_is_enough();
     found.add("called");

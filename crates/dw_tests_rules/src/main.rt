@@ -14,6 +14,7 @@ mod positions;
 mod problems;
 mod squares;
 mod streams;
+mod tags;
 
 use dw_board::{Board, Eight, Ten};
 use dw_notation::Form;
@@ -91,6 +92,9 @@ fn answer<B: Board>(alloc: Global, kind: Kind, asked: &str, found: &mut Found) -
         Kind::Write => streams::write(alloc, asked, found),
         Kind::Games => games::games::<B>(alloc, asked, found),
         Kind::BrokenGames => games::broken::<B>(alloc, asked, found),
+        Kind::GameTags => tags::of_games::<B>(alloc, asked, found),
+        Kind::Tags => tags::of_text(alloc, asked, found),
+        Kind::NamedValue => tags::named_value(alloc, asked, found),
         Kind::Movetext => games::movetext::<B>(alloc, asked, found),
         Kind::Repeated => games::repeated::<B>(alloc, asked, found),
         Kind::WrittenLine => games::written_line::<B>(alloc, asked, found),

@@ -68,7 +68,8 @@ pub record IsNumbered {B S : Type 0} (old new : Games B S) (said : Said) (game :
 pub record IsTooMany {B S : Type 0} (old new : Games B S) (game : Game B) : Type 0 where
   pub full : old.handed.games ≡ MAX_PROBLEMS
   pub stage : new.stage ≡ Over
-  pub given : numbered_game game ≡ record { number = old.handed.games + 1; said = said_with (Err TooManyProblems) [] }
+  pub given : numbered_game game
+      ≡ record { number = old.handed.games + 1; said = said_with (Err TooManyProblems) [] [] }
 
 abbrev pub IsHandedOut : {B S : Type 0} → Games B S → Games B S → Said → Game B → Type 0
 IsHandedOut old new said game = IsNumbered old new said game ⊎ IsTooMany old new game

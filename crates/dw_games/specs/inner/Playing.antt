@@ -23,7 +23,7 @@ is_in_comment was byte = if was then not (byte == close_brace) else (byte == ope
 
 -- what a comment left open says
 abbrev pub unclosed : Said
-unclosed = said_with (Err UnclosedComment) []
+unclosed = said_with (Err UnclosedComment) [] []
 
 -- a text that begins in a comment, its front, and its games
 pub data InComment : Geometry → (text front : List ℕ) → List Said → Type 0 where

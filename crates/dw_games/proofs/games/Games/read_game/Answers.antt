@@ -26,7 +26,8 @@ returns g c =
     let s = g.S.Source in
     let section = rw c.in-Some.is at c.in_ok-found.ensures in
     ReadsGame-section g.B.Board.geometry s.coming s.has_ended s.is_failed s.pulls_left c.texts_of_tags_say.ensures _
-    _ c.hand_out.new.self c.read_section.new.input c.new-spaces.result c.read_section.new.spaces
-    c.kept_for-movetext.result c.read_play.new.kept c.in-Some.found c.in_ok-read_play.field-0 c.into_bytes.result.items
-    c.hand_out.result section c.in_ok-read_play.ensures c.new-spaces.ensures c.kept_for-movetext.ensures
+    _ c.hand_out.new.self c.read_section.new.input c.new-row.result c.read_section.new.row c.new-spaces.result
+    c.read_section.new.spaces c.kept_for-movetext.result c.read_play.new.kept c.in-Some.found c.in_ok-read_play.field-0
+    c.told_tags-tags.result.items c.into_bytes.result.items c.hand_out.result section c.in_ok-read_play.ensures
+    c.new-row.ensures c.told_tags-tags.ensures c.new-spaces.ensures c.kept_for-movetext.ensures
     c.into_bytes.ensures c.stage_behind-self.ensures refl c.hand_out.ensures.input c.hand_out.ensures.given
