@@ -146,14 +146,15 @@ def check_verdicts():
 def check_calls():
     """What a page shows a program to answer is what it answers."""
     for page in (README, DESK):
-        called = r"^ {4}\$ echo (\S+) \| \./(\S+) (.*)\n((?: {4}[^$\n].*\n)+)"
+        called = r"^ {4}\$ echo (\S+) \| \./(\S+) (.*)\n((?: {4}[^$\n].*\n|\n(?= {4}[^$.\n]))+)"
         calls = re.findall(called, page.read_text(), re.MULTILINE)
         assert len(calls) >= 2, calls
         for fen, program, words, block in calls:
             ran = subprocess.run([TOP / program, *shlex.split(words)], input=fen.encode() + b"\n", capture_output=True,
                                  timeout=3600, check=False)
             wanted = [line[4:] for line in block.splitlines()]
-            assert ran.returncode < 2 and ran.stdout.decode().splitlines() == wanted, (fen, program, words, ran)
+            said = ran.stdout.decode().rstrip("\n").splitlines()
+            assert ran.returncode < 2 and said == wanted, (fen, program, words, ran)
         print(f"{page.name}: {len(calls)} calls, with the answers that it has")
 
 

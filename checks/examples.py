@@ -26,7 +26,7 @@ DESK = TOP / "dw-desk"
 EXAMPLES = TOP / "examples"
 ROW = re.compile(r"^\| `([^`]+)` \| `dw ([^`]+)` \|$", re.MULTILINE)
 DESK_ROW = re.compile(r"^\| `([^`]+)` \| `dw-desk check ([^`]+)` \|$", re.MULTILINE)
-COMMANDS = {DW: ["show", "moves", "judge", "list"], DESK: ["find", "check", "token"]}
+COMMANDS = {DW: ["show", "moves", "judge", "list"], DESK: ["find", "check", "solution", "token"]}
 EXAMPLE = re.compile(r"  ((?:echo .* \| )?dw(?:-desk)? .*)")
 # The tags of a section, and its movetext.
 SECTION = re.compile(rb"((?:\[[^\]]*\]\s*)*\[[^\]]*\])([^\[]*)")

@@ -5,6 +5,7 @@ use crate::checking::check_games;
 use crate::ending::{Ending, NO_MEMORY};
 use crate::finding::find_problems;
 use crate::progress::Progress;
+use crate::solving::solve_problems;
 use crate::words::{Request, Task};
 use crate::writing::write_line;
 use dw_board::Board;
@@ -157,6 +158,17 @@ fn obey_with<'a, B: Board>(
         Task::Check { n } => ending_of(
             request,
             check_games(&mut desk, &mut slices, request, n, &mut source, &mut sink),
+        ),
+        Task::Solution(asked) => ending_of(
+            request,
+            solve_problems(
+                &mut desk,
+                &mut slices,
+                request,
+                &asked,
+                &mut source,
+                &mut sink,
+            ),
         ),
         Task::Token { line } => {
             write_line::<_, B, _, _>(desk.alloc, request, line, &mut source, &mut sink)

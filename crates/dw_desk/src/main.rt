@@ -7,6 +7,7 @@ mod ending;
 mod finding;
 mod json;
 mod progress;
+mod solving;
 mod words;
 mod writing;
 

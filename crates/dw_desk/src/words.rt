@@ -35,6 +35,17 @@ pub struct FindWords {
     ghost few_moves: { most ≤ 20 },
 }
 
+/// What the command `solution` is asked for.
+#[derive(Clone, Copy)]
+pub struct SolutionWords {
+    /// The number of moves within which the win is, 1 to `MOST_MOVES`.
+    pub n: u8,
+    /// How many lines are written at most.
+    pub lines: usize,
+    ghost some_moves: { 1 ≤ n },
+    ghost few_moves: { n ≤ 20 },
+}
+
 /// What is done.
 #[derive(Clone, Copy)]
 pub enum Task<'a> {
@@ -42,6 +53,8 @@ pub enum Task<'a> {
     Find(FindWords),
     /// The solution is checked, within `n` moves, or as many as it has.
     Check { n: Option<u8> },
+    /// The problem is written as a game, with its solution.
+    Solution(SolutionWords),
     /// The token of this line of the first of the chosen problems is written.
     Token { line: &'a str },
 }
@@ -66,6 +79,12 @@ pub struct Request<'a> {
 
 /// How many positions a memo keeps if the arguments say nothing.
 const USUALLY_KEPT: usize = 1_000_000;
+
+/// The most lines that a solution is written with.
+const MOST_LINES: u64 = 1_000_000;
+
+/// How many lines a solution is written with if the arguments say nothing.
+const USUAL_LINES: u64 = 1000;
 
 const ABOUT: &str = "Finds out what composers, editors and judges ask about problems of draughts.";
 
@@ -114,6 +133,19 @@ Examples:
   dw-desk check examples/solutions.pdn
   dw-desk check -n 3 --problem 2 examples/solutions.pdn";
 
+const SOLUTION_ABOUT: &str = "Writes each problem as a game of a PDN file, with its solution.";
+
+const SOLUTION_EXAMPLES: &str = "\
+The solution is the tree of the first lines that `dw list -n N` writes: the least move goes on, and
+the others stand behind it in parentheses. The verdict stands in front, as {dual in 2}, and {more}
+behind the moves if there are other lines. With --pdn a game keeps its tags.
+`dw-desk check` reads it again.
+
+Examples:
+  echo W:W27,32:B18 | dw-desk solution -n 2
+  dw-desk solution -n 2 --lines 2 --problem 1-3 examples/problems.fen
+  dw-desk solution -n 3 --pdn examples/solutions.pdn";
+
 const TOKEN_ABOUT: &str =
     "Writes the token of a line, with which `dw list --after` goes on behind that line.";
 
@@ -140,6 +172,7 @@ For more information, try '--help'.
 pub fn command<'a>(alloc: Global) -> Result<Words<'a>, AllocError> {
     let find = find_command(alloc)?;
     let check = check_command(alloc)?;
+    let solution = solution_command(alloc)?;
     let token = token_command(alloc)?;
     Words::new(alloc, "dw-desk")
         .bin_name("dw-desk")?
@@ -150,6 +183,7 @@ pub fn command<'a>(alloc: Global) -> Result<Words<'a>, AllocError> {
         .arg_required_else_help(true)
         .subcommand(find)?
         .subcommand(check)?
+        .subcommand(solution)?
         .subcommand(token)
 }
 
@@ -173,12 +207,13 @@ fn find_command<'a>(alloc: Global) -> Result<Words<'a>, AllocError> {
 }
 
 fn check_command<'a>(alloc: Global) -> Result<Words<'a>, AllocError> {
+    let help = "Look for a win in N moves of the side to move, 1 to 20 [default: as the solution]";
     let arguments = vec![in alloc;
         board(alloc),
         pdn(alloc),
         problem(alloc),
         file(alloc),
-        within(alloc),
+        within(alloc, help),
         memo(alloc, "deep"),
         cache(alloc, CACHE_HELP),
         progress(alloc),
@@ -186,6 +221,25 @@ fn check_command<'a>(alloc: Global) -> Result<Words<'a>, AllocError> {
     Words::new(alloc, "check")
         .about(CHECK_ABOUT)
         .after_help(CHECK_EXAMPLES)
+        .args(arguments)
+}
+
+fn solution_command<'a>(alloc: Global) -> Result<Words<'a>, AllocError> {
+    let help = "Show the win in N moves of the side to move, 1 to 20";
+    let arguments = vec![in alloc;
+        board(alloc),
+        pdn(alloc),
+        problem(alloc),
+        file(alloc),
+        within(alloc, help).required(true),
+        lines(alloc),
+        memo(alloc, "deep"),
+        cache(alloc, CACHE_HELP),
+        progress(alloc),
+    ]?;
+    Words::new(alloc, "solution")
+        .about(SOLUTION_ABOUT)
+        .after_help(SOLUTION_EXAMPLES)
         .args(arguments)
 }
 
@@ -224,12 +278,18 @@ fn problem<'a>(alloc: Global) -> Arg<'a> {
     )
 }
 
-fn within<'a>(alloc: Global) -> Arg<'a> {
+fn lines<'a>(alloc: Global) -> Arg<'a> {
+    let numbers = value_parser!(u64).range(1..=MOST_LINES as i64);
+    let help = "Write at most K lines of the solution, 1 to 1000000 [default: 1000]";
+    option(alloc, "lines", "K", numbers, help)
+}
+
+fn within<'a>(alloc: Global, help: &'a str) -> Arg<'a> {
     Arg::new(alloc, "n")
         .short('n')
         .value_name("N")
         .value_parser(value_parser!(u8).range(1..=i64::from(MOST_MOVES)))
-        .help("Look for a win in N moves of the side to move, 1 to 20 [default: as the solution]")
+        .help(help)
 }
 
 fn most<'a>(alloc: Global) -> Arg<'a> {
@@ -264,6 +324,9 @@ pub fn requested<'a>(matches: &ArgMatches<'a>) -> Result<Request<'a>, &'static s
     if let Some(words) = matches.subcommand_matches("check") {
         let n = words.get_one::<u8>("n");
         return searched_by(words, Task::Check { n });
+    }
+    if let Some(words) = matches.subcommand_matches("solution") {
+        return searched_by(words, Task::Solution(solution_words(words)));
     }
     match matches.subcommand_matches("token") {
         Some(words) => Ok(written_by(words)),
@@ -317,6 +380,16 @@ fn find_words(words: &ArgMatches<'_>) -> FindWords {
         most: most.clamp(1, MOST_MOVES),
         each: words.get_one::<u64>("each"),
         json: words.get_flag("json"),
+    }
+}
+
+/// What the command `solution` is asked for.
+fn solution_words(words: &ArgMatches<'_>) -> SolutionWords {
+    let n = words.get_one::<u8>("n").unwrap_or(1);
+    let lines = words.get_one::<u64>("lines").unwrap_or(USUAL_LINES);
+    SolutionWords {
+        n: n.clamp(1, MOST_MOVES),
+        lines: lines as usize,
     }
 }
 

@@ -1,0 +1,186 @@
+//! The command `solution`: each problem as a game of a PDN file, with its solution.
+ghost use Rattle.std.specs.Prelude.{◌≡◌, false, IfOk};
+
+use crate::desk::{Counts, Desk, DeskFault};
+use crate::progress::Progress;
+use crate::words::{Request, SolutionWords};
+use dw_board::{Board, Position, fen_text};
+use dw_games::Games;
+use dw_games::tags::{Tag, read_tags};
+use dw_notation::problems::MAX_PROBLEMS;
+use dw_notation::{Form, Problem, Problems, Sink, Source, write_all};
+use dw_report::{Verdict, refusal_text};
+use dw_solution::movetext::movetext;
+use dw_solution::{Heading, VerdictKind, first_lines};
+use dw_study::{Slices, judge_in_slices};
+
+/// Writes the chosen problems as games, each as soon as it is read.
+pub fn solve_problems<B: Board, S: Source, K: Sink>(
+    desk: &mut Desk<B>,
+    slices: &mut Slices<Progress<'_>>,
+    request: &Request<'_>,
+    asked: &SolutionWords,
+    source: &mut S,
+    sink: &mut K,
+) -> Result<Counts, DeskFault>
+    requires source { S.is_failed source.old ≡ false }
+    requires sink { K.is_failed sink.old ≡ false }
+{
+    match request.form {
+        Form::Fens => solve_fens(desk, slices, request, asked, source, sink),
+        Form::Pdn => solve_games(desk, slices, request, asked, source, sink),
+    }
+}
+
+/// Writes the chosen problems of a text that has one a line.
+fn solve_fens<B: Board, S: Source, K: Sink>(
+    desk: &mut Desk<B>,
+    slices: &mut Slices<Progress<'_>>,
+    request: &Request<'_>,
+    asked: &SolutionWords,
+    source: &mut S,
+    sink: &mut K,
+) -> Result<Counts, DeskFault>
+    requires source { S.is_failed source.old ≡ false }
+    requires sink { K.is_failed sink.old ≡ false }
+{
+    let mut problems = Problems::<B, S>::new(source, Form::Fens);
+    let mut counts = Counts::default();
+    'problems: loop {
+        let Some(problem) = problems.next()? else {
+            return Ok(counts);
+        };
+        if problem.number >= request.portion.first {
+            counts = counts.with(write_game(desk, slices, asked, &problem, &[], sink)?);
+        }
+        if request.portion.last == Some(problem.number) {
+            return Ok(counts);
+        }
+    }
+}
+
+/// Writes the chosen problems of a PDN text, each with the tags that it has there.
+fn solve_games<B: Board, S: Source, K: Sink>(
+    desk: &mut Desk<B>,
+    slices: &mut Slices<Progress<'_>>,
+    request: &Request<'_>,
+    asked: &SolutionWords,
+    source: &mut S,
+    sink: &mut K,
+) -> Result<Counts, DeskFault>
+    requires source { S.is_failed source.old ≡ false }
+    requires sink { K.is_failed sink.old ≡ false }
+{
+    let mut games = Games::<B, S>::new(desk.alloc, source);
+    let mut counts = Counts::default();
+    'games: for _ in 0..MAX_PROBLEMS + 1 {
+        let Some(game) = games.next()? else {
+            break;
+        };
+        let number = game.problem.number;
+        if number >= request.portion.first {
+            let tags = read_tags(desk.alloc, game.tags.as_slice())?;
+            counts = counts.with(write_game(
+                desk,
+                slices,
+                asked,
+                &game.problem,
+                tags.as_slice(),
+                sink,
+            )?);
+        }
+        if request.portion.last == Some(number) {
+            break;
+        }
+    }
+    Ok(counts)
+}
+
+/// Writes a problem as a game, with these tags of its own, and answers whether it is refused.
+fn write_game<B: Board, K: Sink>(
+    desk: &mut Desk<B>,
+    slices: &mut Slices<Progress<'_>>,
+    asked: &SolutionWords,
+    problem: &Problem<B>,
+    tags: &[Tag<'_>],
+    sink: &mut K,
+) -> Result<bool, DeskFault>
+    requires { K.is_failed sink.old ≡ false }
+    ensures { IfOk result (λ _. K.is_failed sink.new ≡ false) }
+{
+    let number = problem.number;
+    match &problem.found {
+        Ok(position) => {
+            slices.watcher.begin(number);
+            let text = solution_of(desk, slices, asked, position);
+            slices.watcher.end();
+            let text = text?;
+            write_tags(desk, position, tags, sink)?;
+            write_all(sink, text.as_slice())?;
+            write_all(sink, b"\n\n")?;
+            Ok(false)
+        }
+        Err(fault) => {
+            let why = refusal_text(*fault);
+            let why = why.as_str();
+            let text = format!(in desk.alloc;
+                "[Event \"problem {number}: refused: {why}\"]\n\n*\n\n"
+            )?;
+            write_all(sink, text.as_str().as_bytes())?;
+            Ok(true)
+        }
+    }
+}
+
+/// The movetext of the first lines of a position, with its verdict.
+fn solution_of<B: Board>(
+    desk: &mut Desk<B>,
+    slices: &mut Slices<Progress<'_>>,
+    asked: &SolutionWords,
+    position: &Position<B>,
+) -> Result<Vec<u8>, DeskFault> {
+    let judged = judge_in_slices(desk.alloc, &mut desk.solver, position, asked.n, slices)?;
+    let first = first_lines(desk.alloc, &mut desk.solver, position, asked.n, asked.lines)?;
+    let heading = Heading {
+        kind: kind_of(&judged.verdict),
+        moves: asked.n,
+    };
+    Ok(movetext(desk.alloc, position, &first, heading)?)
+}
+
+/// What a verdict says, without its moves.
+fn kind_of<B: Board>(verdict: &Verdict<B>) -> VerdictKind {
+    match verdict {
+        Verdict::Unsolvable => VerdictKind::Unsolvable,
+        Verdict::Cooked { .. } => VerdictKind::Cooked,
+        Verdict::Dual { .. } => VerdictKind::Dual,
+        Verdict::Sound { .. } => VerdictKind::Sound,
+    }
+}
+
+/// Writes the tags of a game, and the empty line behind them: those of its own but for `GameType` and `FEN`, as they
+/// stood, and then these two.
+fn write_tags<B: Board, K: Sink>(
+    desk: &Desk<B>,
+    position: &Position<B>,
+    tags: &[Tag<'_>],
+    sink: &mut K,
+) -> Result<(), DeskFault>
+    requires { K.is_failed sink.old ≡ false }
+    ensures { IfOk result (λ _. K.is_failed sink.new ≡ false) }
+{
+    'tags: for tag in tags {
+        if !tag.is_named(b"GameType") && !tag.is_named(b"FEN") {
+            write_all(sink, tag.text)?;
+            write_all(sink, b"\n")?;
+        }
+    }
+    if B::ROWS == 10 {
+        write_all(sink, b"[GameType \"20\"]\n")?;
+    }
+    let fen = fen_text(position);
+    let fen = fen.as_str();
+    let text = format!(in desk.alloc; "[FEN \"{fen}\"]\n\n")?;
+    write_all(sink, text.as_str().as_bytes())?;
+    Ok(())
+}
