@@ -178,7 +178,8 @@ module _ {B S : Type 0} (g : Geometry) (coming : S → Option (List ℕ)) (has_e
   -- a section is read, and what stands behind it
   pub ReadsGame-section : TextsOfTagsSay → (old mid new : Games B S) (between : Input S)
       (begun row spaces read kept movetext : Kept) (found : Found) (end : PlayEnd) (tags items : List ℕ) (game : Game B)
-      → (section : ReadsSection g coming has_ended is_failed pulls old.input between begun row spaces read (Ok (Some found)))
+      → (section : ReadsSection g coming has_ended is_failed pulls old.input between begun row spaces read
+      (Ok (Some found)))
       → (play : ReadsPlay coming has_ended is_failed pulls between mid.input kept movetext (Ok end))
       → IsKept MAX_SECTION [] begun → IsTold found row.bytes.items tags
       → IsKept 1048577 [] spaces → ((text : List ℕ) → IsKept 1048577 text read → IsKeptFor found text kept)
@@ -201,8 +202,8 @@ module _ {B S : Type 0} (g : Geometry) (coming : S → Option (List ℕ)) (has_e
         passes = passes;
         gives = (
           λ bytes games ahead.
-              let f = handed_follows law g mid new end (record { found = found; tags = tags; movetext = items }) game play.ends stage
-              input given bytes games ahead in
+              let f = handed_follows law g mid new end (record { found = found; tags = tags; movetext = items }) game
+              play.ends stage input given bytes games ahead in
               let over = over_same new.input mid.input bytes input ahead.over in
               let behind = play.said g bytes f.0 f.1 in
               let all = section.said (play.passes.read ++ bytes) play.passed f.0
@@ -224,7 +225,8 @@ module _ {B S : Type 0} (g : Geometry) (coming : S → Option (List ℕ)) (has_e
                       (subst (λ y. HasGames g (section.passed ++ (unread_of between ++ (play.passes.read ++ bytes))) []
                       (y ∷ f.0)) x all),
                 );
-                numbers = f.2 ∙ ap (λ c. games_from c.games (record { found = found; tags = tags; movetext = items } ∷ f.0)) handed;
+                numbers = f.2
+                    ∙ ap (λ c. games_from c.games (record { found = found; tags = tags; movetext = items } ∷ f.0)) handed;
               },
           λ bytes over. ahead_some law g new.input new.stage new.handed.games bytes over,
         );

@@ -59,7 +59,8 @@ module _ {B S : Type 0} (g : Geometry) (coming : S → Option (List ℕ)) (has_e
 
   -- it does not end the section
   pub ReadsOn-byte : (old mid now : Input S) (begun row longer before kept after : Kept) (reader next : SectionReader B)
-      (byte : ℕ) (result : Option Found) → On old mid begun row before kept reader → unread_of mid ≡ byte ∷ drop 1 (unread_of mid)
+      (byte : ℕ) (result : Option Found) → On old mid begun row before kept reader
+      → unread_of mid ≡ byte ∷ drop 1 (unread_of mid)
       → ((over : Bool) (more : List ℕ) → ahead_of reader g over (byte ∷ more)
       ≡ option_to_list result ++ ahead_of next g over more)
       → ahead_of next g false [] ≡ [] → result ≡ None
@@ -114,8 +115,8 @@ module _ {B S : Type 0} (g : Geometry) (coming : S → Option (List ℕ)) (has_e
         ends = cut_ends_well g on.passed byte found cut;
         said = λ bytes front games over has.
             let text : unread_of now ++ bytes ≡ byte ∷ (behind ++ bytes) = ap (λ l. l ++ bytes) here in
-            subst (λ l. HasGames g (on.passed ++ l) [] (said_with found (row_of on.passed) (spaces_on [] on.passed ++ front) ∷ games))
-            (sym text) (cut_games g on.passed (behind ++ bytes) front byte found games cut
+            subst (λ l. HasGames g (on.passed ++ l) []
+            (said_with found (row_of on.passed) (spaces_on [] on.passed ++ front) ∷ games)) (sym text) (cut_games g on.passed (behind ++ bytes) front byte found games cut
             (subst (λ l. HasGames g l front games) text has));
       }
 
@@ -145,8 +146,10 @@ module _ {B S : Type 0} (g : Geometry) (coming : S → Option (List ℕ)) (has_e
             let empty = empty_games g has none in
             subst (λ l. HasGames g l [] (said_with last.0 (row_of on.passed) (spaces_on [] on.passed ++ front) ∷ games))
             (sym (ap (λ l. on.passed ++ l) none ∙ append-nil on.passed))
-            (subst (λ l. HasGames g on.passed [] (said_with last.0 (row_of on.passed) (spaces_on [] on.passed ++ l) ∷ games)) (sym empty.0)
-            (subst (λ l. HasGames g on.passed [] (said_with last.0 (row_of on.passed) (spaces_on [] on.passed ++ []) ∷ l)) (sym empty.1)
+            (subst (λ l. HasGames g on.passed []
+            (said_with last.0 (row_of on.passed) (spaces_on [] on.passed ++ l) ∷ games)) (sym empty.0)
+            (subst (λ l. HasGames g on.passed []
+            (said_with last.0 (row_of on.passed) (spaces_on [] on.passed ++ []) ∷ l)) (sym empty.1)
             (last_games g on.passed last.0 last.2))));
       }
 

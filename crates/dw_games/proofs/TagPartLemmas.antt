@@ -1,6 +1,8 @@
 -- Lemmas on the parts of a tag: each stands in a text in one way alone.
-use Rattle.std.proofs.Common.{◌≡◌, ◌==◌, ◌+◌, ◌<◌, ◌≤◌, ◌||◌, ℕ, List, [], ◌∷◌, ◌++◌, length, drop, get_or, Bool, true, false}
-use Rattle.std.proofs.Common.{Option, Some, None, MatchOption, cond, refl, sym, ap, ◌∙◌, subst, arith, append_assoc, append-nil, inl, inr}
+use Rattle.std.proofs.Common.{◌≡◌, ◌==◌, ◌+◌, ◌<◌, ◌≤◌, ◌||◌, ℕ, List, [], ◌∷◌, ◌++◌, length, drop, get_or, Bool, true}
+use Rattle.std.proofs.Common.{false}
+use Rattle.std.proofs.Common.{Option, Some, None, MatchOption, cond, refl, sym, ap, ◌∙◌, subst, arith, append_assoc}
+use Rattle.std.proofs.Common.{append-nil, inl, inr}
 use Rattle.std.proofs.lemmas.Bool.{and_parts, or_parts, not-true, eqb-true, ne_eqb, cases_Bool}
 use Rattle.std.proofs.lemmas.List.{drop_more, drop_all}
 use Rattle.std.specs.List.{list_all}
@@ -81,21 +83,23 @@ pub record SameHead (name other last more : List ℕ) : Type 0 where
   pub quoted : last ≡ 34 ∷ more
 
 -- the same, of facts in a row
-pub head_runs : (text inside blanks named name rest middle last : List ℕ) → text ≡ 91 ∷ inside → inside ≡ blanks ++ named
-    → named ≡ name ++ rest → rest ≡ middle ++ last → IsRun is_blank blanks named → IsRun is_name_byte name rest
+pub head_runs : (text inside blanks named name rest middle last : List ℕ) → text ≡ 91 ∷ inside
+    → inside ≡ blanks ++ named → named ≡ name ++ rest → rest ≡ middle ++ last → IsRun is_blank blanks named → IsRun is_name_byte name rest
     → IsRun is_blank middle last → HeadRuns text inside blanks named name rest middle last
-head_runs text inside blanks named name rest middle last opens first_joined joined second_joined first run second = record {
-  opens = opens;
-  first = first;
-  first_joined = first_joined;
-  run = run;
-  joined = joined;
-  second = second;
-  second_joined = second_joined;
-}
+head_runs text inside blanks named name rest middle last opens first_joined joined second_joined first run
+    second = record {
+      opens = opens;
+      first = first;
+      first_joined = first_joined;
+      run = run;
+      joined = joined;
+      second = second;
+      second_joined = second_joined;
+    }
 
 pub head_is : (text inside blanks named name rest middle last more : List ℕ)
-    → HeadRuns text inside blanks named name rest middle last → last ≡ 34 ∷ more → 0 < length name → IsHead text name more
+    → HeadRuns text inside blanks named name rest middle last → last ≡ 34 ∷ more → 0 < length name
+    → IsHead text name more
 head_is text inside blanks named name rest middle last more r quote some = record {
   first = blanks;
   middle = middle;
@@ -188,7 +192,8 @@ spells_spelled more (plain byte plain_byte is) =
 pub spelled_some : (text value more : List ℕ) → IsSpelled text value more
     → spelled false text ≡ Some (record { value = value; more = more })
 spelled_some text value more is =
-    subst (λ l. spelled false l ≡ Some (record { value = value; more = more })) (sym is.joined) (spells_spelled more is.spells)
+    subst (λ l. spelled false l ≡ Some (record { value = value; more = more })) (sym is.joined)
+    (spells_spelled more is.spells)
 
 from_some : {s t : Spelling} → Some s ≡ Some t → s ≡ t
 from_some e = cc
@@ -200,7 +205,8 @@ one_spelled text value other more rest is also =
     record { run = ap (λ s. s.value) same; after = ap (λ s. s.more) same }
 
 -- what is read is spelled there
-from_onto : (before value more : List ℕ) (o : Option Spelling) → onto before o ≡ Some (record { value = value; more = more })
+from_onto : (before value more : List ℕ) (o : Option Spelling)
+    → onto before o ≡ Some (record { value = value; more = more })
     → (behind : List ℕ) × (o ≡ Some (record { value = behind; more = more })) × (value ≡ before ++ behind)
 from_onto before value more None e = cc
 from_onto before value more (Some s) e =
@@ -291,16 +297,19 @@ module _ (text before behind : List ℕ) (escaped : Bool) (byte : ℕ) where
   by_byte sign read is =
       read ∙ ap (λ x. onto before (by_sign x byte behind (spelled true behind) (spelled false behind))) (sym is)
 
-  pub read_close : ReadsValue text before escaped (byte ∷ behind) → Close ≡ sign_of escaped byte → IsSpelled text before behind
+  pub read_close : ReadsValue text before escaped (byte ∷ behind) → Close ≡ sign_of escaped byte
+      → IsSpelled text before behind
   read_close read is =
       let s : spelled false text ≡ Some (record { value = before; more = behind }) = by_byte Close read is
       ∙ ap (λ l. Some (record { value = l; more = behind })) (append-nil before) in
       spelled_is false text (record { value = before; more = behind }) s
 
-  pub read_break : ReadsValue text before escaped (byte ∷ behind) → Break ≡ sign_of escaped byte → spelled false text ≡ None
+  pub read_break : ReadsValue text before escaped (byte ∷ behind) → Break ≡ sign_of escaped byte
+      → spelled false text ≡ None
   read_break read is = by_byte Break read is
 
-  pub read_escape : ReadsValue text before escaped (byte ∷ behind) → Escape ≡ sign_of escaped byte → ReadsValue text before true behind
+  pub read_escape : ReadsValue text before escaped (byte ∷ behind) → Escape ≡ sign_of escaped byte
+      → ReadsValue text before true behind
   read_escape read is = by_byte Escape read is
 
   pub read_own : ReadsValue text before escaped (byte ∷ behind) → Own ≡ sign_of escaped byte
@@ -317,11 +326,12 @@ none_spelled text value more none is = let bad = sym none ∙ spelled_some text 
 
 -- ---- the same, in a text from a place on
 pub value_close : (text before behind : List ℕ) (escaped : Bool) (i : ℕ) → i < length text
-    → ReadsValue text before escaped (drop i text) → behind ≡ drop (i + 1) text → Close ≡ sign_of escaped (get_or text i 0)
-    → IsSpelled text before behind
+    → ReadsValue text before escaped (drop i text) → behind ≡ drop (i + 1) text
+    → Close ≡ sign_of escaped (get_or text i 0) → IsSpelled text before behind
 value_close text before behind escaped i inside read back is =
     read_close text before behind escaped (get_or text i 0)
-    (subst (ReadsValue text before escaped) (drop_more text i 0 inside ∙ ap (λ l. get_or text i 0 ∷ l) (sym back)) read) is
+    (subst (ReadsValue text before escaped) (drop_more text i 0 inside ∙ ap (λ l. get_or text i 0 ∷ l) (sym back))
+    read) is
 
 pub value_break : (text before : List ℕ) (escaped : Bool) (i : ℕ) → i < length text
     → ReadsValue text before escaped (drop i text) → Break ≡ sign_of escaped (get_or text i 0)
@@ -333,7 +343,8 @@ value_break text before escaped i inside read is value more =
 pub value_open : (text before : List ℕ) (escaped : Bool) (i : ℕ) → length text ≤ i
     → ReadsValue text before escaped (drop i text) → (value more : List ℕ) → IsSpelled text value more → ⊥
 value_open text before escaped i over read value more =
-    none_spelled text value more (at_end escaped (subst (ReadsValue text before escaped) (drop_all i text over) read)) where
+    none_spelled text value more
+    (at_end escaped (subst (ReadsValue text before escaped) (drop_all i text over) read)) where
       at_end : (escaped : Bool) → ReadsValue text before escaped [] → spelled false text ≡ None
       at_end true read = read
       at_end false read = read

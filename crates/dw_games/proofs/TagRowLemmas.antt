@@ -1,5 +1,6 @@
 -- Lemmas on the whole tags of a text: it has one row of them, and those of a section are its own.
-use Rattle.std.proofs.Common.{◌≡◌, ◌==◌, ◌-◌, ◌<◌, ◌≤◌, ◌⊎◌, ℕ, zero, suc, List, [], ◌∷◌, ◌++◌, length, take, drop, Bool, true}
+use Rattle.std.proofs.Common.{◌≡◌, ◌==◌, ◌-◌, ◌<◌, ◌≤◌, ◌⊎◌, ℕ, zero, suc, List, [], ◌∷◌, ◌++◌, length, take, drop, Bool}
+use Rattle.std.proofs.Common.{true}
 use Rattle.std.proofs.Common.{false, Option, Some, None, map, reverse}
 use Rattle.std.proofs.Common.{refl, sym, ap, ◌∙◌, subst, arith, append_assoc, append-nil, length-append, inl, inr}
 use Rattle.std.proofs.Math.Seq.{take-append_seam, drop-append_seam}
@@ -16,7 +17,8 @@ use Rattle.dw_games.specs.TagRowLaws.{OneRowOfTags, SectionsHaveTheirTags}
 use Rattle.dw_games.specs.inner.TagReading.{IsHead, IsSpelled, IsTail, Spelling, spelled}
 use Rattle.dw_games.specs.declared.tags.Tag.{Tag as ReadTag}
 use Rattle.dw_games.proofs.SectionLemmas.{first, section_closed, all_spaces}
-use Rattle.dw_games.proofs.TagPartLemmas.{one_head, one_tail, one_spelled, head_runs, head_is, head_read, tail_is, tail_read}
+use Rattle.dw_games.proofs.TagPartLemmas.{one_head, one_tail, one_spelled, head_runs, head_is, head_read, tail_is}
+use Rattle.dw_games.proofs.TagPartLemmas.{tail_read}
 use Rattle.dw_games.proofs.TagPartLemmas.{spelled_is, none_spelled}
 
 -- ---- a tag and its parts
@@ -262,8 +264,8 @@ front_head text = elim (front_byte 91 text) [
       let a = front_run is_blank opens.0 in
       let b = front_run is_name_byte a.after in
       let c = front_run is_blank b.after in
-      let runs = head_runs text opens.0 a.run a.after b.run b.after c.run c.after opens.1 a.joined b.joined c.joined a.is
-      b.is c.is in
+      let runs = head_runs text opens.0 a.run a.after b.run b.after c.run c.after opens.1 a.joined b.joined c.joined
+      a.is b.is c.is in
       elim (front_byte 34 c.after) [
         | inr none ↦ inr (λ name more is.
             none more (head_read text opens.0 a.run a.after b.run b.after c.run c.after name more runs is).quoted)

@@ -55,8 +55,8 @@ trimmed front gap tags all is =
     suffix_len_is is_ascii_whitespace (text ++ gap) (length text) 0 (omega (arith, whole))
     (λ k from to. subst (λ x. is_ascii_whitespace x ≡ true) (sym (get_or-append_right text gap k 0 from))
     (white_at gap (k - length text) all (omega (arith, whole, from, to))))
-    (λ some. subst (λ x. is_ascii_whitespace x ≡ false) (sym (bracket_at front gap (length text - 1) (omega (arith, size))))
-    refl) in
+    (λ some. subst (λ x. is_ascii_whitespace x ≡ false)
+    (sym (bracket_at front gap (length text - 1) (omega (arith, size)))) refl) in
     let cut : length (text ++ gap) - suffix_len is_ascii_whitespace (text ++ gap) ≡ length text =
     omega (arith, behind, whole) in
     trim_ascii_end_is (text ++ gap) tags is ∙ ap (λ n. take n (text ++ gap)) cut ∙ take-append_seam text gap where
@@ -64,8 +64,8 @@ trimmed front gap tags all is =
       bracket_at front gap k e = ap (λ l. get_or l k 0) (append_assoc front (93 ∷ []) gap)
           ∙ ap (λ n. get_or (front ++ 93 ∷ gap) n 0) e ∙ get_or-append_seam front 93 gap 0
 
-pub kept_trimmed : (seen kept tags : List ℕ) → (r : IsRow seen) → kept ≡ take MAX_SECTION seen → IsTrimAsciiEnd kept tags
-    → tags ≡ r.front ++ 93 ∷ []
+pub kept_trimmed : (seen kept tags : List ℕ) → (r : IsRow seen) → kept ≡ take MAX_SECTION seen
+    → IsTrimAsciiEnd kept tags → tags ≡ r.front ++ 93 ∷ []
 kept_trimmed seen kept tags r same is =
     let text = r.front ++ 93 ∷ [] in
     let more = 65536 - length text in
