@@ -1,0 +1,4 @@
+pub mod Tree
+pub mod Words
+pub mod Movetext
+pub mod inner

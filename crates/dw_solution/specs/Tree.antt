@@ -1,0 +1,33 @@
+-- Lines of play as a tree.
+use Rattle.std.specs.Prelude.{◌≡◌, List, [], ◌∷◌, ◌++◌, map}
+use Rattle.dw_moves.specs.Moves.{Move}
+
+-- What goes on from a beginning: nothing; or a move, with what goes on behind it, and the other moves in its place.
+pub data Tree : Type 0 where
+  over : Tree
+  branch : Move → (behind others : Tree) → Tree
+
+-- behind a move play goes on in some ways, or in one if there are none: it ends
+abbrev pub or_ended : List (List Move) → List (List Move)
+or_ended [] = [] ∷ []
+or_ended (l ∷ lines) = l ∷ lines
+
+-- all ways from the root of a tree to its ends, in turn
+abbrev pub lines_of : Tree → List (List Move)
+lines_of over = []
+lines_of (branch m behind others) = map (λ l. m ∷ l) (or_ended (lines_of behind)) ++ lines_of others
+
+-- a move is not the first of these
+abbrev pub IsNotFirst : Move → Tree → Type 0
+IsNotFirst m over = Unit {0}
+IsNotFirst m (branch n behind others) = m ≡ n → ⊥
+
+-- of the moves in one place no two that stand next to one another are the same
+abbrev pub AreApart : Tree → Type 0
+AreApart over = Unit {0}
+AreApart (branch m behind others) = IsNotFirst m others × AreApart behind × AreApart others
+
+-- The tree of some lines: it goes through these, in this order, and what neighbours have in common stands in it once.
+pub record IsTreeOf (lines : List (List Move)) (tree : Tree) : Type 0 where
+  pub lines : lines_of tree ≡ lines
+  pub apart : AreApart tree

@@ -1,0 +1,6 @@
+-- What only relates the code to the definitions: no contract of a public call names it, but for what is sealed.
+pub mod Steps
+pub mod LineTreeCodes
+pub mod Taking
+pub mod Feeds
+pub mod Drafts

@@ -1,0 +1,36 @@
+//! Words in lines of at most 79 bytes.
+ghost use Rattle.std.specs.Prelude.{◌≡◌, ◌<◌, ◌≤◌, ◌++◌, ℕ, List, length, take, drop};
+ghost use Rattle.dw_solution.specs.Movetext.{filled};
+ghost use Rattle.dw_solution.specs.inner.Feeds.{feeding, IsUnbroken, AreUnbroken, IsFeedAfter};
+
+use crate::movetext::MAX_COLUMN;
+
+/// Puts a blank in place of each line feed, but where the word behind it would end behind the 79th byte of its line.
+pub(crate) fn fill(text: &mut [u8])
+    ensures { (w : List ℕ) (words : List (List ℕ)) → IsUnbroken w → AreUnbroken words
+        → text.old ≡ w ++ feeding words → text.new ≡ w ++ filled (length w) words }
+{
+    let mut line = 0;
+    let mut feed = next_feed(text, 0);
+    'feeds: while feed < text.len() {
+        let end = next_feed(text, feed + 1);
+        if end - line <= MAX_COLUMN {
+            text[feed] = b' ';
+        } else {
+            line = feed + 1;
+        }
+        feed = end;
+    }
+}
+
+/// The place of the first line feed from a place on, or the end.
+fn next_feed(text: &[u8], from: usize) -> usize
+    requires { from ≤ length text.now }
+    ensures { IsFeedAfter text.now from result }
+{
+    let mut place = from;
+    'bytes: while place < text.len() && text[place] != b'\n' {
+        place += 1;
+    }
+    place
+}

@@ -1,0 +1,59 @@
+//! The moves of a tree in a row: each with what goes on behind it, before the next move in its place.
+ghost use Rattle.std.specs.Prelude.{◌≡◌, ◌+◌, ◌++◌, ◌<◌, OnOk, OnErr, option_map, length};
+ghost use Rattle.dw_solution.specs.inner.Steps.{IsFirstAt, chain};
+
+use dw_board::Board;
+use dw_moves::Move;
+use std::alloc::AllocError;
+
+/// A move of a tree, and how many moves stand before it on its way from the root.
+/// Example: in `1. 32-28 (1. 27-22) 18-22` the move `27-22` has the depth 0, and `18-22` has the depth 1.
+#[derive(Clone, Copy)]
+pub(crate) struct Step<B: Board> {
+    pub(crate) depth: usize,
+    pub(crate) mv: Move<B>,
+}
+
+/// A move, and the steps behind it in the row.
+#[derive(Clone, Copy)]
+pub(crate) struct First<'a, B: Board> {
+    pub(crate) mv: Move<B>,
+    pub(crate) rest: &'a [Step<B>],
+}
+
+/// The first of the moves at a depth that stand before any move less deep.
+pub(crate) fn first_at<B: Board>(steps: &[Step<B>], depth: usize) -> Option<First<'_, B>>
+    ensures { IsFirstAt steps.entry.now depth (option_map (λ f. (f.mv, f.rest.now)) result) }
+{
+    let mut place = 0;
+    'steps: while place < steps.len() && steps[place].depth > depth {
+        place += 1;
+    }
+    let (_, left) = steps.split_at(place);
+    let (first, rest) = left.split_first()?;
+    if first.depth == depth {
+        Some(First { mv: first.mv, rest })
+    } else {
+        None
+    }
+}
+
+/// Puts moves that follow one another behind all others, the first one at this depth; or nothing, if out of memory.
+pub(crate) fn add_steps<B: Board>(
+    steps: &mut Vec<Step<B>>,
+    depth: usize,
+    moves: &[Move<B>],
+) -> Result<(), AllocError>
+    requires { depth + length moves.now < 2 ^ 64 }
+    ensures added { OnOk result (steps.new.items ≡ steps.old.items ++ chain depth moves.now) }
+    ensures same { OnErr result (steps.new.items ≡ steps.old.items) }
+{
+    steps.reserve(moves.len())?;
+    'moves: for (place, mv) in moves.iter().enumerate() {
+        steps.push_reserved(Step {
+            depth: depth + place,
+            mv: *mv,
+        });
+    }
+    Ok(())
+}

@@ -1,0 +1,151 @@
+//! Writing the words of a tree, each with a line feed behind it.
+ghost use Rattle.std.specs.Prelude.{◌≡◌, ◌+◌, ◌^◌, ◌<◌, ◌++◌, ◌∷◌, [], OnOk, IfOk, length, List, ℕ};
+ghost use Rattle.dw_moves.specs.Moves as of;
+ghost use Rattle.dw_moves.specs.Moves.{Legal};
+ghost use Rattle.dw_solution.specs.Words.{AreWords, AreVariations, has_move};
+ghost use Rattle.dw_solution.specs.inner.Steps.{tree_at, IsPlayable};
+ghost use Rattle.dw_solution.specs.inner.Feeds.{IsAdded, IsMoveAdded, number_words, fed};
+
+use crate::step::{First, Step, first_at};
+use dw_board::{Board, Position};
+use dw_moves::Move;
+use dw_moves::play::play;
+use dw_notation::text_in;
+use itoa::Buffer;
+use std::alloc::{AllocError, Global};
+
+/// A place in a tree: the position there, how many moves stand before it, and its half turn, counted from 0 at a move
+/// of White's.
+#[derive(Clone, Copy)]
+pub(crate) struct Spot<B: Board> {
+    pub(crate) position: Position<B>,
+    pub(crate) depth: usize,
+    pub(crate) half: usize,
+}
+
+/// The place behind a move.
+fn behind<B: Board>(spot: &Spot<B>, mv: &Move<B>) -> Spot<B>
+    requires legal { Legal B.geometry spot.now.position mv.now }
+    requires depth { spot.now.depth + 1 < 2 ^ 64 }
+    requires half { spot.now.half + 1 < 2 ^ 64 }
+    ensures { result ≡ record {
+      position = of.play B.geometry spot.now.position mv.now;
+      depth = spot.now.depth + 1;
+      half = spot.now.half + 1;
+    } }
+{
+    Spot {
+        position: play(&spot.position, mv),
+        depth: spot.depth + 1,
+        half: spot.half + 1,
+    }
+}
+
+/// A text that is written.
+#[derive(Drop)]
+pub(crate) struct Writer {
+    pub(crate) alloc: Global,
+    pub(crate) text: Vec<u8>,
+}
+
+impl Writer {
+    /// A word.
+    pub(crate) fn write_word(&mut self, word: &str) -> Result<(), AllocError>
+        ensures { OnOk result (self.new.text.items ≡ self.old.text.items ++ (word.now ++ 10 ∷ [])) }
+    {
+        self.text.extend_from_slice(word.as_bytes())?;
+        self.text.push(b'\n')?;
+        Ok(())
+    }
+
+    /// What goes on at a place: the first move, the others in its place as variations, and what goes on behind it.
+    #[cycle(play)]
+    pub(crate) fn write_play<B: Board>(
+        &mut self,
+        steps: &[Step<B>],
+        spot: &Spot<B>,
+        due: bool,
+    ) -> Result<(), AllocError>
+        requires depth { spot.now.depth + length steps.now < 2 ^ 64 }
+        requires half { spot.now.half + length steps.now < 2 ^ 64 }
+        requires playable { IsPlayable B.geometry spot.now.position (tree_at steps.now spot.now.depth) }
+        ensures { OnOk result (IsAdded
+            (AreWords B.geometry spot.now.position spot.now.half due (tree_at steps.now spot.now.depth))
+            self.old.text.items self.new.text.items) }
+    {
+        let Some(First { mv, rest }) = first_at(steps, spot.depth) else {
+            return Ok(());
+        };
+        self.write_move(&mv, spot, due)?;
+        let branches = self.write_variations(rest, spot)?;
+        self.write_play(rest, &behind(spot, &mv), branches)
+    }
+
+    /// The moves at a place as variations, each with what goes on behind it; and whether there are any.
+    #[cycle(play)]
+    fn write_variations<B: Board>(
+        &mut self,
+        steps: &[Step<B>],
+        spot: &Spot<B>,
+    ) -> Result<bool, AllocError>
+        requires depth { spot.now.depth + length steps.now + 1 < 2 ^ 64 }
+        requires half { spot.now.half + length steps.now + 1 < 2 ^ 64 }
+        requires playable { IsPlayable B.geometry spot.now.position (tree_at steps.now spot.now.depth) }
+        ensures some { IfOk result (λ some. some ≡ has_move (tree_at steps.now spot.now.depth)) }
+        ensures words { OnOk result (IsAdded
+            (AreVariations B.geometry spot.now.position spot.now.half (tree_at steps.now spot.now.depth))
+            self.old.text.items self.new.text.items) }
+    {
+        let mut some = false;
+        let mut left = steps;
+        'moves: while let Some(First { mv, rest }) = first_at(left, spot.depth) {
+            self.text.push(b'(')?;
+            self.write_move(&mv, spot, true)?;
+            self.write_play(rest, &behind(spot, &mv), false)?;
+            self.close()?;
+            some = true;
+            left = rest;
+        }
+        Ok(some)
+    }
+
+    /// A move with its number, if it has one.
+    fn write_move<B: Board>(
+        &mut self,
+        mv: &Move<B>,
+        spot: &Spot<B>,
+        due: bool,
+    ) -> Result<(), AllocError>
+        requires { Legal B.geometry spot.now.position mv.now }
+        ensures { OnOk result (IsMoveAdded B.geometry spot.now.position mv.now spot.now.half due
+            self.old.text.items self.new.text.items) }
+    {
+        let text = text_in(self.alloc, &spot.position, mv)?;
+        self.write_number(spot.half, due)?;
+        self.write_word(text.as_str())
+    }
+
+    /// The number of a move at a half turn: one of White's always, one of Black's where it is due.
+    fn write_number(&mut self, half: usize, due: bool) -> Result<(), AllocError>
+        ensures { OnOk result (self.new.text.items ≡ self.old.text.items ++ fed (number_words half due)) }
+    {
+        let dots = match half % 2 {
+            0 => ".",
+            _ if due => "...",
+            _ => return Ok(()),
+        };
+        let mut digits = Buffer::new();
+        self.text
+            .extend_from_slice(digits.format(half / 2 + 1).as_bytes())?;
+        self.write_word(dots)
+    }
+
+    /// A parenthesis that closes, behind the last word.
+    fn close(&mut self) -> Result<(), AllocError>
+        ensures { (front : List ℕ) → self.old.text.items ≡ front ++ 10 ∷ []
+            → OnOk result (self.new.text.items ≡ front ++ 41 ∷ 10 ∷ []) }
+    {
+        let _ = self.text.pop();
+        self.write_word(")")
+    }
+}
