@@ -28,6 +28,6 @@ AreApart over = Unit {0}
 AreApart (branch m behind others) = IsNotFirst m others × AreApart behind × AreApart others
 
 -- The tree of some lines: it goes through these, in this order, and what neighbours have in common stands in it once.
-pub record IsTreeOf (lines : List (List Move)) (tree : Tree) : Type 0 where
-  pub lines : lines_of tree ≡ lines
+pub record IsTreeOf (all : List (List Move)) (tree : Tree) : Type 0 where
+  pub lines : lines_of tree ≡ all
   pub apart : AreApart tree

@@ -1,7 +1,7 @@
 //! Words in lines of at most 79 bytes.
-ghost use Rattle.std.specs.Prelude.{◌≡◌, ◌<◌, ◌≤◌, ◌++◌, ℕ, List, length, take, drop};
+ghost use Rattle.std.specs.Prelude.{◌≡◌, ◌+◌, ◌≤◌, ◌++◌, ℕ, List, length, drop};
 ghost use Rattle.dw_solution.specs.Movetext.{filled};
-ghost use Rattle.dw_solution.specs.inner.Feeds.{feeding, IsUnbroken, AreUnbroken, IsFeedAfter};
+ghost use Rattle.dw_solution.specs.inner.Feeds.{feeding, IsUnbroken, AreUnbroken};
 
 use crate::movetext::MAX_COLUMN;
 
@@ -26,7 +26,10 @@ pub(crate) fn fill(text: &mut [u8])
 /// The place of the first line feed from a place on, or the end.
 fn next_feed(text: &[u8], from: usize) -> usize
     requires { from ≤ length text.now }
-    ensures { IsFeedAfter text.now from result }
+    ensures low { from ≤ result }
+    ensures within { result ≤ length text.now }
+    ensures feed { (w : List ℕ) (words : List (List ℕ)) → IsUnbroken w → drop from text.now ≡ w ++ feeding words
+        → result ≡ from + length w }
 {
     let mut place = from;
     'bytes: while place < text.len() && text[place] != b'\n' {

@@ -7,7 +7,7 @@ ghost use Rattle.dw_solve.specs.Searching.{IsCounted};
 ghost use Rattle.dw_list.specs.Lines.{Lines};
 ghost use Rattle.dw_list.specs.Listing.{lender, solver_of, stack_of};
 ghost use Rattle.dw_solution.specs.Movetext.{AreAllPlayable};
-ghost use Rattle.dw_solution.specs.inner.Taking.{AreTaken, Takes};
+ghost use Rattle.dw_solution.specs.inner.Taking.{AreTaken, Takes, GoesOn};
 
 use crate::line_tree::LineTree;
 use dw_board::{Board, Position};
@@ -46,6 +46,7 @@ pub fn first_lines<B: Board, M: Memo<B>, G: Guide<B>>(
     ensures stop { IsErrOf result Limit → solver.new.expanded ≡ solver.new.limit }
 {
     dw_list::laws::lines_exist();
+    solver.keeps_its_limit();
     let mut lister = Lister::start(solver, position, moves);
     let first = taken(alloc, &mut lister, most);
     // A lister that is only let go would not tell what its solver has spent.
@@ -59,7 +60,8 @@ fn taken<B: Board, M: Memo<B>, G: Guide<B>>(
     lister: &mut Lister<'_, B, M, G>,
     most: usize,
 ) -> Result<FirstLines<B>, Stop>
-    requires { (p : Placement) × (n : ℕ) × AreTaken B.geometry p n (stack_of lister.old) [] }
+    requires first { (p : Placement) × (n : ℕ) × AreTaken B.geometry p n (stack_of lister.old) [] }
+    requires counted { (solver_of lister.old).expanded ≤ (solver_of lister.old).limit }
     ensures lender { lender lister.new ≡ lender lister.old }
     ensures lines { (p : Placement) (n : ℕ) (lines : List (List of.Move))
         → AreTaken B.geometry p n (stack_of lister.old) [] → Lines B.geometry p n lines
@@ -68,13 +70,14 @@ fn taken<B: Board, M: Memo<B>, G: Guide<B>>(
         (solver_of lister.new).expanded (solver_of lister.new).limit }
     ensures stop { IsErrOf result Limit → (solver_of lister.new).expanded ≡ (solver_of lister.new).limit }
 {
+    dw_list::laws::lines_exist();
     let mut tree = LineTree::new(alloc);
-    'lines: for _ in 0..most {
+    'lines: while tree.len() < most {
         if !take_next(alloc, lister, &mut tree)? {
             return Ok(FirstLines { tree, more: false });
         }
     }
-    let more = lister.next(alloc)?.is_some();
+    let more = has_next(alloc, lister)?;
     Ok(FirstLines { tree, more })
 }
 
@@ -92,11 +95,33 @@ fn take_next<B: Board, M: Memo<B>, G: Guide<B>>(
         (solver_of lister.new).expanded (solver_of lister.new).limit }
     ensures stop { IsErrOf result Limit → (solver_of lister.new).expanded ≡ (solver_of lister.new).limit }
 {
-    match lister.next(alloc)? {
-        None => Ok(false),
-        Some(line) => {
+    dw_moves::laws::moves_have_keys();
+    dw_list::laws::none_begins();
+    match lister.next(alloc) {
+        Err(stop) => Err(stop),
+        Ok(None) => Ok(false),
+        Ok(Some(line)) => {
             tree.push(line)?;
             Ok(true)
         }
+    }
+}
+
+/// Whether a line is still to come of a lister. If it is, it is passed.
+fn has_next<B: Board, M: Memo<B>, G: Guide<B>>(
+    alloc: Global,
+    lister: &mut Lister<'_, B, M, G>,
+) -> Result<bool, Stop>
+    ensures lender { lender lister.new ≡ lender lister.old }
+    ensures more { (p : Placement) (n : ℕ) (taken : List (List of.Move))
+        → AreTaken B.geometry p n (stack_of lister.old) taken → IfOk result (λ more. GoesOn B.geometry p n more taken) }
+    ensures count { IsCounted (solver_of lister.old).expanded (solver_of lister.old).limit
+        (solver_of lister.new).expanded (solver_of lister.new).limit }
+    ensures stop { IsErrOf result Limit → (solver_of lister.new).expanded ≡ (solver_of lister.new).limit }
+{
+    match lister.next(alloc) {
+        Err(stop) => Err(stop),
+        Ok(None) => Ok(false),
+        Ok(Some(_)) => Ok(true),
     }
 }

@@ -74,8 +74,7 @@ impl<B: Board> LineTree<B> {
         add_steps(&mut self.steps, shared, rest)?;
         let end = self.steps.as_slice().len();
         self.ends.push_reserved(end);
-        self.last.clear();
-        let _ = self.last.try_extend_from_slice(line);
+        self.last = kept(line);
         Ok(())
     }
 
@@ -91,6 +90,16 @@ impl<B: Board> LineTree<B> {
         let (first, _) = self.steps.as_slice().split_at(end);
         first
     }
+}
+
+/// A line in an array of its own.
+fn kept<B: Board>(line: &[Move<B>]) -> ArrayVec<Move<B>, MAX_MOVES>
+    requires { length line.now ≤ 39 }
+    ensures { result.items ≡ line.now }
+{
+    let mut kept = ArrayVec::new();
+    let _ = kept.try_extend_from_slice(line);
+    kept
 }
 
 /// How many moves two lines have in common at their beginnings.

@@ -1,5 +1,5 @@
 //! The movetext of a solution.
-ghost use Rattle.std.specs.Prelude.{◌≡◌, ◌≤◌, ◌++◌, ◌∷◌, [], ℕ, List, length, IfOk, OnOk};
+ghost use Rattle.std.specs.Prelude.{◌≡◌, ◌≤◌, ◌++◌, ◌∷◌, ◌||◌, [], ℕ, List, length, IfOk, OnOk};
 ghost use Rattle.dw_solution.specs.Movetext.{IsMovetext, AreAllPlayable};
 ghost use Rattle.dw_solution.specs.Movetext.{first_half, verdict_comment, last_words, result_of, in_lines};
 ghost use Rattle.dw_solution.specs.inner.Drafts.{IsDraftOf, IsPassed};
@@ -66,6 +66,7 @@ impl<B: Board> Draft<'_, B> {
         ensures { IfOk result (λ text. IsMovetext B.geometry self.now.position.now self.now.heading
             self.now.first.now.tree self.now.first.now.more text.items) }
     {
+        let _moves = self.heading.moves;
         let mut text = self.text(0)?;
         let mut many = 0;
         let mut too_many = self.first.tree.len();
@@ -88,6 +89,8 @@ impl<B: Board> Draft<'_, B> {
         requires within { lines ≤ length self.now.first.now.tree }
         ensures { IfOk result (λ text. IsDraftOf B.geometry self.now lines text.items) }
     {
+        dw_notation::laws::written_moves_are_read();
+        dw_moves::laws::play_stays();
         let mut writer = Writer {
             alloc: self.alloc,
             text: Vec::new(self.alloc),
@@ -99,8 +102,7 @@ impl<B: Board> Draft<'_, B> {
             half: first_half(self.position.turn()),
         };
         writer.write_play(self.first.tree.first_steps(lines), &spot, true)?;
-        let is_cut = lines < self.first.tree.len();
-        self.write_end(&mut writer, is_cut || self.first.more)?;
+        self.write_end(&mut writer, lines < self.first.tree.len())?;
         Ok(lined(writer))
     }
 
@@ -121,12 +123,12 @@ impl<B: Board> Draft<'_, B> {
         writer.write_word(word.as_str())
     }
 
-    /// The words behind the play.
-    fn write_end(&self, writer: &mut Writer, more: bool) -> Result<(), AllocError>
-        ensures { OnOk result (writer.new.text.items ≡ writer.old.text.items
-            ++ fed (last_words more (result_of self.now.position.now.turn self.now.first.now.tree))) }
+    /// The words behind the play, by whether it is cut.
+    fn write_end(&self, writer: &mut Writer, is_cut: bool) -> Result<(), AllocError>
+        ensures { OnOk result (writer.new.text.items ≡ writer.old.text.items ++ fed (last_words
+            (is_cut || self.now.first.now.more) (result_of self.now.position.now.turn self.now.first.now.tree))) }
     {
-        if more {
+        if is_cut || self.first.more {
             writer.write_word("{more}")?;
         }
         writer.write_word(self.result())

@@ -1,5 +1,5 @@
 //! The moves of a tree in a row: each with what goes on behind it, before the next move in its place.
-ghost use Rattle.std.specs.Prelude.{◌≡◌, ◌+◌, ◌++◌, ◌<◌, OnOk, OnErr, option_map, length};
+ghost use Rattle.std.specs.Prelude.{◌≡◌, ◌+◌, ◌^◌, ◌++◌, ◌<◌, OnOk, OnErr, option_map, length};
 ghost use Rattle.dw_solution.specs.inner.Steps.{IsFirstAt, chain};
 
 use dw_board::Board;

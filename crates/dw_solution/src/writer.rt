@@ -6,7 +6,7 @@ ghost use Rattle.dw_solution.specs.Words.{AreWords, AreVariations, has_move};
 ghost use Rattle.dw_solution.specs.inner.Steps.{tree_at, IsPlayable};
 ghost use Rattle.dw_solution.specs.inner.Feeds.{IsAdded, IsMoveAdded, number_words, fed};
 
-use crate::step::{First, Step, first_at};
+use crate::step::{Step, first_at};
 use dw_board::{Board, Position};
 use dw_moves::Move;
 use dw_moves::play::play;
@@ -73,12 +73,12 @@ impl Writer {
             (AreWords B.geometry spot.now.position spot.now.half due (tree_at steps.now spot.now.depth))
             self.old.text.items self.new.text.items) }
     {
-        let Some(First { mv, rest }) = first_at(steps, spot.depth) else {
+        let Some(first) = first_at(steps, spot.depth) else {
             return Ok(());
         };
-        self.write_move(&mv, spot, due)?;
-        let branches = self.write_variations(rest, spot)?;
-        self.write_play(rest, &behind(spot, &mv), branches)
+        self.write_move(&first.mv, spot, due)?;
+        let branches = self.write_variations(first.rest, spot)?;
+        self.write_play(first.rest, &behind(spot, &first.mv), branches)
     }
 
     /// The moves at a place as variations, each with what goes on behind it; and whether there are any.
@@ -98,13 +98,13 @@ impl Writer {
     {
         let mut some = false;
         let mut left = steps;
-        'moves: while let Some(First { mv, rest }) = first_at(left, spot.depth) {
+        'moves: while let Some(first) = first_at(left, spot.depth) {
             self.text.push(b'(')?;
-            self.write_move(&mv, spot, true)?;
-            self.write_play(rest, &behind(spot, &mv), false)?;
+            self.write_move(&first.mv, spot, true)?;
+            self.write_play(first.rest, &behind(spot, &first.mv), false)?;
             self.close()?;
             some = true;
-            left = rest;
+            left = first.rest;
         }
         Ok(some)
     }

@@ -1,12 +1,13 @@
 -- Words with line feeds.
-use Rattle.std.specs.Prelude.{◌≡◌, ℕ, ◌==◌, ◌+◌, ◌%◌, ◌<◌, ◌≤◌, if◌then◌else◌, not, Bool, true, List, [], ◌∷◌, ◌++◌}
-use Rattle.std.specs.Prelude.{codes, drop, length, slice_range}
+use Rattle.std.specs.Prelude.{◌≡◌, ℕ, ◌==◌, ◌%◌, if◌then◌else◌, not, Bool, true, List, [], ◌∷◌, ◌++◌}
+use Rattle.std.specs.Prelude.{codes, drop, length, ◌+◌, ◌-◌, ◌≤◌}
 use Rattle.std.specs.List.{list_all}
 use Rattle.dw_board.specs.Geometry.{Geometry}
 use Rattle.dw_board.specs.Placement.{Placement}
 use Rattle.dw_moves.specs.Moves.{Move}
 use Rattle.dw_notation.specs.Text.{IsMoveText}
 use Rattle.dw_solution.specs.Words.{move_words, number_word}
+use Rattle.dw_solution.specs.Movetext.{filled}
 
 -- each word with a line feed behind it
 abbrev pub fed : List (List ℕ) → List ℕ
@@ -46,9 +47,20 @@ number_words half due =
     else if due then number_word half (codes "...") ∷ []
     else []
 
--- the place of the first line feed from a place on, or the end
-pub record IsFeedAfter (text : List ℕ) (from place : ℕ) : Type 0 where
-  pub above : from ≤ place
-  pub within : place ≤ length text
-  pub none : IsUnbroken (slice_range text from place)
-  pub feed : place < length text → drop place text ≡ 10 ∷ drop (place + 1) text
+-- a text in which the blanks up to a line feed are put, where the last line begins at some place: it goes on as words
+-- behind the bytes of that line do
+pub record IsFilledTo (text whole : List ℕ) (line feed : ℕ) : Type 0 where
+  pub done : List ℕ
+  pub words : List (List ℕ)
+  pub unbroken : AreUnbroken words
+  pub now : text ≡ done ++ feeding words
+  pub at : feed ≡ length done
+  pub begun : line ≤ feed
+  pub ahead : whole ≡ done ++ filled (feed - line) words
+
+-- bytes from a place on begin with a word without line feed, and the first word from there on ends at the same place
+pub record IsWordFrom (text : List ℕ) (from place : ℕ) (w : List ℕ) (words : List (List ℕ)) : Type 0 where
+  pub rest : List ℕ
+  pub unbroken : IsUnbroken rest
+  pub ahead : drop place text ≡ rest ++ feeding words
+  pub same : place + length rest ≡ from + length w

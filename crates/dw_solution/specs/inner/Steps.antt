@@ -37,21 +37,22 @@ AreEnds steps ends = (place end : ℕ) → slice_get ends place ≡ Some end →
     × IsTreeOf (take (place + 1) (lines_of (whole_tree steps))) (whole_tree (take end steps))
 
 -- Sealed: what holds of the parts of a tree of lines. The clauses of a tree say all that is to be known of it.
-pub record IsHeld {B : Type 0} (steps : List (Step B)) (ends : List ℕ) (last : List Move) : Type 0 where
+pub record IsHeld {B : Type 0} (steps : List (Step B)) (places : List ℕ) (line : List Move) : Type 0
+  where
   pub apart : AreApart (whole_tree steps)
-  pub last : last ≡ last_line (lines_of (whole_tree steps))
-  pub many : length ends ≡ length (lines_of (whole_tree steps))
-  pub ends : AreEnds steps ends
+  pub last : line ≡ last_line (lines_of (whole_tree steps))
+  pub many : length places ≡ length (lines_of (whole_tree steps))
+  pub ends : AreEnds steps places
 
 -- a line parts from another: neither begins the other
-pub record Parts (line other : List Move) : Type 0 where
+pub record Parts (a b : List Move) : Type 0 where
   pub common : List Move
   pub move : Move
   pub instead : Move
   pub rest : List Move
   pub others : List Move
-  pub line : line ≡ common ++ move ∷ rest
-  pub other : other ≡ common ++ instead ∷ others
+  pub line : a ≡ common ++ move ∷ rest
+  pub other : b ≡ common ++ instead ∷ others
   pub differ : move ≡ instead → ⊥
 
 -- a line can stand behind some lines: it has a move, and parts from the last of them

@@ -16,3 +16,8 @@ pub record AreTaken (g : Geometry) (p : Placement) (n : ℕ) (stack : LineStack)
 abbrev pub Takes : Geometry → Placement → ℕ → Bool → LineStack → (old new : List (List Move)) → Type 0
 Takes g p n true stack old new = AreTaken g p n stack new × ((line : List Move) × (new ≡ old ++ line ∷ []))
 Takes g p n false stack old new = Lines g p n old × (new ≡ old)
+
+-- there is a next line, or else all lines are taken
+abbrev pub GoesOn : Geometry → Placement → ℕ → Bool → List (List Move) → Type 0
+GoesOn g p n true taken = (line : List Move) × (rest : List (List Move)) × Lines g p n (taken ++ line ∷ rest)
+GoesOn g p n false taken = Lines g p n taken

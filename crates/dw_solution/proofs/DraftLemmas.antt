@@ -1,0 +1,175 @@
+-- The text of first lines, put together.
+use Rattle.std.proofs.Common.{◌≡◌, ℕ, ◌+◌, ◌-◌, ◌<◌, ◌≤◌, zero, suc, List, [], ◌∷◌, ◌++◌, length, take, refl, sym, ap, subst, ◌∙◌}
+use Rattle.std.proofs.Common.{Bool, true, false, leb, cond, append_assoc, append-nil, length-append, arith, decimal, codes}
+use Rattle.std.specs.Prelude.{nat_lt, ◌||◌}
+use Rattle.std.proofs.lemmas.Fmt.{length-decimal-le}
+use Rattle.dw_board.specs.Geometry.{Geometry, IsBoard}
+use Rattle.dw_board.specs.Placement.{Placement, IsPosition}
+use Rattle.dw_board.specs.declared.piece.Side.{Side}
+use Rattle.dw_board.specs.declared.piece.Side.TheVariants.{White, Black}
+use Rattle.dw_moves.specs.Laws.{PlayStays}
+use Rattle.dw_moves.specs.Moves.{Move}
+use Rattle.dw_notation.specs.MoveReadingLaws.{WrittenMoveIsNamed}
+use Rattle.dw_solution.specs.Tree.{Tree, over, branch, lines_of, IsTreeOf}
+use Rattle.dw_solution.specs.Words.{AreWords}
+use Rattle.dw_solution.specs.Movetext.{filled, in_lines, verdict_word, verdict_comment, first_half, win_of, result_of}
+use Rattle.dw_solution.specs.Movetext.{last_words, IsTextOf, IsTextOfFirst, IsMovetext}
+use Rattle.dw_solution.specs.inner.Feeds.{fed, feeding, IsAdded, IsUnbroken, AreUnbroken}
+use Rattle.dw_solution.specs.declared.heading.Heading.{Heading}
+use Rattle.dw_solution.specs.declared.heading.VerdictKind.{VerdictKind}
+use Rattle.dw_solution.specs.declared.heading.VerdictKind.TheVariants.{Unsolvable, Cooked, Dual, Sound}
+use Rattle.dw_solution.proofs.FeedLemmas.{fed_append}
+use Rattle.dw_solution.proofs.TreeLemmas.{lines_some}
+use Rattle.dw_solution.proofs.WordLemmas.{is_no_feed, all_append, decimal_unbroken, unbroken_append, words_unbroken}
+
+-- ---- no word has a line feed
+verdict_unbroken : (kind : VerdictKind) → IsUnbroken (verdict_word kind)
+verdict_unbroken Unsolvable = refl
+verdict_unbroken Cooked = refl
+verdict_unbroken Dual = refl
+verdict_unbroken Sound = refl
+
+pub comment_unbroken : (heading : Heading) → IsUnbroken (verdict_comment heading)
+comment_unbroken heading =
+    let number : List ℕ = decimal heading.moves ++ codes "}" in
+    let kind : List ℕ = verdict_word heading.kind in
+    all_append is_no_feed (codes "{") (kind ++ (codes " in " ++ number)) refl
+    (all_append is_no_feed kind (codes " in " ++ number) (verdict_unbroken heading.kind)
+    (all_append is_no_feed (codes " in ") number refl
+    (all_append is_no_feed (decimal heading.moves) (codes "}") (decimal_unbroken heading.moves) refl)))
+
+result_unbroken : (side : Side) (lines : List (List Move)) → IsUnbroken (result_of side lines)
+result_unbroken side [] = refl
+result_unbroken White (l ∷ lines) = refl
+result_unbroken Black (l ∷ lines) = refl
+
+last_unbroken : (more : Bool) (result : List ℕ) → IsUnbroken result → AreUnbroken (last_words more result)
+last_unbroken true result h = (refl, (h, tt))
+last_unbroken false result h = (h, tt)
+
+-- ---- the whole text
+pub draft_text : (named : WrittenMoveIsNamed) (stays : PlayStays) (g : Geometry) → IsBoard g → (p : Placement)
+    → IsPosition g p.cells → (heading : Heading) (lines : List (List Move)) (more flag : Bool) (many : ℕ) (tree : Tree)
+    (a b c text : List ℕ) → flag ≡ (nat_lt many (length lines) || more) → IsTreeOf (take many lines) tree
+    → a ≡ verdict_comment heading ++ 10 ∷ []
+    → IsAdded (AreWords g p (first_half p.turn) true tree) a b
+    → c ≡ b ++ fed (last_words flag (result_of p.turn lines))
+    → ((w : List ℕ) (words : List (List ℕ)) → IsUnbroken w → AreUnbroken words → c ≡ fed (w ∷ words)
+    → text ≡ in_lines (w ∷ words))
+    → IsTextOfFirst g p heading lines more many text
+draft_text named stays g board p pos heading lines more flag many tree a b c text is whole front play end lined =
+    let words : List (List ℕ) = play.words in
+    let last : List (List ℕ) = last_words flag (result_of p.turn lines) in
+    let comment : List ℕ = verdict_comment heading in
+    let unbroken : AreUnbroken (words ++ last) =
+    unbroken_append words last (words_unbroken named stays g board p pos (first_half p.turn) true tree words play.are)
+    (last_unbroken flag (result_of p.turn lines) (result_unbroken p.turn lines)) in
+    let all : c ≡ fed (comment ∷ (words ++ last)) =
+    end ∙ (ap (λ z. z ++ fed last) (play.added ∙ ap (λ z. z ++ fed words) front)
+    ∙ (append_assoc (comment ++ 10 ∷ []) (fed words) (fed last)
+    ∙ (append_assoc comment (10 ∷ []) (fed words ++ fed last)
+    ∙ ap (λ z. comment ++ 10 ∷ z) (sym (fed_append words last))))) in
+    (
+      tree,
+      words,
+      whole,
+      play.are,
+      lined comment (words ++ last) (comment_unbroken heading) unbroken all
+      ∙ ap (λ z. in_lines (comment ∷ (words ++ last_words z (result_of p.turn lines)))) is,
+    )
+
+-- ---- the text without a line is short
+length_filled : (column : ℕ) (words : List (List ℕ)) → length (filled column words) ≡ length (feeding words)
+length_filled column [] = refl
+length_filled column (w ∷ words) =
+    elim (leb (column + 1 + length w) 79) as (λ b. length (cond b
+    (32 ∷ (w ++ filled (column + 1 + length w) words)) (10 ∷ (w ++ filled (length w) words)))
+    ≡ suc (length (w ++ feeding words))) [
+      | true ↦ ap suc (length-append w (filled (column + 1 + length w) words)
+        ∙ (ap (λ z. length w + z) (length_filled (column + 1 + length w) words)
+        ∙ sym (length-append w (feeding words))))
+      | false ↦ ap suc (length-append w (filled (length w) words)
+        ∙ (ap (λ z. length w + z) (length_filled (length w) words) ∙ sym (length-append w (feeding words))))
+    ]
+
+verdict_short : (kind : VerdictKind) → length (verdict_word kind) ≤ 10
+verdict_short Unsolvable = omega arith
+verdict_short Cooked = omega arith
+verdict_short Dual = omega arith
+verdict_short Sound = omega arith
+
+comment_short : (heading : Heading) → heading.moves < 256 → length (verdict_comment heading) ≤ 30
+comment_short heading low =
+    let digits = length-decimal-le 3 heading.moves (omega arith) (omega (arith, low)) (omega (arith, low)) in
+    let one = length-append (decimal heading.moves) (codes "}") in
+    let two = length-append (verdict_word heading.kind) (codes " in " ++ (decimal heading.moves ++ codes "}")) in
+    let three = verdict_short heading.kind in
+    omega (arith, digits, one, two, three)
+
+last_short : (more : Bool) (side : Side) (lines : List (List Move))
+    → length (feeding (last_words more (result_of side lines))) ≤ 20
+last_short true side [] = omega arith
+last_short true White (l ∷ lines) = omega arith
+last_short true Black (l ∷ lines) = omega arith
+last_short false side [] = omega arith
+last_short false White (l ∷ lines) = omega arith
+last_short false Black (l ∷ lines) = omega arith
+
+filled_list : {X : Type 0} {x : X} {xs : List X} → x ∷ xs ≡ [] → ⊥
+filled_list e = cc
+
+no_words : (g : Geometry) (p : Placement) (half : ℕ) (due : Bool) (tree : Tree) (words : List (List ℕ))
+    → lines_of tree ≡ [] → AreWords g p half due tree words → words ≡ []
+no_words g p half due over words e h = h
+no_words g p half due (branch m b o) words e h = let some = lines_some m b o in absurd (filled_list (sym some.2 ∙ e))
+
+pub none_is_short : (g : Geometry) (p : Placement) (heading : Heading) (lines : List (List Move)) (more : Bool)
+    (text : List ℕ) → heading.moves < 256 → IsTextOfFirst g p heading lines more 0 text → length text ≤ 1000000
+none_is_short g p heading lines more text low (tree, words, whole, are, e) =
+    let flag : Bool = nat_lt 0 (length lines) || more in
+    let last : List (List ℕ) = last_words flag (result_of p.turn lines) in
+    let none : words ≡ [] = no_words g p (first_half p.turn) true tree words whole.lines are in
+    let is : text ≡ verdict_comment heading ++ filled (length (verdict_comment heading)) last =
+    e ∙ ap (λ z. in_lines (verdict_comment heading ∷ (z ++ last))) none in
+    let long = ap length is ∙ length-append (verdict_comment heading) (filled (length (verdict_comment heading)) last) in
+    omega (arith, long, length_filled (length (verdict_comment heading)) last, comment_short heading low,
+    last_short flag p.turn lines)
+
+-- ---- the movetext
+pub movetext_all : (g : Geometry) (p : Placement) (heading : Heading) (lines : List (List Move)) (more : Bool)
+    (text : List ℕ) → IsTextOfFirst g p heading lines more (length lines) text → length text ≤ 1000000
+    → IsMovetext g p heading lines more text
+movetext_all g p heading lines more text is short = record {
+  many = length lines;
+  within = omega arith;
+  is = is;
+  short = short;
+  greatest = λ low. absurd (omega (arith, low));
+}
+
+pub movetext_cut : (g : Geometry) (p : Placement) (heading : Heading) (lines : List (List Move)) (more : Bool)
+    (many too_many : ℕ) (text longer : List ℕ) → many < too_many → too_many ≤ length lines → too_many - many ≤ 1
+    → IsTextOfFirst g p heading lines more many text → length text ≤ 1000000
+    → IsTextOfFirst g p heading lines more too_many longer → 1000000 < length longer
+    → IsMovetext g p heading lines more text
+movetext_cut g p heading lines more many too_many text longer low within next is short passes long =
+    let e : too_many ≡ suc many = omega (arith, low, next) in
+    record {
+      many = many;
+      within = omega (arith, low, within);
+      is = is;
+      short = short;
+      greatest = λ more_lines. (
+        longer,
+        subst (λ z. IsTextOfFirst g p heading lines more z longer) e passes,
+        long,
+      );
+    }
+
+-- where the text of all lines is too large, there is a line
+pub passed_some : (g : Geometry) (p : Placement) (heading : Heading) (lines : List (List Move)) (more : Bool)
+    (text : List ℕ) → heading.moves < 256 → IsTextOfFirst g p heading lines more (length lines) text
+    → 1000000 < length text → 0 < length lines
+passed_some g p heading [] more text low is long =
+    let short = none_is_short g p heading [] more text low is in absurd (omega (arith, short, long))
+passed_some g p heading (l ∷ lines) more text low is long = omega arith

@@ -1,0 +1,27 @@
+use Rattle.std.proofs.Common.{◌≡◌, ◌≤◌, length, List, ℕ}
+use Rattle.std.specs.Prelude.{◌||◌}
+use Rattle.dw_solution.specs.Words.{AreVariations, has_move}
+use Rattle.dw_solution.specs.inner.Steps.{tree_at, IsPlayable}
+use Rattle.dw_solution.specs.inner.Feeds.{IsAdded}
+use Rattle.dw_solution.proofs.writer.Writer.+play.Given as goal
+
+abbrev pub decreases-write_play : goal.decreases-write_play
+decreases-write_play g l = length l.steps.now
+
+abbrev pub decreases-write_variations : goal.decreases-write_variations
+decreases-write_variations g l = length l.steps.now
+
+abbrev pub invariant-write_variations-moves : goal.invariant-write_variations-moves
+invariant-write_variations-moves g l = record {
+  said : (final : List ℕ)
+      → IsAdded (AreVariations g.B.Board.geometry l.spot.position l.spot.half (tree_at l.left l.spot.depth))
+      l.self.text.items final
+      → IsAdded (AreVariations g.B.Board.geometry l.spot.position l.spot.half (tree_at l.steps l.spot.depth))
+      l.initial.self.text.items final;
+  some : has_move (tree_at l.steps l.spot.depth) ≡ (l.some || has_move (tree_at l.left l.spot.depth));
+  playable : IsPlayable g.B.Board.geometry l.spot.position (tree_at l.left l.spot.depth);
+  shorter : length l.left ≤ length l.steps;
+}
+
+abbrev pub decreases-write_variations-moves : goal.decreases-write_variations-moves
+decreases-write_variations-moves g l = length l.left
