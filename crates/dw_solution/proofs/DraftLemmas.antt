@@ -68,14 +68,13 @@ draft_text named stays g board p pos heading lines more flag many tree a b c tex
     end ∙ (ap (λ z. z ++ fed last) (play.added ∙ ap (λ z. z ++ fed words) front)
     ∙ (append_assoc (comment ++ 10 ∷ []) (fed words) (fed last)
     ∙ (append_assoc comment (10 ∷ []) (fed words ++ fed last)
-    ∙ ap (λ z. comment ++ 10 ∷ z) (sym (fed_append words last))))) in
-    (
+    ∙ ap (λ z. comment ++ 10 ∷ z) (sym (fed_append words last))))) in (
       tree,
       words,
       whole,
       play.are,
       lined comment (words ++ last) (comment_unbroken heading) unbroken all
-      ∙ ap (λ z. in_lines (comment ∷ (words ++ last_words z (result_of p.turn lines)))) is,
+          ∙ ap (λ z. in_lines (comment ∷ (words ++ last_words z (result_of p.turn lines)))) is,
     )
 
 -- ---- the text without a line is short
@@ -86,10 +85,10 @@ length_filled column (w ∷ words) =
     (32 ∷ (w ++ filled (column + 1 + length w) words)) (10 ∷ (w ++ filled (length w) words)))
     ≡ suc (length (w ++ feeding words))) [
       | true ↦ ap suc (length-append w (filled (column + 1 + length w) words)
-        ∙ (ap (λ z. length w + z) (length_filled (column + 1 + length w) words)
-        ∙ sym (length-append w (feeding words))))
+          ∙ (ap (λ z. length w + z) (length_filled (column + 1 + length w) words)
+          ∙ sym (length-append w (feeding words))))
       | false ↦ ap suc (length-append w (filled (length w) words)
-        ∙ (ap (λ z. length w + z) (length_filled (length w) words) ∙ sym (length-append w (feeding words))))
+          ∙ (ap (λ z. length w + z) (length_filled (length w) words) ∙ sym (length-append w (feeding words))))
     ]
 
 verdict_short : (kind : VerdictKind) → length (verdict_word kind) ≤ 10
@@ -132,8 +131,13 @@ none_is_short g p heading lines more text low (tree, words, whole, are, e) =
     let is : text ≡ verdict_comment heading ++ filled (length (verdict_comment heading)) last =
     e ∙ ap (λ z. in_lines (verdict_comment heading ∷ (z ++ last))) none in
     let long = ap length is ∙ length-append (verdict_comment heading) (filled (length (verdict_comment heading)) last) in
-    omega (arith, long, length_filled (length (verdict_comment heading)) last, comment_short heading low,
-    last_short flag p.turn lines)
+    omega (
+      arith,
+      long,
+      length_filled (length (verdict_comment heading)) last,
+      comment_short heading low,
+      last_short flag p.turn lines,
+    )
 
 -- ---- the movetext
 pub movetext_all : (g : Geometry) (p : Placement) (heading : Heading) (lines : List (List Move)) (more : Bool)

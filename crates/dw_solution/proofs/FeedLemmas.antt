@@ -27,8 +27,7 @@ pub fed_closed : (w : List ℕ) (words : List (List ℕ)) → (front : List ℕ)
     × (fed (closed (w ∷ words)) ≡ front ++ 41 ∷ 10 ∷ [])
 fed_closed w [] = (w, refl, append_assoc w (41 ∷ []) (10 ∷ []))
 fed_closed w (v ∷ words) =
-    let rest = fed_closed v words in
-    (
+    let rest = fed_closed v words in (
       w ++ 10 ∷ rest.0,
       ap (λ z. w ++ 10 ∷ z) rest.1 ∙ sym (append_assoc w (10 ∷ rest.0) (10 ∷ [])),
       ap (λ z. w ++ 10 ∷ z) rest.2 ∙ sym (append_assoc w (10 ∷ rest.0) (41 ∷ 10 ∷ [])),
@@ -44,10 +43,10 @@ number_and_text half due text =
     ++ (text ++ 10 ∷ [])) [
       | true ↦ sym (append_assoc (number_word half (codes ".")) (10 ∷ []) (text ++ 10 ∷ []))
       | false ↦ elim due as (λ b. fed (cond b (number_word half (codes "...") ∷ text ∷ []) (text ∷ []))
-        ≡ fed (cond b (number_word half (codes "...") ∷ []) []) ++ (text ++ 10 ∷ [])) [
-          | true ↦ sym (append_assoc (number_word half (codes "...")) (10 ∷ []) (text ++ 10 ∷ []))
-          | false ↦ refl
-        ]
+          ≡ fed (cond b (number_word half (codes "...") ∷ []) []) ++ (text ++ 10 ∷ [])) [
+            | true ↦ sym (append_assoc (number_word half (codes "...")) (10 ∷ []) (text ++ 10 ∷ []))
+            | false ↦ refl
+          ]
     ]
 
 -- and never none
@@ -59,10 +58,10 @@ some_words half due text =
     (text ∷ [])) ≡ w ∷ words)) [
       | true ↦ (number_word half (codes "."), text ∷ [], refl)
       | false ↦ elim due as (λ b. (w : List ℕ) × (words : List (List ℕ))
-        × (cond b (number_word half (codes "...") ∷ text ∷ []) (text ∷ []) ≡ w ∷ words)) [
-          | true ↦ (number_word half (codes "..."), text ∷ [], refl)
-          | false ↦ (text, [], refl)
-        ]
+          × (cond b (number_word half (codes "...") ∷ text ∷ []) (text ∷ []) ≡ w ∷ words)) [
+            | true ↦ (number_word half (codes "..."), text ∷ [], refl)
+            | false ↦ (text, [], refl)
+          ]
     ]
 
 pub move_added : (g : Geometry) (p : Placement) (m : Move) (half : ℕ) (due : Bool) (old mid new text : List ℕ)

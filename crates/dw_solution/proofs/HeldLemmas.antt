@@ -59,11 +59,11 @@ common_length last line s h low less e differ =
     elim (cases_order s (length h.common)) [
       | inl is ↦ is
       | inr (inl short) ↦ absurd (differ (omega (arith, short, one, ap length h.line))
-        (omega (arith, short, two, ap length h.other))
-        (ap (λ z. slice_get z s) h.line ∙ (got_common h.common (h.move ∷ h.rest) (h.instead ∷ h.others) s short
-        ∙ ap (λ z. slice_get z s) (sym h.other))))
+          (omega (arith, short, two, ap length h.other))
+          (ap (λ z. slice_get z s) h.line ∙ (got_common h.common (h.move ∷ h.rest) (h.instead ∷ h.others) s short
+          ∙ ap (λ z. slice_get z s) (sym h.other))))
       | inr (inr long) ↦ absurd (h.differ (take_apart h.common h.rest h.others h.move h.instead s long
-        (sym (ap (take s) h.line) ∙ (e ∙ ap (take s) h.other))))
+          (sym (ap (take s) h.line) ∙ (e ∙ ap (take s) h.other))))
     ]
 
 filled_list : {X : Type 0} {x : X} {xs : List X} → x ∷ xs ≡ [] → ⊥
@@ -147,22 +147,26 @@ module _ (B : Type 0) where
         many = length-append ends (end ∷ []) ∙ (ap (λ z. z + 1) held.many ∙ (sym long ∙ sym (ap length grown.lines)));
         ends = λ place there found. elim (got_new ends end there place found) [
           | inl old ↦
-            let known = held.ends place there old in
-            let low : place < length ends = slice_get_within ends place there old in
-            let first : take (place + 1) (lines_of (whole_tree new)) ≡ take (place + 1) lines =
-            ap (take (place + 1)) grown.lines
-            ∙ take-append-le (place + 1) lines (line ∷ []) (omega (arith, low, held.many)) in
-            let cut : take there new ≡ take there steps =
-            ap (take there) e ∙ take-append-le there steps more known.0 in
-            (omega (arith, known.0, longer), subst (λ z. IsTreeOf z (whole_tree (take there new))) (sym first)
-            (subst (λ z. IsTreeOf (take (place + 1) lines) (whole_tree z)) (sym cut) known.1))
+              let known = held.ends place there old in
+              let low : place < length ends = slice_get_within ends place there old in
+              let first : take (place + 1) (lines_of (whole_tree new)) ≡ take (place + 1) lines =
+              ap (take (place + 1)) grown.lines
+              ∙ take-append-le (place + 1) lines (line ∷ []) (omega (arith, low, held.many)) in
+              let cut : take there new ≡ take there steps =
+              ap (take there) e ∙ take-append-le there steps more known.0 in (
+                omega (arith, known.0, longer),
+                subst (λ z. IsTreeOf z (whole_tree (take there new))) (sym first)
+                    (subst (λ z. IsTreeOf (take (place + 1) lines) (whole_tree z)) (sym cut) known.1),
+              )
           | inr new_one ↦
-            let whole : take there new ≡ new = take_all there new (omega (arith, is, new_one.1)) in
-            let all : take (place + 1) (lines_of (whole_tree new)) ≡ lines_of (whole_tree new) =
-            take_all (place + 1) (lines_of (whole_tree new))
-            (omega (arith, new_one.0, held.many, long, ap length grown.lines)) in
-            (omega (arith, is, new_one.1), subst (λ z. IsTreeOf (take (place + 1) (lines_of (whole_tree new))) (whole_tree z))
-            (sym whole) (record { lines = sym all; apart = grown.apart held.apart }))
+              let whole : take there new ≡ new = take_all there new (omega (arith, is, new_one.1)) in
+              let all : take (place + 1) (lines_of (whole_tree new)) ≡ lines_of (whole_tree new) =
+              take_all (place + 1) (lines_of (whole_tree new))
+              (omega (arith, new_one.0, held.many, long, ap length grown.lines)) in (
+                omega (arith, is, new_one.1),
+                subst (λ z. IsTreeOf (take (place + 1) (lines_of (whole_tree new))) (whole_tree z))
+                    (sym whole) (record { lines = sym all; apart = grown.apart held.apart }),
+              )
         ];
       }
 
@@ -180,8 +184,7 @@ module _ (B : Type 0) where
       let joined : new ≡ steps ++ chain s (drop s line) = e ∙ ap (λ z. steps ++ chain s z) is in
       let grown : Grown (whole_tree steps) (whole_tree new) goes.move line =
       subst (λ z. Grown (whole_tree steps) (whole_tree z) goes.move line) (sym joined) (grown_by steps line s goes) in
-      let done = held_more steps new ends last line goes.move end (chain s (drop s line)) joined many grown held in
-      (
+      let done = held_more steps new ends last line goes.move end (chain s (drop s line)) joined many grown held in (
         subst (λ z. IsHeld new z latest) (sym places) (subst (λ z. IsHeld new (ends ++ end ∷ []) z) (sym whole) done),
         grown.lines ∙ ap (λ z. z ++ line ∷ []) are,
       )
@@ -221,8 +224,7 @@ tree_playable g p (branch m b o) h =
     (mem_map f some.0 (or_ended (lines_of b)) (subst (Member some.0) (sym some.2) (inl refl)))) in
     let behind : AreAllPlayable g (play g p m) (lines_of b) = λ l here.
     (h (m ∷ l) (mem_left (m ∷ l) (map f (or_ended (lines_of b))) (lines_of o)
-    (mem_map f l (or_ended (lines_of b)) (member_ended l (lines_of b) here)))).1 in
-    (
+    (mem_map f l (or_ended (lines_of b)) (member_ended l (lines_of b) here)))).1 in (
       one.0,
       tree_playable g (play g p m) b behind,
       tree_playable g p o (λ l here. h l (mem_right l (map f (or_ended (lines_of b))) (lines_of o) here)),

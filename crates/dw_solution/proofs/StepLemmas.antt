@@ -107,7 +107,6 @@ module _ (B : Type 0) where
       ∙ (ap (λ z. branch m z (tree_at (chain {B = B} (k + 1) moves) k)) (chain_here (k + 1) moves)
       ∙ ap (branch m (straight moves)) (chain_deeper (k + 1) k moves (omega arith)))
 
-
   deep_shut : (k : ℕ) (steps : List (Step B)) → AreDeep (k + 1) steps → tree_at steps k ≡ over
   deep_shut k [] h = refl
   deep_shut k (s ∷ steps) h = at_deeper s steps k (omega (arith, h.0)) ∙ deep_shut k steps h.1
@@ -134,11 +133,11 @@ module _ (B : Type 0) where
       let more : List (Step B) = chain d moves in
       elim (cases_order s.depth j) [
         | inl same ↦ at_same s (steps ++ more) j same
-          ∙ (ap (λ z. branch s.mv z (tree_at (steps ++ more) j)) (out_stays d (j + 1) steps moves (omega (arith, low)))
-          ∙ (ap (branch s.mv (tree_at steps (j + 1))) (out_stays d j steps moves low) ∙ sym (at_same s steps j same)))
+            ∙ (ap (λ z. branch s.mv z (tree_at (steps ++ more) j)) (out_stays d (j + 1) steps moves (omega (arith, low)))
+            ∙ (ap (branch s.mv (tree_at steps (j + 1))) (out_stays d j steps moves low) ∙ sym (at_same s steps j same)))
         | inr (inl out) ↦ at_out s (steps ++ more) j out ∙ sym (at_out s steps j out)
         | inr (inr high) ↦ at_deeper s (steps ++ more) j high
-          ∙ (out_stays d j steps moves low ∙ sym (at_deeper s steps j high))
+            ∙ (out_stays d j steps moves low ∙ sym (at_deeper s steps j high))
       ]
 
   -- and so does what is deeper than a move that stands behind it
@@ -147,19 +146,19 @@ module _ (B : Type 0) where
   shut_stays k j [] more n b o h e low = absurd (no_branch n b o (sym e))
   shut_stays k j (s ∷ steps) more n b o h e low = elim (cases_order s.depth k) [
     | inl same ↦ let out : s.depth < j = omega (arith, same, low) in
-      at_out s (steps ++ more) j out ∙ sym (at_out s steps j out)
+        at_out s (steps ++ more) j out ∙ sym (at_out s steps j out)
     | inr (inl out) ↦ absurd (omega (arith, out, h.0))
     | inr (inr high) ↦ let rest = sym (at_deeper s steps k high) ∙ e in
-      let here = shut_stays k j steps more n b o h.1 rest low in
-      let next = shut_stays k (j + 1) steps more n b o h.1 rest (omega (arith, low)) in
-      elim (cases_order s.depth j) [
-        | inl is ↦ at_same s (steps ++ more) j is
-          ∙ (ap (λ z. branch s.mv z (tree_at (steps ++ more) j)) next
-          ∙ (ap (branch s.mv (tree_at steps (j + 1))) here ∙ sym (at_same s steps j is)))
-        | inr (inl out) ↦ at_out s (steps ++ more) j out ∙ sym (at_out s steps j out)
-        | inr (inr more_deep) ↦ at_deeper s (steps ++ more) j more_deep
-          ∙ (here ∙ sym (at_deeper s steps j more_deep))
-      ]
+        let here = shut_stays k j steps more n b o h.1 rest low in
+        let next = shut_stays k (j + 1) steps more n b o h.1 rest (omega (arith, low)) in
+        elim (cases_order s.depth j) [
+          | inl is ↦ at_same s (steps ++ more) j is
+              ∙ (ap (λ z. branch s.mv z (tree_at (steps ++ more) j)) next
+              ∙ (ap (branch s.mv (tree_at steps (j + 1))) here ∙ sym (at_same s steps j is)))
+          | inr (inl out) ↦ at_out s (steps ++ more) j out ∙ sym (at_out s steps j out)
+          | inr (inr more_deep) ↦ at_deeper s (steps ++ more) j more_deep
+              ∙ (here ∙ sym (at_deeper s steps j more_deep))
+        ]
   ]
 
   pub grows : (k d : ℕ) (steps : List (Step B)) (m : Move) (moves front : List Move) → AreDeep k steps
@@ -171,31 +170,33 @@ module _ (B : Type 0) where
   grows k d [] m moves _ h (parts front n rest last is ne) = absurd (no_end front n rest last)
   grows k d (s ∷ steps) m moves front h leaves = elim (cases_order s.depth k) [
     | inl same ↦
-      let more : List (Step B) = chain d (m ∷ moves) in
-      let grown = grows_here s.mv (tree_at steps (k + 1)) (tree_at steps k) (tree_at (steps ++ more) (k + 1))
-      (tree_at (steps ++ more) k) k d m moves front
-      (subst (λ z. Leaves z k d m front) (at_same s steps k same) leaves)
-      (λ n b o e. (shut_stays k (k + 1) steps more n b o h.1 e (omega arith),
-      λ inner. grows k d steps m moves front h.1 inner))
-      (λ e is. (
-      out_stays d (k + 1) steps (m ∷ moves) (omega (arith, is)),
-      deep_skip k steps more (over_deep k steps h.1 e)
-      ∙ subst (λ z. tree_at (chain {B = B} z (m ∷ moves)) k ≡ straight (m ∷ moves)) (sym is) (chain_here k (m ∷ moves)),
-      ))
-      (λ e low. (
-      deep_skip k steps more (over_deep k steps h.1 e) ∙ chain_deeper d k (m ∷ moves) low,
-      λ rest inner. grows (k + 1) d steps m moves rest (over_deep k steps h.1 e) inner,
-      )) in
-      subst (λ z. Grown z (tree_at (s ∷ (steps ++ more)) k) m (front ++ m ∷ moves)) (sym (at_same s steps k same))
-      (subst (λ z. Grown (branch s.mv (tree_at steps (k + 1)) (tree_at steps k)) z m (front ++ m ∷ moves))
-      (sym (at_same s (steps ++ more) k same)) grown)
+        let more : List (Step B) = chain d (m ∷ moves) in
+        let grown = grows_here s.mv (tree_at steps (k + 1)) (tree_at steps k) (tree_at (steps ++ more) (k + 1))
+        (tree_at (steps ++ more) k) k d m moves front
+        (subst (λ z. Leaves z k d m front) (at_same s steps k same) leaves)
+        (λ n b o e. (
+          shut_stays k (k + 1) steps more n b o h.1 e (omega arith),
+          λ inner. grows k d steps m moves front h.1 inner,
+        ))
+        (λ e is. (
+          out_stays d (k + 1) steps (m ∷ moves) (omega (arith, is)),
+          deep_skip k steps more (over_deep k steps h.1 e)
+              ∙ subst (λ z. tree_at (chain {B = B} z (m ∷ moves)) k ≡ straight (m ∷ moves)) (sym is) (chain_here k (m ∷ moves)),
+        ))
+        (λ e low. (
+          deep_skip k steps more (over_deep k steps h.1 e) ∙ chain_deeper d k (m ∷ moves) low,
+          λ rest inner. grows (k + 1) d steps m moves rest (over_deep k steps h.1 e) inner,
+        )) in
+        subst (λ z. Grown z (tree_at (s ∷ (steps ++ more)) k) m (front ++ m ∷ moves)) (sym (at_same s steps k same))
+        (subst (λ z. Grown (branch s.mv (tree_at steps (k + 1)) (tree_at steps k)) z m (front ++ m ∷ moves))
+        (sym (at_same s (steps ++ more) k same)) grown)
     | inr (inl low) ↦ absurd (omega (arith, low, h.0))
     | inr (inr high) ↦
-      let more : List (Step B) = chain d (m ∷ moves) in
-      let grown = grows k d steps m moves front h.1
-      (subst (λ z. Leaves z k d m front) (at_deeper s steps k high) leaves) in
-      subst (λ z. Grown z (tree_at (s ∷ (steps ++ more)) k) m (front ++ m ∷ moves)) (sym (at_deeper s steps k high))
-      (subst (λ z. Grown (tree_at steps k) z m (front ++ m ∷ moves)) (sym (at_deeper s (steps ++ more) k high)) grown)
+        let more : List (Step B) = chain d (m ∷ moves) in
+        let grown = grows k d steps m moves front h.1
+        (subst (λ z. Leaves z k d m front) (at_deeper s steps k high) leaves) in
+        subst (λ z. Grown z (tree_at (s ∷ (steps ++ more)) k) m (front ++ m ∷ moves)) (sym (at_deeper s steps k high))
+        (subst (λ z. Grown (tree_at steps k) z m (front ++ m ∷ moves)) (sym (at_deeper s (steps ++ more) k high)) grown)
   ]
 
   -- ---- a row that is made step by step

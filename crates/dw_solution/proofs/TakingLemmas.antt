@@ -97,8 +97,7 @@ pub given_first : (g : Geometry) (p : Placement) (n : ℕ) (a b : LineStack) (ta
     → (rest : List (List Move)) × Lines g p n (taken ++ line ∷ rest) × AreToCome g b rest
 given_first g p n a b taken line is gives h =
     let first = gives.first h.rest h.to_come in
-    let e : h.rest ≡ line ∷ first.0 = first.1 ∙ ap (λ z. z ∷ first.0) (sym is) in
-    (
+    let e : h.rest ≡ line ∷ first.0 = first.1 ∙ ap (λ z. z ∷ first.0) (sym is) in (
       first.0,
       subst (λ z. Lines g p n (taken ++ z)) e h.all,
       (gives.rest first.0).0 (subst (AreToCome g a) first.1 h.to_come),
@@ -141,8 +140,7 @@ pub first_all : LinesExist → (g : Geometry) (p : Placement) (n most : ℕ) (li
     → Lines g p n lines → Lines g p n taken → length taken ≤ most
     → (taken ≡ take most lines) × (most < length lines → ⊥)
 first_all exist g p n most lines taken all here few =
-    let e : lines ≡ taken = exist.only g p n lines taken all here in
-    (
+    let e : lines ≡ taken = exist.only g p n lines taken all here in (
       sym (ap (take most) e ∙ take_all most taken few),
       λ low. omega (arith, low, ap length e, few),
     )

@@ -3,6 +3,7 @@
 //!
 //! The rows hold what no clause says: worked movetexts.
 #![tactic(auto)]
+
 ghost use Rattle.std.specs.Prelude.{◌≤◌, IfSome};
 
 use dw_board::{Board, Eight, Position, Ten};

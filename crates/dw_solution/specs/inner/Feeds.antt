@@ -36,9 +36,9 @@ pub record IsAdded (Are : List (List ℕ) → Type 0) (old new : List ℕ) : Typ
 -- a move was put behind a text, with its number where it has one
 pub record IsMoveAdded (g : Geometry) (p : Placement) (m : Move) (half : ℕ) (due : Bool) (old new : List ℕ) : Type 0
   where
-  pub text : List ℕ
-  pub is : IsMoveText g p m text
-  pub added : new ≡ old ++ fed (move_words half due text)
+    pub text : List ℕ
+    pub is : IsMoveText g p m text
+    pub added : new ≡ old ++ fed (move_words half due text)
 
 -- the number of a move, where it has one
 abbrev pub number_words : ℕ → (due : Bool) → List (List ℕ)

@@ -39,10 +39,10 @@ AreEnds steps ends = (place end : ℕ) → slice_get ends place ≡ Some end →
 -- Sealed: what holds of the parts of a tree of lines. The clauses of a tree say all that is to be known of it.
 pub record IsHeld {B : Type 0} (steps : List (Step B)) (places : List ℕ) (line : List Move) : Type 0
   where
-  pub apart : AreApart (whole_tree steps)
-  pub last : line ≡ last_line (lines_of (whole_tree steps))
-  pub many : length places ≡ length (lines_of (whole_tree steps))
-  pub ends : AreEnds steps places
+    pub apart : AreApart (whole_tree steps)
+    pub last : line ≡ last_line (lines_of (whole_tree steps))
+    pub many : length places ≡ length (lines_of (whole_tree steps))
+    pub ends : AreEnds steps places
 
 -- a line parts from another: neither begins the other
 pub record Parts (a b : List Move) : Type 0 where

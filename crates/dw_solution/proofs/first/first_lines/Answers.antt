@@ -6,10 +6,21 @@ use Rattle.dw_solution.proofs.first.first_lines.Goals as goal
 pub taken-first-requires : goal.taken-first-requires
 taken-first-requires g c =
     let geo = g.B.Board.geometry in
-    let all = c.lines_exist.ensures.some geo g.met.B.Board.numbers c.args.position.now c.args.moves in
-    (omega arith, (omega arith, ((c.args.position.now, c.args.moves, taken_none geo c.args.position.now c.args.moves
-    (stack_of c.start-lister.result) all.0 all.1 ((c.start-lister.ensures.to_come all.0).0 all.1)),
-    subst (λ s. s.expanded ≤ s.limit) (sym c.start-lister.ensures.solver) c.keeps_its_limit.ensures)))
+    let all = c.lines_exist.ensures.some geo g.met.B.Board.numbers c.args.position.now c.args.moves in (
+      omega arith,
+      (
+        omega arith,
+        (
+          (
+            c.args.position.now,
+            c.args.moves,
+            taken_none geo c.args.position.now c.args.moves
+                (stack_of c.start-lister.result) all.0 all.1 ((c.start-lister.ensures.to_come all.0).0 all.1),
+          ),
+          subst (λ s. s.expanded ≤ s.limit) (sym c.start-lister.ensures.solver) c.keeps_its_limit.ensures,
+        ),
+      ),
+    )
 
 pub returns-clause-lines : goal.returns-clause-lines
 returns-clause-lines g c lines all =

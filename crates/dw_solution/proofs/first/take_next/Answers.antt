@@ -10,10 +10,15 @@ push-requires g c =
     let left = subst (LendsNext geo g.M.Memo.content g.M.Memo.dropped c.args.lister.now
     c.next.follows.lender-at-none) (c.in-Ok-Some.is ∙ ap Ok c.in-Ok-Some.field-0-is) c.next.follows.holds-at-none in
     let r = c.requires in
-    let next = given_first geo r.0 r.1 _ _ c.args.tree.now _ left.line left.next r.2 in
-    (omega arith, (subst (λ o. IfSome o (λ line. length line.now ≤ 39)) c.in-Ok-Some.field-0-is
-    c.in-Ok-Some.ensures.few, may_follow c.moves_have_keys.ensures c.none_begins.ensures geo r.0 r.1 c.args.tree.now _
-    next.0 next.1))
+    let next = given_first geo r.0 r.1 _ _ c.args.tree.now _ left.line left.next r.2 in (
+      omega arith,
+      (
+        subst (λ o. IfSome o (λ line. length line.now ≤ 39)) c.in-Ok-Some.field-0-is
+            c.in-Ok-Some.ensures.few,
+        may_follow c.moves_have_keys.ensures c.none_begins.ensures geo r.0 r.1 c.args.tree.now _
+            next.0 next.1,
+      ),
+    )
 
 pub returns-in-Ok-None-clause-taken : goal.returns-in-Ok-None-clause-taken
 returns-in-Ok-None-clause-taken g c p n h =

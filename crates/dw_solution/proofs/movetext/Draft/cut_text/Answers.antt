@@ -12,8 +12,12 @@ cuts-init g c =
       is = c.in_ok-text.ensures;
       short = none_is_short geo draft.position.now draft.heading draft.first.now.tree draft.first.now.more
           c.in_ok-text.text.items low c.in_ok-text.ensures;
-      low = omega (arith, c.len-too_many.ensures, passed_some geo draft.position.now draft.heading draft.first.now.tree
-          draft.first.now.more c.requires.passed.0 low c.requires.passed.1 c.requires.passed.2);
+      low = omega (
+        arith,
+        c.len-too_many.ensures,
+        passed_some geo draft.position.now draft.heading draft.first.now.tree
+            draft.first.now.more c.requires.passed.0 low c.requires.passed.1 c.requires.passed.2,
+      );
       within = omega (arith, c.len-too_many.ensures);
       passed = subst (IsPassed geo draft) (sym c.len-too_many.ensures) c.requires.passed;
     }
