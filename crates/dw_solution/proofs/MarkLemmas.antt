@@ -1,14 +1,13 @@
 -- Words as rows of tokens.
-use Rattle.std.proofs.Common.{◌≡◌, ◌⊎◌, ℕ, ◌+◌, ◌<◌, ◌≤◌, zero, suc, List, [], ◌∷◌, ◌++◌, length, map, refl, sym, ap, subst}
+use Rattle.std.proofs.Common.{◌≡◌, ℕ, ◌+◌, ◌<◌, List, [], ◌∷◌, ◌++◌, length, map, refl, sym, ap, subst}
 use Rattle.std.proofs.Common.{◌∙◌, inl, inr, append_assoc, append-nil, length-append, arith, Bool, true, false, leb, cond}
-use Rattle.std.proofs.Common.{codes, decimal}
 use Rattle.std.specs.List.{list_all}
 use Rattle.std.specs.Prelude.{◌==◌, ◌||◌}
 use Rattle.std.proofs.lemmas.Bool.{or_cases, eqb-true}
 use Rattle.std.proofs.lemmas.List.{map-append}
 use Rattle.dw_board.specs.FenTokens.{is_digit, is_blank}
 use Rattle.dw_notation.specs.Tags.{is_space, ends_line}
-use Rattle.dw_games.specs.Tokens.{Token, IsToken, AreTokens, IsRun, begins_with, is_dot, is_written, is_inside, number}
+use Rattle.dw_games.specs.Tokens.{Token, IsToken, AreTokens, begins_with, is_dot, is_written, is_inside, number}
 use Rattle.dw_games.specs.Tokens.{opens, closes, written, open_result, in_braces, nothing, blank, token}
 use Rattle.dw_games.specs.declared.tokens.TokenKind.{TokenKind}
 use Rattle.dw_games.specs.declared.tokens.TokenKind.TheVariants.{Comment, Passed, Written, Opens, Closes}
@@ -47,8 +46,7 @@ spelled_open : (w : List ℕ) (marks : List (TokenKind × List ℕ)) → IsSpell
     → IsSpelled (40 ∷ w) (opening ∷ marks)
 spelled_open w marks h place fresh after rest tokens e next =
     let same : place + length (40 ∷ w) ≡ (place + 1) + length w = omega arith in
-    let inner = h (place + 1) false after rest tokens e (subst (λ z. AreTokens z false after tokens rest) same next) in
-    (
+    let inner = h (place + 1) false after rest tokens e (subst (λ z. AreTokens z false after tokens rest) same next) in (
       (record { what = Opens; text = 40 ∷ []; place = place }) ∷ inner.0,
       token (40 ∷ []) (w ++ after) opens inner.1,
       ap (λ z. opening ∷ z) inner.2,
@@ -61,8 +59,7 @@ spelled_close w marks h place fresh after rest tokens e next =
     let same : place + length (w ++ 41 ∷ []) ≡ (place + length w) + 1 = omega (arith, length-append w (41 ∷ [])) in
     let behind : AreTokens (place + length w) false (41 ∷ after) (t ∷ tokens) rest =
     token (41 ∷ []) after closes (subst (λ z. AreTokens z false after tokens rest) same next) in
-    let inner = h place fresh (41 ∷ after) rest (t ∷ tokens) refl behind in
-    (
+    let inner = h place fresh (41 ∷ after) rest (t ∷ tokens) refl behind in (
       inner.0 ++ t ∷ [],
       subst (λ z. AreTokens place fresh z ((inner.0 ++ t ∷ []) ++ tokens) rest)
           (sym (append_assoc w (41 ∷ []) after))
@@ -89,8 +86,7 @@ spelled_append (x ∷ xs) ys ks ms (a, b, s, t, e) k =
 spelled_closed : (w : List ℕ) (words : List (List ℕ)) (ks : List (TokenKind × List ℕ)) → AreSpelled (w ∷ words) ks
     → AreSpelled (closed (w ∷ words)) (ks ++ closing ∷ [])
 spelled_closed w [] ks (a, b, s, t, e) =
-    let whole : ks ≡ a = e ∙ (ap (λ z. a ++ z) t ∙ append-nil a) in
-    (
+    let whole : ks ≡ a = e ∙ (ap (λ z. a ++ z) t ∙ append-nil a) in (
       a ++ closing ∷ [],
       [],
       spelled_close w a s,
@@ -126,11 +122,10 @@ filled_read column (w ∷ words) ks place (a, b, s, t, e) =
     let line : (sep next : ℕ) → is_space sep ≡ true → (ts : List Token)
     × AreTokens place false (sep ∷ (w ++ filled next words)) ts [] × (map mark_of ts ≡ ks) = λ sep next is.
     let rest = filled_read next words b (place + 1 + length w) t in
-    let here = s (place + 1) (ends_line sep) (filled next words) [] rest.0 (ends_filled next words) rest.1 in
-    (
-    here.0 ++ rest.0,
-    blank is here.1,
-    map-append mark_of here.0 rest.0 ∙ (ap (λ z. z ++ map mark_of rest.0) here.2 ∙ (ap (λ z. a ++ z) rest.2 ∙ sym e)),
+    let here = s (place + 1) (ends_line sep) (filled next words) [] rest.0 (ends_filled next words) rest.1 in (
+      here.0 ++ rest.0,
+      blank is here.1,
+      map-append mark_of here.0 rest.0 ∙ (ap (λ z. z ++ map mark_of rest.0) here.2 ∙ (ap (λ z. a ++ z) rest.2 ∙ sym e)),
     ) in
     elim (leb (column + 1 + length w) 79) as (λ c. (ts : List Token) × AreTokens place false (cond c
     (32 ∷ (w ++ filled (column + 1 + length w) words)) (10 ∷ (w ++ filled (length w) words))) ts []
@@ -140,8 +135,7 @@ pub lines_read : (w : List ℕ) (words : List (List ℕ)) (ks : List (TokenKind 
     → (ts : List Token) × AreTokens 1 true (in_lines (w ∷ words)) ts [] × (map mark_of ts ≡ ks)
 lines_read w words ks (a, b, s, t, e) =
     let rest = filled_read (length w) words b (1 + length w) t in
-    let here = s 1 true (filled (length w) words) [] rest.0 (ends_filled (length w) words) rest.1 in
-    (
+    let here = s 1 true (filled (length w) words) [] rest.0 (ends_filled (length w) words) rest.1 in (
       here.0 ++ rest.0,
       here.1,
       map-append mark_of here.0 rest.0 ∙ (ap (λ z. z ++ map mark_of rest.0) here.2 ∙ (ap (λ z. a ++ z) rest.2 ∙ sym e)),

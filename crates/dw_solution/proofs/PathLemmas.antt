@@ -1,5 +1,5 @@
 -- The beginnings of the lines of a tree, and a list of lines without its repeats.
-use Rattle.std.proofs.Common.{◌≡◌, ◌⊎◌, ℕ, ◌<◌, ◌≤◌, List, [], ◌∷◌, ◌++◌, length, map, refl, sym, ap, subst, ◌∙◌, inl, inr}
+use Rattle.std.proofs.Common.{◌≡◌, ◌⊎◌, ℕ, ◌<◌, List, [], ◌∷◌, ◌++◌, length, map, refl, sym, ap, subst, ◌∙◌, inl, inr}
 use Rattle.std.proofs.Common.{arith, append_assoc, append-nil, Bool, true, false}
 use Rattle.std.specs.List.{list_any}
 use Rattle.std.specs.Prelude.{◌↔◌, ◌&&◌, ◌==◌}
@@ -33,16 +33,26 @@ none_begins path h = h.1.1
 pub begin_first : (m : Move) (b o : Tree) → IsBeginning (lines_of (branch m b o)) (m ∷ [])
 begin_first m b o =
     let some = ended_some (lines_of b) in
-    let f : List Move → List Move = λ l. m ∷ l in
-    (omega arith, (some.0, mem_left (m ∷ some.0) (map f (or_ended (lines_of b))) (lines_of o)
-    (mem_map f some.0 (or_ended (lines_of b)) (subst (Member some.0) (sym some.2) (inl refl)))))
+    let f : List Move → List Move = λ l. m ∷ l in (
+      omega arith,
+      (
+        some.0,
+        mem_left (m ∷ some.0) (map f (or_ended (lines_of b))) (lines_of o)
+            (mem_map f some.0 (or_ended (lines_of b)) (subst (Member some.0) (sym some.2) (inl refl))),
+      ),
+    )
 
 begin_behind : (m : Move) (b o : Tree) (k : List Move) → IsBeginning (lines_of b) k
     → IsBeginning (lines_of (branch m b o)) (m ∷ k)
 begin_behind m b o k h =
-    let f : List Move → List Move = λ l. m ∷ l in
-    (omega arith, (h.1.0, mem_left (m ∷ (k ++ h.1.0)) (map f (or_ended (lines_of b))) (lines_of o)
-    (mem_map f (k ++ h.1.0) (or_ended (lines_of b)) (member_ended (k ++ h.1.0) (lines_of b) h.1.1))))
+    let f : List Move → List Move = λ l. m ∷ l in (
+      omega arith,
+      (
+        h.1.0,
+        mem_left (m ∷ (k ++ h.1.0)) (map f (or_ended (lines_of b))) (lines_of o)
+            (mem_map f (k ++ h.1.0) (or_ended (lines_of b)) (member_ended (k ++ h.1.0) (lines_of b) h.1.1)),
+      ),
+    )
 
 begin_later : (m : Move) (b o : Tree) (k : List Move) → IsBeginning (lines_of o) k
     → IsBeginning (lines_of (branch m b o)) k
@@ -69,15 +79,18 @@ begun_behind m b o [] rest l some e h = absurd (omega (arith, some))
 begun_behind m b o (n ∷ []) rest l some e h = inl (ap (λ z. z ∷ []) (heads e))
 begun_behind m b o (n ∷ j ∷ x) rest l some e (inl none) = absurd (filled_list (tails e ∙ none))
 begun_behind m b o (n ∷ j ∷ x) rest l some e (inr there) =
-    inr (inl (j ∷ x, ap (λ z. z ∷ j ∷ x) (heads e),
-    (omega arith, (rest, subst (λ z. Member z (lines_of b)) (sym (tails e)) there))))
+    inr (inl (
+      j ∷ x,
+      ap (λ z. z ∷ j ∷ x) (heads e),
+      (omega arith, (rest, subst (λ z. Member z (lines_of b)) (sym (tails e)) there)),
+    ))
 
 begin_cases : (m : Move) (b o : Tree) (x : List Move) → IsBeginning (lines_of (branch m b o)) x → Begun m b o x
 begin_cases m b o x h =
     let f : List Move → List Move = λ l. m ∷ l in
     elim (mem_cases (x ++ h.1.0) (map f (or_ended (lines_of b))) (lines_of o) h.1.1) [
       | inl here ↦ let back = mem_map_back f (x ++ h.1.0) (or_ended (lines_of b)) here in
-        begun_behind m b o x h.1.0 back.0 h.0 back.2 (ended_back back.0 (lines_of b) back.1)
+          begun_behind m b o x h.1.0 back.0 h.0 back.2 (ended_back back.0 (lines_of b) back.1)
       | inr later ↦ inr (inr (h.0, (h.1.0, later)))
     ]
 
@@ -98,12 +111,15 @@ paths_branch m b o path all beside behind there back h k x = (
     | inl e ↦ (m ∷ [], e, begin_first m b o)
     | inr (inl later) ↦ let found = (h x).0 later in (found.0, found.1, begin_later m b o found.0 found.2)
     | inr (inr inner) ↦ let found = (k x).0 inner in
-      (m ∷ found.0, found.1 ∙ append_assoc path (m ∷ []) found.0, begin_behind m b o found.0 found.2)
+        (m ∷ found.0, found.1 ∙ append_assoc path (m ∷ []) found.0, begin_behind m b o found.0 found.2)
   ]),
   (λ found. elim (begin_cases m b o found.0 found.2) [
     | inl e ↦ back x (inl (found.1 ∙ ap (λ z. path ++ z) e))
-    | inr (inl (l, e, inner)) ↦ back x (inr (inr ((k x).1 (l,
-      found.1 ∙ (ap (λ z. path ++ z) e ∙ sym (append_assoc path (m ∷ []) l)), inner))))
+    | inr (inl (l, e, inner)) ↦ back x (inr (inr ((k x).1 (
+      l,
+      found.1 ∙ (ap (λ z. path ++ z) e ∙ sym (append_assoc path (m ∷ []) l)),
+      inner,
+    ))))
     | inr (inr later) ↦ back x (inr (inl ((h x).1 (found.0, found.1, later))))
   ]),
 )
@@ -194,9 +210,9 @@ distinct_more before tree h (path ∷ paths) =
     let joined : (before ++ path ∷ []) ++ paths ≡ before ++ path ∷ paths = append_assoc before (path ∷ []) paths in
     elim (member_cases path tree) [
       | inl there ↦ let rest = distinct_more (before ++ path ∷ []) tree (again path h there) paths in
-        (rest.0, subst (λ z. AreDistinct z rest.0) joined rest.1)
+          (rest.0, subst (λ z. AreDistinct z rest.0) joined rest.1)
       | inr none ↦ let rest = distinct_more (before ++ path ∷ []) (tree ++ path ∷ []) (first path h none) paths in
-        (rest.0, subst (λ z. AreDistinct z rest.0) joined rest.1)
+          (rest.0, subst (λ z. AreDistinct z rest.0) joined rest.1)
     ]
 
 pub distinct_some : (paths : List (List Move)) → (tree : List (List Move)) × AreDistinct paths tree

@@ -1,5 +1,5 @@
 -- The play that is read of the words of a tree.
-use Rattle.std.proofs.Common.{◌≡◌, ◌⊎◌, ℕ, ◌+◌, ◌-◌, ◌<◌, ◌≤◌, zero, suc, List, [], ◌∷◌, ◌++◌, length, map, refl, sym, ap}
+use Rattle.std.proofs.Common.{◌≡◌, ℕ, ◌+◌, ◌-◌, ◌<◌, ◌≤◌, suc, List, [], ◌∷◌, ◌++◌, length, map, refl, sym, ap}
 use Rattle.std.proofs.Common.{subst, ◌∙◌, inl, inr, append_assoc, append-nil, length-append, arith, Bool, true, false, cond}
 use Rattle.std.proofs.Common.{codes, decimal}
 use Rattle.std.specs.Prelude.{◌==◌, ◌%◌, ◌/◌, Ok}
@@ -15,12 +15,12 @@ use Rattle.dw_notation.specs.Text.{IsMoveText}
 use Rattle.dw_games.specs.Play.{results, crossed, after, IsMove, IsVariation, empty, passed, move, variation}
 use Rattle.dw_games.specs.Tokens.{Token}
 use Rattle.dw_games.specs.declared.tokens.TokenKind.{TokenKind}
-use Rattle.dw_games.specs.declared.tokens.TokenKind.TheVariants.{Comment, Passed, Written, Opens, Closes}
+use Rattle.dw_games.specs.declared.tokens.TokenKind.TheVariants.{Passed, Written}
 use Rattle.dw_solution.specs.Tree.{Tree, over, branch, or_ended, lines_of}
 use Rattle.dw_solution.specs.Words.{AreWords, AreVariations, move_words, number_word, in_parentheses, has_move}
 use Rattle.dw_solution.proofs.FeedLemmas.{some_words}
 use Rattle.dw_solution.proofs.TreeLemmas.{ended_some}
-use Rattle.dw_solution.proofs.WordLemmas.{IsMade, decimal_digits, text_legal}
+use Rattle.dw_solution.proofs.WordLemmas.{decimal_digits, text_legal}
 use Rattle.dw_solution.proofs.ResultLemmas.{names_written, names_crossed, not_result}
 use Rattle.dw_solution.proofs.MarkLemmas.{mark_of, opening, closing, IsSpelled, AreSpelled, spelled_one, spelled_append}
 use Rattle.dw_solution.proofs.MarkLemmas.{spelled_within, number_spelled, move_spelled}
@@ -49,10 +49,10 @@ spelled_move half due text h =
     (cond due ((Passed, number_word half (codes "...")) ∷ (Written, text) ∷ []) ((Written, text) ∷ [])))) [
       | true ↦ ((Passed, number_word half (codes ".")) ∷ [], (Written, text) ∷ [], one, last, refl)
       | false ↦ elim due as (λ b. AreSpelled (cond b (number_word half (codes "...") ∷ text ∷ []) (text ∷ []))
-        (cond b ((Passed, number_word half (codes "...")) ∷ (Written, text) ∷ []) ((Written, text) ∷ []))) [
-          | true ↦ ((Passed, number_word half (codes "...")) ∷ [], (Written, text) ∷ [], three, last, refl)
-          | false ↦ last
-        ]
+          (cond b ((Passed, number_word half (codes "...")) ∷ (Written, text) ∷ []) ((Written, text) ∷ []))) [
+            | true ↦ ((Passed, number_word half (codes "...")) ∷ [], (Written, text) ∷ [], three, last, refl)
+            | false ↦ last
+          ]
     ]
 
 -- ---- lists that are mapped to others
@@ -79,8 +79,7 @@ pub map_split : (us : List Token) (xs ys : List Mark) → map mark_of us ≡ xs 
 map_split us [] ys e = ([], us, refl, refl, e)
 map_split us (x ∷ xs) ys e =
     let c = map_cons us x (xs ++ ys) e in
-    let rest = map_split c.1 xs ys c.4 in
-    (
+    let rest = map_split c.1 xs ys c.4 in (
       c.0 ∷ rest.0,
       rest.1,
       c.2 ∙ ap (λ z. c.0 ∷ z) rest.2,
@@ -104,12 +103,11 @@ fits_lines n (branch m b o) h =
     let some = ended_some (lines_of b) in
     let one : n + length (m ∷ some.0) ≤ 39 =
     h (m ∷ some.0) (mem_left (m ∷ some.0) (map f (or_ended (lines_of b))) (lines_of o)
-    (mem_map f some.0 (or_ended (lines_of b)) (subst (Member some.0) (sym some.2) (inl refl)))) in
-    (
+    (mem_map f some.0 (or_ended (lines_of b)) (subst (Member some.0) (sym some.2) (inl refl)))) in (
       omega (arith, one),
       fits_lines (n + 1) b (λ l here. let long : n + length (m ∷ l) ≤ 39 =
-      h (m ∷ l) (mem_left (m ∷ l) (map f (or_ended (lines_of b))) (lines_of o)
-      (mem_map f l (or_ended (lines_of b)) (ended_member l (lines_of b) here))) in omega (arith, long)),
+          h (m ∷ l) (mem_left (m ∷ l) (map f (or_ended (lines_of b))) (lines_of o)
+          (mem_map f l (or_ended (lines_of b)) (ended_member l (lines_of b) here))) in omega (arith, long)),
       fits_lines n o (λ l here. h l (mem_right l (map f (or_ended (lines_of b))) (lines_of o) here)),
     )
 
@@ -173,10 +171,10 @@ module _ (named : WrittenMoveIsNamed) (stays : PlayStays) (takes : LegalMovesTak
       → Goal (ts ++ us) = elim [
         | true ↦ λ same. numbered (number_word half (codes ".")) same
         | false ↦ λ same. elim due as (λ b. map mark_of us ≡ cond b
-          ((Passed, number_word half (codes "...")) ∷ (Written, text) ∷ []) ((Written, text) ∷ []) → Goal (ts ++ us)) [
-            | true ↦ λ e. numbered (number_word half (codes "...")) e
-            | false ↦ λ e. plain e
-          ] same
+            ((Passed, number_word half (codes "...")) ∷ (Written, text) ∷ []) ((Written, text) ∷ []) → Goal (ts ++ us)) [
+              | true ↦ λ e. numbered (number_word half (codes "...")) e
+              | false ↦ λ e. plain e
+            ] same
       ] in
       go (half % 2 == 0) e
 
@@ -244,8 +242,7 @@ module _ (named : WrittenMoveIsNamed) (stays : PlayStays) (takes : LegalMovesTak
       let gone : (moves ++ m ∷ []) ++ behind.0 ≡ moves ++ m ∷ behind.0 = append_assoc moves (m ∷ []) behind.0 in
       let all : ((paths ++ x ∷ []) ++ beside.0) ++ behind.1 ≡ paths ++ new =
       append_assoc (paths ++ x ∷ []) beside.0 behind.1
-      ∙ append_assoc paths (x ∷ []) (beside.0 ++ behind.1) in
-      (
+      ∙ append_assoc paths (x ∷ []) (beside.0 ++ behind.1) in (
         m ∷ behind.0,
         new,
         subst (λ z. IsVariation g p (suc room) before z (moves ++ m ∷ behind.0) (paths ++ new)) tokens
@@ -296,8 +293,7 @@ module _ (named : WrittenMoveIsNamed) (stays : PlayStays) (takes : LegalMovesTak
       (variation moves last opened.0 closed_up.0 h (ap (λ z. z.0) opened.3) inner (ap (λ z. z.0) closed_up.3)) in
       let beside = varies room before moves last (ts ++ outer.0) outer.1 (paths ++ new) path here join deep fits.2 one
       outer.4 in
-      let all : List (List Move) = new ++ beside.0 in
-      (
+      let all : List (List Move) = new ++ beside.0 in (
         all,
         subst (λ z. IsVariation g p (suc room) before z (moves ++ last ∷ []) (paths ++ all))
             (append_assoc ts outer.0 outer.1 ∙ ap (λ z. ts ++ z) (sym outer.2))
@@ -331,8 +327,7 @@ module _ (named : WrittenMoveIsNamed) (stays : PlayStays) (takes : LegalMovesTak
         let after_move = stays g board q m pos (text_legal g q m text is) in
         let v = variation_words o q pos half variations beside in
         let r = play_words b (play g q m) after_move (half + 1) (has_move o) rest next in
-        let marks : List Mark = marks_of_move half due text in
-        (
+        let marks : List Mark = marks_of_move half due text in (
           marks ++ (v.0 ++ r.0),
           subst (λ z. AreSpelled z (marks ++ (v.0 ++ r.0))) (sym e)
               (spelled_append (move_words half due text) (variations ++ rest) marks (v.0 ++ r.0)
@@ -359,8 +354,7 @@ module _ (named : WrittenMoveIsNamed) (stays : PlayStays) (takes : LegalMovesTak
         subst (λ z. AreSpelled (in_parentheses z) (opening ∷ ((marks ++ r.0) ++ closing ∷ []))) (sym same)
         (spelled_within some.0 (some.1 ++ rest) (marks ++ r.0) (subst (λ z. AreSpelled z (marks ++ r.0)) same spelled))
         in
-        let all : List Mark = (opening ∷ ((marks ++ r.0) ++ closing ∷ [])) ++ v.0 in
-        (
+        let all : List Mark = (opening ∷ ((marks ++ r.0) ++ closing ∷ [])) ++ v.0 in (
           all,
           subst (λ z. AreSpelled z all) (sym e)
               (spelled_append (in_parentheses inner) more (opening ∷ ((marks ++ r.0) ++ closing ∷ [])) v.0 within v.1),

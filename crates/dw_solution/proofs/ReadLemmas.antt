@@ -1,9 +1,9 @@
 -- A movetext is read as the tree of the lines that are written in it.
-use Rattle.std.proofs.Common.{◌≡◌, ◌⊎◌, ℕ, ◌+◌, ◌<◌, ◌≤◌, zero, suc, List, [], ◌∷◌, ◌++◌, length, map, take, refl, sym, ap}
-use Rattle.std.proofs.Common.{subst, ◌∙◌, inl, inr, append_assoc, append-nil, length-append, arith, Bool, true, false}
+use Rattle.std.proofs.Common.{◌≡◌, ℕ, ◌<◌, ◌≤◌, List, [], ◌∷◌, ◌++◌, length, map, take, refl, sym, ap}
+use Rattle.std.proofs.Common.{subst, ◌∙◌, inl, inr, append_assoc, arith, Bool, true, false}
 use Rattle.std.proofs.Common.{codes, decimal}
 use Rattle.std.specs.List.{list_all}
-use Rattle.std.specs.Prelude.{◌↔◌, nat_lt, ◌||◌}
+use Rattle.std.specs.Prelude.{nat_lt, ◌||◌}
 use Rattle.std.proofs.lemmas.List.{length-take-le}
 use Rattle.dw_board.specs.Geometry.{Geometry, IsBoard}
 use Rattle.dw_board.specs.Lists.{Member}
@@ -13,13 +13,12 @@ use Rattle.dw_board.specs.declared.piece.Side.TheVariants.{White, Black}
 use Rattle.dw_moves.specs.Laws.{PlayStays, LegalMovesTake}
 use Rattle.dw_moves.specs.Moves.{Move}
 use Rattle.dw_notation.specs.MoveReadingLaws.{WrittenMoveIsNamed}
-use Rattle.dw_games.specs.Movetext.{IsTree, AreDistinct}
-use Rattle.dw_games.specs.Play.{results, IsResult, IsVariation, empty, passed, IsPlay, IsOver}
+use Rattle.dw_games.specs.Play.{results, IsResult, IsVariation, empty, passed, IsOver}
 use Rattle.dw_games.specs.Tokens.{Token, AreTokens, is_inside}
 use Rattle.dw_games.specs.declared.tokens.TokenKind.{TokenKind}
 use Rattle.dw_games.specs.declared.tokens.TokenKind.TheVariants.{Comment, Written}
 use Rattle.dw_solution.specs.Laws.{IsBeginning, IsReadAs}
-use Rattle.dw_solution.specs.Movetext.{in_lines, verdict_word, verdict_comment, first_half, result_of, last_words, IsMovetext}
+use Rattle.dw_solution.specs.Movetext.{verdict_word, verdict_comment, first_half, result_of, last_words, IsMovetext}
 use Rattle.dw_solution.specs.Tree.{Tree, over, branch, lines_of}
 use Rattle.dw_solution.specs.declared.heading.Heading.{Heading}
 use Rattle.dw_solution.specs.declared.heading.VerdictKind.{VerdictKind}
@@ -145,7 +144,7 @@ read_back named stays takes g board p pos heading lines more text few written so
       play.0 ++ behind,
       verdict_spelled heading,
       spelled_append words (last_words flag result) play.0 behind play.1
-      (last_spelled flag result (result_spelled p.turn lines)),
+          (last_spelled flag result (result_spelled p.turn lines)),
       refl,
     ) in
     let read = lines_read comment (words ++ last_words flag result) ((Comment, comment) ∷ (play.0 ++ behind)) spelled in
@@ -176,8 +175,8 @@ read_back named stays takes g board p pos heading lines more text few written so
       };
       paths = λ path. (
         (λ member. let back = (played.3 path).0 (in_paths path once.1 member) in
-        subst (λ z. IsBeginning z path) whole.lines (subst (IsBeginning (lines_of tree)) (sym back.1) back.2)),
+            subst (λ z. IsBeginning z path) whole.lines (subst (IsBeginning (lines_of tree)) (sym back.1) back.2)),
         (λ begins. in_tree path once.1
-        ((played.3 path).1 (path, refl, subst (λ z. IsBeginning z path) (sym whole.lines) begins))),
+            ((played.3 path).1 (path, refl, subst (λ z. IsBeginning z path) (sym whole.lines) begins))),
       );
     }

@@ -1,6 +1,6 @@
 -- The text of a move is no result, and has no colon.
-use Rattle.std.proofs.Common.{◌≡◌, ◌⊎◌, ℕ, ◌<◌, ◌≤◌, List, [], ◌∷◌, ◌++◌, length, refl, sym, ap, subst, ◌∙◌, inl, inr, arith}
-use Rattle.std.proofs.Common.{Bool, true, false, cond, leb, Some, None, map, codes, zero, suc}
+use Rattle.std.proofs.Common.{◌≡◌, ◌⊎◌, ℕ, List, [], ◌∷◌, ◌++◌, refl, sym, ap, subst, ◌∙◌, inl, inr, arith}
+use Rattle.std.proofs.Common.{Bool, true, false, leb, Some, None, zero, suc}
 use Rattle.std.specs.List.{list_all}
 use Rattle.std.specs.Prelude.{◌==◌, ◌&&◌, not, Ok}
 use Rattle.std.specs.Ordering.{nat_cmp}
@@ -96,8 +96,8 @@ module _ (takes : LegalMovesTake) (g : Geometry) (p : Placement) (m : Move) wher
       → ((s t : ℕ) → c ≡ 45 → IsNumber g (a ∷ []) s → IsNumber g rest t → s ≡ t) → ⊥
   no_dashes text named names fits a c rest e fails plain why = elim (names_second names a c rest e fails) [
     | inl (dash, (s, t, hs, ht, is)) ↦
-      let quiet = subst (λ z. Fits g p z m) is fits in
-      no_quiet quiet.0 quiet.2 (quiet.1.0 ∙ (why s t dash hs ht ∙ sym quiet.1.1))
+        let quiet = subst (λ z. Fits g p z m) is fits in
+        no_quiet quiet.0 quiet.2 (quiet.1.0 ∙ (why s t dash hs ht ∙ sym quiet.1.1))
     | inr crossed_too ↦ true≢false (sym crossed_too ∙ plain)
   ]
 

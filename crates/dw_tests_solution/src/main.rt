@@ -64,7 +64,7 @@ fn kind_of(row: &Row) -> Option<VerdictKind> {
     }
 }
 
-/// Adds the movetext of a row, which is `POSITION | NUMBER OF MOVES | MOST LINES | VERDICT`, with a line feed behind it.
+/// Adds the movetext of a row, `POSITION | NUMBER OF MOVES | MOST LINES | VERDICT`, with a line feed behind it.
 fn answer<B: Board>(alloc: Global, row: &Row, found: &mut Found) -> Option<()> {
     let position: Position<B> = read_position(column(row.asked.as_str(), 0))?;
     let moves = moves_of(row)?;
