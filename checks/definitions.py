@@ -18,6 +18,7 @@ import dataclasses
 import pathlib
 import re
 import sys
+import textwrap
 
 TOP = pathlib.Path(__file__).resolve().parent.parent
 CRATES, PROVED = TOP / "crates", TOP / "docs/PROVED.md"
@@ -79,7 +80,9 @@ class File(Imports):
         self.path, self.definitions, self.cases = path, {}, {}
         crate, *inside = path.relative_to(CRATES).with_suffix("").parts
         self.module = ".".join(["Rattle", crate, *inside])
-        for block in re.split(r"\n(?:\s*\n)+", path.read_text()):
+        # Definitions that name one another stand in a block, each as it would stand alone.
+        text = re.sub(r"^abbrev mutual\n((?:(?:  .*)?\n)+)", lambda m: textwrap.dedent(m[1]), path.read_text(), flags=re.M)
+        for block in re.split(r"\n(?:\s*\n)+", text):
             self.read([line for line in block.splitlines() if not line.startswith("use ")])
 
     def read(self, block):
@@ -181,7 +184,7 @@ def skip(lines, line, end, ends=str.__eq__):
 # Ghost items that are proofs, which nobody has to believe, and those that say how a public type is kept.
 PROOF = r"\s*ghost (laws|total|matches_\w+|respects_eq|inverse|inverse_ok|numbers|shifts|word_is) ="
 KEPT = PROOF.replace("(", "(view|invariant|")
-NAMES = "board moves memo solve notation list games report study program desk".split()
+NAMES = "board moves memo solve notation list games report study solution program desk".split()
 LAYERS = [f"dw_{layer}" for layer in NAMES] + ["dw"]
 SOURCES = [path for layer in LAYERS for path in sorted((CRATES / layer).glob("src/**/*.rt"))]
 PRIVATE_TRAITS = {name for path in SOURCES for name in re.findall(r"^pub\(crate\) trait (\w+)", path.read_text(), re.M)}

@@ -1,6 +1,6 @@
 -- The text of first lines, put together.
-use Rattle.std.proofs.Common.{◌≡◌, ℕ, ◌+◌, ◌-◌, ◌<◌, ◌≤◌, zero, suc, List, [], ◌∷◌, ◌++◌, length, take, refl, sym, ap, subst, ◌∙◌}
-use Rattle.std.proofs.Common.{Bool, true, false, leb, cond, append_assoc, append-nil, length-append, arith, decimal, codes}
+use Rattle.std.proofs.Common.{◌≡◌, ℕ, ◌+◌, ◌-◌, ◌<◌, ◌≤◌, suc, List, [], ◌∷◌, ◌++◌, length, take, refl, sym, ap, subst, ◌∙◌}
+use Rattle.std.proofs.Common.{Bool, true, false, leb, cond, append_assoc, length-append, arith, decimal, codes}
 use Rattle.std.specs.Prelude.{nat_lt, ◌||◌}
 use Rattle.std.proofs.lemmas.Fmt.{length-decimal-le}
 use Rattle.dw_board.specs.Geometry.{Geometry, IsBoard}
@@ -12,8 +12,8 @@ use Rattle.dw_moves.specs.Moves.{Move}
 use Rattle.dw_notation.specs.MoveReadingLaws.{WrittenMoveIsNamed}
 use Rattle.dw_solution.specs.Tree.{Tree, over, branch, lines_of, IsTreeOf}
 use Rattle.dw_solution.specs.Words.{AreWords}
-use Rattle.dw_solution.specs.Movetext.{filled, in_lines, verdict_word, verdict_comment, first_half, win_of, result_of}
-use Rattle.dw_solution.specs.Movetext.{last_words, IsTextOf, IsTextOfFirst, IsMovetext}
+use Rattle.dw_solution.specs.Movetext.{filled, in_lines, verdict_word, verdict_comment, first_half, result_of}
+use Rattle.dw_solution.specs.Movetext.{last_words, IsTextOfFirst, IsMovetext}
 use Rattle.dw_solution.specs.inner.Feeds.{fed, feeding, IsAdded, IsUnbroken, AreUnbroken}
 use Rattle.dw_solution.specs.declared.heading.Heading.{Heading}
 use Rattle.dw_solution.specs.declared.heading.VerdictKind.{VerdictKind}

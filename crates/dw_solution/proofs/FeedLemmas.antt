@@ -1,7 +1,6 @@
 -- Words with line feeds.
 use Rattle.std.proofs.Common.{◌≡◌, ℕ, ◌+◌, List, [], ◌∷◌, ◌++◌, refl, sym, ap, subst, ◌∙◌, append_assoc, append-nil, Bool}
-use Rattle.std.proofs.Common.{true, false, codes, eqb}
-use Rattle.std.proofs.lemmas.Bool.{cases_Bool, cond-true, cond-false}
+use Rattle.std.proofs.Common.{true, false, codes}
 use Rattle.std.specs.Prelude.{◌%◌, ◌==◌, cond, Result, Ok, Err, OnOk}
 use Rattle.dw_board.specs.Geometry.{Geometry}
 use Rattle.dw_board.specs.Placement.{Placement}

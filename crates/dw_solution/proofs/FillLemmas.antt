@@ -1,8 +1,7 @@
 -- Words put into lines, byte by byte.
-use Rattle.std.proofs.Common.{◌≡◌, ◌⊎◌, ℕ, ◌+◌, ◌-◌, ◌<◌, ◌≤◌, List, [], ◌∷◌, ◌++◌, length, drop, refl, sym, ap, subst, ◌∙◌}
-use Rattle.std.proofs.Common.{append_assoc, append-nil, Bool, true, false, eqb, leb, arith, set, get_or, length-append, suc, take}
-use Rattle.std.specs.List.{list_all}
-use Rattle.std.specs.Prelude.{not, ◌==◌, cond}
+use Rattle.std.proofs.Common.{◌≡◌, ℕ, ◌+◌, ◌-◌, ◌<◌, ◌≤◌, List, [], ◌∷◌, ◌++◌, length, drop, refl, sym, ap, ◌∙◌}
+use Rattle.std.proofs.Common.{append_assoc, append-nil, leb, arith, set, get_or, length-append, take}
+use Rattle.std.specs.Prelude.{not, ◌==◌}
 use Rattle.std.proofs.lemmas.Bool.{cond-true, cond-false, le-leb, lt-leb, true≢false, and_parts, not_from_true, eq-eqb}
 use Rattle.std.proofs.lemmas.List.{drop_more, drop_all, set_at, drop_at, take_at}
 use Rattle.dw_solution.specs.Movetext.{filled}

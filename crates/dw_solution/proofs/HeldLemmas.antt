@@ -1,7 +1,7 @@
 -- What holds of the parts of a tree of lines, and what is known of the first lines.
 use Rattle.std.proofs.Common.{◌≡◌, ◌≢◌, ◌⊎◌, ℕ, ◌+◌, ◌<◌, ◌≤◌, zero, suc, List, [], ◌∷◌, ◌++◌, length, take, drop, refl, sym}
-use Rattle.std.proofs.Common.{ap, subst, ◌∙◌, inl, inr, map, append_assoc, length-append, arith, Some, None, get_or, ◌-◌}
-use Rattle.std.proofs.lemmas.Bool.{cases_order, cases_lt}
+use Rattle.std.proofs.Common.{ap, subst, ◌∙◌, inl, inr, map, length-append, arith, Some, None, get_or, ◌-◌}
+use Rattle.std.proofs.lemmas.Bool.{cases_order}
 use Rattle.std.proofs.lemmas.List.{take-append-le, take_all, take_at, drop_at}
 use Rattle.std.proofs.lemmas.Option.{slice_get_within, slice_get_read}
 use Rattle.std.specs.List.{slice_get}
@@ -13,7 +13,7 @@ use Rattle.dw_moves.specs.inner.MemberLemmas.{mem_left, mem_right, mem_map}
 use Rattle.dw_notation.specs.Text.{ArePlayable}
 use Rattle.dw_solution.specs.Tree.{Tree, over, branch, or_ended, lines_of, IsTreeOf}
 use Rattle.dw_solution.specs.Movetext.{AreAllPlayable}
-use Rattle.dw_solution.specs.inner.Steps.{tree_at, whole_tree, chain, last_line, IsHeld, AreEnds, Parts, MayFollow}
+use Rattle.dw_solution.specs.inner.Steps.{whole_tree, chain, last_line, IsHeld, AreEnds, Parts, MayFollow}
 use Rattle.dw_solution.specs.inner.Steps.{IsPlayable}
 use Rattle.dw_solution.specs.declared.step.Step.{Step}
 use Rattle.dw_solution.proofs.TreeLemmas.{Grown, lines_some, ended_some, last_append}

@@ -6,3 +6,8 @@ pub mod TakingLemmas
 pub mod HeldLemmas
 pub mod WordLemmas
 pub mod DraftLemmas
+pub mod MarkLemmas
+pub mod ResultLemmas
+pub mod PathLemmas
+pub mod PlayLemmas
+pub mod ReadLemmas

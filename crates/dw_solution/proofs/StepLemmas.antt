@@ -1,13 +1,13 @@
 -- The tree of steps in a row, as one line's steps are put behind them.
-use Rattle.std.proofs.Common.{◌≡◌, ◌⊎◌, ℕ, ◌+◌, ◌<◌, ◌≤◌, List, [], ◌∷◌, ◌++◌, length, refl, sym, ap, subst, ◌∙◌, inl, inr}
-use Rattle.std.proofs.Common.{arith, eqb, ltb, suc, take, drop, get_or, append_assoc}
+use Rattle.std.proofs.Common.{◌≡◌, ℕ, ◌+◌, ◌<◌, ◌≤◌, List, [], ◌∷◌, ◌++◌, length, refl, sym, ap, subst, ◌∙◌, inl, inr}
+use Rattle.std.proofs.Common.{arith, eqb, ltb, take, drop, get_or, append_assoc}
 use Rattle.std.proofs.lemmas.List.{length-take-le, take_more, drop_more}
 use Rattle.std.proofs.lemmas.Bool.{eq-eqb, ne_eqb, lt-ltb, le-ltb, cond-true, cond-false, cases_order}
 use Rattle.dw_moves.specs.Moves.{Move}
 use Rattle.dw_solution.specs.Tree.{Tree, over, branch, lines_of, or_ended}
 use Rattle.dw_solution.specs.inner.Steps.{tree_at, chain, last_line}
 use Rattle.dw_solution.specs.declared.step.Step.{Step}
-use Rattle.dw_solution.proofs.TreeLemmas.{straight, no_branch, ended_some, last_alone, last_beside, Grown, grown_new}
+use Rattle.dw_solution.proofs.TreeLemmas.{straight, no_branch, last_alone, last_beside, Grown, grown_new}
 use Rattle.dw_solution.proofs.TreeLemmas.{grown_behind, grown_beside, grown_later}
 
 -- how far a line is the same as the last one: no line is there yet, or the last one goes on with another move

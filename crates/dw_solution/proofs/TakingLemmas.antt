@@ -1,22 +1,22 @@
 -- The lines of a lister, taken one by one.
-use Rattle.std.proofs.Common.{◌≡◌, ◌⊎◌, ℕ, ◌+◌, ◌<◌, ◌≤◌, zero, suc, List, [], ◌∷◌, ◌++◌, length, take, reverse, refl, sym}
+use Rattle.std.proofs.Common.{◌≡◌, ℕ, ◌+◌, ◌<◌, ◌≤◌, zero, suc, List, [], ◌∷◌, ◌++◌, length, take, reverse, refl, sym}
 use Rattle.std.proofs.Common.{ap, subst, ◌∙◌, inl, inr, append_assoc, append-nil, length-append, arith, Bool, true, false}
 use Rattle.std.proofs.lemmas.List.{take_at, take_all}
 use Rattle.std.proofs.lemmas.Bool.{true≢false}
 use Rattle.std.specs.Prelude.{◌↔◌, IsTrue, Result, Ok, Err, IfOk}
-use Rattle.dw_board.specs.Geometry.{Geometry, IsBoard}
+use Rattle.dw_board.specs.Geometry.{Geometry}
 use Rattle.dw_board.specs.Placement.{Placement}
 use Rattle.dw_board.specs.Lists.{Member}
 use Rattle.dw_moves.specs.Laws.{MovesHaveKeys}
 use Rattle.dw_moves.specs.Moves.{Move, play}
-use Rattle.dw_moves.specs.Order.{IsListOf, IsAscending, Precedes}
-use Rattle.dw_moves.specs.inner.MemberLemmas.{mem_left, mem_right}
+use Rattle.dw_moves.specs.Order.{IsAscending, Precedes}
+use Rattle.dw_moves.specs.inner.MemberLemmas.{mem_right}
 use Rattle.dw_notation.specs.Text.{ArePlayable}
 use Rattle.dw_solve.specs.Searching.{IsCounted}
 use Rattle.dw_list.specs.Laws.{NoneBegins, LinesExist}
 use Rattle.dw_list.specs.Lines.{Line, Lines, Before}
 use Rattle.dw_list.specs.LineStack.{LineStack, AreToCome}
-use Rattle.dw_list.specs.StackWalk.{Gives, GivesFirst, GivesNone, SameToCome}
+use Rattle.dw_list.specs.StackWalk.{GivesFirst, GivesNone}
 use Rattle.dw_list.specs.inner.LineOrderLemmas.{precedes_asym}
 use Rattle.dw_solution.specs.Movetext.{AreAllPlayable}
 use Rattle.dw_solution.specs.inner.Steps.{last_line, Parts, MayFollow}

@@ -1,12 +1,12 @@
 -- The bytes of the words that are written.
-use Rattle.std.proofs.Common.{◌≡◌, ◌⊎◌, ℕ, ◌+◌, ◌<◌, ◌≤◌, zero, suc, List, [], ◌∷◌, ◌++◌, refl, sym, ap, subst, ◌∙◌, inl, inr}
-use Rattle.std.proofs.Common.{Bool, true, false, eqb, leb, cond, decimal, codes, arith, Some, None, map}
+use Rattle.std.proofs.Common.{◌≡◌, ℕ, ◌+◌, ◌<◌, zero, suc, List, [], ◌∷◌, ◌++◌, refl, sym, ap, subst, ◌∙◌, inl, inr}
+use Rattle.std.proofs.Common.{Bool, true, false, leb, cond, decimal, codes, arith, Some, None}
 use Rattle.std.specs.List.{list_all}
 use Rattle.std.specs.Prelude.{◌%◌, ◌/◌, ◌==◌, ◌&&◌, not}
 use Rattle.std.specs.Fmt.{digits, digits_onto, digit_glyph}
 use Rattle.std.proofs.lemmas.Bool.{cond-true, le-leb, lt-ltb, and_from, and_parts, ne_eqb, leb-true, eqb-true, or_cases}
 use Rattle.std.proofs.lemmas.List.Folds.{list_all-append}
-use Rattle.dw_board.specs.FenTokens.{is_digit, number_named, square_numbered}
+use Rattle.dw_board.specs.FenTokens.{is_digit}
 use Rattle.dw_board.specs.Geometry.{Geometry, IsBoard}
 use Rattle.dw_board.specs.Placement.{Placement, IsPosition}
 use Rattle.dw_moves.specs.Laws.{PlayStays}
@@ -58,7 +58,7 @@ unfolding digits
 decimal_digits n = onto_digits 64 n [] refl
 
 -- ---- what texts that name a move are made of
-some_and : (b c : Bool) (n s : ℕ) → cond (b && c) (Some n) None ≡ Some s → b ≡ true
+pub some_and : (b c : Bool) (n s : ℕ) → cond (b && c) (Some n) None ≡ Some s → b ≡ true
 some_and true c n s e = refl
 some_and false c n s e = cc
 
@@ -131,7 +131,7 @@ cross_unbroken b e = elim (or_cases (b == 120) (b == 88) e) [
   | inr h ↦ subst (λ z. is_no_feed z ≡ true) (sym (eqb-true b 88 h)) refl
 ]
 
-all_digits : (test : ℕ → Bool) → ((b : ℕ) → is_digit b ≡ true → test b ≡ true) → (xs : List ℕ)
+pub all_digits : (test : ℕ → Bool) → ((b : ℕ) → is_digit b ≡ true → test b ≡ true) → (xs : List ℕ)
     → list_all is_digit xs ≡ true → list_all test xs ≡ true
 all_digits test h [] e = refl
 all_digits test h (x ∷ xs) e =

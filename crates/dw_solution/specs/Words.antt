@@ -3,7 +3,7 @@ use Rattle.std.specs.Prelude.{◌≡◌, ℕ, ◌+◌, ◌/◌, ◌%◌, ◌==�
 use Rattle.std.specs.Prelude.{decimal}
 use Rattle.dw_board.specs.Geometry.{Geometry}
 use Rattle.dw_board.specs.Placement.{Placement}
-use Rattle.dw_moves.specs.Moves.{Move, play}
+use Rattle.dw_moves.specs.Moves.{play}
 use Rattle.dw_notation.specs.Text.{IsMoveText}
 use Rattle.dw_solution.specs.Tree.{Tree, over, branch}
 

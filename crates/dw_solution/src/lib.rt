@@ -11,6 +11,7 @@
 mod fill;
 pub mod first;
 pub mod heading;
+pub mod laws;
 pub mod line_tree;
 pub mod movetext;
 mod step;

@@ -1,4 +1,4 @@
-use Rattle.std.proofs.Common.{◌≡◌, ◌≤◌, ◌<◌, ◌++◌, length, refl, arith}
+use Rattle.std.proofs.Common.{◌<◌, ◌++◌, length, refl, arith}
 use Rattle.std.proofs.lemmas.List.{length-set}
 use Rattle.dw_solution.specs.Movetext.{filled}
 use Rattle.dw_solution.proofs.FillLemmas.{filled_next, ahead_word, filled_on, filled_apart, filled_all}

@@ -1,5 +1,5 @@
-use Rattle.std.proofs.Common.{◌≡◌, ◌≤◌, ◌<◌, length, arith, get_or}
-use Rattle.dw_solution.proofs.FillLemmas.{word_here, word_on, word_end, word_fed}
+use Rattle.std.proofs.Common.{◌≤◌, ◌<◌, length, arith}
+use Rattle.dw_solution.proofs.FillLemmas.{word_on, word_end, word_fed}
 use Rattle.dw_solution.proofs.fill.next_feed.Goals as goal
 
 pub bytes-preserved : goal.bytes-preserved

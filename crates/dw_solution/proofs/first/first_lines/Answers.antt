@@ -1,5 +1,5 @@
-use Rattle.std.proofs.Common.{◌≡◌, ◌≤◌, ap, subst, sym, arith}
-use Rattle.dw_list.specs.Listing.{stack_of, solver_of}
+use Rattle.std.proofs.Common.{◌≤◌, subst, sym, arith}
+use Rattle.dw_list.specs.Listing.{stack_of}
 use Rattle.dw_solution.proofs.TakingLemmas.{taken_none, first_playable, if_ok_map}
 use Rattle.dw_solution.proofs.first.first_lines.Goals as goal
 

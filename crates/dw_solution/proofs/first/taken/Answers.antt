@@ -1,4 +1,4 @@
-use Rattle.std.proofs.Common.{◌≡◌, ◌∙◌, refl, sym, ap, subst, arith, length}
+use Rattle.std.proofs.Common.{◌∙◌, refl, sym, ap, subst, arith, length}
 use Rattle.dw_list.specs.Listing.{stack_of, solver_of}
 use Rattle.dw_solution.specs.inner.Taking.{AreTaken}
 use Rattle.dw_solution.proofs.TakingLemmas.{took_one, ended, stopped, counted_then}

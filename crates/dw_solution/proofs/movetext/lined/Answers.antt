@@ -1,4 +1,4 @@
-use Rattle.std.proofs.Common.{◌≡◌, ◌++◌, length, sym, ap, ◌∙◌, arith}
+use Rattle.std.proofs.Common.{◌≡◌, ◌++◌, length, ap, ◌∙◌, arith}
 use Rattle.dw_solution.specs.inner.Feeds.{feeding}
 use Rattle.dw_solution.proofs.FillLemmas.{popped, written_back}
 use Rattle.dw_solution.proofs.movetext.lined.Goals as goal

@@ -1,4 +1,4 @@
-use Rattle.std.proofs.Common.{◌≡◌, ◌<◌, ◌-◌, length, arith, ap, ◌∙◌, take}
+use Rattle.std.proofs.Common.{◌<◌, ◌-◌, length, arith, ap, ◌∙◌, take}
 use Rattle.dw_solution.proofs.HeldLemmas.{end_within, first_end}
 use Rattle.dw_solution.proofs.line_tree.LineTree.first_steps.Goals as goal
 

@@ -1,4 +1,4 @@
-use Rattle.std.proofs.Common.{◌≡◌, ◌∷◌, ◌++◌, [], ap, ◌∙◌, length}
+use Rattle.std.proofs.Common.{◌∷◌, ◌++◌, [], ap, ◌∙◌, length}
 use Rattle.dw_solution.proofs.HeldLemmas.{held_push}
 use Rattle.dw_solution.proofs.line_tree.LineTree.push.Goals as goal
 

@@ -1,4 +1,4 @@
-use Rattle.std.proofs.Common.{◌≡◌, ◌<◌, ◌≤◌, ◌∙◌, ap, sym, subst, arith, length}
+use Rattle.std.proofs.Common.{◌<◌, ap, sym, subst, arith, length}
 use Rattle.dw_solution.specs.inner.Drafts.{IsPassed}
 use Rattle.dw_solution.proofs.DraftLemmas.{none_is_short, movetext_cut, passed_some}
 use Rattle.dw_solution.proofs.movetext.Draft.cut_text.Goals as goal

@@ -1,4 +1,4 @@
-use Rattle.std.proofs.Common.{◌≡◌, ◌++◌, ◌∷◌, [], ◌∙◌, ap, subst, refl, length, true}
+use Rattle.std.proofs.Common.{◌++◌, ◌∷◌, [], ◌∙◌, ap, subst, true}
 use Rattle.std.specs.Prelude.{nat_lt, ◌||◌}
 use Rattle.dw_solution.specs.Movetext.{first_half, verdict_comment}
 use Rattle.dw_solution.specs.Words.{AreWords}

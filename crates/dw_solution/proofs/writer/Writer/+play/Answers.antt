@@ -1,4 +1,4 @@
-use Rattle.std.proofs.Common.{◌≡◌, ◌≤◌, ◌+◌, ◌∙◌, ap, subst, arith, true, false, refl}
+use Rattle.std.proofs.Common.{◌+◌, ◌∙◌, ap, subst, arith, true, false, refl}
 use Rattle.std.specs.Prelude.{◌||◌}
 use Rattle.std.proofs.lemmas.Bool.{or_right}
 use Rattle.dw_solution.specs.Words.{AreWords, has_move}
