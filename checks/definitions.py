@@ -81,7 +81,8 @@ class File(Imports):
         crate, *inside = path.relative_to(CRATES).with_suffix("").parts
         self.module = ".".join(["Rattle", crate, *inside])
         # Definitions that name one another stand in a block, each as it would stand alone.
-        text = re.sub(r"^abbrev mutual\n((?:(?:  .*)?\n)+)", lambda m: textwrap.dedent(m[1]), path.read_text(), flags=re.M)
+        text = re.sub(r"^abbrev mutual\n((?:(?:  .*)?\n)+)", lambda block: textwrap.dedent(block[1]), path.read_text(),
+                      flags=re.MULTILINE)
         for block in re.split(r"\n(?:\s*\n)+", text):
             self.read([line for line in block.splitlines() if not line.startswith("use ")])
 

@@ -177,7 +177,8 @@ def builds():
         assert made.call("x") == (0, "program 9 x\n", "") and not made.asked()
         status, out, complained = made.call("find", name="dw-desk")
         assert (status, out) == (0, "program 4 find\n") and "dw-desk: built" in complained, (status, out, complained)
-        assert sorted(made.asked()) == ["dw_desk", "dw_games", "dw_solution", "dw_study"], "what dw stands on is proved again"
+        again = ["dw_desk", "dw_games", "dw_solution", "dw_study"]
+        assert sorted(made.asked()) == again, "what dw stands on is proved again"
         later = time.time() + 1
         os.utime(made.top / "crates/dw_solve/src/lib.rt", (later, later))
         time.sleep(1.2)
