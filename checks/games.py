@@ -29,7 +29,7 @@ TAGGED = """%
 [Event "a \\"b\\""] [White  "Šimon"]
 [GameType "20,W,10"]
 [fen "W:W27,32:B18"] 1. 27-22 {[no tag]} *
-[FEN "W:W3:B20"] [Site "s"]
+[FEN "W:W3:B20"] [Site "s"] *
 [FEN "B:W43:B24,29"]
 """
 KEPT = """[Event "a \\"b\\""]
@@ -53,7 +53,7 @@ CUT = '[GameType "20"]\n[FEN "W:W27,32:B18"]\n\n{dual in 2} 1. 32-28 18-22 2. 27
 
 
 def run(*words, text="", status=0):
-    ran = subprocess.run(words, input=text, capture_output=True, text=True, timeout=3600, check=False)
+    ran = subprocess.run(words, input=text, capture_output=True, encoding="utf-8", timeout=3600, check=False)
     assert (ran.returncode, ran.stderr) == (status, ""), (words, ran)
     return ran.stdout
 
