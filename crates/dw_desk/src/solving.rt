@@ -79,15 +79,8 @@ fn solve_games<B: Board, S: Source, K: Sink>(
         };
         let number = game.problem.number;
         if number >= request.portion.first {
-            let tags = read_tags(desk.alloc, game.tags.as_slice())?;
-            counts = counts.with(write_game(
-                desk,
-                slices,
-                asked,
-                &game.problem,
-                tags.as_slice(),
-                sink,
-            )?);
+            let tags = game.tags.as_slice();
+            counts = counts.with(write_game(desk, slices, asked, &game.problem, tags, sink)?);
         }
         if request.portion.last == Some(number) {
             break;
@@ -96,13 +89,13 @@ fn solve_games<B: Board, S: Source, K: Sink>(
     Ok(counts)
 }
 
-/// Writes a problem as a game, with these tags of its own, and answers whether it is refused.
+/// Writes a problem as a game, with the tags that its section has, and answers whether it is refused.
 fn write_game<B: Board, K: Sink>(
     desk: &mut Desk<B>,
     slices: &mut Slices<Progress<'_>>,
     asked: &SolutionWords,
     problem: &Problem<B>,
-    tags: &[Tag<'_>],
+    section: &[u8],
     sink: &mut K,
 ) -> Result<bool, DeskFault>
     requires { K.is_failed sink.old ≡ false }
@@ -115,7 +108,7 @@ fn write_game<B: Board, K: Sink>(
             let text = solution_of(desk, slices, asked, position);
             slices.watcher.end();
             let text = text?;
-            write_tags(desk, position, tags, sink)?;
+            write_tags(desk, position, section, sink)?;
             write_all(sink, text.as_slice())?;
             write_all(sink, b"\n\n")?;
             Ok(false)
@@ -158,22 +151,20 @@ fn kind_of<B: Board>(verdict: &Verdict<B>) -> VerdictKind {
     }
 }
 
-/// Writes the tags of a game, and the empty line behind them: those of its own but for `GameType` and `FEN`, as they
+/// Writes the tags of a game, and the empty line behind them: those of its section but for `GameType` and `FEN`, as they
 /// stood, and then these two.
 fn write_tags<B: Board, K: Sink>(
     desk: &Desk<B>,
     position: &Position<B>,
-    tags: &[Tag<'_>],
+    section: &[u8],
     sink: &mut K,
 ) -> Result<(), DeskFault>
     requires { K.is_failed sink.old ≡ false }
     ensures { IfOk result (λ _. K.is_failed sink.new ≡ false) }
 {
-    'tags: for tag in tags {
-        if !tag.is_named(b"GameType") && !tag.is_named(b"FEN") {
-            write_all(sink, tag.text)?;
-            write_all(sink, b"\n")?;
-        }
+    let tags = read_tags(desk.alloc, section)?;
+    'tags: for tag in tags.as_slice() {
+        write_own(tag, sink)?;
     }
     if B::ROWS == 10 {
         write_all(sink, b"[GameType \"20\"]\n")?;
@@ -182,5 +173,17 @@ fn write_tags<B: Board, K: Sink>(
     let fen = fen.as_str();
     let text = format!(in desk.alloc; "[FEN \"{fen}\"]\n\n")?;
     write_all(sink, text.as_str().as_bytes())?;
+    Ok(())
+}
+
+/// Writes a tag in a line of its own, unless it is written anew.
+fn write_own<K: Sink>(tag: &Tag<'_>, sink: &mut K) -> Result<(), DeskFault>
+    requires { K.is_failed sink.old ≡ false }
+    ensures { IfOk result (λ _. K.is_failed sink.new ≡ false) }
+{
+    if !tag.is_named(b"GameType") && !tag.is_named(b"FEN") {
+        write_all(sink, tag.text)?;
+        write_all(sink, b"\n")?;
+    }
     Ok(())
 }
