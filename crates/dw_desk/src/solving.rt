@@ -151,8 +151,8 @@ fn kind_of<B: Board>(verdict: &Verdict<B>) -> VerdictKind {
     }
 }
 
-/// Writes the tags of a game, and the empty line behind them: those of its section but for `GameType` and `FEN`, as they
-/// stood, and then these two.
+/// Writes the tags of a game, and the empty line behind them: those of its section but for `GameType` and `FEN`, as
+/// they stood, and then these two.
 fn write_tags<B: Board, K: Sink>(
     desk: &Desk<B>,
     position: &Position<B>,
