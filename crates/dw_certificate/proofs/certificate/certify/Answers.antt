@@ -1,0 +1,49 @@
+use Rattle.std.proofs.Common.{◌+◌, ◌-◌, ◌∙◌, sym, subst}
+use Rattle.dw_certificate.specs.Certificate.{claims, ComesAfter}
+use Rattle.dw_certificate.specs.inner.Rows.{AreFollowed, Follows, Knows}
+use Rattle.dw_certificate.proofs.RowLemmas.{knows_grown}
+use Rattle.dw_certificate.proofs.ClosedLemmas.{rows_first, rows_grown, some_at, followed_none, followed_more}
+use Rattle.dw_certificate.proofs.ClosedLemmas.{none_at, certificate_of}
+use Rattle.dw_certificate.proofs.certificate.certify.Goals as goal
+
+pub rows-init : goal.rows-init
+rows-init g c = record {
+  are = rows_first g.B.Board.geometry c.args.position.now c.args.moves c.new.result.entries c.put.new.self.rows.entries
+      c.new.ensures.empty c.in_ok-put.ensures.grown;
+  known = c.in_ok-put.ensures.known;
+  followed = followed_none g.B.Board.geometry c.put.new.self.win c.put.new.self.rows.entries;
+}
+
+pub support-requires : goal.support-requires
+support-requires g c = some_at g.B.Board.geometry c.args.position.now c.args.moves c.rows.certificate.rows.entries
+    c.rows.index c.in-Some-row_at.row.0 c.in-Some-row_at.row.1 c.rows.invariant.are
+    (sym c.row_at.ensures.row ∙ c.in-Some-row_at.is)
+
+pub rows-preserved : goal.rows-preserved
+rows-preserved g c =
+    let geo = g.B.Board.geometry in
+    let p = c.args.position.now in
+    let n = c.args.moves in
+    let win = c.rows.certificate.win in
+    let old = c.rows.certificate.rows.entries in
+    let new = c.support.new.self.rows.entries in
+    let place = c.in-Some-row_at.row.0 in
+    let bound = c.in-Some-row_at.row.1 in
+    let at = sym c.row_at.ensures.row ∙ c.in-Some-row_at.is in
+    let same = c.in_ok-support.ensures.same in
+    let grown = c.in_ok-support.ensures.grown in
+    record {
+      are = rows_grown geo p n old new c.rows.index place bound c.rows.invariant.are at grown;
+      known = subst (λ w. Knows w (claims w new) p n) (sym same)
+          (knows_grown win (ComesAfter geo place) (bound - 1) old new p n grown c.rows.invariant.known);
+      followed = subst (λ w. AreFollowed geo w new (c.rows.index + 1)) (sym same)
+          (followed_more geo win old new c.rows.index (ComesAfter geo place) (bound - 1) place bound
+          c.rows.invariant.followed at grown
+          (subst (λ w. Follows geo w (claims w new) place bound) same c.in_ok-support.ensures.follows));
+    }
+
+pub returns : goal.returns
+returns g c = certificate_of g.B.Board.geometry c.args.position.now c.args.moves c.rows.certificate.win
+    c.rows.certificate.rows.entries c.rows.index c.rows.invariant.are c.rows.invariant.followed
+    (none_at c.rows.certificate.rows.entries c.rows.index (sym c.row_at.ensures.row ∙ c.in_default-row_at.is))
+    c.rows.invariant.known

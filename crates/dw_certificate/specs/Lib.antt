@@ -1,0 +1,4 @@
+pub mod Certificate
+pub mod CertificateText
+pub mod Laws
+pub mod inner

@@ -1,0 +1,322 @@
+//! Taking a certificate out of a memo.
+ghost use Rattle.std.specs.Prelude.{◌≡◌, ◌-◌, ◌≤◌, ◌⊎◌, true, false, IfOk, OnOk, IfSome, IsTrue, slice_get, ◌↔◌};
+ghost use Rattle.std.specs.Prelude.{◌+◌, ◌<◌, ◌^◌, ◌++◌, ◌∷◌, [], None};
+ghost use Rattle.indexmap.specs.IndexMap.{get};
+ghost use Rattle.dw_board.specs.inner.PlacementLemmas.{same};
+ghost use Rattle.dw_board.specs.Lists.{Member};
+ghost use Rattle.dw_board.specs.Placement.{Placement};
+ghost use Rattle.dw_certificate.specs.Certificate.{IsCertificate, ComesAfter, claims};
+ghost use Rattle.dw_certificate.specs.inner.Rows.{IsGrown, Follows, Knows, Suffices};
+
+use crate::fault::CertificateFault;
+use crate::positions::positions_after;
+use dw_board::{Board, Position};
+use dw_memo::Memo;
+use indexmap::IndexMap;
+use std::alloc::{AllocError, Global};
+
+/// A certificate of an answer: that there is a win within so many moves, or that there is none.
+/// See [`certify`] for an example.
+#[derive(Drop)]
+pub struct Certificate<B: Board> {
+    /// Whether it says that there is a win.
+    pub win: bool,
+    /// Positions, and in how many moves each has a win, or in how many it has none: 1 to 20.
+    pub rows: IndexMap<Position<B>, u8>,
+}
+
+/// The certificate of whether a position has a win within so many moves, 1 to 20, as far as a memo knows: its rows are
+/// the position and what is come to by one winning move of each row, and all replies to it; or by all moves of each row,
+/// and one reply to each.
+/// Example: at `W:W32:B28` within 1 move, out of a memo that was asked, it is one row, of a win in 1.
+pub fn certify<B: Board, M: Memo<B>>(
+    alloc: Global,
+    memo: &mut M,
+    position: &Position<B>,
+    moves: u8,
+) -> Result<Certificate<B>, CertificateFault>
+    requires some { 1 ≤ moves }
+    requires few { moves ≤ 20 }
+    ensures { IfOk result (λ certificate. IsCertificate B.geometry position.now moves certificate.win
+        certificate.rows.entries) }
+{
+    let Some(win) = answer_of(memo, position, moves) else {
+        return Err(CertificateFault::Missing);
+    };
+    let mut certificate = Certificate {
+        win,
+        rows: IndexMap::new(alloc),
+    };
+    certificate.put(memo, position, moves)?;
+    let mut index = 0;
+    'rows: while let Some(row) = certificate.row_at(index) {
+        certificate.support(alloc, memo, &row.0, row.1)?;
+        index += 1;
+    }
+    Ok(certificate)
+}
+
+/// Whether a memo says that there is a win within so many moves, or that there is none.
+fn answer_of<B: Board, M: Memo<B>>(
+    memo: &mut M,
+    position: &Position<B>,
+    moves: u8,
+) -> Option<bool> {
+    memo.look(position)?.decide(moves)
+}
+
+/// Whether a bound is enough to say it of so many moves.
+fn suffices(win: bool, bound: u8, moves: u8) -> bool
+    ensures { IsTrue result ↔ Suffices win bound moves }
+{
+    if win { bound <= moves } else { moves <= bound }
+}
+
+/// The bound with which a memo says it of so many moves: of a win the memo's own one, else just so many moves.
+fn bound_in<B: Board, M: Memo<B>>(
+    memo: &mut M,
+    win: bool,
+    position: &Position<B>,
+    moves: u8,
+) -> Option<u8>
+    ensures some { IfSome result (λ bound. 1 ≤ bound) }
+    ensures few { IfSome result (λ bound. bound ≤ moves) }
+    ensures enough { IfSome result (λ bound. Suffices win bound moves) }
+{
+    let bounds = memo.look(position)?;
+    let bound = if win { bounds.wins? } else { bounds.fails? };
+    if !suffices(win, bound, moves) {
+        return None;
+    }
+    let least = bound.min(moves);
+    if least == 0 { None } else { Some(least) }
+}
+
+impl<B: Board> Certificate<B> {
+    /// The row with this number, counted from 0.
+    pub(crate) fn row_at(&self, index: usize) -> Option<(Position<B>, u8)>
+        ensures row { result ≡ slice_get self.now.rows.entries index }
+        ensures small { IfSome result (λ _. index < 2 ^ 63) }
+    {
+        // The check learns here how many rows there can be.
+        let _count = self.rows.len();
+        let (position, bound) = self.rows.get_index(index)?;
+        Some((*position, *bound))
+    }
+
+    /// Puts in what a row needs.
+    fn support<M: Memo<B>>(
+        &mut self,
+        alloc: Global,
+        memo: &mut M,
+        position: &Position<B>,
+        bound: u8,
+    ) -> Result<(), CertificateFault>
+        requires { 1 ≤ bound }
+        ensures same { self.new.win ≡ self.old.win }
+        ensures grown { OnOk result (IsGrown (ComesAfter B.geometry position.now) (bound - 1) self.old.rows.entries
+            self.new.rows.entries) }
+        ensures follows { OnOk result (Follows B.geometry self.new.win (claims self.new.win self.new.rows.entries)
+            position.now bound) }
+    {
+        if self.win {
+            self.support_win(alloc, memo, position, bound - 1)
+        } else {
+            self.support_no_win(alloc, memo, position, bound - 1)
+        }
+    }
+
+    /// Puts in what a win needs that is one move longer: the positions after all replies to some move.
+    fn support_win<M: Memo<B>>(
+        &mut self,
+        alloc: Global,
+        memo: &mut M,
+        position: &Position<B>,
+        left: u8,
+    ) -> Result<(), CertificateFault>
+        requires { self.old.win ≡ true }
+        ensures same { self.new.win ≡ self.old.win }
+        ensures grown { OnOk result (IsGrown (ComesAfter B.geometry position.now) left self.old.rows.entries
+            self.new.rows.entries) }
+        ensures follows { OnOk result (Follows B.geometry true (claims true self.new.rows.entries) position.now
+            (left + 1)) }
+    {
+        let afters = positions_after(alloc, position)?;
+        'moves: for after in afters.as_slice() {
+            let nexts = positions_after(alloc, after)?;
+            if self.has_all(memo, nexts.as_slice(), left) {
+                return self.put_all(memo, nexts.as_slice(), left);
+            }
+        }
+        Err(CertificateFault::Missing)
+    }
+
+    /// Puts in what it needs that there is no win, one move longer: after each move the position after some reply.
+    fn support_no_win<M: Memo<B>>(
+        &mut self,
+        alloc: Global,
+        memo: &mut M,
+        position: &Position<B>,
+        left: u8,
+    ) -> Result<(), CertificateFault>
+        requires { self.old.win ≡ false }
+        ensures same { self.new.win ≡ self.old.win }
+        ensures grown { OnOk result (IsGrown (ComesAfter B.geometry position.now) left self.old.rows.entries
+            self.new.rows.entries) }
+        ensures follows { OnOk result (Follows B.geometry false (claims false self.new.rows.entries) position.now
+            (left + 1)) }
+    {
+        let afters = positions_after(alloc, position)?;
+        'moves: for after in afters.as_slice() {
+            let nexts = positions_after(alloc, after)?;
+            self.put_one(memo, nexts.as_slice(), left)?;
+        }
+        Ok(())
+    }
+
+    /// Whether all positions stand already, or may be put in.
+    fn has_all<M: Memo<B>>(&self, memo: &mut M, nexts: &[Position<B>], left: u8) -> bool {
+        'nexts: for next in nexts {
+            if !self.holds(next, left) && bound_in(memo, self.win, next, left).is_none() {
+                return false;
+            }
+        }
+        true
+    }
+
+    /// Puts in all positions.
+    fn put_all<M: Memo<B>>(
+        &mut self,
+        memo: &mut M,
+        nexts: &[Position<B>],
+        left: u8,
+    ) -> Result<(), CertificateFault>
+        ensures same { self.new.win ≡ self.old.win }
+        ensures grown { OnOk result (IsGrown (λ q. Member q nexts.now) left self.old.rows.entries
+            self.new.rows.entries) }
+        ensures known { OnOk result ((q : Placement) → Member q nexts.now
+            → Knows self.new.win (claims self.new.win self.new.rows.entries) q left) }
+    {
+        'nexts: for next in nexts {
+            self.put(memo, next, left)?;
+        }
+        Ok(())
+    }
+
+    /// Puts in one of some positions, or none if there is no move left to win within.
+    fn put_one<M: Memo<B>>(
+        &mut self,
+        memo: &mut M,
+        nexts: &[Position<B>],
+        left: u8,
+    ) -> Result<(), CertificateFault>
+        ensures same { self.new.win ≡ self.old.win }
+        ensures grown { OnOk result (IsGrown (λ q. Member q nexts.now) left self.old.rows.entries
+            self.new.rows.entries) }
+        ensures known { OnOk result ((q : Placement) × Member q nexts.now
+            × ((left ≡ 0) ⊎ Knows self.new.win (claims self.new.win self.new.rows.entries) q left)) }
+    {
+        match self.chosen(memo, nexts, left) {
+            None => Err(CertificateFault::Missing),
+            Some(_) if left == 0 => Ok(()),
+            Some(next) => self.put(memo, &next, left),
+        }
+    }
+
+    /// The first position that stands already, or else the first that may be put in; any, if no move is left to win
+    /// within.
+    fn chosen<M: Memo<B>>(
+        &self,
+        memo: &mut M,
+        nexts: &[Position<B>],
+        left: u8,
+    ) -> Option<Position<B>>
+        ensures { IfSome result (λ q. Member q nexts.now) }
+    {
+        'nexts: for next in nexts {
+            if left == 0 || self.holds(next, left) {
+                return Some(*next);
+            }
+        }
+        first_known(memo, self.win, nexts, left)
+    }
+
+    /// Whether a position stands already, with enough to say it of so many moves.
+    fn holds(&self, position: &Position<B>, moves: u8) -> bool {
+        match self.rows.get(position) {
+            Some(bound) => suffices(self.win, *bound, moves),
+            None => false,
+        }
+    }
+
+    /// Puts a position in, unless it stands already.
+    fn put<M: Memo<B>>(
+        &mut self,
+        memo: &mut M,
+        position: &Position<B>,
+        moves: u8,
+    ) -> Result<(), CertificateFault>
+        ensures same { self.new.win ≡ self.old.win }
+        ensures grown { OnOk result (IsGrown (λ q. q ≡ position.now) moves self.old.rows.entries
+            self.new.rows.entries) }
+        ensures known { OnOk result (Knows self.new.win (claims self.new.win self.new.rows.entries) position.now
+            moves) }
+    {
+        match self.rows.get(position) {
+            Some(bound) if suffices(self.win, *bound, moves) => Ok(()),
+            Some(_) => Err(CertificateFault::Missing),
+            None => self.put_new(memo, position, moves),
+        }
+    }
+
+    /// Puts in a position that does not stand yet.
+    fn put_new<M: Memo<B>>(
+        &mut self,
+        memo: &mut M,
+        position: &Position<B>,
+        moves: u8,
+    ) -> Result<(), CertificateFault>
+        requires { get same self.old.rows position.now ≡ None }
+        ensures same { self.new.win ≡ self.old.win }
+        ensures grown { OnOk result (IsGrown (λ q. q ≡ position.now) moves self.old.rows.entries
+            self.new.rows.entries) }
+        ensures known { OnOk result (Knows self.new.win (claims self.new.win self.new.rows.entries) position.now
+            moves) }
+    {
+        let Some(bound) = bound_in(memo, self.win, position, moves) else {
+            return Err(CertificateFault::Missing);
+        };
+        push_row(&mut self.rows, position, bound)?;
+        Ok(())
+    }
+}
+
+/// Puts a row behind the others, of a position that has none.
+fn push_row<B: Board>(
+    rows: &mut IndexMap<Position<B>, u8>,
+    position: &Position<B>,
+    bound: u8,
+) -> Result<(), AllocError>
+    requires { get same rows.old position.now ≡ None }
+    ensures { OnOk result (rows.new.entries ≡ rows.old.entries ++ (position.now, bound) ∷ []) }
+{
+    rows.insert(*position, bound)?;
+    Ok(())
+}
+
+/// The first of some positions of which a memo says it.
+fn first_known<B: Board, M: Memo<B>>(
+    memo: &mut M,
+    win: bool,
+    nexts: &[Position<B>],
+    left: u8,
+) -> Option<Position<B>>
+    ensures { IfSome result (λ q. Member q nexts.now) }
+{
+    'nexts: for next in nexts {
+        if bound_in(memo, win, next, left).is_some() {
+            return Some(*next);
+        }
+    }
+    None
+}
