@@ -7,7 +7,7 @@
 
 _dw_desk() {
     local current=${COMP_WORDS[COMP_CWORD]} previous=${COMP_WORDS[COMP_CWORD - 1]}
-    local commands="find check solution token help"
+    local commands="find check solution certify token help"
     local command="" options="" word
     # bash cuts --memo=lru into three words.
     if [ "$current" = "=" ]; then
@@ -17,13 +17,14 @@ _dw_desk() {
     fi
     for word in "${COMP_WORDS[@]:1:COMP_CWORD-1}"; do
         case $word in
-            find | check | solution | token | help) command=$word && break ;;
+            find | check | solution | certify | token | help) command=$word && break ;;
         esac
     done
     case $command in
         find) options="--board --pdn --problem --most --each --json --memo --cache --progress -h --help" ;;
         check) options="-n --board --pdn --problem --memo --cache --progress -h --help" ;;
         solution) options="-n --board --pdn --problem --lines --memo --cache --progress -h --help" ;;
+        certify) options="-n --board --pdn --problem --memo --cache --progress -h --help" ;;
         token) options="--board --pdn --problem --line -h --help" ;;
         help) options="" ;;
         *) options="-h --help -V --version" ;;

@@ -1,6 +1,7 @@
 //! What every command does: it opens its file, searches with a solver, and counts what it reports.
 ghost use Rattle.std.specs.Prelude.{◌≡◌, ◌⊎◌};
 
+use crate::certifying::certify_problem;
 use crate::checking::check_games;
 use crate::ending::{Ending, NO_MEMORY};
 use crate::finding::find_problems;
@@ -170,6 +171,9 @@ fn obey_with<'a, B: Board>(
                 &mut sink,
             ),
         ),
+        Task::Certify { n } => {
+            certify_problem(&mut desk, &mut slices, request, n, &mut source, &mut sink)
+        }
         Task::Token { line } => {
             write_line::<_, B, _, _>(desk.alloc, request, line, &mut source, &mut sink)
         }

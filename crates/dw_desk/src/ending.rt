@@ -25,6 +25,8 @@ pub enum Ending<T> {
     ProblemRefused(ProblemFault),
     /// A line is refused.
     LineRefused { what: LineFaultKind, place: u32 },
+    /// The memo could not hold all that a certificate needs.
+    TooManyPositions,
     /// The arguments are no command; the text says why, with its own line ends.
     Words(T),
     /// This FILE could not be opened.
@@ -49,6 +51,12 @@ impl<T: Display> Display for Ending<T> {
                 let number = what.number();
                 write!(f, "dw-desk: line refused: {number} {what} at {place}\n")
             }
+            Ending::TooManyPositions => {
+                write!(
+                    f,
+                    "dw-desk: too many positions, ask with a larger --cache\n"
+                )
+            }
             Ending::Words(text) => write!(f, "{text}"),
             Ending::NotOpened(file) => write!(f, "dw-desk: cannot open {file}\n"),
             Ending::Failed(fault) => write!(f, "dw-desk: {fault}\n"),
@@ -66,6 +74,6 @@ pub fn status_of<T>(ending: &Ending<T>) -> u8 {
         | Ending::ProblemRefused(_)
         | Ending::LineRefused { .. } => 1,
         Ending::Words(_) => 2,
-        Ending::NotOpened(_) | Ending::Failed(_) => 3,
+        Ending::TooManyPositions | Ending::NotOpened(_) | Ending::Failed(_) => 3,
     }
 }

@@ -1,6 +1,7 @@
 //! `dw-desk`: what composers, editors and judges ask about problems of international draughts.
 #![tactic(auto)]
 
+mod certifying;
 mod checking;
 mod desk;
 mod ending;

@@ -55,6 +55,8 @@ pub enum Task<'a> {
     Check { n: Option<u8> },
     /// The problem is written as a game, with its solution.
     Solution(SolutionWords),
+    /// The certificate of the first of the chosen problems is written, within `n` moves.
+    Certify { n: u8 },
     /// The token of this line of the first of the chosen problems is written.
     Token { line: &'a str },
 }
@@ -146,6 +148,20 @@ Examples:
   dw-desk solution -n 2 --lines 2 --problem 1-3 examples/problems.fen
   dw-desk solution -n 3 --pdn examples/solutions.pdn";
 
+const CERTIFY_ABOUT: &str =
+    "Writes a certificate of whether a problem is won: what anyone can check without a search.";
+
+const CERTIFY_EXAMPLES: &str = "\
+Of a win each line names a position and in how many moves it is won: some move there leaves only
+replies after which a position of the certificate is won in fewer. Of no win each line names a
+position and in how many moves it is not won: after each move some reply keeps it so. The memo
+must hold all that is found on the way: --memo lru does, up to --cache positions.
+checks/certificate.py reads a certificate, and says whether it is right.
+
+Examples:
+  echo W:W27,45:B16 | dw-desk certify -n 2
+  dw-desk certify -n 3 --problem 4 examples/problems.fen >certificate.txt";
+
 const TOKEN_ABOUT: &str =
     "Writes the token of a line, with which `dw list --after` goes on behind that line.";
 
@@ -173,6 +189,7 @@ pub fn command<'a>(alloc: Global) -> Result<Words<'a>, AllocError> {
     let find = find_command(alloc)?;
     let check = check_command(alloc)?;
     let solution = solution_command(alloc)?;
+    let certify = certify_command(alloc)?;
     let token = token_command(alloc)?;
     Words::new(alloc, "dw-desk")
         .bin_name("dw-desk")?
@@ -184,6 +201,7 @@ pub fn command<'a>(alloc: Global) -> Result<Words<'a>, AllocError> {
         .subcommand(find)?
         .subcommand(check)?
         .subcommand(solution)?
+        .subcommand(certify)?
         .subcommand(token)
 }
 
@@ -243,11 +261,32 @@ fn solution_command<'a>(alloc: Global) -> Result<Words<'a>, AllocError> {
         .args(arguments)
 }
 
+fn certify_command<'a>(alloc: Global) -> Result<Words<'a>, AllocError> {
+    let help = "Certify a win in N moves of the side to move, 1 to 20, or that there is none";
+    let arguments = vec![in alloc;
+        board(alloc),
+        pdn(alloc),
+        one_problem(alloc, "Certify the problem I, 1 to 1000000 [default: 1]"),
+        file(alloc),
+        within(alloc, help).required(true),
+        memo(alloc, "lru"),
+        cache(alloc, CACHE_HELP),
+        progress(alloc),
+    ]?;
+    Words::new(alloc, "certify")
+        .about(CERTIFY_ABOUT)
+        .after_help(CERTIFY_EXAMPLES)
+        .args(arguments)
+}
+
 fn token_command<'a>(alloc: Global) -> Result<Words<'a>, AllocError> {
     let arguments = vec![in alloc;
         board(alloc),
         pdn(alloc),
-        one_problem(alloc),
+        one_problem(
+            alloc,
+            "The line is one of the problem I, 1 to 1000000 [default: 1]"
+        ),
         line(alloc),
         file(alloc),
     ]?;
@@ -257,9 +296,8 @@ fn token_command<'a>(alloc: Global) -> Result<Words<'a>, AllocError> {
         .args(arguments)
 }
 
-fn one_problem<'a>(alloc: Global) -> Arg<'a> {
+fn one_problem<'a>(alloc: Global, help: &'a str) -> Arg<'a> {
     let numbers = value_parser!(u32).range(1..=i64::from(MAX_PROBLEMS));
-    let help = "The line is one of the problem I, 1 to 1000000 [default: 1]";
     option(alloc, "problem", "I", numbers, help)
 }
 
@@ -328,26 +366,49 @@ pub fn requested<'a>(matches: &ArgMatches<'a>) -> Result<Request<'a>, &'static s
     if let Some(words) = matches.subcommand_matches("solution") {
         return searched_by(words, Task::Solution(solution_words(words)));
     }
+    if let Some(words) = matches.subcommand_matches("certify") {
+        return Ok(certified_by(words));
+    }
     match matches.subcommand_matches("token") {
         Some(words) => Ok(written_by(words)),
         None => Err("dw-desk: no command\n"),
     }
 }
 
+/// What the command that writes a certificate asks for, of problem 1 if no other is named.
+fn certified_by<'a>(words: &ArgMatches<'a>) -> Request<'a> {
+    let n = words.get_one::<u8>("n").unwrap_or(1);
+    let cache = words.get_one::<usize>("cache").unwrap_or(USUALLY_KEPT);
+    Request {
+        task: Task::Certify { n },
+        board: BoardSize::named(words.get_str("board")),
+        form: form(words.get_flag("pdn")),
+        portion: one_portion(words.get_one::<u32>("problem").unwrap_or(1)),
+        memo: MemoKind::named(words.get_str("memo")),
+        cache: cache.clamp(1, MOST_KEPT),
+        progress: words.get_flag("progress"),
+        file: words.get_str("FILE"),
+    }
+}
+
+/// The portion of one problem.
+fn one_portion(number: u32) -> Portion {
+    Portion {
+        first: number,
+        last: Some(number),
+        is_asked: true,
+    }
+}
+
 /// What the command that writes a token asks for, of problem 1 if no other is named. It searches nothing.
 fn written_by<'a>(words: &ArgMatches<'a>) -> Request<'a> {
-    let number = words.get_one::<u32>("problem").unwrap_or(1);
     Request {
         task: Task::Token {
             line: words.get_str("line").unwrap_or(""),
         },
         board: BoardSize::named(words.get_str("board")),
         form: form(words.get_flag("pdn")),
-        portion: Portion {
-            first: number,
-            last: Some(number),
-            is_asked: true,
-        },
+        portion: one_portion(words.get_one::<u32>("problem").unwrap_or(1)),
         memo: MemoKind::None,
         cache: 1,
         progress: false,

@@ -1,0 +1,100 @@
+//! The command `certify`: the certificate of an answer.
+ghost use Rattle.std.specs.Prelude.{◌≡◌, ◌≤◌, false};
+
+use crate::desk::{Desk, DeskFault};
+use crate::ending::Ending;
+use crate::progress::Progress;
+use crate::words::Request;
+use dw_board::{Board, Position};
+use dw_certificate::{CertificateFault, certificate_text, certify};
+use dw_memo::AnyMemo;
+use dw_notation::{Problem, Problems, Sink, Source, write_all};
+use dw_program::options::MOST_MOVES;
+use dw_program::{MemoKind, memo_of};
+use dw_report::{RunFault, Stop, problem_line};
+use dw_solve::{ByTrial, Solver};
+use dw_study::{Slices, wins_in_slices};
+use std::alloc::{AllocError, Global};
+use std::mem::replace;
+
+/// Writes the certificate of whether the chosen problem is won within `n` moves, and tells how that ended. A refused
+/// problem leaves its first line alone.
+pub fn certify_problem<T, B: Board, S: Source, K: Sink>(
+    desk: &mut Desk<B>,
+    slices: &mut Slices<Progress<'_>>,
+    request: &Request<'_>,
+    n: u8,
+    source: &mut S,
+    sink: &mut K,
+) -> Result<Ending<T>, DeskFault>
+    requires source { S.is_failed source.old ≡ false }
+    requires sink { K.is_failed sink.old ≡ false }
+{
+    let number = request.portion.first;
+    let mut problems = Problems::<B, S>::new(source, request.form);
+    'problems: loop {
+        let Some(problem) = problems.next()? else {
+            return Ok(Ending::NoProblem(number));
+        };
+        if problem.number == number {
+            return write_certificate(desk, slices, n, &problem, sink);
+        }
+    }
+}
+
+/// Writes the certificate of a problem.
+fn write_certificate<T, B: Board, K: Sink>(
+    desk: &mut Desk<B>,
+    slices: &mut Slices<Progress<'_>>,
+    n: u8,
+    problem: &Problem<B>,
+    sink: &mut K,
+) -> Result<Ending<T>, DeskFault>
+    requires { K.is_failed sink.old ≡ false }
+{
+    let Ok(position) = &problem.found else {
+        write_all(sink, problem_line(problem).as_str().as_bytes())?;
+        return Ok(Ending::Refused);
+    };
+    let n = n.clamp(1, MOST_MOVES);
+    slices.watcher.begin(problem.number);
+    let searched = wins_in_slices(desk.alloc, &mut desk.solver, position, n, slices);
+    slices.watcher.end();
+    searched?;
+    if desk.solver.dropped() > 0 {
+        return Ok(Ending::TooManyPositions);
+    }
+    let expanded = desk.solver.expanded();
+    match text_of(desk, position, n) {
+        Ok(text) => {
+            write_all(sink, text.as_slice())?;
+            Ok(Ending::Done)
+        }
+        Err(CertificateFault::Missing) => Ok(Ending::TooManyPositions),
+        Err(CertificateFault::Memory) => Ok(Ending::Failed(RunFault::Stopped {
+            why: Stop::Memory,
+            expanded,
+        })),
+    }
+}
+
+/// The text of the certificate of a position, out of the memo of the desk, which has an empty one then.
+fn text_of<B: Board>(
+    desk: &mut Desk<B>,
+    position: &Position<B>,
+    n: u8,
+) -> Result<Vec<u8>, CertificateFault>
+    requires some { 1 ≤ n }
+    requires few { n ≤ 20 }
+{
+    let solver = replace(&mut desk.solver, unused_solver(desk.alloc)?);
+    let mut memo = solver.into_memo();
+    let certificate = certify(desk.alloc, &mut memo, position, n)?;
+    Ok(certificate_text(desk.alloc, position, n, &certificate)?)
+}
+
+/// A solver that keeps nothing.
+fn unused_solver<B: Board>(alloc: Global) -> Result<Solver<B, AnyMemo<B>, ByTrial>, AllocError> {
+    let memo = memo_of(alloc, MemoKind::None, 1)?;
+    Ok(Solver::new(memo, ByTrial, u64::MAX))
+}
