@@ -30,7 +30,8 @@ rows_push : (g : Geometry) (win : Bool) (rows : List Row) (q : Placement) (b : �
     → rows_text g win (rows ++ (q, b) ∷ [])
     ≡ rows_text g win rows ++ (entry_text g (entry q (bounds_of win b)) ++ 10 ∷ [])
 rows_push g win rows q b =
-    ap (λ z. lines_text (map (entry_text g) z)) (map-append (λ (r : Row). entry r.0 (bounds_of win r.1)) rows ((q, b) ∷ []))
+    ap (λ z. lines_text (map (entry_text g) z))
+    (map-append (λ (r : Row). entry r.0 (bounds_of win r.1)) rows ((q, b) ∷ []))
     ∙ (ap lines_text (map-append (entry_text g) (claims win rows) (entry q (bounds_of win b) ∷ []))
     ∙ (lines_append (map (entry_text g) (claims win rows)) (entry_text g (entry q (bounds_of win b)) ∷ [])
     ∙ ap (λ z. rows_text g win rows ++ z) (lines_one (entry_text g (entry q (bounds_of win b))))))

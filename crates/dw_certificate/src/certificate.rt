@@ -26,8 +26,8 @@ pub struct Certificate<B: Board> {
 }
 
 /// The certificate of whether a position has a win within so many moves, 1 to 20, as far as a memo knows: its rows are
-/// the position and what is come to by one winning move of each row, and all replies to it; or by all moves of each row,
-/// and one reply to each.
+/// the position and what is come to by one winning move of each row, and all replies to it; or by all moves of each
+/// row, and one reply to each.
 /// Example: at `W:W32:B28` within 1 move, out of a memo that was asked, it is one row, of a win in 1.
 pub fn certify<B: Board, M: Memo<B>>(
     alloc: Global,
