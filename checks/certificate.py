@@ -5,6 +5,7 @@ It knows the rules of the game and nothing of the programs: no search is made, a
 `right`, status 0, or the first line that is not right, its number and why, status 1.
 """
 
+import functools
 import re
 import sys
 
@@ -36,28 +37,27 @@ class Board:
     def __init__(self, rows):
         self.rows = rows
         self.rays = rays_of(rows)
-        self.known = {}
 
     def is_last(self, side, square):
         row = (square - 1) // (self.rows // 2)
         return row == (0 if side == 'W' else self.rows - 1)
 
-    def read(self, text):
+    def read(self, text, number):
         """The position of a FEN in the form that is written: White's pieces and Black's, by ascending squares."""
         form = re.fullmatch(r'([WB]):W((?:K?\d+(?:,K?\d+)*)?):B((?:K?\d+(?:,K?\d+)*)?)', text)
         if not form:
-            raise ValueError('no position')
+            raise Wrong(number, 'no position')
         pieces = {}
         for side, items in (('W', form[2]), ('B', form[3])):
             words = items.split(',') if items else []
             numbers = [int(word.lstrip('K')) for word in words]
             if numbers != sorted(set(numbers)) or len(numbers) > MOST_PIECES[self.rows]:
-                raise ValueError('no position')
+                raise Wrong(number, 'no position')
             for word, square in zip(words, numbers):
                 if str(square) != word.lstrip('K') or not 1 <= square <= self.rows * self.rows // 2:
-                    raise ValueError('no position')
+                    raise Wrong(number, 'no position')
                 if square in pieces or ('K' not in word and self.is_last(side, square)):
-                    raise ValueError('no position')
+                    raise Wrong(number, 'no position')
                 pieces[square] = side + ('K' if 'K' in word else '')
         return form[1], frozenset(pieces.items())
 
@@ -87,13 +87,9 @@ class Board:
                     break
                 yield landing
 
+    @functools.lru_cache(maxsize=None)
     def after(self, position):
         """All positions after a legal move."""
-        if position not in self.known:
-            self.known[position] = self.moved(position)
-        return self.known[position]
-
-    def moved(self, position):
         side, held = position
         pieces = dict(held)
         own = [(square, piece) for square, piece in pieces.items() if piece[0] == side]
@@ -130,14 +126,10 @@ def read_entry(board, line, number):
     form = re.fullmatch(r'(\S+) fails (\S+) wins (\S+)', line)
     if not form:
         raise Wrong(number, 'no position with its bounds')
-    try:
-        position = board.read(form[1])
-    except ValueError as why:
-        raise Wrong(number, str(why)) from None
-    return position, bound(form[2], number), bound(form[3], number)
+    return board.read(form[1], number), bound(form[2], number), bound(form[3], number)
 
 
-def is_supported(board, entries, position, fails, wins):
+def doubt(board, entries, position, fails, wins):
     """Why a position's bounds do not follow from the other lines, or None if they do."""
     def wins_below(next_position, moves):
         held = entries.get(next_position)
@@ -158,8 +150,8 @@ def is_supported(board, entries, position, fails, wins):
 
 def check(text):
     """Raises Wrong if a certificate is not right."""
-    lines = text.split('\n')
-    if lines.pop() != '':
+    *lines, end = text.split('\n')
+    if end != '':
         raise Wrong(len(lines) + 1, 'it has no end')
     lines += [''] * (4 - len(lines))
     if lines[0] != 'certificate 1':
@@ -167,10 +159,7 @@ def check(text):
     if lines[1] not in ('board 10', 'board 8'):
         raise Wrong(2, 'no board')
     board = Board(int(lines[1].split()[1]))
-    try:
-        position = board.read(lines[2])
-    except ValueError as why:
-        raise Wrong(3, str(why)) from None
+    position = board.read(lines[2], 3)
     answer = re.fullmatch(r'(no )?win in ([1-9]\d?)', lines[3])
     if not answer or int(answer[2]) > 20:
         raise Wrong(4, 'no answer')
@@ -185,7 +174,7 @@ def check(text):
     if not (fails is not None and fails >= n if answer[1] else wins is not None and wins <= n):
         raise Wrong(4, 'the lines below do not say so')
     for number, (held, bounds) in enumerate(entries.items(), 5):
-        why = is_supported(board, entries, held, *bounds)
+        why = doubt(board, entries, held, *bounds)
         if why:
             raise Wrong(number, why)
 
