@@ -176,8 +176,8 @@ def builds():
         assert made.libraries() == sorted(f"{crate}.rlib" for crate in asked[:-1]) and made.is_whole()
         assert made.call("x") == (0, "program 9 x\n", "") and not made.asked()
         status, out, complained = made.call("find", name="dw-desk")
-        assert (status, out) == (0, "program 4 find\n") and "dw-desk: built" in complained, (status, out, complained)
-        again = ["dw_desk", "dw_games", "dw_solution", "dw_study"]
+        assert (status, out) == (0, "program 5 find\n") and "dw-desk: built" in complained, (status, out, complained)
+        again = ["dw_certificate", "dw_desk", "dw_games", "dw_solution", "dw_study"]
         assert sorted(made.asked()) == again, "what dw stands on is proved again"
         later = time.time() + 1
         os.utime(made.top / "crates/dw_solve/src/lib.rt", (later, later))
