@@ -4,6 +4,7 @@ ghost use Rattle.std.specs.Prelude.{◌≡◌, ◌⊎◌};
 use crate::checking::check_games;
 use crate::ending::{Ending, NO_MEMORY};
 use crate::finding::find_problems;
+use crate::paging::page_problems;
 use crate::progress::Progress;
 use crate::solving::solve_problems;
 use crate::words::{Request, Task};
@@ -162,6 +163,17 @@ fn obey_with<'a, B: Board>(
         Task::Solution(asked) => ending_of(
             request,
             solve_problems(
+                &mut desk,
+                &mut slices,
+                request,
+                &asked,
+                &mut source,
+                &mut sink,
+            ),
+        ),
+        Task::Page(asked) => ending_of(
+            request,
+            page_problems(
                 &mut desk,
                 &mut slices,
                 request,
