@@ -2,8 +2,8 @@
 ghost use Rattle.std.specs.Prelude.{◌≤◌};
 
 use crate::words::{CACHE_HELP, lines, lines_of, problem, progress, within};
-use clap::{Arg, ArgMatches, Command as Words, value_parser};
 use clap::builder::ValueParser;
+use clap::{Arg, ArgMatches, Command as Words, value_parser};
 use dw_page::{Language, Look};
 use dw_program::options::{MOST_MOVES, board, cache, file, flag, memo, option, pdn};
 use std::alloc::{AllocError, Global};
@@ -34,7 +34,8 @@ pub struct PageWords<'a> {
     ghost few_moves: { moves ≤ 20 },
 }
 
-const ABOUT: &str = "Writes a page of all problems with diagrams and solutions, for a browser or a printer.";
+const ABOUT: &str =
+    "Writes a page of all problems with diagrams and solutions, for a browser or a printer.";
 
 const EXAMPLES: &str = "\
 The page is one HTML file that needs no other. A click on a move shows the position after it, and
@@ -66,7 +67,11 @@ pub fn page_command<'a>(alloc: Global) -> Result<Words<'a>, AllocError> {
         title(alloc),
         language(alloc),
         solutions(alloc),
-        flag(alloc, "numbers", "Write the number of each square in the diagrams"),
+        flag(
+            alloc,
+            "numbers",
+            "Write the number of each square in the diagrams"
+        ),
         memo(alloc, "deep"),
         cache(alloc, CACHE_HELP),
         progress(alloc),

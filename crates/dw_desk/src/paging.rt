@@ -12,8 +12,8 @@ use crate::progress::Progress;
 use crate::solving::movetext_of;
 use crate::words::Request;
 use dw_board::{Board, Position};
-use dw_games::tags::{read_tags, value_named};
 use dw_games::Games;
+use dw_games::tags::{read_tags, value_named};
 use dw_notation::problems::MAX_PROBLEMS;
 use dw_notation::{Form, Problem, Problems, Sink, Source, write_all};
 use dw_page::page::{
@@ -128,11 +128,25 @@ fn part_of<B: Board>(
     later: &mut Vec<u8>,
 ) -> Result<Vec<u8>, DeskFault> {
     match &problem.found {
-        Ok(position) => known_part(desk, slices, asked, problem.number, position, section, later),
+        Ok(position) => known_part(
+            desk,
+            slices,
+            asked,
+            problem.number,
+            position,
+            section,
+            later,
+        ),
         Err(fault) => {
             let mut part = Vec::new(desk.alloc);
             let why = refusal_text(*fault);
-            push_refused(desk.alloc, &mut part, &asked.look, problem.number, why.as_str())?;
+            push_refused(
+                desk.alloc,
+                &mut part,
+                &asked.look,
+                problem.number,
+                why.as_str(),
+            )?;
             Ok(part)
         }
     }
@@ -151,14 +165,22 @@ fn known_part<B: Board>(
     if asked.is_least {
         match found(desk, slices, asked, number, position)? {
             Finding::Judged { moves, judged } => {
-                let task = Task { number, position, moves };
+                let task = Task {
+                    number,
+                    position,
+                    moves,
+                };
                 judged_part(desk, asked, &task, &judged, section, later)
             }
             Finding::Undecided { .. } => Err(DeskFault::Stopped(Stop::Limit)),
         }
     } else {
         let judged = judged_within(desk, slices, asked, number, position)?;
-        let task = Task { number, position, moves: asked.moves };
+        let task = Task {
+            number,
+            position,
+            moves: asked.moves,
+        };
         judged_part(desk, asked, &task, &judged, section, later)
     }
 }
@@ -260,7 +282,13 @@ fn push_solved<B: Board>(
 {
     let position = task.position;
     let movetext = movetext_of(desk, position, task.moves, asked.lines, &judged.verdict)?;
-    let verdict = verdict_row(desk.alloc, asked.look.language, position, task.moves, judged)?;
+    let verdict = verdict_row(
+        desk.alloc,
+        asked.look.language,
+        position,
+        task.moves,
+        judged,
+    )?;
     let tries = tries_row(desk.alloc, position, judged)?;
     let solution = Solution {
         verdict: verdict.as_str(),

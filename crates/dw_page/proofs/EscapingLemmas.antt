@@ -16,12 +16,24 @@ pub each_shown : (P : ℕ → List ℕ → Type 0) → P 60 (codes "&lt;") → P
     → P b (b ∷ [])) → (b : ℕ) → P b (shown b)
 each_shown P lt gt amp quot apos other b =
     let at : (n : ℕ) → (b == n) ≡ true → P n (shown n) → P b (shown b) =
-        λ n e h. subst (λ k. P k (shown k)) (sym (eqb-true b n e)) h in
-    elim (cases_Bool (b == 60)) [ inl e ↦ at 60 e lt | inr a ↦
-    elim (cases_Bool (b == 62)) [ inl e ↦ at 62 e gt | inr c ↦
-    elim (cases_Bool (b == 38)) [ inl e ↦ at 38 e amp | inr d ↦
-    elim (cases_Bool (b == 34)) [ inl e ↦ at 34 e quot | inr f ↦
-    elim (cases_Bool (b == 39)) [ inl e ↦ at 39 e apos | inr h ↦ rw (a, c, d, f, h) (other b a c d f h) ] ] ] ] ]
+    λ n e h. subst (λ k. P k (shown k)) (sym (eqb-true b n e)) h in
+    elim (cases_Bool (b == 60)) [
+      | inl e ↦ at 60 e lt
+      | inr a ↦
+          elim (cases_Bool (b == 62)) [
+            | inl e ↦ at 62 e gt
+            | inr c ↦
+                elim (cases_Bool (b == 38)) [
+                  | inl e ↦ at 38 e amp
+                  | inr d ↦
+                      elim (cases_Bool (b == 34)) [
+                        | inl e ↦ at 34 e quot
+                        | inr f ↦
+                            elim (cases_Bool (b == 39)) [ inl e ↦ at 39 e apos | inr h ↦ rw (a, c, d, f, h) (other b a c d f h) ]
+                      ]
+                ]
+          ]
+    ]
 
 shown_plain : (rest : List ℕ) (b : ℕ) → is_plain (shown b ++ rest) ≡ is_plain rest
 shown_plain rest =

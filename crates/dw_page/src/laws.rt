@@ -6,5 +6,4 @@ ghost use Rattle.dw_page.specs.EscapingLaws.{TextsAreEscaped};
 /// Example: `a < b` is escaped as `a &lt; b`.
 pub fn texts_are_escaped()
     ensures { TextsAreEscaped }
-{
-}
+{}

@@ -127,12 +127,7 @@ impl<B: Board> Reader<B> {
     }
 
     /// A move.
-    fn push_move(
-        &mut self,
-        page: &mut Vec<u8>,
-        mv: &Move<B>,
-        word: &[u8],
-    ) -> Result<(), AllocError>
+    fn push_move(&mut self, page: &mut Vec<u8>, mv: &Move<B>, word: &[u8]) -> Result<(), AllocError>
         requires { Legal B.geometry self.old.line.now mv.now }
     {
         let after = play(&self.line.now, mv);

@@ -69,7 +69,12 @@ pub fn push_head<B: Board>(
     .concat(alloc)?;
     page.extend_from_slice(start.as_str().as_bytes())?;
     push_text(page, look.title.as_bytes())?;
-    let style = ["</title>\n<style>", STYLE, "</style>\n</head>\n<body>\n<h1>"].concat(alloc)?;
+    let style = [
+        "</title>\n<style>",
+        STYLE,
+        "</style>\n</head>\n<body>\n<h1>",
+    ]
+    .concat(alloc)?;
     page.extend_from_slice(style.as_str().as_bytes())?;
     push_text(page, look.title.as_bytes())?;
     page.extend_from_slice(b"</h1>\n")?;
@@ -194,7 +199,12 @@ pub fn push_solution<B: Board>(
         page.extend_from_slice(label.as_str().as_bytes())?;
     }
     push_row(alloc, page, "", solution.verdict)?;
-    push_row(alloc, page, look.language.phrase(Phrase::Tries), solution.tries)?;
+    push_row(
+        alloc,
+        page,
+        look.language.phrase(Phrase::Tries),
+        solution.tries,
+    )?;
     let label = look.language.phrase(Phrase::Solution);
     let start = ["<p>", label, ": <span class=\"moves\">"].concat(alloc)?;
     page.extend_from_slice(start.as_str().as_bytes())?;
@@ -204,12 +214,7 @@ pub fn push_solution<B: Board>(
 }
 
 /// A row of a solution, if there is one, with a label if that is no empty text.
-fn push_row(
-    alloc: Global,
-    page: &mut Vec<u8>,
-    label: &str,
-    row: &str,
-) -> Result<(), AllocError> {
+fn push_row(alloc: Global, page: &mut Vec<u8>, label: &str, row: &str) -> Result<(), AllocError> {
     if row.is_empty() {
         return Ok(());
     }
@@ -228,7 +233,12 @@ pub fn push_solutions_heading(
     look: &Look<'_>,
 ) -> Result<(), AllocError> {
     let label = look.language.phrase(Phrase::Solutions);
-    let text = ["</main>\n<section class=\"solutions\">\n<h1>", label, "</h1>\n"].concat(alloc)?;
+    let text = [
+        "</main>\n<section class=\"solutions\">\n<h1>",
+        label,
+        "</h1>\n",
+    ]
+    .concat(alloc)?;
     page.extend_from_slice(text.as_str().as_bytes())
 }
 

@@ -28,26 +28,26 @@ pub fn push_pictures<B: Board>(alloc: Global, page: &mut Vec<u8>) -> Result<(), 
     Ok(())
 }
 
-/// The empty board: a frame, and in it the dark squares.
+/// The empty board: the dark squares, and a frame around them.
 fn push_board<B: Board>(alloc: Global, page: &mut Vec<u8>) -> Result<(), AllocError> {
-    let mut digits = Buffer::new();
-    let rows = digits.format(B::ROWS);
-    let frame = [
-        "<g id=\"board\"><rect class=\"frame\" width=\"",
-        rows,
-        "\" height=\"",
-        rows,
-        "\"/><path class=\"dark\" d=\"",
-    ]
-    .concat(alloc)?;
-    page.extend_from_slice(frame.as_str().as_bytes())?;
+    page.extend_from_slice(b"<g id=\"board\"><path class=\"dark\" d=\"")?;
     'squares: for number in 0..square_count::<B>() {
         if let Some(square) = Square::<B>::new(number + 1) {
             let (column, row) = place_of(square);
             push_pair(alloc, page, "M", column, row, "h1v1h-1z")?;
         }
     }
-    page.extend_from_slice(b"\"/></g>\n")?;
+    let mut digits = Buffer::new();
+    let rows = digits.format(B::ROWS);
+    let frame = [
+        "\"/><rect class=\"frame\" width=\"",
+        rows,
+        "\" height=\"",
+        rows,
+        "\"/></g>\n",
+    ]
+    .concat(alloc)?;
+    page.extend_from_slice(frame.as_str().as_bytes())?;
     Ok(())
 }
 
@@ -57,7 +57,14 @@ fn push_numbers<B: Board>(alloc: Global, page: &mut Vec<u8>) -> Result<(), Alloc
     'squares: for number in 0..square_count::<B>() {
         if let Some(square) = Square::<B>::new(number + 1) {
             let (column, row) = place_of(square);
-            push_pair(alloc, page, "<text transform=\"translate(", column, row, ")\"")?;
+            push_pair(
+                alloc,
+                page,
+                "<text transform=\"translate(",
+                column,
+                row,
+                ")\"",
+            )?;
             push_label(alloc, page, number + 1)?;
         }
     }
@@ -84,7 +91,14 @@ fn push_pair(
 ) -> Result<(), AllocError> {
     let mut columns = Buffer::new();
     let mut rows = Buffer::new();
-    let pair = [before, columns.format(column), " ", rows.format(row), behind].concat(alloc)?;
+    let pair = [
+        before,
+        columns.format(column),
+        " ",
+        rows.format(row),
+        behind,
+    ]
+    .concat(alloc)?;
     page.extend_from_slice(pair.as_str().as_bytes())?;
     Ok(())
 }

@@ -10,10 +10,11 @@ h1 { font-size: 1.5rem; margin: 0 0 12px; text-align: center; }
 .problem { width: 320px; max-width: 100%; break-inside: avoid; overflow-wrap: anywhere; }
 .problem h2 { font-size: 1rem; margin: 0; }
 .problem p { margin: 2px 0; }
-.tags { font-size: .875rem; min-height: 1.35em; }
+.tags { font-size: .875rem; }
+.tags:empty { display: none; }
 .task { font-weight: bold; text-align: center; }
 .refused { font-style: italic; }
-svg { display: block; width: 100%; margin: 4px 0; }
+svg { display: block; width: 100%; margin: 4px 0; overflow: visible; }
 .pictures { position: absolute; width: 0; height: 0; margin: 0; }
 .solution { font-size: .875rem; }
 .solution svg { max-width: 320px; }
@@ -22,7 +23,7 @@ svg { display: block; width: 100%; margin: 4px 0; }
 .live .move { cursor: pointer; }
 .live .move:hover { text-decoration: underline; }
 .move.shown { background: #ffe08a; }
-.frame { fill: #fff; stroke: #000; stroke-width: .06; }
+.frame { fill: none; stroke: #000; stroke-width: .06; }
 .dark { fill: #bdb4a2; }
 .numbers { font: .2px sans-serif; fill: #000; }
 .light, .light-on { fill: #fff; stroke: #000; stroke-width: .05; }
@@ -35,9 +36,10 @@ svg { display: block; width: 100%; margin: 4px 0; }
   :root { font-size: 11px; }
   body { padding: 0; max-width: none; }
   .sheet { display: block; }
-  .problem { display: inline-block; vertical-align: top; box-sizing: border-box; width: 49.5%; min-height: 86mm;
+  .problem { display: inline-block; vertical-align: top; box-sizing: border-box; width: 49.5%; min-height: 80mm;
     padding: 0 6mm 2mm; }
-  .problem svg { width: 56mm; margin: 1mm auto; }
+  h1 { font-size: 1.2rem; margin: 0 0 2mm; }
+  .problem svg { width: 54mm; margin: 1mm auto; }
   .move.shown { background: none; }
 }
 ";
