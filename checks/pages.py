@@ -4,11 +4,12 @@
     checks/pages.py [--count POSITIONS]
 
 For random positions (100 on each board if not said) the pixels of each square's middle have to tell what `dw show`
-tells. A click on a move shows the position after it, and so do the arrow keys; that position is told by a move generator of this
-folder. On paper six problems stand on a page, and none is cut. A telephone's width needs no sideways scrolling. A page
-of 2,000 problems opens within seconds. Nothing is asked of the network, the console has no error, and no fault is
-found in the HTML. Texts of tags, also those that are no UTF-8, are shown as they are.
+tells. A click on a move shows the position after it, and so do the arrow keys; that position is told by a move
+generator of this folder. On paper six problems stand on a page, and none is cut. A telephone's width needs no sideways
+scrolling. A page of 2,000 problems opens within seconds. Nothing is asked of the network, the console has no error, and
+no fault is found in the HTML. Texts of tags, also those that are no UTF-8, are shown as they are.
 """
+import html
 import json
 import os
 import pathlib
@@ -36,6 +37,13 @@ document.getElementById('report').textContent = JSON.stringify(report);
 </script></body>"""
 PLACES = "const report = [...document.querySelectorAll('.problem svg')].map((svg) => { " \
     "const box = svg.getBoundingClientRect(); return [box.left, box.top, box.width]; });"
+# No window is as narrow as a telephone, but a frame is.
+FRAMED = """const report = null;
+addEventListener('load', () => {
+  const inside = frames[0], asked = inside.performance.getEntriesByType('resource').length;
+  document.getElementById('report').textContent =
+    JSON.stringify([inside.innerWidth, inside.document.documentElement.scrollWidth, asked]);
+});"""
 SIZES = "const report = [innerWidth, document.documentElement.scrollWidth, " \
     "performance.getEntriesByType('resource').length];"
 # The marks on a board after each move was clicked, then after each arrow to the right, and all the way back.
@@ -46,12 +54,13 @@ const press = (key) => document.dispatchEvent(new KeyboardEvent('keydown', {key}
 const report = [...document.querySelectorAll('.solution')].map((solution) => {
   const board = boardOf(solution), start = marks(board), moves = [...solution.querySelectorAll('.move')];
   const clicked = moves.map((move) => { move.click(); return marks(board); });
-  if (!moves.length) return {text: solution.querySelector('.moves').textContent, start, clicked, right: [], back: start};
+  const text = solution.querySelector('.moves').textContent;
+  if (!moves.length) return {text, start, clicked, right: [], back: start};
   moves[0].click();
   const right = [marks(board)];
   for (const _ of moves.slice(1)) { press('ArrowRight'); right.push(marks(board)); }
   for (const _ of moves) press('ArrowLeft');
-  return {text: solution.querySelector('.moves').textContent, start, clicked, right, back: marks(board)};
+  return {text, start, clicked, right, back: marks(board)};
 });
 """
 TAGGED = """[Event "<b>&\\"x\\"</b><script>alert(1)</script>"] [White "G\xe9rard"] [Site "\x01'"] [FEN "W:W27,32:B18"] *
@@ -164,9 +173,10 @@ def check_print(source, folder):
     file = folder / "print.html"
     file.write_text(page_of(text, "-n", "1", "--solutions", "end"))
     browse(f"--print-to-pdf={folder / 'print.pdf'}", file.as_uri())
-    said = subprocess.run(["pdftotext", "-layout", folder / "print.pdf", "-"], capture_output=True, text=True, check=True)
-    tasks = [sheet.count("White to play and win in 1") for sheet in said.stdout.split("\f")]
-    heads = [len(re.findall(r"(?<!\S)\d+\.(?!\S)", sheet)) for sheet in said.stdout.split("\f")]
+    ran = subprocess.run(["pdftotext", "-layout", folder / "print.pdf", "-"], capture_output=True, text=True, check=True)
+    sheets = ran.stdout.split("\f")
+    tasks = [sheet.count("White to play and win in 1") for sheet in sheets]
+    heads = [len(re.findall(r"(?<!\S)\d+\.(?!\S)", sheet)) for sheet in sheets]
     assert tasks[:4] == [6, 6, 6, 2] and heads[:3] == [6, 6, 6], (tasks, heads)
     print("paper: six problems a sheet, none cut")
 
@@ -176,7 +186,9 @@ def check_rest(source, folder):
     board = Board(10)
     text = "".join(f"{fen(drawn(source, board), 'W')}\n" for _ in range(2000))
     page = page_of(text[: text.index("\n", 600) + 1], "-n", "1", "--title", "<&>", "--numbers", "--lang", "ru")
-    width, scrolled, asked = told(folder, page, SIZES, f"{PHONE},800")
+    frame = f'<iframe style="width: {PHONE}px; border: 0" srcdoc="{html.escape(page)}"></iframe>'
+    framed = f"<!DOCTYPE html><body>{frame}</body>"
+    width, scrolled, asked = told(folder, framed, FRAMED)
     assert scrolled <= width == PHONE and asked == 0, (width, scrolled, asked)
     long = page_of(text, "-n", "1")
     began = time.monotonic()
@@ -186,8 +198,8 @@ def check_rest(source, folder):
     tagged = page_of(TAGGED, "-n", "2", "--pdn")
     said = told(folder, tagged, "const report = [...document.querySelectorAll('h2, .tags')].map((e) => e.textContent);")
     assert said == ["1. Gérard", "<b>&\"x\"</b><script>alert(1)</script>,  '"], said
-    for html in (page, tagged):
-        (folder / "tidy.html").write_text(html)
+    for text in (page, tagged):
+        (folder / "tidy.html").write_text(text)
         ran = subprocess.run(["tidy", "-e", "-q", "--show-warnings", "yes", folder / "tidy.html"], capture_output=True,
                              text=True, check=False)
         assert (ran.returncode, ran.stderr) == (0, ""), ran.stderr

@@ -118,11 +118,11 @@ pub fn page_words<'a>(words: &ArgMatches<'a>) -> PageWords<'a> {
             language: Language::named(words.get_str("lang")),
             numbers: words.get_flag("numbers"),
         },
-        solutions: placing(words.get_str("solutions")),
+        solutions: placing_named(words.get_str("solutions")),
     }
 }
 
-fn placing(name: Option<&str>) -> Placing {
+fn placing_named(name: Option<&str>) -> Placing {
     match name {
         Some("end") => Placing::End,
         Some("none") => Placing::None,

@@ -35,7 +35,7 @@ svg { display: block; width: 100%; margin: 4px 0; overflow: visible; }
 @media print {
   :root { font-size: 11px; }
   body { padding: 0; max-width: none; }
-  .sheet { display: block; }
+  .sheet { display: block; orphans: 1; widows: 1; }
   .problem { display: inline-block; vertical-align: top; box-sizing: border-box; width: 49.5%; min-height: 80mm;
     padding: 0 6mm 2mm; }
   h1 { font-size: 1.2rem; margin: 0 0 2mm; }
