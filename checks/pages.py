@@ -173,8 +173,8 @@ def check_print(source, folder):
     file = folder / "print.html"
     file.write_text(page_of(text, "-n", "1", "--solutions", "end"))
     browse(f"--print-to-pdf={folder / 'print.pdf'}", file.as_uri())
-    ran = subprocess.run(["pdftotext", "-layout", folder / "print.pdf", "-"], capture_output=True, text=True, check=True)
-    sheets = ran.stdout.split("\f")
+    words = ["pdftotext", "-layout", folder / "print.pdf", "-"]
+    sheets = subprocess.run(words, capture_output=True, text=True, check=True).stdout.split("\f")
     tasks = [sheet.count("White to play and win in 1") for sheet in sheets]
     heads = [len(re.findall(r"(?<!\S)\d+\.(?!\S)", sheet)) for sheet in sheets]
     assert tasks[:4] == [6, 6, 6, 2] and heads[:3] == [6, 6, 6], (tasks, heads)

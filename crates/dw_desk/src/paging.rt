@@ -256,14 +256,12 @@ fn push_tagged<B: Board>(
 ) -> Result<(), DeskFault> {
     let tags = read_tags(desk.alloc, section)?;
     let tags = tags.as_slice();
-    let heading = Heading {
-        author: value_named(tags, b"White"),
-        source: [
-            value_named(tags, b"Event"),
-            value_named(tags, b"Site"),
-            value_named(tags, b"Date"),
-        ],
-    };
+    let author = value_named(tags, b"White");
+    let event = value_named(tags, b"Event");
+    let site = value_named(tags, b"Site");
+    let date = value_named(tags, b"Date");
+    let source = [event, site, date];
+    let heading = Heading { author, source };
     push_problem(desk.alloc, page, &asked.look, task, &heading)?;
     Ok(())
 }
