@@ -45,6 +45,7 @@ CHECKS = [
     Check("desk", slow=("--count", "3000")),
     Check("solutions", slow=("--count", "2000")),
     Check("games", slow=("--count", "2000")),
+    Check("pages", slow=("--count", "1000")),
     Check("certificates", slow=("--count", "1000")),
     Check("refused_memory"),
     Check("long_list"),

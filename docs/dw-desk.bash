@@ -7,7 +7,7 @@
 
 _dw_desk() {
     local current=${COMP_WORDS[COMP_CWORD]} previous=${COMP_WORDS[COMP_CWORD - 1]}
-    local commands="find check solution certify token help"
+    local commands="find check solution page certify token help"
     local command="" options="" word
     # bash cuts --memo=lru into three words.
     if [ "$current" = "=" ]; then
@@ -17,13 +17,17 @@ _dw_desk() {
     fi
     for word in "${COMP_WORDS[@]:1:COMP_CWORD-1}"; do
         case $word in
-            find | check | solution | certify | token | help) command=$word && break ;;
+            find | check | solution | page | certify | token | help) command=$word && break ;;
         esac
     done
     case $command in
         find) options="--board --pdn --problem --most --each --json --memo --cache --progress -h --help" ;;
         check) options="-n --board --pdn --problem --memo --cache --progress -h --help" ;;
         solution) options="-n --board --pdn --problem --lines --memo --cache --progress -h --help" ;;
+        page)
+            options="-n --board --pdn --problem --most --lines --title --lang --solutions --numbers --memo --cache"
+            options="$options --progress -h --help"
+            ;;
         certify) options="-n --board --pdn --problem --memo --cache --progress -h --help" ;;
         token) options="--board --pdn --problem --line -h --help" ;;
         help) options="" ;;
@@ -33,7 +37,9 @@ _dw_desk() {
     case $previous in
         --board) COMPREPLY=($(compgen -W "10 8" -- "$current")) && return ;;
         --memo) COMPREPLY=($(compgen -W "none lru slots deep" -- "$current")) && return ;;
-        -n | --problem | --most | --each | --lines | --cache | --line) return ;;
+        --lang) COMPREPLY=($(compgen -W "en nl fr ru" -- "$current")) && return ;;
+        --solutions) COMPREPLY=($(compgen -W "after end none" -- "$current")) && return ;;
+        -n | --problem | --most | --each | --lines | --cache | --line | --title) return ;;
     esac
     case $command:$current in
         *:-*) COMPREPLY=($(compgen -W "$options" -- "$current")) ;;

@@ -5,6 +5,7 @@ use crate::certifying::certify_problem;
 use crate::checking::check_games;
 use crate::ending::{Ending, NO_MEMORY};
 use crate::finding::find_problems;
+use crate::paging::page_problems;
 use crate::progress::Progress;
 use crate::solving::solve_problems;
 use crate::words::{Request, Task};
@@ -163,6 +164,17 @@ fn obey_with<'a, B: Board>(
         Task::Solution(asked) => ending_of(
             request,
             solve_problems(
+                &mut desk,
+                &mut slices,
+                request,
+                &asked,
+                &mut source,
+                &mut sink,
+            ),
+        ),
+        Task::Page(asked) => ending_of(
+            request,
+            page_problems(
                 &mut desk,
                 &mut slices,
                 request,

@@ -1,5 +1,5 @@
 //! The command `solution`: each problem as a game of a PDN file, with its solution.
-ghost use Rattle.std.specs.Prelude.{◌≡◌, false, IfOk};
+ghost use Rattle.std.specs.Prelude.{◌≡◌, ◌≤◌, false, IfOk};
 
 use crate::desk::{Counts, Desk, DeskFault};
 use crate::progress::Progress;
@@ -133,10 +133,24 @@ fn solution_of<B: Board>(
     position: &Position<B>,
 ) -> Result<Vec<u8>, DeskFault> {
     let judged = judge_in_slices(desk.alloc, &mut desk.solver, position, asked.n, slices)?;
-    let first = first_lines(desk.alloc, &mut desk.solver, position, asked.n, asked.lines)?;
+    movetext_of(desk, position, asked.n, asked.lines, &judged.verdict)
+}
+
+/// The movetext of the first lines of a position within so many moves, with this verdict.
+pub fn movetext_of<B: Board>(
+    desk: &mut Desk<B>,
+    position: &Position<B>,
+    moves: u8,
+    lines: usize,
+    verdict: &Verdict<B>,
+) -> Result<Vec<u8>, DeskFault>
+    requires some { 1 ≤ moves }
+    requires few { moves ≤ 20 }
+{
+    let first = first_lines(desk.alloc, &mut desk.solver, position, moves, lines)?;
     let heading = Heading {
-        kind: kind_of(&judged.verdict),
-        moves: asked.n,
+        kind: kind_of(verdict),
+        moves,
     };
     Ok(movetext(desk.alloc, position, &first, heading)?)
 }

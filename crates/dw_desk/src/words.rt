@@ -1,6 +1,7 @@
 //! The arguments of the command line.
 ghost use Rattle.std.specs.Prelude.{◌≤◌};
 
+use crate::page_words::{PageWords, page_command, page_words};
 use clap::builder::ValueParser;
 use clap::{Arg, ArgMatches, Command as Words, value_parser};
 use dw_notation::Form;
@@ -55,6 +56,8 @@ pub enum Task<'a> {
     Check { n: Option<u8> },
     /// The problem is written as a game, with its solution.
     Solution(SolutionWords),
+    /// The problems are put on a page.
+    Page(PageWords<'a>),
     /// The certificate of the first of the chosen problems is written, within `n` moves.
     Certify { n: u8 },
     /// The token of this line of the first of the chosen problems is written.
@@ -175,7 +178,7 @@ Examples:
 const PROBLEM_HELP: &str =
     "Report on the problem I alone, or on those from I to J, 1 to 1000000 [default: all]";
 
-const CACHE_HELP: &str = "Keep at most C positions, 1 to 4000000 [default: 1000000]";
+pub const CACHE_HELP: &str = "Keep at most C positions, 1 to 4000000 [default: 1000000]";
 
 /// What is said of numbers of problems that are none.
 const NO_PORTION: &str = "\
@@ -189,6 +192,7 @@ pub fn command<'a>(alloc: Global) -> Result<Words<'a>, AllocError> {
     let find = find_command(alloc)?;
     let check = check_command(alloc)?;
     let solution = solution_command(alloc)?;
+    let page = page_command(alloc)?;
     let certify = certify_command(alloc)?;
     let token = token_command(alloc)?;
     Words::new(alloc, "dw-desk")
@@ -201,6 +205,7 @@ pub fn command<'a>(alloc: Global) -> Result<Words<'a>, AllocError> {
         .subcommand(find)?
         .subcommand(check)?
         .subcommand(solution)?
+        .subcommand(page)?
         .subcommand(certify)?
         .subcommand(token)
 }
@@ -306,7 +311,7 @@ fn line<'a>(alloc: Global) -> Arg<'a> {
     option(alloc, "line", "TEXT", ValueParser::string(), help).required(true)
 }
 
-fn problem<'a>(alloc: Global) -> Arg<'a> {
+pub fn problem<'a>(alloc: Global) -> Arg<'a> {
     option(
         alloc,
         "problem",
@@ -316,13 +321,13 @@ fn problem<'a>(alloc: Global) -> Arg<'a> {
     )
 }
 
-fn lines<'a>(alloc: Global) -> Arg<'a> {
+pub fn lines<'a>(alloc: Global) -> Arg<'a> {
     let numbers = value_parser!(u64).range(1..=MOST_LINES as i64);
     let help = "Write at most K lines of the solution, 1 to 1000000 [default: 1000]";
     option(alloc, "lines", "K", numbers, help)
 }
 
-fn within<'a>(alloc: Global, help: &'a str) -> Arg<'a> {
+pub fn within<'a>(alloc: Global, help: &'a str) -> Arg<'a> {
     Arg::new(alloc, "n")
         .short('n')
         .value_name("N")
@@ -346,7 +351,7 @@ fn json<'a>(alloc: Global) -> Arg<'a> {
     flag(alloc, "json", "Write one line of JSON for each problem")
 }
 
-fn progress<'a>(alloc: Global) -> Arg<'a> {
+pub fn progress<'a>(alloc: Global) -> Arg<'a> {
     flag(
         alloc,
         "progress",
@@ -365,6 +370,9 @@ pub fn requested<'a>(matches: &ArgMatches<'a>) -> Result<Request<'a>, &'static s
     }
     if let Some(words) = matches.subcommand_matches("solution") {
         return searched_by(words, Task::Solution(solution_words(words)));
+    }
+    if let Some(words) = matches.subcommand_matches("page") {
+        return searched_by(words, Task::Page(page_words(words)));
     }
     if let Some(words) = matches.subcommand_matches("certify") {
         return Ok(certified_by(words));
@@ -447,11 +455,15 @@ fn find_words(words: &ArgMatches<'_>) -> FindWords {
 /// What the command `solution` is asked for.
 fn solution_words(words: &ArgMatches<'_>) -> SolutionWords {
     let n = words.get_one::<u8>("n").unwrap_or(1);
-    let lines = words.get_one::<u64>("lines").unwrap_or(USUAL_LINES);
     SolutionWords {
         n: n.clamp(1, MOST_MOVES),
-        lines: lines as usize,
+        lines: lines_of(words),
     }
+}
+
+/// How many lines are written at most.
+pub fn lines_of(words: &ArgMatches<'_>) -> usize {
+    words.get_one::<u64>("lines").unwrap_or(USUAL_LINES) as usize
 }
 
 fn form(is_pdn: bool) -> Form {

@@ -1,0 +1,131 @@
+//! The arguments of the command `page`.
+ghost use Rattle.std.specs.Prelude.{◌≤◌};
+
+use crate::words::{CACHE_HELP, lines, lines_of, problem, progress, within};
+use clap::builder::ValueParser;
+use clap::{Arg, ArgMatches, Command as Words, value_parser};
+use dw_page::{Language, Look};
+use dw_program::options::{MOST_MOVES, board, cache, file, flag, memo, option, pdn};
+use std::alloc::{AllocError, Global};
+
+/// Where the solutions stand.
+#[derive(Clone, Copy, Debug, PartialEq, Eq)]
+pub enum Placing {
+    /// Behind each problem.
+    After,
+    /// Behind all problems.
+    End,
+    /// Nowhere.
+    None,
+}
+
+/// What the command `page` is asked for.
+#[derive(Clone, Copy)]
+pub struct PageWords<'a> {
+    /// The number of moves within which the win is, 1 to `MOST_MOVES`.
+    pub moves: u8,
+    /// Whether the least number of moves up to that one is looked for.
+    pub is_least: bool,
+    /// How many lines are written at most.
+    pub lines: usize,
+    pub look: Look<'a>,
+    pub solutions: Placing,
+    ghost some_moves: { 1 ≤ moves },
+    ghost few_moves: { moves ≤ 20 },
+}
+
+const ABOUT: &str =
+    "Writes a page of all problems with diagrams and solutions, for a browser or a printer.";
+
+const EXAMPLES: &str = "\
+The page is one HTML file that needs no other. A click on a move shows the position after it, and
+so do the arrow keys; a printer puts six problems on a sheet. With --pdn each problem has its tags
+Event, White, Date and Site. With --most the least number of moves with a win is found.
+
+Examples:
+  dw-desk page -n 2 examples/problems.fen > problems.html
+  dw-desk page --most 6 --lang fr --solutions end examples/problems.fen > problems.html
+  dw-desk page -n 3 --title 'March' --numbers --pdn examples/solutions.pdn > march.html";
+
+/// The title of a page that is given none.
+const USUAL_TITLE: &str = "dw-desk";
+
+/// The command with its arguments.
+pub fn page_command<'a>(alloc: Global) -> Result<Words<'a>, AllocError> {
+    let help = "Ask for a win in N moves of the side to move, 1 to 20";
+    let within = within(alloc, help)
+        .required_unless_present("most")?
+        .conflicts_with("most")?;
+    let arguments = vec![in alloc;
+        board(alloc),
+        pdn(alloc),
+        problem(alloc),
+        file(alloc),
+        within,
+        most(alloc),
+        lines(alloc),
+        title(alloc),
+        language(alloc),
+        solutions(alloc),
+        flag(
+            alloc,
+            "numbers",
+            "Write the number of each square in the diagrams"
+        ),
+        memo(alloc, "deep"),
+        cache(alloc, CACHE_HELP),
+        progress(alloc),
+    ]?;
+    Words::new(alloc, "page")
+        .about(ABOUT)
+        .after_help(EXAMPLES)
+        .args(arguments)
+}
+
+fn most<'a>(alloc: Global) -> Arg<'a> {
+    let numbers = value_parser!(u8).range(1..=i64::from(MOST_MOVES));
+    let help = "Ask for the least number of moves with a win, up to N, 1 to 20";
+    option(alloc, "most", "N", numbers, help)
+}
+
+fn title<'a>(alloc: Global) -> Arg<'a> {
+    let help = "The title of the page [default: dw-desk]";
+    option(alloc, "title", "T", ValueParser::string(), help)
+}
+
+fn language<'a>(alloc: Global) -> Arg<'a> {
+    let names = ["en", "nl", "fr", "ru"].as_slice().into();
+    let help = "The language: English, Dutch, French or Russian";
+    option(alloc, "lang", "LANG", names, help).default_value("en")
+}
+
+fn solutions<'a>(alloc: Global) -> Arg<'a> {
+    let places = ["after", "end", "none"].as_slice().into();
+    let help = "Put the solutions after each problem, at the end, or nowhere";
+    option(alloc, "solutions", "WHERE", places, help).default_value("after")
+}
+
+/// What the command is asked for.
+pub fn page_words<'a>(words: &ArgMatches<'a>) -> PageWords<'a> {
+    let most = words.get_one::<u8>("most");
+    let moves = words.get_one::<u8>("n").or(most).unwrap_or(1);
+    PageWords {
+        moves: moves.clamp(1, MOST_MOVES),
+        is_least: most.is_some(),
+        lines: lines_of(words),
+        look: Look {
+            title: words.get_str("title").unwrap_or(USUAL_TITLE),
+            language: Language::named(words.get_str("lang")),
+            numbers: words.get_flag("numbers"),
+        },
+        solutions: placing_named(words.get_str("solutions")),
+    }
+}
+
+fn placing_named(name: Option<&str>) -> Placing {
+    match name {
+        Some("end") => Placing::End,
+        Some("none") => Placing::None,
+        _ => Placing::After,
+    }
+}

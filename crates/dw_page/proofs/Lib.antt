@@ -1,0 +1,3 @@
+pub mod EscapingLemmas
+pub mod DrawingLemmas
+pub mod MoveLemmas

@@ -1,0 +1,30 @@
+-- Texts from outside, as they stand in a page.
+use Rattle.std.specs.Prelude.{◌≡◌, ℕ, ◌==◌, ◌⊎◌, List, [], ◌∷◌, ◌++◌, codes, if◌then◌else◌, map, nat_lt}
+use Rattle.std.specs.Prelude.{IsUtf8, encode_utf8}
+use Rattle.std.specs.List.{flat_map}
+
+-- what stands for a byte: an entity for each of the five that mean something in a page, any other byte for itself
+abbrev pub shown : ℕ → List ℕ
+shown b =
+    if b == 60 then codes "&lt;"
+    else if b == 62 then codes "&gt;"
+    else if b == 38 then codes "&amp;"
+    else if b == 34 then codes "&quot;"
+    else if b == 39 then codes "&#39;"
+    else b ∷ []
+
+-- what stands for a text
+abbrev pub escaped : List ℕ → List ℕ
+escaped text = flat_map shown text
+
+-- a control character is a blank
+abbrev pub printable : ℕ → ℕ
+printable b = if nat_lt b 32 then 32 else if b == 127 then 32 else b
+
+-- bytes as a text in UTF-8: as they stand if they are one, else each of them is a character of Latin-1
+abbrev pub IsReadAs : List ℕ → List ℕ → Type 0
+IsReadAs bytes text = (IsUtf8 bytes × (text ≡ bytes)) ⊎ ((IsUtf8 bytes → ⊥) × (text ≡ flat_map encode_utf8 bytes))
+
+-- what stands for bytes
+abbrev pub stands_for : List ℕ → List ℕ
+stands_for text = escaped (map printable text)

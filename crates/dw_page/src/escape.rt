@@ -1,0 +1,74 @@
+//! Texts from outside, as they stand in a page.
+ghost use Rattle.std.specs.Prelude.{◌≡◌, ◌++◌, ◌∷◌, [], OnOk, IfOk, MatchOption, List, ℕ, encode_utf8};
+ghost use Rattle.std.specs.List.{flat_map};
+ghost use Rattle.std.specs.String.{string_bytes};
+ghost use Rattle.dw_page.specs.Escaping.{shown, printable, stands_for, IsReadAs};
+
+use std::alloc::{AllocError, Global};
+
+/// Appends what stands in a page for bytes from outside. Bytes that are no UTF-8 are read as characters of Latin-1, a
+/// control character becomes a blank, and what means something in a page is escaped.
+/// Example: for `a <b>` it is `a &lt;b&gt;`, and for the one byte E9 it is `é` in UTF-8.
+pub fn push_bytes(alloc: Global, page: &mut Vec<u8>, bytes: &[u8]) -> Result<(), AllocError>
+    ensures { OnOk result ((text : List ℕ) × IsReadAs bytes.now text × (page.new.items
+        ≡ page.old.items ++ stands_for text)) }
+{
+    match str::from_utf8(bytes) {
+        Ok(text) => push_text(page, text.as_bytes()),
+        Err(_) => push_text(page, latin(alloc, bytes)?.as_str().as_bytes()),
+    }
+}
+
+/// Appends what stands for a text in UTF-8.
+/// Example: for `"a"` it is `&quot;a&quot;`.
+pub fn push_text(page: &mut Vec<u8>, text: &[u8]) -> Result<(), AllocError>
+    ensures { OnOk result (page.new.items ≡ page.old.items ++ stands_for text.now) }
+{
+    'bytes: for byte in text {
+        push_byte(page, printable(*byte))?;
+    }
+    Ok(())
+}
+
+/// The text of characters of Latin-1.
+fn latin(alloc: Global, bytes: &[u8]) -> Result<String, AllocError>
+    ensures { IfOk result (λ text. string_bytes text ≡ flat_map encode_utf8 bytes.now) }
+{
+    let mut text = String::new(alloc);
+    'bytes: for byte in bytes {
+        text.push(char::from(*byte))?;
+    }
+    Ok(text)
+}
+
+/// A byte, or a blank for a control character.
+fn printable(byte: u8) -> u8
+    ensures { result ≡ printable byte }
+{
+    if byte < 32 || byte == 127 { b' ' } else { byte }
+}
+
+/// Appends what stands for a byte.
+fn push_byte(page: &mut Vec<u8>, byte: u8) -> Result<(), AllocError>
+    ensures { OnOk result (page.new.items ≡ page.old.items ++ shown byte) }
+{
+    match entity(byte) {
+        Some(name) => page.extend_from_slice(name.as_bytes())?,
+        None => page.push(byte)?,
+    }
+    Ok(())
+}
+
+/// The entity that stands for a byte, if one does.
+fn entity(byte: u8) -> Option<&'static str>
+    ensures { MatchOption result (shown byte ≡ byte ∷ []) (λ name. shown byte ≡ name.now) }
+{
+    match byte {
+        b'<' => Some("&lt;"),
+        b'>' => Some("&gt;"),
+        b'&' => Some("&amp;"),
+        b'"' => Some("&quot;"),
+        b'\'' => Some("&#39;"),
+        _ => None,
+    }
+}

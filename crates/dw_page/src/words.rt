@@ -1,0 +1,159 @@
+//! The words of a page, in four languages.
+use dw_board::Side;
+
+/// The language of a page.
+/// Example: the option `--lang nl` stands for `Language::Dutch`.
+#[derive(Clone, Copy, Debug, PartialEq, Eq)]
+pub enum Language {
+    English,
+    Dutch,
+    French,
+    Russian,
+}
+
+/// What is said of the win that is asked for, or of the lines.
+/// Example: in English `Phrase::Solution` is `Solution`.
+#[derive(Clone, Copy, Debug, PartialEq, Eq)]
+pub enum Phrase {
+    /// In front of the first move of a sound problem.
+    Sound,
+    /// In front of the line with a choice.
+    Dual,
+    /// In front of several first moves that win.
+    Cooked,
+    /// In front of the number of moves in which there is a win already.
+    Shorter,
+    /// In front of the number of moves within which there is no win.
+    NoWin,
+    /// In front of the tries.
+    Tries,
+    /// In front of the solution's moves.
+    Solution,
+    /// In front of all solutions.
+    Solutions,
+    /// In place of the lines that are left out.
+    More,
+    /// In front of the reason why a problem is refused.
+    Refused,
+}
+
+impl Language {
+    /// The language of a name, English if it is none of `nl`, `fr` and `ru`.
+    /// Example: that of `fr` is `Language::French`.
+    pub fn named(name: Option<&str>) -> Language {
+        match name {
+            Some("nl") => Language::Dutch,
+            Some("fr") => Language::French,
+            Some("ru") => Language::Russian,
+            _ => Language::English,
+        }
+    }
+
+    /// Its name in a page.
+    /// Example: that of `Language::Dutch` is `nl`.
+    pub fn tag(self) -> &'static str {
+        match self {
+            Language::English => "en",
+            Language::Dutch => "nl",
+            Language::French => "fr",
+            Language::Russian => "ru",
+        }
+    }
+
+    /// What is asked, up to the number of moves.
+    /// Example: in English, for White, it is `White to play and win in `.
+    pub fn task(self, side: Side) -> &'static str {
+        match (self, side) {
+            (Language::English, Side::White) => "White to play and win in ",
+            (Language::English, Side::Black) => "Black to play and win in ",
+            (Language::Dutch, Side::White) => "Wit aan zet en wint in ",
+            (Language::Dutch, Side::Black) => "Zwart aan zet en wint in ",
+            (Language::French, Side::White) => "Les blancs jouent et gagnent en ",
+            (Language::French, Side::Black) => "Les noirs jouent et gagnent en ",
+            (Language::Russian, Side::White) => "Белые начинают и выигрывают в ",
+            (Language::Russian, Side::Black) => "Чёрные начинают и выигрывают в ",
+        }
+    }
+
+    /// What stands behind a number of moves, 1 to 20: in Russian the word for moves, in the form that it asks for.
+    /// Example: in Russian it is ` хода` behind 3, and ` ходов` behind 11.
+    pub fn moves(self, count: u8) -> &'static str {
+        match (self, count) {
+            (Language::Russian, 1) => " ход",
+            (Language::Russian, 2..=4) => " хода",
+            (Language::Russian, _) => " ходов",
+            _ => "",
+        }
+    }
+
+    /// A phrase, as it stands in front of what it speaks of.
+    /// Example: in French `Phrase::Tries` is `Essais`.
+    pub fn phrase(self, phrase: Phrase) -> &'static str {
+        match self {
+            Language::English => english(phrase),
+            Language::Dutch => dutch(phrase),
+            Language::French => french(phrase),
+            Language::Russian => russian(phrase),
+        }
+    }
+}
+
+fn english(phrase: Phrase) -> &'static str {
+    match phrase {
+        Phrase::Sound => "Sound",
+        Phrase::Dual => "Dual",
+        Phrase::Cooked => "Cooked",
+        Phrase::Shorter => "wins in ",
+        Phrase::NoWin => "No win in ",
+        Phrase::Tries => "Tries",
+        Phrase::Solution => "Solution",
+        Phrase::Solutions => "Solutions",
+        Phrase::More => "more lines",
+        Phrase::Refused => "Refused",
+    }
+}
+
+fn dutch(phrase: Phrase) -> &'static str {
+    match phrase {
+        Phrase::Sound => "Correct",
+        Phrase::Dual => "Dual",
+        Phrase::Cooked => "Bijoplossing",
+        Phrase::Shorter => "wint in ",
+        Phrase::NoWin => "Geen winst in ",
+        Phrase::Tries => "Schijnoplossingen",
+        Phrase::Solution => "Oplossing",
+        Phrase::Solutions => "Oplossingen",
+        Phrase::More => "meer varianten",
+        Phrase::Refused => "Geweigerd",
+    }
+}
+
+fn french(phrase: Phrase) -> &'static str {
+    match phrase {
+        Phrase::Sound => "Correct",
+        Phrase::Dual => "Dual",
+        Phrase::Cooked => "Démoli",
+        Phrase::Shorter => "gagne en ",
+        Phrase::NoWin => "Pas de gain en ",
+        Phrase::Tries => "Essais",
+        Phrase::Solution => "Solution",
+        Phrase::Solutions => "Solutions",
+        Phrase::More => "autres variantes",
+        Phrase::Refused => "Refusé",
+    }
+}
+
+fn russian(phrase: Phrase) -> &'static str {
+    match phrase {
+        Phrase::Sound => "Корректно",
+        Phrase::Dual => "Дуаль",
+        Phrase::Cooked => "Побочное решение",
+        Phrase::Shorter => "выигрыш в ",
+        Phrase::NoWin => "Нет выигрыша в ",
+        Phrase::Tries => "Ложные следы",
+        Phrase::Solution => "Решение",
+        Phrase::Solutions => "Решения",
+        Phrase::More => "другие варианты",
+        Phrase::Refused => "Отклонено",
+    }
+}
