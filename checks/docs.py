@@ -7,9 +7,9 @@ Each link of the pages has to lead to a file, and to a heading of it, and each f
 there has more than 120 columns. The contract in docs/PROVED.md has to be that of `run`, word for word, and each
 definition in its reading order has to stand in the file that is named for it. The rows on FEN texts in docs/FORMATS.md
 have to be what `dw show` answers, the program in docs/LIBRARY.md that of the crate `dw_example`, and the problems in
-docs/REPORT.md have to have the diagrams, verdicts and lines that stand there. What README.md and docs/DESK.md show the
-programs to answer has to be what they answer. Each function on the way of a problem in docs/ARCHITECTURE.md has to be
-in the file that is named for it.
+docs/REPORT.md have to have the diagrams, verdicts and lines that stand there. What README.md, docs/DESK.md and
+docs/COMPOSERS.md show the programs to answer has to be what they answer. Each function on the way of a problem in
+docs/ARCHITECTURE.md has to be in the file that is named for it.
 """
 import pathlib
 import re
@@ -19,8 +19,8 @@ import subprocess
 TOP = pathlib.Path(__file__).resolve().parent.parent
 DW = TOP / "dw"
 TEXTS = [TOP / "README.md", TOP / "examples/README.md", *sorted((TOP / "docs").glob("*.md"))]
-README, PROVED, FORMATS, REPORT, DESK = TOP / "README.md", *(TOP / f"docs/{name}.md" for name in
-                                                             ("PROVED", "FORMATS", "REPORT", "DESK"))
+README, PROVED, FORMATS, REPORT, DESK, COMPOSERS = TOP / "README.md", *(
+    TOP / f"docs/{name}.md" for name in ("PROVED", "FORMATS", "REPORT", "DESK", "COMPOSERS"))
 RUN = TOP / "crates/dw_report/src/run.rt"
 ARCHITECTURE, LIBRARY, EXAMPLE = TOP / "docs/ARCHITECTURE.md", TOP / "docs/LIBRARY.md", TOP / "crates/dw_example"
 LINK = re.compile(r"\[[^\]]*\]\(([^)\s]+)\)")
@@ -145,7 +145,7 @@ def check_verdicts():
 
 def check_calls():
     """What a page shows a program to answer is what it answers."""
-    for page in (README, DESK):
+    for page in (README, DESK, COMPOSERS):
         called = r"^ {4}\$ echo (\S+) \| \./(\S+) (.*)\n((?: {4}[^$\n].*\n|\n(?= {4}[^$.\n]))+)"
         calls = re.findall(called, page.read_text(), re.MULTILINE)
         assert len(calls) >= 2, calls
