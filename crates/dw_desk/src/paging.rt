@@ -1,5 +1,5 @@
 //! The command `page`: all problems on a page, with diagrams and solutions.
-ghost use Rattle.std.specs.Prelude.{◌≡◌, false, IfOk};
+ghost use Rattle.std.specs.Prelude.{◌≡◌, ◌≤◌, false, IfOk};
 ghost use Rattle.dw_report.specs.Judging.{said_by};
 ghost use Rattle.dw_report.specs.Verdict.{IsVerdict, Tries};
 ghost use Rattle.dw_study.specs.Finding.{IsFinding};
@@ -193,7 +193,7 @@ fn found<B: Board>(
     number: u32,
     position: &Position<B>,
 ) -> Result<Finding<B>, DeskFault>
-    ensures { IfOk result (λ finding. IsFinding B.geometry position.now asked.now.moves (told_by finding)) }
+    ensures finding { IfOk result (λ finding. IsFinding B.geometry position.now asked.now.moves (told_by finding)) }
 {
     let bounds = FindBounds {
         most: asked.moves,
@@ -232,6 +232,8 @@ fn judged_part<B: Board>(
     section: &[u8],
     later: &mut Vec<u8>,
 ) -> Result<Vec<u8>, DeskFault>
+    requires some { 1 ≤ task.now.moves }
+    requires few { task.now.moves ≤ 20 }
     requires verdict { IsVerdict B.geometry task.now.position.now task.now.moves (said_by judged.now.verdict) }
     requires tries { Tries B.geometry task.now.position.now task.now.moves judged.now.tries.items }
 {
@@ -256,14 +258,25 @@ fn push_tagged<B: Board>(
 ) -> Result<(), DeskFault> {
     let tags = read_tags(desk.alloc, section)?;
     let tags = tags.as_slice();
-    let author = value_named(tags, b"White");
-    let event = value_named(tags, b"Event");
-    let site = value_named(tags, b"Site");
-    let date = value_named(tags, b"Date");
-    let source = [event, site, date];
-    let heading = Heading { author, source };
+    let heading = heading_of(
+        value_named(tags, b"White"),
+        value_named(tags, b"Event"),
+        value_named(tags, b"Site"),
+        value_named(tags, b"Date"),
+    );
     push_problem(desk.alloc, page, &asked.look, task, &heading)?;
     Ok(())
+}
+
+/// The heading of a problem whose tags have these values.
+fn heading_of<'v>(
+    author: Option<&'v [u8]>,
+    event: Option<&'v [u8]>,
+    site: Option<&'v [u8]>,
+    date: Option<&'v [u8]>,
+) -> Heading<'v> {
+    let source = [event, site, date];
+    Heading { author, source }
 }
 
 /// The solution of a problem, apart from it or not.
@@ -275,6 +288,8 @@ fn push_solved<B: Board>(
     is_apart: bool,
     page: &mut Vec<u8>,
 ) -> Result<(), DeskFault>
+    requires some { 1 ≤ task.now.moves }
+    requires few { task.now.moves ≤ 20 }
     requires verdict { IsVerdict B.geometry task.now.position.now task.now.moves (said_by judged.now.verdict) }
     requires tries { Tries B.geometry task.now.position.now task.now.moves judged.now.tries.items }
 {
