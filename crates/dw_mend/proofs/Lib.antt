@@ -1,3 +1,4 @@
 pub mod ListLemmas
 pub mod ChangeLemmas
 pub mod MakingLemmas
+pub mod SoundLemmas

@@ -5,6 +5,7 @@ ghost use Rattle.dw_memo.specs.Content.{IsMap};
 ghost use Rattle.dw_solve.specs.declared.stop.Stop.TheVariants.{Limit};
 ghost use Rattle.dw_solve.specs.Facts.{AreTrue};
 ghost use Rattle.dw_solve.specs.Searching.{IsCounted};
+ghost use Rattle.dw_report.specs.Judging.{said_by};
 ghost use Rattle.dw_report.specs.Verdict.{IsVerdict, sound};
 
 use dw_board::{Board, Position};
@@ -38,14 +39,25 @@ pub fn sound_key<B: Board, M: Memo<B>, G: Guide<B>, W: Watcher>(
     ensures first { slices.new.first ≡ slices.old.first }
 {
     dw_report::laws::one_verdict();
-    if !wins_in_slices(alloc, solver, position, moves, slices)?
-        || wins_in_slices(alloc, solver, position, moves - 1, slices)?
-    {
+    if !wins_in_slices(alloc, solver, position, moves, slices)? {
+        return Ok(None);
+    }
+    if wins_in_slices(alloc, solver, position, moves - 1, slices)? {
         return Ok(None);
     }
     let judged = judge_in_slices(alloc, solver, position, moves, slices)?;
-    match &judged.verdict {
-        Verdict::Sound { key } => Ok(Some(*key)),
-        _ => Ok(None),
+    Ok(key_of(&judged.verdict))
+}
+
+/// The key that a verdict tells, if it is that the position is sound.
+fn key_of<B: Board>(verdict: &Verdict<B>) -> Option<Move<B>>
+    ensures { MatchOption result ((m : AnyMove) → said_by verdict.now ≡ sound m → ⊥)
+        (λ m. said_by verdict.now ≡ sound m) }
+{
+    match verdict {
+        Verdict::Sound { key } => Some(*key),
+        Verdict::Cooked { .. } => None,
+        Verdict::Dual { .. } => None,
+        Verdict::Unsolvable => None,
     }
 }
