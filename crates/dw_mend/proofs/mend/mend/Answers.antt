@@ -67,7 +67,7 @@ returns-clause-text g c =
         lines = t.0;
         mended = subst (λ z. AreMended geo n z t.0 (record { sound = counts.sound; undecided = counts.undecided })) told
             t.1;
-        count = c.in_ok-mended.ensures.all ∙ (sym (length-map told_by some) ∙ ap length told);
+        count = c.in_ok-mended.ensures.all ∙ (sym (length-map some told_by) ∙ ap length told);
         is = refl;
       },
       Appends-trans (g.K.Sink.taken c.args.sink.now) (g.K.Sink.taken c.mend_these.new.sink)
