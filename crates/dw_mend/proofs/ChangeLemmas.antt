@@ -1,9 +1,9 @@
 -- What may not be put on a square would be no position there.
 use Rattle.std.proofs.Common.{◌≡◌, ◌∙◌, ℕ, ◌+◌, ◌-◌, ◌≤◌, ◌<◌, true, false, cond, List, Option, Some, None, length, is_some}
-use Rattle.std.proofs.Common.{get_or, set as put_at, count_by, refl, sym, ap, subst, arith, get_or-set_same, inl, inr}
+use Rattle.std.proofs.Common.{get_or, count_by, refl, sym, ap, arith, get_or-set_same, inl, inr}
 use Rattle.std.specs.Prelude.{nat_le}
 use Rattle.std.proofs.lemmas.Bool.{leb-true}
-use Rattle.std.specs.Prelude.{IsSome, MatchOption}
+use Rattle.std.specs.Prelude.{MatchOption}
 use Rattle.std.proofs.lemmas.Bool.{cases_Bool, true≢false}
 use Rattle.std.proofs.lemmas.List.Sums.{sum_by-set}
 use Rattle.std.proofs.lemmas.List.{set-set}
@@ -14,7 +14,6 @@ use Rattle.dw_board.specs.Geometry.{Geometry}
 use Rattle.dw_board.specs.declared.piece.Side.{Side}
 use Rattle.dw_board.specs.declared.piece.Side.TheVariants.{White, Black}
 use Rattle.dw_board.specs.declared.piece.Piece.{Piece}
-use Rattle.dw_board.specs.declared.piece.PutFault.{PutFault}
 use Rattle.dw_board.specs.Placement.{Placement, is_of, is_stuck, same_side, at, placed, count, put_fault, IsPosition}
 
 same_side-self : (side : Side) → same_side side side ≡ true
@@ -88,9 +87,15 @@ pub made_so : (g : Geometry) (p : Placement) (s : ℕ) (kind : Kind) (piece : Pi
     → MatchOption r ((q : Placement) → IsNeighbour g p (made s kind) q → ⊥) (λ q. IsNeighbour g p (made s kind) q)
 made_so g p s kind piece None fifty low high there differs h = λ q is.
     let same : is.0.0 ≡ piece = some_injective (sym is.0.1 ∙ there) in
-    h q ((emptied p s fifty low high, is.0.3
-    ∙ (ap (λ (z : Piece). placed p s (Some (record { side = z.side; kind = kind }))) same
-    ∙ sym (put_twice p s (Some (record { side = piece.side; kind = kind }))))), is.1)
+    h q (
+      (
+        emptied p s fifty low high,
+        is.0.3
+            ∙ (ap (λ (z : Piece). placed p s (Some (record { side = z.side; kind = kind }))) same
+            ∙ sym (put_twice p s (Some (record { side = piece.side; kind = kind })))),
+      ),
+      is.1,
+    )
 made_so g p s kind piece (Some q) fifty low high there differs h =
     ((piece, there, differs, h.0.1 ∙ put_twice p s (Some (record { side = piece.side; kind = kind }))), h.1)
 

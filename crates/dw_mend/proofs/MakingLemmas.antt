@@ -1,13 +1,12 @@
 -- The neighbours that changes make, one change after another.
 use Rattle.std.proofs.Common.{◌≡◌, ◌∙◌, ℕ, ◌+◌, ◌<◌, List, [], ◌∷◌, ◌++◌, length, map, take, get_or, refl, sym, ap, subst}
-use Rattle.std.proofs.Common.{inl, inr, ◌↔◌, Some, None, Option}
+use Rattle.std.proofs.Common.{inl, inr, Some}
 use Rattle.std.proofs.lemmas.List.{map_push}
 use Rattle.dw_board.specs.Geometry.{Geometry}
 use Rattle.dw_board.specs.declared.piece.Piece.{Piece}
-use Rattle.dw_board.specs.Placement.{Placement, IsPosition, placed}
+use Rattle.dw_board.specs.Placement.{Placement, placed}
 use Rattle.dw_board.specs.Lists.{Member}
 use Rattle.dw_mend.specs.Changes.{Change, without, with_piece, set, made, Makes, IsNeighbour, AreMade, changes}
-use Rattle.dw_mend.specs.Changes.{AreNeighbours}
 use Rattle.dw_mend.specs.Laws.{OneListOfNeighbours}
 use Rattle.dw_mend.proofs.ListLemmas.{one_more}
 
@@ -15,8 +14,13 @@ pub made_more : (g : Geometry) (p : Placement) (cs : List Change) (found : List 
     (q : Placement) → AreMade g p cs found → IsNeighbour g p c q → AreMade g p (cs ++ c ∷ []) (found ++ (c, q) ∷ [])
 made_more g p [] found c q none is =
     inl (q, [], is, refl, ap (λ (z : List (Change × Placement)). z ++ (c, q) ∷ []) none)
-made_more g p (d ∷ cs) found c q (inl (r, rest, here, are, e)) is = inl (r, rest ++ (c, q) ∷ [], here,
-    made_more g p cs rest c q are is, ap (λ (z : List (Change × Placement)). z ++ (c, q) ∷ []) e)
+made_more g p (d ∷ cs) found c q (inl (r, rest, here, are, e)) is = inl (
+  r,
+  rest ++ (c, q) ∷ [],
+  here,
+  made_more g p cs rest c q are is,
+  ap (λ (z : List (Change × Placement)). z ++ (c, q) ∷ []) e,
+)
 made_more g p (d ∷ cs) found c q (inr (never, are)) is = inr (never, made_more g p cs found c q are is)
 
 pub made_none : (g : Geometry) (p : Placement) (cs : List Change) (found : List (Change × Placement)) (c : Change)
@@ -84,8 +88,10 @@ all_made : (g : Geometry) (p : Placement) (cs : List Change) (found : List (Chan
     → (c : Change) (q : Placement) → Member c cs → IsNeighbour g p c q → Member (c, q) found
 all_made g p [] found none c q here is = absurd here
 all_made g p (d ∷ cs) found (inl (r, rest, made_it, are, e)) c q (inl same) is =
-    subst (Member (c, q)) (sym e) (inl (λ i. (same i,
-    same_made p c q r is.0 (subst (λ z. Makes p z r) (sym same) made_it.0) i)))
+    subst (Member (c, q)) (sym e) (inl (λ i. (
+      same i,
+      same_made p c q r is.0 (subst (λ z. Makes p z r) (sym same) made_it.0) i,
+    )))
 all_made g p (d ∷ cs) found (inl (r, rest, made_it, are, e)) c q (inr later) is =
     subst (Member (c, q)) (sym e) (inr (all_made g p cs rest are c q later is))
 all_made g p (d ∷ cs) found (inr (never, are)) c q (inl same) is =

@@ -1,6 +1,6 @@
 -- What is written of neighbours, one neighbour after another.
 use Rattle.std.proofs.Common.{◌≡◌, ◌∙◌, ℕ, ◌+◌, ◌<◌, List, [], ◌∷◌, ◌++◌, length, map, take, get_or, refl, sym, ap, subst}
-use Rattle.std.proofs.Common.{append_assoc, append-nil, arith, inl, inr, ◌*◌, ◌≤◌, ◌%◌, suc, add-one, if◌then◌else◌}
+use Rattle.std.proofs.Common.{append_assoc, append-nil, arith, inl, inr, ◌*◌, ◌≤◌, ◌%◌, suc, add-one}
 use Rattle.std.specs.Prelude.{◌==◌, Result, Ok, Err}
 use Rattle.std.specs.Result.{IsErrAnd}
 use Rattle.std.proofs.lemmas.Bool.{cases_Bool}
@@ -8,6 +8,7 @@ use Rattle.std.proofs.lemmas.List.{map_push, take-map, take_all}
 use Rattle.dw_board.specs.Geometry.{Geometry}
 use Rattle.dw_board.specs.Placement.{Placement}
 use Rattle.dw_moves.specs.Moves.{Move}
+use Rattle.dw_solve.specs.Searching.{IsCounted}
 use Rattle.dw_report.specs.Verdict.{IsVerdict, sound}
 use Rattle.dw_mend.specs.Changes.{Change, AreNeighbours}
 use Rattle.dw_mend.specs.MendText.{IsSoundLine}
@@ -54,25 +55,36 @@ mended_both g n (x ∷ xs) ys text more counts others s u
       rest ++ more,
       record { sound = behind.sound + others.sound; undecided = behind.undecided + others.undecided },
       mended_both g n xs ys rest more behind others _ _ are' are refl refl,
-      inl (key, line, is, told, ap (λ z. z ++ more) t ∙ append_assoc line rest more,
-          (let e : s ≡ behind.sound + others.sound + 1 = omega arith in e),
-          (let e : u ≡ behind.undecided + others.undecided = omega arith in e)),
+      inl (
+        key,
+        line,
+        is,
+        told,
+        ap (λ z. z ++ more) t ∙ append_assoc line rest more,
+        (let e : s ≡ behind.sound + others.sound + 1 = omega arith in e),
+        (let e : u ≡ behind.undecided + others.undecided = omega arith in e),
+      ),
     )
 mended_both g n (x ∷ xs) ys text more counts others s u (rest, behind, are', inr (inl (never, t, cs, cu))) are es eu = (
   rest ++ more,
   record { sound = behind.sound + others.sound; undecided = behind.undecided + others.undecided },
   mended_both g n xs ys rest more behind others _ _ are' are refl refl,
-  inr (inl (never, ap (λ z. z ++ more) t,
-      (let e : s ≡ behind.sound + others.sound = omega arith in e),
-      (let e : u ≡ behind.undecided + others.undecided = omega arith in e))),
+  inr (inl (
+    never,
+    ap (λ z. z ++ more) t,
+    (let e : s ≡ behind.sound + others.sound = omega arith in e),
+    (let e : u ≡ behind.undecided + others.undecided = omega arith in e),
+  )),
 )
 mended_both g n (x ∷ xs) ys text more counts others s u (rest, behind, are', inr (inr (t, cs, cu))) are es eu = (
   rest ++ more,
   record { sound = behind.sound + others.sound; undecided = behind.undecided + others.undecided },
   mended_both g n xs ys rest more behind others _ _ are' are refl refl,
-  inr (inr (ap (λ z. z ++ more) t,
-      (let e : s ≡ behind.sound + others.sound = omega arith in e),
-      (let e : u ≡ behind.undecided + others.undecided + 1 = omega arith in e))),
+  inr (inr (
+    ap (λ z. z ++ more) t,
+    (let e : s ≡ behind.sound + others.sound = omega arith in e),
+    (let e : u ≡ behind.undecided + others.undecided + 1 = omega arith in e),
+  )),
 )
 
 -- the next neighbour of a list
@@ -108,6 +120,14 @@ pub spent_more : (base each u v before after : ℕ) → v ≡ u + 1 → base + u
 spent_more base each u v before after one so_far more =
     let e : v * each ≡ u * each + each = ap (λ z. z * each) (one ∙ add-one u) ∙ (let h : suc u * each ≡ u * each + each = omega arith in h) in
     omega arith
+
+-- what a search counts, and then another one
+pub counted_on : (a l b m c o : ℕ) → IsCounted a l b m → IsCounted b m c o → IsCounted a l c o
+counted_on a l b m c o h k = record {
+  rises = omega (arith, h.rises, k.rises);
+  within = subst (λ z. c ≤ z) h.same k.within;
+  same = k.same ∙ h.same;
+}
 
 -- ---- a stop
 pub same_fault : {T E : Type 0} (r : Result T E) (d f : E) → IsErrAnd r (λ z. z ≡ d) → r ≡ Err f → d ≡ f

@@ -1,11 +1,11 @@
--- A sound position is one with a win, without a shorter one.
-use Rattle.std.proofs.Common.{◌≡◌, ◌∙◌, ℕ, ◌-◌, zero, suc, Option, Some, None, refl, sym, subst, inl}
+-- A position that is sound has a win, and its key is legal.
+use Rattle.std.proofs.Common.{◌≡◌, ℕ, zero, suc, Option, Some, None, refl, subst, inl}
 use Rattle.std.specs.Prelude.{MatchOption}
 use Rattle.dw_board.specs.Geometry.{Geometry, IsBoard}
 use Rattle.dw_board.specs.Placement.{Placement}
-use Rattle.dw_moves.specs.Moves.{Move}
+use Rattle.dw_moves.specs.Moves.{Move, Legal}
 use Rattle.dw_solve.specs.Wins.{Win}
-use Rattle.dw_report.specs.Verdict.{Verdict, HasOneKey, IsWinning, IsVerdict, sound}
+use Rattle.dw_report.specs.Verdict.{Verdict, IsWinning, IsVerdict, sound}
 use Rattle.dw_report.specs.VerdictLaws.{OneVerdict}
 
 -- a move that wins is a win
@@ -16,8 +16,12 @@ winning_wins g p (suc n) m is = (m, is.0, is.1)
 pub sound_wins : (g : Geometry) (p : Placement) (n : ℕ) (m : Move) → IsVerdict g p n (sound m) → Win g p n
 sound_wins g p n m is = winning_wins g p n m ((is.0.0.exactly m).0 (inl refl))
 
-pub sound_first : (g : Geometry) (p : Placement) (n : ℕ) (m : Move) → IsVerdict g p n (sound m) → Win g p (n - 1) → ⊥
-sound_first g p n m is = is.0.1
+winning_legal : (g : Geometry) (p : Placement) (n : ℕ) (m : Move) → IsWinning g p n m → Legal g p m
+winning_legal g p zero m is = absurd is
+winning_legal g p (suc n) m is = is.0
+
+pub sound_legal : (g : Geometry) (p : Placement) (n : ℕ) (m : Move) → IsVerdict g p n (sound m) → Legal g p m
+sound_legal g p n m is = winning_legal g p n m ((is.0.0.exactly m).0 (inl refl))
 
 -- what a verdict says of the key
 pub key_so : (g : Geometry) → IsBoard g → OneVerdict → (p : Placement) (n : ℕ) (v : Verdict) (key : Option Move)

@@ -1,6 +1,6 @@
 -- The lines of neighbours, put together.
 use Rattle.std.proofs.Common.{◌≡◌, ◌∙◌, ℕ, List, [], ◌++◌, append_assoc, append-nil, ap, sym, codes, decimal}
-use Rattle.std.specs.Prelude.{if◌then◌else◌}
+use Rattle.std.specs.Prelude.{if◌then◌else◌, Result, Ok, Err, IfOk}
 use Rattle.std.proofs.lemmas.Bool.{ne_eqb}
 use Rattle.dw_board.specs.Geometry.{Geometry}
 use Rattle.dw_board.specs.Placement.{Placement}
@@ -40,3 +40,7 @@ counted all sound undecided one two three line some s a u e =
     ∙ ap (λ b. codes "sound " ++ decimal sound ++ codes " of " ++ decimal all
     ++ (if b then [] else codes ", " ++ decimal undecided ++ codes " undecided") ++ codes "\n")
     (sym (ne_eqb undecided 0 some))))
+
+pub ok_so : {T E : Type 0} (P Q : T → Type 0) (r : Result T E) → ((x : T) → P x → Q x) → IfOk r P → IfOk r Q
+ok_so P Q (Ok x) so h = so x h
+ok_so P Q (Err e) so h = tt

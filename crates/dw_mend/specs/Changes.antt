@@ -1,5 +1,5 @@
 -- Changes to one piece of a position, and the positions that they make.
-use Rattle.std.specs.Prelude.{◌≡◌, ℕ, ◌⊎◌, Option, Some, None, IsSome, List, [], ◌∷◌, ◌++◌, map}
+use Rattle.std.specs.Prelude.{◌≡◌, ℕ, ◌⊎◌, Some, None, IsSome, List, [], ◌∷◌, ◌++◌, map}
 use Rattle.std.specs.List.{range_with_len, flat_map}
 use Rattle.dw_board.specs.Geometry.{Geometry, squares}
 use Rattle.dw_board.specs.Placement.{Placement, at, placed, IsPosition}

@@ -1,5 +1,4 @@
 -- How changes and neighbours are told.
-use Rattle.std.specs.Prelude.{ℕ}
 use Rattle.dw_board.specs.Placement.{Placement}
 use Rattle.dw_mend.specs.Changes.{Change, without, with_piece, set, made}
 use Rattle.dw_mend.specs.declared.change.Change as changes

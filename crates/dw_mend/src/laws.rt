@@ -5,5 +5,4 @@ ghost use Rattle.dw_mend.specs.Laws.{OneListOfNeighbours};
 /// Example: `W:W27,32:B18` has 310, each once.
 pub fn one_list_of_neighbours()
     ensures { OneListOfNeighbours }
-{
-}
+{}

@@ -94,8 +94,8 @@ impl From<WriteFault> for MendFault {
 /// with the change that makes it and with its key, in the order of the changes; and then how many they are, of how
 /// many. Those that would take more positions than the bounds allow stay undecided, and are counted. After a stop the
 /// lines of the first neighbours were written, all bounds in the memo are right, and the solver's limit is what it was.
-/// Example: of `W:W27,32:B18`, within 2 moves, the first line is `without 27: W:W32:B18, sound in 2: 32-28`, and the last
-/// one is `sound 44 of 310`.
+/// Example: of `W:W27,32:B18`, within 2 moves, the first line is `without 27: W:W32:B18, sound in 2: 32-28`, and the
+/// last one is `sound 44 of 310`.
 pub fn mend<B: Board, M: Memo<B>, G: Guide<B>, W: Watcher, K: Sink>(
     alloc: Global,
     solver: &mut Solver<B, M, G>,

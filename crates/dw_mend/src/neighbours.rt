@@ -98,7 +98,10 @@ fn squares<B: Board>(alloc: Global) -> Result<Vec<Square<B>>, AllocError>
 }
 
 /// Those that take the piece on one of these squares away.
-fn push_without<B: Board>(list: &mut Vec<Change<B>>, squares: &[Square<B>]) -> Result<(), AllocError>
+fn push_without<B: Board>(
+    list: &mut Vec<Change<B>>,
+    squares: &[Square<B>],
+) -> Result<(), AllocError>
     ensures { OnOk result (map told list.new.items ≡ map told list.old.items ++ map without squares.now) }
 {
     'squares: for square in squares {

@@ -79,7 +79,14 @@ pub fn count_line(alloc: Global, mended: &Mended) -> Result<String, AllocError>
     let mut sound = Buffer::new();
     let mut all = Buffer::new();
     if mended.undecided == 0 {
-        return ["sound ", sound.format(mended.sound), " of ", all.format(mended.all), "\n"].concat(alloc);
+        return [
+            "sound ",
+            sound.format(mended.sound),
+            " of ",
+            all.format(mended.all),
+            "\n",
+        ]
+        .concat(alloc);
     }
     [
         "sound ",

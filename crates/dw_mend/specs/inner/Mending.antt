@@ -1,5 +1,5 @@
 -- What is found of one neighbour, and what is written of it.
-use Rattle.std.specs.Prelude.{◌≡◌, ℕ, ◌+◌, List, [], Result, Ok, Err, IfOk}
+use Rattle.std.specs.Prelude.{◌≡◌, ℕ, ◌+◌, List, [], Result, Err, IfOk}
 use Rattle.dw_board.specs.Geometry.{Geometry}
 use Rattle.dw_board.specs.Placement.{Placement}
 use Rattle.dw_moves.specs.Moves.{Move}
@@ -11,7 +11,7 @@ use Rattle.dw_mend.specs.MendText.{IsSoundLine}
 use Rattle.dw_mend.specs.declared.mend.Found as finds
 use Rattle.dw_mend.specs.declared.mend.Found.TheVariants.{Sound, Unsound, Undecided}
 use Rattle.dw_mend.specs.declared.mend.MendFault.{MendFault}
-use Rattle.dw_mend.specs.declared.mend.MendFault.TheVariants.{Stopped, Write}
+use Rattle.dw_mend.specs.declared.mend.MendFault.TheVariants.{Stopped}
 
 -- what is found of a position holds
 abbrev pub IsFound : {B : Type 0} → Geometry → Placement → ℕ → finds.Found B → Type 0

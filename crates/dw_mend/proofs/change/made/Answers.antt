@@ -1,4 +1,4 @@
-use Rattle.std.proofs.Common.{◌∙◌, ◌≤◌, sym, subst, arith}
+use Rattle.std.proofs.Common.{◌≤◌, sym, subst, arith}
 use Rattle.std.specs.Prelude.{MatchOption}
 use Rattle.dw_board.specs.Placement.{Placement}
 use Rattle.dw_mend.specs.Changes.{with_piece, IsNeighbour}

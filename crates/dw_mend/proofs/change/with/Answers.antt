@@ -1,4 +1,4 @@
-use Rattle.std.proofs.Common.{◌∙◌, sym, ap, subst, arith}
+use Rattle.std.proofs.Common.{sym, ap, subst, arith}
 use Rattle.std.specs.Prelude.{◌≤◌, is_some}
 use Rattle.dw_board.specs.Placement.{IsPosition}
 use Rattle.dw_mend.proofs.ChangeLemmas.{no_position}

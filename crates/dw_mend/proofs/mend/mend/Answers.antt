@@ -41,9 +41,12 @@ returns-in_err-count_line-clause-stopped g c = λ stop all are e.
     c.in_ok-all.ensures are
     (c.as_slice-2.ensures.value ∙ (c.in_ok-some.ensures ∙ ap (part_of i m) c.as_slice.ensures.value)) in
     let t = c.in_ok-mended.ensures.text in
-    let counts = c.in_ok-mended.mended in
-    (t.0, subst (λ z. IsMendStop geo n z t.0) told (stop_at_end geo n (map told_by c.as_slice-2.result.now) t.0
-        (record { sound = counts.sound; undecided = counts.undecided }) t.1), t.2)
+    let counts = c.in_ok-mended.mended in (
+      t.0,
+      subst (λ z. IsMendStop geo n z t.0) told (stop_at_end geo n (map told_by c.as_slice-2.result.now) t.0
+          (record { sound = counts.sound; undecided = counts.undecided }) t.1),
+      t.2,
+    )
 
 pub returns-clause-text : goal.returns-clause-text
 returns-clause-text g c =
@@ -58,8 +61,7 @@ returns-clause-text g c =
     c.in_ok-all.ensures
     (c.as_slice-2.ensures.value ∙ (c.in_ok-some.ensures ∙ ap (part_of i m) c.as_slice.ensures.value)) in
     let t = c.in_ok-mended.ensures.text in
-    let line = count_line counts.all counts.sound counts.undecided in
-    (
+    let line = count_line counts.all counts.sound counts.undecided in (
       t.0 ++ line,
       record {
         neighbours = map told_by items;

@@ -1,7 +1,7 @@
-use Rattle.std.proofs.Common.{◌∙◌, sym, ap, subst, map, [], ◌∷◌, ◌++◌}
+use Rattle.std.proofs.Common.{◌∙◌, ap, map, [], ◌∷◌, ◌++◌}
 use Rattle.std.specs.List.{flat_map}
 use Rattle.dw_board.specs.declared.piece.Kind.TheVariants.{Man, King}
-use Rattle.dw_mend.specs.Changes.{changes, all_squares, without, with_piece, set, made, pieces}
+use Rattle.dw_mend.specs.Changes.{all_squares, without, with_piece, set, made, pieces}
 use Rattle.dw_mend.specs.Telling.{told}
 use Rattle.dw_mend.proofs.ListLemmas.{four_joined}
 use Rattle.dw_mend.proofs.neighbours.all_changes.Goals as goal

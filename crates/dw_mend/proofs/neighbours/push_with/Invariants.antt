@@ -1,7 +1,6 @@
-use Rattle.std.proofs.Common.{◌≡◌, ◌++◌, ◌∷◌, [], map, take}
+use Rattle.std.proofs.Common.{◌≡◌, ◌++◌, map, take}
 use Rattle.std.specs.List.{flat_map}
-use Rattle.dw_board.specs.declared.piece.Kind.TheVariants.{Man, King}
-use Rattle.dw_mend.specs.Changes.{pieces, without, with_piece, set, made}
+use Rattle.dw_mend.specs.Changes.{pieces, with_piece}
 use Rattle.dw_mend.specs.Telling.{told}
 use Rattle.dw_mend.proofs.neighbours.push_with.Given as goal
 

@@ -1,6 +1,5 @@
 use Rattle.std.proofs.Common.{◌+◌, ◌∙◌, ◌++◌, ◌∷◌, [], sym, ap}
-use Rattle.std.specs.List.{range_with_len}
-use Rattle.std.proofs.Common.{◌<◌, ◌≤◌, ◌*◌, arith, subst}
+use Rattle.std.proofs.Common.{◌<◌, ◌*◌, arith, subst}
 use Rattle.dw_board.specs.Geometry.{squares}
 use Rattle.dw_mend.proofs.ListLemmas.{range_next}
 use Rattle.dw_mend.proofs.neighbours.squares.Goals as goal

@@ -1,4 +1,4 @@
-use Rattle.std.proofs.Common.{◌≡◌, ◌+◌, ◌%◌, ◌∙◌, sym, ap}
+use Rattle.std.proofs.Common.{◌+◌, ◌%◌, ◌∙◌, sym, ap}
 use Rattle.dw_mend.proofs.ListLemmas.{part_taken, part_left}
 use Rattle.dw_mend.proofs.part.part_of.Goals as goal
 use Rattle.dw_mend.proofs.part.part_of.Goals.{then-place-from+in_ok-push, else-place-from}
