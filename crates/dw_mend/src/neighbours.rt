@@ -2,7 +2,8 @@
 ghost use Rattle.std.specs.Prelude.{◌≡◌, ◌++◌, ◌∷◌, [], ℕ, IfOk, OnOk, map};
 ghost use Rattle.std.specs.List.{flat_map};
 ghost use Rattle.dw_board.specs.declared.piece.Kind.TheVariants.{Man, King};
-ghost use Rattle.dw_mend.specs.Changes.{AreNeighbours, AreMade, all_squares, changes, pieces, without, with_piece, set, made};
+ghost use Rattle.dw_mend.specs.Changes.{AreNeighbours, AreMade, all_squares, changes, pieces};
+ghost use Rattle.dw_mend.specs.Changes.{without, with_piece, set, made};
 ghost use Rattle.dw_mend.specs.Telling.{told, told_by};
 
 use crate::change::{Change, changed};
@@ -183,7 +184,8 @@ fn push_made<B: Board>(list: &mut Vec<Change<B>>, squares: &[Square<B>]) -> Resu
 
 /// Those that make a king or a man of the piece on this square.
 fn push_kinds<B: Board>(list: &mut Vec<Change<B>>, square: Square<B>) -> Result<(), AllocError>
-    ensures { OnOk result (map told list.new.items ≡ map told list.old.items ++ made square King ∷ made square Man ∷ []) }
+    ensures { OnOk result (map told list.new.items
+        ≡ map told list.old.items ++ made square King ∷ made square Man ∷ []) }
 {
     list.push(Change::Made {
         square,

@@ -16,8 +16,8 @@ use itoa::Buffer;
 use std::alloc::{AllocError, Global};
 
 /// The line of a neighbour that is sound within so many moves, with its key.
-/// Example: that of `W:W32:B18`, a neighbour of `W:W27,32:B18`, is `without 27: W:W32:B18, sound in 2: 32-28` and a line
-/// end.
+/// Example: that of `W:W32:B18`, a neighbour of `W:W27,32:B18`, is `without 27: W:W32:B18, sound in 2: 32-28` and a
+/// line end.
 pub fn sound_line<B: Board>(
     alloc: Global,
     neighbour: &Neighbour<B>,
