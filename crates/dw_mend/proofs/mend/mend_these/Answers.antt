@@ -1,0 +1,83 @@
+use Rattle.std.proofs.Common.{◌∙◌, ◌++◌, sym, ap, subst, add-zero, arith, Err}
+use Rattle.std.specs.Io.KnownBytes.{Appends}
+use Rattle.std.proofs.KnownBytes.{Appends-trans}
+use Rattle.dw_mend.specs.Telling.{told_by}
+use Rattle.dw_mend.specs.declared.mend.MendFault.TheVariants as because
+use Rattle.dw_mend.specs.inner.Mending.{IsUndecided}
+use Rattle.dw_mend.proofs.MendLemmas.{counted_on, mended_next, adds_sound, adds_unsound, adds_undecided, spent_more, stop_at, same_fault}
+use Rattle.dw_mend.proofs.mend.mend_these.Goals as goal
+use Rattle.dw_mend.proofs.mend.mend_these.Goals.{in-Sound, in-Unsound, in-Undecided}
+
+pub returns-in_err-write_found-clause-stopped : goal.returns-in_err-write_found-clause-stopped
+returns-in_err-write_found-clause-stopped g c = λ stop e.
+    let t = c.neighbours.invariant.text in (
+      t.0,
+      stop_at told_by g.B.Board.geometry c.args.bounds.moves c.args.some.now c.neighbours.neighbour-index
+          c.neighbours.mended.sound c.neighbours.mended.undecided t.0 t.1,
+      subst (λ z. Appends (g.K.Sink.taken c.args.sink.now) z t.0) (sym (c.in_err-write_found.ensures.stopped stop
+          (ap (λ z. Err z) (same_fault c.from_residual.result c.in_err-write_found.field-0.0 (because.Stopped stop) c.from_residual.ensures.1 e)))) t.2,
+    )
+
+pub neighbours-preserved : goal.neighbours-preserved
+neighbours-preserved g c =
+    let geo = g.B.Board.geometry in
+    let n = c.args.bounds.moves in
+    let t = c.neighbours.invariant.text in
+    let new = c.in_ok-write_found.ensures.text in
+    let x = c.neighbour-item.result in
+    let found = c.in_ok-write_found.field-0 in
+    let was = c.neighbours.mended in
+    let now = c.match-branch-2.mended in
+    let base = c.args.solver.now.expanded in
+    let each = c.args.bounds.each in
+    let before = c.neighbours.solver.expanded in
+    let after = c.write_found.new.solver.expanded in
+    let so_far = c.neighbours.invariant.spent in
+    let few = c.neighbours.invariant.few in
+    let rises = c.in_ok-write_found.ensures.goes.count.rises in
+    record {
+      text = (
+        t.0 ++ new.0,
+        elim c.match-branch-2.branch [
+          | in-Sound w ↦ mended_next told_by geo n c.args.some.now c.neighbours.neighbour-index x t.0 new.0
+              (record { sound = was.sound; undecided = was.undecided }) (record { sound = 1; undecided = 0 }) now.sound
+              now.undecided c.neighbours-test.true c.neighbour-item.is t.1
+              (adds_sound geo n (told_by x) found _ new.0 w.in-Sound.is new.1) (ap (λ z. z.sound) w.mended-is)
+              (ap (λ z. z.undecided) w.mended-is ∙ sym (add-zero was.undecided))
+          | in-Unsound w ↦ mended_next told_by geo n c.args.some.now c.neighbours.neighbour-index x t.0 new.0
+              (record { sound = was.sound; undecided = was.undecided }) (record { sound = 0; undecided = 0 }) now.sound
+              now.undecided c.neighbours-test.true c.neighbour-item.is t.1
+              (adds_unsound geo n (told_by x) found new.0 w.in-Unsound.is new.1)
+              (ap (λ z. z.sound) w.mended-is ∙ sym (add-zero was.sound))
+              (ap (λ z. z.undecided) w.mended-is ∙ sym (add-zero was.undecided))
+          | in-Undecided w ↦ mended_next told_by geo n c.args.some.now c.neighbours.neighbour-index x t.0 new.0
+              (record { sound = was.sound; undecided = was.undecided }) (record { sound = 0; undecided = 1 }) now.sound
+              now.undecided c.neighbours-test.true c.neighbour-item.is t.1
+              (adds_undecided geo n (told_by x) found new.0 w.in-Undecided.is new.1)
+              (ap (λ z. z.sound) w.mended-is ∙ sym (add-zero was.sound)) (ap (λ z. z.undecided) w.mended-is)
+        ],
+        Appends-trans (g.K.Sink.taken c.args.sink.now) (g.K.Sink.taken c.neighbours.sink)
+            (g.K.Sink.taken c.write_found.new.sink) t.0 new.0 t.2 new.2,
+      );
+      all = elim c.match-branch-2.branch [
+        | in-Sound w ↦ ap (λ z. z.all) w.mended-is ∙ c.neighbours.invariant.all
+        | in-Unsound w ↦ ap (λ z. z.all) w.mended-is ∙ c.neighbours.invariant.all
+        | in-Undecided w ↦ ap (λ z. z.all) w.mended-is ∙ c.neighbours.invariant.all
+      ];
+      few = elim c.match-branch-2.branch [
+        | in-Sound w ↦ let s = ap (λ z. z.sound) w.mended-is in let u = ap (λ z. z.undecided) w.mended-is in omega (arith, few, s, u)
+        | in-Unsound w ↦ let s = ap (λ z. z.sound) w.mended-is in let u = ap (λ z. z.undecided) w.mended-is in omega (arith, few, s, u)
+        | in-Undecided w ↦ let s = ap (λ z. z.sound) w.mended-is in let u = ap (λ z. z.undecided) w.mended-is in omega (arith, few, s, u)
+      ];
+      spent = elim c.match-branch-2.branch [
+        | in-Sound w ↦ rw (ap (λ z. z.undecided) w.mended-is) (omega (arith, so_far, rises))
+        | in-Unsound w ↦ rw (ap (λ z. z.undecided) w.mended-is) (omega (arith, so_far, rises))
+        | in-Undecided w ↦ spent_more base each was.undecided c.match-branch-2.mended.undecided before after
+            (ap (λ z. z.undecided) w.mended-is) so_far
+            (c.in_ok-write_found.ensures.goes.spent (subst IsUndecided (sym w.in-Undecided.is) tt))
+      ];
+      count = counted_on _ _ _ _ _ _ c.neighbours.invariant.count c.in_ok-write_found.ensures.goes.count;
+      right = c.in_ok-write_found.ensures.right;
+      map = c.in_ok-write_found.ensures.map;
+      works = c.in_ok-write_found.ensures.sink;
+    }

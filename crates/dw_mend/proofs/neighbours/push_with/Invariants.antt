@@ -1,0 +1,8 @@
+use Rattle.std.proofs.Common.{◌≡◌, ◌++◌, map, take}
+use Rattle.std.specs.List.{flat_map}
+use Rattle.dw_mend.specs.Changes.{pieces, with_piece}
+use Rattle.dw_mend.specs.Telling.{told}
+use Rattle.dw_mend.proofs.neighbours.push_with.Given as goal
+
+abbrev pub invariant-squares : goal.invariant-squares
+invariant-squares g l = map told l.list.items ≡ map told l.fn.list.items ++ flat_map (λ s. map (with_piece s) pieces) (take l.square-index l.squares)

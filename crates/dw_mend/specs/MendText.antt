@@ -1,0 +1,42 @@
+-- What is written of neighbours.
+use Rattle.std.specs.Prelude.{◌≡◌, ℕ, List, [], ◌++◌, ◌==◌, if◌then◌else◌, codes, decimal}
+use Rattle.dw_board.specs.Geometry.{Geometry}
+use Rattle.dw_board.specs.Placement.{Placement}
+use Rattle.dw_board.specs.FenText.{written, side_text}
+use Rattle.dw_board.specs.declared.piece.Kind.{Kind}
+use Rattle.dw_board.specs.declared.piece.Kind.TheVariants.{Man, King}
+use Rattle.dw_moves.specs.Moves.{Move}
+use Rattle.dw_notation.specs.Text.{IsMoveText}
+use Rattle.dw_mend.specs.Changes.{Change, without, with_piece, set, made}
+
+-- a king has a K before it
+abbrev pub kind_mark : Kind → List ℕ
+kind_mark Man = []
+kind_mark King = codes "K"
+
+-- the word for a kind of piece
+abbrev pub kind_word : Kind → List ℕ
+kind_word Man = codes "man"
+kind_word King = codes "king"
+
+-- a change in words
+abbrev pub change_text : Change → List ℕ
+change_text (without s) = codes "without " ++ decimal s
+change_text (with_piece s piece) = codes "with " ++ side_text piece.side ++ kind_mark piece.kind ++ decimal s
+change_text (set s t) = decimal s ++ codes " to " ++ decimal t
+change_text (made s kind) = decimal s ++ codes " as " ++ kind_word kind
+
+-- the line of a neighbour that is sound within n moves: the change, the position, the key
+abbrev pub IsSoundLine : Geometry → ℕ → Change × Placement → Move → List ℕ → Type 0
+IsSoundLine g n x key line = (move : List ℕ) × IsMoveText g x.1 key move
+    × (line ≡ change_text x.0 ++ codes ": " ++ written g x.1 ++ codes ", sound in " ++ decimal n ++ codes ": " ++ move
+    ++ codes "\n")
+
+-- how many are undecided, if any
+abbrev pub undecided_text : ℕ → List ℕ
+undecided_text undecided = if undecided == 0 then [] else codes ", " ++ decimal undecided ++ codes " undecided"
+
+-- the last line: how many neighbours are sound, of how many
+abbrev pub count_line : (all sound undecided : ℕ) → List ℕ
+count_line all sound undecided =
+    codes "sound " ++ decimal sound ++ codes " of " ++ decimal all ++ undecided_text undecided ++ codes "\n"

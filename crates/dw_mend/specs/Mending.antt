@@ -1,0 +1,50 @@
+-- The neighbours of a position that are sound.
+use Rattle.std.specs.Prelude.{◌≡◌, ℕ, ◌+◌, ◌%◌, ◌==◌, ◌⊎◌, if◌then◌else◌, List, [], ◌∷◌, ◌++◌, length, take}
+use Rattle.dw_board.specs.Geometry.{Geometry}
+use Rattle.dw_board.specs.Placement.{Placement}
+use Rattle.dw_moves.specs.Moves.{Move}
+use Rattle.dw_report.specs.Verdict.{IsVerdict, sound}
+use Rattle.dw_mend.specs.Changes.{Change, AreNeighbours}
+use Rattle.dw_mend.specs.MendText.{IsSoundLine, count_line}
+
+-- those of a list whose place leaves the same rest as i when it is divided by m; the first one has this place
+abbrev pub part_from : {X : Type 0} → (place i m : ℕ) → List X → List X
+part_from place i m [] = []
+part_from place i m (x ∷ xs) =
+    if place % m == i % m then x ∷ part_from (place + 1) i m xs else part_from (place + 1) i m xs
+
+-- a part of a list, whose places are counted from 1
+abbrev pub part_of : {X : Type 0} → (i m : ℕ) → List X → List X
+part_of i m xs = part_from 1 i m xs
+
+-- how many neighbours are sound, and how many are undecided
+pub record Counts : Type 0 where
+  pub sound : ℕ
+  pub undecided : ℕ
+
+-- What is written of neighbours, and what is counted: of each one that is sound its line, in their order; nothing of
+-- one that is not, or that is undecided.
+abbrev pub AreMended : Geometry → (n : ℕ) → List (Change × Placement) → List ℕ → Counts → Type 0
+AreMended g n [] text counts = (text ≡ []) × (counts.sound ≡ 0) × (counts.undecided ≡ 0)
+AreMended g n (x ∷ xs) text counts = (rest : List ℕ) × (others : Counts) × AreMended g n xs rest others
+    × (((key : Move) × (line : List ℕ) × IsVerdict g x.1 n (sound key) × IsSoundLine g n x key line
+    × (text ≡ line ++ rest) × (counts.sound ≡ others.sound + 1) × (counts.undecided ≡ others.undecided))
+    ⊎ ((((key : Move) → IsVerdict g x.1 n (sound key) → ⊥) × (text ≡ rest) × (counts.sound ≡ others.sound)
+    × (counts.undecided ≡ others.undecided))
+    ⊎ ((text ≡ rest) × (counts.sound ≡ others.sound) × (counts.undecided ≡ others.undecided + 1))))
+
+-- What is written of a position: the lines of those of its neighbours that are sound, of the part i of m, and how many
+-- these are.
+pub record IsMendText (g : Geometry) (p : Placement) (n i m all sound undecided : ℕ) (text : List ℕ) : Type 0 where
+  pub neighbours : List (Change × Placement)
+  pub are : AreNeighbours g p neighbours
+  pub lines : List ℕ
+  pub mended : AreMended g n (part_of i m neighbours) lines (record { sound = sound; undecided = undecided })
+  pub count : all ≡ length (part_of i m neighbours)
+  pub is : text ≡ lines ++ count_line all sound undecided
+
+-- what is written after a stop: the lines of the first neighbours, some of them
+pub record IsMendStop (g : Geometry) (n : ℕ) (neighbours : List (Change × Placement)) (text : List ℕ) : Type 0 where
+  pub some : ℕ
+  pub counts : Counts
+  pub mended : AreMended g n (take some neighbours) text counts

@@ -1,0 +1,129 @@
+//! Changes to one piece of a position.
+ghost use Rattle.std.specs.Prelude.{◌≡◌, ◌↔◌, IsTrue, MatchOption};
+ghost use Rattle.dw_board.specs.Placement.{Placement, IsPosition};
+ghost use Rattle.dw_mend.specs.Changes.{IsNeighbour, without, with_piece, set, made};
+ghost use Rattle.dw_mend.specs.Telling.{told};
+
+use dw_board::{Board, Kind, Piece, Position, Square};
+
+/// A change to one piece of a position.
+/// Example: of `W:W27:B16` the change `Change::Without` of square 27 makes `W:W:B16`.
+#[derive(Clone, Copy)]
+pub enum Change<B: Board> {
+    /// The piece on a square is taken away.
+    Without {
+        /// Where it stands.
+        square: Square<B>,
+    },
+    /// A piece is put on an empty square.
+    With {
+        /// Where it comes to stand.
+        square: Square<B>,
+        /// The piece.
+        piece: Piece,
+    },
+    /// A piece is set on an empty square.
+    Set {
+        /// Where it stands.
+        from: Square<B>,
+        /// Where it comes to stand.
+        to: Square<B>,
+    },
+    /// A man becomes a king, or a king a man.
+    Made {
+        /// Where it stands.
+        square: Square<B>,
+        /// What it becomes.
+        kind: Kind,
+    },
+}
+
+/// The position after a change; none, if it can not be made there, or what it makes is no position: a man on its last
+/// row, or a side with too many pieces.
+/// Example: in `W:W7:B` to set the man from 7 on 2 gives none, and to make it a king gives `W:WK7:B`.
+pub fn changed<B: Board>(position: &Position<B>, change: Change<B>) -> Option<Position<B>>
+    ensures { MatchOption result ((q : Placement) → IsNeighbour B.geometry position.now (told change) q → ⊥)
+        (λ q. IsNeighbour B.geometry position.now (told change) q) }
+{
+    match change {
+        Change::Without { square } => without(position, square),
+        Change::With { square, piece } => with(position, square, piece),
+        Change::Set { from, to } => set(position, from, to),
+        Change::Made { square, kind } => made(position, square, kind),
+    }
+}
+
+/// No side has too many pieces, and no man stands on its last row: a law, which does nothing.
+fn keeps_its_rules<B: Board>(position: &Position<B>)
+    ensures { IsPosition B.geometry position.now.cells }
+{
+    let _turn = position.turn();
+}
+
+/// The position without the piece on a square, if one stands there.
+fn without<B: Board>(position: &Position<B>, square: Square<B>) -> Option<Position<B>>
+    ensures { MatchOption result ((q : Placement) → IsNeighbour B.geometry position.now (without square) q → ⊥)
+        (λ q. IsNeighbour B.geometry position.now (without square) q) }
+{
+    let mut after = *position;
+    after.clear(square)?;
+    keeps_its_rules(&after);
+    Some(after)
+}
+
+/// The position with one more piece, on a square that is empty.
+fn with<B: Board>(position: &Position<B>, square: Square<B>, piece: Piece) -> Option<Position<B>>
+    ensures { MatchOption result ((q : Placement) → IsNeighbour B.geometry position.now (with_piece square piece) q → ⊥)
+        (λ q. IsNeighbour B.geometry position.now (with_piece square piece) q) }
+{
+    if position.at(square).is_some() {
+        return None;
+    }
+    keeps_its_rules(position);
+    let mut after = *position;
+    match after.put(square, piece) {
+        Ok(()) => {
+            keeps_its_rules(&after);
+            Some(after)
+        }
+        Err(_) => None,
+    }
+}
+
+/// The position with a piece on another square, which is empty.
+fn set<B: Board>(position: &Position<B>, from: Square<B>, to: Square<B>) -> Option<Position<B>>
+    ensures { MatchOption result ((q : Placement) → IsNeighbour B.geometry position.now (set from to) q → ⊥)
+        (λ q. IsNeighbour B.geometry position.now (set from to) q) }
+{
+    if position.at(to).is_some() {
+        return None;
+    }
+    let piece = position.at(from)?;
+    keeps_its_rules(position);
+    let mut after = *position;
+    after.clear(from);
+    with(&after, to, piece)
+}
+
+/// The position with a piece of the other kind on a square.
+fn made<B: Board>(position: &Position<B>, square: Square<B>, kind: Kind) -> Option<Position<B>>
+    ensures { MatchOption result ((q : Placement) → IsNeighbour B.geometry position.now (made square kind) q → ⊥)
+        (λ q. IsNeighbour B.geometry position.now (made square kind) q) }
+{
+    let piece = position.at(square)?;
+    if is_same(piece.kind, kind) {
+        return None;
+    }
+    keeps_its_rules(position);
+    let mut after = *position;
+    after.clear(square);
+    let side = piece.side;
+    with(&after, square, Piece { side, kind })
+}
+
+/// Whether two kinds are the same.
+fn is_same(one: Kind, other: Kind) -> bool
+    ensures { IsTrue result ↔ (one ≡ other) }
+{
+    one == other
+}

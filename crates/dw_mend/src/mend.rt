@@ -1,0 +1,267 @@
+//! The neighbours of a position that are sound, each in a line as soon as it is known.
+ghost use Rattle.std.specs.Prelude.{◌≡◌, ℕ, ◌+◌, ◌*◌, ◌≤◌, false, take, length, List, Err, IfOk, IfErr, IsErr, IsErrOf};
+ghost use Rattle.std.specs.Prelude.{OnOk, MatchOption, map};
+ghost use Rattle.dw_moves.specs.Moves.{Move as AnyMove};
+ghost use Rattle.dw_report.specs.Verdict.{IsVerdict, sound};
+ghost use Rattle.std.specs.Io.KnownBytes.{Appends};
+ghost use Rattle.dw_board.specs.Placement.{Placement};
+ghost use Rattle.dw_memo.specs.Content.{IsMap};
+ghost use Rattle.dw_solve.specs.declared.stop.Stop.TheVariants as stops;
+ghost use Rattle.dw_solve.specs.declared.stop.Stop.TheVariants.{Limit};
+ghost use Rattle.dw_solve.specs.Facts.{AreTrue};
+ghost use Rattle.dw_solve.specs.Searching.{IsCounted};
+ghost use Rattle.dw_mend.specs.Changes.{Change as Changed, AreNeighbours};
+ghost use Rattle.dw_mend.specs.Mending.{IsMendText, IsMendStop, Counts, AreMended, part_of};
+ghost use Rattle.dw_mend.specs.Telling.{told_by};
+ghost use Rattle.dw_mend.specs.declared.mend.MendFault.TheVariants as because;
+ghost use Rattle.dw_mend.specs.inner.Mending.{IsFound, IsUndecided, Adds, Goes};
+
+use crate::neighbours::{Neighbour, neighbours};
+use crate::part::{Part, part_of};
+use crate::soundness::sound_key;
+use crate::text::{count_line, sound_line};
+use dw_board::{Board, Position};
+use dw_memo::Memo;
+use dw_moves::Move;
+use dw_notation::{Sink, WriteFault, write_all};
+use dw_solve::{Guide, Solver, Stop};
+use dw_study::{Slices, Watcher};
+use std::alloc::{AllocError, Global};
+use thiserror::Error;
+
+/// Which neighbours are looked at, and how far.
+/// Example: within 2 moves, and with `each` 1,000,000, a neighbour of which it is not known after 1,000,000 positions
+/// whether it is sound in 2 moves stays undecided.
+#[derive(Clone, Copy, Debug, PartialEq, Eq)]
+pub struct MendBounds {
+    /// The number of moves within which the win is, 1 to 20.
+    pub moves: u8,
+    /// How many positions may be expanded for each neighbour, at least 1.
+    pub each: u64,
+    /// Which of the neighbours are looked at.
+    pub part: Part,
+}
+
+/// What was found of the neighbours that were looked at.
+/// Example: of the neighbours of `W:W27,32:B18`, within 2 moves, 44 of 310 are sound.
+#[derive(Clone, Copy, Debug, Default, PartialEq, Eq)]
+pub struct Mended {
+    /// How many there are.
+    pub all: usize,
+    /// How many are sound.
+    pub sound: usize,
+    /// How many are not known to be sound or not, since as many positions were expanded for each as was allowed.
+    pub undecided: usize,
+}
+
+/// Why not all neighbours were looked at.
+/// Example: `MendFault::Write` is written `write failed`.
+#[derive(Clone, Copy, Debug, PartialEq, Eq, Error)]
+pub enum MendFault {
+    /// Memory was refused, or the solver's own limit was met.
+    #[error("stopped: {0}")]
+    Stopped(Stop),
+    /// The sink failed.
+    #[error("write failed")]
+    Write,
+}
+
+impl From<AllocError> for MendFault {
+    ghost from_gives = { λ _ fault. fault ≡ because.Stopped stops.Memory };
+
+    fn from(_refused: AllocError) -> MendFault {
+        MendFault::Stopped(Stop::Memory)
+    }
+}
+
+impl From<Stop> for MendFault {
+    ghost from_gives = { λ stop fault. fault ≡ because.Stopped stop };
+
+    fn from(stop: Stop) -> MendFault {
+        MendFault::Stopped(stop)
+    }
+}
+
+impl From<WriteFault> for MendFault {
+    ghost from_gives = { λ _ fault. fault ≡ because.Write };
+
+    fn from(_failed: WriteFault) -> MendFault {
+        MendFault::Write
+    }
+}
+
+/// Writes the neighbours of a position that are sound within so many moves of the side to move, 1 to 20, each in a line
+/// with the change that makes it and with its key, in the order of the changes; and then how many they are, of how
+/// many. Those that would take more positions than the bounds allow stay undecided, and are counted. After a stop the
+/// lines of the first neighbours were written, all bounds in the memo are right, and the solver's limit is what it was.
+/// Example: of `W:W27,32:B18`, within 2 moves, the first line is `without 27: W:W32:B18, sound in 2: 32-28`, and the
+/// last one is `sound 44 of 310`.
+pub fn mend<B: Board, M: Memo<B>, G: Guide<B>, W: Watcher, K: Sink>(
+    alloc: Global,
+    solver: &mut Solver<B, M, G>,
+    position: &Position<B>,
+    bounds: MendBounds,
+    slices: &mut Slices<W>,
+    sink: &mut K,
+) -> Result<Mended, MendFault>
+    requires some { 1 ≤ bounds.moves }
+    requires few { bounds.moves ≤ 20 }
+    requires room { 1 ≤ bounds.each }
+    requires works { K.is_failed sink.old ≡ false }
+    ensures text { IfOk result (λ mended. (text : List ℕ)
+        × IsMendText B.geometry position.now bounds.moves bounds.part.number bounds.part.parts mended.all mended.sound
+        mended.undecided text
+        × Appends (K.taken sink.old) (K.taken sink.new) text) }
+    ensures spent { IfOk result (λ mended. solver.old.expanded + mended.undecided * bounds.each
+        ≤ solver.new.expanded) }
+    ensures stopped { (stop : _) (all : List (Changed × Placement)) → AreNeighbours B.geometry position.now all
+        → result ≡ Err (because.Stopped stop)
+        → (text : List ℕ) × IsMendStop B.geometry bounds.moves (part_of bounds.part.number bounds.part.parts all) text
+        × Appends (K.taken sink.old) (K.taken sink.new) text }
+    ensures count { IsCounted solver.old.expanded solver.old.limit solver.new.expanded solver.new.limit }
+    ensures stop { result ≡ Err (because.Stopped Limit) → solver.new.expanded ≡ solver.new.limit }
+    ensures right { AreTrue B.geometry (M.content solver.new.memo) }
+    ensures map { IsMap (M.content solver.new.memo) }
+    ensures sink { OnOk result (K.is_failed sink.new ≡ false) }
+{
+    solver.keeps_its_limit();
+    solver.keeps_its_facts();
+    let all = neighbours(alloc, position)?;
+    let some = part_of(alloc, all.as_slice(), bounds.part)?;
+    let mended = mend_these(alloc, solver, some.as_slice(), bounds, slices, sink)?;
+    write_all(sink, count_line(alloc, &mended)?.as_str().as_bytes())?;
+    Ok(mended)
+}
+
+/// Writes those of some neighbours that are sound, and counts.
+fn mend_these<B: Board, M: Memo<B>, G: Guide<B>, W: Watcher, K: Sink>(
+    alloc: Global,
+    solver: &mut Solver<B, M, G>,
+    some: &[Neighbour<B>],
+    bounds: MendBounds,
+    slices: &mut Slices<W>,
+    sink: &mut K,
+) -> Result<Mended, MendFault>
+    requires some { 1 ≤ bounds.moves }
+    requires few { bounds.moves ≤ 20 }
+    requires room { 1 ≤ bounds.each }
+    requires works { K.is_failed sink.old ≡ false }
+    requires counted { solver.old.expanded ≤ solver.old.limit }
+    requires right { AreTrue B.geometry (M.content solver.old.memo) }
+    requires map { IsMap (M.content solver.old.memo) }
+    ensures text { IfOk result (λ mended. (text : List ℕ)
+        × AreMended B.geometry bounds.moves (map told_by some.now) text
+        (record { sound = mended.sound; undecided = mended.undecided })
+        × Appends (K.taken sink.old) (K.taken sink.new) text) }
+    ensures all { IfOk result (λ mended. mended.all ≡ length some.now) }
+    ensures spent { IfOk result (λ mended. solver.old.expanded + mended.undecided * bounds.each
+        ≤ solver.new.expanded) }
+    ensures stopped { (stop : _) → result ≡ Err (because.Stopped stop)
+        → (text : List ℕ) × IsMendStop B.geometry bounds.moves (map told_by some.now) text
+        × Appends (K.taken sink.old) (K.taken sink.new) text }
+    ensures count { IsCounted solver.old.expanded solver.old.limit solver.new.expanded solver.new.limit }
+    ensures stop { result ≡ Err (because.Stopped Limit) → solver.new.expanded ≡ solver.new.limit }
+    ensures right { AreTrue B.geometry (M.content solver.new.memo) }
+    ensures map { IsMap (M.content solver.new.memo) }
+    ensures sink { OnOk result (K.is_failed sink.new ≡ false) }
+{
+    let mut mended = Mended {
+        all: some.len(),
+        sound: 0,
+        undecided: 0,
+    };
+    'neighbours: for neighbour in some {
+        match write_found(alloc, solver, neighbour, bounds, slices, sink)? {
+            Found::Sound(_) => mended.sound += 1,
+            Found::Unsound => {}
+            Found::Undecided => mended.undecided += 1,
+        }
+    }
+    Ok(mended)
+}
+
+/// What is found of a neighbour.
+#[derive(Drop)]
+enum Found<B: Board> {
+    /// It is sound, by this key.
+    Sound(Move<B>),
+    Unsound,
+    /// As many positions were expanded as is allowed for one neighbour.
+    Undecided,
+}
+
+impl<B: Board> Found<B> {
+    /// What is found of a position that is sound by this key, or by none.
+    fn of(key: Option<Move<B>>) -> Self
+        ensures { (p : Placement) (n : ℕ) → MatchOption key ((m : AnyMove) → IsVerdict B.geometry p n (sound m) → ⊥)
+            (λ m. IsVerdict B.geometry p n (sound m)) → IsFound B.geometry p n result × (IsUndecided result → ⊥) }
+    {
+        match key {
+            Some(key) => Found::Sound(key),
+            None => Found::Unsound,
+        }
+    }
+}
+
+/// Writes the line of a neighbour, if it is sound, and answers what is found of it.
+fn write_found<B: Board, M: Memo<B>, G: Guide<B>, W: Watcher, K: Sink>(
+    alloc: Global,
+    solver: &mut Solver<B, M, G>,
+    neighbour: &Neighbour<B>,
+    bounds: MendBounds,
+    slices: &mut Slices<W>,
+    sink: &mut K,
+) -> Result<Found<B>, MendFault>
+    requires some { 1 ≤ bounds.moves }
+    requires few { bounds.moves ≤ 20 }
+    requires room { 1 ≤ bounds.each }
+    requires works { K.is_failed sink.old ≡ false }
+    ensures text { IfOk result (λ found. (text : List ℕ)
+        × Adds B.geometry bounds.moves (told_by neighbour.now) found text
+        × Appends (K.taken sink.old) (K.taken sink.new) text) }
+    ensures goes { Goes bounds.each solver.old.expanded solver.old.limit solver.new.expanded solver.new.limit result }
+    ensures stopped { (stop : _) → result ≡ Err (because.Stopped stop) → K.taken sink.new ≡ K.taken sink.old }
+    ensures right { AreTrue B.geometry (M.content solver.new.memo) }
+    ensures map { IsMap (M.content solver.new.memo) }
+    ensures sink { OnOk result (K.is_failed sink.new ≡ false) }
+{
+    let found = found_of(alloc, solver, &neighbour.position, bounds, slices)?;
+    if let Found::Sound(key) = &found {
+        let line = sound_line(alloc, neighbour, bounds.moves, key)?;
+        write_all(sink, line.as_str().as_bytes())?;
+    }
+    Ok(found)
+}
+
+/// What is found of a position, if no more positions are expanded than is allowed for one neighbour.
+fn found_of<B: Board, M: Memo<B>, G: Guide<B>, W: Watcher>(
+    alloc: Global,
+    solver: &mut Solver<B, M, G>,
+    position: &Position<B>,
+    bounds: MendBounds,
+    slices: &mut Slices<W>,
+) -> Result<Found<B>, Stop>
+    requires some { 1 ≤ bounds.moves }
+    requires few { bounds.moves ≤ 20 }
+    requires room { 1 ≤ bounds.each }
+    ensures found { IfOk result (IsFound B.geometry position.now bounds.moves) }
+    ensures spent { IfOk result (λ found. IsUndecided found
+        → solver.new.expanded ≡ solver.old.expanded + bounds.each) }
+    ensures count { IsCounted solver.old.expanded solver.old.limit solver.new.expanded solver.new.limit }
+    ensures stop { IsErrOf result Limit → solver.new.expanded ≡ solver.new.limit }
+    ensures right { AreTrue B.geometry (M.content solver.new.memo) }
+    ensures map { IsMap (M.content solver.new.memo) }
+{
+    let limit = solver.limit();
+    let until = solver.expanded().saturating_add(bounds.each);
+    if limit <= until {
+        return Ok(Found::of(sound_key(alloc, solver, position, bounds.moves, slices)?));
+    }
+    solver.set_limit(until);
+    let key = sound_key(alloc, solver, position, bounds.moves, slices);
+    solver.set_limit(limit);
+    match key {
+        Err(Stop::Limit) => Ok(Found::Undecided),
+        key => Ok(Found::of(key?)),
+    }
+}

@@ -1,0 +1,63 @@
+//! Whether a position is sound, and by which key.
+ghost use Rattle.std.specs.Prelude.{◌≡◌, ◌≤◌, IfOk, IsErrOf, MatchOption};
+ghost use Rattle.dw_moves.specs.Moves.{Move as AnyMove};
+ghost use Rattle.dw_memo.specs.Content.{IsMap};
+ghost use Rattle.dw_solve.specs.declared.stop.Stop.TheVariants.{Limit};
+ghost use Rattle.dw_solve.specs.Facts.{AreTrue};
+ghost use Rattle.dw_solve.specs.Searching.{IsCounted};
+ghost use Rattle.dw_report.specs.Judging.{said_by};
+ghost use Rattle.dw_report.specs.Verdict.{IsVerdict, sound};
+
+use dw_board::{Board, Position};
+use dw_memo::Memo;
+use dw_moves::Move;
+use dw_report::Verdict;
+use dw_solve::{Guide, Solver, Stop};
+use dw_study::{Slices, Watcher, judge_in_slices, wins_in_slices};
+use std::alloc::Global;
+
+/// The key of a position that is sound within so many moves of the side to move, 1 to 20; none, if it is not. After a
+/// stop all bounds in the memo are right, and the call can be made again. The slices begin anew; no answer depends on
+/// them.
+/// Example: at `W:W27,45:B16`, within 2 moves, it is `45-40`; at `W:W27,32:B18`, which is a dual, it is none.
+pub fn sound_key<B: Board, M: Memo<B>, G: Guide<B>, W: Watcher>(
+    alloc: Global,
+    solver: &mut Solver<B, M, G>,
+    position: &Position<B>,
+    moves: u8,
+    slices: &mut Slices<W>,
+) -> Result<Option<Move<B>>, Stop>
+    requires some { 1 ≤ moves }
+    requires few { moves ≤ 20 }
+    ensures key { IfOk result (λ key. MatchOption key
+        ((m : AnyMove) → IsVerdict B.geometry position.now moves (sound m) → ⊥)
+        (λ m. IsVerdict B.geometry position.now moves (sound m))) }
+    ensures count { IsCounted solver.old.expanded solver.old.limit solver.new.expanded solver.new.limit }
+    ensures stop { IsErrOf result Limit → solver.new.expanded ≡ solver.new.limit }
+    ensures right { AreTrue B.geometry (M.content solver.new.memo) }
+    ensures map { IsMap (M.content solver.new.memo) }
+    ensures first { slices.new.first ≡ slices.old.first }
+{
+    dw_report::laws::one_verdict();
+    if !wins_in_slices(alloc, solver, position, moves, slices)? {
+        return Ok(None);
+    }
+    if wins_in_slices(alloc, solver, position, moves - 1, slices)? {
+        return Ok(None);
+    }
+    let judged = judge_in_slices(alloc, solver, position, moves, slices)?;
+    Ok(key_of(&judged.verdict))
+}
+
+/// The key that a verdict tells, if it is that the position is sound.
+fn key_of<B: Board>(verdict: &Verdict<B>) -> Option<Move<B>>
+    ensures { MatchOption result ((m : AnyMove) → said_by verdict.now ≡ sound m → ⊥)
+        (λ m. said_by verdict.now ≡ sound m) }
+{
+    match verdict {
+        Verdict::Sound { key } => Some(*key),
+        Verdict::Cooked { .. } => None,
+        Verdict::Dual { .. } => None,
+        Verdict::Unsolvable => None,
+    }
+}
