@@ -1,6 +1,7 @@
 //! The command `certify`: the certificate of an answer.
 ghost use Rattle.std.specs.Prelude.{◌≡◌, ◌≤◌, false};
 
+use crate::chosen::chosen_problem;
 use crate::desk::{Desk, DeskFault};
 use crate::ending::Ending;
 use crate::progress::Progress;
@@ -8,7 +9,7 @@ use crate::words::Request;
 use dw_board::{Board, Position};
 use dw_certificate::{CertificateFault, certificate_text, certify};
 use dw_memo::AnyMemo;
-use dw_notation::{Problem, Problems, Sink, Source, write_all};
+use dw_notation::{Problem, Sink, Source, write_all};
 use dw_program::options::MOST_MOVES;
 use dw_program::{MemoKind, memo_of};
 use dw_report::{RunFault, Stop, problem_line};
@@ -30,15 +31,9 @@ pub fn certify_problem<T, B: Board, S: Source, K: Sink>(
     requires source { S.is_failed source.old ≡ false }
     requires sink { K.is_failed sink.old ≡ false }
 {
-    let number = request.portion.first;
-    let mut problems = Problems::<B, S>::new(source, request.form);
-    'problems: loop {
-        let Some(problem) = problems.next()? else {
-            return Ok(Ending::NoProblem(number));
-        };
-        if problem.number == number {
-            return write_certificate(desk, slices, n, &problem, sink);
-        }
+    match chosen_problem::<B, S>(request, source)? {
+        Some(problem) => write_certificate(desk, slices, n, &problem, sink),
+        None => Ok(Ending::NoProblem(request.portion.first)),
     }
 }
 

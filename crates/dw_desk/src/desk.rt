@@ -5,6 +5,7 @@ use crate::certifying::certify_problem;
 use crate::checking::check_games;
 use crate::ending::{Ending, NO_MEMORY};
 use crate::finding::find_problems;
+use crate::mending::mend_problem;
 use crate::paging::page_problems;
 use crate::progress::Progress;
 use crate::solving::solve_problems;
@@ -186,6 +187,14 @@ fn obey_with<'a, B: Board>(
         Task::Certify { n } => {
             certify_problem(&mut desk, &mut slices, request, n, &mut source, &mut sink)
         }
+        Task::Mend(asked) => mend_problem(
+            &mut desk,
+            &mut slices,
+            request,
+            &asked,
+            &mut source,
+            &mut sink,
+        ),
         Task::Token { line } => {
             write_line::<_, B, _, _>(desk.alloc, request, line, &mut source, &mut sink)
         }

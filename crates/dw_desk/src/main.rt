@@ -3,10 +3,13 @@
 
 mod certifying;
 mod checking;
+mod chosen;
 mod desk;
 mod ending;
 mod finding;
 mod json;
+mod mend_words;
+mod mending;
 mod page_rows;
 mod page_words;
 mod paging;

@@ -1,6 +1,7 @@
 //! The arguments of the command line.
 ghost use Rattle.std.specs.Prelude.{◌≤◌};
 
+use crate::mend_words::{MendWords, NO_PART, mend_command, mend_words};
 use crate::page_words::{PageWords, page_command, page_words};
 use clap::builder::ValueParser;
 use clap::{Arg, ArgMatches, Command as Words, value_parser};
@@ -60,6 +61,8 @@ pub enum Task<'a> {
     Page(PageWords<'a>),
     /// The certificate of the first of the chosen problems is written, within `n` moves.
     Certify { n: u8 },
+    /// The neighbours of the first of the chosen problems that are sound are written.
+    Mend(MendWords),
     /// The token of this line of the first of the chosen problems is written.
     Token { line: &'a str },
 }
@@ -180,6 +183,9 @@ const PROBLEM_HELP: &str =
 
 pub const CACHE_HELP: &str = "Keep at most C positions, 1 to 4000000 [default: 1000000]";
 
+const EACH_HELP: &str =
+    "Go to the next problem after L positions, 1 to 1000000000000 [default: never]";
+
 /// What is said of numbers of problems that are none.
 const NO_PORTION: &str = "\
 error: invalid value for '--problem <I|I-J>': I and J are 1 to 1000000, and I is at most J
@@ -194,6 +200,7 @@ pub fn command<'a>(alloc: Global) -> Result<Words<'a>, AllocError> {
     let solution = solution_command(alloc)?;
     let page = page_command(alloc)?;
     let certify = certify_command(alloc)?;
+    let mend = mend_command(alloc)?;
     let token = token_command(alloc)?;
     Words::new(alloc, "dw-desk")
         .bin_name("dw-desk")?
@@ -207,6 +214,7 @@ pub fn command<'a>(alloc: Global) -> Result<Words<'a>, AllocError> {
         .subcommand(solution)?
         .subcommand(page)?
         .subcommand(certify)?
+        .subcommand(mend)?
         .subcommand(token)
 }
 
@@ -217,7 +225,7 @@ fn find_command<'a>(alloc: Global) -> Result<Words<'a>, AllocError> {
         problem(alloc),
         file(alloc),
         most(alloc),
-        each(alloc),
+        each(alloc, EACH_HELP),
         json(alloc),
         memo(alloc, "deep"),
         cache(alloc, CACHE_HELP),
@@ -301,7 +309,7 @@ fn token_command<'a>(alloc: Global) -> Result<Words<'a>, AllocError> {
         .args(arguments)
 }
 
-fn one_problem<'a>(alloc: Global, help: &'a str) -> Arg<'a> {
+pub fn one_problem<'a>(alloc: Global, help: &'a str) -> Arg<'a> {
     let numbers = value_parser!(u32).range(1..=i64::from(MAX_PROBLEMS));
     option(alloc, "problem", "I", numbers, help)
 }
@@ -341,9 +349,8 @@ fn most<'a>(alloc: Global) -> Arg<'a> {
     option(alloc, "most", "N", numbers, help)
 }
 
-fn each<'a>(alloc: Global) -> Arg<'a> {
+pub fn each<'a>(alloc: Global, help: &'a str) -> Arg<'a> {
     let numbers = value_parser!(u64).range(1..=MOST_POSITIONS as i64);
-    let help = "Go to the next problem after L positions, 1 to 1000000000000 [default: never]";
     option(alloc, "each", "L", numbers, help)
 }
 
@@ -375,7 +382,14 @@ pub fn requested<'a>(matches: &ArgMatches<'a>) -> Result<Request<'a>, &'static s
         return searched_by(words, Task::Page(page_words(words)));
     }
     if let Some(words) = matches.subcommand_matches("certify") {
-        return Ok(certified_by(words));
+        let n = words.get_one::<u8>("n").unwrap_or(1);
+        return Ok(searched_for_one(words, Task::Certify { n }));
+    }
+    if let Some(words) = matches.subcommand_matches("mend") {
+        return match mend_words(words) {
+            Some(asked) => Ok(searched_for_one(words, Task::Mend(asked))),
+            None => Err(NO_PART),
+        };
     }
     match matches.subcommand_matches("token") {
         Some(words) => Ok(written_by(words)),
@@ -383,12 +397,11 @@ pub fn requested<'a>(matches: &ArgMatches<'a>) -> Result<Request<'a>, &'static s
     }
 }
 
-/// What the command that writes a certificate asks for, of problem 1 if no other is named.
-fn certified_by<'a>(words: &ArgMatches<'a>) -> Request<'a> {
-    let n = words.get_one::<u8>("n").unwrap_or(1);
+/// What a command asks for that searches for one problem, problem 1 if no other is named.
+fn searched_for_one<'a>(words: &ArgMatches<'a>, task: Task<'a>) -> Request<'a> {
     let cache = words.get_one::<usize>("cache").unwrap_or(USUALLY_KEPT);
     Request {
-        task: Task::Certify { n },
+        task,
         board: BoardSize::named(words.get_str("board")),
         form: form(words.get_flag("pdn")),
         portion: one_portion(words.get_one::<u32>("problem").unwrap_or(1)),

@@ -1,13 +1,14 @@
 //! The command `token`: a line of play as a token.
 ghost use Rattle.std.specs.Prelude.{◌≡◌, ◌⊎◌, false};
 
+use crate::chosen::chosen_problem;
 use crate::desk::DeskFault;
 use crate::ending::Ending;
 use crate::words::Request;
 use dw_board::Board;
 use dw_games::{LineFault, read_line};
 use dw_list::write_token;
-use dw_notation::{Problems, Sink, Source, write_all};
+use dw_notation::{Sink, Source, write_all};
 use dw_report::Stop;
 use std::alloc::Global;
 
@@ -24,27 +25,20 @@ pub fn write_line<T, B: Board, S: Source, K: Sink>(
     requires source { S.is_failed source.old ≡ false }
     requires sink { K.is_failed sink.old ≡ false }
 {
-    let number = request.portion.first;
-    let mut problems = Problems::<B, S>::new(source, request.form);
-    'problems: loop {
-        let Some(problem) = problems.next()? else {
-            return Ok(Ending::NoProblem(number));
-        };
-        if problem.number != number {
-            continue;
+    let Some(problem) = chosen_problem::<B, S>(request, source)? else {
+        return Ok(Ending::NoProblem(request.portion.first));
+    };
+    let position = match problem.found {
+        Ok(position) => position,
+        Err(fault) => return Ok(Ending::ProblemRefused(fault)),
+    };
+    match read_line(alloc, &position, line.as_bytes()) {
+        Ok(moves) => {
+            write_token(moves.as_slice(), sink)?;
+            write_all(sink, b"\n")?;
+            Ok(Ending::Done)
         }
-        let position = match problem.found {
-            Ok(position) => position,
-            Err(fault) => return Ok(Ending::ProblemRefused(fault)),
-        };
-        return match read_line(alloc, &position, line.as_bytes()) {
-            Ok(moves) => {
-                write_token(moves.as_slice(), sink)?;
-                write_all(sink, b"\n")?;
-                Ok(Ending::Done)
-            }
-            Err(LineFault::Refused { what, place }) => Ok(Ending::LineRefused { what, place }),
-            Err(LineFault::Memory) => Err(DeskFault::Stopped(Stop::Memory)),
-        };
+        Err(LineFault::Refused { what, place }) => Ok(Ending::LineRefused { what, place }),
+        Err(LineFault::Memory) => Err(DeskFault::Stopped(Stop::Memory)),
     }
 }

@@ -1,0 +1,101 @@
+//! The arguments of the command `mend`.
+ghost use Rattle.std.specs.Prelude.{◌≤◌};
+
+use crate::words::{CACHE_HELP, each, one_problem, progress, within};
+use clap::builder::ValueParser;
+use clap::{Arg, ArgMatches, Command as Words};
+use dw_mend::Part;
+use dw_program::options::{MOST_MOVES, board, cache, file, memo, option, pdn};
+use std::alloc::{AllocError, Global};
+
+/// What the command `mend` is asked for.
+#[derive(Clone, Copy)]
+pub struct MendWords {
+    /// The number of moves within which the win is, 1 to `MOST_MOVES`.
+    pub n: u8,
+    /// How many positions may be expanded for each neighbour, at least 1.
+    pub each: u64,
+    /// Which of the neighbours are looked at.
+    pub part: Part,
+    ghost some_moves: { 1 ≤ n },
+    ghost few_moves: { n ≤ 20 },
+    ghost room: { 1 ≤ each },
+}
+
+/// The most parts of the neighbours.
+const MOST_PARTS: u32 = 1_000_000;
+
+/// What is said of a part that is none.
+pub const NO_PART: &str = "\
+error: invalid value for '--part <I/M>': M is 1 to 1000000, and I is 1 to M
+
+For more information, try '--help'.
+";
+
+const ABOUT: &str = "Finds the sound problems that are one change away from a problem.";
+
+const EXAMPLES: &str = "\
+A change takes a piece away, puts one on an empty square, sets one on an empty square, or makes a
+king of a man or a man of a king. What is sound then is written, each in a line with its change and
+its key. With --each a position that takes too long is left undecided. With --part several runs
+share the work.
+
+Examples:
+  echo W:W27,32:B18 | dw-desk mend -n 2
+  dw-desk mend -n 2 --problem 3 --part 1/4 examples/problems.fen";
+
+/// The command with its arguments.
+pub fn mend_command<'a>(alloc: Global) -> Result<Words<'a>, AllocError> {
+    let help = "Look for sound problems in N moves of the side to move, 1 to 20";
+    let undecided =
+        "Leave a position undecided after L positions, 1 to 1000000000000 [default: never]";
+    let arguments = vec![in alloc;
+        board(alloc),
+        pdn(alloc),
+        one_problem(alloc, "Change the problem I, 1 to 1000000 [default: 1]"),
+        file(alloc),
+        within(alloc, help).required(true),
+        each(alloc, undecided),
+        part(alloc),
+        memo(alloc, "deep"),
+        cache(alloc, CACHE_HELP),
+        progress(alloc),
+    ]?;
+    Words::new(alloc, "mend")
+        .about(ABOUT)
+        .after_help(EXAMPLES)
+        .args(arguments)
+}
+
+fn part<'a>(alloc: Global) -> Arg<'a> {
+    let help = "Look at the part I of M alone, I is 1 to M, M is 1 to 1000000 [default: 1/1]";
+    option(alloc, "part", "I/M", ValueParser::string(), help)
+}
+
+/// What the command is asked for; none, if the part is none.
+pub fn mend_words(words: &ArgMatches<'_>) -> Option<MendWords> {
+    let n = words.get_one::<u8>("n").unwrap_or(1);
+    let each = words.get_one::<u64>("each").unwrap_or(u64::MAX);
+    Some(MendWords {
+        n: n.clamp(1, MOST_MOVES),
+        each: each.max(1),
+        part: part_named(words.get_str("part"))?,
+    })
+}
+
+/// The part that a text names: `I/M`; all, if there is no text.
+fn part_named(text: Option<&str>) -> Option<Part> {
+    let Some(text) = text else {
+        return Some(Part {
+            number: 1,
+            parts: 1,
+        });
+    };
+    let (number, parts) = text.split_once('/')?;
+    let number = number.parse::<u32>().ok()?;
+    let parts = parts.parse::<u32>().ok()?;
+    if number < 1 || parts < number || parts > MOST_PARTS {
+        return None;
+    }
+    Some(Part { number, parts })
+}
