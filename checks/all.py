@@ -47,6 +47,7 @@ CHECKS = [
     Check("games", slow=("--count", "2000")),
     Check("pages", slow=("--count", "1000")),
     Check("certificates", slow=("--count", "1000")),
+    Check("mends", slow=("--count", "100")),
     Check("refused_memory"),
     Check("long_list"),
     Check("random_moves", slow=("--count", "1000000")),
