@@ -72,6 +72,8 @@ CHECKS = [
 SLOW = [
     Check("edits"),
 ]
+# What is no check of this repository, but for whom reads what the programs write.
+READERS = ["certificate"]
 
 
 def purpose(check):
@@ -112,7 +114,7 @@ def report(check, slow):
 def chosen(names, slow):
     """The checks of these names, or all."""
     known = {check.name: check for check in CHECKS + SLOW}
-    there = {path.stem for path in HERE.glob("*.py")} - {"all"}
+    there = {path.stem for path in HERE.glob("*.py")} - {"all", *READERS}
     assert set(known) == there, f"all.py lacks, or has too much: {sorted(set(known) ^ there)}"
     if not names:
         return CHECKS + SLOW * slow
