@@ -40,7 +40,7 @@ _dw_desk() {
         --memo) COMPREPLY=($(compgen -W "none lru slots deep" -- "$current")) && return ;;
         --lang) COMPREPLY=($(compgen -W "en nl fr ru" -- "$current")) && return ;;
         --solutions) COMPREPLY=($(compgen -W "after end none" -- "$current")) && return ;;
-        -n | --problem | --most | --each | --lines | --cache | --line | --title) return ;;
+        -n | --problem | --most | --each | --part | --lines | --cache | --line | --title) return ;;
     esac
     case $command:$current in
         *:-*) COMPREPLY=($(compgen -W "$options" -- "$current")) ;;
