@@ -8,14 +8,13 @@ mod outcome;
 mod words;
 
 use arrayvec::ArrayVec;
-use clap::error::ErrorKind;
-use clap::{ArgMatches, Error};
+use clap::ArgMatches;
 use dw_board::{Board, Eight, Ten};
 use dw_list::read_token;
 use dw_memo::AnyMemo;
 use dw_moves::Move;
 use dw_notation::MAX_MOVES;
-use dw_program::{BoardSize, memo_of};
+use dw_program::{BoardSize, Unread, memo_of, why_unread, words_given};
 use dw_report::run::run;
 use dw_report::streams::{Reading, Writing};
 use dw_report::{RunFault, Settings, Summary};
@@ -25,60 +24,31 @@ use std::fmt::Display;
 use std::fs::File;
 use std::io::Read;
 use std::process::ExitCode;
-use std::{env, io};
 use words::{Request, command, requested};
 
-/// What is said of arguments that are not UTF-8, in the form of what is said of others that are no command.
-const NOT_UTF8: &str = "\
-error: invalid UTF-8 was detected in one or more arguments
-
-Usage: dw <COMMAND>
-
-For more information, try '--help'.
-";
-
 fn main(rt: HostRuntime) -> ExitCode {
-    let words = match words_given(&rt) {
+    let words = match words_given(&rt, "dw") {
         Ok(words) => words,
-        Err(error) => return end_unread(&rt, &error),
+        Err(why) => return end_unread(&rt, &why),
     };
     let Ok(command) = command(rt.alloc()) else {
-        return end_with(&rt, Ending::Memory, None);
+        return end_unread(&rt, &Unread::Memory);
     };
     match command.try_get_matches_from(words.as_slice()) {
-        Err(error) => end_without_words(&rt, &error),
+        Err(error) => end_unread(&rt, &why_unread(&rt, &error)),
         Ok(matches) => obey(&rt, &matches),
     }
 }
 
-/// The words of the command line, the program's name first.
-fn words_given(rt: &HostRuntime) -> io::Result<Vec<String>> {
-    Ok(env::args(rt)?.collect::<Vec<String>>(rt.alloc())?)
-}
-
-/// Ends if the words can not be read: one of them is not UTF-8, or else the program is out of memory.
-fn end_unread(rt: &HostRuntime, error: &io::Error) -> ExitCode {
-    match error.kind() {
-        io::ErrorKind::InvalidData => end_with(rt, Ending::Words(NOT_UTF8), None),
-        _ => end_with(rt, Ending::Memory, None),
-    }
-}
-
-/// Ends if help was asked for or the arguments are no command.
-fn end_without_words(rt: &HostRuntime, error: &Error) -> ExitCode {
-    if error.kind() == ErrorKind::OutOfMemory {
-        return end_with(rt, Ending::Memory, None);
-    }
-    let Ok(text) = format!(in rt.alloc(); "{error}") else {
-        return end_with(rt, Ending::Memory, None);
+/// Ends if the words are not obeyed.
+fn end_unread(rt: &HostRuntime, why: &Unread) -> ExitCode {
+    let ending = match why {
+        Unread::Help => Ending::Help,
+        Unread::HelpNotWritten => Ending::HelpNotWritten,
+        Unread::NoCommand(text) => Ending::Words(text.as_str()),
+        Unread::Memory => Ending::Memory,
     };
-    if error.use_stderr() {
-        return end_with(rt, Ending::Words(text.as_str()), None);
-    }
-    match print!(rt; "{text}") {
-        Ok(()) => end_with(rt, Ending::Help, None),
-        Err(_) => end_with(rt, Ending::HelpNotWritten, None),
-    }
+    end_with(rt, ending, None)
 }
 
 /// Runs the command that the arguments ask for.

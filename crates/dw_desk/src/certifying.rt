@@ -1,11 +1,10 @@
 //! The command `certify`: the certificate of an answer.
 ghost use Rattle.std.specs.Prelude.{◌≡◌, ◌≤◌, false};
 
-use crate::chosen::chosen_problem;
+use crate::chosen::Chosen;
 use crate::desk::{Desk, DeskFault};
 use crate::ending::Ending;
 use crate::progress::Progress;
-use crate::words::Request;
 use dw_board::{Board, Position};
 use dw_certificate::{CertificateFault, certificate_text, certify};
 use dw_memo::AnyMemo;
@@ -23,17 +22,15 @@ use std::mem::replace;
 pub fn certify_problem<T, B: Board, S: Source, K: Sink>(
     desk: &mut Desk<B>,
     slices: &mut Slices<Progress<'_>>,
-    request: &Request<'_>,
+    chosen: &mut Chosen<'_, B, S>,
     n: u8,
-    source: &mut S,
     sink: &mut K,
 ) -> Result<Ending<T>, DeskFault>
-    requires source { S.is_failed source.old ≡ false }
-    requires sink { K.is_failed sink.old ≡ false }
+    requires { K.is_failed sink.old ≡ false }
 {
-    match chosen_problem::<B, S>(request, source)? {
-        Some(problem) => write_certificate(desk, slices, n, &problem, sink),
-        None => Ok(Ending::NoProblem(request.portion.first)),
+    match chosen.next()? {
+        Some(game) => write_certificate(desk, slices, n, &game.problem, sink),
+        None => Ok(Ending::NoProblem(chosen.first())),
     }
 }
 

@@ -1,11 +1,11 @@
 //! The command `check`: what the solution in each game gets wrong, and what it leaves out.
 ghost use Rattle.std.specs.Prelude.{◌≡◌, false, IfOk};
 
+use crate::chosen::Chosen;
 use crate::desk::{Counts, Desk, DeskFault};
 use crate::progress::Progress;
-use crate::words::Request;
 use dw_board::{Board, Position};
-use dw_games::{Game, Games, MovetextFault, Tree, read_movetext};
+use dw_games::{Game, MovetextFault, Tree, read_movetext};
 use dw_notation::problems::MAX_PROBLEMS;
 use dw_notation::{Sink, Source, write_all};
 use dw_program::options::MOST_MOVES;
@@ -17,27 +17,18 @@ use dw_study::{Checked, Remark, Slices, remark_text, turns_of};
 pub fn check_games<B: Board, S: Source, K: Sink>(
     desk: &mut Desk<B>,
     slices: &mut Slices<Progress<'_>>,
-    request: &Request<'_>,
+    chosen: &mut Chosen<'_, B, S>,
     n: Option<u8>,
-    source: &mut S,
     sink: &mut K,
 ) -> Result<Counts, DeskFault>
-    requires source { S.is_failed source.old ≡ false }
-    requires sink { K.is_failed sink.old ≡ false }
+    requires { K.is_failed sink.old ≡ false }
 {
-    let mut games = Games::<B, S>::new(desk.alloc, source);
     let mut counts = Counts::default();
     'games: for _ in 0..MAX_PROBLEMS + 1 {
-        let Some(game) = games.next()? else {
+        let Some(game) = chosen.next()? else {
             break;
         };
-        let number = game.problem.number;
-        if number >= request.portion.first {
-            counts = counts.with(report(desk, slices, n, &game, sink)?);
-        }
-        if request.portion.last == Some(number) {
-            break;
-        }
+        counts = counts.with(report(desk, slices, n, &game, sink)?);
     }
     Ok(counts)
 }

@@ -3,18 +3,19 @@ ghost use Rattle.std.specs.Prelude.{◌≡◌, ◌⊎◌};
 
 use crate::certifying::certify_problem;
 use crate::checking::check_games;
+use crate::chosen::Chosen;
 use crate::ending::{Ending, NO_MEMORY};
 use crate::finding::find_problems;
 use crate::mending::mend_problem;
 use crate::paging::page_problems;
 use crate::progress::Progress;
 use crate::solving::solve_problems;
-use crate::words::{Request, Task};
 use crate::writing::write_line;
 use dw_board::Board;
+use dw_desk_words::{Request, Task};
 use dw_games::GameFault;
 use dw_memo::AnyMemo;
-use dw_notation::{ReadFault, WriteFault};
+use dw_notation::{Form, ReadFault, WriteFault};
 use dw_program::memo_of;
 use dw_report::streams::{Reading, Writing};
 use dw_report::{RunFault, Stop};
@@ -145,6 +146,7 @@ fn obey_with<'a, B: Board>(
     };
     let mut slices = Slices::new(first_slice(rt, request), Progress::new(rt));
     let mut source = Reading::new(reader);
+    let mut chosen = Chosen::new(rt.alloc(), &mut source, form_of(request), request.portion);
     let mut sink = Writing::new(rt.stdout());
     let ended = match request.task {
         Task::Find(asked) => ending_of(
@@ -152,56 +154,43 @@ fn obey_with<'a, B: Board>(
             find_problems(
                 &mut desk,
                 &mut slices,
+                &mut chosen,
                 request,
                 &asked,
-                &mut source,
                 &mut sink,
             ),
         ),
         Task::Check { n } => ending_of(
             request,
-            check_games(&mut desk, &mut slices, request, n, &mut source, &mut sink),
+            check_games(&mut desk, &mut slices, &mut chosen, n, &mut sink),
         ),
         Task::Solution(asked) => ending_of(
             request,
-            solve_problems(
-                &mut desk,
-                &mut slices,
-                request,
-                &asked,
-                &mut source,
-                &mut sink,
-            ),
+            solve_problems(&mut desk, &mut slices, &mut chosen, &asked, &mut sink),
         ),
         Task::Page(asked) => ending_of(
             request,
-            page_problems(
-                &mut desk,
-                &mut slices,
-                request,
-                &asked,
-                &mut source,
-                &mut sink,
-            ),
+            page_problems(&mut desk, &mut slices, &mut chosen, &asked, &mut sink),
         ),
         Task::Certify { n } => {
-            certify_problem(&mut desk, &mut slices, request, n, &mut source, &mut sink)
+            certify_problem(&mut desk, &mut slices, &mut chosen, n, &mut sink)
         }
-        Task::Mend(asked) => mend_problem(
-            &mut desk,
-            &mut slices,
-            request,
-            &asked,
-            &mut source,
-            &mut sink,
-        ),
+        Task::Mend(asked) => mend_problem(&mut desk, &mut slices, &mut chosen, &asked, &mut sink),
         Task::Token { line } => {
-            write_line::<_, B, _, _>(desk.alloc, request, line, &mut source, &mut sink)
+            write_line::<_, B, _, _>(desk.alloc, &mut chosen, line, &mut sink)
         }
     };
     match ended {
         Ok(ending) => ending,
         Err(fault) => Ending::Failed(fault.in_run(desk.solver.expanded())),
+    }
+}
+
+/// How the text has its problems: solutions stand in games alone.
+fn form_of(request: &Request<'_>) -> Form {
+    match request.task {
+        Task::Check { .. } => Form::Pdn,
+        _ => request.form,
     }
 }
 

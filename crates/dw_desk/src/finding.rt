@@ -3,12 +3,14 @@ ghost use Rattle.std.specs.Prelude.{◌≡◌, false, IfOk};
 ghost use Rattle.dw_study.specs.Finding.{IsFinding};
 ghost use Rattle.dw_study.specs.Telling.{told_by};
 
+use crate::chosen::Chosen;
 use crate::desk::{Counts, Desk, DeskFault, solver_of};
 use crate::json::{found_row, json_line, refused_row};
 use crate::progress::Progress;
-use crate::words::{FindWords, Request};
 use dw_board::{Board, Position, fen_text};
-use dw_notation::{Problem, Problems, Sink, Source, write_all};
+use dw_desk_words::{FindWords, Request};
+use dw_notation::problems::MAX_PROBLEMS;
+use dw_notation::{Problem, Sink, Source, write_all};
 use dw_report::{problem_line, refusal_text};
 use dw_study::find::find;
 use dw_study::{FindBounds, Finding, Slices, found_text};
@@ -17,27 +19,21 @@ use dw_study::{FindBounds, Finding, Slices, found_text};
 pub fn find_problems<B: Board, S: Source, K: Sink>(
     desk: &mut Desk<B>,
     slices: &mut Slices<Progress<'_>>,
+    chosen: &mut Chosen<'_, B, S>,
     request: &Request<'_>,
     asked: &FindWords,
-    source: &mut S,
     sink: &mut K,
 ) -> Result<Counts, DeskFault>
-    requires source { S.is_failed source.old ≡ false }
-    requires sink { K.is_failed sink.old ≡ false }
+    requires { K.is_failed sink.old ≡ false }
 {
-    let mut problems = Problems::<B, S>::new(source, request.form);
     let mut counts = Counts::default();
-    'problems: loop {
-        let Some(problem) = problems.next()? else {
-            return Ok(counts);
+    'problems: for _ in 0..MAX_PROBLEMS + 1 {
+        let Some(game) = chosen.next()? else {
+            break;
         };
-        if problem.number >= request.portion.first {
-            counts = counts.with(report(desk, slices, request, asked, &problem, sink)?);
-        }
-        if request.portion.last == Some(problem.number) {
-            return Ok(counts);
-        }
+        counts = counts.with(report(desk, slices, request, asked, &game.problem, sink)?);
     }
+    Ok(counts)
 }
 
 /// Reports one problem, and answers whether it was refused or stayed undecided.

@@ -1,15 +1,14 @@
 //! The command `mend`: the sound problems that are one change away from a problem.
 ghost use Rattle.std.specs.Prelude.{◌≡◌, ◌≤◌, false};
 
-use crate::chosen::chosen_problem;
+use crate::chosen::Chosen;
 use crate::desk::{Desk, DeskFault};
 use crate::ending::Ending;
-use crate::mend_words::MendWords;
 use crate::progress::Progress;
-use crate::words::Request;
 use dw_board::Board;
+use dw_desk_words::MendWords;
 use dw_mend::mend::mend;
-use dw_mend::{MendBounds, MendFault};
+use dw_mend::{MendBounds, MendFault, Part};
 use dw_notation::{Problem, Sink, Source, write_all};
 use dw_report::problem_line;
 use dw_study::Slices;
@@ -28,17 +27,15 @@ impl From<MendFault> for DeskFault {
 pub fn mend_problem<T, B: Board, S: Source, K: Sink>(
     desk: &mut Desk<B>,
     slices: &mut Slices<Progress<'_>>,
-    request: &Request<'_>,
+    chosen: &mut Chosen<'_, B, S>,
     asked: &MendWords,
-    source: &mut S,
     sink: &mut K,
 ) -> Result<Ending<T>, DeskFault>
-    requires source { S.is_failed source.old ≡ false }
-    requires sink { K.is_failed sink.old ≡ false }
+    requires { K.is_failed sink.old ≡ false }
 {
-    match chosen_problem::<B, S>(request, source)? {
-        Some(problem) => write_neighbours(desk, slices, asked, &problem, sink),
-        None => Ok(Ending::NoProblem(request.portion.first)),
+    match chosen.next()? {
+        Some(game) => write_neighbours(desk, slices, asked, &game.problem, sink),
+        None => Ok(Ending::NoProblem(chosen.first())),
     }
 }
 
@@ -59,7 +56,10 @@ fn write_neighbours<T, B: Board, K: Sink>(
     let bounds = MendBounds {
         moves: asked.n,
         each: asked.each,
-        part: asked.part,
+        part: Part {
+            number: asked.part,
+            parts: asked.parts,
+        },
     };
     slices.watcher.begin(problem.number);
     let mended = mend(desk.alloc, &mut desk.solver, position, bounds, slices, sink);

@@ -5,17 +5,17 @@ ghost use Rattle.dw_report.specs.Verdict.{IsVerdict, Tries};
 ghost use Rattle.dw_study.specs.Finding.{IsFinding};
 ghost use Rattle.dw_study.specs.Telling.{told_by};
 
+use crate::chosen::Chosen;
 use crate::desk::{Counts, Desk, DeskFault};
 use crate::page_rows::{tries_row, verdict_row};
-use crate::page_words::{PageWords, Placing};
 use crate::progress::Progress;
 use crate::solving::movetext_of;
-use crate::words::Request;
 use dw_board::{Board, Position};
-use dw_games::Games;
+use dw_desk_words::{PageWords, Placing};
+use dw_games::Game;
 use dw_games::tags::{read_tags, value_named};
 use dw_notation::problems::MAX_PROBLEMS;
-use dw_notation::{Form, Problem, Problems, Sink, Source, write_all};
+use dw_notation::{Sink, Source, write_all};
 use dw_page::page::{
     push_end, push_end_of_problem, push_head, push_problem, push_refused, push_solution,
     push_solutions_heading,
@@ -25,18 +25,21 @@ use dw_report::{Judged, Stop, refusal_text};
 use dw_study::find::find;
 use dw_study::{FindBounds, Finding, Slices, judge_in_slices};
 
-/// Writes the page, each problem as soon as it is read.
+/// Writes the page, each problem as soon as it is read. If the problem that was asked for is not there, nothing is
+/// written.
 pub fn page_problems<B: Board, S: Source, K: Sink>(
     desk: &mut Desk<B>,
     slices: &mut Slices<Progress<'_>>,
-    request: &Request<'_>,
+    chosen: &mut Chosen<'_, B, S>,
     asked: &PageWords<'_>,
-    source: &mut S,
     sink: &mut K,
 ) -> Result<Counts, DeskFault>
-    requires source { S.is_failed source.old ≡ false }
-    requires sink { K.is_failed sink.old ≡ false }
+    requires { K.is_failed sink.old ≡ false }
 {
+    let first = chosen.next()?;
+    if first.is_none() && chosen.is_asked() {
+        return Ok(Counts::default());
+    }
     let mut head = Vec::new(desk.alloc);
     push_head::<B>(desk.alloc, &mut head, &asked.look)?;
     write_all(sink, head.as_slice())?;
@@ -44,89 +47,48 @@ pub fn page_problems<B: Board, S: Source, K: Sink>(
     if asked.solutions == Placing::End {
         push_solutions_heading(desk.alloc, &mut later, &asked.look)?;
     }
-    let counts = match request.form {
-        Form::Fens => page_fens(desk, slices, request, asked, source, &mut later, sink)?,
-        Form::Pdn => page_games(desk, slices, request, asked, source, &mut later, sink)?,
-    };
+    let counts = page_games(desk, slices, chosen, first, asked, &mut later, sink)?;
     push_end(desk.alloc, &mut later)?;
     write_all(sink, later.as_slice())?;
     Ok(counts)
 }
 
-/// Writes the chosen problems of a text that has one a line; what is to stand at the end comes later.
-fn page_fens<B: Board, S: Source, K: Sink>(
-    desk: &mut Desk<B>,
-    slices: &mut Slices<Progress<'_>>,
-    request: &Request<'_>,
-    asked: &PageWords<'_>,
-    source: &mut S,
-    later: &mut Vec<u8>,
-    sink: &mut K,
-) -> Result<Counts, DeskFault>
-    requires source { S.is_failed source.old ≡ false }
-    requires sink { K.is_failed sink.old ≡ false }
-    ensures { IfOk result (λ _. K.is_failed sink.new ≡ false) }
-{
-    let mut problems = Problems::<B, S>::new(source, Form::Fens);
-    let mut counts = Counts::default();
-    'problems: loop {
-        let Some(problem) = problems.next()? else {
-            return Ok(counts);
-        };
-        if problem.number >= request.portion.first {
-            let part = part_of(desk, slices, asked, &problem, &[], later)?;
-            write_all(sink, part.as_slice())?;
-            counts = counts.with(problem.found.is_err());
-        }
-        if request.portion.last == Some(problem.number) {
-            return Ok(counts);
-        }
-    }
-}
-
-/// Writes the chosen problems of a PDN text, each with its tags; what is to stand at the end comes later.
+/// Writes the problems from this one on; what is to stand at the end comes later.
 fn page_games<B: Board, S: Source, K: Sink>(
     desk: &mut Desk<B>,
     slices: &mut Slices<Progress<'_>>,
-    request: &Request<'_>,
+    chosen: &mut Chosen<'_, B, S>,
+    first: Option<Game<B>>,
     asked: &PageWords<'_>,
-    source: &mut S,
     later: &mut Vec<u8>,
     sink: &mut K,
 ) -> Result<Counts, DeskFault>
-    requires source { S.is_failed source.old ≡ false }
-    requires sink { K.is_failed sink.old ≡ false }
+    requires { K.is_failed sink.old ≡ false }
     ensures { IfOk result (λ _. K.is_failed sink.new ≡ false) }
 {
-    let mut games = Games::<B, S>::new(desk.alloc, source);
+    let mut next = first;
     let mut counts = Counts::default();
     'games: for _ in 0..MAX_PROBLEMS + 1 {
-        let Some(game) = games.next()? else {
+        let Some(game) = next else {
             break;
         };
-        let number = game.problem.number;
-        if number >= request.portion.first {
-            let tags = game.tags.as_slice();
-            let part = part_of(desk, slices, asked, &game.problem, tags, later)?;
-            write_all(sink, part.as_slice())?;
-            counts = counts.with(game.problem.found.is_err());
-        }
-        if request.portion.last == Some(number) {
-            break;
-        }
+        let part = part_of(desk, slices, asked, &game, later)?;
+        write_all(sink, part.as_slice())?;
+        counts = counts.with(game.problem.found.is_err());
+        next = chosen.next()?;
     }
     Ok(counts)
 }
 
-/// The part of the page that a problem has, with the tags of its section.
+/// The part of the page that a problem has.
 fn part_of<B: Board>(
     desk: &mut Desk<B>,
     slices: &mut Slices<Progress<'_>>,
     asked: &PageWords<'_>,
-    problem: &Problem<B>,
-    section: &[u8],
+    game: &Game<B>,
     later: &mut Vec<u8>,
 ) -> Result<Vec<u8>, DeskFault> {
+    let problem = &game.problem;
     match &problem.found {
         Ok(position) => known_part(
             desk,
@@ -134,7 +96,7 @@ fn part_of<B: Board>(
             asked,
             problem.number,
             position,
-            section,
+            game.tags.as_slice(),
             later,
         ),
         Err(fault) => {

@@ -1,14 +1,15 @@
 //! The command `solution`: each problem as a game of a PDN file, with its solution.
 ghost use Rattle.std.specs.Prelude.{◌≡◌, ◌≤◌, false, IfOk};
 
+use crate::chosen::Chosen;
 use crate::desk::{Counts, Desk, DeskFault};
 use crate::progress::Progress;
-use crate::words::{Request, SolutionWords};
 use dw_board::{Board, Position, fen_text};
-use dw_games::Games;
+use dw_desk_words::SolutionWords;
+use dw_games::Game;
 use dw_games::tags::{Tag, read_tags};
 use dw_notation::problems::MAX_PROBLEMS;
-use dw_notation::{Form, Problem, Problems, Sink, Source, write_all};
+use dw_notation::{Sink, Source, write_all};
 use dw_report::{Verdict, refusal_text};
 use dw_solution::movetext::movetext;
 use dw_solution::{Heading, VerdictKind, first_lines};
@@ -18,73 +19,18 @@ use dw_study::{Slices, judge_in_slices};
 pub fn solve_problems<B: Board, S: Source, K: Sink>(
     desk: &mut Desk<B>,
     slices: &mut Slices<Progress<'_>>,
-    request: &Request<'_>,
+    chosen: &mut Chosen<'_, B, S>,
     asked: &SolutionWords,
-    source: &mut S,
     sink: &mut K,
 ) -> Result<Counts, DeskFault>
-    requires source { S.is_failed source.old ≡ false }
-    requires sink { K.is_failed sink.old ≡ false }
+    requires { K.is_failed sink.old ≡ false }
 {
-    match request.form {
-        Form::Fens => solve_fens(desk, slices, request, asked, source, sink),
-        Form::Pdn => solve_games(desk, slices, request, asked, source, sink),
-    }
-}
-
-/// Writes the chosen problems of a text that has one a line.
-fn solve_fens<B: Board, S: Source, K: Sink>(
-    desk: &mut Desk<B>,
-    slices: &mut Slices<Progress<'_>>,
-    request: &Request<'_>,
-    asked: &SolutionWords,
-    source: &mut S,
-    sink: &mut K,
-) -> Result<Counts, DeskFault>
-    requires source { S.is_failed source.old ≡ false }
-    requires sink { K.is_failed sink.old ≡ false }
-{
-    let mut problems = Problems::<B, S>::new(source, Form::Fens);
-    let mut counts = Counts::default();
-    'problems: loop {
-        let Some(problem) = problems.next()? else {
-            return Ok(counts);
-        };
-        if problem.number >= request.portion.first {
-            counts = counts.with(write_game(desk, slices, asked, &problem, &[], sink)?);
-        }
-        if request.portion.last == Some(problem.number) {
-            return Ok(counts);
-        }
-    }
-}
-
-/// Writes the chosen problems of a PDN text, each with the tags that it has there.
-fn solve_games<B: Board, S: Source, K: Sink>(
-    desk: &mut Desk<B>,
-    slices: &mut Slices<Progress<'_>>,
-    request: &Request<'_>,
-    asked: &SolutionWords,
-    source: &mut S,
-    sink: &mut K,
-) -> Result<Counts, DeskFault>
-    requires source { S.is_failed source.old ≡ false }
-    requires sink { K.is_failed sink.old ≡ false }
-{
-    let mut games = Games::<B, S>::new(desk.alloc, source);
     let mut counts = Counts::default();
     'games: for _ in 0..MAX_PROBLEMS + 1 {
-        let Some(game) = games.next()? else {
+        let Some(game) = chosen.next()? else {
             break;
         };
-        let number = game.problem.number;
-        if number >= request.portion.first {
-            let tags = game.tags.as_slice();
-            counts = counts.with(write_game(desk, slices, asked, &game.problem, tags, sink)?);
-        }
-        if request.portion.last == Some(number) {
-            break;
-        }
+        counts = counts.with(write_game(desk, slices, asked, &game, sink)?);
     }
     Ok(counts)
 }
@@ -94,21 +40,20 @@ fn write_game<B: Board, K: Sink>(
     desk: &mut Desk<B>,
     slices: &mut Slices<Progress<'_>>,
     asked: &SolutionWords,
-    problem: &Problem<B>,
-    section: &[u8],
+    game: &Game<B>,
     sink: &mut K,
 ) -> Result<bool, DeskFault>
     requires { K.is_failed sink.old ≡ false }
     ensures { IfOk result (λ _. K.is_failed sink.new ≡ false) }
 {
-    let number = problem.number;
-    match &problem.found {
+    let number = game.problem.number;
+    match &game.problem.found {
         Ok(position) => {
             slices.watcher.begin(number);
             let text = solution_of(desk, slices, asked, position);
             slices.watcher.end();
             let text = text?;
-            write_tags(desk, position, section, sink)?;
+            write_tags(desk, position, game.tags.as_slice(), sink)?;
             write_all(sink, text.as_slice())?;
             write_all(sink, b"\n\n")?;
             Ok(false)

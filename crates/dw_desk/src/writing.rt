@@ -1,10 +1,9 @@
 //! The command `token`: a line of play as a token.
 ghost use Rattle.std.specs.Prelude.{◌≡◌, ◌⊎◌, false};
 
-use crate::chosen::chosen_problem;
+use crate::chosen::Chosen;
 use crate::desk::DeskFault;
 use crate::ending::Ending;
-use crate::words::Request;
 use dw_board::Board;
 use dw_games::{LineFault, read_line};
 use dw_list::write_token;
@@ -16,19 +15,17 @@ use std::alloc::Global;
 /// written.
 pub fn write_line<T, B: Board, S: Source, K: Sink>(
     alloc: Global,
-    request: &Request<'_>,
+    chosen: &mut Chosen<'_, B, S>,
     line: &str,
-    source: &mut S,
     sink: &mut K,
 ) -> Result<Ending<T>, DeskFault>
     requires rows { (B.geometry.rows ≡ 10) ⊎ (B.geometry.rows ≡ 8) }
-    requires source { S.is_failed source.old ≡ false }
     requires sink { K.is_failed sink.old ≡ false }
 {
-    let Some(problem) = chosen_problem::<B, S>(request, source)? else {
-        return Ok(Ending::NoProblem(request.portion.first));
+    let Some(game) = chosen.next()? else {
+        return Ok(Ending::NoProblem(chosen.first()));
     };
-    let position = match problem.found {
+    let position = match game.problem.found {
         Ok(position) => position,
         Err(fault) => return Ok(Ending::ProblemRefused(fault)),
     };

@@ -1,8 +1,10 @@
-//! What the programs share: options of the command line that each of them has, and the boards and memos that these
-//! name.
+//! What the programs share: how their words are read, options of the command line that each of them has, and the boards
+//! and memos that these name.
 #![tactic(auto)]
 
 pub mod choices;
 pub mod options;
+pub mod words;
 
 pub use choices::{BoardSize, MemoKind, memo_of};
+pub use words::{Unread, why_unread, words_given};

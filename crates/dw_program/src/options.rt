@@ -17,7 +17,7 @@ pub const MOST_KEPT: usize = 4_000_000;
 
 /// The version of the programs.
 /// Example: `dw --version` tells it.
-pub const VERSION: &str = "0.9.0";
+pub const VERSION: &str = "1.0.0";
 
 const MEMO_HELP: &str = "\
 What is kept of the search:

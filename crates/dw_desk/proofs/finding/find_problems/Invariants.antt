@@ -1,12 +1,5 @@
-use Rattle.std.proofs.Common.{◌≡◌, ◌≤◌, ◌-◌, false}
-use Rattle.dw_notation.specs.inner.Readers.{reader_of}
+use Rattle.std.proofs.Common.{◌≡◌, false}
 use Rattle.dw_desk.proofs.finding.find_problems.Given as goal
 
 abbrev pub invariant-problems : goal.invariant-problems
-invariant-problems g l = record {
-  sink : g.K.Sink.is_failed l.sink ≡ false;
-  bound : (reader_of l.problems).handed ≤ 1000001;
-}
-
-abbrev pub decreases-problems : goal.decreases-problems
-decreases-problems g l = 1000001 - (reader_of l.problems).handed
+invariant-problems g l = g.K.Sink.is_failed l.sink ≡ false

@@ -1,32 +1,36 @@
 //! The arguments of the command `mend`.
-ghost use Rattle.std.specs.Prelude.{◌≤◌};
+ghost use Rattle.std.specs.Prelude.{◌≤◌, IfSome};
 
-use crate::words::{CACHE_HELP, each, one_problem, progress, within};
+use crate::arguments::{CACHE_HELP, each, progress, within};
+use crate::portion::one_problem;
 use clap::builder::ValueParser;
 use clap::{Arg, ArgMatches, Command as Words};
-use dw_mend::Part;
 use dw_program::options::{MOST_MOVES, board, cache, file, memo, option, pdn};
 use std::alloc::{AllocError, Global};
 
 /// What the command `mend` is asked for.
+/// Example: `-n 3 --part 1/4` asks for the first of four parts, in 3 moves.
 #[derive(Clone, Copy)]
 pub struct MendWords {
     /// The number of moves within which the win is, 1 to `MOST_MOVES`.
     pub n: u8,
     /// How many positions may be expanded for each neighbour, at least 1.
     pub each: u64,
-    /// Which of the neighbours are looked at.
-    pub part: Part,
-    ghost some_moves: { 1 ≤ n },
-    ghost few_moves: { n ≤ 20 },
-    ghost room: { 1 ≤ each },
+    /// Which part of the neighbours is looked at, from 1 on.
+    pub part: u32,
+    /// How many parts there are, at least 1.
+    pub parts: u32,
+    pub ghost some_moves: { 1 ≤ n },
+    pub ghost few_moves: { n ≤ 20 },
+    pub ghost room: { 1 ≤ each },
+    pub ghost some_parts: { 1 ≤ parts },
 }
 
 /// The most parts of the neighbours.
 const MOST_PARTS: u32 = 1_000_000;
 
 /// What is said of a part that is none.
-pub const NO_PART: &str = "\
+pub(crate) const NO_PART: &str = "\
 error: invalid value for '--part <I/M>': M is 1 to 1000000, and I is 1 to M
 
 For more information, try '--help'.
@@ -45,7 +49,7 @@ Examples:
   dw-desk mend -n 2 --problem 3 --part 1/4 examples/problems.fen";
 
 /// The command with its arguments.
-pub fn mend_command<'a>(alloc: Global) -> Result<Words<'a>, AllocError> {
+pub(crate) fn mend_command<'a>(alloc: Global) -> Result<Words<'a>, AllocError> {
     let help = "Look for sound problems in N moves of the side to move, 1 to 20";
     let undecided =
         "Leave a position undecided after L positions, 1 to 1000000000000 [default: never]";
@@ -73,29 +77,30 @@ fn part<'a>(alloc: Global) -> Arg<'a> {
 }
 
 /// What the command is asked for; none, if the part is none.
-pub fn mend_words(words: &ArgMatches<'_>) -> Option<MendWords> {
+pub(crate) fn mend_words(words: &ArgMatches<'_>) -> Option<MendWords> {
     let n = words.get_one::<u8>("n").unwrap_or(1);
     let each = words.get_one::<u64>("each").unwrap_or(u64::MAX);
+    let (part, parts) = part_named(words.get_str("part"))?;
     Some(MendWords {
         n: n.clamp(1, MOST_MOVES),
         each: each.max(1),
-        part: part_named(words.get_str("part"))?,
+        part,
+        parts,
     })
 }
 
-/// The part that a text names: `I/M`; all, if there is no text.
-fn part_named(text: Option<&str>) -> Option<Part> {
+/// The part that a text names, and of how many: `I/M`; all, if there is no text.
+fn part_named(text: Option<&str>) -> Option<(u32, u32)>
+    ensures { IfSome result (λ named. 1 ≤ named.1) }
+{
     let Some(text) = text else {
-        return Some(Part {
-            number: 1,
-            parts: 1,
-        });
+        return Some((1, 1));
     };
-    let (number, parts) = text.split_once('/')?;
-    let number = number.parse::<u32>().ok()?;
+    let (part, parts) = text.split_once('/')?;
+    let part = part.parse::<u32>().ok()?;
     let parts = parts.parse::<u32>().ok()?;
-    if number < 1 || parts < number || parts > MOST_PARTS {
+    if part < 1 || parts < part || parts > MOST_PARTS {
         return None;
     }
-    Some(Part { number, parts })
+    Some((part, parts))
 }

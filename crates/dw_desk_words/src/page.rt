@@ -1,7 +1,8 @@
 //! The arguments of the command `page`.
 ghost use Rattle.std.specs.Prelude.{◌≤◌};
 
-use crate::words::{CACHE_HELP, lines, lines_of, problem, progress, within};
+use crate::arguments::{CACHE_HELP, lines, lines_of, progress, within};
+use crate::portion::problem;
 use clap::builder::ValueParser;
 use clap::{Arg, ArgMatches, Command as Words, value_parser};
 use dw_page::{Language, Look};
@@ -9,6 +10,7 @@ use dw_program::options::{MOST_MOVES, board, cache, file, flag, memo, option, pd
 use std::alloc::{AllocError, Global};
 
 /// Where the solutions stand.
+/// Example: `--solutions end` asks for `Placing::End`.
 #[derive(Clone, Copy, Debug, PartialEq, Eq)]
 pub enum Placing {
     /// Behind each problem.
@@ -20,6 +22,7 @@ pub enum Placing {
 }
 
 /// What the command `page` is asked for.
+/// Example: `--most 6` asks for the least number of moves with a win, up to 6.
 #[derive(Clone, Copy)]
 pub struct PageWords<'a> {
     /// The number of moves within which the win is, 1 to `MOST_MOVES`.
@@ -30,8 +33,8 @@ pub struct PageWords<'a> {
     pub lines: usize,
     pub look: Look<'a>,
     pub solutions: Placing,
-    ghost some_moves: { 1 ≤ moves },
-    ghost few_moves: { moves ≤ 20 },
+    pub ghost some_moves: { 1 ≤ moves },
+    pub ghost few_moves: { moves ≤ 20 },
 }
 
 const ABOUT: &str =
@@ -51,7 +54,7 @@ Examples:
 const USUAL_TITLE: &str = "dw-desk";
 
 /// The command with its arguments.
-pub fn page_command<'a>(alloc: Global) -> Result<Words<'a>, AllocError> {
+pub(crate) fn page_command<'a>(alloc: Global) -> Result<Words<'a>, AllocError> {
     let help = "Ask for a win in N moves of the side to move, 1 to 20";
     let within = within(alloc, help)
         .required_unless_present("most")?
@@ -106,7 +109,7 @@ fn solutions<'a>(alloc: Global) -> Arg<'a> {
 }
 
 /// What the command is asked for.
-pub fn page_words<'a>(words: &ArgMatches<'a>) -> PageWords<'a> {
+pub(crate) fn page_words<'a>(words: &ArgMatches<'a>) -> PageWords<'a> {
     let most = words.get_one::<u8>("most");
     let moves = words.get_one::<u8>("n").or(most).unwrap_or(1);
     PageWords {

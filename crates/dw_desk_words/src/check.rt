@@ -1,0 +1,43 @@
+//! The arguments of the command `check`.
+use crate::arguments::{CACHE_HELP, progress, within};
+use crate::portion::problem;
+use clap::Command as Words;
+use dw_program::options::{board, cache, file, memo, pdn};
+use std::alloc::{AllocError, Global};
+
+const ABOUT: &str =
+    "Compares the solution in each game of a PDN file with the truth: what is wrong, what is missing.";
+
+const EXAMPLES: &str = "\
+A solution is what stands behind the tags of a game: moves, and variations in parentheses. Each
+remark stands in a line:
+  fails  a move of the attacker that is no key, with the reply that refutes it
+  also   keys that the solution does not have
+  open   replies that it does not have
+  ends   it ends here, though the play goes on
+The last line says whether the solution holds in N moves, and how many remarks there are of each
+kind. It holds if nothing fails and nothing ends; it is whole if nothing is open and no key is left.
+Without -n, N is the number of the attacker's moves that the solution has.
+
+Examples:
+  dw-desk check examples/solutions.pdn
+  dw-desk check -n 3 --problem 2 examples/solutions.pdn";
+
+/// The command with its arguments.
+pub(crate) fn check_command<'a>(alloc: Global) -> Result<Words<'a>, AllocError> {
+    let help = "Look for a win in N moves of the side to move, 1 to 20 [default: as the solution]";
+    let arguments = vec![in alloc;
+        board(alloc),
+        pdn(alloc),
+        problem(alloc),
+        file(alloc),
+        within(alloc, help),
+        memo(alloc, "deep"),
+        cache(alloc, CACHE_HELP),
+        progress(alloc),
+    ]?;
+    Words::new(alloc, "check")
+        .about(ABOUT)
+        .after_help(EXAMPLES)
+        .args(arguments)
+}

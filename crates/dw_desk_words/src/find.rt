@@ -1,0 +1,78 @@
+//! The arguments of the command `find`.
+ghost use Rattle.std.specs.Prelude.{◌≤◌};
+
+use crate::arguments::{CACHE_HELP, each, progress};
+use crate::portion::problem;
+use clap::{Arg, ArgMatches, Command as Words, value_parser};
+use dw_program::options::{MOST_MOVES, board, cache, file, flag, memo, option, pdn};
+use std::alloc::{AllocError, Global};
+
+/// What the command `find` is asked for.
+/// Example: `--most 6 --json` asks for lines of JSON, with up to 6 moves.
+#[derive(Clone, Copy)]
+pub struct FindWords {
+    /// The most moves within which a win is looked for, 1 to `MOST_MOVES`.
+    pub most: u8,
+    /// How many positions may be expanded for each problem until its number of moves is known.
+    pub each: Option<u64>,
+    /// Whether a line of JSON is written for each problem.
+    pub json: bool,
+    pub ghost some_moves: { 1 ≤ most },
+    pub ghost few_moves: { most ≤ 20 },
+}
+
+const EACH_HELP: &str =
+    "Go to the next problem after L positions, 1 to 1000000000000 [default: never]";
+
+const ABOUT: &str = "Finds in how many moves each problem is won, and judges it at that number.";
+
+const EXAMPLES: &str = "\
+What is written is what `dw judge -n N` writes for the least N with a win, or for --most if there
+is none. With --each a problem that takes too long is left undecided, and the next one begins:
+it is told in how many moves there is no win. The problems before do not matter then, since each
+begins with an empty memo.
+
+Examples:
+  echo W:W10,16,48:B13 | dw-desk find
+  dw-desk find --most 6 --each 1000000 examples/problems.fen
+  dw-desk find --json --problem 1-3 examples/problems.fen";
+
+/// The command with its arguments.
+pub(crate) fn find_command<'a>(alloc: Global) -> Result<Words<'a>, AllocError> {
+    let arguments = vec![in alloc;
+        board(alloc),
+        pdn(alloc),
+        problem(alloc),
+        file(alloc),
+        most(alloc),
+        each(alloc, EACH_HELP),
+        json(alloc),
+        memo(alloc, "deep"),
+        cache(alloc, CACHE_HELP),
+        progress(alloc),
+    ]?;
+    Words::new(alloc, "find")
+        .about(ABOUT)
+        .after_help(EXAMPLES)
+        .args(arguments)
+}
+
+fn most<'a>(alloc: Global) -> Arg<'a> {
+    let numbers = value_parser!(u8).range(1..=i64::from(MOST_MOVES));
+    let help = "Look for a win in at most N moves of the side to move, 1 to 20 [default: 20]";
+    option(alloc, "most", "N", numbers, help)
+}
+
+fn json<'a>(alloc: Global) -> Arg<'a> {
+    flag(alloc, "json", "Write one line of JSON for each problem")
+}
+
+/// What the command `find` is asked for.
+pub(crate) fn find_words(words: &ArgMatches<'_>) -> FindWords {
+    let most = words.get_one::<u8>("most").unwrap_or(MOST_MOVES);
+    FindWords {
+        most: most.clamp(1, MOST_MOVES),
+        each: words.get_one::<u64>("each"),
+        json: words.get_flag("json"),
+    }
+}

@@ -1,0 +1,62 @@
+//! The arguments of the command `solution`.
+ghost use Rattle.std.specs.Prelude.{◌≤◌};
+
+use crate::arguments::{CACHE_HELP, lines, lines_of, progress, within};
+use crate::portion::problem;
+use clap::{ArgMatches, Command as Words};
+use dw_program::options::{MOST_MOVES, board, cache, file, memo, pdn};
+use std::alloc::{AllocError, Global};
+
+/// What the command `solution` is asked for.
+/// Example: `-n 3 --lines 5` asks for at most 5 lines of 3 moves.
+#[derive(Clone, Copy)]
+pub struct SolutionWords {
+    /// The number of moves within which the win is, 1 to `MOST_MOVES`.
+    pub n: u8,
+    /// How many lines are written at most.
+    pub lines: usize,
+    pub ghost some_moves: { 1 ≤ n },
+    pub ghost few_moves: { n ≤ 20 },
+}
+
+const ABOUT: &str = "Writes each problem as a game of a PDN file, with its solution.";
+
+const EXAMPLES: &str = "\
+The solution is the tree of the first lines that `dw list -n N` writes: the least move goes on, and
+the others stand behind it in parentheses. The verdict stands in front, as {dual in 2}, and {more}
+behind the moves if there are other lines. With --pdn a game keeps its tags.
+`dw-desk check` reads it again.
+
+Examples:
+  echo W:W27,32:B18 | dw-desk solution -n 2
+  dw-desk solution -n 2 --lines 2 --problem 1-3 examples/problems.fen
+  dw-desk solution -n 3 --pdn examples/solutions.pdn";
+
+/// The command with its arguments.
+pub(crate) fn solution_command<'a>(alloc: Global) -> Result<Words<'a>, AllocError> {
+    let help = "Show the win in N moves of the side to move, 1 to 20";
+    let arguments = vec![in alloc;
+        board(alloc),
+        pdn(alloc),
+        problem(alloc),
+        file(alloc),
+        within(alloc, help).required(true),
+        lines(alloc),
+        memo(alloc, "deep"),
+        cache(alloc, CACHE_HELP),
+        progress(alloc),
+    ]?;
+    Words::new(alloc, "solution")
+        .about(ABOUT)
+        .after_help(EXAMPLES)
+        .args(arguments)
+}
+
+/// What the command `solution` is asked for.
+pub(crate) fn solution_words(words: &ArgMatches<'_>) -> SolutionWords {
+    let n = words.get_one::<u8>("n").unwrap_or(1);
+    SolutionWords {
+        n: n.clamp(1, MOST_MOVES),
+        lines: lines_of(words),
+    }
+}
