@@ -1,8 +1,8 @@
 """reading_order.py: the page docs/DEFINITIONS.md, made from the comments on the definitions of a contract.
 
 checks/definitions.py writes the page, and compares it. Each definition stands there with the comment above it in
-specs/, file by file, and the types and constants of the code that definitions name stand at its end with theirs. What
-has no comment in its file has a text here.
+specs/, file by file. The types and constants of the code that definitions name follow with theirs, and at the end the
+laws of all crates. What has no comment in its file has a text here.
 """
 import pathlib
 import re
@@ -20,6 +20,9 @@ HEAD = [
     "`checks/definitions.py --write` makes the page.",
 ]
 TYPES = "Definitions and contracts also name these plain types and constants of the code."
+LAWS = ("Nobody has to believe these, since they are proved: they say what follows from definitions, also from those "
+        "of other contracts. Each is the contract of a function that does nothing, but for those on what `==` means. "
+        "The contract has all conditions.")
 # The files in reading order, each with its heading.
 FILES = {
     "dw_report/specs/Running.antt": "How a run ends",
@@ -140,14 +143,27 @@ def named_types(definitions):
     return found
 
 
-def type_entries(file, names):
-    """The types and constants of a source, in its order, each with the first paragraph above it, but for examples."""
-    items = r"((?:^///.*\n)+)(?:^#\[.*\n)*^pub (?:struct|enum|const) (\w+)(?:: \w+ = ([\d_]+))?"
-    rows = [row for row in re.findall(items, (CRATES / file).read_text(), re.MULTILINE) if row[1] in names]
-    assert {name for _, name, _ in rows} == names, f"{file}: no comment on some of {names}"
-    for above, name, value in rows:
-        text = re.split(r" (?:Example|See \[)", joined(above.splitlines(), "///"))[0]
-        yield entry([name], text + (f" It is {int(value):,}." if value else ""))
+def documented(file):
+    """The public items of a source: their names, the texts above them without examples, and the values of constants."""
+    items = r"((?:^///.*\n)+)(?:^#\[.*\n)*^pub (?:struct|enum|const|fn) (\w+)(?:: \w+ = ([\d_]+))?"
+    for above, name, value in re.findall(items, (CRATES / file).read_text(), re.MULTILINE):
+        text = re.split(r" (?:Example: |See \[)", joined(above.splitlines(), "///"))[0]
+        yield name, text + (f" It is {int(value):,}." if value else "")
+
+
+def source_entries(file, names=None):
+    """The items of a source in its order, or those of these names."""
+    rows = [row for row in documented(file) if names is None or row[0] in names]
+    assert names is None or {name for name, _ in rows} == names, f"{file}: no comment on some of {names}"
+    return "\n".join(entry([name], text) for name, text in rows)
+
+
+def law_files():
+    """The files of laws, by the order of crates.txt."""
+    crates = [line.split(":")[0] for line in (TOP / "crates.txt").read_text().splitlines()]
+    layers = [CRATES / crate / "src" for crate in crates if not crate.startswith("dw_tests_")]
+    paths = [path for src in layers for path in (*src.glob("laws.rt"), *sorted(src.glob("laws/*.rt")))]
+    return [str(path.relative_to(CRATES)) for path in paths]
 
 
 def page(definitions):
@@ -165,5 +181,8 @@ def page(definitions):
     assert set(types) == set(SOURCES), f"reading_order.py: SOURCES lacks, or has too much: {set(types) ^ set(SOURCES)}"
     parts += ["## Types of the code", TYPES]
     for name in SOURCES:
-        parts += [f"{link(name)}:", "\n".join(type_entries(name, types[name]))]
+        parts += [f"{link(name)}:", source_entries(name, types[name])]
+    parts += ["## Laws", filled(LAWS)]
+    for name in law_files():
+        parts += [f"{link(name)}:", source_entries(name)]
     return "\n\n".join(parts) + "\n"
