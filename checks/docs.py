@@ -9,7 +9,8 @@ definition in docs/DEFINITIONS.md has to stand in the file that is named for it.
 docs/FORMATS.md have to be what `dw show` answers, the program in docs/LIBRARY.md that of the crate `dw_example`, and
 the problems in docs/REPORT.md have to have the diagrams, verdicts and lines that stand there. What README.md,
 docs/DESK.md and docs/COMPOSERS.md show the programs to answer has to be what they answer. Each function on the way of a
-problem in docs/ARCHITECTURE.md has to be in the file that is named for it, and each crate has to be named there.
+problem in docs/ARCHITECTURE.md has to be in the file that is named for it; each crate has to be named there, with
+files that it has.
 """
 import pathlib
 import re
@@ -171,11 +172,18 @@ def check_way():
 
 
 def check_crates():
-    """The map names each crate."""
+    """The map names each crate, and what it names of a crate is there."""
+    text = ARCHITECTURE.read_text()
     crates = [path.name for path in sorted((TOP / "crates").iterdir())]
-    missing = [crate for crate in crates if f"`{crate}`" not in ARCHITECTURE.read_text()]
+    missing = [crate for crate in crates if f"`{crate}`" not in text]
     assert not missing, f"ARCHITECTURE.md lacks {' '.join(missing)}"
-    print(f"ARCHITECTURE.md: {len(crates)} crates, each named")
+    count = 0
+    for item in (block for block in blocks(text) if re.match(r"- `dw\w*`: ", block)):
+        crate = TOP / "crates" / re.match(r"- `(\w+)`", item)[1]
+        for name in re.findall(r"`([\w/]+\.(?:rt|antt))`", item):
+            assert any(crate.glob(f"**/{name}")), f"ARCHITECTURE.md: {crate.name} has no {name}"
+            count += 1
+    print(f"ARCHITECTURE.md: {len(crates)} crates, each named, and {count} of their files")
 
 
 def check_example():
