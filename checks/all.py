@@ -75,6 +75,8 @@ SLOW = [
 ]
 # What is no check of this repository, but for whom reads what the programs write.
 READERS = ["certificate"]
+# What is a part of a check.
+PARTS = ["reading_order"]
 
 
 def purpose(check):
@@ -115,7 +117,7 @@ def report(check, slow):
 def chosen(names, slow):
     """The checks of these names, or all."""
     known = {check.name: check for check in CHECKS + SLOW}
-    there = {path.stem for path in HERE.glob("*.py")} - {"all", *READERS}
+    there = {path.stem for path in HERE.glob("*.py")} - {"all", *READERS, *PARTS}
     assert set(known) == there, f"all.py lacks, or has too much: {sorted(set(known) ^ there)}"
     if not names:
         return CHECKS + SLOW * slow

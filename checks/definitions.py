@@ -1,12 +1,13 @@
 #!/usr/bin/env python3
 """definitions.py: counts the definitions that a reader of the main contracts has to believe, and compares
-docs/PROVED.md.
+docs/PROVED.md and docs/DEFINITIONS.md.
 
-    checks/definitions.py [--list]      with --list it prints the names, file by file
+    checks/definitions.py [--list] [--write]      with --list it prints the names, file by file
 
 A contract names definitions of specs/, these name others, and so on: all of them count, with their comments, without
 imports and blank lines. The table in docs/PROVED.md has to give the same numbers. The files of one contract are told
-by their lines, too.
+by their lines, too. docs/DEFINITIONS.md has those of `run` with their comments, as reading_order.py makes it of specs/
+and src/; with --write it is written anew.
 
 No contract of a public item of a layer may lead to a definition of specs/inner, and each other definition has to be one
 that some public contract leads to. The exception is a definition that is sealed, as its comment says: contracts name
@@ -20,10 +21,13 @@ import re
 import sys
 import textwrap
 
+import reading_order
+
 TOP = pathlib.Path(__file__).resolve().parent.parent
 CRATES, PROVED = TOP / "crates", TOP / "docs/PROVED.md"
 MOST = 120
 NAME = r"[\w'◌>=-]+"
+STRING = re.compile(r'"(?:\\.|[^"\\])*"')
 USE = re.compile(r"(?:ghost )?use (Rattle\.[\w.]+)\.\{(.*)\};?$")
 ALIAS = re.compile(r"(?:ghost )?use (Rattle\.[\w.]+) as (\w+);?$")
 BLOCK = re.compile(r"impl(?:<.*?>)? (?:(\w+).*? for )?(\w+)|(?:pub(?:\(\w+\))? )?(?:struct|enum|trait) (\w+)")
@@ -110,7 +114,7 @@ FILES = {file.module: file for file in SPECS if file.path.stem not in ("Lib", "i
 
 def named(text, imports):
     """The definitions that a text names, read with these imports."""
-    for word in set(re.findall(r">>=|[\w'][\w'.]*", re.sub(r'"[^"]*"', "", text))):
+    for word in set(re.findall(r">>=|[\w'][\w'.]*", STRING.sub("", text))):
         head, _, rest = word.partition(".")
         own = imports.find(head) if isinstance(imports, File) else None
         module, name = imports.names.get(head) or imports.names.get(f"◌{head}◌") or ("", "")
@@ -146,7 +150,8 @@ def contract(file, start, clause=""):
 def public_text(path, left_out):
     """What a file's public items say: no private functions, no methods of private types, and no items left out."""
     text = path.read_text()
-    private = set(re.findall(r"^(?:pub\((?:crate|super)\) )?(?:struct|enum|trait) (\w+)", text, re.MULTILINE)) | PRIVATE_TRAITS
+    named_here = re.findall(r"^(?:pub\((?:crate|super)\) )?(?:struct|enum|trait) (\w+)", text, re.MULTILINE)
+    private = set(named_here) | PRIVATE_TRAITS
     kept, impl, lines = [], "", iter(text.splitlines())
     for line in lines:
         start = BLOCK.match(line)
@@ -185,7 +190,7 @@ def skip(lines, line, end, ends=str.__eq__):
 # Ghost items that are proofs, which nobody has to believe, and those that say how a public type is kept.
 PROOF = r"\s*ghost (laws|total|matches_\w+|respects_eq|inverse|inverse_ok|numbers|shifts|word_is) ="
 KEPT = PROOF.replace("(", "(view|invariant|")
-NAMES = "board moves memo solve notation list games report study solution program desk".split()
+NAMES = "board moves memo solve notation list games report study solution page certificate mend program desk".split()
 LAYERS = [f"dw_{layer}" for layer in NAMES] + ["dw"]
 SOURCES = [path for layer in LAYERS for path in sorted((CRATES / layer).glob("src/**/*.rt"))]
 PRIVATE_TRAITS = {name for path in SOURCES for name in re.findall(r"^pub\(crate\) trait (\w+)", path.read_text(), re.M)}
@@ -206,9 +211,11 @@ def private_types(definition):
 
 def check_citations():
     """No crate cites the proofs of another crate of the repository, or unfolds what is sealed there."""
-    sealed = {d.name: d.file.module.split(".")[1] for f in FILES.values() for d in f.definitions.values() if d.is_sealed()}
+    definitions = [definition for file in FILES.values() for definition in file.definitions.values()]
+    sealed = {d.name: d.file.module.split(".")[1] for d in definitions if d.is_sealed()}
     crates = {path.name for path in CRATES.iterdir()}
-    for path in sorted([*CRATES.glob("*/specs/**/*.antt"), *CRATES.glob("*/proofs/**/*.antt"), *CRATES.glob("*/src/**/*.rt")]):
+    kinds = ("specs/**/*.antt", "proofs/**/*.antt", "src/**/*.rt")
+    for path in sorted(path for kind in kinds for path in CRATES.glob(f"*/{kind}")):
         crate, text = path.relative_to(CRATES).parts[0], path.read_text()
         cited = set(re.findall(r"Rattle\.(\w+)\.proofs\b", text)) & crates - {crate}
         opened = {name for name in re.findall(r"unfolding[ (:\w]*\b(\w+)", text) if sealed.get(name, crate) != crate}
@@ -240,7 +247,18 @@ def rows():
     yield "`legal` and `play`", [contract(legal, "pub fn legal<"), contract(play, "pub fn play<")]
 
 
+def check_page(definitions, is_written_anew):
+    """The page of the definitions is the one that their comments make."""
+    page = reading_order.page(definitions)
+    if is_written_anew:
+        reading_order.PAGE.write_text(page)
+    stands = reading_order.PAGE.exists() and reading_order.PAGE.read_text() == page
+    assert stands, "docs/DEFINITIONS.md is not what the comments make: run checks/definitions.py --write"
+    print(f"docs/DEFINITIONS.md: {len(definitions)} definitions, as their comments say")
+
+
 def main(words):
+    check_page(reached(next(rows())[1]), "--write" in words)
     told = PROVED.read_text()
     for title, texts in rows():
         seen = reached(texts)

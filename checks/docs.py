@@ -5,11 +5,12 @@
 
 Each link of the pages has to lead to a file, and to a heading of it, and each file named there has to exist. No line
 there has more than 120 columns. The contract in docs/PROVED.md has to be that of `run`, word for word, and each
-definition in its reading order has to stand in the file that is named for it. The rows on FEN texts in docs/FORMATS.md
-have to be what `dw show` answers, the program in docs/LIBRARY.md that of the crate `dw_example`, and the problems in
-docs/REPORT.md have to have the diagrams, verdicts and lines that stand there. What README.md, docs/DESK.md and
-docs/COMPOSERS.md show the programs to answer has to be what they answer. Each function on the way of a problem in
-docs/ARCHITECTURE.md has to be in the file that is named for it.
+definition in docs/DEFINITIONS.md has to stand in the file that is named for it. The rows on FEN texts in
+docs/FORMATS.md have to be what `dw show` answers, the program in docs/LIBRARY.md that of the crate `dw_example`, and
+the problems in docs/REPORT.md have to have the diagrams, verdicts and lines that stand there. What README.md,
+docs/DESK.md and docs/COMPOSERS.md show the programs to answer has to be what they answer. Each function on the way of a
+problem in docs/ARCHITECTURE.md has to be in the file that is named for it; each crate has to be named there, with
+files that it has.
 """
 import pathlib
 import re
@@ -19,8 +20,8 @@ import subprocess
 TOP = pathlib.Path(__file__).resolve().parent.parent
 DW = TOP / "dw"
 TEXTS = [TOP / "README.md", TOP / "examples/README.md", *sorted((TOP / "docs").glob("*.md"))]
-README, PROVED, FORMATS, REPORT, DESK, COMPOSERS = TOP / "README.md", *(
-    TOP / f"docs/{name}.md" for name in ("PROVED", "FORMATS", "REPORT", "DESK", "COMPOSERS"))
+README, PROVED, DEFINITIONS, FORMATS, REPORT, DESK, COMPOSERS = TOP / "README.md", *(
+    TOP / f"docs/{name}.md" for name in ("PROVED", "DEFINITIONS", "FORMATS", "REPORT", "DESK", "COMPOSERS"))
 RUN = TOP / "crates/dw_report/src/run.rt"
 ARCHITECTURE, LIBRARY, EXAMPLE = TOP / "docs/ARCHITECTURE.md", TOP / "docs/LIBRARY.md", TOP / "crates/dw_example"
 LINK = re.compile(r"\[[^\]]*\]\(([^)\s]+)\)")
@@ -87,7 +88,7 @@ def blocks(text):
 
 
 def named(text):
-    """Each definition of the reading order, with the files in which it may stand."""
+    """Each definition of the page, with the files in which it may stand."""
     files = []
     for block in blocks(text):
         if not block.startswith("- "):
@@ -100,15 +101,16 @@ def named(text):
 
 
 def check_definitions():
-    text = PROVED.read_text()
+    text = DEFINITIONS.read_text()
     count = 0
-    for name, files in named(text[text.index("### Reading order") : text.index("#### Types of the code")]):
+    for name, files in named(text[: text.index("## Types of the code")]):
         word = rf"(?:{re.escape(name)}|◌{re.escape(name)}◌)(?![\w'])"
         defined = rf"^(?:(?:abbrev|unfoldable) )?pub (?:(?:record|data) )?{word}"
         stands = [file for file in files if re.search(defined, (TOP / "docs" / file).read_text(), re.MULTILINE)]
-        assert stands, f"docs/PROVED.md: {name} is not in {files}"
+        assert stands, f"docs/DEFINITIONS.md: {name} is not in {files}"
         count += 1
-    print(f"docs/PROVED.md: {count} definitions, each in its file")
+    assert count >= 200, f"docs/DEFINITIONS.md: {count} definitions"
+    print(f"docs/DEFINITIONS.md: {count} definitions, each in its file")
 
 
 def check_fen_texts():
@@ -169,6 +171,21 @@ def check_way():
     print(f"{len(rows)} functions on the way of a problem, each is in its file")
 
 
+def check_crates():
+    """The map names each crate, and what it names of a crate is there."""
+    text = ARCHITECTURE.read_text()
+    crates = [path.name for path in sorted((TOP / "crates").iterdir())]
+    missing = [crate for crate in crates if f"`{crate}`" not in text]
+    assert not missing, f"ARCHITECTURE.md lacks {' '.join(missing)}"
+    count = 0
+    for item in (block for block in blocks(text) if re.match(r"- `dw\w*`: ", block)):
+        crate = TOP / "crates" / re.match(r"- `(\w+)`", item)[1]
+        for name in re.findall(r"`([\w/]+\.(?:rt|antt))`", item):
+            assert any(crate.glob(f"**/{name}")), f"ARCHITECTURE.md: {crate.name} has no {name}"
+            count += 1
+    print(f"ARCHITECTURE.md: {len(crates)} crates, each named, and {count} of their files")
+
+
 def check_example():
     """The program of docs/LIBRARY.md and what it prints are those of the crate that the gate runs."""
     blocks = dict(re.findall(r"^```(\w+)\n(.*?)^```", LIBRARY.read_text(), re.MULTILINE | re.DOTALL))
@@ -182,6 +199,7 @@ def main():
     check_links()
     check_paths()
     check_way()
+    check_crates()
     check_example()
     check_headline()
     check_definitions()

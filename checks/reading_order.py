@@ -1,0 +1,188 @@
+"""reading_order.py: the page docs/DEFINITIONS.md, made from the comments on the definitions of a contract.
+
+checks/definitions.py writes the page, and compares it. Each definition stands there with the comment above it in
+specs/, file by file. The types and constants of the code that definitions name follow with theirs, and at the end the
+laws of all crates. What has no comment in its file has a text here.
+"""
+import pathlib
+import re
+import textwrap
+
+TOP = pathlib.Path(__file__).resolve().parent.parent
+CRATES, PAGE = TOP / "crates", TOP / "docs/DEFINITIONS.md"
+WIDTH = 120
+HEAD = [
+    "The contract of `run` is worth as much as its definitions, and these are all of them, those that it names and "
+    "those that others name ([PROVED.md](PROVED.md#how-much-there-is-to-believe) counts them). They go from the report "
+    "down to boards. In a file what is used comes before what uses it, so the definition for which a file is there "
+    "mostly comes last. `g` is a board in all of them, `p` or `q` what stands on it, and `n` a number of moves.",
+    "Each text here is the comment above the definition, and says in words what stands below it in its file. "
+    "`checks/definitions.py --write` makes the page.",
+]
+TYPES = "Definitions and contracts also name these plain types and constants of the code."
+LAWS = ("Nobody has to believe these, since they are proved: they say what follows from definitions, also from those "
+        "of other contracts. Each is the contract of a function that does nothing, but for those on what `==` means. "
+        "The contract has all conditions.")
+# The files in reading order, each with its heading.
+FILES = {
+    "dw_report/specs/Running.antt": "How a run ends",
+    "dw_report/specs/Request.antt": "What is asked for",
+    "dw_notation/specs/Writes.antt": "What is written of a text",
+    "dw_report/specs/Report.antt": "The report",
+    "dw_report/specs/JudgedText.antt": "The text of a verdict",
+    "dw_report/specs/ListedText.antt": "The text of a list",
+    "dw_report/specs/Verdict.antt": "Verdicts and tries",
+    "dw_list/specs/Lines.antt": "Lines of play",
+    "dw_list/specs/Tokens.antt": "Tokens",
+    "dw_solve/specs/Wins.antt": "Forced wins",
+    "dw_solve/specs/Facts.antt": "What a memo says",
+    "dw_memo/specs/Content.antt": "What a memo holds",
+    "dw_notation/specs/Text.antt": "The texts of moves and lines",
+    "dw_moves/specs/Order.antt": "The order of moves",
+    "dw_moves/specs/Moves.antt": "The rules",
+    "dw_notation/specs/Problems.antt": "Problems of a byte text",
+    "dw_notation/specs/TextLines.antt": "Problems in lines",
+    "dw_notation/specs/WholeTexts.antt": "Problems in PDN",
+    "dw_notation/specs/Tags.antt": "Sections of PDN",
+    "dw_board/specs/FenGrammar.antt": "FEN texts",
+    "dw_board/specs/FenFaults.antt": "The earliest fault",
+    "dw_board/specs/FenReader.antt": "The next token",
+    "dw_board/specs/FenTokens.antt": "The tokens of a FEN text",
+    "dw_board/specs/FenText.antt": "The written FEN",
+    "dw_board/specs/Diagram.antt": "Diagrams",
+    "dw_board/specs/Placement.antt": "Positions",
+    "dw_board/specs/Geometry.antt": "Boards",
+    "dw_board/specs/Lists.antt": "Lists",
+}
+SOURCES = [
+    "dw_report/src/settings.rt", "dw_solve/src/stop.rt", "dw_memo/src/bounds.rt", "dw_notation/src/problems.rt",
+    "dw_board/src/piece.rt", "dw_board/src/board.rt", "dw_board/src/fen/fault.rt",
+]
+# What has no comment in its file. The file and the name; a constant stands for those right after it, too.
+TEXTS = {
+    ("Report", "first_line"): "`problem`, the number, and the written FEN or the refusal",
+    ("Report", "chosen"): "the problems that are reported",
+    ("Verdict", "Verdict"): "unsolvable, cooked, dual or sound, with what each tells",
+    ("Content", "Content"): "a list of entries",
+    ("TextLines", "line_feed"): "the bytes that end lines",
+    ("Tags", "Tag"): "a name and a value",
+    ("FenGrammar", "all_named"): "the pieces that items name, item after item",
+    ("FenReader", "place_of"): "the place of the first token, or that of the text's end if there is none",
+    ("FenReader", "is_empty"): "no token is left",
+    ("FenTokens", "is_digit"): "a digit",
+    ("FenTokens", "begins_with_digit"): "the first byte is a digit",
+    ("FenTokens", "with_byte"): "tokens with a byte in front of them: a blank makes none, a digit before another one "
+                                "joins its run, and each other byte is a token of its own",
+    ("FenTokens", "is_sign"): "a token is this byte alone",
+    ("FenTokens", "square_numbered"): "a number, if the board has a square of it",
+}
+
+
+def link(file):
+    return f"[{file}](../crates/{file})"
+
+
+def joined(lines, mark):
+    """The lines of a comment as one text."""
+    return " ".join(line.strip().removeprefix(mark).strip() for line in lines)
+
+
+def filled(text, begin="", rest=""):
+    """A text in lines, none of which begins with what would be a mark of a list or of a heading."""
+    bound = re.sub(r" (?=(?:\d+[.)]|[-+*#>=]+) )", "\0", text)
+    lines = textwrap.wrap(bound, WIDTH, initial_indent=begin, subsequent_indent=rest, break_long_words=False,
+                          break_on_hyphens=False)
+    return "\n".join(lines).replace("\0", " ")
+
+
+def entry(names, text):
+    text = text if text.endswith(".") else text + "."
+    return filled(f"{', '.join(f'`{name}`' for name in names)}: {text}", "- ", "  ")
+
+
+def comment(definition):
+    """The comment above a definition, without a heading of a part of its file."""
+    return joined([line for line in definition.lines if re.match(r"-- (?!----)", line)], "--")
+
+
+def is_constant(definition):
+    return any(line.endswith(f"{definition.name} : ℕ") for line in definition.lines)
+
+
+def entries(file, definitions):
+    """The definitions of a file in its order, each with its text."""
+    rows, before = [], None
+    for definition in sorted(definitions, key=list(file.definitions.values()).index):
+        text, told = comment(definition), TEXTS.get((file.path.stem, definition.name), "")
+        assert not (text and told), f"reading_order.py: {definition.name} has a comment in {file.path.name}, and a text"
+        if not text and not told and before and is_constant(before) and is_constant(definition):
+            rows[-1][0].append(definition.name)
+        else:
+            assert text or told, f"{file.path.relative_to(TOP)}: {definition.name} has no comment, and no text in TEXTS"
+            rows.append(([definition.name], text or told))
+        before = definition
+    return "\n".join(entry(names, text) for names, text in rows)
+
+
+def introduction(path):
+    """The comment at the very front of a file."""
+    return joined(re.match(r"(?:--.*\n)+", path.read_text())[0].splitlines(), "--")
+
+
+def named_types(definitions):
+    """The files of the code that definitions name, each with its types and constants."""
+    found = {}
+    for definition in definitions:
+        for word in set(re.findall(r"[\w'][\w'.]*", definition.text())) - definition.bound():
+            module, name = definition.file.names.get(word, ("", ""))
+            parts = module.removesuffix(".TheVariants").split(".")
+            if "declared" in parts:
+                inside = "/".join(parts[parts.index("declared") + 1 : -1])
+                kind = name if parts[-1] == "TheConstants" else parts[-1]
+                found.setdefault(f"{parts[1]}/src/{inside}.rt", set()).add(kind)
+    return found
+
+
+def documented(file):
+    """The public items of a source: their names, the texts above them without examples, and the values of constants."""
+    items = r"((?:^///.*\n)+)(?:^#\[.*\n)*^pub (?:struct|enum|const|fn) (\w+)(?:: \w+ = ([\d_]+))?"
+    for above, name, value in re.findall(items, (CRATES / file).read_text(), re.MULTILINE):
+        text = re.split(r" (?:Example: |See \[)", joined(above.splitlines(), "///"))[0]
+        yield name, text + (f" It is {int(value):,}." if value else "")
+
+
+def source_entries(file, names=None):
+    """The items of a source in its order, or those of these names."""
+    rows = [row for row in documented(file) if names is None or row[0] in names]
+    assert names is None or {name for name, _ in rows} == names, f"{file}: no comment on some of {names}"
+    return "\n".join(entry([name], text) for name, text in rows)
+
+
+def law_files():
+    """The files of laws, by the order of crates.txt."""
+    crates = [line.split(":")[0] for line in (TOP / "crates.txt").read_text().splitlines()]
+    layers = [CRATES / crate / "src" for crate in crates if not crate.startswith("dw_tests_")]
+    paths = [path for src in layers for path in (*src.glob("laws.rt"), *sorted(src.glob("laws/*.rt")))]
+    return [str(path.relative_to(CRATES)) for path in paths]
+
+
+def page(definitions):
+    """The whole page."""
+    files = {str(d.file.path.relative_to(CRATES)): d.file for d in definitions}
+    assert set(files) == set(FILES), f"reading_order.py: FILES lacks, or has too much: {set(files) ^ set(FILES)}"
+    unused = set(TEXTS) - {(d.file.path.stem, d.name) for d in definitions}
+    assert not unused, f"reading_order.py: TEXTS has too much: {unused}"
+    parts = ["# Definitions", *map(filled, HEAD)]
+    for name, title in FILES.items():
+        file = files[name]
+        here = [definition for definition in definitions if definition.file is file]
+        parts += [f"## {title}: {link(name)}", filled(introduction(file.path)), entries(file, here)]
+    types = named_types(definitions)
+    assert set(types) == set(SOURCES), f"reading_order.py: SOURCES lacks, or has too much: {set(types) ^ set(SOURCES)}"
+    parts += ["## Types of the code", TYPES]
+    for name in SOURCES:
+        parts += [f"{link(name)}:", source_entries(name, types[name])]
+    parts += ["## Laws", filled(LAWS)]
+    for name in law_files():
+        parts += [f"{link(name)}:", source_entries(name)]
+    return "\n\n".join(parts) + "\n"
