@@ -114,12 +114,11 @@ fn searched_by<'a>(words: &ArgMatches<'a>, task: Task<'a>) -> Result<Request<'a>
 /// What a command asks for that searches.
 fn searched<'a>(words: &ArgMatches<'a>, task: Task<'a>, portion: Portion) -> Request<'a> {
     let cache = words.get_one::<usize>("cache").unwrap_or(USUALLY_KEPT);
-    Request {
-        memo: MemoKind::named(words.get_str("memo")),
-        cache: cache.clamp(1, MOST_KEPT),
-        progress: words.get_flag("progress"),
-        ..read(words, task, portion)
-    }
+    let mut request = read(words, task, portion);
+    request.memo = MemoKind::named(words.get_str("memo"));
+    request.cache = cache.clamp(1, MOST_KEPT);
+    request.progress = words.get_flag("progress");
+    request
 }
 
 /// What a command asks for that only reads, and searches nothing.
