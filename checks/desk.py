@@ -194,6 +194,10 @@ def check_errors():
                   ["token"], ["token", "--line", "x", "--problem", "1-2"], ["check", "-n", "21"], ["check", "--json"]):
         ran = subprocess.run([DESK, *words], capture_output=True, text=True, input="", timeout=60, check=False)
         assert (ran.returncode, ran.stdout) == (2, "") and ran.stderr.startswith("error: "), (words, ran)
+    for words in (["find"], ["check"], ["solution", "-n", "2"], ["page", "-n", "2"], ["certify", "-n", "2"],
+                  ["mend", "-n", "2"], ["token", "--line", "x"]):
+        assert run(DESK, *words, "--problem", "2", text="W:W32:B28\n", status=1,
+                   complaint="dw-desk: no problem 2\n") == "", words
     run(DESK, "find", "/none/there", status=3, complaint="dw-desk: cannot open /none/there\n")
     with open("/dev/full", "w", encoding="ascii") as full:
         ran = subprocess.run([DESK, "find"], input=b"W:W32:B28\n", stdout=full, stderr=subprocess.PIPE, timeout=60,

@@ -2,7 +2,7 @@
 
 checks/definitions.py writes the page, and compares it. Each definition stands there with the comment above it in
 specs/, file by file. The types and constants of the code that definitions name follow with theirs, and at the end the
-laws of all crates. What has no comment in its file has a text here.
+laws of all crates.
 """
 import pathlib
 import re
@@ -58,24 +58,6 @@ SOURCES = [
     "dw_report/src/settings.rt", "dw_solve/src/stop.rt", "dw_memo/src/bounds.rt", "dw_notation/src/problems.rt",
     "dw_board/src/piece.rt", "dw_board/src/board.rt", "dw_board/src/fen/fault.rt",
 ]
-# What has no comment in its file. The file and the name; a constant stands for those right after it, too.
-TEXTS = {
-    ("Report", "first_line"): "`problem`, the number, and the written FEN or the refusal",
-    ("Report", "chosen"): "the problems that are reported",
-    ("Verdict", "Verdict"): "unsolvable, cooked, dual or sound, with what each tells",
-    ("Content", "Content"): "a list of entries",
-    ("TextLines", "line_feed"): "the bytes that end lines",
-    ("Tags", "Tag"): "a name and a value",
-    ("FenGrammar", "all_named"): "the pieces that items name, item after item",
-    ("FenReader", "place_of"): "the place of the first token, or that of the text's end if there is none",
-    ("FenReader", "is_empty"): "no token is left",
-    ("FenTokens", "is_digit"): "a digit",
-    ("FenTokens", "begins_with_digit"): "the first byte is a digit",
-    ("FenTokens", "with_byte"): "tokens with a byte in front of them: a blank makes none, a digit before another one "
-                                "joins its run, and each other byte is a token of its own",
-    ("FenTokens", "is_sign"): "a token is this byte alone",
-    ("FenTokens", "square_numbered"): "a number, if the board has a square of it",
-}
 
 
 def link(file):
@@ -113,13 +95,12 @@ def entries(file, definitions):
     """The definitions of a file in its order, each with its text."""
     rows, before = [], None
     for definition in sorted(definitions, key=list(file.definitions.values()).index):
-        text, told = comment(definition), TEXTS.get((file.path.stem, definition.name), "")
-        assert not (text and told), f"reading_order.py: {definition.name} has a comment in {file.path.name}, and a text"
-        if not text and not told and before and is_constant(before) and is_constant(definition):
+        text = comment(definition)
+        if not text and before and is_constant(before) and is_constant(definition):
             rows[-1][0].append(definition.name)
         else:
-            assert text or told, f"{file.path.relative_to(TOP)}: {definition.name} has no comment, and no text in TEXTS"
-            rows.append(([definition.name], text or told))
+            assert text, f"{file.path.relative_to(TOP)}: {definition.name} has no comment"
+            rows.append(([definition.name], text))
         before = definition
     return "\n".join(entry(names, text) for names, text in rows)
 
@@ -170,8 +151,6 @@ def page(definitions):
     """The whole page."""
     files = {str(d.file.path.relative_to(CRATES)): d.file for d in definitions}
     assert set(files) == set(FILES), f"reading_order.py: FILES lacks, or has too much: {set(files) ^ set(FILES)}"
-    unused = set(TEXTS) - {(d.file.path.stem, d.name) for d in definitions}
-    assert not unused, f"reading_order.py: TEXTS has too much: {unused}"
     parts = ["# Definitions", *map(filled, HEAD)]
     for name, title in FILES.items():
         file = files[name]

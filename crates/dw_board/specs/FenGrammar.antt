@@ -60,6 +60,7 @@ abbrev pub named : Side → Placing → List (ℕ × Piece)
 named side i = map (λ s. (s, record { side = side; kind = if i.is_king then King else Man }))
     (range_with_len i.from (i.to + 1 - i.from))
 
+-- the pieces that items name, item after item
 abbrev pub all_named : Side → List Placing → List (ℕ × Piece)
 all_named side is = flat_map (named side) is
 

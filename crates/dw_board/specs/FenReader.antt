@@ -11,6 +11,7 @@ tokens_of t = tokens_from (t.at + 1) (drop t.at t.text.now)
 abbrev pub end_of : Tokens → ℕ
 end_of t = length t.text.now + 1
 
+-- the place of the first token, or that of the text's end if there is none
 abbrev pub place_of : List Token → ℕ → ℕ
 place_of [] end = end
 place_of (t ∷ tokens) end = t.place
@@ -34,6 +35,7 @@ abbrev pub left_of : Bool → List Token → List Token
 left_of true tokens = behind tokens
 left_of false tokens = tokens
 
+-- no token is left
 abbrev pub is_empty : List Token → Bool
 is_empty [] = true
 is_empty (t ∷ tokens) = false

@@ -33,6 +33,7 @@ tab = 9
 abbrev pub is_blank : ℕ → Bool
 is_blank byte = (byte == blank) || (byte == tab)
 
+-- a digit
 abbrev pub is_digit : ℕ → Bool
 is_digit byte = nat_le 48 byte && nat_le byte 57
 
@@ -41,6 +42,7 @@ abbrev pub AreDigits : List ℕ → Type 0
 AreDigits [] = Unit {0}
 AreDigits (byte ∷ bytes) = (is_digit byte ≡ true) × AreDigits bytes
 
+-- the first byte is a digit
 abbrev pub begins_with_digit : List ℕ → Bool
 begins_with_digit [] = false
 begins_with_digit (byte ∷ bytes) = is_digit byte
@@ -50,6 +52,8 @@ abbrev pub onto_run : ℕ → ℕ → List Token → List Token
 onto_run digit place [] = []
 onto_run digit place (run ∷ tokens) = record { text = digit ∷ run.text; place = place } ∷ tokens
 
+-- tokens with a byte in front of them: a blank makes none, a digit before another one joins its run, and each other
+-- byte is a token of its own
 abbrev pub with_byte : ℕ → ℕ → Bool → List Token → List Token
 with_byte byte place joins tokens =
     if is_blank byte then tokens
@@ -64,6 +68,8 @@ tokens_from place [] = []
 tokens_from place (byte ∷ bytes) = with_byte byte place (begins_with_digit bytes) (tokens_from (place + 1) bytes)
 
 -- ---- what a token says
+
+-- a token is this byte alone
 abbrev pub is_sign : ℕ → List ℕ → Bool
 is_sign sign [] = false
 is_sign sign (byte ∷ []) = byte == sign
@@ -79,6 +85,7 @@ side_named text =
 abbrev pub is_king_letter : List ℕ → Bool
 is_king_letter text = is_sign 75 text || is_sign 107 text
 
+-- a number, if the board has a square of it
 abbrev pub square_numbered : Geometry → Bool → ℕ → Option ℕ
 square_numbered g is_number n = if is_number && (nat_le 1 n && nat_le n (squares g)) then Some n else None
 

@@ -27,7 +27,7 @@ Before g p (m ∷ ms) (n ∷ ns) = Precedes g p m n ⊎ ((m ≡ n) × Before g (
 abbrev pub Lines : Geometry → Placement → ℕ → List (List Move) → Type 0
 Lines g p n lines = IsListOf (Before g p) (Line g p n) lines
 
--- of these lines, those after a given one
+-- of some lines, those after a given one
 abbrev pub After : List (List Move) → List Move → List (List Move) → Type 0
 After lines l rest = (earlier : List (List Move)) × (lines ≡ earlier ++ l ∷ rest)
 

@@ -77,16 +77,16 @@ number_below v (suc n) = bit_or (number_below v n) (cond (set.contains v (suc n)
 unfoldable pub number_of : Geometry → Squares → ℕ
 number_of g v = number_below v (squares g)
 
--- the bytes of a move, as they are written
+-- the ten bytes of a move: its start, its end, and the number of what it takes
 unfoldable pub move_bytes : Geometry → Move → List ℕ
 move_bytes g m = m.from ∷ m.to ∷ to_be_bytes w64 (number_of g m.taken)
 
--- the bytes of moves, as they are written
+-- the bytes of moves, one after another
 unfoldable pub moves_bytes : Geometry → List Move → List ℕ
 moves_bytes g [] = []
 moves_bytes g (m ∷ line) = move_bytes g m ++ moves_bytes g line
 
--- the bytes of a line, as they are written: version 2
+-- the bytes of a line: the version, which is 2, the rows of the board, the number of moves, and the moves
 abbrev pub line_bytes : Geometry → List Move → List ℕ
 line_bytes g line = 2 ∷ g.rows ∷ length line ∷ moves_bytes g line
 

@@ -12,6 +12,7 @@ pub record Entry : Type 0 where
 abbrev pub entry : Placement → Bounds → Entry
 entry p b = record { position = p; bounds = b }
 
+-- a list of entries
 abbrev pub Content : Type 0
 Content = List Entry
 

@@ -49,7 +49,7 @@ front (s ∷ t ∷ ts) = s ∷ front (t ∷ ts)
 abbrev pub IsKey : Geometry → Placement → Move → List ℕ → Type 0
 IsKey g p m key = (landings : List ℕ) × IsLeastPath g p m landings × (key ≡ m.from ∷ m.to ∷ front landings)
 
--- m comes before n in the order of moves
+-- a move comes before another one in the order of moves
 abbrev pub Precedes : Geometry → Placement → Move → Move → Type 0
 Precedes g p m n = (k : List ℕ) × (l : List ℕ) × IsKey g p m k × IsKey g p n l × LexLess k l
 
@@ -58,7 +58,7 @@ abbrev pub IsAscending : {X : Type 0} → (X → X → Type 0) → List X → Ty
 IsAscending R [] = Unit {0}
 IsAscending {X} R (x ∷ xs) = ((y : X) → Member y xs → R x y) × IsAscending R xs
 
--- the strictly ascending list whose members are exactly what P holds of
+-- the strictly ascending list of just the things of some kind
 pub record IsListOf {X : Type 0} (R : X → X → Type 0) (P : X → Type 0) (xs : List X) : Type 0 where
   pub ascending : IsAscending R xs
   pub exactly : (x : X) → Member x xs ↔ P x

@@ -40,6 +40,7 @@ is_name_byte byte = is_ascii_alphanumeric byte || (byte == underscore)
 abbrev pub ends_line : ℕ → Bool
 ends_line byte = (byte == line_feed) || (byte == carriage_return)
 
+-- a name and a value
 pub record Tag : Type 0 where
   pub name : List ℕ
   pub value : List ℕ
@@ -115,7 +116,7 @@ values_named name [] = []
 values_named name (tag ∷ tags) =
     if same_name tag.name name then tag.value ∷ values_named name tags else values_named name tags
 
--- a number goes on with the digits in front of the text
+-- the number that a text tells whose digits go on behind those of another number
 abbrev pub number_on : ℕ → List ℕ → ℕ
 number_on n [] = n
 number_on n (byte ∷ text) = if is_ascii_digit byte then number_on (n * 10 + (byte - 48)) text else n

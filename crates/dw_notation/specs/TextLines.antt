@@ -18,6 +18,7 @@ without_mark (a ∷ []) = a ∷ []
 without_mark (a ∷ b ∷ []) = a ∷ b ∷ []
 without_mark (a ∷ b ∷ c ∷ bytes) = if (a == 0xEF) && (b == 0xBB) && (c == 0xBF) then bytes else a ∷ b ∷ c ∷ bytes
 
+-- the bytes that end lines
 abbrev pub line_feed : ℕ
 line_feed = 10
 
@@ -44,7 +45,7 @@ FenSays g text (Ok position) = Fen g text position
 FenSays g text (Err (why.Fen fault)) = IsFirstFault g text fault
 FenSays g text (Err other) = ⊥
 
--- a line's length is tested before its blankness, and a line of blanks alone says nothing
+-- what a line says: that it is too long; nothing, if it is of blanks alone; or what its FEN text says
 abbrev pub LineSays : Geometry → List ℕ → List Found → Type 0
 LineSays g line said =
     MatchBool (nat_lt MAX_LINE (length line)) (said ≡ Err why.LineTooLong ∷ [])

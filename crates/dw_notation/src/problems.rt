@@ -33,7 +33,7 @@ pub const MAX_READ: usize = 2048;
 /// Example: the line `W:W32:B28` is a problem by `Form::Fens`, and the section `[FEN "W:W32:B28"]` by `Form::Pdn`.
 #[derive(Clone, Copy, Debug, PartialEq, Eq)]
 pub enum Form {
-    /// One FEN text a line. TextLines of blanks alone are passed over.
+    /// One FEN text a line. Lines of blanks alone are passed over.
     Fens,
     /// Sections of tags, as those before the games of a file. Each section is a problem.
     ///

@@ -15,7 +15,7 @@ AreLineTexts g p (l ∷ lines) text = (line : List ℕ) × (rest : List ℕ) × 
     × AreLineTexts g p lines rest
     × (text ≡ line ++ codes "\n" ++ rest)
 
--- all of them, if they are at most so many, and their number
+-- all of these lines, if they are at most so many, and their number
 pub record IsComplete (g : Geometry) (p : Placement) (most : ℕ) (lines : List (List Move))
     (text : List ℕ) : Type 0 where
   pub few : length lines ≤ most
@@ -23,12 +23,12 @@ pub record IsComplete (g : Geometry) (p : Placement) (most : ℕ) (lines : List 
   pub are : AreLineTexts g p lines texts
   pub is : text ≡ texts ++ codes "complete " ++ decimal (length lines) ++ codes "\n"
 
--- that more lines are left, and after which one: lines have tokens on boards of 10 and 8 rows
+-- that more lines are left, and after which one on boards of 10 and 8 rows, on which lines have tokens
 unfoldable pub more_after : Geometry → List Move → List ℕ
 more_after g last =
     if (g.rows == 10) || (g.rows == 8) then codes "more after " ++ token_of g last ++ codes "\n" else codes "more\n"
 
--- so many of them, the first ones, and that more are left
+-- so many of these lines, the first ones, and that more are left
 pub record IsCut (g : Geometry) (p : Placement) (most : ℕ) (lines : List (List Move)) (text : List ℕ) : Type 0 where
   pub earlier : List (List Move)
   pub last : List Move
@@ -40,7 +40,7 @@ pub record IsCut (g : Geometry) (p : Placement) (most : ℕ) (lines : List (List
   pub are : AreLineTexts g p (earlier ++ last ∷ []) texts
   pub is : text ≡ texts ++ more_after g last
 
--- these lines, or so many of them
+-- all of these lines, or the first ones, as many as are asked for
 abbrev pub IsListing : Geometry → Placement → ℕ → List (List Move) → List ℕ → Type 0
 IsListing g p most lines text = IsComplete g p most lines text ⊎ IsCut g p most lines text
 

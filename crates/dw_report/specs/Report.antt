@@ -54,6 +54,7 @@ abbrev pub found_text : Geometry → Found → List ℕ
 found_text g (Ok position) = written g position
 found_text g (Err fault) = codes "refused: " ++ refusal_text fault
 
+-- `problem`, the number, and the written FEN or the refusal
 abbrev pub first_line : Geometry → Numbered → List ℕ
 first_line g problem = codes "problem " ++ decimal problem.number ++ codes ": " ++ found_text g problem.found
     ++ codes "\n"
@@ -96,6 +97,7 @@ AreTexts g request (problem ∷ problems) text =
     (one : List ℕ) × (rest : List ℕ) × IsProblemText g request problem one × AreTexts g request problems rest
     × (text ≡ one ++ rest)
 
+-- the problems that are reported
 abbrev pub chosen : Option ℕ → List Numbered → List Numbered
 chosen only problems = filter (λ problem. number_is_chosen only problem.number) problems
 

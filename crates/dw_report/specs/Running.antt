@@ -37,7 +37,7 @@ abbrev pub IsRefused : Geometry → Request → Found → Type 0
 IsRefused g request (Ok p) = (request.command ≡ asked.List) × IsNoLine g p request.moves request.after
 IsRefused g request (Err fault) = Unit {0}
 
--- so many of these problems are
+-- so many of these problems are refused
 abbrev pub AreRefused : Geometry → Request → List Numbered → ℕ → Type 0
 AreRefused g request [] count = count ≡ 0
 AreRefused g request (problem ∷ problems) count =
@@ -98,7 +98,7 @@ pub record BeginsReport (g : Geometry) (request : Request) (bytes out : List ℕ
 abbrev pub AreWholeLines : List ℕ → Type 0
 AreWholeLines lines = (lines ≡ []) ⊎ ((front : List ℕ) × (lines ≡ front ++ line_feed ∷ []))
 
--- whole lines at the beginning of such a text
+-- whole lines at the beginning of a text of some kind
 pub record AreLinesOf (P : List ℕ → Type 0) (lines : List ℕ) : Type 0 where
   pub text : List ℕ
   pub is : P text
@@ -119,7 +119,7 @@ pub record IsPartOn (g : Geometry) (request : Request) (number : ℕ) (problems 
   pub further : AreLinesOf (IsFurther g request problem.found) lines
   pub is : out ≡ texts ++ (first_line g problem ++ lines)
 
--- such a part of the report on some bytes, of which no more were read than that problem asks for
+-- a beginning of the report on some bytes, up to a line of some problem; no more was read than that problem asks for
 pub record IsPart (g : Geometry) (request : Request) (read bytes out : List ℕ) : Type 0 where
   pub problems : List Numbered
   pub are : AreProblems g request.form true bytes problems
@@ -127,7 +127,7 @@ pub record IsPart (g : Geometry) (request : Request) (read bytes out : List ℕ)
   pub need : ReadsUpTo g request.form number read
   pub part : IsPartOn g request number problems out
 
--- the sink has taken such a beginning, whatever bytes follow those read; or the source's end was met, and none do
+-- the sink has taken what is right whatever bytes follow those read; or the source's end was met, and none follow
 pub record StopsAhead (P : (read text out : List ℕ) → Type 0) (bytes : List ℕ) (left : Option (List ℕ)) (ended : Bool)
     (taken after : Option (List ℕ)) : Type 0 where
   pub read : List ℕ

@@ -37,6 +37,7 @@ pub record IsShortest (g : Geometry) (p : Placement) (n : ℕ) : Type 0 where
   pub wins : Win g p n
   pub none_less : (k : ℕ) → k < n → Win g p k → ⊥
 
+-- unsolvable, cooked, dual or sound, with what each tells
 pub data Verdict : Type 0 where
   unsolvable : Verdict
   cooked : (shortest : ℕ) (keys : List Move) → Verdict
@@ -58,7 +59,7 @@ IsVerdict g p n (dual beginning choices) =
 IsVerdict g p n (sound key) =
     HasOneKey g p n key × ((beginning choices : List Move) → IsDual g p n beginning choices → ⊥)
 
--- after it the attacker has no win within n
+-- a reply after which the attacker has no win within n
 abbrev pub Refutes : Geometry → Placement → ℕ → Move → Type 0
 Refutes g q n r = Legal g q r × (Win g (play g q r) n → ⊥)
 
