@@ -153,27 +153,44 @@ def all_commands(top, commands):
             yield from explained(paragraph)
 
 
-def usual(uses):
-    """What is taken if an option is not given. The one that most commands have comes first."""
-    commands = {}
+def alike(uses):
+    """The uses of an option, those together that differ in their default at most."""
+    found = {}
+    for command, entry in uses:
+        found.setdefault((entry.what, entry.values, entry.value, not entry.default), []).append((command, entry))
+    return list(found.values())
+
+
+def default_and_values(uses):
+    """What is taken if an option is not given, that of most commands first, and the values that it may have."""
+    commands, values = {}, uses[0][1].values
     for command, entry in uses:
         commands.setdefault(entry.default, []).append(command)
     first, *others = sorted(commands, key=lambda default: -len(commands[default]))
-    others = "".join(f", of {' and '.join(commands[default])} {default}" for default in others)
-    return [f"[default: {first}{others}]"] if first else []
+    if first:
+        others = "".join(f", of {' and '.join(commands[default])} {default}" for default in others)
+        yield f"[default: {first}{others}]"
+    if values:
+        yield f"[possible values: {', '.join(values)}]"
 
 
-def texts(uses, is_of_all):
-    """The lines of text on an option. What differs between commands, but for the default, names them."""
-    found = {}
-    for command, entry in uses:
-        found.setdefault((entry.what, entry.values, entry.value), []).append((command, entry))
-    for (what, values, value), some in found.items():
-        names = "" if is_of_all and len(found) == 1 else ", ".join(f"`{command}`" for command, _ in some) + ": "
-        end = " ".join([*usual(some), *([f"[possible values: {', '.join(values)}]"] if values else [])])
-        lines = f"{names}{what}".split("\n")
-        lines = [*lines, end] if len(lines) > 1 else [f"{lines[0]} {end}"]
-        yield from (filled(roff(line, re.findall(r"\w+", value))) for line in lines if line)
+def lines_on(uses, is_named):
+    """The lines of text on an option of some commands, in front of which these are named or not."""
+    names = ", ".join(f"`{command}`" for command, _ in uses) + ": "
+    first, *others = uses[0][1].what.split("\n")
+    end = " ".join(default_and_values(uses))
+    lines = [f"{names if is_named else ''}{first}", *others]
+    lines = [*lines, end] if others else [f"{lines[0]} {end}"]
+    return [roff(line, re.findall(r"\w+", uses[0][1].value)) for line in lines if line.strip()]
+
+
+def told_option(uses, is_of_all):
+    """An option, with a text for each group of commands in which it is the same."""
+    yield from [".TP", ", ".join(dict.fromkeys(shown(entry) for _, entry in uses))]
+    groups = alike(uses)
+    lines = [line for some in groups for line in lines_on(some, len(groups) > 1 or not is_of_all)]
+    for number, line in enumerate(lines):
+        yield from [*([".br"] if number else []), *filled(line)]
 
 
 def all_options(top, commands):
@@ -182,14 +199,11 @@ def all_options(top, commands):
     for command, told in [*commands.items(), ("", top)]:
         for entry in [*told.lists["Arguments"], *told.lists["Options"]]:
             uses.setdefault(entry.names, []).append((command, entry))
+    last = [entry.names for entry in top.lists["Options"]]
     yield ".SH OPTIONS"
-    for names in sorted(uses, key=lambda names: names in [entry.names for entry in top.lists["Options"]]):
-        has = {command for command, _ in uses[names]} - {""}
-        yield from [".TP", ", ".join(dict.fromkeys(shown(entry) for _, entry in uses[names]))]
-        first, *others = texts(uses[names], not has or has == set(commands))
-        yield from first
-        for lines in others:
-            yield from [".br", *lines]
+    for names in sorted(uses, key=lambda names: names in last):
+        has = {command for command, _ in uses[names]}
+        yield from told_option(uses[names], names in last or has == set(commands))
 
 
 def parts(program, top, commands):
