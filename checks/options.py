@@ -1,16 +1,18 @@
 #!/usr/bin/env python3
-"""options.py: compares the man pages and the bash completions with the options that the programs have.
+"""options.py: compares man pages, bash completions and a table of options with the helps of the programs.
 
     checks/options.py [--write] [--programs FOLDER]
 
 The commands and options are read from `dw --help` and `dw COMMAND --help`. What docs/dw.1 says of them between comment
 lines has to be what man_pages.py makes of the helps; with --write it is written anew. The rest of the page names no
 option that is in no help. docs/dw.bash has to offer each command and option, the values that an option takes if they
-are listed, and files for FILE; and nothing that is in no help. The same is looked at for `dw-desk`. With --programs the
-programs are those in this folder.
+are listed, and files for FILE; and nothing that is in no help. The same is looked at for `dw-desk`. The table in
+docs/REPORT.md has to have the options of `dw`, with their commands, values and defaults. With --programs the programs
+are those in this folder.
 """
 import argparse
 import pathlib
+import re
 import subprocess
 import tempfile
 
@@ -18,6 +20,7 @@ import man_pages
 
 TOP = pathlib.Path(__file__).resolve().parent.parent
 PROGRAMS = ("dw", "dw-desk")
+REPORT = TOP / "docs/REPORT.md"
 
 
 def completion(program):
@@ -46,6 +49,31 @@ def check_man(program, top, commands, is_written_anew):
     has = set(man_pages.OPTION.findall(man_pages.by_hand(page)))
     assert has - wanted <= {"-k"}, f"docs/{program}.1: {sorted(has - wanted)} in no help"  # parallel's own
     print(f"docs/{program}.1: {len(commands)} commands and {len(wanted)} options, as in the helps")
+
+
+# THE TABLE OF OPTIONS
+
+def row(uses, commands):
+    """What the table says of an option: its commands, its values and its default. `None` stands for any text."""
+    has, entry = [command for command, _ in uses], uses[0][1]
+    numbers = re.search(r"1 to \d+", entry.what)
+    return ("all" if has == list(commands) else ", ".join(f"`{command}`" for command in has),
+            ", ".join(f"`{value}`" for value in entry.values) or (numbers[0] if numbers else None),
+            (f"`{entry.default}`" if entry.values else entry.default) or None)
+
+
+def check_report(commands):
+    rows = re.findall(r"^\| `(-[^`]*)` \| ([^|]*) \| [^|]* \| ([^|]*) \| ([^|]*) \|$", REPORT.read_text(), re.MULTILINE)
+    uses = {}
+    for command, told in commands.items():
+        for entry in told.lists["Options"]:
+            uses.setdefault(f"{entry.names[-1]} {entry.value}".strip(), []).append((command, entry))
+    differing = {option for option, *_ in rows} ^ set(uses) - {"--help"}
+    assert not differing, f"docs/REPORT.md: {sorted(differing)} in one of the table and the helps alone"
+    for option, *cells in rows:
+        wanted = row(uses[option], commands)
+        assert all(want in (None, cell) for cell, want in zip(cells, wanted)), f"docs/REPORT.md: {option} is {wanted}"
+    print(f"docs/REPORT.md: {len(rows)} options, as in the helps")
 
 
 # THE COMPLETION
@@ -102,6 +130,8 @@ def main():
                     if entry.head != "help"}
         assert commands, top
         check_man(program, top, commands, given.write)
+        if program == "dw":
+            check_report(commands)
         with tempfile.TemporaryDirectory() as name:
             check_completion(program, top, commands, pathlib.Path(name))
 
