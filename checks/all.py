@@ -76,7 +76,7 @@ SLOW = [
 # What is no check of this repository, but for whom reads what the programs write.
 READERS = ["certificate"]
 # What is a part of a check.
-PARTS = ["reading_order"]
+PARTS = ["man_pages", "reading_order"]
 
 
 def purpose(check):
