@@ -1,15 +1,17 @@
 #!/usr/bin/env python3
-"""options.py: compares the man pages and the bash completions with the options that the programs have.
+"""options.py: compares the man pages and the bash completions with the options and the version of the programs.
 
     checks/options.py
 
 The commands and options are read from `dw --help` and `dw COMMAND --help`. Each of them has to stand in docs/dw.1, in
 the synopsis of its command and with a text of its own, and has to be offered by docs/dw.bash; and neither may have one
 that is in no help. So it is with the values that `--board` and `--memo` take, and with FILE, for which the completion
-has to offer files. The same is looked at for `dw-desk`.
+has to offer files. The same is looked at for `dw-desk`. The version that the programs tell is that of the man pages and
+the first one in CHANGELOG.md.
 """
 import pathlib
 import re
+import shlex
 import subprocess
 import tempfile
 
@@ -119,6 +121,16 @@ def check_man(program, top, commands):
     print(f"docs/{program}.1: {len(commands)} commands and {len(wanted)} options, as in the helps")
 
 
+def check_version(program):
+    ran = subprocess.run([TOP / program, "--version"], capture_output=True, text=True, timeout=3600, check=True)
+    version = ran.stdout.removeprefix(f"{program} ").strip()
+    head = shlex.split(manual(program).read_text().splitlines()[0])
+    assert head == [".TH", program.upper(), "1", "", f"dw {version}", "User commands"], (version, head)
+    newest = re.search(r"^## (\S+)$", (TOP / "CHANGELOG.md").read_text(), re.MULTILINE)[1]
+    assert newest == version, f"CHANGELOG.md begins with {newest}, and {program} is {version}"
+    print(f"{program} {version}: so docs/{program}.1 and CHANGELOG.md")
+
+
 # THE COMPLETION
 
 def completed(words, folder):
@@ -168,6 +180,7 @@ def main():
         top = help_of(program)
         commands = {name: help_of(program, name) for name in heads(top, "Commands") if name != "help"}
         assert commands, top
+        check_version(program)
         check_man(program, top, commands)
         with tempfile.TemporaryDirectory() as name:
             check_completion(program, top, commands, pathlib.Path(name))
