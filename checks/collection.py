@@ -8,7 +8,7 @@ It prints the first five problems, or as many as are asked for. The whole file i
 The problems are grown backwards. A position that White wins in one move is drawn at random. Then a last move of Black's
 and one of White's before it are taken back at random, and `dw judge` says whether White wins from there in one move
 more, and how. What is sound grows on. An endgame begins with up to five scattered pieces. A combination begins with a
-piece of White's that takes five or more in one move, and grows by sacrifices that Black has to take.
+path of five captures or more by one piece of White's, and each turn that is taken back left Black one reply alone.
 
 KINDS has what is chosen: so many of each growth, verdict and number of moves, with so many pieces on each side. Keys
 that are no capture come before others, problems with a try before those without, fewer pieces before more, and more
@@ -169,7 +169,7 @@ def scattered(source):
 
 
 def row_of_captures(source):
-    """A piece of White's that takes five or more in one move."""
+    """A piece of White's, and five or more of Black's along a path on which it takes them."""
     cells = {}
     while len(cells) < 6:
         square = source.choice(BOARD.squares)
