@@ -58,6 +58,7 @@ CHECKS = [
     Check("borrow"),
     Check("machines"),
     Check("wins", wanted="crates/dw_tests_search/stdin"),
+    Check("collection", slow=("--count", "100"), wanted="examples/collection.pdn"),
     Check("examples"),
     Check("random_fens", slow=("--count", "1000000")),
     Check("refused_search"),

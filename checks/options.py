@@ -1,5 +1,5 @@
 #!/usr/bin/env python3
-"""options.py: compares man pages, bash completions and a table of options with the helps of the programs.
+"""options.py: compares man pages, bash completions and a table of options with the helps and the version of programs.
 
     checks/options.py [--write] [--programs FOLDER]
 
@@ -7,12 +7,13 @@ The commands and options are read from `dw --help` and `dw COMMAND --help`. What
 lines has to be what man_pages.py makes of the helps; with --write it is written anew. The rest of the page names no
 option that is in no help. docs/dw.bash has to offer each command and option, the values that an option takes if they
 are listed, and files for FILE; and nothing that is in no help. The same is looked at for `dw-desk`. The table in
-docs/REPORT.md has to have the options of `dw`, with their commands, values and defaults. With --programs the programs
-are those in this folder.
+docs/REPORT.md has to have the options of `dw`, with their commands, values and defaults. The version that the programs
+tell is that of the man pages and the first one in CHANGELOG.md. With --programs the programs are those in this folder.
 """
 import argparse
 import pathlib
 import re
+import shlex
 import subprocess
 import tempfile
 
@@ -20,7 +21,7 @@ import man_pages
 
 TOP = pathlib.Path(__file__).resolve().parent.parent
 PROGRAMS = ("dw", "dw-desk")
-REPORT = TOP / "docs/REPORT.md"
+REPORT, CHANGES = TOP / "docs/REPORT.md", TOP / "CHANGELOG.md"
 
 
 def completion(program):
@@ -76,6 +77,18 @@ def check_report(commands):
     print(f"docs/REPORT.md: {len(rows)} options, as in the helps")
 
 
+# THE VERSION
+
+def check_version(folder, program):
+    ran = subprocess.run([folder / program, "--version"], capture_output=True, text=True, timeout=3600, check=True)
+    version = ran.stdout.removeprefix(f"{program} ").strip()
+    head = shlex.split((TOP / "docs" / f"{program}.1").read_text().splitlines()[0])
+    assert head == [".TH", program.upper(), "1", "", f"dw {version}", "User commands"], (version, head)
+    newest = re.search(r"^## (\S+)$", CHANGES.read_text(), re.MULTILINE)[1]
+    assert newest == version, f"CHANGELOG.md begins with {newest}, and {program} is {version}"
+    print(f"{program} {version}: so docs/{program}.1 and CHANGELOG.md")
+
+
 # THE COMPLETION
 
 def completed(words, folder):
@@ -129,6 +142,7 @@ def main():
         commands = {entry.head: help_of(given.programs / program, entry.head) for entry in top.lists["Commands"]
                     if entry.head != "help"}
         assert commands, top
+        check_version(given.programs, program)
         check_man(program, top, commands, given.write)
         if program == "dw":
             check_report(commands)
