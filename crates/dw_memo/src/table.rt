@@ -6,7 +6,7 @@ ghost use Rattle.dw_memo.specs.Noting.{IsNote};
 
 use crate::bounds::Bounds;
 use crate::bucket::Bucket;
-use crate::growing::{first_size, make_room, widen};
+use crate::growing::{clear, first_size, make_room, widen};
 use crate::memo::Noted;
 use dw_board::{Board, Position};
 use std::alloc::{AllocError, Global};
@@ -76,6 +76,15 @@ impl<B: Board, T: Bucket<B>> Table<B, T> {
         self.taken = self.taken.saturating_add(usize::from(entered.fills));
         self.dropped = self.dropped.saturating_add(entered.lost);
         entered.noted
+    }
+
+    /// Gives up all that it holds, and begins with few buckets again.
+    pub(crate) fn forget(&mut self)
+        ensures map { IsMap self.old.content }
+        ensures empty { self.new ≡ record self.old { content = [] } }
+    {
+        clear(&mut self.buckets);
+        self.taken = 0;
     }
 
     /// How many entries were lost or not kept so far.
