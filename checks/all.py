@@ -58,6 +58,7 @@ CHECKS = [
     Check("borrow"),
     Check("machines"),
     Check("wins", wanted="crates/dw_tests_search/stdin"),
+    Check("collection", slow=("--count", "100"), wanted="examples/collection.pdn"),
     Check("examples"),
     Check("random_fens", slow=("--count", "1000000")),
     Check("refused_search"),
@@ -76,7 +77,7 @@ SLOW = [
 # What is no check of this repository, but for whom reads what the programs write.
 READERS = ["certificate"]
 # What is a part of a check.
-PARTS = ["reading_order"]
+PARTS = ["man_pages", "reading_order"]
 
 
 def purpose(check):

@@ -19,7 +19,7 @@ import subprocess
 
 TOP = pathlib.Path(__file__).resolve().parent.parent
 DW = TOP / "dw"
-TEXTS = [TOP / "README.md", TOP / "examples/README.md", *sorted((TOP / "docs").glob("*.md"))]
+TEXTS = [TOP / "README.md", TOP / "CHANGELOG.md", TOP / "examples/README.md", *sorted((TOP / "docs").glob("*.md"))]
 README, PROVED, DEFINITIONS, FORMATS, REPORT, DESK, COMPOSERS = TOP / "README.md", *(
     TOP / f"docs/{name}.md" for name in ("PROVED", "DEFINITIONS", "FORMATS", "REPORT", "DESK", "COMPOSERS"))
 RUN = TOP / "crates/dw_report/src/run.rt"

@@ -8,10 +8,14 @@ bare recursion of judging.py makes of the positions, or that of solutions.py of 
 bad_input.py tells these, and what is refused. Each file of problems has to have an answer. Each example of `dw --help`,
 `dw show --help` and so on, a line that begins with two blanks and `dw` or `echo`, has to end with status 0 or 1 and
 with nothing on standard error; so has each of `dw-desk`.
+
+In examples/collection.pdn `dw-desk find` has to find the verdicts that stand there, and `dw-desk check` nothing. Those
+that the bare recursion can judge have to be what it says. The page beside it has to be that of its command.
 """
 import argparse
 import pathlib
 import re
+import shlex
 import subprocess
 
 import bad_input
@@ -26,6 +30,8 @@ DESK = TOP / "dw-desk"
 EXAMPLES = TOP / "examples"
 ROW = re.compile(r"^\| `([^`]+)` \| `dw ([^`]+)` \|$", re.MULTILINE)
 DESK_ROW = re.compile(r"^\| `([^`]+)` \| `dw-desk check ([^`]+)` \|$", re.MULTILINE)
+PAGE_ROW = re.compile(r"^\| `([^`]+)` \| `dw-desk (page [^`]+) ([^ `]+)` \|$", re.MULTILINE)
+COLLECTION, IN_COLLECTION = "collection.pdn", 100
 COMMANDS = {DW: ["show", "moves", "judge", "list"], DESK: ["find", "check", "solution", "token"]}
 EXAMPLE = re.compile(r"  ((?:echo .* \| )?dw(?:-desk)? .*)")
 # The tags of a section, and its movetext.
@@ -85,8 +91,11 @@ def compare_reports():
     requests = {name: asked(words.split()) for name, words in rows}
     there = {path.name for path in EXAMPLES.iterdir()} - {"README.md"}
     desk = dict(DESK_ROW.findall((EXAMPLES / "README.md").read_text()))
-    files = {request.file for request in requests.values()} | set(desk.values())
-    assert there == set(requests) | set(desk) | files, there
+    pages = {name: (words, file) for name, words, file in PAGE_ROW.findall((EXAMPLES / "README.md").read_text())}
+    files = {request.file for request in requests.values()} | set(desk.values()) | {file for _, file in pages.values()}
+    assert there == set(requests) | set(desk) | set(pages) | files, there
+    for name, (words, file) in pages.items():
+        compare_page(name, [*shlex.split(words), file])
     for name, file in desk.items():
         compare_solutions(name, file)
     for name, words in rows:
@@ -114,6 +123,42 @@ def compare_solutions(name, file):
     print(f"examples/{name}: {said.count(b'problem ')} solutions, the same bytes; status {ran.returncode}", flush=True)
 
 
+def compare_page(name, words):
+    ran = run(words, EXAMPLES, DESK)
+    assert (ran.returncode, ran.stderr) == (0, b""), (name, ran.stderr)
+    assert ran.stdout == (EXAMPLES / name).read_bytes(), f"{name} is not what dw-desk {' '.join(words)} writes"
+    print(f"examples/{name}: the same bytes", flush=True)
+
+
+def recursion_says(text, n):
+    """The verdict by bare recursion, if it has room."""
+    judging.ROOM = 3_000
+    cells, turn = position(text)
+    try:
+        return next(judging.Problems(Board(10)).judged(cells, turn, n))
+    except judging.TooMany:
+        return None
+
+
+def check_collection():
+    """The verdicts of the collection are right, and its solutions have all lines."""
+    problems = re.findall(r'^\[FEN "(.+)"\]\n\n\{((?:sound|dual|cooked) in (\d+))\}',
+                          (EXAMPLES / COLLECTION).read_text(), re.MULTILINE)
+    texts = {text for text, *_ in problems}
+    assert len(problems) == len(texts) == IN_COLLECTION, (len(problems), len(texts))
+    ran = run(["check", COLLECTION], EXAMPLES, DESK)
+    wanted = "".join(f"problem {number}: {text}\nholds in {n}: 0 fail, 0 end, 0 open, 0 also\n"
+                     for number, (text, _, n) in enumerate(problems, 1))
+    assert (ran.returncode, ran.stdout.decode(), ran.stderr) == (0, wanted, b""), ran
+    found = run(["find", "--pdn", COLLECTION], EXAMPLES, DESK).stdout.decode()
+    found = re.findall(r"^problem \d+: .*\n(.*)$", found, re.MULTILINE)
+    assert [re.match(r"\w+ in \d+", line)[0] for line in found] == [verdict for _, verdict, _ in problems], found
+    said = [recursion_says(text, int(n)) for text, _, n in problems]
+    assert all(one in (None, line) for one, line in zip(said, found)), list(zip(said, found))
+    judged = sum(one is not None for one in said)
+    print(f"examples/{COLLECTION}: {len(problems)} solutions without a fault; the recursion judged {judged}")
+
+
 def helps():
     """The examples of all help texts."""
     for program, commands in COMMANDS.items():
@@ -135,6 +180,7 @@ def run_helps():
 
 def main():
     compare_reports()
+    check_collection()
     run_helps()
 
 

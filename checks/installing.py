@@ -167,7 +167,8 @@ def package(room):
         manual = root / f"usr/share/man/man1/{name}.1.gz"
         assert gzip.decompress(manual.read_bytes()) == (TOP / "docs" / f"{name}.1").read_bytes()
         assert (root / "usr/bin" / name).read_bytes() == program.read_bytes()
-    assert (documents / "README.md").read_bytes() == (TOP / "README.md").read_bytes()
+    for page in ("README.md", "CHANGELOG.md"):
+        assert (documents / page).read_bytes() == (TOP / page).read_bytes(), page
     for path in (TOP / "examples").iterdir():
         assert (documents / "examples" / path.name).read_bytes() == path.read_bytes(), path
     assert "licence" in (documents / "copyright").read_text()

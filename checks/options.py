@@ -1,26 +1,27 @@
 #!/usr/bin/env python3
-"""options.py: compares the man pages and the bash completions with the options that the programs have.
+"""options.py: compares man pages, bash completions and a table of options with the helps and the version of programs.
 
-    checks/options.py
+    checks/options.py [--write] [--programs FOLDER]
 
-The commands and options are read from `dw --help` and `dw COMMAND --help`. Each of them has to stand in docs/dw.1, in
-the synopsis of its command and with a text of its own, and has to be offered by docs/dw.bash; and neither may have one
-that is in no help. So it is with the values that `--board` and `--memo` take, and with FILE, for which the completion
-has to offer files. The same is looked at for `dw-desk`.
+The commands and options are read from `dw --help` and `dw COMMAND --help`. What docs/dw.1 says of them between comment
+lines has to be what man_pages.py makes of the helps; with --write it is written anew. The rest of the page names no
+option that is in no help. docs/dw.bash has to offer each command and option, the values that an option takes if they
+are listed, and files for FILE; and nothing that is in no help. The same is looked at for `dw-desk`. The table in
+docs/REPORT.md has to have the options of `dw`, with their commands, values and defaults. The version that the programs
+tell is that of the man pages and the first one in CHANGELOG.md. With --programs the programs are those in this folder.
 """
+import argparse
 import pathlib
 import re
+import shlex
 import subprocess
 import tempfile
 
+import man_pages
+
 TOP = pathlib.Path(__file__).resolve().parent.parent
 PROGRAMS = ("dw", "dw-desk")
-OPTION = re.compile(r"(?<![\w-])--?[A-Za-z][\w-]*")
-HELPS = {"-h", "--help"}
-
-
-def manual(program):
-    return TOP / "docs" / f"{program}.1"
+REPORT, CHANGES = TOP / "docs/REPORT.md", TOP / "CHANGELOG.md"
 
 
 def completion(program):
@@ -28,95 +29,64 @@ def completion(program):
 
 
 def help_of(program, *words):
-    ran = subprocess.run([TOP / program, *words, "--help"], capture_output=True, text=True, timeout=3600, check=False)
+    ran = subprocess.run([program, *words, "--help"], capture_output=True, text=True, timeout=3600, check=False)
     assert (ran.returncode, ran.stderr) == (0, ""), (program, words, ran)
-    return ran.stdout
+    return man_pages.read(ran.stdout)
 
 
-def section(text, name):
-    """The lines of a section of a help: those that are further in, up to the next empty line."""
-    found = re.search(rf"^{name}:\n((?:[ \t].*\n)+)", text, re.MULTILINE)
-    return found[1].splitlines() if found else []
-
-
-def heads(text, name):
-    """The entries of a section, each without its text: `--memo <KIND>`."""
-    return [re.split(r"  +", line.strip())[0] for line in section(text, name) if re.match(r" {2,6}\S", line)]
-
-
-def options_in(text):
-    return {option for head in heads(text, "Options") for option in OPTION.findall(head)}
-
-
-def values_in(text):
-    """The options with a closed list of values, and these."""
-    rows = " ".join(section(text, "Options"))
-    return {option: re.split(r", *", values) for option, values in
-            re.findall(r"(--[\w-]+) <[\w|-]+>(?:(?! --).)*?\[possible values: ([^\]]*)\]", rows)}
-
-
-def asked_by(text):
-    """The arguments without a dash that a help has, as FILE."""
-    return {head.strip("[]<>.") for head in heads(text, "Arguments")}
+def options_in(told):
+    return {name for entry in told.lists["Options"] for name in entry.names}
 
 
 # THE MAN PAGE
 
-def plain(line):
-    """A line of the man page as it is read: without fonts and macros, \\- as a dash."""
-    line = re.sub(r"^\.(?:[BIRTS][BIRHPS]?|PP|nf|fi)(?: |$)", "", line)
-    return re.sub(r"\\f[A-Z]", "", line).replace("\\-", "-").replace('"', "").replace("\\(aq", "'")
-
-
-def man_sections(program):
-    """The lines of each section."""
-    found, name = {}, None
-    for line in manual(program).read_text().splitlines():
-        if line.startswith(".SH "):
-            name = line[4:]
-        elif name:
-            found.setdefault(name, []).append(line)
-    return found
-
-
-def described(lines):
-    """What has a text of its own in a section: the line after each .TP."""
-    return [plain(line) for before, line in zip(lines, lines[1:]) if before == ".TP"]
-
-
-def synopses(program, lines):
-    """The synopsis of each command, as one line."""
-    text = " ".join(plain(line) for line in lines)
-    return {part.split()[0]: part for part in re.split(rf"\b{program} ", " ".join(text.split())) if part}
-
-
-def text_of(lines, option):
-    """What the man page says of an option, as one line."""
-    text = "\n".join(lines).split(".TP\n")
-    return next(" ".join(map(plain, part.splitlines())) for part in text if option in OPTION.findall(
-        plain(part.splitlines()[0]) if part else ""))
-
-
-def check_man(program, top, commands):
-    sections = man_sections(program)
-    synopsis = synopses(program, sections["SYNOPSIS"])
-    assert set(synopsis) == set(commands) | {"help", "--version"}, sorted(synopsis)
-    assert [head.split()[0] for head in described(sections["COMMANDS"])] == [*commands, "help"]
-    for command, text in commands.items():
-        wanted = options_in(text) - HELPS
-        assert set(OPTION.findall(synopsis[command])) == wanted, (command, synopsis[command], wanted)
-        names = set(re.findall(r"\[([A-Z]+)\]", synopsis[command]))
-        assert names == asked_by(text), (command, names, asked_by(text))
-        for option, values in values_in(text).items():
-            said = text_of(sections["OPTIONS"], option)
-            missing = [value for value in values if not re.search(rf"\b{value}\b", said)]
-            assert not missing, (option, missing)
-    has = {option for head in described(sections["OPTIONS"]) for option in OPTION.findall(head)}
+def check_man(program, top, commands, is_written_anew):
+    path = TOP / "docs" / f"{program}.1"
+    page = man_pages.page(path.read_text(), man_pages.parts(program, top, commands))
+    if is_written_anew:
+        path.write_text(page)
+    assert path.read_text() == page, f"docs/{program}.1 is not what the helps make: run checks/options.py --write"
     wanted = options_in(top).union(*map(options_in, commands.values()))
-    assert has == wanted, f"docs/{program}.1: {sorted(has ^ wanted)} in one of the man page and the helps alone"
-    everywhere = set(OPTION.findall("\n".join(map(plain, manual(program).read_text().splitlines()))))
-    assert everywhere - wanted <= {"-k"}, sorted(everywhere - wanted)  # parallel's own
+    has = set(man_pages.OPTION.findall(man_pages.by_hand(page)))
+    assert has - wanted <= {"-k"}, f"docs/{program}.1: {sorted(has - wanted)} in no help"  # parallel's own
     print(f"docs/{program}.1: {len(commands)} commands and {len(wanted)} options, as in the helps")
+
+
+# THE TABLE OF OPTIONS
+
+def row(uses, commands):
+    """What the table says of an option: its commands, its values and its default. `None` stands for any text."""
+    has, entry = [command for command, _ in uses], uses[0][1]
+    numbers = re.search(r"1 to \d+", entry.what)
+    return ("all" if has == list(commands) else ", ".join(f"`{command}`" for command in has),
+            ", ".join(f"`{value}`" for value in entry.values) or (numbers[0] if numbers else None),
+            (f"`{entry.default}`" if entry.values else entry.default) or None)
+
+
+def check_report(commands):
+    rows = re.findall(r"^\| `(-[^`]*)` \| ([^|]*) \| [^|]* \| ([^|]*) \| ([^|]*) \|$", REPORT.read_text(), re.MULTILINE)
+    uses = {}
+    for command, told in commands.items():
+        for entry in told.lists["Options"]:
+            uses.setdefault(f"{entry.names[-1]} {entry.value}".strip(), []).append((command, entry))
+    differing = {option for option, *_ in rows} ^ set(uses) - {"--help"}
+    assert not differing, f"docs/REPORT.md: {sorted(differing)} in one of the table and the helps alone"
+    for option, *cells in rows:
+        wanted = row(uses[option], commands)
+        assert all(want in (None, cell) for cell, want in zip(cells, wanted)), f"docs/REPORT.md: {option} is {wanted}"
+    print(f"docs/REPORT.md: {len(rows)} options, as in the helps")
+
+
+# THE VERSION
+
+def check_version(folder, program):
+    ran = subprocess.run([folder / program, "--version"], capture_output=True, text=True, timeout=3600, check=True)
+    version = ran.stdout.removeprefix(f"{program} ").strip()
+    head = shlex.split((TOP / "docs" / f"{program}.1").read_text().splitlines()[0])
+    assert head == [".TH", program.upper(), "1", "", f"dw {version}", "User commands"], (version, head)
+    newest = re.search(r"^## (\S+)$", CHANGES.read_text(), re.MULTILINE)[1]
+    assert newest == version, f"CHANGELOG.md begins with {newest}, and {program} is {version}"
+    print(f"{program} {version}: so docs/{program}.1 and CHANGELOG.md")
 
 
 # THE COMPLETION
@@ -142,19 +112,18 @@ def check_completion(program, top, commands, folder):
         assert completed([program, begun], folder) == wanted, begun
     assert set(completed([program, "-"], folder)) == options_in(top), completed([program, "-"], folder)
     count = 0
-    for command, text in commands.items():
+    for command, told in commands.items():
         offered = completed([program, command, "-"], folder)
-        assert len(offered) == len(set(offered)) and set(offered) == options_in(text), (command, offered)
+        assert len(offered) == len(set(offered)) and set(offered) == options_in(told), (command, offered)
+        assert [entry.names for entry in told.lists["Arguments"]] == [("FILE",)], command
         files = completed([program, command, "a"], folder)
         assert files == ["a file.fen"], (command, files)
-        for option in options_in(text):
+        for option in options_in(told):
             assert completed([program, command, option], folder)[0].startswith(option), (command, option)
-        closed = values_in(text)
-        for head in heads(text, "Options"):
-            if "<" not in head:
+        for entry in told.lists["Options"]:
+            if not entry.value:
                 continue
-            option = OPTION.findall(head)[-1]
-            values = closed.get(option, [])
+            option, values = entry.names[-1], list(entry.values)
             assert completed([program, command, option, ""], folder) == values, (command, option, values)
             assert completed([program, command, option, "=", ""], folder) == values, (command, option, values)
             for value in values:
@@ -164,11 +133,19 @@ def check_completion(program, top, commands, folder):
 
 
 def main():
+    words = argparse.ArgumentParser(description="Compares the man pages and the bash completions with the helps.")
+    words.add_argument("--write", action="store_true", help="write what the man pages say of commands and options anew")
+    words.add_argument("--programs", type=pathlib.Path, default=TOP, metavar="FOLDER", help="where the programs are")
+    given = words.parse_args()
     for program in PROGRAMS:
-        top = help_of(program)
-        commands = {name: help_of(program, name) for name in heads(top, "Commands") if name != "help"}
+        top = help_of(given.programs / program)
+        commands = {entry.head: help_of(given.programs / program, entry.head) for entry in top.lists["Commands"]
+                    if entry.head != "help"}
         assert commands, top
-        check_man(program, top, commands)
+        check_version(given.programs, program)
+        check_man(program, top, commands, given.write)
+        if program == "dw":
+            check_report(commands)
         with tempfile.TemporaryDirectory() as name:
             check_completion(program, top, commands, pathlib.Path(name))
 
