@@ -95,7 +95,7 @@ module _ {X : Type 0} (g : Geometry) (entries : X → Content) (count : ℕ) (ol
 -- ---- emptying
 pub none_emptied : {X : Type 0} (entries : X → Content) (size : ℕ) (xs : List X) → length xs ≡ size
     → IsEmptied entries size 0 xs
-none_emptied entries size xs all = record { all = all; empty = λ k x l h. absurd (omega (arith, l)); }
+none_emptied entries size xs all = record { all = all; empty = λ k x l h. absurd (omega (arith, l)) }
 
 pub one_emptied : {X : Type 0} (entries : X → Content) (size count : ℕ) (xs : List X) (y : X)
     → IsEmptied entries size count xs → entries y ≡ [] → count < size → IsEmptied entries size (count + 1) (set xs count y)

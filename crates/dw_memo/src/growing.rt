@@ -9,7 +9,7 @@ use dw_board::Board;
 use std::alloc::AllocError;
 
 /// A table of more buckets than this begins with half of them, a quarter or less, rounded down.
-const FEW: usize = 512;
+pub(crate) const FEW: usize = 2048;
 
 /// How many buckets a table begins with that may have so many. Doubled as often as it can be, it has nearly all of
 /// them.

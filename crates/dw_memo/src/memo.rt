@@ -46,7 +46,7 @@ pub trait Memo<B: Board> {
 
     /// Tells that what is asked next has little to do with what was asked before. A memo may give up all entries then, if
     /// it is quicker without them; they do not count as lost. Most keep theirs.
-    /// Example: after it a `DeepMemo` holds nothing, and an `LruMemo` what it held before.
+    /// Example: after it an `LruMemo` holds what it held before, and a `DeepMemo` nothing, if its table had grown.
     fn forget(&mut self)
         ensures map { IsMap (content self.old) }
         ensures map_after { IsMap (content self.new) }

@@ -5,4 +5,4 @@ abbrev pub invariant-halves : goal.invariant-halves
 invariant-halves l = (1 ≤ l.size) × (l.size ≤ l.fn.most)
 
 abbrev pub decreases-halves : goal.decreases-halves
-decreases-halves l = l.size - 512
+decreases-halves l = l.size - 2048

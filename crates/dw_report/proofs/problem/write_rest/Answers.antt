@@ -91,8 +91,8 @@ returns-in_err-write_judged-in-Judge-clause-searches g c =
     searches_for c.args.settings.now.command Judge c.args.solver.now c.write_judged.new.solver end.result c.in-Judge.is
     (spends_same c.args.solver.now c.write_judged.new.solver c.write_judged.result end.result
     c.in_err-write_judged-in-Judge.field-0.0 why.0 c.in_err-write_judged-in-Judge.was why.1 (sym why.2)
-    (spends_after c.args.solver.now c.forget-in-Judge.new.self c.write_judged.new.solver c.write_judged.result
-    c.forget-in-Judge.ensures.expanded c.forget-in-Judge.ensures.limit c.write_judged.ensures.spends))
+    (spends_after c.args.solver.now c.forget.new.self c.write_judged.new.solver c.write_judged.result
+    c.forget.ensures.expanded c.forget.ensures.limit c.write_judged.ensures.spends))
 
 pub write_lines-requires : goal.write_lines-requires
 write_lines-requires g c = (omega arith, (c.requires.works, (c.in-List.is, c.requires.sound)))
@@ -106,8 +106,8 @@ pub returns-in_ok-write_judged-in-Judge-clause-searches : goal.returns-in_ok-wri
 returns-in_ok-write_judged-in-Judge-clause-searches g c =
     searches_for c.args.settings.now.command Judge c.args.solver.now c.write_judged.new.solver _ c.in-Judge.is
     (spends_ok c.args.solver.now c.write_judged.new.solver c.write_judged.result _
-    (spends_after c.args.solver.now c.forget-in-Judge.new.self c.write_judged.new.solver c.write_judged.result
-    c.forget-in-Judge.ensures.expanded c.forget-in-Judge.ensures.limit c.write_judged.ensures.spends))
+    (spends_after c.args.solver.now c.forget.new.self c.write_judged.new.solver c.write_judged.result
+    c.forget.ensures.expanded c.forget.ensures.limit c.write_judged.ensures.spends))
 
 pub returns-in-List-clause-searches : goal.returns-in-List-clause-searches
 returns-in-List-clause-searches g c =

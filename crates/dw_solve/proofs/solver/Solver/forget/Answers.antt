@@ -8,7 +8,7 @@ pub invariant_of-self : goal.invariant_of-self
 invariant_of-self g c = (
   still_true g.B.Board.geometry (g.M.Memo.content c.self.inside.search.memo) (g.M.Memo.content c.forget.new.self)
       c.self.invariant.0 c.forget.ensures.forgets,
-  c.self.invariant.1
+  c.self.invariant.1,
 )
 
 pub returns-clause-forgets : goal.returns-clause-forgets
