@@ -49,7 +49,7 @@ fn write_certificate<T, B: Board, K: Sink>(
         return Ok(Ending::Refused);
     };
     let n = n.clamp(1, MOST_MOVES);
-    slices.watcher.begin(problem.number);
+    desk.begin(slices, problem.number);
     let searched = wins_in_slices(desk.alloc, &mut desk.solver, position, n, slices);
     slices.watcher.end();
     searched?;

@@ -51,7 +51,7 @@ fn report<B: Board, K: Sink>(
     match read_movetext(desk.alloc, position, game.movetext.as_slice()) {
         Ok(tree) => {
             let n = n.unwrap_or(turns_of(&tree)).clamp(1, MOST_MOVES);
-            slices.watcher.begin(game.problem.number);
+            desk.begin(slices, game.problem.number);
             let checked = check(desk.alloc, &mut desk.solver, position, &tree, n, slices);
             slices.watcher.end();
             write_checked(desk, position, &tree, n, &checked?, sink)

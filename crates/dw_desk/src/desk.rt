@@ -115,6 +115,15 @@ pub struct Desk<B: Board> {
     pub solver: Solver<B, AnyMemo<B>, ByTrial>,
 }
 
+impl<B: Board> Desk<B> {
+    /// Begins with another problem: the memo may forget those before, and the line that shows how far a search is tells
+    /// its number.
+    pub fn begin(&mut self, slices: &mut Slices<Progress<'_>>, number: u32) {
+        self.solver.forget();
+        slices.watcher.begin(number);
+    }
+}
+
 /// Does what was asked for, with the problems of the file or of standard input.
 pub fn obey_on<'a, B: Board>(rt: &HostRuntime, request: &Request<'a>) -> Ending<&'a str>
     requires { (B.geometry.rows ≡ 10) ⊎ (B.geometry.rows ≡ 8) }

@@ -118,7 +118,7 @@ fn search<B: Board>(
         most: asked.most,
         each: asked.each.unwrap_or(u64::MAX).max(1),
     };
-    slices.watcher.begin(number);
+    desk.begin(slices, number);
     let finding = find(desk.alloc, &mut desk.solver, position, bounds, slices);
     slices.watcher.end();
     Ok(finding?)

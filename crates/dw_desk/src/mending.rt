@@ -61,7 +61,7 @@ fn write_neighbours<T, B: Board, K: Sink>(
             parts: asked.parts,
         },
     };
-    slices.watcher.begin(problem.number);
+    desk.begin(slices, problem.number);
     let mended = mend(desk.alloc, &mut desk.solver, position, bounds, slices, sink);
     slices.watcher.end();
     if mended?.undecided == 0 {

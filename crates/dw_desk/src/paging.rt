@@ -161,7 +161,7 @@ fn found<B: Board>(
         most: asked.moves,
         each: u64::MAX,
     };
-    slices.watcher.begin(number);
+    desk.begin(slices, number);
     let finding = find(desk.alloc, &mut desk.solver, position, bounds, slices);
     slices.watcher.end();
     Ok(finding?)
@@ -179,7 +179,7 @@ fn judged_within<B: Board>(
         IsVerdict B.geometry position.now asked.now.moves (said_by judged.verdict)) }
     ensures tries { IfOk result (λ judged. Tries B.geometry position.now asked.now.moves judged.tries.items) }
 {
-    slices.watcher.begin(number);
+    desk.begin(slices, number);
     let judged = judge_in_slices(desk.alloc, &mut desk.solver, position, asked.moves, slices);
     slices.watcher.end();
     Ok(judged?)

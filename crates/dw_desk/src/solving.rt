@@ -49,7 +49,7 @@ fn write_game<B: Board, K: Sink>(
     let number = game.problem.number;
     match &game.problem.found {
         Ok(position) => {
-            slices.watcher.begin(number);
+            desk.begin(slices, number);
             let text = solution_of(desk, slices, asked, position);
             slices.watcher.end();
             let text = text?;

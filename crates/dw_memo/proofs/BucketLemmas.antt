@@ -48,7 +48,7 @@ is_inside (y ∷ xs) zero x h = omega arith
 is_inside (y ∷ xs) (suc k) x h = omega (arith, is_inside xs k x h)
 
 -- what is read after a write
-set_read : {X : Type 0} (xs : List X) (k : ℕ) (x : X) (j : ℕ) (y : X) → k < length xs
+pub set_read : {X : Type 0} (xs : List X) (k : ℕ) (x : X) (j : ℕ) (y : X) → k < length xs
     → slice_get (set xs k x) j ≡ Some y → ((j ≡ k) × (x ≡ y)) ⊎ ((j ≢ k) × (slice_get xs j ≡ Some y))
 set_read xs k x j y inside h = elim (same_number j k) [
   | inl e ↦ inl (e, some_same x y (sym (set_here xs k x inside) ∙ (ap (slice_get (set xs k x)) (sym e) ∙ h)))

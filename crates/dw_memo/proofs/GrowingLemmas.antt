@@ -14,8 +14,9 @@ use Rattle.dw_memo.specs.declared.memo.Noted.{Noted}
 use Rattle.dw_memo.specs.inner.Buckets.{held, bucket_of, IsTable}
 use Rattle.dw_memo.specs.Content.{Entry, Content, IsMap, SameEntries}
 use Rattle.dw_memo.specs.Noting.{IsPutIn, IsNote}
-use Rattle.dw_memo.specs.inner.Growing.{IsWidened, IsSplit, IsSplitAt, IsHalfway}
-use Rattle.dw_memo.proofs.BucketLemmas.{set_here, set_other, same_number, one_there, is_inside, in_bucket, is_held}
+use Rattle.dw_memo.specs.inner.Growing.{IsWidened, IsEmptied, IsSplit, IsSplitAt, IsHalfway}
+use Rattle.dw_memo.proofs.BucketLemmas.{set_here, set_other, set_read, same_number, one_there, is_inside, in_bucket}
+use Rattle.dw_memo.proofs.BucketLemmas.{is_held}
 
 -- ---- empty buckets behind a table
 appended_length : {X : Type 0} (old more : List X) → length (old ++ more) ≡ length old + length more
@@ -90,6 +91,36 @@ module _ {X : Type 0} (g : Geometry) (entries : X → Content) (count : ℕ) (ol
 
   pub new_empty : held entries new ≡ []
   new_empty = new_held entries new none_there
+
+-- ---- emptying
+pub none_emptied : {X : Type 0} (entries : X → Content) (size : ℕ) (xs : List X) → length xs ≡ size
+    → IsEmptied entries size 0 xs
+none_emptied entries size xs all = record { all = all; empty = λ k x l h. absurd (omega (arith, l)) }
+
+pub one_emptied : {X : Type 0} (entries : X → Content) (size count : ℕ) (xs : List X) (y : X)
+    → IsEmptied entries size count xs → entries y ≡ [] → count < size → IsEmptied entries size (count + 1) (set xs count y)
+one_emptied entries size count xs y e none inside = record {
+  all = length-set xs count y ∙ e.all;
+  empty = λ k x l h. elim (set_read xs count y k x (omega (arith, inside, e.all)) h) [
+    | inl i ↦ subst (λ z. entries z ≡ []) i.1 none
+    | inr i ↦ e.empty k x (omega (arith, l, i.0)) i.1
+  ];
+}
+
+module _ {X : Type 0} (g : Geometry) (entries : X → Content) (size : ℕ) (xs : List X) (some : 1 ≤ size)
+    (e : IsEmptied entries size size xs) where
+  none_left : (k : ℕ) (x : X) → slice_get xs k ≡ Some x → entries x ≡ []
+  none_left k x h = e.empty k x (omega (arith, is_inside xs k x h, e.all)) h
+
+  pub emptied_table : IsTable g entries xs
+  emptied_table = record {
+    some_bucket = omega (arith, some, e.all);
+    maps = λ k x h. subst IsMap (sym (none_left k x h)) tt;
+    placed = λ k x e h m. absurd (subst (λ c. Member e c) (none_left k x h) m);
+  }
+
+  pub emptied_held : held entries xs ≡ []
+  emptied_held = new_held entries xs none_left
 
 -- ---- doubling
 -- among twice as many buckets a position's bucket is one of the two that come of its old one

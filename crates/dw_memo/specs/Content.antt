@@ -1,5 +1,5 @@
 -- What a memo holds: a finite map from positions to bounds, as a list of entries.
-use Rattle.std.specs.Prelude.{◌↔◌, List, map, Option, Some, None}
+use Rattle.std.specs.Prelude.{◌≡◌, ◌↔◌, ◌⊎◌, List, [], map, Option, Some, None}
 use Rattle.dw_board.specs.Lists.{Member, NoRepeat}
 use Rattle.dw_board.specs.Placement.{Placement}
 use Rattle.dw_memo.specs.declared.bounds.Bounds.{Bounds}
@@ -26,6 +26,10 @@ IsMap c = NoRepeat (positions c)
 -- the same entries, in any order
 abbrev pub SameEntries : Content → Content → Type 0
 SameEntries c d = (e : Entry) → Member e c ↔ Member e d
+
+-- all entries may be given up, else they are the same
+abbrev pub MayForget : Content → Content → Type 0
+MayForget old new = SameEntries old new ⊎ (new ≡ [])
 
 -- what is found for a position: its bounds, or that it isn't there
 abbrev pub IsFound : Content → Placement → Option Bounds → Type 0

@@ -45,6 +45,15 @@ impl<B: Board> Memo<B> for AnyMemo<B> {
         }
     }
 
+    fn forget(&mut self) {
+        match self {
+            AnyMemo::None(memo) => Memo::<B>::forget(memo),
+            AnyMemo::Lru(memo) => memo.forget(),
+            AnyMemo::Slots(memo) => memo.forget(),
+            AnyMemo::Deep(memo) => memo.forget(),
+        }
+    }
+
     fn dropped(&self) -> u64 {
         match self {
             AnyMemo::None(memo) => Memo::<B>::dropped(memo),

@@ -1,5 +1,5 @@
-//! How a table of buckets grows: it doubles, and keeps all that it holds.
-ghost use Rattle.std.specs.Prelude.{◌≡◌, ◌≤◌, ◌<◌, ◌*◌, length, slice_get, Some, IsErr, OnOk};
+//! How large a table of buckets is: it doubles, and keeps all that it holds, or begins anew.
+ghost use Rattle.std.specs.Prelude.{◌≡◌, ◌≤◌, ◌<◌, ◌*◌, [], length, slice_get, Some, IsErr, OnOk};
 ghost use Rattle.dw_memo.specs.inner.Buckets.{held, IsTable};
 ghost use Rattle.dw_memo.specs.Content.{IsMap, SameEntries};
 ghost use Rattle.dw_memo.specs.inner.Growing.{IsSplitAt, IsWidened};
@@ -9,7 +9,7 @@ use dw_board::Board;
 use std::alloc::AllocError;
 
 /// A table of more buckets than this begins with half of them, a quarter or less, rounded down.
-const FEW: usize = 2048;
+pub(crate) const FEW: usize = 2048;
 
 /// How many buckets a table begins with that may have so many. Doubled as often as it can be, it has nearly all of
 /// them.
@@ -74,6 +74,19 @@ pub(crate) fn widen<B: Board, T: Bucket<B>>(
         }
     }
     Ok(())
+}
+
+/// Empties a table, which has as few buckets then as it began with.
+pub(crate) fn clear<B: Board, T: Bucket<B>>(buckets: &mut Vec<T>)
+    requires { IsTable B.geometry T.entries buckets.old.items }
+    ensures table { IsTable B.geometry T.entries buckets.new.items }
+    ensures empty { held T.entries buckets.new.items ≡ [] }
+{
+    let size = first_size(buckets.len());
+    buckets.truncate(size);
+    'buckets: for index in 0..size {
+        buckets[index] = T::empty();
+    }
 }
 
 /// Splits a bucket, of a table that had so many, into the two that take its place among twice as many.

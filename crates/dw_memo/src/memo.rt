@@ -1,6 +1,6 @@
 //! What a memo is: a cache of bounds.
 ghost use Rattle.std.specs.Prelude.{◌≡◌, ℕ};
-ghost use Rattle.dw_memo.specs.Content.{Content, IsMap, SameEntries, IsFound};
+ghost use Rattle.dw_memo.specs.Content.{Content, IsMap, SameEntries, IsFound, MayForget};
 ghost use Rattle.dw_memo.specs.Noting.{IsNote};
 
 use crate::bounds::Bounds;
@@ -43,6 +43,18 @@ pub trait Memo<B: Board> {
         ensures answer { may_answer result }
         ensures note { IsNote (content self.old) position.now bounds result (content self.new) (dropped self.old)
             (dropped self.new) };
+
+    /// Tells that what is asked next has little to do with what was asked before. A memo may give up all entries then, if
+    /// it is quicker without them; they do not count as lost. Most keep theirs.
+    /// Example: after it an `LruMemo` holds what it held before, and a `DeepMemo` nothing, if its table had grown.
+    fn forget(&mut self)
+        ensures map { IsMap (content self.old) }
+        ensures map_after { IsMap (content self.new) }
+        ensures forgets { MayForget (content self.old) (content self.new) }
+        ensures dropped { dropped self.new ≡ dropped self.old }
+    {
+        let _lost = self.dropped();
+    }
 
     /// How many entries were lost or not kept so far; from `u64::MAX` on it stays the same.
     /// Example: of a new memo it is 0.

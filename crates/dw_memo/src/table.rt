@@ -1,12 +1,12 @@
 //! A table in which each position has one bucket. All memory of the table is taken at the start.
 ghost use Rattle.std.specs.Prelude.{◌≡◌, ◌≤◌, ◌<◌, [], IfOk};
 ghost use Rattle.dw_memo.specs.inner.Buckets as of;
-ghost use Rattle.dw_memo.specs.Content.{IsMap, IsFound};
+ghost use Rattle.dw_memo.specs.Content.{IsMap, IsFound, MayForget};
 ghost use Rattle.dw_memo.specs.Noting.{IsNote};
 
 use crate::bounds::Bounds;
 use crate::bucket::Bucket;
-use crate::growing::{first_size, make_room, widen};
+use crate::growing::{FEW, clear, first_size, make_room, widen};
 use crate::memo::Noted;
 use dw_board::{Board, Position};
 use std::alloc::{AllocError, Global};
@@ -76,6 +76,20 @@ impl<B: Board, T: Bucket<B>> Table<B, T> {
         self.taken = self.taken.saturating_add(usize::from(entered.fills));
         self.dropped = self.dropped.saturating_add(entered.lost);
         entered.noted
+    }
+
+    /// Gives up all that it holds, and begins with few buckets again, if it has grown: a small table is as quick as an
+    /// empty one.
+    pub(crate) fn forget(&mut self)
+        ensures map { IsMap self.old.content }
+        ensures map_after { IsMap self.new.content }
+        ensures forgets { MayForget self.old.content self.new.content }
+        ensures dropped { self.new.dropped ≡ self.old.dropped }
+    {
+        if FEW < self.buckets.len() {
+            clear(&mut self.buckets);
+            self.taken = 0;
+        }
     }
 
     /// How many entries were lost or not kept so far.

@@ -1,6 +1,6 @@
 -- Lemmas on faults that are handed on, and on results without one.
 use Rattle.std.proofs.Common.{◌≡◌, ◌∙◌, ℕ, List, refl, sym, ap, subst, Option, Bool}
-use Rattle.std.proofs.Common.{true, false, Result, Ok, Err, IsErrOf}
+use Rattle.std.proofs.Common.{true, false, Result, Ok, Err, IsErrOf, arith}
 use Rattle.std.proofs.Common.{IfOk, IsTrue, ◌↔◌}
 use Rattle.dw_solve.specs.Solving.{Solving}
 use Rattle.dw_solve.specs.declared.stop.Stop.{Stop}
@@ -47,6 +47,18 @@ ok_not_stopped x why e = cc
 pub spends_ok : {M X Y : Type 0} (old new : Solving M) (r : Result X TextFault) (y : Y) → Spends old new r
     → Spends {M = M} {X = Y} old new (Ok y)
 spends_ok old new r y h = record { count = h.count; limit = λ e. absurd (ok_not_stopped y stops.Limit e) }
+
+-- what was spent after the count and the limit were the same
+pub spends_after : {M X : Type 0} (old mid new : Solving M) (r : Result X TextFault) → mid.expanded ≡ old.expanded
+    → mid.limit ≡ old.limit → Spends mid new r → Spends old new r
+spends_after old mid new r count limit h = record {
+  count = record {
+    rises = omega (arith, count, h.count.rises);
+    within = omega (arith, limit, h.count.within);
+    same = h.count.same ∙ limit;
+  };
+  limit = h.limit;
+}
 
 -- what is told of a command is told of the one asked for, if it is the same
 pub searches_for : {M X : Type 0} (command told : Command) (old new : Solving M) (r : Result X TextFault)

@@ -91,7 +91,7 @@ pub(crate) fn write_problem<B: Board, K: Sink, M: Memo<B>, G: Guide<B>>(
 }
 
 /// Writes what the command says of a position beside its diagram. Answers whether the line after which lines are asked
-/// for was refused.
+/// for was refused. A search is told first that another problem begins.
 fn write_rest<B: Board, K: Sink, M: Memo<B>, G: Guide<B>>(
     alloc: Global,
     sink: &mut K,
@@ -118,10 +118,14 @@ fn write_rest<B: Board, K: Sink, M: Memo<B>, G: Guide<B>>(
             Ok(false)
         }
         Command::Judge => {
+            solver.forget();
             write_judged(alloc, sink, solver, position, settings.n)?;
             Ok(false)
         }
-        Command::List => write_lines(alloc, sink, solver, settings, position),
+        Command::List => {
+            solver.forget();
+            write_lines(alloc, sink, solver, settings, position)
+        }
     }
 }
 

@@ -8,7 +8,7 @@ use Rattle.dw_board.specs.Placement.{Placement}
 use Rattle.dw_memo.specs.declared.bounds.Bounds.{Bounds}
 use Rattle.dw_memo.specs.declared.memo.Noted.{Noted}
 use Rattle.dw_memo.specs.Bounding.{wins_decide, fails_decide, decided, at_least, at_most, with_fail, with_win}
-use Rattle.dw_memo.specs.Content.{Entry, entry, Content, positions, IsMap, SameEntries}
+use Rattle.dw_memo.specs.Content.{Entry, entry, Content, positions, IsMap, SameEntries, MayForget}
 use Rattle.dw_board.specs.Lists.{Member}
 use Rattle.dw_memo.specs.Noting.{IsNote}
 use Rattle.dw_solve.specs.Wins.{Win}
@@ -54,6 +54,14 @@ same_true g c d right same = record {
   wins =
       λ p w h. right.wins p w (same_win c d same p w h);
 }
+
+-- what a memo says that may have forgotten all
+pub still_true : (g : Geometry) (c d : Content) → AreTrue g c → MayForget c d → AreTrue g d
+still_true g c d t (inl same) = same_true g c d t same
+still_true g c d t (inr none) = subst (AreTrue g) (sym none) (record {
+  fails = λ p f k. absurd k.held;
+  wins = λ p w k. absurd k.held;
+})
 
 -- bounds that decide
 pub wins_known : (c : Content) (p : Placement) (b : Bounds) (n : ℕ) → Member (entry p b) c → wins_decide b.wins n ≡ true

@@ -3,7 +3,7 @@ ghost use Rattle.std.specs.Prelude.{◌≡◌, ℕ, ◌≤◌, ◌<◌, ◌↔�
 ghost use Rattle.std.specs.List.Sorted.{IsNonDecreasingBy};
 ghost use Rattle.dw_solve.specs.declared.stop.Stop.TheVariants.{Limit};
 ghost use Rattle.dw_solve.specs.Wins.{Win, Lost};
-ghost use Rattle.dw_memo.specs.Content.{IsMap};
+ghost use Rattle.dw_memo.specs.Content.{IsMap, MayForget};
 ghost use Rattle.dw_solve.specs.Facts.{AreTrue, IsDecided, RepliesAreDecided};
 ghost use Rattle.dw_solve.specs.Ranking.{AreRanked};
 ghost use Rattle.dw_solve.specs.Solving.{IsLeast};
@@ -124,6 +124,18 @@ impl<B: Board, M: Memo<B>, G: Guide<B>> Solver<B, M, G> {
         ensures { self.new ≡ record self.old { limit = limit } }
     {
         self.search.limit = limit;
+    }
+
+    /// Tells that the positions to come have little to do with those before, as those of another problem: the memo may
+    /// give up what it holds. No answer depends on it.
+    /// Example: over a `DeepMemo` each position has to be expanded again that was asked for before.
+    pub fn forget(&mut self)
+        ensures forgets { MayForget (M.content self.old.memo) (M.content self.new.memo) }
+        ensures dropped { M.dropped self.new.memo ≡ M.dropped self.old.memo }
+        ensures expanded { self.new.expanded ≡ self.old.expanded }
+        ensures limit { self.new.limit ≡ self.old.limit }
+    {
+        self.search.memo.forget();
     }
 
     /// Whether the side to move wins within so many of its moves, 0 to 20. It is answered without a search, without

@@ -12,6 +12,11 @@ pub record IsWidened {X : Type 0} (entries : X → Content) (count : ℕ) (old n
   pub all : length more ≡ count
   pub empty : (k : ℕ) (x : X) → slice_get more k ≡ Some x → entries x ≡ []
 
+-- of so many buckets, those before a number of them are empty
+pub record IsEmptied {X : Type 0} (entries : X → Content) (size count : ℕ) (buckets : List X) : Type 0 where
+  pub all : length buckets ≡ size
+  pub empty : (k : ℕ) (x : X) → k < count → slice_get buckets k ≡ Some x → entries x ≡ []
+
 -- Among n buckets, of the entries of one bucket those whose bucket is the given one, and the others.
 pub record IsSplit (g : Geometry) (n k : ℕ) (all low high : Content) : Type 0 where
   pub low_map : IsMap low

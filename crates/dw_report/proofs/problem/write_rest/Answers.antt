@@ -9,7 +9,7 @@ use Rattle.dw_report.specs.inner.Running.{TextEnds, IsSaidThen}
 use Rattle.dw_report.specs.declared.settings.Command.TheVariants.{Moves, Judge, Show, List as Lists}
 use Rattle.dw_report.proofs.SearchLemmas.{same_fault, searches_none}
 use Rattle.dw_report.proofs.FaultLemmas.{fault_same, sink_same, spends_same, ok_not_stopped, spends_ok}
-use Rattle.dw_report.proofs.FaultLemmas.{searches_for, searches_moves, refused_none, refused_lists}
+use Rattle.dw_report.proofs.FaultLemmas.{searches_for, searches_moves, refused_none, refused_lists, spends_after}
 use Rattle.dw_report.proofs.problem.write_rest.Goals as goal
 
 pub returns-in_ok-write_moves-in-Moves-clause-text : goal.returns-in_ok-write_moves-in-Moves-clause-text
@@ -91,7 +91,8 @@ returns-in_err-write_judged-in-Judge-clause-searches g c =
     searches_for c.args.settings.now.command Judge c.args.solver.now c.write_judged.new.solver end.result c.in-Judge.is
     (spends_same c.args.solver.now c.write_judged.new.solver c.write_judged.result end.result
     c.in_err-write_judged-in-Judge.field-0.0 why.0 c.in_err-write_judged-in-Judge.was why.1 (sym why.2)
-    c.write_judged.ensures.spends)
+    (spends_after c.args.solver.now c.forget.new.self c.write_judged.new.solver c.write_judged.result
+    c.forget.ensures.expanded c.forget.ensures.limit c.write_judged.ensures.spends))
 
 pub write_lines-requires : goal.write_lines-requires
 write_lines-requires g c = (omega arith, (c.requires.works, (c.in-List.is, c.requires.sound)))
@@ -104,12 +105,16 @@ returns-in_ok-write_moves-in-Moves-clause-searches g c =
 pub returns-in_ok-write_judged-in-Judge-clause-searches : goal.returns-in_ok-write_judged-in-Judge-clause-searches
 returns-in_ok-write_judged-in-Judge-clause-searches g c =
     searches_for c.args.settings.now.command Judge c.args.solver.now c.write_judged.new.solver _ c.in-Judge.is
-    (spends_ok c.args.solver.now c.write_judged.new.solver c.write_judged.result _ c.write_judged.ensures.spends)
+    (spends_ok c.args.solver.now c.write_judged.new.solver c.write_judged.result _
+    (spends_after c.args.solver.now c.forget.new.self c.write_judged.new.solver c.write_judged.result
+    c.forget.ensures.expanded c.forget.ensures.limit c.write_judged.ensures.spends))
 
 pub returns-in-List-clause-searches : goal.returns-in-List-clause-searches
 returns-in-List-clause-searches g c =
     searches_for c.args.settings.now.command Lists c.args.solver.now c.write_lines.new.solver c.write_lines.result
-    c.in-List.is c.write_lines.ensures.spends
+    c.in-List.is
+    (spends_after c.args.solver.now c.forget-in-List.new.self c.write_lines.new.solver c.write_lines.result
+    c.forget-in-List.ensures.expanded c.forget-in-List.ensures.limit c.write_lines.ensures.spends)
 
 pub returns-in-Show-clause-text : goal.returns-in-Show-clause-text
 returns-in-Show-clause-text g c =
