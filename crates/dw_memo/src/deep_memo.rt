@@ -14,8 +14,9 @@ use std::marker::Model;
 /// alone push out none that tells of more, and are not kept then. What stands beside newer entries long enough counts
 /// for less and less.
 ///
-/// A large table begins with fewer pairs, as a [`SlotMemo`](crate::slot_memo::SlotMemo) does with slots. If it is told to
-/// forget and has grown, it holds nothing, and has few pairs again: what is known of other problems would be in the way.
+/// A large table begins with fewer pairs, as a [`SlotMemo`](crate::slot_memo::SlotMemo) does with slots. If it is told
+/// to forget and has grown, it holds nothing, and has few pairs again: what is known of other problems would be in the
+/// way.
 /// Example: of two places, it holds the two positions that were noted first, until more is known of a third.
 #[derive(Drop)]
 pub struct DeepMemo<B: Board> {

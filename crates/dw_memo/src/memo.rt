@@ -44,8 +44,8 @@ pub trait Memo<B: Board> {
         ensures note { IsNote (content self.old) position.now bounds result (content self.new) (dropped self.old)
             (dropped self.new) };
 
-    /// Tells that what is asked next has little to do with what was asked before. A memo may give up all entries then, if
-    /// it is quicker without them; they do not count as lost. Most keep theirs.
+    /// Tells that what is asked next has little to do with what was asked before. A memo may give up all entries then,
+    /// if it is quicker without them; they do not count as lost. Most keep theirs.
     /// Example: after it an `LruMemo` holds what it held before, and a `DeepMemo` nothing, if its table had grown.
     fn forget(&mut self)
         ensures map { IsMap (content self.old) }
