@@ -109,8 +109,9 @@ def check_faults():
     ran = subprocess.run([DESK, "mend", "-n", "2", "--problem", "3"], input=ROW.encode(), capture_output=True,
                          timeout=600, check=False)
     assert (ran.returncode, ran.stdout, ran.stderr) == (1, b"", b"dw-desk: no problem 3\n"), ran
-    for words in ([], ["-n", "0"], ["-n", "2", "--part", "3/2"], ["-n", "2", "--part", "0/2"], ["-n", "2", "--part", "1"],
-                  ["-n", "2", "--part", "1/1000001"], ["-n", "2", "--problem", "1-2"], ["-n", "2", "--each", "0"]):
+    for words in ([], ["-n", "0"], ["-n", "2", "--part", "3/2"], ["-n", "2", "--part", "0/2"],
+                  ["-n", "2", "--part", "1"], ["-n", "2", "--part", "1/1000001"], ["-n", "2", "--problem", "1-2"],
+                  ["-n", "2", "--each", "0"]):
         ran = subprocess.run([DESK, "mend", *words], input=ROW.encode(), capture_output=True, timeout=600, check=False)
         assert (ran.returncode, ran.stdout) == (2, b"") and ran.stderr.startswith(b"error: "), (words, ran)
     print("the worked position, and the faults of the command", flush=True)
