@@ -1,5 +1,9 @@
 //! The command `certify`: the certificate of an answer.
-ghost use Rattle.std.specs.Prelude.{◌≡◌, ◌≤◌, false};
+ghost use Rattle.std.specs.Prelude.{◌≡◌, ◌≤◌, ℕ, List, false, Ok, IfOk};
+ghost use Rattle.std.specs.Io.KnownBytes.{Appends};
+ghost use Rattle.dw_board.specs.Placement.{Placement};
+ghost use Rattle.dw_desk.specs.Certifying.{IsCertificateText};
+ghost use Rattle.dw_desk.specs.declared.ending.Ending.TheVariants.{Done};
 
 use crate::chosen::Chosen;
 use crate::desk::{Desk, DeskFault};
@@ -27,6 +31,8 @@ pub fn certify_problem<T, B: Board, S: Source, K: Sink>(
     sink: &mut K,
 ) -> Result<Ending<T>, DeskFault>
     requires { K.is_failed sink.old ≡ false }
+    ensures { 1 ≤ n → n ≤ 20 → result ≡ Ok Done → (p : Placement) × (text : List ℕ)
+        × IsCertificateText B.geometry n p text × Appends (K.taken sink.old) (K.taken sink.new) text }
 {
     match chosen.next()? {
         Some(game) => write_certificate(desk, slices, n, &game.problem, sink),
@@ -42,7 +48,9 @@ fn write_certificate<T, B: Board, K: Sink>(
     problem: &Problem<B>,
     sink: &mut K,
 ) -> Result<Ending<T>, DeskFault>
-    requires { K.is_failed sink.old ≡ false }
+    requires works { K.is_failed sink.old ≡ false }
+    ensures { 1 ≤ n → n ≤ 20 → result ≡ Ok Done → (p : Placement) × (problem.now.found ≡ Ok p) × (text : List ℕ)
+        × IsCertificateText B.geometry n p text × Appends (K.taken sink.old) (K.taken sink.new) text }
 {
     let Ok(position) = &problem.found else {
         write_all(sink, problem_line(problem).as_str().as_bytes())?;
@@ -78,6 +86,7 @@ fn text_of<B: Board>(
 ) -> Result<Vec<u8>, CertificateFault>
     requires some { 1 ≤ n }
     requires few { n ≤ 20 }
+    ensures { IfOk result (λ text. IsCertificateText B.geometry n position.now text.items) }
 {
     let solver = replace(&mut desk.solver, unused_solver(desk.alloc)?);
     let mut memo = solver.into_memo();

@@ -1,5 +1,9 @@
 //! The command `find`: the least number of moves within which each problem is won, with the verdict.
-ghost use Rattle.std.specs.Prelude.{◌≡◌, false, IfOk};
+ghost use Rattle.std.specs.Prelude.{◌≡◌, ℕ, List, false, IfOk};
+ghost use Rattle.std.specs.Io.KnownBytes.{Appends};
+ghost use Rattle.dw_desk.specs.Finding.{SaysFound};
+ghost use Rattle.dw_desk.specs.ProblemText.{AreTexts, IsProblemText};
+ghost use Rattle.dw_notation.specs.Problems.{Numbered, numbered};
 ghost use Rattle.dw_study.specs.Finding.{IsFinding};
 ghost use Rattle.dw_study.specs.Telling.{told_by};
 
@@ -25,6 +29,9 @@ pub fn find_problems<B: Board, S: Source, K: Sink>(
     sink: &mut K,
 ) -> Result<Counts, DeskFault>
     requires { K.is_failed sink.old ≡ false }
+    ensures { asked.now.json ≡ false → IfOk result (λ _. (problems : List Numbered) × (text : List ℕ)
+        × AreTexts (IsProblemText B.geometry (SaysFound B.geometry asked.now.most)) problems text
+        × Appends (K.taken sink.old) (K.taken sink.new) text) }
 {
     let mut counts = Counts::default();
     'problems: for _ in 0..MAX_PROBLEMS + 1 {
@@ -46,57 +53,78 @@ fn report<B: Board, K: Sink>(
     sink: &mut K,
 ) -> Result<bool, DeskFault>
     requires { K.is_failed sink.old ≡ false }
-    ensures { IfOk result (λ _. K.is_failed sink.new ≡ false) }
+    ensures words { asked.now.json ≡ false → IfOk result (λ _. (text : List ℕ)
+        × IsProblemText B.geometry (SaysFound B.geometry asked.now.most) (numbered problem.now) text
+        × Appends (K.taken sink.old) (K.taken sink.new) text) }
+    ensures works { IfOk result (λ _. K.is_failed sink.new ≡ false) }
 {
-    if !asked.json {
-        write_all(sink, problem_line(problem).as_str().as_bytes())?;
-    }
-    match &problem.found {
-        Ok(position) => report_position(
-            desk,
-            slices,
-            request,
-            asked,
-            problem.number,
-            position,
-            sink,
-        ),
-        Err(fault) => {
-            if asked.json {
-                let why = refusal_text(*fault);
-                let line = json_line(desk.alloc, &refused_row(problem.number, why.as_str()))?;
-                write_all(sink, line.as_str().as_bytes())?;
-            }
-            Ok(true)
-        }
+    if asked.json {
+        report_in_json(desk, slices, request, asked, problem, sink)
+    } else {
+        report_in_words(desk, slices, request, asked, problem, sink)
     }
 }
 
-/// Reports what is found of a position, and answers whether it stayed undecided.
-fn report_position<B: Board, K: Sink>(
+/// Reports one problem in words: its first line, and what is found of its position.
+fn report_in_words<B: Board, K: Sink>(
     desk: &mut Desk<B>,
     slices: &mut Slices<Progress<'_>>,
     request: &Request<'_>,
     asked: &FindWords,
-    number: u32,
-    position: &Position<B>,
+    problem: &Problem<B>,
+    sink: &mut K,
+) -> Result<bool, DeskFault>
+    requires { K.is_failed sink.old ≡ false }
+    ensures text { IfOk result (λ _. (text : List ℕ)
+        × IsProblemText B.geometry (SaysFound B.geometry asked.now.most) (numbered problem.now) text
+        × Appends (K.taken sink.old) (K.taken sink.new) text) }
+    ensures works { IfOk result (λ _. K.is_failed sink.new ≡ false) }
+{
+    write_all(sink, problem_line(problem).as_str().as_bytes())?;
+    let Ok(position) = &problem.found else {
+        return Ok(true);
+    };
+    let finding = search(desk, slices, request, asked, problem.number, position)?;
+    let text = found_text(desk.alloc, position, &finding)?;
+    write_all(sink, text.as_str().as_bytes())?;
+    Ok(is_undecided(&finding))
+}
+
+/// Reports one problem as a line of JSON.
+fn report_in_json<B: Board, K: Sink>(
+    desk: &mut Desk<B>,
+    slices: &mut Slices<Progress<'_>>,
+    request: &Request<'_>,
+    asked: &FindWords,
+    problem: &Problem<B>,
     sink: &mut K,
 ) -> Result<bool, DeskFault>
     requires { K.is_failed sink.old ≡ false }
     ensures { IfOk result (λ _. K.is_failed sink.new ≡ false) }
 {
-    let finding = search(desk, slices, request, asked, number, position)?;
-    let text = if asked.json {
-        let fen = fen_text(position);
-        json_line(
-            desk.alloc,
-            &found_row(desk.alloc, number, fen.as_str(), position, &finding)?,
-        )?
-    } else {
-        found_text(desk.alloc, position, &finding)?
+    let number = problem.number;
+    let (line, is_open) = match &problem.found {
+        Ok(position) => {
+            let finding = search(desk, slices, request, asked, number, position)?;
+            let fen = fen_text(position);
+            let row = found_row(desk.alloc, number, fen.as_str(), position, &finding)?;
+            (json_line(desk.alloc, &row)?, is_undecided(&finding))
+        }
+        Err(fault) => {
+            let why = refusal_text(*fault);
+            (
+                json_line(desk.alloc, &refused_row(number, why.as_str()))?,
+                true,
+            )
+        }
     };
-    write_all(sink, text.as_str().as_bytes())?;
-    Ok(matches!(finding, Finding::Undecided { .. }))
+    write_all(sink, line.as_str().as_bytes())?;
+    Ok(is_open)
+}
+
+/// Whether the number of moves is not known.
+fn is_undecided<B: Board>(finding: &Finding<B>) -> bool {
+    matches!(finding, Finding::Undecided { .. })
 }
 
 /// Searches for one problem, and shows how far it is. If the number of positions is bounded, the memo is empty first,

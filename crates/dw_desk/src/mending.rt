@@ -1,5 +1,9 @@
 //! The command `mend`: the sound problems that are one change away from a problem.
-ghost use Rattle.std.specs.Prelude.{◌≡◌, ◌≤◌, false};
+ghost use Rattle.std.specs.Prelude.{◌≡◌, ◌≤◌, ℕ, List, false, IfOk};
+ghost use Rattle.std.specs.Io.KnownBytes.{Appends};
+ghost use Rattle.dw_desk.specs.Mending.{SaysMended};
+ghost use Rattle.dw_desk.specs.ProblemText.{IsProblemText, IsTextOrNothing};
+ghost use Rattle.dw_notation.specs.Problems.{numbered};
 
 use crate::chosen::Chosen;
 use crate::desk::{Desk, DeskFault};
@@ -8,7 +12,7 @@ use crate::progress::Progress;
 use dw_board::Board;
 use dw_desk_words::MendWords;
 use dw_mend::mend::mend;
-use dw_mend::{MendBounds, MendFault, Part};
+use dw_mend::{MendBounds, MendFault, Mended, Part};
 use dw_notation::{Problem, Sink, Source, write_all};
 use dw_report::problem_line;
 use dw_study::Slices;
@@ -32,6 +36,10 @@ pub fn mend_problem<T, B: Board, S: Source, K: Sink>(
     sink: &mut K,
 ) -> Result<Ending<T>, DeskFault>
     requires { K.is_failed sink.old ≡ false }
+    ensures { IfOk result (λ _. (text : List ℕ)
+        × IsTextOrNothing (IsProblemText B.geometry (SaysMended B.geometry asked.now.n asked.now.part asked.now.parts))
+        text
+        × Appends (K.taken sink.old) (K.taken sink.new) text) }
 {
     match chosen.next()? {
         Some(game) => write_neighbours(desk, slices, asked, &game.problem, sink),
@@ -48,6 +56,10 @@ fn write_neighbours<T, B: Board, K: Sink>(
     sink: &mut K,
 ) -> Result<Ending<T>, DeskFault>
     requires { K.is_failed sink.old ≡ false }
+    ensures { IfOk result (λ _. (text : List ℕ)
+        × IsProblemText B.geometry (SaysMended B.geometry asked.now.n asked.now.part asked.now.parts)
+        (numbered problem.now) text
+        × Appends (K.taken sink.old) (K.taken sink.new) text) }
 {
     write_all(sink, problem_line(problem).as_str().as_bytes())?;
     let Ok(position) = &problem.found else {
@@ -64,9 +76,14 @@ fn write_neighbours<T, B: Board, K: Sink>(
     desk.begin(slices, problem.number);
     let mended = mend(desk.alloc, &mut desk.solver, position, bounds, slices, sink);
     slices.watcher.end();
-    if mended?.undecided == 0 {
-        Ok(Ending::Done)
+    Ok(ending_with(&mended?))
+}
+
+/// How the command ends: as with a refused problem, if a neighbour stays undecided.
+fn ending_with<T>(mended: &Mended) -> Ending<T> {
+    if mended.undecided == 0 {
+        Ending::Done
     } else {
-        Ok(Ending::Refused)
+        Ending::Refused
     }
 }

@@ -62,18 +62,14 @@ pub fn tries_row<B: Board>(
     alloc: Global,
     position: &Position<B>,
     judged: &Judged<B>,
-) -> Result<String, AllocError>
+) -> Result<Vec<String>, AllocError>
     requires { (n : ℕ) × Tries B.geometry position.now n judged.now.tries.items }
 {
     let texts = try_texts(alloc, position, judged.tries.as_slice())?;
-    let mut row = String::new(alloc);
+    let mut row = Vec::new(alloc);
     'tries: for (mv, reply) in texts.as_slice() {
-        if !row.as_str().is_empty() {
-            row.push_str("; ")?;
-        }
-        row.push_str(mv.as_str())?;
-        row.push_str("? ")?;
-        row.push_str(reply.as_str())?;
+        let (mv, reply) = (mv.as_str(), reply.as_str());
+        row.push(format!(in alloc; "{mv}? {reply}")?)?;
     }
     Ok(row)
 }

@@ -267,7 +267,7 @@ fn push_solved<B: Board>(
     let tries = tries_row(desk.alloc, position, judged)?;
     let solution = Solution {
         verdict: verdict.as_str(),
-        tries: tries.as_str(),
+        tries: tries.as_slice(),
         movetext: movetext.as_slice(),
     };
     push_solution(desk.alloc, page, &asked.look, task, &solution, is_apart)?;

@@ -1,5 +1,16 @@
 //! The command `solution`: each problem as a game of a PDN file, with its solution.
-ghost use Rattle.std.specs.Prelude.{◌≡◌, ◌≤◌, false, IfOk};
+ghost use Rattle.std.specs.Prelude.{◌≡◌, ◌≤◌, ℕ, List, false, map, IfOk, OnOk};
+ghost use Rattle.std.specs.Io.KnownBytes.{Appends};
+ghost use Rattle.std.specs.List.{flat_map};
+ghost use Rattle.std.specs.String.{string_bytes};
+ghost use Rattle.dw_desk.specs.Solving.{AreWrittenTags, IsGameOf, IsSolution, new_lines, own_line};
+ghost use Rattle.dw_desk.specs.Solving as of;
+ghost use Rattle.dw_desk.specs.ProblemText.{AreTexts};
+ghost use Rattle.dw_games.specs.GameReading.{numbered_game};
+ghost use Rattle.dw_games.specs.Games.{NumberedGame};
+ghost use Rattle.dw_games.specs.TagRows.{tag_text};
+ghost use Rattle.dw_report.specs.Judging.{said_by};
+ghost use Rattle.dw_report.specs.Verdict.{IsVerdict};
 
 use crate::chosen::Chosen;
 use crate::desk::{Counts, Desk, DeskFault};
@@ -9,11 +20,13 @@ use dw_desk_words::SolutionWords;
 use dw_games::Game;
 use dw_games::tags::{Tag, read_tags};
 use dw_notation::problems::MAX_PROBLEMS;
-use dw_notation::{Sink, Source, write_all};
+use dw_notation::{ProblemFault, Sink, Source, write_all};
 use dw_report::{Verdict, refusal_text};
 use dw_solution::movetext::movetext;
 use dw_solution::{Heading, VerdictKind, first_lines};
 use dw_study::{Slices, judge_in_slices};
+use itoa::Buffer;
+use std::alloc::{AllocError, Global};
 
 /// Writes the chosen problems as games, each as soon as it is read.
 pub fn solve_problems<B: Board, S: Source, K: Sink>(
@@ -24,6 +37,9 @@ pub fn solve_problems<B: Board, S: Source, K: Sink>(
     sink: &mut K,
 ) -> Result<Counts, DeskFault>
     requires { K.is_failed sink.old ≡ false }
+    ensures { IfOk result (λ _. (games : List NumberedGame) × (text : List ℕ)
+        × AreTexts (IsGameOf B.geometry asked.now.n asked.now.lines) games text
+        × Appends (K.taken sink.old) (K.taken sink.new) text) }
 {
     let mut counts = Counts::default();
     'games: for _ in 0..MAX_PROBLEMS + 1 {
@@ -44,30 +60,58 @@ fn write_game<B: Board, K: Sink>(
     sink: &mut K,
 ) -> Result<bool, DeskFault>
     requires { K.is_failed sink.old ≡ false }
-    ensures { IfOk result (λ _. K.is_failed sink.new ≡ false) }
+    ensures text { IfOk result (λ _. (text : List ℕ)
+        × IsGameOf B.geometry asked.now.n asked.now.lines (numbered_game game.now) text
+        × Appends (K.taken sink.old) (K.taken sink.new) text) }
+    ensures works { IfOk result (λ _. K.is_failed sink.new ≡ false) }
 {
     let number = game.problem.number;
     match &game.problem.found {
         Ok(position) => {
-            desk.begin(slices, number);
-            let text = solution_of(desk, slices, asked, position);
-            slices.watcher.end();
-            let text = text?;
+            let text = searched(desk, slices, asked, number, position)?;
             write_tags(desk, position, game.tags.as_slice(), sink)?;
             write_all(sink, text.as_slice())?;
             write_all(sink, b"\n\n")?;
             Ok(false)
         }
         Err(fault) => {
-            let why = refusal_text(*fault);
-            let why = why.as_str();
-            let text = format!(in desk.alloc;
-                "[Event \"problem {number}: refused: {why}\"]\n\n*\n\n"
-            )?;
+            let text = refused_game(desk.alloc, number, *fault)?;
             write_all(sink, text.as_str().as_bytes())?;
             Ok(true)
         }
     }
+}
+
+/// A refused problem as a game, whose event tells why.
+fn refused_game(alloc: Global, number: u32, fault: ProblemFault) -> Result<String, AllocError>
+    ensures { IfOk result (λ text. string_bytes text ≡ of.refused_game number fault) }
+{
+    let mut digits = Buffer::new();
+    let why = refusal_text(fault);
+    [
+        "[Event \"problem ",
+        digits.format(number),
+        ": refused: ",
+        why.as_str(),
+        "\"]\n\n*\n\n",
+    ]
+    .concat(alloc)
+}
+
+/// Searches for the solution of a problem, and shows how far it is.
+fn searched<B: Board>(
+    desk: &mut Desk<B>,
+    slices: &mut Slices<Progress<'_>>,
+    asked: &SolutionWords,
+    number: u32,
+    position: &Position<B>,
+) -> Result<Vec<u8>, DeskFault>
+    ensures { IfOk result (λ text. IsSolution B.geometry position.now asked.now.n asked.now.lines text.items) }
+{
+    desk.begin(slices, number);
+    let text = solution_of(desk, slices, asked, position);
+    slices.watcher.end();
+    text
 }
 
 /// The movetext of the first lines of a position, with its verdict.
@@ -76,7 +120,9 @@ fn solution_of<B: Board>(
     slices: &mut Slices<Progress<'_>>,
     asked: &SolutionWords,
     position: &Position<B>,
-) -> Result<Vec<u8>, DeskFault> {
+) -> Result<Vec<u8>, DeskFault>
+    ensures { IfOk result (λ text. IsSolution B.geometry position.now asked.now.n asked.now.lines text.items) }
+{
     let judged = judge_in_slices(desk.alloc, &mut desk.solver, position, asked.n, slices)?;
     movetext_of(desk, position, asked.n, asked.lines, &judged.verdict)
 }
@@ -91,7 +137,10 @@ pub fn movetext_of<B: Board>(
 ) -> Result<Vec<u8>, DeskFault>
     requires some { 1 ≤ moves }
     requires few { moves ≤ 20 }
+    requires verdict { IsVerdict B.geometry position.now moves (said_by verdict.now) }
+    ensures { IfOk result (λ text. IsSolution B.geometry position.now moves lines text.items) }
 {
+    dw_list::laws::lines_exist();
     let first = first_lines(desk.alloc, &mut desk.solver, position, moves, lines)?;
     let heading = Heading {
         kind: kind_of(verdict),
@@ -101,7 +150,9 @@ pub fn movetext_of<B: Board>(
 }
 
 /// What a verdict says, without its moves.
-fn kind_of<B: Board>(verdict: &Verdict<B>) -> VerdictKind {
+fn kind_of<B: Board>(verdict: &Verdict<B>) -> VerdictKind
+    ensures { result ≡ of.kind_of (said_by verdict.now) }
+{
     match verdict {
         Verdict::Unsolvable => VerdictKind::Unsolvable,
         Verdict::Cooked { .. } => VerdictKind::Cooked,
@@ -119,26 +170,54 @@ fn write_tags<B: Board, K: Sink>(
     sink: &mut K,
 ) -> Result<(), DeskFault>
     requires { K.is_failed sink.old ≡ false }
-    ensures { IfOk result (λ _. K.is_failed sink.new ≡ false) }
+    ensures tags { OnOk result ((text : List ℕ) × AreWrittenTags B.geometry position.now section.now text
+        × Appends (K.taken sink.old) (K.taken sink.new) text) }
+    ensures works { OnOk result (K.is_failed sink.new ≡ false) }
 {
     let tags = read_tags(desk.alloc, section)?;
-    'tags: for tag in tags.as_slice() {
-        write_own(tag, sink)?;
-    }
-    if B::ROWS == 10 {
-        write_all(sink, b"[GameType \"20\"]\n")?;
-    }
-    let fen = fen_text(position);
-    let fen = fen.as_str();
-    let text = format!(in desk.alloc; "[FEN \"{fen}\"]\n\n")?;
+    write_own_tags(tags.as_slice(), sink)?;
+    let text = new_tags(desk.alloc, position)?;
     write_all(sink, text.as_str().as_bytes())?;
     Ok(())
+}
+
+/// Writes the tags of a section but for those that are written anew.
+fn write_own_tags<K: Sink>(tags: &[Tag<'_>], sink: &mut K) -> Result<(), DeskFault>
+    requires { K.is_failed sink.old ≡ false }
+    ensures lines { OnOk result (Appends (K.taken sink.old) (K.taken sink.new)
+        (flat_map own_line (map tag_text tags.now))) }
+    ensures works { OnOk result (K.is_failed sink.new ≡ false) }
+{
+    'tags: for tag in tags {
+        write_own(tag, sink)?;
+    }
+    Ok(())
+}
+
+/// The tags that are written anew, and the empty line behind them.
+fn new_tags<B: Board>(alloc: Global, position: &Position<B>) -> Result<String, AllocError>
+    ensures { IfOk result (λ text. string_bytes text ≡ new_lines B.geometry position.now) }
+{
+    let fen = fen_text(position);
+    [type_line::<B>(), "[FEN \"", fen.as_str(), "\"]\n\n"].concat(alloc)
+}
+
+/// The line that names the game on the board of ten rows.
+fn type_line<B: Board>() -> &'static str
+    ensures { result.now ≡ of.type_line B.geometry }
+{
+    if B::ROWS == 10 {
+        "[GameType \"20\"]\n"
+    } else {
+        ""
+    }
 }
 
 /// Writes a tag in a line of its own, unless it is written anew.
 fn write_own<K: Sink>(tag: &Tag<'_>, sink: &mut K) -> Result<(), DeskFault>
     requires { K.is_failed sink.old ≡ false }
-    ensures { IfOk result (λ _. K.is_failed sink.new ≡ false) }
+    ensures line { OnOk result (Appends (K.taken sink.old) (K.taken sink.new) (own_line (tag_text tag.now))) }
+    ensures works { OnOk result (K.is_failed sink.new ≡ false) }
 {
     if !tag.is_named(b"GameType") && !tag.is_named(b"FEN") {
         write_all(sink, tag.text)?;

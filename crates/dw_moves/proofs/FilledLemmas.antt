@@ -8,11 +8,12 @@ use Rattle.std.specs.Ordering.{nat_cmp}
 use Rattle.dw_board.specs.Geometry.{Geometry, IsBoard, Squares}
 use Rattle.dw_board.specs.Placement.{Placement, IsPosition, other}
 use Rattle.dw_moves.specs.Moves.{IsBest, CanCapture, Move, Quiet, Path, IsPathOf, Legal, LegalAt, AreLegal, last_of}
-use Rattle.dw_moves.specs.Moves.{AreEnds}
+use Rattle.dw_moves.specs.Moves.{AreEnds, SharesEnds}
 use Rattle.dw_board.specs.Lists.{Member}
 use Rattle.dw_moves.specs.inner.Plain.{quiet_to, Adds}
 use Rattle.dw_moves.specs.Order.{Listed}
-use Rattle.dw_moves.specs.inner.Walks.{Captures, EndsKept, Held, Is, IsMost, Longest, Makes, MovesHeld, OneKept, number}
+use Rattle.dw_moves.specs.inner.Walks.{Captures, EndsKept, Held, Is, IsMost, IsTwin, Longest, Makes, MovesHeld, OneKept}
+use Rattle.dw_moves.specs.inner.Walks.{number}
 use Rattle.dw_moves.proofs.CaptureBoundLemmas.{path_bound}
 use Rattle.dw_moves.proofs.GroundLemmas.{side_fits}
 use Rattle.dw_moves.proofs.LegalMoveLemmas.{legal_best}
@@ -193,6 +194,26 @@ legal_if_sought {g} {p} {k} {m} {found} h takes = (
 
   one_of : (o : Option Move) → ((n : Move) → o ≡ Some n
       → Longest (Captures g p) k (λ l. Makes n l × Makes m l)) → IsSome o → Longest (Captures g p) k (Makes m)
+  one_of None is some = cc
+  one_of (Some n) is some = let c = is n refl in (c.0, c.1, c.2, c.3.1)
+
+-- one that shares the ends of a move is among them if there is one
+pub shares_if_sought : {g : Geometry} {p : Placement} {k : ℕ} {m : Move} {found : Option Move}
+    → Held (Captures g p) k (OneKept (Captures g p) (IsTwin m) k found) → IsSome found ↔ SharesEnds g p m
+shares_if_sought {g} {p} {k} {m} {found} h = (
+  (λ some. let c = one_of found h.kept.is some in
+      (c.0.step, legal_from_capture g p k c.0.step best (c.0, c.1, c.2, refl), c.1.some, c.3.0, c.3.1, c.3.2)),
+  (λ l.
+      let takes : 0 < k = omega (arith, l.2, legal_count g p k l.0 best l.1) in
+      let c = capture_from_legal g p k l.0 takes best l.1 in
+      let twin : IsTwin m (record { step = l.0; path = c.0.path }) = (l.3, l.4, l.5) in
+      h.kept.some (c.0, c.1, c.2, subst (λ z. IsTwin m (record { step = z; path = c.0.path })) (sym c.3) twin)),
+) where
+  best : IsBest g p k
+  best = best_of g p k h.most
+
+  one_of : (o : Option Move) → ((n : Move) → o ≡ Some n
+      → Longest (Captures g p) k (λ l. Makes n l × IsTwin m l)) → IsSome o → Longest (Captures g p) k (IsTwin m)
   one_of None is some = cc
   one_of (Some n) is some = let c = is n refl in (c.0, c.1, c.2, c.3.1)
 

@@ -153,6 +153,10 @@ In s v = IsTrue (set.contains v s)
 abbrev pub AreEnds : Geometry → Placement → Squares → Type 0
 AreEnds g p ends = (s : ℕ) → In s ends ↔ (m : Move) × Legal g p m × (0 < set.len m.taken) × (m.to ≡ s)
 
+-- another legal capture begins and ends where a move does
+abbrev pub SharesEnds : Geometry → Placement → Move → Type 0
+SharesEnds g p m = (n : Move) × Legal g p n × (0 < set.len n.taken) × (n.from ≡ m.from) × (n.to ≡ m.to) × (n ≡ m → ⊥)
+
 -- what a move feeds a hasher: its squares, and the word of what it takes
 abbrev pub move_bytes : Geometry → Move → List (List ℕ)
 move_bytes g m = fed.u8 m.from ++ (fed.u8 m.to ++ fed.u64 (word_of g m.taken))

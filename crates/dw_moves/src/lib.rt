@@ -19,6 +19,7 @@ pub mod play;
 pub mod quiet;
 pub mod replies;
 mod seeker;
+pub mod shared;
 mod walk;
 
 pub use glance::{can_capture, count_if_quiet, has_move, other_steps};
@@ -27,3 +28,4 @@ pub use listed::listed_into;
 pub use moves::{Listed, Move};
 pub use quiet::quiet_count;
 pub use replies::{has_sure_reply, sure_step};
+pub use shared::shares_ends;

@@ -5,16 +5,16 @@ use Rattle.std.proofs.Common.{subst, ◌⊎◌, inl, inr, arith, decimal, count_
 use Rattle.std.specs.FinSet as set
 use Rattle.std.specs.Ordering.{nat_cmp}
 use Rattle.std.proofs.lemmas.Bool.{cases_Bool, cases_lt, le-leb, ltb-true, and_parts, and_from, eqb-true, eq-eqb}
-use Rattle.std.proofs.lemmas.Bool.{ne_eqb}
+use Rattle.std.proofs.lemmas.Bool.{ne_eqb, true≢false}
 use Rattle.std.proofs.lemmas.Bool.Decides.{nat_tests}
 use Rattle.std.proofs.lemmas.Fmt.{decimal_digit, decimal_step}
 use Rattle.std.proofs.lemmas.List.Sums.{sum_by-cons}
 use Rattle.dw_board.specs.Geometry.{Geometry, IsBoard, OnBoard, squares}
 use Rattle.dw_board.specs.Placement.{Placement, IsPosition}
 use Rattle.dw_board.specs.FenTokens.{is_digit}
-use Rattle.dw_moves.specs.Moves.{Move, Quiet, Path, IsBest, IsPathOf, Legal, LegalAt, last_of}
+use Rattle.dw_moves.specs.Moves.{Move, Quiet, Path, IsBest, IsPathOf, Legal, LegalAt, SharesEnds, last_of}
 use Rattle.dw_board.specs.Lists.{Member}
-use Rattle.dw_moves.specs.inner.MoveLemmas.{same_move}
+use Rattle.dw_moves.specs.inner.MoveLemmas.{same_move, same_moves, same_moves-is}
 use Rattle.dw_moves.specs.Order.{LexLess, Precedes, IsAscending, IsPathFor, LandsAt, Listed, AreListed}
 use Rattle.dw_moves.specs.inner.MemberLemmas.{mem_map, mem_map_back}
 use Rattle.dw_moves.specs.Laws.{PathTells, OneBest, MovesHaveKeys, LegalMovesTake}
@@ -234,6 +234,32 @@ module _ (rules : Rules) (g : Geometry) (b : IsBoard g) (p : Placement) (list : 
                     rules.take.long g p z.step (suc j) at.0 at.1,
                     rules.take.long g p l.step (suc k) landings path,
                   )) one
+
+    -- it is shared by another move
+    pub shared_by_other : (l : Listed) → Member l list → 0 < set.len l.step.taken → shares_ends list l.step ≡ true
+        → SharesEnds g p l.step
+    shared_by_other l here takes shared =
+        let many : 1 < count_by (has_ends l.step) list = ltb-true 1 (count_by (has_ends l.step) list) shared in
+        let two = two_pass (Precedes g p) (λ (z : Listed). z.step) (has_ends l.step) list all.in_order.ascending many in
+        elim (cases_Bool (same_moves two.first.step l.step)) [
+          | inl same ↦ other_one two.second two.there two.passes_too
+              (λ e. not_before_itself rules.keys g p l.step
+              (subst (λ z. Precedes g p z l.step) ((same_moves-is two.first.step l.step).0 same)
+              (subst (Precedes g p two.first.step) e two.before)))
+          | inr differs ↦ other_one two.first two.here two.passes
+              (λ e. true≢false (sym ((same_moves-is two.first.step l.step).1 e) ∙ differs))
+        ]
+      where
+        other_one : (z : Listed) → Member z list → has_ends l.step z ≡ true → (z.step ≡ l.step → ⊥)
+            → SharesEnds g p l.step
+        other_one z m h differs =
+            let ends = ends_of l.step z h in
+            let its = legal_here z m in
+            let own = legal_here l here in
+            let same = rules.best.only g p its.0 own.0 its.1 own.1 in
+            let count = rules.take.taken g p its.0 z.step its.1 its in
+            let own_count = rules.take.taken g p own.0 l.step own.1 own in
+            (z.step, its, omega (arith, takes, same, count, own_count), ends.0, ends.1, differs)
 
 module _ (rules : Rules) (g : Geometry) (b : IsBoard g) (p : Placement) (pos : IsPosition g p.cells)
     (list : List Listed) (all : AreListed g p list) where

@@ -40,7 +40,8 @@ pub fn moves_have_texts()
     dw_moves::laws::legal_moves_take();
 }
 
-/// A quiet move, and a capture of one piece, are always written by their ends: no other legal move shares them.
+/// A quiet move, and a capture of one piece, are always written by their ends: no other legal move shares them. So is
+/// each other capture whose ends no other one shares.
 /// Example: at `W:W32:B28` the capture is `32x23`.
 pub fn ends_tell()
     ensures { EndsTell }

@@ -8,7 +8,7 @@ ghost use Rattle.dw_notation.specs.inner.LineWords.{HasStep};
 use arrayvec::ArrayString;
 use dw_board::{Board, Position, Square};
 use dw_moves::listed::listed;
-use dw_moves::{Listed, Move};
+use dw_moves::{Listed, Move, shares_ends};
 use itoa::Buffer;
 use std::alloc::{AllocError, Global};
 
@@ -30,14 +30,15 @@ pub fn move_text<B: Board>(list: &[Listed<B>], place: usize) -> ArrayString<MOVE
     let ends = [item.step.from, item.step.to];
     if item.step.taken.count() == 0 {
         squares_text(&ends, '-')
-    } else if shares_ends(list, &item.step) {
+    } else if is_shared(list, &item.step) {
         squares_text(item.path.as_slice(), 'x')
     } else {
         squares_text(&ends, 'x')
     }
 }
 
-/// The text of a legal move of a position; or an error if out of memory. Only a capture of several pieces takes any.
+/// The text of a legal move of a position; or an error if out of memory. Only a capture that shares its ends with
+/// another one takes any.
 /// Example: at `W:W32:B28` that of the capture of 28 is `32x23`.
 pub fn text_in<B: Board>(
     alloc: Global,
@@ -53,7 +54,8 @@ pub fn text_in<B: Board>(
     match mv.taken.count() {
         0 => Ok(squares_text(&squares, '-')),
         1 => Ok(squares_text(&squares, 'x')),
-        _ => listed_text(alloc, position, mv),
+        _ if shares_ends(position, mv) => listed_text(alloc, position, mv),
+        _ => Ok(squares_text(&squares, 'x')),
     }
 }
 
@@ -89,7 +91,7 @@ fn place_of<B: Board>(list: &[Listed<B>], mv: &Move<B>) -> usize
 }
 
 /// Whether more than one of these moves has this one's start and end.
-fn shares_ends<B: Board>(list: &[Listed<B>], mv: &Move<B>) -> bool
+fn is_shared<B: Board>(list: &[Listed<B>], mv: &Move<B>) -> bool
     ensures { result ≡ are_shared list.now mv.now }
 {
     let mut count: usize = 0;

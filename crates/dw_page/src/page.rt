@@ -170,13 +170,13 @@ fn push_begin(
     page.extend_from_slice(b"</p>\n")
 }
 
-/// The texts of a solution: each of the rows that stand before its moves, and its movetext.
+/// The texts of a solution: those that stand before its moves, and its movetext.
 #[derive(Clone, Copy)]
 pub struct Solution<'a> {
     /// The verdict, with the moves that it names.
     pub verdict: &'a str,
-    /// The tries, or an empty text.
-    pub tries: &'a str,
+    /// The tries, each with the reply that refutes it.
+    pub tries: &'a [String],
     pub movetext: &'a [u8],
 }
 
@@ -198,13 +198,10 @@ pub fn push_solution<B: Board>(
         let label = ["<h2>", number, ".</h2>\n"].concat(alloc)?;
         page.extend_from_slice(label.as_str().as_bytes())?;
     }
-    push_row(alloc, page, "", solution.verdict)?;
-    push_row(
-        alloc,
-        page,
-        look.language.phrase(Phrase::Tries),
-        solution.tries,
-    )?;
+    page.extend_from_slice(b"<p>")?;
+    push_text(page, solution.verdict.as_bytes())?;
+    page.extend_from_slice(b"</p>\n")?;
+    push_tries(alloc, page, look, solution.tries)?;
     let label = look.language.phrase(Phrase::Solution);
     let start = ["<p>", label, ": <span class=\"moves\">"].concat(alloc)?;
     page.extend_from_slice(start.as_str().as_bytes())?;
@@ -213,15 +210,26 @@ pub fn push_solution<B: Board>(
     page.extend_from_slice(b"</span></p>\n</div>\n")
 }
 
-/// A row of a solution, if there is one, with a label if that is no empty text.
-fn push_row(alloc: Global, page: &mut Vec<u8>, label: &str, row: &str) -> Result<(), AllocError> {
-    if row.is_empty() {
+/// The row of the tries, if there are any. Each is an element, which stands in one line if there is room.
+fn push_tries(
+    alloc: Global,
+    page: &mut Vec<u8>,
+    look: &Look<'_>,
+    tries: &[String],
+) -> Result<(), AllocError> {
+    if tries.is_empty() {
         return Ok(());
     }
-    let mark = if label.is_empty() { "" } else { ": " };
-    let start = ["<p>", label, mark].concat(alloc)?;
+    let start = ["<p>", look.language.phrase(Phrase::Tries), ":"].concat(alloc)?;
     page.extend_from_slice(start.as_str().as_bytes())?;
-    push_text(page, row.as_bytes())?;
+    let mut mark = " ";
+    'tries: for text in tries {
+        page.extend_from_slice(mark.as_bytes())?;
+        page.extend_from_slice(b"<span class=\"try\">")?;
+        push_text(page, text.as_str().as_bytes())?;
+        page.extend_from_slice(b"</span>")?;
+        mark = "; ";
+    }
     page.extend_from_slice(b"</p>\n")
 }
 

@@ -18,6 +18,7 @@ svg { display: block; width: 100%; margin: 4px 0; overflow: visible; }
 .pictures { position: absolute; width: 0; height: 0; margin: 0; }
 .solution { font-size: .875rem; }
 .solution svg { max-width: 320px; }
+.move, .try { display: inline-block; }
 .moves { font-weight: bold; }
 .variation { font-weight: normal; }
 .live .move { cursor: pointer; }

@@ -8,9 +8,6 @@ use dw_moves::Move;
 /// The numbers of squares, and 0, which no square has.
 const NUMBERS: usize = 51;
 
-/// From each square to each.
-const PLACES: usize = NUMBERS * NUMBERS;
-
 /// A win with fewer moves left is not counted: a search puts no moves of the attacker in order there.
 const FEWEST_LEFT: u8 = 2;
 
@@ -21,23 +18,38 @@ const MOST_DOUBLINGS: u8 = 12;
 /// answer depends on it.
 #[derive(Drop)]
 pub(crate) struct History {
-    won: [u32; PLACES],
+    rows: [Row; NUMBERS],
+}
+
+/// How much the moves from one square to each won.
+#[derive(Clone, Copy)]
+struct Row {
+    won: [u32; NUMBERS],
     is_empty: bool,
+}
+
+impl Row {
+    /// No move has won yet.
+    const EMPTY: Row = Row {
+        won: [0; NUMBERS],
+        is_empty: true,
+    };
 }
 
 impl History {
     /// No move has won yet.
     pub(crate) fn new() -> Self {
         History {
-            won: [0; PLACES],
-            is_empty: true,
+            rows: [Row::EMPTY; NUMBERS],
         }
     }
 
-    /// Forgets all wins. That costs nothing if there are none, as after most questions for few moves.
+    /// Forgets all wins. That costs little if they are of few squares, as after most questions for few moves.
     pub(crate) fn forget(&mut self) {
-        if !self.is_empty {
-            *self = History::new();
+        'rows: for row in &mut self.rows {
+            if !row.is_empty {
+                *row = Row::EMPTY;
+            }
         }
     }
 
@@ -46,25 +58,20 @@ impl History {
         if moves < FEWEST_LEFT {
             return;
         }
-        let place = place_of(mv);
+        let row = &mut self.rows[usize::from(mv.from.number())];
+        let to = usize::from(mv.to.number());
         let win = 1 << moves.min(MOST_DOUBLINGS);
-        self.won[place] = self.won[place].saturating_add(win);
-        self.is_empty = false;
+        row.won[to] = row.won[to].saturating_add(win);
+        row.is_empty = false;
     }
 
     /// The rank of a move: the more it won, the lower.
     fn rank<B: Board>(&self, mv: &Move<B>) -> u32
         ensures { result ≤ 32 }
     {
-        self.won[place_of(mv)].leading_zeros()
+        let row = &self.rows[usize::from(mv.from.number())];
+        row.won[usize::from(mv.to.number())].leading_zeros()
     }
-}
-
-/// The place of a move, by where it begins and ends.
-fn place_of<B: Board>(mv: &Move<B>) -> usize
-    ensures { result < 2601 }
-{
-    usize::from(mv.from.number()) * NUMBERS + usize::from(mv.to.number())
 }
 
 /// The quick order of a guide, in which moves that won before come earlier.

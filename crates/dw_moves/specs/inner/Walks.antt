@@ -137,6 +137,10 @@ pub record Sought {A : Type 0} (E : Listed → Type 0) (is_met_by : A → Listed
   pub same : still ≡ aim
   pub held : Held E k (OneKept E (is_met_by aim) k found)
 
+-- l makes another move, which begins and ends where m does
+abbrev pub IsTwin : Move → Listed → Type 0
+IsTwin m l = (l.step.from ≡ m.from) × (l.step.to ≡ m.to) × (l.step ≡ m → ⊥)
+
 -- the moves of a list, without their paths
 abbrev pub steps_of : List Listed → List Move
 steps_of list = map (λ l. l.step) list

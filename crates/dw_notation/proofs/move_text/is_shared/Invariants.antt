@@ -1,7 +1,7 @@
 use Rattle.std.proofs.Common.{◌≡◌, ◌≤◌, take}
 use Rattle.std.specs.Prelude.{count_by}
 use Rattle.dw_notation.specs.Text.{has_ends}
-use Rattle.dw_notation.proofs.move_text.shares_ends.Given as goal
+use Rattle.dw_notation.proofs.move_text.is_shared.Given as goal
 
 abbrev pub invariant-list : goal.invariant-list
 invariant-list g l = record {

@@ -1,0 +1,20 @@
+use Rattle.std.proofs.Common.{◌∙◌, subst}
+use Rattle.std.specs.Io.KnownBytes.{Appends}
+use Rattle.dw_notation.specs.Problems.{numbered}
+use Rattle.dw_desk.specs.Mending.{SaysMended}
+use Rattle.dw_desk.proofs.ProblemLemmas.{line_and_more}
+use Rattle.dw_desk.proofs.mending.write_neighbours.Goals as goal
+
+pub returns : goal.returns
+returns g c =
+    let geo = g.B.Board.geometry in
+    let taken = g.K.Sink.taken in
+    let asked = c.args.asked.now in
+    let mended = c.in_ok-mended.field-0 in
+    let text = c.in_ok-mended.ensures.text in
+    line_and_more geo (SaysMended geo asked.n asked.part asked.parts) (numbered c.args.problem.now) c.in-Ok.position text.0
+    (taken c.args.sink.now) (taken c.write_all.new.sink) (taken c.mend-mended.new.sink)
+    c.in-Ok.is (mended.all, mended.sound, mended.undecided, text.1)
+    (subst (Appends (taken c.args.sink.now) (taken c.write_all.new.sink))
+    (c.as_bytes.ensures.value ∙ (c.as_str.ensures.value ∙ c.problem_line.ensures)) c.in_ok-write_all.ensures.ok)
+    text.2

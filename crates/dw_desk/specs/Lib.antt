@@ -1,0 +1,5 @@
+pub mod Certifying
+pub mod Finding
+pub mod Mending
+pub mod ProblemText
+pub mod Solving

@@ -1,0 +1,77 @@
+-- What `solution` writes of a position.
+use Rattle.std.specs.Prelude.{◌≡◌, ◌==◌, ◌++◌, ◌∷◌, if◌then◌else◌, ℕ, List, [], codes, decimal, length, take, nat_lt}
+use Rattle.std.specs.Prelude.{Ok, Err}
+use Rattle.std.specs.List.{flat_map}
+use Rattle.dw_board.specs.Geometry.{Geometry}
+use Rattle.dw_board.specs.Placement.{Placement}
+use Rattle.dw_board.specs.FenText.{written}
+use Rattle.dw_moves.specs.Moves.{Move}
+use Rattle.dw_notation.specs.Tags.{same_name}
+use Rattle.dw_notation.specs.TextLines.{Found}
+use Rattle.dw_notation.specs.declared.problems.ProblemFault.{ProblemFault}
+use Rattle.dw_games.specs.Games.{NumberedGame}
+use Rattle.dw_games.specs.TagRows.{TagText, AreTags}
+use Rattle.dw_list.specs.Lines.{Lines}
+use Rattle.dw_report.specs.Report.{refusal_text}
+use Rattle.dw_report.specs.Verdict.{Verdict, IsVerdict, unsolvable, cooked, dual, sound}
+use Rattle.dw_solution.specs.Movetext.{IsMovetext}
+use Rattle.dw_solution.specs.declared.heading.VerdictKind.{VerdictKind}
+use Rattle.dw_solution.specs.declared.heading.VerdictKind.TheVariants as kinds
+
+-- a verdict without its moves
+abbrev pub kind_of : Verdict → VerdictKind
+kind_of unsolvable = kinds.Unsolvable
+kind_of (cooked shortest keys) = kinds.Cooked
+kind_of (dual beginning choices) = kinds.Dual
+kind_of (sound key) = kinds.Sound
+
+-- The movetext of a win within n moves: that of its first lines, as many as are asked for, with the verdict in front.
+pub record IsSolution (g : Geometry) (p : Placement) (n most : ℕ) (text : List ℕ) : Type 0 where
+  pub verdict : Verdict
+  pub is_verdict : IsVerdict g p n verdict
+  pub lines : List (List Move)
+  pub are_lines : Lines g p n lines
+  pub is : IsMovetext g p (record { kind = kind_of verdict; moves = n }) (take most lines)
+      (nat_lt most (length lines)) text
+
+-- a tag in a line of its own; nothing of the two that are written anew
+abbrev pub own_line : TagText → List ℕ
+own_line t =
+    if same_name t.tag.name (codes "GameType") then []
+    else if same_name t.tag.name (codes "FEN") then []
+    else t.text ++ 10 ∷ []
+
+-- the line that names the game on the board of ten rows
+abbrev pub type_line : Geometry → List ℕ
+type_line g = if g.rows == 10 then codes "[GameType \"20\"]\n" else []
+
+-- the tags that are written anew, the game's type and the position, and an empty line
+abbrev pub new_lines : Geometry → Placement → List ℕ
+new_lines g p = type_line g ++ (codes "[FEN \"" ++ (written g p ++ codes "\"]\n\n"))
+
+-- The tags of a game, and an empty line: those of its section as they stood there, each in a line of its own, and then
+-- those that are written anew.
+abbrev pub AreWrittenTags : Geometry → Placement → (section text : List ℕ) → Type 0
+AreWrittenTags g p section text =
+    (tags : List TagText) × AreTags section tags × (text ≡ flat_map own_line tags ++ new_lines g p)
+
+-- A position as a game: its tags, its solution, and an empty line.
+abbrev pub IsGameText : Geometry → (n most : ℕ) → Placement → (section text : List ℕ) → Type 0
+IsGameText g n most p section text =
+    (tags : List ℕ) × (movetext : List ℕ) × AreWrittenTags g p section tags × IsSolution g p n most movetext
+    × (text ≡ tags ++ (movetext ++ codes "\n\n"))
+
+-- a refused problem as a game, whose event tells why
+abbrev pub refused_game : (number : ℕ) → ProblemFault → List ℕ
+refused_game number fault =
+    codes "[Event \"problem " ++ (decimal number ++ (codes ": refused: " ++ (refusal_text fault
+    ++ codes "\"]\n\n*\n\n")))
+
+-- a problem as a game, with the tags of its section
+abbrev pub IsGameFor : Geometry → (n most number : ℕ) → Found → (section text : List ℕ) → Type 0
+IsGameFor g n most number (Ok p) section text = IsGameText g n most p section text
+IsGameFor g n most number (Err fault) section text = text ≡ refused_game number fault
+
+-- what is written of a game that was read
+abbrev pub IsGameOf : Geometry → (n most : ℕ) → NumberedGame → List ℕ → Type 0
+IsGameOf g n most game text = IsGameFor g n most game.number game.said.found game.said.tags text
