@@ -1,1 +1,2 @@
 mod ProblemLemmas
+mod CheckingLemmas

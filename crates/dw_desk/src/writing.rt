@@ -1,5 +1,9 @@
 //! The command `token`: a line of play as a token.
-ghost use Rattle.std.specs.Prelude.{◌≡◌, ◌⊎◌, false};
+ghost use Rattle.std.specs.Prelude.{◌≡◌, ◌⊎◌, ℕ, List, Ok, false};
+ghost use Rattle.std.specs.Io.KnownBytes.{Appends};
+ghost use Rattle.dw_board.specs.Placement.{Placement};
+ghost use Rattle.dw_desk.specs.Writing.{IsTokenOf};
+ghost use Rattle.dw_desk.specs.declared.ending.Ending.TheVariants.{Done};
 
 use crate::chosen::Chosen;
 use crate::desk::DeskFault;
@@ -21,6 +25,8 @@ pub fn write_line<T, B: Board, S: Source, K: Sink>(
 ) -> Result<Ending<T>, DeskFault>
     requires rows { (B.geometry.rows ≡ 10) ⊎ (B.geometry.rows ≡ 8) }
     requires sink { K.is_failed sink.old ≡ false }
+    ensures { result ≡ Ok Done → (p : Placement) × (text : List ℕ) × IsTokenOf B.geometry line.now p text
+        × Appends (K.taken sink.old) (K.taken sink.new) text }
 {
     let Some(game) = chosen.next()? else {
         return Ok(Ending::NoProblem(chosen.first()));

@@ -73,12 +73,12 @@ gathered_lost tree node n moves none h b is =
 
 -- PLAYED
 
-playable_push : (g : Geometry) (p : Placement) (l : List Move) (m : Move) → ArePlayable g p l
+pub playable_push : (g : Geometry) (p : Placement) (l : List Move) (m : Move) → ArePlayable g p l
     → Legal g (reach g p l) m → ArePlayable g p (l ++ m ∷ [])
 playable_push g p [] m h legal = (legal, tt)
 playable_push g p (k ∷ l) m h legal = (h.0, playable_push g (play g p k) l m h.1 legal)
 
-reach_push : (g : Geometry) (p : Placement) (l : List Move) (m : Move)
+pub reach_push : (g : Geometry) (p : Placement) (l : List Move) (m : Move)
     → reach g p (l ++ m ∷ []) ≡ play g (reach g p l) m
 reach_push g p [] m = refl
 reach_push g p (k ∷ l) m = reach_push g (play g p k) l m

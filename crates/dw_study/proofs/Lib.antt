@@ -9,3 +9,4 @@ pub mod TurnLemmas
 pub mod RemarkTextLemmas
 pub mod HoldsLemmas
 pub mod ExactLemmas
+pub mod ToldLemmas

@@ -8,6 +8,7 @@ use Rattle.dw_moves.specs.Moves.{Move}
 use Rattle.dw_games.specs.Movetext.{IsTree}
 use Rattle.dw_report.specs.Verdict.{Verdict}
 use Rattle.dw_study.specs.Finding.{judged, undecided, IsFinding}
+use Rattle.dw_study.specs.RemarkText.{CanBeTold}
 use Rattle.dw_study.specs.Remarks.{Remark, fails, also, leaves_open, ends, AreRemarks}
 
 -- each position is judged in one way, and only in one; if it is undecided, then at a lower number of moves
@@ -25,6 +26,12 @@ abbrev pub OneListOfRemarks : Type 0
 OneListOfRemarks = (g : Geometry) (p : Placement) (text : List ℕ) (tree : List (List Move)) → IsTree g p text tree
     → (n : ℕ) (remarks others : List Remark) → AreRemarks g tree n p [] remarks → AreRemarks g tree n p [] others
     → remarks ≡ others
+
+-- each remark on the tree of a movetext can be told
+abbrev pub RemarksCanBeTold : Type 0
+RemarksCanBeTold = (g : Geometry) (p : Placement) (text : List ℕ) (tree : List (List Move)) → IsTree g p text tree
+    → (n : ℕ) (remarks : List Remark) → AreRemarks g tree n p [] remarks → (r : Remark) → Member r remarks
+    → CanBeTold g p r
 
 -- a remark tells of a fault: a move fails, or a path ends too soon
 abbrev pub IsFault : Remark → Type 0

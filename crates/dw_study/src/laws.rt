@@ -1,5 +1,5 @@
 //! Laws of findings and of remarks, each the contract of a function that does nothing.
-ghost use Rattle.dw_study.specs.Laws.{OneFinding, OneListOfRemarks, SolutionsHold};
+ghost use Rattle.dw_study.specs.Laws.{OneFinding, OneListOfRemarks, RemarksCanBeTold, SolutionsHold};
 
 /// Each position is judged in one way, and only in one. If it is undecided, then at a lower number of moves.
 /// Example: within 20 moves `W:W27,45:B16` is judged at 2 moves, and undecided only at 0 or 1.
@@ -19,6 +19,12 @@ pub fn one_list_of_remarks()
 {
     dw_moves::laws::moves_have_keys();
 }
+
+/// Each remark on the tree of a movetext has a text: its moves can be played, behind at most 39 others.
+/// Example: at `W:W27,32:B18` that of `1. 32-28`, within 2 moves, has the text `ends 1. 32-28`.
+pub fn remarks_can_be_told()
+    ensures { RemarksCanBeTold }
+{}
 
 /// No move of a solution fails and no path of it ends too soon exactly if each path that goes on nowhere is a line; and
 /// nothing at all is remarked exactly if these are just the lines.
