@@ -19,6 +19,7 @@ const MOST_DOUBLINGS: u8 = 12;
 #[derive(Drop)]
 pub(crate) struct History {
     rows: [Row; NUMBERS],
+    is_empty: bool,
 }
 
 /// How much the moves from one square to each won.
@@ -41,11 +42,17 @@ impl History {
     pub(crate) fn new() -> Self {
         History {
             rows: [Row::EMPTY; NUMBERS],
+            is_empty: true,
         }
     }
 
-    /// Forgets all wins. That costs little if they are of few squares, as after most questions for few moves.
+    /// Forgets all wins. That costs nothing if there are none, as after most questions for few moves, and little if
+    /// they are of few squares.
     pub(crate) fn forget(&mut self) {
+        if self.is_empty {
+            return;
+        }
+        self.is_empty = true;
         'rows: for row in &mut self.rows {
             if !row.is_empty {
                 *row = Row::EMPTY;
@@ -63,6 +70,7 @@ impl History {
         let win = 1 << moves.min(MOST_DOUBLINGS);
         row.won[to] = row.won[to].saturating_add(win);
         row.is_empty = false;
+        self.is_empty = false;
     }
 
     /// The rank of a move: the more it won, the lower.
