@@ -1,11 +1,15 @@
 -- Remarks that the code holds, and what they say, place by place.
-use Rattle.std.proofs.Common.{◌≡◌, ℕ, zero, suc, ◌+◌, ◌<◌, ◌≤◌, List, [], ◌∷◌, ◌++◌, length, map, take, get_or, Option, Some}
-use Rattle.std.proofs.Common.{refl, sym, ap, ◌∙◌, subst, inl, inr, arith, take_all}
+use Rattle.std.proofs.Common.{◌≡◌, ℕ, zero, suc, ◌+◌, ◌<◌, ◌≤◌, List, [], ◌∷◌, ◌++◌, length, map, take, get_or}
+use Rattle.std.proofs.Common.{Option, Some}
+use Rattle.std.proofs.Common.{Bool, true, false, cond, refl, sym, ap, ◌∙◌, subst, inl, inr, add-zero, arith, take_all}
+use Rattle.std.specs.List.{count_by}
+use Rattle.std.proofs.lemmas.List.Sums.{sum_by_push}
 use Rattle.std.proofs.lemmas.List.{length-map}
 use Rattle.dw_board.specs.Lists.{Member}
-use Rattle.dw_study.specs.Remarks.{Remark}
+use Rattle.dw_study.specs.Remarks.{Remark, fails, also, leaves_open, ends}
 use Rattle.dw_games.specs.declared.fault.MovetextFaultKind.{MovetextFaultKind}
-use Rattle.dw_desk.specs.Checking.{Counted, IsRefusedLine, counted_on, one_more}
+use Rattle.dw_desk.specs.Checking.{Counted, counted, is_fail, is_end, is_open, is_also, refused_line}
+use Rattle.dw_desk.specs.inner.Tallies.{one_more}
 
 -- what the item at a place says: one thing, which comes next
 pub record Says {A R : Type 0} (f : A → Option R) (said : List R) (i : ℕ) (x : A) : Type 0 where
@@ -51,13 +55,34 @@ all_said f items said i e past =
     let many : length items ≡ length said = sym (length-map items f) ∙ (ap length e ∙ length-map said (λ r. Some r)) in
     take_all i said (omega (arith, many, past))
 
-pub counted_next : (c : Counted) (remarks : List Remark) (r : Remark) → counted_on c (remarks ++ r ∷ [])
-    ≡ one_more r (counted_on c remarks)
-counted_next c [] r = refl
-counted_next c (x ∷ remarks) r = counted_next (one_more x c) remarks r
+abbrev numbers : (a b c d : ℕ) → Counted
+numbers a b c d = record { that_fail = a; that_end = b; left_open = c; left_out = d }
+
+same_numbers : (a b c d e f h i : ℕ) → a ≡ e → b ≡ f → c ≡ h → d ≡ i → numbers a b c d ≡ numbers e f h i
+same_numbers a b c d e f h i first second third fourth = rw (first, second, third, fourth) refl
+
+yes : (p : Remark → Bool) (remarks : List Remark) (r : Remark) → p r ≡ true
+    → count_by p (remarks ++ r ∷ []) ≡ count_by p remarks + 1
+yes p remarks r is = sum_by_push (λ x. cond (p x) 1 0) remarks r ∙ ap (λ z. count_by p remarks + cond z 1 0) is
+
+no : (p : Remark → Bool) (remarks : List Remark) (r : Remark) → p r ≡ false
+    → count_by p (remarks ++ r ∷ []) ≡ count_by p remarks
+no p remarks r is = sum_by_push (λ x. cond (p x) 1 0) remarks r
+    ∙ (ap (λ z. count_by p remarks + cond z 1 0) is ∙ add-zero (count_by p remarks))
+
+-- one remark more is counted
+pub counted_next : (remarks : List Remark) (r : Remark) → counted (remarks ++ r ∷ []) ≡ one_more r (counted remarks)
+counted_next remarks (fails b m reply) = let r = fails b m reply in same_numbers _ _ _ _ _ _ _ _
+    (yes is_fail remarks r refl) (no is_end remarks r refl) (no is_open remarks r refl) (no is_also remarks r refl)
+counted_next remarks (ends b) = let r = ends b in same_numbers _ _ _ _ _ _ _ _
+    (no is_fail remarks r refl) (yes is_end remarks r refl) (no is_open remarks r refl) (no is_also remarks r refl)
+counted_next remarks (leaves_open b replies) = let r = leaves_open b replies in same_numbers _ _ _ _ _ _ _ _
+    (no is_fail remarks r refl) (no is_end remarks r refl) (yes is_open remarks r refl) (no is_also remarks r refl)
+counted_next remarks (also b keys) = let r = also b keys in same_numbers _ _ _ _ _ _ _ _
+    (no is_fail remarks r refl) (no is_end remarks r refl) (no is_open remarks r refl) (yes is_also remarks r refl)
 
 -- a refusal by an equal fault at an equal place
 pub refused_same : {given what : MovetextFaultKind} {there place : ℕ} (text : List ℕ) → given ≡ what → there ≡ place
-    → IsRefusedLine given there text → IsRefusedLine what place text
+    → text ≡ refused_line given there → text ≡ refused_line what place
 refused_same {given} {what} {there} {place} text fault at line =
-    subst (λ z. IsRefusedLine z place text) fault (subst (λ z. IsRefusedLine given z text) at line)
+    line ∙ (ap (λ z. refused_line z there) fault ∙ ap (refused_line what) at)

@@ -1,2 +1,4 @@
 mod ProblemLemmas
+mod ReportLemmas
 mod CheckingLemmas
+mod ChosenLemmas

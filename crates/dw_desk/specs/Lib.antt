@@ -1,5 +1,6 @@
 pub mod Certifying
 pub mod Checking
+pub mod Chosen
 pub mod Finding
 pub mod Mending
 pub mod ProblemText

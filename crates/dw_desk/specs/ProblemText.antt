@@ -1,21 +1,30 @@
 -- The texts of problems.
-use Rattle.std.specs.Prelude.{◌≡◌, ◌⊎◌, ℕ, Ok, Err, List, [], ◌∷◌, ◌++◌}
+use Rattle.std.specs.Prelude.{◌≡◌, ◌+◌, ◌≤◌, if◌then◌else◌, ℕ, Bool, true, Ok, Err, Option, Some, None, List, []}
+use Rattle.std.specs.Prelude.{◌∷◌, ◌++◌, length, map}
+use Rattle.std.specs.List.{count_by}
 use Rattle.dw_board.specs.Geometry.{Geometry}
 use Rattle.dw_board.specs.Placement.{Placement}
+use Rattle.dw_desk.specs.declared.desk.Counts.{Counts}
+use Rattle.dw_desk.specs.declared.ending.Ending.{Ending}
+use Rattle.dw_desk.specs.declared.ending.Ending.TheVariants.{Done, Refused, NoProblem}
+use Rattle.dw_games.specs.Games.{NumberedGame}
 use Rattle.dw_notation.specs.Problems.{Numbered}
 use Rattle.dw_notation.specs.TextLines.{Found}
+use Rattle.dw_notation.specs.declared.problems.TheConstants.{MAX_PROBLEMS}
 use Rattle.dw_report.specs.Report.{first_line}
 
--- what follows a first line: what is said of the position, and nothing after a refusal
-abbrev pub IsFurther : (Says : Placement → List ℕ → Type 0) → Found → List ℕ → Type 0
-IsFurther Says (Ok p) text = Says p text
-IsFurther Says (Err fault) text = text ≡ []
+-- what follows a first line: what is said of the position, and whether the problem counts as refused by that; after a
+-- refusal nothing
+abbrev pub IsFurther : (Says : Placement → (refused : Bool) → List ℕ → Type 0) → Found → (refused : Bool) → List ℕ
+    → Type 0
+IsFurther Says (Ok p) refused text = Says p refused text
+IsFurther Says (Err fault) refused text = (refused ≡ true) × (text ≡ [])
 
 -- The text of a problem: its first line, and what follows it.
-pub record IsProblemText (g : Geometry) (Says : Placement → List ℕ → Type 0) (problem : Numbered) (text : List ℕ)
-    : Type 0 where
+pub record IsProblemText (g : Geometry) (Says : Placement → (refused : Bool) → List ℕ → Type 0) (problem : Numbered)
+    (refused : Bool) (text : List ℕ) : Type 0 where
   pub further : List ℕ
-  pub follows : IsFurther Says problem.found further
+  pub follows : IsFurther Says problem.found refused further
   pub is : text ≡ first_line g problem ++ further
 
 -- texts of what was read in turn, one after another
@@ -24,6 +33,24 @@ pub data AreTexts {X : Type 0} (One : X → List ℕ → Type 0) : List X → Li
   one_more : {xs : List X} {text : List ℕ} (x : X) (one : List ℕ) → AreTexts One xs text → One x one
       → AreTexts One (xs ++ x ∷ []) (text ++ one)
 
--- the text of one, or nothing
-abbrev pub IsTextOrNothing : {X : Type 0} → (One : X → List ℕ → Type 0) → List ℕ → Type 0
-IsTextOrNothing {X} One text = (text ≡ []) ⊎ ((x : X) × One x text)
+-- a game that is reported, and whether it counts as refused
+pub record Reported : Type 0 where
+  pub game : NumberedGame
+  pub is_refused : Bool
+
+-- The report on some games: what is written of each in turn; how many they are, and how many count as refused. A text
+-- has no more games than are counted.
+pub record IsReport (One : NumberedGame → (refused : Bool) → List ℕ → Type 0) (games : List NumberedGame)
+    (counts : Counts) (text : List ℕ) : Type 0 where
+  pub reported : List Reported
+  pub are : games ≡ map (λ r. r.game) reported
+  pub texts : AreTexts (λ r. One r.game r.is_refused) reported text
+  pub shown : length reported ≤ MAX_PROBLEMS + 1 → counts.shown ≡ length reported
+  pub refused : length reported ≤ MAX_PROBLEMS + 1 → counts.refused ≡ count_by (λ r. r.is_refused) reported
+
+-- The report on the next game, if there is one; and how the program ends after that.
+abbrev pub IsReportOnOne : {T : Type 0} → (One : NumberedGame → (refused : Bool) → List ℕ → Type 0) → (first : ℕ)
+    → Option NumberedGame → Ending T → List ℕ → Type 0
+IsReportOnOne One first None ending text = (ending ≡ NoProblem first) × (text ≡ [])
+IsReportOnOne One first (Some game) ending text =
+    (refused : Bool) × One game refused text × (ending ≡ (if refused then Refused else Done))

@@ -1,6 +1,6 @@
 -- What `solution` writes of a position.
 use Rattle.std.specs.Prelude.{◌≡◌, ◌==◌, ◌++◌, ◌∷◌, if◌then◌else◌, ℕ, List, [], codes, decimal, length, take, nat_lt}
-use Rattle.std.specs.Prelude.{Ok, Err}
+use Rattle.std.specs.Prelude.{Bool, true, false, Ok, Err}
 use Rattle.std.specs.List.{flat_map}
 use Rattle.dw_board.specs.Geometry.{Geometry}
 use Rattle.dw_board.specs.Placement.{Placement}
@@ -67,11 +67,11 @@ refused_game number fault =
     codes "[Event \"problem " ++ (decimal number ++ (codes ": refused: " ++ (refusal_text fault
     ++ codes "\"]\n\n*\n\n")))
 
--- a problem as a game, with the tags of its section
-abbrev pub IsGameFor : Geometry → (n most number : ℕ) → Found → (section text : List ℕ) → Type 0
-IsGameFor g n most number (Ok p) section text = IsGameText g n most p section text
-IsGameFor g n most number (Err fault) section text = text ≡ refused_game number fault
+-- a problem as a game, with the tags of its section; and whether it counts as refused
+abbrev pub IsGameFor : Geometry → (n most number : ℕ) → Found → (section : List ℕ) → (refused : Bool) → List ℕ → Type 0
+IsGameFor g n most number (Ok p) section refused text = (refused ≡ false) × IsGameText g n most p section text
+IsGameFor g n most number (Err fault) section refused text = (refused ≡ true) × (text ≡ refused_game number fault)
 
 -- what is written of a game that was read
-abbrev pub IsGameOf : Geometry → (n most : ℕ) → NumberedGame → List ℕ → Type 0
-IsGameOf g n most game text = IsGameFor g n most game.number game.said.found game.said.tags text
+abbrev pub IsGameOf : Geometry → (n most : ℕ) → NumberedGame → (refused : Bool) → List ℕ → Type 0
+IsGameOf g n most game refused text = IsGameFor g n most game.number game.said.found game.said.tags refused text

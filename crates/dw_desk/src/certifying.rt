@@ -1,9 +1,12 @@
 //! The command `certify`: the certificate of an answer.
-ghost use Rattle.std.specs.Prelude.{◌≡◌, ◌≤◌, ℕ, List, false, Ok, IfOk};
+ghost use Rattle.std.specs.Prelude.{◌≡◌, ◌≤◌, ℕ, List, false, Ok, Some, IfOk};
 ghost use Rattle.std.specs.Io.KnownBytes.{Appends};
 ghost use Rattle.dw_board.specs.Placement.{Placement};
 ghost use Rattle.dw_desk.specs.Certifying.{IsCertificateText};
 ghost use Rattle.dw_desk.specs.declared.ending.Ending.TheVariants.{Done};
+ghost use Rattle.dw_desk.specs.Chosen.{HandsOut};
+ghost use Rattle.dw_desk.specs.inner.Choosing.{AreToCome};
+ghost use Rattle.dw_games.specs.Games.{NumberedGame};
 
 use crate::chosen::Chosen;
 use crate::desk::{Desk, DeskFault};
@@ -31,8 +34,11 @@ pub fn certify_problem<T, B: Board, S: Source, K: Sink>(
     sink: &mut K,
 ) -> Result<Ending<T>, DeskFault>
     requires { K.is_failed sink.old ≡ false }
-    ensures { 1 ≤ n → n ≤ 20 → result ≡ Ok Done → (p : Placement) × (text : List ℕ)
-        × IsCertificateText B.geometry n p text × Appends (K.taken sink.old) (K.taken sink.new) text }
+    ensures { 1 ≤ n → n ≤ 20 → result ≡ Ok Done → (game : NumberedGame) × (p : Placement) × (text : List ℕ)
+        × HandsOut (AreToCome B.geometry S.coming S.has_ended chosen.old)
+        (AreToCome B.geometry S.coming S.has_ended chosen.new) (Some game)
+        × (game.said.found ≡ Ok p) × IsCertificateText B.geometry n p text
+        × Appends (K.taken sink.old) (K.taken sink.new) text }
 {
     match chosen.next()? {
         Some(game) => write_certificate(desk, slices, n, &game.problem, sink),

@@ -4,11 +4,11 @@ ghost use Rattle.std.specs.Prelude.{codes, if◌then◌else◌};
 ghost use Rattle.std.specs.Io.KnownBytes.{Appends};
 ghost use Rattle.std.specs.String.{string_bytes};
 ghost use Rattle.dw_board.specs.Lists.{Member};
-ghost use Rattle.dw_desk.specs.Checking.{IsCheckOf, IsCheckedText, IsNumberFor, IsRefusedLine, counted};
-ghost use Rattle.dw_desk.specs.Checking.{no_win_line, refused_line};
+ghost use Rattle.dw_desk.specs.Checking.{IsCheckOf, IsCheckedText, IsNumberFor, counted, no_win_line};
 ghost use Rattle.dw_desk.specs.Checking as of;
-ghost use Rattle.dw_desk.specs.ProblemText.{AreTexts};
-ghost use Rattle.dw_desk.specs.inner.Tallies.{tallied, total};
+ghost use Rattle.dw_desk.specs.ProblemText.{AreTexts, IsReport};
+ghost use Rattle.dw_desk.specs.inner.Choosing.{AreToCome};
+ghost use Rattle.dw_desk.specs.inner.Tallies.{one_more, tallied, total};
 ghost use Rattle.dw_games.specs.GameReading.{numbered_game};
 ghost use Rattle.dw_games.specs.Games.{NumberedGame};
 ghost use Rattle.dw_games.specs.Movetext.{IsTree};
@@ -23,7 +23,6 @@ use crate::desk::{Counts, Desk, DeskFault};
 use crate::progress::Progress;
 use dw_board::{Board, Position};
 use dw_games::{Game, MovetextFault, MovetextFaultKind, Tree, read_movetext};
-use dw_notation::problems::MAX_PROBLEMS;
 use dw_notation::{Sink, Source, write_all};
 use dw_program::options::MOST_MOVES;
 use dw_report::{Stop, problem_line};
@@ -41,15 +40,13 @@ pub fn check_games<B: Board, S: Source, K: Sink>(
     sink: &mut K,
 ) -> Result<Counts, DeskFault>
     requires { K.is_failed sink.old ≡ false }
-    ensures { IfOk result (λ _. (games : List NumberedGame) × (text : List ℕ)
-        × AreTexts (IsCheckOf B.geometry n) games text
+    ensures { IfOk result (λ counts. (games : List NumberedGame) × (text : List ℕ)
+        × AreToCome B.geometry S.coming S.has_ended chosen.old games
+        × IsReport (IsCheckOf B.geometry n) games counts text
         × Appends (K.taken sink.old) (K.taken sink.new) text) }
 {
     let mut counts = Counts::default();
-    'games: for _ in 0..MAX_PROBLEMS + 1 {
-        let Some(game) = chosen.next()? else {
-            break;
-        };
+    'games: while let Some(game) = chosen.next()? {
         counts = counts.with(report(desk, slices, n, &game, sink)?);
     }
     Ok(counts)
@@ -64,7 +61,8 @@ fn report<B: Board, K: Sink>(
     sink: &mut K,
 ) -> Result<bool, DeskFault>
     requires { K.is_failed sink.old ≡ false }
-    ensures text { IfOk result (λ _. (text : List ℕ) × IsCheckOf B.geometry n (numbered_game game.now) text
+    ensures text { IfOk result (λ refused. (text : List ℕ)
+        × IsCheckOf B.geometry n (numbered_game game.now) refused text
         × Appends (K.taken sink.old) (K.taken sink.new) text) }
     ensures works { IfOk result (λ _. K.is_failed sink.new ≡ false) }
 {
@@ -124,23 +122,15 @@ fn checked<B: Board>(
 
 /// That a solution has this fault.
 fn refused_line(alloc: Global, what: MovetextFaultKind, place: u32) -> Result<String, AllocError>
-    ensures { IfOk result (λ line. IsRefusedLine what place (string_bytes line)) }
-{
-    let name = format!(in alloc; "{what}")?;
-    named_line(alloc, what.number(), name.as_str(), place)
-}
-
-/// That a solution has a fault of this number and name.
-fn named_line(alloc: Global, number: u8, name: &str, place: u32) -> Result<String, AllocError>
-    ensures { IfOk result (λ line. string_bytes line ≡ refused_line number name.now place) }
+    ensures { IfOk result (λ line. string_bytes line ≡ of.refused_line what place) }
 {
     let mut digits = Buffer::new();
     let mut places = Buffer::new();
     [
         "solution refused: ",
-        digits.format(number),
+        digits.format(what.number()),
         " ",
-        name,
+        what.name(),
         " at ",
         places.format(place),
         "\n",
@@ -161,7 +151,8 @@ fn write_checked<B: Board, K: Sink>(
     requires wins { IsTrue checked.now.wins ↔ Win B.geometry position.now n }
     requires remarks { Say tree.now checked.now.remarks.items (AreRemarks B.geometry tree.now n position.now []) }
     requires tree { (movetext : List ℕ) × IsTree B.geometry position.now movetext tree.now }
-    ensures text { IfOk result (λ _. (text : List ℕ) × IsCheckedText B.geometry position.now n tree.now text
+    ensures text { IfOk result (λ refused. (text : List ℕ)
+        × IsCheckedText B.geometry position.now n tree.now refused text
         × Appends (K.taken sink.old) (K.taken sink.new) text) }
     ensures works { IfOk result (λ _. K.is_failed sink.new ≡ false) }
 {
@@ -244,7 +235,7 @@ impl Tally {
     fn with<B: Board>(self, remark: &Remark<B>) -> Tally
         requires { total self < 18446744073709551615 }
         ensures counts { (tree : List (List Move)) (r : AnyRemark) → remark_in tree remark.now ≡ Some r
-            → tallied result ≡ of.one_more r (tallied self) }
+            → tallied result ≡ one_more r (tallied self) }
         ensures total { total result ≡ total self + 1 }
     {
         match remark {

@@ -1,5 +1,5 @@
 //! The problems that a command speaks of, one after another.
-ghost use Rattle.std.specs.Prelude.{◌≡◌, false};
+ghost use Rattle.std.specs.Prelude.{◌≡◌, ◌<◌, ◌-◌, if◌then◌else◌, ℕ, List, false, option_map, IfOk, IfSome};
 
 use crate::desk::DeskFault;
 use dw_board::Board;
@@ -15,35 +15,34 @@ pub struct Chosen<'a, B: Board, S> {
     alloc: Global,
     text: Text<'a, B, S>,
     portion: Portion,
-    is_over: bool,
-}
-
-/// A text by how it has its problems.
-#[derive(Drop)]
-enum Text<'a, B: Board, S> {
-    Fens(Problems<'a, B, S>),
-    Pdn(Games<'a, B, S>),
+    /// How many problems of the text are still looked at.
+    left: u32,
 }
 
 impl<'a, B: Board, S: Source> Chosen<'a, B, S> {
+    ghost use Rattle.dw_desk.specs.Chosen.{AreChosenOf, HandsOut, is_in};
+    ghost use Rattle.dw_desk.specs.inner.Choosing.{AreToCome, is_met};
+    ghost use Rattle.dw_games.specs.GameReading.{numbered_game};
+    ghost use Rattle.dw_games.specs.Games.{NumberedGame};
+
     /// The problems of a portion, of a text of this form that the source gives.
     pub fn new(alloc: Global, source: &'a mut S, form: Form, portion: Portion) -> Self
         requires { S.is_failed source.old ≡ false }
+        ensures { (games : List NumberedGame) → AreToCome B.geometry S.coming S.has_ended result games
+            → AreChosenOf B.geometry form portion (S.coming source.old) games }
     {
-        let text = match form {
-            Form::Fens => Text::Fens(Problems::new(source, form)),
-            Form::Pdn => Text::Pdn(Games::new(alloc, source)),
-        };
         Chosen {
             alloc,
-            text,
+            text: Text::new(alloc, source, form),
             portion,
-            is_over: false,
+            left: MAX_PROBLEMS + 1,
         }
     }
 
     /// The number of the first problem of the portion.
-    pub fn first(&self) -> u32 {
+    pub fn first(&self) -> u32
+        ensures { result ≡ self.now.portion.first }
+    {
         self.portion.first
     }
 
@@ -53,33 +52,87 @@ impl<'a, B: Board, S: Source> Chosen<'a, B, S> {
     }
 
     /// The next of them, or none if there is no more. Reading ends behind the last.
-    pub fn next(&mut self) -> Result<Option<Game<B>>, DeskFault> {
-        'games: for _ in 0..MAX_PROBLEMS + 1 {
-            if self.is_over {
-                break;
-            }
-            let Some(game) = self.next_of_all()? else {
-                break;
+    pub fn next(&mut self) -> Result<Option<Game<B>>, DeskFault>
+        ensures given { IfOk result (λ found. HandsOut (AreToCome B.geometry S.coming S.has_ended self.old)
+            (AreToCome B.geometry S.coming S.has_ended self.new) (option_map numbered_game found)) }
+        ensures portion { self.new.portion ≡ self.old.portion }
+        ensures fewer { IfOk result (λ found. IfSome found (λ _. self.new.left < self.old.left)) }
+    {
+        'games: while self.left > 0 {
+            let Some(game) = self.text.next(self.alloc)? else {
+                return Ok(None);
             };
             let number = game.problem.number;
-            self.is_over = self.portion.last == Some(number);
-            if self.portion.first <= number {
+            self.left = self.left_behind(number);
+            if self.has(number) {
                 return Ok(Some(game));
             }
         }
         Ok(None)
     }
 
-    /// The next problem of the text, chosen or not.
-    fn next_of_all(&mut self) -> Result<Option<Game<B>>, DeskFault> {
-        match &mut self.text {
+    /// Whether a number is in the portion.
+    fn has(&self, number: u32) -> bool
+        ensures { result ≡ is_in self.now.portion number }
+    {
+        self.portion.first <= number
+            && match self.portion.last {
+                Some(last) => number <= last,
+                None => true,
+            }
+    }
+
+    /// How many problems are still looked at behind a number: none, if the portion ends there.
+    fn left_behind(&self, number: u32) -> u32
+        requires { 0 < self.now.left }
+        ensures { result ≡ (if is_met self.now.portion.last number then 0 else self.now.left - 1) }
+    {
+        match self.portion.last {
+            Some(last) if last <= number => 0,
+            _ => self.left - 1,
+        }
+    }
+}
+
+/// A text by how it has its problems.
+#[derive(Drop)]
+enum Text<'a, B: Board, S> {
+    Fens(Problems<'a, B, S>),
+    Pdn(Games<'a, B, S>),
+}
+
+impl<'a, B: Board, S: Source> Text<'a, B, S> {
+    ghost use Rattle.dw_desk.specs.Chosen.{AreGamesIn};
+    ghost use Rattle.dw_desk.specs.inner.Choosing.{AreAhead, ComesNext, EndIsKnown, source_of};
+    ghost use Rattle.dw_games.specs.Games.{NumberedGame};
+
+    /// A text of this form that the source gives.
+    fn new(alloc: Global, source: &'a mut S, form: Form) -> Self
+        requires { S.is_failed source.old ≡ false }
+        ensures source { source_of result ≡ source.old }
+        ensures games { (bytes : List ℕ) (games : List NumberedGame) → AreAhead B.geometry result bytes games
+            → AreGamesIn B.geometry form bytes games }
+        ensures end { EndIsKnown S.coming S.has_ended result }
+    {
+        match form {
+            Form::Fens => Text::Fens(Problems::new(source, form)),
+            Form::Pdn => Text::Pdn(Games::new(alloc, source)),
+        }
+    }
+
+    /// The next problem, chosen or not.
+    fn next(&mut self, alloc: Global) -> Result<Option<Game<B>>, DeskFault>
+        ensures given { IfOk result (ComesNext B.geometry S.coming S.has_ended self.old self.new) }
+        ensures end { EndIsKnown S.coming S.has_ended self.old → EndIsKnown S.coming S.has_ended self.new }
+    {
+        match self {
             Text::Pdn(games) => Ok(games.next()?),
             Text::Fens(problems) => match problems.next()? {
                 None => Ok(None),
                 Some(problem) => Ok(Some(Game {
                     problem,
-                    tags: Vec::new(self.alloc),
-                    movetext: Vec::new(self.alloc),
+                    tags: Vec::new(alloc),
+                    movetext: Vec::new(alloc),
                 })),
             },
         }

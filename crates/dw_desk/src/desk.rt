@@ -1,5 +1,5 @@
 //! What every command does: it opens its file, searches with a solver, and counts what it reports.
-ghost use Rattle.std.specs.Prelude.{◌≡◌, ◌⊎◌};
+ghost use Rattle.std.specs.Prelude.{◌≡◌, ◌⊎◌, ◌+◌, ◌<◌, if◌then◌else◌};
 
 use crate::certifying::certify_problem;
 use crate::checking::check_games;
@@ -48,7 +48,12 @@ impl Counts {
     }
 
     /// One problem more is reported.
-    pub fn with(self, is_refused: bool) -> Counts {
+    pub fn with(self, is_refused: bool) -> Counts
+        ensures { self.shown < 4294967295 → self.refused < 4294967295 → result ≡ record {
+          shown = self.shown + 1;
+          refused = self.refused + (if is_refused then 1 else 0);
+        } }
+    {
         Counts {
             shown: self.shown.saturating_add(1),
             refused: self.refused.saturating_add(u32::from(is_refused)),

@@ -1,8 +1,10 @@
 //! The command `find`: the least number of moves within which each problem is won, with the verdict.
 ghost use Rattle.std.specs.Prelude.{◌≡◌, ℕ, List, false, IfOk};
 ghost use Rattle.std.specs.Io.KnownBytes.{Appends};
-ghost use Rattle.dw_desk.specs.Finding.{SaysFound};
-ghost use Rattle.dw_desk.specs.ProblemText.{AreTexts, IsProblemText};
+ghost use Rattle.dw_desk.specs.Finding.{CountsAs, IsFindOf, SaysFound, is_open};
+ghost use Rattle.dw_desk.specs.ProblemText.{IsProblemText, IsReport};
+ghost use Rattle.dw_desk.specs.inner.Choosing.{AreToCome};
+ghost use Rattle.dw_games.specs.Games.{NumberedGame, problem_of};
 ghost use Rattle.dw_notation.specs.Problems.{Numbered, numbered};
 ghost use Rattle.dw_study.specs.Finding.{IsFinding};
 ghost use Rattle.dw_study.specs.Telling.{told_by};
@@ -13,11 +15,11 @@ use crate::json::{found_row, json_line, refused_row};
 use crate::progress::Progress;
 use dw_board::{Board, Position, fen_text};
 use dw_desk_words::{FindWords, Request};
-use dw_notation::problems::MAX_PROBLEMS;
-use dw_notation::{Problem, Sink, Source, write_all};
+use dw_notation::{Problem, ProblemFault, Sink, Source, write_all};
 use dw_report::{problem_line, refusal_text};
 use dw_study::find::find;
 use dw_study::{FindBounds, Finding, Slices, found_text};
+use std::alloc::{AllocError, Global};
 
 /// Reports the chosen problems, each as soon as it is read.
 pub fn find_problems<B: Board, S: Source, K: Sink>(
@@ -29,15 +31,13 @@ pub fn find_problems<B: Board, S: Source, K: Sink>(
     sink: &mut K,
 ) -> Result<Counts, DeskFault>
     requires { K.is_failed sink.old ≡ false }
-    ensures { asked.now.json ≡ false → IfOk result (λ _. (problems : List Numbered) × (text : List ℕ)
-        × AreTexts (IsProblemText B.geometry (SaysFound B.geometry asked.now.most)) problems text
+    ensures { IfOk result (λ counts. (games : List NumberedGame) × (text : List ℕ)
+        × AreToCome B.geometry S.coming S.has_ended chosen.old games
+        × IsReport (λ game. IsFindOf B.geometry asked.now.json asked.now.most (problem_of game)) games counts text
         × Appends (K.taken sink.old) (K.taken sink.new) text) }
 {
     let mut counts = Counts::default();
-    'problems: for _ in 0..MAX_PROBLEMS + 1 {
-        let Some(game) = chosen.next()? else {
-            break;
-        };
+    'games: while let Some(game) = chosen.next()? {
         counts = counts.with(report(desk, slices, request, asked, &game.problem, sink)?);
     }
     Ok(counts)
@@ -53,8 +53,8 @@ fn report<B: Board, K: Sink>(
     sink: &mut K,
 ) -> Result<bool, DeskFault>
     requires { K.is_failed sink.old ≡ false }
-    ensures words { asked.now.json ≡ false → IfOk result (λ _. (text : List ℕ)
-        × IsProblemText B.geometry (SaysFound B.geometry asked.now.most) (numbered problem.now) text
+    ensures text { IfOk result (λ refused. (text : List ℕ)
+        × IsFindOf B.geometry asked.now.json asked.now.most (numbered problem.now) refused text
         × Appends (K.taken sink.old) (K.taken sink.new) text) }
     ensures works { IfOk result (λ _. K.is_failed sink.new ≡ false) }
 {
@@ -75,8 +75,8 @@ fn report_in_words<B: Board, K: Sink>(
     sink: &mut K,
 ) -> Result<bool, DeskFault>
     requires { K.is_failed sink.old ≡ false }
-    ensures text { IfOk result (λ _. (text : List ℕ)
-        × IsProblemText B.geometry (SaysFound B.geometry asked.now.most) (numbered problem.now) text
+    ensures text { IfOk result (λ refused. (text : List ℕ)
+        × IsProblemText B.geometry (SaysFound B.geometry asked.now.most) (numbered problem.now) refused text
         × Appends (K.taken sink.old) (K.taken sink.new) text) }
     ensures works { IfOk result (λ _. K.is_failed sink.new ≡ false) }
 {
@@ -100,30 +100,60 @@ fn report_in_json<B: Board, K: Sink>(
     sink: &mut K,
 ) -> Result<bool, DeskFault>
     requires { K.is_failed sink.old ≡ false }
-    ensures { IfOk result (λ _. K.is_failed sink.new ≡ false) }
+    ensures text { IfOk result (λ refused. CountsAs B.geometry asked.now.most problem.now.found refused
+        × (text : List ℕ) × Appends (K.taken sink.old) (K.taken sink.new) text) }
+    ensures works { IfOk result (λ _. K.is_failed sink.new ≡ false) }
+{
+    let (line, is_refused) = json_of(desk, slices, request, asked, problem)?;
+    write_all(sink, line.as_str().as_bytes())?;
+    Ok(is_refused)
+}
+
+/// The line of JSON of one problem, and whether it was refused or stayed undecided.
+fn json_of<B: Board>(
+    desk: &mut Desk<B>,
+    slices: &mut Slices<Progress<'_>>,
+    request: &Request<'_>,
+    asked: &FindWords,
+    problem: &Problem<B>,
+) -> Result<(String, bool), DeskFault>
+    ensures { IfOk result (λ told. CountsAs B.geometry asked.now.most problem.now.found told.1) }
 {
     let number = problem.number;
-    let (line, is_open) = match &problem.found {
+    match &problem.found {
         Ok(position) => {
             let finding = search(desk, slices, request, asked, number, position)?;
-            let fen = fen_text(position);
-            let row = found_row(desk.alloc, number, fen.as_str(), position, &finding)?;
-            (json_line(desk.alloc, &row)?, is_undecided(&finding))
+            let line = found_line(desk.alloc, number, position, &finding)?;
+            Ok((line, is_undecided(&finding)))
         }
-        Err(fault) => {
-            let why = refusal_text(*fault);
-            (
-                json_line(desk.alloc, &refused_row(number, why.as_str()))?,
-                true,
-            )
-        }
-    };
-    write_all(sink, line.as_str().as_bytes())?;
-    Ok(is_open)
+        Err(fault) => Ok((refused_line(desk.alloc, number, *fault)?, true)),
+    }
+}
+
+/// What was found of a problem, as a line of JSON.
+fn found_line<B: Board>(
+    alloc: Global,
+    number: u32,
+    position: &Position<B>,
+    finding: &Finding<B>,
+) -> Result<String, AllocError>
+    requires { (most : ℕ) × IsFinding B.geometry position.now most (told_by finding.now) }
+{
+    let fen = fen_text(position);
+    let row = found_row(alloc, number, fen.as_str(), position, finding)?;
+    json_line(alloc, &row)
+}
+
+/// Why a problem is refused, as a line of JSON.
+fn refused_line(alloc: Global, number: u32, fault: ProblemFault) -> Result<String, AllocError> {
+    let why = refusal_text(fault);
+    json_line(alloc, &refused_row(number, why.as_str()))
 }
 
 /// Whether the number of moves is not known.
-fn is_undecided<B: Board>(finding: &Finding<B>) -> bool {
+fn is_undecided<B: Board>(finding: &Finding<B>) -> bool
+    ensures { result ≡ is_open (told_by finding.now) }
+{
     matches!(finding, Finding::Undecided { .. })
 }
 

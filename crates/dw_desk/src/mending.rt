@@ -1,8 +1,12 @@
 //! The command `mend`: the sound problems that are one change away from a problem.
-ghost use Rattle.std.specs.Prelude.{◌≡◌, ◌≤◌, ℕ, List, false, IfOk};
+ghost use Rattle.std.specs.Prelude.{◌≡◌, ◌==◌, ◌≤◌, if◌then◌else◌, ℕ, Bool, List, Option, false, not, IfOk};
 ghost use Rattle.std.specs.Io.KnownBytes.{Appends};
-ghost use Rattle.dw_desk.specs.Mending.{SaysMended};
-ghost use Rattle.dw_desk.specs.ProblemText.{IsProblemText, IsTextOrNothing};
+ghost use Rattle.dw_desk.specs.Mending.{IsMendOf};
+ghost use Rattle.dw_desk.specs.ProblemText.{IsReportOnOne};
+ghost use Rattle.dw_desk.specs.declared.ending.Ending.TheVariants.{Done, Refused};
+ghost use Rattle.dw_desk.specs.Chosen.{HandsOut};
+ghost use Rattle.dw_desk.specs.inner.Choosing.{AreToCome};
+ghost use Rattle.dw_games.specs.Games.{NumberedGame, problem_of};
 ghost use Rattle.dw_notation.specs.Problems.{numbered};
 
 use crate::chosen::Chosen;
@@ -36,9 +40,11 @@ pub fn mend_problem<T, B: Board, S: Source, K: Sink>(
     sink: &mut K,
 ) -> Result<Ending<T>, DeskFault>
     requires { K.is_failed sink.old ≡ false }
-    ensures { IfOk result (λ _. (text : List ℕ)
-        × IsTextOrNothing (IsProblemText B.geometry (SaysMended B.geometry asked.now.n asked.now.part asked.now.parts))
-        text
+    ensures { IfOk result (λ ending. (next : Option NumberedGame) × (text : List ℕ)
+        × HandsOut (AreToCome B.geometry S.coming S.has_ended chosen.old)
+        (AreToCome B.geometry S.coming S.has_ended chosen.new) next
+        × IsReportOnOne (λ game. IsMendOf B.geometry asked.now.n asked.now.part asked.now.parts (problem_of game))
+        chosen.old.portion.first next ending text
         × Appends (K.taken sink.old) (K.taken sink.new) text) }
 {
     match chosen.next()? {
@@ -56,10 +62,9 @@ fn write_neighbours<T, B: Board, K: Sink>(
     sink: &mut K,
 ) -> Result<Ending<T>, DeskFault>
     requires { K.is_failed sink.old ≡ false }
-    ensures { IfOk result (λ _. (text : List ℕ)
-        × IsProblemText B.geometry (SaysMended B.geometry asked.now.n asked.now.part asked.now.parts)
-        (numbered problem.now) text
-        × Appends (K.taken sink.old) (K.taken sink.new) text) }
+    ensures { IfOk result (λ ending. (refused : Bool) × (text : List ℕ)
+        × IsMendOf B.geometry asked.now.n asked.now.part asked.now.parts (numbered problem.now) refused text
+        × (ending ≡ (if refused then Refused else Done)) × Appends (K.taken sink.old) (K.taken sink.new) text) }
 {
     write_all(sink, problem_line(problem).as_str().as_bytes())?;
     let Ok(position) = &problem.found else {
@@ -80,7 +85,9 @@ fn write_neighbours<T, B: Board, K: Sink>(
 }
 
 /// How the command ends: as with a refused problem, if a neighbour stays undecided.
-fn ending_with<T>(mended: &Mended) -> Ending<T> {
+fn ending_with<T>(mended: &Mended) -> Ending<T>
+    ensures { result ≡ (if not (mended.now.undecided == 0) then Refused else Done) }
+{
     if mended.undecided == 0 {
         Ending::Done
     } else {

@@ -5,7 +5,8 @@ ghost use Rattle.std.specs.List.{flat_map};
 ghost use Rattle.std.specs.String.{string_bytes};
 ghost use Rattle.dw_desk.specs.Solving.{AreWrittenTags, IsGameOf, IsSolution, new_lines, own_line};
 ghost use Rattle.dw_desk.specs.Solving as of;
-ghost use Rattle.dw_desk.specs.ProblemText.{AreTexts};
+ghost use Rattle.dw_desk.specs.ProblemText.{IsReport};
+ghost use Rattle.dw_desk.specs.inner.Choosing.{AreToCome};
 ghost use Rattle.dw_games.specs.GameReading.{numbered_game};
 ghost use Rattle.dw_games.specs.Games.{NumberedGame};
 ghost use Rattle.dw_games.specs.TagRows.{tag_text};
@@ -19,7 +20,6 @@ use dw_board::{Board, Position, fen_text};
 use dw_desk_words::SolutionWords;
 use dw_games::Game;
 use dw_games::tags::{Tag, read_tags};
-use dw_notation::problems::MAX_PROBLEMS;
 use dw_notation::{ProblemFault, Sink, Source, write_all};
 use dw_report::{Verdict, refusal_text};
 use dw_solution::movetext::movetext;
@@ -37,15 +37,13 @@ pub fn solve_problems<B: Board, S: Source, K: Sink>(
     sink: &mut K,
 ) -> Result<Counts, DeskFault>
     requires { K.is_failed sink.old ≡ false }
-    ensures { IfOk result (λ _. (games : List NumberedGame) × (text : List ℕ)
-        × AreTexts (IsGameOf B.geometry asked.now.n asked.now.lines) games text
+    ensures { IfOk result (λ counts. (games : List NumberedGame) × (text : List ℕ)
+        × AreToCome B.geometry S.coming S.has_ended chosen.old games
+        × IsReport (IsGameOf B.geometry asked.now.n asked.now.lines) games counts text
         × Appends (K.taken sink.old) (K.taken sink.new) text) }
 {
     let mut counts = Counts::default();
-    'games: for _ in 0..MAX_PROBLEMS + 1 {
-        let Some(game) = chosen.next()? else {
-            break;
-        };
+    'games: while let Some(game) = chosen.next()? {
         counts = counts.with(write_game(desk, slices, asked, &game, sink)?);
     }
     Ok(counts)
@@ -60,8 +58,8 @@ fn write_game<B: Board, K: Sink>(
     sink: &mut K,
 ) -> Result<bool, DeskFault>
     requires { K.is_failed sink.old ≡ false }
-    ensures text { IfOk result (λ _. (text : List ℕ)
-        × IsGameOf B.geometry asked.now.n asked.now.lines (numbered_game game.now) text
+    ensures text { IfOk result (λ refused. (text : List ℕ)
+        × IsGameOf B.geometry asked.now.n asked.now.lines (numbered_game game.now) refused text
         × Appends (K.taken sink.old) (K.taken sink.new) text) }
     ensures works { IfOk result (λ _. K.is_failed sink.new ≡ false) }
 {

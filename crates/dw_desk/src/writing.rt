@@ -1,9 +1,12 @@
 //! The command `token`: a line of play as a token.
-ghost use Rattle.std.specs.Prelude.{◌≡◌, ◌⊎◌, ℕ, List, Ok, false};
+ghost use Rattle.std.specs.Prelude.{◌≡◌, ◌⊎◌, ℕ, List, Ok, Some, false};
 ghost use Rattle.std.specs.Io.KnownBytes.{Appends};
 ghost use Rattle.dw_board.specs.Placement.{Placement};
 ghost use Rattle.dw_desk.specs.Writing.{IsTokenOf};
 ghost use Rattle.dw_desk.specs.declared.ending.Ending.TheVariants.{Done};
+ghost use Rattle.dw_desk.specs.Chosen.{HandsOut};
+ghost use Rattle.dw_desk.specs.inner.Choosing.{AreToCome};
+ghost use Rattle.dw_games.specs.Games.{NumberedGame};
 
 use crate::chosen::Chosen;
 use crate::desk::DeskFault;
@@ -25,7 +28,10 @@ pub fn write_line<T, B: Board, S: Source, K: Sink>(
 ) -> Result<Ending<T>, DeskFault>
     requires rows { (B.geometry.rows ≡ 10) ⊎ (B.geometry.rows ≡ 8) }
     requires sink { K.is_failed sink.old ≡ false }
-    ensures { result ≡ Ok Done → (p : Placement) × (text : List ℕ) × IsTokenOf B.geometry line.now p text
+    ensures { result ≡ Ok Done → (game : NumberedGame) × (p : Placement) × (text : List ℕ)
+        × HandsOut (AreToCome B.geometry S.coming S.has_ended chosen.old)
+        (AreToCome B.geometry S.coming S.has_ended chosen.new) (Some game)
+        × (game.said.found ≡ Ok p) × IsTokenOf B.geometry line.now p text
         × Appends (K.taken sink.old) (K.taken sink.new) text }
 {
     let Some(game) = chosen.next()? else {

@@ -1,5 +1,6 @@
 -- The first fault of a movetext, by the grammar: what may stand behind the tokens before it, and does not.
-use Rattle.std.specs.Prelude.{◌≡◌, ◌≢◌, ◌⊎◌, ℕ, ◌+◌, ◌<◌, ◌≤◌, true, Result, Ok, Err, List, [], ◌∷◌, ◌++◌, length}
+use Rattle.std.specs.Prelude.{◌≡◌, ◌≢◌, ◌⊎◌, ℕ, ◌+◌, ◌<◌, ◌≤◌, true, Result, Ok, Err, List, [], ◌∷◌, ◌++◌, codes}
+use Rattle.std.specs.Prelude.{length}
 use Rattle.std.proofs.Common.{zero, suc}
 use Rattle.dw_board.specs.Geometry.{Geometry}
 use Rattle.dw_board.specs.Placement.{Placement}
@@ -31,6 +32,19 @@ number_of TooDeep = 7
 number_of TooLong = 8
 number_of TooLarge = 9
 number_of Empty = 10
+
+-- the name of a fault
+abbrev pub name_of : MovetextFaultKind → List ℕ
+name_of NoToken = codes "token"
+name_of NoSuchMove = codes "no such move"
+name_of Ambiguous = codes "ambiguous"
+name_of Variation = codes "variation"
+name_of Unclosed = codes "unclosed"
+name_of Rest = codes "rest"
+name_of TooDeep = codes "too deep"
+name_of TooLong = codes "too long"
+name_of TooLarge = codes "too large"
+name_of Empty = codes "empty"
 
 -- After these tokens no result stands yet: the innermost of the variations that are open begins after the moves
 -- before, and has these moves. So many more may be open in it.

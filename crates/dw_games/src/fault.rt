@@ -1,7 +1,7 @@
 //! Why a text is no movetext, or no written line.
 ghost use Rattle.std.specs.Prelude.{◌≡◌};
 ghost use Rattle.dw_games.specs.declared.fault.MovetextFault.TheVariants.{Memory};
-ghost use Rattle.dw_games.specs.Faults.{number_of};
+ghost use Rattle.dw_games.specs.Faults.{name_of, number_of};
 ghost use Rattle.dw_games.specs.Lines.{line_number_of, line_fault_of};
 
 use std::alloc::AllocError;
@@ -55,7 +55,10 @@ impl MovetextFaultKind {
     }
 
     /// Its name in texts.
-    fn name(self) -> &'static str {
+    /// Example: of `MovetextFaultKind::NoSuchMove` it is `no such move`.
+    pub fn name(self) -> &'static str
+        ensures { result.now ≡ name_of self }
+    {
         match self {
             MovetextFaultKind::Token => "token",
             MovetextFaultKind::NoSuchMove => "no such move",

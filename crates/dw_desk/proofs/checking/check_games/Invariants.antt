@@ -1,13 +1,20 @@
-use Rattle.std.proofs.Common.{◌≡◌, ℕ, List, false}
-use Rattle.std.specs.Io.KnownBytes.{Appends}
-use Rattle.dw_games.specs.Games.{NumberedGame}
+use Rattle.std.proofs.Common.{◌≡◌, false}
 use Rattle.dw_desk.specs.Checking.{IsCheckOf}
-use Rattle.dw_desk.specs.ProblemText.{AreTexts}
+use Rattle.dw_desk.specs.inner.Choosing.{AreToCome}
+use Rattle.dw_desk.proofs.ReportLemmas.{SoFar}
 use Rattle.dw_desk.proofs.checking.check_games.Given as goal
 
 abbrev pub invariant-games : goal.invariant-games
-invariant-games g l = record {
-  texts : (games : List NumberedGame) × (text : List ℕ) × AreTexts (IsCheckOf g.B.Board.geometry l.n) games text
-      × Appends (g.K.Sink.taken l.initial.sink) (g.K.Sink.taken l.sink) text;
-  works : g.K.Sink.is_failed l.sink ≡ false;
-}
+invariant-games g l =
+    let geo = g.B.Board.geometry in
+    let source = g.S.Source in
+    record {
+      so_far : SoFar (IsCheckOf geo l.n)
+          (AreToCome geo source.coming source.has_ended l.initial.chosen)
+          (AreToCome geo source.coming source.has_ended l.chosen) l.counts
+          (g.K.Sink.taken l.initial.sink) (g.K.Sink.taken l.sink);
+      works : g.K.Sink.is_failed l.sink ≡ false;
+    }
+
+abbrev pub decreases-games : goal.decreases-games
+decreases-games g l = l.chosen.left

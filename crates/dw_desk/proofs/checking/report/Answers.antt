@@ -1,4 +1,4 @@
-use Rattle.std.proofs.Common.{◌∙◌, Err, inl, inr, subst}
+use Rattle.std.proofs.Common.{◌∙◌, Err, inl, inr, true, refl, subst}
 use Rattle.std.specs.Io.KnownBytes.{Appends}
 use Rattle.std.specs.String.{string_bytes}
 use Rattle.dw_games.specs.Faults.{IsAnswer, IsFirstFault}
@@ -17,7 +17,7 @@ returns-in_ok-fails-in-Ok-read_movetext-clause-text g c =
     let game = c.args.game.now in
     let p = c.in-Ok.position in
     let new = c.in_ok-fails-in-Ok-read_movetext.ensures.text in
-    line_and_more geo (SaysChecked geo c.args.n game.movetext.items) (problem_of (numbered_game game)) p new.0
+    line_and_more geo (SaysChecked geo c.args.n game.movetext.items) (problem_of (numbered_game game)) p _ new.0
     (taken c.args.sink.now) (taken c.write_all.new.sink) (taken c.write_checked.new.sink) c.in-Ok.is
     (inl (
       c.in-Ok-read_movetext.tree,
@@ -40,7 +40,8 @@ returns-in_ok-write_all-in-Err-Refused-clause-text g c =
     let place = c.in-Err-Refused.place in
     let line = string_bytes c.in_ok-line-in-Err-Refused.line in
     line_and_more geo (SaysChecked geo c.args.n game.movetext.items) (problem_of (numbered_game game)) p
-    line (taken c.args.sink.now) (taken c.write_all.new.sink) (taken c.write_all-in-Err-Refused.new.sink) c.in-Ok.is
+    true line (taken c.args.sink.now) (taken c.write_all.new.sink) (taken c.write_all-in-Err-Refused.new.sink)
+    c.in-Ok.is
     (inr (
       what,
       place,
@@ -48,6 +49,7 @@ returns-in_ok-write_all-in-Err-Refused-clause-text g c =
           (subst (λ z. IsAnswer geo p c.as_slice.result.now (Err z)) c.in-Err-Refused.field-0-is
           c.in-Err-Refused.ensures),
       refused_same line c.in-Err-Refused.what-is c.in-Err-Refused.place-is c.in_ok-line-in-Err-Refused.ensures,
+      refl,
     ))
     (subst (Appends (taken c.args.sink.now) (taken c.write_all.new.sink))
     (c.as_bytes.ensures.value ∙ (c.as_str.ensures.value ∙ c.problem_line.ensures)) c.in_ok-write_all.ensures.ok)

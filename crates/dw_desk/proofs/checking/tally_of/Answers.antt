@@ -1,6 +1,7 @@
-use Rattle.std.proofs.Common.{◌∙◌, ◌+◌, [], ap, sym, take}
+use Rattle.std.proofs.Common.{◌∙◌, ◌+◌, ap, sym, take}
 use Rattle.dw_study.specs.Telling.{remark_in}
-use Rattle.dw_desk.specs.Checking.{counted, one_more}
+use Rattle.dw_desk.specs.Checking.{counted}
+use Rattle.dw_desk.specs.inner.Tallies.{one_more}
 use Rattle.dw_desk.proofs.CheckingLemmas.{all_said, counted_next, says_at}
 use Rattle.dw_desk.proofs.checking.tally_of.Goals as goal
 
@@ -13,7 +14,7 @@ remarks-preserved g c =
           c.remark-item.is in
           c.with-tally.ensures.counts tree at.this at.says
           ∙ (ap (one_more at.this) (c.remarks.invariant.counts tree said e)
-          ∙ (sym (counted_next (counted []) (take i said) at.this) ∙ ap counted (sym at.next)));
+          ∙ (sym (counted_next (take i said) at.this) ∙ ap counted (sym at.next)));
       total = c.with-tally.ensures.total ∙ ap (λ z. z + 1) c.remarks.invariant.total;
     }
 

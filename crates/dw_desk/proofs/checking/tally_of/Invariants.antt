@@ -1,4 +1,4 @@
-use Rattle.std.proofs.Common.{◌≡◌, ℕ, List, Some, map, take}
+use Rattle.std.proofs.Common.{◌≡◌, List, Some, map, take}
 use Rattle.dw_moves.specs.Moves.{Move}
 use Rattle.dw_study.specs.Remarks.{Remark}
 use Rattle.dw_study.specs.Telling.{remark_in}

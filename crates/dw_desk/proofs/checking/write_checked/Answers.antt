@@ -1,10 +1,10 @@
-use Rattle.std.proofs.Common.{◌≡◌, ◌∙◌, ◌++◌, inl, inr, map, refl, sym, ap, subst, Some}
+use Rattle.std.proofs.Common.{◌≡◌, ◌∙◌, ◌++◌, inl, inr, map, not, refl, sym, ap, subst, Some}
 use Rattle.std.proofs.lemmas.Bool.{cases_Bool, true≢false}
 use Rattle.std.specs.Io.KnownBytes.{Appends}
 use Rattle.std.specs.String.{string_bytes}
 use Rattle.std.proofs.KnownBytes.{Appends-trans}
 use Rattle.dw_study.specs.Telling.{remark_in}
-use Rattle.dw_desk.specs.Checking.{IsWinLine, counted, last_line}
+use Rattle.dw_desk.specs.Checking.{IsWinLine, counted, holds, last_line}
 use Rattle.dw_desk.proofs.checking.write_checked.Goals as goal
 
 pub returns-clause-text : goal.returns-clause-text
@@ -30,7 +30,16 @@ returns-clause-text g c =
     ] in
     let last = last_line n (counted said.0) in (
       line ++ (told.0 ++ last),
-      record { remarks = said.0; are = said.2; line = line; win = win; told = told.0; texts = told.1; is = refl },
+      record {
+        remarks = said.0;
+        are = said.2;
+        line = line;
+        win = win;
+        told = told.0;
+        texts = told.1;
+        is = refl;
+        counts = ap not (c.holds.ensures ∙ ap holds (c.tally_of-tally.ensures tree said.0 same));
+      },
       Appends-trans start first third line (told.0 ++ last)
           (subst (Appends start first) (c.as_bytes.ensures.value ∙ c.as_str.ensures.value) c.in_ok-write_all.ensures.ok)
           (Appends-trans first second third told.0 last told.2

@@ -1,14 +1,21 @@
-use Rattle.std.proofs.Common.{◌≡◌, ℕ, List, false}
-use Rattle.std.specs.Io.KnownBytes.{Appends}
-use Rattle.dw_notation.specs.Problems.{Numbered}
-use Rattle.dw_desk.specs.Finding.{SaysFound}
-use Rattle.dw_desk.specs.ProblemText.{AreTexts, IsProblemText}
+use Rattle.std.proofs.Common.{◌≡◌, false}
+use Rattle.dw_desk.specs.Finding.{IsFindOf}
+use Rattle.dw_games.specs.Games.{problem_of}
+use Rattle.dw_desk.specs.inner.Choosing.{AreToCome}
+use Rattle.dw_desk.proofs.ReportLemmas.{SoFar}
 use Rattle.dw_desk.proofs.finding.find_problems.Given as goal
 
-abbrev pub invariant-problems : goal.invariant-problems
-invariant-problems g l = record {
-  texts : l.asked.json ≡ false → (problems : List Numbered) × (text : List ℕ)
-      × AreTexts (IsProblemText g.B.Board.geometry (SaysFound g.B.Board.geometry l.asked.most)) problems text
-      × Appends (g.K.Sink.taken l.initial.sink) (g.K.Sink.taken l.sink) text;
-  works : g.K.Sink.is_failed l.sink ≡ false;
-}
+abbrev pub invariant-games : goal.invariant-games
+invariant-games g l =
+    let geo = g.B.Board.geometry in
+    let source = g.S.Source in
+    record {
+      so_far : SoFar (λ game. IsFindOf geo l.asked.json l.asked.most (problem_of game))
+          (AreToCome geo source.coming source.has_ended l.initial.chosen)
+          (AreToCome geo source.coming source.has_ended l.chosen) l.counts
+          (g.K.Sink.taken l.initial.sink) (g.K.Sink.taken l.sink);
+      works : g.K.Sink.is_failed l.sink ≡ false;
+    }
+
+abbrev pub decreases-games : goal.decreases-games
+decreases-games g l = l.chosen.left

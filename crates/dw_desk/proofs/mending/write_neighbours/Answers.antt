@@ -1,4 +1,4 @@
-use Rattle.std.proofs.Common.{◌∙◌, subst}
+use Rattle.std.proofs.Common.{◌∙◌, ◌==◌, not, refl, subst}
 use Rattle.std.specs.Io.KnownBytes.{Appends}
 use Rattle.dw_notation.specs.Problems.{numbered}
 use Rattle.dw_desk.specs.Mending.{SaysMended}
@@ -12,9 +12,11 @@ returns g c =
     let asked = c.args.asked.now in
     let mended = c.in_ok-mended.field-0 in
     let text = c.in_ok-mended.ensures.text in
-    line_and_more geo (SaysMended geo asked.n asked.part asked.parts) (numbered c.args.problem.now) c.in-Ok.position text.0
-    (taken c.args.sink.now) (taken c.write_all.new.sink) (taken c.mend-mended.new.sink)
-    c.in-Ok.is (mended.all, mended.sound, mended.undecided, text.1)
+    let refused = not (mended.undecided == 0) in
+    let whole = line_and_more geo (SaysMended geo asked.n asked.part asked.parts) (numbered c.args.problem.now)
+    c.in-Ok.position refused text.0 (taken c.args.sink.now) (taken c.write_all.new.sink) (taken c.mend-mended.new.sink)
+    c.in-Ok.is (mended.all, mended.sound, mended.undecided, text.1, refl)
     (subst (Appends (taken c.args.sink.now) (taken c.write_all.new.sink))
     (c.as_bytes.ensures.value ∙ (c.as_str.ensures.value ∙ c.problem_line.ensures)) c.in_ok-write_all.ensures.ok)
-    text.2
+    text.2 in
+    (refused, whole.0, whole.1, c.ending_with.ensures, whole.2)

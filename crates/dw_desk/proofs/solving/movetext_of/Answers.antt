@@ -4,7 +4,6 @@ use Rattle.std.proofs.lemmas.Bool.{cases_lt, le-ltb, lt-ltb, true≢false}
 use Rattle.dw_report.specs.Judging.{said_by}
 use Rattle.dw_solution.specs.Movetext.{IsMovetext}
 use Rattle.dw_solution.specs.declared.heading.Heading.{Heading}
-use Rattle.dw_desk.specs.Solving.{kind_of}
 use Rattle.dw_desk.proofs.solving.movetext_of.Goals as goal
 
 -- an answer is the test that it answers

@@ -1,14 +1,20 @@
-use Rattle.std.proofs.Common.{◌≡◌, ℕ, List, false}
-use Rattle.std.specs.Io.KnownBytes.{Appends}
-use Rattle.dw_games.specs.Games.{NumberedGame}
-use Rattle.dw_desk.specs.ProblemText.{AreTexts}
+use Rattle.std.proofs.Common.{◌≡◌, false}
 use Rattle.dw_desk.specs.Solving.{IsGameOf}
+use Rattle.dw_desk.specs.inner.Choosing.{AreToCome}
+use Rattle.dw_desk.proofs.ReportLemmas.{SoFar}
 use Rattle.dw_desk.proofs.solving.solve_problems.Given as goal
 
 abbrev pub invariant-games : goal.invariant-games
-invariant-games g l = record {
-  texts : (games : List NumberedGame) × (text : List ℕ)
-      × AreTexts (IsGameOf g.B.Board.geometry l.asked.n l.asked.lines) games text
-      × Appends (g.K.Sink.taken l.initial.sink) (g.K.Sink.taken l.sink) text;
-  works : g.K.Sink.is_failed l.sink ≡ false;
-}
+invariant-games g l =
+    let geo = g.B.Board.geometry in
+    let source = g.S.Source in
+    record {
+      so_far : SoFar (IsGameOf geo l.asked.n l.asked.lines)
+          (AreToCome geo source.coming source.has_ended l.initial.chosen)
+          (AreToCome geo source.coming source.has_ended l.chosen) l.counts
+          (g.K.Sink.taken l.initial.sink) (g.K.Sink.taken l.sink);
+      works : g.K.Sink.is_failed l.sink ≡ false;
+    }
+
+abbrev pub decreases-games : goal.decreases-games
+decreases-games g l = l.chosen.left

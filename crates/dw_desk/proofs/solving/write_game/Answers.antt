@@ -1,4 +1,4 @@
-use Rattle.std.proofs.Common.{◌++◌, codes, refl, sym, subst}
+use Rattle.std.proofs.Common.{◌++◌, codes, false, refl, sym, subst}
 use Rattle.std.specs.Io.KnownBytes.{Appends}
 use Rattle.std.proofs.KnownBytes.{Appends-trans}
 use Rattle.dw_desk.specs.Solving.{AreWrittenTags, IsGameFor}
@@ -19,12 +19,15 @@ returns-in_ok-write_all-in-Ok-2-clause-text g c =
     let end = codes "\n\n" in
     let text = tags.0 ++ (movetext ++ end) in (
       text,
-      subst (λ z. IsGameFor geo asked.n asked.lines game.problem.number z game.tags.items text) (sym c.in-Ok.is) (
-        tags.0,
-        movetext,
-        subst (λ z. AreWrittenTags geo c.in-Ok.position z tags.0) c.as_slice.ensures.value tags.1,
-        c.in_ok-text-in-Ok.ensures,
+      subst (λ z. IsGameFor geo asked.n asked.lines game.problem.number z game.tags.items false text) (sym c.in-Ok.is) (
         refl,
+        (
+          tags.0,
+          movetext,
+          subst (λ z. AreWrittenTags geo c.in-Ok.position z tags.0) c.as_slice.ensures.value tags.1,
+          c.in_ok-text-in-Ok.ensures,
+          refl,
+        ),
       ),
       Appends-trans start first last tags.0 (movetext ++ end) tags.2
           (Appends-trans first second last movetext end
