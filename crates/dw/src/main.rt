@@ -11,10 +11,9 @@ use arrayvec::ArrayVec;
 use clap::ArgMatches;
 use dw_board::{Board, Eight, Ten};
 use dw_list::read_token;
-use dw_memo::AnyMemo;
 use dw_moves::Move;
 use dw_notation::MAX_MOVES;
-use dw_program::{BoardSize, Unread, memo_of, why_unread, words_given};
+use dw_program::{BoardSize, Lasting, Unread, memo_of, why_unread, words_given};
 use dw_report::run::run;
 use dw_report::streams::{Reading, Writing};
 use dw_report::{RunFault, Settings, Summary};
@@ -106,7 +105,7 @@ fn report_with<B: Board>(
     rt: &HostRuntime,
     request: &Request<'_>,
     settings: &Settings<B>,
-    memo: AnyMemo<B>,
+    memo: Lasting<B>,
 ) -> ExitCode
     requires empty { content_of memo ≡ [] }
     requires some { 1 ≤ settings.now.n }
@@ -130,7 +129,7 @@ fn report_on<B: Board>(
     rt: &HostRuntime,
     reader: &mut dyn Read,
     settings: &Settings<B>,
-    memo: AnyMemo<B>,
+    memo: Lasting<B>,
 ) -> Result<Summary, RunFault>
     requires empty { content_of memo ≡ [] }
     requires some { 1 ≤ settings.now.n }

@@ -14,10 +14,9 @@ use crate::ending::Ending;
 use crate::progress::Progress;
 use dw_board::{Board, Position};
 use dw_certificate::{CertificateFault, certificate_text, certify};
-use dw_memo::AnyMemo;
 use dw_notation::{Problem, Sink, Source, write_all};
 use dw_program::options::MOST_MOVES;
-use dw_program::{MemoKind, memo_of};
+use dw_program::{Lasting, MemoKind, memo_of};
 use dw_report::{RunFault, Stop, problem_line};
 use dw_solve::{ByTrial, Solver};
 use dw_study::{Slices, wins_in_slices};
@@ -101,7 +100,7 @@ fn text_of<B: Board>(
 }
 
 /// A solver that keeps nothing.
-fn unused_solver<B: Board>(alloc: Global) -> Result<Solver<B, AnyMemo<B>, ByTrial>, AllocError> {
+fn unused_solver<B: Board>(alloc: Global) -> Result<Solver<B, Lasting<B>, ByTrial>, AllocError> {
     let memo = memo_of(alloc, MemoKind::None, 1)?;
     Ok(Solver::new(memo, ByTrial, u64::MAX))
 }

@@ -14,9 +14,8 @@ use crate::writing::write_line;
 use dw_board::Board;
 use dw_desk_words::{Request, Task};
 use dw_games::GameFault;
-use dw_memo::AnyMemo;
 use dw_notation::{Form, ReadFault, WriteFault};
-use dw_program::memo_of;
+use dw_program::{Lasting, memo_of};
 use dw_report::streams::{Reading, Writing};
 use dw_report::{RunFault, Stop};
 use dw_solve::{ByTrial, Solver};
@@ -117,7 +116,7 @@ impl From<WriteFault> for DeskFault {
 #[derive(Drop)]
 pub struct Desk<B: Board> {
     pub alloc: Global,
-    pub solver: Solver<B, AnyMemo<B>, ByTrial>,
+    pub solver: Solver<B, Lasting<B>, ByTrial>,
 }
 
 impl<B: Board> Desk<B> {
@@ -220,7 +219,7 @@ fn ending_of<T>(
 pub fn solver_of<B: Board>(
     alloc: Global,
     request: &Request<'_>,
-) -> Result<Solver<B, AnyMemo<B>, ByTrial>, AllocError> {
+) -> Result<Solver<B, Lasting<B>, ByTrial>, AllocError> {
     let memo = memo_of(alloc, request.memo, request.cache)?;
     Ok(Solver::new(memo, ByTrial, u64::MAX))
 }

@@ -2,6 +2,7 @@
 ghost use Rattle.std.specs.Prelude.{◌≡◌, ◌≤◌, [], IfOk};
 ghost use Rattle.dw_memo.specs.Choice.{content_of};
 
+use crate::lasting::Lasting;
 use dw_board::Board;
 use dw_memo::{AnyMemo, DeepMemo, LruMemo, NoMemo, SlotMemo};
 use std::alloc::{AllocError, Global};
@@ -64,7 +65,7 @@ pub fn memo_of<B: Board>(
     alloc: Global,
     kind: MemoKind,
     cache: usize,
-) -> Result<AnyMemo<B>, AllocError>
+) -> Result<Lasting<B>, AllocError>
     requires some { 1 ≤ cache }
     requires few { cache ≤ 4_000_000 }
     ensures { IfOk result (λ memo. content_of memo ≡ []) }
@@ -75,5 +76,5 @@ pub fn memo_of<B: Board>(
         MemoKind::Slots => AnyMemo::Slots(SlotMemo::new(alloc, cache)?),
         MemoKind::Deep => AnyMemo::Deep(DeepMemo::new(alloc, cache)?),
     };
-    Ok(memo)
+    Ok(Lasting::new(memo))
 }

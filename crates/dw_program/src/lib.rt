@@ -3,8 +3,10 @@
 #![tactic(auto)]
 
 pub mod choices;
+pub mod lasting;
 pub mod options;
 pub mod words;
 
 pub use choices::{BoardSize, MemoKind, memo_of};
+pub use lasting::Lasting;
 pub use words::{Unread, why_unread, words_given};
