@@ -43,7 +43,7 @@ class Check:
 CHECKS = [
     Check("judging", slow=("--count", "5000")),
     Check("desk", slow=("--count", "3000")),
-    Check("solutions", slow=("--count", "2000")),
+    Check("solutions", slow=("--count", "4500")),
     Check("games", slow=("--count", "2000")),
     Check("pages", slow=("--count", "1000")),
     Check("certificates", slow=("--count", "1000")),

@@ -2,7 +2,7 @@
 """Reads a certificate of dw-desk, from FILE or standard input, and says whether it is right.
 
 It knows the rules of the game and nothing of the programs: no search is made, and no other module is used. It writes
-`right`, status 0, or the first line that is not right, its number and why, status 1.
+`right`, status 0, or the first line that is not right, its number and why, status 1. Status 3: it can not be read.
 """
 
 import functools
@@ -44,7 +44,7 @@ class Board:
 
     def read(self, text, number):
         """The position of a FEN in the form that is written: White's pieces and Black's, by ascending squares."""
-        form = re.fullmatch(r'([WB]):W((?:K?\d+(?:,K?\d+)*)?):B((?:K?\d+(?:,K?\d+)*)?)', text)
+        form = re.fullmatch(r'([WB]):W((?:K?\d\d?(?:,K?\d\d?)*)?):B((?:K?\d\d?(?:,K?\d\d?)*)?)', text)
         if not form:
             raise Wrong(number, 'no position')
         pieces = {}
@@ -183,10 +183,12 @@ def main():
     if len(sys.argv) > 2 or sys.argv[1:2] in (['-h'], ['--help']):
         print('Usage: certificate.py [FILE]')
         return 2
-    with open(sys.argv[1], encoding='ascii') if len(sys.argv) == 2 else sys.stdin as stream:
-        text = stream.read()
     try:
-        check(text)
+        with open(sys.argv[1] if len(sys.argv) == 2 else 0, 'rb') as stream:
+            check(stream.read().decode('ascii', 'backslashreplace'))  # no form has a backslash
+    except OSError as fault:
+        print(f'certificate.py: {fault}', file=sys.stderr)
+        return 3
     except Wrong as wrong:
         print(f'line {wrong.args[0]}: {wrong.args[1]}')
         return 1

@@ -1,15 +1,20 @@
 #!/usr/bin/env python3
 """certificates.py: has certificate.py check the certificates that `dw-desk certify` writes, and refuse broken ones.
 
-    checks/certificates.py [--count POSITIONS]
+    checks/certificates.py [--count POSITIONS | --sizes]
 
 The problems of examples/ are certified within a few moves, and so many random small positions (100 on each board if not
 said) within 1 to 3: each certificate has to be right, and to answer as the recursion of wins.py does. Then lines are
 changed, doubled and left out: certificate.py has to refuse each of these, at the right line. At last come the faults
 of the command, with their statuses: nothing is written then.
+
+With --sizes it has the certificates of the forty problems of `dw_bench` checked, of a win and of none in a move less,
+and writes the table of their sizes in docs/BENCHMARKS.md.
 """
 import pathlib
 import random
+import re
+import statistics
 import subprocess
 import sys
 
@@ -49,6 +54,9 @@ BROKEN = [
     ("the other side", WHOLE, 6, ["B:W27,40:B21 fails - wins 1"], 5),
     ("a bound of 0", WHOLE, 6, ["W:W27,40:B21 fails - wins 0"], 6),
     ("a line of another form", WHOLE, 6, ["W:W27,40:B21 wins 1"], 6),
+    ("a byte that is not ASCII", WHOLE, 6, ["W:W27,40:B21 fails - wins 1\xff"], 6),
+    ("such a byte in the first line", WHOLE, 1, ["certificate\xff1"], 1),
+    ("a number of five thousand digits", WHOLE, 3, ["W:W27,45:B" + 5000 * "1"], 3),
     ("no win in more moves", NONE, 5, ["W:W27:B16 fails 2 wins -"], 5),
     ("a win that is none", NONE, 5, ["W:W27:B16 fails 1 wins 1"], 5),
 ]
@@ -66,13 +74,17 @@ def said_of(certificate):
 
 
 def check_right(words, text, answer=None):
-    """A problem's certificate is right, and has this answer, if one is given. Answers its number of lines."""
+    """A problem's certificate is right, and has this answer, if one is given. It is handed back."""
     ran = certify(words, text)
     assert (ran.returncode, ran.stderr) == (0, b""), (words, text, ran)
     assert said_of(ran.stdout) == ("right\n", 0), (words, text, said_of(ran.stdout))
     lines = ran.stdout.decode().splitlines()
     assert answer in (None, lines[3]), (words, text, answer, lines[3])
-    return len(lines) - 4
+    return ran.stdout
+
+
+def positions(certificate):
+    return certificate.count(b"\n") - 4
 
 
 def check_examples():
@@ -82,7 +94,7 @@ def check_examples():
         for number in range(1, len(text.splitlines()) + 1):
             ran = certify(["-n", str(n), "--problem", str(number)], text)
             if ran.returncode == 0:
-                rows += check_right(["-n", str(n), "--problem", str(number)], text)
+                rows += positions(check_right(["-n", str(n), "--problem", str(number)], text))
                 count += 1
             else:
                 assert ran.returncode == 1 and b"refused" in ran.stdout or ran.stderr.startswith(b"dw-desk: no "), ran
@@ -92,7 +104,7 @@ def check_examples():
 def check_random(rows, count):
     source = random.Random(SEED + rows)
     board = Board(rows)
-    wins, done, positions = 0, 0, 0
+    wins, done, lines = 0, 0, 0
     while done < count:
         cells, turn = drawn(source, board), source.choice("WB")
         n = source.randint(1, MOST)
@@ -104,10 +116,10 @@ def check_random(rows, count):
         if bool(least) != (done % 2 == 0):
             continue
         answer = f"win in {n}" if least else f"no win in {n}"
-        positions += check_right(["-n", str(n), "--board", str(rows)], fen(cells, turn) + "\n", answer)
+        lines += positions(check_right(["-n", str(n), "--board", str(rows)], fen(cells, turn) + "\n", answer))
         wins += bool(least)
         done += 1
-    print(f"board {rows}: {done} certificates are right, {wins} of wins, of {positions} positions", flush=True)
+    print(f"board {rows}: {done} certificates are right, {wins} of wins, of {lines} positions", flush=True)
 
 
 def check_broken():
@@ -118,9 +130,11 @@ def check_broken():
         assert (said, status) == (f"line {len(lines)}: it has no end\n", 1), said
     for what, lines, number, new, refused in BROKEN:
         text = "".join(line + "\n" for line in [*lines[:number - 1], *new, *lines[number:]])
-        said, status = said_of(text.encode())
+        said, status = said_of(text.encode("latin-1"))
         assert said.startswith(f"line {refused}: ") and status == 1, (what, said)
-    print(f"{len(BROKEN) + 2} broken certificates are refused", flush=True)
+    ran = subprocess.run([sys.executable, CHECKER, "/nowhere"], capture_output=True, timeout=300, check=False)
+    assert (ran.returncode, ran.stdout, ran.stderr.count(b"\n")) == (3, b"", 1) and b"/nowhere" in ran.stderr, ran
+    print(f"{len(BROKEN) + 2} broken certificates are refused, and a file that is not there", flush=True)
 
 
 def check_faults():
@@ -145,7 +159,24 @@ def check_faults():
     print("the faults of the command, and their statuses", flush=True)
 
 
+def print_sizes():
+    """The numbers of positions and bytes of the benchmark's certificates: the least, the middle and the greatest."""
+    code = "".join((TOP / "crates/dw_bench/src/problems.rt").read_text().split())
+    for n, block in re.findall(r"\((\d),\[(.*?)\]", code):
+        row = [n]
+        for within, answer in ((int(n), "win"), (int(n) - 1, "no win")):
+            made = [check_right(["-n", str(within), "--cache", "4000000"], problem + "\n", f"{answer} in {within}")
+                    for problem in re.findall('"(.*?)"', block)]
+            for sizes in (sorted(map(positions, made)), sorted(map(len, made))):
+                middle = int(statistics.median(sizes) + .5)
+                row.append(", ".join(f"{size:,}" for size in (sizes[0], middle, sizes[-1])))
+        print(f"| {' | '.join(row)} |", flush=True)
+
+
 def main():
+    if sys.argv[1:] == ["--sizes"]:
+        print_sizes()
+        return
     count = count_asked(100)
     check_broken()
     check_faults()

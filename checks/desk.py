@@ -199,11 +199,15 @@ def check_errors():
         assert run(DESK, *words, "--problem", "2", text="W:W32:B28\n", status=1,
                    complaint="dw-desk: no problem 2\n") == "", words
     run(DESK, "find", "/none/there", status=3, complaint="dw-desk: cannot open /none/there\n")
-    with open("/dev/full", "w", encoding="ascii") as full:
-        ran = subprocess.run([DESK, "find"], input=b"W:W32:B28\n", stdout=full, stderr=subprocess.PIPE, timeout=60,
-                             check=False)
-    assert (ran.returncode, ran.stderr) == (3, b"dw-desk: write failed\n"), ran
-    run(DESK, "find", "/", status=3, complaint="dw-desk: read failed\n")
+    text = b'[FEN "W:W32:B28"] 1. 32x23 *\n'
+    for words in (["find", "--pdn"], ["check"], ["solution", "--pdn", "-n", "1"], ["page", "--pdn", "-n", "1"],
+                  ["certify", "--pdn", "-n", "1"], ["mend", "--pdn", "-n", "1"],
+                  ["token", "--pdn", "--line", "32x23"]):
+        with open("/dev/full", "w", encoding="ascii") as full:
+            ran = subprocess.run([DESK, *words], input=text, stdout=full, stderr=subprocess.PIPE, timeout=60,
+                                 check=False)
+        assert (ran.returncode, ran.stderr) == (3, b"dw-desk: write failed\n"), (words, ran)
+        run(DESK, *words, "/", status=3, complaint="dw-desk: read failed\n")
     version = run(DW, "--version").replace("dw ", "dw-desk ")
     assert run(DESK, "--version") == version and "find" in run(DESK, "--help")
     pdn = '[Event "a"]\n[FEN "W:W27,45:B16"]\n\n1. 45-40 *\n\n[FEN "W:W32:B28"]\n'
@@ -236,10 +240,11 @@ def check_tokens(folder):
     print(f"lists go on behind each of {len(lines)} lines by its token; what is no line is refused")
 
 
-def at_terminal(words):
-    """What the program writes on standard error if that is a terminal."""
+def at_terminal(words, answers=False):
+    """What the program writes on standard error if that is a terminal, and with it its answers, if they are wanted."""
     reader, writer = pty.openpty()
-    with subprocess.Popen(words, stdin=subprocess.DEVNULL, stdout=subprocess.DEVNULL, stderr=writer) as process:
+    output = writer if answers else subprocess.DEVNULL
+    with subprocess.Popen(words, stdin=subprocess.DEVNULL, stdout=output, stderr=writer) as process:
         os.close(writer)
         said = b""
         while True:
@@ -270,6 +275,19 @@ def check_progress(folder):
     print(f"a search of {steps[-1]} positions and more: shown {len(steps)} times at a terminal, and taken away")
 
 
+def check_mending():
+    """The line that shows how far `mend` is grows with each neighbour, and stands before no answer."""
+    words = [DESK, "mend", "-n", "6", "--pdn", "--problem", "35", str(TOP / "examples" / "collection.pdn")]
+    answers = run(*words)
+    said = at_terminal(words, answers=True)
+    shown = r"problem 35: 6 moves, (\d+) positions"
+    steps = [int(number) for number in re.findall(shown, said)]
+    assert steps == sorted(set(steps)) and len(steps) >= 2, said
+    left = re.sub(rf"\r\x1b\[K({shown}(?=\r\x1b\[K))?", "", said)
+    assert left.replace("\r\n", "\n") == answers, said
+    print(f"mend at a terminal: {len(steps)} numbers of positions, and each answer in a line of its own")
+
+
 def main():
     count, source = count_asked(250), random.Random(SEED)
     with tempfile.TemporaryDirectory() as name:
@@ -279,6 +297,7 @@ def main():
         check_errors()
         check_tokens(pathlib.Path(name))
         check_progress(pathlib.Path(name))
+        check_mending()
 
 
 if __name__ == "__main__":

@@ -7,10 +7,11 @@ Each link of the pages has to lead to a file, and to a heading of it, and each f
 there has more than 120 columns. The contract in docs/PROVED.md has to be that of `run`, word for word, and each
 definition in docs/DEFINITIONS.md has to stand in the file that is named for it. The rows on FEN texts in
 docs/FORMATS.md have to be what `dw show` answers, the program in docs/LIBRARY.md that of the crate `dw_example`, and
-the problems in docs/REPORT.md have to have the diagrams, verdicts and lines that stand there. What README.md,
-docs/DESK.md and docs/COMPOSERS.md show the programs to answer has to be what they answer. Each function on the way of a
-problem in docs/ARCHITECTURE.md has to be in the file that is named for it; each crate has to be named there, with
-files that it has.
+the problems in docs/REPORT.md have to have the diagrams, verdicts and lines that stand there. Where README.md,
+docs/DESK.md and docs/COMPOSERS.md show a call as `$ echo FEN | ./PROGRAM WORDS` and its answer below, it has to answer
+that; other calls there are not tried. The diagram docs/diagram.svg has to be what `dw-desk page` draws of its position,
+in the page's style. Each function on the way of a problem in docs/ARCHITECTURE.md has to be in the file that is named
+for it; each crate has to be named there, with files that it has.
 """
 import pathlib
 import re
@@ -24,6 +25,7 @@ README, PROVED, DEFINITIONS, FORMATS, REPORT, DESK, COMPOSERS = TOP / "README.md
     TOP / f"docs/{name}.md" for name in ("PROVED", "DEFINITIONS", "FORMATS", "REPORT", "DESK", "COMPOSERS"))
 RUN = TOP / "crates/dw_report/src/run.rt"
 ARCHITECTURE, LIBRARY, EXAMPLE = TOP / "docs/ARCHITECTURE.md", TOP / "docs/LIBRARY.md", TOP / "crates/dw_example"
+DIAGRAM = TOP / "docs/diagram.svg"
 LINK = re.compile(r"\[[^\]]*\]\(([^)\s]+)\)")
 MOST = 120
 
@@ -146,7 +148,7 @@ def check_verdicts():
 
 
 def check_calls():
-    """What a page shows a program to answer is what it answers."""
+    """What a page shows a program to answer to a FEN text is what it answers."""
     for page in (README, DESK, COMPOSERS):
         called = r"^ {4}\$ echo (\S+) \| \./(\S+) (.*)\n((?: {4}[^$\n].*\n|\n(?= {4}[^$.\n]))+)"
         calls = re.findall(called, page.read_text(), re.MULTILINE)
@@ -158,6 +160,21 @@ def check_calls():
             said = ran.stdout.decode().rstrip("\n").splitlines()
             assert ran.returncode < 2 and said == wanted, (fen, program, words, ran)
         print(f"{page.name}: {len(calls)} calls, with the answers that it has")
+
+
+def check_diagram():
+    """The marks, the pictures and the style of the diagram are those of a page with the same position."""
+    text = DIAGRAM.read_text()
+    fen = re.search(r'aria-label="([^"]*)"', text)[1]
+    ran = subprocess.run([TOP / "dw-desk", "page", "-n", "1", "--solutions", "none"], input=fen.encode() + b"\n",
+                         capture_output=True, timeout=3600, check=True)
+    page = ran.stdout.decode()
+    for what in (r"<g><use .*?</g>", r'<g id="(?!numbers)\w+">.*?</g>'):
+        drawn, wanted = (re.findall(what, source, re.DOTALL) for source in (text, page))
+        assert drawn and drawn == wanted, f"docs/diagram.svg is not what dw-desk page draws: {what}"
+    style = re.search(r"<style>\n(.*?)</style>", text, re.DOTALL)[1].splitlines()
+    assert style and set(style) <= set(page.splitlines()), "docs/diagram.svg has another style than the page"
+    print(f"docs/diagram.svg: the marks of {fen}, as `dw-desk page` draws them")
 
 
 def check_way():
@@ -206,6 +223,7 @@ def main():
     check_fen_texts()
     check_verdicts()
     check_calls()
+    check_diagram()
 
 
 if __name__ == "__main__":

@@ -35,7 +35,7 @@ const POSITIONS: [&str; 21] = [
 /// So many moves are asked for, and each number up to the next.
 const FEWEST_MOVES: u8 = 3;
 
-const MOST_MOVES: u8 = 9;
+const MOST_MOVES: u8 = 10;
 
 /// How many positions the memos hold.
 const RECENT: usize = 100_000;
@@ -45,8 +45,8 @@ const DEEP: usize = 1_000_000;
 /// How many positions are expanded for one question.
 const LIMIT: u64 = 1_000_000_000;
 
-/// Writes of each position how many others are expanded, with two memos, to find whether it is won within 3 to 9 moves.
-/// Solver and memo are new for each question.
+/// Writes of each position how many others are expanded, with two memos, to find whether it is won within 3 to 10
+/// moves. Solver and memo are new for each question.
 pub(crate) fn count_growth(rt: &HostRuntime) -> anyhow::Result<()> {
     for text in POSITIONS {
         let position = written_position(rt, text)?;

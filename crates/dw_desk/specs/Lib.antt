@@ -1,6 +1,7 @@
 pub mod Certifying
 pub mod Checking
 pub mod Chosen
+pub mod Ending
 pub mod Finding
 pub mod Mending
 pub mod ProblemText

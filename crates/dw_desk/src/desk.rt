@@ -1,5 +1,6 @@
 //! What every command does: it opens its file, searches with a solver, and counts what it reports.
 ghost use Rattle.std.specs.Prelude.{◌≡◌, ◌⊎◌, ◌+◌, ◌<◌, if◌then◌else◌};
+ghost use Rattle.dw_desk.specs.Ending.{ending_after};
 
 use crate::certifying::certify_problem;
 use crate::checking::check_games;
@@ -36,7 +37,9 @@ pub struct Counts {
 
 impl Counts {
     /// How the program ends after these.
-    fn ending<T>(self, request: &Request<'_>) -> Ending<T> {
+    pub fn ending<T>(self, request: &Request<'_>) -> Ending<T>
+        ensures { result ≡ ending_after self.shown self.refused request.now.portion }
+    {
         if self.shown == 0 && request.portion.is_asked {
             Ending::NoProblem(request.portion.first)
         } else if self.refused == 0 {
@@ -157,7 +160,7 @@ fn obey_with<'a, B: Board>(
         alloc: rt.alloc(),
         solver,
     };
-    let mut slices = Slices::new(first_slice(rt, request), Progress::new(rt));
+    let mut slices = slices_of(rt, request);
     let mut source = Reading::new(reader);
     let mut chosen = Chosen::new(rt.alloc(), &mut source, form_of(request), request.portion);
     let mut sink = Writing::new(rt.stdout());
@@ -224,11 +227,9 @@ pub fn solver_of<B: Board>(
     Ok(Solver::new(memo, ByTrial, u64::MAX))
 }
 
-/// How large the first slice of a search is: all of it, if nobody looks on.
-fn first_slice(rt: &HostRuntime, request: &Request<'_>) -> u64 {
-    if request.progress || rt.stderr().is_terminal() {
-        FIRST_SLICE
-    } else {
-        u64::MAX
-    }
+/// The slices of the searches, and who is told of them. If nobody looks on, the first slice is all of a search.
+fn slices_of<'a>(rt: &'a HostRuntime, request: &Request<'_>) -> Slices<Progress<'a>> {
+    let is_shown = request.progress || rt.stderr().is_terminal();
+    let first = if is_shown { FIRST_SLICE } else { u64::MAX };
+    Slices::new(first, Progress::new(rt, is_shown))
 }

@@ -1,4 +1,7 @@
 //! How the program ends: its exit status, and the line on standard error.
+ghost use Rattle.std.specs.Prelude.{◌≡◌};
+ghost use Rattle.dw_desk.specs.Ending as of;
+
 use dw_games::LineFaultKind;
 use dw_notation::ProblemFault;
 use dw_report::{RunFault, Stop, refusal_text};
@@ -66,7 +69,9 @@ impl<T: Display> Display for Ending<T> {
 
 /// The exit status: 0 is done, 1 that something was refused, undecided or is not there, 2 that the arguments are no
 /// command, 3 that the program was stopped or a stream failed.
-pub fn status_of<T>(ending: &Ending<T>) -> u8 {
+pub fn status_of<T>(ending: &Ending<T>) -> u8
+    ensures { result ≡ of.status_of ending.now }
+{
     match ending {
         Ending::Done => 0,
         Ending::Refused

@@ -12,6 +12,8 @@ const PAUSE: u64 = 100;
 #[derive(Drop)]
 pub struct Progress<'a> {
     rt: &'a HostRuntime,
+    /// Whether somebody looks on.
+    is_shown: bool,
     /// The problem that is searched.
     problem: u32,
     /// When its search began, if it is to be shown.
@@ -21,10 +23,11 @@ pub struct Progress<'a> {
 }
 
 impl<'a> Progress<'a> {
-    /// No search has begun.
-    pub fn new(rt: &'a HostRuntime) -> Progress<'a> {
+    /// No search has begun. The line is never shown if nobody looks on.
+    pub fn new(rt: &'a HostRuntime, is_shown: bool) -> Progress<'a> {
         Progress {
             rt,
+            is_shown,
             problem: 0,
             begun: None,
             written: None,
@@ -34,16 +37,17 @@ impl<'a> Progress<'a> {
     /// The search for a problem begins. Without a clock it is not shown.
     pub fn begin(&mut self, problem: u32) {
         self.problem = problem;
-        self.begun = Instant::now(self.rt).ok();
+        self.begun = if self.is_shown {
+            Instant::now(self.rt).ok()
+        } else {
+            None
+        };
     }
 
-    /// Takes the line away.
+    /// The search is over: the line is taken away.
     pub fn end(&mut self) {
         self.begun = None;
-        if self.written.is_some() {
-            self.written = None;
-            let _ = eprint!(self.rt; "\r\x1b[K");
-        }
+        self.make_way();
     }
 
     /// Whether the line may be written now.
@@ -75,5 +79,13 @@ impl Watcher for Progress<'_> {
         self.written = Instant::now(self.rt).ok();
         let problem = self.problem;
         let _ = eprint!(self.rt; "\r\x1b[Kproblem {problem}: {moves} moves, {expanded} positions");
+    }
+
+    /// Takes the line away, if it stands there.
+    fn make_way(&mut self) {
+        if self.written.is_some() {
+            self.written = None;
+            let _ = eprint!(self.rt; "\r\x1b[K");
+        }
     }
 }

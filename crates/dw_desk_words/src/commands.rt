@@ -26,8 +26,9 @@ Examples:
   dw-desk find --most 6 examples/problems.fen
   dw-desk check examples/solutions.pdn
 
-Exit status: 0 done, 1 a problem was refused, undecided or is not there, 2 the arguments are no
-command, 3 the program was stopped or a file could not be read or written.";
+Exit status: 0 done, 1 a problem, a solution or a line was refused, a solution does not hold, a
+problem is undecided or not there, 2 the arguments are no command, 3 the program was stopped or a
+file could not be read or written.";
 
 /// The commands that the program knows, with their options and their help.
 ///

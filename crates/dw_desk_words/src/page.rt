@@ -42,8 +42,9 @@ const ABOUT: &str =
 
 const EXAMPLES: &str = "\
 The page is one HTML file that needs no other. A click on a move shows the position after it, and
-so do the arrow keys; a printer puts six problems on a sheet. With --pdn each problem has its tags
-Event, White, Date and Site. With --most the least number of moves with a win is found.
+so do the arrow keys; a printer puts up to six problems on a sheet. With --pdn each problem has its
+tags Event, White, Date and Site. -n or --most has to be there: a win in N moves, or in the least
+number up to N.
 
 Examples:
   dw-desk page -n 2 examples/problems.fen > problems.html

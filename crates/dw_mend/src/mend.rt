@@ -92,7 +92,8 @@ impl From<WriteFault> for MendFault {
 
 /// Writes the neighbours of a position that are sound within so many moves of the side to move, 1 to 20, each in a line
 /// with the change that makes it and with its key, in the order of the changes; and then how many they are, of how
-/// many. Those that would take more positions than the bounds allow stay undecided, and are counted. After a stop the
+/// many. Those that would take more positions than the bounds allow stay undecided, and are counted. The slices begin
+/// anew, and their watcher is told after each neighbour too; it makes way before each line is written. After a stop the
 /// lines of the first neighbours were written, all bounds in the memo are right, and the solver's limit is what it was.
 /// Example: of `W:W27,32:B18`, within 2 moves, the first line is `without 27: W:W32:B18, sound in 2: 32-28`, and the
 /// last one is `sound 44 of 310`.
@@ -126,10 +127,13 @@ pub fn mend<B: Board, M: Memo<B>, G: Guide<B>, W: Watcher, K: Sink>(
 {
     solver.keeps_its_limit();
     solver.keeps_its_facts();
+    slices.begin(solver.expanded());
     let all = neighbours(alloc, position)?;
     let some = part_of(alloc, all.as_slice(), bounds.part)?;
     let mended = mend_these(alloc, solver, some.as_slice(), bounds, slices, sink)?;
-    write_all(sink, count_line(alloc, &mended)?.as_str().as_bytes())?;
+    let line = count_line(alloc, &mended)?;
+    slices.watcher.make_way();
+    write_all(sink, line.as_str().as_bytes())?;
     Ok(mended)
 }
 
@@ -176,6 +180,7 @@ fn mend_these<B: Board, M: Memo<B>, G: Guide<B>, W: Watcher, K: Sink>(
             Found::Unsound => {}
             Found::Undecided => mended.undecided += 1,
         }
+        slices.tell(bounds.moves, solver.expanded());
     }
     Ok(mended)
 }
@@ -228,6 +233,7 @@ fn write_found<B: Board, M: Memo<B>, G: Guide<B>, W: Watcher, K: Sink>(
     let found = found_of(alloc, solver, &neighbour.position, bounds, slices)?;
     if let Found::Sound(key) = &found {
         let line = sound_line(alloc, neighbour, bounds.moves, key)?;
+        slices.watcher.make_way();
         write_all(sink, line.as_str().as_bytes())?;
     }
     Ok(found)

@@ -13,12 +13,12 @@ use dw_memo::Memo;
 use dw_moves::Move;
 use dw_report::Verdict;
 use dw_solve::{Guide, Solver, Stop};
-use dw_study::{Slices, Watcher, judge_in_slices, wins_in_slices};
+use dw_study::{Slices, Watcher, judge_on, wins_on};
 use std::alloc::Global;
 
 /// The key of a position that is sound within so many moves of the side to move, 1 to 20; none, if it is not. After a
-/// stop all bounds in the memo are right, and the call can be made again. The slices begin anew; no answer depends on
-/// them.
+/// stop all bounds in the memo are right, and the call can be made again. The slices go on from where they began; no
+/// answer depends on them.
 /// Example: at `W:W27,45:B16`, within 2 moves, it is `45-40`; at `W:W27,32:B18`, which is a dual, it is none.
 pub fn sound_key<B: Board, M: Memo<B>, G: Guide<B>, W: Watcher>(
     alloc: Global,
@@ -37,15 +37,16 @@ pub fn sound_key<B: Board, M: Memo<B>, G: Guide<B>, W: Watcher>(
     ensures right { AreTrue B.geometry (M.content solver.new.memo) }
     ensures map { IsMap (M.content solver.new.memo) }
     ensures first { slices.new.first ≡ slices.old.first }
+    ensures start { slices.new.start ≡ slices.old.start }
 {
     dw_report::laws::one_verdict();
-    if !wins_in_slices(alloc, solver, position, moves, slices)? {
+    if !wins_on(alloc, solver, position, moves, slices)? {
         return Ok(None);
     }
-    if wins_in_slices(alloc, solver, position, moves - 1, slices)? {
+    if wins_on(alloc, solver, position, moves - 1, slices)? {
         return Ok(None);
     }
-    let judged = judge_in_slices(alloc, solver, position, moves, slices)?;
+    let judged = judge_on(alloc, solver, position, moves, slices)?;
     Ok(key_of(&judged.verdict))
 }
 

@@ -19,8 +19,7 @@ use Rattle.dw_solve.specs.Solving.{Solving}
 use Rattle.dw_solve.specs.Work.{Moment, Searched, LossIsCounted}
 use Rattle.dw_study.specs.declared.finding.Finding as findings
 use Rattle.dw_study.specs.Telling.{cut_short}
-use Rattle.dw_study.specs.Slices.{SearchedInSlices}
-use Rattle.dw_study.specs.inner.Looking.{GoesOn}
+use Rattle.dw_study.specs.Slices.{SearchedInSlices, GoesOn}
 
 pub searched_looser : (g : Geometry) (n cut more : ℕ) (a c : Moment) → cut ≤ more → Searched g n cut a c
     → Searched g n more a c

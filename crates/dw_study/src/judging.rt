@@ -7,8 +7,7 @@ ghost use Rattle.dw_solve.specs.Searching.{IsCounted};
 ghost use Rattle.dw_solve.specs.Work.{moment, Searched, cut_off};
 ghost use Rattle.dw_report.specs.Verdict.{IsVerdict, Tries};
 ghost use Rattle.dw_report.specs.Judging.{said_by};
-ghost use Rattle.dw_study.specs.Slices.{SearchedInSlices};
-ghost use Rattle.dw_study.specs.inner.Looking.{GoesOn};
+ghost use Rattle.dw_study.specs.Slices.{SearchedInSlices, GoesOn};
 
 use crate::limits::{lower, raise};
 use crate::slices::{Slices, Watcher};
@@ -48,8 +47,9 @@ pub fn judge_in_slices<B: Board, M: Memo<B>, G: Guide<B>, W: Watcher>(
     judge_on(alloc, solver, position, moves, slices)
 }
 
-/// What `judge_in_slices` answers, in slices that began before.
-pub(crate) fn judge_on<B: Board, M: Memo<B>, G: Guide<B>, W: Watcher>(
+/// What `judge_in_slices` answers, in slices that began before, as [`wins_on`](crate::sliced::wins_on) does.
+/// Example: at `W:W27,45:B16`, within 2 moves, it is sound by `45-40`, and the slices start where they did.
+pub fn judge_on<B: Board, M: Memo<B>, G: Guide<B>, W: Watcher>(
     alloc: Global,
     solver: &mut Solver<B, M, G>,
     position: &Position<B>,

@@ -5,7 +5,8 @@ ghost use Rattle.dw_solve.specs.Certificates.{SaysLeast};
 ghost use Rattle.dw_solve.specs.Facts.{AreTrue};
 ghost use Rattle.dw_solve.specs.Searching.{IsCounted};
 ghost use Rattle.dw_solve.specs.Work.{cut_off};
-ghost use Rattle.dw_study.specs.inner.Looking.{GoesOn, IsLooked, StopsAt};
+ghost use Rattle.dw_study.specs.inner.Looking.{IsLooked, StopsAt};
+ghost use Rattle.dw_study.specs.Slices.{GoesOn};
 
 use crate::finding::FindBounds;
 use crate::limits::{lower, raise};

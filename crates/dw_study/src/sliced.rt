@@ -8,8 +8,7 @@ ghost use Rattle.dw_solve.specs.Questions.{Idle, LostNothing};
 ghost use Rattle.dw_solve.specs.Searching.{IsCounted};
 ghost use Rattle.dw_solve.specs.Wins.{Win};
 ghost use Rattle.dw_solve.specs.Work.{moment, Searched, cut_off};
-ghost use Rattle.dw_study.specs.Slices.{SearchedInSlices};
-ghost use Rattle.dw_study.specs.inner.Looking.{GoesOn};
+ghost use Rattle.dw_study.specs.Slices.{SearchedInSlices, GoesOn};
 
 use crate::limits::{lower, raise};
 use crate::slices::{Slices, Watcher};
@@ -52,8 +51,10 @@ pub fn wins_in_slices<B: Board, M: Memo<B>, G: Guide<B>, W: Watcher>(
     wins_on(alloc, solver, position, moves, slices)
 }
 
-/// What `wins_in_slices` answers, in slices that began before.
-pub(crate) fn wins_on<B: Board, M: Memo<B>, G: Guide<B>, W: Watcher>(
+/// What `wins_in_slices` answers, in slices that began before: those of a run of questions, of which the watcher is
+/// told as of one search.
+/// Example: at `W:W27,45:B16` it is `Ok(true)` within 2 moves, and the slices start where they did.
+pub fn wins_on<B: Board, M: Memo<B>, G: Guide<B>, W: Watcher>(
     alloc: Global,
     solver: &mut Solver<B, M, G>,
     position: &Position<B>,

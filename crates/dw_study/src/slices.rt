@@ -12,6 +12,10 @@ pub trait Watcher {
     /// Example: of a first slice of 1,000 positions it takes 1,000 as that one ends.
     fn watch(&mut self, moves: u8, expanded: u64)
         ensures { told self.old moves expanded self.new };
+
+    /// An answer is about to be written: what was shown makes way for it.
+    /// Example: a line at a terminal is taken away, and comes again if the search goes on long enough.
+    fn make_way(&mut self) {}
 }
 
 /// Tells nobody.

@@ -23,7 +23,7 @@ use Rattle.dw_games.specs.declared.branches.Node.{Node}
 use Rattle.dw_study.specs.Remarks.{Remark, GoesOnBy, StandsBefore, IsFirstRefutation, IsFailing, AtAttacker, AtDefender}
 use Rattle.dw_study.specs.Remarks.{AfterKey, AreRemarks}
 use Rattle.dw_study.specs.Telling.{Say}
-use Rattle.dw_study.specs.inner.Looking.{GoesOn}
+use Rattle.dw_study.specs.Slices.{GoesOn}
 
 -- searches for wins within n moves in slices that began before: each expansion is counted, up to the limit, and the
 -- slices go on

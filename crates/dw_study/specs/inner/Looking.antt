@@ -2,22 +2,10 @@
 use Rattle.std.specs.Prelude.{◌≡◌, ℕ, ◌<◌, ◌≤◌, Result, Ok, Err}
 use Rattle.dw_board.specs.Geometry.{Geometry}
 use Rattle.dw_board.specs.Placement.{Placement}
-use Rattle.dw_memo.specs.Content.{Content}
-use Rattle.dw_solve.specs.Solving.{Solving}
 use Rattle.dw_solve.specs.Wins.{Win}
-use Rattle.dw_solve.specs.Questions.{moment_of}
-use Rattle.dw_solve.specs.Work.{Moment}
 use Rattle.dw_solve.specs.declared.stop.Stop.TheVariants.{Limit}
 use Rattle.dw_study.specs.declared.looking.Cut.{Cut}
 use Rattle.dw_study.specs.Finding.{IsJudgedAt}
-use Rattle.dw_study.specs.Slices.{SearchedInSlices}
-
--- a search in slices, which began when so many positions were expanded, goes on with one within n moves
-abbrev pub GoesOn : {M : Type 0} → Geometry → (M → Content) → (M → ℕ) → (n first start cut : ℕ) → Solving M → Solving M
-    → Type 0
-GoesOn g content lost n first start cut old new = (began : Moment) (most : ℕ) → n ≤ most → began.expanded ≡ start
-    → SearchedInSlices g most first 0 began (moment_of content lost old)
-    → SearchedInSlices g most first cut began (moment_of content lost new)
 
 -- the number was found, or it was found that there is no win within some lower number of moves
 abbrev pub IsLooked : Geometry → Placement → ℕ → Result ℕ Cut → Type 0

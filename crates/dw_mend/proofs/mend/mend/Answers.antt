@@ -31,8 +31,8 @@ returns-in_err-mended-clause-stopped g c = λ stop all are e.
     c.from_residual-in_err-mended.ensures.1 e)) in
     (s.0, subst (λ z. IsMendStop geo n z s.0) told s.1, s.2)
 
-pub returns-in_err-count_line-clause-stopped : goal.returns-in_err-count_line-clause-stopped
-returns-in_err-count_line-clause-stopped g c = λ stop all are e.
+pub returns-in_err-line-clause-stopped : goal.returns-in_err-line-clause-stopped
+returns-in_err-line-clause-stopped g c = λ stop all are e.
     let geo = g.B.Board.geometry in
     let n = c.args.bounds.moves in
     let i = c.args.bounds.part.number in
@@ -75,6 +75,6 @@ returns-clause-text g c =
       Appends-trans (g.K.Sink.taken c.args.sink.now) (g.K.Sink.taken c.mend_these.new.sink)
           (g.K.Sink.taken c.write_all.new.sink) t.0 line t.2
           (subst (Appends (g.K.Sink.taken c.mend_these.new.sink) (g.K.Sink.taken c.write_all.new.sink))
-          (c.as_bytes.ensures.value ∙ (c.as_str.ensures.value ∙ c.in_ok-count_line.ensures))
+          (c.as_bytes.ensures.value ∙ (c.as_str.ensures.value ∙ c.in_ok-line.ensures))
           c.in_ok-write_all.ensures.ok),
     )

@@ -1,6 +1,6 @@
 use Rattle.std.proofs.Common.{◌≡◌, ◌-◌}
 use Rattle.dw_solve.specs.Searching.{IsCounted}
-use Rattle.dw_study.specs.inner.Looking.{GoesOn}
+use Rattle.dw_study.specs.Slices.{GoesOn}
 use Rattle.dw_study.proofs.judging.judge_on.Given as goal
 
 abbrev pub invariant-slices : goal.invariant-slices

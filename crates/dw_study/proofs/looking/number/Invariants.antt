@@ -3,7 +3,7 @@ use Rattle.dw_solve.specs.Certificates.{SaysLeast}
 use Rattle.dw_solve.specs.Questions.{Idle}
 use Rattle.dw_solve.specs.Searching.{IsCounted}
 use Rattle.dw_solve.specs.Wins.{Win}
-use Rattle.dw_study.specs.inner.Looking.{GoesOn}
+use Rattle.dw_study.specs.Slices.{GoesOn}
 use Rattle.dw_study.proofs.looking.number.Given as goal
 
 abbrev pub invariant-moves : goal.invariant-moves

@@ -3,7 +3,7 @@ use Rattle.dw_solve.specs.Facts.{IsDecided}
 use Rattle.dw_solve.specs.Questions.{Idle}
 use Rattle.dw_solve.specs.Searching.{IsCounted}
 use Rattle.dw_solve.specs.Work.{LossIsCounted}
-use Rattle.dw_study.specs.inner.Looking.{GoesOn}
+use Rattle.dw_study.specs.Slices.{GoesOn}
 use Rattle.dw_study.proofs.sliced.wins_on.Given as goal
 
 abbrev pub invariant-slices : goal.invariant-slices
