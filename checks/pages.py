@@ -28,6 +28,7 @@ TOP = pathlib.Path(__file__).resolve().parent.parent
 DW, DESK = TOP / "dw", TOP / "dw-desk"
 SEED, PHONE, OPENS_WITHIN = 77, 360, 20
 WHITE, BLACK = 200, 60  # what is lighter is white, what is darker is black
+EDGE = re.compile(rb"[\x00-\xa0]{100,}")  # a row of a frame on paper: no other dark row of points is as long
 BROWSER = ("chromium", "--headless", "--no-sandbox", "--disable-gpu", "--hide-scrollbars", "--enable-logging=stderr",
            "--force-device-scale-factor=1", "--disable-background-networking", "--no-pdf-header-footer")
 # What a script of this check writes into the page.
@@ -166,19 +167,42 @@ def positions(board, text, cells, turn):
             yield dict(line[-1][0])
 
 
+def printed(folder, text, where):
+    """A page with its solutions in this place on paper: its file, but for the ending, and what stands on each sheet."""
+    paper = folder / f"print-{where}"
+    file = paper.with_suffix(".html")
+    file.write_text(page_of(text, "-n", "1", "--solutions", where))
+    browse(f"--print-to-pdf={paper.with_suffix('.pdf')}", file.as_uri())
+    words = ["pdftotext", "-layout", paper.with_suffix(".pdf"), "-"]
+    return paper, subprocess.run(words, capture_output=True, text=True, check=True).stdout.split("\f")
+
+
+def diagrams_on(sheet):
+    """How many diagrams the picture of a sheet has. Each is whole: its frame is a square, with both edges there."""
+    data = sheet.read_bytes()
+    head = re.match(rb"P5\s+(\d+)\s+\d+\s+\d+\s", data)
+    wide = int(head[1])
+    rows = [data[at : at + wide] for at in range(head.end(), len(data), wide)]
+    edges = sorted((edge.start(), y, len(edge[0])) for y, row in enumerate(rows) for edge in EDGE.finditer(row))
+    for (left, upper, size), (below, lower, same) in zip(edges[::2], edges[1::2], strict=True):
+        assert (left, size) == (below, same) and abs(lower - upper - size) <= 2, (sheet.name, edges)
+    return len(edges) // 2
+
+
 def check_print(source, folder):
-    """Six problems on each sheet of paper, with what stands above and below each diagram on the same one."""
+    """Six problems on each sheet of paper, with what stands above and below each diagram on the same one, and no
+    diagram cut, wherever the solutions are."""
     board = Board(10)
     text = "".join(f"{fen(drawn(source, board), 'W')}\n" for _ in range(20))
-    file = folder / "print.html"
-    file.write_text(page_of(text, "-n", "1", "--solutions", "end"))
-    browse(f"--print-to-pdf={folder / 'print.pdf'}", file.as_uri())
-    words = ["pdftotext", "-layout", folder / "print.pdf", "-"]
-    sheets = subprocess.run(words, capture_output=True, text=True, check=True).stdout.split("\f")
-    tasks = [sheet.count("White to play and win in 1") for sheet in sheets]
-    heads = [len(re.findall(r"(?<!\S)\d+\.(?!\S)", sheet)) for sheet in sheets]
-    assert tasks[:4] == [6, 6, 6, 2] and heads[:3] == [6, 6, 6], (tasks, heads)
-    print("paper: six problems a sheet, none cut")
+    for where in ("end", "after"):
+        paper, sheets = printed(folder, text, where)
+        tasks = [sheet.count("White to play and win in 1") for sheet in sheets]
+        heads = [len(re.findall(r"(?<!\S)\d+\.(?!\S)", sheet)) for sheet in sheets]
+        subprocess.run(["pdftoppm", "-r", "72", "-gray", paper.with_suffix(".pdf"), paper], check=True)
+        diagrams = [diagrams_on(sheet) for sheet in sorted(folder.glob(f"{paper.name}-*.pgm"))]
+        assert tasks[:4] == diagrams[:4] == [6, 6, 6, 2], (where, tasks, diagrams)
+        assert where != "end" or heads[:3] == [6, 6, 6], heads
+    print("paper: six problems a sheet, and the frame of each diagram whole")
 
 
 def check_rest(source, folder):
