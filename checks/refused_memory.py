@@ -1,5 +1,6 @@
 #!/usr/bin/env python3
-"""refused_memory.py: refuses each allocation of `dw moves`, `judge` and `list` in turn, and looks at what is written.
+"""refused_memory.py: refuses each allocation of `dw moves`, `judge`, `list` and the commands of `dw-desk` in turn, and
+looks at what is written.
 
     checks/refused_memory.py
 
@@ -8,7 +9,8 @@ expanded`, after the whole texts of some problems, the first line of the next, a
 nothing written and E 0, if the arguments could not be read or the memo not be made. For some arguments that comes at
 the same allocations whatever the problems are, so that a problem's first line is never left out. E is at most what a
 run without a memo expands, and 0 for `moves`. The last run of each input meets no refusal and is whole. `judge` and
-`list` run with each memo. `dw show` takes no memory once its arguments are read, however many problems there are.
+`list` run with each memo. `dw show` takes no memory once its arguments are read, however many problems there are. Each
+command of `dw-desk` does all that it does with memory, or it ends so too, after a beginning of that.
 """
 import os
 import pathlib
@@ -19,6 +21,7 @@ import tempfile
 HERE = pathlib.Path(__file__).resolve().parent
 DW = HERE.parent / "dw"
 PROGRAM = HERE.parent / "crates/dw/out/dw"
+DESK = HERE.parent / "crates/dw_desk/out/dw_desk"
 POSITIONS = """W:W32:B28 W:W41,45,47:B36 W:W27,45:B16 W:W27:B16 W:W14:B8,9 W:WK47:B17,18,24,32,33 W:W38:B22,23,32,33
 W:W47:B13,14,22,31,32,41,42 W:W27,32,38:B18 W:W27,32:B18 W:W28:B W:WK46:B28 W:W:B20 W:W3:B20""".split()
 TOGETHER = "\n".join(POSITIONS).encode()
@@ -28,14 +31,21 @@ MEMOS = ["none", "lru", "slots", "deep"]
 STOPPED = re.compile(rb"dw: stopped: 1 memory, (\d+) expanded\n")
 # What the last line of a problem's text has, of a command that marks it. A verdict may have tries after it.
 LAST_LINE = {"moves": b" taking ", "list": b"\ncomplete "}
+# Commands of dw-desk, for one game.
+DESK_COMMANDS = (["find", "--pdn"], ["find", "--pdn", "--json"], ["check"], ["solution", "--pdn", "-n", "2"],
+                 ["page", "--pdn", "-n", "2"], ["certify", "--pdn", "-n", "2"], ["mend", "--pdn", "-n", "1"],
+                 ["token", "--pdn", "--line", "45-40 16-21 27x16"])
+GAME = b'[Event "a"]\n[FEN "W:W27,45:B16"]\n\n1. 45-40 (1. 27-21 16x27) 16-21 2. 27x16 *\n'
+# A memo that is refused memory for an entry loses it, and then a certificate may lack a position.
+DESK_STOPPED = re.compile(rb"dw-desk: (stopped: 1 memory, \d+ expanded|too many positions, .*)\n")
 
 
-def refused(folder, number, words, given):
+def refused(folder, number, words, given, program=PROGRAM):
     mark = folder / "mark"
     mark.unlink(missing_ok=True)
     changes = {"LD_PRELOAD": str(folder / "refuse.so"), "REFUSED_ALLOCATION": str(number), "REFUSED_MARK": str(mark)}
     environment = os.environ | changes
-    ran = subprocess.run([PROGRAM, *words], input=given, capture_output=True, timeout=60, check=False, env=environment)
+    ran = subprocess.run([program, *words], input=given, capture_output=True, timeout=60, check=False, env=environment)
     return ran, mark.exists()
 
 
@@ -113,6 +123,28 @@ def command_on(folder, words, inputs, memo=()):
           f"{silences.pop()} of each stopped with nothing written, {stops} after whole lines", flush=True)
 
 
+def desk_in_turn(folder, words):
+    """Each allocation of a command of dw-desk."""
+    report = subprocess.run([DESK, *words], input=GAME, capture_output=True, timeout=60, check=False)
+    assert report.stderr == b"" and report.returncode in (0, 1) and report.stdout, (words, report)
+    stopped = 0
+    for number in range(1, 10000):
+        ran, was_refused = refused(folder, number, words, GAME, DESK)
+        if was_refused and ran.returncode == 3:
+            found = DESK_STOPPED.fullmatch(ran.stderr)
+            assert found and report.stdout.startswith(ran.stdout), (words, number, ran)
+            assert found[1].startswith(b"stopped") or words[0] == "certify", (words, number, ran)
+            stopped += 1
+        else:
+            ended, wanted = (ran.returncode, ran.stdout, ran.stderr), (report.returncode, report.stdout, b"")
+            assert ended == wanted, (words, number, ran)
+        if not was_refused:
+            print(f"dw-desk {' '.join(words)}: {number - 1} allocations, each refused in turn; {stopped} runs stopped",
+                  flush=True)
+            return
+    raise AssertionError("no run without a refusal")
+
+
 def main():
     with tempfile.TemporaryDirectory() as name:
         folder = pathlib.Path(name)
@@ -120,6 +152,8 @@ def main():
         subprocess.run(["cc", "-O1", "-shared", "-fPIC", "-o", library, source, "-ldl"], check=True)
         whole(["show"], b"")  # so that it is built
         show_takes_none(folder)
+        for words in DESK_COMMANDS:
+            desk_in_turn(folder, words)
         each = [position.encode() for position in POSITIONS]
         command_on(folder, ["moves"], [*each, TOGETHER])
         for command in ("judge", "list"):
