@@ -46,7 +46,6 @@ FILES = {
     "dw_notation/specs/Tags.antt": "Sections of PDN",
     "dw_board/specs/FenGrammar.antt": "FEN texts",
     "dw_board/specs/FenFaults.antt": "The earliest fault",
-    "dw_board/specs/FenReader.antt": "The next token",
     "dw_board/specs/FenTokens.antt": "The tokens of a FEN text",
     "dw_board/specs/FenText.antt": "The written FEN",
     "dw_board/specs/Diagram.antt": "Diagrams",

@@ -8,9 +8,10 @@ use Rattle.dw_board.specs.Geometry.{Geometry}
 use Rattle.dw_board.specs.Placement.{Placement, empty, placed, put_fault, same_side}
 use Rattle.dw_board.specs.FenTokens.{Token, is_sign, side_named, is_king_letter, number_named, is_digit}
 use Rattle.dw_board.specs.FenTokens.{square_numbered}
-use Rattle.dw_board.specs.FenReader.{first_is, first_named, behind, is_empty}
+use Rattle.dw_board.specs.inner.FenReader.{behind}
+use Rattle.dw_board.specs.FenTokens.{first_is, first_named, is_empty}
 use Rattle.dw_board.specs.inner.FenReading.{listing}
-use Rattle.dw_board.specs.FenReader.{no_item}
+use Rattle.dw_board.specs.FenTokens.{no_item}
 use Rattle.dw_board.specs.FenGrammar.{Placing, IsRange, IsItem, IsItems, IsList, IsEnd, IsTail, named, all_named}
 use Rattle.dw_board.specs.FenGrammar.{Sets, Names, number, range, men, kings, single, more, bare, full, nothing, stop}
 use Rattle.dw_board.specs.FenGrammar.{ends, fields, one_list, two_lists}

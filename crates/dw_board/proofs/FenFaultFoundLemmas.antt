@@ -9,7 +9,7 @@ use Rattle.std.proofs.lemmas.Grind.{flat_map-append}
 use Rattle.dw_board.specs.Geometry.{Geometry}
 use Rattle.dw_board.specs.Placement.{Placement, empty, placed, put_fault, same_side}
 use Rattle.dw_board.specs.FenTokens.{Token, is_sign, side_named, is_king_letter, number_named}
-use Rattle.dw_board.specs.FenReader.{first_is, is_empty, no_item, place_of}
+use Rattle.dw_board.specs.FenTokens.{first_is, is_empty, no_item, place_of}
 use Rattle.dw_board.specs.inner.FenReading.{listing}
 use Rattle.dw_board.specs.FenGrammar.{texts, Placing, IsRange, IsItem, IsItems, IsList, named, all_named, Sets}
 use Rattle.dw_board.specs.FenGrammar.{number, range, men, kings, single, more, bare, full}

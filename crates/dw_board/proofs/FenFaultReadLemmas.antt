@@ -7,7 +7,8 @@ use Rattle.std.proofs.lemmas.List.{map-append, length-map}
 use Rattle.dw_board.specs.Geometry.{Geometry}
 use Rattle.dw_board.specs.Placement.{Placement, placed, put_fault, same_side}
 use Rattle.dw_board.specs.FenTokens.{Token, is_sign, side_named, number_named}
-use Rattle.dw_board.specs.FenReader.{first_is, first_named, behind, no_item, place_of}
+use Rattle.dw_board.specs.inner.FenReader.{behind}
+use Rattle.dw_board.specs.FenTokens.{first_is, first_named, no_item, place_of}
 use Rattle.dw_board.specs.inner.FenReading.{listing}
 use Rattle.dw_board.specs.FenGrammar.{texts, Placing, IsRange, IsList, named, all_named, Sets, number, range}
 use Rattle.dw_board.specs.FenGrammar.{bare, full, single, more}

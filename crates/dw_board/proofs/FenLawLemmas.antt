@@ -10,7 +10,7 @@ use Rattle.dw_board.specs.Fen.{fen, short_fen, Start, read_from, fault}
 use Rattle.dw_board.specs.FenGrammar.{texts, Fen}
 use Rattle.dw_board.specs.FenText.{written}
 use Rattle.dw_board.specs.FenFaults.{IsFirstFault, too_long, fault_at}
-use Rattle.dw_board.specs.FenReader.{place_of}
+use Rattle.dw_board.specs.FenTokens.{place_of}
 use Rattle.dw_board.specs.FenLaws.{IsFen, IsFaulty, LeadNowhere, StandsAt, at_text_end, at_token, at_range}
 use Rattle.dw_board.specs.declared.fen.fault.FenFault.{FenFault}
 use Rattle.dw_board.specs.declared.fen.fault.FenFaultKind.TheVariants.{TooLong}

@@ -6,9 +6,10 @@ use Rattle.std.proofs.lemmas.Bool.{eqb-true, or_cases, lt-ltb, le-ltb}
 use Rattle.dw_board.specs.Geometry.{Geometry}
 use Rattle.dw_board.specs.Placement.{Placement, empty, placed, put_fault, same_side}
 use Rattle.dw_board.specs.FenTokens.{Token, is_sign, side_named, is_king_letter, number_named}
-use Rattle.dw_board.specs.FenReader.{first_is, first_named, left_of, behind, place_of, is_empty}
+use Rattle.dw_board.specs.inner.FenReader.{left_of, behind}
+use Rattle.dw_board.specs.FenTokens.{first_is, first_named, place_of, is_empty}
 use Rattle.dw_board.specs.inner.FenReading.{listing, read_behind}
-use Rattle.dw_board.specs.FenReader.{no_item}
+use Rattle.dw_board.specs.FenTokens.{no_item}
 use Rattle.dw_board.specs.Fen.{fault, ◌>>=◌, Listing, Item, Stage, Start, AfterTurn, AfterColon, AfterColour}
 use Rattle.dw_board.specs.Fen.{AfterComma, AfterKing, AfterNumber, AfterDash, AfterItem, AfterStop, AfterLists}
 use Rattle.dw_board.specs.Fen.{next_stage, at_end, read_from, with_item, item_ended, list_begun, if_named, then_set}

@@ -10,9 +10,10 @@ use Rattle.dw_board.specs.Geometry.{Geometry}
 use Rattle.dw_board.specs.declared.piece.Side.TheVariants.{White, Black}
 use Rattle.dw_board.specs.FenTokens.{Token, tokens_from, with_byte, onto_run, is_blank, is_digit, begins_with_digit}
 use Rattle.dw_board.specs.FenTokens.{is_sign, side_named, is_king_letter, number_named}
-use Rattle.dw_board.specs.FenBlanks.{begins_with_blank, IsSignByte}
+use Rattle.dw_board.specs.inner.FenBlanks.{begins_with_blank, IsSignByte}
 use Rattle.dw_board.specs.FenTokens.{AreDigits}
-use Rattle.dw_board.specs.FenReader.{first_is, first_named, behind, place_of, is_empty}
+use Rattle.dw_board.specs.inner.FenReader.{behind}
+use Rattle.dw_board.specs.FenTokens.{first_is, first_named, place_of, is_empty}
 
 pub tokens_from-blank : (place byte : ℕ) (bytes : List ℕ) → is_blank byte ≡ true → tokens_from place (byte ∷ bytes)
     ≡ tokens_from (place + 1) bytes

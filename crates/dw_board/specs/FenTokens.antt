@@ -95,3 +95,29 @@ number_named g [] = None
 number_named g (d ∷ []) = square_numbered g (is_digit d) (d - 48)
 number_named g (d ∷ e ∷ []) = square_numbered g (is_digit d && is_digit e) (10 * (d - 48) + (e - 48))
 number_named g (d ∷ e ∷ f ∷ bytes) = None
+
+-- ---- what stands first in a row of tokens
+
+-- the place of the first token, or that of the text's end if there is none
+abbrev pub place_of : List Token → ℕ → ℕ
+place_of [] end = end
+place_of (t ∷ tokens) end = t.place
+
+-- whether the first token passes a test
+abbrev pub first_is : (List ℕ → Bool) → List Token → Bool
+first_is test [] = false
+first_is test (t ∷ tokens) = test t.text
+
+-- what the first token names
+abbrev pub first_named : {A : Type 0} → (List ℕ → Option A) → List Token → Option A
+first_named name [] = None
+first_named name (t ∷ tokens) = name t.text
+
+-- no token is left
+abbrev pub is_empty : List Token → Bool
+is_empty [] = true
+is_empty (t ∷ tokens) = false
+
+-- the end, a colon or a stop is next
+abbrev pub no_item : List Token → Bool
+no_item tokens = is_empty tokens || first_is (is_sign colon) tokens || first_is (is_sign full_stop) tokens

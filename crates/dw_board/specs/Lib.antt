@@ -8,8 +8,6 @@ pub mod PieceSets
 pub mod Hashing
 pub mod Packing
 pub mod FenTokens
-pub mod FenBlanks
-pub mod FenReader
 pub mod FenGrammar
 pub mod FenFaults
 pub mod Fen

@@ -1,12 +1,14 @@
 -- What only relates the code to the definitions: no contract of a public call names it.
-pub mod GeometryLemmas
-pub mod SquareSetLemmas
-pub mod PlacementLemmas
-pub mod PieceSetLemmas
 pub mod BoardLemmas
 pub mod Drawing
+pub mod FenBlanks
+pub mod FenReader
 pub mod FenReading
-pub mod Shifting
-pub mod Sliding
+pub mod GeometryLemmas
 pub mod Held
 pub mod Mixing
+pub mod PieceSetLemmas
+pub mod PlacementLemmas
+pub mod Shifting
+pub mod Sliding
+pub mod SquareSetLemmas

@@ -90,7 +90,7 @@ impl<B: Board> Signs<B> {
             (set.contains self.now.kings square) }
         ensures on_board { Geo.OnBoard B.geometry square }
     {
-        square.is_on_board();
+        square.keeps_to_its_board();
         if !self.occupied.has(square) {
             return '.';
         }

@@ -135,8 +135,8 @@ impl<B: Board> Position<B> {
     pub fn carried(&self, from: Square<B>, to: Square<B>, taken: Squares<B>) -> Self
         ensures { result ≡ of.carried B.geometry self.now from to taken }
     {
-        from.is_on_board();
-        to.is_on_board();
+        from.keeps_to_its_board();
+        to.keeps_to_its_board();
         let left = self.held.minus(taken.with(from)).without(to);
         let held = match self.held.at(from) {
             Some(piece) => left.with(to, crowned(to, piece)),
@@ -201,7 +201,7 @@ impl<B: Board> Position<B> {
         ensures value { result ≡ of.at self.now square }
         ensures on_board { Geo.OnBoard B.geometry square }
     {
-        square.is_on_board();
+        square.keeps_to_its_board();
         self.held.at(square)
     }
 
@@ -213,6 +213,15 @@ impl<B: Board> Position<B> {
         ensures position { IsPosition B.geometry self.now.cells }
     {
         self.turn
+    }
+
+    /// A side has no more pieces than it may, and no man on its last row: a law, which does nothing.
+    /// Example: of `W:W32:B28` it says that neither side has more than 20 pieces.
+    #[inline]
+    pub fn keeps_its_rules(&self)
+        ensures { IsPosition B.geometry self.now.cells }
+    {
+        let _ = &self.held;
     }
 
     /// Gives the move to a side.
@@ -346,8 +355,7 @@ fn cell_behind<B: Board>(position: &Position<B>, index: u8) -> Option<Piece>
 fn codes_of<B: Board>(position: &Position<B>) -> [u8; 50]
     ensures { result ≡ cell_codes position.now }
 {
-    // The check learns here what every position keeps to, for the loop below.
-    let _ = &position.held;
+    position.keeps_its_rules();
     let mut codes = [0; 50];
     for i in 0..50 {
         codes[i] = cell_code(cell_behind(position, i as u8));

@@ -53,13 +53,6 @@ pub fn changed<B: Board>(position: &Position<B>, change: Change<B>) -> Option<Po
     }
 }
 
-/// No side has too many pieces, and no man stands on its last row: a law, which does nothing.
-fn keeps_its_rules<B: Board>(position: &Position<B>)
-    ensures { IsPosition B.geometry position.now.cells }
-{
-    let _turn = position.turn();
-}
-
 /// The position without the piece on a square, if one stands there.
 fn without<B: Board>(position: &Position<B>, square: Square<B>) -> Option<Position<B>>
     ensures { MatchOption result ((q : Placement) → IsNeighbour B.geometry position.now (without square) q → ⊥)
@@ -67,7 +60,7 @@ fn without<B: Board>(position: &Position<B>, square: Square<B>) -> Option<Positi
 {
     let mut after = *position;
     after.clear(square)?;
-    keeps_its_rules(&after);
+    after.keeps_its_rules();
     Some(after)
 }
 
@@ -79,11 +72,11 @@ fn with<B: Board>(position: &Position<B>, square: Square<B>, piece: Piece) -> Op
     if position.at(square).is_some() {
         return None;
     }
-    keeps_its_rules(position);
+    position.keeps_its_rules();
     let mut after = *position;
     match after.put(square, piece) {
         Ok(()) => {
-            keeps_its_rules(&after);
+            after.keeps_its_rules();
             Some(after)
         }
         Err(_) => None,
@@ -99,7 +92,7 @@ fn set<B: Board>(position: &Position<B>, from: Square<B>, to: Square<B>) -> Opti
         return None;
     }
     let piece = position.at(from)?;
-    keeps_its_rules(position);
+    position.keeps_its_rules();
     let mut after = *position;
     after.clear(from);
     with(&after, to, piece)
@@ -114,7 +107,7 @@ fn made<B: Board>(position: &Position<B>, square: Square<B>, kind: Kind) -> Opti
     if is_same(piece.kind, kind) {
         return None;
     }
-    keeps_its_rules(position);
+    position.keeps_its_rules();
     let mut after = *position;
     after.clear(square);
     let side = piece.side;

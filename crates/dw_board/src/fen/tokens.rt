@@ -1,6 +1,6 @@
 //! The tokens of a FEN text, read from the front.
 ghost use Rattle.std.specs.Prelude.{◌≡◌, ◌+◌, ◌≤◌, ◌<◌, ◌||◌, false, true, length, take, drop, is_some, slice_get};
-ghost use Rattle.dw_board.specs.FenBlanks.{begins_with_blank, IsSignByte};
+ghost use Rattle.dw_board.specs.inner.FenBlanks.{begins_with_blank, IsSignByte};
 ghost use Rattle.dw_board.specs.FenTokens.{is_sign, is_blank, is_digit, begins_with_digit, side_named, is_king_letter};
 ghost use Rattle.dw_board.specs.FenTokens.{number_named, tokens_from};
 
@@ -14,7 +14,7 @@ use crate::square::Square;
 /// A text and the place in it up to which it is read. It never stands at a blank.
 /// Example: `W:W27` has the tokens `W`, `:`, `W` and `27`.
 #[derive(Drop)]
-pub struct Tokens<'a> {
+pub(super) struct Tokens<'a> {
     text: &'a [u8],
     at: usize,
     ghost inside: { at ≤ length text.now },
@@ -23,11 +23,12 @@ pub struct Tokens<'a> {
 }
 
 impl<'a> Tokens<'a> {
-    ghost use Rattle.dw_board.specs.FenReader.{tokens_of, end_of, place_of, first_is, first_named, left_of, is_empty};
+    ghost use Rattle.dw_board.specs.inner.FenReader.{tokens_of, end_of, left_of};
+    ghost use Rattle.dw_board.specs.FenTokens.{place_of, first_is, first_named, is_empty};
 
     /// The first token of a text of at most `MAX_FEN` bytes.
     /// Example: of ` W` it is `W`, at place 2.
-    pub fn new(text: &'a [u8]) -> Tokens<'a>
+    pub(super) fn new(text: &'a [u8]) -> Tokens<'a>
         requires { length text.now ≤ MAX_FEN }
         ensures tokens { tokens_of result ≡ tokens_from 1 text.entry.now }
         ensures end { end_of result ≡ length text.entry.now + 1 }
@@ -40,7 +41,7 @@ impl<'a> Tokens<'a> {
 
     /// The place of the next token, or the one after the text.
     /// Example: at the start of ` W` it is 2.
-    pub fn place(&self) -> u16
+    pub(super) fn place(&self) -> u16
         ensures { result ≡ place_of (tokens_of self.now) (end_of self.now) }
     {
         self.at as u16 + 1
@@ -48,7 +49,7 @@ impl<'a> Tokens<'a> {
 
     /// The fault at the place of the next token.
     /// Example: at the start of `x` that of `FenFaultKind::Turn` is `turn at 1`.
-    pub fn fault(&self, what: FenFaultKind) -> FenFault
+    pub(super) fn fault(&self, what: FenFaultKind) -> FenFault
         ensures { result ≡ (record { what = what; place = place_of (tokens_of self.now) (end_of self.now) }) }
     {
         FenFault {
@@ -59,7 +60,7 @@ impl<'a> Tokens<'a> {
 
     /// Whether no token is left.
     /// Example: of a text of blanks it is `true` at the start.
-    pub fn is_at_end(&self) -> bool
+    pub(super) fn is_at_end(&self) -> bool
         ensures { result ≡ is_empty (tokens_of self.now) }
     {
         self.at == self.text.len()
@@ -84,7 +85,7 @@ impl<'a> Tokens<'a> {
 
     /// Whether this sign is the next token.
     /// Example: at the start of `:B` it is `true` for `b':'`.
-    pub fn stands(&self, sign: u8) -> bool
+    pub(super) fn stands(&self, sign: u8) -> bool
         requires { IsSignByte sign }
         ensures { result ≡ first_is (is_sign sign) (tokens_of self.now) }
     {
@@ -93,7 +94,7 @@ impl<'a> Tokens<'a> {
 
     /// Takes the next token if it is this sign.
     /// Example: at the start of `:B` it takes `b':'`, and `B` is the next token.
-    pub fn take(&mut self, sign: u8) -> bool
+    pub(super) fn take(&mut self, sign: u8) -> bool
         requires { IsSignByte sign }
         ensures taken { result ≡ first_is (is_sign sign) (tokens_of self.old) }
         ensures left { tokens_of self.new ≡ left_of result (tokens_of self.old) }
@@ -124,7 +125,7 @@ impl<'a> Tokens<'a> {
     /// Takes the next token if it is a K.
     /// Example: at the start of `k7` it is `true`, and `7` is the next token.
     #[tactic(auto, using(crate::proofs::FenTokenLemmas::first_is_king))]
-    pub fn take_king(&mut self) -> bool
+    pub(super) fn take_king(&mut self) -> bool
         ensures taken { result ≡ first_is is_king_letter (tokens_of self.old) }
         ensures left { tokens_of self.new ≡ left_of result (tokens_of self.old) }
         ensures end { end_of self.new ≡ end_of self.old }
@@ -134,7 +135,7 @@ impl<'a> Tokens<'a> {
 
     /// Takes the next token if it names a side.
     /// Example: at the start of `b:` it is `Some(Side::Black)`.
-    pub fn take_side(&mut self) -> Option<Side>
+    pub(super) fn take_side(&mut self) -> Option<Side>
         ensures taken { result ≡ first_named side_named (tokens_of self.old) }
         ensures left { tokens_of self.new ≡ left_of (is_some result) (tokens_of self.old) }
         ensures end { end_of self.new ≡ end_of self.old }
@@ -150,7 +151,7 @@ impl<'a> Tokens<'a> {
 
     /// Takes the next token if it gives the number of a square.
     /// Example: at the start of `07,31` it is square 7, and of `007` it is `None`.
-    pub fn take_square<B: Board>(&mut self) -> Option<Square<B>>
+    pub(super) fn take_square<B: Board>(&mut self) -> Option<Square<B>>
         ensures taken { result ≡ first_named (number_named B.geometry) (tokens_of self.old) }
         ensures left { tokens_of self.new ≡ left_of (is_some result) (tokens_of self.old) }
         ensures end { end_of self.new ≡ end_of self.old }

@@ -1,5 +1,6 @@
 use Rattle.std.proofs.Common.{Err, sym, ◌∙◌, ap}
-use Rattle.dw_board.specs.FenReader.{tokens_of, end_of, place_of}
+use Rattle.dw_board.specs.inner.FenReader.{tokens_of, end_of}
+use Rattle.dw_board.specs.FenTokens.{place_of}
 use Rattle.dw_board.specs.Fen.{fault}
 use Rattle.dw_board.specs.declared.fen.fault.FenFaultKind.TheVariants.{Rest}
 use Rattle.dw_board.proofs.FenStageLemmas.{ends_well, ends_badly}

@@ -1,7 +1,8 @@
 use Rattle.std.proofs.Common.{◌≡◌, Ok, Err, Some, None, is_some, refl, sym, ◌∙◌, ap, arith, Result, OnOk}
 use Rattle.std.proofs.lemmas.Result.{err_from_is_err_and}
 use Rattle.dw_board.specs.FenTokens.{number_named}
-use Rattle.dw_board.specs.FenReader.{tokens_of, end_of, place_of, behind, left_of, first_named}
+use Rattle.dw_board.specs.inner.FenReader.{tokens_of, end_of, behind, left_of}
+use Rattle.dw_board.specs.FenTokens.{place_of, first_named}
 use Rattle.dw_board.specs.Fen.{fault, Item, AfterNumber}
 use Rattle.dw_board.specs.inner.FenReading.{read_behind, listing}
 use Rattle.dw_board.specs.declared.fen.fault.FenFaultKind.TheVariants.{Number}

@@ -1,5 +1,5 @@
 use Rattle.std.proofs.Common.{sym, ◌∙◌, ap, arith}
-use Rattle.dw_board.specs.FenReader.{tokens_of, end_of, left_of}
+use Rattle.dw_board.specs.inner.FenReader.{tokens_of, end_of, left_of}
 use Rattle.dw_board.specs.Fen.{read_from, AfterComma, AfterItem}
 use Rattle.dw_board.specs.inner.FenReading.{listing}
 use Rattle.dw_board.proofs.FenStageLemmas.{comma_read, length-left}

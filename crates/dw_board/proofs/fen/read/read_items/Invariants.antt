@@ -1,5 +1,5 @@
 use Rattle.std.proofs.Common.{◌≡◌, Bool, length}
-use Rattle.dw_board.specs.FenReader.{tokens_of, end_of}
+use Rattle.dw_board.specs.inner.FenReader.{tokens_of, end_of}
 use Rattle.dw_board.specs.Fen.{read_from, AfterComma}
 use Rattle.dw_board.specs.inner.FenReading.{listing}
 use Rattle.dw_board.proofs.fen.read.read_items.Given as goal

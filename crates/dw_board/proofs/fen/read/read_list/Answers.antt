@@ -1,5 +1,5 @@
 use Rattle.std.proofs.Common.{sym, ◌∙◌, Err}
-use Rattle.dw_board.specs.FenReader.{tokens_of, end_of}
+use Rattle.dw_board.specs.inner.FenReader.{tokens_of, end_of}
 use Rattle.dw_board.specs.Fen.{read_from, AfterItem}
 use Rattle.dw_board.specs.inner.FenReading.{listing}
 use Rattle.dw_board.proofs.FenStageLemmas.{list_nothing, list_something, nothing-no_comma, step_before}

@@ -1,6 +1,7 @@
 use Rattle.std.proofs.Common.{◌≡◌, ◌<◌, ◌≤◌, Err, Some, None, is_some, sym, ◌∙◌, ap, arith}
 use Rattle.dw_board.specs.FenTokens.{number_named}
-use Rattle.dw_board.specs.FenReader.{tokens_of, end_of, place_of, behind, left_of, first_named}
+use Rattle.dw_board.specs.inner.FenReader.{tokens_of, end_of, behind, left_of}
+use Rattle.dw_board.specs.FenTokens.{place_of, first_named}
 use Rattle.dw_board.specs.Fen.{fault}
 use Rattle.dw_board.specs.inner.FenReading.{read_behind}
 use Rattle.dw_board.specs.declared.fen.fault.FenFaultKind.TheVariants.{Number, RangeBackwards}

@@ -1,7 +1,8 @@
 use Rattle.std.proofs.Common.{◌≡◌, true, Err, Some, None, is_some, refl, sym, ◌∙◌, ap}
 use Rattle.std.proofs.lemmas.Result.{err_from_is_err_and}
 use Rattle.dw_board.specs.FenTokens.{side_named, is_sign}
-use Rattle.dw_board.specs.FenReader.{tokens_of, end_of, behind, left_of, first_named, first_is}
+use Rattle.dw_board.specs.inner.FenReader.{tokens_of, end_of, behind, left_of}
+use Rattle.dw_board.specs.FenTokens.{first_named, first_is}
 use Rattle.dw_board.specs.Fen.{read_from, AfterColour, AfterItem}
 use Rattle.dw_board.specs.inner.FenReading.{listing}
 use Rattle.dw_board.specs.declared.fen.fault.FenFaultKind.TheVariants.{Colour}

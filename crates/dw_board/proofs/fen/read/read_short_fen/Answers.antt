@@ -1,7 +1,8 @@
 use Rattle.std.proofs.Common.{◌≡◌, ◌+◌, false, true, Some, None, is_some, length, sym, ◌∙◌, ap}
 use Rattle.dw_board.specs.Placement.{empty}
 use Rattle.dw_board.specs.FenTokens.{side_named, is_sign, tokens_from}
-use Rattle.dw_board.specs.FenReader.{tokens_of, end_of, behind, left_of, first_named, first_is}
+use Rattle.dw_board.specs.inner.FenReader.{tokens_of, end_of, behind, left_of}
+use Rattle.dw_board.specs.FenTokens.{first_named, first_is}
 use Rattle.dw_board.specs.Fen.{short_fen, read_from, AfterColon}
 use Rattle.dw_board.specs.declared.fen.fault.FenFaultKind.TheVariants.{Turn, Colon}
 use Rattle.dw_board.proofs.FenStageLemmas.{turn_read, turn_fault, colon_read, colon_fault, same_read, fault_here}

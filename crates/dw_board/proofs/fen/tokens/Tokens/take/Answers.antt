@@ -1,7 +1,7 @@
 use Rattle.std.proofs.Common.{◌+◌, drop, length-drop, sym, ◌∙◌, ap, arith}
 use Rattle.std.proofs.lemmas.List.{drop-drop}
 use Rattle.dw_board.specs.FenTokens.{tokens_from, is_sign}
-use Rattle.dw_board.specs.FenReader.{left_of, tokens_of}
+use Rattle.dw_board.specs.inner.FenReader.{left_of, tokens_of}
 use Rattle.dw_board.proofs.FenTokenLemmas.{behind-sign, first_is-room}
 use Rattle.dw_board.proofs.fen.tokens.Tokens.take.Goals as goal
 

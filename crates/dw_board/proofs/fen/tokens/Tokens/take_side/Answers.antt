@@ -1,6 +1,7 @@
 use Rattle.std.proofs.Common.{◌≡◌, true, false, ◌||◌, sym, ◌∙◌, refl, ap}
 use Rattle.dw_board.specs.FenTokens.{is_sign}
-use Rattle.dw_board.specs.FenReader.{first_is, left_of, tokens_of}
+use Rattle.dw_board.specs.inner.FenReader.{left_of, tokens_of}
+use Rattle.dw_board.specs.FenTokens.{first_is}
 use Rattle.dw_board.proofs.FenTokenLemmas.{first_named_side}
 use Rattle.dw_board.proofs.fen.tokens.Tokens.take_side.Goals as goal
 
