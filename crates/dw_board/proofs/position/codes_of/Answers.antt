@@ -1,4 +1,4 @@
-use Rattle.std.proofs.Common.{ℕ, ◌<◌, ◌∙◌, sym, ap, length, arith, get_or, length-set, None}
+use Rattle.std.proofs.Common.{ℕ, ◌<◌, ◌∙◌, sym, length, arith, get_or, length-set, None}
 use Rattle.std.proofs.lemmas.List.{length-map, get_or-map}
 use Rattle.std.proofs.lemmas.List.Edits.{fill_by_more}
 use Rattle.std.proofs.lemmas.Grind.{same_number_lists}
@@ -17,7 +17,7 @@ loop-i-preserved g c =
 pub returns : goal.returns
 returns g c =
     let cells = c.args.position.now.cells in
-    let fifty = ap (λ v. length v.cells) (sym c.position.view_is) ∙ c.position.invariant.position.fifty in
+    let fifty = c.keeps_its_rules.ensures.fifty in
     same_number_lists _ _
     (let e = length-map cells of.cell_code in omega arith)
     (λ k h. let low : k < 50 = omega arith in let e = length-map cells of.cell_code in
