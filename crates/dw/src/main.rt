@@ -12,10 +12,9 @@ use clap::ArgMatches;
 use dw_board::{Board, Eight, Ten};
 use dw_list::read_token;
 use dw_moves::Move;
-use dw_notation::MAX_MOVES;
+use dw_notation::{MAX_MOVES, Reading, Writing};
 use dw_program::{BoardSize, Lasting, Unread, memo_of, why_unread, words_given};
 use dw_report::run::run;
-use dw_report::streams::{Reading, Writing};
 use dw_report::{RunFault, Settings, Summary};
 use dw_solve::ByTrial;
 use outcome::{Ending, outcome};
@@ -23,7 +22,7 @@ use std::fmt::Display;
 use std::fs::File;
 use std::io::Read;
 use std::process::ExitCode;
-use words::{Request, command, requested};
+use words::{ReportWords, command, requested};
 
 fn main(rt: HostRuntime) -> ExitCode {
     let words = match words_given(&rt, "dw") {
@@ -52,58 +51,58 @@ fn end_unread(rt: &HostRuntime, why: &Unread) -> ExitCode {
 
 /// Runs the command that the arguments ask for.
 fn obey(rt: &HostRuntime, matches: &ArgMatches<'_>) -> ExitCode {
-    let Some(request) = requested(matches) else {
+    let Some(asked) = requested(matches) else {
         return end_with(rt, Ending::Words("dw: no command\n"), None);
     };
-    match request.board {
-        BoardSize::Ten => obey_on::<Ten>(rt, &request),
-        BoardSize::Eight => obey_on::<Eight>(rt, &request),
+    match asked.board {
+        BoardSize::Ten => obey_on::<Ten>(rt, &asked),
+        BoardSize::Eight => obey_on::<Eight>(rt, &asked),
     }
 }
 
 /// Reads the token, if there is one, and then makes the memo, and with it the report.
-fn obey_on<B: Board>(rt: &HostRuntime, request: &Request<'_>) -> ExitCode {
-    let after = match request.after.map(|token| read_token::<B>(token.as_bytes())) {
+fn obey_on<B: Board>(rt: &HostRuntime, asked: &ReportWords<'_>) -> ExitCode {
+    let after = match asked.after.map(|token| read_token::<B>(token.as_bytes())) {
         None => None,
         Some(Ok(line)) => Some(line),
         Some(Err(fault)) => return end_with(rt, Ending::TokenRefused(fault), None),
     };
-    match memo_of(rt.alloc(), request.memo, request.cache) {
-        Ok(memo) => report_with(rt, request, &settings_of(request, after), memo),
+    match memo_of(rt.alloc(), asked.memo, asked.cache) {
+        Ok(memo) => report_with(rt, asked, &settings_of(asked, after), memo),
         Err(_) => end_with(rt, Ending::Memory, None),
     }
 }
 
 /// What is asked of the run, with the line after which lines are listed.
 fn settings_of<B: Board>(
-    request: &Request<'_>,
+    asked: &ReportWords<'_>,
     after: Option<ArrayVec<Move<B>, MAX_MOVES>>,
 ) -> Settings<B>
     ensures { result ≡ record {
-      command = request.now.command;
-      form = request.now.form;
-      n = request.now.n;
-      only = request.now.only;
-      lines = request.now.lines;
+      command = asked.now.command;
+      form = asked.now.form;
+      n = asked.now.n;
+      only = asked.now.only;
+      lines = asked.now.lines;
       after = after;
-      limit = request.now.positions;
+      limit = asked.now.positions;
     } }
 {
     Settings {
-        command: request.command,
-        form: request.form,
-        n: request.n,
-        only: request.only,
-        lines: request.lines,
+        command: asked.command,
+        form: asked.form,
+        n: asked.n,
+        only: asked.only,
+        lines: asked.lines,
         after,
-        limit: request.positions,
+        limit: asked.positions,
     }
 }
 
 /// Opens the file and writes the report.
 fn report_with<B: Board>(
     rt: &HostRuntime,
-    request: &Request<'_>,
+    asked: &ReportWords<'_>,
     settings: &Settings<B>,
     memo: Lasting<B>,
 ) -> ExitCode
@@ -113,7 +112,7 @@ fn report_with<B: Board>(
     requires lines { 1 ≤ settings.now.lines }
     requires limit { 1 ≤ settings.now.limit }
 {
-    let ran = match request.file {
+    let ran = match asked.file {
         None => report_on(rt, &mut rt.stdin(), settings, memo),
         Some(path) => match File::open(rt, path) {
             Ok(mut file) => report_on(rt, &mut file, settings, memo),

@@ -17,7 +17,7 @@ const NO_MEMORY: RunFault = RunFault::Stopped {
 /// How the program ended. `T` is the type of the texts that its line names.
 /// See [`outcome`] for an example.
 #[derive(Copy)]
-pub enum Ending<T> {
+pub(crate) enum Ending<T> {
     /// Help was asked for, and written.
     Help,
     /// Help was asked for, and standard output failed.
@@ -44,7 +44,7 @@ impl<T: Copy> Clone for Ending<T> {
 /// What is written on standard error.
 /// Example: `Message::NoProblem(7)` is written `dw: no problem 7`, with a line end.
 #[derive(Copy)]
-pub enum Message<T> {
+pub(crate) enum Message<T> {
     /// Why the arguments are no command, with its own line ends.
     Words(T),
     /// Why the token is none.
@@ -90,9 +90,9 @@ fn number_of(fault: TokenFault) -> u8 {
 /// The exit status, 0 to 3, and what is written on standard error.
 /// See [`outcome`] for an example.
 #[derive(Copy)]
-pub struct Exit<T> {
-    pub status: u8,
-    pub message: Option<Message<T>>,
+pub(crate) struct Exit<T> {
+    pub(crate) status: u8,
+    pub(crate) message: Option<Message<T>>,
 }
 
 impl<T: Copy> Clone for Exit<T> {
@@ -106,7 +106,7 @@ impl<T: Copy> Clone for Exit<T> {
 /// Status 0 is done, 1 that something was refused or is not there, 2 that the arguments are no command, 3 that
 /// the program was stopped or a stream failed.
 /// Example: for `Ending::Help` the status is 0, and there is no message.
-pub fn outcome<T: Copy>(ending: Ending<T>, only: Option<u32>) -> Exit<T>
+pub(crate) fn outcome<T: Copy>(ending: Ending<T>, only: Option<u32>) -> Exit<T>
     ensures { result ≡ outcome_of ending only }
 {
     match ending {

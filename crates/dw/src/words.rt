@@ -4,9 +4,10 @@ ghost use Rattle.std.specs.Prelude.{◌≤◌};
 use clap::builder::ValueParser;
 use clap::{Arg, ArgMatches, Command as Words, value_parser};
 use dw_notation::Form;
-use dw_notation::problems::MAX_PROBLEMS;
 use dw_program::options::{
-    MOST_KEPT, MOST_MOVES, MOST_POSITIONS, VERSION, board, cache, file, memo, option, pdn,
+    FEWEST_KEPT, FEWEST_MOVES, FIRST_PROBLEM, MOST_POSITIONS, VERSION, board, cache, file,
+    form_given, kept_given, memo, moves_given, one_problem, option, pdn, positions,
+    positions_given, within,
 };
 use dw_program::{BoardSize, MemoKind};
 use dw_report::Command;
@@ -15,25 +16,25 @@ use std::alloc::{AllocError, Global};
 /// What the arguments ask for.
 /// See [`requested`] for an example.
 #[derive(Clone, Copy)]
-pub struct Request<'a> {
-    pub command: Command,
-    pub form: Form,
+pub(crate) struct ReportWords<'a> {
+    pub(crate) command: Command,
+    pub(crate) form: Form,
     /// The number of the one problem to report, or all.
-    pub only: Option<u32>,
-    pub board: BoardSize,
-    /// Within how many moves a win is looked for, 1 to `MOST_MOVES`.
-    pub n: u8,
+    pub(crate) only: Option<u32>,
+    pub(crate) board: BoardSize,
+    /// Within how many moves a win is looked for, `FEWEST_MOVES` to `MOST_MOVES`.
+    pub(crate) n: u8,
     /// The most positions to expand, at least 1.
-    pub positions: u64,
-    pub memo: MemoKind,
-    /// The most positions that the memo keeps, 1 to `MOST_KEPT`.
-    pub cache: usize,
+    pub(crate) positions: u64,
+    pub(crate) memo: MemoKind,
+    /// The most positions that the memo keeps, `FEWEST_KEPT` to `MOST_KEPT`.
+    pub(crate) cache: usize,
     /// The most lines to list, at least 1.
-    pub lines: u64,
+    pub(crate) lines: u64,
     /// The token of the line after which the list begins.
-    pub after: Option<&'a str>,
+    pub(crate) after: Option<&'a str>,
     /// The file to read, or standard input.
-    pub file: Option<&'a str>,
+    pub(crate) file: Option<&'a str>,
     ghost some_moves: { 1 ≤ n },
     ghost few_moves: { n ≤ 20 },
     ghost some_positions: { 1 ≤ positions },
@@ -42,6 +43,9 @@ pub struct Request<'a> {
     ghost some_lines: { 1 ≤ lines },
 }
 
+/// The fewest lines that a run may list.
+const FEWEST_LINES: u64 = 1;
+
 /// The most lines that a run may list, and what it may if the arguments say nothing.
 const MOST_LINES: u64 = 1_000_000_000;
 
@@ -49,6 +53,14 @@ const MOST_LINES: u64 = 1_000_000_000;
 const USUALLY_KEPT: usize = 100_000;
 
 const CACHE_HELP: &str = "Keep at most C positions, 1 to 4000000 [default: 100000]";
+
+const PROBLEM_HELP: &str =
+    "Report on the problem of this number alone, 1 to 1000000 [default: all]";
+
+const WITHIN_HELP: &str = "Look for a win in N moves of the side to move, 1 to 20";
+
+const POSITIONS_HELP: &str =
+    "Stop after L positions, 1 to 1000000000000 [default: 1000000000000]";
 
 const ABOUT: &str =
     "Solves problems of international draughts: verdicts, and every line of a forced win.";
@@ -122,7 +134,7 @@ Examples:
 
 /// The commands that the program knows.
 /// Example: `dw show a.fen` is one of them, and `dw solve` is none.
-pub fn command<'a>(alloc: Global) -> Result<Words<'a>, AllocError> {
+pub(crate) fn command<'a>(alloc: Global) -> Result<Words<'a>, AllocError> {
     let commands = subcommands(alloc)?;
     Words::new(alloc, "dw")
         .version(VERSION)
@@ -184,14 +196,19 @@ fn texts<'a>(command: Command) -> [&'a str; 3] {
 
 /// The arguments of every command.
 fn reading<'a>(alloc: Global) -> Result<Vec<Arg<'a>>, AllocError> {
-    Ok(vec![in alloc; board(alloc), pdn(alloc), problem(alloc), file(alloc)]?)
+    Ok(vec![in alloc;
+        board(alloc),
+        pdn(alloc),
+        one_problem(alloc, PROBLEM_HELP),
+        file(alloc),
+    ]?)
 }
 
 /// The arguments of a command that searches for wins.
 fn searching<'a>(alloc: Global) -> Result<Vec<Arg<'a>>, AllocError> {
     Ok(vec![in alloc;
-        within(alloc),
-        positions(alloc),
+        within(alloc, WITHIN_HELP).required(true),
+        positions(alloc, "positions", POSITIONS_HELP),
         memo(alloc, "lru"),
         cache(alloc, CACHE_HELP),
     ]?)
@@ -202,29 +219,8 @@ fn listing<'a>(alloc: Global) -> Result<Vec<Arg<'a>>, AllocError> {
     Ok(vec![in alloc; lines(alloc), after(alloc)]?)
 }
 
-fn problem<'a>(alloc: Global) -> Arg<'a> {
-    let numbers = value_parser!(u32).range(1..=i64::from(MAX_PROBLEMS));
-    let help = "Report on the problem of this number alone, 1 to 1000000 [default: all]";
-    option(alloc, "problem", "I", numbers, help)
-}
-
-fn within<'a>(alloc: Global) -> Arg<'a> {
-    Arg::new(alloc, "n")
-        .short('n')
-        .value_name("N")
-        .required(true)
-        .value_parser(value_parser!(u8).range(1..=i64::from(MOST_MOVES)))
-        .help("Look for a win in N moves of the side to move, 1 to 20")
-}
-
-fn positions<'a>(alloc: Global) -> Arg<'a> {
-    let numbers = value_parser!(u64).range(1..=MOST_POSITIONS as i64);
-    let help = "Stop after L positions, 1 to 1000000000000 [default: 1000000000000]";
-    option(alloc, "positions", "L", numbers, help)
-}
-
 fn lines<'a>(alloc: Global) -> Arg<'a> {
-    let numbers = value_parser!(u64).range(1..=MOST_LINES as i64);
+    let numbers = value_parser!(u64).range(FEWEST_LINES as i64..=MOST_LINES as i64);
     let help = "List at most K lines, 1 to 1000000000 [default: 1000000000]";
     option(alloc, "lines", "K", numbers, help)
 }
@@ -236,7 +232,7 @@ fn after<'a>(alloc: Global) -> Arg<'a> {
 
 /// What parsed arguments ask for.
 /// Example: `dw show --problem 3 a.fen` asks for problem 3 alone, of the file `a.fen`.
-pub fn requested<'a>(matches: &ArgMatches<'a>) -> Option<Request<'a>> {
+pub(crate) fn requested<'a>(matches: &ArgMatches<'a>) -> Option<ReportWords<'a>> {
     if let Some(words) = matches.subcommand_matches("show") {
         return Some(read_by(words, Command::Show));
     }
@@ -251,49 +247,52 @@ pub fn requested<'a>(matches: &ArgMatches<'a>) -> Option<Request<'a>> {
 }
 
 /// What a command that reads problems asks for. It searches nothing and lists no lines.
-fn read_by<'a>(words: &ArgMatches<'a>, command: Command) -> Request<'a> {
-    Request {
+fn read_by<'a>(words: &ArgMatches<'a>, command: Command) -> ReportWords<'a> {
+    ReportWords {
         command,
-        form: form(words.get_flag("pdn")),
+        form: form_given(words),
         only: words.get_one::<u32>("problem"),
         board: BoardSize::named(words.get_str("board")),
-        n: 1,
+        n: FEWEST_MOVES,
         positions: MOST_POSITIONS,
         memo: MemoKind::None,
-        cache: 1,
-        lines: 1,
+        cache: FEWEST_KEPT,
+        lines: FEWEST_LINES,
         after: None,
         file: words.get_str("FILE"),
     }
 }
 
-/// What a command that searches for wins asks for. The numbers are within their ranges already, but what reads the
-/// words does not say so to the prover.
-fn searched_by<'a>(words: &ArgMatches<'a>, command: Command) -> Request<'a> {
+/// What a command that searches for wins asks for.
+fn searched_by<'a>(words: &ArgMatches<'a>, command: Command) -> ReportWords<'a> {
     let read = read_by(words, command);
-    let positions = words.get_one::<u64>("positions");
-    let cache = words.get_one::<usize>("cache");
-    Request {
+    ReportWords {
         command,
         form: read.form,
         only: read.only,
         board: read.board,
-        n: words.get_one::<u8>("n").unwrap_or(1).clamp(1, MOST_MOVES),
-        positions: positions.unwrap_or(MOST_POSITIONS).max(1),
+        n: moves_given(words, "n").unwrap_or(FEWEST_MOVES),
+        positions: positions_given(words, "positions").unwrap_or(MOST_POSITIONS),
         memo: MemoKind::named(words.get_str("memo")),
-        cache: cache.unwrap_or(USUALLY_KEPT).clamp(1, MOST_KEPT),
+        cache: kept_given(words, USUALLY_KEPT),
         lines: read.lines,
         after: read.after,
         file: read.file,
     }
 }
 
-/// What the command that lists lines asks for. A token without the number of a problem is one of problem 1.
-fn listed_by<'a>(words: &ArgMatches<'a>) -> Request<'a> {
+/// What the command that lists lines asks for. A token without the number of a problem is one of the first problem. The
+/// number of lines is within its range already, but clap does not say so to the prover.
+fn listed_by<'a>(words: &ArgMatches<'a>) -> ReportWords<'a> {
     let asked = searched_by(words, Command::List);
     let after = words.get_str("after");
-    let first = if after.is_some() { Some(1) } else { None };
-    Request {
+    let first = if after.is_some() {
+        Some(FIRST_PROBLEM)
+    } else {
+        None
+    };
+    let lines = words.get_one::<u64>("lines").unwrap_or(MOST_LINES);
+    ReportWords {
         command: asked.command,
         form: asked.form,
         only: asked.only.or(first),
@@ -302,12 +301,8 @@ fn listed_by<'a>(words: &ArgMatches<'a>) -> Request<'a> {
         positions: asked.positions,
         memo: asked.memo,
         cache: asked.cache,
-        lines: words.get_one::<u64>("lines").unwrap_or(MOST_LINES).max(1),
+        lines: lines.max(FEWEST_LINES),
         after,
         file: asked.file,
     }
-}
-
-fn form(is_pdn: bool) -> Form {
-    if is_pdn { Form::Pdn } else { Form::Fens }
 }

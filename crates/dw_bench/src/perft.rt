@@ -7,7 +7,7 @@ use dw_moves::{Move, legal_into};
 use std::alloc::AllocError;
 
 /// The number of lines of as many moves as there are lists, one list for each ply.
-pub fn perft<B: Board>(
+pub(crate) fn perft<B: Board>(
     position: &Position<B>,
     lists: &mut [Vec<Move<B>>],
 ) -> Result<u64, AllocError> {
@@ -26,7 +26,7 @@ pub fn perft<B: Board>(
 }
 
 /// The number of moves made on all those lines: each is played, the last ones too.
-pub fn moves_made<B: Board>(
+pub(crate) fn moves_made<B: Board>(
     position: &Position<B>,
     lists: &mut [Vec<Move<B>>],
 ) -> Result<u64, AllocError> {

@@ -1,5 +1,5 @@
 //! Taking a certificate out of a memo.
-ghost use Rattle.std.specs.Prelude.{◌≡◌, ◌-◌, ◌≤◌, ◌⊎◌, true, false, IfOk, OnOk, IfSome, IsTrue, slice_get, ◌↔◌};
+ghost use Rattle.std.specs.Prelude.{◌≡◌, ◌-◌, ◌≤◌, ◌⊎◌, true, false, IfOk, OnOk, IfSome, IsTrue, slice_get, ◌↔◌, length};
 ghost use Rattle.std.specs.Prelude.{◌+◌, ◌<◌, ◌^◌, ◌++◌, ◌∷◌, [], None};
 ghost use Rattle.indexmap.specs.IndexMap.{get};
 ghost use Rattle.dw_board.specs.inner.PlacementLemmas.{same};
@@ -98,10 +98,16 @@ impl<B: Board> Certificate<B> {
         ensures row { result ≡ slice_get self.now.rows.entries index }
         ensures small { IfSome result (λ _. index < 2 ^ 63) }
     {
-        // The check learns here how many rows there can be.
-        let _count = self.rows.len();
+        self.keeps_its_length();
         let (position, bound) = self.rows.get_index(index)?;
         Some((*position, *bound))
+    }
+
+    /// There are fewer rows than 2 ^ 63: a law, which does nothing.
+    fn keeps_its_length(&self)
+        ensures { length self.now.rows.entries < 2 ^ 63 }
+    {
+        let _ = self.rows.len();
     }
 
     /// Puts in what a row needs.

@@ -15,7 +15,7 @@ use crate::progress::Progress;
 use dw_board::{Board, Position};
 use dw_certificate::{CertificateFault, certificate_text, certify};
 use dw_notation::{Problem, Sink, Source, write_all};
-use dw_program::options::MOST_MOVES;
+use dw_program::options::{FEWEST_MOVES, MOST_MOVES};
 use dw_program::{Lasting, MemoKind, memo_of};
 use dw_report::{RunFault, Stop, problem_line};
 use dw_solve::{ByTrial, Solver};
@@ -25,7 +25,7 @@ use std::mem::replace;
 
 /// Writes the certificate of whether the chosen problem is won within `n` moves, and tells how that ended. A refused
 /// problem leaves its first line alone.
-pub fn certify_problem<T, B: Board, S: Source, K: Sink>(
+pub(crate) fn certify_problem<T, B: Board, S: Source, K: Sink>(
     desk: &mut Desk<B>,
     slices: &mut Slices<Progress<'_>>,
     chosen: &mut Chosen<'_, B, S>,
@@ -61,7 +61,8 @@ fn write_certificate<T, B: Board, K: Sink>(
         write_all(sink, problem_line(problem).as_str().as_bytes())?;
         return Ok(Ending::Refused);
     };
-    let n = n.clamp(1, MOST_MOVES);
+    // The number is within this range already, but a `Task` does not say so to the prover.
+    let n = n.clamp(FEWEST_MOVES, MOST_MOVES);
     desk.begin(slices, problem.number);
     let searched = wins_in_slices(desk.alloc, &mut desk.solver, position, n, slices);
     slices.watcher.end();

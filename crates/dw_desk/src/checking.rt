@@ -24,7 +24,7 @@ use crate::progress::Progress;
 use dw_board::{Board, Position};
 use dw_games::{Game, MovetextFault, MovetextFaultKind, Tree, read_movetext};
 use dw_notation::{Sink, Source, write_all};
-use dw_program::options::MOST_MOVES;
+use dw_program::options::{FEWEST_MOVES, MOST_MOVES};
 use dw_report::{Stop, problem_line};
 use dw_study::check::check;
 use dw_study::{Checked, Remark, Slices, remark_text, turns_of};
@@ -32,7 +32,7 @@ use itoa::Buffer;
 use std::alloc::{AllocError, Global};
 
 /// Checks the solutions of the chosen games, each as soon as it is read, within `n` moves, or as many as each has.
-pub fn check_games<B: Board, S: Source, K: Sink>(
+pub(crate) fn check_games<B: Board, S: Source, K: Sink>(
     desk: &mut Desk<B>,
     slices: &mut Slices<Progress<'_>>,
     chosen: &mut Chosen<'_, B, S>,
@@ -96,7 +96,7 @@ fn moves_for<B: Board>(asked: Option<u8>, tree: &Tree<B>) -> u8
         Some(moves) => moves,
         None => turns_of(tree),
     };
-    moves.clamp(1, MOST_MOVES)
+    moves.clamp(FEWEST_MOVES, MOST_MOVES)
 }
 
 /// Compares a solution with the truth, and shows how far the search is.

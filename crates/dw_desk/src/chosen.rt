@@ -11,7 +11,7 @@ use std::alloc::Global;
 
 /// The chosen problems of a text, in order, each as a game. One that has a line to itself has no tags and no movetext.
 #[derive(Drop)]
-pub struct Chosen<'a, B: Board, S> {
+pub(crate) struct Chosen<'a, B: Board, S> {
     alloc: Global,
     text: Text<'a, B, S>,
     portion: Portion,
@@ -26,7 +26,7 @@ impl<'a, B: Board, S: Source> Chosen<'a, B, S> {
     ghost use Rattle.dw_games.specs.Games.{NumberedGame};
 
     /// The problems of a portion, of a text of this form that the source gives.
-    pub fn new(alloc: Global, source: &'a mut S, form: Form, portion: Portion) -> Self
+    pub(crate) fn new(alloc: Global, source: &'a mut S, form: Form, portion: Portion) -> Self
         requires { S.is_failed source.old ≡ false }
         ensures { (games : List NumberedGame) → AreToCome B.geometry S.coming S.has_ended result games
             → AreChosenOf B.geometry form portion (S.coming source.old) games }
@@ -40,19 +40,19 @@ impl<'a, B: Board, S: Source> Chosen<'a, B, S> {
     }
 
     /// The number of the first problem of the portion.
-    pub fn first(&self) -> u32
+    pub(crate) fn first(&self) -> u32
         ensures { result ≡ self.now.portion.first }
     {
         self.portion.first
     }
 
     /// Whether these problems were asked for by their numbers.
-    pub fn is_asked(&self) -> bool {
+    pub(crate) fn is_asked(&self) -> bool {
         self.portion.is_asked
     }
 
     /// The next of them, or none if there is no more. Reading ends behind the last.
-    pub fn next(&mut self) -> Result<Option<Game<B>>, DeskFault>
+    pub(crate) fn next(&mut self) -> Result<Option<Game<B>>, DeskFault>
         ensures given { IfOk result (λ found. HandsOut (AreToCome B.geometry S.coming S.has_ended self.old)
             (AreToCome B.geometry S.coming S.has_ended self.new) (option_map numbered_game found)) }
         ensures portion { self.new.portion ≡ self.old.portion }

@@ -13,11 +13,10 @@ use crate::progress::Progress;
 use crate::solving::solve_problems;
 use crate::writing::write_line;
 use dw_board::Board;
-use dw_desk_words::{Request, Task};
+use dw_desk_words::{DeskWords, Task};
 use dw_games::GameFault;
-use dw_notation::{Form, ReadFault, WriteFault};
+use dw_notation::{Form, ReadFault, Reading, WriteFault, Writing};
 use dw_program::{Lasting, memo_of};
-use dw_report::streams::{Reading, Writing};
 use dw_report::{RunFault, Stop};
 use dw_solve::{ByTrial, Solver};
 use dw_study::Slices;
@@ -30,18 +29,18 @@ const FIRST_SLICE: u64 = 50_000;
 
 /// How many problems were reported, and how many of them were refused, stayed undecided or fail.
 #[derive(Clone, Copy, Default)]
-pub struct Counts {
+pub(crate) struct Counts {
     shown: u32,
     refused: u32,
 }
 
 impl Counts {
     /// How the program ends after these.
-    pub fn ending<T>(self, request: &Request<'_>) -> Ending<T>
-        ensures { result ≡ ending_after self.shown self.refused request.now.portion }
+    pub(crate) fn ending<T>(self, words: &DeskWords<'_>) -> Ending<T>
+        ensures { result ≡ ending_after self.shown self.refused words.now.portion }
     {
-        if self.shown == 0 && request.portion.is_asked {
-            Ending::NoProblem(request.portion.first)
+        if self.shown == 0 && words.portion.is_asked {
+            Ending::NoProblem(words.portion.first)
         } else if self.refused == 0 {
             Ending::Done
         } else {
@@ -50,7 +49,7 @@ impl Counts {
     }
 
     /// One problem more is reported.
-    pub fn with(self, is_refused: bool) -> Counts
+    pub(crate) fn with(self, is_refused: bool) -> Counts
         ensures { self.shown < 4294967295 → self.refused < 4294967295 → result ≡ record {
           shown = self.shown + 1;
           refused = self.refused + (if is_refused then 1 else 0);
@@ -65,7 +64,7 @@ impl Counts {
 
 /// Why a problem was not reported to its end.
 #[derive(Clone, Copy)]
-pub enum DeskFault {
+pub(crate) enum DeskFault {
     Stopped(Stop),
     Read,
     Write,
@@ -117,28 +116,28 @@ impl From<WriteFault> for DeskFault {
 
 /// What searches for the problems.
 #[derive(Drop)]
-pub struct Desk<B: Board> {
-    pub alloc: Global,
-    pub solver: Solver<B, Lasting<B>, ByTrial>,
+pub(crate) struct Desk<B: Board> {
+    pub(crate) alloc: Global,
+    pub(crate) solver: Solver<B, Lasting<B>, ByTrial>,
 }
 
 impl<B: Board> Desk<B> {
     /// Begins with another problem: the memo may forget those before, and the line that shows how far a search is tells
     /// its number.
-    pub fn begin(&mut self, slices: &mut Slices<Progress<'_>>, number: u32) {
+    pub(crate) fn begin(&mut self, slices: &mut Slices<Progress<'_>>, number: u32) {
         self.solver.forget();
         slices.watcher.begin(number);
     }
 }
 
 /// Does what was asked for, with the problems of the file or of standard input.
-pub fn obey_on<'a, B: Board>(rt: &HostRuntime, request: &Request<'a>) -> Ending<&'a str>
+pub(crate) fn obey_on<'a, B: Board>(rt: &HostRuntime, words: &DeskWords<'a>) -> Ending<&'a str>
     requires { (B.geometry.rows ≡ 10) ⊎ (B.geometry.rows ≡ 8) }
 {
-    match request.file {
-        None => obey_with::<B>(rt, request, &mut rt.stdin()),
+    match words.file {
+        None => obey_with::<B>(rt, words, &mut rt.stdin()),
         Some(path) => match File::open(rt, path) {
-            Ok(mut file) => obey_with::<B>(rt, request, &mut file),
+            Ok(mut file) => obey_with::<B>(rt, words, &mut file),
             Err(_) => Ending::NotOpened(path),
         },
     }
@@ -148,44 +147,44 @@ pub fn obey_on<'a, B: Board>(rt: &HostRuntime, request: &Request<'a>) -> Ending<
 /// same code.
 fn obey_with<'a, B: Board>(
     rt: &HostRuntime,
-    request: &Request<'a>,
+    words: &DeskWords<'a>,
     reader: &mut dyn Read,
 ) -> Ending<&'a str>
     requires { (B.geometry.rows ≡ 10) ⊎ (B.geometry.rows ≡ 8) }
 {
-    let Ok(solver) = solver_of::<B>(rt.alloc(), request) else {
+    let Ok(solver) = solver_of::<B>(rt.alloc(), words) else {
         return Ending::Failed(NO_MEMORY);
     };
     let mut desk = Desk {
         alloc: rt.alloc(),
         solver,
     };
-    let mut slices = slices_of(rt, request);
+    let mut slices = slices_of(rt, words);
     let mut source = Reading::new(reader);
-    let mut chosen = Chosen::new(rt.alloc(), &mut source, form_of(request), request.portion);
+    let mut chosen = Chosen::new(rt.alloc(), &mut source, form_of(words), words.portion);
     let mut sink = Writing::new(rt.stdout());
-    let ended = match request.task {
+    let ended = match words.task {
         Task::Find(asked) => ending_of(
-            request,
+            words,
             find_problems(
                 &mut desk,
                 &mut slices,
                 &mut chosen,
-                request,
+                words,
                 &asked,
                 &mut sink,
             ),
         ),
         Task::Check { n } => ending_of(
-            request,
+            words,
             check_games(&mut desk, &mut slices, &mut chosen, n, &mut sink),
         ),
         Task::Solution(asked) => ending_of(
-            request,
+            words,
             solve_problems(&mut desk, &mut slices, &mut chosen, &asked, &mut sink),
         ),
         Task::Page(asked) => ending_of(
-            request,
+            words,
             page_problems(&mut desk, &mut slices, &mut chosen, &asked, &mut sink),
         ),
         Task::Certify { n } => {
@@ -203,33 +202,33 @@ fn obey_with<'a, B: Board>(
 }
 
 /// How the text has its problems: solutions stand in games alone.
-fn form_of(request: &Request<'_>) -> Form {
-    match request.task {
+fn form_of(words: &DeskWords<'_>) -> Form {
+    match words.task {
         Task::Check { .. } => Form::Pdn,
-        _ => request.form,
+        _ => words.form,
     }
 }
 
 /// How a report on problems ends.
 fn ending_of<T>(
-    request: &Request<'_>,
+    words: &DeskWords<'_>,
     reported: Result<Counts, DeskFault>,
 ) -> Result<Ending<T>, DeskFault> {
-    Ok(reported?.ending(request))
+    Ok(reported?.ending(words))
 }
 
 /// The solver for one problem or for all, over an empty memo.
-pub fn solver_of<B: Board>(
+pub(crate) fn solver_of<B: Board>(
     alloc: Global,
-    request: &Request<'_>,
+    words: &DeskWords<'_>,
 ) -> Result<Solver<B, Lasting<B>, ByTrial>, AllocError> {
-    let memo = memo_of(alloc, request.memo, request.cache)?;
+    let memo = memo_of(alloc, words.memo, words.cache)?;
     Ok(Solver::new(memo, ByTrial, u64::MAX))
 }
 
 /// The slices of the searches, and who is told of them. If nobody looks on, the first slice is all of a search.
-fn slices_of<'a>(rt: &'a HostRuntime, request: &Request<'_>) -> Slices<Progress<'a>> {
-    let is_shown = request.progress || rt.stderr().is_terminal();
+fn slices_of<'a>(rt: &'a HostRuntime, words: &DeskWords<'_>) -> Slices<Progress<'a>> {
+    let is_shown = words.progress || rt.stderr().is_terminal();
     let first = if is_shown { FIRST_SLICE } else { u64::MAX };
     Slices::new(first, Progress::new(rt, is_shown))
 }

@@ -9,7 +9,7 @@ use std::fmt;
 use std::fmt::{Display, Formatter};
 
 /// The fault if memory was refused before anything was done.
-pub const NO_MEMORY: RunFault = RunFault::Stopped {
+pub(crate) const NO_MEMORY: RunFault = RunFault::Stopped {
     why: Stop::Memory,
     expanded: 0,
 };
@@ -17,7 +17,7 @@ pub const NO_MEMORY: RunFault = RunFault::Stopped {
 /// How the program ended. `T` is the type of the texts that its line names.
 /// Example: `Ending::NoProblem(7)` is written `dw-desk: no problem 7`, with a line end; its status is 1.
 #[derive(Drop)]
-pub enum Ending<T> {
+pub(crate) enum Ending<T> {
     /// All was done, and nothing refused.
     Done,
     /// A problem was refused, or stayed undecided. The output says so.
@@ -69,7 +69,7 @@ impl<T: Display> Display for Ending<T> {
 
 /// The exit status: 0 is done, 1 that something was refused, undecided or is not there, 2 that the arguments are no
 /// command, 3 that the program was stopped or a stream failed.
-pub fn status_of<T>(ending: &Ending<T>) -> u8
+pub(crate) fn status_of<T>(ending: &Ending<T>) -> u8
     ensures { result ≡ of.status_of ending.now }
 {
     match ending {

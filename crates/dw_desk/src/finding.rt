@@ -14,7 +14,7 @@ use crate::desk::{Counts, Desk, DeskFault, solver_of};
 use crate::json::{found_row, json_line, refused_row};
 use crate::progress::Progress;
 use dw_board::{Board, Position, fen_text};
-use dw_desk_words::{FindWords, Request};
+use dw_desk_words::{FindWords, DeskWords};
 use dw_notation::{Problem, ProblemFault, Sink, Source, write_all};
 use dw_report::{problem_line, refusal_text};
 use dw_study::find::find;
@@ -22,11 +22,11 @@ use dw_study::{FindBounds, Finding, Slices, found_text};
 use std::alloc::{AllocError, Global};
 
 /// Reports the chosen problems, each as soon as it is read.
-pub fn find_problems<B: Board, S: Source, K: Sink>(
+pub(crate) fn find_problems<B: Board, S: Source, K: Sink>(
     desk: &mut Desk<B>,
     slices: &mut Slices<Progress<'_>>,
     chosen: &mut Chosen<'_, B, S>,
-    request: &Request<'_>,
+    words: &DeskWords<'_>,
     asked: &FindWords,
     sink: &mut K,
 ) -> Result<Counts, DeskFault>
@@ -38,7 +38,7 @@ pub fn find_problems<B: Board, S: Source, K: Sink>(
 {
     let mut counts = Counts::default();
     'games: while let Some(game) = chosen.next()? {
-        counts = counts.with(report(desk, slices, request, asked, &game.problem, sink)?);
+        counts = counts.with(report(desk, slices, words, asked, &game.problem, sink)?);
     }
     Ok(counts)
 }
@@ -47,7 +47,7 @@ pub fn find_problems<B: Board, S: Source, K: Sink>(
 fn report<B: Board, K: Sink>(
     desk: &mut Desk<B>,
     slices: &mut Slices<Progress<'_>>,
-    request: &Request<'_>,
+    words: &DeskWords<'_>,
     asked: &FindWords,
     problem: &Problem<B>,
     sink: &mut K,
@@ -59,9 +59,9 @@ fn report<B: Board, K: Sink>(
     ensures works { IfOk result (λ _. K.is_failed sink.new ≡ false) }
 {
     if asked.json {
-        report_in_json(desk, slices, request, asked, problem, sink)
+        report_in_json(desk, slices, words, asked, problem, sink)
     } else {
-        report_in_words(desk, slices, request, asked, problem, sink)
+        report_in_words(desk, slices, words, asked, problem, sink)
     }
 }
 
@@ -69,7 +69,7 @@ fn report<B: Board, K: Sink>(
 fn report_in_words<B: Board, K: Sink>(
     desk: &mut Desk<B>,
     slices: &mut Slices<Progress<'_>>,
-    request: &Request<'_>,
+    words: &DeskWords<'_>,
     asked: &FindWords,
     problem: &Problem<B>,
     sink: &mut K,
@@ -84,7 +84,7 @@ fn report_in_words<B: Board, K: Sink>(
     let Ok(position) = &problem.found else {
         return Ok(true);
     };
-    let finding = search(desk, slices, request, asked, problem.number, position)?;
+    let finding = search(desk, slices, words, asked, problem.number, position)?;
     let text = found_text(desk.alloc, position, &finding)?;
     write_all(sink, text.as_str().as_bytes())?;
     Ok(is_undecided(&finding))
@@ -94,7 +94,7 @@ fn report_in_words<B: Board, K: Sink>(
 fn report_in_json<B: Board, K: Sink>(
     desk: &mut Desk<B>,
     slices: &mut Slices<Progress<'_>>,
-    request: &Request<'_>,
+    words: &DeskWords<'_>,
     asked: &FindWords,
     problem: &Problem<B>,
     sink: &mut K,
@@ -104,7 +104,7 @@ fn report_in_json<B: Board, K: Sink>(
         × (text : List ℕ) × Appends (K.taken sink.old) (K.taken sink.new) text) }
     ensures works { IfOk result (λ _. K.is_failed sink.new ≡ false) }
 {
-    let (line, is_refused) = json_of(desk, slices, request, asked, problem)?;
+    let (line, is_refused) = json_of(desk, slices, words, asked, problem)?;
     write_all(sink, line.as_str().as_bytes())?;
     Ok(is_refused)
 }
@@ -113,7 +113,7 @@ fn report_in_json<B: Board, K: Sink>(
 fn json_of<B: Board>(
     desk: &mut Desk<B>,
     slices: &mut Slices<Progress<'_>>,
-    request: &Request<'_>,
+    words: &DeskWords<'_>,
     asked: &FindWords,
     problem: &Problem<B>,
 ) -> Result<(String, bool), DeskFault>
@@ -122,7 +122,7 @@ fn json_of<B: Board>(
     let number = problem.number;
     match &problem.found {
         Ok(position) => {
-            let finding = search(desk, slices, request, asked, number, position)?;
+            let finding = search(desk, slices, words, asked, number, position)?;
             let line = found_line(desk.alloc, number, position, &finding)?;
             Ok((line, is_undecided(&finding)))
         }
@@ -162,7 +162,7 @@ fn is_undecided<B: Board>(finding: &Finding<B>) -> bool
 fn search<B: Board>(
     desk: &mut Desk<B>,
     slices: &mut Slices<Progress<'_>>,
-    request: &Request<'_>,
+    words: &DeskWords<'_>,
     asked: &FindWords,
     number: u32,
     position: &Position<B>,
@@ -170,11 +170,11 @@ fn search<B: Board>(
     ensures { IfOk result (λ finding. IsFinding B.geometry position.now asked.now.most (told_by finding)) }
 {
     if asked.each.is_some() {
-        desk.solver = solver_of(desk.alloc, request)?;
+        desk.solver = solver_of(desk.alloc, words)?;
     }
     let bounds = FindBounds {
         most: asked.most,
-        each: asked.each.unwrap_or(u64::MAX).max(1),
+        each: asked.each.unwrap_or(u64::MAX),
     };
     desk.begin(slices, number);
     let finding = find(desk.alloc, &mut desk.solver, position, bounds, slices);

@@ -13,32 +13,32 @@ use std::alloc::{AllocError, Global};
 
 /// What is found of a problem. Its members are written in this order, and those that do not apply are left out.
 #[derive(Default, Drop, Serialize)]
-pub struct Row<'a> {
-    pub problem: u32,
+pub(crate) struct Row<'a> {
+    pub(crate) problem: u32,
     #[serde(skip_serializing_if = "Option::is_none")]
-    pub fen: Option<&'a str>,
+    pub(crate) fen: Option<&'a str>,
     #[serde(skip_serializing_if = "Option::is_none")]
-    pub refused: Option<&'a str>,
+    pub(crate) refused: Option<&'a str>,
     #[serde(skip_serializing_if = "Option::is_none")]
-    pub n: Option<u8>,
+    pub(crate) n: Option<u8>,
     #[serde(skip_serializing_if = "Option::is_none")]
-    pub verdict: Option<&'static str>,
+    pub(crate) verdict: Option<&'static str>,
     #[serde(skip_serializing_if = "Option::is_none")]
-    pub shortest: Option<u8>,
+    pub(crate) shortest: Option<u8>,
     #[serde(skip_serializing_if = "Option::is_none")]
-    pub keys: Option<Vec<String>>,
+    pub(crate) keys: Option<Vec<String>>,
     #[serde(skip_serializing_if = "Option::is_none")]
-    pub at: Option<String>,
+    pub(crate) at: Option<String>,
     #[serde(skip_serializing_if = "Option::is_none")]
-    pub choices: Option<Vec<String>>,
+    pub(crate) choices: Option<Vec<String>>,
     #[serde(skip_serializing_if = "Option::is_none")]
-    pub tries: Option<Vec<(String, String)>>,
+    pub(crate) tries: Option<Vec<(String, String)>>,
     #[serde(skip_serializing_if = "Option::is_none")]
-    pub no_win_in: Option<u8>,
+    pub(crate) no_win_in: Option<u8>,
 }
 
 /// A row as a line of JSON, with its end. It fails only if memory is refused.
-pub fn json_line(alloc: Global, row: &Row<'_>) -> Result<String, AllocError> {
+pub(crate) fn json_line(alloc: Global, row: &Row<'_>) -> Result<String, AllocError> {
     let Ok(mut line) = serde_json::to_string(alloc, row) else {
         return Err(AllocError);
     };
@@ -47,7 +47,7 @@ pub fn json_line(alloc: Global, row: &Row<'_>) -> Result<String, AllocError> {
 }
 
 /// The row of a problem that is refused.
-pub fn refused_row<'a>(problem: u32, why: &'a str) -> Row<'a> {
+pub(crate) fn refused_row<'a>(problem: u32, why: &'a str) -> Row<'a> {
     Row {
         problem,
         refused: Some(why),
@@ -56,7 +56,7 @@ pub fn refused_row<'a>(problem: u32, why: &'a str) -> Row<'a> {
 }
 
 /// The row of a position, by its FEN text and what was found of it.
-pub fn found_row<'a, B: Board>(
+pub(crate) fn found_row<'a, B: Board>(
     alloc: Global,
     problem: u32,
     fen: &'a str,

@@ -17,7 +17,7 @@ mod writing;
 
 use desk::obey_on;
 use dw_board::{Eight, Ten};
-use dw_desk_words::{Request, command, requested};
+use dw_desk_words::{DeskWords, command, requested};
 use dw_program::{BoardSize, Unread, why_unread, words_given};
 use dw_report::RunFault;
 use ending::{Ending, NO_MEMORY, status_of};
@@ -35,7 +35,7 @@ fn main(rt: HostRuntime) -> ExitCode {
     match command.try_get_matches_from(words.as_slice()) {
         Err(error) => end_unread(&rt, &why_unread(&rt, &error)),
         Ok(matches) => match requested(&matches) {
-            Ok(request) => obey(&rt, &request),
+            Ok(words) => obey(&rt, &words),
             Err(text) => end_with(&rt, &Ending::Words(text)),
         },
     }
@@ -53,10 +53,10 @@ fn end_unread(rt: &HostRuntime, why: &Unread) -> ExitCode {
 }
 
 /// Does what the arguments ask for, on the board that they name.
-fn obey(rt: &HostRuntime, request: &Request<'_>) -> ExitCode {
-    let ending = match request.board {
-        BoardSize::Ten => obey_on::<Ten>(rt, request),
-        BoardSize::Eight => obey_on::<Eight>(rt, request),
+fn obey(rt: &HostRuntime, words: &DeskWords<'_>) -> ExitCode {
+    let ending = match words.board {
+        BoardSize::Ten => obey_on::<Ten>(rt, words),
+        BoardSize::Eight => obey_on::<Eight>(rt, words),
     };
     end_with(rt, &ending)
 }

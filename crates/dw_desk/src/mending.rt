@@ -32,7 +32,7 @@ impl From<MendFault> for DeskFault {
 
 /// Writes the neighbours of the chosen problem that are sound, each as soon as it is found, and tells how that ended. A
 /// refused problem leaves its first line alone.
-pub fn mend_problem<T, B: Board, S: Source, K: Sink>(
+pub(crate) fn mend_problem<T, B: Board, S: Source, K: Sink>(
     desk: &mut Desk<B>,
     slices: &mut Slices<Progress<'_>>,
     chosen: &mut Chosen<'_, B, S>,

@@ -9,7 +9,7 @@ use dw_report::{Judged, Verdict, dual_texts, key_texts, try_texts};
 use std::alloc::{AllocError, Global};
 
 /// What a verdict says, with the moves that it names.
-pub fn verdict_row<B: Board>(
+pub(crate) fn verdict_row<B: Board>(
     alloc: Global,
     language: Language,
     position: &Position<B>,
@@ -58,7 +58,7 @@ fn cooked_row(
 }
 
 /// The tries, each with the reply that refutes it.
-pub fn tries_row<B: Board>(
+pub(crate) fn tries_row<B: Board>(
     alloc: Global,
     position: &Position<B>,
     judged: &Judged<B>,

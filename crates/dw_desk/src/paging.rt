@@ -12,22 +12,20 @@ use crate::progress::Progress;
 use crate::solving::movetext_of;
 use dw_board::{Board, Position};
 use dw_desk_words::{PageWords, Placing};
-use dw_games::Game;
-use dw_games::tags::{read_tags, value_named};
+use dw_games::{Game, read_tags, value_named};
 use dw_notation::problems::MAX_PROBLEMS;
 use dw_notation::{Sink, Source, write_all};
-use dw_page::page::{
-    push_end, push_end_of_problem, push_head, push_problem, push_refused, push_solution,
-    push_solutions_heading,
+use dw_page::{
+    Heading, Solution, Task, push_end, push_end_of_problem, push_head, push_problem, push_refused,
+    push_solution, push_solutions_heading,
 };
-use dw_page::{Heading, Solution, Task};
 use dw_report::{Judged, Stop, refusal_text};
 use dw_study::find::find;
 use dw_study::{FindBounds, Finding, Slices, judge_in_slices};
 
 /// Writes the page, each problem as soon as it is read. If the problem that was asked for is not there, nothing is
 /// written.
-pub fn page_problems<B: Board, S: Source, K: Sink>(
+pub(crate) fn page_problems<B: Board, S: Source, K: Sink>(
     desk: &mut Desk<B>,
     slices: &mut Slices<Progress<'_>>,
     chosen: &mut Chosen<'_, B, S>,

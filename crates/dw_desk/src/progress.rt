@@ -10,7 +10,7 @@ const PAUSE: u64 = 100;
 
 /// Shows how far the search for one problem is, in a line on standard error that each new one takes the place of.
 #[derive(Drop)]
-pub struct Progress<'a> {
+pub(crate) struct Progress<'a> {
     rt: &'a HostRuntime,
     /// Whether somebody looks on.
     is_shown: bool,
@@ -24,7 +24,7 @@ pub struct Progress<'a> {
 
 impl<'a> Progress<'a> {
     /// No search has begun. The line is never shown if nobody looks on.
-    pub fn new(rt: &'a HostRuntime, is_shown: bool) -> Progress<'a> {
+    pub(crate) fn new(rt: &'a HostRuntime, is_shown: bool) -> Progress<'a> {
         Progress {
             rt,
             is_shown,
@@ -35,7 +35,7 @@ impl<'a> Progress<'a> {
     }
 
     /// The search for a problem begins. Without a clock it is not shown.
-    pub fn begin(&mut self, problem: u32) {
+    pub(crate) fn begin(&mut self, problem: u32) {
         self.problem = problem;
         self.begun = if self.is_shown {
             Instant::now(self.rt).ok()
@@ -45,7 +45,7 @@ impl<'a> Progress<'a> {
     }
 
     /// The search is over: the line is taken away.
-    pub fn end(&mut self) {
+    pub(crate) fn end(&mut self) {
         self.begun = None;
         self.make_way();
     }

@@ -18,8 +18,7 @@ use crate::desk::{Counts, Desk, DeskFault};
 use crate::progress::Progress;
 use dw_board::{Board, Position, fen_text};
 use dw_desk_words::SolutionWords;
-use dw_games::Game;
-use dw_games::tags::{Tag, read_tags};
+use dw_games::{Game, Tag, read_tags};
 use dw_notation::{ProblemFault, Sink, Source, write_all};
 use dw_report::{Verdict, refusal_text};
 use dw_solution::movetext::movetext;
@@ -29,7 +28,7 @@ use itoa::Buffer;
 use std::alloc::{AllocError, Global};
 
 /// Writes the chosen problems as games, each as soon as it is read.
-pub fn solve_problems<B: Board, S: Source, K: Sink>(
+pub(crate) fn solve_problems<B: Board, S: Source, K: Sink>(
     desk: &mut Desk<B>,
     slices: &mut Slices<Progress<'_>>,
     chosen: &mut Chosen<'_, B, S>,
@@ -126,7 +125,7 @@ fn solution_of<B: Board>(
 }
 
 /// The movetext of the first lines of a position within so many moves, with this verdict.
-pub fn movetext_of<B: Board>(
+pub(crate) fn movetext_of<B: Board>(
     desk: &mut Desk<B>,
     position: &Position<B>,
     moves: u8,

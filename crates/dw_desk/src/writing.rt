@@ -20,7 +20,7 @@ use std::alloc::Global;
 
 /// Writes the token of a line of the chosen problem, and tells how that ended. If anything is refused, nothing is
 /// written.
-pub fn write_line<T, B: Board, S: Source, K: Sink>(
+pub(crate) fn write_line<T, B: Board, S: Source, K: Sink>(
     alloc: Global,
     chosen: &mut Chosen<'_, B, S>,
     line: &str,

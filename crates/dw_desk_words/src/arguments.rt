@@ -1,11 +1,13 @@
 //! Arguments that several commands have.
 use clap::{Arg, ArgMatches, value_parser};
-use dw_notation::Form;
-use dw_program::options::{MOST_MOVES, MOST_POSITIONS, flag, option};
+use dw_program::options::{flag, option};
 use std::alloc::Global;
 
 /// How many positions a memo keeps if the arguments say nothing.
 pub(crate) const USUALLY_KEPT: usize = 1_000_000;
+
+/// The fewest lines that a solution is written with.
+const FEWEST_LINES: u64 = 1;
 
 /// The most lines that a solution is written with.
 const MOST_LINES: u64 = 1_000_000;
@@ -15,24 +17,9 @@ const USUAL_LINES: u64 = 1000;
 
 pub(crate) const CACHE_HELP: &str = "Keep at most C positions, 1 to 4000000 [default: 1000000]";
 
-/// `-n`, with its help.
-pub(crate) fn within<'a>(alloc: Global, help: &'a str) -> Arg<'a> {
-    Arg::new(alloc, "n")
-        .short('n')
-        .value_name("N")
-        .value_parser(value_parser!(u8).range(1..=i64::from(MOST_MOVES)))
-        .help(help)
-}
-
-/// `--each`, with its help.
-pub(crate) fn each<'a>(alloc: Global, help: &'a str) -> Arg<'a> {
-    let numbers = value_parser!(u64).range(1..=MOST_POSITIONS as i64);
-    option(alloc, "each", "L", numbers, help)
-}
-
 /// `--lines`, `USUAL_LINES` if it is not given.
 pub(crate) fn lines<'a>(alloc: Global) -> Arg<'a> {
-    let numbers = value_parser!(u64).range(1..=MOST_LINES as i64);
+    let numbers = value_parser!(u64).range(FEWEST_LINES as i64..=MOST_LINES as i64);
     let help = "Write at most K lines of the solution, 1 to 1000000 [default: 1000]";
     option(alloc, "lines", "K", numbers, help)
 }
@@ -49,9 +36,4 @@ pub(crate) fn progress<'a>(alloc: Global) -> Arg<'a> {
         "progress",
         "Show how far a search is on standard error, also if that is no terminal",
     )
-}
-
-/// How problems stand in the file.
-pub(crate) fn form(is_pdn: bool) -> Form {
-    if is_pdn { Form::Pdn } else { Form::Fens }
 }

@@ -1,8 +1,7 @@
 //! The arguments of the command `certify`.
-use crate::arguments::{CACHE_HELP, progress, within};
-use crate::portion::one_problem;
+use crate::arguments::{CACHE_HELP, progress};
 use clap::Command as Words;
-use dw_program::options::{board, cache, file, memo, pdn};
+use dw_program::options::{board, cache, file, memo, one_problem, pdn, within};
 use std::alloc::{AllocError, Global};
 
 const ABOUT: &str =

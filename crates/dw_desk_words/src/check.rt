@@ -1,8 +1,8 @@
 //! The arguments of the command `check`.
-use crate::arguments::{CACHE_HELP, progress, within};
+use crate::arguments::{CACHE_HELP, progress};
 use crate::portion::problem;
 use clap::Command as Words;
-use dw_program::options::{board, cache, file, memo, pdn};
+use dw_program::options::{board, cache, file, memo, pdn, within};
 use std::alloc::{AllocError, Global};
 
 const ABOUT: &str =

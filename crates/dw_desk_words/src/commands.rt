@@ -1,16 +1,16 @@
 //! The commands that the program knows, and what is asked for with one.
-use crate::arguments::{USUALLY_KEPT, form};
+use crate::arguments::USUALLY_KEPT;
 use crate::certify::certify_command;
 use crate::check::check_command;
 use crate::find::{find_command, find_words};
 use crate::mend::{NO_PART, mend_command, mend_words};
 use crate::page::{page_command, page_words};
 use crate::portion::{NO_PORTION, Portion, one_portion_of, portion_of};
-use crate::request::{Request, Task};
+use crate::words::{DeskWords, Task};
 use crate::solution::{solution_command, solution_words};
 use crate::token::token_command;
 use clap::{ArgMatches, Command as Words};
-use dw_program::options::{MOST_KEPT, VERSION};
+use dw_program::options::{FEWEST_KEPT, FEWEST_MOVES, VERSION, form_given, kept_given, moves_given};
 use dw_program::{BoardSize, MemoKind};
 use std::alloc::{AllocError, Global};
 
@@ -66,12 +66,12 @@ pub fn command<'a>(alloc: Global) -> Result<Words<'a>, AllocError> {
 ///
 /// What is said of them if they are no command, as a text that ends a line.
 /// Example: `dw-desk find --most 6 a.fen` asks to find the number of moves of each problem in `a.fen`, up to 6.
-pub fn requested<'a>(matches: &ArgMatches<'a>) -> Result<Request<'a>, &'static str> {
+pub fn requested<'a>(matches: &ArgMatches<'a>) -> Result<DeskWords<'a>, &'static str> {
     if let Some(words) = matches.subcommand_matches("find") {
         return searched_by(words, Task::Find(find_words(words)));
     }
     if let Some(words) = matches.subcommand_matches("check") {
-        let n = words.get_one::<u8>("n");
+        let n = moves_given(words, "n");
         return searched_by(words, Task::Check { n });
     }
     if let Some(words) = matches.subcommand_matches("solution") {
@@ -81,7 +81,7 @@ pub fn requested<'a>(matches: &ArgMatches<'a>) -> Result<Request<'a>, &'static s
         return searched_by(words, Task::Page(page_words(words)));
     }
     if let Some(words) = matches.subcommand_matches("certify") {
-        let n = words.get_one::<u8>("n").unwrap_or(1);
+        let n = moves_given(words, "n").unwrap_or(FEWEST_MOVES);
         return Ok(searched_for_one(words, Task::Certify { n }));
     }
     if let Some(words) = matches.subcommand_matches("mend") {
@@ -99,13 +99,13 @@ pub fn requested<'a>(matches: &ArgMatches<'a>) -> Result<Request<'a>, &'static s
     }
 }
 
-/// What a command asks for that searches for one problem, problem 1 if no other is named.
-fn searched_for_one<'a>(words: &ArgMatches<'a>, task: Task<'a>) -> Request<'a> {
+/// What a command asks for that searches for one problem, the first if no other is named.
+fn searched_for_one<'a>(words: &ArgMatches<'a>, task: Task<'a>) -> DeskWords<'a> {
     searched(words, task, one_portion_of(words))
 }
 
 /// What a command asks for that searches for a portion of the problems.
-fn searched_by<'a>(words: &ArgMatches<'a>, task: Task<'a>) -> Result<Request<'a>, &'static str> {
+fn searched_by<'a>(words: &ArgMatches<'a>, task: Task<'a>) -> Result<DeskWords<'a>, &'static str> {
     match portion_of(words.get_str("problem")) {
         Some(portion) => Ok(searched(words, task, portion)),
         None => Err(NO_PORTION),
@@ -113,24 +113,23 @@ fn searched_by<'a>(words: &ArgMatches<'a>, task: Task<'a>) -> Result<Request<'a>
 }
 
 /// What a command asks for that searches.
-fn searched<'a>(words: &ArgMatches<'a>, task: Task<'a>, portion: Portion) -> Request<'a> {
-    let cache = words.get_one::<usize>("cache").unwrap_or(USUALLY_KEPT);
-    let mut request = read(words, task, portion);
-    request.memo = MemoKind::named(words.get_str("memo"));
-    request.cache = cache.clamp(1, MOST_KEPT);
-    request.progress = words.get_flag("progress");
-    request
+fn searched<'a>(words: &ArgMatches<'a>, task: Task<'a>, portion: Portion) -> DeskWords<'a> {
+    let mut asked = read(words, task, portion);
+    asked.memo = MemoKind::named(words.get_str("memo"));
+    asked.cache = kept_given(words, USUALLY_KEPT);
+    asked.progress = words.get_flag("progress");
+    asked
 }
 
 /// What a command asks for that only reads, and searches nothing.
-fn read<'a>(words: &ArgMatches<'a>, task: Task<'a>, portion: Portion) -> Request<'a> {
-    Request {
+fn read<'a>(words: &ArgMatches<'a>, task: Task<'a>, portion: Portion) -> DeskWords<'a> {
+    DeskWords {
         task,
         board: BoardSize::named(words.get_str("board")),
-        form: form(words.get_flag("pdn")),
+        form: form_given(words),
         portion,
         memo: MemoKind::None,
-        cache: 1,
+        cache: FEWEST_KEPT,
         progress: false,
         file: words.get_str("FILE"),
     }

@@ -1,25 +1,32 @@
 //! The arguments of the command `find`.
-ghost use Rattle.std.specs.Prelude.{◌≤◌};
+ghost use Rattle.std.specs.Prelude.{◌≤◌, IfSome};
 
-use crate::arguments::{CACHE_HELP, each, progress};
+use crate::arguments::{CACHE_HELP, progress};
 use crate::portion::problem;
-use clap::{Arg, ArgMatches, Command as Words, value_parser};
-use dw_program::options::{MOST_MOVES, board, cache, file, flag, memo, option, pdn};
+use clap::{Arg, ArgMatches, Command as Words};
+use dw_program::options::{
+    MOST_MOVES, board, cache, file, flag, memo, most, moves_given, pdn, positions,
+    positions_given,
+};
 use std::alloc::{AllocError, Global};
 
 /// What the command `find` is asked for.
 /// Example: `--most 6 --json` asks for lines of JSON, with up to 6 moves.
 #[derive(Clone, Copy)]
 pub struct FindWords {
-    /// The most moves within which a win is looked for, 1 to `MOST_MOVES`.
+    /// The most moves within which a win is looked for, `FEWEST_MOVES` to `MOST_MOVES`.
     pub most: u8,
-    /// How many positions may be expanded for each problem until its number of moves is known.
+    /// How many positions may be expanded for each problem until its number of moves is known, at least 1.
     pub each: Option<u64>,
     /// Whether a line of JSON is written for each problem.
     pub json: bool,
     pub ghost some_moves: { 1 ≤ most },
     pub ghost few_moves: { most ≤ 20 },
+    pub ghost room: { IfSome each (λ positions. 1 ≤ positions) },
 }
+
+const MOST_HELP: &str =
+    "Look for a win in at most N moves of the side to move, 1 to 20 [default: 20]";
 
 const EACH_HELP: &str =
     "Go to the next problem after L positions, 1 to 1000000000000 [default: never]";
@@ -44,8 +51,8 @@ pub(crate) fn find_command<'a>(alloc: Global) -> Result<Words<'a>, AllocError> {
         pdn(alloc),
         problem(alloc),
         file(alloc),
-        most(alloc),
-        each(alloc, EACH_HELP),
+        most(alloc, MOST_HELP),
+        positions(alloc, "each", EACH_HELP),
         json(alloc),
         memo(alloc, "deep"),
         cache(alloc, CACHE_HELP),
@@ -57,22 +64,15 @@ pub(crate) fn find_command<'a>(alloc: Global) -> Result<Words<'a>, AllocError> {
         .args(arguments)
 }
 
-fn most<'a>(alloc: Global) -> Arg<'a> {
-    let numbers = value_parser!(u8).range(1..=i64::from(MOST_MOVES));
-    let help = "Look for a win in at most N moves of the side to move, 1 to 20 [default: 20]";
-    option(alloc, "most", "N", numbers, help)
-}
-
 fn json<'a>(alloc: Global) -> Arg<'a> {
     flag(alloc, "json", "Write one line of JSON for each problem")
 }
 
 /// What the command `find` is asked for.
 pub(crate) fn find_words(words: &ArgMatches<'_>) -> FindWords {
-    let most = words.get_one::<u8>("most").unwrap_or(MOST_MOVES);
     FindWords {
-        most: most.clamp(1, MOST_MOVES),
-        each: words.get_one::<u64>("each"),
+        most: moves_given(words, "most").unwrap_or(MOST_MOVES),
+        each: positions_given(words, "each"),
         json: words.get_flag("json"),
     }
 }

@@ -1,6 +1,6 @@
 //! The words of `dw-desk`: its commands, their options, and what is asked for with them.
 //!
-//! Begin with `command`, which knows the commands, and with `requested`, which makes a `Request` of the arguments.
+//! Begin with `command`, which knows the commands, and with `requested`, which makes a `DeskWords` of the arguments.
 #![tactic(auto)]
 
 mod arguments;
@@ -11,14 +11,14 @@ pub mod find;
 pub mod mend;
 pub mod page;
 pub mod portion;
-pub mod request;
 pub mod solution;
 mod token;
+pub mod words;
 
 pub use commands::{command, requested};
 pub use find::FindWords;
 pub use mend::MendWords;
 pub use page::{PageWords, Placing};
 pub use portion::Portion;
-pub use request::{Request, Task};
 pub use solution::SolutionWords;
+pub use words::{DeskWords, Task};

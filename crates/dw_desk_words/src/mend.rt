@@ -1,22 +1,24 @@
 //! The arguments of the command `mend`.
 ghost use Rattle.std.specs.Prelude.{◌≤◌, IfSome};
 
-use crate::arguments::{CACHE_HELP, each, progress, within};
-use crate::portion::one_problem;
+use crate::arguments::{CACHE_HELP, progress};
 use clap::builder::ValueParser;
 use clap::{Arg, ArgMatches, Command as Words};
-use dw_program::options::{MOST_MOVES, board, cache, file, memo, option, pdn};
+use dw_program::options::{
+    FEWEST_MOVES, board, cache, file, memo, moves_given, one_problem, option, pdn, positions,
+    positions_given, within,
+};
 use std::alloc::{AllocError, Global};
 
 /// What the command `mend` is asked for.
 /// Example: `-n 3 --part 1/4` asks for the first of four parts, in 3 moves.
 #[derive(Clone, Copy)]
 pub struct MendWords {
-    /// The number of moves within which the win is, 1 to `MOST_MOVES`.
+    /// The number of moves within which the win is, `FEWEST_MOVES` to `MOST_MOVES`.
     pub n: u8,
     /// How many positions may be expanded for each neighbour, at least 1.
     pub each: u64,
-    /// Which part of the neighbours is looked at, from 1 on.
+    /// Which part of the neighbours is looked at, from `FIRST_PART` on.
     pub part: u32,
     /// How many parts there are, at least 1.
     pub parts: u32,
@@ -25,6 +27,9 @@ pub struct MendWords {
     pub ghost room: { 1 ≤ each },
     pub ghost some_parts: { 1 ≤ parts },
 }
+
+/// The number of the first part.
+const FIRST_PART: u32 = 1;
 
 /// The most parts of the neighbours.
 const MOST_PARTS: u32 = 1_000_000;
@@ -59,7 +64,7 @@ pub(crate) fn mend_command<'a>(alloc: Global) -> Result<Words<'a>, AllocError> {
         one_problem(alloc, "Change the problem I, 1 to 1000000 [default: 1]"),
         file(alloc),
         within(alloc, help).required(true),
-        each(alloc, undecided),
+        positions(alloc, "each", undecided),
         part(alloc),
         memo(alloc, "deep"),
         cache(alloc, CACHE_HELP),
@@ -78,12 +83,10 @@ fn part<'a>(alloc: Global) -> Arg<'a> {
 
 /// What the command is asked for; none, if the part is none.
 pub(crate) fn mend_words(words: &ArgMatches<'_>) -> Option<MendWords> {
-    let n = words.get_one::<u8>("n").unwrap_or(1);
-    let each = words.get_one::<u64>("each").unwrap_or(u64::MAX);
     let (part, parts) = part_named(words.get_str("part"))?;
     Some(MendWords {
-        n: n.clamp(1, MOST_MOVES),
-        each: each.max(1),
+        n: moves_given(words, "n").unwrap_or(FEWEST_MOVES),
+        each: positions_given(words, "each").unwrap_or(u64::MAX),
         part,
         parts,
     })
@@ -94,12 +97,12 @@ fn part_named(text: Option<&str>) -> Option<(u32, u32)>
     ensures { IfSome result (λ named. 1 ≤ named.1) }
 {
     let Some(text) = text else {
-        return Some((1, 1));
+        return Some((FIRST_PART, FIRST_PART));
     };
     let (part, parts) = text.split_once('/')?;
     let part = part.parse::<u32>().ok()?;
     let parts = parts.parse::<u32>().ok()?;
-    if part < 1 || parts < part || parts > MOST_PARTS {
+    if part < FIRST_PART || parts < part || parts > MOST_PARTS {
         return None;
     }
     Some((part, parts))

@@ -1,12 +1,14 @@
 //! The arguments of the command `page`.
 ghost use Rattle.std.specs.Prelude.{◌≤◌};
 
-use crate::arguments::{CACHE_HELP, lines, lines_of, progress, within};
+use crate::arguments::{CACHE_HELP, lines, lines_of, progress};
 use crate::portion::problem;
 use clap::builder::ValueParser;
-use clap::{Arg, ArgMatches, Command as Words, value_parser};
+use clap::{Arg, ArgMatches, Command as Words};
 use dw_page::{Language, Look};
-use dw_program::options::{MOST_MOVES, board, cache, file, flag, memo, option, pdn};
+use dw_program::options::{
+    FEWEST_MOVES, board, cache, file, flag, memo, most, moves_given, option, pdn, within,
+};
 use std::alloc::{AllocError, Global};
 
 /// Where the solutions stand.
@@ -25,7 +27,7 @@ pub enum Placing {
 /// Example: `--most 6` asks for the least number of moves with a win, up to 6.
 #[derive(Clone, Copy)]
 pub struct PageWords<'a> {
-    /// The number of moves within which the win is, 1 to `MOST_MOVES`.
+    /// The number of moves within which the win is, `FEWEST_MOVES` to `MOST_MOVES`.
     pub moves: u8,
     /// Whether the least number of moves up to that one is looked for.
     pub is_least: bool,
@@ -36,6 +38,10 @@ pub struct PageWords<'a> {
     pub ghost some_moves: { 1 ≤ moves },
     pub ghost few_moves: { moves ≤ 20 },
 }
+
+const WITHIN_HELP: &str = "Ask for a win in N moves of the side to move, 1 to 20";
+
+const MOST_HELP: &str = "Ask for the least number of moves with a win, up to N, 1 to 20";
 
 const ABOUT: &str =
     "Writes a page of all problems with diagrams and solutions, for a browser or a printer.";
@@ -56,8 +62,7 @@ const USUAL_TITLE: &str = "dw-desk";
 
 /// The command with its arguments.
 pub(crate) fn page_command<'a>(alloc: Global) -> Result<Words<'a>, AllocError> {
-    let help = "Ask for a win in N moves of the side to move, 1 to 20";
-    let within = within(alloc, help)
+    let within = within(alloc, WITHIN_HELP)
         .required_unless_present("most")?
         .conflicts_with("most")?;
     let arguments = vec![in alloc;
@@ -66,7 +71,7 @@ pub(crate) fn page_command<'a>(alloc: Global) -> Result<Words<'a>, AllocError> {
         problem(alloc),
         file(alloc),
         within,
-        most(alloc),
+        most(alloc, MOST_HELP),
         lines(alloc),
         title(alloc),
         language(alloc),
@@ -84,12 +89,6 @@ pub(crate) fn page_command<'a>(alloc: Global) -> Result<Words<'a>, AllocError> {
         .about(ABOUT)
         .after_help(EXAMPLES)
         .args(arguments)
-}
-
-fn most<'a>(alloc: Global) -> Arg<'a> {
-    let numbers = value_parser!(u8).range(1..=i64::from(MOST_MOVES));
-    let help = "Ask for the least number of moves with a win, up to N, 1 to 20";
-    option(alloc, "most", "N", numbers, help)
 }
 
 fn title<'a>(alloc: Global) -> Arg<'a> {
@@ -111,10 +110,9 @@ fn solutions<'a>(alloc: Global) -> Arg<'a> {
 
 /// What the command is asked for.
 pub(crate) fn page_words<'a>(words: &ArgMatches<'a>) -> PageWords<'a> {
-    let most = words.get_one::<u8>("most");
-    let moves = words.get_one::<u8>("n").or(most).unwrap_or(1);
+    let most = moves_given(words, "most");
     PageWords {
-        moves: moves.clamp(1, MOST_MOVES),
+        moves: moves_given(words, "n").or(most).unwrap_or(FEWEST_MOVES),
         is_least: most.is_some(),
         lines: lines_of(words),
         look: Look {

@@ -1,8 +1,8 @@
 //! The problems that a command speaks of.
 use clap::builder::ValueParser;
-use clap::{Arg, ArgMatches, value_parser};
+use clap::{Arg, ArgMatches};
 use dw_notation::problems::MAX_PROBLEMS;
-use dw_program::options::option;
+use dw_program::options::{FIRST_PROBLEM, option};
 use std::alloc::Global;
 
 /// The problems that are chosen.
@@ -38,15 +38,9 @@ pub(crate) fn problem<'a>(alloc: Global) -> Arg<'a> {
     )
 }
 
-/// `--problem`, of one problem, with its help.
-pub(crate) fn one_problem<'a>(alloc: Global, help: &'a str) -> Arg<'a> {
-    let numbers = value_parser!(u32).range(1..=i64::from(MAX_PROBLEMS));
-    option(alloc, "problem", "I", numbers, help)
-}
-
-/// The portion of the one problem that is named, or else of problem 1.
+/// The portion of the one problem that is named, or else of the first.
 pub(crate) fn one_portion_of(words: &ArgMatches<'_>) -> Portion {
-    let number = words.get_one::<u32>("problem").unwrap_or(1);
+    let number = words.get_one::<u32>("problem").unwrap_or(FIRST_PROBLEM);
     Portion {
         first: number,
         last: Some(number),
@@ -58,7 +52,7 @@ pub(crate) fn one_portion_of(words: &ArgMatches<'_>) -> Portion {
 pub(crate) fn portion_of(text: Option<&str>) -> Option<Portion> {
     let Some(text) = text else {
         return Some(Portion {
-            first: 1,
+            first: FIRST_PROBLEM,
             last: None,
             is_asked: false,
         });
@@ -77,10 +71,10 @@ pub(crate) fn portion_of(text: Option<&str>) -> Option<Portion> {
     })
 }
 
-/// A problem's number, 1 to `MAX_PROBLEMS`.
+/// A problem's number, `FIRST_PROBLEM` to `MAX_PROBLEMS`.
 fn number_of(text: &str) -> Option<u32> {
     let number = text.parse::<u32>().ok()?;
-    if number < 1 || number > MAX_PROBLEMS {
+    if number < FIRST_PROBLEM || number > MAX_PROBLEMS {
         return None;
     }
     Some(number)

@@ -1,17 +1,19 @@
 //! The arguments of the command `solution`.
 ghost use Rattle.std.specs.Prelude.{◌≤◌};
 
-use crate::arguments::{CACHE_HELP, lines, lines_of, progress, within};
+use crate::arguments::{CACHE_HELP, lines, lines_of, progress};
 use crate::portion::problem;
 use clap::{ArgMatches, Command as Words};
-use dw_program::options::{MOST_MOVES, board, cache, file, memo, pdn};
+use dw_program::options::{
+    FEWEST_MOVES, board, cache, file, memo, moves_given, pdn, within,
+};
 use std::alloc::{AllocError, Global};
 
 /// What the command `solution` is asked for.
 /// Example: `-n 3 --lines 5` asks for at most 5 lines of 3 moves.
 #[derive(Clone, Copy)]
 pub struct SolutionWords {
-    /// The number of moves within which the win is, 1 to `MOST_MOVES`.
+    /// The number of moves within which the win is, `FEWEST_MOVES` to `MOST_MOVES`.
     pub n: u8,
     /// How many lines are written at most.
     pub lines: usize,
@@ -54,9 +56,8 @@ pub(crate) fn solution_command<'a>(alloc: Global) -> Result<Words<'a>, AllocErro
 
 /// What the command `solution` is asked for.
 pub(crate) fn solution_words(words: &ArgMatches<'_>) -> SolutionWords {
-    let n = words.get_one::<u8>("n").unwrap_or(1);
     SolutionWords {
-        n: n.clamp(1, MOST_MOVES),
+        n: moves_given(words, "n").unwrap_or(FEWEST_MOVES),
         lines: lines_of(words),
     }
 }

@@ -1,8 +1,7 @@
 //! The arguments of the command `token`.
-use crate::portion::one_problem;
 use clap::builder::ValueParser;
 use clap::{Arg, Command as Words};
-use dw_program::options::{board, file, option, pdn};
+use dw_program::options::{board, file, one_problem, option, pdn};
 use std::alloc::{AllocError, Global};
 
 const ABOUT: &str =

@@ -14,8 +14,8 @@ use Rattle.dw_mend.specs.Changes.{Change, AreNeighbours}
 use Rattle.dw_mend.specs.MendText.{IsSoundLine}
 use Rattle.dw_mend.specs.Mending.{Counts, AreMended, IsMendStop, part_from, part_of}
 use Rattle.dw_mend.specs.inner.Mending.{Adds}
-use Rattle.dw_mend.specs.declared.mend.Found as finds
-use Rattle.dw_mend.specs.declared.mend.Found.TheVariants.{Sound, Unsound, Undecided}
+use Rattle.dw_mend.specs.declared.mend.Soundness as finds
+use Rattle.dw_mend.specs.declared.mend.Soundness.TheVariants.{Sound, Unsound, Undecided}
 use Rattle.dw_mend.proofs.ListLemmas.{one_more}
 use Rattle.dw_mend.proofs.MakingLemmas.{one_list}
 
@@ -99,17 +99,17 @@ mended_next f g n xs i x text line counts one s u low is so_far here es eu =
     (mended_both g n (map f (take i xs)) (f x ∷ []) text line counts one s u so_far here es eu)
 
 -- ---- what is found of a neighbour
-pub adds_sound : {B : Type 0} (g : Geometry) (n : ℕ) (x : Change × Placement) (found : finds.Found B) (key : Move)
+pub adds_sound : {B : Type 0} (g : Geometry) (n : ℕ) (x : Change × Placement) (found : finds.Soundness B) (key : Move)
     (line : List ℕ) → found ≡ Sound key → Adds g n x found line
     → AreMended g n (x ∷ []) line (record { sound = 1; undecided = 0 })
 adds_sound g n x found key line is adds = one_sound g n x key line (subst (λ z. Adds g n x z line) is adds)
 
-pub adds_unsound : {B : Type 0} (g : Geometry) (n : ℕ) (x : Change × Placement) (found : finds.Found B)
+pub adds_unsound : {B : Type 0} (g : Geometry) (n : ℕ) (x : Change × Placement) (found : finds.Soundness B)
     (line : List ℕ) → found ≡ Unsound → Adds g n x found line
     → AreMended g n (x ∷ []) line (record { sound = 0; undecided = 0 })
 adds_unsound g n x found line is adds = one_unsound g n x line (subst (λ z. Adds g n x z line) is adds)
 
-pub adds_undecided : {B : Type 0} (g : Geometry) (n : ℕ) (x : Change × Placement) (found : finds.Found B)
+pub adds_undecided : {B : Type 0} (g : Geometry) (n : ℕ) (x : Change × Placement) (found : finds.Soundness B)
     (line : List ℕ) → found ≡ Undecided → Adds g n x found line
     → AreMended g n (x ∷ []) line (record { sound = 0; undecided = 1 })
 adds_undecided g n x found line is adds = one_undecided g n x line (subst (λ z. Adds g n x z line) is adds)

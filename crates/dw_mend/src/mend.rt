@@ -14,7 +14,7 @@ ghost use Rattle.dw_mend.specs.Changes.{Change as Changed, AreNeighbours};
 ghost use Rattle.dw_mend.specs.Mending.{IsMendText, IsMendStop, Counts, AreMended, part_of};
 ghost use Rattle.dw_mend.specs.Telling.{told_by};
 ghost use Rattle.dw_mend.specs.declared.mend.MendFault.TheVariants as because;
-ghost use Rattle.dw_mend.specs.inner.Mending.{IsFound, IsUndecided, Adds, Goes};
+ghost use Rattle.dw_mend.specs.inner.Mending.{IsSoundnessOf, IsUndecided, Adds, Goes};
 
 use crate::neighbours::{Neighbour, neighbours};
 use crate::part::{Part, part_of};
@@ -176,18 +176,18 @@ fn mend_these<B: Board, M: Memo<B>, G: Guide<B>, W: Watcher, K: Sink>(
     };
     'neighbours: for neighbour in some {
         match write_found(alloc, solver, neighbour, bounds, slices, sink)? {
-            Found::Sound(_) => mended.sound += 1,
-            Found::Unsound => {}
-            Found::Undecided => mended.undecided += 1,
+            Soundness::Sound(_) => mended.sound += 1,
+            Soundness::Unsound => {}
+            Soundness::Undecided => mended.undecided += 1,
         }
         slices.tell(bounds.moves, solver.expanded());
     }
     Ok(mended)
 }
 
-/// What is found of a neighbour.
+/// Whether a neighbour is sound, as far as that is known.
 #[derive(Drop)]
-enum Found<B: Board> {
+enum Soundness<B: Board> {
     /// It is sound, by this key.
     Sound(Move<B>),
     Unsound,
@@ -195,15 +195,15 @@ enum Found<B: Board> {
     Undecided,
 }
 
-impl<B: Board> Found<B> {
+impl<B: Board> Soundness<B> {
     /// What is found of a position that is sound by this key, or by none.
     fn of(key: Option<Move<B>>) -> Self
         ensures { (p : Placement) (n : ℕ) → MatchOption key ((m : AnyMove) → IsVerdict B.geometry p n (sound m) → ⊥)
-            (λ m. IsVerdict B.geometry p n (sound m)) → IsFound B.geometry p n result × (IsUndecided result → ⊥) }
+            (λ m. IsVerdict B.geometry p n (sound m)) → IsSoundnessOf B.geometry p n result × (IsUndecided result → ⊥) }
     {
         match key {
-            Some(key) => Found::Sound(key),
-            None => Found::Unsound,
+            Some(key) => Soundness::Sound(key),
+            None => Soundness::Unsound,
         }
     }
 }
@@ -216,7 +216,7 @@ fn write_found<B: Board, M: Memo<B>, G: Guide<B>, W: Watcher, K: Sink>(
     bounds: MendBounds,
     slices: &mut Slices<W>,
     sink: &mut K,
-) -> Result<Found<B>, MendFault>
+) -> Result<Soundness<B>, MendFault>
     requires some { 1 ≤ bounds.moves }
     requires few { bounds.moves ≤ 20 }
     requires room { 1 ≤ bounds.each }
@@ -231,7 +231,7 @@ fn write_found<B: Board, M: Memo<B>, G: Guide<B>, W: Watcher, K: Sink>(
     ensures sink { OnOk result (K.is_failed sink.new ≡ false) }
 {
     let found = found_of(alloc, solver, &neighbour.position, bounds, slices)?;
-    if let Found::Sound(key) = &found {
+    if let Soundness::Sound(key) = &found {
         let line = sound_line(alloc, neighbour, bounds.moves, key)?;
         slices.watcher.make_way();
         write_all(sink, line.as_str().as_bytes())?;
@@ -246,11 +246,11 @@ fn found_of<B: Board, M: Memo<B>, G: Guide<B>, W: Watcher>(
     position: &Position<B>,
     bounds: MendBounds,
     slices: &mut Slices<W>,
-) -> Result<Found<B>, Stop>
+) -> Result<Soundness<B>, Stop>
     requires some { 1 ≤ bounds.moves }
     requires few { bounds.moves ≤ 20 }
     requires room { 1 ≤ bounds.each }
-    ensures found { IfOk result (IsFound B.geometry position.now bounds.moves) }
+    ensures found { IfOk result (IsSoundnessOf B.geometry position.now bounds.moves) }
     ensures spent { IfOk result (λ found. IsUndecided found
         → solver.new.expanded ≡ solver.old.expanded + bounds.each) }
     ensures count { IsCounted solver.old.expanded solver.old.limit solver.new.expanded solver.new.limit }
@@ -261,13 +261,13 @@ fn found_of<B: Board, M: Memo<B>, G: Guide<B>, W: Watcher>(
     let limit = solver.limit();
     let until = solver.expanded().saturating_add(bounds.each);
     if limit <= until {
-        return Ok(Found::of(sound_key(alloc, solver, position, bounds.moves, slices)?));
+        return Ok(Soundness::of(sound_key(alloc, solver, position, bounds.moves, slices)?));
     }
     solver.set_limit(until);
     let key = sound_key(alloc, solver, position, bounds.moves, slices);
     solver.set_limit(limit);
     match key {
-        Err(Stop::Limit) => Ok(Found::Undecided),
-        key => Ok(Found::of(key?)),
+        Err(Stop::Limit) => Ok(Soundness::Undecided),
+        key => Ok(Soundness::of(key?)),
     }
 }

@@ -18,5 +18,8 @@ mod script;
 mod style;
 pub mod words;
 
-pub use page::{Heading, Look, Solution, Task};
+pub use page::{
+    Heading, Look, Solution, Task, push_end, push_end_of_problem, push_head, push_problem,
+    push_refused, push_solution, push_solutions_heading,
+};
 pub use words::{Language, Phrase};

@@ -14,7 +14,7 @@ use std::alloc::{AllocError, Global};
 /// A variation is an element too. The comment `{more}` becomes `more`, and other comments are left out.
 /// Example: at `W:W27,32:B18` the first move of `1. 32-28 18-22` becomes
 /// `<span class="move" data-fen="B:W27,28:B18">32-28</span>`.
-pub fn push_moves<B: Board>(
+pub(crate) fn push_moves<B: Board>(
     alloc: Global,
     page: &mut Vec<u8>,
     position: &Position<B>,

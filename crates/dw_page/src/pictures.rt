@@ -19,7 +19,7 @@ const PIECES: &str = "\
 
 /// Appends the pictures, out of sight.
 /// Example: on the board of ten rows that of the board has 50 dark squares.
-pub fn push_pictures<B: Board>(alloc: Global, page: &mut Vec<u8>) -> Result<(), AllocError> {
+pub(crate) fn push_pictures<B: Board>(alloc: Global, page: &mut Vec<u8>) -> Result<(), AllocError> {
     page.extend_from_slice(b"<svg class=\"pictures\" aria-hidden=\"true\"><defs>\n")?;
     push_board::<B>(alloc, page)?;
     push_numbers::<B>(alloc, page)?;

@@ -3,7 +3,7 @@
 
 /// The script.
 /// Example: a click on the first move of a solution shows the position after it.
-pub const SCRIPT: &str = "
+pub(crate) const SCRIPT: &str = "
 'use strict';
 let current = null;
 

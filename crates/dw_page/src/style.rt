@@ -2,7 +2,7 @@
 
 /// The style.
 /// Example: it gives the pictures of white pieces a black outline.
-pub const STYLE: &str = "
+pub(crate) const STYLE: &str = "
 :root { font: 16px/1.35 Georgia, 'Times New Roman', serif; color: #000; background: #fff; }
 body { margin: 0 auto; padding: 12px; max-width: 1080px; }
 h1 { font-size: 1.5rem; margin: 0 0 12px; text-align: center; }

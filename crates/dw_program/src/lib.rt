@@ -1,5 +1,5 @@
-//! What the programs share: how their words are read, options of the command line that each of them has, and the boards
-//! and memos that these name.
+//! What the programs share: how their words are read, options of the command line that several of them have, and the
+//! boards and memos that these name.
 #![tactic(auto)]
 
 pub mod choices;

@@ -1,15 +1,38 @@
-//! Options of the command line that each program has.
+//! Options of the command line that several programs have, and what is read of them.
+//!
+//! Each number is within its range already, since others are no command; but clap does not say so to the prover. So
+//! what reads a number clamps it to the range that its option has.
+ghost use Rattle.std.specs.Prelude.{◌≤◌, IfSome};
+
 use clap::builder::ValueParser;
-use clap::{Arg, ArgAction, value_parser};
+use clap::{Arg, ArgAction, ArgMatches, value_parser};
+use dw_notation::Form;
+use dw_notation::problems::MAX_PROBLEMS;
 use std::alloc::Global;
+
+/// The fewest moves within which a win is looked for.
+/// Example: `-n 0` is no command.
+pub const FEWEST_MOVES: u8 = 1;
 
 /// The most moves within which a win is looked for.
 /// Example: `-n 21` is no command.
 pub const MOST_MOVES: u8 = 20;
 
+/// The fewest positions that a run may expand.
+/// Example: `--positions 0` is no command.
+pub const FEWEST_POSITIONS: u64 = 1;
+
 /// The most positions that a run may expand.
 /// Example: `--positions 1000000000001` is no command.
 pub const MOST_POSITIONS: u64 = 1_000_000_000_000;
+
+/// The number of the first problem.
+/// Example: `--problem 0` is no command.
+pub const FIRST_PROBLEM: u32 = 1;
+
+/// The fewest positions that a memo may keep.
+/// Example: `--cache 0` is no command.
+pub const FEWEST_KEPT: usize = 1;
 
 /// The most positions that a memo may keep.
 /// Example: `--cache 4000001` is no command.
@@ -43,6 +66,23 @@ pub fn pdn<'a>(alloc: Global) -> Arg<'a> {
     )
 }
 
+/// How the problems stand in the file: as `--pdn` says.
+/// Example: without `--pdn` it is `Form::Fens`.
+pub fn form_given(words: &ArgMatches<'_>) -> Form {
+    if words.get_flag("pdn") {
+        Form::Pdn
+    } else {
+        Form::Fens
+    }
+}
+
+/// `--problem`, of one problem, `FIRST_PROBLEM` to `MAX_PROBLEMS`, with its help.
+/// Example: `--problem 3` is problem 3 alone.
+pub fn one_problem<'a>(alloc: Global, help: &'a str) -> Arg<'a> {
+    let numbers = value_parser!(u32).range(i64::from(FIRST_PROBLEM)..=i64::from(MAX_PROBLEMS));
+    option(alloc, "problem", "I", numbers, help)
+}
+
 /// `FILE`, the only argument without a name.
 /// Example: without it the problems are those of standard input.
 pub fn file<'a>(alloc: Global) -> Arg<'a> {
@@ -56,11 +96,67 @@ pub fn memo<'a>(alloc: Global, usual: &'a str) -> Arg<'a> {
     option(alloc, "memo", "KIND", kinds, MEMO_HELP).default_value(usual)
 }
 
-/// `--cache`, 1 to `MOST_KEPT`, with its help.
+/// `--cache`, `FEWEST_KEPT` to `MOST_KEPT`, with its help.
 /// Example: `--cache 1000000` keeps a million positions.
 pub fn cache<'a>(alloc: Global, help: &'a str) -> Arg<'a> {
-    let numbers = value_parser!(u32).range(1..=MOST_KEPT as i64);
+    let numbers = value_parser!(u32).range(FEWEST_KEPT as i64..=MOST_KEPT as i64);
     option(alloc, "cache", "C", numbers, help)
+}
+
+/// How many positions the memo keeps: as `--cache` says, or else `usual`, `FEWEST_KEPT` to `MOST_KEPT`.
+/// Example: without `--cache`, and with `usual` 100,000, it is 100,000.
+pub fn kept_given(words: &ArgMatches<'_>, usual: usize) -> usize
+    ensures some { 1 ≤ result }
+    ensures few { result ≤ 4_000_000 }
+{
+    let kept = words.get_one::<usize>("cache").unwrap_or(usual);
+    kept.clamp(FEWEST_KEPT, MOST_KEPT)
+}
+
+/// `-n`, `FEWEST_MOVES` to `MOST_MOVES`, with its help.
+/// Example: `-n 3` is a win within 3 moves.
+pub fn within<'a>(alloc: Global, help: &'a str) -> Arg<'a> {
+    Arg::new(alloc, "n")
+        .short('n')
+        .value_name("N")
+        .value_parser(moves())
+        .help(help)
+}
+
+/// `--most`, `FEWEST_MOVES` to `MOST_MOVES`, with its help.
+/// Example: `--most 6` is the least number of moves with a win, up to 6.
+pub fn most<'a>(alloc: Global, help: &'a str) -> Arg<'a> {
+    option(alloc, "most", "N", moves(), help)
+}
+
+fn moves<'a>() -> ValueParser<'a> {
+    value_parser!(u8).range(i64::from(FEWEST_MOVES)..=i64::from(MOST_MOVES))
+}
+
+/// The number of moves that the option of this name says, if it is given.
+/// Example: of `-n 3` it is `Some(3)`, by the name `n`.
+pub fn moves_given(words: &ArgMatches<'_>, name: &str) -> Option<u8>
+    ensures some { IfSome result (λ moves. 1 ≤ moves) }
+    ensures few { IfSome result (λ moves. moves ≤ 20) }
+{
+    let moves = words.get_one::<u8>(name)?;
+    Some(moves.clamp(FEWEST_MOVES, MOST_MOVES))
+}
+
+/// An option with a number of positions, `FEWEST_POSITIONS` to `MOST_POSITIONS`.
+/// Example: `positions(alloc, "each", help)` is `--each L`.
+pub fn positions<'a>(alloc: Global, name: &'a str, help: &'a str) -> Arg<'a> {
+    let numbers = value_parser!(u64).range(FEWEST_POSITIONS as i64..=MOST_POSITIONS as i64);
+    option(alloc, name, "L", numbers, help)
+}
+
+/// The number of positions that the option of this name says, if it is given.
+/// Example: of `--each 1000` it is `Some(1000)`, by the name `each`.
+pub fn positions_given(words: &ArgMatches<'_>, name: &str) -> Option<u64>
+    ensures { IfSome result (λ positions. 1 ≤ positions) }
+{
+    let positions = words.get_one::<u64>(name)?;
+    Some(positions.max(FEWEST_POSITIONS))
 }
 
 /// An argument that is named `--name` and has a value.

@@ -6,7 +6,7 @@ use arrayvec::ArrayVec;
 use dw_board::Board;
 use dw_moves::Move;
 use dw_notation::{Form, MAX_MOVES};
-pub use dw_solve::stop::Stop;
+pub use dw_solve::Stop;
 use thiserror::Error;
 
 /// What is reported of each problem.

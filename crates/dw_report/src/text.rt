@@ -60,7 +60,7 @@ pub fn problem_line<B: Board>(problem: &Problem<B>) -> ArrayString<LINE_ROOM>
 
 /// The line of a legal move: its text, and the position after it. The place is that of the move in the list of all.
 /// Example: at `W:W32:B28` it is `32x23 B:W23:B` and a line end for place 0.
-pub fn move_line<B: Board>(
+pub(crate) fn move_line<B: Board>(
     position: &Position<B>,
     list: &[Listed<B>],
     place: usize,

@@ -11,7 +11,7 @@ use arrayvec::ArrayVec;
 use dw_board::{Board, Position};
 use dw_games::{Node, Tree};
 use dw_moves::Move;
-use dw_moves::legal::is_legal;
+use dw_moves::is_legal;
 use dw_moves::play::play;
 use dw_notation::MAX_MOVES;
 use dw_notation::line_text::line_text;

@@ -11,7 +11,7 @@ use crate::remark::Remark;
 use dw_board::{Board, Position};
 use dw_games::{Node, Tree};
 use dw_moves::Move;
-use dw_moves::legal::is_legal;
+use dw_moves::is_legal;
 use dw_moves::listed::listed;
 use dw_moves::play::play;
 use std::alloc::{AllocError, Global};

@@ -21,9 +21,9 @@ use std::alloc::Global;
 #[derive(Clone, Copy)]
 pub(crate) struct Cut {
     /// The greatest number of moves of which it is known that there is no win within it.
-    pub no_win_in: u8,
+    pub(crate) no_win_in: u8,
     /// Why the search for one more move was stopped.
-    pub stop: Stop,
+    pub(crate) stop: Stop,
 }
 
 /// The number of moves at which a position is judged, as far as so many expansions suffice to find it out.

@@ -14,7 +14,7 @@ use crate::remark::Remark;
 use dw_board::{Board, Position};
 use dw_games::Tree;
 use dw_moves::Move;
-use dw_moves::legal::is_legal;
+use dw_moves::is_legal;
 use dw_moves::play::play;
 use dw_notation::text_in;
 use dw_report::joined_text;

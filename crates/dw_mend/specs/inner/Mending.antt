@@ -8,31 +8,31 @@ use Rattle.dw_solve.specs.declared.stop.Stop.TheVariants.{Limit}
 use Rattle.dw_report.specs.Verdict.{IsVerdict, sound}
 use Rattle.dw_mend.specs.Changes.{Change}
 use Rattle.dw_mend.specs.MendText.{IsSoundLine}
-use Rattle.dw_mend.specs.declared.mend.Found as finds
-use Rattle.dw_mend.specs.declared.mend.Found.TheVariants.{Sound, Unsound, Undecided}
+use Rattle.dw_mend.specs.declared.mend.Soundness as finds
+use Rattle.dw_mend.specs.declared.mend.Soundness.TheVariants.{Sound, Unsound, Undecided}
 use Rattle.dw_mend.specs.declared.mend.MendFault.{MendFault}
 use Rattle.dw_mend.specs.declared.mend.MendFault.TheVariants.{Stopped}
 
 -- what is found of a position holds
-abbrev pub IsFound : {B : Type 0} → Geometry → Placement → ℕ → finds.Found B → Type 0
-IsFound g p n (Sound key) = IsVerdict g p n (sound key)
-IsFound g p n Unsound = (key : Move) → IsVerdict g p n (sound key) → ⊥
-IsFound g p n Undecided = Unit {0}
+abbrev pub IsSoundnessOf : {B : Type 0} → Geometry → Placement → ℕ → finds.Soundness B → Type 0
+IsSoundnessOf g p n (Sound key) = IsVerdict g p n (sound key)
+IsSoundnessOf g p n Unsound = (key : Move) → IsVerdict g p n (sound key) → ⊥
+IsSoundnessOf g p n Undecided = Unit {0}
 
 -- it is not known whether the position is sound
-abbrev pub IsUndecided : {B : Type 0} → finds.Found B → Type 0
+abbrev pub IsUndecided : {B : Type 0} → finds.Soundness B → Type 0
 IsUndecided (Sound key) = ⊥
 IsUndecided Unsound = ⊥
 IsUndecided Undecided = Unit {0}
 
 -- what is written of a neighbour of which this is found
-abbrev pub Adds : {B : Type 0} → Geometry → ℕ → Change × Placement → finds.Found B → List ℕ → Type 0
+abbrev pub Adds : {B : Type 0} → Geometry → ℕ → Change × Placement → finds.Soundness B → List ℕ → Type 0
 Adds g n x (Sound key) text = IsVerdict g x.1 n (sound key) × IsSoundLine g n x key text
 Adds g n x Unsound text = ((key : Move) → IsVerdict g x.1 n (sound key) → ⊥) × (text ≡ [])
 Adds g n x Undecided text = text ≡ []
 
 -- how a search for a neighbour counts: it is undecided only if as many positions were expanded as it may take
-pub record Goes {B : Type 0} (each before limit after limit' : ℕ) (result : Result (finds.Found B) MendFault) :
+pub record Goes {B : Type 0} (each before limit after limit' : ℕ) (result : Result (finds.Soundness B) MendFault) :
     Type 0 where
   pub count : IsCounted before limit after limit'
   pub spent : IfOk result (λ found. IsUndecided found → after ≡ before + each)

@@ -1,6 +1,6 @@
 use Rattle.std.proofs.Common.{subst}
 use Rattle.dw_mend.proofs.SoundLemmas.{sound_legal}
-use Rattle.dw_mend.specs.inner.Mending.{IsFound}
+use Rattle.dw_mend.specs.inner.Mending.{IsSoundnessOf}
 use Rattle.dw_mend.proofs.mend.write_found.Goals as goal
 
 pub sound_line-requires : goal.sound_line-requires
@@ -8,4 +8,4 @@ sound_line-requires g c =
     let geo = g.B.Board.geometry in
     let p = c.args.neighbour.now.position in
     sound_legal geo p c.args.bounds.moves c.in-Sound.key
-    (subst (λ z. IsFound geo p c.args.bounds.moves z) c.in-Sound.is c.in_ok-found.ensures.found)
+    (subst (λ z. IsSoundnessOf geo p c.args.bounds.moves z) c.in-Sound.is c.in_ok-found.ensures.found)

@@ -32,13 +32,13 @@ pub enum Task<'a> {
 /// What the arguments ask for.
 /// See [`requested`](crate::commands::requested) for an example.
 #[derive(Clone, Copy)]
-pub struct Request<'a> {
+pub struct DeskWords<'a> {
     pub task: Task<'a>,
     pub board: BoardSize,
     pub form: Form,
     pub portion: Portion,
     pub memo: MemoKind,
-    /// The most positions that the memo keeps, 1 to `MOST_KEPT`.
+    /// The most positions that the memo keeps, `FEWEST_KEPT` to `MOST_KEPT`.
     pub cache: usize,
     /// Whether the progress line was asked for.
     pub progress: bool,
