@@ -8,8 +8,7 @@ use crate::next_moves::keeps;
 use crate::stack::{Candidate, Stack, Task};
 use dw_board::{Board, Position};
 use dw_memo::Memo;
-use dw_moves::Move;
-use dw_moves::laws::same_move;
+use dw_moves::{Move, same_move};
 use dw_solve::{Guide, Solver, Stop};
 use std::alloc::Global;
 

@@ -26,7 +26,7 @@ use Rattle.dw_moves.specs.inner.MemberLemmas.{mem_map, mem_map_back, mem_flat, m
 use Rattle.dw_moves.specs.inner.MemberLemmas.{mem_cases, mem_filter, mem_filter_back}
 use Rattle.dw_moves.proofs.ExactLemmas.{option_cases, same_side_true, same_side_refl, Lands, lands_from, lands_in}
 use Rattle.dw_moves.proofs.ExactLemmas.{all_dirs}
-use Rattle.dw_moves.proofs.CaptureLemmas.{captures_from, captures_in}
+use Rattle.dw_moves.proofs.PlainListLemmas.{captures_from, captures_in}
 
 not_true : (b : Bool) → not b ≡ true → b ≡ false
 not_true true e = absurd (true≢false (sym e))

@@ -1,6 +1,6 @@
 pub mod PlainLemmas
 pub mod ExactLemmas
-pub mod CaptureLemmas
+pub mod PlainListLemmas
 pub mod StepLemmas
 pub mod RayLemmas
 pub mod LegalMoveLemmas
@@ -13,13 +13,13 @@ pub mod QuietOnceLemmas
 pub mod PlayedLemmas
 pub mod JumpStepLemmas
 pub mod ChainLemmas
-pub mod BestFromLemmas
+pub mod HasMoveLemmas
 pub mod ManJumpLemmas
 pub mod GroundLemmas
 pub mod KingMeetLemmas
 pub mod OfferLemmas
 pub mod WalkLemmas
-pub mod CapturesLemmas
+pub mod BeginningLemmas
 pub mod KeeperLemmas
 pub mod FollowedLemmas
 pub mod QuietLemmas

@@ -12,7 +12,7 @@ use Rattle.dw_moves.specs.Laws.{StepsAreQuiet}
 use Rattle.dw_moves.proofs.StepLemmas.{none_some, some_inj, step_is}
 use Rattle.dw_moves.proofs.GroundLemmas.{apart_sides}
 use Rattle.dw_moves.proofs.RayLemmas.{ray_some}
-use Rattle.dw_moves.proofs.BestFromLemmas.{step_moves}
+use Rattle.dw_moves.proofs.HasMoveLemmas.{step_moves}
 use Rattle.dw_moves.proofs.SquareSetLemmas.{contains-insert}
 use Rattle.dw_moves.proofs.PlayStaysLemmas.{emptied, play_at, past_none, legal_ends}
 

@@ -22,7 +22,7 @@ use Rattle.dw_moves.proofs.RayLemmas.{ray_some, ray_none, ray_of_on, landing_on_
 use Rattle.dw_moves.proofs.FirstJumpLemmas.{empty_member, head_free, other_at}
 use Rattle.dw_moves.proofs.SquareSetLemmas.{in_list}
 use Rattle.dw_moves.proofs.PlayStaysLemmas.{legal_ends, legal_stands}
-use Rattle.dw_moves.proofs.BestFromLemmas.{step_moves}
+use Rattle.dw_moves.proofs.HasMoveLemmas.{step_moves}
 use Rattle.dw_moves.proofs.ReplyLemmas.{step_quiet, step_stays, loose_reply}
 
 -- the square before one on a ray, and the ray from there on

@@ -3,7 +3,6 @@ ghost use Rattle.std.specs.Prelude.{◌≡◌, ◌≤◌};
 ghost use Rattle.dw_moves.specs.Moves.{AreEnds, IsBest};
 ghost use Rattle.dw_moves.specs.inner.Walks.{EndsKept, Held, These};
 
-pub use crate::glance::has_move;
 use crate::keeper::Keeper;
 use crate::moves::Move;
 use crate::walk::walk_captures;

@@ -5,7 +5,7 @@ ghost use Rattle.dw_board.specs.Geometry.{OnBoard, step};
 ghost use Rattle.dw_board.specs.Placement.{IsPosition, Placement};
 ghost use Rattle.dw_moves.specs.Moves.{In};
 ghost use Rattle.dw_moves.specs.Replies.{given};
-ghost use Rattle.dw_moves.specs.inner.Glance.{AreSets, IsGround, CanTakeTowards, MenMeet};
+ghost use Rattle.dw_moves.specs.inner.Glance.{AreSets, CanTakeTowards, IsOccupied, MenMeet};
 ghost use Rattle.dw_moves.specs.inner.Glance.{MenTake, KingsTake, Takes, JumpsTo};
 ghost use Rattle.dw_moves.specs.inner.Glance.{Steps, StepsOn, HasTwo};
 ghost use Rattle.dw_moves.specs.inner.Plain as plain;
@@ -60,22 +60,6 @@ impl<B: Board> Field<B> {
             kings: self.kings.without(from),
             enemies: self.enemies,
             occupied: self.occupied.without(from),
-        }
-    }
-
-    /// The next square in a direction, if nothing stands on it.
-    #[inline]
-    pub(crate) fn free_step(&self, from: Square<B>, direction: Dir) -> Option<Square<B>>
-        requires { OnBoard B.geometry from }
-        ensures free { (p : Placement) (side : Side) → IsGround B.geometry p side self.now.enemies self.now.occupied
-            → result ≡ plain.free_step B.geometry p from direction }
-        ensures steps { IfSome result (λ t. step B.geometry from direction ≡ Some t) }
-    {
-        let next = step(from, direction)?;
-        if self.occupied.has(next) {
-            None
-        } else {
-            Some(next)
         }
     }
 
@@ -267,6 +251,22 @@ fn slides_take<B: Board>(kings: Squares<B>, enemies: Squares<B>, occupied: Squar
         occupied,
     };
     field.slide_to_take()
+}
+
+/// The next square in a direction, if it is none of those on which pieces stand.
+#[inline]
+pub(crate) fn free_step<B: Board>(
+    occupied: Squares<B>,
+    from: Square<B>,
+    direction: Dir,
+) -> Option<Square<B>>
+    requires { OnBoard B.geometry from }
+    ensures free { (p : Placement) → IsOccupied B.geometry p occupied
+        → result ≡ plain.free_step B.geometry p from direction }
+    ensures steps { IfSome result (λ t. step B.geometry from direction ≡ Some t) }
+{
+    let next = step(from, direction)?;
+    if occupied.has(next) { None } else { Some(next) }
 }
 
 /// Whether a square is in the set.

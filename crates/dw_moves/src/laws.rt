@@ -1,11 +1,7 @@
-//! Laws of the definitions, each the contract of a function that does nothing, and what `==` means.
-ghost use Rattle.std.specs.Prelude.{◌≡◌, ◌↔◌, IsTrue};
+//! Laws of the definitions, each the contract of a function that does nothing.
 ghost use Rattle.dw_moves.specs.WorkedPositions.{WorkedPositions};
 ghost use Rattle.dw_moves.specs.Laws.{PathTells, PathIsShort, MovesListed, OneBest, LegalMovesTake, PlayStays};
 ghost use Rattle.dw_moves.specs.Laws.{MovesHaveKeys, MovesInOrder, StepsAreQuiet, SureReplies};
-
-use crate::moves::Move;
-use dw_board::Board;
 
 /// The landings of a path tell what it takes.
 /// Example: at `W:W38:B22,23,32,33` the landings 27, 18, 29, 38 tell that 32, 22, 23 and 33 are taken.
@@ -72,11 +68,3 @@ pub fn sure_replies()
 pub fn worked_positions()
     ensures { WorkedPositions }
 {}
-
-/// Equal moves begin and end on the same squares and take the same pieces.
-/// Example: of the quiet moves from 1 to 50 and from 50 to 1 it is `false`.
-pub fn same_move<B: Board>(a: &Move<B>, b: &Move<B>) -> bool
-    ensures { IsTrue result ↔ (a.now ≡ b.now) }
-{
-    a == b
-}

@@ -25,7 +25,7 @@ mod walk;
 pub use glance::{can_capture, count_if_quiet, has_move, other_steps};
 pub use legal::{is_legal, legal_into};
 pub use listed::listed_into;
-pub use moves::{Listed, Move};
+pub use moves::{LONGEST_PATH, Listed, Move, same_move};
 pub use quiet::quiet_count;
 pub use replies::{has_sure_reply, sure_step};
 pub use shared::shares_ends;

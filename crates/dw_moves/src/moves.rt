@@ -1,5 +1,5 @@
 //! Moves.
-ghost use Rattle.std.specs.Prelude.{◌≡◌, ◌==◌, Ok};
+ghost use Rattle.std.specs.Prelude.{◌≡◌, ◌==◌, ◌↔◌, IsTrue, Ok};
 ghost use Rattle.std.specs.FinSet as set;
 ghost use Rattle.std.specs.Cmp.Rules.{comparing};
 ghost use Rattle.std.specs.Cmp.Lexicographic.{pointwise};
@@ -18,7 +18,8 @@ use std::hash::{Hash, Hasher};
 use std::marker::Model;
 
 /// A path has at most so many squares: its start, and one for each of the twenty pieces that a side has.
-pub(crate) const LONGEST_PATH: usize = 21;
+/// Example: at `W:W38:B22,23,32,33` the path of the capture of all four men has 5.
+pub const LONGEST_PATH: usize = 1 + 20;
 
 /// A move: where it begins and ends, and the squares of the pieces that it takes, all of them in one set. Two ways
 /// to capture the same pieces between the same two squares are one move.
@@ -109,10 +110,19 @@ impl<B: Board> Hash for Move<B> {
     }
 }
 
+/// Whether two moves are equal: they begin and end on the same squares and take the same pieces. It is what `==` says.
+/// Example: of the quiet moves from 1 to 50 and from 50 to 1 it is `false`.
+pub fn same_move<B: Board>(a: &Move<B>, b: &Move<B>) -> bool
+    ensures { IsTrue result ↔ (a.now ≡ b.now) }
+{
+    a == b
+}
+
 /// A move with one of its paths, the start first.
 /// Example: at `W:W38:B22,23,32,33` the capture `38x38` has the path 38, 27, 18, 29, 38.
 #[derive(Drop)]
 pub struct Listed<B: Board> {
+    /// The move.
     pub step: Move<B>,
     pub path: ArrayVec<Square<B>, LONGEST_PATH>,
 }

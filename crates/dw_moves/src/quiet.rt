@@ -10,7 +10,7 @@ ghost use Rattle.dw_moves.specs.inner.Glance.{AreSets};
 ghost use Rattle.dw_moves.specs.inner.Plain as plain;
 ghost use Rattle.dw_moves.specs.inner.Plain.{Adds, Counts, ManSteps, KingGoes, KingLands};
 
-use crate::field::Field;
+use crate::field::{Field, free_step};
 use dw_board::{Board, Dir, Kind, Piece, Position, Side, Square, Squares, step};
 use std::alloc::AllocError;
 
@@ -80,24 +80,6 @@ pub(crate) fn may_go(kind: Kind, side: Side, direction: Dir) -> bool
         (Kind::King, _) => true,
         (Kind::Man, Side::White) => !direction.is_down(),
         (Kind::Man, Side::Black) => direction.is_down(),
-    }
-}
-
-/// The next square in a direction, if nothing stands on it.
-#[inline]
-pub(crate) fn free_step<B: Board>(
-    position: &Position<B>,
-    from: Square<B>,
-    direction: Dir,
-) -> Option<Square<B>>
-    requires { OnBoard B.geometry from }
-    ensures { result ≡ plain.free_step B.geometry position.now from direction }
-{
-    let next = step(from, direction)?;
-    if position.occupied().has(next) {
-        None
-    } else {
-        Some(next)
     }
 }
 
@@ -200,7 +182,7 @@ fn push_run<B: Board, T: FromQuiet<B> + Drop>(
         ≡ moves.old.items ++ map (T.made from) (plain.landings_for kind position.now (ray B.geometry from direction))) }
 {
     let mut at = from;
-    'run: while let Some(landing) = free_step(position, at, direction) {
+    'run: while let Some(landing) = free_step(position.occupied(), at, direction) {
         moves.push(T::from_quiet(&from, &landing))?;
         match kind {
             Kind::Man => break,
@@ -251,7 +233,7 @@ fn runs_to<B: Board>(
     ensures { IsTrue result ↔ Member to (plain.landings_for kind position.now (ray B.geometry from direction)) }
 {
     let mut at = from;
-    'run: while let Some(reached) = free_step(position, at, direction) {
+    'run: while let Some(reached) = free_step(position.occupied(), at, direction) {
         if reached == to {
             return true;
         }

@@ -7,7 +7,7 @@ ghost use Rattle.dw_board.specs.declared.piece.Side.{Side};
 ghost use Rattle.dw_moves.specs.inner.Glance.{AreSets, CanTakeTowards, IsGround};
 ghost use Rattle.dw_moves.specs.inner.Walks.{Offers, GoesOn, GoesTowards, Captures, Begins, BeginsTowards, so_far};
 
-use crate::field::Field;
+use crate::field::{Field, free_step};
 use crate::keeper::Keeper;
 use crate::mover::{Mover, Slider, Stepper};
 use crate::moves::Move;
@@ -182,7 +182,7 @@ fn walk_towards<B: Board, M: Mover<B>, K: Keeper<B>>(
         return Ok(());
     }
     let mut at = over;
-    'landings: while let Some(landing) = field.free_step(at, direction) {
+    'landings: while let Some(landing) = free_step(field.occupied, at, direction) {
         walk_onto::<B, M, K>(field, &begun.onto(over, landing), keeper)?;
         match M::kind() {
             Kind::Man => break,

@@ -10,9 +10,8 @@ ghost use Rattle.dw_notation.specs.inner.WrittenMoves.{after_moves, len_to, end_
 use crate::move_text::{MOVE_ROOM, text_in};
 use arrayvec::{ArrayString, ArrayVec};
 use dw_board::{Board, Position, Side};
-use dw_moves::Move;
-use dw_moves::laws::same_move;
 use dw_moves::play::play as played;
+use dw_moves::{Move, same_move};
 use itoa::Buffer;
 use std::alloc::{AllocError, Global};
 use std::marker::Model;

@@ -4,8 +4,7 @@ ghost use Rattle.std.specs.Prelude.{◌≡◌, ◌≢◌, ◌++◌, ◌∷◌, [
 use crate::step::{Step, add_steps};
 use arrayvec::ArrayVec;
 use dw_board::Board;
-use dw_moves::Move;
-use dw_moves::laws::same_move;
+use dw_moves::{Move, same_move};
 use dw_notation::MAX_MOVES;
 use std::alloc::{AllocError, Global};
 use std::marker::Model;

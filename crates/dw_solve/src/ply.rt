@@ -7,9 +7,8 @@ ghost use Rattle.dw_solve.specs.inner.Ranking.{AreAllLegal, ArePlayed, IsLastWin
 
 use crate::guide::{AnyOrder, Guide};
 use dw_board::{Board, Position};
-use dw_moves::best::has_move;
 use dw_moves::play::play as played;
-use dw_moves::{Move, has_sure_reply, legal_into};
+use dw_moves::{Move, has_move, has_sure_reply, legal_into};
 use std::alloc::{AllocError, Global};
 
 /// The lists that a search needs for one move of a line. Their memory is used again at the next position.

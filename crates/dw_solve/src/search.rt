@@ -23,9 +23,8 @@ use crate::replies::{Replies, line_up_replies};
 use crate::stop::Stop;
 use dw_board::{Board, Position};
 use dw_memo::{Bounds, Memo};
-use dw_moves::Move;
-use dw_moves::best::has_move;
 use dw_moves::play::play as played;
+use dw_moves::{Move, has_move};
 use std::alloc::AllocError;
 
 /// What a search works on: a memo, an order of moves, how many positions it has expanded and may expand, and which

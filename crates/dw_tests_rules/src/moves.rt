@@ -1,14 +1,14 @@
 //! Moves of worked positions.
 
 use dw_board::{Board, Position, Square, fen_text};
-use dw_moves::best::{best, best_captures, has_move};
+use dw_moves::best::{best, best_captures};
 use dw_moves::follow::follow;
 use dw_moves::legal::legal;
 use dw_moves::listed::listed;
 use dw_moves::play::play;
 use dw_moves::{
-    Listed, Move, can_capture, count_if_quiet, has_sure_reply, is_legal, laws, legal_into,
-    listed_into, other_steps, quiet_count,
+    Listed, Move, can_capture, count_if_quiet, has_move, has_sure_reply, is_legal, legal_into,
+    listed_into, other_steps, quiet_count, same_move,
 };
 use dw_tests_common::rows::column;
 use dw_tests_common::tally::Found;
@@ -74,7 +74,7 @@ pub fn same<B: Board>(asked: &str, found: &mut Found) -> Option<()> {
         text => step_of(text)?,
     };
     let right = step_of(column(asked, 1))?;
-    found.say(&laws::same_move(&left, &right));
+    found.say(&same_move(&left, &right));
     found.add(" ");
     found.say(&(left == right));
     found.add(", quiet ");

@@ -24,10 +24,14 @@ pub record AreSets (g : Geometry) (p : Placement) (men kings enemies occupied : 
   pub of_enemies : AreOf g p (other p.turn) enemies
   pub of_all : (s : ℕ) → In s occupied ↔ (OnBoard g s × ((q : Piece) × (at p s ≡ Some q)))
 
+-- the squares on which a piece stands
+abbrev pub IsOccupied : Geometry → Placement → Squares → Type 0
+IsOccupied g p occupied = (s : ℕ) → In s occupied ↔ (OnBoard g s × IsTrue (is_some (at p s)))
+
 -- the pieces of the other side than this one, and all pieces
 pub record IsGround (g : Geometry) (p : Placement) (side : Side) (enemies occupied : Squares) : Type 0 where
   pub of_enemies : AreOf g p (other side) enemies
-  pub of_all : (s : ℕ) → In s occupied ↔ (OnBoard g s × IsTrue (is_some (at p s)))
+  pub of_all : IsOccupied g p occupied
 
 -- after n steps over empty squares the next square is c, and an enemy stands there
 abbrev pub MeetsBehind : Geometry → Squares → Squares → Squares → Dir → ℕ → ℕ → Type 0

@@ -1,4 +1,4 @@
-use Rattle.dw_moves.proofs.BestFromLemmas.{move_by_step, move_by_capture}
+use Rattle.dw_moves.proofs.HasMoveLemmas.{move_by_step, move_by_capture}
 use Rattle.dw_moves.proofs.glance.has_move.Goals as goal
 
 pub returns-then-can_step : goal.returns-then-can_step

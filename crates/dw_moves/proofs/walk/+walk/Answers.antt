@@ -145,7 +145,7 @@ walk_towards-landings-preserved g t c =
           (c.in_ok-walk_onto.ensures.kept p side path ground (inv.path path on)) in
           landed_more (sym c.kind.ensures ∙ c.in-King.is) (inv.walked p side path ground on)
           (freed geo g.met.B.Board.numbers p c.landings.at c.args.direction landing inv.on
-          (sym (c.free_step.ensures.free p side ground) ∙ c.in-Some-free_step.is)) rest;
+          (sym (c.free_step.ensures.free p ground.of_all) ∙ c.in-Some-free_step.is)) rest;
     }
 
 pub walk_towards-returns-clause-kept : goal.walk_towards-returns-clause-kept
@@ -167,9 +167,9 @@ walk_towards-returns-clause-kept g t c = λ p side path ground on.
           subst (λ z. Offers holds E c.args.keeper.now z) (sym w.keeper-is)
           (landed_last (sym w.kind.ensures ∙ w.in-Man.is) (inv.walked p side path ground on)
           (freed geo g.met.B.Board.numbers p c.landings.at c.args.direction landing inv.on
-          (sym (c.free_step.ensures.free p side ground) ∙ w.in-Some-free_step.is)) rest)
+          (sym (c.free_step.ensures.free p ground.of_all) ∙ w.in-Some-free_step.is)) rest)
       | walk_towards-in_default-free_step w ↦ subst (λ z. Offers holds E c.args.keeper.now z) (sym w.keeper-is)
           (landed_stop g.met.B.Board.numbers inv.on (inv.walked p side path ground on)
-          (sym (c.free_step.ensures.free p side ground) ∙ w.in_default-free_step.is))
+          (sym (c.free_step.ensures.free p ground.of_all) ∙ w.in_default-free_step.is))
     ] in
     onto_towards (c.in-Some.ensures.some p side ground) (sym c.has.ensures ∙ c.if-has.false) done

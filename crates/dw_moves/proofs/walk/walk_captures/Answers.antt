@@ -1,5 +1,5 @@
 use Rattle.std.proofs.lemmas.Result.{on_ok_weaker}
-use Rattle.dw_moves.proofs.CapturesLemmas.{all_directions}
+use Rattle.dw_moves.proofs.BeginningLemmas.{all_directions}
 use Rattle.dw_moves.proofs.walk.walk_captures.Goals as goal
 
 pub returns-clause-kept : goal.returns-clause-kept

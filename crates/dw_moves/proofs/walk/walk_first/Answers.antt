@@ -1,5 +1,5 @@
 use Rattle.std.proofs.Common.{refl}
-use Rattle.dw_moves.proofs.CapturesLemmas.{past_none, past_more, past_all}
+use Rattle.dw_moves.proofs.BeginningLemmas.{past_none, past_more, past_all}
 use Rattle.dw_moves.proofs.SquareSetLemmas.{fewer_left}
 use Rattle.dw_moves.proofs.walk.walk_first.Goals as goal
 

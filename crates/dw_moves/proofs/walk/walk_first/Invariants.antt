@@ -2,7 +2,7 @@ use Rattle.std.specs.FinSet as fin
 use Rattle.dw_board.specs.Placement.{Placement}
 use Rattle.dw_moves.specs.inner.Glance.{AreSets}
 use Rattle.dw_moves.specs.inner.Walks.{Offers}
-use Rattle.dw_moves.proofs.CapturesLemmas.{Past}
+use Rattle.dw_moves.proofs.BeginningLemmas.{Past}
 use Rattle.dw_moves.proofs.walk.walk_first.Given as goal
 
 abbrev pub invariant-squares : goal.invariant-squares

@@ -1,7 +1,7 @@
 use Rattle.std.proofs.Common.{[], ◌∷◌, sym, ◌∙◌, arith}
 use Rattle.std.proofs.lemmas.Result.{on_ok_weaker}
 use Rattle.dw_board.specs.declared.piece.Kind.TheVariants.{Man, King}
-use Rattle.dw_moves.proofs.CapturesLemmas.{begins_of, begins_nowhere}
+use Rattle.dw_moves.proofs.BeginningLemmas.{begins_of, begins_nowhere}
 use Rattle.dw_moves.proofs.SquareSetLemmas.{all_left, none_counted}
 use Rattle.dw_moves.proofs.walk.walk_from.Goals as goal
 

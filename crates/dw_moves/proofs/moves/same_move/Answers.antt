@@ -1,6 +1,6 @@
 use Rattle.std.proofs.Common.{sym, ◌∙◌}
 use Rattle.dw_moves.specs.inner.MoveLemmas.{same_moves-is}
-use Rattle.dw_moves.proofs.laws.same_move.Goals as goal
+use Rattle.dw_moves.proofs.moves.same_move.Goals as goal
 
 pub returns : goal.returns
 returns g c = let h = same_moves-is c.args.a.now c.args.b.now in (
