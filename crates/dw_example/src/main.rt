@@ -1,10 +1,9 @@
-//! The layers as libraries: a position is read, its moves are listed, it is solved, and two lines of the win are given.
+//! The layers as libraries: a position is read, its moves are listed, it is solved, and a line of the win is given.
 #![tactic(auto)]
 
 use dw_board::{Ten, read_fen};
 use dw_list::Lister;
 use dw_memo::LruMemo;
-use dw_moves::Move;
 use dw_moves::listed::listed;
 use dw_notation::move_text::move_text;
 use dw_solve::{ByTrial, Solver};
@@ -22,20 +21,10 @@ fn main(rt: HostRuntime) -> anyhow::Result<()> {
     let wins = solver.wins(alloc, &position, 2)?;
     println!(rt; "a win in 2 moves: {wins}")?;
     let mut lister = Lister::start(&mut solver, &position, 2);
-    for number in 1..3 {
-        if let Some(line) = lister.next(alloc)? {
-            print!(rt; "line {number}:")?;
-            write_moves(&rt, line)?;
+    if let Some(line) = lister.next(alloc)? {
+        for mv in line {
+            println!(rt; "from {} to {}", mv.from.number(), mv.to.number())?;
         }
     }
-    Ok(())
-}
-
-/// Writes where each move begins and ends, and ends the line.
-fn write_moves(rt: &HostRuntime, line: &[Move<Ten>]) -> anyhow::Result<()> {
-    for mv in line {
-        print!(rt; " {}-{}", mv.from.number(), mv.to.number())?;
-    }
-    println!(rt; "")?;
     Ok(())
 }
