@@ -1,6 +1,6 @@
 //! Taking a certificate out of a memo.
-ghost use Rattle.std.specs.Prelude.{◌≡◌, ◌-◌, ◌≤◌, ◌⊎◌, true, false, IfOk, OnOk, IfSome, IsTrue, slice_get, ◌↔◌, length};
-ghost use Rattle.std.specs.Prelude.{◌+◌, ◌<◌, ◌^◌, ◌++◌, ◌∷◌, [], None};
+ghost use Rattle.std.specs.Prelude.{◌≡◌, ◌-◌, ◌≤◌, ◌⊎◌, true, false, IfOk, OnOk, IfSome, IsTrue, slice_get, ◌↔◌};
+ghost use Rattle.std.specs.Prelude.{length, ◌+◌, ◌<◌, ◌^◌, ◌++◌, ◌∷◌, [], None};
 ghost use Rattle.indexmap.specs.IndexMap.{get};
 ghost use Rattle.dw_board.specs.inner.PlacementLemmas.{same};
 ghost use Rattle.dw_board.specs.Lists.{Member};

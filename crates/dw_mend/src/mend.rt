@@ -199,7 +199,8 @@ impl<B: Board> Soundness<B> {
     /// What is found of a position that is sound by this key, or by none.
     fn of(key: Option<Move<B>>) -> Self
         ensures { (p : Placement) (n : ℕ) → MatchOption key ((m : AnyMove) → IsVerdict B.geometry p n (sound m) → ⊥)
-            (λ m. IsVerdict B.geometry p n (sound m)) → IsSoundnessOf B.geometry p n result × (IsUndecided result → ⊥) }
+            (λ m. IsVerdict B.geometry p n (sound m))
+            → IsSoundnessOf B.geometry p n result × (IsUndecided result → ⊥) }
     {
         match key {
             Some(key) => Soundness::Sound(key),
