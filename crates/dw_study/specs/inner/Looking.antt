@@ -23,8 +23,8 @@ abbrev pub StopsAt : ℕ → ℕ → Result ℕ Cut → Type 0
 StopsAt limit expanded (Ok k) = Unit {0}
 StopsAt limit expanded (Err cut) = cut.stop ≡ Limit → expanded ≡ limit
 
--- searches for the least number of moves, up to n, in slices that began before: each expansion is counted, up to a limit
--- that may be lower than the solver's own, and the slices go on
+-- searches for the least number of moves, up to n, in slices that began before: each expansion is counted, up to a
+-- limit that may be lower than the solver's own, and the slices go on
 pub record LooksOn {M W : Type 0} (g : Geometry) (content : M → Content) (lost : M → ℕ) (n limit : ℕ)
     (before after : Slices W) (old new : Solving M) (answer : Result ℕ Cut) : Type 0 where
   pub count : IsCounted old.expanded old.limit new.expanded new.limit
