@@ -6,6 +6,9 @@ ghost use Rattle.dw_memo.specs.inner.Pairs as of;
 
 use crate::bounds::Bounds;
 
+/// So much age takes a move of what a fact is worth.
+const AGE_OF_A_MOVE: u8 = 16;
+
 /// What is known of a position, and how old it is, up to 255: how many facts of two moves or more came into the other
 /// place of its pair since, or how often a memo let it live on.
 #[derive(Clone, Copy)]
@@ -39,7 +42,7 @@ impl Fact {
     pub(crate) fn worth(self) -> u8
         ensures { result ≡ of.fact_worth self }
     {
-        self.bounds.depth().saturating_sub(self.age / 16)
+        self.bounds.depth().saturating_sub(self.age / AGE_OF_A_MOVE)
     }
 
     /// How often it may still live on: as often as the moves of which its bounds tell, less its age.

@@ -53,7 +53,8 @@ pub trait Memo<B: Board> {
         ensures forgets { MayForget (content self.old) (content self.new) }
         ensures dropped { dropped self.new ≡ dropped self.old }
     {
-        let _lost = self.dropped();
+        // The map is one. The law that says so can be called by those above alone.
+        let _ = self.dropped();
     }
 
     /// How many entries were lost or not kept so far; from `u64::MAX` on it stays the same.
@@ -61,6 +62,14 @@ pub trait Memo<B: Board> {
     fn dropped(&self) -> u64
         ensures map { IsMap (content self.now) }
         ensures count { result ≡ dropped self.now };
+
+    /// A position stands in a memo once: a law, which does nothing.
+    /// Example: of a new memo it says that no position stands there twice.
+    final fn keeps_its_map(&self)
+        ensures { IsMap (content self.now) }
+    {
+        let _ = self.dropped();
+    }
 
     /// Holds these bounds for a position, in place of those that it had. Entries may be lost by it, the given one too,
     /// and each of them is counted.

@@ -13,6 +13,9 @@ use crate::memo::Noted;
 use crate::slot::Slot;
 use dw_board::{Board, Position};
 
+/// What a place is worth whose fact is fresh and tells of one move.
+const LITTLE: u16 = 2;
+
 /// Two places for positions with what is known of them. If both are taken, a new position gets that which is worth
 /// less; but bounds that tell of one move alone get none of a fact that is worth more. A fact that tells of two moves
 /// or more makes the one beside it older, and so worth less: else a table in which many problems are solved would keep
@@ -60,7 +63,7 @@ fn contend<B: Board>(
 {
     if bounds.depth() > 1 {
         *other = other.older();
-    } else if lesser.worth() > 2 {
+    } else if lesser.worth() > LITTLE {
         return Entered {
             noted: Noted::NotKept,
             lost: 1,
@@ -78,7 +81,7 @@ fn enter_into<B: Board>(place: &mut Slot<B>, position: &Position<B>, bounds: Bou
     ensures kept { result.noted ≡ Kept }
     ensures note { IsNote (standing place.old) position.now bounds result.noted (standing place.new) 0 result.lost }
 {
-    let fills = 1 < bounds.depth() && place.worth() <= 2;
+    let fills = 1 < bounds.depth() && place.worth() <= LITTLE;
     Entered {
         fills,
         ..place.enter(position, bounds)

@@ -14,6 +14,9 @@ use dw_board::{Board, Packed, Position, Side};
 use std::alloc::AllocError;
 use std::marker::Model;
 
+/// A table is crowded if less than one of so many of its places is free.
+const PER_FREE: usize = 16;
+
 /// A position with what is known of it, or nothing: then there is no fact, and the position is that of the board
 /// without a piece. It takes 32 bytes: the position is kept as three sets and the side to move.
 #[derive(Copy)]
@@ -202,6 +205,6 @@ impl<B: Board> Bucket<B> for Slot<B> {
     /// All but a sixteenth is taken. A larger table would lose less, and be slower for all that: much of what stands in
     /// it belongs to problems that are done.
     fn is_crowded(buckets: usize, taken: usize) -> bool {
-        buckets - buckets / 16 < taken
+        buckets - buckets / PER_FREE < taken
     }
 }

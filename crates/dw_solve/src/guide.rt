@@ -46,7 +46,7 @@ impl<'a, B: Board, G: Guide<B>> Guide<B> for Quickly<'a, G> {
 pub struct AnyOrder;
 
 impl<B: Board> Guide<B> for AnyOrder {
-    fn rank(&self, _position: &Position<B>, _step: &Move<B>) -> u32
+    fn rank(&self, _position: &Position<B>, _mv: &Move<B>) -> u32
         ensures { result ≡ 0 }
     {
         0

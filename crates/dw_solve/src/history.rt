@@ -8,11 +8,14 @@ use dw_moves::Move;
 /// The numbers of squares, and 0, which no square has.
 const NUMBERS: usize = 51;
 
-/// A win with fewer moves left is not counted: a search puts no moves of the attacker in order there.
-const FEWEST_LEFT: u8 = 2;
+/// With fewer moves left a search puts no moves of the attacker in order, and no win is counted.
+pub(crate) const FEWEST_LEFT: u8 = 2;
 
 /// A win with more moves left counts no more than one with so many.
 const MOST_DOUBLINGS: u8 = 12;
+
+/// A step of a quick rank counts as much as so many doublings of what a move won.
+const PER_RANK: u32 = 4;
 
 /// How much the moves between each two squares won since the question was asked. It is an order among moves, and no
 /// answer depends on it.
@@ -91,7 +94,7 @@ pub(crate) struct ByHistory<'a, G> {
 
 impl<'a, B: Board, G: Guide<B>> Guide<B> for ByHistory<'a, G> {
     fn rank(&self, position: &Position<B>, mv: &Move<B>) -> u32 {
-        let rank = self.guide.quick_rank(position, mv).saturating_mul(4);
+        let rank = self.guide.quick_rank(position, mv).saturating_mul(PER_RANK);
         rank.saturating_add(self.history.rank(mv))
     }
 }

@@ -14,7 +14,8 @@ use std::alloc::{AllocError, Global};
 /// The lists that a search needs for one move of a line. Their memory is used again at the next position.
 #[derive(Drop)]
 pub(crate) struct Ply<B: Board> {
-    pub(crate) moves: Vec<Move<B>>,
+    /// The legal moves.
+    pub(crate) legal: Vec<Move<B>>,
     /// The same with the position to which each leads, where the memo is asked.
     pub(crate) reached: Vec<(Move<B>, Position<B>)>,
     /// Those of them that the memo does not decide.
@@ -29,7 +30,7 @@ impl<B: Board> Ply<B> {
         ensures { result.ranked.items ≡ [] }
     {
         Ply {
-            moves: Vec::new(alloc),
+            legal: Vec::new(alloc),
             reached: Vec::new(alloc),
             undecided: Vec::new(alloc),
             ranked: Vec::new(alloc),
@@ -61,8 +62,8 @@ impl<B: Board> Ply<B> {
     pub(crate) fn wins_at_once(&mut self, position: &Position<B>) -> Result<bool, AllocError>
         ensures { IfOk result (IsLastWin B.geometry position.now) }
     {
-        legal_into(position, &mut self.moves)?;
-        'moves: for mv in self.moves.as_slice() {
+        legal_into(position, &mut self.legal)?;
+        'moves: for mv in self.legal.as_slice() {
             if !has_move(&played(position, mv)) {
                 return Ok(true);
             }
@@ -88,9 +89,9 @@ impl<B: Board> Ply<B> {
     fn gather<G: Guide<B>>(&mut self, position: &Position<B>, guide: &G) -> Result<(), AllocError>
         ensures { OnOk result (AreRanked B.geometry position.now self.new.ranked.items) }
     {
-        legal_into(position, &mut self.moves)?;
+        legal_into(position, &mut self.legal)?;
         self.ranked.clear();
-        rank_all(position, guide, self.moves.as_slice(), &mut self.ranked)
+        rank_all(position, guide, self.legal.as_slice(), &mut self.ranked)
     }
 }
 
@@ -98,14 +99,14 @@ impl<B: Board> Ply<B> {
 pub(crate) fn rank_all<B: Board, G: Guide<B>>(
     position: &Position<B>,
     guide: &G,
-    moves: &[Move<B>],
+    legal: &[Move<B>],
     ranked: &mut Vec<(u32, Move<B>)>,
 ) -> Result<(), AllocError>
-    requires legal { AreAllLegal B.geometry position.now moves.now }
+    requires legal { AreAllLegal B.geometry position.now legal.now }
     requires empty { ranked.old.items ≡ [] }
-    ensures { OnOk result (moves_of ranked.new.items ≡ moves.now) }
+    ensures { OnOk result (moves_of ranked.new.items ≡ legal.now) }
 {
-    'moves: for mv in moves {
+    'moves: for mv in legal {
         ranked.push((guide.rank(position, mv), *mv))?;
     }
     Ok(())
@@ -114,14 +115,14 @@ pub(crate) fn rank_all<B: Board, G: Guide<B>>(
 /// Adds the legal moves with the positions to which they lead to an empty list.
 pub(crate) fn play_all<B: Board>(
     position: &Position<B>,
-    moves: &[Move<B>],
+    legal: &[Move<B>],
     reached: &mut Vec<(Move<B>, Position<B>)>,
 ) -> Result<(), AllocError>
-    requires legal { AreLegal B.geometry position.now moves.now }
+    requires legal { AreLegal B.geometry position.now legal.now }
     requires empty { reached.old.items ≡ [] }
     ensures { OnOk result (ArePlayed B.geometry position.now reached.new.items) }
 {
-    'moves: for mv in moves {
+    'moves: for mv in legal {
         reached.push((*mv, played(position, mv)))?;
     }
     Ok(())

@@ -88,15 +88,15 @@ fn line_up_open<B: Board, M: Memo<B>, G: Guide<B>>(
     ensures known { IfOk result (AreLinedUp B.geometry (M.content search.old.memo) position.now moves
         ply.new.ranked.items) }
 {
-    legal_into(position, &mut ply.moves)?;
+    legal_into(position, &mut ply.legal)?;
     ply.ranked.clear();
-    if ply.moves.len() <= 1 {
+    if ply.legal.len() <= 1 {
         // Its rank is not needed, and it is looked up when it is searched.
-        rank_all(position, &AnyOrder, ply.moves.as_slice(), &mut ply.ranked)?;
+        rank_all(position, &AnyOrder, ply.legal.as_slice(), &mut ply.ranked)?;
         return Ok(Replies::Open);
     }
     ply.reached.clear();
-    play_all(position, ply.moves.as_slice(), &mut ply.reached)?;
+    play_all(position, ply.legal.as_slice(), &mut ply.reached)?;
     ply.undecided.clear();
     if find_undecided(search, ply.reached.as_slice(), moves, &mut ply.undecided)? {
         return Ok(Replies::Refuted);

@@ -17,7 +17,7 @@ ghost use Rattle.dw_solve.specs.Ranking.{AreRanked};
 ghost use Rattle.dw_solve.specs.inner.Ranking.{IsSureReply};
 
 use crate::guide::Guide;
-use crate::history::{ByHistory, History};
+use crate::history::{ByHistory, FEWEST_LEFT, History};
 use crate::ply::Ply;
 use crate::replies::{Replies, line_up_replies};
 use crate::stop::Stop;
@@ -169,7 +169,7 @@ fn line_up<B: Board, M, G: Guide<B>>(
 ) -> Result<(), AllocError>
     ensures { OnOk result (AreRanked B.geometry position.now ply.new.ranked.items) }
 {
-    if moves <= 1 {
+    if moves < FEWEST_LEFT {
         ply.fill_anyhow(position)
     } else {
         let guide = ByHistory {

@@ -22,8 +22,11 @@ use dw_memo::Memo;
 use std::alloc::{AllocError, Global};
 use std::marker::Model;
 
-/// Moves of both sides in the longest line: 20 of the attacker with a reply to each, and one before them.
-const PLIES: usize = 41;
+/// The most moves of the attacker in a line.
+const MOST_MOVES: usize = 20;
+
+/// Moves of both sides in the longest line: those of the attacker with a reply to each, and one before them.
+const PLIES: usize = 2 * MOST_MOVES + 1;
 
 /// Answers in how many moves a side wins. What it finds out it notes in a memo, and it counts each position that it
 /// expands, that is whose moves it goes through, up to a limit.
@@ -104,7 +107,7 @@ impl<B: Board, M: Memo<B>, G: Guide<B>> Solver<B, M, G> {
         ensures right { AreTrue B.geometry (M.content self.now.memo) }
         ensures map { IsMap (M.content self.now.memo) }
     {
-        let _lost = self.search.memo.dropped();
+        self.search.memo.keeps_its_map();
     }
 
     /// How many entries the memo has lost so far.
@@ -157,8 +160,7 @@ impl<B: Board, M: Memo<B>, G: Guide<B>> Solver<B, M, G> {
             → IfOk result (SaysWin (M.content self.new.memo) position.now moves) }
     {
         let answer = ask_wins(&mut self.search, &mut self.plies, alloc, position, moves);
-        // The check learns here that the content is a map, as every memo's is.
-        let _lost = self.search.memo.dropped();
+        self.search.memo.keeps_its_map();
         answer
     }
 
@@ -177,8 +179,7 @@ impl<B: Board, M: Memo<B>, G: Guide<B>> Solver<B, M, G> {
             → (IsErrOf result Limit → ⊥) × Idle M.content self.old self.new }
     {
         let answer = ask_loses(&mut self.search, &mut self.plies, alloc, position, moves);
-        // The check learns here that the content is a map, as every memo's is.
-        let _lost = self.search.memo.dropped();
+        self.search.memo.keeps_its_map();
         answer
     }
 
@@ -202,9 +203,8 @@ impl<B: Board, M: Memo<B>, G: Guide<B>> Solver<B, M, G> {
         ensures known { SaysLeast (M.content self.old.memo) position.now most
             → IsOk result × Idle M.content self.old self.new }
     {
-        // The check learns here what every solver keeps to, for the loop below.
-        let _ = &self.search;
-        let _lost = self.search.memo.dropped();
+        self.keeps_its_facts();
+        self.keeps_its_limit();
         'moves: for moves in 1..most + 1 {
             if self.wins(alloc, position, moves)? {
                 return Ok(Some(moves));
@@ -239,7 +239,7 @@ impl<B: Board, M: Memo<B>, G: Guide<B>> Solver<B, M, G> {
 /// What `Solver::wins` answers. The lists are made only for a search.
 fn ask_wins<B: Board, M: Memo<B>, G: Guide<B>>(
     search: &mut Search<M, G>,
-    kept: &mut Option<Vec<Ply<B>>>,
+    spare: &mut Option<Vec<Ply<B>>>,
     alloc: Global,
     position: &Position<B>,
     moves: u8,
@@ -259,17 +259,17 @@ fn ask_wins<B: Board, M: Memo<B>, G: Guide<B>>(
     if let Some(answer) = known(search, position, moves) {
         return Ok(answer);
     }
-    let mut plies = prepared(alloc, kept.take(), PLIES)?;
+    let mut plies = prepared(alloc, spare.take(), PLIES)?;
     search.history.forget();
     let answer = expand(search, plies.as_mut_slice(), position, moves);
-    *kept = Some(plies);
+    *spare = Some(plies);
     answer
 }
 
 /// What `Solver::loses` answers. If no move of the attacker is left, no list is needed.
 fn ask_loses<B: Board, M: Memo<B>, G: Guide<B>>(
     search: &mut Search<M, G>,
-    kept: &mut Option<Vec<Ply<B>>>,
+    spare: &mut Option<Vec<Ply<B>>>,
     alloc: Global,
     position: &Position<B>,
     moves: u8,
@@ -284,22 +284,22 @@ fn ask_loses<B: Board, M: Memo<B>, G: Guide<B>>(
         → (IsErrOf result Limit → ⊥) × StaysIdle M.content search.old search.new }
 {
     let needed = if moves == 0 { 0 } else { PLIES };
-    let mut plies = prepared(alloc, kept.take(), needed)?;
+    let mut plies = prepared(alloc, spare.take(), needed)?;
     search.history.forget();
     let answer = loses(search, plies.as_mut_slice(), position, moves);
-    *kept = Some(plies);
+    *spare = Some(plies);
     answer
 }
 
-/// At least so many lists, with those that were kept, if there are some.
+/// At least so many lists, with those that are there from before, if there are some.
 fn prepared<B: Board>(
     alloc: Global,
-    kept: Option<Vec<Ply<B>>>,
+    spare: Option<Vec<Ply<B>>>,
     needed: usize,
 ) -> Result<Vec<Ply<B>>, AllocError>
     ensures { IfOk result (λ plies. needed ≤ length plies.items) }
 {
-    let mut plies = match kept {
+    let mut plies = match spare {
         Some(plies) => plies,
         None => Vec::new(alloc),
     };

@@ -10,23 +10,17 @@ use Rattle.dw_solve.proofs.SearchLemmas.{none_below_one, none_below_more, is_so,
 use Rattle.dw_solve.proofs.solver.Solver.least.Goals as goal
 
 pub moves-init : goal.moves-init
-moves-init g c =
-    let geo = g.B.Board.geometry in (
-      (
-        subst (λ (s : Solving g.row.M.Denot). AreTrue geo (g.M.Memo.content s.memo)) c.self.view_is c.self.invariant.0,
-        subst (λ (s : Solving g.row.M.Denot). IsMap (g.M.Memo.content s.memo)) c.self.view_is
-            c.dropped-lost.ensures.map,
-      ),
-      (
-        counted_none c.args.self.now.expanded c.args.self.now.limit (subst (λ (s : Solving g.row.M.Denot). s.expanded
-            ≤ s.limit) c.self.view_is c.self.invariant.1),
-        (
-          none_below_one geo c.args.position.now,
-          decided_none geo c.args.most c.args.position.now _,
-          λ all. unchanged_none _ _,
-        ),
-      ),
-    )
+moves-init g c = (
+  (c.keeps_its_facts.ensures.right, c.keeps_its_facts.ensures.map),
+  (
+    counted_none c.args.self.now.expanded c.args.self.now.limit c.keeps_its_limit.ensures,
+    (
+      none_below_one g.B.Board.geometry c.args.position.now,
+      decided_none g.B.Board.geometry c.args.most c.args.position.now _,
+      λ all. unchanged_none _ _,
+    ),
+  ),
+)
 
 pub moves-preserved : goal.moves-preserved
 moves-preserved g c = (
