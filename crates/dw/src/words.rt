@@ -59,8 +59,7 @@ const PROBLEM_HELP: &str =
 
 const WITHIN_HELP: &str = "Look for a win in N moves of the side to move, 1 to 20";
 
-const POSITIONS_HELP: &str =
-    "Stop after L positions, 1 to 1000000000000 [default: 1000000000000]";
+const POSITIONS_HELP: &str = "Stop after L positions, 1 to 1000000000000 [default: 1000000000000]";
 
 const ABOUT: &str =
     "Solves problems of international draughts: verdicts, and every line of a forced win.";

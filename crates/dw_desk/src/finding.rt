@@ -14,7 +14,7 @@ use crate::desk::{Counts, Desk, DeskFault, solver_of};
 use crate::json::{found_row, json_line, refused_row};
 use crate::progress::Progress;
 use dw_board::{Board, Position, fen_text};
-use dw_desk_words::{FindWords, DeskWords};
+use dw_desk_words::{DeskWords, FindWords};
 use dw_notation::{Problem, ProblemFault, Sink, Source, write_all};
 use dw_report::{problem_line, refusal_text};
 use dw_study::find::find;

@@ -6,11 +6,13 @@ use crate::find::{find_command, find_words};
 use crate::mend::{NO_PART, mend_command, mend_words};
 use crate::page::{page_command, page_words};
 use crate::portion::{NO_PORTION, Portion, one_portion_of, portion_of};
-use crate::words::{DeskWords, Task};
 use crate::solution::{solution_command, solution_words};
 use crate::token::token_command;
+use crate::words::{DeskWords, Task};
 use clap::{ArgMatches, Command as Words};
-use dw_program::options::{FEWEST_KEPT, FEWEST_MOVES, VERSION, form_given, kept_given, moves_given};
+use dw_program::options::{
+    FEWEST_KEPT, FEWEST_MOVES, VERSION, form_given, kept_given, moves_given,
+};
 use dw_program::{BoardSize, MemoKind};
 use std::alloc::{AllocError, Global};
 

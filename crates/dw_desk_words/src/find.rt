@@ -5,8 +5,7 @@ use crate::arguments::{CACHE_HELP, progress};
 use crate::portion::problem;
 use clap::{Arg, ArgMatches, Command as Words};
 use dw_program::options::{
-    MOST_MOVES, board, cache, file, flag, memo, most, moves_given, pdn, positions,
-    positions_given,
+    MOST_MOVES, board, cache, file, flag, memo, most, moves_given, pdn, positions, positions_given,
 };
 use std::alloc::{AllocError, Global};
 

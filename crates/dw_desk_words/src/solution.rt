@@ -4,9 +4,7 @@ ghost use Rattle.std.specs.Prelude.{◌≤◌};
 use crate::arguments::{CACHE_HELP, lines, lines_of, progress};
 use crate::portion::problem;
 use clap::{ArgMatches, Command as Words};
-use dw_program::options::{
-    FEWEST_MOVES, board, cache, file, memo, moves_given, pdn, within,
-};
+use dw_program::options::{FEWEST_MOVES, board, cache, file, memo, moves_given, pdn, within};
 use std::alloc::{AllocError, Global};
 
 /// What the command `solution` is asked for.

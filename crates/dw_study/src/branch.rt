@@ -10,10 +10,9 @@ ghost use Rattle.dw_moves.specs.Moves as of;
 use crate::remark::Remark;
 use dw_board::{Board, Position};
 use dw_games::{Node, Tree};
-use dw_moves::Move;
-use dw_moves::is_legal;
 use dw_moves::listed::listed;
 use dw_moves::play::play;
+use dw_moves::{Move, is_legal};
 use std::alloc::{AllocError, Global};
 
 /// A beginning of a path: its node, `None` at the root, and the position behind it; whether the attacker is to move

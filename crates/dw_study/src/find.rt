@@ -33,8 +33,8 @@ pub fn find<B: Board, M: Memo<B>, G: Guide<B>, W: Watcher>(
     requires room { 1 ≤ bounds.each }
     ensures finding { IfOk result (λ finding. IsFinding B.geometry position.now bounds.most (told_by finding)) }
     ensures stays { StaysOpen M.content position.now bounds.each solver.old solver.new result }
-    ensures began { Began B.geometry M.content M.dropped bounds.most (cut_short result bounds.most) slices.old slices.new
-        solver.old solver.new result }
+    ensures began { Began B.geometry M.content M.dropped bounds.most (cut_short result bounds.most) slices.old
+        slices.new solver.old solver.new result }
     ensures right { AreTrue B.geometry (M.content solver.new.memo) }
     ensures map { IsMap (M.content solver.new.memo) }
 {
