@@ -1,5 +1,6 @@
-use Rattle.std.proofs.Common.{◌∙◌, ap, subst}
+use Rattle.std.proofs.Common.{◌≤◌, ◌∙◌, ap, subst, arith}
 use Rattle.dw_study.specs.Slices.{Began}
+use Rattle.dw_study.proofs.OpenLemmas.{no_lower, stays_stopped}
 use Rattle.dw_study.proofs.SliceLemmas.{stop_cuts}
 use Rattle.dw_study.proofs.WentLemmas.{answered, went_looked, went_then, went_ok, went_stop, began_here, began_looked}
 use Rattle.dw_study.proofs.find.find.Goals as goal
@@ -58,3 +59,23 @@ returns-in-Err-2-clause-began g c =
     c.args.slices.now c.begin.new.self c.number_within.new.slices c.args.solver.now c.number_within.new.solver _ _
     (ap (λ z. z.first) c.begin.ensures) (ap (λ z. z.start) c.begin.ensures ∙ c.expanded-start.ensures)
     ? c.in-Err-2.ensures.looks
+
+pub returns-in_err-judged-in-Ok-clause-stays : goal.returns-in_err-judged-in-Ok-clause-stays
+returns-in_err-judged-in-Ok-clause-stays g c =
+    stays_stopped g.M.Memo.content c.args.position.now c.args.bounds.each c.args.solver.now c.judge_on.new.solver
+    c.from_residual.result c.in_err-judged-in-Ok.field-0.0 c.from_residual.ensures.1
+
+pub returns-in_ok-judged-in-Ok-clause-stays : goal.returns-in_ok-judged-in-Ok-clause-stays
+returns-in_ok-judged-in-Ok-clause-stays g c =
+    record { undecided = λ k same. cc; known = λ j k says same. cc }
+
+pub returns-in-Err-clause-stays : goal.returns-in-Err-clause-stays
+returns-in-Err-clause-stays g c =
+    record {
+      undecided = λ k same. omega arith;
+      known = λ j k says same. subst (λ z. j ≤ z) (no_lower _ k same) (c.in-Err.ensures.known j says);
+    }
+
+pub returns-in-Err-2-clause-stays : goal.returns-in-Err-2-clause-stays
+returns-in-Err-2-clause-stays g c =
+    record { undecided = λ k same. cc; known = λ j k says same. cc }

@@ -1,4 +1,4 @@
-use Rattle.std.proofs.Common.{ℕ, ◌≡◌, ◌+◌, ◌≤◌, subst, arith}
+use Rattle.std.proofs.Common.{ℕ, ◌+◌, ◌≤◌, ◌∙◌, subst, ap, arith}
 use Rattle.std.specs.Prelude.{IfErr, min}
 use Rattle.dw_solve.specs.Certificates.{SaysLeast}
 use Rattle.dw_study.proofs.SliceLemmas.{same_memo}
@@ -19,4 +19,6 @@ returns-clause-looks g c =
     looks_between g.B.Board.geometry g.M.Memo.content g.M.Memo.dropped c.args.bounds.most
     (min before.limit until) (min before.limit (before.expanded + c.args.bounds.each)) c.args.slices.now
     c.number-number.new.slices before c.lower-limit.new.solver c.number-number.new.solver c.raise.new.solver
-    c.number-number.result c.lower-limit.ensures.lowered ? (omega arith) (omega arith) c.number-number.ensures.looks
+    c.number-number.result c.lower-limit.ensures.lowered
+    (c.raise.ensures ∙ ap (λ z. record c.number-number.new.solver { limit = z }) c.lower-limit.ensures.was)
+    (omega arith) (omega arith) c.number-number.ensures.looks
