@@ -5,7 +5,7 @@ ghost use Rattle.dw_notation.specs.Tags.{same_name};
 ghost use Rattle.dw_notation.specs.inner.HeldSection.{game_on, number_held, counted};
 
 use super::super::fens::is_blank_byte;
-use super::super::{MAX_SECTION, ProblemFault};
+use super::super::{MAX_SECTION, PAST_FEN, ProblemFault};
 use super::automaton::Action;
 use arrayvec::ArrayVec;
 use dw_board::{Board, Position, read_fen};
@@ -13,11 +13,8 @@ use dw_board::{Board, Position, read_fen};
 /// How many bytes of a tag's name are kept: one more than the longest name that matters has.
 const NAME: usize = 9;
 
-/// How many bytes of a FEN text are kept: one more than it may have.
-const TEXT: usize = 1025;
-
 /// How far bytes are counted: one more than a section may have.
-const COUNTED: usize = MAX_SECTION + 1;
+const SECTION_COUNTED: usize = MAX_SECTION + 1;
 
 /// The game of the problems that are read.
 const GAME: u8 = 20;
@@ -124,8 +121,8 @@ pub(super) struct HeldSection {
     kind: TagKind,
     /// How many FEN tags it has: none, one, or two and more.
     fens: usize,
-    /// The value of the first of them.
-    fen_text: ArrayVec<u8, TEXT>,
+    /// The value of the first of them, up to one byte more than a FEN text may have.
+    fen_text: ArrayVec<u8, PAST_FEN>,
     game: Game,
     has_game: bool,
     is_wrong: bool,
@@ -133,7 +130,7 @@ pub(super) struct HeldSection {
 
 impl HeldSection {
     ghost use Rattle.dw_notation.specs.inner.HeldSection.{held_of, held_bare, held_after, held_found, value_on, tag_on};
-    ghost use Rattle.dw_notation.specs.inner.HeldSection.{counted_in, kept, is_wrong_held, fens_held};
+    ghost use Rattle.dw_notation.specs.inner.HeldSection.{counted_in, with_byte, is_wrong_held, fens_held};
 
     pub(super) fn new() -> HeldSection
         ensures { held_of result ≡ held_bare }
@@ -171,7 +168,7 @@ impl HeldSection {
     fn count(&mut self)
         ensures { held_of self.new ≡ counted_in (held_of self.old) }
     {
-        self.read = counted(COUNTED, self.read);
+        self.read = counted(SECTION_COUNTED, self.read);
     }
 
     fn add_name(&mut self, byte: u8)
@@ -197,7 +194,7 @@ impl HeldSection {
     fn add_fen(&mut self, byte: u8)
         ensures { held_of self.new ≡ value_on TagKind.FenTag (held_of self.old) byte }
     {
-        if self.fens == 0 && self.fen_text.len() < TEXT {
+        if self.fens == 0 && self.fen_text.len() < PAST_FEN {
             self.fen_text.push(byte);
         }
     }
