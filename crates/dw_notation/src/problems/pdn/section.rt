@@ -19,6 +19,9 @@ const SECTION_COUNTED: usize = MAX_SECTION + 1;
 /// The game of the problems that are read.
 const GAME: u8 = 20;
 
+/// What each greater number of a game is held as.
+const GREATER_GAME: u8 = GAME + 1;
+
 /// What a tag is, by its name.
 #[derive(Clone, Copy)]
 enum TagKind {
@@ -45,7 +48,7 @@ fn is_named(name: &[u8], word: &[u8]) -> bool
     name.eq_ignore_ascii_case(word)
 }
 
-/// The game that a value names, as far as the value was read. Numbers from 21 on are held as 21.
+/// The game that a value names, as far as the value was read.
 #[derive(Clone, Copy)]
 enum Game {
     /// Blanks alone were read.
@@ -96,7 +99,7 @@ fn next_of_game(number: u8, byte: u8) -> Game
 {
     if byte.is_ascii_digit() {
         let more = u16::from(number) * 10 + u16::from(byte - b'0');
-        Game::Within(more.min(21) as u8)
+        Game::Within(more.min(u16::from(GREATER_GAME)) as u8)
     } else {
         Game::Behind(number)
     }
