@@ -1,6 +1,6 @@
 -- What lines are found to say, as it is computed, and lines that say the same, whatever follows.
-use Rattle.std.specs.Prelude.{◌≡◌, ◌==◌, ℕ, if◌then◌else◌, List, ◌++◌, length, Bool, Option, Some, None, Result, Ok, Err}
-use Rattle.std.specs.Prelude.{nat_lt}
+use Rattle.std.specs.Prelude.{◌≡◌, ◌==◌, ℕ, if◌then◌else◌, List, ◌++◌, length, Bool, Option, Some, None, Result, Ok}
+use Rattle.std.specs.Prelude.{Err, nat_lt}
 use Rattle.std.specs.List.{list_all}
 use Rattle.dw_board.specs.Geometry.{Geometry}
 use Rattle.dw_board.specs.Placement.{Placement}
