@@ -15,12 +15,9 @@ use arrayvec::ArrayVec;
 use dw_board::{Board, Position, Side};
 use dw_moves::Move;
 use dw_moves::play::play;
-use dw_notation::MoveFault;
+use dw_notation::{MAX_MOVE_TEXT, MoveFault};
 use dw_notation::read_move::read_move;
 use std::alloc::{AllocError, Global};
-
-/// The most bytes of a move: 21 squares of two digits each, joined by 20 crosses.
-const MAX_MOVE: usize = 62;
 
 /// Where reading stands: behind a beginning of the tree, by its node, the position after it, and how many moves it has.
 #[derive(Clone, Copy)]
@@ -225,10 +222,10 @@ fn move_named<B: Board>(
 ) -> Result<Move<B>, MoveFault>
     ensures { IsRead B.geometry position.now (crossed text.now) result }
 {
-    if text.len() > MAX_MOVE {
+    if text.len() > MAX_MOVE_TEXT {
         return Err(MoveFault::Syntax);
     }
-    let mut crossed = ArrayVec::<u8, MAX_MOVE>::new();
+    let mut crossed = ArrayVec::<u8, MAX_MOVE_TEXT>::new();
     'bytes: for byte in text {
         crossed.push(if *byte == b':' { b'x' } else { *byte });
     }
