@@ -15,8 +15,8 @@ use arrayvec::ArrayVec;
 use dw_board::{Board, Position, Side};
 use dw_moves::Move;
 use dw_moves::play::play;
-use dw_notation::{MAX_MOVE_TEXT, MoveFault};
 use dw_notation::read_move::read_move;
+use dw_notation::{MAX_MOVE_TEXT, MoveFault};
 use std::alloc::{AllocError, Global};
 
 /// Where reading stands: behind a beginning of the tree, by its node, the position after it, and how many moves it has.
