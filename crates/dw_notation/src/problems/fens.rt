@@ -140,19 +140,19 @@ impl LongLine {
 /// What is held of a line: all of it, if it has no more bytes than a FEN text with a carriage return after it, or else
 /// what decides what it says.
 #[derive(Drop)]
-struct Line {
+struct HeldLine {
     front: ArrayVec<u8, PAST_FEN>,
     long: Option<LongLine>,
 }
 
-impl Line {
+impl HeldLine {
     ghost use Rattle.dw_notation.specs.inner.Held.{held_line};
     ghost use Rattle.dw_notation.specs.inner.TextLines.{SaysSame};
 
-    fn new() -> Line
+    fn new() -> HeldLine
         ensures { held_line result ≡ [] }
     {
-        Line {
+        HeldLine {
             front: ArrayVec::new(),
             long: None,
         }
@@ -266,7 +266,7 @@ impl Front {
 #[derive(Drop)]
 pub(super) struct TextLines {
     front: Front,
-    line: Line,
+    line: HeldLine,
 }
 
 impl TextLines {
@@ -281,7 +281,7 @@ impl TextLines {
     {
         TextLines {
             front: Front::Bare,
-            line: Line::new(),
+            line: HeldLine::new(),
         }
     }
 

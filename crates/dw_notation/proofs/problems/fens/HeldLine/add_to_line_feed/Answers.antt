@@ -1,6 +1,6 @@
 use Rattle.std.proofs.Common.{◌∙◌, sym}
 use Rattle.dw_notation.proofs.CutLemmas.{first_feed, no_feed, found_from-at, found_from-push}
-use Rattle.dw_notation.proofs.problems.fens.Line.add_to_line_feed.Goals as goal
+use Rattle.dw_notation.proofs.problems.fens.HeldLine.add_to_line_feed.Goals as goal
 
 pub returns-in-Some-clause-some : goal.returns-in-Some-clause-some
 returns-in-Some-clause-some c =
