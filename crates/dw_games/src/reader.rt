@@ -29,24 +29,24 @@ struct Spot<B: Board> {
 
 /// A variation that is open: where it stands now, and where it stood before its last move, if it has one.
 #[derive(Clone, Copy)]
-struct Variation<B: Board> {
+struct OpenLine<B: Board> {
     now: Spot<B>,
     before: Option<Spot<B>>,
 }
 
-impl<B: Board> Variation<B> {
+impl<B: Board> OpenLine<B> {
     /// A variation without moves.
     fn from(now: Spot<B>) -> Self
         ensures { result ≡ record { now = now; before = None } }
     {
-        Variation { now, before: None }
+        OpenLine { now, before: None }
     }
 }
 
 /// One at the empty board, to fill an array with.
-impl<B: Board> Default for Variation<B> {
+impl<B: Board> Default for OpenLine<B> {
     fn default() -> Self {
-        Variation::from(Spot {
+        OpenLine::from(Spot {
             node: None,
             position: Position::empty(Side::White),
             moves: 0,
@@ -59,8 +59,8 @@ impl<B: Board> Default for Variation<B> {
 pub(crate) struct Reader<B: Board> {
     alloc: Global,
     tree: Tree<B>,
-    line: Variation<B>,
-    outer: ArrayVec<Variation<B>, MAX_OPEN>,
+    line: OpenLine<B>,
+    outer: ArrayVec<OpenLine<B>, MAX_OPEN>,
 }
 
 impl<B: Board> Reader<B> {
@@ -74,7 +74,7 @@ impl<B: Board> Reader<B> {
         Reader {
             alloc,
             tree: Tree::new(alloc),
-            line: Variation::from(Spot {
+            line: OpenLine::from(Spot {
                 node: None,
                 position,
                 moves: 0,
@@ -132,7 +132,7 @@ impl<B: Board> Reader<B> {
             return Err(token.fault(MovetextFaultKind::TooDeep));
         }
         self.outer.push(self.line);
-        self.line = Variation::from(before);
+        self.line = OpenLine::from(before);
         Ok(false)
     }
 
@@ -173,7 +173,7 @@ impl<B: Board> Reader<B> {
         let now = self.line.now;
         let mv = self.move_of(token)?;
         let node = self.tree.note(now.node, &mv)?;
-        self.line = Variation {
+        self.line = OpenLine {
             now: Spot {
                 node: Some(node),
                 position: play(&now.position, &mv),
