@@ -9,12 +9,12 @@ use Rattle.std.proofs.lemmas.Bool.{cases_lt, true≢false}
 use Rattle.dw_moves.specs.Moves.{Move}
 use Rattle.dw_games.specs.declared.branches.Branch.{Branch}
 use Rattle.dw_games.specs.Walk.{place_of}
-use Rattle.dw_games.specs.inner.Branches.{Step, steps_of, firsts_of, nexts_of, Hang, IsChild, IsFirstChild}
+use Rattle.dw_games.specs.inner.Branches.{BranchStep, steps_of, firsts_of, nexts_of, Hang, IsChild, IsFirstChild}
 use Rattle.dw_games.specs.inner.Branches.{IsLastChild, IsUnseen, IsChildOrNone, behind}
 use Rattle.dw_games.proofs.PlaceLemmas.{same}
 use Rattle.dw_games.proofs.PathLemmas.{got_some}
 
-abbrev pub step_of : {B : Type 0} → Branch B → Step
+abbrev pub step_of : {B : Type 0} → Branch B → BranchStep
 step_of b = record { parent = place_of b.parent; mv = b.mv }
 
 module _ {B : Type 0} (branches : List (Branch B)) (i : ℕ) (b : Branch B) (inside : i < length branches)
@@ -42,16 +42,16 @@ beyond branches hang i past = λ k low child.
     let near : k < length (steps_of branches) = slice_get_within _ k _ child.1 in
     omega (arith, steps_length branches)
 
-child_step : (steps : List Step) (s : Step) (k : ℕ) → slice_get steps k ≡ Some s → IsChild steps s.parent k
+child_step : (steps : List BranchStep) (s : BranchStep) (k : ℕ) → slice_get steps k ≡ Some s → IsChild steps s.parent k
 child_step steps s k e = (s.mv, e)
 
-top : (steps : List Step) (p : Option ℕ) → ((n : ℕ) → IsChild steps (Some n) 0 → n < 0) → IsChild steps p 0
+top : (steps : List BranchStep) (p : Option ℕ) → ((n : ℕ) → IsChild steps (Some n) 0 → n < 0) → IsChild steps p 0
     → IsChild steps None 0
 top steps None above h = h
 top steps (Some n) above h = let no : n < 0 = above n h in absurd (omega (arith, no))
 
 -- the first node is a child of the root
-pub root_first : (steps : List Step) → ((n k : ℕ) → IsChild steps (Some n) k → n < k) → 0 < length steps
+pub root_first : (steps : List BranchStep) → ((n k : ℕ) → IsChild steps (Some n) k → n < k) → 0 < length steps
     → IsFirstChild steps None 0 (Some 0)
 root_first steps above some =
     let first = got_some steps 0 some in (
@@ -67,7 +67,7 @@ not_empty (suc n) e = omega arith
 
 -- ---- children in turn
 -- a step that has a parent and a move is known by both
-pub same_step : (steps : List Step) (p q : Option ℕ) (m n : Move) (k : ℕ)
+pub same_step : (steps : List BranchStep) (p q : Option ℕ) (m n : Move) (k : ℕ)
     → slice_get steps k ≡ Some (record { parent = p; mv = m }) → slice_get steps k ≡ Some (record { parent = q; mv = n })
     → (p ≡ q) × (m ≡ n)
 same_step steps p q m n k a b =
@@ -75,7 +75,7 @@ same_step steps p q m n k a b =
     (ap (λ s. s.parent) e, ap (λ s. s.mv) e)
 
 -- the next child is no other than by this move, or the one after it is looked at next
-pub unseen_next : (steps : List Step) (p : Option ℕ) (m other : Move) (from n : ℕ) → IsUnseen steps p m from
+pub unseen_next : (steps : List BranchStep) (p : Option ℕ) (m other : Move) (from n : ℕ) → IsUnseen steps p m from
     → IsFirstChild steps p from (Some n) → slice_get steps n ≡ Some (record { parent = p; mv = other })
     → (other ≡ m → ⊥) → IsUnseen steps p m (n + 1)
 unseen_next steps p m other from n unseen first here ne = λ k low e. elim (cases_lt k from) [
@@ -88,13 +88,13 @@ unseen_next steps p m other from n unseen first here ne = λ k low e. elim (case
   ]
 ]
 
-last_of : (steps : List Step) (p last : Option ℕ) → IsChildOrNone steps p last → IsFirstChild steps p (behind last) None
+last_of : (steps : List BranchStep) (p last : Option ℕ) → IsChildOrNone steps p last → IsFirstChild steps p (behind last) None
     → IsLastChild steps p last
 last_of steps p None is none = none
 last_of steps p (Some n) is none = (is, none)
 
 -- where no child is left, none was by this move, and the last one was the last of all
-pub unseen_all : (steps : List Step) (p : Option ℕ) (m : Move) (last : Option ℕ) → IsChildOrNone steps p last
+pub unseen_all : (steps : List BranchStep) (p : Option ℕ) (m : Move) (last : Option ℕ) → IsChildOrNone steps p last
     → IsFirstChild steps p (behind last) None → IsUnseen steps p m (behind last)
     → ((n : ℕ) → slice_get steps n ≡ Some (record { parent = p; mv = m }) → ⊥) × IsLastChild steps p last
 unseen_all steps p m last is none unseen = (
@@ -106,7 +106,7 @@ unseen_all steps p m last is none unseen = (
 )
 
 -- the next child, if it is by this move
-pub found_by : (steps : List Step) (p : Option ℕ) (m : Move) (n : ℕ) → IsChild steps p n
+pub found_by : (steps : List BranchStep) (p : Option ℕ) (m : Move) (n : ℕ) → IsChild steps p n
     → ((parent : Option ℕ) (other : Move) → slice_get steps n ≡ Some (record { parent = parent; mv = other })
     → (true ≡ true) ↔ (other ≡ m))
     → slice_get steps n ≡ Some (record { parent = p; mv = m })
@@ -115,7 +115,7 @@ found_by steps p m n child by =
     subst (λ x. slice_get steps n ≡ Some (record { parent = p; mv = x })) is child.1
 
 -- what holds after the next child, if it is not
-pub goes_on : (P : Type 0) (steps : List Step) (p : Option ℕ) (m : Move) (from n : ℕ) (next : Option ℕ) → IsUnseen steps p m from
+pub goes_on : (P : Type 0) (steps : List BranchStep) (p : Option ℕ) (m : Move) (from n : ℕ) (next : Option ℕ) → IsUnseen steps p m from
     → IsFirstChild steps p from (Some n)
     → ((parent : Option ℕ) (other : Move) → slice_get steps n ≡ Some (record { parent = parent; mv = other })
     → (false ≡ true) ↔ (other ≡ m))

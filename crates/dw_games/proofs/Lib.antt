@@ -5,7 +5,7 @@ pub mod TrimLemmas
 pub mod ReadLemmas
 pub mod GameLemmas
 pub mod HandLemmas
-pub mod SayingLemmas
+pub mod GameProblemLemmas
 pub mod TellingLemmas
 pub mod OneGamesLemmas
 pub mod ToldLemmas
@@ -22,7 +22,7 @@ pub mod ReadingLemmas
 pub mod LongLemmas
 pub mod TakenLemmas
 pub mod WholeLemmas
-pub mod LexLemmas
+pub mod TokenRowLemmas
 pub mod StepLemmas
 pub mod OneAnswerLemmas
 pub mod PlayedLemmas

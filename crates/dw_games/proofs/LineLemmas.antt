@@ -24,7 +24,7 @@ use Rattle.dw_games.specs.declared.fault.MovetextFault.{MovetextFault}
 use Rattle.dw_games.specs.declared.fault.MovetextFault.TheVariants.{Refused, Memory}
 use Rattle.dw_games.specs.declared.fault.LineFault.{LineFault}
 use Rattle.dw_games.specs.declared.fault.LineFaultKind.TheVariants.{Movetext}
-use Rattle.dw_games.specs.declared.reader.Line.{Line}
+use Rattle.dw_games.specs.declared.reader.OpenLine.{OpenLine}
 use Rattle.dw_games.specs.declared.reader.Reader.{Reader}
 use Rattle.dw_games.proofs.PlaceLemmas.{absent, same}
 use Rattle.dw_games.proofs.PathLemmas.{filled, last_same}
@@ -49,8 +49,8 @@ module _ (g : Geometry) (p : Placement) where
   any_room (variation {ts = ts} {us = us} moves last opening closing v o w c) h =
       let rest = none_parts ts (opening ∷ (us ++ closing ∷ [])) h in absurd (rest.1.0 o)
 
-  straight_read : {B : Type 0} (tree : List (List Move)) {room : ℕ} {ts : List Token} {line : Line B}
-      {outer : List (Line B)} {before moves : List Move} {paths : List (List Move)}
+  straight_read : {B : Type 0} (tree : List (List Move)) {room : ℕ} {ts : List Token} {line : OpenLine B}
+      {outer : List (OpenLine B)} {before moves : List Move} {paths : List (List Move)}
       → Opened g p tree room ts line outer before moves paths → NoneOpens ts
       → (outer ≡ []) × (before ≡ []) × IsVariation g p zero [] ts moves paths
   straight_read tree (outermost v l) h = (refl, refl, any_room v h)

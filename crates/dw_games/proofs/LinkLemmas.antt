@@ -6,21 +6,21 @@ use Rattle.std.specs.List.{slice_get}
 use Rattle.std.proofs.lemmas.Option.{slice_get_within}
 use Rattle.std.proofs.lemmas.Bool.{cases_lt}
 use Rattle.dw_moves.specs.Moves.{Move}
-use Rattle.dw_games.specs.inner.Branches.{Step, IsChild, IsFirstChild, IsLastChild, IsPlace, AreLinked, first_linked}
+use Rattle.dw_games.specs.inner.Branches.{BranchStep, IsChild, IsFirstChild, IsLastChild, IsPlace, AreLinked, first_linked}
 use Rattle.dw_games.specs.inner.Branches.{next_linked}
 use Rattle.dw_games.proofs.PlaceLemmas.{absent, same, got_new, got_old, got_last, got_set}
 
-abbrev step : Option ℕ → Move → Step
+abbrev step : Option ℕ → Move → BranchStep
 step p mv = record { parent = p; mv = mv }
 
 -- these steps, and one behind them
-abbrev with_step : List Step → Option ℕ → Move → List Step
+abbrev with_step : List BranchStep → Option ℕ → Move → List BranchStep
 with_step steps p mv = steps ++ step p mv ∷ []
 
-child_within : (steps : List Step) (p : Option ℕ) (k : ℕ) → IsChild steps p k → k < length steps
+child_within : (steps : List BranchStep) (p : Option ℕ) (k : ℕ) → IsChild steps p k → k < length steps
 child_within steps p k h = slice_get_within steps k (step p h.0) h.1
 
-child_new : (steps : List Step) (p q : Option ℕ) (mv : Move) (k : ℕ) → IsChild (with_step steps p mv) q k
+child_new : (steps : List BranchStep) (p q : Option ℕ) (mv : Move) (k : ℕ) → IsChild (with_step steps p mv) q k
     → IsChild steps q k ⊎ ((k ≡ length steps) × (p ≡ q))
 child_new steps p q mv k h = elim (got_new steps (step p mv) (step q h.0) k h.1) [
   | inl old ↦ inl (h.0, old)
@@ -28,7 +28,7 @@ child_new steps p q mv k h = elim (got_new steps (step p mv) (step q h.0) k h.1)
 ]
 
 -- a first child stays the first
-first_stays : (steps : List Step) (p q : Option ℕ) (mv : Move) (from n : ℕ) → IsFirstChild steps q from (Some n)
+first_stays : (steps : List BranchStep) (p q : Option ℕ) (mv : Move) (from n : ℕ) → IsFirstChild steps q from (Some n)
     → IsFirstChild (with_step steps p mv) q from (Some n)
 first_stays steps p q mv from n h = (
   h.0,
@@ -40,7 +40,7 @@ first_stays steps p q mv from n h = (
 )
 
 -- where there is none, there is none still, if the new node is no child
-none_stays : (steps : List Step) (p q : Option ℕ) (mv : Move) (from : ℕ) → IsFirstChild steps q from None
+none_stays : (steps : List BranchStep) (p q : Option ℕ) (mv : Move) (from : ℕ) → IsFirstChild steps q from None
     → (p ≡ q → ⊥) → IsFirstChild (with_step steps p mv) q from None
 none_stays steps p q mv from h ne = λ k low child. elim (child_new steps p q mv k child) [
   | inl old ↦ h k low old
@@ -48,7 +48,7 @@ none_stays steps p q mv from h ne = λ k low child. elim (child_new steps p q mv
 ]
 
 -- and the new node is the first child else
-first_new : (steps : List Step) (p : Option ℕ) (mv : Move) (from : ℕ) → IsFirstChild steps p from None
+first_new : (steps : List BranchStep) (p : Option ℕ) (mv : Move) (from : ℕ) → IsFirstChild steps p from None
     → from ≤ length steps → IsFirstChild (with_step steps p mv) p from (Some (length steps))
 first_new steps p mv from h low = (
   low,
@@ -60,17 +60,17 @@ first_new steps p mv from h low = (
 )
 
 -- a link that was right stays right, if it is one to a node, or the new node is no child
-link_stays : (steps : List Step) (p q : Option ℕ) (mv : Move) (from : ℕ) (r : Option ℕ) → IsFirstChild steps q from r
+link_stays : (steps : List BranchStep) (p q : Option ℕ) (mv : Move) (from : ℕ) (r : Option ℕ) → IsFirstChild steps q from r
     → (IsFirstChild steps q from None → p ≡ q → ⊥) → IsFirstChild (with_step steps p mv) q from r
 link_stays steps p q mv from (Some n) h ne = first_stays steps p q mv from n h
 link_stays steps p q mv from None h ne = none_stays steps p q mv from h (ne h)
 
-out : (steps : List Step) (r : Option ℕ) → r ≡ Some (length steps) → IsPlace steps r → ⊥
+out : (steps : List BranchStep) (r : Option ℕ) → r ≡ Some (length steps) → IsPlace steps r → ⊥
 out steps None e place = absent (length steps) e
 out steps (Some n) e place = let here : n ≡ length steps = same _ _ e in omega (arith, place)
 
 -- the new node has no child
-no_child : (steps : List Step) (p : Option ℕ) (mv : Move)
+no_child : (steps : List BranchStep) (p : Option ℕ) (mv : Move)
     → ((n k : ℕ) → IsChild steps (Some n) k → n < k) → IsPlace steps p
     → IsFirstChild (with_step steps p mv) (Some (length steps)) 0 None
 no_child steps p mv above place = λ k low child. elim (child_new steps p (Some (length steps)) mv k child) [
@@ -80,7 +80,7 @@ no_child steps p mv above place = λ k low child. elim (child_new steps p (Some 
 ]
 
 -- and no sibling
-no_sibling : (steps : List Step) (p q : Option ℕ) (mv : Move)
+no_sibling : (steps : List BranchStep) (p q : Option ℕ) (mv : Move)
     → IsFirstChild (with_step steps p mv) q (length steps + 1) None
 no_sibling steps p q mv = λ k low child. elim (child_new steps p q mv k child) [
   | inl old ↦ let near : k < length steps = child_within steps q k old in omega arith
@@ -88,7 +88,7 @@ no_sibling steps p q mv = λ k low child. elim (child_new steps p q mv k child) 
 ]
 
 -- ---- first children
-children_of : (steps : List Step) (firsts nexts : List (Option ℕ)) → AreLinked steps firsts nexts → (p : Option ℕ)
+children_of : (steps : List BranchStep) (firsts nexts : List (Option ℕ)) → AreLinked steps firsts nexts → (p : Option ℕ)
     → (mv : Move) → IsPlace steps p
     → ((k : ℕ) → IsFirstChild steps (Some k) 0 None → p ≡ Some k → ⊥)
     → (k : ℕ) (r : Option ℕ) → slice_get (firsts ++ None ∷ []) k ≡ Some r
@@ -103,7 +103,7 @@ children_of steps firsts nexts linked p mv place ne k r e = elim (got_new firsts
 ]
 
 -- at any place but the parent's
-elsewhere : (steps : List Step) (firsts nexts : List (Option ℕ)) → AreLinked steps firsts nexts → (q : ℕ) (mv : Move)
+elsewhere : (steps : List BranchStep) (firsts nexts : List (Option ℕ)) → AreLinked steps firsts nexts → (q : ℕ) (mv : Move)
     → IsPlace steps (Some q) → (k : ℕ) (r : Option ℕ) → (k ≡ q → ⊥) → slice_get (firsts ++ None ∷ []) k ≡ Some r
     → IsFirstChild (with_step steps (Some q) mv) (Some k) 0 r
 elsewhere steps firsts nexts linked q mv place k r ne e = elim (got_new firsts None r k e) [
@@ -116,7 +116,7 @@ elsewhere steps firsts nexts linked q mv place k r ne e = elim (got_new firsts N
       (no_child steps (Some q) mv linked.above place))
 ]
 
-children_new : (steps : List Step) (firsts nexts : List (Option ℕ)) → AreLinked steps firsts nexts
+children_new : (steps : List BranchStep) (firsts nexts : List (Option ℕ)) → AreLinked steps firsts nexts
     → (p last : Option ℕ) (mv : Move) → IsPlace steps p → IsLastChild steps p last
     → (k : ℕ) (r : Option ℕ) → slice_get (first_linked (firsts ++ None ∷ []) last p (length steps)) k ≡ Some r
     → IsFirstChild (with_step steps p mv) (Some k) 0 r
@@ -137,14 +137,14 @@ children_new steps firsts nexts linked (Some q) None mv place is k r e =
     ]
 
 -- ---- next siblings
-at_end : (steps : List Step) (p q : Option ℕ) (mv : Move) (k : ℕ) (r : Option ℕ) → k ≡ length steps → None ≡ r
+at_end : (steps : List BranchStep) (p q : Option ℕ) (mv : Move) (k : ℕ) (r : Option ℕ) → k ≡ length steps → None ≡ r
     → IsFirstChild (with_step steps p mv) q (k + 1) r
 at_end steps p q mv k r here none =
     subst (λ x. IsFirstChild (with_step steps p mv) q (k + 1) x) none
     (subst (λ x. IsFirstChild (with_step steps p mv) q (x + 1) None) (sym here) (no_sibling steps p q mv))
 
 -- behind the child that was the last
-linked_behind : (steps : List Step) (p q : Option ℕ) (mv : Move) (l k : ℕ) (r : Option ℕ) (m : Move)
+linked_behind : (steps : List BranchStep) (p q : Option ℕ) (mv : Move) (l k : ℕ) (r : Option ℕ) (m : Move)
     → IsLastChild steps p (Some l) → k ≡ l → Some (length steps) ≡ r → slice_get steps k ≡ Some (step q m)
     → IsFirstChild (with_step steps p mv) q (k + 1) r
 linked_behind steps p q mv l k r m is here link known =
@@ -159,14 +159,14 @@ linked_behind steps p q mv l k r m is here link known =
     (subst (λ x. IsFirstChild (with_step steps p mv) x (l + 1) (Some (length steps))) parent first))
 
 -- no other child of the same parent is without a next sibling
-only_last : (steps : List Step) (p q : Option ℕ) (l k : ℕ) (m : Move) → IsLastChild steps p (Some l) → (k ≡ l → ⊥)
+only_last : (steps : List BranchStep) (p q : Option ℕ) (l k : ℕ) (m : Move) → IsLastChild steps p (Some l) → (k ≡ l → ⊥)
     → IsFirstChild steps q (k + 1) None → p ≡ q → slice_get steps k ≡ Some (step q m) → ⊥
 only_last steps p q l k m is ne none e known = elim (cases_lt k l) [
   | inl before ↦ none l (omega arith) (subst (λ x. IsChild steps x l) e is.0)
   | inr other ↦ is.1 k (omega (arith, ne)) (m, subst (λ x. slice_get steps k ≡ Some (step x m)) (sym e) known)
 ]
 
-siblings_new : (steps : List Step) (firsts nexts : List (Option ℕ)) → AreLinked steps firsts nexts
+siblings_new : (steps : List BranchStep) (firsts nexts : List (Option ℕ)) → AreLinked steps firsts nexts
     → (p last : Option ℕ) (mv : Move) → IsLastChild steps p last
     → (k : ℕ) (r q : Option ℕ) (m : Move) → slice_get (next_linked (nexts ++ None ∷ []) last (length steps)) k ≡ Some r
     → slice_get (with_step steps p mv) k ≡ Some (step q m) → IsFirstChild (with_step steps p mv) q (k + 1) r
@@ -198,9 +198,9 @@ siblings_new steps firsts nexts linked p (Some l) mv is k r q m e there =
     ]
 
 -- ---- all
-once_new : (steps : List Step) (s : Step) → ((j k : ℕ) (t : Step) → slice_get steps j ≡ Some t
+once_new : (steps : List BranchStep) (s : BranchStep) → ((j k : ℕ) (t : BranchStep) → slice_get steps j ≡ Some t
     → slice_get steps k ≡ Some t → j ≡ k) → ((k : ℕ) → slice_get steps k ≡ Some s → ⊥)
-    → (j k : ℕ) (t : Step) → slice_get (steps ++ s ∷ []) j ≡ Some t → slice_get (steps ++ s ∷ []) k ≡ Some t → j ≡ k
+    → (j k : ℕ) (t : BranchStep) → slice_get (steps ++ s ∷ []) j ≡ Some t → slice_get (steps ++ s ∷ []) k ≡ Some t → j ≡ k
 once_new steps s once unseen j k t a b = elim (got_new steps s t j a) [
   | inl old ↦ elim (got_new steps s t k b) [
     | inl known ↦ once j k t old known
@@ -212,7 +212,7 @@ once_new steps s once unseen j k t a b = elim (got_new steps s t j a) [
   ]
 ]
 
-above_new : (steps : List Step) (p : Option ℕ) (mv : Move) → IsPlace steps p
+above_new : (steps : List BranchStep) (p : Option ℕ) (mv : Move) → IsPlace steps p
     → ((n k : ℕ) → IsChild steps (Some n) k → n < k) → (n k : ℕ) → IsChild (with_step steps p mv) (Some n) k → n < k
 above_new steps p mv place above n k child = elim (child_new steps p (Some n) mv k child) [
   | inl old ↦ above n k old
@@ -233,7 +233,7 @@ longer : {A B : Type 0} (xs : List A) (ys : List B) (x : A) (y : B) → length x
     → length (xs ++ x ∷ []) ≡ length (ys ++ y ∷ [])
 longer xs ys x y e = length-append xs (x ∷ []) ∙ (ap (λ n. n + 1) e ∙ sym (length-append ys (y ∷ [])))
 
-pub linked_new : (steps : List Step) (firsts nexts : List (Option ℕ)) → AreLinked steps firsts nexts
+pub linked_new : (steps : List BranchStep) (firsts nexts : List (Option ℕ)) → AreLinked steps firsts nexts
     → (p last : Option ℕ) (mv : Move) → IsPlace steps p → IsLastChild steps p last
     → ((k : ℕ) → slice_get steps k ≡ Some (step p mv) → ⊥)
     → AreLinked (with_step steps p mv) (first_linked (firsts ++ None ∷ []) last p (length steps))

@@ -23,7 +23,7 @@ use Rattle.dw_games.specs.declared.fault.MovetextFaultKind.{MovetextFaultKind}
 use Rattle.dw_games.specs.declared.fault.MovetextFaultKind.TheVariants.{Token as NoToken, NoSuchMove, Ambiguous}
 use Rattle.dw_games.specs.declared.fault.MovetextFaultKind.TheVariants.{Variation, Unclosed, Rest, TooDeep, TooLong, Empty}
 use Rattle.dw_games.proofs.PathLemmas.{filled, last_same}
-use Rattle.dw_games.proofs.LexLemmas.{one_row, row_front}
+use Rattle.dw_games.proofs.TokenRowLemmas.{one_row, row_front}
 use Rattle.dw_games.proofs.StepLemmas.{State, Around, start, Next, IsNext, Leads, ended, closed, begun, moved}
 use Rattle.dw_games.proofs.StepLemmas.{result, neither, read, long, begun_deep, as_kind, leads_on, varied, begun_next}
 use Rattle.dw_games.proofs.StepLemmas.{leads_one, stopped, fault_one}

@@ -21,7 +21,7 @@ use Rattle.dw_games.specs.declared.fault.MovetextFaultKind.TheVariants.{Variatio
 use Rattle.dw_games.specs.declared.fault.LineFaultKind.{LineFaultKind}
 use Rattle.dw_games.specs.declared.fault.LineFaultKind.TheVariants.{Movetext}
 use Rattle.dw_games.proofs.PathLemmas.{last_same}
-use Rattle.dw_games.proofs.LexLemmas.{one_row}
+use Rattle.dw_games.proofs.TokenRowLemmas.{one_row}
 use Rattle.dw_games.proofs.StepLemmas.{State, start, Next, IsNext, Leads, varied, leads_one, stopped, fault_one}
 use Rattle.dw_games.proofs.StepLemmas.{begun, as_kind, ok_err, same_err}
 use Rattle.dw_games.proofs.StepLemmas as step

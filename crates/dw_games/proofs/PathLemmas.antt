@@ -6,7 +6,7 @@ use Rattle.std.proofs.lemmas.Option.{slice_get_within, slice_get-get_or, get_or_
 use Rattle.dw_board.specs.Lists.{Member}
 use Rattle.dw_moves.specs.Moves.{Move}
 use Rattle.dw_games.specs.Walk.{IsNext}
-use Rattle.dw_games.specs.inner.Branches.{Step, path_to, grown, paths_of, IsChild, IsFirstChild, IsPlace}
+use Rattle.dw_games.specs.inner.Branches.{BranchStep, path_to, grown, paths_of, IsChild, IsFirstChild, IsPlace}
 use Rattle.dw_games.proofs.PlaceLemmas.{absent, same, got_old, got_last}
 
 -- ---- lists
@@ -28,7 +28,7 @@ got_some [] k h = absurd (omega (arith, h))
 got_some (x ∷ xs) zero h = (x, refl)
 got_some (x ∷ xs) (suc k) h = got_some xs k (omega arith)
 
-join_step : (s t : Step) → s.parent ≡ t.parent → s.mv ≡ t.mv → s ≡ t
+join_step : (s t : BranchStep) → s.parent ≡ t.parent → s.mv ≡ t.mv → s ≡ t
 join_step s t p m = λ i. record { parent = p i; mv = m i }
 
 pub filled : {A B : Type 0} (xs : List A) (x : A) → [] ≡ xs ++ x ∷ [] → B
@@ -48,35 +48,35 @@ last_same (a ∷ xs) (b ∷ ys) x y e =
 
 -- ---- paths that are added in turn
 -- the path of a step, after the paths before it
-abbrev path_of : List (List Move) → Step → List Move
+abbrev path_of : List (List Move) → BranchStep → List Move
 path_of paths s = path_to paths s.parent ++ s.mv ∷ []
 
-pub grown_append : (paths : List (List Move)) (steps : List Step) (s : Step)
+pub grown_append : (paths : List (List Move)) (steps : List BranchStep) (s : BranchStep)
     → grown paths (steps ++ s ∷ []) ≡ grown paths steps ++ path_of (grown paths steps) s ∷ []
 grown_append paths [] s = refl
 grown_append paths (x ∷ steps) s = grown_append (paths ++ path_of paths x ∷ []) steps s
 
-length_grown : (paths : List (List Move)) (steps : List Step) → length (grown paths steps) ≡ length paths + length steps
+length_grown : (paths : List (List Move)) (steps : List BranchStep) → length (grown paths steps) ≡ length paths + length steps
 length_grown paths [] = omega arith
 length_grown paths (x ∷ steps) =
     let more = length_grown (paths ++ path_of paths x ∷ []) steps in
     let one = length-append paths (path_of paths x ∷ []) in omega (arith, more, one)
 
-kept : (paths : List (List Move)) (steps : List Step) (k : ℕ) (b : List Move) → slice_get paths k ≡ Some b
+old_stays : (paths : List (List Move)) (steps : List BranchStep) (k : ℕ) (b : List Move) → slice_get paths k ≡ Some b
     → slice_get (grown paths steps) k ≡ Some b
-kept paths [] k b e = e
-kept paths (x ∷ steps) k b e =
-    kept (paths ++ path_of paths x ∷ []) steps k b (got_old paths (path_of paths x ∷ []) b k e)
+old_stays paths [] k b e = e
+old_stays paths (x ∷ steps) k b e =
+    old_stays (paths ++ path_of paths x ∷ []) steps k b (got_old paths (path_of paths x ∷ []) b k e)
 
 -- a path that was there stays the same
-path_kept : (paths : List (List Move)) (steps : List Step) (p : Option ℕ)
+path_stays : (paths : List (List Move)) (steps : List BranchStep) (p : Option ℕ)
     → ((n : ℕ) → p ≡ Some n → n < length paths) → path_to (grown paths steps) p ≡ path_to paths p
-path_kept paths steps None h = refl
-path_kept paths steps (Some n) h =
+path_stays paths steps None h = refl
+path_stays paths steps (Some n) h =
     get_or_from_slice_get (grown paths steps) n (get_or paths n []) []
-    (kept paths steps n (get_or paths n []) (slice_get-get_or paths n [] (h n refl)))
+    (old_stays paths steps n (get_or paths n []) (slice_get-get_or paths n [] (h n refl)))
 
-at_grown : (paths : List (List Move)) (steps : List Step) (k : ℕ) (s : Step) → slice_get steps k ≡ Some s
+at_grown : (paths : List (List Move)) (steps : List BranchStep) (k : ℕ) (s : BranchStep) → slice_get steps k ≡ Some s
     → ((n : ℕ) → s.parent ≡ Some n → n < length paths + k)
     → slice_get (grown paths steps) (length paths + k) ≡ Some (path_of (grown paths steps) s)
 at_grown paths [] k s e h = absent s e
@@ -84,9 +84,9 @@ at_grown paths (x ∷ steps) zero s e h =
     let is : x ≡ s = same x s e in
     let next : List (List Move) = paths ++ path_of paths x ∷ [] in
     let stays : path_to (grown paths (x ∷ steps)) s.parent ≡ path_to paths s.parent =
-    path_kept paths (x ∷ steps) s.parent (λ n e. omega (arith, h n e)) in
+    path_stays paths (x ∷ steps) s.parent (λ n e. omega (arith, h n e)) in
     let there : slice_get (grown paths (x ∷ steps)) (length paths) ≡ Some (path_of paths x) =
-    kept next steps (length paths) (path_of paths x) (got_last paths (path_of paths x)) in
+    old_stays next steps (length paths) (path_of paths x) (got_last paths (path_of paths x)) in
     rw (add-zero, stays, ← is) there
 at_grown paths (x ∷ steps) (suc k) s e h =
     let next : List (List Move) = paths ++ path_of paths x ∷ [] in
@@ -96,17 +96,17 @@ at_grown paths (x ∷ steps) (suc k) s e h =
     subst (λ n. slice_get (grown paths (x ∷ steps)) n ≡ Some (path_of (grown paths (x ∷ steps)) s)) place more
 
 -- ---- the paths of a tree
-parent_is : (steps : List Step) (s : Step) (n k : ℕ) → s.parent ≡ Some n → slice_get steps k ≡ Some s
+parent_is : (steps : List BranchStep) (s : BranchStep) (n k : ℕ) → s.parent ≡ Some n → slice_get steps k ≡ Some s
     → slice_get steps k ≡ Some (record { parent = Some n; mv = s.mv })
 parent_is steps s n k is e = subst (λ p. slice_get steps k ≡ Some (record { parent = p; mv = s.mv })) is e
 
-pub length_paths : (steps : List Step) → length (paths_of steps) ≡ length steps
+pub length_paths : (steps : List BranchStep) → length (paths_of steps) ≡ length steps
 length_paths steps = let h = length_grown [] steps in omega (arith, h)
 
-module _ (steps : List Step) (above : (n k : ℕ) → IsChild steps (Some n) k → n < k)
-    (once : (j k : ℕ) (s : Step) → slice_get steps j ≡ Some s → slice_get steps k ≡ Some s → j ≡ k) where
+module _ (steps : List BranchStep) (above : (n k : ℕ) → IsChild steps (Some n) k → n < k)
+    (once : (j k : ℕ) (s : BranchStep) → slice_get steps j ≡ Some s → slice_get steps k ≡ Some s → j ≡ k) where
   -- the path to a node is that to its parent, and its move
-  pub node_path : (k : ℕ) (s : Step) → slice_get steps k ≡ Some s
+  pub node_path : (k : ℕ) (s : BranchStep) → slice_get steps k ≡ Some s
       → slice_get (paths_of steps) k ≡ Some (path_of (paths_of steps) s)
   node_path k s e =
       let there : slice_get (paths_of steps) (0 + k) ≡ Some (path_of (paths_of steps) s) =
@@ -116,7 +116,7 @@ module _ (steps : List Step) (above : (n k : ℕ) → IsChild steps (Some n) k �
 
   -- each path is that of a node
   pub path_node : (k : ℕ) (b : List Move) → slice_get (paths_of steps) k ≡ Some b
-      → (s : Step) × (slice_get steps k ≡ Some s) × (b ≡ path_of (paths_of steps) s)
+      → (s : BranchStep) × (slice_get steps k ≡ Some s) × (b ≡ path_of (paths_of steps) s)
   path_node k b e =
       let inside : k < length (paths_of steps) = slice_get_within (paths_of steps) k b e in
       let within : k < length steps = omega (arith, inside, length_paths steps) in
@@ -143,7 +143,7 @@ module _ (steps : List Step) (above : (n k : ℕ) → IsChild steps (Some n) k �
   parents_same end ih (Some m) (Some n) low pp qp e =
       ap Some (ih m n (get_or (paths_of steps) m []) (low m refl) (at_node m pp) (at_node n qp ∙ ap Some (sym e)))
 
-  pub parent_place : (k : ℕ) (s : Step) → slice_get steps k ≡ Some s → (p : Option ℕ) → s.parent ≡ p → IsPlace steps p
+  pub parent_place : (k : ℕ) (s : BranchStep) → slice_get steps k ≡ Some s → (p : Option ℕ) → s.parent ≡ p → IsPlace steps p
   parent_place k s e None is = tt
   parent_place k s e (Some n) is =
       let lower : n < k = above n k (s.mv, parent_is steps s n k is e) in

@@ -17,7 +17,7 @@ use Rattle.dw_games.specs.declared.tokens.TokenKind.TheVariants.{Opens, Closes}
 use Rattle.dw_games.specs.declared.movetext.TheConstants.{MAX_OPEN, MAX_PATH}
 use Rattle.dw_games.specs.declared.branches.Node.{Node}
 use Rattle.dw_games.specs.declared.reader.Spot.{Spot}
-use Rattle.dw_games.specs.declared.reader.Line.{Line}
+use Rattle.dw_games.specs.declared.reader.OpenLine.{OpenLine}
 use Rattle.dw_games.proofs.PlaceLemmas.{got_old}
 use Rattle.dw_games.proofs.PathLemmas.{last_same, filled}
 
@@ -28,19 +28,19 @@ after_append g p (x ∷ moves) m = after_append g (play g p x) moves m
 
 module _ {B : Type 0} (g : Geometry) (p : Placement) (tree : List (List Move)) where
   -- the innermost variation, by the grammar of faults
-  pub opened_open : {room : ℕ} {ts : List Token} {line : Line B} {outer : List (Line B)} {before moves : List Move}
+  pub opened_open : {room : ℕ} {ts : List Token} {line : OpenLine B} {outer : List (OpenLine B)} {before moves : List Move}
       {paths : List (List Move)} → Opened g p tree room ts line outer before moves paths → IsOpen g p room ts before moves
   opened_open (outermost v l) = faults.outermost v
   opened_open (inner moves last opening o e v l) = faults.inner moves last opening (opened_open o) e v
 
-  pub opened_line : {room : ℕ} {ts : List Token} {line : Line B} {outer : List (Line B)} {before moves : List Move}
+  pub opened_line : {room : ℕ} {ts : List Token} {line : OpenLine B} {outer : List (OpenLine B)} {before moves : List Move}
       {paths : List (List Move)} → Opened g p tree room ts line outer before moves paths
       → IsLine g p tree line before moves
   opened_line (outermost v l) = l
   opened_line (inner moves last opening o e v l) = l
 
   -- as many more may be open as are not
-  pub opened_room : {room : ℕ} {ts : List Token} {line : Line B} {outer : List (Line B)} {before moves : List Move}
+  pub opened_room : {room : ℕ} {ts : List Token} {line : OpenLine B} {outer : List (OpenLine B)} {before moves : List Move}
       {paths : List (List Move)} → Opened g p tree room ts line outer before moves paths
       → room + length outer ≡ MAX_OPEN
   opened_room (outermost v l) = refl
@@ -48,8 +48,8 @@ module _ {B : Type 0} (g : Geometry) (p : Placement) (tree : List (List Move)) w
       let h = opened_room o in omega (arith, h, length-append outer (around ∷ []))
 
   -- the innermost variation goes on
-  pub goes_on : {room : ℕ} {ts : List Token} {line : Line B} {outer : List (Line B)} {before moves : List Move}
-      {paths : List (List Move)} (next : Line B) (more : List Token) (now : List Move) (others : List (List Move))
+  pub goes_on : {room : ℕ} {ts : List Token} {line : OpenLine B} {outer : List (OpenLine B)} {before moves : List Move}
+      {paths : List (List Move)} (next : OpenLine B) (more : List Token) (now : List Move) (others : List (List Move))
       → Opened g p tree room ts line outer before moves paths
       → ((us : List Token) (ps : List (List Move)) → IsVariation g p room before us moves ps
       → IsVariation g p room before (us ++ more) now (ps ++ others))
@@ -60,7 +60,7 @@ module _ {B : Type 0} (g : Geometry) (p : Placement) (tree : List (List Move)) w
       rw (append_assoc, append_assoc) (inner moves last opening o e (f us ps v) line)
 
   -- ---- a thing that is passed over
-  pub read_passed : {room : ℕ} {ts : List Token} {line : Line B} {outer : List (Line B)} {before moves : List Move}
+  pub read_passed : {room : ℕ} {ts : List Token} {line : OpenLine B} {outer : List (OpenLine B)} {before moves : List Move}
       {paths : List (List Move)} (t : Token) → Opened g p tree room ts line outer before moves paths → IsPassed t.what
       → Opened g p tree room (ts ++ t ∷ []) line outer before moves paths
   read_passed {room = room} {ts = ts} {line = line} {outer = outer} {before = before} {moves = moves} {paths = paths} t o is =
@@ -70,7 +70,7 @@ module _ {B : Type 0} (g : Geometry) (p : Placement) (tree : List (List Move)) w
       (opened_line o))
 
   -- ---- where a variation begins
-  pub read_opens : {room : ℕ} {ts : List Token} {line : Line B} {outer : List (Line B)} {before moves : List Move}
+  pub read_opens : {room : ℕ} {ts : List Token} {line : OpenLine B} {outer : List (OpenLine B)} {before moves : List Move}
       {paths : List (List Move)} (t : Token) (spot : Spot B) → Opened g p tree (suc room) ts line outer before moves paths
       → t.what ≡ Opens → IsBefore g p tree (Some spot) before moves
       → (front : List Move) × Opened g p tree room (ts ++ t ∷ []) (record { now = spot; before = None })
@@ -87,7 +87,7 @@ module _ {B : Type 0} (g : Geometry) (p : Placement) (tree : List (List Move)) w
       )
 
   -- ---- where one ends
-  closed : {R : ℕ} {ts : List Token} {line : Line B} {outer : List (Line B)} {before now : List Move}
+  closed : {R : ℕ} {ts : List Token} {line : OpenLine B} {outer : List (OpenLine B)} {before now : List Move}
       {paths : List (List Move)} (room : ℕ) (moves : List Move) (last : Move) (opening t : Token) (us : List Token)
       (others : List Move) (more : List (List Move))
       → Opened g p tree R ts line outer before now paths → R ≡ suc room → now ≡ moves ++ last ∷ []
@@ -105,8 +105,8 @@ module _ {B : Type 0} (g : Geometry) (p : Placement) (tree : List (List Move)) w
       (subst (λ x. IsVariation g p (suc room) before (vs ++ opening ∷ (us ++ t ∷ [])) x (ps ++ more)) (sym m) whole))
       (opened_line o)
 
-  pub read_closes : {room : ℕ} {ts : List Token} {line : Line B} {outer : List (Line B)} {before moves : List Move}
-      {paths : List (List Move)} (t : Token) (lines : List (Line B)) (around : Line B)
+  pub read_closes : {room : ℕ} {ts : List Token} {line : OpenLine B} {outer : List (OpenLine B)} {before moves : List Move}
+      {paths : List (List Move)} (t : Token) (lines : List (OpenLine B)) (around : OpenLine B)
       → Opened g p tree room ts line outer before moves paths → outer ≡ lines ++ around ∷ [] → t.what ≡ Closes
       → (start now : List Move) × Opened g p tree (suc room) (ts ++ t ∷ []) around lines start now paths
   read_closes t lines around (outermost v l) e c = filled lines around e
@@ -117,7 +117,7 @@ module _ {B : Type 0} (g : Geometry) (p : Placement) (tree : List (List Move)) w
       (before, moves ++ last ∷ [], rw (append_assoc, ← both.0, ← both.1) whole)
 
   -- none is open within which another one stands
-  pub none_around : {room : ℕ} {ts : List Token} {line : Line B} {outer : List (Line B)} {before moves : List Move}
+  pub none_around : {room : ℕ} {ts : List Token} {line : OpenLine B} {outer : List (OpenLine B)} {before moves : List Move}
       {paths : List (List Move)} → Opened g p tree room ts line outer before moves paths → outer ≡ [] → IsPlay g p ts paths
   none_around (outermost {moves = moves} v l) e = (moves, v)
   none_around (inner {around = around} {outer = outer} moves last opening o is v l) e = filled outer around (sym e)
@@ -142,14 +142,14 @@ module _ {B : Type 0} (g : Geometry) (p : Placement) (tree more : List (List Mov
   before_kept None before moves h = h
   before_kept (Some spot) before moves h = (h.0, h.1, h.2, spot_kept spot (before ++ h.0) h.3)
 
-  line_kept : (line : Line B) (before moves : List Move) → IsLine g p tree line before moves
+  line_kept : (line : OpenLine B) (before moves : List Move) → IsLine g p tree line before moves
       → IsLine g p (tree ++ more) line before moves
   line_kept line before moves h = record {
     now = spot_kept line.now (before ++ moves) h.now;
     earlier = before_kept line.before before moves h.earlier;
   }
 
-  pub opened_kept : {room : ℕ} {ts : List Token} {line : Line B} {outer : List (Line B)} {before moves : List Move}
+  pub opened_kept : {room : ℕ} {ts : List Token} {line : OpenLine B} {outer : List (OpenLine B)} {before moves : List Move}
       {paths : List (List Move)} → Opened g p tree room ts line outer before moves paths
       → Opened g p (tree ++ more) room ts line outer before moves paths
   opened_kept {line = line} {moves = now} (outermost v l) = outermost v (line_kept line [] now l)
@@ -164,7 +164,7 @@ distinct_noted paths tree now path d (inr h) = subst (λ x. AreDistinct (paths +
 
 module _ {B : Type 0} (g : Geometry) (p : Placement) where
   noted_kept : (tree now : List (List Move)) (path : List Move) → IsNoted tree path now → {room : ℕ} {ts : List Token}
-      {line : Line B} {outer : List (Line B)} {before moves : List Move} {paths : List (List Move)}
+      {line : OpenLine B} {outer : List (OpenLine B)} {before moves : List Move} {paths : List (List Move)}
       → Opened g p tree room ts line outer before moves paths → Opened g p now room ts line outer before moves paths
   noted_kept tree now path (inl h) {room} {ts} {line} {outer} {before} {moves} {paths} o =
       subst (λ x. Opened g p x room ts line outer before moves paths) (sym h.1) o
@@ -172,7 +172,7 @@ module _ {B : Type 0} (g : Geometry) (p : Placement) where
       subst (λ x. Opened g p x room ts line outer before moves paths) (sym h.1) (opened_kept g p tree (path ∷ []) o)
 
   -- a move is played, and its path is noted
-  pub read_move : (tree now : List (List Move)) (room : ℕ) (ts : List Token) (line : Line B) (outer : List (Line B))
+  pub read_move : (tree now : List (List Move)) (room : ℕ) (ts : List Token) (line : OpenLine B) (outer : List (OpenLine B))
       (before moves : List Move) (paths : List (List Move)) (t : Token) (m : Move) (node : Node)
       → Opened g p tree room ts line outer before moves paths
       → length (before ++ moves) < MAX_PATH → IsMove g (after g p (before ++ moves)) t m

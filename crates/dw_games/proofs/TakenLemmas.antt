@@ -27,7 +27,7 @@ use Rattle.dw_games.specs.declared.fault.MovetextFaultKind.TheVariants.{Token as
 use Rattle.dw_games.specs.declared.fault.MovetextFaultKind.TheVariants.{Unclosed, TooDeep, TooLong}
 use Rattle.dw_games.specs.declared.branches.Node.{Node}
 use Rattle.dw_games.specs.declared.reader.Spot.{Spot}
-use Rattle.dw_games.specs.declared.reader.Line.{Line}
+use Rattle.dw_games.specs.declared.reader.OpenLine.{OpenLine}
 use Rattle.dw_games.specs.declared.reader.Reader.{Reader}
 use Rattle.dw_games.proofs.ReadingLemmas.{opened_open, opened_line, opened_room, read_passed, read_opens, read_closes}
 use Rattle.dw_games.proofs.ReadingLemmas.{none_around, read_move, distinct_noted}
@@ -43,7 +43,7 @@ variation_short g p {before = before} (move {moves = moves} {m = m} v low is) sh
 variation_short g p (variation moves last opening closing v o w c) short = variation_short g p v short
 
 pub opened_short : {B : Type 0} (g : Geometry) (p : Placement) (tree : List (List Move)) {room : ℕ} {ts : List Token}
-    {line : Line B} {outer : List (Line B)} {before moves : List Move} {paths : List (List Move)}
+    {line : OpenLine B} {outer : List (OpenLine B)} {before moves : List Move} {paths : List (List Move)}
     → Opened g p tree room ts line outer before moves paths → length (before ++ moves) ≤ MAX_PATH
 opened_short g p tree (outermost v l) = variation_short g p v (omega arith)
 opened_short g p tree (inner {before = before} moves last opening o e v l) =
@@ -121,7 +121,7 @@ module _ {B : Type 0} (g : Geometry) (p : Placement) (ts : List Token) (r : Read
   pub fault_none_open : r.outer.items ≡ [] → t.what ≡ Closes → FaultAt g p ts t Variation
   fault_none_open none is = none_open (none_around g p r.tree h.opened none) is
 
-  pub taken_closes : (next : Reader B) (around : Line B) → r.outer.items ≡ next.outer.items ++ around ∷ []
+  pub taken_closes : (next : Reader B) (around : OpenLine B) → r.outer.items ≡ next.outer.items ++ around ∷ []
       → t.what ≡ Closes → next.tree ≡ r.tree → next.line ≡ around → HasRead g p (ts ++ t ∷ []) next
   taken_closes next around outer is tree line =
       let opened = read_closes g p r.tree t next.outer.items around h.opened outer is in

@@ -10,7 +10,7 @@ use Rattle.dw_moves.specs.Moves.{Move}
 use Rattle.dw_games.specs.declared.branches.Node.{Node}
 use Rattle.dw_games.specs.Walk.{place_of, beginning_at, IsNext}
 use Rattle.dw_games.specs.inner.Noting.{IsNoted}
-use Rattle.dw_games.specs.inner.Branches.{Step, path_to, paths_of, IsFirstChild, IsPlace, AreLinked}
+use Rattle.dw_games.specs.inner.Branches.{BranchStep, path_to, paths_of, IsFirstChild, IsPlace, AreLinked}
 use Rattle.dw_games.specs.inner.Branches.{IsLastChild, Hang, steps_of, firsts_of, nexts_of, first_linked, next_linked}
 use Rattle.dw_games.specs.declared.branches.Branch.{Branch}
 use Rattle.std.proofs.lemmas.List.{map-append}
@@ -28,7 +28,7 @@ match_by (Some x) P Q none some = some x refl
 none_some : {A : Type 0} (x : A) → None ≡ Some x → ⊥
 none_some x e = cc
 
-module _ (steps : List Step) (firsts nexts : List (Option ℕ)) (linked : AreLinked steps firsts nexts) where
+module _ (steps : List BranchStep) (firsts nexts : List (Option ℕ)) (linked : AreLinked steps firsts nexts) where
   -- a beginning that stands in the tree is the path to its node
   pub place_at : (p : Option ℕ) (b : List Move) → beginning_at (paths_of steps) p ≡ Some b
       → IsPlace steps p × (b ≡ path_to (paths_of steps) p)
@@ -48,7 +48,7 @@ module _ (steps : List Step) (firsts nexts : List (Option ℕ)) (linked : AreLin
       let inside : n < length (paths_of steps) = omega (arith, length_paths steps) in
       absurd (none_some _ (sym e ∙ slice_get-get_or (paths_of steps) n [] inside))
 
-  pub next_none : (P : Type 0) (n : ℕ) (Q : Step → Type 0) → MatchOption (slice_get steps n) P Q
+  pub next_none : (P : Type 0) (n : ℕ) (Q : BranchStep → Type 0) → MatchOption (slice_get steps n) P Q
       → length (paths_of steps) ≤ n → P
   next_none P n Q h past =
       let gone : slice_get steps n ≡ None = slice_get_past steps n (omega (arith, length_paths steps)) in rw gone at h
@@ -105,7 +105,7 @@ module _ (steps : List Step) (firsts nexts : List (Option ℕ)) (linked : AreLin
       (inl (at_member (b ++ m ∷ []) (paths_of steps) n is, refl), is)
 
   -- a new step is noted behind all others
-  pub noted_new : (p : Option ℕ) (m : Move) (now : List Step)
+  pub noted_new : (p : Option ℕ) (m : Move) (now : List BranchStep)
       → ((n : ℕ) → slice_get steps n ≡ Some (record { parent = p; mv = m }) → ⊥)
       → now ≡ steps ++ (record { parent = p; mv = m }) ∷ []
       → (b : List Move) → beginning_at (paths_of steps) p ≡ Some b
@@ -140,11 +140,11 @@ some_value None h = absurd (true≢false (sym h))
 some_value (Some x) h = (x, refl)
 
 -- places and last children in longer lists
-pub place_longer : (steps more : List Step) (p : Option ℕ) → IsPlace steps p → IsPlace (steps ++ more) p
+pub place_longer : (steps more : List BranchStep) (p : Option ℕ) → IsPlace steps p → IsPlace (steps ++ more) p
 place_longer steps more None h = tt
 place_longer steps more (Some n) h = omega (arith, h, length-append steps more)
 
-pub last_place : (steps : List Step) (p last : Option ℕ) → IsLastChild steps p last → IsPlace steps last
+pub last_place : (steps : List BranchStep) (p last : Option ℕ) → IsLastChild steps p last → IsPlace steps last
 last_place steps p None h = tt
 last_place steps p (Some n) h = slice_get_within steps n _ h.0.1
 

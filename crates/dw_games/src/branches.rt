@@ -2,7 +2,7 @@
 ghost use Rattle.std.specs.Prelude.{◌≡◌, ◌↔◌, ◌+◌, ◌<◌, None, Some, true, MatchOption, slice_get, length};
 ghost use Rattle.dw_games.specs.Walk.{place_of};
 ghost use Rattle.dw_games.specs.inner.Branches.{Hang, steps_of, firsts_of, nexts_of, IsFirstChild, IsPlace};
-ghost use Rattle.dw_games.specs.inner.Branches.{first_linked, next_linked, IsFound};
+ghost use Rattle.dw_games.specs.inner.Branches.{first_linked, next_linked, IsChildOrLast};
 
 use dw_board::Board;
 use dw_moves::Move;
@@ -22,7 +22,7 @@ pub(crate) struct Branch<B: Board> {
 }
 
 /// What was found among the children of a node: the one by a move, or that there is none by it, and the last of all.
-pub(crate) enum Found {
+pub(crate) enum ChildOrLast {
     Child(Node),
     Last(Option<Node>),
 }
@@ -53,20 +53,20 @@ pub(crate) fn child_by<B: Board>(
     branches: &[Branch<B>],
     parent: Option<Node>,
     mv: &Move<B>,
-) -> Found
+) -> ChildOrLast
     requires { Hang branches.now }
-    ensures { IsFound (steps_of branches.now) (place_of parent) mv.now result }
+    ensures { IsChildOrLast (steps_of branches.now) (place_of parent) mv.now result }
 {
     let mut last = None;
     let mut next = first_child(branches, parent);
     'siblings: while let Some(node) = next {
         if is_by(branches, node, mv) {
-            return Found::Child(node);
+            return ChildOrLast::Child(node);
         }
         last = next;
         next = next_sibling(branches, node);
     }
-    Found::Last(last)
+    ChildOrLast::Last(last)
 }
 
 /// Whether a node is behind this move.

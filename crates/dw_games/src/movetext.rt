@@ -8,15 +8,16 @@ use crate::reader::Reader;
 use crate::tokens::{TokenKind, Tokens};
 use crate::tree::Tree;
 use dw_board::{Board, Position};
+use dw_notation::MAX_MOVES;
 use std::alloc::Global;
 
 /// The most bytes of a movetext.
 /// Example: a text of 1,048,577 bytes is refused as `too large at 1048577`.
 pub const MAX_MOVETEXT: usize = 1_048_576;
 
-/// The most moves of a path.
+/// The most moves of a path, 39: those of the longest line.
 /// Example: a 40th move is refused as `too long`.
-pub const MAX_PATH: usize = 39;
+pub const MAX_PATH: usize = MAX_MOVES;
 
 /// The most variations that may be open at once.
 /// Example: the last of 41 `(` that none closes is refused as `too deep`.

@@ -15,12 +15,9 @@ use arrayvec::ArrayVec;
 use dw_board::{Board, Position, Side};
 use dw_moves::Move;
 use dw_moves::play::play;
-use dw_notation::MoveFault;
 use dw_notation::read_move::read_move;
+use dw_notation::{MAX_MOVE_TEXT, MoveFault};
 use std::alloc::{AllocError, Global};
-
-/// The most bytes of a move: 21 squares of two digits each, joined by 20 crosses.
-const MAX_MOVE: usize = 62;
 
 /// Where reading stands: behind a beginning of the tree, by its node, the position after it, and how many moves it has.
 #[derive(Clone, Copy)]
@@ -32,24 +29,24 @@ struct Spot<B: Board> {
 
 /// A variation that is open: where it stands now, and where it stood before its last move, if it has one.
 #[derive(Clone, Copy)]
-struct Line<B: Board> {
+struct OpenLine<B: Board> {
     now: Spot<B>,
     before: Option<Spot<B>>,
 }
 
-impl<B: Board> Line<B> {
+impl<B: Board> OpenLine<B> {
     /// A variation without moves.
     fn from(now: Spot<B>) -> Self
         ensures { result ≡ record { now = now; before = None } }
     {
-        Line { now, before: None }
+        OpenLine { now, before: None }
     }
 }
 
-/// A line of the empty board, to fill an array with.
-impl<B: Board> Default for Line<B> {
+/// One at the empty board, to fill an array with.
+impl<B: Board> Default for OpenLine<B> {
     fn default() -> Self {
-        Line::from(Spot {
+        OpenLine::from(Spot {
             node: None,
             position: Position::empty(Side::White),
             moves: 0,
@@ -62,8 +59,8 @@ impl<B: Board> Default for Line<B> {
 pub(crate) struct Reader<B: Board> {
     alloc: Global,
     tree: Tree<B>,
-    line: Line<B>,
-    outer: ArrayVec<Line<B>, MAX_OPEN>,
+    line: OpenLine<B>,
+    outer: ArrayVec<OpenLine<B>, MAX_OPEN>,
 }
 
 impl<B: Board> Reader<B> {
@@ -77,7 +74,7 @@ impl<B: Board> Reader<B> {
         Reader {
             alloc,
             tree: Tree::new(alloc),
-            line: Line::from(Spot {
+            line: OpenLine::from(Spot {
                 node: None,
                 position,
                 moves: 0,
@@ -135,7 +132,7 @@ impl<B: Board> Reader<B> {
             return Err(token.fault(MovetextFaultKind::TooDeep));
         }
         self.outer.push(self.line);
-        self.line = Line::from(before);
+        self.line = OpenLine::from(before);
         Ok(false)
     }
 
@@ -176,7 +173,7 @@ impl<B: Board> Reader<B> {
         let now = self.line.now;
         let mv = self.move_of(token)?;
         let node = self.tree.note(now.node, &mv)?;
-        self.line = Line {
+        self.line = OpenLine {
             now: Spot {
                 node: Some(node),
                 position: play(&now.position, &mv),
@@ -225,10 +222,10 @@ fn move_named<B: Board>(
 ) -> Result<Move<B>, MoveFault>
     ensures { IsRead B.geometry position.now (crossed text.now) result }
 {
-    if text.len() > MAX_MOVE {
+    if text.len() > MAX_MOVE_TEXT {
         return Err(MoveFault::Syntax);
     }
-    let mut crossed = ArrayVec::<u8, MAX_MOVE>::new();
+    let mut crossed = ArrayVec::<u8, MAX_MOVE_TEXT>::new();
     'bytes: for byte in text {
         crossed.push(if *byte == b':' { b'x' } else { *byte });
     }

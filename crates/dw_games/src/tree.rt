@@ -3,7 +3,7 @@ ghost use Rattle.std.specs.Prelude.{◌≡◌, ◌++◌, ◌∷◌, [], OnOk, On
 ghost use Rattle.std.specs.Prelude.{◌==◌, ◌+◌, ◌≤◌, ◌<◌, IsSome};
 
 pub use crate::branches::Node;
-use crate::branches::{Branch, Found, child_by, first_child, link, next_sibling};
+use crate::branches::{Branch, ChildOrLast, child_by, first_child, link, next_sibling};
 use dw_board::Board;
 use dw_moves::Move;
 use std::alloc::{AllocError, Global};
@@ -120,8 +120,8 @@ impl<B: Board> Tree<B> {
         ensures refused { OnErr result (self.new ≡ self.old) }
     {
         let last = match child_by(self.branches.as_slice(), parent, mv) {
-            Found::Child(node) => return Ok(node),
-            Found::Last(last) => last,
+            ChildOrLast::Child(node) => return Ok(node),
+            ChildOrLast::Last(last) => last,
         };
         let place = self.branches.as_slice().len();
         self.branches.push(Branch {

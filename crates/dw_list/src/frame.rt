@@ -117,7 +117,6 @@ impl<B: Board> Frame<B> {
             None => Vec::new(alloc),
         };
         listed_into(&self.position, &mut list)?;
-        let _count = list.len();
         self.moves = Some(list);
         self.passed = 0;
         Ok(())

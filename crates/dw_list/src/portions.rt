@@ -80,16 +80,16 @@ fn take_turn<B: Board, M: Memo<B>, G: Guide<B>>(
     match lister.next(alloc) {
         Err(_) => portions.stops += 1,
         Ok(None) => portions.ends += 1,
-        Ok(Some(line)) => portions.lines.push_reserved(kept(line)),
+        Ok(Some(line)) => portions.lines.push_reserved(copied(line)),
     }
 }
 
 /// A line in an array of its own.
-fn kept<B: Board>(line: &[Move<B>]) -> ArrayVec<Move<B>, MAX_MOVES>
+fn copied<B: Board>(line: &[Move<B>]) -> ArrayVec<Move<B>, MAX_MOVES>
     requires { length line.now ≤ 39 }
     ensures { result.items ≡ line.now }
 {
-    let mut kept = ArrayVec::new();
-    let _ = kept.try_extend_from_slice(line);
-    kept
+    let mut copied = ArrayVec::new();
+    let _ = copied.try_extend_from_slice(line);
+    copied
 }

@@ -1,12 +1,16 @@
 -- Lemmas on what a line begun and the bytes behind it say.
-use Rattle.std.proofs.Common.{◌≡◌, ℕ, ◌==◌, ◌+◌, ◌-◌, ◌≤◌, List, [], ◌∷◌, ◌++◌, length, take, drop, Bool, true, false}
-use Rattle.std.proofs.Common.{cond, None, option_to_list, refl, sym, ap, ◌∙◌, append_assoc, append-nil, arith}
-use Rattle.std.proofs.lemmas.List.{length-take, take-append-drop, drop-take, drop-drop}
-use Rattle.std.specs.List.{slice_range}
+use Rattle.std.proofs.Common.{◌≡◌, ℕ, ◌==◌, ◌+◌, ◌-◌, ◌<◌, ◌≤◌, List, [], ◌∷◌, ◌++◌, length, take, drop, Bool, true, false}
+use Rattle.std.proofs.Common.{not, cond, nat_lt, Some, None, unwrap_or, option_to_list, refl, sym, ap, ◌∙◌, subst, arith}
+use Rattle.std.proofs.Common.{append_assoc, append-nil}
+use Rattle.std.proofs.lemmas.Bool.{eqb-true, ltb-false}
+use Rattle.std.proofs.lemmas.List.{length-take, take-append-drop, drop-take, drop-drop, drop_more, take_all}
+use Rattle.std.proofs.lemmas.List.Quantifiers.{position-Some}
+use Rattle.std.proofs.lemmas.List.Sums.{position_or_len_is, prefix_len-le-length, take_while-cons}
+use Rattle.std.specs.List.{slice_range, position, position_or_len, before_first}
 use Rattle.dw_board.specs.Geometry.{Geometry}
 use Rattle.dw_notation.specs.inner.TextLines.{line_found}
 use Rattle.dw_notation.specs.TextLines.{NoLineFeed}
-use Rattle.dw_notation.specs.inner.TextLines.{SaysSame}
+use Rattle.dw_notation.specs.inner.TextLines.{SaysSame, is_line_feed}
 use Rattle.dw_notation.specs.inner.Ahead.{found_from}
 use Rattle.dw_notation.specs.inner.Pieces.{pieces_ahead}
 use Rattle.dw_notation.specs.inner.Pieces.{pieces_behind, pieces_cut}
@@ -16,6 +20,42 @@ pub NoLineFeed-push : (bytes : List ℕ) (byte : ℕ) → NoLineFeed bytes → (
     → NoLineFeed (bytes ++ byte ∷ [])
 NoLineFeed-push [] byte none h = (h, tt)
 NoLineFeed-push (b ∷ bytes) byte none h = (none.0, NoLineFeed-push bytes byte none.1 h)
+
+-- the place of the first byte that passes a test, or the length
+pub first_or_all : (p : ℕ → Bool) (bytes : List ℕ) → unwrap_or (position p bytes) (length bytes) ≡ position_or_len p bytes
+first_or_all p bytes =
+    let n = position_or_len p bytes in
+    let within = prefix_len-le-length (λ byte. not (p byte)) bytes in
+    elim (nat_lt n (length bytes)) as (λ v. nat_lt n (length bytes) ≡ v
+    → unwrap_or (cond v (Some n) None) (length bytes) ≡ n) [
+      | true ↦ λ _. refl
+      | false ↦ λ e. let past = ltb-false n (length bytes) e in omega (arith, within, past)
+    ] refl
+
+NoLineFeed-before : (bytes : List ℕ) → NoLineFeed (before_first is_line_feed bytes)
+NoLineFeed-before [] = tt
+NoLineFeed-before (b ∷ bytes) = subst NoLineFeed (sym (take_while-cons (λ byte. not (byte == 10)) b bytes))
+    (elim (b == 10) as (λ v. (b == 10) ≡ v → NoLineFeed (cond (not v) (b ∷ before_first is_line_feed bytes) [])) [
+      | true ↦ λ _. tt
+      | false ↦ λ e. (e, NoLineFeed-before bytes)
+    ] refl)
+
+-- the first line feed, before which no other stands
+pub first_feed : (bytes : List ℕ) (k : ℕ) → position is_line_feed bytes ≡ Some k
+    → (k < length bytes) × NoLineFeed (take k bytes) × (drop k bytes ≡ 10 ∷ drop (k + 1) bytes)
+first_feed bytes k is =
+    let at = position-Some is_line_feed bytes k 0 is in
+    let first = position_or_len_is is_line_feed bytes k 0 (omega (arith, at.0)) at.2 (λ _. at.1) in (
+      at.0,
+      subst (λ n. NoLineFeed (take n bytes)) first (NoLineFeed-before bytes),
+      drop_more bytes k 0 at.0 ∙ ap (λ b. b ∷ drop (k + 1) bytes) (eqb-true _ _ at.1),
+    )
+
+pub no_feed : (bytes : List ℕ) → position is_line_feed bytes ≡ None → NoLineFeed bytes
+no_feed bytes none =
+    let n = position_or_len is_line_feed bytes in
+    let all : length bytes ≡ n = ap (λ o. unwrap_or o (length bytes)) (sym none) ∙ first_or_all is_line_feed bytes in
+    subst NoLineFeed (take_all n bytes (omega (arith, all))) (NoLineFeed-before bytes)
 
 pub found_from-piece : (at_end : Bool) (g : Geometry) (line piece more : List ℕ) → NoLineFeed piece
     → found_from at_end g line (piece ++ more) ≡ found_from at_end g (line ++ piece) more

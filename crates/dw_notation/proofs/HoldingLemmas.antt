@@ -13,7 +13,7 @@ use Rattle.dw_notation.specs.inner.TextLines.{fen_found}
 use Rattle.dw_notation.specs.inner.Sections.{transition, Section, bare, kind_of, with_tag, after}
 use Rattle.dw_notation.specs.Tags.{number_on, game_of, is_wrong}
 use Rattle.dw_notation.specs.inner.Sections.{fens_found, section_found, found_by, found_at_end, sections_found}
-use Rattle.dw_notation.specs.inner.HeldSection.{Held, held_bare, counted, kept, game_on, number_held, counted_in, value_on}
+use Rattle.dw_notation.specs.inner.HeldSection.{Held, held_bare, counted, with_byte, game_on, number_held, counted_in, value_on}
 use Rattle.dw_notation.specs.inner.HeldSection.{tag_on, held_after, is_wrong_held, fens_held, held_found, held_from}
 use Rattle.dw_notation.specs.declared.problems.pdn.automaton.State.{State}
 use Rattle.dw_notation.specs.declared.problems.pdn.automaton.Action.{Action}
@@ -38,8 +38,8 @@ counted-min most n = elim (cases_lt n most) [
       rw (e, e', le-ltb most most (omega arith)) refl
 ]
 
-kept-take : (most : ℕ) (text : List ℕ) (byte : ℕ) → kept most (take most text) byte ≡ take most (text ++ byte ∷ [])
-kept-take most text byte = elim (cases_lt (length text) most) [
+with_byte-take : (most : ℕ) (text : List ℕ) (byte : ℕ) → with_byte most (take most text) byte ≡ take most (text ++ byte ∷ [])
+with_byte-take most text byte = elim (cases_lt (length text) most) [
   | inl short ↦
       let sum : length (text ++ byte ∷ []) ≡ length text + 1 = length-append text (byte ∷ []) in
       rw (
@@ -140,10 +140,10 @@ FensHeld (fen_text ∷ other ∷ fens) kind value n text = n ≡ 2
 
 FensHeld-value : (fens : List (List ℕ)) (value : List ℕ) (n : ℕ) (text : List ℕ) (byte : ℕ)
     → FensHeld fens FenTag value n text
-    → FensHeld fens FenTag (value ++ byte ∷ []) n (cond (n == 0) (kept 1025 text byte) text)
+    → FensHeld fens FenTag (value ++ byte ∷ []) n (cond (n == 0) (with_byte 1025 text byte) text)
 FensHeld-value [] value n text byte held = (
   held.0,
-  λ is. rw held.0 (ap (λ l. kept 1025 l byte) (held.1 is) ∙ kept-take 1025 value byte),
+  λ is. rw held.0 (ap (λ l. with_byte 1025 l byte) (held.1 is) ∙ with_byte-take 1025 value byte),
 )
 FensHeld-value (f ∷ []) value n text byte held = (held.0, rw held.0 held.1)
 FensHeld-value (f ∷ other ∷ fens) value n text byte held = held
@@ -226,9 +226,9 @@ Holds-count s h r = record {
 }
 
 Holds-name : (s : Section) (h : Held) (byte : ℕ) → Holds s h
-    → Holds (record s { name = s.name ++ byte ∷ [] }) (record h { name = kept 9 h.name byte })
+    → Holds (record s { name = s.name ++ byte ∷ [] }) (record h { name = with_byte 9 h.name byte })
 Holds-name s h byte r = record {
-  name = ap (λ l. kept 9 l byte) r.name ∙ kept-take 9 s.name byte;
+  name = ap (λ l. with_byte 9 l byte) r.name ∙ with_byte-take 9 s.name byte;
   read = r.read;
   size = r.size;
   unclosed = r.unclosed;
@@ -272,7 +272,7 @@ Holds-value_of FenTag s h byte is r =
     let held : FensHeld s.fens FenTag s.value h.fens h.fen_text =
     subst (λ k. FensHeld s.fens k s.value h.fens h.fen_text) is r.fens in
     record {
-      fens = subst (λ k. FensHeld s.fens k (s.value ++ byte ∷ []) h.fens (cond (h.fens == 0) (kept 1025 h.fen_text byte)
+      fens = subst (λ k. FensHeld s.fens k (s.value ++ byte ∷ []) h.fens (cond (h.fens == 0) (with_byte 1025 h.fen_text byte)
           h.fen_text)) (sym is)
           (FensHeld-value s.fens s.value h.fens h.fen_text byte held);
       game = λ other. absurd (let bad : FenTag ≡ GameTag = sym is ∙ other in cc);

@@ -1,15 +1,16 @@
 -- Bytes outside sections that are passed over at once.
-use Rattle.std.proofs.Common.{◌≡◌, ℕ, ◌+◌, ◌<◌, ◌==◌, List, [], ◌∷◌, ◌++◌, length, take, drop, get_or, Bool, true, not}
-use Rattle.std.proofs.Common.{refl, sym, ap, ◌∙◌, append_assoc}
+use Rattle.std.proofs.Common.{◌≡◌, ℕ, ◌≤◌, ◌==◌, List, [], ◌∷◌, ◌++◌, length, take, drop, Bool, true, false, not, cond}
+use Rattle.std.proofs.Common.{refl, sym, ap, ◌∙◌, subst, arith, append_assoc, unwrap_or}
 use Rattle.std.proofs.lemmas.Bool.{and_parts, and_from, not-true, or_parts}
 use Rattle.std.proofs.lemmas.List.{take-append-drop}
-use Rattle.std.proofs.lemmas.List.Folds.{list_all_more}
-use Rattle.std.specs.List.{list_all}
+use Rattle.std.proofs.lemmas.List.Sums.{prefix_len-le-length, take_while-cons}
+use Rattle.std.specs.List.{list_all, position, take_while}
 use Rattle.dw_board.specs.Geometry.{Geometry}
 use Rattle.dw_notation.specs.inner.Sections.{transition, at, found_by}
 use Rattle.dw_notation.specs.inner.HeldSection.{Held, held_after, held_found, held_from}
 use Rattle.dw_notation.specs.inner.Tags.{opens}
 use Rattle.dw_notation.specs.inner.Tags.{closes}
+use Rattle.dw_notation.proofs.CutLemmas.{first_or_all}
 use Rattle.dw_notation.specs.declared.problems.pdn.automaton.State.{State}
 use Rattle.dw_notation.specs.declared.problems.pdn.automaton.State.TheVariants.{Outside, Comment}
 use Rattle.dw_notation.specs.declared.problems.pdn.automaton.Action.TheVariants.{Keep}
@@ -54,7 +55,21 @@ pass_comment at_end g state h n bytes more is all =
     ap (λ p. held_from at_end g p h (bytes ++ more)) is ∙ pass_front closes Comment comment_keeps at_end g h n bytes
     more all ∙ ap (λ p. held_from at_end g p h (drop n bytes ++ more)) (sym is)
 
--- one more byte of a kind
-pub all_more : (p : ℕ → Bool) (bytes : List ℕ) (i : ℕ) → i < length bytes → list_all p (take i bytes) ≡ true
-    → p (get_or bytes i 0) ≡ true → list_all p (take (i + 1) bytes) ≡ true
-all_more p bytes i inside all here = list_all_more p bytes i 0 inside ∙ and_from _ _ all here
+all_before : (p : ℕ → Bool) (bytes : List ℕ) → list_all p (take_while p bytes) ≡ true
+all_before p [] = refl
+all_before p (b ∷ bytes) = ap (list_all p) (take_while-cons p b bytes)
+    ∙ elim (p b) as (λ v. p b ≡ v → list_all p (cond v (b ∷ take_while p bytes) []) ≡ true) [
+      | true ↦ λ e. and_from _ _ e (all_before p bytes)
+      | false ↦ λ _. refl
+    ] refl
+
+-- the place of the first byte that passes a test, or the length: no byte before it does
+pub none_before : (p : ℕ → Bool) (bytes : List ℕ) (n : ℕ) → n ≡ unwrap_or (position p bytes) (length bytes)
+    → (n ≤ length bytes) × (list_all (λ byte. not (p byte)) (take n bytes) ≡ true)
+none_before p bytes n is =
+    let low = prefix_len-le-length (λ byte. not (p byte)) bytes in
+    let first = is ∙ first_or_all p bytes in (
+      omega (arith, first, low),
+      subst (λ k. list_all (λ byte. not (p byte)) (take k bytes) ≡ true) (sym first)
+          (all_before (λ byte. not (p byte)) bytes),
+    )

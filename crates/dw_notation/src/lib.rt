@@ -18,7 +18,7 @@ pub mod streams;
 pub mod writes;
 
 pub use line_text::{LINE_ROOM, LineText, MAX_MOVES};
-pub use move_text::{MOVE_ROOM, text_in};
+pub use move_text::{MAX_MOVE_TEXT, MOVE_ROOM, text_in};
 pub use problems::{Form, Problem, ProblemFault, Problems, ReadFault, SectionReader};
 pub use read_move::MoveFault;
 pub use streams::{Reading, Sink, Source, Writing};

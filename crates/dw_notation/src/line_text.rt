@@ -18,11 +18,11 @@ use std::marker::Model;
 
 /// The most moves of a line: 20 of the attacker, and 19 of the defender between them.
 /// Example: `1. 45-40 16-21 2. 27x16` has 3.
-pub const MAX_MOVES: usize = 39;
+pub const MAX_MOVES: usize = 20 + 19;
 
-/// The bytes that suffice for the text of each line.
+/// The bytes that suffice for the text of each line: for its moves, and for their numbers what one more would take.
 /// Example: `1. 45-40 16-21 2. 27x16` takes 23 of them.
-pub const LINE_ROOM: usize = 2560;
+pub const LINE_ROOM: usize = (MAX_MOVES + 1) * MOVE_ROOM;
 
 /// A move of a line: the position after it, and how long the text is up to its end.
 /// Example: of `1. 45-40 16-21 2. 27x16` the first ply is `45-40`, at whose end the text has 8 bytes.

@@ -8,13 +8,17 @@ ghost use Rattle.dw_notation.specs.inner.LineWords.{HasStep};
 use arrayvec::ArrayString;
 use dw_board::{Board, Position, Square};
 use dw_moves::listed::listed;
-use dw_moves::{Listed, Move, shares_ends};
+use dw_moves::{LONGEST_PATH, Listed, Move, shares_ends};
 use itoa::Buffer;
 use std::alloc::{AllocError, Global};
 
-/// The bytes that suffice for each move's text; it has at most 62.
+/// The most bytes of a move's text, 62: two digits for each square of a path, and a sign between each two of them.
+/// Example: `47x36x27x18x9x20` has 16.
+pub const MAX_MOVE_TEXT: usize = 3 * LONGEST_PATH - 1;
+
+/// The bytes that suffice for each move's text, with a sign before it and one behind it.
 /// Example: `47x36x27x18x9x20` takes 16 of them.
-pub const MOVE_ROOM: usize = 64;
+pub const MOVE_ROOM: usize = MAX_MOVE_TEXT + 2;
 
 /// The text of the move at a place, from 0 on, in the list of all legal moves of a position.
 ///

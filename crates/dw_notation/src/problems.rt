@@ -8,7 +8,7 @@ mod pdn;
 mod reader;
 mod section_reader;
 
-use dw_board::{Board, FenFault, Position};
+use dw_board::{Board, FenFault, MAX_FEN, Position};
 pub use reader::Problems;
 pub use section_reader::SectionReader;
 use thiserror::Error;
@@ -28,6 +28,10 @@ pub const MAX_SECTION: usize = 65536;
 /// The most bytes of one read.
 /// Example: of a file of 5,000 bytes, whose first line has 10, at most the first 2,048 are read for problem 1.
 pub const MAX_READ: usize = 2048;
+
+/// One byte more than a FEN text may have. Of a line, and of a FEN tag's value, so many are held: they tell a FEN text
+/// with a carriage return after it, and a text that is too long.
+const PAST_FEN: usize = MAX_FEN + 1;
 
 /// How a text holds its problems.
 /// Example: the line `W:W32:B28` is a problem by `Form::Fens`, and the section `[FEN "W:W32:B28"]` by `Form::Pdn`.

@@ -11,12 +11,9 @@ use dw_board::fen::numbers::{digits_at, square_named};
 use dw_board::{Board, Position, Square};
 use dw_moves::follow::follow;
 use dw_moves::legal::legal;
-use dw_moves::{Move, is_legal};
+use dw_moves::{LONGEST_PATH, Move, is_legal};
 use std::alloc::{AllocError, Global};
 use thiserror::Error;
-
-/// The most squares of a capture: its start, and a landing for each of twenty pieces.
-const MAX_SQUARES: usize = 21;
 
 /// Why no move was read from a text. Its number is that of the variant, from 1 on.
 /// Example: at `W:W32:B28` the text `32-23` gives `MoveFault::NoSuchMove`, and `32x` gives `MoveFault::Syntax`.
@@ -91,7 +88,7 @@ fn quiet_named<B: Board>(text: &[u8]) -> Option<(Square<B>, Square<B>)>
 }
 
 /// The start of a capture and squares on which it lands, if a text names one.
-fn capture_named<B: Board>(text: &[u8]) -> Option<ArrayVec<Square<B>, MAX_SQUARES>>
+fn capture_named<B: Board>(text: &[u8]) -> Option<ArrayVec<Square<B>, LONGEST_PATH>>
     ensures { MatchOption result
         ((squares : List ℕ) → Names B.geometry text.now (Capture squares) → ⊥)
         (λ squares. Names B.geometry text.now (Capture squares.items)) }

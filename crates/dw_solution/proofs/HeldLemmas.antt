@@ -15,7 +15,7 @@ use Rattle.dw_solution.specs.Tree.{Tree, over, branch, or_ended, lines_of, IsTre
 use Rattle.dw_solution.specs.Movetext.{AreAllPlayable}
 use Rattle.dw_solution.specs.inner.Steps.{whole_tree, chain, last_line, IsHeld, AreEnds, Parts, MayFollow}
 use Rattle.dw_solution.specs.inner.Steps.{IsPlayable}
-use Rattle.dw_solution.specs.declared.step.Step.{Step}
+use Rattle.dw_solution.specs.declared.step.TreeStep.{TreeStep}
 use Rattle.dw_solution.proofs.TreeLemmas.{Grown, lines_some, ended_some, last_append}
 use Rattle.dw_solution.proofs.StepLemmas.{Leaves, first, parts, AreDeep, grows}
 use Rattle.dw_solution.proofs.TakingLemmas.{in_take}
@@ -119,22 +119,22 @@ goes_on tree last line s is follows low less same differ =
 
 -- ---- the parts of a tree
 module _ (B : Type 0) where
-  all_deep : (steps : List (Step B)) → AreDeep 0 steps
+  all_deep : (steps : List (TreeStep B)) → AreDeep 0 steps
   all_deep [] = tt
   all_deep (s ∷ steps) = (omega arith, all_deep steps)
 
   pub held_none : IsHeld {B = B} [] [] []
   held_none = record { apart = tt; last = refl; many = refl; ends = λ place end e. absent end e }
 
-  pub grown_by : (steps : List (Step B)) (line : List Move) (s : ℕ) → (h : GoesOn (whole_tree steps) line s)
+  pub grown_by : (steps : List (TreeStep B)) (line : List Move) (s : ℕ) → (h : GoesOn (whole_tree steps) line s)
       → Grown (whole_tree steps) (whole_tree (steps ++ chain s (drop s line))) h.move line
   grown_by steps line s h =
       subst (λ z. Grown (whole_tree steps) (whole_tree (steps ++ chain s z)) h.move line) (sym h.behind)
       (subst (Grown (whole_tree steps) (whole_tree (steps ++ chain s (h.move ∷ h.rest))) h.move) (sym h.whole)
       (grows B 0 s steps h.move h.rest (take s line) (all_deep steps) h.leaves))
 
-  pub held_more : (steps new : List (Step B)) (ends : List ℕ) (last line : List Move) (m : Move) (end : ℕ)
-      → (more : List (Step B)) → new ≡ steps ++ more → end ≡ length new
+  pub held_more : (steps new : List (TreeStep B)) (ends : List ℕ) (last line : List Move) (m : Move) (end : ℕ)
+      → (more : List (TreeStep B)) → new ≡ steps ++ more → end ≡ length new
       → Grown (whole_tree steps) (whole_tree new) m line → IsHeld steps ends last
       → IsHeld new (ends ++ end ∷ []) line
   held_more steps new ends last line m end more e is grown held =
@@ -171,7 +171,7 @@ module _ (B : Type 0) where
       }
 
   -- a line pushed
-  pub held_push : (steps new : List (Step B)) (ends more_ends : List ℕ) (last line latest : List Move)
+  pub held_push : (steps new : List (TreeStep B)) (ends more_ends : List ℕ) (last line latest : List Move)
       (s end : ℕ) (rest : List Move) (all : List (List Move)) → lines_of (whole_tree steps) ≡ all
       → IsHeld steps ends last → MayFollow all line → s ≤ length last → s ≤ length line → take s last ≡ take s line
       → (s < length last → s < length line → slice_get last s ≢ slice_get line s) → rest ≡ drop s line
@@ -190,12 +190,12 @@ module _ (B : Type 0) where
       )
 
   -- the steps of the first lines
-  pub end_within : (steps : List (Step B)) (ends : List ℕ) (lines end : ℕ) → AreEnds steps ends → lines < length ends
+  pub end_within : (steps : List (TreeStep B)) (ends : List ℕ) (lines end : ℕ) → AreEnds steps ends → lines < length ends
       → end ≡ get_or ends lines end → end ≤ length steps
   end_within steps ends lines end known low is =
       (known lines end (slice_get_read ends (length ends) lines end refl low is)).0
 
-  pub first_end : (steps front : List (Step B)) (ends : List ℕ) (lines end : ℕ) (all : List (List Move))
+  pub first_end : (steps front : List (TreeStep B)) (ends : List ℕ) (lines end : ℕ) (all : List (List Move))
       → AreEnds steps ends → lines_of (whole_tree steps) ≡ all → 0 < lines → lines - 1 < length ends
       → end ≡ get_or ends (lines - 1) end → front ≡ take end steps → IsTreeOf (take lines all) (whole_tree front)
   first_end steps front ends lines end all known are some low is e =
@@ -206,7 +206,7 @@ module _ (B : Type 0) where
       (subst (λ z. IsTreeOf (take (lines - 1 + 1) (lines_of (whole_tree steps))) (whole_tree z)) (sym e)
       (known (lines - 1) end found).1))
 
-  pub first_none : (steps : List (Step B)) → IsTreeOf (take 0 (lines_of (whole_tree steps))) (whole_tree {B = B} [])
+  pub first_none : (steps : List (TreeStep B)) → IsTreeOf (take 0 (lines_of (whole_tree steps))) (whole_tree {B = B} [])
   first_none steps = record { lines = refl; apart = tt }
 
 -- ---- what can be played

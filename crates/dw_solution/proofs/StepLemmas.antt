@@ -6,7 +6,7 @@ use Rattle.std.proofs.lemmas.Bool.{eq-eqb, ne_eqb, lt-ltb, le-ltb, cond-true, co
 use Rattle.dw_moves.specs.Moves.{Move}
 use Rattle.dw_solution.specs.Tree.{Tree, over, branch, lines_of, or_ended}
 use Rattle.dw_solution.specs.inner.Steps.{tree_at, chain, last_line}
-use Rattle.dw_solution.specs.declared.step.Step.{Step}
+use Rattle.dw_solution.specs.declared.step.TreeStep.{TreeStep}
 use Rattle.dw_solution.proofs.TreeLemmas.{straight, no_branch, last_alone, last_beside, Grown, grown_new}
 use Rattle.dw_solution.proofs.TreeLemmas.{grown_behind, grown_beside, grown_later}
 
@@ -70,21 +70,21 @@ grows_here n b over c other k d m moves _ (parts (y ∷ front) x rest last is ne
     (grown_behind n m b c m (front ++ m ∷ moves) more.0 more.1 more.2 (h.1 front leaves)))
 
 -- steps none of which is less deep
-abbrev pub AreDeep : {B : Type 0} → ℕ → List (Step B) → Type 0
+abbrev pub AreDeep : {B : Type 0} → ℕ → List (TreeStep B) → Type 0
 AreDeep k [] = Unit {0}
 AreDeep k (s ∷ steps) = (k ≤ s.depth) × AreDeep k steps
 
 module _ (B : Type 0) where
-  pub at_same : (s : Step B) (steps : List (Step B)) (k : ℕ) → s.depth ≡ k
+  pub at_same : (s : TreeStep B) (steps : List (TreeStep B)) (k : ℕ) → s.depth ≡ k
       → tree_at (s ∷ steps) k ≡ branch s.mv (tree_at steps (k + 1)) (tree_at steps k)
   at_same s steps k e = cond-true (eqb s.depth k) _ _ (eq-eqb s.depth k e)
 
-  pub at_deeper : (s : Step B) (steps : List (Step B)) (k : ℕ) → k < s.depth → tree_at (s ∷ steps) k ≡ tree_at steps k
+  pub at_deeper : (s : TreeStep B) (steps : List (TreeStep B)) (k : ℕ) → k < s.depth → tree_at (s ∷ steps) k ≡ tree_at steps k
   at_deeper s steps k low =
       cond-false (eqb s.depth k) _ _ (ne_eqb s.depth k (λ e. omega (arith, e, low)))
       ∙ cond-true (ltb k s.depth) _ _ (lt-ltb k s.depth low)
 
-  pub at_out : (s : Step B) (steps : List (Step B)) (k : ℕ) → s.depth < k → tree_at (s ∷ steps) k ≡ over
+  pub at_out : (s : TreeStep B) (steps : List (TreeStep B)) (k : ℕ) → s.depth < k → tree_at (s ∷ steps) k ≡ over
   at_out s steps k low =
       cond-false (eqb s.depth k) _ _ (ne_eqb s.depth k (λ e. omega (arith, e, low)))
       ∙ cond-false (ltb k s.depth) _ _ (le-ltb k s.depth (omega (arith, low)))
@@ -107,11 +107,11 @@ module _ (B : Type 0) where
       ∙ (ap (λ z. branch m z (tree_at (chain {B = B} (k + 1) moves) k)) (chain_here (k + 1) moves)
       ∙ ap (branch m (straight moves)) (chain_deeper (k + 1) k moves (omega arith)))
 
-  deep_shut : (k : ℕ) (steps : List (Step B)) → AreDeep (k + 1) steps → tree_at steps k ≡ over
+  deep_shut : (k : ℕ) (steps : List (TreeStep B)) → AreDeep (k + 1) steps → tree_at steps k ≡ over
   deep_shut k [] h = refl
   deep_shut k (s ∷ steps) h = at_deeper s steps k (omega (arith, h.0)) ∙ deep_shut k steps h.1
 
-  over_deep : (k : ℕ) (steps : List (Step B)) → AreDeep k steps → tree_at steps k ≡ over → AreDeep (k + 1) steps
+  over_deep : (k : ℕ) (steps : List (TreeStep B)) → AreDeep k steps → tree_at steps k ≡ over → AreDeep (k + 1) steps
   over_deep k [] h e = tt
   over_deep k (s ∷ steps) h e = elim (cases_order s.depth k) [
     | inl same ↦ absurd (no_branch _ _ _ (sym (at_same s steps k same) ∙ e))
@@ -119,18 +119,18 @@ module _ (B : Type 0) where
     | inr (inr high) ↦ (omega (arith, high), over_deep k steps h.1 (sym (at_deeper s steps k high) ∙ e))
   ]
 
-  deep_skip : (k : ℕ) (steps more : List (Step B)) → AreDeep (k + 1) steps
+  deep_skip : (k : ℕ) (steps more : List (TreeStep B)) → AreDeep (k + 1) steps
       → tree_at (steps ++ more) k ≡ tree_at more k
   deep_skip k [] more h = refl
   deep_skip k (s ∷ steps) more h =
       at_deeper s (steps ++ more) k (omega (arith, h.0)) ∙ deep_skip k steps more h.1
 
   -- what is deeper than the steps of a line stays
-  out_stays : (d j : ℕ) (steps : List (Step B)) (moves : List Move) → d < j
+  out_stays : (d j : ℕ) (steps : List (TreeStep B)) (moves : List Move) → d < j
       → tree_at (steps ++ chain d moves) j ≡ tree_at steps j
   out_stays d j [] moves low = chain_out d j moves low
   out_stays d j (s ∷ steps) moves low =
-      let more : List (Step B) = chain d moves in
+      let more : List (TreeStep B) = chain d moves in
       elim (cases_order s.depth j) [
         | inl same ↦ at_same s (steps ++ more) j same
             ∙ (ap (λ z. branch s.mv z (tree_at (steps ++ more) j)) (out_stays d (j + 1) steps moves (omega (arith, low)))
@@ -141,7 +141,7 @@ module _ (B : Type 0) where
       ]
 
   -- and so does what is deeper than a move that stands behind it
-  shut_stays : (k j : ℕ) (steps more : List (Step B)) (n : Move) (b o : Tree) → AreDeep k steps
+  shut_stays : (k j : ℕ) (steps more : List (TreeStep B)) (n : Move) (b o : Tree) → AreDeep k steps
       → tree_at steps k ≡ branch n b o → k < j → tree_at (steps ++ more) j ≡ tree_at steps j
   shut_stays k j [] more n b o h e low = absurd (no_branch n b o (sym e))
   shut_stays k j (s ∷ steps) more n b o h e low = elim (cases_order s.depth k) [
@@ -161,7 +161,7 @@ module _ (B : Type 0) where
         ]
   ]
 
-  pub grows : (k d : ℕ) (steps : List (Step B)) (m : Move) (moves front : List Move) → AreDeep k steps
+  pub grows : (k d : ℕ) (steps : List (TreeStep B)) (m : Move) (moves front : List Move) → AreDeep k steps
       → Leaves (tree_at steps k) k d m front
       → Grown (tree_at steps k) (tree_at (steps ++ chain d (m ∷ moves)) k) m (front ++ m ∷ moves)
   grows k d [] m moves _ h (first e is) =
@@ -170,7 +170,7 @@ module _ (B : Type 0) where
   grows k d [] m moves _ h (parts front n rest last is ne) = absurd (no_end front n rest last)
   grows k d (s ∷ steps) m moves front h leaves = elim (cases_order s.depth k) [
     | inl same ↦
-        let more : List (Step B) = chain d (m ∷ moves) in
+        let more : List (TreeStep B) = chain d (m ∷ moves) in
         let grown = grows_here s.mv (tree_at steps (k + 1)) (tree_at steps k) (tree_at (steps ++ more) (k + 1))
         (tree_at (steps ++ more) k) k d m moves front
         (subst (λ z. Leaves z k d m front) (at_same s steps k same) leaves)
@@ -192,7 +192,7 @@ module _ (B : Type 0) where
         (sym (at_same s (steps ++ more) k same)) grown)
     | inr (inl low) ↦ absurd (omega (arith, low, h.0))
     | inr (inr high) ↦
-        let more : List (Step B) = chain d (m ∷ moves) in
+        let more : List (TreeStep B) = chain d (m ∷ moves) in
         let grown = grows k d steps m moves front h.1
         (subst (λ z. Leaves z k d m front) (at_deeper s steps k high) leaves) in
         subst (λ z. Grown z (tree_at (s ∷ (steps ++ more)) k) m (front ++ m ∷ moves)) (sym (at_deeper s steps k high))
@@ -207,7 +207,7 @@ module _ (B : Type 0) where
       ap (λ z. (record { depth = d; mv = n }) ∷ z) (chain_more (d + 1) moves m
       ∙ ap (λ z. chain (d + 1) moves ++ (record { depth = z; mv = m }) ∷ []) (omega arith))
 
-  pub chain_step : (old mid new : List (Step B)) (d place : ℕ) (m : Move) (moves : List Move) → place < length moves
+  pub chain_step : (old mid new : List (TreeStep B)) (d place : ℕ) (m : Move) (moves : List Move) → place < length moves
       → m ≡ get_or moves place m → mid ≡ old ++ chain d (take place moves)
       → new ≡ mid ++ (record { depth = d + place; mv = m }) ∷ [] → new ≡ old ++ chain d (take (place + 1) moves)
   chain_step old mid new d place m moves low is so_far e =
@@ -220,7 +220,7 @@ module _ (B : Type 0) where
       ∙ (sym (chain_more d (take place moves) m) ∙ ap (chain d) (sym next)))))
 
   -- ---- the first step that is not deeper
-  pub passed_deeper : (steps : List (Step B)) (place depth : ℕ) (s : Step B) → place < length steps
+  pub passed_deeper : (steps : List (TreeStep B)) (place depth : ℕ) (s : TreeStep B) → place < length steps
       → s ≡ get_or steps place s → depth < s.depth → tree_at (drop place steps) depth ≡ tree_at steps depth
       → tree_at (drop (place + 1) steps) depth ≡ tree_at steps depth
   passed_deeper steps place depth s low is high same =

@@ -1,5 +1,5 @@
 //! What the comment in front of a movetext says.
-ghost use Rattle.std.specs.Prelude.{◌≡◌};
+ghost use Rattle.std.specs.Prelude.{◌≡◌, ◌<◌, ◌^◌};
 ghost use Rattle.dw_solution.specs.Movetext.{verdict_word};
 
 /// What a verdict says, without its moves.
@@ -37,4 +37,11 @@ impl VerdictKind {
             VerdictKind::Sound => "sound",
         }
     }
+}
+
+impl Heading {
+    /// The number of moves is that of a byte: a law, which does nothing.
+    pub(crate) fn keeps_its_range(self)
+        ensures { self.moves < 2 ^ 8 }
+    {}
 }

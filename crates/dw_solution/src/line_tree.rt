@@ -1,7 +1,7 @@
 //! Lines as a tree, where what neighbours have in common stands once.
 ghost use Rattle.std.specs.Prelude.{◌≡◌, ◌≢◌, ◌++◌, ◌∷◌, [], ◌≤◌, ◌<◌, OnOk, OnErr, Some, length, take, slice_get};
 
-use crate::step::{Step, add_steps};
+use crate::step::{TreeStep, add_steps};
 use arrayvec::ArrayVec;
 use dw_board::Board;
 use dw_moves::{Move, same_move};
@@ -13,7 +13,7 @@ use std::marker::Model;
 /// Example: the lines `32-28 18-22 27x18` and `32-28 18-22 28x17` take four moves, of which `32-28` is the first.
 #[derive(Drop)]
 pub struct LineTree<B: Board> {
-    steps: Vec<Step<B>>,
+    steps: Vec<TreeStep<B>>,
     /// With how many steps each line ends.
     ends: Vec<usize>,
     /// The last line, or no move.
@@ -73,12 +73,13 @@ impl<B: Board> LineTree<B> {
         add_steps(&mut self.steps, shared, rest)?;
         let end = self.steps.as_slice().len();
         self.ends.push_reserved(end);
-        self.last = kept(line);
+        self.last.clear();
+        let _ = self.last.try_extend_from_slice(line);
         Ok(())
     }
 
     /// The steps of the first lines, so many of them.
-    pub(crate) fn first_steps(&self, lines: usize) -> &[Step<B>]
+    pub(crate) fn first_steps(&self, lines: usize) -> &[TreeStep<B>]
         requires { lines ≤ length self.now }
         ensures { IsTreeOf (take lines self.now) (whole_tree result.now) }
     {
@@ -89,16 +90,6 @@ impl<B: Board> LineTree<B> {
         let (first, _) = self.steps.as_slice().split_at(end);
         first
     }
-}
-
-/// A line in an array of its own.
-fn kept<B: Board>(line: &[Move<B>]) -> ArrayVec<Move<B>, MAX_MOVES>
-    requires { length line.now ≤ 39 }
-    ensures { result.items ≡ line.now }
-{
-    let mut kept = ArrayVec::new();
-    let _ = kept.try_extend_from_slice(line);
-    kept
 }
 
 /// How many moves two lines have in common at their beginnings.

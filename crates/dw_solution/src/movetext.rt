@@ -66,7 +66,7 @@ impl<B: Board> Draft<'_, B> {
         ensures { IfOk result (λ text. IsMovetext B.geometry self.now.position.now self.now.heading
             self.now.first.now.tree self.now.first.now.more text.items) }
     {
-        let _moves = self.heading.moves;
+        self.heading.keeps_its_range();
         let mut text = self.text(0)?;
         let mut many = 0;
         let mut too_many = self.first.tree.len();

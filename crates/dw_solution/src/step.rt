@@ -9,7 +9,7 @@ use std::alloc::AllocError;
 /// A move of a tree, and how many moves stand before it on its way from the root.
 /// Example: in `1. 32-28 (1. 27-22) 18-22` the move `27-22` has the depth 0, and `18-22` has the depth 1.
 #[derive(Clone, Copy)]
-pub(crate) struct Step<B: Board> {
+pub(crate) struct TreeStep<B: Board> {
     pub(crate) depth: usize,
     pub(crate) mv: Move<B>,
 }
@@ -18,11 +18,11 @@ pub(crate) struct Step<B: Board> {
 #[derive(Clone, Copy)]
 pub(crate) struct First<'a, B: Board> {
     pub(crate) mv: Move<B>,
-    pub(crate) rest: &'a [Step<B>],
+    pub(crate) rest: &'a [TreeStep<B>],
 }
 
 /// The first of the moves at a depth that stand before any move less deep.
-pub(crate) fn first_at<B: Board>(steps: &[Step<B>], depth: usize) -> Option<First<'_, B>>
+pub(crate) fn first_at<B: Board>(steps: &[TreeStep<B>], depth: usize) -> Option<First<'_, B>>
     ensures { IsFirstAt steps.entry.now depth (option_map (λ f. (f.mv, f.rest.now)) result) }
 {
     let mut place = 0;
@@ -40,7 +40,7 @@ pub(crate) fn first_at<B: Board>(steps: &[Step<B>], depth: usize) -> Option<Firs
 
 /// Puts moves that follow one another behind all others, the first one at this depth; or nothing, if out of memory.
 pub(crate) fn add_steps<B: Board>(
-    steps: &mut Vec<Step<B>>,
+    steps: &mut Vec<TreeStep<B>>,
     depth: usize,
     moves: &[Move<B>],
 ) -> Result<(), AllocError>
@@ -50,7 +50,7 @@ pub(crate) fn add_steps<B: Board>(
 {
     steps.reserve(moves.len())?;
     'moves: for (place, mv) in moves.iter().enumerate() {
-        steps.push_reserved(Step {
+        steps.push_reserved(TreeStep {
             depth: depth + place,
             mv: *mv,
         });

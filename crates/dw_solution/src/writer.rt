@@ -6,7 +6,7 @@ ghost use Rattle.dw_solution.specs.Words.{AreWords, AreVariations, has_move};
 ghost use Rattle.dw_solution.specs.inner.Steps.{tree_at, IsPlayable};
 ghost use Rattle.dw_solution.specs.inner.Feeds.{IsAdded, IsMoveAdded, number_words, fed};
 
-use crate::step::{Step, first_at};
+use crate::step::{TreeStep, first_at};
 use dw_board::{Board, Position};
 use dw_moves::Move;
 use dw_moves::play::play;
@@ -62,7 +62,7 @@ impl Writer {
     #[cycle(play)]
     pub(crate) fn write_play<B: Board>(
         &mut self,
-        steps: &[Step<B>],
+        steps: &[TreeStep<B>],
         spot: &Spot<B>,
         due: bool,
     ) -> Result<(), AllocError>
@@ -85,7 +85,7 @@ impl Writer {
     #[cycle(play)]
     fn write_variations<B: Board>(
         &mut self,
-        steps: &[Step<B>],
+        steps: &[TreeStep<B>],
         spot: &Spot<B>,
     ) -> Result<bool, AllocError>
         requires depth { spot.now.depth + length steps.now + 1 < 2 ^ 64 }

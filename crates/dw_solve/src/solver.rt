@@ -160,7 +160,7 @@ impl<B: Board, M: Memo<B>, G: Guide<B>> Solver<B, M, G> {
             → IfOk result (SaysWin (M.content self.new.memo) position.now moves) }
     {
         let answer = ask_wins(&mut self.search, &mut self.plies, alloc, position, moves);
-        self.search.memo.keeps_its_map();
+        self.keeps_its_facts();
         answer
     }
 
@@ -179,7 +179,7 @@ impl<B: Board, M: Memo<B>, G: Guide<B>> Solver<B, M, G> {
             → (IsErrOf result Limit → ⊥) × Idle M.content self.old self.new }
     {
         let answer = ask_loses(&mut self.search, &mut self.plies, alloc, position, moves);
-        self.search.memo.keeps_its_map();
+        self.keeps_its_facts();
         answer
     }
 

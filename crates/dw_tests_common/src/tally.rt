@@ -10,14 +10,14 @@ const ROOM: usize = 4096;
 
 /// What is found of a row.
 #[derive(Drop)]
-pub struct Found {
+pub struct RowText {
     text: String,
     is_cut: bool,
 }
 
-impl Found {
-    pub fn new(alloc: Global) -> Result<Found, AllocError> {
-        Ok(Found {
+impl RowText {
+    pub fn new(alloc: Global) -> Result<RowText, AllocError> {
+        Ok(RowText {
             text: String::with_capacity(alloc, ROOM)?,
             is_cut: false,
         })
@@ -48,7 +48,7 @@ impl Found {
 #[derive(Drop)]
 pub struct Tally {
     /// What is found of the row that is asked now.
-    pub found: Found,
+    pub found: RowText,
     asked: u32,
     right: u32,
     wrong: String,
@@ -57,7 +57,7 @@ pub struct Tally {
 impl Tally {
     pub fn new(alloc: Global) -> Result<Tally, AllocError> {
         Ok(Tally {
-            found: Found::new(alloc)?,
+            found: RowText::new(alloc)?,
             asked: 0,
             right: 0,
             wrong: String::new(alloc),

@@ -2,7 +2,7 @@
 ghost use Rattle.std.specs.Prelude.{IfSome};
 ghost use Rattle.dw_moves.specs.Moves.{Legal};
 
-use crate::tally::Found;
+use crate::tally::RowText;
 use dw_board::{Board, Position, Square, Squares, read_fen};
 use dw_moves::{Move, is_legal};
 use dw_notation::read_move::read_move;
@@ -51,7 +51,7 @@ pub fn read_legal<B: Board>(alloc: Global, position: &Position<B>, text: &str) -
 }
 
 /// Adds the numbers of a set in order, with blanks between them, or `none`.
-pub fn add_set<B: Board>(squares: Squares<B>, found: &mut Found) {
+pub fn add_set<B: Board>(squares: Squares<B>, found: &mut RowText) {
     let mut rest = squares;
     for place in 0..squares.count() {
         if place > 0 {
@@ -68,7 +68,7 @@ pub fn add_set<B: Board>(squares: Squares<B>, found: &mut Found) {
 }
 
 /// Adds a move: where it begins and ends, and what it takes.
-pub fn add_step<B: Board>(step: &Move<B>, found: &mut Found) {
+pub fn add_step<B: Board>(step: &Move<B>, found: &mut RowText) {
     found.say(&step.from.number());
     found.add(" ");
     found.say(&step.to.number());

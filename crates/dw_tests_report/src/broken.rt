@@ -7,7 +7,7 @@ use dw_board::Board;
 use dw_report::{RunFault, Settings};
 use dw_tests_common::escapes::unescaped;
 use dw_tests_common::streams::{Chopped, Narrow};
-use dw_tests_common::tally::Found;
+use dw_tests_common::tally::RowText;
 use std::alloc::Global;
 
 /// The first lines of a text, so many.
@@ -73,7 +73,7 @@ fn fails_at_reads<B: Board>(
 }
 
 /// The report and the answer, if each read fails as it should.
-pub fn reads<B: Board>(alloc: Global, asked: &Asked<'_>, found: &mut Found) -> Option<()> {
+pub fn reads<B: Board>(alloc: Global, asked: &Asked<'_>, found: &mut RowText) -> Option<()> {
     let text = unescaped(alloc, asked.column(0))?;
     let settings = asked.settings::<B>(AMPLE)?;
     let (reader, writer) = (
@@ -156,7 +156,7 @@ fn fails_at_once<B: Board>(alloc: Global, settings: &Settings<B>, text: &[u8]) -
 }
 
 /// The report and the answer, if each write fails as it should, and a sink that takes nothing.
-pub fn writes<B: Board>(alloc: Global, asked: &Asked<'_>, found: &mut Found) -> Option<()> {
+pub fn writes<B: Board>(alloc: Global, asked: &Asked<'_>, found: &mut RowText) -> Option<()> {
     let text = unescaped(alloc, asked.column(0))?;
     let settings = asked.settings::<B>(AMPLE)?;
     let whole = narrowed(alloc, &settings, text.as_slice(), 4096, 0)?;

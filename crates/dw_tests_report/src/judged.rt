@@ -10,12 +10,12 @@ use dw_report::judge::judge;
 use dw_report::{Judged, Verdict};
 use dw_solve::{ByTrial, Solver, Stop};
 use dw_tests_common::rows::word;
-use dw_tests_common::tally::Found;
+use dw_tests_common::tally::RowText;
 use dw_tests_common::texts::{add_step, read_position};
 use std::alloc::Global;
 
 /// Adds moves, each in a line of its own behind a word.
-fn add_moves<B: Board>(word: &str, moves: &[Move<B>], found: &mut Found) {
+fn add_moves<B: Board>(word: &str, moves: &[Move<B>], found: &mut RowText) {
     for step in moves {
         found.add(word);
         found.add(" ");
@@ -25,7 +25,7 @@ fn add_moves<B: Board>(word: &str, moves: &[Move<B>], found: &mut Found) {
 }
 
 /// Adds the verdict: its name, the shortest win, the moves that lead to a choice, and the keys or choices.
-fn add_verdict<B: Board>(verdict: &Verdict<B>, found: &mut Found) {
+fn add_verdict<B: Board>(verdict: &Verdict<B>, found: &mut RowText) {
     match verdict {
         Verdict::Unsolvable => found.add("unsolvable\n"),
         Verdict::Cooked { shortest, keys } => {
@@ -47,7 +47,7 @@ fn add_verdict<B: Board>(verdict: &Verdict<B>, found: &mut Found) {
 }
 
 /// Adds the verdict, and the tries, each with the reply that refutes it.
-fn add_judged<B: Board>(judged: &Judged<B>, found: &mut Found) {
+fn add_judged<B: Board>(judged: &Judged<B>, found: &mut RowText) {
     add_verdict(&judged.verdict, found);
     for (first, reply) in judged.tries.as_slice() {
         add_moves("try", &[*first], found);
@@ -61,7 +61,7 @@ fn add_answer<B: Board>(
     solver: &mut Solver<B, AnyMemo<B>, ByTrial>,
     position: &Position<B>,
     moves: u8,
-    found: &mut Found,
+    found: &mut RowText,
 ) -> Option<bool>
     requires some { 1 ≤ moves }
     requires few { moves ≤ 20 }
@@ -85,7 +85,7 @@ fn question<B: Board>(asked: &Asked<'_>) -> Option<(Position<B>, u8)>
 }
 
 /// What is judged of a position, with no memo.
-pub fn judged<B: Board>(alloc: Global, asked: &Asked<'_>, found: &mut Found) -> Option<()> {
+pub fn judged<B: Board>(alloc: Global, asked: &Asked<'_>, found: &mut RowText) -> Option<()> {
     let (position, moves) = question::<B>(asked)?;
     let memo = AnyMemo::None(NoMemo::new());
     let mut solver = Solver::<B, AnyMemo<B>, ByTrial>::new(memo, ByTrial, AMPLE);
@@ -97,7 +97,7 @@ pub fn judged<B: Board>(alloc: Global, asked: &Asked<'_>, found: &mut Found) -> 
 }
 
 /// What is judged under limits that rise by one, with a memo: the solver is asked again until it has an answer.
-pub fn stopped<B: Board>(alloc: Global, asked: &Asked<'_>, found: &mut Found) -> Option<()> {
+pub fn stopped<B: Board>(alloc: Global, asked: &Asked<'_>, found: &mut RowText) -> Option<()> {
     let (position, moves) = question::<B>(asked)?;
     let memo = AnyMemo::Lru(LruMemo::new(alloc, 1_000).ok()?);
     let mut solver = Solver::<B, AnyMemo<B>, ByTrial>::new(memo, ByTrial, 1);
@@ -106,7 +106,7 @@ pub fn stopped<B: Board>(alloc: Global, asked: &Asked<'_>, found: &mut Found) ->
 
 /// What is judged with the memo that the head names. Where a memo or the solver is refused memory it says so, and
 /// then it can be asked again (`checks/refused_search.py` refuses it).
-pub fn refused<B: Board>(alloc: Global, asked: &Asked<'_>, found: &mut Found) -> Option<()> {
+pub fn refused<B: Board>(alloc: Global, asked: &Asked<'_>, found: &mut RowText) -> Option<()> {
     let (position, moves) = question::<B>(asked)?;
     let name = word(asked.head, 4);
     let memo = match new_memo(alloc, name) {
@@ -128,7 +128,7 @@ fn add_at_last<B: Board>(
     solver: &mut Solver<B, AnyMemo<B>, ByTrial>,
     position: &Position<B>,
     moves: u8,
-    found: &mut Found,
+    found: &mut RowText,
 ) -> Option<()>
     requires some { 1 ≤ moves }
     requires few { moves ≤ 20 }

@@ -7,17 +7,17 @@
 mod asked;
 mod broken;
 mod judged;
-mod kind;
 mod plain;
 mod reports;
+mod row_kind;
 mod runs;
 
 use asked::Asked;
 use dw_board::{Board, Eight, Ten};
 use dw_tests_common::rows::{Section, input_sections, word};
 use dw_tests_common::six::Six;
-use dw_tests_common::tally::{Found, Tally};
-use kind::Kind;
+use dw_tests_common::tally::{RowText, Tally};
+use row_kind::RowKind;
 use std::alloc::{AllocError, Global};
 use std::io;
 
@@ -33,13 +33,13 @@ fn main(rt: HostRuntime) -> io::Result<()> {
 fn ask_section(alloc: Global, section: &Section) -> Result<Tally, AllocError> {
     let mut tally = Tally::new(alloc)?;
     for kind in word(section.head.as_str(), 0).split(',') {
-        ask_rows(alloc, Kind::named(kind), section, &mut tally);
+        ask_rows(alloc, RowKind::named(kind), section, &mut tally);
     }
     Ok(tally)
 }
 
 /// Asks all rows of a section, on its board.
-fn ask_rows(alloc: Global, kind: Option<Kind>, section: &Section, tally: &mut Tally) {
+fn ask_rows(alloc: Global, kind: Option<RowKind>, section: &Section, tally: &mut Tally) {
     for row in section.rows.as_slice() {
         let asked = Asked::new(section, row);
         let found = &mut tally.found;
@@ -54,19 +54,24 @@ fn ask_rows(alloc: Global, kind: Option<Kind>, section: &Section, tally: &mut Ta
 }
 
 /// Writes what is found for a row.
-fn answer<B: Board>(alloc: Global, kind: Kind, asked: &Asked<'_>, found: &mut Found) -> Option<()> {
+fn answer<B: Board>(
+    alloc: Global,
+    kind: RowKind,
+    asked: &Asked<'_>,
+    found: &mut RowText,
+) -> Option<()> {
     match kind {
-        Kind::Judge => judged::judged::<B>(alloc, asked, found),
-        Kind::Stopped => judged::stopped::<B>(alloc, asked, found),
-        Kind::Refused => judged::refused::<B>(alloc, asked, found),
-        Kind::Run => reports::whole::<B>(alloc, asked, found),
-        Kind::Limits => reports::limits::<B>(alloc, asked, found),
-        Kind::Reads => broken::reads::<B>(alloc, asked, found),
-        Kind::Writes => broken::writes::<B>(alloc, asked, found),
-        Kind::Changed => reports::changed::<B>(alloc, asked, found),
-        Kind::Many => plain::many::<B>(alloc, asked, found),
-        Kind::Chosen => plain::chosen::<B>(asked, found),
-        Kind::Law => {
+        RowKind::Judge => judged::judged::<B>(alloc, asked, found),
+        RowKind::Stopped => judged::stopped::<B>(alloc, asked, found),
+        RowKind::Refused => judged::refused::<B>(alloc, asked, found),
+        RowKind::Run => reports::whole::<B>(alloc, asked, found),
+        RowKind::Limits => reports::limits::<B>(alloc, asked, found),
+        RowKind::Reads => broken::reads::<B>(alloc, asked, found),
+        RowKind::Writes => broken::writes::<B>(alloc, asked, found),
+        RowKind::Changed => reports::changed::<B>(alloc, asked, found),
+        RowKind::Many => plain::many::<B>(alloc, asked, found),
+        RowKind::Chosen => plain::chosen::<B>(asked, found),
+        RowKind::Law => {
             plain::law(found);
             Some(())
         }

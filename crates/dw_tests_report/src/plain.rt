@@ -9,11 +9,11 @@ use dw_report::run::run;
 use dw_report::streams::{Reading, Writing};
 use dw_solve::AnyOrder;
 use dw_tests_common::streams::{Narrow, Repeated};
-use dw_tests_common::tally::Found;
+use dw_tests_common::tally::RowText;
 use std::alloc::Global;
 
 /// The report on a text of so many lines, each of one letter that names no position.
-pub fn many<B: Board>(alloc: Global, asked: &Asked<'_>, found: &mut Found) -> Option<()> {
+pub fn many<B: Board>(alloc: Global, asked: &Asked<'_>, found: &mut RowText) -> Option<()> {
     let lines = asked.column(0).parse::<u32>().ok()?;
     let settings = asked.settings::<B>(AMPLE)?;
     let mut source = Reading::new(Repeated::new(b"a\n", lines));
@@ -25,7 +25,7 @@ pub fn many<B: Board>(alloc: Global, asked: &Asked<'_>, found: &mut Found) -> Op
 }
 
 /// Whether the problem of a number is reported, and whether it is the one that was asked for.
-pub fn chosen<B: Board>(asked: &Asked<'_>, found: &mut Found) -> Option<()> {
+pub fn chosen<B: Board>(asked: &Asked<'_>, found: &mut RowText) -> Option<()> {
     let settings = asked.settings::<B>(AMPLE)?;
     let number = asked.column(0).parse::<u32>().ok()?;
     found.add(if settings.chooses(number) {
@@ -42,7 +42,7 @@ pub fn chosen<B: Board>(asked: &Asked<'_>, found: &mut Found) -> Option<()> {
 }
 
 /// Calls each law once.
-pub fn law(found: &mut Found) {
+pub fn law(found: &mut RowText) {
     laws::one_verdict();
     laws::tries_are_listed();
     laws::one_report();

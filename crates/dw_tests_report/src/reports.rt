@@ -8,7 +8,7 @@ use dw_report::{RunFault, Settings, Stop};
 use dw_tests_common::escapes::unescaped;
 use dw_tests_common::rows::word;
 use dw_tests_common::streams::{Chopped, Narrow};
-use dw_tests_common::tally::Found;
+use dw_tests_common::tally::RowText;
 use std::alloc::Global;
 
 /// A run that reads and writes so many bytes at a time.
@@ -51,7 +51,7 @@ fn same_with<B: Board>(
 }
 
 /// The report, and what the run answers, which are the same with each memo and in whatever pieces.
-pub fn whole<B: Board>(alloc: Global, asked: &Asked<'_>, found: &mut Found) -> Option<()> {
+pub fn whole<B: Board>(alloc: Global, asked: &Asked<'_>, found: &mut RowText) -> Option<()> {
     let text = unescaped(alloc, asked.column(0))?;
     let settings = asked.settings::<B>(AMPLE)?;
     let first = in_pieces(alloc, &settings, "none", text.as_slice(), 4096)?;
@@ -85,7 +85,7 @@ fn limited<B: Board>(alloc: Global, asked: &Asked<'_>, text: &[u8], limit: u64) 
 
 /// The report and the answer, if under limits that rise by one from 1 a run is stopped, or it is whole, and then it is
 /// so with each higher limit.
-pub fn limits<B: Board>(alloc: Global, asked: &Asked<'_>, found: &mut Found) -> Option<()> {
+pub fn limits<B: Board>(alloc: Global, asked: &Asked<'_>, found: &mut RowText) -> Option<()> {
     let text = unescaped(alloc, asked.column(0))?;
     let whole = limited::<B>(alloc, asked, text.as_slice(), AMPLE)?;
     let mut ended = false;
@@ -144,7 +144,7 @@ fn reported_with<B: Board>(
 }
 
 /// How many texts have a report, if each byte of a text is changed in turn to each mark of the form.
-pub fn changed<B: Board>(alloc: Global, asked: &Asked<'_>, found: &mut Found) -> Option<()> {
+pub fn changed<B: Board>(alloc: Global, asked: &Asked<'_>, found: &mut RowText) -> Option<()> {
     let mut text = unescaped(alloc, asked.column(0))?;
     let settings = asked.settings::<B>(AMPLE)?;
     let mut count = 0_u32;

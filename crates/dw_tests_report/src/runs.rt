@@ -9,7 +9,7 @@ use dw_report::streams::{Reading, Writing};
 use dw_report::{RunFault, Settings, Summary};
 use dw_solve::ByTrial;
 use dw_tests_common::streams::{Chopped, Narrow};
-use dw_tests_common::tally::Found;
+use dw_tests_common::tally::RowText;
 use std::alloc::Global;
 use std::str;
 
@@ -27,7 +27,7 @@ impl Ran {
     }
 
     /// Writes what was written, and below it how the run ended.
-    pub fn say(&self, found: &mut Found) -> Option<()> {
+    pub fn say(&self, found: &mut RowText) -> Option<()> {
         found.add(str::from_utf8(self.written.as_slice()).ok()?);
         match self.answer {
             Ok(summary) => found.show(&(summary.problems, summary.shown, summary.refused)),

@@ -8,7 +8,7 @@ use dw_notation::Reading;
 use dw_tests_common::escapes::unescaped;
 use dw_tests_common::rows::column;
 use dw_tests_common::streams::Chopped;
-use dw_tests_common::tally::Found;
+use dw_tests_common::tally::RowText;
 use dw_tests_common::texts::read_position;
 use std::alloc::{AllocError, Global};
 use std::io;
@@ -21,11 +21,11 @@ const SHOWN: usize = 100;
 
 /// The games of a text: of each what its section says, and its movetext. Whatever the pieces in which the text is read,
 /// it has the same games.
-pub fn games<B: Board>(alloc: Global, asked: &str, found: &mut Found) -> Option<()> {
+pub fn games<B: Board>(alloc: Global, asked: &str, found: &mut RowText) -> Option<()> {
     let text = whole_text(alloc, asked)?;
     add_games::<B, _>(alloc, text.as_slice(), found)?;
     for step in [1, 2, 3, 7, 1000, 4096] {
-        let mut chopped = Found::new(alloc).ok()?;
+        let mut chopped = RowText::new(alloc).ok()?;
         add_games::<B, _>(
             alloc,
             Chopped::new(text.as_slice(), step, 0, 0),
@@ -39,7 +39,7 @@ pub fn games<B: Board>(alloc: Global, asked: &str, found: &mut Found) -> Option<
 }
 
 /// A text, the bytes of each read, the read that fails, and the one that gives nothing, which is the end.
-pub fn broken<B: Board>(alloc: Global, asked: &str, found: &mut Found) -> Option<()> {
+pub fn broken<B: Board>(alloc: Global, asked: &str, found: &mut RowText) -> Option<()> {
     let text = unescaped(alloc, column(asked, 0))?;
     let step = column(asked, 1).parse::<usize>().ok()?;
     let fails_at = column(asked, 2).parse::<u64>().ok()?;
@@ -52,7 +52,7 @@ pub fn broken<B: Board>(alloc: Global, asked: &str, found: &mut Found) -> Option
 fn add_games<B: Board, R: io::Read + Drop>(
     alloc: Global,
     reader: R,
-    found: &mut Found,
+    found: &mut RowText,
 ) -> Option<()> {
     let mut source = Reading::new(reader);
     let mut games: Games<'_, B, Reading<R>> = Games::new(alloc, &mut source);
@@ -76,7 +76,7 @@ fn add_games<B: Board, R: io::Read + Drop>(
 }
 
 /// Adds a game: its problem, and its movetext in angles, or how many bytes that has.
-fn add_game<B: Board>(game: &Game<B>, found: &mut Found) {
+fn add_game<B: Board>(game: &Game<B>, found: &mut RowText) {
     let movetext = game.movetext.as_slice();
     if movetext.len() > SHOWN {
         found.say(&movetext.len());
@@ -98,7 +98,7 @@ fn add_game<B: Board>(game: &Game<B>, found: &mut Found) {
 const MOST_STEPS: usize = 1_000;
 
 /// The tree of a movetext, or its first fault. The text stands in quotes.
-pub fn movetext<B: Board>(alloc: Global, asked: &str, found: &mut Found) -> Option<()> {
+pub fn movetext<B: Board>(alloc: Global, asked: &str, found: &mut RowText) -> Option<()> {
     let text = column(asked, 1).strip_prefix('"')?.strip_suffix('"')?;
     add_read::<B>(
         alloc,
@@ -109,7 +109,7 @@ pub fn movetext<B: Board>(alloc: Global, asked: &str, found: &mut Found) -> Opti
 }
 
 /// The same of a text that stands there so many times, one after another.
-pub fn repeated<B: Board>(alloc: Global, asked: &str, found: &mut Found) -> Option<()> {
+pub fn repeated<B: Board>(alloc: Global, asked: &str, found: &mut RowText) -> Option<()> {
     let part = column(asked, 1).strip_prefix('"')?.strip_suffix('"')?;
     let mut text = Vec::<u8>::new(alloc);
     for _ in 0..column(asked, 2).parse::<u32>().ok()? {
@@ -119,7 +119,7 @@ pub fn repeated<B: Board>(alloc: Global, asked: &str, found: &mut Found) -> Opti
 }
 
 /// Adds what is read of a movetext at a position.
-fn add_read<B: Board>(alloc: Global, fen: &str, text: &[u8], found: &mut Found) -> Option<()> {
+fn add_read<B: Board>(alloc: Global, fen: &str, text: &[u8], found: &mut RowText) -> Option<()> {
     match read_movetext(alloc, &read_position::<B>(fen)?, text) {
         Ok(tree) => add_tree(alloc, &tree, found).ok()?,
         Err(fault) => found.say(&fault),
@@ -129,7 +129,7 @@ fn add_read<B: Board>(alloc: Global, fen: &str, text: &[u8], found: &mut Found) 
 
 /// The moves of a written line by their ends, or the number of its first fault and the fault. The text stands in
 /// quotes.
-pub fn written_line<B: Board>(alloc: Global, asked: &str, found: &mut Found) -> Option<()> {
+pub fn written_line<B: Board>(alloc: Global, asked: &str, found: &mut RowText) -> Option<()> {
     let quoted = column(asked, 1).strip_prefix('"')?.strip_suffix('"')?;
     let text = unescaped(alloc, quoted)?;
     let position = read_position::<B>(column(asked, 0))?;
@@ -152,7 +152,11 @@ pub fn written_line<B: Board>(alloc: Global, asked: &str, found: &mut Found) -> 
 }
 
 /// Adds each move of a tree, depth first, and a bracket after what follows it, up to its end.
-fn add_tree<B: Board>(alloc: Global, tree: &Tree<B>, found: &mut Found) -> Result<(), AllocError> {
+fn add_tree<B: Board>(
+    alloc: Global,
+    tree: &Tree<B>,
+    found: &mut RowText,
+) -> Result<(), AllocError> {
     let mut above = Vec::<Node>::new(alloc);
     let mut next = tree.first_child(None);
     for _ in 0..MOST_STEPS {
@@ -172,7 +176,7 @@ fn add_tree<B: Board>(alloc: Global, tree: &Tree<B>, found: &mut Found) -> Resul
 }
 
 /// Adds a move by its ends.
-fn add_move<B: Board>(mv: Option<Move<B>>, found: &mut Found) {
+fn add_move<B: Board>(mv: Option<Move<B>>, found: &mut RowText) {
     if let Some(mv) = mv {
         found.say(&mv.from.number());
         found.add(if mv.taken.is_empty() { "-" } else { "x" });

@@ -4,10 +4,10 @@ use dw_board::laws as boards;
 use dw_games::laws as games;
 use dw_moves::laws as moves;
 use dw_notation::laws as texts;
-use dw_tests_common::tally::Found;
+use dw_tests_common::tally::RowText;
 
 /// Calls each law once.
-pub fn law(found: &mut Found) {
+pub fn law(found: &mut RowText) {
     boards::steps_are_diagonal();
     boards::places_differ();
     boards::shifts_step();

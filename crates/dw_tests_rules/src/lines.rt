@@ -9,12 +9,12 @@ use dw_notation::line_text::line_text;
 use dw_notation::move_text::move_text;
 use dw_notation::read_move::read_move;
 use dw_tests_common::rows::{column, word};
-use dw_tests_common::tally::Found;
+use dw_tests_common::tally::RowText;
 use dw_tests_common::texts::{add_step, read_legal, read_position};
 use std::alloc::Global;
 
 /// The position after the move that a text names, or why there is none. The text stands in quotes.
-pub fn named<B: Board>(alloc: Global, asked: &str, found: &mut Found) -> Option<()> {
+pub fn named<B: Board>(alloc: Global, asked: &str, found: &mut RowText) -> Option<()> {
     let position = read_position::<B>(column(asked, 0))?;
     let text = column(asked, 1).strip_prefix('"')?.strip_suffix('"')?;
     match read_move(alloc, &position, text.as_bytes()) {
@@ -29,7 +29,7 @@ pub fn named<B: Board>(alloc: Global, asked: &str, found: &mut Found) -> Option<
 
 /// The move that a text names. Where it wants memory that is refused it says so, if it may take memory at all, and then
 /// it can be asked again.
-pub fn refused<B: Board>(alloc: Global, asked: &str, found: &mut Found) -> Option<()> {
+pub fn refused<B: Board>(alloc: Global, asked: &str, found: &mut RowText) -> Option<()> {
     let position = read_position::<B>(column(asked, 0))?;
     let text = column(asked, 1).as_bytes();
     let mut answer = read_move(alloc, &position, text);
@@ -44,7 +44,7 @@ pub fn refused<B: Board>(alloc: Global, asked: &str, found: &mut Found) -> Optio
 }
 
 /// The texts of all moves in order.
-pub fn texts<B: Board>(alloc: Global, asked: &str, found: &mut Found) -> Option<()> {
+pub fn texts<B: Board>(alloc: Global, asked: &str, found: &mut RowText) -> Option<()> {
     if asked == "refused memory" {
         found.say(&MoveFault::Memory);
         return Some(());
@@ -59,7 +59,7 @@ pub fn texts<B: Board>(alloc: Global, asked: &str, found: &mut Found) -> Option<
 }
 
 /// The text of a line of three moves, of one or of none, of which each move is given by its text.
-pub fn line<B: Board>(alloc: Global, asked: &str, found: &mut Found) -> Option<()> {
+pub fn line<B: Board>(alloc: Global, asked: &str, found: &mut RowText) -> Option<()> {
     let position = read_position::<B>(column(asked, 0))?;
     let words = column(asked, 1);
     if words.contains(' ') {
@@ -74,7 +74,7 @@ pub fn line<B: Board>(alloc: Global, asked: &str, found: &mut Found) -> Option<(
 }
 
 /// Whether the text of a line of no move is empty.
-fn none<B: Board>(alloc: Global, position: &Position<B>, found: &mut Found) -> Option<()> {
+fn none<B: Board>(alloc: Global, position: &Position<B>, found: &mut RowText) -> Option<()> {
     let none = Vec::new(alloc);
     let text = line_text(alloc, position, none.as_slice()).ok()?;
     found.add(if text.is_empty() {
@@ -90,7 +90,7 @@ fn three<B: Board>(
     alloc: Global,
     position: &Position<B>,
     words: &str,
-    found: &mut Found,
+    found: &mut RowText,
 ) -> Option<()> {
     let first = read_legal(alloc, position, word(words, 0))?;
     let after = play(position, &first);

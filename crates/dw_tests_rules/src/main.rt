@@ -6,12 +6,12 @@
 #![tactic(auto)]
 
 mod games;
-mod kind;
 mod laws;
 mod lines;
 mod moves;
 mod positions;
 mod problems;
+mod row_kind;
 mod squares;
 mod streams;
 mod tags;
@@ -20,8 +20,8 @@ use dw_board::{Board, Eight, Ten};
 use dw_notation::Form;
 use dw_tests_common::rows::{Section, input_sections, word};
 use dw_tests_common::six::Six;
-use dw_tests_common::tally::{Found, Tally};
-use kind::Kind;
+use dw_tests_common::tally::{RowText, Tally};
+use row_kind::RowKind;
 use std::alloc::{AllocError, Global};
 use std::io;
 
@@ -44,7 +44,7 @@ fn ask_section(alloc: Global, section: &Section) -> Result<Tally, AllocError> {
 
 /// Asks all rows of a section, on the board with so many rows.
 fn ask_rows(alloc: Global, section: &Section, board: &str, tally: &mut Tally) {
-    let kind = Kind::named(word(section.head.as_str(), 0));
+    let kind = RowKind::named(word(section.head.as_str(), 0));
     for row in section.rows.as_slice() {
         let asked = row.asked.as_str();
         let found = &mut tally.found;
@@ -59,46 +59,46 @@ fn ask_rows(alloc: Global, section: &Section, board: &str, tally: &mut Tally) {
 }
 
 /// Writes what is found for a row.
-fn answer<B: Board>(alloc: Global, kind: Kind, asked: &str, found: &mut Found) -> Option<()> {
+fn answer<B: Board>(alloc: Global, kind: RowKind, asked: &str, found: &mut RowText) -> Option<()> {
     match kind {
-        Kind::Square => squares::square::<B>(asked, found),
-        Kind::Set => squares::set::<B>(asked, found),
-        Kind::Sets => squares::sets::<B>(asked, found),
-        Kind::One => squares::one::<B>(asked, found),
-        Kind::SameSets => squares::same::<B>(asked, found),
-        Kind::Step => squares::one_step::<B>(asked, found),
-        Kind::Put => positions::put::<B>(asked, found),
-        Kind::Pieces => positions::pieces::<B>(asked, found),
-        Kind::Clear => positions::clear::<B>(asked, found),
-        Kind::Turn => positions::turn::<B>(asked, found),
-        Kind::Drawn => positions::drawn::<B>(asked, found),
-        Kind::Fen => positions::fen::<B>(alloc, asked, found),
-        Kind::Glance => moves::glance::<B>(asked, found),
-        Kind::Count => moves::count::<B>(alloc, asked, found),
-        Kind::Play => moves::played::<B>(alloc, asked, found),
-        Kind::Same => moves::same::<B>(asked, found),
-        Kind::Path => moves::path::<B>(alloc, asked, found),
-        Kind::List => moves::list::<B>(alloc, asked, found),
-        Kind::Again => moves::again::<B>(alloc, asked, found),
-        Kind::Named => lines::named::<B>(alloc, asked, found),
-        Kind::Refused => lines::refused::<B>(alloc, asked, found),
-        Kind::Texts => lines::texts::<B>(alloc, asked, found),
-        Kind::Line => lines::line::<B>(alloc, asked, found),
-        Kind::Fens => problems::pieces::<B>(alloc, Form::Fens, asked, found),
-        Kind::Pdn => problems::pieces::<B>(alloc, Form::Pdn, asked, found),
-        Kind::BrokenFens => problems::broken::<B>(alloc, Form::Fens, asked, found),
-        Kind::BrokenPdn => problems::broken::<B>(alloc, Form::Pdn, asked, found),
-        Kind::Many => problems::many::<B>(asked, found),
-        Kind::Write => streams::write(alloc, asked, found),
-        Kind::Games => games::games::<B>(alloc, asked, found),
-        Kind::BrokenGames => games::broken::<B>(alloc, asked, found),
-        Kind::GameTags => tags::of_games::<B>(alloc, asked, found),
-        Kind::Tags => tags::of_text(alloc, asked, found),
-        Kind::NamedValue => tags::named_value(alloc, asked, found),
-        Kind::Movetext => games::movetext::<B>(alloc, asked, found),
-        Kind::Repeated => games::repeated::<B>(alloc, asked, found),
-        Kind::WrittenLine => games::written_line::<B>(alloc, asked, found),
-        Kind::Law => {
+        RowKind::Square => squares::square::<B>(asked, found),
+        RowKind::Set => squares::set::<B>(asked, found),
+        RowKind::Sets => squares::sets::<B>(asked, found),
+        RowKind::One => squares::one::<B>(asked, found),
+        RowKind::SameSets => squares::same::<B>(asked, found),
+        RowKind::Step => squares::one_step::<B>(asked, found),
+        RowKind::Put => positions::put::<B>(asked, found),
+        RowKind::Pieces => positions::pieces::<B>(asked, found),
+        RowKind::Clear => positions::clear::<B>(asked, found),
+        RowKind::Turn => positions::turn::<B>(asked, found),
+        RowKind::Drawn => positions::drawn::<B>(asked, found),
+        RowKind::Fen => positions::fen::<B>(alloc, asked, found),
+        RowKind::Glance => moves::glance::<B>(asked, found),
+        RowKind::Count => moves::count::<B>(alloc, asked, found),
+        RowKind::Play => moves::played::<B>(alloc, asked, found),
+        RowKind::Same => moves::same::<B>(asked, found),
+        RowKind::Path => moves::path::<B>(alloc, asked, found),
+        RowKind::List => moves::list::<B>(alloc, asked, found),
+        RowKind::Again => moves::again::<B>(alloc, asked, found),
+        RowKind::Named => lines::named::<B>(alloc, asked, found),
+        RowKind::Refused => lines::refused::<B>(alloc, asked, found),
+        RowKind::Texts => lines::texts::<B>(alloc, asked, found),
+        RowKind::Line => lines::line::<B>(alloc, asked, found),
+        RowKind::Fens => problems::pieces::<B>(alloc, Form::Fens, asked, found),
+        RowKind::Pdn => problems::pieces::<B>(alloc, Form::Pdn, asked, found),
+        RowKind::BrokenFens => problems::broken::<B>(alloc, Form::Fens, asked, found),
+        RowKind::BrokenPdn => problems::broken::<B>(alloc, Form::Pdn, asked, found),
+        RowKind::Many => problems::many::<B>(asked, found),
+        RowKind::Write => streams::write(alloc, asked, found),
+        RowKind::Games => games::games::<B>(alloc, asked, found),
+        RowKind::BrokenGames => games::broken::<B>(alloc, asked, found),
+        RowKind::GameTags => tags::of_games::<B>(alloc, asked, found),
+        RowKind::Tags => tags::of_text(alloc, asked, found),
+        RowKind::NamedValue => tags::named_value(alloc, asked, found),
+        RowKind::Movetext => games::movetext::<B>(alloc, asked, found),
+        RowKind::Repeated => games::repeated::<B>(alloc, asked, found),
+        RowKind::WrittenLine => games::written_line::<B>(alloc, asked, found),
+        RowKind::Law => {
             laws::law(found);
             Some(())
         }

@@ -11,13 +11,13 @@ use dw_moves::{
     listed_into, other_steps, quiet_count, same_move,
 };
 use dw_tests_common::rows::column;
-use dw_tests_common::tally::Found;
+use dw_tests_common::tally::RowText;
 use dw_tests_common::texts::{add_set, read_position, square_of, step_of};
 use std::alloc::Global;
 
 /// The squares to which pieces of the other side could go one square, and whether it is seen at a glance that it has a
 /// reply to every move.
-pub fn glance<B: Board>(asked: &str, found: &mut Found) -> Option<()> {
+pub fn glance<B: Board>(asked: &str, found: &mut RowText) -> Option<()> {
     let position = read_position::<B>(asked)?;
     add_set(other_steps(&position), found);
     found.add(", sure ");
@@ -27,7 +27,7 @@ pub fn glance<B: Board>(asked: &str, found: &mut Found) -> Option<()> {
 
 /// How many pieces each move takes, whether any does, and where those end; how many quiet moves there are, also if one
 /// must capture, and if nothing can be taken; how many legal moves, and whether there is any.
-pub fn count<B: Board>(alloc: Global, asked: &str, found: &mut Found) -> Option<()> {
+pub fn count<B: Board>(alloc: Global, asked: &str, found: &mut RowText) -> Option<()> {
     let position = read_position::<B>(asked)?;
     found.add("takes ");
     found.say(&best(&position));
@@ -50,7 +50,7 @@ pub fn count<B: Board>(alloc: Global, asked: &str, found: &mut Found) -> Option<
 }
 
 /// The position after a move, if it is legal; just then it is in the list of legal moves.
-pub fn played<B: Board>(alloc: Global, asked: &str, found: &mut Found) -> Option<()> {
+pub fn played<B: Board>(alloc: Global, asked: &str, found: &mut RowText) -> Option<()> {
     let position = read_position::<B>(column(asked, 0))?;
     let step = step_of(column(asked, 1))?;
     let is_listed = legal(alloc, &position).ok()?.contains(&step);
@@ -68,7 +68,7 @@ pub fn played<B: Board>(alloc: Global, asked: &str, found: &mut Found) -> Option
 }
 
 /// Whether two moves are the same, asked in two ways; the first may be the default.
-pub fn same<B: Board>(asked: &str, found: &mut Found) -> Option<()> {
+pub fn same<B: Board>(asked: &str, found: &mut RowText) -> Option<()> {
     let left = match column(asked, 0) {
         "default" => Move::<B>::default(),
         text => step_of(text)?,
@@ -92,7 +92,7 @@ fn squares_of<B: Board>(alloc: Global, text: &str) -> Option<Vec<Square<B>>> {
 }
 
 /// What the move takes that has these squares as its path.
-pub fn path<B: Board>(alloc: Global, asked: &str, found: &mut Found) -> Option<()> {
+pub fn path<B: Board>(alloc: Global, asked: &str, found: &mut RowText) -> Option<()> {
     let position = read_position::<B>(column(asked, 0))?;
     let squares = squares_of(alloc, column(asked, 1))?;
     match follow(&position, squares.as_slice()) {
@@ -103,7 +103,7 @@ pub fn path<B: Board>(alloc: Global, asked: &str, found: &mut Found) -> Option<(
 }
 
 /// Adds all moves in order: the path of each, and what it takes.
-fn add_list<B: Board>(list: &[Listed<B>], found: &mut Found) {
+fn add_list<B: Board>(list: &[Listed<B>], found: &mut RowText) {
     for item in list {
         for square in item.path.as_slice() {
             found.say(&square.number());
@@ -115,7 +115,7 @@ fn add_list<B: Board>(list: &[Listed<B>], found: &mut Found) {
     }
 }
 
-pub fn list<B: Board>(alloc: Global, asked: &str, found: &mut Found) -> Option<()> {
+pub fn list<B: Board>(alloc: Global, asked: &str, found: &mut RowText) -> Option<()> {
     let list = listed(alloc, &read_position::<B>(asked)?).ok()?;
     found.say(&list.len());
     found.add(" moves\n");
@@ -128,7 +128,7 @@ fn fill<B: Board>(
     position: &Position<B>,
     moves: &mut Vec<Move<B>>,
     list: &mut Vec<Listed<B>>,
-    found: &mut Found,
+    found: &mut RowText,
 ) -> Option<()> {
     legal_into(position, moves).ok()?;
     listed_into(position, list).ok()?;
@@ -137,7 +137,7 @@ fn fill<B: Board>(
 }
 
 /// Fills lists with the moves of one position and then of another, which takes no more memory.
-pub fn again<B: Board>(alloc: Global, asked: &str, found: &mut Found) -> Option<()> {
+pub fn again<B: Board>(alloc: Global, asked: &str, found: &mut RowText) -> Option<()> {
     let first = read_position::<B>(column(asked, 0))?;
     let second = read_position::<B>(column(asked, 1))?;
     let (mut moves, mut list) = (Vec::new(alloc), Vec::new(alloc));

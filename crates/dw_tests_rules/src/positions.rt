@@ -4,7 +4,7 @@ use dw_board::diagram::diagram;
 use dw_board::{Board, Kind, Piece, Position, Side, fen_text, laws, read_fen};
 use dw_tests_common::escapes::unescaped;
 use dw_tests_common::rows::{column, word};
-use dw_tests_common::tally::Found;
+use dw_tests_common::tally::RowText;
 use dw_tests_common::texts::{add_set, square_of};
 use std::alloc::Global;
 
@@ -42,7 +42,7 @@ fn placed<B: Board>(text: &str) -> Option<Position<B>> {
 }
 
 /// The position after a piece was put, or why it is refused; a refusal changes nothing.
-pub fn put<B: Board>(asked: &str, found: &mut Found) -> Option<()> {
+pub fn put<B: Board>(asked: &str, found: &mut RowText) -> Option<()> {
     let start = placed::<B>(column(asked, 0))?;
     let piece = piece_of(word(column(asked, 1), 0))?;
     let square = square_of(word(column(asked, 1), 1))?;
@@ -56,7 +56,7 @@ pub fn put<B: Board>(asked: &str, found: &mut Found) -> Option<()> {
 }
 
 /// Where the pieces stand, and how many there are.
-pub fn pieces<B: Board>(asked: &str, found: &mut Found) -> Option<()> {
+pub fn pieces<B: Board>(asked: &str, found: &mut RowText) -> Option<()> {
     let position = placed::<B>(asked)?;
     for side in [Side::White, Side::Black] {
         found.say(&position.count(side));
@@ -70,7 +70,7 @@ pub fn pieces<B: Board>(asked: &str, found: &mut Found) -> Option<()> {
 }
 
 /// What stood on a square that is cleared, and the position after it.
-pub fn clear<B: Board>(asked: &str, found: &mut Found) -> Option<()> {
+pub fn clear<B: Board>(asked: &str, found: &mut RowText) -> Option<()> {
     let mut position = placed::<B>(column(asked, 0))?;
     let square = square_of(column(asked, 1))?;
     let stood = position.at(square);
@@ -85,7 +85,7 @@ pub fn clear<B: Board>(asked: &str, found: &mut Found) -> Option<()> {
 
 /// The position when it is that side's turn, how the one before compares with it, whether they are the same, and whose
 /// turn it is not.
-pub fn turn<B: Board>(asked: &str, found: &mut Found) -> Option<()> {
+pub fn turn<B: Board>(asked: &str, found: &mut RowText) -> Option<()> {
     let before = placed::<B>(column(asked, 0))?;
     let mut position = before;
     position.set_turn(side_of(column(asked, 1))?);
@@ -100,7 +100,7 @@ pub fn turn<B: Board>(asked: &str, found: &mut Found) -> Option<()> {
 }
 
 /// The written FEN and the diagram.
-pub fn drawn<B: Board>(asked: &str, found: &mut Found) -> Option<()> {
+pub fn drawn<B: Board>(asked: &str, found: &mut RowText) -> Option<()> {
     let position = placed::<B>(asked)?;
     found.add(fen_text(&position).as_str());
     found.add("\n");
@@ -109,7 +109,7 @@ pub fn drawn<B: Board>(asked: &str, found: &mut Found) -> Option<()> {
 }
 
 /// The written FEN of what is read, or the fault. A second column tells how many blanks follow the text.
-pub fn fen<B: Board>(alloc: Global, asked: &str, found: &mut Found) -> Option<()> {
+pub fn fen<B: Board>(alloc: Global, asked: &str, found: &mut RowText) -> Option<()> {
     let mut text = unescaped(alloc, column(asked, 0))?;
     for _ in 0..column(asked, 1).parse::<u16>().unwrap_or(0) {
         text.push(b' ').ok()?;

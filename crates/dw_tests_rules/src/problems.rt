@@ -5,7 +5,7 @@ use dw_notation::{Form, Problem, ProblemFault, Problems, ReadFault, Reading, Sou
 use dw_tests_common::escapes::unescaped;
 use dw_tests_common::rows::column;
 use dw_tests_common::streams::{Chopped, Repeated};
-use dw_tests_common::tally::Found;
+use dw_tests_common::tally::RowText;
 use std::alloc::Global;
 use std::io;
 
@@ -13,7 +13,7 @@ use std::io;
 const ANSWERS: u32 = 8;
 
 /// Adds what is said of a problem: the written FEN or the fault.
-pub fn add_problem<B: Board>(problem: &Problem<B>, found: &mut Found) {
+pub fn add_problem<B: Board>(problem: &Problem<B>, found: &mut RowText) {
     match problem.found {
         Ok(position) => found.add(fen_text(&position).as_str()),
         Err(fault) => found.say(&fault),
@@ -22,14 +22,18 @@ pub fn add_problem<B: Board>(problem: &Problem<B>, found: &mut Found) {
 }
 
 /// Adds whether the problems have come to their end, and stay there.
-fn add_end<B: Board, S: Source>(problems: &mut Problems<'_, B, S>, found: &mut Found) {
+fn add_end<B: Board, S: Source>(problems: &mut Problems<'_, B, S>, found: &mut RowText) {
     let is_end = matches!(problems.next(), Ok(None));
     found.add(if is_end { "end" } else { "no end" });
 }
 
 /// Adds what the problems of a text say; `failed` for a failure. What has ended stays so, and problems are numbered
 /// from 1.
-fn add_said<B: Board, R: io::Read + Drop>(reader: R, form: Form, found: &mut Found) -> Option<()> {
+fn add_said<B: Board, R: io::Read + Drop>(
+    reader: R,
+    form: Form,
+    found: &mut RowText,
+) -> Option<()> {
     let mut source = Reading::new(reader);
     let mut problems: Problems<'_, B, Reading<R>> = Problems::new(&mut source, form);
     for number in 1..ANSWERS + 1 {
@@ -60,11 +64,11 @@ pub fn whole_text(alloc: Global, asked: &str) -> Option<Vec<u8>> {
 }
 
 /// Whatever the pieces in which a text is read, it has the same problems.
-pub fn pieces<B: Board>(alloc: Global, form: Form, asked: &str, found: &mut Found) -> Option<()> {
+pub fn pieces<B: Board>(alloc: Global, form: Form, asked: &str, found: &mut RowText) -> Option<()> {
     let text = whole_text(alloc, asked)?;
     add_said::<B, _>(text.as_slice(), form, found)?;
     for step in [1, 2, 3, 7, 1000, 4096, 9000] {
-        let mut chopped = Found::new(alloc).ok()?;
+        let mut chopped = RowText::new(alloc).ok()?;
         add_said::<B, _>(
             Chopped::new(text.as_slice(), step, 0, 0),
             form,
@@ -79,7 +83,7 @@ pub fn pieces<B: Board>(alloc: Global, form: Form, asked: &str, found: &mut Foun
 
 /// A text, the bytes of each read, the read that fails, and the one that gives nothing, which is the end, since the
 /// reader is not asked again.
-pub fn broken<B: Board>(alloc: Global, form: Form, asked: &str, found: &mut Found) -> Option<()> {
+pub fn broken<B: Board>(alloc: Global, form: Form, asked: &str, found: &mut RowText) -> Option<()> {
     let text = unescaped(alloc, column(asked, 0))?;
     let step = column(asked, 1).parse::<usize>().ok()?;
     let fails_at = column(asked, 2).parse::<u64>().ok()?;
@@ -90,7 +94,7 @@ pub fn broken<B: Board>(alloc: Global, form: Form, asked: &str, found: &mut Foun
 
 /// A text of so many lines, each of one letter that names no position: it has a problem a line, numbered from 1, up to
 /// one that says that there are too many, and then it ends. What is said of that one.
-pub fn many<B: Board>(asked: &str, found: &mut Found) -> Option<()> {
+pub fn many<B: Board>(asked: &str, found: &mut RowText) -> Option<()> {
     let lines = asked.parse::<u32>().ok()?;
     let mut source = Reading::new(Repeated::new(b"a\n", lines));
     if source.failed() {

@@ -2,7 +2,7 @@
 
 use dw_board::{Board, Dir, Square, Squares, laws, step};
 use dw_tests_common::rows::{column, word};
-use dw_tests_common::tally::Found;
+use dw_tests_common::tally::RowText;
 use dw_tests_common::texts::{add_set, set_of, square_of};
 
 fn direction(text: &str) -> Option<Dir> {
@@ -16,7 +16,7 @@ fn direction(text: &str) -> Option<Dir> {
 }
 
 /// Adds the number of a square, or `none`.
-fn add_square<B: Board>(square: Option<Square<B>>, found: &mut Found) {
+fn add_square<B: Board>(square: Option<Square<B>>, found: &mut RowText) {
     match square {
         Some(square) => found.say(&square.number()),
         None => found.add("none"),
@@ -24,7 +24,7 @@ fn add_square<B: Board>(square: Option<Square<B>>, found: &mut Found) {
 }
 
 /// The square of a number, or the square that stands for none.
-pub fn square<B: Board>(asked: &str, found: &mut Found) -> Option<()> {
+pub fn square<B: Board>(asked: &str, found: &mut RowText) -> Option<()> {
     let square = match asked {
         "default" => Some(Square::<B>::default()),
         number => Square::new(number.parse::<u8>().ok()?),
@@ -34,7 +34,7 @@ pub fn square<B: Board>(asked: &str, found: &mut Found) -> Option<()> {
 }
 
 /// The padded word of a set, how many squares it has, and the first of them.
-pub fn set<B: Board>(asked: &str, found: &mut Found) -> Option<()> {
+pub fn set<B: Board>(asked: &str, found: &mut RowText) -> Option<()> {
     let squares = match asked {
         "default" => Squares::<B>::default(),
         numbers => set_of(numbers)?,
@@ -68,7 +68,7 @@ fn moved<B: Board>(squares: Squares<B>, how: &str, direction: Dir) -> Option<Squ
 }
 
 /// Two sets joined, or a set shifted one step, or slid over an empty board.
-pub fn sets<B: Board>(asked: &str, found: &mut Found) -> Option<()> {
+pub fn sets<B: Board>(asked: &str, found: &mut RowText) -> Option<()> {
     let left = set_of::<B>(column(asked, 0))?;
     let (how, right) = (column(asked, 1), column(asked, 2));
     let squares = match how {
@@ -80,7 +80,7 @@ pub fn sets<B: Board>(asked: &str, found: &mut Found) -> Option<()> {
 }
 
 /// A set with and without a square, and whether it has it.
-pub fn one<B: Board>(asked: &str, found: &mut Found) -> Option<()> {
+pub fn one<B: Board>(asked: &str, found: &mut RowText) -> Option<()> {
     let squares = set_of::<B>(column(asked, 0))?;
     let square = square_of(column(asked, 1))?;
     add_set(squares.with(square), found);
@@ -92,7 +92,7 @@ pub fn one<B: Board>(asked: &str, found: &mut Found) -> Option<()> {
 }
 
 /// Whether two sets are the same, asked in two ways.
-pub fn same<B: Board>(asked: &str, found: &mut Found) -> Option<()> {
+pub fn same<B: Board>(asked: &str, found: &mut RowText) -> Option<()> {
     let left = set_of::<B>(column(asked, 0))?;
     let right = set_of::<B>(column(asked, 1))?;
     found.say(&laws::same_squares(left, right));
@@ -102,7 +102,7 @@ pub fn same<B: Board>(asked: &str, found: &mut Found) -> Option<()> {
 }
 
 /// The square one step further, and whether the direction leads down and to the right.
-pub fn one_step<B: Board>(asked: &str, found: &mut Found) -> Option<()> {
+pub fn one_step<B: Board>(asked: &str, found: &mut RowText) -> Option<()> {
     let from = square_of::<B>(word(asked, 0))?;
     let direction = direction(word(asked, 1))?;
     add_square(step(from, direction), found);

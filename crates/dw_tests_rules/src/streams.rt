@@ -3,7 +3,7 @@
 use dw_notation::{Sink, WriteFault, Writing, write_all};
 use dw_tests_common::rows::word;
 use dw_tests_common::streams::Narrow;
-use dw_tests_common::tally::Found;
+use dw_tests_common::tally::RowText;
 use std::alloc::Global;
 use std::str;
 
@@ -16,7 +16,7 @@ fn said(answer: Result<(), WriteFault>) -> &'static str {
 
 /// The bytes that a write takes, and the write that fails. What is answered to nothing, to `hello` and to `you`,
 /// whether the sink has failed, and what it took.
-pub fn write(alloc: Global, asked: &str, found: &mut Found) -> Option<()> {
+pub fn write(alloc: Global, asked: &str, found: &mut RowText) -> Option<()> {
     let step = word(asked, 0).parse::<usize>().ok()?;
     let fails_at = word(asked, 1).parse::<u64>().ok()?;
     let mut sink = Writing::new(Narrow::new(alloc, step, fails_at));

@@ -6,7 +6,7 @@ use dw_games::{Games, read_tags, value_named};
 use dw_notation::Reading;
 use dw_tests_common::escapes::unescaped;
 use dw_tests_common::rows::column;
-use dw_tests_common::tally::Found;
+use dw_tests_common::tally::RowText;
 use std::alloc::Global;
 
 /// No text of a row has more games.
@@ -16,7 +16,7 @@ const MOST_GAMES: u32 = 8;
 const SHOWN: usize = 100;
 
 /// The games of a text: of each all bytes of its tags in angles, or how many they are, and then each of its tags.
-pub fn of_games<B: Board>(alloc: Global, asked: &str, found: &mut Found) -> Option<()> {
+pub fn of_games<B: Board>(alloc: Global, asked: &str, found: &mut RowText) -> Option<()> {
     let text = whole_text(alloc, asked)?;
     let mut source = Reading::new(text.as_slice());
     let mut games: Games<'_, B, Reading<&[u8]>> = Games::new(alloc, &mut source);
@@ -40,7 +40,7 @@ pub fn of_games<B: Board>(alloc: Global, asked: &str, found: &mut Found) -> Opti
 }
 
 /// The tags of a text, which stands in angles.
-pub fn of_text(alloc: Global, asked: &str, found: &mut Found) -> Option<()> {
+pub fn of_text(alloc: Global, asked: &str, found: &mut RowText) -> Option<()> {
     let text = asked.strip_prefix('<')?.strip_suffix('>')?;
     add_tags(alloc, unescaped(alloc, text)?.as_slice(), found)?;
     found.add("end");
@@ -48,7 +48,7 @@ pub fn of_text(alloc: Global, asked: &str, found: &mut Found) -> Option<()> {
 }
 
 /// The value of the first tag of a name in a text.
-pub fn named_value(alloc: Global, asked: &str, found: &mut Found) -> Option<()> {
+pub fn named_value(alloc: Global, asked: &str, found: &mut RowText) -> Option<()> {
     let text = unescaped(alloc, column(asked, 1))?;
     let tags = read_tags(alloc, text.as_slice()).ok()?;
     match value_named(tags.as_slice(), column(asked, 0).as_bytes()) {
@@ -61,7 +61,7 @@ pub fn named_value(alloc: Global, asked: &str, found: &mut Found) -> Option<()> 
 }
 
 /// Adds the tags of a text: of each its bytes, its name and its value.
-fn add_tags(alloc: Global, text: &[u8], found: &mut Found) -> Option<()> {
+fn add_tags(alloc: Global, text: &[u8], found: &mut RowText) -> Option<()> {
     let tags = read_tags(alloc, text).ok()?;
     for tag in tags.as_slice() {
         add_bytes(tag.text, found)?;
@@ -75,7 +75,7 @@ fn add_tags(alloc: Global, text: &[u8], found: &mut Found) -> Option<()> {
 }
 
 /// Adds bytes in UTF-8, and the ends of their lines as they are written in a row.
-fn add_bytes(bytes: &[u8], found: &mut Found) -> Option<()> {
+fn add_bytes(bytes: &[u8], found: &mut RowText) -> Option<()> {
     for letter in str::from_utf8(bytes).ok()?.chars() {
         match letter {
             '\n' => found.add("\\n"),

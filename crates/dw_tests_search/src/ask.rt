@@ -3,9 +3,9 @@ ghost use Rattle.std.specs.Prelude.{◌≡◌, ◌≤◌, [], IfSome};
 ghost use Rattle.dw_memo.specs.Choice.{content_of};
 ghost use Rattle.dw_solve.specs.Facts.{AreTrue};
 
-use crate::kind::Kind;
 use crate::lines::list_rows;
 use crate::notes::{crowded, notes};
+use crate::row_kind::RowKind;
 use crate::solve::{ByEnd, ask_rows};
 use dw_board::Board;
 use dw_memo::{AnyMemo, DeepMemo, LruMemo, Memo, NoMemo, SlotMemo};
@@ -16,7 +16,7 @@ use std::alloc::Global;
 use std::slice;
 
 /// Asks the rows of a section with each memo.
-pub fn ask_on<B: Board>(alloc: Global, kind: Kind, section: &Section, tally: &mut Tally) {
+pub fn ask_on<B: Board>(alloc: Global, kind: RowKind, section: &Section, tally: &mut Tally) {
     let guides = word(section.head.as_str(), 3);
     let rows = section.rows.as_slice();
     for memo in word(section.head.as_str(), 2).split(',') {
@@ -31,7 +31,7 @@ pub fn ask_on<B: Board>(alloc: Global, kind: Kind, section: &Section, tally: &mu
 /// Asks each row with a new memo.
 fn ask_each<B: Board>(
     alloc: Global,
-    kind: Kind,
+    kind: RowKind,
     memo: &str,
     guides: &str,
     rows: &[Row],
@@ -45,7 +45,7 @@ fn ask_each<B: Board>(
 /// Asks rows in each order of moves.
 fn ask_with<B: Board>(
     alloc: Global,
-    kind: Kind,
+    kind: RowKind,
     memo: &str,
     guides: &str,
     rows: &[Row],
@@ -63,7 +63,7 @@ fn ask_with<B: Board>(
 /// Asks rows of a memo; a spare one is made with it.
 fn ask_memo<B: Board>(
     alloc: Global,
-    kind: Kind,
+    kind: RowKind,
     memo: &str,
     guide: &str,
     rows: &[Row],
@@ -128,7 +128,7 @@ fn pairs<B: Board>(alloc: Global, size: usize) -> Option<DeepMemo<B>>
 /// Asks rows of a memo, or of a solver or a lister over it, in this order of moves.
 fn ask_kind<B: Board, M: Memo<B> + Drop>(
     alloc: Global,
-    kind: Kind,
+    kind: RowKind,
     memo: M,
     spare: M,
     guide: &str,
@@ -139,8 +139,8 @@ fn ask_kind<B: Board, M: Memo<B> + Drop>(
     requires spare { AreTrue B.geometry (M.content spare) }
 {
     match (kind, guide) {
-        (Kind::Notes, _) => notes(memo, rows, tally),
-        (Kind::Crowded, _) => crowded(alloc, memo, rows, tally),
+        (RowKind::Notes, _) => notes(memo, rows, tally),
+        (RowKind::Crowded, _) => crowded(alloc, memo, rows, tally),
         (kind, "trial") if kind.lists() => list_rows(alloc, kind, memo, rows, tally),
         (_, "any") => ask_rows(alloc, kind, memo, spare, AnyOrder, rows, tally),
         (_, "end") => ask_rows(alloc, kind, memo, spare, ByEnd, rows, tally),

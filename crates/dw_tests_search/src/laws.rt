@@ -3,10 +3,10 @@
 use dw_list::laws as lines;
 use dw_list::laws::tokens;
 use dw_solve::laws as wins;
-use dw_tests_common::tally::Found;
+use dw_tests_common::tally::RowText;
 
 /// Calls each law once.
-pub fn law(found: &mut Found) {
+pub fn law(found: &mut RowText) {
     wins::wins_stay();
     wins::wins_are_decided();
     wins::closed_is_true();

@@ -6,7 +6,7 @@ use dw_board::{Board, Position};
 use dw_memo::Memo;
 use dw_solve::{Guide, Solver, Stop};
 use dw_tests_common::rows::word;
-use dw_tests_common::tally::Found;
+use dw_tests_common::tally::RowText;
 use std::alloc::Global;
 
 /// A limit that no question here reaches.
@@ -35,7 +35,7 @@ pub fn limited<B: Board, M: Memo<B>, G: Guide<B>>(
     whole: &mut Solver<B, M, G>,
     other: &mut Solver<B, M, G>,
     asked: &str,
-    found: &mut Found,
+    found: &mut RowText,
 ) -> Option<()> {
     let (position, moves) = question::<B>(asked)?;
     let both = ask_both(alloc, whole, &position, moves);
@@ -97,7 +97,7 @@ pub fn limit<B: Board, M: Memo<B>, G: Guide<B>>(
     alloc: Global,
     solver: &mut Solver<B, M, G>,
     asked: &str,
-    found: &mut Found,
+    found: &mut RowText,
 ) -> Option<()> {
     let (position, moves) = question::<B>(asked)?;
     let limit = word(asked, 2).parse::<u64>().ok()?.max(1);
@@ -116,7 +116,7 @@ pub fn known<B: Board, M: Memo<B>, G: Guide<B>>(
     alloc: Global,
     solver: &mut Solver<B, M, G>,
     asked: &str,
-    found: &mut Found,
+    found: &mut RowText,
 ) -> Option<()> {
     let (position, moves) = question::<B>(asked)?;
     found.show(&solver.wins(alloc, &position, moves));

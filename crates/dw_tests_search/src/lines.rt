@@ -2,8 +2,8 @@
 ghost use Rattle.std.specs.Prelude.{◌≤◌, IfSome};
 ghost use Rattle.dw_solve.specs.Facts.{AreTrue};
 
-use crate::kind::Kind;
 use crate::listers::{add_line, ended, gives, lines_of, moves_in};
+use crate::row_kind::RowKind;
 use crate::solve::question;
 use dw_board::{Board, Position};
 use dw_list::all_lines::all_lines;
@@ -12,7 +12,7 @@ use dw_memo::{Memo, NoMemo};
 use dw_moves::Move;
 use dw_solve::{ByTrial, Solver, Stop};
 use dw_tests_common::rows::{Row, column, word};
-use dw_tests_common::tally::{Found, Tally};
+use dw_tests_common::tally::{RowText, Tally};
 use dw_tests_common::texts::read_position;
 use std::alloc::Global;
 use std::slice;
@@ -44,7 +44,7 @@ fn lister_of<'s, B: Board, M: Memo<B>>(
 /// All rows are asked of one solver.
 pub fn list_rows<B: Board, M: Memo<B> + Drop>(
     alloc: Global,
-    kind: Kind,
+    kind: RowKind,
     memo: M,
     rows: &[Row],
     tally: &mut Tally,
@@ -55,14 +55,14 @@ pub fn list_rows<B: Board, M: Memo<B> + Drop>(
     for row in rows {
         let (asked, found) = (row.asked.as_str(), &mut tally.found);
         let answered = match kind {
-            Kind::Lines => lines(alloc, &mut solver, asked, found),
-            Kind::Lists => lists(alloc, &mut solver, asked, found),
-            Kind::Place => place(alloc, &mut solver, asked, found),
-            Kind::Portions => portions(alloc, &mut solver, asked, found),
-            Kind::Behind => behind(alloc, &mut solver, asked, found),
-            Kind::Long => long(alloc, &mut solver, asked, found),
-            Kind::Stopped => stopped(alloc, &mut solver, asked, found),
-            Kind::RefusedLines => refused(alloc, &mut solver, asked, found),
+            RowKind::Lines => lines(alloc, &mut solver, asked, found),
+            RowKind::Lists => lists(alloc, &mut solver, asked, found),
+            RowKind::Place => place(alloc, &mut solver, asked, found),
+            RowKind::Portions => portions(alloc, &mut solver, asked, found),
+            RowKind::Behind => behind(alloc, &mut solver, asked, found),
+            RowKind::Long => long(alloc, &mut solver, asked, found),
+            RowKind::Stopped => stopped(alloc, &mut solver, asked, found),
+            RowKind::RefusedLines => refused(alloc, &mut solver, asked, found),
             _ => None,
         };
         tally.end(row, answered);
@@ -75,7 +75,7 @@ fn lines<B: Board, M: Memo<B>>(
     alloc: Global,
     solver: &mut Solver<B, M, ByTrial>,
     asked: &str,
-    found: &mut Found,
+    found: &mut RowText,
 ) -> Option<()> {
     let (position, moves) = list_asked(asked)?;
     let lines = lines_of(alloc, solver, &position, moves)?;
@@ -91,7 +91,7 @@ fn lists<B: Board, M: Memo<B>>(
     alloc: Global,
     solver: &mut Solver<B, M, ByTrial>,
     asked: &str,
-    found: &mut Found,
+    found: &mut RowText,
 ) -> Option<()> {
     let position = read_position::<B>(asked)?;
     let mut least = 0;
@@ -110,7 +110,7 @@ fn place<B: Board, M: Memo<B>>(
     alloc: Global,
     solver: &mut Solver<B, M, ByTrial>,
     asked: &str,
-    found: &mut Found,
+    found: &mut RowText,
 ) -> Option<()> {
     let (position, moves) = list_asked(column(asked, 0))?;
     let whole = all_lines(alloc, solver, &position, moves).ok()?;
@@ -134,7 +134,7 @@ fn portions<B: Board, M: Memo<B>>(
     alloc: Global,
     solver: &mut Solver<B, M, ByTrial>,
     asked: &str,
-    found: &mut Found,
+    found: &mut RowText,
 ) -> Option<()> {
     let limits = numbers(alloc, column(asked, 1))?;
     let mut lister = lister_of(solver, column(asked, 0))?;
@@ -152,7 +152,7 @@ fn numbers(alloc: Global, text: &str) -> Option<Vec<u64>> {
 }
 
 /// Adds the lines of portions, and whether there was each of a stop and an end, three in all.
-fn add_portions<B: Board>(portions: &Portions<B>, found: &mut Found) {
+fn add_portions<B: Board>(portions: &Portions<B>, found: &mut RowText) {
     for line in portions.lines.as_slice() {
         add_line(line.as_slice(), found);
     }
@@ -170,7 +170,7 @@ fn behind<B: Board, M: Memo<B>>(
     alloc: Global,
     solver: &mut Solver<B, M, ByTrial>,
     asked: &str,
-    found: &mut Found,
+    found: &mut RowText,
 ) -> Option<()> {
     solver.set_limit(solver.expanded().max(50));
     let mut lister = lister_of(solver, column(asked, 0))?;
@@ -251,7 +251,7 @@ fn long<B: Board, M: Memo<B>>(
     alloc: Global,
     solver: &mut Solver<B, M, ByTrial>,
     asked: &str,
-    found: &mut Found,
+    found: &mut RowText,
 ) -> Option<()> {
     let lines = word(asked, 2).parse::<usize>().ok()?;
     let (position, moves) = list_asked(asked)?;
@@ -288,7 +288,7 @@ fn stopped<B: Board, M: Memo<B>>(
     alloc: Global,
     solver: &mut Solver<B, M, ByTrial>,
     asked: &str,
-    found: &mut Found,
+    found: &mut RowText,
 ) -> Option<()> {
     let mut lister = lister_of(solver, asked)?;
     for limit in 1..10_000 {
@@ -304,7 +304,7 @@ fn add_within<B: Board, M: Memo<B>>(
     alloc: Global,
     lister: &mut Lister<'_, B, M, ByTrial>,
     limit: u64,
-    found: &mut Found,
+    found: &mut RowText,
 ) -> Option<bool> {
     limit_to(lister, limit);
     match lister.next(alloc) {
@@ -315,7 +315,7 @@ fn add_within<B: Board, M: Memo<B>>(
 }
 
 /// Adds the line that was given, or the end if there was no more; and whether there was one.
-fn add_given<B: Board>(given: Option<&[Move<B>]>, found: &mut Found) -> bool {
+fn add_given<B: Board>(given: Option<&[Move<B>]>, found: &mut RowText) -> bool {
     match given {
         Some(line) => add_line(line, found),
         None => found.add("end\n"),
@@ -327,7 +327,7 @@ fn add_given<B: Board>(given: Option<&[Move<B>]>, found: &mut Found) -> bool {
 fn add_next<B: Board, M: Memo<B>>(
     alloc: Global,
     lister: &mut Lister<'_, B, M, ByTrial>,
-    found: &mut Found,
+    found: &mut RowText,
 ) -> Option<bool> {
     match lister.next(alloc) {
         Err(Stop::Memory) => {}
@@ -340,7 +340,7 @@ fn add_next<B: Board, M: Memo<B>>(
 fn add_rest<B: Board, M: Memo<B>>(
     alloc: Global,
     lister: &mut Lister<'_, B, M, ByTrial>,
-    found: &mut Found,
+    found: &mut RowText,
 ) -> Option<()> {
     for _ in 0..10 {
         if !add_next(alloc, lister, found)? {
@@ -355,7 +355,7 @@ fn refused<B: Board, M: Memo<B>>(
     alloc: Global,
     solver: &mut Solver<B, M, ByTrial>,
     asked: &str,
-    found: &mut Found,
+    found: &mut RowText,
 ) -> Option<()> {
     let mut lister = lister_of(solver, column(asked, 0))?;
     add_rest(alloc, &mut lister, found)?;
@@ -367,7 +367,7 @@ fn add_behind<B: Board, M: Memo<B>>(
     alloc: Global,
     lister: &mut Lister<'_, B, M, ByTrial>,
     asked: &str,
-    found: &mut Found,
+    found: &mut RowText,
 ) -> Option<()> {
     for place in 1..10 {
         let text = column(asked, place);

@@ -8,7 +8,7 @@ use dw_list::all_lines::all_lines;
 use dw_memo::Memo;
 use dw_moves::Move;
 use dw_solve::{ByTrial, Solver};
-use dw_tests_common::tally::Found;
+use dw_tests_common::tally::RowText;
 use dw_tests_common::texts::{add_step, step_of};
 use std::alloc::Global;
 
@@ -28,7 +28,7 @@ pub fn moves_in<B: Board>(text: &str) -> Option<ArrayVec<Move<B>, 39>> {
 }
 
 /// Adds a line: of each move where it begins and ends, and what it takes.
-pub fn add_line<B: Board>(line: &[Move<B>], found: &mut Found) {
+pub fn add_line<B: Board>(line: &[Move<B>], found: &mut RowText) {
     for (place, step) in line.iter().enumerate() {
         if place > 0 {
             found.add(", ");

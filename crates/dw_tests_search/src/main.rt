@@ -7,13 +7,13 @@
 #![tactic(auto)]
 
 mod ask;
-mod kind;
 mod laws;
 mod limits;
 mod lines;
 mod listers;
 mod notes;
 mod plain;
+mod row_kind;
 mod solve;
 mod tokens;
 
@@ -22,8 +22,8 @@ use dw_board::{Eight, Ten};
 use dw_tests_common::rows::{Section, input_sections, word};
 use dw_tests_common::six::Six;
 use dw_tests_common::tally::Tally;
-use kind::Kind;
 use plain::ask_plain;
+use row_kind::RowKind;
 use std::alloc::{AllocError, Global};
 use std::io;
 
@@ -49,7 +49,7 @@ fn ask_section(alloc: Global, section: &Section) -> Result<Tally, AllocError> {
 /// Asks all rows of a section, at one board.
 fn ask_at(alloc: Global, kind: &str, board: &str, section: &Section, tally: &mut Tally) {
     let rows = section.rows.as_slice();
-    match (Kind::named(kind), board) {
+    match (RowKind::named(kind), board) {
         (Some(kind), "10") => ask_on::<Ten>(alloc, kind, section, tally),
         (Some(kind), "8") => ask_on::<Eight>(alloc, kind, section, tally),
         (Some(kind), "6") => ask_on::<Six>(alloc, kind, section, tally),

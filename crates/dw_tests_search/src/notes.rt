@@ -3,7 +3,7 @@
 use dw_board::{Board, Position};
 use dw_memo::{Bounds, Memo, Noted};
 use dw_tests_common::rows::{Row, word};
-use dw_tests_common::tally::{Found, Tally};
+use dw_tests_common::tally::{RowText, Tally};
 use dw_tests_common::texts::read_position;
 use std::alloc::Global;
 
@@ -16,7 +16,7 @@ pub fn bounds_of(fails: &str, wins: &str) -> Bounds {
 }
 
 /// What a memo answers when it notes bounds, what it finds of a position, and how many entries were lost.
-fn note<B: Board, M: Memo<B>>(memo: &mut M, asked: &str, found: &mut Found) -> Option<()> {
+fn note<B: Board, M: Memo<B>>(memo: &mut M, asked: &str, found: &mut RowText) -> Option<()> {
     if asked == "lost" {
         found.say(&memo.dropped());
         return Some(());
@@ -41,7 +41,7 @@ fn keep<B: Board, M: Memo<B>>(
     memo: &mut M,
     position: &Position<B>,
     bounds: Bounds,
-    found: &mut Found,
+    found: &mut RowText,
 ) {
     let before = memo.dropped();
     let is_kept = memo.note(*position, bounds) == Noted::Kept;

@@ -8,7 +8,7 @@ use dw_board::Board;
 use dw_moves::is_legal;
 use dw_solve::trial::trial;
 use dw_tests_common::rows::{Row, column, word};
-use dw_tests_common::tally::{Found, Tally};
+use dw_tests_common::tally::{RowText, Tally};
 use dw_tests_common::texts::{read_position, step_of};
 use std::alloc::Global;
 
@@ -34,7 +34,7 @@ pub fn ask_plain<B: Board>(alloc: Global, kind: &str, rows: &[Row], tally: &mut 
 }
 
 /// What bounds decide, after wins and failures were added to them.
-fn bounds(asked: &str, found: &mut Found) -> Option<()> {
+fn bounds(asked: &str, found: &mut RowText) -> Option<()> {
     let (first, added) = (column(asked, 0), column(asked, 1));
     let mut bounds = bounds_of(word(first, 0), word(first, 1));
     for (place, next) in [(0, 1), (2, 3)] {
@@ -50,7 +50,7 @@ fn bounds(asked: &str, found: &mut Found) -> Option<()> {
 }
 
 /// The trial of a legal move.
-fn tried<B: Board>(asked: &str, found: &mut Found) -> Option<()> {
+fn tried<B: Board>(asked: &str, found: &mut RowText) -> Option<()> {
     let position = read_position::<B>(column(asked, 0))?;
     let step = step_of(column(asked, 1))?;
     if !is_legal(&position, &step) {

@@ -2,14 +2,14 @@
 ghost use Rattle.std.specs.Prelude.{◌≤◌, IfSome};
 ghost use Rattle.dw_solve.specs.Facts.{AreTrue};
 
-use crate::kind::Kind;
 use crate::limits::{known, limit, limited};
+use crate::row_kind::RowKind;
 use dw_board::{Board, Position};
 use dw_memo::Memo;
 use dw_moves::Move;
 use dw_solve::{Guide, Solver, Stop};
 use dw_tests_common::rows::{Row, word};
-use dw_tests_common::tally::{Found, Tally};
+use dw_tests_common::tally::{RowText, Tally};
 use dw_tests_common::texts::read_position;
 use std::alloc::Global;
 
@@ -47,7 +47,7 @@ pub fn question<B: Board>(text: &str) -> Option<(Position<B>, u8)>
 /// All rows are asked of one solver.
 pub fn ask_rows<B: Board, M: Memo<B> + Drop, G: Guide<B> + Copy>(
     alloc: Global,
-    kind: Kind,
+    kind: RowKind,
     memo: M,
     spare: M,
     guide: G,
@@ -75,19 +75,19 @@ pub fn ask_rows<B: Board, M: Memo<B> + Drop, G: Guide<B> + Copy>(
 /// A row is asked of the first solver, or where a limit is asked for of the other.
 fn ask_row<B: Board, M: Memo<B>, G: Guide<B>>(
     alloc: Global,
-    kind: Kind,
+    kind: RowKind,
     solver: &mut Solver<B, M, G>,
     other: &mut Solver<B, M, G>,
     asked: &str,
-    found: &mut Found,
+    found: &mut RowText,
 ) -> Option<()> {
     match kind {
-        Kind::Ask => ask(alloc, solver, asked, found),
-        Kind::Least => least(alloc, solver, asked, found),
-        Kind::Refused => refused(alloc, solver, asked, found),
-        Kind::Limited => limited(alloc, solver, other, asked, found),
-        Kind::Limit => limit(alloc, other, asked, found),
-        Kind::Known => known(alloc, solver, asked, found),
+        RowKind::Ask => ask(alloc, solver, asked, found),
+        RowKind::Least => least(alloc, solver, asked, found),
+        RowKind::Refused => refused(alloc, solver, asked, found),
+        RowKind::Limited => limited(alloc, solver, other, asked, found),
+        RowKind::Limit => limit(alloc, other, asked, found),
+        RowKind::Known => known(alloc, solver, asked, found),
         _ => None,
     }
 }
@@ -97,7 +97,7 @@ fn ask<B: Board, M: Memo<B>, G: Guide<B>>(
     alloc: Global,
     solver: &mut Solver<B, M, G>,
     asked: &str,
-    found: &mut Found,
+    found: &mut RowText,
 ) -> Option<()> {
     let position = read_position::<B>(word(asked, 1))?;
     let moves = moves_of(word(asked, 2))?;
@@ -115,7 +115,7 @@ fn least<B: Board, M: Memo<B>, G: Guide<B>>(
     alloc: Global,
     solver: &mut Solver<B, M, G>,
     asked: &str,
-    found: &mut Found,
+    found: &mut RowText,
 ) -> Option<()> {
     let position = read_position::<B>(asked)?;
     let mut least = 0;
@@ -137,7 +137,7 @@ fn refused<B: Board, M: Memo<B>, G: Guide<B>>(
     alloc: Global,
     solver: &mut Solver<B, M, G>,
     asked: &str,
-    found: &mut Found,
+    found: &mut RowText,
 ) -> Option<()> {
     let (position, moves) = question::<B>(asked)?;
     let mut answer = solver.wins(alloc, &position, moves);

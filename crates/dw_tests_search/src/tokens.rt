@@ -8,12 +8,12 @@ use dw_moves::Move;
 use dw_notation::{MAX_MOVES, Writing};
 use dw_tests_common::rows::{column, word};
 use dw_tests_common::streams::Narrow;
-use dw_tests_common::tally::Found;
+use dw_tests_common::tally::RowText;
 use std::alloc::Global;
 use std::str;
 
 /// The line of a token, or why the text is none. A second column tells how often the text is repeated.
-pub fn token<B: Board>(alloc: Global, asked: &str, found: &mut Found) -> Option<()> {
+pub fn token<B: Board>(alloc: Global, asked: &str, found: &mut RowText) -> Option<()> {
     let mut text = Vec::new(alloc);
     for _ in 0..column(asked, 1).parse::<u16>().unwrap_or(1) {
         text.extend_from_slice(column(asked, 0).as_bytes()).ok()?;
@@ -26,7 +26,7 @@ pub fn token<B: Board>(alloc: Global, asked: &str, found: &mut Found) -> Option<
 }
 
 /// The token of a line, written to a sink that takes so many bytes a write and fails at this write.
-pub fn written<B: Board>(alloc: Global, asked: &str, found: &mut Found) -> Option<()>
+pub fn written<B: Board>(alloc: Global, asked: &str, found: &mut RowText) -> Option<()>
     requires { (B.geometry.rows ≡ 10) ⊎ (B.geometry.rows ≡ 8) }
 {
     let line = moves_in::<B>(column(asked, 0))?;
@@ -37,7 +37,7 @@ pub fn written<B: Board>(alloc: Global, asked: &str, found: &mut Found) -> Optio
 }
 
 /// Adds what a sink takes of the token of a line, and whether that is all.
-fn add_written<B: Board>(line: &[Move<B>], sink: Narrow, found: &mut Found) -> Option<()>
+fn add_written<B: Board>(line: &[Move<B>], sink: Narrow, found: &mut RowText) -> Option<()>
     requires odd { length line.now % 2 ≡ 1 }
     requires most { length line.now ≤ 39 }
     requires rows { (B.geometry.rows ≡ 10) ⊎ (B.geometry.rows ≡ 8) }

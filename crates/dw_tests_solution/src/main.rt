@@ -12,7 +12,7 @@ use dw_solution::movetext::movetext;
 use dw_solution::{Heading, VerdictKind, first_lines};
 use dw_solve::{ByTrial, Solver};
 use dw_tests_common::rows::{Row, Section, column, input_sections, word};
-use dw_tests_common::tally::{Found, Tally};
+use dw_tests_common::tally::{RowText, Tally};
 use dw_tests_common::texts::read_position;
 use std::alloc::{AllocError, Global};
 use std::io;
@@ -65,7 +65,7 @@ fn kind_of(row: &Row) -> Option<VerdictKind> {
 }
 
 /// Adds the movetext of a row, `POSITION | NUMBER OF MOVES | MOST LINES | VERDICT`, with a line feed behind it.
-fn answer<B: Board>(alloc: Global, row: &Row, found: &mut Found) -> Option<()> {
+fn answer<B: Board>(alloc: Global, row: &Row, found: &mut RowText) -> Option<()> {
     let position: Position<B> = read_position(column(row.asked.as_str(), 0))?;
     let moves = moves_of(row)?;
     let most = column(row.asked.as_str(), 2).parse::<usize>().ok()?;

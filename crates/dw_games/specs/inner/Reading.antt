@@ -18,7 +18,7 @@ use Rattle.dw_games.specs.declared.movetext.TheConstants.{MAX_OPEN, MAX_PATH}
 use Rattle.dw_games.specs.declared.fault.MovetextFault.{MovetextFault}
 use Rattle.dw_games.specs.declared.fault.MovetextFault.TheVariants.{Refused, Memory}
 use Rattle.dw_games.specs.declared.reader.Spot.{Spot}
-use Rattle.dw_games.specs.declared.reader.Line.{Line}
+use Rattle.dw_games.specs.declared.reader.OpenLine.{OpenLine}
 use Rattle.dw_games.specs.declared.reader.Reader.{Reader}
 
 -- a spot is behind this path of a tree
@@ -36,19 +36,20 @@ IsBefore g p tree (Some spot) before moves = (front : List Move) × (last : Move
     × IsSpot g p tree spot (before ++ front)
 
 -- a line stands in a variation that begins after some moves and has some of its own
-pub record IsLine {B : Type 0} (g : Geometry) (p : Placement) (tree : List (List Move)) (line : Line B)
+pub record IsLine {B : Type 0} (g : Geometry) (p : Placement) (tree : List (List Move)) (line : OpenLine B)
     (before moves : List Move) : Type 0 where
   pub now : IsSpot g p tree line.now (before ++ moves)
   pub earlier : IsBefore g p tree line.before before moves
 
 -- the lines of all variations that are open, the innermost one first, and the paths so far
 pub data Opened {B : Type 0} (g : Geometry) (p : Placement) (tree : List (List Move))
-    : ℕ → List Token → Line B → (outer : List (Line B)) → (before moves : List Move) → List (List Move) → Type 0 where
-  outermost : {ts : List Token} {line : Line B} {moves : List Move} {paths : List (List Move)}
+    : ℕ → List Token → OpenLine B → (outer : List (OpenLine B)) → (before moves : List Move) → List (List Move)
+    → Type 0 where
+  outermost : {ts : List Token} {line : OpenLine B} {moves : List Move} {paths : List (List Move)}
       → IsVariation g p MAX_OPEN [] ts moves paths → IsLine g p tree line [] moves
       → Opened g p tree MAX_OPEN ts line [] [] moves paths
-  inner : {room : ℕ} {ts us : List Token} {line around : Line B} {outer : List (Line B)} {before others : List Move}
-      {paths more : List (List Move)} (moves : List Move) (last : Move) (opening : Token)
+  inner : {room : ℕ} {ts us : List Token} {line around : OpenLine B} {outer : List (OpenLine B)}
+      {before others : List Move} {paths more : List (List Move)} (moves : List Move) (last : Move) (opening : Token)
       → Opened g p tree (suc room) ts around outer before (moves ++ last ∷ []) paths → opening.what ≡ Opens
       → IsVariation g p room (before ++ moves) us others more → IsLine g p tree line (before ++ moves) others
       → Opened g p tree room (ts ++ opening ∷ us) line (outer ++ around ∷ []) (before ++ moves) others (paths ++ more)

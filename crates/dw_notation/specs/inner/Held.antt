@@ -1,6 +1,6 @@
 -- What is held of a line that was not read to its end.
 use Rattle.std.specs.Prelude.{ℕ, ◌-◌, if◌then◌else◌, List, [], ◌∷◌, ◌++◌, replicate, Bool, Option, Some, None}
-use Rattle.dw_notation.specs.declared.problems.fens.Line.{Line}
+use Rattle.dw_notation.specs.declared.problems.fens.HeldLine.{HeldLine}
 use Rattle.dw_notation.specs.declared.problems.fens.LongLine.{LongLine}
 
 -- so many bytes, two at least, blank up to the last one or not
@@ -16,5 +16,5 @@ bytes_held front None = front
 bytes_held front (Some long) = long_bytes long
 
 -- a line that says what the one read so far says, whatever follows
-abbrev pub held_line : Line → List ℕ
+abbrev pub held_line : HeldLine → List ℕ
 held_line line = bytes_held line.front.items line.long

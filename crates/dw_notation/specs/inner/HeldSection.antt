@@ -72,8 +72,8 @@ abbrev pub counted : ℕ → ℕ → ℕ
 counted most n = if nat_lt n most then n + 1 else n
 
 -- one more byte, as far as they are kept
-abbrev pub kept : ℕ → List ℕ → ℕ → List ℕ
-kept most text byte = if nat_lt (length text) most then text ++ byte ∷ [] else text
+abbrev pub with_byte : ℕ → List ℕ → ℕ → List ℕ
+with_byte most text byte = if nat_lt (length text) most then text ++ byte ∷ [] else text
 
 -- the game with one more byte of the value; any number from 21 on is held as 21
 abbrev pub game_on : Game → ℕ → Game
@@ -91,7 +91,7 @@ abbrev pub counted_in : Held → Held
 counted_in h = record h { read = counted (MAX_SECTION + 1) h.read }
 
 abbrev pub value_on : TagKind → Held → ℕ → Held
-value_on FenTag h byte = record h { fen_text = if h.fens == 0 then kept 1025 h.fen_text byte else h.fen_text }
+value_on FenTag h byte = record h { fen_text = if h.fens == 0 then with_byte 1025 h.fen_text byte else h.fen_text }
 value_on GameTag h byte = record h { game = game_on h.game byte }
 value_on OtherTag h byte = h
 
@@ -105,7 +105,7 @@ abbrev pub held_after : Action → Held → Held
 held_after Keep h = h
 held_after Open h = record held_bare { read = 1 }
 held_after Count h = counted_in h
-held_after (AddName byte) h = record (counted_in h) { name = kept 9 h.name byte }
+held_after (AddName byte) h = record (counted_in h) { name = with_byte 9 h.name byte }
 held_after OpenValue h = record (counted_in h) {
   kind = kind_of h.name;
   game = Before;

@@ -1,6 +1,6 @@
 -- What lines are found to say, as it is computed, and lines that say the same, whatever follows.
-use Rattle.std.specs.Prelude.{◌≡◌, ℕ, if◌then◌else◌, List, ◌++◌, length, Bool, Option, Some, None, Result, Ok, Err}
-use Rattle.std.specs.Prelude.{nat_lt}
+use Rattle.std.specs.Prelude.{◌≡◌, ◌==◌, ℕ, if◌then◌else◌, List, ◌++◌, length, Bool, Option, Some, None, Result, Ok}
+use Rattle.std.specs.Prelude.{Err, nat_lt}
 use Rattle.std.specs.List.{list_all}
 use Rattle.dw_board.specs.Geometry.{Geometry}
 use Rattle.dw_board.specs.Placement.{Placement}
@@ -8,9 +8,13 @@ use Rattle.dw_board.specs.FenTokens.{is_blank}
 use Rattle.dw_board.specs.Fen.{fen}
 use Rattle.dw_board.specs.declared.fen.fault.FenFault.{FenFault}
 use Rattle.dw_board.specs.declared.fen.fault.FenFaultKind.TheVariants.{TooLong}
-use Rattle.dw_notation.specs.TextLines.{without_return, Found}
+use Rattle.dw_notation.specs.TextLines.{line_feed, without_return, Found}
 use Rattle.dw_notation.specs.declared.problems.TheConstants.{MAX_LINE}
 use Rattle.dw_notation.specs.declared.problems.ProblemFault.TheVariants.{Fen, LineTooLong}
+
+-- ends a line
+abbrev pub is_line_feed : ℕ → Bool
+is_line_feed byte = byte == line_feed
 
 -- what the reading of a FEN text gave
 abbrev pub fen_found : Result Placement FenFault → Found

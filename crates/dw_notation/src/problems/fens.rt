@@ -2,17 +2,16 @@
 //! text's front.
 ghost use Rattle.std.specs.Prelude.{◌≡◌, ℕ, ◌+◌, ◌<◌, ◌≤◌, ◌⊎◌, Bool, true, false, IfSome, IfNone, IsTrue};
 ghost use Rattle.std.specs.Prelude.{List, [], ◌∷◌, ◌++◌, length, take, drop, option_to_list};
-ghost use Rattle.std.specs.List.{list_all};
+ghost use Rattle.std.specs.List.{list_all, position};
 ghost use Rattle.dw_board.specs.FenTokens.{is_blank};
 ghost use Rattle.dw_notation.specs.TextLines.{without_return};
 ghost use Rattle.dw_notation.specs.inner.TextLines.{line_found};
-ghost use Rattle.dw_notation.specs.TextLines.{NoLineFeed};
-ghost use Rattle.dw_notation.specs.inner.TextLines.{long_text_found};
+ghost use Rattle.dw_notation.specs.inner.TextLines.{long_text_found, is_line_feed};
 ghost use Rattle.dw_board.specs.Geometry.{Geometry};
 ghost use Rattle.dw_notation.specs.inner.Ahead.{found_from, behind_mark};
 ghost use Rattle.dw_notation.specs.inner.Ahead.{passed_over, is_behind};
 
-use super::{MAX_LINE, ProblemFault};
+use super::{MAX_LINE, PAST_FEN, ProblemFault};
 use arrayvec::ArrayVec;
 use dw_board::{Board, FenFault, FenFaultKind, Position, read_fen};
 
@@ -26,7 +25,7 @@ pub(super) fn is_blank_byte(byte: u8) -> bool
 fn is_blank_text(text: &[u8]) -> bool
     ensures { result ≡ list_all is_blank text.now }
 {
-    text.iter().all(|byte| *byte == b' ' || *byte == b'\t')
+    text.iter().all(|byte| is_blank_byte(*byte))
 }
 
 /// The line without one carriage return at its end.
@@ -71,29 +70,19 @@ fn read_long_text<B: Board>(len: usize, is_blank: bool) -> Option<Result<Positio
     }
     Some(Err(ProblemFault::Fen(FenFault {
         what: FenFaultKind::TooLong,
-        place: 1025,
+        place: PAST_FEN as u16,
     })))
 }
 
 /// The place of the first line feed.
 fn line_feed_at(bytes: &[u8]) -> Option<usize>
-    ensures some { IfSome result (λ k. (k < length bytes.now) × NoLineFeed (take k bytes.now)
-        × (drop k bytes.now ≡ 10 ∷ drop (k + 1) bytes.now)) }
-    ensures none { IfNone result (NoLineFeed bytes.now) }
+    ensures { result ≡ position is_line_feed bytes.now }
 {
-    'bytes: for (i, byte) in bytes.iter().enumerate() {
-        if *byte == b'\n' {
-            return Some(i);
-        }
-    }
-    None
+    bytes.iter().position(|byte| *byte == b'\n')
 }
 
-/// How many bytes of a line are kept: a FEN text, and a carriage return after it.
-const FRONT: usize = 1025;
-
 /// How far the bytes of a longer line are counted: enough to tell that it is too long, with a carriage return too.
-const COUNTED: usize = MAX_LINE + 2;
+const LINE_COUNTED: usize = MAX_LINE + 2;
 
 /// What is known of a line that is too long to be kept.
 #[derive(Clone, Copy)]
@@ -121,7 +110,7 @@ impl LongLine {
     {
         let last = piece.len() - 1;
         LongLine {
-            len: (before + piece.len()).min(COUNTED),
+            len: (before + piece.len()).min(LINE_COUNTED),
             is_blank: is_blank_before && is_blank_text(&piece[..last]),
             last: piece[last],
         }
@@ -148,21 +137,22 @@ impl LongLine {
     }
 }
 
-/// What is held of a line: all of it, or of a longer one what decides what it says.
+/// What is held of a line: all of it, if it has no more bytes than a FEN text with a carriage return after it, or else
+/// what decides what it says.
 #[derive(Drop)]
-struct Line {
-    front: ArrayVec<u8, FRONT>,
+struct HeldLine {
+    front: ArrayVec<u8, PAST_FEN>,
     long: Option<LongLine>,
 }
 
-impl Line {
+impl HeldLine {
     ghost use Rattle.dw_notation.specs.inner.Held.{held_line};
     ghost use Rattle.dw_notation.specs.inner.TextLines.{SaysSame};
 
-    fn new() -> Line
+    fn new() -> HeldLine
         ensures { held_line result ≡ [] }
     {
-        Line {
+        HeldLine {
             front: ArrayVec::new(),
             long: None,
         }
@@ -276,7 +266,7 @@ impl Front {
 #[derive(Drop)]
 pub(super) struct TextLines {
     front: Front,
-    line: Line,
+    line: HeldLine,
 }
 
 impl TextLines {
@@ -291,7 +281,7 @@ impl TextLines {
     {
         TextLines {
             front: Front::Bare,
-            line: Line::new(),
+            line: HeldLine::new(),
         }
     }
 

@@ -1,7 +1,7 @@
 //! The sections of a PDN text, cut out of its bytes one after another.
-ghost use Rattle.std.specs.Prelude.{◌≡◌, ◌+◌, ◌<◌, ◌≤◌, ℕ, Bool, true, not, if◌then◌else◌, IfSome, IfNone};
+ghost use Rattle.std.specs.Prelude.{◌≡◌, ◌+◌, ◌<◌, ◌≤◌, ℕ, Bool, true, if◌then◌else◌, IfSome, IfNone};
 ghost use Rattle.std.specs.Prelude.{List, [], ◌∷◌, ◌++◌, length, take, drop, option_to_list};
-ghost use Rattle.std.specs.List.{list_all};
+ghost use Rattle.std.specs.List.{position};
 ghost use Rattle.dw_board.specs.Geometry.{Geometry};
 ghost use Rattle.dw_notation.specs.inner.Tags.{opens, closes};
 
@@ -22,30 +22,18 @@ enum Cut {
     Comment,
 }
 
-/// How many bytes stand before the first that opens a tag or a comment.
-fn before_opening(bytes: &[u8]) -> usize
-    ensures within { result ≤ length bytes.now }
-    ensures all { list_all (λ byte. not (opens byte)) (take result bytes.now) ≡ true }
+/// The place of the first byte that opens a tag or a comment.
+fn opening_at(bytes: &[u8]) -> Option<usize>
+    ensures { result ≡ position opens bytes.now }
 {
-    'bytes: for (i, byte) in bytes.iter().enumerate() {
-        if *byte == b'[' || *byte == b'{' {
-            return i;
-        }
-    }
-    bytes.len()
+    bytes.iter().position(|byte| *byte == b'[' || *byte == b'{')
 }
 
-/// How many bytes stand before the first that closes a comment.
-fn before_closing(bytes: &[u8]) -> usize
-    ensures within { result ≤ length bytes.now }
-    ensures all { list_all (λ byte. not (closes byte)) (take result bytes.now) ≡ true }
+/// The place of the first byte that closes a comment.
+fn closing_at(bytes: &[u8]) -> Option<usize>
+    ensures { result ≡ position closes bytes.now }
 {
-    'bytes: for (i, byte) in bytes.iter().enumerate() {
-        if *byte == b'}' {
-            return i;
-        }
-    }
-    bytes.len()
+    bytes.iter().position(|byte| *byte == b'}')
 }
 
 /// How far a text of tags was read, and what was cut off last.
@@ -94,8 +82,8 @@ impl Sections {
             ≡ sections_ahead at_end g self.now (drop result bytes.now ++ more) }
     {
         match self.state {
-            State::Outside => before_opening(bytes),
-            State::Comment => before_closing(bytes),
+            State::Outside => opening_at(bytes).unwrap_or(bytes.len()),
+            State::Comment => closing_at(bytes).unwrap_or(bytes.len()),
             _ => 0,
         }
     }

@@ -5,11 +5,11 @@ use Rattle.dw_board.specs.Geometry.{Geometry}
 use Rattle.dw_board.specs.Placement.{Placement}
 use Rattle.dw_moves.specs.Moves.{Move, Legal, play}
 use Rattle.dw_solution.specs.Tree.{Tree, over, branch, lines_of, AreApart, IsTreeOf}
-use Rattle.dw_solution.specs.declared.step.Step.{Step}
+use Rattle.dw_solution.specs.declared.step.TreeStep.{TreeStep}
 
 -- Sealed: the moves at a depth that come before any move less deep, with what stands behind each. The clauses of a tree
 -- of lines say all that is to be known of it.
-abbrev pub tree_at : {B : Type 0} → List (Step B) → ℕ → Tree
+abbrev pub tree_at : {B : Type 0} → List (TreeStep B) → ℕ → Tree
 tree_at [] depth = over
 tree_at (s ∷ steps) depth =
     if s.depth == depth then branch s.mv (tree_at steps (depth + 1)) (tree_at steps depth)
@@ -17,11 +17,11 @@ tree_at (s ∷ steps) depth =
     else over
 
 -- Sealed: the tree of all steps
-abbrev pub whole_tree : {B : Type 0} → List (Step B) → Tree
+abbrev pub whole_tree : {B : Type 0} → List (TreeStep B) → Tree
 whole_tree steps = tree_at steps 0
 
 -- moves that follow one another, the first one at a depth
-abbrev pub chain : {B : Type 0} → ℕ → List Move → List (Step B)
+abbrev pub chain : {B : Type 0} → ℕ → List Move → List (TreeStep B)
 chain depth [] = []
 chain depth (m ∷ moves) = record { depth = depth; mv = m } ∷ chain (depth + 1) moves
 
@@ -32,12 +32,12 @@ last_line (l ∷ []) = l
 last_line (l ∷ k ∷ lines) = last_line (k ∷ lines)
 
 -- where the lines end: with so many steps there are so many lines of the tree
-abbrev pub AreEnds : {B : Type 0} → List (Step B) → List ℕ → Type 0
+abbrev pub AreEnds : {B : Type 0} → List (TreeStep B) → List ℕ → Type 0
 AreEnds steps ends = (place end : ℕ) → slice_get ends place ≡ Some end → (end ≤ length steps)
     × IsTreeOf (take (place + 1) (lines_of (whole_tree steps))) (whole_tree (take end steps))
 
 -- Sealed: what holds of the parts of a tree of lines. The clauses of a tree say all that is to be known of it.
-pub record IsHeld {B : Type 0} (steps : List (Step B)) (places : List ℕ) (line : List Move) : Type 0
+pub record IsHeld {B : Type 0} (steps : List (TreeStep B)) (places : List ℕ) (line : List Move) : Type 0
   where
     pub apart : AreApart (whole_tree steps)
     pub last : line ≡ last_line (lines_of (whole_tree steps))
@@ -67,7 +67,7 @@ IsPlayable g p (branch m behind others) =
     Legal g p m × IsPlayable g (play g p m) behind × IsPlayable g p others
 
 -- the first of the moves at a depth, and the steps behind it; or there is none
-abbrev pub IsFirstAt : {B : Type 0} → List (Step B) → ℕ → Option (Move × List (Step B)) → Type 0
+abbrev pub IsFirstAt : {B : Type 0} → List (TreeStep B) → ℕ → Option (Move × List (TreeStep B)) → Type 0
 IsFirstAt steps depth found = MatchOption found (tree_at steps depth ≡ over)
     (λ f. (tree_at steps depth ≡ branch f.0 (tree_at f.1 (depth + 1)) (tree_at f.1 depth))
     × (length f.1 < length steps))

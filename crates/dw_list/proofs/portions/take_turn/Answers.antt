@@ -7,8 +7,8 @@ use Rattle.dw_list.specs.StackWalk.{Gives}
 use Rattle.dw_list.proofs.PortionLemmas.{taken_same, taken_more, taken_none, end_same, end_more, end_none}
 use Rattle.dw_list.proofs.portions.take_turn.Goals as goal
 
-pub kept-requires : goal.kept-requires
-kept-requires g c = (
+pub copied-requires : goal.copied-requires
+copied-requires g c = (
   omega arith,
   subst (λ o. IfSome o (λ line. length line.now ≤ 39)) c.in-Ok-Some.field-0-is c.in-Ok-Some.ensures.few,
 )
@@ -32,8 +32,8 @@ returns-in-Ok-Some-clause-lines g c =
     let geo = g.B.Board.geometry in
     let left = subst (LendsNext geo g.M.Memo.content g.M.Memo.dropped c.set_limit.new.self
     c.next.follows.lender-at-none) (c.in-Ok-Some.is ∙ ap Ok c.in-Ok-Some.field-0-is) c.next.follows.holds-at-none in
-    λ start given. taken_more geo _ _ _ c.set_limit.ensures.stack _ start _ _ _ c.kept.result _ c.reserve.ensures.items
-    c.push_reserved.ensures.items c.kept.ensures left.line left.next given
+    λ start given. taken_more geo _ _ _ c.set_limit.ensures.stack _ start _ _ _ c.copied.result _ c.reserve.ensures.items
+    c.push_reserved.ensures.items c.copied.ensures left.line left.next given
 
 pub returns-in-Ok-Some-clause-end : goal.returns-in-Ok-Some-clause-end
 returns-in-Ok-Some-clause-end g c =
@@ -73,7 +73,7 @@ returns-in-Ok-Some-clause-turns g c = omega (
   arith,
   ap length c.reserve.ensures.items,
   ap length c.push_reserved.ensures.items,
-  length-append c.reserve.new.self.items (c.kept.result ∷ []),
+  length-append c.reserve.new.self.items (c.copied.result ∷ []),
 )
 
 pub returns-then-is_err-clause-lines : goal.returns-then-is_err-clause-lines

@@ -59,8 +59,8 @@ pub(super) enum Action {
 /// Where a byte leads, and what it does.
 #[derive(Clone, Copy)]
 pub(super) struct Transition {
-    pub state: State,
-    pub action: Action,
+    pub(super) state: State,
+    pub(super) action: Action,
 }
 
 fn is_name_byte(byte: u8) -> bool

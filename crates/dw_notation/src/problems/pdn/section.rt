@@ -5,7 +5,7 @@ ghost use Rattle.dw_notation.specs.Tags.{same_name};
 ghost use Rattle.dw_notation.specs.inner.HeldSection.{game_on, number_held, counted};
 
 use super::super::fens::is_blank_byte;
-use super::super::{MAX_SECTION, ProblemFault};
+use super::super::{MAX_SECTION, PAST_FEN, ProblemFault};
 use super::automaton::Action;
 use arrayvec::ArrayVec;
 use dw_board::{Board, Position, read_fen};
@@ -13,14 +13,14 @@ use dw_board::{Board, Position, read_fen};
 /// How many bytes of a tag's name are kept: one more than the longest name that matters has.
 const NAME: usize = 9;
 
-/// How many bytes of a FEN text are kept: one more than it may have.
-const TEXT: usize = 1025;
-
 /// How far bytes are counted: one more than a section may have.
-const COUNTED: usize = MAX_SECTION + 1;
+const SECTION_COUNTED: usize = MAX_SECTION + 1;
 
 /// The game of the problems that are read.
 const GAME: u8 = 20;
+
+/// What each greater number of a game is held as.
+const GREATER_GAME: u8 = GAME + 1;
 
 /// What a tag is, by its name.
 #[derive(Clone, Copy)]
@@ -48,7 +48,7 @@ fn is_named(name: &[u8], word: &[u8]) -> bool
     name.eq_ignore_ascii_case(word)
 }
 
-/// The game that a value names, as far as the value was read. Numbers from 21 on are held as 21.
+/// The game that a value names, as far as the value was read.
 #[derive(Clone, Copy)]
 enum Game {
     /// Blanks alone were read.
@@ -99,7 +99,7 @@ fn next_of_game(number: u8, byte: u8) -> Game
 {
     if byte.is_ascii_digit() {
         let more = u16::from(number) * 10 + u16::from(byte - b'0');
-        Game::Within(more.min(21) as u8)
+        Game::Within(more.min(u16::from(GREATER_GAME)) as u8)
     } else {
         Game::Behind(number)
     }
@@ -124,8 +124,8 @@ pub(super) struct HeldSection {
     kind: TagKind,
     /// How many FEN tags it has: none, one, or two and more.
     fens: usize,
-    /// The value of the first of them.
-    fen_text: ArrayVec<u8, TEXT>,
+    /// The value of the first of them, up to one byte more than a FEN text may have.
+    fen_text: ArrayVec<u8, PAST_FEN>,
     game: Game,
     has_game: bool,
     is_wrong: bool,
@@ -133,7 +133,7 @@ pub(super) struct HeldSection {
 
 impl HeldSection {
     ghost use Rattle.dw_notation.specs.inner.HeldSection.{held_of, held_bare, held_after, held_found, value_on, tag_on};
-    ghost use Rattle.dw_notation.specs.inner.HeldSection.{counted_in, kept, is_wrong_held, fens_held};
+    ghost use Rattle.dw_notation.specs.inner.HeldSection.{counted_in, with_byte, is_wrong_held, fens_held};
 
     pub(super) fn new() -> HeldSection
         ensures { held_of result ≡ held_bare }
@@ -171,7 +171,7 @@ impl HeldSection {
     fn count(&mut self)
         ensures { held_of self.new ≡ counted_in (held_of self.old) }
     {
-        self.read = counted(COUNTED, self.read);
+        self.read = counted(SECTION_COUNTED, self.read);
     }
 
     fn add_name(&mut self, byte: u8)
@@ -197,7 +197,7 @@ impl HeldSection {
     fn add_fen(&mut self, byte: u8)
         ensures { held_of self.new ≡ value_on TagKind.FenTag (held_of self.old) byte }
     {
-        if self.fens == 0 && self.fen_text.len() < TEXT {
+        if self.fens == 0 && self.fen_text.len() < PAST_FEN {
             self.fen_text.push(byte);
         }
     }

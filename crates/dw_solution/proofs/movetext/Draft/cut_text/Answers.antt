@@ -1,4 +1,4 @@
-use Rattle.std.proofs.Common.{◌<◌, ap, sym, subst, arith, length}
+use Rattle.std.proofs.Common.{ap, sym, subst, arith, length}
 use Rattle.dw_solution.specs.inner.Drafts.{IsPassed}
 use Rattle.dw_solution.proofs.DraftLemmas.{none_is_short, movetext_cut, passed_some}
 use Rattle.dw_solution.proofs.movetext.Draft.cut_text.Goals as goal
@@ -7,7 +7,7 @@ pub cuts-init : goal.cuts-init
 cuts-init g c =
     let geo = g.B.Board.geometry in
     let draft = c.args.self.now in
-    let low : draft.heading.moves < 256 = omega arith in
+    let low = c.keeps_its_range.ensures in
     record {
       is = c.in_ok-text.ensures;
       short = none_is_short geo draft.position.now draft.heading draft.first.now.tree draft.first.now.more

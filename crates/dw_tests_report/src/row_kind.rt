@@ -1,0 +1,37 @@
+//! What the rows of a section ask.
+
+/// What is asked of each row.
+#[derive(Clone, Copy)]
+pub enum RowKind {
+    Judge,
+    Stopped,
+    Refused,
+    Run,
+    Limits,
+    Reads,
+    Writes,
+    Changed,
+    Many,
+    Chosen,
+    Law,
+}
+
+impl RowKind {
+    /// The kind that a word names.
+    pub fn named(word: &str) -> Option<RowKind> {
+        match word {
+            "judge" => Some(RowKind::Judge),
+            "stopped" => Some(RowKind::Stopped),
+            "refused" => Some(RowKind::Refused),
+            "run" => Some(RowKind::Run),
+            "limits" => Some(RowKind::Limits),
+            "reads" => Some(RowKind::Reads),
+            "writes" => Some(RowKind::Writes),
+            "changed" => Some(RowKind::Changed),
+            "many" => Some(RowKind::Many),
+            "chosen" => Some(RowKind::Chosen),
+            "law" => Some(RowKind::Law),
+            _ => None,
+        }
+    }
+}
