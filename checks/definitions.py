@@ -147,9 +147,16 @@ def contract(file, start, clause=""):
     return whole, Imports(text)
 
 
+def source_text(path):
+    """A source. Nothing stands on a program: there what all its modules may name is public."""
+    text = path.read_text()
+    is_of_program = (CRATES / path.relative_to(CRATES).parts[0] / "src/main.rt").exists()
+    return text.replace("pub(crate) ", "pub ") if is_of_program else text
+
+
 def public_text(path, left_out):
     """What a file's public items say: no private functions, no methods of private types, and no items left out."""
-    text = path.read_text()
+    text = source_text(path)
     named_here = re.findall(r"^(?:pub\((?:crate|super)\) )?(?:struct|enum|trait) (\w+)", text, re.MULTILINE)
     private = set(named_here) | PRIVATE_TRAITS
     kept, impl, lines = [], "", iter(text.splitlines())
@@ -193,7 +200,7 @@ KEPT = PROOF.replace("(", "(view|invariant|")
 NAMES = "board moves memo solve notation list games report study solution page certificate mend program desk".split()
 LAYERS = [f"dw_{layer}" for layer in NAMES] + ["dw"]
 SOURCES = [path for layer in LAYERS for path in sorted((CRATES / layer).glob("src/**/*.rt"))]
-PRIVATE_TRAITS = {name for path in SOURCES for name in re.findall(r"^pub\(crate\) trait (\w+)", path.read_text(), re.M)}
+PRIVATE_TRAITS = {name for path in SOURCES for name in re.findall(r"^pub\(crate\) trait (\w+)", source_text(path), re.M)}
 
 
 def private_types(definition):
@@ -204,8 +211,8 @@ def private_types(definition):
         if "declared" not in parts or parts[-1] == "TheConstants" or not (CRATES / parts[1]).is_dir():
             continue
         inside = parts[parts.index("declared") + 1 : -1]
-        source = CRATES / parts[1] / "src" / "/".join(inside or ["lib"])
-        if not re.search(rf"^pub (struct|enum|trait) {parts[-1]}\b", source.with_suffix(".rt").read_text(), re.M):
+        source = (CRATES / parts[1] / "src" / "/".join(inside or ["lib"])).with_suffix(".rt")
+        if not re.search(rf"^pub (struct|enum|trait) {parts[-1]}\b", source_text(source), re.M):
             yield f"{module} in {definition.name}"
 
 

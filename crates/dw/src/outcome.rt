@@ -1,6 +1,6 @@
 //! How the program ends: its exit status, and the line on standard error.
 ghost use Rattle.std.specs.Prelude.{◌≡◌};
-ghost use Rattle.dw.specs.inner.Outcome.{outcome_of, done_of};
+ghost use Rattle.dw.specs.Outcome.{outcome_of, done_of};
 
 use dw_list::TokenFault;
 use dw_report::{RunFault, Stop, Summary};

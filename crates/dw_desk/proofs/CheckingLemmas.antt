@@ -8,7 +8,7 @@ use Rattle.std.proofs.lemmas.List.{length-map}
 use Rattle.dw_board.specs.Lists.{Member}
 use Rattle.dw_study.specs.Remarks.{Remark, fails, also, leaves_open, ends}
 use Rattle.dw_games.specs.declared.fault.MovetextFaultKind.{MovetextFaultKind}
-use Rattle.dw_desk.specs.inner.Checking.{Counted, counted, is_fail, is_end, is_open, is_also, refused_line}
+use Rattle.dw_desk.specs.Checking.{Counted, counted, is_fail, is_end, is_open, is_also, refused_line}
 use Rattle.dw_desk.specs.inner.Tallies.{one_more}
 
 -- what the item at a place says: one thing, which comes next

@@ -7,7 +7,7 @@ use Rattle.std.specs.Prelude.{filter, MatchBool}
 use Rattle.std.specs.Io.KnownBytes.{Consumes, IsAtEnd}
 use Rattle.std.proofs.lemmas.Bool.{cases_Bool, and_right, eqb-true, leb-true, lt-leb, ltb-true}
 use Rattle.dw_board.specs.Geometry.{Geometry}
-use Rattle.dw_desk.specs.inner.Chosen.{as_game, AreChosen, AreChosenOf, AreGamesIn, is_up_to, is_in}
+use Rattle.dw_desk.specs.Chosen.{as_game, AreChosen, AreChosenOf, AreGamesIn, is_up_to, is_in}
 use Rattle.dw_desk.specs.inner.Choosing.{AreAhead, AreComing, AreLeft, Comes, ComesNext, EndIsKnown, is_met, up_to}
 use Rattle.dw_desk.specs.declared.chosen.Text.{Text}
 use Rattle.dw_desk_words.specs.declared.portion.Portion.{Portion}

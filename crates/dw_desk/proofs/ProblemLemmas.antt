@@ -6,7 +6,7 @@ use Rattle.dw_board.specs.Geometry.{Geometry}
 use Rattle.dw_board.specs.Placement.{Placement}
 use Rattle.dw_notation.specs.Problems.{Numbered}
 use Rattle.dw_report.specs.Report.{first_line}
-use Rattle.dw_desk.specs.inner.ProblemText.{IsFurther, IsProblemText}
+use Rattle.dw_desk.specs.ProblemText.{IsFurther, IsProblemText}
 
 -- a first line and what is said of the position, one after the other
 pub line_and_more : (g : Geometry) (Says : Placement → Bool → List ℕ → Type 0) (problem : Numbered) (p : Placement)

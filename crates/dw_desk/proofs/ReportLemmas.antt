@@ -6,9 +6,9 @@ use Rattle.std.specs.Io.KnownBytes.{Appends}
 use Rattle.std.proofs.KnownBytes.{Appends-nil, Appends-trans}
 use Rattle.std.proofs.lemmas.List.{map-append}
 use Rattle.std.proofs.lemmas.List.Sums.{count_by-le-length, sum_by_push}
-use Rattle.dw_desk.specs.inner.ProblemText.{IsReport, Reported, nothing, one_more}
+use Rattle.dw_desk.specs.ProblemText.{IsReport, Reported, nothing, one_more}
 use Rattle.dw_desk.specs.declared.desk.Counts.{Counts}
-use Rattle.dw_desk.specs.inner.Chosen.{HandsOut}
+use Rattle.dw_desk.specs.Chosen.{HandsOut}
 use Rattle.dw_games.specs.Games.{NumberedGame}
 use Rattle.dw_notation.specs.declared.problems.TheConstants.{MAX_PROBLEMS}
 

@@ -1,1 +1,10 @@
+pub mod Certifying
+pub mod Checking
+pub mod Chosen
+pub mod Ending
+pub mod Finding
+pub mod Mending
+pub mod ProblemText
+pub mod Solving
+pub mod Writing
 pub mod inner

@@ -20,7 +20,7 @@ pub(crate) struct Chosen<'a, B: Board, S> {
 }
 
 impl<'a, B: Board, S: Source> Chosen<'a, B, S> {
-    ghost use Rattle.dw_desk.specs.inner.Chosen.{AreChosenOf, HandsOut, is_in};
+    ghost use Rattle.dw_desk.specs.Chosen.{AreChosenOf, HandsOut, is_in};
     ghost use Rattle.dw_desk.specs.inner.Choosing.{AreToCome, is_met};
     ghost use Rattle.dw_games.specs.GameReading.{numbered_game};
     ghost use Rattle.dw_games.specs.Games.{NumberedGame};
@@ -102,7 +102,7 @@ enum Text<'a, B: Board, S> {
 }
 
 impl<'a, B: Board, S: Source> Text<'a, B, S> {
-    ghost use Rattle.dw_desk.specs.inner.Chosen.{AreGamesIn};
+    ghost use Rattle.dw_desk.specs.Chosen.{AreGamesIn};
     ghost use Rattle.dw_desk.specs.inner.Choosing.{AreAhead, ComesNext, EndIsKnown, source_of};
     ghost use Rattle.dw_games.specs.Games.{NumberedGame};
 

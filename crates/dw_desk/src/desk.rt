@@ -1,6 +1,6 @@
 //! What every command does: it opens its file, searches with a solver, and counts what it reports.
 ghost use Rattle.std.specs.Prelude.{◌≡◌, ◌⊎◌, ◌+◌, ◌<◌, if◌then◌else◌};
-ghost use Rattle.dw_desk.specs.inner.Ending.{ending_after};
+ghost use Rattle.dw_desk.specs.Ending.{ending_after};
 
 use crate::certifying::certify_problem;
 use crate::checking::check_games;

@@ -1,6 +1,6 @@
 //! How the program ends: its exit status, and the line on standard error.
 ghost use Rattle.std.specs.Prelude.{◌≡◌};
-ghost use Rattle.dw_desk.specs.inner.Ending as of;
+ghost use Rattle.dw_desk.specs.Ending as of;
 
 use dw_games::LineFaultKind;
 use dw_notation::ProblemFault;

@@ -1,8 +1,8 @@
 //! The command `find`: the least number of moves within which each problem is won, with the verdict.
 ghost use Rattle.std.specs.Prelude.{◌≡◌, ℕ, List, false, IfOk};
 ghost use Rattle.std.specs.Io.KnownBytes.{Appends};
-ghost use Rattle.dw_desk.specs.inner.Finding.{CountsAs, IsFindOf, SaysFound, is_open};
-ghost use Rattle.dw_desk.specs.inner.ProblemText.{IsProblemText, IsReport};
+ghost use Rattle.dw_desk.specs.Finding.{CountsAs, IsFindOf, SaysFound, is_open};
+ghost use Rattle.dw_desk.specs.ProblemText.{IsProblemText, IsReport};
 ghost use Rattle.dw_desk.specs.inner.Choosing.{AreToCome};
 ghost use Rattle.dw_games.specs.Games.{NumberedGame, problem_of};
 ghost use Rattle.dw_notation.specs.Problems.{Numbered, numbered};

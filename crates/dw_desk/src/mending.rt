@@ -1,10 +1,10 @@
 //! The command `mend`: the sound problems that are one change away from a problem.
 ghost use Rattle.std.specs.Prelude.{◌≡◌, ◌==◌, ◌≤◌, if◌then◌else◌, ℕ, Bool, List, Option, false, not, IfOk};
 ghost use Rattle.std.specs.Io.KnownBytes.{Appends};
-ghost use Rattle.dw_desk.specs.inner.Mending.{IsMendOf};
-ghost use Rattle.dw_desk.specs.inner.ProblemText.{IsReportOnOne};
+ghost use Rattle.dw_desk.specs.Mending.{IsMendOf};
+ghost use Rattle.dw_desk.specs.ProblemText.{IsReportOnOne};
 ghost use Rattle.dw_desk.specs.declared.ending.Ending.TheVariants.{Done, Refused};
-ghost use Rattle.dw_desk.specs.inner.Chosen.{HandsOut};
+ghost use Rattle.dw_desk.specs.Chosen.{HandsOut};
 ghost use Rattle.dw_desk.specs.inner.Choosing.{AreToCome};
 ghost use Rattle.dw_games.specs.Games.{NumberedGame, problem_of};
 ghost use Rattle.dw_notation.specs.Problems.{numbered};

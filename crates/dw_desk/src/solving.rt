@@ -3,9 +3,9 @@ ghost use Rattle.std.specs.Prelude.{◌≡◌, ◌≤◌, ℕ, List, false, map,
 ghost use Rattle.std.specs.Io.KnownBytes.{Appends};
 ghost use Rattle.std.specs.List.{flat_map};
 ghost use Rattle.std.specs.String.{string_bytes};
-ghost use Rattle.dw_desk.specs.inner.Solving.{AreWrittenTags, IsGameOf, IsSolution, new_lines, own_line};
-ghost use Rattle.dw_desk.specs.inner.Solving as of;
-ghost use Rattle.dw_desk.specs.inner.ProblemText.{IsReport};
+ghost use Rattle.dw_desk.specs.Solving.{AreWrittenTags, IsGameOf, IsSolution, new_lines, own_line};
+ghost use Rattle.dw_desk.specs.Solving as of;
+ghost use Rattle.dw_desk.specs.ProblemText.{IsReport};
 ghost use Rattle.dw_desk.specs.inner.Choosing.{AreToCome};
 ghost use Rattle.dw_games.specs.GameReading.{numbered_game};
 ghost use Rattle.dw_games.specs.Games.{NumberedGame};

@@ -2,9 +2,9 @@
 ghost use Rattle.std.specs.Prelude.{◌≡◌, ◌⊎◌, ℕ, List, Ok, Some, false};
 ghost use Rattle.std.specs.Io.KnownBytes.{Appends};
 ghost use Rattle.dw_board.specs.Placement.{Placement};
-ghost use Rattle.dw_desk.specs.inner.Writing.{IsTokenOf};
+ghost use Rattle.dw_desk.specs.Writing.{IsTokenOf};
 ghost use Rattle.dw_desk.specs.declared.ending.Ending.TheVariants.{Done};
-ghost use Rattle.dw_desk.specs.inner.Chosen.{HandsOut};
+ghost use Rattle.dw_desk.specs.Chosen.{HandsOut};
 ghost use Rattle.dw_desk.specs.inner.Choosing.{AreToCome};
 ghost use Rattle.dw_games.specs.Games.{NumberedGame};
 

@@ -1,4 +1,4 @@
-//! The layers as libraries: a position is read, its moves are listed, it is solved, and a line of the win is given.
+//! The layers as libraries: a position is read, its moves are listed, it is solved, and two lines of the win are given.
 #![tactic(auto)]
 
 use dw_board::{Ten, read_fen};
@@ -21,10 +21,12 @@ fn main(rt: HostRuntime) -> anyhow::Result<()> {
     let wins = solver.wins(alloc, &position, 2)?;
     println!(rt; "a win in 2 moves: {wins}")?;
     let mut lister = Lister::start(&mut solver, &position, 2);
-    if let Some(line) = lister.next(alloc)? {
-        for mv in line {
-            println!(rt; "from {} to {}", mv.from.number(), mv.to.number())?;
+    for number in 1..3 {
+        print!(rt; "line {number}:")?;
+        for mv in lister.next(alloc)?.unwrap_or(&[]) {
+            print!(rt; " {}-{}", mv.from.number(), mv.to.number())?;
         }
+        println!(rt; "")?;
     }
     Ok(())
 }

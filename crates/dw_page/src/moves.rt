@@ -23,7 +23,7 @@ pub(crate) fn push_moves<B: Board>(
 ) -> Result<(), AllocError> {
     let mut reader = Reader {
         alloc,
-        line: Line {
+        line: OpenLine {
             now: *position,
             before: *position,
         },
@@ -69,7 +69,7 @@ fn is_mark(byte: u8) -> bool {
 
 /// Where a variation stands, and where it stood before its last move.
 #[derive(Clone, Copy)]
-struct Line<B: Board> {
+struct OpenLine<B: Board> {
     now: Position<B>,
     before: Position<B>,
 }
@@ -78,8 +78,8 @@ struct Line<B: Board> {
 #[derive(Drop)]
 struct Reader<B: Board> {
     alloc: Global,
-    line: Line<B>,
-    outer: Vec<Line<B>>,
+    line: OpenLine<B>,
+    outer: Vec<OpenLine<B>>,
 }
 
 impl<B: Board> Reader<B> {
@@ -131,7 +131,7 @@ impl<B: Board> Reader<B> {
         requires { Legal B.geometry self.old.line.now mv.now }
     {
         let after = play(&self.line.now, mv);
-        self.line = Line {
+        self.line = OpenLine {
             now: after,
             before: self.line.now,
         };

@@ -21,6 +21,7 @@ ghost use Rattle.dw_report.specs.declared.problem.TextFault.TheVariants as becau
 
 use crate::problem::TextFault;
 use crate::settings::{Command, Settings};
+use crate::text::SHORT_ROOM;
 use arrayvec::{ArrayString, ArrayVec};
 use dw_board::{Board, Position};
 use dw_list::{AfterFault, Lister, write_token};
@@ -249,7 +250,7 @@ fn fill_row<B: Board>(row: &mut ArrayString<ROW_ROOM>, text: &LineText<B>)
 }
 
 /// That so many lines are all of them.
-fn complete_row(count: u64) -> ArrayString<32>
+fn complete_row(count: u64) -> ArrayString<SHORT_ROOM>
     ensures { result.bytes ≡ codes "complete " ++ decimal count ++ codes "\n" }
 {
     let mut row = ArrayString::new();
@@ -302,7 +303,7 @@ fn write_more_after<B: Board, K: Sink>(sink: &mut K, last: &[Move<B>]) -> Result
 }
 
 /// That a list of moves is no line, and the place at which it leaves all lines.
-fn refused_row(place: usize) -> ArrayString<64>
+fn refused_row(place: usize) -> ArrayString<SHORT_ROOM>
     ensures { result.bytes ≡ refused_line place }
 {
     let mut row = ArrayString::new();

@@ -10,12 +10,25 @@ ghost use Rattle.dw_notation.specs.Problems.{numbered};
 use crate::settings::Command;
 use arrayvec::ArrayString;
 use dw_board::diagram::{DIAGRAM_ROOM, diagram};
-use dw_board::{Board, FenFault, FenFaultKind, Position, fen_text};
+use dw_board::{Board, FEN_ROOM, FenFault, FenFaultKind, Position, fen_text};
 use dw_moves::Listed;
 use dw_moves::play::play;
 use dw_notation::move_text::move_text;
-use dw_notation::{Problem, ProblemFault};
+use dw_notation::{MOVE_ROOM, Problem, ProblemFault};
 use itoa::Buffer;
+
+/// The bytes that suffice for a few words and numbers.
+pub(crate) const SHORT_ROOM: usize = 64;
+
+/// The bytes that suffice for why a problem is refused.
+/// Example: `2 no fen` takes 8 of them.
+pub const REFUSAL_ROOM: usize = 192;
+
+/// The bytes that suffice for the same behind `refused: `.
+const REFUSED_ROOM: usize = 9 + REFUSAL_ROOM;
+
+/// The bytes that suffice for the line of a move: its text, a position, and what stands between and behind them.
+const MOVE_LINE_ROOM: usize = MOVE_ROOM + FEN_ROOM + 8;
 
 /// The bytes that suffice for the first line of a problem's text.
 const LINE_ROOM: usize = 254;
@@ -64,7 +77,7 @@ pub(crate) fn move_line<B: Board>(
     position: &Position<B>,
     list: &[Listed<B>],
     place: usize,
-) -> ArrayString<264>
+) -> ArrayString<MOVE_LINE_ROOM>
     requires all { AreListed B.geometry position.now list.now }
     requires place { place < length list.now }
     ensures { HoldsAt (λ item. result.bytes ≡ line_of_move B.geometry position.now list.now item) list.now place }
@@ -80,7 +93,7 @@ pub(crate) fn move_line<B: Board>(
 
 /// The last line of a list of moves: how many they are, and how many pieces each of them takes.
 /// Example: of 5 moves that take one piece each it is `moves 5 taking 1` and a line end.
-pub(crate) fn count_line(moves: usize, taken: u8) -> ArrayString<64>
+pub(crate) fn count_line(moves: usize, taken: u8) -> ArrayString<SHORT_ROOM>
     ensures { result.bytes ≡ line_of_count moves taken }
 {
     let mut line = ArrayString::new();
@@ -92,7 +105,7 @@ pub(crate) fn count_line(moves: usize, taken: u8) -> ArrayString<64>
     line
 }
 
-fn refused_text(fault: ProblemFault) -> ArrayString<201>
+fn refused_text(fault: ProblemFault) -> ArrayString<REFUSED_ROOM>
     ensures { result.bytes ≡ codes "refused: " ++ refusal_text fault }
 {
     let mut text = ArrayString::new();
@@ -103,7 +116,7 @@ fn refused_text(fault: ProblemFault) -> ArrayString<201>
 
 /// Why a problem is refused: the number and the name of its fault.
 /// Example: of `ProblemFault::NoFen` it is `2 no fen`.
-pub fn refusal_text(fault: ProblemFault) -> ArrayString<192>
+pub fn refusal_text(fault: ProblemFault) -> ArrayString<REFUSAL_ROOM>
     ensures { result.bytes ≡ refusal_text fault }
 {
     let mut text = ArrayString::new();
@@ -122,7 +135,7 @@ pub fn refusal_text(fault: ProblemFault) -> ArrayString<192>
 }
 
 /// The number and the name of a fault of a FEN text, and its place.
-fn fen_refusal(fault: FenFault) -> ArrayString<64>
+fn fen_refusal(fault: FenFault) -> ArrayString<SHORT_ROOM>
     ensures { result.bytes ≡ codes "1 fen: " ++ fen_fault_text fault.what ++ codes " at " ++ decimal fault.place }
 {
     let mut text = ArrayString::new();

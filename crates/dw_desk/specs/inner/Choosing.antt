@@ -2,7 +2,7 @@
 use Rattle.std.specs.Prelude.{◌≡◌, ◌⊎◌, ◌++◌, ◌∷◌, if◌then◌else◌, ℕ, Bool, true, false, List, [], Option, Some, None}
 use Rattle.std.specs.Prelude.{map, take, nat_le}
 use Rattle.dw_board.specs.Geometry.{Geometry}
-use Rattle.dw_desk.specs.inner.Chosen.{as_game, is_in}
+use Rattle.dw_desk.specs.Chosen.{as_game, is_in}
 use Rattle.dw_desk.specs.declared.chosen.Chosen.{Chosen}
 use Rattle.dw_desk.specs.declared.chosen.Text.{Text}
 use Rattle.dw_desk.specs.declared.chosen.Text.TheVariants.{Fens, Pdn}

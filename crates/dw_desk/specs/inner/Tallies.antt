@@ -1,7 +1,7 @@
 -- Numbers of remarks, as the code keeps them.
 use Rattle.std.specs.Prelude.{ℕ, ◌+◌}
 use Rattle.dw_study.specs.Remarks.{Remark, fails, also, leaves_open, ends}
-use Rattle.dw_desk.specs.inner.Checking.{Counted}
+use Rattle.dw_desk.specs.Checking.{Counted}
 use Rattle.dw_desk.specs.declared.checking.Tally.{Tally}
 
 -- what they say

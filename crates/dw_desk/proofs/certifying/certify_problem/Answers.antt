@@ -1,6 +1,6 @@
 use Rattle.std.proofs.Common.{subst}
 use Rattle.std.specs.Prelude.{option_map}
-use Rattle.dw_desk.specs.inner.Chosen.{HandsOut}
+use Rattle.dw_desk.specs.Chosen.{HandsOut}
 use Rattle.dw_desk.specs.inner.Choosing.{AreToCome}
 use Rattle.dw_games.specs.GameReading.{numbered_game}
 use Rattle.dw_desk.proofs.certifying.certify_problem.Goals as goal

@@ -1,5 +1,5 @@
 use Rattle.std.proofs.Common.{◌≡◌, false}
-use Rattle.dw_desk.specs.inner.Checking.{IsCheckOf}
+use Rattle.dw_desk.specs.Checking.{IsCheckOf}
 use Rattle.dw_desk.specs.inner.Choosing.{AreToCome}
 use Rattle.dw_desk.proofs.ReportLemmas.{SoFar}
 use Rattle.dw_desk.proofs.checking.check_games.Given as goal

@@ -5,7 +5,7 @@ use Rattle.dw_games.specs.Faults.{IsAnswer, IsFirstFault}
 use Rattle.dw_games.specs.Games.{problem_of}
 use Rattle.dw_games.specs.GameReading.{numbered_game}
 use Rattle.dw_games.specs.Movetext.{IsTree}
-use Rattle.dw_desk.specs.inner.Checking.{SaysChecked}
+use Rattle.dw_desk.specs.Checking.{SaysChecked}
 use Rattle.dw_desk.proofs.CheckingLemmas.{refused_same}
 use Rattle.dw_desk.proofs.ProblemLemmas.{line_and_more}
 use Rattle.dw_desk.proofs.checking.report.Goals as goal

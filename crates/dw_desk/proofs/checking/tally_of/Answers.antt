@@ -1,6 +1,6 @@
 use Rattle.std.proofs.Common.{◌∙◌, ◌+◌, ap, sym, take}
 use Rattle.dw_study.specs.Telling.{remark_in}
-use Rattle.dw_desk.specs.inner.Checking.{counted}
+use Rattle.dw_desk.specs.Checking.{counted}
 use Rattle.dw_desk.specs.inner.Tallies.{one_more}
 use Rattle.dw_desk.proofs.CheckingLemmas.{all_said, counted_next, says_at}
 use Rattle.dw_desk.proofs.checking.tally_of.Goals as goal

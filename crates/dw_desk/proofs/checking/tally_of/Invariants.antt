@@ -2,7 +2,7 @@ use Rattle.std.proofs.Common.{◌≡◌, List, Some, map, take}
 use Rattle.dw_moves.specs.Moves.{Move}
 use Rattle.dw_study.specs.Remarks.{Remark}
 use Rattle.dw_study.specs.Telling.{remark_in}
-use Rattle.dw_desk.specs.inner.Checking.{counted}
+use Rattle.dw_desk.specs.Checking.{counted}
 use Rattle.dw_desk.specs.inner.Tallies.{tallied, total}
 use Rattle.dw_desk.proofs.checking.tally_of.Given as goal
 

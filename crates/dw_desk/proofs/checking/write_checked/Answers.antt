@@ -4,7 +4,7 @@ use Rattle.std.specs.Io.KnownBytes.{Appends}
 use Rattle.std.specs.String.{string_bytes}
 use Rattle.std.proofs.KnownBytes.{Appends-trans}
 use Rattle.dw_study.specs.Telling.{remark_in}
-use Rattle.dw_desk.specs.inner.Checking.{IsWinLine, counted, holds, last_line}
+use Rattle.dw_desk.specs.Checking.{IsWinLine, counted, holds, last_line}
 use Rattle.dw_desk.proofs.checking.write_checked.Goals as goal
 
 pub returns-clause-text : goal.returns-clause-text

@@ -2,7 +2,7 @@ use Rattle.std.proofs.Common.{◌++◌, [], sym, subst}
 use Rattle.std.proofs.KnownBytes.{Appends-nil, Appends-trans}
 use Rattle.dw_study.specs.RemarkText.{IsRemarkText}
 use Rattle.dw_study.specs.Telling.{remark_in}
-use Rattle.dw_desk.specs.inner.ProblemText.{AreTexts, nothing, one_more}
+use Rattle.dw_desk.specs.ProblemText.{AreTexts, nothing, one_more}
 use Rattle.dw_desk.proofs.CheckingLemmas.{all_said, says_at}
 use Rattle.dw_desk.proofs.checking.write_remarks.Goals as goal
 

@@ -4,7 +4,7 @@ use Rattle.dw_board.specs.Lists.{Member}
 use Rattle.dw_study.specs.RemarkText.{CanBeTold, IsRemarkText}
 use Rattle.dw_study.specs.Remarks.{Remark}
 use Rattle.dw_study.specs.Telling.{remark_in}
-use Rattle.dw_desk.specs.inner.ProblemText.{AreTexts}
+use Rattle.dw_desk.specs.ProblemText.{AreTexts}
 use Rattle.dw_desk.proofs.checking.write_remarks.Given as goal
 
 abbrev pub invariant-remarks : goal.invariant-remarks

@@ -2,8 +2,8 @@ use Rattle.std.proofs.Common.{subst}
 use Rattle.std.specs.Prelude.{option_map}
 use Rattle.dw_games.specs.GameReading.{numbered_game}
 use Rattle.dw_games.specs.Games.{NumberedGame, problem_of}
-use Rattle.dw_desk.specs.inner.Chosen.{HandsOut}
-use Rattle.dw_desk.specs.inner.Finding.{IsFindOf}
+use Rattle.dw_desk.specs.Chosen.{HandsOut}
+use Rattle.dw_desk.specs.Finding.{IsFindOf}
 use Rattle.dw_desk.specs.inner.Choosing.{AreToCome}
 use Rattle.dw_desk.proofs.ReportLemmas.{all_written, none_yet, then_one}
 use Rattle.dw_desk.proofs.finding.find_problems.Goals as goal

@@ -1,5 +1,5 @@
 use Rattle.std.proofs.Common.{◌≡◌, false}
-use Rattle.dw_desk.specs.inner.Finding.{IsFindOf}
+use Rattle.dw_desk.specs.Finding.{IsFindOf}
 use Rattle.dw_games.specs.Games.{problem_of}
 use Rattle.dw_desk.specs.inner.Choosing.{AreToCome}
 use Rattle.dw_desk.proofs.ReportLemmas.{SoFar}

@@ -3,7 +3,7 @@ use Rattle.std.specs.Io.KnownBytes.{Appends}
 use Rattle.std.specs.String.{string_bytes}
 use Rattle.dw_notation.specs.Problems.{numbered}
 use Rattle.dw_study.specs.Telling.{told_by}
-use Rattle.dw_desk.specs.inner.Finding.{SaysFound}
+use Rattle.dw_desk.specs.Finding.{SaysFound}
 use Rattle.dw_desk.proofs.ProblemLemmas.{line_and_more}
 use Rattle.dw_desk.proofs.finding.report_in_words.Goals as goal
 

@@ -2,7 +2,7 @@ use Rattle.std.proofs.Common.{None, [], ◌∙◌, ap, refl, subst}
 use Rattle.std.specs.Prelude.{option_map}
 use Rattle.std.proofs.KnownBytes.{Appends-nil}
 use Rattle.dw_desk.specs.declared.ending.Ending.TheVariants.{NoProblem}
-use Rattle.dw_desk.specs.inner.Chosen.{HandsOut}
+use Rattle.dw_desk.specs.Chosen.{HandsOut}
 use Rattle.dw_desk.specs.inner.Choosing.{AreToCome}
 use Rattle.dw_games.specs.GameReading.{numbered_game}
 use Rattle.dw_desk.proofs.mending.mend_problem.Goals as goal

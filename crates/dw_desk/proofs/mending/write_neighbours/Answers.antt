@@ -1,7 +1,7 @@
 use Rattle.std.proofs.Common.{◌∙◌, ◌==◌, not, refl, subst}
 use Rattle.std.specs.Io.KnownBytes.{Appends}
 use Rattle.dw_notation.specs.Problems.{numbered}
-use Rattle.dw_desk.specs.inner.Mending.{SaysMended}
+use Rattle.dw_desk.specs.Mending.{SaysMended}
 use Rattle.dw_desk.proofs.ProblemLemmas.{line_and_more}
 use Rattle.dw_desk.proofs.mending.write_neighbours.Goals as goal
 

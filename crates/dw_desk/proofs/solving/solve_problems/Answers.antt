@@ -1,8 +1,8 @@
 use Rattle.std.proofs.Common.{subst}
 use Rattle.std.specs.Prelude.{option_map}
 use Rattle.dw_games.specs.GameReading.{numbered_game}
-use Rattle.dw_desk.specs.inner.Chosen.{HandsOut}
-use Rattle.dw_desk.specs.inner.Solving.{IsGameOf}
+use Rattle.dw_desk.specs.Chosen.{HandsOut}
+use Rattle.dw_desk.specs.Solving.{IsGameOf}
 use Rattle.dw_desk.specs.inner.Choosing.{AreToCome}
 use Rattle.dw_desk.proofs.ReportLemmas.{all_written, none_yet, then_one}
 use Rattle.dw_desk.proofs.solving.solve_problems.Goals as goal

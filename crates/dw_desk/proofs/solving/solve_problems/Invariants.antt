@@ -1,5 +1,5 @@
 use Rattle.std.proofs.Common.{◌≡◌, false}
-use Rattle.dw_desk.specs.inner.Solving.{IsGameOf}
+use Rattle.dw_desk.specs.Solving.{IsGameOf}
 use Rattle.dw_desk.specs.inner.Choosing.{AreToCome}
 use Rattle.dw_desk.proofs.ReportLemmas.{SoFar}
 use Rattle.dw_desk.proofs.solving.solve_problems.Given as goal

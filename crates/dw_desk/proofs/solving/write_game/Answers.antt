@@ -1,7 +1,7 @@
 use Rattle.std.proofs.Common.{◌++◌, codes, false, refl, sym, subst}
 use Rattle.std.specs.Io.KnownBytes.{Appends}
 use Rattle.std.proofs.KnownBytes.{Appends-trans}
-use Rattle.dw_desk.specs.inner.Solving.{AreWrittenTags, IsGameFor}
+use Rattle.dw_desk.specs.Solving.{AreWrittenTags, IsGameFor}
 use Rattle.dw_desk.proofs.solving.write_game.Goals as goal
 
 pub returns-in_ok-write_all-in-Ok-2-clause-text : goal.returns-in_ok-write_all-in-Ok-2-clause-text

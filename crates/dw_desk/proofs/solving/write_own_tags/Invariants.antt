@@ -2,7 +2,7 @@ use Rattle.std.proofs.Common.{◌≡◌, false, map, take}
 use Rattle.std.specs.Io.KnownBytes.{Appends}
 use Rattle.std.specs.List.{flat_map}
 use Rattle.dw_games.specs.TagRows.{tag_text}
-use Rattle.dw_desk.specs.inner.Solving.{own_line}
+use Rattle.dw_desk.specs.Solving.{own_line}
 use Rattle.dw_desk.proofs.solving.write_own_tags.Given as goal
 
 abbrev pub invariant-tags : goal.invariant-tags

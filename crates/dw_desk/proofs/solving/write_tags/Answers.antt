@@ -3,7 +3,7 @@ use Rattle.std.specs.Io.KnownBytes.{Appends}
 use Rattle.std.specs.List.{flat_map}
 use Rattle.std.proofs.KnownBytes.{Appends-trans}
 use Rattle.dw_games.specs.TagRows.{tag_text}
-use Rattle.dw_desk.specs.inner.Solving.{new_lines, own_line}
+use Rattle.dw_desk.specs.Solving.{new_lines, own_line}
 use Rattle.dw_desk.proofs.solving.write_tags.Goals as goal
 
 pub returns-clause-tags : goal.returns-clause-tags

@@ -4,7 +4,7 @@ use Rattle.std.proofs.KnownBytes.{Appends-trans}
 use Rattle.dw_games.specs.Lines.{IsWrittenLine}
 use Rattle.dw_list.specs.Tokens.{token_of}
 use Rattle.std.specs.Prelude.{option_map}
-use Rattle.dw_desk.specs.inner.Chosen.{HandsOut}
+use Rattle.dw_desk.specs.Chosen.{HandsOut}
 use Rattle.dw_desk.specs.inner.Choosing.{AreToCome}
 use Rattle.dw_games.specs.GameReading.{numbered_game}
 use Rattle.dw_desk.proofs.writing.write_line.Goals as goal

@@ -2,7 +2,7 @@
 use Rattle.std.specs.Prelude.{◌≡◌, ℕ, Bool, true, false, Ok, Err, List, MatchBool}
 use Rattle.dw_board.specs.Geometry.{Geometry}
 use Rattle.dw_board.specs.Placement.{Placement}
-use Rattle.dw_desk.specs.inner.ProblemText.{IsProblemText}
+use Rattle.dw_desk.specs.ProblemText.{IsProblemText}
 use Rattle.dw_notation.specs.Problems.{Numbered}
 use Rattle.dw_notation.specs.TextLines.{Found}
 use Rattle.dw_study.specs.Finding.{Finding, IsFinding, judged, undecided}

@@ -2,7 +2,7 @@
 use Rattle.std.specs.Prelude.{◌≡◌, ◌==◌, ℕ, Bool, List, not}
 use Rattle.dw_board.specs.Geometry.{Geometry}
 use Rattle.dw_board.specs.Placement.{Placement}
-use Rattle.dw_desk.specs.inner.ProblemText.{IsProblemText}
+use Rattle.dw_desk.specs.ProblemText.{IsProblemText}
 use Rattle.dw_mend.specs.Mending.{IsMendText}
 use Rattle.dw_notation.specs.Problems.{Numbered}
 

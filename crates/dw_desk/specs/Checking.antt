@@ -13,7 +13,7 @@ use Rattle.dw_games.specs.declared.fault.MovetextFaultKind.{MovetextFaultKind}
 use Rattle.dw_study.specs.RemarkText.{IsRemarkText}
 use Rattle.dw_study.specs.Remarks.{Remark, fails, also, leaves_open, ends, AreRemarks}
 use Rattle.dw_study.specs.Turns.{HasTurns}
-use Rattle.dw_desk.specs.inner.ProblemText.{AreTexts, IsProblemText}
+use Rattle.dw_desk.specs.ProblemText.{AreTexts, IsProblemText}
 
 -- how many remarks there are of each kind
 pub record Counted : Type 0 where

@@ -1,2 +1,0 @@
--- What only relates the code to the definitions: no contract of a public call names it.
-pub mod Outcome
