@@ -9,8 +9,9 @@ use Rattle.dw_study.specs.declared.finding.Finding as findings
 use Rattle.dw_study.specs.declared.finding.Finding.TheVariants.{Undecided}
 use Rattle.dw_study.specs.Telling.{StaysOpen}
 
-pub no_lower : {B : Type 0} (n k : ℕ) → Ok {T = findings.Finding B} {E = Stop} (Undecided n) ≡ Ok (Undecided k) → n ≡ k
-no_lower n k same = cc
+pub no_lower : {B : Type 0} (n k : ℕ) (r : Result (findings.Finding B) Stop) → r ≡ Ok (Undecided n)
+    → r ≡ Ok (Undecided k) → n ≡ k
+no_lower n k r is same = cc
 
 module _ {M B : Type 0} (content : M → Content) (p : Placement) (each : ℕ) (a b : Solving M) where
   -- after a stop nothing is undecided

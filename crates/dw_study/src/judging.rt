@@ -83,8 +83,6 @@ fn judge_until<B: Board, M: Memo<B>, G: Guide<B>>(
     ensures verdict { IfOk result (λ judged. IsVerdict B.geometry position.now moves (said_by judged.verdict)) }
     ensures tries { IfOk result (λ judged. Tries B.geometry position.now moves judged.tries.items) }
     ensures asked { AskedUntil B.geometry M.content M.dropped moves until solver.old solver.new result }
-    ensures right { AreTrue B.geometry (M.content solver.new.memo) }
-    ensures map { IsMap (M.content solver.new.memo) }
 {
     let limit = lower(solver, until);
     let judged = judge(alloc, solver, position, moves);

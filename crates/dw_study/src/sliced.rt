@@ -74,10 +74,7 @@ pub fn wins_on<B: Board, M: Memo<B>, G: Guide<B>, W: Watcher>(
         let until = slices.next_limit(solver.expanded(), solver.limit());
         match wins_until(alloc, solver, position, moves, until) {
             Err(Stop::Limit) if until < solver.limit() => slices.tell(moves, solver.expanded()),
-            answer => {
-                solver.keeps_its_facts();
-                return answer;
-            }
+            answer => return answer,
         }
     }
 }

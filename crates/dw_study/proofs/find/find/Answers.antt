@@ -1,4 +1,4 @@
-use Rattle.std.proofs.Common.{◌≤◌, ◌∙◌, ap, subst, arith}
+use Rattle.std.proofs.Common.{◌≤◌, ◌∙◌, ap, subst, arith, refl, rules}
 use Rattle.dw_study.specs.Slices.{Began}
 use Rattle.dw_study.proofs.OpenLemmas.{no_lower, stays_stopped}
 use Rattle.dw_study.proofs.SliceLemmas.{stop_cuts}
@@ -58,7 +58,7 @@ returns-in-Err-2-clause-began g c =
     began_looked g.B.Board.geometry g.M.Memo.content g.M.Memo.dropped c.searches_add_up.ensures c.args.bounds.most _
     c.args.slices.now c.begin.new.self c.number_within.new.slices c.args.solver.now c.number_within.new.solver _ _
     (ap (λ z. z.first) c.begin.ensures) (ap (λ z. z.start) c.begin.ensures ∙ c.expanded-start.ensures)
-    ? c.in-Err-2.ensures.looks
+    (search rules) c.in-Err-2.ensures.looks
 
 pub returns-in_err-judged-in-Ok-clause-stays : goal.returns-in_err-judged-in-Ok-clause-stays
 returns-in_err-judged-in-Ok-clause-stays g c =
@@ -73,7 +73,7 @@ pub returns-in-Err-clause-stays : goal.returns-in-Err-clause-stays
 returns-in-Err-clause-stays g c =
     record {
       undecided = λ k same. omega arith;
-      known = λ j k says same. subst (λ z. j ≤ z) (no_lower _ k same) (c.in-Err.ensures.known j says);
+      known = λ j k says same. subst (λ z. j ≤ z) (no_lower _ k _ refl same) (c.in-Err.ensures.known j says);
     }
 
 pub returns-in-Err-2-clause-stays : goal.returns-in-Err-2-clause-stays

@@ -1,4 +1,4 @@
-use Rattle.std.proofs.Common.{◌∙◌, arith, ap, Err}
+use Rattle.std.proofs.Common.{rules, ◌∙◌, arith, ap, Err}
 use Rattle.dw_study.proofs.SliceLemmas.{goes_on_more, counted_then}
 use Rattle.dw_study.proofs.WentLemmas.{went_last}
 use Rattle.dw_study.proofs.judging.judge_on.Goals as goal
@@ -31,7 +31,7 @@ returns-in_default-2-clause-went g c =
     let here = c.in_default.ensures.asked in
     went_last g.B.Board.geometry g.M.Memo.content g.M.Memo.dropped c.searches_add_up.ensures c.args.moves
     c.args.slices.now c.slices.slices c.args.solver.now c.slices.solver c.judge_until.new.solver _ now.count now.on
-    now.first now.start here.count here.searched ?
+    now.first now.start here.count here.searched (search rules)
 
 pub returns-in_default-3-clause-went : goal.returns-in_default-3-clause-went
 returns-in_default-3-clause-went g c =
@@ -39,4 +39,4 @@ returns-in_default-3-clause-went g c =
     let here = c.judge_until.ensures.asked in
     went_last g.B.Board.geometry g.M.Memo.content g.M.Memo.dropped c.searches_add_up.ensures c.args.moves
     c.args.slices.now c.slices.slices c.args.solver.now c.slices.solver c.judge_until.new.solver _ now.count now.on
-    now.first now.start here.count here.searched ?
+    now.first now.start here.count here.searched (search rules)

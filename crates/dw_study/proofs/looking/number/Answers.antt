@@ -1,4 +1,4 @@
-use Rattle.std.proofs.Common.{◌≤◌, ◌∙◌, sym, ap, arith, below_more, tt, Err}
+use Rattle.std.proofs.Common.{◌≤◌, ◌∙◌, sym, ap, arith, below_more, Err}
 use Rattle.std.proofs.lemmas.Bool.{true≢false}
 use Rattle.dw_study.proofs.SliceLemmas.{goes_on_then, goes_on_looser, counted_then, idle_on, known_below}
 use Rattle.dw_study.proofs.looking.number.Goals as goal

@@ -1,4 +1,4 @@
-use Rattle.std.proofs.Common.{◌∙◌, refl, sym, inl, inr, arith, ap, Err}
+use Rattle.std.proofs.Common.{rules, ◌∙◌, refl, sym, inl, inr, arith, ap, Err}
 use Rattle.std.proofs.lemmas.Bool.{true≢false}
 use Rattle.dw_study.proofs.SliceLemmas.{goes_on_none, goes_on_more, counted_then, idle_none, idle_then}
 use Rattle.dw_study.proofs.SliceLemmas.{still_decided, spent_later, loss_then, loss_none}
@@ -53,7 +53,7 @@ returns-in_default-2-clause-went g c =
     let here = c.in_default.ensures.asked in
     went_last g.B.Board.geometry g.M.Memo.content g.M.Memo.dropped c.searches_add_up.ensures c.args.moves
     c.args.slices.now c.slices.slices c.args.solver.now c.slices.solver c.wins_until.new.solver _ now.count now.on
-    now.first now.start here.count here.searched ?
+    now.first now.start here.count here.searched (search rules)
 
 pub returns-in_default-3-clause-went : goal.returns-in_default-3-clause-went
 returns-in_default-3-clause-went g c =
@@ -61,7 +61,7 @@ returns-in_default-3-clause-went g c =
     let here = c.wins_until.ensures.asked in
     went_last g.B.Board.geometry g.M.Memo.content g.M.Memo.dropped c.searches_add_up.ensures c.args.moves
     c.args.slices.now c.slices.slices c.args.solver.now c.slices.solver c.wins_until.new.solver _ now.count now.on
-    now.first now.start here.count here.searched ?
+    now.first now.start here.count here.searched (search rules)
 
 pub returns-in_default-3-clause-known : goal.returns-in_default-3-clause-known
 returns-in_default-3-clause-known g c decided =
