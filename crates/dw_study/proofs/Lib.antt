@@ -1,6 +1,7 @@
 pub mod SliceLemmas
 pub mod FindingLemmas
 pub mod WentLemmas
+pub mod OpenLemmas
 pub mod ChildLemmas
 pub mod SeenLemmas
 pub mod RemarkLemmas

@@ -16,7 +16,7 @@ use Rattle.dw_solve.specs.Questions.{moment_of, Idle, LostNothing}
 use Rattle.dw_solve.specs.Certificates.{SaysLeast}
 use Rattle.dw_solve.specs.Searching.{IsCounted}
 use Rattle.dw_solve.specs.Solving.{Solving}
-use Rattle.dw_solve.specs.Work.{Moment, Searched, LossIsCounted}
+use Rattle.dw_solve.specs.Work.{Moment, Searched, LossIsCounted, cut_off}
 use Rattle.dw_study.specs.declared.finding.Finding as findings
 use Rattle.dw_study.specs.Telling.{cut_short}
 use Rattle.dw_study.specs.Slices.{SearchedInSlices, GoesOn}
@@ -138,7 +138,7 @@ module _ {M : Type 0} (g : Geometry) (content : M → Content) (lost : M → ℕ
 
 -- after a stop as much is cut off as a stop cuts off
 pub stop_cuts : {B : Type 0} (r : Result (findings.Finding B) Stop) (e : Stop) (n : ℕ) → IsErrAnd r (λ d. d ≡ e)
-    → n ≡ cut_short r n
+    → cut_off r n ≡ cut_short r n
 stop_cuts (Ok x) e n is = absurd is
 stop_cuts (Err d) e n is = refl
 

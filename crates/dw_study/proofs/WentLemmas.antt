@@ -1,5 +1,5 @@
 -- Searches in slices, one after another.
-use Rattle.std.proofs.Common.{◌≡◌, ℕ, ◌≤◌, refl, sym, ap, ◌∙◌, arith, Result, Ok, Err, IsErrOf}
+use Rattle.std.proofs.Common.{◌≡◌, ℕ, ◌≤◌, refl, sym, subst, ap, ◌∙◌, arith, Result, Ok, Err, IsErrOf}
 use Rattle.std.specs.Result.{IsErrAnd}
 use Rattle.dw_board.specs.Geometry.{Geometry}
 use Rattle.dw_memo.specs.Content.{Content}
@@ -7,8 +7,14 @@ use Rattle.dw_solve.specs.declared.stop.Stop.{Stop}
 use Rattle.dw_solve.specs.declared.stop.Stop.TheVariants.{Limit, Memory}
 use Rattle.dw_solve.specs.Solving.{Solving}
 use Rattle.dw_study.specs.declared.slices.Slices.{Slices}
-use Rattle.dw_study.specs.inner.Checking.{Went}
-use Rattle.dw_study.proofs.SliceLemmas.{goes_on_none, goes_on_then, goes_on_looser, counted_then}
+use Rattle.dw_solve.specs.Laws.{SearchesAddUp}
+use Rattle.dw_solve.specs.Questions.{moment_of}
+use Rattle.dw_solve.specs.Searching.{IsCounted}
+use Rattle.dw_solve.specs.Work.{Searched, cut_off}
+use Rattle.dw_study.specs.Slices.{Went, Began, GoesOn}
+use Rattle.dw_study.specs.declared.looking.Cut.{Cut}
+use Rattle.dw_study.specs.inner.Looking.{LooksOn}
+use Rattle.dw_study.proofs.SliceLemmas.{goes_on_none, goes_on_then, goes_on_last, goes_on_looser, begun_here, counted_then}
 
 -- an answer, whatever it is
 abbrev pub answered : Result ℕ Stop
@@ -84,4 +90,73 @@ module _ {M W : Type 0} (g : Geometry) (content : M → Content) (lost : M → �
     on = goes_on_looser g content lost n t.first t.start 0 n a b (omega arith) h.on;
     first = h.first;
     start = h.start;
+  }
+
+  -- with the last slice
+  pub went_last : {A : Type 0} → SearchesAddUp → (n : ℕ) (t u : Slices W) (a b c : Solving M) (r : Result A Stop)
+      → IsCounted a.expanded a.limit b.expanded b.limit → GoesOn g content lost n t.first t.start 0 a b
+      → u.first ≡ t.first → u.start ≡ t.start → IsCounted b.expanded b.limit c.expanded c.limit
+      → Searched g n (cut_off r n) (moment_of content lost b) (moment_of content lost c)
+      → (IsErrOf r Limit → c.expanded ≡ c.limit) → Went g content lost n t u a c r
+  went_last law n t u a b c r counted on first start counted' searched stop = record {
+    count = counted_then _ _ _ _ _ _ counted counted';
+    stop = stop;
+    on = goes_on_last g content lost law n t.first t.start (cut_off r n) a b c on counted'.rises searched;
+    first = first;
+    start = start;
+  }
+
+  -- searches whose slices begin here
+  pub began_here : {A : Type 0} → SearchesAddUp → (n : ℕ) (t u v : Slices W) (a b : Solving M) (r : Result A Stop)
+      → u.first ≡ t.first → u.start ≡ a.expanded → Went g content lost n u v a b r
+      → Began g content lost n (cut_off r n) t v a b r
+  began_here law n t u v a b r first start h = record {
+    count = h.count;
+    stop = h.stop;
+    searched = begun_here g content lost law n t.first u.first u.start (cut_off r n) a b first start h.on;
+    first = h.first ∙ first;
+    begun = h.start ∙ start;
+  }
+
+  -- the same with a limit that is lowered before and raised after
+  pub looks_between : (n limit most : ℕ) (t u : Slices W) (a b c d : Solving M) (r : Result ℕ Cut)
+      → b ≡ record a { limit = limit } → d ≡ record c { limit = a.limit } → limit ≡ most → limit ≤ a.limit
+      → LooksOn g content lost n b.limit t u b c r → LooksOn g content lost n most t u a d r
+  looks_between n limit most t u a b c d r down up same less h =
+      let lower = subst (λ z. LooksOn g content lost n z.limit t u z c r) down h in
+      subst (λ z. LooksOn g content lost n most t u a z r) (sym up)
+      (subst (λ z. LooksOn g content lost n z t u a (record c { limit = a.limit }) r) same (record {
+        count = record {
+          rises = lower.count.rises;
+          within = let w = lower.count.within in omega (arith, w, less);
+          same = refl;
+        };
+        stop = lower.stop;
+        on = lower.on;
+        first = lower.first;
+        start = lower.start;
+      }))
+
+  -- a search that found a number
+  pub went_looked : (n limit : ℕ) (t u : Slices W) (a b : Solving M) (k : ℕ)
+      → LooksOn g content lost n limit t u a b (Ok k) → Went g content lost n t u a b answered
+  went_looked n limit t u a b k h = record {
+    count = h.count;
+    stop = λ e. cc;
+    on = h.on;
+    first = h.first;
+    start = h.start;
+  }
+
+  -- a search for a number whose slices begin here
+  pub began_looked : {A : Type 0} → SearchesAddUp → (n limit : ℕ) (t u v : Slices W) (a b : Solving M)
+      (r : Result ℕ Cut) (answer : Result A Stop) → u.first ≡ t.first → u.start ≡ a.expanded
+      → (IsErrOf answer Limit → b.expanded ≡ b.limit) → LooksOn g content lost n limit u v a b r
+      → Began g content lost n (cut_off r n) t v a b answer
+  began_looked law n limit t u v a b r answer first start stop h = record {
+    count = h.count;
+    stop = stop;
+    searched = begun_here g content lost law n t.first u.first u.start (cut_off r n) a b first start h.on;
+    first = h.first ∙ first;
+    begun = h.start ∙ start;
   }

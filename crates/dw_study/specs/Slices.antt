@@ -1,10 +1,14 @@
 -- Searches in slices.
-use Rattle.std.specs.Prelude.{◌≡◌, ℕ, ◌+◌, ◌*◌, ◌^◌, ◌≤◌}
+use Rattle.std.specs.Prelude.{◌≡◌, ℕ, ◌+◌, ◌*◌, ◌^◌, ◌≤◌, Result, IsErrOf}
 use Rattle.dw_board.specs.Geometry.{Geometry}
 use Rattle.dw_memo.specs.Content.{Content}
 use Rattle.dw_solve.specs.Questions.{moment_of}
+use Rattle.dw_solve.specs.declared.stop.Stop.{Stop}
+use Rattle.dw_solve.specs.declared.stop.Stop.TheVariants.{Limit}
+use Rattle.dw_solve.specs.Searching.{IsCounted}
 use Rattle.dw_solve.specs.Solving.{Solving}
-use Rattle.dw_solve.specs.Work.{Moment, Searched}
+use Rattle.dw_solve.specs.Work.{Moment, Searched, cut_off}
+use Rattle.dw_study.specs.declared.slices.Slices.{Slices}
 
 -- What searches for wins within n moves do that are cut into slices, the first of so many positions and each larger
 -- than all before it together: each slice that ended has doubled what was expanded, and cut off as much as a stop does.
@@ -19,3 +23,23 @@ abbrev pub GoesOn : {M : Type 0} → Geometry → (M → Content) → (M → ℕ
 GoesOn g content lost n first start cut old new = (began : Moment) (most : ℕ) → n ≤ most → began.expanded ≡ start
     → SearchedInSlices g most first 0 began (moment_of content lost old)
     → SearchedInSlices g most first cut began (moment_of content lost new)
+
+-- searches for wins within n moves in slices that began before: each expansion is counted, up to the limit, and the
+-- slices go on
+pub record Went {M A W : Type 0} (g : Geometry) (content : M → Content) (lost : M → ℕ) (n : ℕ)
+    (before after : Slices W) (old new : Solving M) (answer : Result A Stop) : Type 0 where
+  pub count : IsCounted old.expanded old.limit new.expanded new.limit
+  pub stop : IsErrOf answer Limit → new.expanded ≡ new.limit
+  pub on : GoesOn g content lost n before.first before.start (cut_off answer n) old new
+  pub first : after.first ≡ before.first
+  pub start : after.start ≡ before.start
+
+-- searches for wins within n moves in slices that begin with them: each expansion is counted, up to the limit, and so
+-- much is cut off behind the slices that ended
+pub record Began {M A W : Type 0} (g : Geometry) (content : M → Content) (lost : M → ℕ) (n cut : ℕ)
+    (before after : Slices W) (old new : Solving M) (answer : Result A Stop) : Type 0 where
+  pub count : IsCounted old.expanded old.limit new.expanded new.limit
+  pub stop : IsErrOf answer Limit → new.expanded ≡ new.limit
+  pub searched : SearchedInSlices g n before.first cut (moment_of content lost old) (moment_of content lost new)
+  pub first : after.first ≡ before.first
+  pub begun : after.start ≡ old.expanded

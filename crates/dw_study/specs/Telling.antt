@@ -1,6 +1,10 @@
 -- How findings and remarks are told.
-use Rattle.std.specs.Prelude.{◌≡◌, ℕ, Result, Ok, Err, Option, Some, option_map, List, map}
+use Rattle.std.specs.Prelude.{◌≡◌, ℕ, ◌+◌, ◌≤◌, Result, Ok, Err, Option, Some, option_map, List, map}
+use Rattle.dw_board.specs.Placement.{Placement}
+use Rattle.dw_memo.specs.Content.{Content}
 use Rattle.dw_solve.specs.declared.stop.Stop.{Stop}
+use Rattle.dw_solve.specs.Certificates.{SaysLeast}
+use Rattle.dw_solve.specs.Solving.{Solving}
 use Rattle.dw_report.specs.Judging.{said_by}
 use Rattle.dw_moves.specs.Moves.{Move}
 use Rattle.dw_games.specs.Walk.{place_of, beginning_at}
@@ -21,6 +25,13 @@ abbrev pub cut_short : {B : Type 0} → Result (findings.Finding B) Stop → ℕ
 cut_short (Ok (Judged k it)) n = 0
 cut_short (Ok (Undecided k)) n = n
 cut_short (Err stop) n = n
+
+-- a position stays undecided only if as many positions were expanded as are allowed, and at no lower number of moves
+-- than up to which the memo said all that there is to know
+pub record StaysOpen {M B : Type 0} (content : M → Content) (p : Placement) (each : ℕ) (old new : Solving M)
+    (answer : Result (findings.Finding B) Stop) : Type 0 where
+  pub undecided : (k : ℕ) → answer ≡ Ok (Undecided k) → new.expanded ≡ old.expanded + each
+  pub known : (j k : ℕ) → SaysLeast (content old.memo) p j → answer ≡ Ok (Undecided k) → j ≤ k
 
 -- what a remark says, whose beginning is told by its place in a tree
 abbrev pub remark_in : {B : Type 0} → List (List Move) → remarks.Remark B → Option Remark

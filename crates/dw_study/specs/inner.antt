@@ -1,4 +1,5 @@
 -- What only relates the code to the definitions: no contract of a public call names it.
+pub mod Slicing
 pub mod Looking
 pub mod Checking
 pub mod Beginnings

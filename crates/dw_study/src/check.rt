@@ -1,16 +1,14 @@
 //! What an author's solution gets wrong, and what it leaves out.
-ghost use Rattle.std.specs.Prelude.{◌≡◌, ◌≤◌, ◌↔◌, [], Some, IfOk, IsErrOf, IsTrue};
+ghost use Rattle.std.specs.Prelude.{◌≡◌, ◌≤◌, ◌↔◌, [], Some, IfOk, IsTrue};
 ghost use Rattle.dw_memo.specs.Content.{IsMap};
-ghost use Rattle.dw_solve.specs.declared.stop.Stop.TheVariants.{Limit};
 ghost use Rattle.dw_solve.specs.Facts.{AreTrue};
-ghost use Rattle.dw_solve.specs.Searching.{IsCounted};
 ghost use Rattle.dw_solve.specs.Wins.{Win};
-ghost use Rattle.dw_solve.specs.Work.{moment, cut_off};
+ghost use Rattle.dw_solve.specs.Work.{cut_off};
 ghost use Rattle.dw_games.specs.Walk.{beginning_at, place_of};
 ghost use Rattle.dw_study.specs.Remarks.{AreRemarks};
-ghost use Rattle.dw_study.specs.Slices.{SearchedInSlices};
+ghost use Rattle.dw_study.specs.Slices.{Began, Went};
 ghost use Rattle.dw_study.specs.Telling.{Say};
-ghost use Rattle.dw_study.specs.inner.Checking.{Went, Behind, IsKept, IsSeen};
+ghost use Rattle.dw_study.specs.inner.Checking.{Behind, IsKept, IsSeen};
 
 use crate::branch::{Seen, Spot};
 use crate::remark::{Checked, Remark};
@@ -42,15 +40,10 @@ pub fn check<B: Board, M: Memo<B>, G: Guide<B>, W: Watcher>(
     ensures wins { IfOk result (λ checked. IsTrue checked.wins ↔ Win B.geometry position.now moves) }
     ensures remarks { IfOk result (λ checked. Say tree.now checked.remarks.items
         (AreRemarks B.geometry tree.now moves position.now [])) }
-    ensures count { IsCounted solver.old.expanded solver.old.limit solver.new.expanded solver.new.limit }
-    ensures stop { IsErrOf result Limit → solver.new.expanded ≡ solver.new.limit }
-    ensures searched { SearchedInSlices B.geometry moves slices.old.first (cut_off result moves)
-        (moment M.content M.dropped solver.old.memo solver.old.expanded)
-        (moment M.content M.dropped solver.new.memo solver.new.expanded) }
+    ensures began { Began B.geometry M.content M.dropped moves (cut_off result moves) slices.old slices.new solver.old
+        solver.new result }
     ensures right { AreTrue B.geometry (M.content solver.new.memo) }
     ensures map { IsMap (M.content solver.new.memo) }
-    ensures first { slices.new.first ≡ slices.old.first }
-    ensures begun { slices.new.start ≡ solver.old.expanded }
 {
     dw_solve::laws::searches_add_up();
     slices.begin(solver.expanded());

@@ -1,15 +1,10 @@
 //! The least number of moves within which a position is won, and the verdict at it.
-ghost use Rattle.std.specs.Prelude.{◌≡◌, ℕ, ◌≤◌, ◌+◌, IfOk, IsErrOf};
+ghost use Rattle.std.specs.Prelude.{◌≤◌, IfOk};
 ghost use Rattle.dw_memo.specs.Content.{IsMap};
-ghost use Rattle.dw_solve.specs.Certificates.{SaysLeast};
-ghost use Rattle.dw_solve.specs.declared.stop.Stop.TheVariants.{Limit};
 ghost use Rattle.dw_solve.specs.Facts.{AreTrue};
-ghost use Rattle.dw_solve.specs.Searching.{IsCounted};
-ghost use Rattle.dw_solve.specs.Work.{moment};
 ghost use Rattle.dw_study.specs.Finding.{IsFinding};
-ghost use Rattle.dw_study.specs.Slices.{SearchedInSlices};
-ghost use Rattle.dw_study.specs.Telling.{told_by, cut_short};
-ghost use Rattle.dw_study.specs.declared.finding.Finding.TheVariants.{Undecided};
+ghost use Rattle.dw_study.specs.Slices.{Began};
+ghost use Rattle.dw_study.specs.Telling.{told_by, cut_short, StaysOpen};
 
 use crate::finding::{FindBounds, Finding};
 use crate::judging::judge_on;
@@ -37,19 +32,11 @@ pub fn find<B: Board, M: Memo<B>, G: Guide<B>, W: Watcher>(
     requires few { bounds.most ≤ 20 }
     requires room { 1 ≤ bounds.each }
     ensures finding { IfOk result (λ finding. IsFinding B.geometry position.now bounds.most (told_by finding)) }
-    ensures undecided { (k : ℕ) → result ≡ Ok (Undecided k)
-        → solver.new.expanded ≡ solver.old.expanded + bounds.each }
-    ensures known { (j k : ℕ) → SaysLeast (M.content solver.old.memo) position.now j → result ≡ Ok (Undecided k)
-        → j ≤ k }
-    ensures count { IsCounted solver.old.expanded solver.old.limit solver.new.expanded solver.new.limit }
-    ensures stop { IsErrOf result Limit → solver.new.expanded ≡ solver.new.limit }
-    ensures searched { SearchedInSlices B.geometry bounds.most slices.old.first (cut_short result bounds.most)
-        (moment M.content M.dropped solver.old.memo solver.old.expanded)
-        (moment M.content M.dropped solver.new.memo solver.new.expanded) }
+    ensures stays { StaysOpen M.content position.now bounds.each solver.old solver.new result }
+    ensures began { Began B.geometry M.content M.dropped bounds.most (cut_short result bounds.most) slices.old
+        slices.new solver.old solver.new result }
     ensures right { AreTrue B.geometry (M.content solver.new.memo) }
     ensures map { IsMap (M.content solver.new.memo) }
-    ensures first { slices.new.first ≡ slices.old.first }
-    ensures begun { slices.new.start ≡ solver.old.expanded }
 {
     dw_solve::laws::searches_add_up();
     let start = solver.expanded();

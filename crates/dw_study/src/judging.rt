@@ -1,13 +1,12 @@
 //! Verdicts and tries, searched for in slices.
-ghost use Rattle.std.specs.Prelude.{◌≡◌, ◌≤◌, ◌<◌, IfOk, IsErrOf, min};
+ghost use Rattle.std.specs.Prelude.{◌≤◌, ◌<◌, IfOk};
 ghost use Rattle.dw_memo.specs.Content.{IsMap};
-ghost use Rattle.dw_solve.specs.declared.stop.Stop.TheVariants.{Limit};
 ghost use Rattle.dw_solve.specs.Facts.{AreTrue};
-ghost use Rattle.dw_solve.specs.Searching.{IsCounted};
-ghost use Rattle.dw_solve.specs.Work.{moment, Searched, cut_off};
+ghost use Rattle.dw_solve.specs.Work.{cut_off};
 ghost use Rattle.dw_report.specs.Verdict.{IsVerdict, Tries};
 ghost use Rattle.dw_report.specs.Judging.{said_by};
-ghost use Rattle.dw_study.specs.Slices.{SearchedInSlices, GoesOn};
+ghost use Rattle.dw_study.specs.Slices.{Began, Went};
+ghost use Rattle.dw_study.specs.inner.Slicing.{AskedUntil};
 
 use crate::limits::{lower, raise};
 use crate::slices::{Slices, Watcher};
@@ -32,15 +31,10 @@ pub fn judge_in_slices<B: Board, M: Memo<B>, G: Guide<B>, W: Watcher>(
     requires few { moves ≤ 20 }
     ensures verdict { IfOk result (λ judged. IsVerdict B.geometry position.now moves (said_by judged.verdict)) }
     ensures tries { IfOk result (λ judged. Tries B.geometry position.now moves judged.tries.items) }
-    ensures count { IsCounted solver.old.expanded solver.old.limit solver.new.expanded solver.new.limit }
-    ensures stop { IsErrOf result Limit → solver.new.expanded ≡ solver.new.limit }
-    ensures searched { SearchedInSlices B.geometry moves slices.old.first (cut_off result moves)
-        (moment M.content M.dropped solver.old.memo solver.old.expanded)
-        (moment M.content M.dropped solver.new.memo solver.new.expanded) }
+    ensures began { Began B.geometry M.content M.dropped moves (cut_off result moves) slices.old slices.new solver.old
+        solver.new result }
     ensures right { AreTrue B.geometry (M.content solver.new.memo) }
     ensures map { IsMap (M.content solver.new.memo) }
-    ensures first { slices.new.first ≡ slices.old.first }
-    ensures begun { slices.new.start ≡ solver.old.expanded }
 {
     dw_solve::laws::searches_add_up();
     slices.begin(solver.expanded());
@@ -60,14 +54,9 @@ pub fn judge_on<B: Board, M: Memo<B>, G: Guide<B>, W: Watcher>(
     requires few { moves ≤ 20 }
     ensures verdict { IfOk result (λ judged. IsVerdict B.geometry position.now moves (said_by judged.verdict)) }
     ensures tries { IfOk result (λ judged. Tries B.geometry position.now moves judged.tries.items) }
-    ensures count { IsCounted solver.old.expanded solver.old.limit solver.new.expanded solver.new.limit }
-    ensures stop { IsErrOf result Limit → solver.new.expanded ≡ solver.new.limit }
-    ensures on { GoesOn B.geometry M.content M.dropped moves slices.old.first slices.old.start (cut_off result moves)
-        solver.old solver.new }
+    ensures went { Went B.geometry M.content M.dropped moves slices.old slices.new solver.old solver.new result }
     ensures right { AreTrue B.geometry (M.content solver.new.memo) }
     ensures map { IsMap (M.content solver.new.memo) }
-    ensures first { slices.new.first ≡ slices.old.first }
-    ensures start { slices.new.start ≡ slices.old.start }
 {
     dw_solve::laws::searches_add_up();
     solver.keeps_its_limit();
@@ -93,13 +82,7 @@ fn judge_until<B: Board, M: Memo<B>, G: Guide<B>>(
     requires some { until < solver.old.limit → 1 ≤ until }
     ensures verdict { IfOk result (λ judged. IsVerdict B.geometry position.now moves (said_by judged.verdict)) }
     ensures tries { IfOk result (λ judged. Tries B.geometry position.now moves judged.tries.items) }
-    ensures count { IsCounted solver.old.expanded solver.old.limit solver.new.expanded solver.new.limit }
-    ensures stop { IsErrOf result Limit → solver.new.expanded ≡ min solver.old.limit until }
-    ensures searched { Searched B.geometry moves (cut_off result moves)
-        (moment M.content M.dropped solver.old.memo solver.old.expanded)
-        (moment M.content M.dropped solver.new.memo solver.new.expanded) }
-    ensures right { AreTrue B.geometry (M.content solver.new.memo) }
-    ensures map { IsMap (M.content solver.new.memo) }
+    ensures asked { AskedUntil B.geometry M.content M.dropped moves until solver.old solver.new result }
 {
     let limit = lower(solver, until);
     let judged = judge(alloc, solver, position, moves);

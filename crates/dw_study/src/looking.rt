@@ -1,12 +1,9 @@
 //! The least number of moves within which a position is won.
-ghost use Rattle.std.specs.Prelude.{◌≡◌, ℕ, ◌≤◌, ◌+◌, IfErr, min};
+ghost use Rattle.std.specs.Prelude.{ℕ, ◌≤◌, ◌+◌, IfErr, min};
 ghost use Rattle.dw_memo.specs.Content.{IsMap};
 ghost use Rattle.dw_solve.specs.Certificates.{SaysLeast};
 ghost use Rattle.dw_solve.specs.Facts.{AreTrue};
-ghost use Rattle.dw_solve.specs.Searching.{IsCounted};
-ghost use Rattle.dw_solve.specs.Work.{cut_off};
-ghost use Rattle.dw_study.specs.inner.Looking.{IsLooked, StopsAt};
-ghost use Rattle.dw_study.specs.Slices.{GoesOn};
+ghost use Rattle.dw_study.specs.inner.Looking.{IsLooked, LooksOn};
 
 use crate::finding::FindBounds;
 use crate::limits::{lower, raise};
@@ -40,14 +37,10 @@ pub(crate) fn number_within<B: Board, M: Memo<B>, G: Guide<B>, W: Watcher>(
     ensures number { IsLooked B.geometry position.now bounds.most result }
     ensures known { IfErr result (λ cut. (j : ℕ) → SaysLeast (M.content solver.old.memo) position.now j
         → j ≤ cut.no_win_in) }
-    ensures count { IsCounted solver.old.expanded solver.old.limit solver.new.expanded solver.new.limit }
-    ensures stop { StopsAt (min solver.old.limit (solver.old.expanded + bounds.each)) solver.new.expanded result }
-    ensures on { GoesOn B.geometry M.content M.dropped bounds.most slices.old.first slices.old.start
-        (cut_off result bounds.most) solver.old solver.new }
+    ensures looks { LooksOn B.geometry M.content M.dropped bounds.most
+        (min solver.old.limit (solver.old.expanded + bounds.each)) slices.old slices.new solver.old solver.new result }
     ensures right { AreTrue B.geometry (M.content solver.new.memo) }
     ensures map { IsMap (M.content solver.new.memo) }
-    ensures first { slices.new.first ≡ slices.old.first }
-    ensures start { slices.new.start ≡ slices.old.start }
 {
     let until = solver.expanded().saturating_add(bounds.each);
     let limit = lower(solver, until);
@@ -70,12 +63,8 @@ fn number<B: Board, M: Memo<B>, G: Guide<B>, W: Watcher>(
     ensures number { IsLooked B.geometry position.now most result }
     ensures known { IfErr result (λ cut. (j : ℕ) → SaysLeast (M.content solver.old.memo) position.now j
         → j ≤ cut.no_win_in) }
-    ensures count { IsCounted solver.old.expanded solver.old.limit solver.new.expanded solver.new.limit }
-    ensures stop { StopsAt solver.old.limit solver.new.expanded result }
-    ensures on { GoesOn B.geometry M.content M.dropped most slices.old.first slices.old.start
-        (cut_off result most) solver.old solver.new }
-    ensures first { slices.new.first ≡ slices.old.first }
-    ensures start { slices.new.start ≡ slices.old.start }
+    ensures looks { LooksOn B.geometry M.content M.dropped most solver.old.limit slices.old slices.new solver.old
+        solver.new result }
 {
     solver.keeps_its_limit();
     'moves: for moves in 1..most + 1 {

@@ -4,7 +4,8 @@ ghost use Rattle.dw_board.specs.Lists.{Member};
 ghost use Rattle.dw_moves.specs.Moves.{Legal};
 ghost use Rattle.dw_solve.specs.Wins.{Lost};
 ghost use Rattle.dw_games.specs.Walk.{beginning_at, place_of};
-ghost use Rattle.dw_study.specs.inner.Checking.{Went, AreChildren, AreOthers, AreOtherKeys};
+ghost use Rattle.dw_study.specs.Slices.{Went};
+ghost use Rattle.dw_study.specs.inner.Checking.{AreChildren, AreOthers, AreOtherKeys};
 ghost use Rattle.dw_study.specs.inner.Checking.{FindsFirst, IsSeen, IsSorted};
 
 use crate::branch::{Child, Seen, Spot, children, others, push};

@@ -1,14 +1,13 @@
 //! Searches in slices.
-ghost use Rattle.std.specs.Prelude.{◌≡◌, ◌≤◌, ◌<◌, ◌⊎◌, ◌↔◌, IfOk, OnOk, IsOk, IsErrOf, IsTrue, min};
+ghost use Rattle.std.specs.Prelude.{◌≡◌, ◌≤◌, ◌<◌, ◌⊎◌, ◌↔◌, IfOk, OnOk, IsOk, IsTrue};
 ghost use Rattle.dw_memo.specs.Content.{IsMap};
-ghost use Rattle.dw_solve.specs.declared.stop.Stop.TheVariants.{Limit};
 ghost use Rattle.dw_solve.specs.Certificates.{SaysWin};
 ghost use Rattle.dw_solve.specs.Facts.{AreTrue, IsDecided};
 ghost use Rattle.dw_solve.specs.Questions.{Idle, LostNothing};
-ghost use Rattle.dw_solve.specs.Searching.{IsCounted};
 ghost use Rattle.dw_solve.specs.Wins.{Win};
-ghost use Rattle.dw_solve.specs.Work.{moment, Searched, cut_off};
-ghost use Rattle.dw_study.specs.Slices.{SearchedInSlices, GoesOn};
+ghost use Rattle.dw_solve.specs.Work.{cut_off};
+ghost use Rattle.dw_study.specs.Slices.{Began, Went};
+ghost use Rattle.dw_study.specs.inner.Slicing.{AskedUntil};
 
 use crate::limits::{lower, raise};
 use crate::slices::{Slices, Watcher};
@@ -31,11 +30,8 @@ pub fn wins_in_slices<B: Board, M: Memo<B>, G: Guide<B>, W: Watcher>(
     ensures answer { IfOk result (λ yes. IsTrue yes ↔ Win B.geometry position.now moves) }
     ensures right { AreTrue B.geometry (M.content solver.new.memo) }
     ensures map { IsMap (M.content solver.new.memo) }
-    ensures count { IsCounted solver.old.expanded solver.old.limit solver.new.expanded solver.new.limit }
-    ensures stop { IsErrOf result Limit → solver.new.expanded ≡ solver.new.limit }
-    ensures searched { SearchedInSlices B.geometry moves slices.old.first (cut_off result moves)
-        (moment M.content M.dropped solver.old.memo solver.old.expanded)
-        (moment M.content M.dropped solver.new.memo solver.new.expanded) }
+    ensures began { Began B.geometry M.content M.dropped moves (cut_off result moves) slices.old slices.new solver.old
+        solver.new result }
     ensures known { (moves ≡ 0) ⊎ IsDecided (M.content solver.old.memo) position.now moves
         → IsOk result × Idle M.content solver.old solver.new }
     ensures spent { OnOk result (1 ≤ moves →
@@ -43,8 +39,6 @@ pub fn wins_in_slices<B: Board, M: Memo<B>, G: Guide<B>, W: Watcher>(
         → solver.old.expanded < solver.new.expanded) }
     ensures says { LostNothing M.content M.dropped solver.old solver.new
         → IfOk result (SaysWin (M.content solver.new.memo) position.now moves) }
-    ensures first { slices.new.first ≡ slices.old.first }
-    ensures begun { slices.new.start ≡ solver.old.expanded }
 {
     dw_solve::laws::searches_add_up();
     slices.begin(solver.expanded());
@@ -65,10 +59,7 @@ pub fn wins_on<B: Board, M: Memo<B>, G: Guide<B>, W: Watcher>(
     ensures answer { IfOk result (λ yes. IsTrue yes ↔ Win B.geometry position.now moves) }
     ensures right { AreTrue B.geometry (M.content solver.new.memo) }
     ensures map { IsMap (M.content solver.new.memo) }
-    ensures count { IsCounted solver.old.expanded solver.old.limit solver.new.expanded solver.new.limit }
-    ensures stop { IsErrOf result Limit → solver.new.expanded ≡ solver.new.limit }
-    ensures on { GoesOn B.geometry M.content M.dropped moves slices.old.first slices.old.start (cut_off result moves)
-        solver.old solver.new }
+    ensures went { Went B.geometry M.content M.dropped moves slices.old slices.new solver.old solver.new result }
     ensures known { (moves ≡ 0) ⊎ IsDecided (M.content solver.old.memo) position.now moves
         → IsOk result × Idle M.content solver.old solver.new }
     ensures spent { OnOk result (1 ≤ moves →
@@ -76,8 +67,6 @@ pub fn wins_on<B: Board, M: Memo<B>, G: Guide<B>, W: Watcher>(
         → solver.old.expanded < solver.new.expanded) }
     ensures says { LostNothing M.content M.dropped solver.old solver.new
         → IfOk result (SaysWin (M.content solver.new.memo) position.now moves) }
-    ensures first { slices.new.first ≡ slices.old.first }
-    ensures start { slices.new.start ≡ slices.old.start }
 {
     dw_solve::laws::searches_add_up();
     solver.keeps_its_limit();
@@ -102,13 +91,7 @@ fn wins_until<B: Board, M: Memo<B>, G: Guide<B>>(
     requires enough { solver.old.expanded ≤ until }
     requires some { until < solver.old.limit → 1 ≤ until }
     ensures answer { IfOk result (λ yes. IsTrue yes ↔ Win B.geometry position.now moves) }
-    ensures right { AreTrue B.geometry (M.content solver.new.memo) }
-    ensures map { IsMap (M.content solver.new.memo) }
-    ensures count { IsCounted solver.old.expanded solver.old.limit solver.new.expanded solver.new.limit }
-    ensures stop { IsErrOf result Limit → solver.new.expanded ≡ min solver.old.limit until }
-    ensures searched { Searched B.geometry moves (cut_off result moves)
-        (moment M.content M.dropped solver.old.memo solver.old.expanded)
-        (moment M.content M.dropped solver.new.memo solver.new.expanded) }
+    ensures asked { AskedUntil B.geometry M.content M.dropped moves until solver.old solver.new result }
     ensures known { (moves ≡ 0) ⊎ IsDecided (M.content solver.old.memo) position.now moves
         → IsOk result × Idle M.content solver.old solver.new }
     ensures spent { OnOk result (1 ≤ moves →

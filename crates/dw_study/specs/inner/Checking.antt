@@ -1,39 +1,21 @@
 -- How an author's solution is checked.
 use Rattle.std.specs.Prelude.{◌≡◌, ℕ, ◌≤◌, Bool, true, false, not, Some, List, [], ◌∷◌, ◌++◌, map, slice_get}
-use Rattle.std.specs.Prelude.{Option, None, Result, IsErrOf}
+use Rattle.std.specs.Prelude.{Option, None}
 use Rattle.std.proofs.Common.{zero, suc}
 use Rattle.dw_board.specs.Geometry.{Geometry}
 use Rattle.dw_board.specs.Placement.{Placement}
 use Rattle.dw_board.specs.Lists.{Member}
-use Rattle.dw_memo.specs.Content.{Content}
 use Rattle.dw_moves.specs.Moves.{Move, Legal, play}
 use Rattle.dw_moves.specs.Order.{Precedes, IsListOf}
-use Rattle.dw_solve.specs.declared.stop.Stop.{Stop}
-use Rattle.dw_solve.specs.declared.stop.Stop.TheVariants.{Limit}
-use Rattle.dw_solve.specs.Searching.{IsCounted}
-use Rattle.dw_solve.specs.Solving.{Solving}
 use Rattle.dw_solve.specs.Wins.{Lost}
-use Rattle.dw_solve.specs.Work.{cut_off}
 use Rattle.dw_report.specs.Verdict.{IsWinning}
 use Rattle.dw_study.specs.declared.branch.Child.{Child}
 use Rattle.dw_study.specs.declared.branch.Seen.{Seen}
 use Rattle.dw_study.specs.declared.remark.Remark.TheVariants.{Fails}
-use Rattle.dw_study.specs.declared.slices.Slices.{Slices}
 use Rattle.dw_games.specs.declared.branches.Node.{Node}
 use Rattle.dw_study.specs.Remarks.{Remark, GoesOnBy, StandsBefore, IsFirstRefutation, IsFailing, AtAttacker, AtDefender}
 use Rattle.dw_study.specs.Remarks.{AfterKey, AreRemarks}
 use Rattle.dw_study.specs.Telling.{Say}
-use Rattle.dw_study.specs.Slices.{GoesOn}
-
--- searches for wins within n moves in slices that began before: each expansion is counted, up to the limit, and the
--- slices go on
-pub record Went {M A W : Type 0} (g : Geometry) (content : M → Content) (lost : M → ℕ) (n : ℕ)
-    (before after : Slices W) (old new : Solving M) (answer : Result A Stop) : Type 0 where
-  pub count : IsCounted old.expanded old.limit new.expanded new.limit
-  pub stop : IsErrOf answer Limit → new.expanded ≡ new.limit
-  pub on : GoesOn g content lost n before.first before.start (cut_off answer n) old new
-  pub first : after.first ≡ before.first
-  pub start : after.start ≡ before.start
 
 -- the nodes behind a beginning by moves that are legal there, in the tree's order
 pub record AreChildren {B : Type 0} (g : Geometry) (p : Placement) (tree : List (List Move)) (b : List Move)

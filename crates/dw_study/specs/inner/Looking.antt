@@ -2,10 +2,16 @@
 use Rattle.std.specs.Prelude.{◌≡◌, ℕ, ◌<◌, ◌≤◌, Result, Ok, Err}
 use Rattle.dw_board.specs.Geometry.{Geometry}
 use Rattle.dw_board.specs.Placement.{Placement}
+use Rattle.dw_memo.specs.Content.{Content}
 use Rattle.dw_solve.specs.Wins.{Win}
 use Rattle.dw_solve.specs.declared.stop.Stop.TheVariants.{Limit}
+use Rattle.dw_solve.specs.Searching.{IsCounted}
+use Rattle.dw_solve.specs.Solving.{Solving}
+use Rattle.dw_solve.specs.Work.{cut_off}
 use Rattle.dw_study.specs.declared.looking.Cut.{Cut}
+use Rattle.dw_study.specs.declared.slices.Slices.{Slices}
 use Rattle.dw_study.specs.Finding.{IsJudgedAt}
+use Rattle.dw_study.specs.Slices.{GoesOn}
 
 -- the number was found, or it was found that there is no win within some lower number of moves
 abbrev pub IsLooked : Geometry → Placement → ℕ → Result ℕ Cut → Type 0
@@ -16,3 +22,13 @@ IsLooked g p most (Err cut) = (cut.no_win_in < most) × (Win g p cut.no_win_in �
 abbrev pub StopsAt : ℕ → ℕ → Result ℕ Cut → Type 0
 StopsAt limit expanded (Ok k) = Unit {0}
 StopsAt limit expanded (Err cut) = cut.stop ≡ Limit → expanded ≡ limit
+
+-- searches for the least number of moves, up to n, in slices that began before: each expansion is counted, up to a
+-- limit that may be lower than the solver's own, and the slices go on
+pub record LooksOn {M W : Type 0} (g : Geometry) (content : M → Content) (lost : M → ℕ) (n limit : ℕ)
+    (before after : Slices W) (old new : Solving M) (answer : Result ℕ Cut) : Type 0 where
+  pub count : IsCounted old.expanded old.limit new.expanded new.limit
+  pub stop : StopsAt limit new.expanded answer
+  pub on : GoesOn g content lost n before.first before.start (cut_off answer n) old new
+  pub first : after.first ≡ before.first
+  pub start : after.start ≡ before.start

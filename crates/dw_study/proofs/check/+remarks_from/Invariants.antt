@@ -1,7 +1,7 @@
 use Rattle.std.proofs.Common.{◌≡◌, ◌+◌, ◌*◌, cond, List, Some}
 use Rattle.dw_moves.specs.Moves.{Move}
 use Rattle.dw_games.specs.Walk.{beginning_at, place_of}
-use Rattle.dw_study.specs.inner.Checking.{Went}
+use Rattle.dw_study.specs.Slices.{Went}
 use Rattle.dw_study.proofs.SeenLemmas.{SaidTo}
 use Rattle.dw_study.proofs.WentLemmas.{answered}
 use Rattle.dw_study.proofs.check.+remarks_from.Given as goal

@@ -14,7 +14,7 @@ returns-in_err-remarks-clause-went g c =
     c.wins_on.new.solver c.remarks_from.new.solver c.from_residual-in_err-remarks.result less
     (went_ok geo content lost n c.args.slices.now c.wins_on.new.slices c.args.solver.now c.wins_on.new.solver
     c.in_ok-wins.wins 0
-    (record { count = won.count; stop = won.stop; on = won.on; first = won.first; start = won.start }))
+    won.went)
     (went_stop geo content lost n c.wins_on.new.slices c.remarks_from.new.slices c.wins_on.new.solver
     c.remarks_from.new.solver c.in_err-remarks.field-0.0 c.from_residual-in_err-remarks.result
     c.from_residual-in_err-remarks.ensures.1 c.in_err-remarks.ensures.went)
@@ -34,6 +34,6 @@ returns-clause-went g c =
     c.wins_on.new.solver c.remarks_from.new.solver _ less
     (went_ok geo content lost n c.args.slices.now c.wins_on.new.slices c.args.solver.now c.wins_on.new.solver
     c.in_ok-wins.wins 0
-    (record { count = won.count; stop = won.stop; on = won.on; first = won.first; start = won.start }))
+    won.went)
     (went_ok geo content lost n c.wins_on.new.slices c.remarks_from.new.slices c.wins_on.new.solver
     c.remarks_from.new.solver c.in_ok-remarks.remarks _ c.in_ok-remarks.ensures.went)

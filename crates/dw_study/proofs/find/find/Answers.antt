@@ -1,57 +1,81 @@
-use Rattle.std.proofs.Common.{◌∙◌, ap, subst}
-use Rattle.dw_study.specs.Slices.{SearchedInSlices}
-use Rattle.dw_solve.specs.Questions.{moment_of}
-use Rattle.dw_study.proofs.SliceLemmas.{begun_here, goes_on_then, goes_on_looser, stop_cuts}
+use Rattle.std.proofs.Common.{◌≤◌, ◌∙◌, ap, subst, arith, refl, rules}
+use Rattle.dw_study.specs.Slices.{Began}
+use Rattle.dw_study.proofs.OpenLemmas.{no_lower, stays_stopped}
+use Rattle.dw_study.proofs.SliceLemmas.{stop_cuts}
+use Rattle.dw_study.proofs.WentLemmas.{answered, went_looked, went_then, went_ok, went_stop, began_here, began_looked}
 use Rattle.dw_study.proofs.find.find.Goals as goal
 
-pub returns-in_err-judged-in-Ok-clause-searched : goal.returns-in_err-judged-in-Ok-clause-searched
-returns-in_err-judged-in-Ok-clause-searched g c =
+pub returns-in_err-judged-in-Ok-clause-began : goal.returns-in_err-judged-in-Ok-clause-began
+returns-in_err-judged-in-Ok-clause-began g c =
     let geo = g.B.Board.geometry in
     let content = g.M.Memo.content in
     let lost = g.M.Memo.dropped in
     let n = c.args.bounds.most in
     let k = c.in-Ok.moves in
     let found = c.in-Ok.ensures in
-    let first = c.begin.new.self.first in
-    let start = c.begin.new.self.start in
-    subst (λ z. SearchedInSlices geo n c.args.slices.now.first z (moment_of content lost c.args.solver.now)
-    (moment_of content lost c.judge_on.new.solver)) (stop_cuts c.from_residual.result c.in_err-judged-in-Ok.field-0.0 n
-    c.from_residual.ensures.1)
-    (begun_here geo content lost c.searches_add_up.ensures n c.args.slices.now.first first start n c.args.solver.now
-    c.judge_on.new.solver (ap (λ z. z.first) c.begin.ensures)
-    (ap (λ z. z.start) c.begin.ensures ∙ c.expanded-start.ensures)
-    (goes_on_looser geo content lost n first start k n c.args.solver.now c.judge_on.new.solver found.number.1
-    (goes_on_then geo content lost k n first start c.number_within.new.slices.first c.number_within.new.slices.start k
-    c.args.solver.now c.number_within.new.solver c.judge_on.new.solver found.number.1 found.first found.start found.on
-    c.in_err-judged-in-Ok.ensures.on)))
+    let begun = c.begin.new.self in
+    let looked = c.number_within.new.slices in
+    let before = c.args.solver.now in
+    let after = c.judge_on.new.solver in
+    let result = c.from_residual.result in
+    subst (λ z. Began geo content lost n z c.args.slices.now c.judge_on.new.slices before after result)
+    (stop_cuts result c.in_err-judged-in-Ok.field-0.0 n c.from_residual.ensures.1)
+    (began_here geo content lost c.searches_add_up.ensures n c.args.slices.now begun c.judge_on.new.slices before after
+    result (ap (λ z. z.first) c.begin.ensures) (ap (λ z. z.start) c.begin.ensures ∙ c.expanded-start.ensures)
+    (went_then geo content lost k n begun looked c.judge_on.new.slices before c.number_within.new.solver after result
+    found.number.1 (went_looked geo content lost n _ begun looked before c.number_within.new.solver k found.looks)
+    (went_stop geo content lost k looked c.judge_on.new.slices c.number_within.new.solver after
+    c.in_err-judged-in-Ok.field-0.0 result c.from_residual.ensures.1 c.in_err-judged-in-Ok.ensures.went)))
 
-pub returns-in_ok-judged-in-Ok-clause-searched : goal.returns-in_ok-judged-in-Ok-clause-searched
-returns-in_ok-judged-in-Ok-clause-searched g c =
+pub returns-in_ok-judged-in-Ok-clause-began : goal.returns-in_ok-judged-in-Ok-clause-began
+returns-in_ok-judged-in-Ok-clause-began g c =
     let geo = g.B.Board.geometry in
     let content = g.M.Memo.content in
     let lost = g.M.Memo.dropped in
     let n = c.args.bounds.most in
     let k = c.in-Ok.moves in
     let found = c.in-Ok.ensures in
-    let first = c.begin.new.self.first in
-    let start = c.begin.new.self.start in
-    begun_here geo content lost c.searches_add_up.ensures n c.args.slices.now.first first start 0 c.args.solver.now
-    c.judge_on.new.solver (ap (λ z. z.first) c.begin.ensures)
-    (ap (λ z. z.start) c.begin.ensures ∙ c.expanded-start.ensures)
-    (goes_on_then geo content lost k n first start c.number_within.new.slices.first c.number_within.new.slices.start 0
-    c.args.solver.now c.number_within.new.solver c.judge_on.new.solver found.number.1 found.first found.start found.on
-    c.in_ok-judged-in-Ok.ensures.on)
+    let begun = c.begin.new.self in
+    let looked = c.number_within.new.slices in
+    let before = c.args.solver.now in
+    let after = c.judge_on.new.solver in
+    began_here geo content lost c.searches_add_up.ensures n c.args.slices.now begun c.judge_on.new.slices before after _
+    (ap (λ z. z.first) c.begin.ensures) (ap (λ z. z.start) c.begin.ensures ∙ c.expanded-start.ensures)
+    (went_then geo content lost k n begun looked c.judge_on.new.slices before c.number_within.new.solver after _
+    found.number.1 (went_looked geo content lost n _ begun looked before c.number_within.new.solver k found.looks)
+    (went_ok geo content lost k looked c.judge_on.new.slices c.number_within.new.solver after
+    c.in_ok-judged-in-Ok.judged _ c.in_ok-judged-in-Ok.ensures.went))
 
-pub returns-in-Err-clause-searched : goal.returns-in-Err-clause-searched
-returns-in-Err-clause-searched g c =
-    begun_here g.B.Board.geometry g.M.Memo.content g.M.Memo.dropped c.searches_add_up.ensures c.args.bounds.most
-    c.args.slices.now.first c.begin.new.self.first c.begin.new.self.start c.args.bounds.most c.args.solver.now
-    c.number_within.new.solver (ap (λ z. z.first) c.begin.ensures)
-    (ap (λ z. z.start) c.begin.ensures ∙ c.expanded-start.ensures) c.in-Err.ensures.on
+pub returns-in-Err-clause-began : goal.returns-in-Err-clause-began
+returns-in-Err-clause-began g c =
+    began_looked g.B.Board.geometry g.M.Memo.content g.M.Memo.dropped c.searches_add_up.ensures c.args.bounds.most _
+    c.args.slices.now c.begin.new.self c.number_within.new.slices c.args.solver.now c.number_within.new.solver _ _
+    (ap (λ z. z.first) c.begin.ensures) (ap (λ z. z.start) c.begin.ensures ∙ c.expanded-start.ensures)
+    (λ e. cc) c.in-Err.ensures.looks
 
-pub returns-in-Err-2-clause-searched : goal.returns-in-Err-2-clause-searched
-returns-in-Err-2-clause-searched g c =
-    begun_here g.B.Board.geometry g.M.Memo.content g.M.Memo.dropped c.searches_add_up.ensures c.args.bounds.most
-    c.args.slices.now.first c.begin.new.self.first c.begin.new.self.start c.args.bounds.most c.args.solver.now
-    c.number_within.new.solver (ap (λ z. z.first) c.begin.ensures)
-    (ap (λ z. z.start) c.begin.ensures ∙ c.expanded-start.ensures) c.in-Err-2.ensures.on
+pub returns-in-Err-2-clause-began : goal.returns-in-Err-2-clause-began
+returns-in-Err-2-clause-began g c =
+    began_looked g.B.Board.geometry g.M.Memo.content g.M.Memo.dropped c.searches_add_up.ensures c.args.bounds.most _
+    c.args.slices.now c.begin.new.self c.number_within.new.slices c.args.solver.now c.number_within.new.solver _ _
+    (ap (λ z. z.first) c.begin.ensures) (ap (λ z. z.start) c.begin.ensures ∙ c.expanded-start.ensures)
+    (search rules) c.in-Err-2.ensures.looks
+
+pub returns-in_err-judged-in-Ok-clause-stays : goal.returns-in_err-judged-in-Ok-clause-stays
+returns-in_err-judged-in-Ok-clause-stays g c =
+    stays_stopped g.M.Memo.content c.args.position.now c.args.bounds.each c.args.solver.now c.judge_on.new.solver
+    c.from_residual.result c.in_err-judged-in-Ok.field-0.0 c.from_residual.ensures.1
+
+pub returns-in_ok-judged-in-Ok-clause-stays : goal.returns-in_ok-judged-in-Ok-clause-stays
+returns-in_ok-judged-in-Ok-clause-stays g c =
+    record { undecided = λ k same. cc; known = λ j k says same. cc }
+
+pub returns-in-Err-clause-stays : goal.returns-in-Err-clause-stays
+returns-in-Err-clause-stays g c =
+    record {
+      undecided = λ k same. omega arith;
+      known = λ j k says same. subst (λ z. j ≤ z) (no_lower _ k _ refl same) (c.in-Err.ensures.known j says);
+    }
+
+pub returns-in-Err-2-clause-stays : goal.returns-in-Err-2-clause-stays
+returns-in-Err-2-clause-stays g c =
+    record { undecided = λ k same. cc; known = λ j k says same. cc }

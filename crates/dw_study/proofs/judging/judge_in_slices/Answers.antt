@@ -1,9 +1,9 @@
 use Rattle.std.proofs.Common.{◌∙◌, ap}
-use Rattle.dw_study.proofs.SliceLemmas.{begun_here}
+use Rattle.dw_study.proofs.WentLemmas.{began_here}
 use Rattle.dw_study.proofs.judging.judge_in_slices.Goals as goal
 
-pub returns-clause-searched : goal.returns-clause-searched
-returns-clause-searched g c =
-    begun_here g.B.Board.geometry g.M.Memo.content g.M.Memo.dropped c.searches_add_up.ensures c.args.moves
-    c.args.slices.now.first c.begin.new.self.first c.begin.new.self.start _ c.args.solver.now c.judge_on.new.solver
-    (ap (λ z. z.first) c.begin.ensures) (ap (λ z. z.start) c.begin.ensures ∙ c.expanded.ensures) c.judge_on.ensures.on
+pub returns-clause-began : goal.returns-clause-began
+returns-clause-began g c =
+    began_here g.B.Board.geometry g.M.Memo.content g.M.Memo.dropped c.searches_add_up.ensures c.args.moves
+    c.args.slices.now c.begin.new.self c.judge_on.new.slices c.args.solver.now c.judge_on.new.solver c.judge_on.result
+    (ap (λ z. z.first) c.begin.ensures) (ap (λ z. z.start) c.begin.ensures ∙ c.expanded.ensures) c.judge_on.ensures.went

@@ -1,4 +1,4 @@
-use Rattle.std.proofs.Common.{◌≤◌, ◌∙◌, sym, arith, below_more}
+use Rattle.std.proofs.Common.{◌≤◌, ◌∙◌, sym, ap, arith, below_more, Err}
 use Rattle.std.proofs.lemmas.Bool.{true≢false}
 use Rattle.dw_study.proofs.SliceLemmas.{goes_on_then, goes_on_looser, counted_then, idle_on, known_below}
 use Rattle.dw_study.proofs.looking.number.Goals as goal
@@ -12,7 +12,21 @@ moves-preserved g c =
       idle = λ j says within. (idle_on g.M.Memo.content c.args.position.now c.moves.moves j c.args.solver.now
           c.moves.solver c.wins_on.new.solver says c.moves.auto.moves (omega (arith, within))
           (now.idle j says (omega (arith, within))) here.known).1;
+      count = counted_then _ _ _ _ _ _ now.count here.went.count;
+      on = goes_on_then g.B.Board.geometry g.M.Memo.content g.M.Memo.dropped c.moves.moves c.args.most
+          c.args.slices.now.first c.args.slices.now.start c.moves.slices.first c.moves.slices.start 0 c.args.solver.now
+          c.moves.solver c.wins_on.new.solver (omega (arith, c.moves-test.true)) now.first now.start now.on here.went.on;
+      first = here.went.first ∙ now.first;
+      start = here.went.start ∙ now.start;
+    }
+
+pub returns-in-Ok-true-clause-looks : goal.returns-in-Ok-true-clause-looks
+returns-in-Ok-true-clause-looks g c =
+    let now = c.moves.invariant in
+    let here = c.in-Ok-true.ensures.went in
+    record {
       count = counted_then _ _ _ _ _ _ now.count here.count;
+      stop = tt;
       on = goes_on_then g.B.Board.geometry g.M.Memo.content g.M.Memo.dropped c.moves.moves c.args.most
           c.args.slices.now.first c.args.slices.now.start c.moves.slices.first c.moves.slices.start 0 c.args.solver.now
           c.moves.solver c.wins_on.new.solver (omega (arith, c.moves-test.true)) now.first now.start now.on here.on;
@@ -20,26 +34,30 @@ moves-preserved g c =
       start = here.start ∙ now.start;
     }
 
-pub returns-in-Ok-true-clause-on : goal.returns-in-Ok-true-clause-on
-returns-in-Ok-true-clause-on g c =
-    let now = c.moves.invariant in
-    goes_on_then g.B.Board.geometry g.M.Memo.content g.M.Memo.dropped c.moves.moves c.args.most
-    c.args.slices.now.first c.args.slices.now.start c.moves.slices.first c.moves.slices.start 0 c.args.solver.now
-    c.moves.solver c.wins_on.new.solver (omega (arith, c.moves-test.true)) now.first now.start now.on
-    c.in-Ok-true.ensures.on
-
-pub returns-in-Err-clause-on : goal.returns-in-Err-clause-on
-returns-in-Err-clause-on g c =
+pub returns-in-Err-clause-looks : goal.returns-in-Err-clause-looks
+returns-in-Err-clause-looks g c =
     let geo = g.B.Board.geometry in
     let content = g.M.Memo.content in
     let lost = g.M.Memo.dropped in
     let now = c.moves.invariant in
+    let here = c.in-Err.ensures.went in
     let less : c.moves.moves ≤ c.args.most = omega (arith, c.moves-test.true) in
-    goes_on_looser geo content lost c.args.most c.args.slices.now.first c.args.slices.now.start c.moves.moves
-    c.args.most c.args.solver.now c.wins_on.new.solver less
-    (goes_on_then geo content lost c.moves.moves c.args.most c.args.slices.now.first c.args.slices.now.start
-    c.moves.slices.first c.moves.slices.start c.moves.moves c.args.solver.now c.moves.solver c.wins_on.new.solver less
-    now.first now.start now.on c.in-Err.ensures.on)
+    record {
+      count = counted_then _ _ _ _ _ _ now.count here.count;
+      stop = λ e. here.stop (ap (λ z. Err z) e) ∙ here.count.same ∙ now.count.same;
+      on = goes_on_looser geo content lost c.args.most c.args.slices.now.first c.args.slices.now.start c.moves.moves
+          c.args.most c.args.solver.now c.wins_on.new.solver less
+          (goes_on_then geo content lost c.moves.moves c.args.most c.args.slices.now.first c.args.slices.now.start
+          c.moves.slices.first c.moves.slices.start c.moves.moves c.args.solver.now c.moves.solver
+          c.wins_on.new.solver less now.first now.start now.on here.on);
+      first = here.first ∙ now.first;
+      start = here.start ∙ now.start;
+    }
+
+pub returns-clause-looks : goal.returns-clause-looks
+returns-clause-looks g c =
+    let now = c.moves.invariant in
+    record { count = now.count; stop = tt; on = now.on; first = now.first; start = now.start }
 
 pub returns-in-Err-clause-known : goal.returns-in-Err-clause-known
 returns-in-Err-clause-known g c j says =

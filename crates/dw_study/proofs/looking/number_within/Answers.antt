@@ -1,7 +1,8 @@
-use Rattle.std.proofs.Common.{ℕ, ◌≤◌, subst}
-use Rattle.std.specs.Prelude.{IfErr}
+use Rattle.std.proofs.Common.{ℕ, ◌+◌, ◌≤◌, ◌∙◌, subst, ap, arith}
+use Rattle.std.specs.Prelude.{IfErr, min}
 use Rattle.dw_solve.specs.Certificates.{SaysLeast}
 use Rattle.dw_study.proofs.SliceLemmas.{same_memo}
+use Rattle.dw_study.proofs.WentLemmas.{looks_between}
 use Rattle.dw_study.proofs.looking.number_within.Goals as goal
 
 pub returns-clause-known : goal.returns-clause-known
@@ -10,3 +11,14 @@ returns-clause-known g c =
     → j ≤ cut.no_win_in))
     (same_memo c.args.solver.now c.lower-limit.new.solver _ c.lower-limit.ensures.lowered)
     c.number-number.ensures.known
+
+pub returns-clause-looks : goal.returns-clause-looks
+returns-clause-looks g c =
+    let before = c.args.solver.now in
+    let until = c.saturating_add-until.result in
+    looks_between g.B.Board.geometry g.M.Memo.content g.M.Memo.dropped c.args.bounds.most
+    (min before.limit until) (min before.limit (before.expanded + c.args.bounds.each)) c.args.slices.now
+    c.number-number.new.slices before c.lower-limit.new.solver c.number-number.new.solver c.raise.new.solver
+    c.number-number.result c.lower-limit.ensures.lowered
+    (c.raise.ensures ∙ ap (λ z. record c.number-number.new.solver { limit = z }) c.lower-limit.ensures.was)
+    (omega arith) (omega arith) c.number-number.ensures.looks

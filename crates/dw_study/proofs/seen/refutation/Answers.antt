@@ -40,7 +40,7 @@ replies-preserved g c =
           c.wins_on.new.slices c.args.solver.now c.replies.solver c.wins_on.new.solver answered (omega arith)
           c.replies.invariant.went (went_ok geo g.M.Memo.content g.M.Memo.dropped n c.replies.slices
           c.wins_on.new.slices c.replies.solver c.wins_on.new.solver c.in_ok-wins_on.field-0 0
-          (record { count = here.count; stop = here.stop; on = here.on; first = here.first; start = here.start }));
+          here.went);
     }
 
 pub returns-then-not-branch-clause-found : goal.returns-then-not-branch-clause-found
@@ -78,7 +78,7 @@ returns-in_err-wins_on-clause-went g c =
     (went_stop geo g.M.Memo.content g.M.Memo.dropped n c.replies.slices c.wins_on.new.slices c.replies.solver
     c.wins_on.new.solver c.in_err-wins_on.field-0.0 c.from_residual-in_err-wins_on.result
     c.from_residual-in_err-wins_on.ensures.1
-    (record { count = here.count; stop = here.stop; on = here.on; first = here.first; start = here.start }))
+    here.went)
 
 pub returns-then-not-branch-clause-went : goal.returns-then-not-branch-clause-went
 returns-then-not-branch-clause-went g c =
@@ -89,7 +89,7 @@ returns-then-not-branch-clause-went g c =
     c.args.solver.now c.replies.solver c.wins_on.new.solver _ (omega arith) c.replies.invariant.went
     (went_ok geo g.M.Memo.content g.M.Memo.dropped n c.replies.slices c.wins_on.new.slices c.replies.solver
     c.wins_on.new.solver c.in_ok-wins_on.field-0 _
-    (record { count = here.count; stop = here.stop; on = here.on; first = here.first; start = here.start }))
+    here.went)
 
 pub returns-clause-went : goal.returns-clause-went
 returns-clause-went g c =

@@ -1,4 +1,4 @@
-use Rattle.dw_study.specs.inner.Checking.{Went}
+use Rattle.dw_study.specs.Slices.{Went}
 use Rattle.dw_study.proofs.SeenLemmas.{WonTo}
 use Rattle.dw_study.proofs.WentLemmas.{answered}
 use Rattle.dw_study.proofs.seen.refutation.Given as goal

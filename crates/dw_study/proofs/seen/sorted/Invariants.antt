@@ -1,6 +1,7 @@
 use Rattle.std.proofs.Common.{List}
 use Rattle.dw_moves.specs.Moves.{Move}
-use Rattle.dw_study.specs.inner.Checking.{Went, AreChildren}
+use Rattle.dw_study.specs.inner.Checking.{AreChildren}
+use Rattle.dw_study.specs.Slices.{Went}
 use Rattle.dw_study.proofs.SeenLemmas.{SortedTo}
 use Rattle.dw_study.proofs.WentLemmas.{answered}
 use Rattle.dw_study.proofs.seen.sorted.Given as goal
