@@ -14,7 +14,7 @@ ghost use Rattle.dw_mend.specs.Changes.{Change as Changed, AreNeighbours};
 ghost use Rattle.dw_mend.specs.Mending.{IsMendText, IsMendStop, Counts, AreMended, part_of};
 ghost use Rattle.dw_mend.specs.Telling.{told_by};
 ghost use Rattle.dw_mend.specs.declared.mend.MendFault.TheVariants as because;
-ghost use Rattle.dw_mend.specs.inner.Mending.{IsSoundnessOf, IsUndecided, Adds, Goes};
+ghost use Rattle.dw_mend.specs.inner.Mending.{IsSoundnessOf, IsUndecided, Adds, CanAsk, Goes, Leaves};
 
 use crate::neighbours::{Neighbour, neighbours};
 use crate::part::{Part, part_of};
@@ -146,13 +146,8 @@ fn mend_these<B: Board, M: Memo<B>, G: Guide<B>, W: Watcher, K: Sink>(
     slices: &mut Slices<W>,
     sink: &mut K,
 ) -> Result<Mended, MendFault>
-    requires some { 1 ≤ bounds.moves }
-    requires few { bounds.moves ≤ 20 }
-    requires room { 1 ≤ bounds.each }
+    requires asks { CanAsk bounds.moves bounds.each }
     requires works { K.is_failed sink.old ≡ false }
-    requires counted { solver.old.expanded ≤ solver.old.limit }
-    requires right { AreTrue B.geometry (M.content solver.old.memo) }
-    requires map { IsMap (M.content solver.old.memo) }
     ensures text { IfOk result (λ mended. (text : List ℕ)
         × AreMended B.geometry bounds.moves (map told_by some.now) text
         (record { sound = mended.sound; undecided = mended.undecided })
@@ -163,12 +158,11 @@ fn mend_these<B: Board, M: Memo<B>, G: Guide<B>, W: Watcher, K: Sink>(
     ensures stopped { (stop : _) → result ≡ Err (because.Stopped stop)
         → (text : List ℕ) × IsMendStop B.geometry bounds.moves (map told_by some.now) text
         × Appends (K.taken sink.old) (K.taken sink.new) text }
-    ensures count { IsCounted solver.old.expanded solver.old.limit solver.new.expanded solver.new.limit }
-    ensures stop { result ≡ Err (because.Stopped Limit) → solver.new.expanded ≡ solver.new.limit }
-    ensures right { AreTrue B.geometry (M.content solver.new.memo) }
-    ensures map { IsMap (M.content solver.new.memo) }
+    ensures leaves { Leaves B.geometry M.content solver.old solver.new result }
     ensures sink { OnOk result (K.is_failed sink.new ≡ false) }
 {
+    solver.keeps_its_limit();
+    solver.keeps_its_facts();
     let mut mended = Mended {
         all: some.len(),
         sound: 0,
@@ -218,9 +212,7 @@ fn write_found<B: Board, M: Memo<B>, G: Guide<B>, W: Watcher, K: Sink>(
     slices: &mut Slices<W>,
     sink: &mut K,
 ) -> Result<Soundness<B>, MendFault>
-    requires some { 1 ≤ bounds.moves }
-    requires few { bounds.moves ≤ 20 }
-    requires room { 1 ≤ bounds.each }
+    requires asks { CanAsk bounds.moves bounds.each }
     requires works { K.is_failed sink.old ≡ false }
     ensures text { IfOk result (λ found. (text : List ℕ)
         × Adds B.geometry bounds.moves (told_by neighbour.now) found text
@@ -248,9 +240,7 @@ fn found_of<B: Board, M: Memo<B>, G: Guide<B>, W: Watcher>(
     bounds: MendBounds,
     slices: &mut Slices<W>,
 ) -> Result<Soundness<B>, Stop>
-    requires some { 1 ≤ bounds.moves }
-    requires few { bounds.moves ≤ 20 }
-    requires room { 1 ≤ bounds.each }
+    requires asks { CanAsk bounds.moves bounds.each }
     ensures found { IfOk result (IsSoundnessOf B.geometry position.now bounds.moves) }
     ensures spent { IfOk result (λ found. IsUndecided found
         → solver.new.expanded ≡ solver.old.expanded + bounds.each) }

@@ -1,9 +1,12 @@
 -- What is found of one neighbour, and what is written of it.
-use Rattle.std.specs.Prelude.{◌≡◌, ℕ, ◌+◌, List, [], Result, Err, IfOk}
+use Rattle.std.specs.Prelude.{◌≡◌, ℕ, ◌+◌, ◌≤◌, List, [], Result, Err, IfOk}
 use Rattle.dw_board.specs.Geometry.{Geometry}
 use Rattle.dw_board.specs.Placement.{Placement}
+use Rattle.dw_memo.specs.Content.{Content, IsMap}
 use Rattle.dw_moves.specs.Moves.{Move}
+use Rattle.dw_solve.specs.Facts.{AreTrue}
 use Rattle.dw_solve.specs.Searching.{IsCounted}
+use Rattle.dw_solve.specs.Solving.{Solving}
 use Rattle.dw_solve.specs.declared.stop.Stop.TheVariants.{Limit}
 use Rattle.dw_report.specs.Verdict.{IsVerdict, sound}
 use Rattle.dw_mend.specs.Changes.{Change}
@@ -30,6 +33,20 @@ abbrev pub Adds : {B : Type 0} → Geometry → ℕ → Change × Placement → 
 Adds g n x (Sound key) text = IsVerdict g x.1 n (sound key) × IsSoundLine g n x key text
 Adds g n x Unsound text = ((key : Move) → IsVerdict g x.1 n (sound key) → ⊥) × (text ≡ [])
 Adds g n x Undecided text = text ≡ []
+
+-- what can be asked about each neighbour: a win within 1 to 20 moves, and one position at least
+pub record CanAsk (n each : ℕ) : Type 0 where
+  pub some : 1 ≤ n
+  pub few : n ≤ 20
+  pub room : 1 ≤ each
+
+-- after neighbours were looked at each expansion is counted, up to the solver's limit, and its memo is right
+pub record Leaves {M A : Type 0} (g : Geometry) (content : M → Content) (old new : Solving M)
+    (result : Result A MendFault) : Type 0 where
+  pub count : IsCounted old.expanded old.limit new.expanded new.limit
+  pub stop : result ≡ Err (Stopped Limit) → new.expanded ≡ new.limit
+  pub right : AreTrue g (content new.memo)
+  pub map : IsMap (content new.memo)
 
 -- how a search for a neighbour counts: it is undecided only if as many positions were expanded as it may take
 pub record Goes {B : Type 0} (each before limit after limit' : ℕ) (result : Result (finds.Soundness B) MendFault) :
