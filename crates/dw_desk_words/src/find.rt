@@ -1,5 +1,6 @@
 //! The arguments of the command `find`.
 ghost use Rattle.std.specs.Prelude.{◌≤◌, IfSome};
+ghost use Rattle.std.proofs.Props.{props};
 
 use crate::arguments::{CACHE_HELP, progress};
 use crate::portion::problem;
@@ -21,7 +22,7 @@ pub struct FindWords {
     pub json: bool,
     pub ghost some_moves: { 1 ≤ most },
     pub ghost few_moves: { most ≤ 20 },
-    pub ghost room: { IfSome each (λ positions. 1 ≤ positions) },
+    pub ghost room: { IfSome each (λ positions. 1 ≤ positions) } by { Prim.hlevel props },
 }
 
 const MOST_HELP: &str =
