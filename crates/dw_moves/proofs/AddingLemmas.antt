@@ -1,6 +1,6 @@
 -- How the quiet moves are added to a list: those of men direction by direction, those of kings square by square.
 use Rattle.std.proofs.Common.{◌≡◌, ℕ, List, [], ◌∷◌, ◌++◌, map, refl, sym, ap, ◌∙◌, subst, ◌⊎◌, inl, inr, ◌↔◌, Bool}
-use Rattle.std.proofs.Common.{true, false, Option, Some, None}
+use Rattle.std.proofs.Common.{true, false, Option, Some, None, append-nil}
 use Rattle.std.proofs.lemmas.Bool.{true≢false}
 use Rattle.std.specs.FinSet as fin
 use Rattle.std.specs.Ordering.{nat_cmp}
@@ -21,7 +21,7 @@ use Rattle.dw_moves.proofs.ExactLemmas.{option_cases, same_side_refl}
 use Rattle.dw_moves.proofs.StepLemmas.{none_some, some_inj, step_is}
 use Rattle.dw_moves.proofs.StepBackLemmas.{step_back}
 use Rattle.dw_moves.proofs.RayLemmas.{Toward, ray_some, ray_toward, one_dir}
-use Rattle.dw_moves.proofs.JumpStepLemmas.{append_none, added_both, added_four}
+use Rattle.dw_moves.proofs.JumpStepLemmas.{added_both, added_four}
 use Rattle.dw_moves.proofs.LegalMoveLemmas.{may_from, may_in, target_from, target_in}
 use Rattle.dw_moves.proofs.QuietOnceLemmas.{once_map, quiet_for_once}
 use Rattle.dw_moves.proofs.SquareSetLemmas.{in_none, in_minus, in_rest, not_removed, out_of_rest, past_rest}
@@ -42,7 +42,7 @@ module _ {X : Type 0} {made : ℕ → ℕ → X} where
   adds_none old never = record {
     pairs = [];
     those = none_are never;
-    are = sym (append_none old);
+    are = sym (append-nil old);
   }
 
   pub adds_same : {P Q : ℕ → ℕ → Type 0} {old new : List X} → Adds made P old new → ((s t : ℕ) → P s t ↔ Q s t)

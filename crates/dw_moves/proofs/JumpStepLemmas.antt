@@ -1,6 +1,6 @@
 -- How the jumps of a piece are found square by square.
 use Rattle.std.proofs.Common.{◌≡◌, ℕ, List, [], ◌∷◌, ◌++◌, map, refl, sym, ap, ◌∙◌, inl}
-use Rattle.std.proofs.Common.{inr, true, false, Some, None, append_assoc}
+use Rattle.std.proofs.Common.{inr, true, false, Some, None, append_assoc, append-nil}
 use Rattle.std.proofs.lemmas.List.{map-append}
 use Rattle.dw_board.specs.declared.piece.Kind.{Kind}
 use Rattle.dw_board.specs.declared.piece.Kind.TheVariants.{Man, King}
@@ -25,10 +25,6 @@ pub record Added {X : Type 0} (f : ℕ → X) (g : Geometry) (p : Placement) (k 
     (old now : List X) : Type 0 where
   pub on : OnBoard g at
   pub all : now ++ map f (landings_for k p (ray g at d)) ≡ old ++ map f (landings_for k p (ray g from d))
-
-pub append_none : {X : Type 0} (xs : List X) → xs ++ [] ≡ xs
-append_none [] = refl
-append_none (x ∷ xs) = ap (λ z. x ∷ z) (append_none xs)
 
 pub added_more : {X : Type 0} (f : ℕ → X) (g : Geometry) (p : Placement) (k : Kind) (d : Dir) (from s t : ℕ)
     (old now new : List X) → k ≡ King → Added f g p k d from s old now → Freed g p s d t → new ≡ now ++ f t ∷ []
@@ -56,7 +52,7 @@ pub added_stop : {X : Type 0} (f : ℕ → X) (g : Geometry) → IsBoard g
     → (p : Placement) (k : Kind) (d : Dir) (from s : ℕ) (old now : List X) → Added f g p k d from s old now
     → free_step g p s d ≡ None → now ≡ old ++ map f (landings_for k p (ray g from d))
 added_stop f g b p k d from s old now h e =
-    sym (append_none now) ∙ (ap (λ z. now ++ z) (ap (map f) (sym (run_stop g b k p s d h.on e))) ∙ h.all)
+    sym (append-nil now) ∙ (ap (λ z. now ++ z) (ap (map f) (sym (run_stop g b k p s d h.on e))) ∙ h.all)
 
 -- a king's jumps are those from the square reached
 pub record Reached (g : Geometry) (p : Placement) (d : Dir) (from at : ℕ) : Type 0 where
@@ -124,4 +120,4 @@ pub added_four : {X Y : Type 0} (f : Y → X) (a b c d : List Y) (l0 l1 l2 l3 l4
     → l2 ≡ l1 ++ map f b → l3 ≡ l2 ++ map f c → l4 ≡ l3 ++ map f d → l4 ≡ l0 ++ map f (a ++ (b ++ (c ++ (d ++ []))))
 added_four f a b c d l0 l1 l2 l3 l4 ha hb hc hd =
     added_both f a (b ++ (c ++ (d ++ []))) l0 l1 l4 ha (added_both f b (c ++ (d ++ [])) l1 l2 l4 hb
-    (added_both f c (d ++ []) l2 l3 l4 hc (added_both f d [] l3 l4 l4 hd (sym (append_none l4)))))
+    (added_both f c (d ++ []) l2 l3 l4 hc (added_both f d [] l3 l4 l4 hd (sym (append-nil l4)))))

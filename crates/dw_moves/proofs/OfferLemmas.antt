@@ -1,11 +1,10 @@
 -- Captures that were offered one after another, for any keeper.
-use Rattle.std.proofs.Common.{◌≡◌, List, [], ◌∷◌, ◌++◌, sym, subst, ◌⊎◌, inl, inr, append_assoc}
+use Rattle.std.proofs.Common.{◌≡◌, List, [], ◌∷◌, ◌++◌, sym, subst, ◌⊎◌, inl, inr, append_assoc, append-nil}
 use Rattle.dw_board.specs.declared.board.Dir.{Dir}
 use Rattle.dw_moves.specs.Order.{Listed}
 use Rattle.dw_moves.specs.inner.MemberLemmas.{mem_left, mem_right, mem_cases}
 use Rattle.dw_moves.specs.inner.Walks.{Gains, Offers, Stays}
 use Rattle.dw_moves.proofs.DirLemmas.{OneOf, which}
-use Rattle.dw_moves.proofs.JumpStepLemmas.{append_none}
 
 module _ {K : Type 0} {holds : K → List Listed → K → Type 0} where
   -- the same captures
@@ -22,7 +21,7 @@ module _ {K : Type 0} {holds : K → List Listed → K → Type 0} where
   offers_none {E} {a} {b} stays never = record {
     captures = [];
     exactly = λ l. ((λ m. absurd m), (λ e. absurd (never l e)));
-    held = λ first xs h. subst (λ z. holds first z b) (sym (append_none xs)) (stays first xs h);
+    held = λ first xs h. subst (λ z. holds first z b) (sym (append-nil xs)) (stays first xs h);
   }
 
   -- there is one

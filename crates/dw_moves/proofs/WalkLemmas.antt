@@ -1,6 +1,6 @@
 -- How chains of jumps are walked, jump by jump, and offered to a keeper.
 use Rattle.std.proofs.Common.{◌≡◌, ℕ, List, [], ◌∷◌, ◌++◌, refl, sym, ap, ◌∙◌, subst, ◌⊎◌, inl, inr}
-use Rattle.std.proofs.Common.{true, false, None, append_assoc}
+use Rattle.std.proofs.Common.{true, false, None, append_assoc, append-nil}
 use Rattle.std.proofs.lemmas.Bool.{true≢false}
 use Rattle.std.specs.FinSet as fin
 use Rattle.dw_board.specs.declared.board.Dir.{Dir}
@@ -19,7 +19,6 @@ use Rattle.dw_moves.specs.inner.Walks.{Chain, GoesOn, GoesTowards, Offers, onwar
 use Rattle.dw_moves.proofs.ChainLemmas.{chain_none, chain_more, chain_tail, over_of, landing_of}
 use Rattle.dw_moves.proofs.DirLemmas.{from_above}
 use Rattle.dw_moves.proofs.ExactLemmas.{jump_along, jump_in}
-use Rattle.dw_moves.proofs.JumpStepLemmas.{append_none}
 use Rattle.dw_moves.proofs.OfferLemmas.{offers_same, offers_none, offers_then, offers_four}
 use Rattle.dw_moves.proofs.RunLemmas.{Freed, man_run, king_run, run_stop}
 use Rattle.dw_moves.proofs.SquareSetLemmas.{union_more, union_none}
@@ -61,7 +60,7 @@ module _ {g : Geometry} {p : Placement} {piece : Piece} {b : Listed} where
     from = ap (λ (z : Listed). z.step.from) e;
     to = ap (λ (z : Listed). z.step.to) e;
     taken = ap (λ (z : Listed). z.step.taken) e ∙ sym (union_none b.step.taken);
-    path = ap (λ (z : Listed). z.path) e ∙ sym (append_none b.path);
+    path = ap (λ (z : Listed). z.path) e ∙ sym (append-nil b.path);
   }
 
   abbrev pub towards_goes : {d : Dir} {l : Listed} → GoesTowards g p piece b d l → GoesOn g p piece b l
@@ -84,7 +83,7 @@ module _ {g : Geometry} {p : Placement} {piece : Piece} {b : Listed} where
         → ((d : Dir) × GoesTowards g p piece b d l) ⊎ (l ≡ b)
     by_chain [] [] chain to taken path =
         inr (same_listed_parts l b (same_move l.step b.step h.from to (taken ∙ union_none b.step.taken))
-        (path ∙ append_none b.path))
+        (path ∙ append-nil b.path))
     by_chain [] (c ∷ cs) chain to taken path = absurd chain.jumps
     by_chain (t ∷ ts) [] chain to taken path = absurd chain.jumps
     by_chain (t ∷ ts) (c ∷ cs) chain to taken path =
@@ -180,7 +179,7 @@ module _ {g : Geometry} {p : Placement} {piece : Piece} {b : Listed} where
         → Landed holds g p piece b c d at k now → free_step g p at d ≡ None
         → Offers holds (Onto g p piece b c (landings_for piece.kind p (ray g c d))) k now
     landed_stop board {c} {d} {at} {k} {now} on h stop =
-        subst (λ z. Offers holds (Onto g p piece b c z) k now) (sym (append_none h.passed)
+        subst (λ z. Offers holds (Onto g p piece b c z) k now) (sym (append-nil h.passed)
         ∙ (ap (λ z. h.passed ++ z) (sym (run_stop g board piece.kind p at d on stop)) ∙ h.all)) h.walked
 
     -- all landings were walked

@@ -1,9 +1,9 @@
-use Rattle.std.proofs.Common.{◌≡◌, ◌++◌, [], sym, ap, ◌∙◌, subst}
+use Rattle.std.proofs.Common.{◌≡◌, ◌++◌, [], ◌∷◌, sym, ap, ◌∙◌, subst, append_assoc, append-nil}
 use Rattle.std.proofs.lemmas.Bool.{true≢false}
 use Rattle.std.proofs.lemmas.Result.{on_ok_weaker}
 use Rattle.dw_moves.proofs.KeeperLemmas.{held_none, held_same, paths_alike, paths_bare}
+use Rattle.dw_moves.specs.Order.{Listed}
 use Rattle.dw_moves.specs.inner.Walks.{Captures, HasAll, PathsHeld, These, entries_listed}
-use Rattle.dw_moves.proofs.JumpStepLemmas.{append_none}
 use Rattle.dw_moves.proofs.LeastPathLemmas.{captures_all, some_led, quiet_all_listed}
 use Rattle.dw_moves.proofs.listed.push_listed.Goals as goal
 
@@ -22,6 +22,15 @@ paths-init g c =
     let some = some_led g.B.Board.geometry p least.most (c.can_capture.ensures.0 c.if-not-can_capture.false) h.most in
     subst (HasAll g.B.Board.geometry p) (sym whole) (captures_all g.B.Board.geometry p least.most kept some h)
 
+pub paths-preserved : goal.paths-preserved
+paths-preserved g c =
+    let list = c.paths.list.items in
+    let one : Listed = record { step = c.in-Some.mv; path = c.in-Some.path.items } in
+    let rest = entries_listed c.next.new.self in
+    subst (HasAll g.B.Board.geometry c.args.position.now) (ap (λ z. list ++ entries_listed z) c.in-Some.ensures.steps
+    ∙ (sym (append_assoc list (one ∷ []) rest) ∙ ap (λ z. z ++ rest) (sym c.in_ok-push.ensures.items)))
+    c.paths.invariant
+
 pub returns-then-not-can_capture : goal.returns-then-not-can_capture
 returns-then-not-can_capture g c =
     on_ok_weaker c.push_quiet.result (λ added. quiet_all_listed g.B.Board.geometry c.args.position.now
@@ -33,4 +42,4 @@ pub returns : goal.returns
 returns g c =
     let list = c.paths.list.items in
     subst (HasAll g.B.Board.geometry c.args.position.now) (ap (λ z. list ++ entries_listed z) c.in-None.ensures.steps.0
-    ∙ append_none list) c.paths.invariant
+    ∙ append-nil list) c.paths.invariant

@@ -1,6 +1,7 @@
 use Rattle.std.proofs.Common.{◌≡◌, ◌+◌, ◌++◌, ◌∷◌, [], ℕ, List, false, sym, ap, ◌∙◌, subst, refl, arith}
 use Rattle.std.proofs.lemmas.Bool.{true≢false}
 use Rattle.std.specs.FinSet as fin
+use Rattle.std.proofs.lemmas.List.{length-append}
 use Rattle.std.proofs.lemmas.Result.{on_ok_weaker}
 use Rattle.dw_board.specs.declared.piece.Piece.{Piece}
 use Rattle.dw_moves.specs.Order.{Listed}
@@ -173,3 +174,77 @@ walk_towards-returns-clause-kept g t c = λ p side path ground on.
           (sym (c.free_step.ensures.free p ground.of_all) ∙ w.in_default-free_step.is))
     ] in
     onto_towards (c.in-Some.ensures.some p side ground) (sym c.has.ensures ∙ c.if-has.false) done
+
+pub walk-walk_towards-requires : goal.walk-walk_towards-requires
+walk-walk_towards-requires g t c κs w =
+    let r = c.requires in
+    let p = r.path in
+    let less = c.decreases in
+    (omega (arith, less), (w.0, (w.1.0, (w.1.1.0, (w.1.1.1, (r.on_board, (r.few, (r.counted, p))))))))
+
+pub walk-walk_towards-requires-2 : goal.walk-walk_towards-requires-2
+walk-walk_towards-requires-2 g t c κs w =
+    let r = c.requires in
+    let p = r.path in
+    let less = c.decreases in
+    let on1 = c.in_ok-walk_towards.ensures.on p.0 p.1.0 in
+    (omega (arith, less), (w.0, (w.1.0, (w.1.1.0, (w.1.1.1, (r.on_board, (r.few, (r.counted, (p.0, (on1, p.1.1))))))))))
+
+pub walk-walk_towards-requires-3 : goal.walk-walk_towards-requires-3
+walk-walk_towards-requires-3 g t c κs w =
+    let r = c.requires in
+    let p = r.path in
+    let less = c.decreases in
+    let on1 = c.in_ok-walk_towards.ensures.on p.0 p.1.0 in
+    let on2 = c.in_ok-walk_towards-2.ensures.on p.0 on1 in
+    (omega (arith, less), (w.0, (w.1.0, (w.1.1.0, (w.1.1.1, (r.on_board, (r.few, (r.counted, (p.0, (on2, p.1.1))))))))))
+
+pub walk-walk_towards-requires-4 : goal.walk-walk_towards-requires-4
+walk-walk_towards-requires-4 g t c κs w =
+    let r = c.requires in
+    let p = r.path in
+    let less = c.decreases in
+    let on1 = c.in_ok-walk_towards.ensures.on p.0 p.1.0 in
+    let on2 = c.in_ok-walk_towards-2.ensures.on p.0 on1 in
+    let on3 = c.in_ok-walk_towards-3.ensures.on p.0 on2 in
+    (omega (arith, less), (w.0, (w.1.0, (w.1.1.0, (w.1.1.1, (r.on_board, (r.few, (r.counted, (p.0, (on3, p.1.1))))))))))
+
+pub walk-returns-clause-on : goal.walk-returns-clause-on
+walk-returns-clause-on g t c = on_ok_weaker c.offer.result (λ on4 path on.
+    let on1 = c.in_ok-walk_towards.ensures.on path on in
+    let on2 = c.in_ok-walk_towards-2.ensures.on path on1 in
+    let on3 = c.in_ok-walk_towards-3.ensures.on path on2 in
+    on4 path (c.in_ok-walk_towards-4.ensures.on path on3)) c.offer.ensures.on
+
+pub walk_onto-walk-requires : goal.walk_onto-walk-requires
+walk_onto-walk-requires g t c κs w =
+    let r = c.requires in
+    let p = r.path in
+    let less = c.decreases in
+    let here = p.0 ++ c.args.begun.now.at ∷ [] in
+    let on = c.enter.ensures.on p.0 p.1.0 in
+    let long = length-append p.0 (c.args.begun.now.at ∷ []) ∙ ap (λ n. n + 1) p.1.1 in
+    (omega (arith, less), (w.0, (w.1.0, (w.1.1.0, (w.1.1.1, (r.on_board, (r.few, (r.counted, (here, (on, long))))))))))
+
+pub walk_onto-returns-clause-on : goal.walk_onto-returns-clause-on
+walk_onto-returns-clause-on g t c = λ path on.
+    let is_on = g.K.Keeper.is_on in
+    let here : List ℕ = path ++ c.args.begun.now.at ∷ [] in
+    let on1 = c.enter.ensures.on path on in
+    let there : is_on c.if-goes_on.keeper here = elim c.if-goes_on.branch [
+      | walk_onto-then-goes_on+in_ok-walk w ↦ subst (λ z. is_on z here) (sym w.keeper-is)
+          (w.in_ok-walk.ensures.on here on1)
+      | walk_onto-else-goes_on+in_ok-offer w ↦ subst (λ z. is_on z here) (sym w.keeper-is)
+          (w.in_ok-offer.ensures.on here on1)
+    ] in
+    c.leave.ensures.on path c.args.begun.now.at there
+
+pub walk_towards-returns-clause-on : goal.walk_towards-returns-clause-on
+walk_towards-returns-clause-on g t c = λ path on.
+    let is_on = g.K.Keeper.is_on in
+    let on1 = c.landings.invariant.path path on in
+    elim c.match-free_step.branch [
+      | walk_towards-in-Some-free_step+in_ok-walk_onto+in-Man w ↦ subst (λ z. is_on z path) (sym w.keeper-is)
+          (w.in_ok-walk_onto.ensures.on path on1)
+      | walk_towards-in_default-free_step w ↦ subst (λ z. is_on z path) (sym w.keeper-is) on1
+    ]
