@@ -68,6 +68,7 @@ CHECKS = [
     Check("options"),
     Check("docs"),
     Check("definitions"),
+    Check("calls"),
     Check("causes"),
     Check("arguments"),
 ]

@@ -22,7 +22,7 @@ use std::fmt::Display;
 use std::fs::File;
 use std::io::Read;
 use std::process::ExitCode;
-use words::{ReportWords, command, requested};
+use words::{ReportWords, command};
 
 fn main(rt: HostRuntime) -> ExitCode {
     let words = match words_given(&rt, "dw") {
@@ -51,7 +51,7 @@ fn end_unread(rt: &HostRuntime, why: &Unread) -> ExitCode {
 
 /// Runs the command that the arguments ask for.
 fn obey(rt: &HostRuntime, matches: &ArgMatches<'_>) -> ExitCode {
-    let Some(asked) = requested(matches) else {
+    let Some(asked) = ReportWords::requested(matches) else {
         return end_with(rt, Ending::Words("dw: no command\n"), None);
     };
     match asked.board {

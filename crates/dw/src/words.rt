@@ -1,46 +1,53 @@
 //! The arguments of the command line.
-ghost use Rattle.std.specs.Prelude.{◌≤◌};
+ghost use Rattle.std.specs.Prelude.{◌≡◌, ◌≤◌, IfSome, codes, option_map};
+ghost use Rattle.std.specs.Option.{option_or};
+ghost use Rattle.std.proofs.Props.{props};
+ghost use Rattle.dw_program.specs.Options.{number_given, options_of, text_given};
 
 use clap::builder::ValueParser;
 use clap::{Arg, ArgMatches, Command as Words, value_parser};
 use dw_notation::Form;
 use dw_program::options::{
-    FEWEST_KEPT, FEWEST_MOVES, FIRST_PROBLEM, MOST_POSITIONS, VERSION, board, cache, file,
-    form_given, kept_given, memo, moves_given, one_problem, option, pdn, positions,
-    positions_given, within,
+    FEWEST_KEPT, FEWEST_MOVES, FIRST_PROBLEM, MOST_POSITIONS, VERSION, board, cache, count_given,
+    file, form_given, kept_given, memo, moves_given, one_problem, option, pdn, positions,
+    positions_given, problem_given, text_given, within,
 };
 use dw_program::{BoardSize, MemoKind};
 use dw_report::Command;
 use std::alloc::{AllocError, Global};
 
 /// What the arguments ask for.
-/// See [`requested`] for an example.
+/// See [`ReportWords::requested`] for an example.
 #[derive(Clone, Copy)]
 pub(crate) struct ReportWords<'a> {
     pub(crate) command: Command,
     pub(crate) form: Form,
-    /// The number of the one problem to report, or all.
+    /// The number of the one problem to report, `FIRST_PROBLEM` to `MAX_PROBLEMS`, or all.
     pub(crate) only: Option<u32>,
     pub(crate) board: BoardSize,
     /// Within how many moves a win is looked for, `FEWEST_MOVES` to `MOST_MOVES`.
     pub(crate) n: u8,
-    /// The most positions to expand, at least 1.
+    /// The most positions to expand, `FEWEST_POSITIONS` to `MOST_POSITIONS`.
     pub(crate) positions: u64,
     pub(crate) memo: MemoKind,
     /// The most positions that the memo keeps, `FEWEST_KEPT` to `MOST_KEPT`.
     pub(crate) cache: usize,
-    /// The most lines to list, at least 1.
+    /// The most lines to list, `FEWEST_LINES` to `MOST_LINES`.
     pub(crate) lines: u64,
     /// The token of the line after which the list begins.
     pub(crate) after: Option<&'a str>,
     /// The file to read, or standard input.
     pub(crate) file: Option<&'a str>,
+    ghost some_number: { IfSome only (λ number. 1 ≤ number) } by { Prim.hlevel props },
+    ghost few_number: { IfSome only (λ number. number ≤ 1_000_000) } by { Prim.hlevel props },
     ghost some_moves: { 1 ≤ n },
     ghost few_moves: { n ≤ 20 },
     ghost some_positions: { 1 ≤ positions },
+    ghost few_positions: { positions ≤ 1_000_000_000_000 },
     ghost some_kept: { 1 ≤ cache },
     ghost few_kept: { cache ≤ 4_000_000 },
     ghost some_lines: { 1 ≤ lines },
+    ghost few_lines: { lines ≤ 1_000_000_000 },
 }
 
 /// The fewest lines that a run may list.
@@ -229,79 +236,108 @@ fn after<'a>(alloc: Global) -> Arg<'a> {
     option(alloc, "after", "TOKEN", ValueParser::string(), help)
 }
 
-/// What parsed arguments ask for.
-/// Example: `dw show --problem 3 a.fen` asks for problem 3 alone, of the file `a.fen`.
-pub(crate) fn requested<'a>(matches: &ArgMatches<'a>) -> Option<ReportWords<'a>> {
-    if let Some(words) = matches.subcommand_matches("show") {
-        return Some(read_by(words, Command::Show));
+impl<'a> ReportWords<'a> {
+    ghost use Rattle.clap.specs.Words.{subcommand_rows_of};
+    ghost use Rattle.dw.specs.Commands.{IsAsked, IsAskedBy, Lists, Reads, Searches, problem_asked};
+
+    /// What parsed arguments ask for.
+    /// Example: `dw show --problem 3 a.fen` asks for problem 3 alone, of the file `a.fen`.
+    pub(crate) fn requested(matches: &ArgMatches<'a>) -> Option<Self>
+        ensures { IsAsked (subcommand_rows_of matches.now) result }
+    {
+        match matches.subcommand() {
+            Some((name, words)) => ReportWords::asked_by(name, words),
+            None => None,
+        }
     }
-    if let Some(words) = matches.subcommand_matches("moves") {
-        return Some(read_by(words, Command::Moves));
+
+    /// What the command of this name asks for.
+    fn asked_by(name: &str, words: &ArgMatches<'a>) -> Option<Self>
+        ensures { IsAskedBy name.now (options_of words.now) result }
+    {
+        match name {
+            "show" => Some(ReportWords::read_by(words, Command::Show)),
+            "moves" => Some(ReportWords::read_by(words, Command::Moves)),
+            "judge" => Some(ReportWords::searched_by(words, Command::Judge)),
+            "list" => Some(ReportWords::listed_by(words)),
+            _ => None,
+        }
     }
-    if let Some(words) = matches.subcommand_matches("judge") {
-        return Some(searched_by(words, Command::Judge));
+
+    /// What a command that reads problems asks for. It searches nothing and lists no lines.
+    fn read_by(words: &ArgMatches<'a>, command: Command) -> Self
+        ensures command { result.command ≡ command }
+        ensures only { result.only ≡ problem_asked (options_of words.now) }
+        ensures reads { Reads (options_of words.now) result }
+    {
+        ReportWords {
+            command,
+            form: form_given(words),
+            only: problem_given(words),
+            board: BoardSize::named(text_given(words, "board")),
+            n: FEWEST_MOVES,
+            positions: MOST_POSITIONS,
+            memo: MemoKind::None,
+            cache: FEWEST_KEPT,
+            lines: FEWEST_LINES,
+            after: None,
+            file: text_given(words, "FILE"),
+        }
     }
-    let words = matches.subcommand_matches("list")?;
-    Some(listed_by(words))
+
+    /// What a command that searches for wins asks for.
+    fn searched_by(words: &ArgMatches<'a>, command: Command) -> Self
+        ensures command { result.command ≡ command }
+        ensures only { result.only ≡ problem_asked (options_of words.now) }
+        ensures searches { Searches (options_of words.now) result }
+    {
+        let read = ReportWords::read_by(words, command);
+        ReportWords {
+            command,
+            form: read.form,
+            only: read.only,
+            board: read.board,
+            n: moves_given(words, "n").unwrap_or(FEWEST_MOVES),
+            positions: positions_given(words, "positions").unwrap_or(MOST_POSITIONS),
+            memo: MemoKind::named(text_given(words, "memo")),
+            cache: kept_given(words).unwrap_or(USUALLY_KEPT),
+            lines: read.lines,
+            after: read.after,
+            file: read.file,
+        }
+    }
+
+    /// What the command that lists lines asks for.
+    fn listed_by(words: &ArgMatches<'a>) -> Self
+        ensures command { result.command ≡ Command.List }
+        ensures lists { Lists (options_of words.now) result }
+    {
+        let asked = ReportWords::searched_by(words, Command::List);
+        ReportWords {
+            command: asked.command,
+            form: asked.form,
+            only: problem_or_first(words),
+            board: asked.board,
+            n: asked.n,
+            positions: asked.positions,
+            memo: asked.memo,
+            cache: asked.cache,
+            lines: count_given(words, "lines", FEWEST_LINES, MOST_LINES).unwrap_or(MOST_LINES),
+            after: text_given(words, "after"),
+            file: asked.file,
+        }
+    }
 }
 
-/// What a command that reads problems asks for. It searches nothing and lists no lines.
-fn read_by<'a>(words: &ArgMatches<'a>, command: Command) -> ReportWords<'a> {
-    ReportWords {
-        command,
-        form: form_given(words),
-        only: words.get_one::<u32>("problem"),
-        board: BoardSize::named(words.get_str("board")),
-        n: FEWEST_MOVES,
-        positions: MOST_POSITIONS,
-        memo: MemoKind::None,
-        cache: FEWEST_KEPT,
-        lines: FEWEST_LINES,
-        after: None,
-        file: words.get_str("FILE"),
-    }
-}
-
-/// What a command that searches for wins asks for.
-fn searched_by<'a>(words: &ArgMatches<'a>, command: Command) -> ReportWords<'a> {
-    let read = read_by(words, command);
-    ReportWords {
-        command,
-        form: read.form,
-        only: read.only,
-        board: read.board,
-        n: moves_given(words, "n").unwrap_or(FEWEST_MOVES),
-        positions: positions_given(words, "positions").unwrap_or(MOST_POSITIONS),
-        memo: MemoKind::named(words.get_str("memo")),
-        cache: kept_given(words, USUALLY_KEPT),
-        lines: read.lines,
-        after: read.after,
-        file: read.file,
-    }
-}
-
-/// What the command that lists lines asks for. A token without the number of a problem is one of the first problem. The
-/// number of lines is within its range already, but clap does not say so to the prover.
-fn listed_by<'a>(words: &ArgMatches<'a>) -> ReportWords<'a> {
-    let asked = searched_by(words, Command::List);
-    let after = words.get_str("after");
-    let first = if after.is_some() {
-        Some(FIRST_PROBLEM)
-    } else {
-        None
-    };
-    let lines = words.get_one::<u64>("lines").unwrap_or(MOST_LINES);
-    ReportWords {
-        command: asked.command,
-        form: asked.form,
-        only: asked.only.or(first),
-        board: asked.board,
-        n: asked.n,
-        positions: asked.positions,
-        memo: asked.memo,
-        cache: asked.cache,
-        lines: lines.max(FEWEST_LINES),
-        after,
-        file: asked.file,
+/// The problem whose lines are listed: a token without the number of a problem is one of the first problem.
+fn problem_or_first(words: &ArgMatches<'_>) -> Option<u32>
+    ensures value { result ≡ option_or (number_given 1 1_000_000 (options_of words.now) (codes "problem"))
+        (option_map (λ token. 1) (text_given (options_of words.now) (codes "after"))) }
+    ensures some { IfSome result (λ number. 1 ≤ number) }
+    ensures few { IfSome result (λ number. number ≤ 1_000_000) }
+{
+    match (problem_given(words), text_given(words, "after")) {
+        (None, Some(_)) => Some(FIRST_PROBLEM),
+        (asked, _) => asked,
     }
 }

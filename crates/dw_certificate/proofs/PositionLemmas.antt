@@ -34,23 +34,25 @@ after_all g p moves list i legal h end = record {
   is : list ≡ map (λ m. play g p m) moves
   is = h ∙ ap (map (λ m. play g p m)) (take_all i moves end)
 
+pub take_next : {X : Type 0} (list : List X) (i : ℕ) (x : X) → i < length list → x ≡ get_or list i x
+    → take (i + 1) list ≡ take i list ++ x ∷ []
+take_next list i x low is =
+    ap (λ n. take n list) (add-one i) ∙ (take-suc list i x low ∙ ap (λ z. take i list ++ z ∷ []) (sym is))
+
 -- the first of a list are those before the last of them, and that one
-pub first_cases : (list : List Placement) (i : ℕ) (x q : Placement) → i < length list → x ≡ get_or list i x
-    → (P : Placement → Type 0) → ((z : Placement) → Member z (take i list) → P z) → P x
-    → Member q (take (i + 1) list) → P q
+pub first_cases : {X : Type 0} (list : List X) (i : ℕ) (x q : X) → i < length list → x ≡ get_or list i x
+    → (P : X → Type 0) → ((z : X) → Member z (take i list) → P z) → P x → Member q (take (i + 1) list) → P q
 first_cases list i x q low is P before here m =
-    let e : take (i + 1) list ≡ take i list ++ x ∷ [] =
-    ap (λ n. take n list) (add-one i) ∙ (take-suc list i x low ∙ ap (λ z. take i list ++ z ∷ []) (sym is)) in
-    elim (mem_cases q (take i list) (x ∷ []) (subst (Member q) e m)) [
+    elim (mem_cases q (take i list) (x ∷ []) (subst (Member q) (take_next list i x low is) m)) [
       | inl l ↦ before q l
       | inr n ↦ elim n [ inl s ↦ subst P (sym s) here | inr z ↦ absurd z ]
     ]
 
-pub first_all : (list : List Placement) (i : ℕ) (q : Placement) → length list ≤ i → Member q list
+pub first_all : {X : Type 0} (list : List X) (i : ℕ) (q : X) → length list ≤ i → Member q list
     → Member q (take i list)
 first_all list i q end m = subst (Member q) (sym (take_all i list end)) m
 
-pub member_at : (list : List Placement) (i : ℕ) (q : Placement) → i < length list → q ≡ get_or list i q
+pub member_at : {X : Type 0} (list : List X) (i : ℕ) (q : X) → i < length list → q ≡ get_or list i q
     → Member q list
 member_at [] i q low is = absurd (omega arith)
 member_at (x ∷ list) zero q low is = inl is

@@ -11,7 +11,7 @@ use Rattle.dw_moves.specs.inner.MemberLemmas as laws
 use Rattle.dw_memo.specs.Content.{entry}
 use Rattle.dw_solve.specs.Facts.{KnownWin, KnownFail}
 use Rattle.dw_certificate.specs.Certificate.{Row, positions_of, bounds_of, claims}
-use Rattle.dw_certificate.specs.inner.Rows.{Suffices, Knows, IsGrown, Follows}
+use Rattle.dw_certificate.specs.inner.Rows.{Suffices, Knows, IsGrown}
 
 -- ---- WHAT ROWS SAY
 
@@ -58,20 +58,6 @@ pub knows_grown : (win : Bool) (Of : Placement → Type 0) (moves : ℕ) (old ne
     → IsGrown Of moves old new → Knows win (claims win old) q n → Knows win (claims win new) q n
 knows_grown win Of moves old new q n grown k =
     subst (λ z. Knows win (claims win z) q n) (sym grown.is) (knows_more win old grown.more q n k)
-
-pub follows_grown : (g : Geometry) (win : Bool) (Of : Placement → Type 0) (moves : ℕ) (old new : List Row)
-    (p : Placement) (n : ℕ) → IsGrown Of moves old new → Follows g win (claims win old) p n
-    → Follows g win (claims win new) p n
-follows_grown g true Of moves old new p n grown f =
-    (f.0, f.1, λ r l. knows_grown true Of moves old new (play g (play g p f.0) r) (n - 1) grown (f.2 r l))
-follows_grown g false Of moves old new p n grown f = λ m l. let s = f m l in (
-  s.0,
-  s.1,
-  elim s.2 [
-    | inl e ↦ inl e
-    | inr k ↦ inr (knows_grown false Of moves old new (play g (play g p m) s.0) (n - 1) grown k)
-  ],
-)
 
 -- a row that is there says what its bound is enough for
 pub knows_held : (win : Bool) (rows : List Row) (q : Placement) (b n : ℕ) → Member (q, b) rows → Suffices win b n

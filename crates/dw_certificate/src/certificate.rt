@@ -5,13 +5,15 @@ ghost use Rattle.indexmap.specs.IndexMap.{get};
 ghost use Rattle.dw_board.specs.inner.PlacementLemmas.{same};
 ghost use Rattle.dw_board.specs.Lists.{Member};
 ghost use Rattle.dw_board.specs.Placement.{Placement};
-ghost use Rattle.dw_certificate.specs.Certificate.{IsCertificate, ComesAfter, claims};
-ghost use Rattle.dw_certificate.specs.inner.Rows.{IsGrown, Follows, Knows, Suffices};
+ghost use Rattle.dw_certificate.specs.Certificate.{IsCertificate, claims};
+ghost use Rattle.dw_certificate.specs.inner.Rows.{IsGrown, IsSupported, Knows, Suffices};
 
 use crate::fault::CertificateFault;
 use crate::positions::positions_after;
 use dw_board::{Board, Position};
 use dw_memo::Memo;
+use dw_moves::legal::legal;
+use dw_moves::play::play;
 use indexmap::IndexMap;
 use std::alloc::{AllocError, Global};
 
@@ -120,10 +122,8 @@ impl<B: Board> Certificate<B> {
     ) -> Result<(), CertificateFault>
         requires { 1 ≤ bound }
         ensures same { self.new.win ≡ self.old.win }
-        ensures grown { OnOk result (IsGrown (ComesAfter B.geometry position.now) (bound - 1) self.old.rows.entries
-            self.new.rows.entries) }
-        ensures follows { OnOk result (Follows B.geometry self.new.win (claims self.new.win self.new.rows.entries)
-            position.now bound) }
+        ensures supported { OnOk result (IsSupported B.geometry self.new.win position.now (bound - 1)
+            self.old.rows.entries self.new.rows.entries) }
     {
         if self.win {
             self.support_win(alloc, memo, position, bound - 1)
@@ -142,10 +142,8 @@ impl<B: Board> Certificate<B> {
     ) -> Result<(), CertificateFault>
         requires { self.old.win ≡ true }
         ensures same { self.new.win ≡ self.old.win }
-        ensures grown { OnOk result (IsGrown (ComesAfter B.geometry position.now) left self.old.rows.entries
+        ensures supported { OnOk result (IsSupported B.geometry true position.now left self.old.rows.entries
             self.new.rows.entries) }
-        ensures follows { OnOk result (Follows B.geometry true (claims true self.new.rows.entries) position.now
-            (left + 1)) }
     {
         let afters = positions_after(alloc, position)?;
         'moves: for after in afters.as_slice() {
@@ -167,14 +165,13 @@ impl<B: Board> Certificate<B> {
     ) -> Result<(), CertificateFault>
         requires { self.old.win ≡ false }
         ensures same { self.new.win ≡ self.old.win }
-        ensures grown { OnOk result (IsGrown (ComesAfter B.geometry position.now) left self.old.rows.entries
+        ensures supported { OnOk result (IsSupported B.geometry false position.now left self.old.rows.entries
             self.new.rows.entries) }
-        ensures follows { OnOk result (Follows B.geometry false (claims false self.new.rows.entries) position.now
-            (left + 1)) }
     {
-        let afters = positions_after(alloc, position)?;
-        'moves: for after in afters.as_slice() {
-            let nexts = positions_after(alloc, after)?;
+        let moves = legal(alloc, position)?;
+        'moves: for mv in moves.as_slice() {
+            let after = play(position, mv);
+            let nexts = positions_after(alloc, &after)?;
             self.put_one(memo, nexts.as_slice(), left)?;
         }
         Ok(())
@@ -217,9 +214,8 @@ impl<B: Board> Certificate<B> {
         left: u8,
     ) -> Result<(), CertificateFault>
         ensures same { self.new.win ≡ self.old.win }
-        ensures grown { OnOk result (IsGrown (λ q. Member q nexts.now) left self.old.rows.entries
-            self.new.rows.entries) }
-        ensures known { OnOk result ((q : Placement) × Member q nexts.now
+        ensures put { OnOk result ((q : Placement) × Member q nexts.now
+            × IsGrown (λ z. z ≡ q) left self.old.rows.entries self.new.rows.entries
             × ((left ≡ 0) ⊎ Knows self.new.win (claims self.new.win self.new.rows.entries) q left)) }
     {
         match self.chosen(memo, nexts, left) {

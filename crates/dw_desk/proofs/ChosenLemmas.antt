@@ -3,12 +3,15 @@ use Rattle.std.proofs.Common.{◌≡◌, ◌∙◌, ◌+◌, ◌-◌, ◌<◌, �
 use Rattle.std.proofs.Common.{ℕ, zero, suc, Bool, true, false, List, [], Option, Some, None, length, map, take, cond}
 use Rattle.std.proofs.Common.{ltb, eqb, leb}
 use Rattle.std.proofs.Common.{Ok, append-nil, take_all, zero-le}
-use Rattle.std.specs.Prelude.{filter, MatchBool}
+use Rattle.std.specs.Prelude.{filter, option_map, IfSome, MatchBool}
 use Rattle.std.specs.Io.KnownBytes.{Consumes, IsAtEnd}
 use Rattle.std.proofs.lemmas.Bool.{cases_Bool, and_right, eqb-true, leb-true, lt-leb, ltb-true}
 use Rattle.dw_board.specs.Geometry.{Geometry}
-use Rattle.dw_desk.specs.Chosen.{as_game, AreChosen, AreChosenOf, AreGamesIn, is_up_to, is_in}
-use Rattle.dw_desk.specs.inner.Choosing.{AreAhead, AreComing, AreLeft, Comes, ComesNext, EndIsKnown, is_met, up_to}
+use Rattle.dw_desk.specs.Chosen.{as_game, AreChosen, AreChosenOf, AreGamesIn, HandsOut, is_up_to, is_in}
+use Rattle.dw_desk.specs.inner.Choosing.{AreAhead, AreComing, AreLeft, Comes, ComesNext, EndIsKnown}
+use Rattle.dw_desk.specs.inner.Choosing.{AreToCome, IsKnown, IsTextKnown, is_met, up_to}
+use Rattle.dw_desk.specs.NextGame.{IsNext}
+use Rattle.dw_desk.specs.declared.chosen.Chosen.{Chosen}
 use Rattle.dw_desk.specs.declared.chosen.Text.{Text}
 use Rattle.dw_desk_words.specs.declared.portion.Portion.{Portion}
 use Rattle.dw_games.specs.GameReading as games
@@ -286,3 +289,42 @@ none_comes g coming has_ended portion left old new comes = λ bytes known end.
 pub none_left : {B S : Type 0} (g : Geometry) (coming : S → Option (List ℕ)) (has_ended : S → Bool)
     (portion : Portion) (left : ℕ) (text : Text B S) → left ≤ 0 → AreComing g coming has_ended portion left text []
 none_left g coming has_ended portion left text none = λ bytes known end. inl (omega (arith, none), refl)
+
+-- ---- what is known of a text
+
+-- it is known of the text behind a game
+pub still_known : {B S : Type 0} (g : Geometry) (coming : S → Option (List ℕ)) (has_ended : S → Bool)
+    (old new : Text B S) (game : Game B) → ComesNext g coming has_ended old new (Some game)
+    → (EndIsKnown coming has_ended old → EndIsKnown coming has_ended new) → IsTextKnown coming has_ended old
+    → IsTextKnown coming has_ended new
+still_known g coming has_ended old new game comes ends known =
+    let one = comes known.0.0 known.0.1 known.1 in ((one.0, one.1), ends known.1)
+
+some_is : (x y : List ℕ) → Some x ≡ Some y → x ≡ y
+some_is x y e = cc
+
+-- behind a game there are those that are still to come
+pub some_come : {B S : Type 0} (g : Geometry) (coming : S → Option (List ℕ)) (has_ended : S → Bool)
+    (portion : Portion) (left : ℕ) (old new : Text B S) (game : Game B)
+    → ComesNext g coming has_ended old new (Some game) → IsTextKnown coming has_ended old
+    → (games : List NumberedGame) × AreComing g coming has_ended portion left new games
+some_come g coming has_ended portion left old new game comes known =
+    let one = comes known.0.0 known.0.1 known.1 in
+    let all = one.2.1 in (
+      up_to portion (take left all.0),
+      λ bytes is end. inr (
+        all.0,
+        subst (λ z. AreAhead g new z all.0) (some_is one.0 bytes (sym one.1 ∙ is)) all.1,
+        refl,
+      ),
+    )
+
+-- what a call for the next game answered
+pub is_next : {B S : Type 0} (g : Geometry) (coming : S → Option (List ℕ)) (has_ended : S → Bool) (old new : Chosen B S)
+    (found : Option (Game B))
+    → HandsOut (AreToCome g coming has_ended old) (AreToCome g coming has_ended new) (option_map numbered_game found)
+    → IfSome found (λ _. IsKnown coming has_ended old → (games : List NumberedGame)
+    × AreToCome g coming has_ended new games)
+    → IsNext g coming has_ended old new (option_map numbered_game found)
+is_next g coming has_ended old new None handed more = (handed, tt)
+is_next g coming has_ended old new (Some game) handed more = (handed, more)

@@ -2,3 +2,7 @@ mod ProblemLemmas
 mod ReportLemmas
 mod CheckingLemmas
 mod ChosenLemmas
+mod CommandLemmas
+mod FoundLemmas
+mod RowLemmas
+mod PagingLemmas

@@ -1,12 +1,14 @@
 -- The texts of problems.
-use Rattle.std.specs.Prelude.{◌≡◌, ◌+◌, ◌≤◌, if◌then◌else◌, ℕ, Bool, true, Ok, Err, Option, Some, None, List, []}
+use Rattle.std.specs.Prelude.{◌≡◌, ◌+◌, ◌≤◌, ℕ, Bool, true, Ok, Err, List, []}
 use Rattle.std.specs.Prelude.{◌∷◌, ◌++◌, length, map}
 use Rattle.std.specs.List.{count_by}
 use Rattle.dw_board.specs.Geometry.{Geometry}
 use Rattle.dw_board.specs.Placement.{Placement}
 use Rattle.dw_desk.specs.declared.desk.Counts.{Counts}
 use Rattle.dw_desk.specs.declared.ending.Ending.{Ending}
-use Rattle.dw_desk.specs.declared.ending.Ending.TheVariants.{Done, Refused, NoProblem}
+use Rattle.dw_desk.specs.declared.ending.Ending.TheVariants.{Refused, NoProblem}
+use Rattle.dw_desk.specs.Ending.{ending_after}
+use Rattle.dw_desk_words.specs.declared.portion.Portion.{Portion}
 use Rattle.dw_games.specs.Games.{NumberedGame}
 use Rattle.dw_notation.specs.Problems.{Numbered}
 use Rattle.dw_notation.specs.TextLines.{Found}
@@ -48,9 +50,21 @@ pub record IsReport (One : NumberedGame → (refused : Bool) → List ℕ → Ty
   pub shown : length reported ≤ MAX_PROBLEMS + 1 → counts.shown ≡ length reported
   pub refused : length reported ≤ MAX_PROBLEMS + 1 → counts.refused ≡ count_by (λ r. r.is_refused) reported
 
--- The report on the next game, if there is one; and how the program ends after that.
-abbrev pub IsReportOnOne : {T : Type 0} → (One : NumberedGame → (refused : Bool) → List ℕ → Type 0) → (first : ℕ)
-    → Option NumberedGame → Ending T → List ℕ → Type 0
-IsReportOnOne One first None ending text = (ending ≡ NoProblem first) × (text ≡ [])
-IsReportOnOne One first (Some game) ending text =
-    (refused : Bool) × One game refused text × (ending ≡ (if refused then Refused else Done))
+-- The report on all games that are chosen. How the program ends after it follows from how many they are, and how many
+-- count as refused.
+abbrev pub IsReportOnAll : {T : Type 0} → (One : NumberedGame → (refused : Bool) → List ℕ → Type 0) → Portion
+    → List NumberedGame → Ending T → List ℕ → Type 0
+IsReportOnAll One portion games ending text =
+    (counts : Counts) × IsReport One games counts text × (ending ≡ ending_after counts.shown counts.refused portion)
+
+-- the report on the first of the chosen games alone, if there is one; or that the one with this number is not there
+abbrev pub IsReportOnOne : {T : Type 0} → (One : NumberedGame → Ending T → List ℕ → Type 0) → (number : ℕ)
+    → List NumberedGame → Ending T → List ℕ → Type 0
+IsReportOnOne One number [] ending text = (ending ≡ NoProblem number) × (text ≡ [])
+IsReportOnOne One number (game ∷ more) ending text = One game ending text
+
+-- what a command does with a problem that has a position; a refused one leaves its first line alone
+abbrev pub IsDoneWith : {T : Type 0} → (Does : Placement → Ending T → List ℕ → Type 0) → (line : List ℕ) → Found
+    → Ending T → List ℕ → Type 0
+IsDoneWith Does line (Ok p) ending text = Does p ending text
+IsDoneWith Does line (Err fault) ending text = (ending ≡ Refused) × (text ≡ line)

@@ -1,12 +1,26 @@
--- What `token` writes of a line of play.
-use Rattle.std.specs.Prelude.{◌≡◌, ◌++◌, ℕ, List, codes}
+-- What `token` does with a problem.
+use Rattle.std.specs.Prelude.{◌≡◌, ◌++◌, ℕ, List, [], codes, Ok, Err}
 use Rattle.dw_board.specs.Geometry.{Geometry}
 use Rattle.dw_board.specs.Placement.{Placement}
 use Rattle.dw_moves.specs.Moves.{Move}
-use Rattle.dw_games.specs.Lines.{IsWrittenLine}
+use Rattle.dw_desk.specs.declared.ending.Ending.{Ending}
+use Rattle.dw_desk.specs.declared.ending.Ending.TheVariants.{Done, LineRefused, ProblemRefused}
+use Rattle.dw_games.specs.Lines.{IsWrittenLine, IsFirstLineFault}
 use Rattle.dw_list.specs.Tokens.{token_of}
+use Rattle.dw_notation.specs.TextLines.{Found}
 
 -- the token of a written line, and a line end
 abbrev pub IsTokenOf : Geometry → (line : List ℕ) → Placement → List ℕ → Type 0
 IsTokenOf g line p text =
     (moves : List Move) × IsWrittenLine g p line moves × (text ≡ token_of g moves ++ codes "\n")
+
+-- the token is written; or nothing, if the text is no line: then the program ends with its first fault
+abbrev pub WritesToken : {T : Type 0} → Geometry → (line : List ℕ) → Placement → Ending T → List ℕ → Type 0
+WritesToken g line p Done text = IsTokenOf g line p text
+WritesToken g line p (LineRefused what place) text = IsFirstLineFault g p line what place × (text ≡ [])
+WritesToken g line p other text = ⊥
+
+-- what is done with a problem; a refused one is told as the program ends, and nothing is written
+abbrev pub IsTokenFor : {T : Type 0} → Geometry → (line : List ℕ) → Found → Ending T → List ℕ → Type 0
+IsTokenFor g line (Ok p) ending text = WritesToken g line p ending text
+IsTokenFor g line (Err fault) ending text = (ending ≡ ProblemRefused fault) × (text ≡ [])

@@ -1,12 +1,11 @@
 //! The command `certify`: the certificate of an answer.
-ghost use Rattle.std.specs.Prelude.{◌≡◌, ◌≤◌, ℕ, List, false, Ok, Some, IfOk};
+ghost use Rattle.std.specs.Prelude.{◌≡◌, ◌≤◌, ℕ, List, Option, false, IfOk};
 ghost use Rattle.std.specs.Io.KnownBytes.{Appends};
-ghost use Rattle.dw_board.specs.Placement.{Placement};
-ghost use Rattle.dw_desk.specs.Certifying.{IsCertificateText};
-ghost use Rattle.dw_desk.specs.declared.ending.Ending.TheVariants.{Done};
-ghost use Rattle.dw_desk.specs.Chosen.{HandsOut};
-ghost use Rattle.dw_desk.specs.inner.Choosing.{AreToCome};
-ghost use Rattle.dw_games.specs.Games.{NumberedGame};
+ghost use Rattle.dw_desk.specs.Certifying.{IsCertificateText, IsCertifyOf};
+ghost use Rattle.dw_desk.specs.ProblemText.{IsReportOnOne};
+ghost use Rattle.dw_desk.specs.NextGame.{IsNext, as_list};
+ghost use Rattle.dw_games.specs.Games.{NumberedGame, problem_of};
+ghost use Rattle.dw_notation.specs.Problems.{numbered};
 
 use crate::chosen::Chosen;
 use crate::desk::{Desk, DeskFault};
@@ -14,8 +13,8 @@ use crate::ending::Ending;
 use crate::progress::Progress;
 use dw_board::{Board, Position};
 use dw_certificate::{CertificateFault, certificate_text, certify};
+use dw_desk_words::CertifyWords;
 use dw_notation::{Problem, Sink, Source, write_all};
-use dw_program::options::{FEWEST_MOVES, MOST_MOVES};
 use dw_program::{Lasting, MemoKind, memo_of};
 use dw_report::{RunFault, Stop, problem_line};
 use dw_solve::{ByTrial, Solver};
@@ -23,24 +22,24 @@ use dw_study::{Slices, wins_in_slices};
 use std::alloc::{AllocError, Global};
 use std::mem::replace;
 
-/// Writes the certificate of whether the chosen problem is won within `n` moves, and tells how that ended. A refused
-/// problem leaves its first line alone.
+/// Writes the certificate of whether the chosen problem is won within so many moves, and tells how that ended. A
+/// refused problem leaves its first line alone.
 pub(crate) fn certify_problem<T, B: Board, S: Source, K: Sink>(
     desk: &mut Desk<B>,
     slices: &mut Slices<Progress<'_>>,
     chosen: &mut Chosen<'_, B, S>,
-    n: u8,
+    asked: &CertifyWords,
     sink: &mut K,
 ) -> Result<Ending<T>, DeskFault>
     requires { K.is_failed sink.old ≡ false }
-    ensures { 1 ≤ n → n ≤ 20 → result ≡ Ok Done → (game : NumberedGame) × (p : Placement) × (text : List ℕ)
-        × HandsOut (AreToCome B.geometry S.coming S.has_ended chosen.old)
-        (AreToCome B.geometry S.coming S.has_ended chosen.new) (Some game)
-        × (game.said.found ≡ Ok p) × IsCertificateText B.geometry n p text
-        × Appends (K.taken sink.old) (K.taken sink.new) text }
+    ensures { IfOk result (λ ending. (next : Option NumberedGame) × (text : List ℕ)
+        × IsNext B.geometry S.coming S.has_ended chosen.old chosen.new next
+        × IsReportOnOne (λ game. IsCertifyOf B.geometry asked.now.n (problem_of game)) chosen.old.portion.first
+        (as_list next) ending text
+        × Appends (K.taken sink.old) (K.taken sink.new) text) }
 {
     match chosen.next()? {
-        Some(game) => write_certificate(desk, slices, n, &game.problem, sink),
+        Some(game) => write_certificate(desk, slices, asked, &game.problem, sink),
         None => Ok(Ending::NoProblem(chosen.first())),
     }
 }
@@ -49,29 +48,28 @@ pub(crate) fn certify_problem<T, B: Board, S: Source, K: Sink>(
 fn write_certificate<T, B: Board, K: Sink>(
     desk: &mut Desk<B>,
     slices: &mut Slices<Progress<'_>>,
-    n: u8,
+    asked: &CertifyWords,
     problem: &Problem<B>,
     sink: &mut K,
 ) -> Result<Ending<T>, DeskFault>
-    requires works { K.is_failed sink.old ≡ false }
-    ensures { 1 ≤ n → n ≤ 20 → result ≡ Ok Done → (p : Placement) × (problem.now.found ≡ Ok p) × (text : List ℕ)
-        × IsCertificateText B.geometry n p text × Appends (K.taken sink.old) (K.taken sink.new) text }
+    requires { K.is_failed sink.old ≡ false }
+    ensures { IfOk result (λ ending. (text : List ℕ)
+        × IsCertifyOf B.geometry asked.now.n (numbered problem.now) ending text
+        × Appends (K.taken sink.old) (K.taken sink.new) text) }
 {
     let Ok(position) = &problem.found else {
         write_all(sink, problem_line(problem).as_str().as_bytes())?;
         return Ok(Ending::Refused);
     };
-    // The number is within this range already, but a `Task` does not say so to the prover.
-    let n = n.clamp(FEWEST_MOVES, MOST_MOVES);
     desk.begin(slices, problem.number);
-    let searched = wins_in_slices(desk.alloc, &mut desk.solver, position, n, slices);
+    let searched = wins_in_slices(desk.alloc, &mut desk.solver, position, asked.n, slices);
     slices.watcher.end();
     searched?;
     if desk.solver.dropped() > 0 {
         return Ok(Ending::TooManyPositions);
     }
     let expanded = desk.solver.expanded();
-    match text_of(desk, position, n) {
+    match text_of(desk, position, asked.n) {
         Ok(text) => {
             write_all(sink, text.as_slice())?;
             Ok(Ending::Done)

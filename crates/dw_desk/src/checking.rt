@@ -31,7 +31,8 @@ use dw_study::{Checked, Remark, Slices, remark_text, turns_of};
 use itoa::Buffer;
 use std::alloc::{AllocError, Global};
 
-/// Checks the solutions of the chosen games, each as soon as it is read, within `n` moves, or as many as each has.
+/// Checks the solutions of the chosen games, each as soon as it is read, within as many moves as are asked for, or as
+/// many as each has.
 pub(crate) fn check_games<B: Board, S: Source, K: Sink>(
     desk: &mut Desk<B>,
     slices: &mut Slices<Progress<'_>>,

@@ -1,5 +1,5 @@
 //! The problems that a command speaks of, one after another.
-ghost use Rattle.std.specs.Prelude.{◌≡◌, ◌<◌, ◌-◌, if◌then◌else◌, ℕ, List, false, option_map, IfOk, IfSome};
+ghost use Rattle.std.specs.Prelude.{◌≡◌, ◌<◌, ◌-◌, if◌then◌else◌, ℕ, List, Some, false, option_map, IfOk, IfSome};
 
 use crate::desk::DeskFault;
 use dw_board::Board;
@@ -21,15 +21,18 @@ pub(crate) struct Chosen<'a, B: Board, S> {
 
 impl<'a, B: Board, S: Source> Chosen<'a, B, S> {
     ghost use Rattle.dw_desk.specs.Chosen.{AreChosenOf, HandsOut, is_in};
-    ghost use Rattle.dw_desk.specs.inner.Choosing.{AreToCome, is_met};
+    ghost use Rattle.dw_desk.specs.inner.Choosing.{AreToCome, IsKnown, is_met};
     ghost use Rattle.dw_games.specs.GameReading.{numbered_game};
     ghost use Rattle.dw_games.specs.Games.{NumberedGame};
 
     /// The problems of a portion, of a text of this form that the source gives.
     pub(crate) fn new(alloc: Global, source: &'a mut S, form: Form, portion: Portion) -> Self
         requires { S.is_failed source.old ≡ false }
-        ensures { (games : List NumberedGame) → AreToCome B.geometry S.coming S.has_ended result games
+        ensures chosen { (games : List NumberedGame) → AreToCome B.geometry S.coming S.has_ended result games
             → AreChosenOf B.geometry form portion (S.coming source.old) games }
+        ensures known { (bytes : List ℕ) → S.coming source.old ≡ Some bytes
+            → IsKnown S.coming S.has_ended result }
+        ensures portion { result.portion ≡ portion }
     {
         Chosen {
             alloc,
@@ -47,7 +50,9 @@ impl<'a, B: Board, S: Source> Chosen<'a, B, S> {
     }
 
     /// Whether these problems were asked for by their numbers.
-    pub(crate) fn is_asked(&self) -> bool {
+    pub(crate) fn is_asked(&self) -> bool
+        ensures { result ≡ self.now.portion.is_asked }
+    {
         self.portion.is_asked
     }
 
@@ -55,6 +60,8 @@ impl<'a, B: Board, S: Source> Chosen<'a, B, S> {
     pub(crate) fn next(&mut self) -> Result<Option<Game<B>>, DeskFault>
         ensures given { IfOk result (λ found. HandsOut (AreToCome B.geometry S.coming S.has_ended self.old)
             (AreToCome B.geometry S.coming S.has_ended self.new) (option_map numbered_game found)) }
+        ensures more { IfOk result (λ found. IfSome found (λ _. IsKnown S.coming S.has_ended self.old
+            → (games : List NumberedGame) × AreToCome B.geometry S.coming S.has_ended self.new games)) }
         ensures portion { self.new.portion ≡ self.old.portion }
         ensures fewer { IfOk result (λ found. IfSome found (λ _. self.new.left < self.old.left)) }
     {

@@ -1,5 +1,6 @@
 //! What every command does: it opens its file, searches with a solver, and counts what it reports.
-ghost use Rattle.std.specs.Prelude.{◌≡◌, ◌⊎◌, ◌+◌, ◌<◌, if◌then◌else◌};
+ghost use Rattle.std.specs.Prelude.{◌≡◌, ◌⊎◌, ◌+◌, ◌<◌, ◌≤◌, false, if◌then◌else◌, IfOk};
+ghost use Rattle.dw_desk.specs.Commands.{DoesIt, Obeys, form_for};
 ghost use Rattle.dw_desk.specs.Ending.{ending_after};
 
 use crate::certifying::certify_problem;
@@ -15,7 +16,7 @@ use crate::writing::write_line;
 use dw_board::Board;
 use dw_desk_words::{DeskWords, Task};
 use dw_games::GameFault;
-use dw_notation::{Form, ReadFault, Reading, WriteFault, Writing};
+use dw_notation::{Form, ReadFault, Reading, Sink, Source, WriteFault, Writing};
 use dw_program::{Lasting, memo_of};
 use dw_report::{RunFault, Stop};
 use dw_solve::{ByTrial, Solver};
@@ -50,10 +51,11 @@ impl Counts {
 
     /// One problem more is reported.
     pub(crate) fn with(self, is_refused: bool) -> Counts
-        ensures { self.shown < 4294967295 → self.refused < 4294967295 → result ≡ record {
+        ensures more { self.shown < 4294967295 → self.refused < 4294967295 → result ≡ record {
           shown = self.shown + 1;
           refused = self.refused + (if is_refused then 1 else 0);
         } }
+        ensures some { 1 ≤ result.shown }
     {
         Counts {
             shown: self.shown.saturating_add(1),
@@ -124,7 +126,10 @@ pub(crate) struct Desk<B: Board> {
 impl<B: Board> Desk<B> {
     /// Begins with another problem: the memo may forget those before, and the line that shows how far a search is tells
     /// its number.
-    pub(crate) fn begin(&mut self, slices: &mut Slices<Progress<'_>>, number: u32) {
+    pub(crate) fn begin(&mut self, slices: &mut Slices<Progress<'_>>, number: u32)
+        ensures count { self.new.solver.expanded ≡ self.old.solver.expanded }
+        ensures first { slices.new.first ≡ slices.old.first }
+    {
         self.solver.forget();
         slices.watcher.begin(number);
     }
@@ -161,67 +166,79 @@ fn obey_with<'a, B: Board>(
     };
     let mut slices = slices_of(rt, words);
     let mut source = Reading::new(reader);
-    let mut chosen = Chosen::new(rt.alloc(), &mut source, form_of(words), words.portion);
     let mut sink = Writing::new(rt.stdout());
-    let ended = match words.task {
-        Task::Find(asked) => ending_of(
-            words,
-            find_problems(
-                &mut desk,
-                &mut slices,
-                &mut chosen,
-                words,
-                &asked,
-                &mut sink,
-            ),
-        ),
-        Task::Check { n } => ending_of(
-            words,
-            check_games(&mut desk, &mut slices, &mut chosen, n, &mut sink),
-        ),
-        Task::Solution(asked) => ending_of(
-            words,
-            solve_problems(&mut desk, &mut slices, &mut chosen, &asked, &mut sink),
-        ),
-        Task::Page(asked) => ending_of(
-            words,
-            page_problems(&mut desk, &mut slices, &mut chosen, &asked, &mut sink),
-        ),
-        Task::Certify { n } => {
-            certify_problem(&mut desk, &mut slices, &mut chosen, n, &mut sink)
-        }
-        Task::Mend(asked) => mend_problem(&mut desk, &mut slices, &mut chosen, &asked, &mut sink),
-        Task::Token { line } => {
-            write_line::<_, B, _, _>(desk.alloc, &mut chosen, line, &mut sink)
-        }
-    };
-    match ended {
+    run_on(&mut desk, &mut slices, words, &mut source, &mut sink)
+}
+
+/// Does what was asked for, with the problems of a source, and answers how the program ends.
+pub(crate) fn run_on<'a, B: Board, S: Source, K: Sink>(
+    desk: &mut Desk<B>,
+    slices: &mut Slices<Progress<'_>>,
+    words: &DeskWords<'a>,
+    source: &mut S,
+    sink: &mut K,
+) -> Ending<&'a str>
+    requires rows { (B.geometry.rows ≡ 10) ⊎ (B.geometry.rows ≡ 8) }
+    requires source { S.is_failed source.old ≡ false }
+    requires sink { K.is_failed sink.old ≡ false }
+    ensures { Obeys B.geometry words.now (S.coming source.old) (K.taken sink.old) (K.taken sink.new) result }
+{
+    match dispatch(desk, slices, words, source, sink) {
         Ok(ending) => ending,
         Err(fault) => Ending::Failed(fault.in_run(desk.solver.expanded())),
     }
 }
 
-/// How the text has its problems: solutions stand in games alone.
-fn form_of(words: &DeskWords<'_>) -> Form {
+/// Does what was asked for, with the problems of a source, unless something stops it.
+fn dispatch<'a, B: Board, S: Source, K: Sink>(
+    desk: &mut Desk<B>,
+    slices: &mut Slices<Progress<'_>>,
+    words: &DeskWords<'a>,
+    source: &mut S,
+    sink: &mut K,
+) -> Result<Ending<&'a str>, DeskFault>
+    requires rows { (B.geometry.rows ≡ 10) ⊎ (B.geometry.rows ≡ 8) }
+    requires source { S.is_failed source.old ≡ false }
+    requires sink { K.is_failed sink.old ≡ false }
+    ensures { IfOk result (DoesIt B.geometry words.now (S.coming source.old) (K.taken sink.old) (K.taken sink.new)) }
+{
+    let mut chosen = Chosen::new(desk.alloc, source, form_of(words), words.portion);
     match words.task {
-        Task::Check { .. } => Form::Pdn,
-        _ => words.form,
+        Task::Find(asked) => {
+            Ok(find_problems(desk, slices, &mut chosen, words, &asked, sink)?.ending(words))
+        }
+        Task::Check(asked) => Ok(check_games(desk, slices, &mut chosen, asked.n, sink)?.ending(
+            words,
+        )),
+        Task::Solution(asked) => {
+            Ok(solve_problems(desk, slices, &mut chosen, &asked, sink)?.ending(words))
+        }
+        Task::Page(asked) => Ok(page_problems(desk, slices, &mut chosen, &asked, sink)?.ending(
+            words,
+        )),
+        Task::Certify(asked) => certify_problem(desk, slices, &mut chosen, &asked, sink),
+        Task::Mend(asked) => mend_problem(desk, slices, &mut chosen, &asked, sink),
+        Task::Token { line } => { write_line::<_, B, _, _>(desk.alloc, &mut chosen, line, sink) }
     }
 }
 
-/// How a report on problems ends.
-fn ending_of<T>(
-    words: &DeskWords<'_>,
-    reported: Result<Counts, DeskFault>,
-) -> Result<Ending<T>, DeskFault> {
-    Ok(reported?.ending(words))
+/// How the text has its problems: solutions stand in games alone.
+fn form_of(words: &DeskWords<'_>) -> Form
+    ensures { result ≡ form_for words.now.task words.now.form }
+{
+    match words.task {
+        Task::Check(_) => Form::Pdn,
+        _ => words.form,
+    }
 }
 
 /// The solver for one problem or for all, over an empty memo.
 pub(crate) fn solver_of<B: Board>(
     alloc: Global,
     words: &DeskWords<'_>,
-) -> Result<Solver<B, Lasting<B>, ByTrial>, AllocError> {
+) -> Result<Solver<B, Lasting<B>, ByTrial>, AllocError>
+    ensures { IfOk result (λ solver. solver.expanded ≡ 0) }
+{
     let memo = memo_of(alloc, words.memo, words.cache)?;
     Ok(Solver::new(memo, ByTrial, u64::MAX))
 }

@@ -1,25 +1,25 @@
 //! The command `find`: the least number of moves within which each problem is won, with the verdict.
-ghost use Rattle.std.specs.Prelude.{◌≡◌, ℕ, List, false, IfOk};
+ghost use Rattle.std.specs.Prelude.{◌≡◌, ℕ, List, false, IfOk, IfSome};
 ghost use Rattle.std.specs.Io.KnownBytes.{Appends};
-ghost use Rattle.dw_desk.specs.Finding.{CountsAs, IsFindOf, SaysFound, is_open};
+ghost use Rattle.std.specs.String.{string_bytes};
+ghost use Rattle.dw_desk.specs.Finding.{IsFindOf, IsFound, IsJsonOf, SaysFound, is_open};
 ghost use Rattle.dw_desk.specs.ProblemText.{IsProblemText, IsReport};
 ghost use Rattle.dw_desk.specs.inner.Choosing.{AreToCome};
+ghost use Rattle.dw_desk.specs.inner.Searching.{IsBounded};
 ghost use Rattle.dw_games.specs.Games.{NumberedGame, problem_of};
 ghost use Rattle.dw_notation.specs.Problems.{Numbered, numbered};
-ghost use Rattle.dw_study.specs.Finding.{IsFinding};
 ghost use Rattle.dw_study.specs.Telling.{told_by};
 
 use crate::chosen::Chosen;
 use crate::desk::{Counts, Desk, DeskFault, solver_of};
-use crate::json::{found_row, json_line, refused_row};
+use crate::json_rows::{found_line, refused_line};
 use crate::progress::Progress;
-use dw_board::{Board, Position, fen_text};
+use dw_board::{Board, Position};
 use dw_desk_words::{DeskWords, FindWords};
-use dw_notation::{Problem, ProblemFault, Sink, Source, write_all};
-use dw_report::{problem_line, refusal_text};
+use dw_notation::{Problem, Sink, Source, write_all};
+use dw_report::problem_line;
 use dw_study::find::find;
 use dw_study::{FindBounds, Finding, Slices, found_text};
-use std::alloc::{AllocError, Global};
 
 /// Reports the chosen problems, each as soon as it is read.
 pub(crate) fn find_problems<B: Board, S: Source, K: Sink>(
@@ -33,7 +33,8 @@ pub(crate) fn find_problems<B: Board, S: Source, K: Sink>(
     requires { K.is_failed sink.old ≡ false }
     ensures { IfOk result (λ counts. (games : List NumberedGame) × (text : List ℕ)
         × AreToCome B.geometry S.coming S.has_ended chosen.old games
-        × IsReport (λ game. IsFindOf B.geometry asked.now.json asked.now.most (problem_of game)) games counts text
+        × IsReport (λ game. IsFindOf B.geometry asked.now.json asked.now.most asked.now.each (problem_of game)) games
+        counts text
         × Appends (K.taken sink.old) (K.taken sink.new) text) }
 {
     let mut counts = Counts::default();
@@ -54,7 +55,7 @@ fn report<B: Board, K: Sink>(
 ) -> Result<bool, DeskFault>
     requires { K.is_failed sink.old ≡ false }
     ensures text { IfOk result (λ refused. (text : List ℕ)
-        × IsFindOf B.geometry asked.now.json asked.now.most (numbered problem.now) refused text
+        × IsFindOf B.geometry asked.now.json asked.now.most asked.now.each (numbered problem.now) refused text
         × Appends (K.taken sink.old) (K.taken sink.new) text) }
     ensures works { IfOk result (λ _. K.is_failed sink.new ≡ false) }
 {
@@ -76,7 +77,8 @@ fn report_in_words<B: Board, K: Sink>(
 ) -> Result<bool, DeskFault>
     requires { K.is_failed sink.old ≡ false }
     ensures text { IfOk result (λ refused. (text : List ℕ)
-        × IsProblemText B.geometry (SaysFound B.geometry asked.now.most) (numbered problem.now) refused text
+        × IsProblemText B.geometry (SaysFound B.geometry asked.now.most asked.now.each) (numbered problem.now) refused
+        text
         × Appends (K.taken sink.old) (K.taken sink.new) text) }
     ensures works { IfOk result (λ _. K.is_failed sink.new ≡ false) }
 {
@@ -100,8 +102,9 @@ fn report_in_json<B: Board, K: Sink>(
     sink: &mut K,
 ) -> Result<bool, DeskFault>
     requires { K.is_failed sink.old ≡ false }
-    ensures text { IfOk result (λ refused. CountsAs B.geometry asked.now.most problem.now.found refused
-        × (text : List ℕ) × Appends (K.taken sink.old) (K.taken sink.new) text) }
+    ensures text { IfOk result (λ refused. (text : List ℕ)
+        × IsJsonOf B.geometry asked.now.most asked.now.each problem.now.number problem.now.found refused text
+        × Appends (K.taken sink.old) (K.taken sink.new) text) }
     ensures works { IfOk result (λ _. K.is_failed sink.new ≡ false) }
 {
     let (line, is_refused) = json_of(desk, slices, words, asked, problem)?;
@@ -117,7 +120,8 @@ fn json_of<B: Board>(
     asked: &FindWords,
     problem: &Problem<B>,
 ) -> Result<(String, bool), DeskFault>
-    ensures { IfOk result (λ told. CountsAs B.geometry asked.now.most problem.now.found told.1) }
+    ensures { IfOk result (λ told. IsJsonOf B.geometry asked.now.most asked.now.each problem.now.number
+        problem.now.found told.1 (string_bytes told.0)) }
 {
     let number = problem.number;
     match &problem.found {
@@ -128,26 +132,6 @@ fn json_of<B: Board>(
         }
         Err(fault) => Ok((refused_line(desk.alloc, number, *fault)?, true)),
     }
-}
-
-/// What was found of a problem, as a line of JSON.
-fn found_line<B: Board>(
-    alloc: Global,
-    number: u32,
-    position: &Position<B>,
-    finding: &Finding<B>,
-) -> Result<String, AllocError>
-    requires { (most : ℕ) × IsFinding B.geometry position.now most (told_by finding.now) }
-{
-    let fen = fen_text(position);
-    let row = found_row(alloc, number, fen.as_str(), position, finding)?;
-    json_line(alloc, &row)
-}
-
-/// Why a problem is refused, as a line of JSON.
-fn refused_line(alloc: Global, number: u32, fault: ProblemFault) -> Result<String, AllocError> {
-    let why = refusal_text(fault);
-    json_line(alloc, &refused_row(number, why.as_str()))
 }
 
 /// Whether the number of moves is not known.
@@ -167,14 +151,17 @@ fn search<B: Board>(
     number: u32,
     position: &Position<B>,
 ) -> Result<Finding<B>, DeskFault>
-    ensures { IfOk result (λ finding. IsFinding B.geometry position.now asked.now.most (told_by finding)) }
+    ensures found { IfOk result (λ finding. IsFound B.geometry asked.now.most asked.now.each position.now
+        (told_by finding)) }
+    ensures bounded { IfSome asked.now.each (λ _. IfOk result (IsBounded B.geometry position.now asked.now.most
+        slices.old.first asked.now.each desk.new.solver)) }
 {
     if asked.each.is_some() {
         desk.solver = solver_of(desk.alloc, words)?;
     }
     let bounds = FindBounds {
         most: asked.most,
-        each: asked.each.unwrap_or(u64::MAX),
+        each: asked.each,
     };
     desk.begin(slices, number);
     let finding = find(desk.alloc, &mut desk.solver, position, bounds, slices);

@@ -1,13 +1,17 @@
 //! `dw-desk`: what composers, editors and judges ask about problems of international draughts.
 #![tactic(auto)]
 
+ghost use Rattle.std.specs.Prelude.{◌≡◌};
+ghost use Rattle.std.specs.Process.{exit_status};
+ghost use Rattle.dw_desk.specs.Ending as of;
+
 mod certifying;
 mod checking;
 mod chosen;
 mod desk;
 mod ending;
 mod finding;
-mod json;
+mod json_rows;
 mod mending;
 mod page_rows;
 mod paging;
@@ -63,7 +67,9 @@ fn obey(rt: &HostRuntime, words: &DeskWords<'_>) -> ExitCode {
 
 /// Says on standard error how the program ended, and gives its exit status. If that can not be written, there is nobody
 /// left to tell.
-fn end_with<T: Display>(rt: &HostRuntime, ending: &Ending<T>) -> ExitCode {
+fn end_with<T: Display>(rt: &HostRuntime, ending: &Ending<T>) -> ExitCode
+    ensures { exit_status result ≡ of.status_of ending.now }
+{
     let _ = eprint!(rt; "{ending}");
     ExitCode::from(status_of(ending))
 }

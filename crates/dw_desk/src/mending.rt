@@ -1,11 +1,10 @@
 //! The command `mend`: the sound problems that are one change away from a problem.
-ghost use Rattle.std.specs.Prelude.{◌≡◌, ◌==◌, ◌≤◌, if◌then◌else◌, ℕ, Bool, List, Option, false, not, IfOk};
+ghost use Rattle.std.specs.Prelude.{◌≡◌, ◌==◌, ◌-◌, if◌then◌else◌, ℕ, List, Option, false, not, IfOk};
 ghost use Rattle.std.specs.Io.KnownBytes.{Appends};
 ghost use Rattle.dw_desk.specs.Mending.{IsMendOf};
 ghost use Rattle.dw_desk.specs.ProblemText.{IsReportOnOne};
 ghost use Rattle.dw_desk.specs.declared.ending.Ending.TheVariants.{Done, Refused};
-ghost use Rattle.dw_desk.specs.Chosen.{HandsOut};
-ghost use Rattle.dw_desk.specs.inner.Choosing.{AreToCome};
+ghost use Rattle.dw_desk.specs.NextGame.{IsNext, as_list};
 ghost use Rattle.dw_games.specs.Games.{NumberedGame, problem_of};
 ghost use Rattle.dw_notation.specs.Problems.{numbered};
 
@@ -41,10 +40,10 @@ pub(crate) fn mend_problem<T, B: Board, S: Source, K: Sink>(
 ) -> Result<Ending<T>, DeskFault>
     requires { K.is_failed sink.old ≡ false }
     ensures { IfOk result (λ ending. (next : Option NumberedGame) × (text : List ℕ)
-        × HandsOut (AreToCome B.geometry S.coming S.has_ended chosen.old)
-        (AreToCome B.geometry S.coming S.has_ended chosen.new) next
-        × IsReportOnOne (λ game. IsMendOf B.geometry asked.now.n asked.now.part asked.now.parts (problem_of game))
-        chosen.old.portion.first next ending text
+        × IsNext B.geometry S.coming S.has_ended chosen.old chosen.new next
+        × IsReportOnOne (λ game. IsMendOf B.geometry asked.now.n asked.now.each asked.now.part asked.now.parts
+        (desk.new.solver.expanded - desk.old.solver.expanded) (problem_of game)) chosen.old.portion.first (as_list next)
+        ending text
         × Appends (K.taken sink.old) (K.taken sink.new) text) }
 {
     match chosen.next()? {
@@ -62,9 +61,10 @@ fn write_neighbours<T, B: Board, K: Sink>(
     sink: &mut K,
 ) -> Result<Ending<T>, DeskFault>
     requires { K.is_failed sink.old ≡ false }
-    ensures { IfOk result (λ ending. (refused : Bool) × (text : List ℕ)
-        × IsMendOf B.geometry asked.now.n asked.now.part asked.now.parts (numbered problem.now) refused text
-        × (ending ≡ (if refused then Refused else Done)) × Appends (K.taken sink.old) (K.taken sink.new) text) }
+    ensures { IfOk result (λ ending. (text : List ℕ)
+        × IsMendOf B.geometry asked.now.n asked.now.each asked.now.part asked.now.parts
+        (desk.new.solver.expanded - desk.old.solver.expanded) (numbered problem.now) ending text
+        × Appends (K.taken sink.old) (K.taken sink.new) text) }
 {
     write_all(sink, problem_line(problem).as_str().as_bytes())?;
     let Ok(position) = &problem.found else {

@@ -1,6 +1,17 @@
 //! The command `page`: all problems on a page, with diagrams and solutions.
-ghost use Rattle.std.specs.Prelude.{◌≡◌, ◌≤◌, false, IfOk};
+ghost use Rattle.std.specs.Prelude.{◌≡◌, ◌≤◌, ◌⊎◌, ◌++◌, ◌∷◌, [], ℕ, List, true, false, IfOk, OnOk, codes, map};
+ghost use Rattle.std.specs.Prelude.{filter_map, option_map};
+ghost use Rattle.std.specs.Io.KnownBytes.{Appends};
+ghost use Rattle.dw_desk.specs.Paging.{IsAskedIn, IsPage, IsPageOf, IsPart, IsPositionPart, IsSolved, Stands};
+ghost use Rattle.dw_desk.specs.Paging.{task_part};
+ghost use Rattle.dw_desk.specs.Paging as of;
+ghost use Rattle.dw_desk.specs.inner.Choosing.{AreToCome};
+ghost use Rattle.dw_games.specs.GameReading.{numbered_game};
+ghost use Rattle.dw_games.specs.Games.{NumberedGame};
+ghost use Rattle.dw_games.specs.TagRows.{TagText, AreTags};
+ghost use Rattle.dw_page.specs.Pages.{author_of, end, head, refused, values_of};
 ghost use Rattle.dw_report.specs.Judging.{said_by};
+ghost use Rattle.dw_report.specs.Report as report;
 ghost use Rattle.dw_report.specs.Verdict.{IsVerdict, Tries};
 ghost use Rattle.dw_study.specs.Finding.{IsFinding};
 ghost use Rattle.dw_study.specs.Telling.{told_by};
@@ -13,8 +24,7 @@ use crate::solving::movetext_of;
 use dw_board::{Board, Position};
 use dw_desk_words::{PageWords, Placing};
 use dw_games::{Game, read_tags, value_named};
-use dw_notation::problems::MAX_PROBLEMS;
-use dw_notation::{Sink, Source, write_all};
+use dw_notation::{ProblemFault, Sink, Source, write_all};
 use dw_page::{
     Heading, Solution, Task, push_end, push_end_of_problem, push_head, push_problem, push_refused,
     push_solution, push_solutions_heading,
@@ -22,6 +32,7 @@ use dw_page::{
 use dw_report::{Judged, Stop, refusal_text};
 use dw_study::find::find;
 use dw_study::{FindBounds, Finding, Slices, judge_in_slices};
+use std::alloc::{AllocError, Global};
 
 /// Writes the page, each problem as soon as it is read. If the problem that was asked for is not there, nothing is
 /// written.
@@ -33,83 +44,132 @@ pub(crate) fn page_problems<B: Board, S: Source, K: Sink>(
     sink: &mut K,
 ) -> Result<Counts, DeskFault>
     requires { K.is_failed sink.old ≡ false }
+    ensures { IfOk result (λ counts. (games : List NumberedGame) × (text : List ℕ)
+        × AreToCome B.geometry S.coming S.has_ended chosen.old games
+        × IsPageOf B.geometry asked.now chosen.old.portion games counts text
+        × Appends (K.taken sink.old) (K.taken sink.new) text) }
 {
-    let first = chosen.next()?;
-    if first.is_none() && chosen.is_asked() {
-        return Ok(Counts::default());
+    let Some(first) = chosen.next()? else {
+        return empty_page::<B, K>(desk.alloc, asked, chosen.is_asked(), sink);
+    };
+    let mut later = begin_page::<B, K>(desk.alloc, asked, sink)?;
+    let is_refused = write_part(desk, slices, asked, &first, &mut later, sink)?;
+    let mut counts = Counts::default().with(is_refused);
+    'games: while let Some(game) = chosen.next()? {
+        counts = counts.with(write_part(desk, slices, asked, &game, &mut later, sink)?);
     }
-    let mut head = Vec::new(desk.alloc);
-    push_head::<B>(desk.alloc, &mut head, &asked.look)?;
-    write_all(sink, head.as_slice())?;
-    let mut later = Vec::new(desk.alloc);
-    if asked.solutions == Placing::End {
-        push_solutions_heading(desk.alloc, &mut later, &asked.look)?;
-    }
-    let counts = page_games(desk, slices, chosen, first, asked, &mut later, sink)?;
-    push_end(desk.alloc, &mut later)?;
-    write_all(sink, later.as_slice())?;
+    end_page(desk.alloc, &mut later, sink)?;
     Ok(counts)
 }
 
-/// Writes the problems from this one on; what is to stand at the end comes later.
-fn page_games<B: Board, S: Source, K: Sink>(
-    desk: &mut Desk<B>,
-    slices: &mut Slices<Progress<'_>>,
-    chosen: &mut Chosen<'_, B, S>,
-    first: Option<Game<B>>,
+/// Writes a page of no problems, unless one was asked for.
+fn empty_page<B: Board, K: Sink>(
+    alloc: Global,
     asked: &PageWords<'_>,
-    later: &mut Vec<u8>,
+    is_asked: bool,
     sink: &mut K,
 ) -> Result<Counts, DeskFault>
     requires { K.is_failed sink.old ≡ false }
-    ensures { IfOk result (λ _. K.is_failed sink.new ≡ false) }
+    ensures { IfOk result (λ counts. (text : List ℕ)
+        × ((IsPage B.geometry asked.now [] counts text × (is_asked ≡ false))
+        ⊎ ((is_asked ≡ true) × (counts.shown ≡ 0) × (counts.refused ≡ 0) × (text ≡ [])))
+        × Appends (K.taken sink.old) (K.taken sink.new) text) }
 {
-    let mut next = first;
-    let mut counts = Counts::default();
-    'games: for _ in 0..MAX_PROBLEMS + 1 {
-        let Some(game) = next else {
-            break;
-        };
-        let part = part_of(desk, slices, asked, &game, later)?;
-        write_all(sink, part.as_slice())?;
-        counts = counts.with(game.problem.found.is_err());
-        next = chosen.next()?;
+    if is_asked {
+        return Ok(Counts::default());
     }
-    Ok(counts)
+    let mut later = begin_page::<B, K>(alloc, asked, sink)?;
+    end_page(alloc, &mut later, sink)?;
+    Ok(Counts::default())
 }
 
-/// The part of the page that a problem has.
-fn part_of<B: Board>(
+/// Writes the head of a page, and returns what is to stand at its end: so far the heading of the solutions, if they
+/// stand there.
+fn begin_page<B: Board, K: Sink>(
+    alloc: Global,
+    asked: &PageWords<'_>,
+    sink: &mut K,
+) -> Result<Vec<u8>, DeskFault>
+    requires { K.is_failed sink.old ≡ false }
+    ensures head { IfOk result (λ _. Appends (K.taken sink.old) (K.taken sink.new)
+        (head B.geometry asked.now.look.language asked.now.look.title.now)) }
+    ensures later { IfOk result (λ later. later.items ≡ of.heading_of asked.now.solutions asked.now.look.language) }
+    ensures works { IfOk result (λ _. K.is_failed sink.new ≡ false) }
+{
+    let mut head = Vec::new(alloc);
+    push_head::<B>(alloc, &mut head, &asked.look)?;
+    write_all(sink, head.as_slice())?;
+    Ok(heading_of(alloc, asked)?)
+}
+
+/// The heading of the solutions, if they stand at the end.
+fn heading_of(alloc: Global, asked: &PageWords<'_>) -> Result<Vec<u8>, AllocError>
+    ensures { IfOk result (λ text. text.items ≡ of.heading_of asked.now.solutions asked.now.look.language) }
+{
+    let mut text = Vec::new(alloc);
+    match asked.solutions {
+        Placing::End => push_solutions_heading(alloc, &mut text, &asked.look)?,
+        Placing::After | Placing::None => {}
+    }
+    Ok(text)
+}
+
+/// Writes what stands at the end of a page, and its end.
+fn end_page<K: Sink>(alloc: Global, later: &mut Vec<u8>, sink: &mut K) -> Result<(), DeskFault>
+    requires { K.is_failed sink.old ≡ false }
+    ensures { OnOk result (Appends (K.taken sink.old) (K.taken sink.new) (later.old.items ++ end)) }
+{
+    push_end(alloc, later)?;
+    write_all(sink, later.as_slice())?;
+    Ok(())
+}
+
+/// Writes the part of the page that a problem has, and answers whether the problem is refused.
+fn write_part<B: Board, K: Sink>(
     desk: &mut Desk<B>,
     slices: &mut Slices<Progress<'_>>,
     asked: &PageWords<'_>,
     game: &Game<B>,
     later: &mut Vec<u8>,
-) -> Result<Vec<u8>, DeskFault> {
-    let problem = &game.problem;
-    match &problem.found {
-        Ok(position) => known_part(
-            desk,
-            slices,
-            asked,
-            problem.number,
-            position,
-            game.tags.as_slice(),
-            later,
-        ),
+    sink: &mut K,
+) -> Result<bool, DeskFault>
+    requires { K.is_failed sink.old ≡ false }
+    ensures part { IfOk result (λ is_refused. (part new : List ℕ) × IsPart B.geometry asked.now
+        (numbered_game game.now).number (numbered_game game.now).said.found (numbered_game game.now).said.tags
+        is_refused part new × (later.new.items ≡ later.old.items ++ new)
+        × Appends (K.taken sink.old) (K.taken sink.new) part) }
+    ensures works { IfOk result (λ _. K.is_failed sink.new ≡ false) }
+{
+    let number = game.problem.number;
+    match &game.problem.found {
+        Ok(position) => {
+            let section = game.tags.as_slice();
+            let part = known_part(desk, slices, asked, number, position, section, later)?;
+            write_all(sink, part.as_slice())?;
+            Ok(false)
+        }
         Err(fault) => {
-            let mut part = Vec::new(desk.alloc);
-            let why = refusal_text(*fault);
-            push_refused(
-                desk.alloc,
-                &mut part,
-                &asked.look,
-                problem.number,
-                why.as_str(),
-            )?;
-            Ok(part)
+            let part = refused_part(desk.alloc, asked, number, *fault)?;
+            write_all(sink, part.as_slice())?;
+            Ok(true)
         }
     }
+}
+
+/// The part of a problem that is refused.
+fn refused_part(
+    alloc: Global,
+    asked: &PageWords<'_>,
+    number: u32,
+    fault: ProblemFault,
+) -> Result<Vec<u8>, AllocError>
+    ensures { IfOk result (λ part. part.items
+        ≡ refused asked.now.look.language number (report.refusal_text fault)) }
+{
+    let mut part = Vec::new(alloc);
+    let why = refusal_text(fault);
+    push_refused(alloc, &mut part, &asked.look, number, why.as_str())?;
+    Ok(part)
 }
 
 /// The part of a problem that has a position.
@@ -121,7 +181,11 @@ fn known_part<B: Board>(
     position: &Position<B>,
     section: &[u8],
     later: &mut Vec<u8>,
-) -> Result<Vec<u8>, DeskFault> {
+) -> Result<Vec<u8>, DeskFault>
+    ensures { IfOk result (λ part. (new : List ℕ)
+        × IsPositionPart B.geometry asked.now number position.now section.now part.items new
+        × (later.new.items ≡ later.old.items ++ new)) }
+{
     if asked.is_least {
         match found(desk, slices, asked, number, position)? {
             Finding::Judged { moves, judged } => {
@@ -157,7 +221,7 @@ fn found<B: Board>(
 {
     let bounds = FindBounds {
         most: asked.moves,
-        each: u64::MAX,
+        each: None,
     };
     desk.begin(slices, number);
     let finding = find(desk.alloc, &mut desk.solver, position, bounds, slices);
@@ -196,16 +260,46 @@ fn judged_part<B: Board>(
     requires few { task.now.moves ≤ 20 }
     requires verdict { IsVerdict B.geometry task.now.position.now task.now.moves (said_by judged.now.verdict) }
     requires tries { Tries B.geometry task.now.position.now task.now.moves judged.now.tries.items }
+    requires asked { IsAskedIn B.geometry asked.now task.now.position.now task.now.moves }
+    ensures { IfOk result (λ part. (new : List ℕ)
+        × IsPositionPart B.geometry asked.now task.now.number task.now.position.now section.now part.items new
+        × (later.new.items ≡ later.old.items ++ new)) }
 {
     let mut part = Vec::new(desk.alloc);
     push_tagged(desk, asked, task, section, &mut part)?;
-    match asked.solutions {
-        Placing::After => push_solved(desk, asked, task, judged, false, &mut part)?,
-        Placing::End => push_solved(desk, asked, task, judged, true, later)?,
-        Placing::None => {}
-    }
+    push_placed(desk, asked, task, judged, &mut part, later)?;
     push_end_of_problem(&mut part)?;
     Ok(part)
+}
+
+/// The solution of a problem where it is to stand: behind its problem, or later.
+fn push_placed<B: Board>(
+    desk: &mut Desk<B>,
+    asked: &PageWords<'_>,
+    task: &Task<'_, B>,
+    judged: &Judged<B>,
+    part: &mut Vec<u8>,
+    later: &mut Vec<u8>,
+) -> Result<(), DeskFault>
+    requires some { 1 ≤ task.now.moves }
+    requires few { task.now.moves ≤ 20 }
+    requires verdict { IsVerdict B.geometry task.now.position.now task.now.moves (said_by judged.now.verdict) }
+    requires tries { Tries B.geometry task.now.position.now task.now.moves judged.now.tries.items }
+    ensures { OnOk result ((behind new : List ℕ) × Stands asked.now.solutions (IsSolved B.geometry
+        asked.now.look.language asked.now.lines task.now.number task.now.position.now task.now.moves) behind new
+        × (part.new.items ≡ part.old.items ++ behind) × (later.new.items ≡ later.old.items ++ new)) }
+{
+    match asked.solutions {
+        Placing::After => {
+            push_solved(desk, asked, task, judged, false, part)?;
+            Ok(())
+        }
+        Placing::End => {
+            push_solved(desk, asked, task, judged, true, later)?;
+            Ok(())
+        }
+        Placing::None => Ok(()),
+    }
 }
 
 /// A problem up to what is asked, under the tags of its section.
@@ -215,10 +309,14 @@ fn push_tagged<B: Board>(
     task: &Task<'_, B>,
     section: &[u8],
     page: &mut Vec<u8>,
-) -> Result<(), DeskFault> {
+) -> Result<(), DeskFault>
+    ensures { OnOk result ((tags : List TagText) × AreTags section.now tags × (page.new.items ≡ page.old.items
+        ++ task_part B.geometry asked.now task.now.number task.now.position.now (map (λ t. t.tag) tags)
+        task.now.moves)) }
+{
     let tags = read_tags(desk.alloc, section)?;
     let tags = tags.as_slice();
-    let heading = heading_of(
+    let heading = heading_under(
         value_named(tags, b"White"),
         value_named(tags, b"Event"),
         value_named(tags, b"Site"),
@@ -229,12 +327,16 @@ fn push_tagged<B: Board>(
 }
 
 /// The heading of a problem whose tags have these values.
-fn heading_of<'v>(
+fn heading_under<'v>(
     author: Option<&'v [u8]>,
     event: Option<&'v [u8]>,
     site: Option<&'v [u8]>,
     date: Option<&'v [u8]>,
-) -> Heading<'v> {
+) -> Heading<'v>
+    ensures author { author_of result ≡ option_map (λ v. v.now) author.entry }
+    ensures source { values_of result
+        ≡ filter_map (option_map (λ v. v.now)) (event.entry ∷ site.entry ∷ date.entry ∷ []) }
+{
     let source = [event, site, date];
     Heading { author, source }
 }
@@ -252,6 +354,9 @@ fn push_solved<B: Board>(
     requires few { task.now.moves ≤ 20 }
     requires verdict { IsVerdict B.geometry task.now.position.now task.now.moves (said_by judged.now.verdict) }
     requires tries { Tries B.geometry task.now.position.now task.now.moves judged.now.tries.items }
+    ensures { OnOk result ((text : List ℕ) × IsSolved B.geometry asked.now.look.language asked.now.lines
+        task.now.number task.now.position.now task.now.moves is_apart text
+        × (page.new.items ≡ page.old.items ++ text)) }
 {
     let position = task.position;
     let movetext = movetext_of(desk, position, task.moves, asked.lines, &judged.verdict)?;

@@ -1,6 +1,10 @@
 //! Arguments that several commands have.
+ghost use Rattle.std.specs.Prelude.{◌≡◌, ◌≤◌};
+ghost use Rattle.dw_desk_words.specs.Commands.{lines_given, moves_within};
+ghost use Rattle.dw_program.specs.Options.{options_of};
+
 use clap::{Arg, ArgMatches, value_parser};
-use dw_program::options::{flag, option};
+use dw_program::options::{FEWEST_MOVES, count_given, flag, moves_given, option};
 use std::alloc::Global;
 
 /// How many positions a memo keeps if the arguments say nothing.
@@ -24,9 +28,22 @@ pub(crate) fn lines<'a>(alloc: Global) -> Arg<'a> {
     option(alloc, "lines", "K", numbers, help)
 }
 
-/// How many lines are written at most.
-pub(crate) fn lines_of(words: &ArgMatches<'_>) -> usize {
-    words.get_one::<u64>("lines").unwrap_or(USUAL_LINES) as usize
+/// How many lines are written at most, `FEWEST_LINES` to `MOST_LINES`.
+pub(crate) fn lines_of(words: &ArgMatches<'_>) -> usize
+    ensures value { result ≡ lines_given (options_of words.now) }
+    ensures some { 1 ≤ result }
+    ensures few { result ≤ 1_000_000 }
+{
+    count_given(words, "lines", FEWEST_LINES, MOST_LINES).unwrap_or(USUAL_LINES) as usize
+}
+
+/// The number of moves of `-n`, which has to be there.
+pub(crate) fn moves_of(words: &ArgMatches<'_>) -> u8
+    ensures value { result ≡ moves_within (options_of words.now) }
+    ensures some { 1 ≤ result }
+    ensures few { result ≤ 20 }
+{
+    moves_given(words, "n").unwrap_or(FEWEST_MOVES)
 }
 
 /// `--progress`, a flag.

@@ -1,8 +1,20 @@
 //! The arguments of the command `certify`.
-use crate::arguments::{CACHE_HELP, progress};
-use clap::Command as Words;
+ghost use Rattle.std.specs.Prelude.{◌≤◌};
+
+use crate::arguments::{CACHE_HELP, moves_of, progress};
+use clap::{ArgMatches, Command as Words};
 use dw_program::options::{board, cache, file, memo, one_problem, pdn, within};
 use std::alloc::{AllocError, Global};
+
+/// What the command `certify` is asked for.
+/// Example: `-n 3` asks for the certificate of a win in 3 moves.
+#[derive(Clone, Copy)]
+pub struct CertifyWords {
+    /// The number of moves within which the win is, `FEWEST_MOVES` to `MOST_MOVES`.
+    pub n: u8,
+    pub ghost some_moves: { 1 ≤ n },
+    pub ghost few_moves: { n ≤ 20 },
+}
 
 const ABOUT: &str =
     "Writes a certificate of whether a problem is won: what anyone can check without a search.";
@@ -35,4 +47,16 @@ pub(crate) fn certify_command<'a>(alloc: Global) -> Result<Words<'a>, AllocError
         .about(ABOUT)
         .after_help(EXAMPLES)
         .args(arguments)
+}
+
+impl CertifyWords {
+    ghost use Rattle.dw_desk_words.specs.Commands.{AsksCertify};
+    ghost use Rattle.dw_program.specs.Options.{options_of};
+
+    /// What the options ask for.
+    pub(crate) fn new(words: &ArgMatches<'_>) -> Self
+        ensures { AsksCertify (options_of words.now) result }
+    {
+        CertifyWords { n: moves_of(words) }
+    }
 }

@@ -1,9 +1,22 @@
 //! The arguments of the command `check`.
+ghost use Rattle.std.specs.Prelude.{◌≤◌, IfSome};
+ghost use Rattle.std.proofs.Props.{props};
+
 use crate::arguments::{CACHE_HELP, progress};
 use crate::portion::problem;
-use clap::Command as Words;
-use dw_program::options::{board, cache, file, memo, pdn, within};
+use clap::{ArgMatches, Command as Words};
+use dw_program::options::{board, cache, file, memo, moves_given, pdn, within};
 use std::alloc::{AllocError, Global};
+
+/// What the command `check` is asked for.
+/// Example: `-n 3` asks whether the solution holds in 3 moves.
+#[derive(Clone, Copy)]
+pub struct CheckWords {
+    /// The number of moves within which the win is, `FEWEST_MOVES` to `MOST_MOVES`, or as many as the solution has.
+    pub n: Option<u8>,
+    pub ghost some_moves: { IfSome n (λ moves. 1 ≤ moves) } by { Prim.hlevel props },
+    pub ghost few_moves: { IfSome n (λ moves. moves ≤ 20) } by { Prim.hlevel props },
+}
 
 const ABOUT: &str =
     "Compares the solution in each game of a PDN file with the truth: what is wrong, what is missing.";
@@ -40,4 +53,18 @@ pub(crate) fn check_command<'a>(alloc: Global) -> Result<Words<'a>, AllocError> 
         .about(ABOUT)
         .after_help(EXAMPLES)
         .args(arguments)
+}
+
+impl CheckWords {
+    ghost use Rattle.dw_desk_words.specs.Commands.{AsksCheck};
+    ghost use Rattle.dw_program.specs.Options.{options_of};
+
+    /// What the options ask for.
+    pub(crate) fn new(words: &ArgMatches<'_>) -> Self
+        ensures { AsksCheck (options_of words.now) result }
+    {
+        CheckWords {
+            n: moves_given(words, "n"),
+        }
+    }
 }

@@ -6,7 +6,8 @@ use crate::arguments::{CACHE_HELP, progress};
 use crate::portion::problem;
 use clap::{Arg, ArgMatches, Command as Words};
 use dw_program::options::{
-    MOST_MOVES, board, cache, file, flag, memo, most, moves_given, pdn, positions, positions_given,
+    MOST_MOVES, board, cache, file, flag, flag_given, memo, most, moves_given, pdn, positions,
+    positions_given,
 };
 use std::alloc::{AllocError, Global};
 
@@ -16,13 +17,15 @@ use std::alloc::{AllocError, Global};
 pub struct FindWords {
     /// The most moves within which a win is looked for, `FEWEST_MOVES` to `MOST_MOVES`.
     pub most: u8,
-    /// How many positions may be expanded for each problem until its number of moves is known, at least 1.
+    /// How many positions may be expanded for each problem until its number of moves is known, `FEWEST_POSITIONS` to
+    /// `MOST_POSITIONS`.
     pub each: Option<u64>,
     /// Whether a line of JSON is written for each problem.
     pub json: bool,
     pub ghost some_moves: { 1 ≤ most },
     pub ghost few_moves: { most ≤ 20 },
-    pub ghost room: { IfSome each (λ positions. 1 ≤ positions) } by { Prim.hlevel props },
+    pub ghost some_positions: { IfSome each (λ positions. 1 ≤ positions) } by { Prim.hlevel props },
+    pub ghost few_positions: { IfSome each (λ positions. positions ≤ 1_000_000_000_000) } by { Prim.hlevel props },
 }
 
 const MOST_HELP: &str =
@@ -68,11 +71,18 @@ fn json<'a>(alloc: Global) -> Arg<'a> {
     flag(alloc, "json", "Write one line of JSON for each problem")
 }
 
-/// What the command `find` is asked for.
-pub(crate) fn find_words(words: &ArgMatches<'_>) -> FindWords {
-    FindWords {
-        most: moves_given(words, "most").unwrap_or(MOST_MOVES),
-        each: positions_given(words, "each"),
-        json: words.get_flag("json"),
+impl FindWords {
+    ghost use Rattle.dw_desk_words.specs.Commands.{AsksFind};
+    ghost use Rattle.dw_program.specs.Options.{options_of};
+
+    /// What the options ask for.
+    pub(crate) fn new(words: &ArgMatches<'_>) -> Self
+        ensures { AsksFind (options_of words.now) result }
+    {
+        FindWords {
+            most: moves_given(words, "most").unwrap_or(MOST_MOVES),
+            each: positions_given(words, "each"),
+            json: flag_given(words, "json"),
+        }
     }
 }

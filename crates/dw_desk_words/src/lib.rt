@@ -4,8 +4,8 @@
 #![tactic(auto)]
 
 mod arguments;
-mod certify;
-mod check;
+pub mod certify;
+pub mod check;
 pub mod commands;
 pub mod find;
 pub mod mend;
@@ -15,6 +15,8 @@ pub mod solution;
 mod token;
 pub mod words;
 
+pub use certify::CertifyWords;
+pub use check::CheckWords;
 pub use commands::{command, requested};
 pub use find::FindWords;
 pub use mend::MendWords;

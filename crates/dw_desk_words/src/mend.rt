@@ -1,12 +1,15 @@
 //! The arguments of the command `mend`.
-ghost use Rattle.std.specs.Prelude.{◌≤◌, IfSome};
+ghost use Rattle.std.specs.Prelude.{◌≡◌, ◌≤◌, IfSome, Some, None, codes};
+ghost use Rattle.std.specs.Option.{option_copied};
+ghost use Rattle.std.proofs.Props.{props};
+ghost use Rattle.dw_desk_words.specs.Numbers.{part_named};
 
-use crate::arguments::{CACHE_HELP, progress};
+use crate::arguments::{CACHE_HELP, moves_of, progress};
 use clap::builder::ValueParser;
 use clap::{Arg, ArgMatches, Command as Words};
 use dw_program::options::{
-    FEWEST_MOVES, board, cache, file, memo, moves_given, one_problem, option, pdn, positions,
-    positions_given, within,
+    board, cache, file, memo, number_within, one_problem, option, pdn, positions, positions_given,
+    text_given, within,
 };
 use std::alloc::{AllocError, Global};
 
@@ -16,16 +19,19 @@ use std::alloc::{AllocError, Global};
 pub struct MendWords {
     /// The number of moves within which the win is, `FEWEST_MOVES` to `MOST_MOVES`.
     pub n: u8,
-    /// How many positions may be expanded for each neighbour, at least 1.
-    pub each: u64,
-    /// Which part of the neighbours is looked at, from `FIRST_PART` on.
+    /// How many positions may be expanded for each neighbour, `FEWEST_POSITIONS` to `MOST_POSITIONS`.
+    pub each: Option<u64>,
+    /// Which part of the neighbours is looked at, from `FIRST_PART` to `parts`.
     pub part: u32,
-    /// How many parts there are, at least 1.
+    /// How many parts there are, at most `MOST_PARTS`.
     pub parts: u32,
     pub ghost some_moves: { 1 ≤ n },
     pub ghost few_moves: { n ≤ 20 },
-    pub ghost room: { 1 ≤ each },
-    pub ghost some_parts: { 1 ≤ parts },
+    pub ghost some_positions: { IfSome each (λ positions. 1 ≤ positions) } by { Prim.hlevel props },
+    pub ghost few_positions: { IfSome each (λ positions. positions ≤ 1_000_000_000_000) } by { Prim.hlevel props },
+    pub ghost some_part: { 1 ≤ part },
+    pub ghost among_parts: { part ≤ parts },
+    pub ghost few_parts: { parts ≤ 1_000_000 },
 }
 
 /// The number of the first part.
@@ -81,29 +87,47 @@ fn part<'a>(alloc: Global) -> Arg<'a> {
     option(alloc, "part", "I/M", ValueParser::string(), help)
 }
 
-/// What the command is asked for; none, if the part is none.
-pub(crate) fn mend_words(words: &ArgMatches<'_>) -> Option<MendWords> {
-    let (part, parts) = part_named(words.get_str("part"))?;
-    Some(MendWords {
-        n: moves_given(words, "n").unwrap_or(FEWEST_MOVES),
-        each: positions_given(words, "each").unwrap_or(u64::MAX),
-        part,
-        parts,
-    })
+impl MendWords {
+    ghost use Rattle.dw_desk_words.specs.Commands.{AsksMend};
+    ghost use Rattle.dw_program.specs.Options.{options_of, text_given};
+
+    /// What the options ask for; none, if the part is none.
+    pub(crate) fn new(words: &ArgMatches<'_>) -> Option<Self>
+        ensures asks { IfSome result (λ asked. AsksMend (options_of words.now) asked) }
+        ensures none { result ≡ None → part_named (text_given (options_of words.now) (codes "part")) ≡ None }
+    {
+        let (part, parts) = part_named(text_given(words, "part"))?;
+        Some(MendWords {
+            n: moves_of(words),
+            each: positions_given(words, "each"),
+            part,
+            parts,
+        })
+    }
 }
 
-/// The part that a text names, and of how many: `I/M`; all, if there is no text.
+/// The part that a text names, and of how many: `I/M`; the only one, if there is no text.
 fn part_named(text: Option<&str>) -> Option<(u32, u32)>
-    ensures { IfSome result (λ named. 1 ≤ named.1) }
+    ensures value { result ≡ part_named (option_copied text.entry) }
+    ensures some { IfSome result (λ named. 1 ≤ named.0) }
+    ensures among { IfSome result (λ named. named.0 ≤ named.1) }
+    ensures few { IfSome result (λ named. named.1 ≤ 1_000_000) }
 {
-    let Some(text) = text else {
-        return Some((FIRST_PART, FIRST_PART));
-    };
-    let (part, parts) = text.split_once('/')?;
-    let part = part.parse::<u32>().ok()?;
-    let parts = parts.parse::<u32>().ok()?;
-    if part < FIRST_PART || parts < part || parts > MOST_PARTS {
-        return None;
+    match text {
+        Some(text) => part_in(text),
+        None => Some((FIRST_PART, FIRST_PART)),
     }
+}
+
+/// The part that a text names, and of how many.
+fn part_in(text: &str) -> Option<(u32, u32)>
+    ensures value { result ≡ part_named (Some text.now) }
+    ensures some { IfSome result (λ named. 1 ≤ named.0) }
+    ensures among { IfSome result (λ named. named.0 ≤ named.1) }
+    ensures few { IfSome result (λ named. named.1 ≤ 1_000_000) }
+{
+    let (part, parts) = text.split_once('/')?;
+    let parts = number_within(parts, FIRST_PART, MOST_PARTS)?;
+    let part = number_within(part, FIRST_PART, parts)?;
     Some((part, parts))
 }

@@ -1,5 +1,6 @@
 //! The arguments of the command `page`.
-ghost use Rattle.std.specs.Prelude.{◌≤◌};
+ghost use Rattle.std.specs.Prelude.{◌≡◌, ◌≤◌};
+ghost use Rattle.std.specs.Option.{option_copied};
 
 use crate::arguments::{CACHE_HELP, lines, lines_of, progress};
 use crate::portion::problem;
@@ -7,7 +8,8 @@ use clap::builder::ValueParser;
 use clap::{Arg, ArgMatches, Command as Words};
 use dw_page::{Language, Look};
 use dw_program::options::{
-    FEWEST_MOVES, board, cache, file, flag, memo, most, moves_given, option, pdn, within,
+    FEWEST_MOVES, board, cache, file, flag, flag_given, memo, most, moves_given, option, pdn,
+    text_given, within,
 };
 use std::alloc::{AllocError, Global};
 
@@ -31,12 +33,14 @@ pub struct PageWords<'a> {
     pub moves: u8,
     /// Whether the least number of moves up to that one is looked for.
     pub is_least: bool,
-    /// How many lines are written at most.
+    /// How many lines are written at most, 1 to 1,000,000.
     pub lines: usize,
     pub look: Look<'a>,
     pub solutions: Placing,
     pub ghost some_moves: { 1 ≤ moves },
     pub ghost few_moves: { moves ≤ 20 },
+    pub ghost some_lines: { 1 ≤ lines },
+    pub ghost few_lines: { lines ≤ 1_000_000 },
 }
 
 const WITHIN_HELP: &str = "Ask for a win in N moves of the side to move, 1 to 20";
@@ -108,26 +112,40 @@ fn solutions<'a>(alloc: Global) -> Arg<'a> {
     option(alloc, "solutions", "WHERE", places, help).default_value("after")
 }
 
-/// What the command is asked for.
-pub(crate) fn page_words<'a>(words: &ArgMatches<'a>) -> PageWords<'a> {
-    let most = moves_given(words, "most");
-    PageWords {
-        moves: moves_given(words, "n").or(most).unwrap_or(FEWEST_MOVES),
-        is_least: most.is_some(),
-        lines: lines_of(words),
-        look: Look {
-            title: words.get_str("title").unwrap_or(USUAL_TITLE),
-            language: Language::named(words.get_str("lang")),
-            numbers: words.get_flag("numbers"),
-        },
-        solutions: placing_named(words.get_str("solutions")),
+impl<'a> PageWords<'a> {
+    ghost use Rattle.dw_desk_words.specs.Commands.{AsksPage};
+    ghost use Rattle.dw_program.specs.Options.{options_of};
+
+    /// What the options ask for.
+    pub(crate) fn new(words: &ArgMatches<'a>) -> Self
+        ensures { AsksPage (options_of words.now) result }
+    {
+        let most = moves_given(words, "most");
+        PageWords {
+            moves: moves_given(words, "n").or(most).unwrap_or(FEWEST_MOVES),
+            is_least: most.is_some(),
+            lines: lines_of(words),
+            look: Look {
+                title: text_given(words, "title").unwrap_or(USUAL_TITLE),
+                language: Language::named(text_given(words, "lang")),
+                numbers: flag_given(words, "numbers"),
+            },
+            solutions: Placing::named(text_given(words, "solutions")),
+        }
     }
 }
 
-fn placing_named(name: Option<&str>) -> Placing {
-    match name {
-        Some("end") => Placing::End,
-        Some("none") => Placing::None,
-        _ => Placing::After,
+impl Placing {
+    ghost use Rattle.dw_desk_words.specs.Names.{placing_named};
+
+    /// The place of a name: `end` or `none`, or else after each problem.
+    fn named(name: Option<&str>) -> Placing
+        ensures { result ≡ placing_named (option_copied name.entry) }
+    {
+        match name {
+            Some("end") => Placing::End,
+            Some("none") => Placing::None,
+            _ => Placing::After,
+        }
     }
 }

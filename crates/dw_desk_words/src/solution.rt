@@ -1,10 +1,10 @@
 //! The arguments of the command `solution`.
 ghost use Rattle.std.specs.Prelude.{◌≤◌};
 
-use crate::arguments::{CACHE_HELP, lines, lines_of, progress};
+use crate::arguments::{CACHE_HELP, lines, lines_of, moves_of, progress};
 use crate::portion::problem;
 use clap::{ArgMatches, Command as Words};
-use dw_program::options::{FEWEST_MOVES, board, cache, file, memo, moves_given, pdn, within};
+use dw_program::options::{board, cache, file, memo, pdn, within};
 use std::alloc::{AllocError, Global};
 
 /// What the command `solution` is asked for.
@@ -13,10 +13,12 @@ use std::alloc::{AllocError, Global};
 pub struct SolutionWords {
     /// The number of moves within which the win is, `FEWEST_MOVES` to `MOST_MOVES`.
     pub n: u8,
-    /// How many lines are written at most.
+    /// How many lines are written at most, 1 to 1,000,000.
     pub lines: usize,
     pub ghost some_moves: { 1 ≤ n },
     pub ghost few_moves: { n ≤ 20 },
+    pub ghost some_lines: { 1 ≤ lines },
+    pub ghost few_lines: { lines ≤ 1_000_000 },
 }
 
 const ABOUT: &str = "Writes each problem as a game of a PDN file, with its solution.";
@@ -52,10 +54,17 @@ pub(crate) fn solution_command<'a>(alloc: Global) -> Result<Words<'a>, AllocErro
         .args(arguments)
 }
 
-/// What the command `solution` is asked for.
-pub(crate) fn solution_words(words: &ArgMatches<'_>) -> SolutionWords {
-    SolutionWords {
-        n: moves_given(words, "n").unwrap_or(FEWEST_MOVES),
-        lines: lines_of(words),
+impl SolutionWords {
+    ghost use Rattle.dw_desk_words.specs.Commands.{AsksSolution};
+    ghost use Rattle.dw_program.specs.Options.{options_of};
+
+    /// What the options ask for.
+    pub(crate) fn new(words: &ArgMatches<'_>) -> Self
+        ensures { AsksSolution (options_of words.now) result }
+    {
+        SolutionWords {
+            n: moves_of(words),
+            lines: lines_of(words),
+        }
     }
 }

@@ -1,6 +1,8 @@
 //! What the arguments ask for.
 ghost use Rattle.std.specs.Prelude.{◌≤◌};
 
+use crate::certify::CertifyWords;
+use crate::check::CheckWords;
 use crate::find::FindWords;
 use crate::mend::MendWords;
 use crate::page::PageWords;
@@ -15,14 +17,14 @@ use dw_program::{BoardSize, MemoKind};
 pub enum Task<'a> {
     /// The number of moves and the verdict are found.
     Find(FindWords),
-    /// The solution is checked, within `n` moves, or as many as it has.
-    Check { n: Option<u8> },
+    /// The solution is checked.
+    Check(CheckWords),
     /// The problem is written as a game, with its solution.
     Solution(SolutionWords),
     /// The problems are put on a page.
     Page(PageWords<'a>),
-    /// The certificate of the first of the chosen problems is written, within `n` moves.
-    Certify { n: u8 },
+    /// The certificate of the first of the chosen problems is written.
+    Certify(CertifyWords),
     /// The neighbours of the first of the chosen problems that are sound are written.
     Mend(MendWords),
     /// The token of this line of the first of the chosen problems is written.

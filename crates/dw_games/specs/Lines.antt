@@ -1,12 +1,12 @@
 -- A written line: a movetext without variations, of an odd number of moves.
-use Rattle.std.specs.Prelude.{◌≡◌, ℕ, ◌+◌, ◌%◌, ◌<◌, ◌≤◌, true, List, [], ◌∷◌, ◌++◌, length}
+use Rattle.std.specs.Prelude.{◌≡◌, ℕ, ◌+◌, ◌%◌, ◌<◌, ◌≤◌, true, List, [], ◌∷◌, ◌++◌, length, codes}
 use Rattle.std.proofs.Common.{zero}
 use Rattle.dw_board.specs.Geometry.{Geometry}
 use Rattle.dw_board.specs.Placement.{Placement}
 use Rattle.dw_moves.specs.Moves.{Move}
 use Rattle.dw_games.specs.Tokens.{Token, AreTokens}
 use Rattle.dw_games.specs.Play.{IsResult, IsVariation, AreComments}
-use Rattle.dw_games.specs.Faults.{FaultAt, number_of}
+use Rattle.dw_games.specs.Faults.{FaultAt, name_of, number_of}
 use Rattle.dw_games.specs.declared.tokens.TokenKind.TheVariants.{Opens}
 use Rattle.dw_games.specs.declared.movetext.TheConstants.{MAX_MOVETEXT}
 use Rattle.dw_games.specs.declared.fault.MovetextFaultKind.{MovetextFaultKind}
@@ -40,6 +40,11 @@ pub record IsWrittenLine (g : Geometry) (p : Placement) (text : List ℕ) (moves
 abbrev pub line_number_of : LineFaultKind → ℕ
 line_number_of (Movetext what) = number_of what
 line_number_of Even = 11
+
+-- the name of a fault
+abbrev pub line_name_of : LineFaultKind → List ℕ
+line_name_of (Movetext what) = name_of what
+line_name_of Even = codes "even"
 
 -- the fault of a movetext as that of a line
 abbrev pub line_fault_of : MovetextFault → LineFault

@@ -2,7 +2,7 @@
 ghost use Rattle.std.specs.Prelude.{◌≡◌};
 ghost use Rattle.dw_games.specs.declared.fault.MovetextFault.TheVariants.{Memory};
 ghost use Rattle.dw_games.specs.Faults.{name_of, number_of};
-ghost use Rattle.dw_games.specs.Lines.{line_number_of, line_fault_of};
+ghost use Rattle.dw_games.specs.Lines.{line_fault_of, line_name_of, line_number_of};
 
 use std::alloc::AllocError;
 use std::fmt;
@@ -125,7 +125,10 @@ impl LineFaultKind {
     }
 
     /// Its name in texts.
-    fn name(self) -> &'static str {
+    /// Example: of `LineFaultKind::Even` it is `even`.
+    pub fn name(self) -> &'static str
+        ensures { result.now ≡ line_name_of self }
+    {
         match self {
             LineFaultKind::Movetext(what) => what.name(),
             LineFaultKind::Even => "even",

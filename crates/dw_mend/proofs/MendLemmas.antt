@@ -1,7 +1,7 @@
 -- What is written of neighbours, one neighbour after another.
 use Rattle.std.proofs.Common.{◌≡◌, ◌∙◌, ℕ, ◌+◌, ◌<◌, List, [], ◌∷◌, ◌++◌, length, map, take, get_or, refl, sym, ap, subst}
-use Rattle.std.proofs.Common.{append_assoc, append-nil, arith, inl, inr, ◌*◌, ◌≤◌, ◌%◌, suc, add-one}
-use Rattle.std.specs.Prelude.{◌==◌, Result, Ok, Err}
+use Rattle.std.proofs.Common.{append_assoc, append-nil, arith, inl, inr, ◌*◌, ◌≤◌, ◌%◌, Option, Some, None}
+use Rattle.std.specs.Prelude.{◌==◌, Result, Ok, Err, IfSome}
 use Rattle.std.specs.Result.{IsErrAnd}
 use Rattle.std.proofs.lemmas.Bool.{cases_Bool}
 use Rattle.std.proofs.lemmas.List.{map_push, take-map, take_all}
@@ -12,7 +12,7 @@ use Rattle.dw_solve.specs.Searching.{IsCounted}
 use Rattle.dw_report.specs.Verdict.{IsVerdict, sound}
 use Rattle.dw_mend.specs.Changes.{Change, AreNeighbours}
 use Rattle.dw_mend.specs.MendText.{IsSoundLine}
-use Rattle.dw_mend.specs.Mending.{Counts, AreMended, IsMendStop, part_from, part_of}
+use Rattle.dw_mend.specs.Mending.{Counts, AreBounded, AreMended, IsMendStop, part_from, part_of}
 use Rattle.dw_mend.specs.inner.Mending.{Adds}
 use Rattle.dw_mend.specs.declared.mend.Soundness as finds
 use Rattle.dw_mend.specs.declared.mend.Soundness.TheVariants.{Sound, Unsound, Undecided}
@@ -114,12 +114,33 @@ pub adds_undecided : {B : Type 0} (g : Geometry) (n : ℕ) (x : Change × Placem
     → AreMended g n (x ∷ []) line (record { sound = 0; undecided = 1 })
 adds_undecided g n x found line is adds = one_undecided g n x line (subst (λ z. Adds g n x z line) is adds)
 
--- as many positions as one neighbour may take
-pub spent_more : (base each u v before after : ℕ) → v ≡ u + 1 → base + u * each ≤ before → after ≡ before + each
-    → base + v * each ≤ after
-spent_more base each u v before after one so_far more =
-    let e : v * each ≡ u * each + each = ap (λ z. z * each) (one ∙ add-one u) ∙ (let h : suc u * each ≡ u * each + each = omega arith in h) in
-    omega arith
+more_times : (u bound : ℕ) → (u + 1) * bound ≡ u * bound + bound
+more_times u bound = grind arith
+
+-- one neighbour more, which is not undecided
+pub bounded_more : (each : Option ℕ) (i u v base before after : ℕ) → v ≡ u → before ≤ after
+    → IfSome each (λ bound. after ≤ before + bound) → AreBounded each i u base before
+    → AreBounded each (i + 1) v base after
+bounded_more None i u v base before after same rises few so_far = same ∙ so_far
+bounded_more (Some bound) i u v base before after same rises few so_far =
+    let e = more_times i bound in
+    let s : v * bound ≡ u * bound = ap (λ z. z * bound) same in
+    (omega (arith, so_far.0, rises, s), omega (arith, so_far.1, few, e))
+
+-- one more, which is undecided after as many positions as it may take
+pub bounded_open : (each : Option ℕ) (i u v base before after : ℕ) → v ≡ u + 1
+    → (bound : ℕ) × (each ≡ Some bound) × (after ≡ before + bound) → AreBounded each i u base before
+    → AreBounded each (i + 1) v base after
+bounded_open each i u v base before after one spent so_far =
+    subst (λ z. AreBounded z (i + 1) v base after) (sym spent.1)
+    (open_some (subst (λ z. AreBounded z i u base before) spent.1 so_far))
+  where
+    open_some : AreBounded (Some spent.0) i u base before → AreBounded (Some spent.0) (i + 1) v base after
+    open_some b =
+        let e = more_times i spent.0 in
+        let s : v * spent.0 ≡ u * spent.0 + spent.0 = ap (λ z. z * spent.0) one ∙ more_times u spent.0 in
+        let is = spent.2 in
+        (omega (arith, b.0, is, s), omega (arith, b.1, is, e))
 
 -- what a search counts, and then another one
 pub counted_on : (a l b m c o : ℕ) → IsCounted a l b m → IsCounted b m c o → IsCounted a l c o

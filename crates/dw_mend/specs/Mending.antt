@@ -1,5 +1,6 @@
 -- The neighbours of a position that are sound.
-use Rattle.std.specs.Prelude.{◌≡◌, ℕ, ◌+◌, ◌%◌, ◌==◌, ◌⊎◌, if◌then◌else◌, List, [], ◌∷◌, ◌++◌, length, take}
+use Rattle.std.specs.Prelude.{◌≡◌, ℕ, ◌+◌, ◌*◌, ◌%◌, ◌==◌, ◌≤◌, ◌⊎◌, if◌then◌else◌, Option, Some, None}
+use Rattle.std.specs.Prelude.{List, [], ◌∷◌, ◌++◌, length, take}
 use Rattle.dw_board.specs.Geometry.{Geometry}
 use Rattle.dw_board.specs.Placement.{Placement}
 use Rattle.dw_moves.specs.Moves.{Move}
@@ -32,6 +33,13 @@ AreMended g n (x ∷ xs) text counts = (rest : List ℕ) × (others : Counts) ×
     ⊎ ((((key : Move) → IsVerdict g x.1 n (sound key) → ⊥) × (text ≡ rest) × (counts.sound ≡ others.sound)
     × (counts.undecided ≡ others.undecided))
     ⊎ ((text ≡ rest) × (counts.sound ≡ others.sound) × (counts.undecided ≡ others.undecided + 1))))
+
+-- With a bound of positions for each neighbour as many were expanded for each that is undecided, and no more for any.
+-- Without one none is undecided.
+abbrev pub AreBounded : (each : Option ℕ) → (all undecided before after : ℕ) → Type 0
+AreBounded None all undecided before after = undecided ≡ 0
+AreBounded (Some bound) all undecided before after =
+    (before + undecided * bound ≤ after) × (after ≤ before + all * bound)
 
 -- What is written of a position: the lines of those of its neighbours that are sound, of the part i of m, and how many
 -- these are.

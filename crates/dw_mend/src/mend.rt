@@ -1,5 +1,5 @@
 //! The neighbours of a position that are sound, each in a line as soon as it is known.
-ghost use Rattle.std.specs.Prelude.{◌≡◌, ℕ, ◌+◌, ◌*◌, ◌≤◌, false, take, length, List, Err, IfOk, IfErr, IsErr, IsErrOf};
+ghost use Rattle.std.specs.Prelude.{◌≡◌, ℕ, ◌+◌, ◌≤◌, false, take, length, List, Some, Err, IfOk, IfSome, IsErrOf};
 ghost use Rattle.std.specs.Prelude.{OnOk, MatchOption, map};
 ghost use Rattle.dw_moves.specs.Moves.{Move as AnyMove};
 ghost use Rattle.dw_report.specs.Verdict.{IsVerdict, sound};
@@ -11,7 +11,7 @@ ghost use Rattle.dw_solve.specs.declared.stop.Stop.TheVariants.{Limit};
 ghost use Rattle.dw_solve.specs.Facts.{AreTrue};
 ghost use Rattle.dw_solve.specs.Searching.{IsCounted};
 ghost use Rattle.dw_mend.specs.Changes.{Change as Changed, AreNeighbours};
-ghost use Rattle.dw_mend.specs.Mending.{IsMendText, IsMendStop, Counts, AreMended, part_of};
+ghost use Rattle.dw_mend.specs.Mending.{IsMendText, IsMendStop, AreBounded, AreMended, Counts, part_of};
 ghost use Rattle.dw_mend.specs.Telling.{told_by};
 ghost use Rattle.dw_mend.specs.declared.mend.MendFault.TheVariants as because;
 ghost use Rattle.dw_mend.specs.inner.Mending.{IsSoundnessOf, IsUndecided, Adds, CanAsk, Goes, Leaves};
@@ -30,14 +30,14 @@ use std::alloc::{AllocError, Global};
 use thiserror::Error;
 
 /// Which neighbours are looked at, and how far.
-/// Example: within 2 moves, and with `each` 1,000,000, a neighbour of which it is not known after 1,000,000 positions
-/// whether it is sound in 2 moves stays undecided.
+/// Example: within 2 moves, and with `each` of `Some(1_000_000)`, a neighbour of which it is not known after 1,000,000
+/// positions whether it is sound in 2 moves stays undecided.
 #[derive(Clone, Copy, Debug, PartialEq, Eq)]
 pub struct MendBounds {
     /// The number of moves within which the win is, 1 to 20.
     pub moves: u8,
-    /// How many positions may be expanded for each neighbour, at least 1.
-    pub each: u64,
+    /// How many positions may be expanded for each neighbour, at least 1; any number, if there is none.
+    pub each: Option<u64>,
     /// Which of the neighbours are looked at.
     pub part: Part,
 }
@@ -107,14 +107,14 @@ pub fn mend<B: Board, M: Memo<B>, G: Guide<B>, W: Watcher, K: Sink>(
 ) -> Result<Mended, MendFault>
     requires some { 1 ≤ bounds.moves }
     requires few { bounds.moves ≤ 20 }
-    requires room { 1 ≤ bounds.each }
+    requires room { IfSome bounds.each (λ bound. 1 ≤ bound) }
     requires works { K.is_failed sink.old ≡ false }
     ensures text { IfOk result (λ mended. (text : List ℕ)
         × IsMendText B.geometry position.now bounds.moves bounds.part.number bounds.part.parts mended.all mended.sound
         mended.undecided text
         × Appends (K.taken sink.old) (K.taken sink.new) text) }
-    ensures spent { IfOk result (λ mended. solver.old.expanded + mended.undecided * bounds.each
-        ≤ solver.new.expanded) }
+    ensures bounded { IfOk result (λ mended. AreBounded bounds.each mended.all mended.undecided solver.old.expanded
+        solver.new.expanded) }
     ensures stopped { (stop : _) (all : List (Changed × Placement)) → AreNeighbours B.geometry position.now all
         → result ≡ Err (because.Stopped stop)
         → (text : List ℕ) × IsMendStop B.geometry bounds.moves (part_of bounds.part.number bounds.part.parts all) text
@@ -153,8 +153,8 @@ fn mend_these<B: Board, M: Memo<B>, G: Guide<B>, W: Watcher, K: Sink>(
         (record { sound = mended.sound; undecided = mended.undecided })
         × Appends (K.taken sink.old) (K.taken sink.new) text) }
     ensures all { IfOk result (λ mended. mended.all ≡ length some.now) }
-    ensures spent { IfOk result (λ mended. solver.old.expanded + mended.undecided * bounds.each
-        ≤ solver.new.expanded) }
+    ensures bounded { IfOk result (λ mended. AreBounded bounds.each mended.all mended.undecided solver.old.expanded
+        solver.new.expanded) }
     ensures stopped { (stop : _) → result ≡ Err (because.Stopped stop)
         → (text : List ℕ) × IsMendStop B.geometry bounds.moves (map told_by some.now) text
         × Appends (K.taken sink.old) (K.taken sink.new) text }
@@ -242,20 +242,64 @@ fn found_of<B: Board, M: Memo<B>, G: Guide<B>, W: Watcher>(
 ) -> Result<Soundness<B>, Stop>
     requires asks { CanAsk bounds.moves bounds.each }
     ensures found { IfOk result (IsSoundnessOf B.geometry position.now bounds.moves) }
-    ensures spent { IfOk result (λ found. IsUndecided found
-        → solver.new.expanded ≡ solver.old.expanded + bounds.each) }
+    ensures spent { IfOk result (λ found. IsUndecided found → (bound : ℕ) × (bounds.each ≡ Some bound)
+        × (solver.new.expanded ≡ solver.old.expanded + bound)) }
+    ensures few { IfSome bounds.each (λ bound. solver.new.expanded ≤ solver.old.expanded + bound) }
+    ensures count { IsCounted solver.old.expanded solver.old.limit solver.new.expanded solver.new.limit }
+    ensures stop { IsErrOf result Limit → solver.new.expanded ≡ solver.new.limit }
+    ensures right { AreTrue B.geometry (M.content solver.new.memo) }
+    ensures map { IsMap (M.content solver.new.memo) }
+{
+    match bounds.each {
+        Some(bound) => found_within(alloc, solver, position, bounds.moves, bound, slices),
+        None => found_by_key(alloc, solver, position, bounds.moves, slices),
+    }
+}
+
+/// What is found of a position if any number of positions may be expanded.
+fn found_by_key<B: Board, M: Memo<B>, G: Guide<B>, W: Watcher>(
+    alloc: Global,
+    solver: &mut Solver<B, M, G>,
+    position: &Position<B>,
+    moves: u8,
+    slices: &mut Slices<W>,
+) -> Result<Soundness<B>, Stop>
+    requires asks { (1 ≤ moves) × (moves ≤ 20) }
+    ensures found { IfOk result (λ found. IsSoundnessOf B.geometry position.now moves found
+        × (IsUndecided found → ⊥)) }
+    ensures count { IsCounted solver.old.expanded solver.old.limit solver.new.expanded solver.new.limit }
+    ensures stop { IsErrOf result Limit → solver.new.expanded ≡ solver.new.limit }
+    ensures right { AreTrue B.geometry (M.content solver.new.memo) }
+    ensures map { IsMap (M.content solver.new.memo) }
+{
+    Ok(Soundness::of(sound_key(alloc, solver, position, moves, slices)?))
+}
+
+/// What is found of a position if so many positions may be expanded.
+fn found_within<B: Board, M: Memo<B>, G: Guide<B>, W: Watcher>(
+    alloc: Global,
+    solver: &mut Solver<B, M, G>,
+    position: &Position<B>,
+    moves: u8,
+    bound: u64,
+    slices: &mut Slices<W>,
+) -> Result<Soundness<B>, Stop>
+    requires asks { CanAsk moves (Some bound) }
+    ensures found { IfOk result (IsSoundnessOf B.geometry position.now moves) }
+    ensures spent { IfOk result (λ found. IsUndecided found → solver.new.expanded ≡ solver.old.expanded + bound) }
+    ensures few { solver.new.expanded ≤ solver.old.expanded + bound }
     ensures count { IsCounted solver.old.expanded solver.old.limit solver.new.expanded solver.new.limit }
     ensures stop { IsErrOf result Limit → solver.new.expanded ≡ solver.new.limit }
     ensures right { AreTrue B.geometry (M.content solver.new.memo) }
     ensures map { IsMap (M.content solver.new.memo) }
 {
     let limit = solver.limit();
-    let until = solver.expanded().saturating_add(bounds.each);
+    let until = solver.expanded().saturating_add(bound);
     if limit <= until {
-        return Ok(Soundness::of(sound_key(alloc, solver, position, bounds.moves, slices)?));
+        return found_by_key(alloc, solver, position, moves, slices);
     }
     solver.set_limit(until);
-    let key = sound_key(alloc, solver, position, bounds.moves, slices);
+    let key = sound_key(alloc, solver, position, moves, slices);
     solver.set_limit(limit);
     match key {
         Err(Stop::Limit) => Ok(Soundness::Undecided),

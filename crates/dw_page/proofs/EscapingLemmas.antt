@@ -5,6 +5,9 @@ use Rattle.std.specs.Prelude.{◌==◌, codes}
 use Rattle.std.proofs.lemmas.Bool.{cases_Bool, eqb-true}
 use Rattle.std.proofs.lemmas.List.{take_more, map-append, append_assoc, append-nil}
 use Rattle.std.proofs.lemmas.Grind.{flat_map-append}
+use Rattle.std.specs.Prelude.{IsUtf8}
+use Rattle.std.specs.Str.{is_utf8}
+use Rattle.std.proofs.lemmas.Str.{IsUtf8-from_is_utf8}
 use Rattle.dw_page.specs.Escaping.{shown, escaped, printable, stands_for}
 use Rattle.dw_page.specs.EscapingLaws.{is_plain, read}
 
@@ -68,3 +71,8 @@ stands_more xs i lt =
     ∙ (ap escaped (map-append printable (take i xs) (get_or xs i 0 ∷ []))
     ∙ (flat_map-append shown (map printable (take i xs)) (printable (get_or xs i 0) ∷ [])
     ∙ ap (λ t. stands_for (take i xs) ++ t) (append-nil (shown (printable (get_or xs i 0))))))
+
+-- bytes that are no text in UTF-8 are told so
+pub not_utf8 : (bytes : List ℕ) → (IsUtf8 bytes → ⊥) → is_utf8 bytes ≡ false
+not_utf8 bytes none =
+    elim (cases_Bool (is_utf8 bytes)) [ inl e ↦ absurd (none (IsUtf8-from_is_utf8 bytes e)) | inr e ↦ e ]

@@ -1,3 +1,7 @@
+pub mod AppendLemmas
 pub mod EscapingLemmas
 pub mod DrawingLemmas
+pub mod JoinLemmas
 pub mod MoveLemmas
+pub mod RowLemmas
+pub mod ShownLemmas

@@ -1,7 +1,7 @@
 -- Texts from outside, as they stand in a page.
-use Rattle.std.specs.Prelude.{◌≡◌, ℕ, ◌==◌, ◌⊎◌, List, [], ◌∷◌, ◌++◌, codes, if◌then◌else◌, map, nat_lt}
-use Rattle.std.specs.Prelude.{IsUtf8, encode_utf8}
+use Rattle.std.specs.Prelude.{ℕ, ◌==◌, List, [], ◌∷◌, codes, if◌then◌else◌, map, nat_lt, encode_utf8}
 use Rattle.std.specs.List.{flat_map}
+use Rattle.std.specs.Str.{is_utf8}
 
 -- what stands for a byte: an entity for each of the five that mean something in a page, any other byte for itself
 abbrev pub shown : ℕ → List ℕ
@@ -22,9 +22,13 @@ abbrev pub printable : ℕ → ℕ
 printable b = if nat_lt b 32 then 32 else if b == 127 then 32 else b
 
 -- bytes as a text in UTF-8: as they stand if they are one, else each of them is a character of Latin-1
-abbrev pub IsReadAs : List ℕ → List ℕ → Type 0
-IsReadAs bytes text = (IsUtf8 bytes × (text ≡ bytes)) ⊎ ((IsUtf8 bytes → ⊥) × (text ≡ flat_map encode_utf8 bytes))
+abbrev pub read_as : List ℕ → List ℕ
+read_as bytes = if is_utf8 bytes then bytes else flat_map encode_utf8 bytes
 
--- what stands for bytes
+-- what stands for a text
 abbrev pub stands_for : List ℕ → List ℕ
 stands_for text = escaped (map printable text)
+
+-- what stands for bytes from outside
+abbrev pub shown_bytes : List ℕ → List ℕ
+shown_bytes bytes = stands_for (read_as bytes)

@@ -1,3 +1,8 @@
 pub mod Drawing
 pub mod Escaping
 pub mod EscapingLaws
+pub mod Pages
+pub mod Pictures
+pub mod SolutionMoves
+pub mod Words
+pub mod inner

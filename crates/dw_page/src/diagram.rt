@@ -57,7 +57,7 @@ fn board_back(alloc: Global, numbers: bool) -> Result<String, AllocError>
 }
 
 /// The number of rows.
-fn rows_of<B: Board>() -> u8
+pub(crate) fn rows_of<B: Board>() -> u8
     ensures { result ≡ B.geometry.rows }
 {
     B::ROWS

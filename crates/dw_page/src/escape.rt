@@ -1,8 +1,8 @@
-//! Texts from outside, as they stand in a page.
-ghost use Rattle.std.specs.Prelude.{◌≡◌, ◌++◌, ◌∷◌, [], OnOk, IfOk, MatchOption, List, ℕ, encode_utf8};
+//! Texts from outside, as they stand in a page, and the page's own texts.
+ghost use Rattle.std.specs.Prelude.{◌≡◌, ◌++◌, ◌∷◌, [], OnOk, IfOk, MatchOption, encode_utf8};
 ghost use Rattle.std.specs.List.{flat_map};
 ghost use Rattle.std.specs.String.{string_bytes};
-ghost use Rattle.dw_page.specs.Escaping.{shown, printable, stands_for, IsReadAs};
+ghost use Rattle.dw_page.specs.Escaping.{shown, printable, stands_for, shown_bytes};
 
 use std::alloc::{AllocError, Global};
 
@@ -10,13 +10,21 @@ use std::alloc::{AllocError, Global};
 /// control character becomes a blank, and what means something in a page is escaped.
 /// Example: for `a <b>` it is `a &lt;b&gt;`, and for the one byte E9 it is `é` in UTF-8.
 pub fn push_bytes(alloc: Global, page: &mut Vec<u8>, bytes: &[u8]) -> Result<(), AllocError>
-    ensures { OnOk result ((text : List ℕ) × IsReadAs bytes.now text × (page.new.items
-        ≡ page.old.items ++ stands_for text)) }
+    ensures { OnOk result (page.new.items ≡ page.old.items ++ shown_bytes bytes.now) }
 {
     match str::from_utf8(bytes) {
         Ok(text) => push_text(page, text.as_bytes()),
         Err(_) => push_text(page, latin(alloc, bytes)?.as_str().as_bytes()),
     }
+}
+
+/// Appends texts of the page's own, one after another.
+pub(crate) fn push_all(alloc: Global, page: &mut Vec<u8>, texts: &[&str]) -> Result<(), AllocError>
+    ensures { OnOk result (page.new.items ≡ page.old.items ++ flat_map (λ t. t.now) texts.now) }
+{
+    let text = texts.concat(alloc)?;
+    page.extend_from_slice(text.as_str().as_bytes())?;
+    Ok(())
 }
 
 /// Appends what stands for a text in UTF-8.

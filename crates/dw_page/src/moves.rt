@@ -1,8 +1,15 @@
 //! The moves of a solution, each with the position after it.
-ghost use Rattle.std.specs.Prelude.{◌≤◌, length};
-ghost use Rattle.dw_moves.specs.Moves.{Legal};
+ghost use Rattle.std.specs.Prelude.{◌≡◌, ◌<◌, ◌++◌, ◌∷◌, ℕ, List, [], OnOk, IfOk, codes, length, position};
+ghost use Rattle.std.specs.List.{before_first, after_first};
+ghost use Rattle.dw_moves.specs.Moves.{Legal, play as after_move};
+ghost use Rattle.dw_notation.specs.declared.read_move.MoveFault.TheVariants.{Memory};
+ghost use Rattle.dw_page.specs.Escaping.{stands_for};
+ghost use Rattle.dw_page.specs.SolutionMoves.{IsMovetextShown, IsWordShown, after, comment_shown, is_end};
+ghost use Rattle.dw_page.specs.SolutionMoves.{move_shown, past_word, start, word_of};
+ghost use Rattle.dw_page.specs.SolutionMoves as of;
+ghost use Rattle.dw_page.specs.inner.Reading.{Closes, IsPieceShown, place_of};
 
-use crate::escape::push_text;
+use crate::escape::{push_all, push_text};
 use dw_board::{Board, Position, fen_text};
 use dw_moves::Move;
 use dw_moves::play::play;
@@ -20,7 +27,10 @@ pub(crate) fn push_moves<B: Board>(
     position: &Position<B>,
     movetext: &[u8],
     more: &str,
-) -> Result<(), AllocError> {
+) -> Result<(), AllocError>
+    ensures { OnOk result ((text : List ℕ) × IsMovetextShown B.geometry more.now position.now movetext.now text
+        × (page.new.items ≡ page.old.items ++ text)) }
+{
     let mut reader = Reader {
         alloc,
         line: OpenLine {
@@ -31,40 +41,57 @@ pub(crate) fn push_moves<B: Board>(
     };
     let mut rest = movetext;
     'pieces: while let Some((first, behind)) = rest.split_first() {
-        let (piece, left) = rest.split_at(1 + piece_behind(*first, behind));
-        reader.push_piece(page, piece, more)?;
-        rest = left;
+        rest = reader.push_piece(page, *first, rest, behind, more)?;
     }
     Ok(())
 }
 
-/// How many of the bytes behind a first one are part of the same piece of a movetext: those of a comment up to its
-/// brace, those of a word up to a blank or a parenthesis, and none behind a blank or a parenthesis.
-fn piece_behind(first: u8, behind: &[u8]) -> usize
-    ensures { result ≤ length behind.now }
+/// The bytes of a comment behind its first brace, and what stands behind its last one.
+fn comment_at(bytes: &[u8]) -> (&[u8], &[u8])
+    ensures comment { result.0.now ≡ before_first is_end bytes.now }
+    ensures behind { result.1.now ≡ after_first is_end bytes.now }
 {
-    let mut count = 0;
-    'bytes: while count < behind.len() && is_joined(first, behind[count]) {
-        count += 1;
-    }
-    if first == b'{' && count < behind.len() {
-        count += 1;
-    }
-    count
-}
-
-/// Whether a byte is part of the piece that another one begins.
-fn is_joined(first: u8, byte: u8) -> bool {
-    if first == b'{' {
-        byte != b'}'
-    } else {
-        !is_mark(first) && !is_mark(byte)
+    match end_of_comment(bytes) {
+        Some(end) => (&bytes[..end], &bytes[end + 1..]),
+        None => (bytes, &bytes[bytes.len()..]),
     }
 }
 
-/// Whether a byte is a piece by itself.
-fn is_mark(byte: u8) -> bool {
-    matches!(byte, b' ' | b'\n' | b'(' | b')')
+/// The place of the brace that ends a comment, if there is one.
+fn end_of_comment(bytes: &[u8]) -> Option<usize>
+    ensures { result ≡ position is_end bytes.now }
+{
+    bytes.iter().position(|byte| *byte == b'}')
+}
+
+/// The word that bytes begin with, and what stands behind it.
+fn word_at(bytes: &[u8]) -> (&[u8], &[u8])
+    ensures word { result.0.now ≡ word_of bytes.now }
+    ensures behind { result.1.now ≡ past_word bytes.now }
+{
+    let end = end_of_word(bytes).unwrap_or(bytes.len());
+    bytes.split_at(end)
+}
+
+/// The place of the first mark, if there is one.
+fn end_of_word(bytes: &[u8]) -> Option<usize>
+    ensures { result ≡ position of.is_mark bytes.now }
+{
+    bytes.iter().position(|byte| is_mark(*byte))
+}
+
+/// Whether a byte is a blank or a parenthesis, which ends a word.
+fn is_mark(byte: u8) -> bool
+    ensures { result ≡ of.is_mark byte }
+{
+    is_blank(byte) || byte == b'(' || byte == b')'
+}
+
+/// Whether a byte is a blank or the end of a line.
+fn is_blank(byte: u8) -> bool
+    ensures { result ≡ of.is_blank byte }
+{
+    byte == b' ' || byte == b'\n'
 }
 
 /// Where a variation stands, and where it stood before its last move.
@@ -83,62 +110,144 @@ struct Reader<B: Board> {
 }
 
 impl<B: Board> Reader<B> {
-    /// Appends a piece of a movetext.
-    fn push_piece(
+    /// Appends the first piece of a movetext, and returns what stands behind it.
+    fn push_piece<'t>(
         &mut self,
         page: &mut Vec<u8>,
-        piece: &[u8],
+        first: u8,
+        bytes: &'t [u8],
+        behind: &'t [u8],
         more: &str,
-    ) -> Result<(), AllocError> {
-        match piece {
-            b"(" => self.open(page),
-            b")" => self.close(page),
-            b"{more}" => push_text(page, more.as_bytes()),
-            [b'{', ..] => Ok(()),
-            _ => self.push_word(page, piece),
+    ) -> Result<&'t [u8], AllocError>
+        requires { bytes.now ≡ first ∷ behind.now }
+        ensures piece { IfOk result (λ rest. (text : List ℕ) × (page.new.items ≡ page.old.items ++ text)
+            × IsPieceShown B.geometry more.now self.old self.new bytes.now rest.now text) }
+        ensures less { IfOk result (λ rest. length rest.now < length bytes.now) }
+    {
+        if first == b'(' {
+            self.open(page)?;
+            return Ok(behind);
         }
+        if first == b')' {
+            self.close(page)?;
+            return Ok(behind);
+        }
+        if is_blank(first) {
+            page.push(b' ')?;
+            return Ok(behind);
+        }
+        if first == b'{' {
+            let (comment, rest) = comment_at(behind);
+            push_comment(page, comment, more)?;
+            return Ok(rest);
+        }
+        let (word, rest) = word_at(bytes);
+        self.push_word(page, word)?;
+        Ok(rest)
     }
 
     /// A variation begins before the last move.
-    fn open(&mut self, page: &mut Vec<u8>) -> Result<(), AllocError> {
+    fn open(&mut self, page: &mut Vec<u8>) -> Result<(), AllocError>
+        ensures page { OnOk result (page.new.items ≡ page.old.items ++ codes "<span class=\"variation\">(") }
+        ensures line { OnOk result (place_of self.new.line ≡ start self.old.line.before) }
+        ensures outer { OnOk result (self.new.outer.items ≡ self.old.outer.items ++ self.old.line ∷ []) }
+    {
         self.outer.push(self.line)?;
         self.line.now = self.line.before;
         page.extend_from_slice(b"<span class=\"variation\">(")
     }
 
     /// The variation ends, and the one around it goes on.
-    fn close(&mut self, page: &mut Vec<u8>) -> Result<(), AllocError> {
+    fn close(&mut self, page: &mut Vec<u8>) -> Result<(), AllocError>
+        ensures { OnOk result ((text : List ℕ) × Closes self.old self.new text
+            × (page.new.items ≡ page.old.items ++ text)) }
+    {
         match self.outer.pop() {
             Some(line) => {
                 self.line = line;
-                page.extend_from_slice(b")</span>")
+                page.extend_from_slice(b")</span>")?;
             }
-            None => page.extend_from_slice(b")"),
+            None => page.extend_from_slice(b")")?,
         }
+        Ok(())
     }
 
-    /// A word: a move, or a number, a blank or the result.
-    fn push_word(&mut self, page: &mut Vec<u8>, word: &[u8]) -> Result<(), AllocError> {
+    /// A word: a move, or a number, a result or anything else.
+    fn push_word(&mut self, page: &mut Vec<u8>, word: &[u8]) -> Result<(), AllocError>
+        ensures word { OnOk result ((text : List ℕ) × IsWordShown B.geometry (place_of self.old.line) word.now
+            (place_of self.new.line) text × (page.new.items ≡ page.old.items ++ text)) }
+        ensures outer { OnOk result (self.new.outer.items ≡ self.old.outer.items) }
+    {
+        dw_notation::laws::texts_have_one_answer();
         match read_move(self.alloc, &self.line.now, word) {
-            Ok(mv) => self.push_move(page, &mv, word),
-            Err(MoveFault::Memory) => Err(AllocError),
-            Err(_) => push_text(page, word),
+            Ok(mv) => {
+                self.push_move(page, &mv, word)?;
+                Ok(())
+            }
+            Err(fault) => {
+                push_unread(page, word, fault)?;
+                Ok(())
+            }
         }
     }
 
     /// A move.
     fn push_move(&mut self, page: &mut Vec<u8>, mv: &Move<B>, word: &[u8]) -> Result<(), AllocError>
         requires { Legal B.geometry self.old.line.now mv.now }
+        ensures page { OnOk result (page.new.items ≡ page.old.items
+            ++ move_shown B.geometry (after_move B.geometry self.old.line.now mv.now) word.now) }
+        ensures line { place_of self.new.line ≡ after B.geometry (place_of self.old.line) mv.now }
+        ensures outer { self.new.outer.items ≡ self.old.outer.items }
     {
         let after = play(&self.line.now, mv);
         self.line = OpenLine {
             now: after,
             before: self.line.now,
         };
-        page.extend_from_slice(b"<span class=\"move\" data-fen=\"")?;
-        page.extend_from_slice(fen_text(&after).as_str().as_bytes())?;
-        page.extend_from_slice(b"\">")?;
-        push_text(page, word)?;
-        page.extend_from_slice(b"</span>")
+        push_shown(self.alloc, page, &after, word)
     }
+}
+
+/// Appends a word that was read as no move, unless memory was refused.
+fn push_unread(page: &mut Vec<u8>, word: &[u8], fault: MoveFault) -> Result<(), AllocError>
+    ensures text { OnOk result (page.new.items ≡ page.old.items ++ stands_for word.now) }
+    ensures fault { OnOk result (fault ≡ Memory → ⊥) }
+{
+    match fault {
+        MoveFault::Memory => Err(AllocError),
+        _ => push_text(page, word),
+    }
+}
+
+/// Appends the element of a move that leads to a position.
+fn push_shown<B: Board>(
+    alloc: Global,
+    page: &mut Vec<u8>,
+    after: &Position<B>,
+    word: &[u8],
+) -> Result<(), AllocError>
+    ensures { OnOk result (page.new.items ≡ page.old.items ++ move_shown B.geometry after.now word.now) }
+{
+    push_all(
+        alloc,
+        page,
+        &[
+            "<span class=\"move\" data-fen=\"",
+            fen_text(after).as_str(),
+            "\">",
+        ],
+    )?;
+    push_text(page, word)?;
+    push_all(alloc, page, &["</span>"])?;
+    Ok(())
+}
+
+/// Appends what is shown of a comment.
+fn push_comment(page: &mut Vec<u8>, comment: &[u8], more: &str) -> Result<(), AllocError>
+    ensures { OnOk result (page.new.items ≡ page.old.items ++ comment_shown more.now comment.now) }
+{
+    if comment == b"more".as_slice() {
+        push_text(page, more.as_bytes())?;
+    }
+    Ok(())
 }

@@ -1,6 +1,17 @@
 //! A page: its head, its problems one by one, and its end.
+ghost use Rattle.std.specs.Prelude.{◌≡◌, ◌++◌, List, [], codes, map, ℕ, OnOk, filter_map, option_map};
+ghost use Rattle.std.specs.List.{flat_map, join_by};
+ghost use Rattle.std.specs.String.{string_bytes};
+ghost use Rattle.dw_page.specs.Escaping.{shown_bytes, stands_for};
+ghost use Rattle.dw_page.specs.Pages.{IsSolutionShown, author, author_of, begin, end, end_of_problem, front, head};
+ghost use Rattle.dw_page.specs.Pages.{moves_row, numbered, problem, refusal, refused, solution_begin, source, styled};
+ghost use Rattle.dw_page.specs.Pages.{solutions_heading, tries_row, try_shown, values_of, verdict_row};
+ghost use Rattle.dw_page.specs.Pages as of;
+ghost use Rattle.dw_page.specs.SolutionMoves.{IsMovetextShown};
+ghost use Rattle.dw_page.specs.Words.{phrase};
+
 use crate::diagram::push_diagram;
-use crate::escape::{push_bytes, push_text};
+use crate::escape::{push_all, push_bytes, push_text};
 use crate::moves::push_moves;
 use crate::pictures::push_pictures;
 use crate::script::SCRIPT;
@@ -42,7 +53,10 @@ pub struct Heading<'a> {
 
 impl Heading<'_> {
     /// No tags.
-    pub fn none() -> Self {
+    pub fn none() -> Self
+        ensures author { author_of result ≡ None }
+        ensures source { values_of result ≡ [] }
+    {
         Heading {
             author: None,
             source: [None, None, None],
@@ -56,54 +70,103 @@ pub fn push_head<B: Board>(
     alloc: Global,
     page: &mut Vec<u8>,
     look: &Look<'_>,
-) -> Result<(), AllocError> {
-    let start = [
+) -> Result<(), AllocError>
+    ensures { OnOk result (page.new.items ≡ page.old.items ++ head B.geometry look.now.language look.now.title.now) }
+{
+    push_front(alloc, page, look.language)?;
+    push_text(page, look.title.as_bytes())?;
+    push_style(alloc, page)?;
+    push_text(page, look.title.as_bytes())?;
+    push_all(alloc, page, &["</h1>\n"])?;
+    push_pictures::<B>(alloc, page)?;
+    push_all(alloc, page, &["<main class=\"sheet\">\n"])?;
+    Ok(())
+}
+
+/// The front of a page, up to its title.
+fn push_front(alloc: Global, page: &mut Vec<u8>, language: Language) -> Result<(), AllocError>
+    ensures { OnOk result (page.new.items ≡ page.old.items ++ front language) }
+{
+    let texts = [
         "<!DOCTYPE html>\n<html lang=\"",
-        look.language.tag(),
+        language.tag(),
         "\">\n<head>\n<meta charset=\"utf-8\">\n\
         <meta name=\"viewport\" content=\"width=device-width, initial-scale=1\">\n\
         <meta http-equiv=\"Content-Security-Policy\" content=\"",
-        POLICY,
+        policy(),
         "\">\n<title>",
-    ]
-    .concat(alloc)?;
-    page.extend_from_slice(start.as_str().as_bytes())?;
-    push_text(page, look.title.as_bytes())?;
-    let style = [
+    ];
+    push_all(alloc, page, &texts)?;
+    Ok(())
+}
+
+#[tactic(auto, unfolding(crate::specs::Pages::policy))]
+fn policy() -> &'static str
+    ensures { result.now ≡ of.policy }
+{
+    POLICY
+}
+
+/// The style, between the title of the window and the one that is read in the page.
+fn push_style(alloc: Global, page: &mut Vec<u8>) -> Result<(), AllocError>
+    ensures { OnOk result (page.new.items ≡ page.old.items ++ styled) }
+{
+    let texts = [
         "</title>\n<style>",
-        STYLE,
+        style(),
         "</style>\n</head>\n<body>\n<h1>",
-    ]
-    .concat(alloc)?;
-    page.extend_from_slice(style.as_str().as_bytes())?;
-    push_text(page, look.title.as_bytes())?;
-    page.extend_from_slice(b"</h1>\n")?;
-    push_pictures::<B>(alloc, page)?;
-    page.extend_from_slice(b"<main class=\"sheet\">\n")
+    ];
+    push_all(alloc, page, &texts)?;
+    Ok(())
+}
+
+#[tactic(auto, unfolding(crate::specs::Pages::style))]
+fn style() -> &'static str
+    ensures { result.now ≡ of.style }
+{
+    STYLE
 }
 
 /// Appends a problem up to what is asked: its number, its tags, its drawing and the task.
 /// Example: of problem 7 the element has the identifier `p7`.
+#[tactic(auto, unfolding(crate::specs::Pages::problem))]
 pub fn push_problem<B: Board>(
     alloc: Global,
     page: &mut Vec<u8>,
     look: &Look<'_>,
     task: &Task<'_, B>,
     heading: &Heading<'_>,
-) -> Result<(), AllocError> {
+) -> Result<(), AllocError>
+    ensures { OnOk result (page.new.items ≡ page.old.items
+        ++ problem B.geometry look.now.language look.now.numbers task.now.number (author_of heading.now)
+        (values_of heading.now) task.now.position.now task.now.moves) }
+{
     push_begin(alloc, page, task.number, heading)?;
     push_diagram(alloc, page, task.position, look.numbers)?;
-    let words = look.language;
+    push_task(alloc, page, look.language, task)?;
+    Ok(())
+}
+
+/// The task.
+fn push_task<B: Board>(
+    alloc: Global,
+    page: &mut Vec<u8>,
+    language: Language,
+    task: &Task<'_, B>,
+) -> Result<(), AllocError>
+    ensures { OnOk result (page.new.items ≡ page.old.items
+        ++ of.task language task.now.position.now.turn task.now.moves) }
+{
     let mut digits = Buffer::new();
-    let asked = [
+    let texts = [
         "\n<p class=\"task\">",
-        words.task(task.position.turn()),
+        language.task(task.position.turn()),
         digits.format(task.moves),
-        words.moves(task.moves),
+        language.moves(task.moves),
         "</p>\n",
-    ]
-    .concat(alloc)?;
-    page.extend_from_slice(asked.as_str().as_bytes())
+    ];
+    push_all(alloc, page, &texts)?;
+    Ok(())
 }
 
 /// Appends a problem that is refused, with the reason.
@@ -114,23 +177,36 @@ pub fn push_refused(
     look: &Look<'_>,
     number: u32,
     reason: &str,
-) -> Result<(), AllocError> {
+) -> Result<(), AllocError>
+    ensures { OnOk result (page.new.items ≡ page.old.items ++ refused look.now.language number reason.now) }
+{
     push_begin(alloc, page, number, &Heading::none())?;
-    let start = [
-        "<p class=\"refused\">",
-        look.language.phrase(Phrase::Refused),
-        ": ",
-    ]
-    .concat(alloc)?;
-    page.extend_from_slice(start.as_str().as_bytes())?;
+    push_refusal(alloc, page, look.language, reason)?;
+    push_end_of_problem(page)?;
+    Ok(())
+}
+
+/// The reason why a problem is refused.
+fn push_refusal(
+    alloc: Global,
+    page: &mut Vec<u8>,
+    language: Language,
+    reason: &str,
+) -> Result<(), AllocError>
+    ensures { OnOk result (page.new.items ≡ page.old.items ++ refusal language reason.now) }
+{
+    let label = language.phrase(Phrase::Refused);
+    push_all(alloc, page, &["<p class=\"refused\">", label, ": "])?;
     push_text(page, reason.as_bytes())?;
-    page.extend_from_slice(b"</p>\n")?;
-    push_end_of_problem(page)
+    push_all(alloc, page, &["</p>\n"])?;
+    Ok(())
 }
 
 /// Ends a problem, behind its task or its solution.
 /// Example: it ends the element with the identifier `p7`.
-pub fn push_end_of_problem(page: &mut Vec<u8>) -> Result<(), AllocError> {
+pub fn push_end_of_problem(page: &mut Vec<u8>) -> Result<(), AllocError>
+    ensures { OnOk result (page.new.items ≡ page.old.items ++ end_of_problem) }
+{
     page.extend_from_slice(b"</section>\n")
 }
 
@@ -140,34 +216,65 @@ fn push_begin(
     page: &mut Vec<u8>,
     number: u32,
     heading: &Heading<'_>,
-) -> Result<(), AllocError> {
+) -> Result<(), AllocError>
+    ensures { OnOk result (page.new.items ≡ page.old.items
+        ++ begin number (author_of heading.now) (values_of heading.now)) }
+{
+    push_number(alloc, page, number)?;
+    push_author(alloc, page, heading.author)?;
+    push_all(alloc, page, &["</h2>\n<p class=\"tags\">"])?;
+    push_source(alloc, page, &heading.source)?;
+    push_all(alloc, page, &["</p>\n"])?;
+    Ok(())
+}
+
+/// The number of a problem as a heading, up to its author.
+fn push_number(alloc: Global, page: &mut Vec<u8>, number: u32) -> Result<(), AllocError>
+    ensures { OnOk result (page.new.items ≡ page.old.items ++ numbered number) }
+{
     let mut digits = Buffer::new();
     let number = digits.format(number);
-    let start = [
+    let texts = [
         "<section class=\"problem\" id=\"p",
         number,
         "\">\n<h2>",
         number,
         ".",
-    ]
-    .concat(alloc)?;
-    page.extend_from_slice(start.as_str().as_bytes())?;
-    if let Some(author) = heading.author {
-        page.extend_from_slice(b" ")?;
-        push_bytes(alloc, page, author)?;
+    ];
+    push_all(alloc, page, &texts)?;
+    Ok(())
+}
+
+/// The author of a problem, if a tag names one.
+fn push_author(alloc: Global, page: &mut Vec<u8>, name: Option<&[u8]>) -> Result<(), AllocError>
+    ensures { OnOk result (page.new.items ≡ page.old.items ++ author (option_map (λ n. n.now) name.entry)) }
+{
+    if let Some(name) = name {
+        page.push(b' ')?;
+        push_bytes(alloc, page, name)?;
     }
-    page.extend_from_slice(b"</h2>\n<p class=\"tags\">")?;
-    let mut is_first = true;
-    'parts: for part in heading.source {
-        if let Some(text) = part {
-            if !is_first {
-                page.extend_from_slice(b", ")?;
-            }
-            push_bytes(alloc, page, text)?;
-            is_first = false;
-        }
+    Ok(())
+}
+
+/// Where and when a problem was published: the values that there are, with commas between them.
+fn push_source(
+    alloc: Global,
+    page: &mut Vec<u8>,
+    values: &[Option<&[u8]>],
+) -> Result<(), AllocError>
+    ensures { OnOk result (page.new.items ≡ page.old.items
+        ++ source (filter_map (option_map (λ v. v.now)) values.now)) }
+{
+    let mut mark = "";
+    'values: for value in values {
+        let Some(text) = value else {
+            continue;
+        };
+        page.extend_from_slice(mark.as_bytes())?;
+        push_bytes(alloc, page, text)?;
+        mark = ", ";
     }
-    page.extend_from_slice(b"</p>\n")
+    Ok(())
 }
 
 /// The texts of a solution: those that stand before its moves, and its movetext.
@@ -189,48 +296,114 @@ pub fn push_solution<B: Board>(
     task: &Task<'_, B>,
     solution: &Solution<'_>,
     is_apart: bool,
-) -> Result<(), AllocError> {
-    let mut digits = Buffer::new();
-    let number = digits.format(task.number);
-    let start = ["<div class=\"solution\" data-of=\"p", number, "\">\n"].concat(alloc)?;
-    page.extend_from_slice(start.as_str().as_bytes())?;
-    if is_apart {
-        let label = ["<h2>", number, ".</h2>\n"].concat(alloc)?;
-        page.extend_from_slice(label.as_str().as_bytes())?;
-    }
-    page.extend_from_slice(b"<p>")?;
-    push_text(page, solution.verdict.as_bytes())?;
-    page.extend_from_slice(b"</p>\n")?;
-    push_tries(alloc, page, look, solution.tries)?;
-    let label = look.language.phrase(Phrase::Solution);
-    let start = ["<p>", label, ": <span class=\"moves\">"].concat(alloc)?;
-    page.extend_from_slice(start.as_str().as_bytes())?;
-    let more = look.language.phrase(Phrase::More);
-    push_moves(alloc, page, task.position, solution.movetext, more)?;
-    page.extend_from_slice(b"</span></p>\n</div>\n")
+) -> Result<(), AllocError>
+    ensures { OnOk result ((text : List ℕ) × IsSolutionShown B.geometry look.now.language task.now.number
+        task.now.position.now is_apart solution.now.verdict.now (map string_bytes solution.now.tries.now)
+        solution.now.movetext.now text × (page.new.items ≡ page.old.items ++ text)) }
+{
+    push_solution_begin(alloc, page, task.number, is_apart)?;
+    push_verdict(alloc, page, solution.verdict)?;
+    push_tries(alloc, page, look.language, solution.tries)?;
+    push_moves_row(alloc, page, look.language, task.position, solution.movetext)?;
+    Ok(())
 }
 
-/// The row of the tries, if there are any. Each is an element, which stands in one line if there is room.
+/// The beginning of a solution, with the number of its problem if it stands apart.
+fn push_solution_begin(
+    alloc: Global,
+    page: &mut Vec<u8>,
+    number: u32,
+    is_apart: bool,
+) -> Result<(), AllocError>
+    ensures { OnOk result (page.new.items ≡ page.old.items ++ solution_begin number is_apart) }
+{
+    let mut digits = Buffer::new();
+    let number = digits.format(number);
+    push_all(
+        alloc,
+        page,
+        &["<div class=\"solution\" data-of=\"p", number, "\">\n"],
+    )?;
+    if is_apart {
+        push_all(alloc, page, &["<h2>", number, ".</h2>\n"])?;
+    }
+    Ok(())
+}
+
+/// A verdict.
+fn push_verdict(alloc: Global, page: &mut Vec<u8>, verdict: &str) -> Result<(), AllocError>
+    ensures { OnOk result (page.new.items ≡ page.old.items ++ verdict_row verdict.now) }
+{
+    push_all(alloc, page, &["<p>"])?;
+    push_text(page, verdict.as_bytes())?;
+    push_all(alloc, page, &["</p>\n"])?;
+    Ok(())
+}
+
+/// The row of the tries, if there are any.
 fn push_tries(
     alloc: Global,
     page: &mut Vec<u8>,
-    look: &Look<'_>,
+    language: Language,
     tries: &[String],
-) -> Result<(), AllocError> {
+) -> Result<(), AllocError>
+    ensures { OnOk result (page.new.items ≡ page.old.items ++ tries_row language (map string_bytes tries.now)) }
+{
     if tries.is_empty() {
         return Ok(());
     }
-    let start = ["<p>", look.language.phrase(Phrase::Tries), ":"].concat(alloc)?;
-    page.extend_from_slice(start.as_str().as_bytes())?;
-    let mut mark = " ";
+    push_all(alloc, page, &["<p>", language.phrase(Phrase::Tries), ": "])?;
+    push_try_texts(alloc, page, tries)?;
+    push_all(alloc, page, &["</p>\n"])?;
+    Ok(())
+}
+
+/// The tries with marks between them.
+fn push_try_texts(alloc: Global, page: &mut Vec<u8>, tries: &[String]) -> Result<(), AllocError>
+    ensures { OnOk result (page.new.items ≡ page.old.items
+        ++ join_by try_shown (codes "; ") (map string_bytes tries.now)) }
+{
+    let mut mark = "";
     'tries: for text in tries {
         page.extend_from_slice(mark.as_bytes())?;
-        page.extend_from_slice(b"<span class=\"try\">")?;
-        push_text(page, text.as_str().as_bytes())?;
-        page.extend_from_slice(b"</span>")?;
+        push_try(alloc, page, text.as_str())?;
         mark = "; ";
     }
-    page.extend_from_slice(b"</p>\n")
+    Ok(())
+}
+
+/// A try as an element, which stands in one line if there is room.
+fn push_try(alloc: Global, page: &mut Vec<u8>, text: &str) -> Result<(), AllocError>
+    ensures { OnOk result (page.new.items ≡ page.old.items ++ try_shown text.now) }
+{
+    push_all(alloc, page, &["<span class=\"try\">"])?;
+    push_text(page, text.as_bytes())?;
+    push_all(alloc, page, &["</span>"])?;
+    Ok(())
+}
+
+/// The row of the moves, and the end of a solution.
+fn push_moves_row<B: Board>(
+    alloc: Global,
+    page: &mut Vec<u8>,
+    language: Language,
+    position: &Position<B>,
+    movetext: &[u8],
+) -> Result<(), AllocError>
+    ensures { OnOk result ((shown : List ℕ) × IsMovetextShown B.geometry (phrase language Phrase.More) position.now
+        movetext.now shown × (page.new.items ≡ page.old.items ++ moves_row language shown)) }
+{
+    let label = language.phrase(Phrase::Solution);
+    push_all(alloc, page, &["<p>", label, ": <span class=\"moves\">"])?;
+    push_moves(
+        alloc,
+        page,
+        position,
+        movetext,
+        language.phrase(Phrase::More),
+    )?;
+    push_all(alloc, page, &["</span></p>\n</div>\n"])?;
+    Ok(())
 }
 
 /// Appends the heading of the solutions that stand at the end of a page.
@@ -239,20 +412,35 @@ pub fn push_solutions_heading(
     alloc: Global,
     page: &mut Vec<u8>,
     look: &Look<'_>,
-) -> Result<(), AllocError> {
-    let label = look.language.phrase(Phrase::Solutions);
-    let text = [
+) -> Result<(), AllocError>
+    ensures { OnOk result (page.new.items ≡ page.old.items ++ solutions_heading look.now.language) }
+{
+    let texts = [
         "</main>\n<section class=\"solutions\">\n<h1>",
-        label,
+        look.language.phrase(Phrase::Solutions),
         "</h1>\n",
-    ]
-    .concat(alloc)?;
-    page.extend_from_slice(text.as_str().as_bytes())
+    ];
+    push_all(alloc, page, &texts)?;
+    Ok(())
 }
 
 /// Appends the end of a page.
 /// Example: it has the script, and ends with `</html>`.
-pub fn push_end(alloc: Global, page: &mut Vec<u8>) -> Result<(), AllocError> {
-    let text = ["</main>\n<script>", SCRIPT, "</script>\n</body>\n</html>\n"].concat(alloc)?;
-    page.extend_from_slice(text.as_str().as_bytes())
+pub fn push_end(alloc: Global, page: &mut Vec<u8>) -> Result<(), AllocError>
+    ensures { OnOk result (page.new.items ≡ page.old.items ++ end) }
+{
+    let texts = [
+        "</main>\n<script>",
+        script(),
+        "</script>\n</body>\n</html>\n",
+    ];
+    push_all(alloc, page, &texts)?;
+    Ok(())
+}
+
+#[tactic(auto, unfolding(crate::specs::Pages::script))]
+fn script() -> &'static str
+    ensures { result.now ≡ of.script }
+{
+    SCRIPT
 }

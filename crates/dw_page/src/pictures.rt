@@ -1,6 +1,13 @@
 //! The pictures that drawings name, which stand once in a page: the empty board, the numbers of its squares, and the
 //! pieces.
-use crate::diagram::{place_of, square_count};
+ghost use Rattle.std.specs.Prelude.{◌≡◌, ◌++◌, OnOk, codes, decimal};
+ghost use Rattle.std.specs.List.{range_with_len, flat_map};
+ghost use Rattle.dw_board.specs.Geometry.{OnBoard, squares};
+ghost use Rattle.dw_page.specs.Pictures.{board, frame, label, label_at, numbers, outline, pictures};
+ghost use Rattle.dw_page.specs.Pictures as of;
+
+use crate::diagram::{place_of, rows_of, square_count};
+use crate::escape::push_all;
 use dw_board::{Board, Square};
 use itoa::Buffer;
 use std::alloc::{AllocError, Global};
@@ -19,86 +26,162 @@ const PIECES: &str = "\
 
 /// Appends the pictures, out of sight.
 /// Example: on the board of ten rows that of the board has 50 dark squares.
-pub(crate) fn push_pictures<B: Board>(alloc: Global, page: &mut Vec<u8>) -> Result<(), AllocError> {
-    page.extend_from_slice(b"<svg class=\"pictures\" aria-hidden=\"true\"><defs>\n")?;
+#[tactic(auto, unfolding(crate::specs::Pictures::pictures))]
+pub(crate) fn push_pictures<B: Board>(alloc: Global, page: &mut Vec<u8>) -> Result<(), AllocError>
+    ensures { OnOk result (page.new.items ≡ page.old.items ++ pictures B.geometry) }
+{
+    push_all(
+        alloc,
+        page,
+        &["<svg class=\"pictures\" aria-hidden=\"true\"><defs>\n"],
+    )?;
     push_board::<B>(alloc, page)?;
     push_numbers::<B>(alloc, page)?;
-    page.extend_from_slice(PIECES.as_bytes())?;
-    page.extend_from_slice(b"</defs></svg>\n")?;
+    push_all(alloc, page, &[pieces(), "</defs></svg>\n"])?;
     Ok(())
 }
 
+#[tactic(auto, unfolding(crate::specs::Pictures::pieces))]
+fn pieces() -> &'static str
+    ensures { result.now ≡ of.pieces }
+{
+    PIECES
+}
+
 /// The empty board: the dark squares, and a frame around them.
-fn push_board<B: Board>(alloc: Global, page: &mut Vec<u8>) -> Result<(), AllocError> {
-    page.extend_from_slice(b"<g id=\"board\"><path class=\"dark\" d=\"")?;
-    'squares: for number in 0..square_count::<B>() {
-        if let Some(square) = Square::<B>::new(number + 1) {
-            let (column, row) = place_of(square);
-            push_pair(alloc, page, "M", column, row, "h1v1h-1z")?;
-        }
-    }
+#[tactic(auto, unfolding(crate::specs::Pictures::board))]
+fn push_board<B: Board>(alloc: Global, page: &mut Vec<u8>) -> Result<(), AllocError>
+    ensures { OnOk result (page.new.items ≡ page.old.items ++ board B.geometry) }
+{
+    push_all(alloc, page, &["<g id=\"board\"><path class=\"dark\" d=\""])?;
+    push_outlines::<B>(alloc, page)?;
+    push_frame(alloc, page, rows_of::<B>())?;
+    Ok(())
+}
+
+/// The frame of a board, and the end of its picture.
+#[tactic(auto, unfolding(crate::specs::Pictures::frame))]
+fn push_frame(alloc: Global, page: &mut Vec<u8>, rows: u8) -> Result<(), AllocError>
+    ensures { OnOk result (page.new.items ≡ page.old.items ++ frame rows) }
+{
     let mut digits = Buffer::new();
-    let rows = digits.format(B::ROWS);
-    let frame = [
+    let rows = digits.format(rows);
+    let texts = [
         "\"/><rect class=\"frame\" width=\"",
         rows,
         "\" height=\"",
         rows,
         "\"/></g>\n",
-    ]
-    .concat(alloc)?;
-    page.extend_from_slice(frame.as_str().as_bytes())?;
-    Ok(())
+    ];
+    push_all(alloc, page, &texts)
 }
 
-/// The numbers of the squares, each in the upper left corner of its own.
-fn push_numbers<B: Board>(alloc: Global, page: &mut Vec<u8>) -> Result<(), AllocError> {
-    page.extend_from_slice(b"<g id=\"numbers\" class=\"numbers\">\n")?;
+/// The outlines of all dark squares.
+fn push_outlines<B: Board>(alloc: Global, page: &mut Vec<u8>) -> Result<(), AllocError>
+    ensures { OnOk result (page.new.items ≡ page.old.items
+        ++ flat_map (outline B.geometry) (range_with_len 1 (squares B.geometry))) }
+{
     'squares: for number in 0..square_count::<B>() {
-        if let Some(square) = Square::<B>::new(number + 1) {
-            let (column, row) = place_of(square);
-            push_pair(
-                alloc,
-                page,
-                "<text transform=\"translate(",
-                column,
-                row,
-                ")\"",
-            )?;
-            push_label(alloc, page, number + 1)?;
-        }
+        push_outline::<B>(alloc, page, number + 1)?;
     }
-    page.extend_from_slice(b"</g>\n")?;
     Ok(())
 }
 
-/// The number of a square, behind the place of its corner.
-fn push_label(alloc: Global, page: &mut Vec<u8>, number: u8) -> Result<(), AllocError> {
-    let mut digits = Buffer::new();
-    let label = [" x=\".03\" y=\".19\">", digits.format(number), "</text>\n"].concat(alloc)?;
-    page.extend_from_slice(label.as_str().as_bytes())?;
-    Ok(())
+/// The outline of the square of a number.
+fn push_outline<B: Board>(alloc: Global, page: &mut Vec<u8>, number: u8) -> Result<(), AllocError>
+    requires { OnBoard B.geometry number }
+    ensures { OnOk result (page.new.items ≡ page.old.items ++ outline B.geometry number) }
+{
+    match Square::<B>::new(number) {
+        Some(square) => {
+            let (column, row) = place_of(square);
+            push_at(alloc, page, "M", column, row, "h1v1h-1z")
+        }
+        None => Ok(()),
+    }
 }
 
 /// A column and a row, between two texts.
-fn push_pair(
+fn push_at(
     alloc: Global,
     page: &mut Vec<u8>,
-    before: &'static str,
+    before: &str,
     column: u8,
     row: u8,
-    behind: &'static str,
-) -> Result<(), AllocError> {
+    behind: &str,
+) -> Result<(), AllocError>
+    ensures { OnOk result (page.new.items ≡ page.old.items
+        ++ (before.now ++ (decimal column ++ (codes " " ++ (decimal row ++ behind.now))))) }
+{
     let mut columns = Buffer::new();
     let mut rows = Buffer::new();
-    let pair = [
+    let texts = [
         before,
         columns.format(column),
         " ",
         rows.format(row),
         behind,
-    ]
-    .concat(alloc)?;
-    page.extend_from_slice(pair.as_str().as_bytes())?;
+    ];
+    push_all(alloc, page, &texts)
+}
+
+/// The numbers of the squares, each in the upper left corner of its own.
+#[tactic(auto, unfolding(crate::specs::Pictures::numbers))]
+fn push_numbers<B: Board>(alloc: Global, page: &mut Vec<u8>) -> Result<(), AllocError>
+    ensures { OnOk result (page.new.items ≡ page.old.items ++ numbers B.geometry) }
+{
+    push_all(alloc, page, &["<g id=\"numbers\" class=\"numbers\">\n"])?;
+    push_labels::<B>(alloc, page)?;
+    push_all(alloc, page, &["</g>\n"])?;
     Ok(())
+}
+
+/// The labels of all squares.
+fn push_labels<B: Board>(alloc: Global, page: &mut Vec<u8>) -> Result<(), AllocError>
+    ensures { OnOk result (page.new.items ≡ page.old.items
+        ++ flat_map (label B.geometry) (range_with_len 1 (squares B.geometry))) }
+{
+    'squares: for number in 0..square_count::<B>() {
+        push_label::<B>(alloc, page, number + 1)?;
+    }
+    Ok(())
+}
+
+/// The label of the square of a number.
+fn push_label<B: Board>(alloc: Global, page: &mut Vec<u8>, number: u8) -> Result<(), AllocError>
+    requires { OnBoard B.geometry number }
+    ensures { OnOk result (page.new.items ≡ page.old.items ++ label B.geometry number) }
+{
+    match Square::<B>::new(number) {
+        Some(square) => {
+            let (column, row) = place_of(square);
+            push_label_at(alloc, page, column, row, number)
+        }
+        None => Ok(()),
+    }
+}
+
+/// The label with a number in the corner at a column and a row.
+fn push_label_at(
+    alloc: Global,
+    page: &mut Vec<u8>,
+    column: u8,
+    row: u8,
+    number: u8,
+) -> Result<(), AllocError>
+    ensures { OnOk result (page.new.items ≡ page.old.items ++ label_at column row number) }
+{
+    let mut columns = Buffer::new();
+    let mut rows = Buffer::new();
+    let mut digits = Buffer::new();
+    let texts = [
+        "<text transform=\"translate(",
+        columns.format(column),
+        " ",
+        rows.format(row),
+        ")\" x=\".03\" y=\".19\">",
+        digits.format(number),
+        "</text>\n",
+    ];
+    push_all(alloc, page, &texts)
 }

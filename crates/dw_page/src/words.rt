@@ -1,4 +1,7 @@
 //! The words of a page, in four languages.
+ghost use Rattle.std.specs.Prelude.{◌≡◌, option_map};
+ghost use Rattle.dw_page.specs.Words as of;
+
 use dw_board::Side;
 
 /// The language of a page.
@@ -40,7 +43,9 @@ pub enum Phrase {
 impl Language {
     /// The language of a name, English if it is none of `nl`, `fr` and `ru`.
     /// Example: that of `fr` is `Language::French`.
-    pub fn named(name: Option<&str>) -> Language {
+    pub fn named(name: Option<&str>) -> Language
+        ensures { result ≡ of.language_asked (option_map (λ n. n.now) name.entry) }
+    {
         match name {
             Some("nl") => Language::Dutch,
             Some("fr") => Language::French,
@@ -51,7 +56,9 @@ impl Language {
 
     /// Its name in a page.
     /// Example: that of `Language::Dutch` is `nl`.
-    pub fn tag(self) -> &'static str {
+    pub fn tag(self) -> &'static str
+        ensures { result.now ≡ of.tag self }
+    {
         match self {
             Language::English => "en",
             Language::Dutch => "nl",
@@ -62,7 +69,10 @@ impl Language {
 
     /// What is asked, up to the number of moves.
     /// Example: in English, for White, it is `White to play and win in `.
-    pub fn task(self, side: Side) -> &'static str {
+    #[tactic(auto, unfolding(crate::specs::Words::asked))]
+    pub fn task(self, side: Side) -> &'static str
+        ensures { result.now ≡ of.asked self side }
+    {
         match (self, side) {
             (Language::English, Side::White) => "White to play and win in ",
             (Language::English, Side::Black) => "Black to play and win in ",
@@ -77,7 +87,10 @@ impl Language {
 
     /// What stands behind a number of moves, 1 to 20: in Russian the word for moves, in the form that it asks for.
     /// Example: in Russian it is ` хода` behind 3, and ` ходов` behind 11.
-    pub fn moves(self, count: u8) -> &'static str {
+    #[tactic(auto, unfolding(crate::specs::Words::russian_moves))]
+    pub fn moves(self, count: u8) -> &'static str
+        ensures { result.now ≡ of.moves self count }
+    {
         match (self, count) {
             (Language::Russian, 1) => " ход",
             (Language::Russian, 2..=4) => " хода",
@@ -88,7 +101,10 @@ impl Language {
 
     /// A phrase, as it stands in front of what it speaks of.
     /// Example: in French `Phrase::Tries` is `Essais`.
-    pub fn phrase(self, phrase: Phrase) -> &'static str {
+    #[tactic(auto, unfolding(crate::specs::Words::phrase))]
+    pub fn phrase(self, phrase: Phrase) -> &'static str
+        ensures { result.now ≡ of.phrase self phrase }
+    {
         match self {
             Language::English => english(phrase),
             Language::Dutch => dutch(phrase),
@@ -98,7 +114,10 @@ impl Language {
     }
 }
 
-fn english(phrase: Phrase) -> &'static str {
+#[tactic(auto, unfolding(crate::specs::Words::english))]
+fn english(phrase: Phrase) -> &'static str
+    ensures { result.now ≡ of.english phrase }
+{
     match phrase {
         Phrase::Sound => "Sound",
         Phrase::Dual => "Dual",
@@ -113,7 +132,10 @@ fn english(phrase: Phrase) -> &'static str {
     }
 }
 
-fn dutch(phrase: Phrase) -> &'static str {
+#[tactic(auto, unfolding(crate::specs::Words::dutch))]
+fn dutch(phrase: Phrase) -> &'static str
+    ensures { result.now ≡ of.dutch phrase }
+{
     match phrase {
         Phrase::Sound => "Correct",
         Phrase::Dual => "Dual",
@@ -128,7 +150,10 @@ fn dutch(phrase: Phrase) -> &'static str {
     }
 }
 
-fn french(phrase: Phrase) -> &'static str {
+#[tactic(auto, unfolding(crate::specs::Words::french))]
+fn french(phrase: Phrase) -> &'static str
+    ensures { result.now ≡ of.french phrase }
+{
     match phrase {
         Phrase::Sound => "Correct",
         Phrase::Dual => "Dual",
@@ -143,7 +168,10 @@ fn french(phrase: Phrase) -> &'static str {
     }
 }
 
-fn russian(phrase: Phrase) -> &'static str {
+#[tactic(auto, unfolding(crate::specs::Words::russian))]
+fn russian(phrase: Phrase) -> &'static str
+    ensures { result.now ≡ of.russian phrase }
+{
     match phrase {
         Phrase::Sound => "Корректно",
         Phrase::Dual => "Дуаль",

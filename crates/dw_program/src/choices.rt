@@ -1,5 +1,6 @@
 //! The boards and the memos that a user names.
 ghost use Rattle.std.specs.Prelude.{◌≡◌, ◌≤◌, [], IfOk};
+ghost use Rattle.std.specs.Option.{option_copied};
 ghost use Rattle.dw_memo.specs.Choice.{content_of};
 
 use crate::lasting::Lasting;
@@ -18,9 +19,13 @@ pub enum BoardSize {
 }
 
 impl BoardSize {
+    ghost use Rattle.dw_program.specs.Choices.{board_named};
+
     /// The board of so many rows: the one of eight if they are named, or else the one of ten.
     /// Example: of `Some("8")` it is `BoardSize::Eight`, and of `None` it is `BoardSize::Ten`.
-    pub fn named(rows: Option<&str>) -> BoardSize {
+    pub fn named(rows: Option<&str>) -> BoardSize
+        ensures { result ≡ board_named (option_copied rows.entry) }
+    {
         match rows {
             Some("8") => BoardSize::Eight,
             _ => BoardSize::Ten,
@@ -43,9 +48,13 @@ pub enum MemoKind {
 }
 
 impl MemoKind {
+    ghost use Rattle.dw_program.specs.Choices.{memo_named};
+
     /// The memo of this name: `none`, `slots` or `deep`, or else `lru`.
     /// Example: of `Some("deep")` it is `MemoKind::Deep`.
-    pub fn named(kind: Option<&str>) -> MemoKind {
+    pub fn named(kind: Option<&str>) -> MemoKind
+        ensures { result ≡ memo_named (option_copied kind.entry) }
+    {
         match kind {
             Some("none") => MemoKind::None,
             Some("slots") => MemoKind::Slots,

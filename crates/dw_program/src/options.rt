@@ -1,8 +1,9 @@
 //! Options of the command line that several programs have, and what is read of them.
 //!
-//! Each number is within its range already, since others are no command; but clap does not say so to the prover. So
-//! what reads a number clamps it to the range that its option has.
-ghost use Rattle.std.specs.Prelude.{◌≤◌, IfSome};
+//! A number that is read is the one that was written, and within the range of its option: others are no command.
+ghost use Rattle.std.specs.Prelude.{◌≡◌, ◌≤◌, IfSome, codes, option_map};
+ghost use Rattle.dw_program.specs.Options.{flag_given, form_given, number_given, number_within};
+ghost use Rattle.dw_program.specs.Options.{options_of, text_given};
 
 use clap::builder::ValueParser;
 use clap::{Arg, ArgAction, ArgMatches, value_parser};
@@ -68,8 +69,10 @@ pub fn pdn<'a>(alloc: Global) -> Arg<'a> {
 
 /// How the problems stand in the file: as `--pdn` says.
 /// Example: without `--pdn` it is `Form::Fens`.
-pub fn form_given(words: &ArgMatches<'_>) -> Form {
-    if words.get_flag("pdn") {
+pub fn form_given(words: &ArgMatches<'_>) -> Form
+    ensures { result ≡ form_given (options_of words.now) }
+{
+    if flag_given(words, "pdn") {
         Form::Pdn
     } else {
         Form::Fens
@@ -81,6 +84,19 @@ pub fn form_given(words: &ArgMatches<'_>) -> Form {
 pub fn one_problem<'a>(alloc: Global, help: &'a str) -> Arg<'a> {
     let numbers = value_parser!(u32).range(i64::from(FIRST_PROBLEM)..=i64::from(MAX_PROBLEMS));
     option(alloc, "problem", "I", numbers, help)
+}
+
+/// The number of the problem that `--problem` names, `FIRST_PROBLEM` to `MAX_PROBLEMS`, if it is given.
+/// Example: of `--problem 3` it is `Some(3)`.
+pub fn problem_given(words: &ArgMatches<'_>) -> Option<u32>
+    ensures value { result ≡ number_given 1 1_000_000 (options_of words.now) (codes "problem") }
+    ensures some { IfSome result (λ number. 1 ≤ number) }
+    ensures few { IfSome result (λ number. number ≤ 1_000_000) }
+{
+    let number = words.get_one::<u32>("problem")?;
+    (FIRST_PROBLEM..=MAX_PROBLEMS)
+        .contains(&number)
+        .then_some(number)
 }
 
 /// `FILE`, the only argument without a name.
@@ -103,14 +119,15 @@ pub fn cache<'a>(alloc: Global, help: &'a str) -> Arg<'a> {
     option(alloc, "cache", "C", numbers, help)
 }
 
-/// How many positions the memo keeps: as `--cache` says, or else `usual`, `FEWEST_KEPT` to `MOST_KEPT`.
-/// Example: without `--cache`, and with `usual` 100,000, it is 100,000.
-pub fn kept_given(words: &ArgMatches<'_>, usual: usize) -> usize
-    ensures some { 1 ≤ result }
-    ensures few { result ≤ 4_000_000 }
+/// How many positions the memo keeps at most, `FEWEST_KEPT` to `MOST_KEPT`: as `--cache` says, if it is given.
+/// Example: of `--cache 1000` it is `Some(1000)`.
+pub fn kept_given(words: &ArgMatches<'_>) -> Option<usize>
+    ensures value { result ≡ number_given 1 4_000_000 (options_of words.now) (codes "cache") }
+    ensures some { IfSome result (λ kept. 1 ≤ kept) }
+    ensures few { IfSome result (λ kept. kept ≤ 4_000_000) }
 {
-    let kept = words.get_one::<usize>("cache").unwrap_or(usual);
-    kept.clamp(FEWEST_KEPT, MOST_KEPT)
+    let kept = words.get_one::<u32>("cache")? as usize;
+    (FEWEST_KEPT..=MOST_KEPT).contains(&kept).then_some(kept)
 }
 
 /// `-n`, `FEWEST_MOVES` to `MOST_MOVES`, with its help.
@@ -133,14 +150,17 @@ fn moves<'a>() -> ValueParser<'a> {
     value_parser!(u8).range(i64::from(FEWEST_MOVES)..=i64::from(MOST_MOVES))
 }
 
-/// The number of moves that the option of this name says, if it is given.
+/// The number of moves that the option of this name says, `FEWEST_MOVES` to `MOST_MOVES`, if it is given.
 /// Example: of `-n 3` it is `Some(3)`, by the name `n`.
 pub fn moves_given(words: &ArgMatches<'_>, name: &str) -> Option<u8>
+    ensures value { result ≡ number_given 1 20 (options_of words.now) name.now }
     ensures some { IfSome result (λ moves. 1 ≤ moves) }
     ensures few { IfSome result (λ moves. moves ≤ 20) }
 {
     let moves = words.get_one::<u8>(name)?;
-    Some(moves.clamp(FEWEST_MOVES, MOST_MOVES))
+    (FEWEST_MOVES..=MOST_MOVES)
+        .contains(&moves)
+        .then_some(moves)
 }
 
 /// An option with a number of positions, `FEWEST_POSITIONS` to `MOST_POSITIONS`.
@@ -150,13 +170,52 @@ pub fn positions<'a>(alloc: Global, name: &'a str, help: &'a str) -> Arg<'a> {
     option(alloc, name, "L", numbers, help)
 }
 
-/// The number of positions that the option of this name says, if it is given.
+/// The number of positions that the option of this name says, `FEWEST_POSITIONS` to `MOST_POSITIONS`, if it is given.
 /// Example: of `--each 1000` it is `Some(1000)`, by the name `each`.
 pub fn positions_given(words: &ArgMatches<'_>, name: &str) -> Option<u64>
-    ensures { IfSome result (λ positions. 1 ≤ positions) }
+    ensures value { result ≡ number_given 1 1_000_000_000_000 (options_of words.now) name.now }
+    ensures some { IfSome result (λ positions. 1 ≤ positions) }
+    ensures few { IfSome result (λ positions. positions ≤ 1_000_000_000_000) }
 {
-    let positions = words.get_one::<u64>(name)?;
-    Some(positions.max(FEWEST_POSITIONS))
+    count_given(words, name, FEWEST_POSITIONS, MOST_POSITIONS)
+}
+
+/// The number that the option of this name says, if it is given and within these bounds.
+/// Example: of `--lines 5` it is `Some(5)`, by the name `lines` and within 1 and 10.
+pub fn count_given(words: &ArgMatches<'_>, name: &str, least: u64, most: u64) -> Option<u64>
+    ensures value { result ≡ number_given least most (options_of words.now) name.now }
+    ensures some { IfSome result (λ count. least ≤ count) }
+    ensures few { IfSome result (λ count. count ≤ most) }
+{
+    let count = words.get_one::<u64>(name)?;
+    (least..=most).contains(&count).then_some(count)
+}
+
+/// The number that a text writes, if it writes one and that is within these bounds.
+/// Example: of `17` it is `Some(17)` within 1 and 20, and `None` within 1 and 16.
+pub fn number_within(text: &str, least: u32, most: u32) -> Option<u32>
+    ensures value { result ≡ number_within least most text.now }
+    ensures some { IfSome result (λ number. least ≤ number) }
+    ensures few { IfSome result (λ number. number ≤ most) }
+{
+    let number = text.parse::<u32>().ok()?;
+    (least..=most).contains(&number).then_some(number)
+}
+
+/// The text that the option of this name says, if it is given.
+/// Example: of `--board 8` it is `Some("8")`, by the name `board`.
+pub fn text_given<'a>(words: &ArgMatches<'a>, name: &str) -> Option<&'a str>
+    ensures { option_map (λ text. text.now) result ≡ text_given (options_of words.now) name.now }
+{
+    words.get_str(name)
+}
+
+/// Whether the flag of this name is given.
+/// Example: of `--json` it is `true`, by the name `json`.
+pub fn flag_given(words: &ArgMatches<'_>, name: &str) -> bool
+    ensures { result ≡ flag_given (options_of words.now) name.now }
+{
+    words.get_one::<bool>(name).unwrap_or(false)
 }
 
 /// An argument that is named `--name` and has a value.

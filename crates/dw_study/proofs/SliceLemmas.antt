@@ -1,8 +1,8 @@
 -- Slices of a search, one after another.
 use Rattle.std.proofs.Common.{◌≡◌, ℕ, ◌+◌, ◌-◌, ◌*◌, ◌^◌, ◌<◌, ◌≤◌, refl, sym, subst, ap, ◌∙◌, arith}
-use Rattle.std.proofs.Common.{Result, Ok, Err, OnOk, ◌⊎◌, inl, inr}
+use Rattle.std.proofs.Common.{Bool, Result, Ok, Err, OnOk, ◌⊎◌, inl, inr, min}
 use Rattle.std.specs.Result.{IsErrAnd}
-use Rattle.std.proofs.lemmas.Bool.{cases_lt}
+use Rattle.std.proofs.lemmas.Bool.{cases_Bool, cases_lt}
 use Rattle.std.proofs.lemmas.Nat.{pow_pos}
 use Rattle.std.proofs.lemmas.Grind.{pow_more}
 use Rattle.std.proofs.Math.Nat.{mul-le-mul_left}
@@ -13,13 +13,14 @@ use Rattle.dw_solve.specs.Facts.{IsDecided}
 use Rattle.dw_solve.specs.declared.stop.Stop.{Stop}
 use Rattle.dw_solve.specs.Laws.{SearchesAddUp}
 use Rattle.dw_solve.specs.Questions.{moment_of, Idle, LostNothing}
-use Rattle.dw_solve.specs.Certificates.{SaysLeast}
+use Rattle.dw_solve.specs.Certificates.{SaysLeast, SaysWin}
 use Rattle.dw_solve.specs.Searching.{IsCounted}
 use Rattle.dw_solve.specs.Solving.{Solving}
-use Rattle.dw_solve.specs.Work.{Moment, Searched, LossIsCounted, cut_off}
+use Rattle.dw_solve.specs.Work.{Moment, Searched, Stronger, LossIsCounted, cut_off}
 use Rattle.dw_study.specs.declared.finding.Finding as findings
 use Rattle.dw_study.specs.Telling.{cut_short}
-use Rattle.dw_study.specs.Slices.{SearchedInSlices, GoesOn}
+use Rattle.dw_study.specs.Slices.{SearchedInSlices, SearchedSome, GoesOn, Watches, IsWatched, of_none, of_one_more}
+use Rattle.dw_study.specs.Slices.{next_end}
 
 pub searched_looser : (g : Geometry) (n cut more : ℕ) (a c : Moment) → cut ≤ more → Searched g n cut a c
     → Searched g n more a c
@@ -136,6 +137,47 @@ module _ {M : Type 0} (g : Geometry) (content : M → Content) (lost : M → ℕ
             (law.none g n (moment_of content lost a));
       }
 
+module _ {M : Type 0} (g : Geometry) (content : M → Content) (lost : M → ℕ) where
+  pub searched_none : SearchesAddUp → (n : ℕ) (s : Solving M) → SearchedSome g content lost n s s
+  searched_none law n s = (0, law.none g n (moment_of content lost s))
+
+  pub searched_more : SearchesAddUp → (n cut : ℕ) (a b c : Solving M) → SearchedSome g content lost n a b
+      → Searched g n cut (moment_of content lost b) (moment_of content lost c) → SearchedSome g content lost n a c
+  searched_more law n cut a b c s t = (
+    s.0 + cut,
+    law.next g n s.0 cut (moment_of content lost a) (moment_of content lost b) (moment_of content lost c)
+        s.1 t,
+  )
+
+decided_stronger : (old new : Content) (p : Placement) (k : ℕ) → Stronger old new → IsDecided old p k
+    → IsDecided new p k
+decided_stronger old new p k s (inl w) = inl (s.wins p k w)
+decided_stronger old new p k s (inr f) = inr (s.fails p k f)
+
+says_decided : (c : Content) (p : Placement) (n : ℕ) (answer : Bool) → 1 ≤ n → SaysWin c p n answer
+    → IsDecided c p n
+says_decided c p n answer some s = elim (cases_Bool answer) [
+  | inl e ↦ inl (s.when e)
+  | inr e ↦ elim (s.unless (λ t. cc)) [ inl none ↦ absurd (omega (arith, none, some)) | inr f ↦ inr f ]
+]
+
+-- the memo says each number below, and then this one too
+pub says_more : {M : Type 0} (g : Geometry) (content : M → Content) (lost : M → ℕ) → SearchesAddUp → (p : Placement)
+    (n : ℕ) (a b c : Solving M) (answer : Bool) → 1 ≤ n → LossIsCounted (lost a.memo) (lost b.memo)
+    → SearchedSome g content lost n b c → (LostNothing content lost a b → SaysLeast (content b.memo) p (n - 1))
+    → (LostNothing content lost b c → SaysWin (content c.memo) p n answer) → LostNothing content lost a c
+    → SaysLeast (content c.memo) p n
+says_more g content lost law p n a b c answer some counted here before last kept = λ k low high.
+    let parts = law.parts (moment_of content lost a) (moment_of content lost b) (moment_of content lost c) counted
+    here.1.counted kept in
+    elim (cases_lt k n) [
+      | inl less ↦ decided_stronger (content b.memo) (content c.memo) p k (here.1.worked parts.1).stronger
+          (before parts.0 k low (omega (arith, less)))
+      | inr more ↦ let same : n ≡ k = omega (arith, more, high) in
+          subst (λ z. IsDecided (content c.memo) p z) same
+          (says_decided (content c.memo) p n answer some (last parts.1))
+    ]
+
 -- after a stop as much is cut off as a stop cuts off
 pub stop_cuts : {B : Type 0} (r : Result (findings.Finding B) Stop) (e : Stop) (n : ℕ) → IsErrAnd r (λ d. d ≡ e)
     → cut_off r n ≡ cut_short r n
@@ -250,3 +292,22 @@ lost_nothing_later content lost law a b c h k kept = (law.parts (moment_of conte
 -- the memo says nothing of the number at which a search was stopped, and so of no higher one
 pub known_below : (m j : ℕ) → 1 ≤ m → (m ≤ j → ⊥) → j ≤ m - 1
 known_below m j some not = elim (cases_lt j m) [ inl below ↦ omega (arith, below) | inr above ↦ absurd (not above) ]
+
+-- one slice more has ended, of which the watcher is told
+pub watched_more : {W : Type 0} (told : W → ℕ → ℕ → W → Type 0) (n first start first' start' e f until after limit : ℕ)
+    (w v u : W) → Watches told n first start e w f v → first' ≡ first → start' ≡ start
+    → until ≡ min (f + (f - start') + first') limit → until < limit → after ≡ until
+    → told v n (after - start') u → Watches told n first start e w after u
+watched_more told n first start first' start' e f until after limit w v u before same_first same_start cut low at now =
+    let end : next_end first start f ≡ after = omega (arith, same_first, same_start, cut, low, at) in
+    subst (λ z. Watches told n first start e w z u) end
+    (of_one_more before (subst (λ z. told v n z u) (omega (arith, end, same_start)) now))
+
+pub watched_none : {W : Type 0} (told : W → ℕ → ℕ → W → Type 0) (n first start e : ℕ) (w : W)
+    → Watches told n first start e w e w
+watched_none told n first start e w = of_none
+
+-- the last slice is told to nobody
+pub watched_last : {W : Type 0} (told : W → ℕ → ℕ → W → Type 0) (n first start e f after : ℕ) (w v : W)
+    → Watches told n first start e w f v → f ≤ after → IsWatched told n first start e after w v
+watched_last told n first start e f after w v before within = record { last = f; watches = before; within = within }

@@ -1,5 +1,5 @@
 -- Searches in slices, one after another.
-use Rattle.std.proofs.Common.{◌≡◌, ℕ, ◌≤◌, refl, sym, subst, ap, ◌∙◌, arith, Result, Ok, Err, IsErrOf}
+use Rattle.std.proofs.Common.{◌≡◌, ℕ, ◌-◌, ◌^◌, ◌<◌, ◌≤◌, refl, sym, subst, ap, ◌∙◌, arith, Result, Ok, Err, IsErrOf}
 use Rattle.std.specs.Result.{IsErrAnd}
 use Rattle.dw_board.specs.Geometry.{Geometry}
 use Rattle.dw_memo.specs.Content.{Content}
@@ -8,7 +8,10 @@ use Rattle.dw_solve.specs.declared.stop.Stop.TheVariants.{Limit, Memory}
 use Rattle.dw_solve.specs.Solving.{Solving}
 use Rattle.dw_study.specs.declared.slices.Slices.{Slices}
 use Rattle.dw_solve.specs.Laws.{SearchesAddUp}
-use Rattle.dw_solve.specs.Questions.{moment_of}
+use Rattle.dw_board.specs.Placement.{Placement}
+use Rattle.dw_solve.specs.Certificates.{SaysLeast}
+use Rattle.dw_solve.specs.Questions.{moment_of, LostNothing}
+use Rattle.std.specs.Prelude.{IfOk}
 use Rattle.dw_solve.specs.Searching.{IsCounted}
 use Rattle.dw_solve.specs.Work.{Searched, cut_off}
 use Rattle.dw_study.specs.Slices.{Went, Began, GoesOn}
@@ -25,6 +28,16 @@ err_is d same = cc
 
 memory_apart : Memory ≡ Limit → ⊥
 memory_apart e = cc
+
+-- what the memo says does not depend on the limit
+pub says_between : {M : Type 0} (content : M → Content) (lost : M → ℕ) (p : Placement) (a b c d : Solving M)
+    (r : Result ℕ Cut) → b.memo ≡ a.memo → d.memo ≡ c.memo
+    → IfOk r (λ m. LostNothing content lost b c → SaysLeast (content c.memo) p m)
+    → IfOk r (λ m. LostNothing content lost a d → SaysLeast (content d.memo) p m)
+says_between content lost p a b c d (Err e) down up says = tt
+says_between content lost p a b c d (Ok m) down up says = λ kept.
+    subst (λ z. SaysLeast (content z) p m) (sym up)
+    (says (ap lost down ∙ (kept.0 ∙ ap lost up), subst (λ z. lost z < 2 ^ 64 - 1) up kept.1))
 
 module _ {M W : Type 0} (g : Geometry) (content : M → Content) (lost : M → ℕ) where
   -- no search
@@ -131,6 +144,7 @@ module _ {M W : Type 0} (g : Geometry) (content : M → Content) (lost : M → �
           within = let w = lower.count.within in omega (arith, w, less);
           same = refl;
         };
+        few = lower.few;
         stop = lower.stop;
         on = lower.on;
         first = lower.first;

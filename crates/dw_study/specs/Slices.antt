@@ -1,5 +1,5 @@
 -- Searches in slices.
-use Rattle.std.specs.Prelude.{◌≡◌, ℕ, ◌+◌, ◌*◌, ◌^◌, ◌≤◌, Result, IsErrOf}
+use Rattle.std.specs.Prelude.{◌≡◌, ℕ, ◌+◌, ◌-◌, ◌*◌, ◌^◌, ◌≤◌, Result, IsErrOf}
 use Rattle.dw_board.specs.Geometry.{Geometry}
 use Rattle.dw_memo.specs.Content.{Content}
 use Rattle.dw_solve.specs.Questions.{moment_of}
@@ -9,6 +9,29 @@ use Rattle.dw_solve.specs.Searching.{IsCounted}
 use Rattle.dw_solve.specs.Solving.{Solving}
 use Rattle.dw_solve.specs.Work.{Moment, Searched, cut_off}
 use Rattle.dw_study.specs.declared.slices.Slices.{Slices}
+
+-- searches for wins within n moves, of which a stop may have cut some off
+abbrev pub SearchedSome : {M : Type 0} → Geometry → (M → Content) → (M → ℕ) → (n : ℕ) → Solving M → Solving M → Type 0
+SearchedSome g content lost n old new =
+    (cut : ℕ) × Searched g n cut (moment_of content lost old) (moment_of content lost new)
+
+-- the count at which the next slice ends: the slice is as large as all before it and the first one together
+abbrev pub next_end : (first start expanded : ℕ) → ℕ
+next_end first start expanded = expanded + (expanded - start) + first
+
+-- A watcher is told as each slice ends of the number of moves, and of the positions expanded since the slices began.
+pub data Watches {W : Type 0} (told : W → ℕ → ℕ → W → Type 0) (n first start : ℕ) : (expanded : ℕ) → W
+    → (expanded : ℕ) → W → Type 0 where
+  of_none : {e : ℕ} {w : W} → Watches told n first start e w e w
+  of_one_more : {e f : ℕ} {w v u : W} → Watches told n first start e w f v
+      → told v n (next_end first start f - start) u → Watches told n first start e w (next_end first start f) u
+
+-- So it is while a search goes on; what the last slice expanded is told to nobody.
+pub record IsWatched {W : Type 0} (told : W → ℕ → ℕ → W → Type 0) (n first start before after : ℕ) (old new : W)
+    : Type 0 where
+  pub last : ℕ
+  pub watches : Watches told n first start before old last new
+  pub within : last ≤ after
 
 -- What searches for wins within n moves do that are cut into slices, the first of so many positions and each larger
 -- than all before it together: each slice that ended has doubled what was expanded, and cut off as much as a stop does.

@@ -1,14 +1,18 @@
 -- How findings and remarks are told.
-use Rattle.std.specs.Prelude.{◌≡◌, ℕ, ◌+◌, ◌≤◌, Result, Ok, Err, Option, Some, option_map, List, map}
+use Rattle.std.specs.Prelude.{◌≡◌, ℕ, ◌+◌, ◌≤◌, Result, Ok, Err, Option, Some, IfSome, option_map, List, map}
+use Rattle.dw_board.specs.Geometry.{Geometry}
 use Rattle.dw_board.specs.Placement.{Placement}
 use Rattle.dw_memo.specs.Content.{Content}
 use Rattle.dw_solve.specs.declared.stop.Stop.{Stop}
 use Rattle.dw_solve.specs.Certificates.{SaysLeast}
+use Rattle.dw_solve.specs.Questions.{moment_of}
 use Rattle.dw_solve.specs.Solving.{Solving}
+use Rattle.dw_solve.specs.Work.{Moment, NothingLost, Searched}
 use Rattle.dw_report.specs.Judging.{said_by}
 use Rattle.dw_moves.specs.Moves.{Move}
 use Rattle.dw_games.specs.Walk.{place_of, beginning_at}
 use Rattle.dw_study.specs.Finding.{Finding, judged, undecided}
+use Rattle.dw_study.specs.Slices.{SearchedInSlices}
 use Rattle.dw_study.specs.Remarks.{Remark, fails, also, leaves_open, ends}
 use Rattle.dw_study.specs.declared.finding.Finding as findings
 use Rattle.dw_study.specs.declared.finding.Finding.TheVariants.{Judged, Undecided}
@@ -26,12 +30,31 @@ cut_short (Ok (Judged k it)) n = 0
 cut_short (Ok (Undecided k)) n = n
 cut_short (Err stop) n = n
 
--- a position stays undecided only if as many positions were expanded as are allowed, and at no lower number of moves
--- than up to which the memo said all that there is to know
-pub record StaysOpen {M B : Type 0} (content : M → Content) (p : Placement) (each : ℕ) (old new : Solving M)
+-- a position stays undecided only if there is a bound and as many positions were expanded, and at no lower number of
+-- moves than up to which the memo said all that there is to know
+pub record StaysOpen {M B : Type 0} (content : M → Content) (p : Placement) (each : Option ℕ) (old new : Solving M)
     (answer : Result (findings.Finding B) Stop) : Type 0 where
-  pub undecided : (k : ℕ) → answer ≡ Ok (Undecided k) → new.expanded ≡ old.expanded + each
+  pub undecided : (k : ℕ) → answer ≡ Ok (Undecided k)
+      → (bound : ℕ) × (each ≡ Some bound) × (new.expanded ≡ old.expanded + bound)
   pub known : (j k : ℕ) → SaysLeast (content old.memo) p j → answer ≡ Ok (Undecided k) → j ≤ k
+
+-- The number of moves was known in time: up to some moment no more positions were expanded than the bound allows, and
+-- then the memo itself said of each number up to this one whether there is a win, if it had lost nothing. What was
+-- searched after that moment is the verdict.
+pub record KnownInTime {M : Type 0} (g : Geometry) (content : M → Content) (lost : M → ℕ) (p : Placement)
+    (n first : ℕ) (each : Option ℕ) (old new : Solving M) (moves : ℕ) : Type 0 where
+  pub then : Moment
+  pub few : IfSome each (λ bound. then.expanded ≤ old.expanded + bound)
+  pub before : SearchedInSlices g n first 0 (moment_of content lost old) then
+  pub says : NothingLost (moment_of content lost old) then → SaysLeast then.content p moves
+  pub after : (cut : ℕ) × Searched g moves cut then (moment_of content lost new)
+
+-- the number at which a position is judged was known in time
+abbrev pub IsKnownInTime : {M B : Type 0} → Geometry → (M → Content) → (M → ℕ) → Placement → (n first : ℕ)
+    → (each : Option ℕ) → Solving M → Solving M → findings.Finding B → Type 0
+IsKnownInTime g content lost p n first each old new (Judged k it) =
+    KnownInTime g content lost p n first each old new k
+IsKnownInTime g content lost p n first each old new (Undecided k) = Unit {0}
 
 -- what a remark says, whose beginning is told by its place in a tree
 abbrev pub remark_in : {B : Type 0} → List (List Move) → remarks.Remark B → Option Remark

@@ -1,10 +1,10 @@
 //! The least number of moves within which a position is won, and the verdict at it.
-ghost use Rattle.std.specs.Prelude.{◌≤◌, IfOk};
+ghost use Rattle.std.specs.Prelude.{◌≤◌, IfOk, IfSome};
 ghost use Rattle.dw_memo.specs.Content.{IsMap};
 ghost use Rattle.dw_solve.specs.Facts.{AreTrue};
 ghost use Rattle.dw_study.specs.Finding.{IsFinding};
 ghost use Rattle.dw_study.specs.Slices.{Began};
-ghost use Rattle.dw_study.specs.Telling.{told_by, cut_short, StaysOpen};
+ghost use Rattle.dw_study.specs.Telling.{told_by, cut_short, IsKnownInTime, StaysOpen};
 
 use crate::finding::{FindBounds, Finding};
 use crate::judging::judge_on;
@@ -30,9 +30,11 @@ pub fn find<B: Board, M: Memo<B>, G: Guide<B>, W: Watcher>(
 ) -> Result<Finding<B>, Stop>
     requires some { 1 ≤ bounds.most }
     requires few { bounds.most ≤ 20 }
-    requires room { 1 ≤ bounds.each }
+    requires room { IfSome bounds.each (λ bound. 1 ≤ bound) }
     ensures finding { IfOk result (λ finding. IsFinding B.geometry position.now bounds.most (told_by finding)) }
     ensures stays { StaysOpen M.content position.now bounds.each solver.old solver.new result }
+    ensures known { IfOk result (IsKnownInTime B.geometry M.content M.dropped position.now bounds.most slices.old.first
+        bounds.each solver.old solver.new) }
     ensures began { Began B.geometry M.content M.dropped bounds.most (cut_short result bounds.most) slices.old
         slices.new solver.old solver.new result }
     ensures right { AreTrue B.geometry (M.content solver.new.memo) }
@@ -46,7 +48,7 @@ pub fn find<B: Board, M: Memo<B>, G: Guide<B>, W: Watcher>(
             let judged = judge_on(alloc, solver, position, moves, slices)?;
             Ok(Finding::Judged { moves, judged })
         }
-        Err(cut) if cut.stop == Stop::Limit && solver.expanded() - start == bounds.each => {
+        Err(cut) if cut.stop == Stop::Limit && bounds.each == Some(solver.expanded() - start) => {
             Ok(Finding::Undecided {
                 no_win_in: cut.no_win_in,
             })

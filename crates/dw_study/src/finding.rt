@@ -3,14 +3,14 @@ use dw_board::Board;
 use dw_report::Judged;
 
 /// How far is looked for a win.
-/// Example: `FindBounds { most: 20, each: 1_000_000 }` looks for one within 20 moves, until 1,000,000 positions were
-/// expanded.
+/// Example: `FindBounds { most: 20, each: Some(1_000_000) }` looks for one within 20 moves, until 1,000,000 positions
+/// were expanded.
 #[derive(Clone, Copy, Debug, PartialEq, Eq)]
 pub struct FindBounds {
     /// The most moves, 1 to 20.
     pub most: u8,
-    /// How many positions may be expanded until the number of moves is known, at least 1.
-    pub each: u64,
+    /// How many positions may be expanded until the number of moves is known, at least 1; any number, if there is none.
+    pub each: Option<u64>,
 }
 
 /// What is found of a position.

@@ -5,7 +5,7 @@ ghost use Rattle.dw_solve.specs.Facts.{AreTrue};
 ghost use Rattle.dw_solve.specs.Work.{cut_off};
 ghost use Rattle.dw_report.specs.Verdict.{IsVerdict, Tries};
 ghost use Rattle.dw_report.specs.Judging.{said_by};
-ghost use Rattle.dw_study.specs.Slices.{Began, Went};
+ghost use Rattle.dw_study.specs.Slices.{Began, IsWatched, SearchedSome, Went};
 ghost use Rattle.dw_study.specs.inner.Slicing.{AskedUntil};
 
 use crate::limits::{lower, raise};
@@ -33,6 +33,8 @@ pub fn judge_in_slices<B: Board, M: Memo<B>, G: Guide<B>, W: Watcher>(
     ensures tries { IfOk result (λ judged. Tries B.geometry position.now moves judged.tries.items) }
     ensures began { Began B.geometry M.content M.dropped moves (cut_off result moves) slices.old slices.new solver.old
         solver.new result }
+    ensures watched { IsWatched W.told moves slices.old.first solver.old.expanded solver.old.expanded
+        solver.new.expanded slices.old.watcher slices.new.watcher }
     ensures right { AreTrue B.geometry (M.content solver.new.memo) }
     ensures map { IsMap (M.content solver.new.memo) }
 {
@@ -55,6 +57,9 @@ pub fn judge_on<B: Board, M: Memo<B>, G: Guide<B>, W: Watcher>(
     ensures verdict { IfOk result (λ judged. IsVerdict B.geometry position.now moves (said_by judged.verdict)) }
     ensures tries { IfOk result (λ judged. Tries B.geometry position.now moves judged.tries.items) }
     ensures went { Went B.geometry M.content M.dropped moves slices.old slices.new solver.old solver.new result }
+    ensures searched { SearchedSome B.geometry M.content M.dropped moves solver.old solver.new }
+    ensures watched { IsWatched W.told moves slices.old.first slices.old.start solver.old.expanded
+        solver.new.expanded slices.old.watcher slices.new.watcher }
     ensures right { AreTrue B.geometry (M.content solver.new.memo) }
     ensures map { IsMap (M.content solver.new.memo) }
 {

@@ -1,9 +1,10 @@
 //! The least number of moves within which a position is won.
-ghost use Rattle.std.specs.Prelude.{ℕ, ◌≤◌, ◌+◌, IfErr, min};
+ghost use Rattle.std.specs.Prelude.{◌≡◌, ℕ, ◌≤◌, ◌<◌, ◌^◌, IfErr, IfOk, IfSome, min};
 ghost use Rattle.dw_memo.specs.Content.{IsMap};
 ghost use Rattle.dw_solve.specs.Certificates.{SaysLeast};
 ghost use Rattle.dw_solve.specs.Facts.{AreTrue};
-ghost use Rattle.dw_study.specs.inner.Looking.{IsLooked, LooksOn};
+ghost use Rattle.dw_solve.specs.Questions.{LostNothing};
+ghost use Rattle.dw_study.specs.inner.Looking.{IsLooked, LooksOn, lowered};
 
 use crate::finding::FindBounds;
 use crate::limits::{lower, raise};
@@ -33,21 +34,36 @@ pub(crate) fn number_within<B: Board, M: Memo<B>, G: Guide<B>, W: Watcher>(
 ) -> Result<u8, Cut>
     requires some { 1 ≤ bounds.most }
     requires few { bounds.most ≤ 20 }
-    requires room { 1 ≤ bounds.each }
+    requires room { IfSome bounds.each (λ bound. 1 ≤ bound) }
     ensures number { IsLooked B.geometry position.now bounds.most result }
+    ensures says { IfOk result (λ moves. LostNothing M.content M.dropped solver.old solver.new
+        → SaysLeast (M.content solver.new.memo) position.now moves) }
     ensures known { IfErr result (λ cut. (j : ℕ) → SaysLeast (M.content solver.old.memo) position.now j
         → j ≤ cut.no_win_in) }
     ensures looks { LooksOn B.geometry M.content M.dropped bounds.most
-        (min solver.old.limit (solver.old.expanded + bounds.each)) slices.old slices.new solver.old solver.new result }
+        (lowered bounds.each solver.old.limit solver.old.expanded) slices.old slices.new solver.old solver.new result }
     ensures right { AreTrue B.geometry (M.content solver.new.memo) }
     ensures map { IsMap (M.content solver.new.memo) }
 {
-    let until = solver.expanded().saturating_add(bounds.each);
+    let until = count_after(solver.expanded(), bounds.each);
     let limit = lower(solver, until);
     let number = number(alloc, solver, position, bounds.most, slices);
     raise(solver, limit);
     solver.keeps_its_facts();
     number
+}
+
+/// The count after as many expansions more as are allowed: the greatest there is, if any number is.
+fn count_after(expanded: u64, each: Option<u64>) -> u64
+    requires { IfSome each (λ bound. 1 ≤ bound) }
+    ensures some { 1 ≤ result }
+    ensures enough { expanded ≤ result }
+    ensures limit { (limit : ℕ) → limit < 2 ^ 64 → min limit result ≡ lowered each limit expanded }
+{
+    match each {
+        Some(bound) => expanded.saturating_add(bound),
+        None => u64::MAX,
+    }
 }
 
 /// The number of moves at which a position is judged, or what was found out of it before a stop.
@@ -61,11 +77,14 @@ fn number<B: Board, M: Memo<B>, G: Guide<B>, W: Watcher>(
     requires some { 1 ≤ most }
     requires few { most ≤ 20 }
     ensures number { IsLooked B.geometry position.now most result }
+    ensures says { IfOk result (λ moves. LostNothing M.content M.dropped solver.old solver.new
+        → SaysLeast (M.content solver.new.memo) position.now moves) }
     ensures known { IfErr result (λ cut. (j : ℕ) → SaysLeast (M.content solver.old.memo) position.now j
         → j ≤ cut.no_win_in) }
     ensures looks { LooksOn B.geometry M.content M.dropped most solver.old.limit slices.old slices.new solver.old
         solver.new result }
 {
+    dw_solve::laws::searches_add_up();
     solver.keeps_its_limit();
     'moves: for moves in 1..most + 1 {
         match wins_on(alloc, solver, position, moves, slices) {

@@ -6,7 +6,7 @@ ghost use Rattle.dw_solve.specs.Facts.{AreTrue, IsDecided};
 ghost use Rattle.dw_solve.specs.Questions.{Idle, LostNothing};
 ghost use Rattle.dw_solve.specs.Wins.{Win};
 ghost use Rattle.dw_solve.specs.Work.{cut_off};
-ghost use Rattle.dw_study.specs.Slices.{Began, Went};
+ghost use Rattle.dw_study.specs.Slices.{Began, IsWatched, SearchedSome, Went};
 ghost use Rattle.dw_study.specs.inner.Slicing.{AskedUntil};
 
 use crate::limits::{lower, raise};
@@ -32,6 +32,8 @@ pub fn wins_in_slices<B: Board, M: Memo<B>, G: Guide<B>, W: Watcher>(
     ensures map { IsMap (M.content solver.new.memo) }
     ensures began { Began B.geometry M.content M.dropped moves (cut_off result moves) slices.old slices.new solver.old
         solver.new result }
+    ensures watched { IsWatched W.told moves slices.old.first solver.old.expanded solver.old.expanded
+        solver.new.expanded slices.old.watcher slices.new.watcher }
     ensures known { (moves ≡ 0) ⊎ IsDecided (M.content solver.old.memo) position.now moves
         → IsOk result × Idle M.content solver.old solver.new }
     ensures spent { OnOk result (1 ≤ moves →
@@ -60,6 +62,9 @@ pub fn wins_on<B: Board, M: Memo<B>, G: Guide<B>, W: Watcher>(
     ensures right { AreTrue B.geometry (M.content solver.new.memo) }
     ensures map { IsMap (M.content solver.new.memo) }
     ensures went { Went B.geometry M.content M.dropped moves slices.old slices.new solver.old solver.new result }
+    ensures searched { SearchedSome B.geometry M.content M.dropped moves solver.old solver.new }
+    ensures watched { IsWatched W.told moves slices.old.first slices.old.start solver.old.expanded
+        solver.new.expanded slices.old.watcher slices.new.watcher }
     ensures known { (moves ≡ 0) ⊎ IsDecided (M.content solver.old.memo) position.now moves
         → IsOk result × Idle M.content solver.old solver.new }
     ensures spent { OnOk result (1 ≤ moves →

@@ -1,12 +1,12 @@
 -- Rows that grow until each follows from others.
-use Rattle.std.specs.Prelude.{◌≡◌, ℕ, ◌-◌, ◌≤◌, ◌<◌, ◌⊎◌, Bool, true, false, List, ◌++◌, slice_get, Some}
+use Rattle.std.specs.Prelude.{◌≡◌, ℕ, ◌+◌, ◌-◌, ◌≤◌, ◌⊎◌, Bool, true, false, List, ◌++◌, map, take}
 use Rattle.dw_board.specs.Geometry.{Geometry}
 use Rattle.dw_board.specs.Lists.{Member, NoRepeat}
 use Rattle.dw_board.specs.Placement.{Placement}
 use Rattle.dw_moves.specs.Moves.{Move, Legal, play}
 use Rattle.dw_memo.specs.Content.{Content}
 use Rattle.dw_solve.specs.Facts.{KnownWin, KnownFail}
-use Rattle.dw_certificate.specs.Certificate.{Row, positions_of, claims}
+use Rattle.dw_certificate.specs.Certificate.{Row, Step, Stepped, AreSteps, IsAfterReply, IsComeTo, positions_of, claims}
 
 -- a bound is enough to say it of so many moves
 abbrev pub Suffices : (win : Bool) → (bound moves : ℕ) → Type 0
@@ -43,7 +43,28 @@ Follows g true c p w = (m : Move) × Legal g p m
 Follows g false c p f = (m : Move) → Legal g p m → (r : Move) × Legal g (play g p m) r
     × ((f - 1 ≡ 0) ⊎ KnownFail c (play g (play g p m) r) (f - 1))
 
--- the first rows follow, so many of them
-abbrev pub AreFollowed : Geometry → (win : Bool) → List Row → ℕ → Type 0
-AreFollowed g win rows count = (i : ℕ) (r : Row) → i < count → slice_get rows i ≡ Some r
-    → Follows g win (claims win rows) r.0 r.1
+-- a step of a legal move at one position leads to another
+abbrev pub LeadsTo : Geometry → Placement → List Step → Placement → Type 0
+LeadsTo g p steps q = (m : Move) × Legal g p m × Member (m, q) steps
+
+-- what a row of one move more than are left needs was put in: the positions to which its steps lead
+pub record IsSupported (g : Geometry) (win : Bool) (p : Placement) (left : ℕ) (old new : List Row) : Type 0 where
+  pub steps : List Step
+  pub grown : IsGrown (LeadsTo g p steps) left old new
+  pub are : AreSteps g win (claims win new) (p, left + 1) steps
+
+-- so it was for the first of some moves, if the row is of no win
+pub record IsSupportedTo (g : Geometry) (p : Placement) (moves : List Move) (count left : ℕ) (old new : List Row)
+    : Type 0 where
+  pub steps : List Step
+  pub first : (s : Step) → Member s steps → Member s.0 (take count moves)
+  pub grown : IsGrown (LeadsTo g p steps) left old new
+  pub replies : (m : Move) → Member m (take count moves) → (q : Placement) × IsAfterReply g p m q
+      × ((s : Step) → Member s steps → s.0 ≡ m → s.1 ≡ q) × ((left ≡ 0) ⊎ KnownFail (claims false new) q left)
+
+-- the first rows take steps, so many of them, and these lead to all rows but the one that was asked for
+pub record AreFollowed (g : Geometry) (p : Placement) (win : Bool) (rows : List Row) (count : ℕ) : Type 0 where
+  pub all : List Stepped
+  pub are : take count rows ≡ map (λ s. s.row) all
+  pub steps : (s : Stepped) → Member s all → AreSteps g win (claims win rows) s.row s.steps
+  pub come_to : (r : Row) → Member r rows → IsComeTo g p all r

@@ -77,3 +77,13 @@ AreComing g coming has_ended portion left text found =
 unfoldable pub AreToCome : {B S : Type 0} → Geometry → (S → Option (List ℕ)) → (S → Bool) → Chosen B S
     → List NumberedGame → Type 0
 AreToCome g coming has_ended chosen found = AreComing g coming has_ended chosen.portion chosen.left chosen.text found
+
+-- what a text still gives is known, and its end too if that was met
+abbrev pub IsTextKnown : {B S : Type 0} → (S → Option (List ℕ)) → (S → Bool) → Text B S → Type 0
+IsTextKnown coming has_ended text =
+    ((bytes : List ℕ) × (coming (source_of text) ≡ Some bytes)) × EndIsKnown coming has_ended text
+
+-- the same of the text of which games are chosen
+-- Sealed: the clauses of commands name it, and say all that is to be known of it.
+unfoldable pub IsKnown : {B S : Type 0} → (S → Option (List ℕ)) → (S → Bool) → Chosen B S → Type 0
+IsKnown coming has_ended chosen = IsTextKnown coming has_ended chosen.text

@@ -1,5 +1,5 @@
 -- What is found of one neighbour, and what is written of it.
-use Rattle.std.specs.Prelude.{◌≡◌, ℕ, ◌+◌, ◌≤◌, List, [], Result, Err, IfOk}
+use Rattle.std.specs.Prelude.{◌≡◌, ℕ, ◌+◌, ◌≤◌, Option, Some, List, [], Result, Err, IfOk, IfSome}
 use Rattle.dw_board.specs.Geometry.{Geometry}
 use Rattle.dw_board.specs.Placement.{Placement}
 use Rattle.dw_memo.specs.Content.{Content, IsMap}
@@ -35,10 +35,10 @@ Adds g n x Unsound text = ((key : Move) → IsVerdict g x.1 n (sound key) → �
 Adds g n x Undecided text = text ≡ []
 
 -- what can be asked about each neighbour: a win within 1 to 20 moves, and one position at least
-pub record CanAsk (n each : ℕ) : Type 0 where
+pub record CanAsk (n : ℕ) (each : Option ℕ) : Type 0 where
   pub some : 1 ≤ n
   pub few : n ≤ 20
-  pub room : 1 ≤ each
+  pub room : IfSome each (λ bound. 1 ≤ bound)
 
 -- after neighbours were looked at each expansion is counted, up to the solver's limit, and its memo is right
 pub record Leaves {M A : Type 0} (g : Geometry) (content : M → Content) (old new : Solving M)
@@ -48,9 +48,12 @@ pub record Leaves {M A : Type 0} (g : Geometry) (content : M → Content) (old n
   pub right : AreTrue g (content new.memo)
   pub map : IsMap (content new.memo)
 
--- how a search for a neighbour counts: it is undecided only if as many positions were expanded as it may take
-pub record Goes {B : Type 0} (each before limit after limit' : ℕ) (result : Result (finds.Soundness B) MendFault) :
-    Type 0 where
+-- how a search for a neighbour counts: with a bound no more positions are expanded, and without one, or with fewer
+-- positions, it is not undecided
+pub record Goes {B : Type 0} (each : Option ℕ) (before limit after limit' : ℕ)
+    (result : Result (finds.Soundness B) MendFault) : Type 0 where
   pub count : IsCounted before limit after limit'
-  pub spent : IfOk result (λ found. IsUndecided found → after ≡ before + each)
+  pub spent : IfOk result (λ found. IsUndecided found
+      → (bound : ℕ) × (each ≡ Some bound) × (after ≡ before + bound))
+  pub few : IfSome each (λ bound. after ≤ before + bound)
   pub stop : result ≡ Err (Stopped Limit) → after ≡ limit'

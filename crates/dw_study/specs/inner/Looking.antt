@@ -1,5 +1,5 @@
 -- How the least number of moves is looked for.
-use Rattle.std.specs.Prelude.{◌≡◌, ℕ, ◌<◌, ◌≤◌, Result, Ok, Err}
+use Rattle.std.specs.Prelude.{◌≡◌, ℕ, ◌+◌, ◌<◌, ◌≤◌, min, Result, Ok, Err, Option, Some, None}
 use Rattle.dw_board.specs.Geometry.{Geometry}
 use Rattle.dw_board.specs.Placement.{Placement}
 use Rattle.dw_memo.specs.Content.{Content}
@@ -18,6 +18,11 @@ abbrev pub IsLooked : Geometry → Placement → ℕ → Result ℕ Cut → Type
 IsLooked g p most (Ok k) = (1 ≤ k) × (k ≤ most) × IsJudgedAt g p most k
 IsLooked g p most (Err cut) = (cut.no_win_in < most) × (Win g p cut.no_win_in → ⊥)
 
+-- the limit of a search that may expand so many positions
+abbrev pub lowered : (each : Option ℕ) → (limit expanded : ℕ) → ℕ
+lowered None limit expanded = limit
+lowered (Some bound) limit expanded = min limit (expanded + bound)
+
 -- if the limit is why the search stopped, it was met
 abbrev pub StopsAt : ℕ → ℕ → Result ℕ Cut → Type 0
 StopsAt limit expanded (Ok k) = Unit {0}
@@ -28,6 +33,7 @@ StopsAt limit expanded (Err cut) = cut.stop ≡ Limit → expanded ≡ limit
 pub record LooksOn {M W : Type 0} (g : Geometry) (content : M → Content) (lost : M → ℕ) (n limit : ℕ)
     (before after : Slices W) (old new : Solving M) (answer : Result ℕ Cut) : Type 0 where
   pub count : IsCounted old.expanded old.limit new.expanded new.limit
+  pub few : new.expanded ≤ limit
   pub stop : StopsAt limit new.expanded answer
   pub on : GoesOn g content lost n before.first before.start (cut_off answer n) old new
   pub first : after.first ≡ before.first

@@ -1,6 +1,6 @@
-use Rattle.std.proofs.Common.{◌+◌, ◌-◌, ◌∙◌, sym, subst}
-use Rattle.dw_certificate.specs.Certificate.{claims, ComesAfter}
-use Rattle.dw_certificate.specs.inner.Rows.{AreFollowed, Follows, Knows}
+use Rattle.std.proofs.Common.{◌≡◌, ◌+◌, ◌-◌, ◌∙◌, sym, subst, arith}
+use Rattle.dw_certificate.specs.Certificate.{claims}
+use Rattle.dw_certificate.specs.inner.Rows.{AreFollowed, IsSupported, Knows, LeadsTo}
 use Rattle.dw_certificate.proofs.RowLemmas.{knows_grown}
 use Rattle.dw_certificate.proofs.ClosedLemmas.{rows_first, rows_grown, some_at, followed_none, followed_more}
 use Rattle.dw_certificate.proofs.ClosedLemmas.{none_at, certificate_of}
@@ -8,16 +8,16 @@ use Rattle.dw_certificate.proofs.certificate.certify.Goals as goal
 
 pub rows-init : goal.rows-init
 rows-init g c = record {
-  are = rows_first g.B.Board.geometry c.args.position.now c.args.moves c.new.result.entries c.put.new.self.rows.entries
-      c.new.ensures.empty c.in_ok-put.ensures.grown;
+  are = rows_first c.args.position.now c.args.moves c.new.result.entries c.put.new.self.rows.entries c.new.ensures.empty
+      c.in_ok-put.ensures.grown;
   known = c.in_ok-put.ensures.known;
-  followed = followed_none g.B.Board.geometry c.put.new.self.win c.put.new.self.rows.entries;
+  followed = followed_none g.B.Board.geometry c.args.position.now c.args.moves c.put.new.self.win
+      c.new.result.entries c.put.new.self.rows.entries c.new.ensures.empty c.in_ok-put.ensures.grown;
 }
 
 pub support-requires : goal.support-requires
-support-requires g c = some_at g.B.Board.geometry c.args.position.now c.args.moves c.rows.certificate.rows.entries
-    c.rows.index c.in-Some-row_at.row.0 c.in-Some-row_at.row.1 c.rows.invariant.are
-    (sym c.row_at.ensures.row ∙ c.in-Some-row_at.is)
+support-requires g c = some_at c.args.moves c.rows.certificate.rows.entries c.rows.index c.in-Some-row_at.row.0
+    c.in-Some-row_at.row.1 c.rows.invariant.are (sym c.row_at.ensures.row ∙ c.in-Some-row_at.is)
 
 pub rows-preserved : goal.rows-preserved
 rows-preserved g c =
@@ -30,16 +30,17 @@ rows-preserved g c =
     let place = c.in-Some-row_at.row.0 in
     let bound = c.in-Some-row_at.row.1 in
     let at = sym c.row_at.ensures.row ∙ c.in-Some-row_at.is in
+    let some = some_at n old c.rows.index place bound c.rows.invariant.are at in
     let same = c.in_ok-support.ensures.same in
-    let grown = c.in_ok-support.ensures.grown in
+    let here : IsSupported geo win place (bound - 1) old new =
+    subst (λ w. IsSupported geo w place (bound - 1) old new) same c.in_ok-support.ensures.supported in
     record {
-      are = rows_grown geo p n old new c.rows.index place bound c.rows.invariant.are at grown;
+      are = rows_grown (LeadsTo geo place here.steps) n old new c.rows.index place bound c.rows.invariant.are at here.grown;
       known = subst (λ w. Knows w (claims w new) p n) (sym same)
-          (knows_grown win (ComesAfter geo place) (bound - 1) old new p n grown c.rows.invariant.known);
-      followed = subst (λ w. AreFollowed geo w new (c.rows.index + 1)) (sym same)
-          (followed_more geo win old new c.rows.index (ComesAfter geo place) (bound - 1) place bound
-          c.rows.invariant.followed at grown
-          (subst (λ w. Follows geo w (claims w new) place bound) same c.in_ok-support.ensures.follows));
+          (knows_grown win (LeadsTo geo place here.steps) (bound - 1) old new p n here.grown c.rows.invariant.known);
+      followed = subst (λ w. AreFollowed geo p w new (c.rows.index + 1)) (sym same)
+          (followed_more geo p win old new c.rows.index place bound (bound - 1) (omega (arith, some))
+          c.rows.invariant.followed at here);
     }
 
 pub returns : goal.returns

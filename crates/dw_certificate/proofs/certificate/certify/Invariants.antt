@@ -5,9 +5,9 @@ use Rattle.dw_certificate.proofs.certificate.certify.Given as goal
 
 abbrev pub invariant-rows : goal.invariant-rows
 invariant-rows g l = record {
-  are : AreRows g.B.Board.geometry l.position l.moves l.certificate.rows.entries;
+  are : AreRows l.moves l.certificate.rows.entries;
   known : Knows l.certificate.win (claims l.certificate.win l.certificate.rows.entries) l.position l.moves;
-  followed : AreFollowed g.B.Board.geometry l.certificate.win l.certificate.rows.entries l.index;
+  followed : AreFollowed g.B.Board.geometry l.position l.certificate.win l.certificate.rows.entries l.index;
 }
 
 abbrev pub decreases-rows : goal.decreases-rows

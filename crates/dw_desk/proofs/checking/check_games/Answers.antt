@@ -32,7 +32,7 @@ games-preserved g c =
           (taken c.games.sink) (taken c.report.new.sink) (numbered_game c.in-Some.game)
           c.in_ok-report.field-0 c.games.invariant.so_far
           (subst (λ z. HandsOut Mid New (option_map numbered_game z)) c.in-Some.is c.in_ok-game.ensures.given)
-          c.in_ok-report.ensures.text c.with-counts.ensures;
+          c.in_ok-report.ensures.text c.with-counts.ensures.more;
       works = c.in_ok-report.ensures.works;
     }
 

@@ -12,7 +12,8 @@ pub games-init : goal.games-init
 games-init g c =
     let geo = g.B.Board.geometry in
     let source = g.S.Source in
-    let One = λ (game : NumberedGame). IsFindOf geo c.args.asked.now.json c.args.asked.now.most (problem_of game) in
+    let One = λ (game : NumberedGame). IsFindOf geo c.args.asked.now.json c.args.asked.now.most
+    c.args.asked.now.each (problem_of game) in
     record {
       so_far = none_yet One (AreToCome geo source.coming source.has_ended c.args.chosen.now) c.default-counts.result
           (g.K.Sink.taken c.args.sink.now) c.default-counts.ensures.0 c.default-counts.ensures.1;
@@ -24,7 +25,8 @@ games-preserved g c =
     let geo = g.B.Board.geometry in
     let source = g.S.Source in
     let taken = g.K.Sink.taken in
-    let One = λ (game : NumberedGame). IsFindOf geo c.args.asked.now.json c.args.asked.now.most (problem_of game) in
+    let One = λ (game : NumberedGame). IsFindOf geo c.args.asked.now.json c.args.asked.now.most
+    c.args.asked.now.each (problem_of game) in
     let Old = AreToCome geo source.coming source.has_ended c.args.chosen.now in
     let Mid = AreToCome geo source.coming source.has_ended c.games.chosen in
     let New = AreToCome geo source.coming source.has_ended c.next.new.self in
@@ -33,7 +35,7 @@ games-preserved g c =
           (taken c.games.sink) (taken c.report.new.sink) (numbered_game c.in-Some.game)
           c.in_ok-report.field-0 c.games.invariant.so_far
           (subst (λ z. HandsOut Mid New (option_map numbered_game z)) c.in-Some.is c.in_ok-game.ensures.given)
-          c.in_ok-report.ensures.text c.with-counts.ensures;
+          c.in_ok-report.ensures.text c.with-counts.ensures.more;
       works = c.in_ok-report.ensures.works;
     }
 
@@ -42,7 +44,8 @@ returns g c =
     let geo = g.B.Board.geometry in
     let source = g.S.Source in
     let taken = g.K.Sink.taken in
-    let One = λ (game : NumberedGame). IsFindOf geo c.args.asked.now.json c.args.asked.now.most (problem_of game) in
+    let One = λ (game : NumberedGame). IsFindOf geo c.args.asked.now.json c.args.asked.now.most
+    c.args.asked.now.each (problem_of game) in
     let Old = AreToCome geo source.coming source.has_ended c.args.chosen.now in
     let Mid = AreToCome geo source.coming source.has_ended c.games.chosen in
     let New = AreToCome geo source.coming source.has_ended c.next.new.self in

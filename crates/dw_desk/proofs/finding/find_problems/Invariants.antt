@@ -10,7 +10,7 @@ invariant-games g l =
     let geo = g.B.Board.geometry in
     let source = g.S.Source in
     record {
-      so_far : SoFar (λ game. IsFindOf geo l.asked.json l.asked.most (problem_of game))
+      so_far : SoFar (λ game. IsFindOf geo l.asked.json l.asked.most l.asked.each (problem_of game))
           (AreToCome geo source.coming source.has_ended l.initial.chosen)
           (AreToCome geo source.coming source.has_ended l.chosen) l.counts
           (g.K.Sink.taken l.initial.sink) (g.K.Sink.taken l.sink);

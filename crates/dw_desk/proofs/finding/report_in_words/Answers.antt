@@ -11,10 +11,12 @@ pub returns-clause-text : goal.returns-clause-text
 returns-clause-text g c =
     let geo = g.B.Board.geometry in
     let taken = g.K.Sink.taken in
-    line_and_more geo (SaysFound geo c.args.asked.now.most) (numbered c.args.problem.now) c.in-Ok.position
+    line_and_more geo (SaysFound geo c.args.asked.now.most c.args.asked.now.each) (numbered c.args.problem.now)
+    c.in-Ok.position
     c.is_undecided.result (string_bytes c.in_ok-text.text) (taken c.args.sink.now) (taken c.write_all.new.sink)
     (taken c.write_all-2.new.sink)
-    c.in-Ok.is (told_by c.in_ok-finding.finding, c.in_ok-finding.ensures, c.is_undecided.ensures, c.in_ok-text.ensures)
+    c.in-Ok.is
+    (told_by c.in_ok-finding.finding, c.in_ok-finding.ensures.found, c.is_undecided.ensures, c.in_ok-text.ensures)
     (subst (Appends (taken c.args.sink.now) (taken c.write_all.new.sink))
     (c.as_bytes.ensures.value ∙ (c.as_str.ensures.value ∙ c.problem_line.ensures)) c.in_ok-write_all.ensures.ok)
     (subst (Appends (taken c.write_all.new.sink) (taken c.write_all-2.new.sink))

@@ -4,7 +4,8 @@ use Rattle.std.proofs.KnownBytes.{Appends-trans}
 use Rattle.dw_mend.specs.Telling.{told_by}
 use Rattle.dw_mend.specs.declared.mend.MendFault.TheVariants as because
 use Rattle.dw_mend.specs.inner.Mending.{IsUndecided}
-use Rattle.dw_mend.proofs.MendLemmas.{counted_on, mended_next, adds_sound, adds_unsound, adds_undecided, spent_more, stop_at, same_fault}
+use Rattle.dw_mend.proofs.MendLemmas.{counted_on, mended_next, adds_sound, adds_unsound, adds_undecided, bounded_more, bounded_open}
+use Rattle.dw_mend.proofs.MendLemmas.{stop_at, same_fault}
 use Rattle.dw_mend.proofs.mend.mend_these.Goals as goal
 use Rattle.dw_mend.proofs.mend.mend_these.Goals.{in-Sound, in-Unsound, in-Undecided}
 
@@ -32,7 +33,8 @@ neighbours-preserved g c =
     let each = c.args.bounds.each in
     let before = c.neighbours.solver.expanded in
     let after = c.write_found.new.solver.expanded in
-    let so_far = c.neighbours.invariant.spent in
+    let so_far = c.neighbours.invariant.bounded in
+    let goes = c.in_ok-write_found.ensures.goes in
     let few = c.neighbours.invariant.few in
     let rises = c.in_ok-write_found.ensures.goes.count.rises in
     record {
@@ -69,12 +71,13 @@ neighbours-preserved g c =
         | in-Unsound w ↦ let s = ap (λ z. z.sound) w.mended-is in let u = ap (λ z. z.undecided) w.mended-is in omega (arith, few, s, u)
         | in-Undecided w ↦ let s = ap (λ z. z.sound) w.mended-is in let u = ap (λ z. z.undecided) w.mended-is in omega (arith, few, s, u)
       ];
-      spent = elim c.match-branch-2.branch [
-        | in-Sound w ↦ rw (ap (λ z. z.undecided) w.mended-is) (omega (arith, so_far, rises))
-        | in-Unsound w ↦ rw (ap (λ z. z.undecided) w.mended-is) (omega (arith, so_far, rises))
-        | in-Undecided w ↦ spent_more base each was.undecided c.match-branch-2.mended.undecided before after
-            (ap (λ z. z.undecided) w.mended-is) so_far
-            (c.in_ok-write_found.ensures.goes.spent (subst IsUndecided (sym w.in-Undecided.is) tt))
+      bounded = elim c.match-branch-2.branch [
+        | in-Sound w ↦ bounded_more each c.neighbours.neighbour-index was.undecided now.undecided base before after
+            (ap (λ z. z.undecided) w.mended-is) rises goes.few so_far
+        | in-Unsound w ↦ bounded_more each c.neighbours.neighbour-index was.undecided now.undecided base before after
+            (ap (λ z. z.undecided) w.mended-is) rises goes.few so_far
+        | in-Undecided w ↦ bounded_open each c.neighbours.neighbour-index was.undecided now.undecided base before after
+            (ap (λ z. z.undecided) w.mended-is) (goes.spent (subst IsUndecided (sym w.in-Undecided.is) tt)) so_far
       ];
       count = counted_on _ _ _ _ _ _ c.neighbours.invariant.count c.in_ok-write_found.ensures.goes.count;
       right = c.in_ok-write_found.ensures.right;

@@ -1,9 +1,9 @@
-use Rattle.std.proofs.Common.{◌≡◌, ℕ, ◌+◌, ◌*◌, ◌≤◌, false, take, length, List, map}
+use Rattle.std.proofs.Common.{◌≡◌, ℕ, ◌+◌, ◌≤◌, false, take, length, List, map}
 use Rattle.std.specs.Io.KnownBytes.{Appends}
 use Rattle.dw_memo.specs.Content.{IsMap}
 use Rattle.dw_solve.specs.Facts.{AreTrue}
 use Rattle.dw_solve.specs.Searching.{IsCounted}
-use Rattle.dw_mend.specs.Mending.{AreMended}
+use Rattle.dw_mend.specs.Mending.{AreBounded, AreMended}
 use Rattle.dw_mend.specs.Telling.{told_by}
 use Rattle.dw_mend.proofs.mend.mend_these.Given as goal
 
@@ -14,7 +14,7 @@ invariant-neighbours g l = record {
       × Appends (g.K.Sink.taken l.initial.sink) (g.K.Sink.taken l.sink) text;
   all : l.mended.all ≡ length l.some;
   few : l.mended.sound + l.mended.undecided ≤ l.neighbour-index;
-  spent : l.initial.solver.expanded + l.mended.undecided * l.bounds.each ≤ l.solver.expanded;
+  bounded : AreBounded l.bounds.each l.neighbour-index l.mended.undecided l.initial.solver.expanded l.solver.expanded;
   count : IsCounted l.initial.solver.expanded l.initial.solver.limit l.solver.expanded l.solver.limit;
   right : AreTrue g.B.Board.geometry (g.M.Memo.content l.solver.memo);
   map : IsMap (g.M.Memo.content l.solver.memo);

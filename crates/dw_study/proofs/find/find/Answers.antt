@@ -1,7 +1,8 @@
-use Rattle.std.proofs.Common.{◌≤◌, ◌∙◌, ap, subst, arith, refl, rules}
+use Rattle.std.proofs.Common.{◌≤◌, ◌-◌, ◌∙◌, ap, sym, subst, arith, refl, rules}
 use Rattle.dw_study.specs.Slices.{Began}
-use Rattle.dw_study.proofs.OpenLemmas.{no_lower, stays_stopped}
-use Rattle.dw_study.proofs.SliceLemmas.{stop_cuts}
+use Rattle.dw_study.proofs.OpenLemmas.{each_is, few_within, no_lower, stays_stopped}
+use Rattle.dw_solve.specs.Questions.{moment_of}
+use Rattle.dw_study.proofs.SliceLemmas.{begun_here, stop_cuts}
 use Rattle.dw_study.proofs.WentLemmas.{answered, went_looked, went_then, went_ok, went_stop, began_here, began_looked}
 use Rattle.dw_study.proofs.find.find.Goals as goal
 
@@ -72,10 +73,35 @@ returns-in_ok-judged-in-Ok-clause-stays g c =
 pub returns-in-Err-clause-stays : goal.returns-in-Err-clause-stays
 returns-in-Err-clause-stays g c =
     record {
-      undecided = λ k same. omega arith;
+      undecided = λ k same. (
+        c.number_within.new.solver.expanded - c.args.solver.now.expanded,
+        each_is c.args.bounds.each (c.expanded.result - c.expanded-start.result)
+            (c.number_within.new.solver.expanded - c.args.solver.now.expanded)
+            (sym c.eq-then-eq.ensures ∙ c.if-eq-2.true) (omega arith),
+        omega arith,
+      );
       known = λ j k says same. subst (λ z. j ≤ z) (no_lower _ k _ refl same) (c.in-Err.ensures.known j says);
     }
 
 pub returns-in-Err-2-clause-stays : goal.returns-in-Err-2-clause-stays
 returns-in-Err-2-clause-stays g c =
     record { undecided = λ k same. cc; known = λ j k says same. cc }
+
+pub returns-in_ok-judged-in-Ok-clause-known : goal.returns-in_ok-judged-in-Ok-clause-known
+returns-in_ok-judged-in-Ok-clause-known g c =
+    let geo = g.B.Board.geometry in
+    let content = g.M.Memo.content in
+    let lost = g.M.Memo.dropped in
+    let n = c.args.bounds.most in
+    let before = c.args.solver.now in
+    let then = c.number_within.new.solver in
+    let found = c.in-Ok.ensures in
+    record {
+      then = moment_of content lost then;
+      few = few_within c.args.bounds.each before.limit before.expanded then.expanded found.looks.few;
+      before = begun_here geo content lost c.searches_add_up.ensures n c.args.slices.now.first c.begin.new.self.first
+          c.begin.new.self.start 0 before then (ap (λ z. z.first) c.begin.ensures)
+          (ap (λ z. z.start) c.begin.ensures ∙ c.expanded-start.ensures) found.looks.on;
+      says = found.says;
+      after = c.in_ok-judged-in-Ok.ensures.searched;
+    }

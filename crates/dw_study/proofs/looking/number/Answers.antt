@@ -1,6 +1,7 @@
 use Rattle.std.proofs.Common.{◌≤◌, ◌∙◌, sym, ap, arith, below_more, Err}
 use Rattle.std.proofs.lemmas.Bool.{true≢false}
-use Rattle.dw_study.proofs.SliceLemmas.{goes_on_then, goes_on_looser, counted_then, idle_on, known_below}
+use Rattle.dw_study.proofs.SliceLemmas.{goes_on_then, goes_on_looser, counted_then, idle_on, known_below, loss_then}
+use Rattle.dw_study.proofs.SliceLemmas.{says_more}
 use Rattle.dw_study.proofs.looking.number.Goals as goal
 
 pub moves-preserved : goal.moves-preserved
@@ -16,16 +17,35 @@ moves-preserved g c =
       on = goes_on_then g.B.Board.geometry g.M.Memo.content g.M.Memo.dropped c.moves.moves c.args.most
           c.args.slices.now.first c.args.slices.now.start c.moves.slices.first c.moves.slices.start 0 c.args.solver.now
           c.moves.solver c.wins_on.new.solver (omega (arith, c.moves-test.true)) now.first now.start now.on here.went.on;
+      lost = loss_then _ _ _ now.lost here.searched.1.counted;
+      says = λ kept k low high. says_more g.B.Board.geometry g.M.Memo.content g.M.Memo.dropped
+          c.searches_add_up.ensures c.args.position.now c.moves.moves c.args.solver.now c.moves.solver
+          c.wins_on.new.solver c.in-Ok-false.field-0 c.moves.auto.moves now.lost here.searched now.says here.says kept k
+          low (omega (arith, high));
       first = here.went.first ∙ now.first;
       start = here.went.start ∙ now.start;
     }
+
+pub returns-in-Ok-true-clause-says : goal.returns-in-Ok-true-clause-says
+returns-in-Ok-true-clause-says g c =
+    let now = c.moves.invariant in
+    let here = c.in-Ok-true.ensures in
+    says_more g.B.Board.geometry g.M.Memo.content g.M.Memo.dropped c.searches_add_up.ensures c.args.position.now
+    c.moves.moves c.args.solver.now c.moves.solver c.wins_on.new.solver c.in-Ok-true.field-0 c.moves.auto.moves now.lost
+    here.searched now.says here.says
+
+pub returns-clause-says : goal.returns-clause-says
+returns-clause-says g c = λ kept k low high.
+    c.moves.invariant.says kept k low (omega (arith, high, c.moves-test.false))
 
 pub returns-in-Ok-true-clause-looks : goal.returns-in-Ok-true-clause-looks
 returns-in-Ok-true-clause-looks g c =
     let now = c.moves.invariant in
     let here = c.in-Ok-true.ensures.went in
+    let count = counted_then _ _ _ _ _ _ now.count here.count in
     record {
-      count = counted_then _ _ _ _ _ _ now.count here.count;
+      count = count;
+      few = count.within;
       stop = tt;
       on = goes_on_then g.B.Board.geometry g.M.Memo.content g.M.Memo.dropped c.moves.moves c.args.most
           c.args.slices.now.first c.args.slices.now.start c.moves.slices.first c.moves.slices.start 0 c.args.solver.now
@@ -42,8 +62,10 @@ returns-in-Err-clause-looks g c =
     let now = c.moves.invariant in
     let here = c.in-Err.ensures.went in
     let less : c.moves.moves ≤ c.args.most = omega (arith, c.moves-test.true) in
+    let count = counted_then _ _ _ _ _ _ now.count here.count in
     record {
-      count = counted_then _ _ _ _ _ _ now.count here.count;
+      count = count;
+      few = count.within;
       stop = λ e. here.stop (ap (λ z. Err z) e) ∙ here.count.same ∙ now.count.same;
       on = goes_on_looser geo content lost c.args.most c.args.slices.now.first c.args.slices.now.start c.moves.moves
           c.args.most c.args.solver.now c.wins_on.new.solver less
@@ -57,7 +79,7 @@ returns-in-Err-clause-looks g c =
 pub returns-clause-looks : goal.returns-clause-looks
 returns-clause-looks g c =
     let now = c.moves.invariant in
-    record { count = now.count; stop = tt; on = now.on; first = now.first; start = now.start }
+    record { count = now.count; few = now.count.within; stop = tt; on = now.on; first = now.first; start = now.start }
 
 pub returns-in-Err-clause-known : goal.returns-in-Err-clause-known
 returns-in-Err-clause-known g c j says =

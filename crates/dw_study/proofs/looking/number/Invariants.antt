@@ -1,6 +1,7 @@
-use Rattle.std.proofs.Common.{◌≡◌, ℕ, ◌+◌, ◌<◌, ◌≤◌}
+use Rattle.std.proofs.Common.{◌≡◌, ℕ, ◌+◌, ◌-◌, ◌<◌, ◌≤◌}
 use Rattle.dw_solve.specs.Certificates.{SaysLeast}
-use Rattle.dw_solve.specs.Questions.{Idle}
+use Rattle.dw_solve.specs.Questions.{Idle, LostNothing}
+use Rattle.dw_solve.specs.Work.{LossIsCounted}
 use Rattle.dw_solve.specs.Searching.{IsCounted}
 use Rattle.dw_solve.specs.Wins.{Win}
 use Rattle.dw_study.specs.Slices.{GoesOn}
@@ -14,6 +15,9 @@ invariant-moves g l = record {
   count : IsCounted l.initial.solver.expanded l.initial.solver.limit l.solver.expanded l.solver.limit;
   on : GoesOn g.B.Board.geometry g.M.Memo.content g.M.Memo.dropped l.most l.initial.slices.first
       l.initial.slices.start 0 l.initial.solver l.solver;
+  lost : LossIsCounted (g.M.Memo.dropped l.initial.solver.memo) (g.M.Memo.dropped l.solver.memo);
+  says : LostNothing g.M.Memo.content g.M.Memo.dropped l.initial.solver l.solver
+      → SaysLeast (g.M.Memo.content l.solver.memo) l.position (l.moves - 1);
   first : l.slices.first ≡ l.initial.slices.first;
   start : l.slices.start ≡ l.initial.slices.start;
 }

@@ -1,7 +1,7 @@
-use Rattle.std.proofs.Common.{rules, ◌∙◌, refl, sym, inl, inr, arith, ap, Err}
+use Rattle.std.proofs.Common.{◌-◌, rules, ◌∙◌, refl, sym, subst, inl, inr, arith, ap, Err}
 use Rattle.std.proofs.lemmas.Bool.{true≢false}
 use Rattle.dw_study.proofs.SliceLemmas.{goes_on_none, goes_on_more, counted_then, idle_none, idle_then}
-use Rattle.dw_study.proofs.SliceLemmas.{still_decided, spent_later, loss_then, loss_none}
+use Rattle.dw_study.proofs.SliceLemmas.{still_decided, spent_later, searched_none, searched_more, watched_none, watched_more, watched_last}
 use Rattle.dw_study.proofs.WentLemmas.{went_last}
 use Rattle.dw_study.proofs.sliced.wins_on.Goals as goal
 
@@ -14,7 +14,10 @@ slices-init g c = record {
   start = refl;
   idle = λ decided. idle_none g.M.Memo.content c.args.position.now c.args.moves c.args.solver.now;
   spent = inl refl;
-  lost = loss_none (g.M.Memo.dropped c.args.solver.now.memo);
+  searched = searched_none g.B.Board.geometry g.M.Memo.content g.M.Memo.dropped c.searches_add_up.ensures c.args.moves
+      c.args.solver.now;
+  watches = watched_none g.W.Watcher.told c.args.moves c.args.slices.now.first c.args.slices.now.start
+      c.args.solver.now.expanded c.args.slices.now.watcher;
 }
 
 pub slices-preserved : goal.slices-preserved
@@ -35,7 +38,14 @@ slices-preserved g c =
       idle = λ decided. absurd (true≢false (sym (c.in-Err-Limit.ensures.known (still_decided content
           c.args.position.now c.args.moves c.args.solver.now c.slices.solver (now.idle decided) decided)).0));
       spent = inr (omega arith);
-      lost = loss_then _ _ _ now.lost c.in-Err-Limit.ensures.asked.searched.counted;
+      searched = searched_more geo content lost c.searches_add_up.ensures c.args.moves c.args.moves c.args.solver.now
+          c.slices.solver new now.searched c.in-Err-Limit.ensures.asked.searched;
+      watches = watched_more g.W.Watcher.told c.args.moves c.args.slices.now.first c.args.slices.now.start
+          c.slices.slices.first c.slices.slices.start c.args.solver.now.expanded c.slices.solver.expanded
+          c.next_limit-until.result new.expanded c.slices.solver.limit c.args.slices.now.watcher c.slices.slices.watcher
+          c.tell.new.self.watcher now.watches now.first now.start (omega arith) (omega arith) (omega (arith, at))
+          (subst (λ z. g.W.Watcher.told c.slices.slices.watcher c.args.moves (z - c.slices.slices.start)
+          c.tell.new.self.watcher) c.expanded-in-Err-Limit.ensures c.tell.ensures.told);
     }
 
 pub returns-in_default-clause-went : goal.returns-in_default-clause-went
@@ -78,3 +88,39 @@ returns-in_default-3-clause-spent g c =
     spent_later g.M.Memo.content c.args.position.now c.args.moves c.args.solver.now c.slices.solver
     c.wins_until.new.solver c.wins_until.result c.slices.invariant.spent c.wins_until.ensures.asked.count.rises
     c.wins_until.ensures.spent
+
+pub returns-in_default-clause-searched : goal.returns-in_default-clause-searched
+returns-in_default-clause-searched g c =
+    searched_more g.B.Board.geometry g.M.Memo.content g.M.Memo.dropped c.searches_add_up.ensures c.args.moves _
+    c.args.solver.now c.slices.solver c.wins_until.new.solver c.slices.invariant.searched
+    c.in-Err-Limit.ensures.asked.searched
+
+pub returns-in_default-clause-watched : goal.returns-in_default-clause-watched
+returns-in_default-clause-watched g c =
+    watched_last g.W.Watcher.told c.args.moves c.args.slices.now.first c.args.slices.now.start
+    c.args.solver.now.expanded c.slices.solver.expanded c.wins_until.new.solver.expanded c.args.slices.now.watcher
+    c.slices.slices.watcher c.slices.invariant.watches c.in-Err-Limit.ensures.asked.count.rises
+
+pub returns-in_default-2-clause-searched : goal.returns-in_default-2-clause-searched
+returns-in_default-2-clause-searched g c =
+    searched_more g.B.Board.geometry g.M.Memo.content g.M.Memo.dropped c.searches_add_up.ensures c.args.moves _
+    c.args.solver.now c.slices.solver c.wins_until.new.solver c.slices.invariant.searched
+    c.in_default.ensures.asked.searched
+
+pub returns-in_default-2-clause-watched : goal.returns-in_default-2-clause-watched
+returns-in_default-2-clause-watched g c =
+    watched_last g.W.Watcher.told c.args.moves c.args.slices.now.first c.args.slices.now.start
+    c.args.solver.now.expanded c.slices.solver.expanded c.wins_until.new.solver.expanded c.args.slices.now.watcher
+    c.slices.slices.watcher c.slices.invariant.watches c.in_default.ensures.asked.count.rises
+
+pub returns-in_default-3-clause-searched : goal.returns-in_default-3-clause-searched
+returns-in_default-3-clause-searched g c =
+    searched_more g.B.Board.geometry g.M.Memo.content g.M.Memo.dropped c.searches_add_up.ensures c.args.moves _
+    c.args.solver.now c.slices.solver c.wins_until.new.solver c.slices.invariant.searched
+    c.wins_until.ensures.asked.searched
+
+pub returns-in_default-3-clause-watched : goal.returns-in_default-3-clause-watched
+returns-in_default-3-clause-watched g c =
+    watched_last g.W.Watcher.told c.args.moves c.args.slices.now.first c.args.slices.now.start
+    c.args.solver.now.expanded c.slices.solver.expanded c.wins_until.new.solver.expanded c.args.slices.now.watcher
+    c.slices.slices.watcher c.slices.invariant.watches c.wins_until.ensures.asked.count.rises

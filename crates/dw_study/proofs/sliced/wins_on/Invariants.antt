@@ -2,8 +2,7 @@ use Rattle.std.proofs.Common.{◌≡◌, ◌-◌, ◌<◌, ◌⊎◌}
 use Rattle.dw_solve.specs.Facts.{IsDecided}
 use Rattle.dw_solve.specs.Questions.{Idle}
 use Rattle.dw_solve.specs.Searching.{IsCounted}
-use Rattle.dw_solve.specs.Work.{LossIsCounted}
-use Rattle.dw_study.specs.Slices.{GoesOn}
+use Rattle.dw_study.specs.Slices.{GoesOn, SearchedSome, Watches}
 use Rattle.dw_study.proofs.sliced.wins_on.Given as goal
 
 abbrev pub invariant-slices : goal.invariant-slices
@@ -16,7 +15,9 @@ invariant-slices g l = record {
   idle : (l.moves ≡ 0) ⊎ IsDecided (g.M.Memo.content l.initial.solver.memo) l.position l.moves
       → Idle g.M.Memo.content l.initial.solver l.solver;
   spent : (l.solver ≡ l.initial.solver) ⊎ (l.initial.solver.expanded < l.solver.expanded);
-  lost : LossIsCounted (g.M.Memo.dropped l.initial.solver.memo) (g.M.Memo.dropped l.solver.memo);
+  searched : SearchedSome g.B.Board.geometry g.M.Memo.content g.M.Memo.dropped l.moves l.initial.solver l.solver;
+  watches : Watches g.W.Watcher.told l.moves l.initial.slices.first l.initial.slices.start l.initial.solver.expanded
+      l.initial.slices.watcher l.solver.expanded l.slices.watcher;
 }
 
 abbrev pub decreases-slices : goal.decreases-slices

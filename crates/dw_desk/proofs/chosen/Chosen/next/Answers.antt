@@ -1,7 +1,7 @@
 use Rattle.std.proofs.Common.{◌∙◌, cond, [], ◌∷◌, ◌++◌, sym, subst, arith}
-use Rattle.dw_desk.specs.inner.Choosing.{AreToCome, ComesNext}
+use Rattle.dw_desk.specs.inner.Choosing.{AreToCome, ComesNext, IsKnown}
 use Rattle.dw_games.specs.GameReading.{numbered_game}
-use Rattle.dw_desk.proofs.ChosenLemmas.{less_left, none_comes, none_left, then_comes}
+use Rattle.dw_desk.proofs.ChosenLemmas.{less_left, none_comes, none_left, some_come, still_known, then_comes}
 use Rattle.dw_desk.proofs.chosen.Chosen.next.Goals as goal
 
 pub returns-in_default-clause-given : goal.returns-in_default-clause-given
@@ -43,6 +43,9 @@ games-preserved g c =
           c.next.new.self game found (subst (ComesNext geo source.coming source.has_ended old.text c.next.new.self)
           c.in-Some.is c.in_ok-game.ensures.given) c.in_ok-game.ensures.end c.games-test.true c.left_behind-self.ensures
           come));
+      known = λ start. still_known geo source.coming source.has_ended old.text c.next.new.self game
+          (subst (ComesNext geo source.coming source.has_ended old.text c.next.new.self) c.in-Some.is
+          c.in_ok-game.ensures.given) c.in_ok-game.ensures.end (c.games.invariant.known start);
       portion = c.games.invariant.portion;
       fewer = let less = less_left old.left c.left_behind-self.result _ c.games-test.true c.left_behind-self.ensures in
           omega (arith, less, c.games.invariant.fewer);
@@ -55,3 +58,14 @@ returns-clause-given g c =
     let old = c.games.self in
     c.games.invariant.handed [] (none_left g.B.Board.geometry source.coming source.has_ended old.portion old.left
     old.text c.games-test.false)
+
+pub returns-then-has-clause-more : goal.returns-then-has-clause-more
+unfolding AreToCome IsKnown
+returns-then-has-clause-more g c = λ start.
+    let source = g.S.Source in
+    let geo = g.B.Board.geometry in
+    let old = c.games.self in
+    some_come geo source.coming source.has_ended old.portion c.left_behind-self.result old.text c.next.new.self
+    c.in-Some.game
+    (subst (ComesNext geo source.coming source.has_ended old.text c.next.new.self) c.in-Some.is
+    c.in_ok-game.ensures.given) (c.games.invariant.known start)

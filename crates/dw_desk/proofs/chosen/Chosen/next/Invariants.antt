@@ -1,5 +1,5 @@
 use Rattle.std.proofs.Common.{◌≡◌, ◌≤◌, List}
-use Rattle.dw_desk.specs.inner.Choosing.{AreToCome}
+use Rattle.dw_desk.specs.inner.Choosing.{AreToCome, IsTextKnown}
 use Rattle.dw_games.specs.Games.{NumberedGame}
 use Rattle.dw_desk.proofs.chosen.Chosen.next.Given as goal
 
@@ -10,6 +10,8 @@ invariant-games g l =
     record {
       handed : (found : List NumberedGame) → AreToCome geo source.coming source.has_ended l.self found
           → AreToCome geo source.coming source.has_ended l.initial.self found;
+      known : IsTextKnown source.coming source.has_ended l.initial.self.text
+          → IsTextKnown source.coming source.has_ended l.self.text;
       portion : l.self.portion ≡ l.initial.self.portion;
       fewer : l.self.left ≤ l.initial.self.left;
     }

@@ -1,5 +1,0 @@
-use Rattle.std.proofs.Common.{◌≡◌, false}
-use Rattle.dw_desk.proofs.paging.page_games.Given as goal
-
-abbrev pub invariant-games : goal.invariant-games
-invariant-games g l = g.K.Sink.is_failed l.sink ≡ false
