@@ -132,30 +132,21 @@ def copy():
         yield Copy(pathlib.Path(name))
 
 
-def below(pid):
-    """The processes that this one started, and those that they started."""
-    parents = {}
-    for path in pathlib.Path("/proc").glob("[0-9]*/stat"):
-        with contextlib.suppress(OSError):
-            parents.setdefault(int(path.read_text().rpartition(")")[2].split()[1]), []).append(int(path.parent.name))
-    found = [pid]
-    for process in found:
-        found += parents.get(process, [])
-    return found[1:]
-
-
-def end(processes):
-    """Ends processes by their numbers, if they still run."""
-    for process in processes:
-        with contextlib.suppress(ProcessLookupError):
-            os.kill(process, signal.SIGKILL)
-
-
-def commands():
-    """The command lines of all processes."""
+def processes_of(folder):
+    """The processes whose arguments name something in this folder."""
     for path in pathlib.Path("/proc").glob("[0-9]*/cmdline"):
         with contextlib.suppress(OSError):
-            yield path.read_bytes()
+            if str(folder).encode() + b"/" in path.read_bytes():
+                yield int(path.parent.name)
+
+
+def end_all(folder):
+    """Ends the processes of this folder, and those that they start meanwhile."""
+    while found := list(processes_of(folder)):
+        for process in found:
+            with contextlib.suppress(ProcessLookupError):
+                os.kill(process, signal.SIGKILL)
+        time.sleep(0.02)
 
 
 def until(holds):
@@ -228,17 +219,20 @@ def interrupted(number):
         (made.kit / "slow").write_text("dw_moves")
         process = made.start()
         until((made.kit / "waits").exists)
-        left = below(process.pid)
         os.kill(process.pid, number)
         process.wait(timeout=PATIENCE)
         assert process.returncode != 0 and made.is_whole() and "dw_moves.rlib" not in made.libraries()
+        # Of a call that was killed the provers go on beside the next one.
         (made.kit / "slow").unlink()
         (made.kit / "waits").unlink()
         assert made.call()[0] == 0 and made.is_whole()
+        end_all(made.top.parent)
         asked = made.asked()
         assert asked.count("dw_moves") == 2 and asked.count("dw_board") == 1, asked
-        assert not list(made.top.glob("crates/*/out/**/new.*")), "what was begun still lies there"
-        end(left)  # of a call that was killed the prover goes on
+        os.utime(made.top / "crates/dw/src/main.rt")
+        assert made.call()[0] == 0 and made.asked() == ["dw"] and made.is_whole()
+        left = list(made.top.glob("crates/*/out/**/new.*"))
+        assert not left, f"what was begun still lies there: {left}"
     print(f"a call ended by {signal.Signals(number).name}: no half library, and the next call builds the rest")
 
 
@@ -252,7 +246,7 @@ def unread():
         until((made.kit / "waits").exists)
         process.stderr.close()
         assert process.wait(timeout=PATIENCE) == 3 and made.is_whole()
-        until(lambda: not any(str(made.kit).encode() in words for words in commands()))
+        until(lambda: not any(processes_of(made.kit)))
         assert not list((made.top.parent / "temporary").iterdir()), "its logs are left"
     print("a call whose messages are not read: ended, with its provers")
 
