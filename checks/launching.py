@@ -132,6 +132,25 @@ def copy():
         yield Copy(pathlib.Path(name))
 
 
+def below(pid):
+    """The processes that this one started, and those that they started."""
+    parents = {}
+    for path in pathlib.Path("/proc").glob("[0-9]*/stat"):
+        with contextlib.suppress(OSError):
+            parents.setdefault(int(path.read_text().rpartition(")")[2].split()[1]), []).append(int(path.parent.name))
+    found = [pid]
+    for process in found:
+        found += parents.get(process, [])
+    return found[1:]
+
+
+def end(processes):
+    """Ends processes by their numbers, if they still run."""
+    for process in processes:
+        with contextlib.suppress(ProcessLookupError):
+            os.kill(process, signal.SIGKILL)
+
+
 def processes_of(folder):
     """The processes whose arguments name something in this folder."""
     for path in pathlib.Path("/proc").glob("[0-9]*/cmdline"):
@@ -143,9 +162,7 @@ def processes_of(folder):
 def end_all(folder):
     """Ends the processes of this folder, and those that they start meanwhile."""
     while found := list(processes_of(folder)):
-        for process in found:
-            with contextlib.suppress(ProcessLookupError):
-                os.kill(process, signal.SIGKILL)
+        end(found)
         time.sleep(0.02)
 
 
