@@ -68,6 +68,7 @@ CHECKS = [
     Check("options"),
     Check("docs"),
     Check("definitions"),
+    Check("layers"),
     Check("calls"),
     Check("causes"),
     Check("arguments"),
@@ -78,7 +79,7 @@ SLOW = [
 # What is no check of this repository, but for whom reads what the programs write.
 READERS = ["certificate"]
 # What is a part of a check.
-PARTS = ["man_pages", "reading_order"]
+PARTS = ["draughts", "man_pages", "reading_order"]
 
 
 def purpose(check):

@@ -18,9 +18,9 @@ import statistics
 import subprocess
 import sys
 
+from draughts import Board, fen
 from judging import count_asked
-from perft import Board
-from wins import Recursion, TooLong, drawn, fen
+from wins import Recursion, TooLong, drawn
 
 TOP = pathlib.Path(__file__).resolve().parent.parent
 DESK, CHECKER = TOP / "dw-desk", TOP / "checks" / "certificate.py"

@@ -24,9 +24,8 @@ import re
 import subprocess
 from collections.abc import Callable
 
+from draughts import WAYS, Board, fen, moves, other, play
 from judging import count_asked
-from perft import WAYS, Board, moves, play
-from wins import fen, other
 
 TOP = pathlib.Path(__file__).resolve().parent.parent
 DW, DESK = TOP / "dw", TOP / "dw-desk"

@@ -21,8 +21,7 @@ import subprocess
 import bad_input
 import judging
 import solutions
-from perft import Board, pieces
-from wins import fen
+from draughts import Board, fen, pieces
 
 TOP = pathlib.Path(__file__).resolve().parent.parent
 DW = TOP / "dw"

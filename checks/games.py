@@ -15,9 +15,9 @@ import subprocess
 import tempfile
 
 import solutions
+from draughts import Board, fen
 from judging import Problems, TooMany, count_asked
-from perft import Board
-from wins import drawn, fen
+from wins import drawn
 
 TOP = pathlib.Path(__file__).resolve().parent.parent
 DW, DESK = TOP / "dw", TOP / "dw-desk"

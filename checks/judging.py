@@ -3,10 +3,10 @@
 
     checks/judging.py [--count POSITIONS]
 
-It stands on the generator of perft.py and on the rules as docs/RULES.md and docs/REPORT.md tell them, and on nothing
-of the solver: no order of moves, no cut. For so many random small positions (500 if not said; two thirds of them with a
-win) on the boards of 10 and of 8 rows, and for wins in 1 to 3 moves, it makes the whole report of each command, with
-all lines and with the first one or two, and the rest after a token; each has to be the same bytes as the program's.
+It uses the rules of draughts.py and follows docs/REPORT.md. It shares nothing with the solver: it orders no moves and
+cuts nothing. For so many random small positions (500 if not said; two thirds of them with a win) on the boards of 10
+and of 8 rows, and for wins in 1 to 3 moves, it makes the whole report of each command, with all lines and with the
+first one or two, and the rest after a token; each has to be the same bytes as the program's.
 """
 import argparse
 import itertools
@@ -16,8 +16,8 @@ import subprocess
 import sys
 import tempfile
 
-from perft import WAYS, Board, jumps, play
-from wins import drawn, fen, other
+from draughts import Board, fen, listed, other, play
+from wins import drawn
 
 DW = pathlib.Path(__file__).resolve().parent.parent / "dw"
 SEED = 15
@@ -28,40 +28,6 @@ ROOM, MOST_LINES = 4000, 3000
 
 class TooMany(Exception):
     """The recursion has no room left."""
-
-
-def paths(board, cells, square, side, king, taken, path):
-    """Each way to go on taking with the piece that came to this square, as the whole path and what it takes."""
-    ended = True
-    for over, to in jumps(board, cells, square, side, king):
-        if over not in taken:
-            ended = False
-            yield from paths(board, cells, to, side, king, taken | {over}, path + [to])
-    if ended and taken:
-        yield path, taken
-
-
-def listed(board, cells, turn):
-    """All legal moves in order, each with its least path: (from, to, taken), path."""
-    least = {}
-    for square, (side, king) in cells.items():
-        if side == turn:
-            rest = {s: p for s, p in cells.items() if s != square}
-            for path, taken in paths(board, rest, square, side, king, frozenset(), [square]):
-                move = (square, path[-1], taken)
-                least[move] = min(least.get(move, path), path)
-    if least:
-        most = max(len(taken) for _, _, taken in least)
-        least = {move: path for move, path in least.items() if len(move[2]) == most}
-    else:
-        for square, (side, king) in cells.items():
-            if side == turn:
-                for way in WAYS:
-                    to = board.next[square, way] if king or (way[0] < 0) == (side == "W") else None
-                    while to is not None and to not in cells:
-                        least[square, to, frozenset()] = [square, to]
-                        to = board.next[to, way] if king else None
-    return sorted(least.items(), key=lambda item: [item[0][0], item[0][1], *item[1][1:-1]])
 
 
 class Problems:

@@ -18,10 +18,9 @@ import subprocess
 import tempfile
 import time
 
+from draughts import Board, other, play
 from examples import position
 from judging import Problems
-from perft import Board, play
-from wins import other
 
 DW = pathlib.Path(__file__).resolve().parent.parent / "dw"
 POSITION = b"W:WK46,K47,49,50:B2\n"

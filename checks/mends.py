@@ -12,9 +12,9 @@ import pathlib
 import random
 import subprocess
 
+from draughts import Board, fen
 from judging import count_asked
-from perft import Board
-from wins import drawn, fen
+from wins import drawn
 
 TOP = pathlib.Path(__file__).resolve().parent.parent
 DW, DESK = TOP / "dw", TOP / "dw-desk"

@@ -19,10 +19,10 @@ import subprocess
 import tempfile
 import time
 
+from draughts import Board, fen, other, play
 from judging import Problems, count_asked
-from perft import Board, play
 from solutions import RESULTS, named_moves, tokens
-from wins import drawn, fen, other
+from wins import drawn
 
 TOP = pathlib.Path(__file__).resolve().parent.parent
 DW, DESK = TOP / "dw", TOP / "dw-desk"

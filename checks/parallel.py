@@ -18,9 +18,9 @@ import subprocess
 import tempfile
 import time
 
+from draughts import Board, fen
 from launching import below, end
-from perft import Board
-from wins import drawn, fen
+from wins import drawn
 
 TOP = pathlib.Path(__file__).resolve().parent.parent
 PROGRAMS = TOP / "crates/dw/out"

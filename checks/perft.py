@@ -1,5 +1,5 @@
 #!/usr/bin/env python3
-"""perft.py: counts lines of play by a plain move generator of its own, and compares them with those of dw_bench.
+"""perft.py: counts lines of play by the plain rules of draughts.py, and compares them with those of dw_bench.
 
     checks/perft.py [ROWS TURN WHITE BLACK DEPTH]     as in 6 W 13-18 1-6 7
 
@@ -10,86 +10,9 @@ stored run of dw_bench, crates/dw_bench/stdout.
 import pathlib
 import sys
 
+from draughts import Board, moves, other, pieces, play
+
 STORED = pathlib.Path(__file__).resolve().parent.parent / "crates/dw_bench/stdout"
-
-
-class Board:
-    """The dark squares of a board, numbered from 1 at the top left, and their neighbours."""
-
-    def __init__(self, rows):
-        per_row = rows // 2
-        where = {}
-        for row in range(rows):
-            for place in range(per_row):
-                where[row * per_row + place + 1] = (row, 2 * place + 1 - row % 2)
-        at = {cell: square for square, cell in where.items()}
-        self.rows, self.per_row, self.squares = rows, per_row, sorted(where)
-        self.next = {
-            (square, way): at.get((row + way[0], column + way[1]))
-            for square, (row, column) in where.items()
-            for way in WAYS
-        }
-
-    def is_last(self, side, square):
-        row = (square - 1) // self.per_row
-        return row == (0 if side == "W" else self.rows - 1)
-
-
-WAYS = [(-1, -1), (-1, 1), (1, -1), (1, 1)]
-
-
-def jumps(board, cells, square, side, king):
-    for way in WAYS:
-        over = board.next[square, way]
-        while king and over is not None and over not in cells:
-            over = board.next[over, way]
-        if over is None or over not in cells or cells[over][0] == side:
-            continue
-        to = board.next[over, way]
-        while to is not None and to not in cells:
-            yield over, to
-            if not king:
-                break
-            to = board.next[to, way]
-
-
-def chains(board, cells, square, side, king, taken):
-    ended = True
-    for over, to in jumps(board, cells, square, side, king):
-        if over not in taken:
-            ended = False
-            yield from chains(board, cells, to, side, king, taken | {over})
-    if ended and taken:
-        yield square, taken
-
-
-def moves(board, cells, turn):
-    found = set()
-    for square, (side, king) in cells.items():
-        if side == turn:
-            rest = {s: p for s, p in cells.items() if s != square}
-            for to, taken in chains(board, rest, square, side, king, frozenset()):
-                found.add((square, to, taken))
-    if found:
-        most = max(len(taken) for _, _, taken in found)
-        return {move for move in found if len(move[2]) == most}
-    for square, (side, king) in cells.items():
-        if side == turn:
-            for way in WAYS:
-                if king or (way[0] < 0) == (side == "W"):
-                    to = board.next[square, way]
-                    while to is not None and to not in cells:
-                        found.add((square, to, frozenset()))
-                        to = board.next[to, way] if king else None
-    return found
-
-
-def play(board, cells, move):
-    square, to, taken = move
-    side, king = cells[square]
-    after = {s: p for s, p in cells.items() if s != square and s not in taken}
-    after[to] = (side, king or board.is_last(side, to))
-    return after
 
 
 def perft(board, cells, turn, depth):
@@ -98,16 +21,7 @@ def perft(board, cells, turn, depth):
     found = moves(board, cells, turn)
     if depth == 1:
         return len(found)
-    other = "B" if turn == "W" else "W"
-    return sum(perft(board, play(board, cells, move), other, depth - 1) for move in found)
-
-
-def pieces(side, text):
-    for item in filter(None, text.split(",")):
-        king = item.startswith("K")
-        first, _, last = item.lstrip("K").partition("-")
-        for square in range(int(first), int(last or first) + 1):
-            yield square, (side, king)
+    return sum(perft(board, play(board, cells, move), other(turn), depth - 1) for move in found)
 
 
 def counted(rows, turn, white, black, depth):

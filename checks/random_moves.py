@@ -3,10 +3,10 @@
 
     checks/random_moves.py [--count POSITIONS]
 
-It stands on the generator of perft.py and on the rules as docs/RULES.md and docs/REPORT.md tell them. For so many
-random positions (100,000 if not said), half of them on each board, from two pieces to full boards and with few or many
-kings, it makes the whole report of `dw moves`: each legal move in order with the position after it, their number, and
-how many pieces each takes. It has to be the same bytes as the program's.
+It uses the rules of draughts.py and follows docs/REPORT.md. For so many random positions (100,000 if not said), half of
+them on each board, from two pieces to full boards and with few or many kings, it makes the whole report of `dw moves`:
+each legal move in order with the position after it, their number, and how many pieces each takes. It has to be the same
+bytes as the program's.
 """
 import itertools
 import pathlib
@@ -14,9 +14,8 @@ import random
 import subprocess
 import sys
 
+from draughts import Board, fen, other, play
 from judging import Problems, count_asked
-from perft import Board, play
-from wins import fen, other
 
 DW = pathlib.Path(__file__).resolve().parent.parent / "dw"
 SEED = 16

@@ -18,9 +18,9 @@ import re
 import subprocess
 import tempfile
 
-from judging import TooMany, Problems, count_asked, paths
-from perft import Board, play
-from wins import drawn, fen, other
+from draughts import Board, fen, other, paths, play
+from judging import TooMany, Problems, count_asked
+from wins import drawn
 
 TOP = pathlib.Path(__file__).resolve().parent.parent
 DESK = TOP / "dw-desk"

@@ -1,7 +1,7 @@
 #!/usr/bin/env python3
 """wins.py: makes the rows of small positions and least numbers of moves that the tests of the solver read.
 
-It is made by bare recursion on the generator of perft.py alone: no cache, no order of moves, nothing of the solver. The
+It is made by bare recursion on the rules of draughts.py alone: no cache, no order of moves, nothing of the solver. The
 rows are what it prints, and stand so in crates/dw_tests_search/stdin, as `checks/all.py wins` sees; made by
 
     python3 checks/wins.py
@@ -12,7 +12,7 @@ a king or with men alone, with a capture to begin with or without, and by the si
 import itertools
 import random
 
-from perft import Board, moves, play
+from draughts import Board, fen, moves, other, play
 
 SEED = 2026
 MOST = 3
@@ -53,10 +53,6 @@ class Recursion:
         return next((number for number in range(1, most + 1) if self.wins(cells, turn, number)), 0)
 
 
-def other(turn):
-    return "B" if turn == "W" else "W"
-
-
 def drawn(source, board):
     """Two to six pieces near each other, at least one of each side, none of them a man on its last row."""
     rows = source.randint(3, board.rows)
@@ -68,13 +64,6 @@ def drawn(source, board):
     for square, side in zip(source.sample(near, len(sides)), sides):
         cells[square] = (side, board.is_last(side, square) or source.random() < share)
     return cells
-
-
-def fen(cells, turn):
-    def items(side):
-        return ",".join("K" * king + str(square) for square, (owner, king) in sorted(cells.items()) if owner == side)
-
-    return f"{turn}:W{items('W')}:B{items('B')}"
 
 
 def kind_of(board, cells, turn):
