@@ -8,7 +8,7 @@ use Rattle.dw_board.specs.Geometry.{Geometry}
 use Rattle.dw_notation.specs.TextLines.{Found}
 use Rattle.dw_notation.specs.TagLaws.{TextsOfTagsSay}
 use Rattle.dw_notation.specs.declared.problems.TheConstants.{MAX_SECTION}
-use Rattle.dw_games.specs.Games.{Said, told, told_tags, said_with, HasGames, NumberedGame, games_from, AreGames}
+use Rattle.dw_games.specs.Games.{Said, told, tags_if_valid, said_with, HasGames, NumberedGame, games_from, AreGames}
 use Rattle.dw_games.specs.GameReading.{is_failure, numbered_game, GivesNext}
 use Rattle.dw_games.specs.inner.Inputs.{unread_of, Passes}
 use Rattle.dw_games.specs.inner.Keeping.{IsKept, IsKeptFor, IsTold, spaces_on, row_of}
@@ -22,7 +22,7 @@ use Rattle.dw_games.specs.declared.games.GameFault.{GameFault}
 use Rattle.dw_games.specs.declared.games.Stage.{Stage}
 use Rattle.dw_games.specs.declared.games.Stage.TheVariants.{Reading, Open, Over, Stopped}
 use Rattle.dw_games.specs.declared.input.Input.{Input}
-use Rattle.dw_games.specs.declared.kept.Kept.{Kept}
+use Rattle.dw_games.specs.declared.bounded_buf.BoundedBuf.{BoundedBuf}
 use Rattle.dw_games.specs.declared.play.PlayEnd.{PlayEnd}
 use Rattle.dw_games.specs.declared.play.PlayEnd.TheVariants.{Section, Text, Open as LeftOpen}
 use Rattle.dw_games.proofs.InputLemmas.{Passes-trans}
@@ -116,24 +116,24 @@ take-none : (text : List ℕ) → take 0 text ≡ []
 take-none [] = refl
 take-none (byte ∷ text) = refl
 
-kept_on : (found : Found) (text passed : List ℕ) (old new : Kept)
+kept_on : (found : Found) (text passed : List ℕ) (old new : BoundedBuf)
     → ((limit : ℕ) (text : List ℕ) → IsKept limit text old → IsKept limit (text ++ passed) new)
     → IsKeptFor found text old → IsKeptFor found (text ++ passed) new
 kept_on (Ok p) text passed old new push is = push _ text is
 kept_on (Err fault) text passed old new push is = push _ text is
 
-told_kept : (found : Found) (text items : List ℕ) (kept : Kept) → IsKeptFor found text kept → items ≡ kept.bytes.items
+told_kept : (found : Found) (text items : List ℕ) (kept : BoundedBuf) → IsKeptFor found text kept → items ≡ kept.bytes.items
     → told found text ≡ items
 told_kept (Ok p) text items kept is same = sym is.bytes ∙ sym same
 told_kept (Err fault) text items kept is same = sym (take-none text) ∙ sym is.bytes ∙ sym same
 
 -- ---- what is kept of a section
 told_row : (found : Found) (seen kept tags : List ℕ) → EndsWell found seen → kept ≡ take MAX_SECTION seen
-    → IsTold found kept tags → told_tags found (row_of seen) ≡ tags
+    → IsTold found kept tags → tags_if_valid found (row_of seen) ≡ tags
 told_row (Ok p) seen kept tags row same is = row-of_closed seen row ∙ sym (kept_trimmed seen kept tags row same is)
 told_row (Err fault) seen kept tags row same is = sym is
 
-kept_said : (found : Found) (seen text tags items : List ℕ) (row kept : Kept) → EndsWell found seen
+kept_said : (found : Found) (seen text tags items : List ℕ) (row kept : BoundedBuf) → EndsWell found seen
     → IsKept MAX_SECTION seen row → IsTold found row.bytes.items tags → IsKeptFor found text kept
     → items ≡ kept.bytes.items
     → said_with found (row_of seen) text ≡ record { found = found; tags = tags; movetext = items }
@@ -177,7 +177,7 @@ module _ {B S : Type 0} (g : Geometry) (coming : S → Option (List ℕ)) (has_e
 
   -- a section is read, and what stands behind it
   pub ReadsGame-section : TextsOfTagsSay → (old mid new : Games B S) (between : Input S)
-      (begun row spaces read kept movetext : Kept) (found : Found) (end : PlayEnd) (tags items : List ℕ) (game : Game B)
+      (begun row spaces read kept movetext : BoundedBuf) (found : Found) (end : PlayEnd) (tags items : List ℕ) (game : Game B)
       → (section : ReadsSection g coming has_ended is_failed pulls old.input between begun row spaces read
       (Ok (Some found)))
       → (play : ReadsPlay coming has_ended is_failed pulls between mid.input kept movetext (Ok end))
@@ -233,7 +233,7 @@ module _ {B S : Type 0} (g : Geometry) (coming : S → Option (List ℕ)) (has_e
       }
 
   -- what stands before a section is passed, and then a game is read
-  front_on : (old mid : Games B S) (before after : Kept)
+  front_on : (old mid : Games B S) (before after : BoundedBuf)
       → (play : ReadsPlay coming has_ended is_failed pulls old.input mid.input before after (Ok Section))
       → mid.handed ≡ old.handed → (read rest : List ℕ) (games : List NumberedGame)
       → unread_of old.input ++ rest ≡ play.passed ++ (unread_of mid.input ++ read)
@@ -251,7 +251,7 @@ module _ {B S : Type 0} (g : Geometry) (coming : S → Option (List ℕ)) (has_e
     numbers = ahead.numbers ∙ ap (λ c. games_from c.games ahead.said) handed;
   }
 
-  pub ReadsGame-front : (old mid new : Games B S) (before after : Kept) (result : Result (Option (Game B)) GameFault)
+  pub ReadsGame-front : (old mid new : Games B S) (before after : BoundedBuf) (result : Result (Option (Game B)) GameFault)
       → ReadsPlay coming has_ended is_failed pulls old.input mid.input before after (Ok Section)
       → mid.handed ≡ old.handed → Reads mid new result → Reads old new result
   ReadsGame-front old mid new before after (Err fault) play handed game = ReadsGame-fault old new
@@ -291,7 +291,7 @@ module _ {B S : Type 0} (g : Geometry) (coming : S → Option (List ℕ)) (has_e
       }
 
   -- no section comes, but a comment is left open
-  pub ReadsGame-open : TextsOfTagsSay → (old new : Games B S) (mid : Input S) (before after : Kept) (game : Game B)
+  pub ReadsGame-open : TextsOfTagsSay → (old new : Games B S) (mid : Input S) (before after : BoundedBuf) (game : Game B)
       → ReadsPlay coming has_ended is_failed pulls old.input mid before after (Ok LeftOpen)
       → new.input ≡ mid → (new.stage ≡ Over)
       → numbered_game game ∷ [] ≡ games_from old.handed.games (unclosed ∷ []) → Reads old new (Ok (Some game))
@@ -326,7 +326,7 @@ module _ {B S : Type 0} (g : Geometry) (coming : S → Option (List ℕ)) (has_e
       }
 
   -- the text ends
-  pub ReadsGame-end : (old new : Games B S) (before after : Kept)
+  pub ReadsGame-end : (old new : Games B S) (before after : BoundedBuf)
       → ReadsPlay coming has_ended is_failed pulls old.input new.input before after (Ok Text) → (new.stage ≡ Over)
       → Reads old new (Ok None)
   ReadsGame-end old new before after play stage = record {

@@ -14,7 +14,7 @@ use Rattle.dw_games.specs.inner.Playing.{PlaysOn}
 use Rattle.dw_games.specs.inner.Playing.InComment.{closed, left_open}
 use Rattle.dw_games.specs.declared.games.GameFault.{GameFault}
 use Rattle.dw_games.specs.declared.input.Input.{Input}
-use Rattle.dw_games.specs.declared.kept.Kept.{Kept}
+use Rattle.dw_games.specs.declared.bounded_buf.BoundedBuf.{BoundedBuf}
 use Rattle.dw_games.specs.declared.play.PlayEnd.{PlayEnd}
 use Rattle.dw_games.specs.declared.play.PlayEnd.TheVariants.{Section, Text, Open}
 use Rattle.dw_games.proofs.InputLemmas.{Passes-refl, Passes-trans}
@@ -54,10 +54,10 @@ section_byte byte false h =
     let both = and_parts (byte == 91) true h in (eqb-true byte 91 both.0, refl)
 
 module _ {S : Type 0} (coming : S → Option (List ℕ)) (has_ended is_failed : S → Bool) (pulls : S → ℕ) where
-  abbrev On : Input S → Input S → Kept → Kept → Bool → Type 0
+  abbrev On : Input S → Input S → BoundedBuf → BoundedBuf → Bool → Type 0
   On = PlaysOn coming has_ended is_failed pulls
 
-  pub PlaysOn-start : (old : Input S) (before : Kept) → On old old before before false
+  pub PlaysOn-start : (old : Input S) (before : BoundedBuf) → On old old before before false
   PlaysOn-start old before = record {
     passed = [];
     passes = Passes-refl coming has_ended is_failed pulls old;
@@ -66,7 +66,7 @@ module _ {S : Type 0} (coming : S → Option (List ℕ)) (has_ended is_failed : 
   }
 
   -- the next byte is known
-  pub PlaysOn-peek : (old mid now : Input S) (before kept : Kept) (was : Bool) → On old mid before kept was
+  pub PlaysOn-peek : (old mid now : Input S) (before kept : BoundedBuf) (was : Bool) → On old mid before kept was
       → Passes coming has_ended is_failed pulls mid now [] false → On old now before kept was
   PlaysOn-peek old mid now before kept was on peek = record {
     passed = on.passed;
@@ -77,7 +77,7 @@ module _ {S : Type 0} (coming : S → Option (List ℕ)) (has_ended is_failed : 
   }
 
   -- it is kept and passed
-  pub PlaysOn-byte : (old mid now : Input S) (before kept after : Kept) (was : Bool) (byte : ℕ)
+  pub PlaysOn-byte : (old mid now : Input S) (before kept after : BoundedBuf) (was : Bool) (byte : ℕ)
       → On old mid before kept was → unread_of mid ≡ byte ∷ drop 1 (unread_of mid)
       → ((byte == 91) && not was) ≡ false
       → ((limit : ℕ) (text : List ℕ) → IsKept limit text kept → IsKept limit (text ++ byte ∷ []) after)
@@ -96,11 +96,11 @@ module _ {S : Type 0} (coming : S → Option (List ℕ)) (has_ended is_failed : 
         (on.said g (byte ∷ more) (byte ∷ front) games (byte_on g was byte more front games none has)));
   }
 
-  abbrev Result-of : Input S → Input S → Kept → Kept → Result PlayEnd GameFault → Type 0
+  abbrev Result-of : Input S → Input S → BoundedBuf → BoundedBuf → Result PlayEnd GameFault → Type 0
   Result-of = ReadsPlay coming has_ended is_failed pulls
 
   -- a section begins
-  pub PlaysOn-section : (old now : Input S) (before after : Kept) → On old now before after false
+  pub PlaysOn-section : (old now : Input S) (before after : BoundedBuf) → On old now before after false
       → unread_of now ≡ 91 ∷ drop 1 (unread_of now) → Result-of old now before after (Ok Section)
   PlaysOn-section old now before after on next = record {
     passed = on.passed;
@@ -117,7 +117,7 @@ module _ {S : Type 0} (coming : S → Option (List ℕ)) (has_ended is_failed : 
       (subst (λ l. HasGames g (passed ++ []) l games) (append-nil passed) has)
 
   -- the text ends
-  pub PlaysOn-text : (old now : Input S) (before after : Kept) → On old now before after false
+  pub PlaysOn-text : (old now : Input S) (before after : BoundedBuf) → On old now before after false
       → (unread_of now ≡ []) × (now.met_end ≡ true) → Result-of old now before after (Ok Text)
   PlaysOn-text old now before after on end = record {
     passed = on.passed;
@@ -128,7 +128,7 @@ module _ {S : Type 0} (coming : S → Option (List ℕ)) (has_ended is_failed : 
     ends = end;
   }
 
-  pub PlaysOn-open : (old now : Input S) (before after : Kept) → On old now before after true
+  pub PlaysOn-open : (old now : Input S) (before after : BoundedBuf) → On old now before after true
       → (unread_of now ≡ []) × (now.met_end ≡ true) → Result-of old now before after (Ok Open)
   PlaysOn-open old now before after on end = record {
     passed = on.passed;
@@ -141,7 +141,7 @@ module _ {S : Type 0} (coming : S → Option (List ℕ)) (has_ended is_failed : 
   }
 
   -- the source fails, or memory is refused
-  pub PlaysOn-fault : (old mid now : Input S) (before kept after : Kept) (was : Bool) (fault : GameFault)
+  pub PlaysOn-fault : (old mid now : Input S) (before kept after : BoundedBuf) (was : Bool) (fault : GameFault)
       → On old mid before kept was
       → Passes coming has_ended is_failed pulls mid now [] (is_failure {A = PlayEnd} (Err fault))
       → Result-of old now before after (Err fault)

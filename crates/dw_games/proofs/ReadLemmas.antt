@@ -16,7 +16,7 @@ use Rattle.dw_games.specs.inner.Keeping.{IsKept, spaces_on, row_of}
 use Rattle.dw_games.specs.inner.Sectioning.{ReadsOn, ReadsSection, EndsWell}
 use Rattle.dw_games.specs.declared.games.GameFault.{GameFault}
 use Rattle.dw_games.specs.declared.input.Input.{Input}
-use Rattle.dw_games.specs.declared.kept.Kept.{Kept}
+use Rattle.dw_games.specs.declared.bounded_buf.BoundedBuf.{BoundedBuf}
 use Rattle.dw_games.proofs.InputLemmas.{Passes-refl, Passes-trans}
 use Rattle.dw_games.proofs.SectionLemmas.{first, cut_at, last_at, cut_games, last_games, empty_games, spaces_on-append}
 use Rattle.dw_games.proofs.SectionLemmas.{cut_ends_well, last_ends_well}
@@ -28,10 +28,10 @@ front_begins (p ∷ passed) behind rest byte e = (passed ++ byte ∷ [], ap (λ 
 
 module _ {B S : Type 0} (g : Geometry) (coming : S → Option (List ℕ)) (has_ended is_failed : S → Bool)
     (pulls : S → ℕ) where
-  abbrev On : Input S → Input S → Kept → Kept → Kept → Kept → SectionReader B → Type 0
+  abbrev On : Input S → Input S → BoundedBuf → BoundedBuf → BoundedBuf → BoundedBuf → SectionReader B → Type 0
   On = ReadsOn g coming has_ended is_failed pulls
 
-  pub ReadsOn-start : (old : Input S) (begun before : Kept) (reader : SectionReader B)
+  pub ReadsOn-start : (old : Input S) (begun before : BoundedBuf) (reader : SectionReader B)
       → ((over : Bool) (bytes : List ℕ) → SectionsSay g over bytes (ahead_of reader g over bytes))
       → ahead_of reader g false [] ≡ [] → On old old begun begun before before reader
   ReadsOn-start old begun before reader said unsaid = record {
@@ -44,7 +44,7 @@ module _ {B S : Type 0} (g : Geometry) (coming : S → Option (List ℕ)) (has_e
   }
 
   -- the next byte is known
-  pub ReadsOn-peek : (old mid now : Input S) (begun row before kept : Kept) (reader : SectionReader B)
+  pub ReadsOn-peek : (old mid now : Input S) (begun row before kept : BoundedBuf) (reader : SectionReader B)
       → On old mid begun row before kept reader → Passes coming has_ended is_failed pulls mid now [] false
       → On old now begun row before kept reader
   ReadsOn-peek old mid now begun row before kept reader on peek = record {
@@ -58,7 +58,7 @@ module _ {B S : Type 0} (g : Geometry) (coming : S → Option (List ℕ)) (has_e
   }
 
   -- it does not end the section
-  pub ReadsOn-byte : (old mid now : Input S) (begun row longer before kept after : Kept) (reader next : SectionReader B)
+  pub ReadsOn-byte : (old mid now : Input S) (begun row longer before kept after : BoundedBuf) (reader next : SectionReader B)
       (byte : ℕ) (result : Option Found) → On old mid begun row before kept reader
       → unread_of mid ≡ byte ∷ drop 1 (unread_of mid)
       → ((over : Bool) (more : List ℕ) → ahead_of reader g over (byte ∷ more)
@@ -85,13 +85,13 @@ module _ {B S : Type 0} (g : Geometry) (coming : S → Option (List ℕ)) (has_e
         unsaid = unsaid;
       }
 
-  nothing_ended : (old now : Input S) (begun row before kept : Kept) (reader : SectionReader B)
+  nothing_ended : (old now : Input S) (begun row before kept : BoundedBuf) (reader : SectionReader B)
       → (on : On old now begun row before kept reader) → SectionsSay g false on.passed []
   nothing_ended old now begun row before kept reader on = subst (SectionsSay g false on.passed) on.unsaid
       (subst (λ l. SectionsSay g false l (ahead_of reader g false [])) (append-nil on.passed) (on.said false []))
 
   -- it ends the section
-  pub ReadsOn-cut : TextsOfTagsSay → (old now : Input S) (begun row before kept : Kept) (reader next : SectionReader B)
+  pub ReadsOn-cut : TextsOfTagsSay → (old now : Input S) (begun row before kept : BoundedBuf) (reader next : SectionReader B)
       (byte : ℕ) (result : Option Found) (found : Found) → On old now begun row before kept reader
       → unread_of old ≡ 91 ∷ drop 1 (unread_of old) → unread_of now ≡ byte ∷ drop 1 (unread_of now)
       → ((over : Bool) (more : List ℕ) → ahead_of reader g over (byte ∷ more)
@@ -121,7 +121,7 @@ module _ {B S : Type 0} (g : Geometry) (coming : S → Option (List ℕ)) (has_e
       }
 
   -- the text ends it
-  pub ReadsOn-last : TextsOfTagsSay → (old now : Input S) (begun row before kept : Kept) (reader : SectionReader B)
+  pub ReadsOn-last : TextsOfTagsSay → (old now : Input S) (begun row before kept : BoundedBuf) (reader : SectionReader B)
       (result : Option Found) → On old now begun row before kept reader → unread_of old ≡ 91 ∷ drop 1 (unread_of old)
       → (unread_of now ≡ []) × (now.met_end ≡ true) → ahead_of reader g true [] ≡ option_to_list result
       → ReadsSection g coming has_ended is_failed pulls old now begun row before kept (Ok result)
@@ -154,7 +154,7 @@ module _ {B S : Type 0} (g : Geometry) (coming : S → Option (List ℕ)) (has_e
       }
 
   -- the source fails, or memory is refused
-  pub ReadsOn-fault : (old mid now : Input S) (begun row longer before kept after : Kept) (reader : SectionReader B)
+  pub ReadsOn-fault : (old mid now : Input S) (begun row longer before kept after : BoundedBuf) (reader : SectionReader B)
       (fault : GameFault) → On old mid begun row before kept reader
       → Passes coming has_ended is_failed pulls mid now [] (is_failure {A = Option Found} (Err fault))
       → ReadsSection g coming has_ended is_failed pulls old now begun longer before after (Err fault)

@@ -12,11 +12,11 @@ use Rattle.dw_games.specs.Faults.{IsOpen}
 use Rattle.dw_games.specs.Faults as faults
 use Rattle.dw_games.specs.Walk.{place_of, beginning_at}
 use Rattle.dw_games.specs.inner.Noting.{IsNoted}
-use Rattle.dw_games.specs.inner.Reading.{IsSpot, IsBefore, IsLine, Opened, outermost, inner}
+use Rattle.dw_games.specs.inner.Reading.{IsCursor, IsBefore, IsLine, Opened, outermost, inner}
 use Rattle.dw_games.specs.declared.tokens.TokenKind.TheVariants.{Opens, Closes}
 use Rattle.dw_games.specs.declared.movetext.TheConstants.{MAX_OPEN, MAX_PATH}
 use Rattle.dw_games.specs.declared.branches.Node.{Node}
-use Rattle.dw_games.specs.declared.reader.Spot.{Spot}
+use Rattle.dw_games.specs.declared.reader.Cursor.{Cursor}
 use Rattle.dw_games.specs.declared.reader.OpenLine.{OpenLine}
 use Rattle.dw_games.proofs.PlaceLemmas.{got_old}
 use Rattle.dw_games.proofs.PathLemmas.{last_same, filled}
@@ -71,18 +71,18 @@ module _ {B : Type 0} (g : Geometry) (p : Placement) (tree : List (List Move)) w
 
   -- ---- where a variation begins
   pub read_opens : {room : ℕ} {ts : List Token} {line : OpenLine B} {outer : List (OpenLine B)} {before moves : List Move}
-      {paths : List (List Move)} (t : Token) (spot : Spot B) → Opened g p tree (suc room) ts line outer before moves paths
-      → t.what ≡ Opens → IsBefore g p tree (Some spot) before moves
-      → (front : List Move) × Opened g p tree room (ts ++ t ∷ []) (record { now = spot; before = None })
+      {paths : List (List Move)} (t : Token) (cursor : Cursor B) → Opened g p tree (suc room) ts line outer before moves paths
+      → t.what ≡ Opens → IsBefore g p tree (Some cursor) before moves
+      → (front : List Move) × Opened g p tree room (ts ++ t ∷ []) (record { now = cursor; before = None })
       (outer ++ line ∷ []) (before ++ front) [] paths
-  read_opens {room = room} {ts = ts} {line = line} {outer = outer} {before = before} {paths = paths} t spot o e is =
+  read_opens {room = room} {ts = ts} {line = line} {outer = outer} {before = before} {paths = paths} t cursor o e is =
       let last : Opened g p tree (suc room) ts line outer before (is.0 ++ is.1 ∷ []) paths =
       subst (λ x. Opened g p tree (suc room) ts line outer before x paths) is.2 o in
-      let now : IsSpot g p tree spot ((before ++ is.0) ++ []) = rw append-nil is.3 in
-      let start : IsLine g p tree (record { now = spot; before = None }) (before ++ is.0) [] =
+      let now : IsCursor g p tree cursor ((before ++ is.0) ++ []) = rw append-nil is.3 in
+      let start : IsLine g p tree (record { now = cursor; before = None }) (before ++ is.0) [] =
       record { now = now; earlier = refl } in (
         is.0,
-        subst (λ x. Opened g p tree room (ts ++ t ∷ []) (record { now = spot; before = None }) (outer ++ line ∷ [])
+        subst (λ x. Opened g p tree room (ts ++ t ∷ []) (record { now = cursor; before = None }) (outer ++ line ∷ [])
             (before ++ is.0) [] x) (append-nil paths) (inner is.0 is.1 t last e empty start),
       )
 
@@ -130,22 +130,22 @@ beginning_kept tree more None b e = e
 beginning_kept tree more (Some n) b e = got_old tree more b n e
 
 module _ {B : Type 0} (g : Geometry) (p : Placement) (tree more : List (List Move)) where
-  spot_kept : (spot : Spot B) (path : List Move) → IsSpot g p tree spot path → IsSpot g p (tree ++ more) spot path
-  spot_kept spot path h = record {
-    there = beginning_kept tree more (place_of spot.node) path h.there;
+  cursor_kept : (cursor : Cursor B) (path : List Move) → IsCursor g p tree cursor path → IsCursor g p (tree ++ more) cursor path
+  cursor_kept cursor path h = record {
+    there = beginning_kept tree more (place_of cursor.node) path h.there;
     position = h.position;
     many = h.many;
   }
 
-  before_kept : (spot : Option (Spot B)) (before moves : List Move) → IsBefore g p tree spot before moves
-      → IsBefore g p (tree ++ more) spot before moves
+  before_kept : (cursor : Option (Cursor B)) (before moves : List Move) → IsBefore g p tree cursor before moves
+      → IsBefore g p (tree ++ more) cursor before moves
   before_kept None before moves h = h
-  before_kept (Some spot) before moves h = (h.0, h.1, h.2, spot_kept spot (before ++ h.0) h.3)
+  before_kept (Some cursor) before moves h = (h.0, h.1, h.2, cursor_kept cursor (before ++ h.0) h.3)
 
   line_kept : (line : OpenLine B) (before moves : List Move) → IsLine g p tree line before moves
       → IsLine g p (tree ++ more) line before moves
   line_kept line before moves h = record {
-    now = spot_kept line.now (before ++ moves) h.now;
+    now = cursor_kept line.now (before ++ moves) h.now;
     earlier = before_kept line.before before moves h.earlier;
   }
 

@@ -26,7 +26,7 @@ use Rattle.dw_games.specs.declared.movetext.TheConstants.{MAX_OPEN, MAX_PATH}
 use Rattle.dw_games.specs.declared.fault.MovetextFaultKind.TheVariants.{Token as NoToken, Variation}
 use Rattle.dw_games.specs.declared.fault.MovetextFaultKind.TheVariants.{Unclosed, TooDeep, TooLong}
 use Rattle.dw_games.specs.declared.branches.Node.{Node}
-use Rattle.dw_games.specs.declared.reader.Spot.{Spot}
+use Rattle.dw_games.specs.declared.reader.Cursor.{Cursor}
 use Rattle.dw_games.specs.declared.reader.OpenLine.{OpenLine}
 use Rattle.dw_games.specs.declared.reader.Reader.{Reader}
 use Rattle.dw_games.proofs.ReadingLemmas.{opened_open, opened_line, opened_room, read_passed, read_opens, read_closes}
@@ -87,28 +87,28 @@ module _ {B : Type 0} (g : Geometry) (p : Placement) (ts : List Token) (r : Read
       let no : h.moves ≡ [] = subst (λ x. IsBefore g p r.tree x h.before h.moves) none line.earlier in
       no_move_before (subst (λ x. IsOpen g p h.room ts h.before x) no (opened_open g p r.tree h.opened)) is
 
-  earlier : (spot : Spot B) → r.line.before ≡ Some spot → IsBefore g p r.tree (Some spot) h.before h.moves
-  earlier spot e =
+  earlier : (cursor : Cursor B) → r.line.before ≡ Some cursor → IsBefore g p r.tree (Some cursor) h.before h.moves
+  earlier cursor e =
       let line = opened_line g p r.tree h.opened in
       subst (λ x. IsBefore g p r.tree x h.before h.moves) e line.earlier
 
-  pub fault_deep : (spot : Spot B) → r.line.before ≡ Some spot → MAX_OPEN ≤ length r.outer.items → t.what ≡ Opens
+  pub fault_deep : (cursor : Cursor B) → r.line.before ≡ Some cursor → MAX_OPEN ≤ length r.outer.items → t.what ≡ Opens
       → FaultAt g p ts t TooDeep
-  fault_deep spot e full is =
-      let before = earlier spot e in
+  fault_deep cursor e full is =
+      let before = earlier cursor e in
       let room = opened_room g p r.tree h.opened in
       let none : h.room ≡ zero = omega (arith, room, full) in
       too_deep before.0 before.1 (subst (λ x. IsOpen g p x ts h.before (before.0 ++ before.1 ∷ [])) none
       (subst (λ x. IsOpen g p h.room ts h.before x) before.2 (opened_open g p r.tree h.opened))) is
 
-  pub taken_opens : (next : Reader B) (spot : Spot B) → r.line.before ≡ Some spot → length r.outer.items < MAX_OPEN
-      → t.what ≡ Opens → next.tree ≡ r.tree → next.line ≡ record { now = spot; before = None }
+  pub taken_opens : (next : Reader B) (cursor : Cursor B) → r.line.before ≡ Some cursor → length r.outer.items < MAX_OPEN
+      → t.what ≡ Opens → next.tree ≡ r.tree → next.line ≡ record { now = cursor; before = None }
       → next.outer.items ≡ r.outer.items ++ r.line ∷ [] → HasRead g p (ts ++ t ∷ []) next
-  taken_opens next spot e fits is tree line outer =
+  taken_opens next cursor e fits is tree line outer =
       let room = opened_room g p r.tree h.opened in
       let left = one_less h.room (omega (arith, room, fits)) in
-      let opened = read_opens g p r.tree t spot (subst (λ x. Opened g p r.tree x ts r.line r.outer.items h.before h.moves
-      h.paths) left.1 h.opened) is (earlier spot e) in
+      let opened = read_opens g p r.tree t cursor (subst (λ x. Opened g p r.tree x ts r.line r.outer.items h.before h.moves
+      h.paths) left.1 h.opened) is (earlier cursor e) in
       record {
         room = left.0;
         before = h.before ++ opened.0;

@@ -17,9 +17,9 @@ pub record Said : Type 0 where
   pub movetext : List ℕ
 
 -- a section is told as it stands in the text; of a refused one nothing is
-abbrev pub told_tags : Found → List ℕ → List ℕ
-told_tags (Ok position) text = text
-told_tags (Err fault) text = []
+abbrev pub tags_if_valid : Found → List ℕ → List ℕ
+tags_if_valid (Ok position) text = text
+tags_if_valid (Err fault) text = []
 
 -- Of a movetext so many bytes are told that one which is too large is seen to be; of that of a refused section none.
 abbrev pub told : Found → List ℕ → List ℕ
@@ -27,7 +27,7 @@ told (Ok position) movetext = take (MAX_MOVETEXT + 1) movetext
 told (Err fault) movetext = []
 
 abbrev pub said_with : Found → (text movetext : List ℕ) → Said
-said_with found text movetext = record { found = found; tags = told_tags found text; movetext = told found movetext }
+said_with found text movetext = record { found = found; tags = tags_if_valid found text; movetext = told found movetext }
 
 -- A row of comments, sections and other bytes: its front, before the first section, and what the sections say in turn.
 -- The movetext of a section is what stands behind its last tag, up to the next section.

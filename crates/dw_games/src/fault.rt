@@ -1,5 +1,5 @@
 //! Why a text is no movetext, or no written line.
-ghost use Rattle.std.specs.Prelude.{◌≡◌};
+ghost use Rattle.std.specs.Prelude.{◌≡◌, Some};
 ghost use Rattle.dw_games.specs.declared.fault.MovetextFault.TheVariants.{Memory};
 ghost use Rattle.dw_games.specs.Faults.{name_of, number_of};
 ghost use Rattle.dw_games.specs.Lines.{line_fault_of, line_name_of, line_number_of};
@@ -75,6 +75,8 @@ impl MovetextFaultKind {
 }
 
 impl fmt::Display for MovetextFaultKind {
+    ghost output = { λ kind. Some (name_of kind) };
+
     fn fmt<W: fmt::Write>(&self, f: &mut fmt::Formatter<W>) -> fmt::Result {
         f.write_str(self.name())
     }
@@ -137,6 +139,8 @@ impl LineFaultKind {
 }
 
 impl fmt::Display for LineFaultKind {
+    ghost output = { λ kind. Some (line_name_of kind) };
+
     fn fmt<W: fmt::Write>(&self, f: &mut fmt::Formatter<W>) -> fmt::Result {
         f.write_str(self.name())
     }

@@ -5,11 +5,11 @@ ghost use Rattle.dw_games.specs.declared.games.Stage.TheVariants.{Over};
 ghost use Rattle.dw_games.specs.inner.GameReaders.{stage_behind};
 ghost use Rattle.dw_games.specs.inner.Keeping.{IsKept, IsKeptFor, IsTold};
 
+use crate::bounded_buf::BoundedBuf;
 use crate::count::Count;
 use crate::input::Input;
-use crate::kept::Kept;
 use crate::movetext::MAX_MOVETEXT;
-use crate::play::{PlayEnd, read_play};
+use crate::play::{PlayEnd, scan_to_section};
 use crate::section::read_section;
 use dw_board::{Board, Position};
 use dw_notation::problems::MAX_SECTION;
@@ -71,20 +71,24 @@ fn stage_behind(end: PlayEnd) -> Stage
 }
 
 /// What is kept of a movetext that begins so, by what its section says.
-fn kept_for<B: Board>(alloc: Global, found: &Result<Position<B>, ProblemFault>, begun: Kept) -> Kept
+fn movetext_if_valid<B: Board>(
+    alloc: Global,
+    found: &Result<Position<B>, ProblemFault>,
+    begun: BoundedBuf,
+) -> BoundedBuf
     ensures { (text : List ℕ) → IsKept (MAX_MOVETEXT + 1) text begun → IsKeptFor found.now text result }
 {
     match found {
         Ok(_) => begun,
-        Err(_) => Kept::new(alloc, 0),
+        Err(_) => BoundedBuf::new(alloc, 0),
     }
 }
 
 /// What is told of a section's tags, by what it says and by what is kept of it and of the spaces behind.
-fn told_tags<B: Board>(
+fn tags_if_valid<B: Board>(
     alloc: Global,
     found: &Result<Position<B>, ProblemFault>,
-    row: Kept,
+    row: BoundedBuf,
 ) -> Vec<u8>
     ensures { IsTold found.now row.bytes.items result.items }
 {
@@ -190,14 +194,14 @@ impl<'a, B: Board, S: Source> Games<'a, B, S> {
         ensures { ReadsGame B.geometry S.coming S.has_ended S.is_failed S.pulls_left self.old self.new result }
     {
         dw_notation::laws::texts_of_tags_say();
-        let mut row = Kept::new(self.alloc, MAX_SECTION);
-        let mut spaces = Kept::new(self.alloc, MAX_MOVETEXT + 1);
+        let mut row = BoundedBuf::new(self.alloc, MAX_SECTION);
+        let mut spaces = BoundedBuf::new(self.alloc, MAX_MOVETEXT + 1);
         let Some(found) = read_section::<B, S>(&mut self.input, &mut row, &mut spaces)? else {
             return Ok(None);
         };
-        let tags = told_tags(self.alloc, &found, row);
-        let mut movetext = kept_for(self.alloc, &found, spaces);
-        self.stage = stage_behind(read_play(&mut self.input, &mut movetext)?);
+        let tags = tags_if_valid(self.alloc, &found, row);
+        let mut movetext = movetext_if_valid(self.alloc, &found, spaces);
+        self.stage = stage_behind(scan_to_section(&mut self.input, &mut movetext)?);
         Ok(Some(self.hand_out(found, tags, movetext.into_bytes())))
     }
 
@@ -206,8 +210,8 @@ impl<'a, B: Board, S: Source> Games<'a, B, S> {
         ensures { ReadsGame B.geometry S.coming S.has_ended S.is_failed S.pulls_left self.old self.new result }
     {
         dw_notation::laws::texts_of_tags_say();
-        let mut front = Kept::new(self.alloc, 0);
-        match read_play(&mut self.input, &mut front)? {
+        let mut front = BoundedBuf::new(self.alloc, 0);
+        match scan_to_section(&mut self.input, &mut front)? {
             PlayEnd::Section => self.read_game(),
             PlayEnd::Open => Ok(Some(self.hand_out_open())),
             PlayEnd::Text => {

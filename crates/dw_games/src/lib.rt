@@ -10,13 +10,13 @@
 //! An example tells a position by its FEN text, on the board of ten rows if it names no other.
 #![tactic(auto)]
 
+mod bounded_buf;
 mod branches;
 mod class;
 mod count;
 pub mod fault;
 pub mod games;
 mod input;
-mod kept;
 pub mod laws;
 pub mod line;
 pub mod movetext;

@@ -2,9 +2,9 @@
 ghost use Rattle.std.specs.Prelude.{◌≡◌};
 ghost use Rattle.dw_games.specs.inner.Playing.{ReadsPlay, begins_section, is_in_comment};
 
+use crate::bounded_buf::BoundedBuf;
 use crate::games::GameFault;
 use crate::input::Input;
-use crate::kept::Kept;
 use dw_notation::Source;
 
 /// What stands behind bytes without a section.
@@ -33,9 +33,9 @@ fn is_in_comment(was: bool, byte: u8) -> bool
 }
 
 /// Passes the bytes up to a section or the end of the text, and keeps them.
-pub(crate) fn read_play<S: Source>(
+pub(crate) fn scan_to_section<S: Source>(
     input: &mut Input<'_, S>,
-    kept: &mut Kept,
+    kept: &mut BoundedBuf,
 ) -> Result<PlayEnd, GameFault>
     ensures { ReadsPlay S.coming S.has_ended S.is_failed S.pulls_left input.old input.new kept.old kept.new result }
 {

@@ -21,7 +21,7 @@ use std::alloc::{AllocError, Global};
 
 /// Where reading stands: behind a beginning of the tree, by its node, the position after it, and how many moves it has.
 #[derive(Clone, Copy)]
-struct Spot<B: Board> {
+struct Cursor<B: Board> {
     node: Option<Node>,
     position: Position<B>,
     moves: usize,
@@ -30,13 +30,13 @@ struct Spot<B: Board> {
 /// A variation that is open: where it stands now, and where it stood before its last move, if it has one.
 #[derive(Clone, Copy)]
 struct OpenLine<B: Board> {
-    now: Spot<B>,
-    before: Option<Spot<B>>,
+    now: Cursor<B>,
+    before: Option<Cursor<B>>,
 }
 
 impl<B: Board> OpenLine<B> {
     /// A variation without moves.
-    fn from(now: Spot<B>) -> Self
+    fn from(now: Cursor<B>) -> Self
         ensures { result ≡ record { now = now; before = None } }
     {
         OpenLine { now, before: None }
@@ -46,7 +46,7 @@ impl<B: Board> OpenLine<B> {
 /// One at the empty board, to fill an array with.
 impl<B: Board> Default for OpenLine<B> {
     fn default() -> Self {
-        OpenLine::from(Spot {
+        OpenLine::from(Cursor {
             node: None,
             position: Position::empty(Side::White),
             moves: 0,
@@ -74,7 +74,7 @@ impl<B: Board> Reader<B> {
         Reader {
             alloc,
             tree: Tree::new(alloc),
-            line: OpenLine::from(Spot {
+            line: OpenLine::from(Cursor {
                 node: None,
                 position,
                 moves: 0,
@@ -174,7 +174,7 @@ impl<B: Board> Reader<B> {
         let mv = self.move_of(token)?;
         let node = self.tree.note(now.node, &mv)?;
         self.line = OpenLine {
-            now: Spot {
+            now: Cursor {
                 node: Some(node),
                 position: play(&now.position, &mv),
                 moves: now.moves + 1,

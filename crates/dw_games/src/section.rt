@@ -5,16 +5,16 @@ ghost use Rattle.dw_games.specs.inner.Inputs.{unread_of};
 ghost use Rattle.dw_games.specs.inner.Keeping.{IsKept};
 ghost use Rattle.dw_games.specs.inner.Sectioning.{ReadsSection};
 
+use crate::bounded_buf::BoundedBuf;
 use crate::class::is_space;
 use crate::games::GameFault;
 use crate::input::Input;
-use crate::kept::Kept;
 use dw_board::{Board, Position};
 use dw_notation::{ProblemFault, SectionReader, Source};
 use std::alloc::AllocError;
 
 /// Keeps a byte, if it is a space, behind the spaces that stand before it.
-fn keep_space(spaces: &mut Kept, byte: u8) -> Result<(), AllocError>
+fn keep_space(spaces: &mut BoundedBuf, byte: u8) -> Result<(), AllocError>
     ensures { (limit : ℕ) (text : List ℕ) → IsKept limit text spaces.old
         → OnOk result (IsKept limit (if is_space_byte byte then text ++ byte ∷ [] else []) spaces.new) }
 {
@@ -30,8 +30,8 @@ fn keep_space(spaces: &mut Kept, byte: u8) -> Result<(), AllocError>
 /// the spaces also alone.
 pub(crate) fn read_section<B: Board, S: Source>(
     input: &mut Input<'_, S>,
-    row: &mut Kept,
-    spaces: &mut Kept,
+    row: &mut BoundedBuf,
+    spaces: &mut BoundedBuf,
 ) -> Result<Option<Result<Position<B>, ProblemFault>>, GameFault>
     requires { unread_of input.old ≡ open_bracket ∷ drop 1 (unread_of input.old) }
     ensures { ReadsSection B.geometry S.coming S.has_ended S.is_failed S.pulls_left input.old input.new

@@ -4,15 +4,15 @@ use Rattle.std.specs.Str.{IsTrimAsciiEnd}
 use Rattle.dw_notation.specs.TextLines.{Found}
 use Rattle.dw_notation.specs.Tags.{is_space}
 use Rattle.dw_games.specs.declared.movetext.TheConstants.{MAX_MOVETEXT}
-use Rattle.dw_games.specs.declared.kept.Kept.{Kept}
+use Rattle.dw_games.specs.declared.bounded_buf.BoundedBuf.{BoundedBuf}
 
 -- so many bytes of a text are kept
-pub record IsKept (limit : ℕ) (text : List ℕ) (kept : Kept) : Type 0 where
+pub record IsKept (limit : ℕ) (text : List ℕ) (kept : BoundedBuf) : Type 0 where
   pub most : kept.limit ≡ limit
   pub bytes : kept.bytes.items ≡ take limit text
 
 -- of a text what is kept that is a movetext's beginning, by what its section says
-abbrev pub IsKeptFor : Found → List ℕ → Kept → Type 0
+abbrev pub IsKeptFor : Found → List ℕ → BoundedBuf → Type 0
 IsKeptFor (Ok position) text kept = IsKept (MAX_MOVETEXT + 1) text kept
 IsKeptFor (Err fault) text kept = IsKept 0 text kept
 

@@ -11,7 +11,7 @@ use Rattle.dw_games.specs.inner.Inputs.{unread_of, Passes}
 use Rattle.dw_games.specs.inner.Keeping.{IsKept}
 use Rattle.dw_games.specs.declared.games.GameFault.{GameFault}
 use Rattle.dw_games.specs.declared.input.Input.{Input}
-use Rattle.dw_games.specs.declared.kept.Kept.{Kept}
+use Rattle.dw_games.specs.declared.bounded_buf.BoundedBuf.{BoundedBuf}
 use Rattle.dw_games.specs.declared.play.PlayEnd.{PlayEnd}
 use Rattle.dw_games.specs.declared.play.PlayEnd.TheVariants.{Section, Text, Open}
 
@@ -50,7 +50,7 @@ EndsAt Open input = (unread_of input ≡ []) × (input.met_end ≡ true)
 
 -- bytes without a section are passed and kept
 pub record ReadsPlay {S : Type 0} (coming : S → Option (List ℕ)) (has_ended is_failed : S → Bool) (pulls : S → ℕ)
-    (old new : Input S) (before after : Kept) (result : Result PlayEnd GameFault) : Type 0 where
+    (old new : Input S) (before after : BoundedBuf) (result : Result PlayEnd GameFault) : Type 0 where
   pub passed : List ℕ
   pub passes : Passes coming has_ended is_failed pulls old new passed (is_failure result)
   pub kept : OnOk result ((limit : ℕ) (text : List ℕ) → IsKept limit text before → IsKept limit (text ++ passed) after)
@@ -60,7 +60,7 @@ pub record ReadsPlay {S : Type 0} (coming : S → Option (List ℕ)) (has_ended 
 
 -- so far bytes without a section were passed and kept
 pub record PlaysOn {S : Type 0} (coming : S → Option (List ℕ)) (has_ended is_failed : S → Bool) (pulls : S → ℕ)
-    (old now : Input S) (before kept : Kept) (is_comment : Bool) : Type 0 where
+    (old now : Input S) (before kept : BoundedBuf) (is_comment : Bool) : Type 0 where
   pub passed : List ℕ
   pub passes : Passes coming has_ended is_failed pulls old now passed false
   pub keeps : (limit : ℕ) (text : List ℕ) → IsKept limit text before → IsKept limit (text ++ passed) kept

@@ -17,28 +17,28 @@ use Rattle.dw_games.specs.declared.fault.MovetextFaultKind.TheVariants.{Token as
 use Rattle.dw_games.specs.declared.movetext.TheConstants.{MAX_OPEN, MAX_PATH}
 use Rattle.dw_games.specs.declared.fault.MovetextFault.{MovetextFault}
 use Rattle.dw_games.specs.declared.fault.MovetextFault.TheVariants.{Refused, Memory}
-use Rattle.dw_games.specs.declared.reader.Spot.{Spot}
+use Rattle.dw_games.specs.declared.reader.Cursor.{Cursor}
 use Rattle.dw_games.specs.declared.reader.OpenLine.{OpenLine}
 use Rattle.dw_games.specs.declared.reader.Reader.{Reader}
 
--- a spot is behind this path of a tree
-pub record IsSpot {B : Type 0} (g : Geometry) (p : Placement) (tree : List (List Move)) (spot : Spot B)
+-- a cursor is behind this path of a tree
+pub record IsCursor {B : Type 0} (g : Geometry) (p : Placement) (tree : List (List Move)) (cursor : Cursor B)
     (path : List Move) : Type 0 where
-  pub there : beginning_at tree (place_of spot.node) ≡ Some path
-  pub position : spot.position ≡ after g p path
-  pub many : spot.moves ≡ length path
+  pub there : beginning_at tree (place_of cursor.node) ≡ Some path
+  pub position : cursor.position ≡ after g p path
+  pub many : cursor.moves ≡ length path
 
--- a spot is before the last of these moves, or there is none
-abbrev pub IsBefore : {B : Type 0} → Geometry → Placement → List (List Move) → Option (Spot B) → List Move → List Move
+-- a cursor is before the last of these moves, or there is none
+abbrev pub IsBefore : {B : Type 0} → Geometry → Placement → List (List Move) → Option (Cursor B) → List Move → List Move
     → Type 0
 IsBefore g p tree None before moves = moves ≡ []
-IsBefore g p tree (Some spot) before moves = (front : List Move) × (last : Move) × (moves ≡ front ++ last ∷ [])
-    × IsSpot g p tree spot (before ++ front)
+IsBefore g p tree (Some cursor) before moves = (front : List Move) × (last : Move) × (moves ≡ front ++ last ∷ [])
+    × IsCursor g p tree cursor (before ++ front)
 
 -- a line stands in a variation that begins after some moves and has some of its own
 pub record IsLine {B : Type 0} (g : Geometry) (p : Placement) (tree : List (List Move)) (line : OpenLine B)
     (before moves : List Move) : Type 0 where
-  pub now : IsSpot g p tree line.now (before ++ moves)
+  pub now : IsCursor g p tree line.now (before ++ moves)
   pub earlier : IsBefore g p tree line.before before moves
 
 -- the lines of all variations that are open, the innermost one first, and the paths so far

@@ -15,7 +15,7 @@ use Rattle.dw_games.specs.inner.Inputs.{unread_of, Passes}
 use Rattle.dw_games.specs.inner.Keeping.{IsKept, spaces_on, row_of}
 use Rattle.dw_games.specs.declared.games.GameFault.{GameFault}
 use Rattle.dw_games.specs.declared.input.Input.{Input}
-use Rattle.dw_games.specs.declared.kept.Kept.{Kept}
+use Rattle.dw_games.specs.declared.bounded_buf.BoundedBuf.{BoundedBuf}
 
 -- bytes that are a section and the gap behind it, which this byte ends
 pub record IsCut (g : Geometry) (seen : List ℕ) (byte : ℕ) (found : Found) : Type 0 where
@@ -57,7 +57,7 @@ EndsWell (Err fault) seen = Unit {0}
 
 -- so far the bytes of a section were passed, and they and the spaces at their end are kept
 pub record ReadsOn {B S : Type 0} (g : Geometry) (coming : S → Option (List ℕ)) (has_ended is_failed : S → Bool)
-    (pulls : S → ℕ) (old now : Input S) (begun row before kept : Kept) (reader : SectionReader B) : Type 0 where
+    (pulls : S → ℕ) (old now : Input S) (begun row before kept : BoundedBuf) (reader : SectionReader B) : Type 0 where
   pub passed : List ℕ
   pub passes : Passes coming has_ended is_failed pulls old now passed false
   pub rows : (limit : ℕ) → IsKept limit [] begun → IsKept limit passed row
@@ -67,7 +67,7 @@ pub record ReadsOn {B S : Type 0} (g : Geometry) (coming : S → Option (List �
 
 -- a section is passed, with the games of a text that goes on behind it
 pub record ReadsSection {S : Type 0} (g : Geometry) (coming : S → Option (List ℕ)) (has_ended is_failed : S → Bool)
-    (pulls : S → ℕ) (old new : Input S) (begun row before after : Kept) (result : Result (Option Found) GameFault) :
+    (pulls : S → ℕ) (old new : Input S) (begun row before after : BoundedBuf) (result : Result (Option Found) GameFault) :
     Type 0 where
   pub passed : List ℕ
   pub passes : Passes coming has_ended is_failed pulls old new passed (is_failure result)

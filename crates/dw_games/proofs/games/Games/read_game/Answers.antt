@@ -11,15 +11,15 @@ returns-in_err-found g c =
     rw (e.1, e.2) (ReadsGame-fault g.B.Board.geometry s.coming s.has_ended s.is_failed s.pulls_left _ _
     c.in_err-found.ensures.passed c.in_err-found.field-0.0 c.in_err-found.ensures.passes)
 
-pub returns-in_err-read_play : goal.returns-in_err-read_play
-returns-in_err-read_play g c =
+pub returns-in_err-scan_to_section : goal.returns-in_err-scan_to_section
+returns-in_err-scan_to_section g c =
     let s = g.S.Source in
     let section = rw c.in-Some.is at c.in_ok-found.ensures in
-    let e = err_from_is_err_and c.from_residual-in_err-read_play.result c.from_residual-in_err-read_play.ensures.1 in
+    let e = err_from_is_err_and c.from_residual-in_err-scan_to_section.result c.from_residual-in_err-scan_to_section.ensures.1 in
     rw (e.1, e.2) (ReadsGame-fault g.B.Board.geometry s.coming s.has_ended s.is_failed s.pulls_left _ _
-    (section.passed ++ c.in_err-read_play.ensures.passed) c.in_err-read_play.field-0.0
+    (section.passed ++ c.in_err-scan_to_section.ensures.passed) c.in_err-scan_to_section.field-0.0
     (Passes-trans s.coming s.has_ended s.is_failed s.pulls_left _ c.read_section.new.input _ section.passed
-    c.in_err-read_play.ensures.passed _ section.passes c.in_err-read_play.ensures.passes))
+    c.in_err-scan_to_section.ensures.passed _ section.passes c.in_err-scan_to_section.ensures.passes))
 
 pub returns : goal.returns
 returns g c =
@@ -27,7 +27,7 @@ returns g c =
     let section = rw c.in-Some.is at c.in_ok-found.ensures in
     ReadsGame-section g.B.Board.geometry s.coming s.has_ended s.is_failed s.pulls_left c.texts_of_tags_say.ensures _
     _ c.hand_out.new.self c.read_section.new.input c.new-row.result c.read_section.new.row c.new-spaces.result
-    c.read_section.new.spaces c.kept_for-movetext.result c.read_play.new.kept c.in-Some.found c.in_ok-read_play.field-0
-    c.told_tags-tags.result.items c.into_bytes.result.items c.hand_out.result section c.in_ok-read_play.ensures
-    c.new-row.ensures c.told_tags-tags.ensures c.new-spaces.ensures c.kept_for-movetext.ensures
+    c.read_section.new.spaces c.movetext_if_valid-movetext.result c.scan_to_section.new.kept c.in-Some.found c.in_ok-scan_to_section.field-0
+    c.tags_if_valid-tags.result.items c.into_bytes.result.items c.hand_out.result section c.in_ok-scan_to_section.ensures
+    c.new-row.ensures c.tags_if_valid-tags.ensures c.new-spaces.ensures c.movetext_if_valid-movetext.ensures
     c.into_bytes.ensures c.stage_behind-self.ensures refl c.hand_out.ensures.input c.hand_out.ensures.given

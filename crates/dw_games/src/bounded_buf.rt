@@ -7,18 +7,18 @@ use std::alloc::{AllocError, Global};
 
 /// The first bytes of a text, no more than a limit.
 #[derive(Drop)]
-pub(crate) struct Kept {
+pub(crate) struct BoundedBuf {
     alloc: Global,
     bytes: Vec<u8>,
     limit: usize,
 }
 
-impl Kept {
+impl BoundedBuf {
     /// Of the empty text.
-    pub(crate) fn new(alloc: Global, limit: usize) -> Kept
+    pub(crate) fn new(alloc: Global, limit: usize) -> BoundedBuf
         ensures { IsKept limit [] result }
     {
-        Kept {
+        BoundedBuf {
             alloc,
             bytes: Vec::new(alloc),
             limit,
@@ -47,7 +47,7 @@ impl Kept {
     pub(crate) fn into_bytes(self) -> Vec<u8>
         ensures { result.items ≡ self.bytes.items }
     {
-        let Kept {
+        let BoundedBuf {
             alloc: _,
             bytes,
             limit: _,

@@ -1,6 +1,6 @@
 use Rattle.dw_games.specs.inner.Inputs.{unread_of, weight}
 use Rattle.dw_games.specs.inner.Playing.{PlaysOn}
-use Rattle.dw_games.proofs.play.read_play.Given as goal
+use Rattle.dw_games.proofs.play.scan_to_section.Given as goal
 
 abbrev pub invariant-bytes : goal.invariant-bytes
 invariant-bytes g l =

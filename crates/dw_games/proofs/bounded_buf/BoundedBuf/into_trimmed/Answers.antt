@@ -1,7 +1,7 @@
 use Rattle.std.proofs.Common.{length, take, List, ℕ, subst, ap, ◌∙◌}
 use Rattle.std.specs.Str.{IsTrimAsciiEnd}
 use Rattle.dw_games.proofs.TrimLemmas.{cut_to_trimmed}
-use Rattle.dw_games.proofs.kept.Kept.into_trimmed.Goals as goal
+use Rattle.dw_games.proofs.bounded_buf.BoundedBuf.into_trimmed.Goals as goal
 
 pub returns : goal.returns
 returns c =

@@ -3,7 +3,7 @@ use Rattle.std.proofs.lemmas.Result.{err_from_is_err_and}
 use Rattle.dw_games.proofs.InputLemmas.{Passes-refl}
 use Rattle.dw_games.proofs.PlayLemmas.{section_byte, PlaysOn-peek, PlaysOn-byte, PlaysOn-section, PlaysOn-text}
 use Rattle.dw_games.proofs.PlayLemmas.{PlaysOn-open, PlaysOn-fault}
-use Rattle.dw_games.proofs.play.read_play.Goals as goal
+use Rattle.dw_games.proofs.play.scan_to_section.Goals as goal
 
 pub returns-in_err-byte : goal.returns-in_err-byte
 returns-in_err-byte g c =
