@@ -8,7 +8,7 @@ ghost use Rattle.dw_solution.specs.inner.Feeds.{fed, IsUnbroken, AreUnbroken};
 use crate::fill::fill;
 use crate::first::FirstLines;
 use crate::heading::Heading;
-use crate::writer::{Spot, Writer};
+use crate::writer::{WriteState, Writer};
 use dw_board::{Board, Position, Side};
 use itoa::Buffer;
 use std::alloc::{AllocError, Global};
@@ -96,12 +96,12 @@ impl<B: Board> Draft<'_, B> {
             text: Vec::new(self.alloc),
         };
         self.write_comment(&mut writer)?;
-        let spot = Spot {
+        let state = WriteState {
             position: *self.position,
             depth: 0,
             half: first_half(self.position.turn()),
         };
-        writer.write_play(self.first.tree.first_steps(lines), &spot, true)?;
+        writer.write_play(self.first.tree.first_steps(lines), &state, true)?;
         self.write_end(&mut writer, lines < self.first.tree.len())?;
         Ok(lined(writer))
     }

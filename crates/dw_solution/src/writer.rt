@@ -17,27 +17,27 @@ use std::alloc::{AllocError, Global};
 /// A place in a tree: the position there, how many moves stand before it, and its half turn, counted from 0 at a move
 /// of White's.
 #[derive(Clone, Copy)]
-pub(crate) struct Spot<B: Board> {
+pub(crate) struct WriteState<B: Board> {
     pub(crate) position: Position<B>,
     pub(crate) depth: usize,
     pub(crate) half: usize,
 }
 
 /// The place behind a move.
-fn behind<B: Board>(spot: &Spot<B>, mv: &Move<B>) -> Spot<B>
-    requires legal { Legal B.geometry spot.now.position mv.now }
-    requires depth { spot.now.depth + 1 < 2 ^ 64 }
-    requires half { spot.now.half + 1 < 2 ^ 64 }
+fn behind<B: Board>(state: &WriteState<B>, mv: &Move<B>) -> WriteState<B>
+    requires legal { Legal B.geometry state.now.position mv.now }
+    requires depth { state.now.depth + 1 < 2 ^ 64 }
+    requires half { state.now.half + 1 < 2 ^ 64 }
     ensures { result ≡ record {
-      position = of.play B.geometry spot.now.position mv.now;
-      depth = spot.now.depth + 1;
-      half = spot.now.half + 1;
+      position = of.play B.geometry state.now.position mv.now;
+      depth = state.now.depth + 1;
+      half = state.now.half + 1;
     } }
 {
-    Spot {
-        position: play(&spot.position, mv),
-        depth: spot.depth + 1,
-        half: spot.half + 1,
+    WriteState {
+        position: play(&state.position, mv),
+        depth: state.depth + 1,
+        half: state.half + 1,
     }
 }
 
@@ -63,22 +63,22 @@ impl Writer {
     pub(crate) fn write_play<B: Board>(
         &mut self,
         steps: &[TreeStep<B>],
-        spot: &Spot<B>,
+        state: &WriteState<B>,
         due: bool,
     ) -> Result<(), AllocError>
-        requires depth { spot.now.depth + length steps.now < 2 ^ 64 }
-        requires half { spot.now.half + length steps.now < 2 ^ 64 }
-        requires playable { IsPlayable B.geometry spot.now.position (tree_at steps.now spot.now.depth) }
+        requires depth { state.now.depth + length steps.now < 2 ^ 64 }
+        requires half { state.now.half + length steps.now < 2 ^ 64 }
+        requires playable { IsPlayable B.geometry state.now.position (tree_at steps.now state.now.depth) }
         ensures { OnOk result (IsAdded
-            (AreWords B.geometry spot.now.position spot.now.half due (tree_at steps.now spot.now.depth))
+            (AreWords B.geometry state.now.position state.now.half due (tree_at steps.now state.now.depth))
             self.old.text.items self.new.text.items) }
     {
-        let Some(first) = first_at(steps, spot.depth) else {
+        let Some(first) = first_at(steps, state.depth) else {
             return Ok(());
         };
-        self.write_move(&first.mv, spot, due)?;
-        let branches = self.write_variations(first.rest, spot)?;
-        self.write_play(first.rest, &behind(spot, &first.mv), branches)
+        self.write_move(&first.mv, state, due)?;
+        let branches = self.write_variations(first.rest, state)?;
+        self.write_play(first.rest, &behind(state, &first.mv), branches)
     }
 
     /// The moves at a place as variations, each with what goes on behind it; and whether there are any.
@@ -86,22 +86,22 @@ impl Writer {
     fn write_variations<B: Board>(
         &mut self,
         steps: &[TreeStep<B>],
-        spot: &Spot<B>,
+        state: &WriteState<B>,
     ) -> Result<bool, AllocError>
-        requires depth { spot.now.depth + length steps.now + 1 < 2 ^ 64 }
-        requires half { spot.now.half + length steps.now + 1 < 2 ^ 64 }
-        requires playable { IsPlayable B.geometry spot.now.position (tree_at steps.now spot.now.depth) }
-        ensures some { IfOk result (λ some. some ≡ has_move (tree_at steps.now spot.now.depth)) }
+        requires depth { state.now.depth + length steps.now + 1 < 2 ^ 64 }
+        requires half { state.now.half + length steps.now + 1 < 2 ^ 64 }
+        requires playable { IsPlayable B.geometry state.now.position (tree_at steps.now state.now.depth) }
+        ensures some { IfOk result (λ some. some ≡ has_move (tree_at steps.now state.now.depth)) }
         ensures words { OnOk result (IsAdded
-            (AreVariations B.geometry spot.now.position spot.now.half (tree_at steps.now spot.now.depth))
+            (AreVariations B.geometry state.now.position state.now.half (tree_at steps.now state.now.depth))
             self.old.text.items self.new.text.items) }
     {
         let mut some = false;
         let mut left = steps;
-        'moves: while let Some(first) = first_at(left, spot.depth) {
+        'moves: while let Some(first) = first_at(left, state.depth) {
             self.text.push(b'(')?;
-            self.write_move(&first.mv, spot, true)?;
-            self.write_play(first.rest, &behind(spot, &first.mv), false)?;
+            self.write_move(&first.mv, state, true)?;
+            self.write_play(first.rest, &behind(state, &first.mv), false)?;
             self.close()?;
             some = true;
             left = first.rest;
@@ -113,15 +113,15 @@ impl Writer {
     fn write_move<B: Board>(
         &mut self,
         mv: &Move<B>,
-        spot: &Spot<B>,
+        state: &WriteState<B>,
         due: bool,
     ) -> Result<(), AllocError>
-        requires { Legal B.geometry spot.now.position mv.now }
-        ensures { OnOk result (IsMoveAdded B.geometry spot.now.position mv.now spot.now.half due
+        requires { Legal B.geometry state.now.position mv.now }
+        ensures { OnOk result (IsMoveAdded B.geometry state.now.position mv.now state.now.half due
             self.old.text.items self.new.text.items) }
     {
-        let text = text_in(self.alloc, &spot.position, mv)?;
-        self.write_number(spot.half, due)?;
+        let text = text_in(self.alloc, &state.position, mv)?;
+        self.write_number(state.half, due)?;
         self.write_word(text.as_str())
     }
 

@@ -1,7 +1,6 @@
 -- Slices of a search, one after another.
 use Rattle.std.proofs.Common.{◌≡◌, ℕ, ◌+◌, ◌-◌, ◌*◌, ◌^◌, ◌<◌, ◌≤◌, refl, sym, subst, ap, ◌∙◌, arith}
 use Rattle.std.proofs.Common.{Bool, Result, Ok, Err, OnOk, ◌⊎◌, inl, inr, min}
-use Rattle.std.specs.Result.{IsErrAnd}
 use Rattle.std.proofs.lemmas.Bool.{cases_Bool, cases_lt}
 use Rattle.std.proofs.lemmas.Nat.{pow_pos}
 use Rattle.std.proofs.lemmas.Grind.{pow_more}
@@ -17,8 +16,6 @@ use Rattle.dw_solve.specs.Certificates.{SaysLeast, SaysWin}
 use Rattle.dw_solve.specs.Searching.{IsCounted}
 use Rattle.dw_solve.specs.Solving.{Solving}
 use Rattle.dw_solve.specs.Work.{Moment, Searched, Stronger, LossIsCounted, cut_off}
-use Rattle.dw_study.specs.declared.finding.Finding as findings
-use Rattle.dw_study.specs.Telling.{cut_short}
 use Rattle.dw_study.specs.Slices.{SearchedInSlices, SearchedSome, GoesOn, Watches, IsWatched, of_none, of_one_more}
 use Rattle.dw_study.specs.Slices.{next_end}
 
@@ -113,6 +110,20 @@ module _ {M : Type 0} (g : Geometry) (content : M → Content) (lost : M → ℕ
       (subst (λ z. GoesOn g content lost n first' z cut b c) same_start here)
       began most within same (before began most wide same h)
 
+  -- a search within some moves is one within more
+  pub goes_on_wider : (n k first start cut : ℕ) (a b : Solving M) → n ≤ k → GoesOn g content lost n first start cut a b
+      → GoesOn g content lost k first start cut a b
+  goes_on_wider n k first start cut a b less here began most wide same h =
+      here began most (omega (arith, less, wide)) same h
+
+  -- a search within one more move than the searches before it
+  pub goes_on_after : (n first start first' start' cut : ℕ) (a b c : Solving M) → first' ≡ first → start' ≡ start
+      → GoesOn g content lost (n - 1) first start 0 a b → GoesOn g content lost n first' start' cut b c
+      → GoesOn g content lost n first start cut a c
+  goes_on_after n first start first' start' cut a b c same_first same_start before here =
+      goes_on_then n n first start first' start' cut a b c (omega arith) same_first same_start
+      (goes_on_wider (n - 1) n first start 0 a b (omega arith) before) here
+
   -- more may be cut off
   pub goes_on_looser : (n first start cut more : ℕ) (a b : Solving M) → cut ≤ more
       → GoesOn g content lost n first start cut a b → GoesOn g content lost n first start more a b
@@ -177,12 +188,6 @@ says_more g content lost law p n a b c answer some counted here before last kept
           subst (λ z. IsDecided (content c.memo) p z) same
           (says_decided (content c.memo) p n answer some (last parts.1))
     ]
-
--- after a stop as much is cut off as a stop cuts off
-pub stop_cuts : {B : Type 0} (r : Result (findings.Finding B) Stop) (e : Stop) (n : ℕ) → IsErrAnd r (λ d. d ≡ e)
-    → cut_off r n ≡ cut_short r n
-stop_cuts (Ok x) e n is = absurd is
-stop_cuts (Err d) e n is = refl
 
 -- a solver whose limit was changed
 pub same_memo : {M : Type 0} (a b : Solving M) (limit : ℕ) → b ≡ record a { limit = limit } → b.memo ≡ a.memo

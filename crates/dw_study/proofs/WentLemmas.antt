@@ -15,9 +15,12 @@ use Rattle.std.specs.Prelude.{IfOk}
 use Rattle.dw_solve.specs.Searching.{IsCounted}
 use Rattle.dw_solve.specs.Work.{Searched, cut_off}
 use Rattle.dw_study.specs.Slices.{Went, Began, GoesOn}
+use Rattle.dw_study.specs.Telling.{cut_short, searched_to}
+use Rattle.dw_study.specs.declared.finding.Finding as findings
 use Rattle.dw_study.specs.declared.looking.Cut.{Cut}
 use Rattle.dw_study.specs.inner.Looking.{LooksOn}
-use Rattle.dw_study.proofs.SliceLemmas.{goes_on_none, goes_on_then, goes_on_last, goes_on_looser, begun_here, counted_then}
+use Rattle.dw_study.proofs.SliceLemmas.{goes_on_none, goes_on_then, goes_on_last, goes_on_looser, goes_on_wider}
+use Rattle.dw_study.proofs.SliceLemmas.{begun_here, counted_then}
 
 -- an answer, whatever it is
 abbrev pub answered : Result ℕ Stop
@@ -132,13 +135,13 @@ module _ {M W : Type 0} (g : Geometry) (content : M → Content) (lost : M → �
   }
 
   -- the same with a limit that is lowered before and raised after
-  pub looks_between : (n limit most : ℕ) (t u : Slices W) (a b c d : Solving M) (r : Result ℕ Cut)
+  pub looks_between : (limit most : ℕ) (t u : Slices W) (a b c d : Solving M) (r : Result ℕ Cut)
       → b ≡ record a { limit = limit } → d ≡ record c { limit = a.limit } → limit ≡ most → limit ≤ a.limit
-      → LooksOn g content lost n b.limit t u b c r → LooksOn g content lost n most t u a d r
-  looks_between n limit most t u a b c d r down up same less h =
-      let lower = subst (λ z. LooksOn g content lost n z.limit t u z c r) down h in
-      subst (λ z. LooksOn g content lost n most t u a z r) (sym up)
-      (subst (λ z. LooksOn g content lost n z t u a (record c { limit = a.limit }) r) same (record {
+      → LooksOn g content lost b.limit t u b c r → LooksOn g content lost most t u a d r
+  looks_between limit most t u a b c d r down up same less h =
+      let lower = subst (λ z. LooksOn g content lost z.limit t u z c r) down h in
+      subst (λ z. LooksOn g content lost most t u a z r) (sym up)
+      (subst (λ z. LooksOn g content lost z t u a (record c { limit = a.limit }) r) same (record {
         count = record {
           rises = lower.count.rises;
           within = let w = lower.count.within in omega (arith, w, less);
@@ -152,9 +155,9 @@ module _ {M W : Type 0} (g : Geometry) (content : M → Content) (lost : M → �
       }))
 
   -- a search that found a number
-  pub went_looked : (n limit : ℕ) (t u : Slices W) (a b : Solving M) (k : ℕ)
-      → LooksOn g content lost n limit t u a b (Ok k) → Went g content lost n t u a b answered
-  went_looked n limit t u a b k h = record {
+  pub went_looked : (limit : ℕ) (t u : Slices W) (a b : Solving M) (k : ℕ)
+      → LooksOn g content lost limit t u a b (Ok k) → Went g content lost k t u a b answered
+  went_looked limit t u a b k h = record {
     count = h.count;
     stop = λ e. cc;
     on = h.on;
@@ -162,15 +165,43 @@ module _ {M W : Type 0} (g : Geometry) (content : M → Content) (lost : M → �
     start = h.start;
   }
 
-  -- a search for a number whose slices begin here
-  pub began_looked : {A : Type 0} → SearchesAddUp → (n limit : ℕ) (t u v : Slices W) (a b : Solving M)
-      (r : Result ℕ Cut) (answer : Result A Stop) → u.first ≡ t.first → u.start ≡ a.expanded
-      → (IsErrOf answer Limit → b.expanded ≡ b.limit) → LooksOn g content lost n limit u v a b r
-      → Began g content lost n (cut_off r n) t v a b answer
-  began_looked law n limit t u v a b r answer first start stop h = record {
+  -- a search within some moves is one within more, also if it is stopped
+  pub went_wider : {A : Type 0} (n k : ℕ) (t u : Slices W) (a b : Solving M) (r : Result A Stop) → n ≤ k
+      → Went g content lost n t u a b r → Went g content lost k t u a b r
+  went_wider n k t u a b (Ok x) less h = record {
+    count = h.count;
+    stop = h.stop;
+    on = goes_on_wider g content lost n k t.first t.start 0 a b less h.on;
+    first = h.first;
+    start = h.start;
+  }
+  went_wider n k t u a b (Err e) less h = record {
+    count = h.count;
+    stop = h.stop;
+    on = goes_on_looser g content lost k t.first t.start n k a b less
+        (goes_on_wider g content lost n k t.first t.start n a b less h.on);
+    first = h.first;
+    start = h.start;
+  }
+
+  -- a search for the number and the verdict that was stopped
+  pub began_stopped : {B : Type 0} (n : ℕ) (t v : Slices W) (a b : Solving M) (r : Result (findings.Finding B) Stop)
+      (e : Stop) → IsErrAnd r (λ d. d ≡ e) → Began g content lost n (cut_off r n) t v a b r
+      → Began g content lost (searched_to r n) (cut_short r (searched_to r n)) t v a b r
+  began_stopped n t v a b (Ok x) e is h = absurd is
+  began_stopped n t v a b (Err d) e is h = h
+
+  -- a search for a number whose slices begin here and that was cut off
+  pub began_cut : {A : Type 0} → SearchesAddUp → (n limit : ℕ) (t u v : Slices W) (a b : Solving M) (cut : Cut)
+      (answer : Result A Stop) → u.first ≡ t.first → u.start ≡ a.expanded
+      → (IsErrOf answer Limit → b.expanded ≡ b.limit) → cut.no_win_in + 1 ≤ n
+      → LooksOn g content lost limit u v a b (Err cut) → Began g content lost n n t v a b answer
+  began_cut law n limit t u v a b cut answer first start stop less h = record {
     count = h.count;
     stop = stop;
-    searched = begun_here g content lost law n t.first u.first u.start (cut_off r n) a b first start h.on;
+    searched = begun_here g content lost law n t.first u.first u.start n a b first start
+        (goes_on_looser g content lost n u.first u.start (cut.no_win_in + 1) n a b less
+        (goes_on_wider g content lost (cut.no_win_in + 1) n u.first u.start (cut.no_win_in + 1) a b less h.on));
     first = h.first ∙ first;
     begun = h.start ∙ start;
   }

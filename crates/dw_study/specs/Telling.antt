@@ -24,6 +24,13 @@ abbrev pub told_by : {B : Type 0} → findings.Finding B → Finding
 told_by (Judged k it) = judged k (said_by it.verdict) it.tries.items
 told_by (Undecided k) = undecided k
 
+-- the most moves within which a win was searched for: those of the verdict; if the number stays open, one more than the
+-- moves known to be too few; n if the search was stopped
+abbrev pub searched_to : {B : Type 0} → Result (findings.Finding B) Stop → ℕ → ℕ
+searched_to (Ok (Judged k it)) n = k
+searched_to (Ok (Undecided k)) n = k + 1
+searched_to (Err stop) n = n
+
 -- how many expansions of a search for a win within n moves are cut off: none if the position is judged
 abbrev pub cut_short : {B : Type 0} → Result (findings.Finding B) Stop → ℕ → ℕ
 cut_short (Ok (Judged k it)) n = 0

@@ -4,7 +4,7 @@ ghost use Rattle.dw_memo.specs.Content.{IsMap};
 ghost use Rattle.dw_solve.specs.Facts.{AreTrue};
 ghost use Rattle.dw_study.specs.Finding.{IsFinding};
 ghost use Rattle.dw_study.specs.Slices.{Began};
-ghost use Rattle.dw_study.specs.Telling.{told_by, cut_short, IsKnownInTime, StaysOpen};
+ghost use Rattle.dw_study.specs.Telling.{told_by, cut_short, searched_to, IsKnownInTime, StaysOpen};
 
 use crate::finding::{FindBounds, Finding};
 use crate::judging::judge_on;
@@ -35,8 +35,9 @@ pub fn find<B: Board, M: Memo<B>, G: Guide<B>, W: Watcher>(
     ensures stays { StaysOpen M.content position.now bounds.each solver.old solver.new result }
     ensures known { IfOk result (IsKnownInTime B.geometry M.content M.dropped position.now bounds.most slices.old.first
         bounds.each solver.old solver.new) }
-    ensures began { Began B.geometry M.content M.dropped bounds.most (cut_short result bounds.most) slices.old
-        slices.new solver.old solver.new result }
+    ensures began { let within = searched_to result bounds.most in
+        Began B.geometry M.content M.dropped within (cut_short result within) slices.old slices.new solver.old
+        solver.new result }
     ensures right { AreTrue B.geometry (M.content solver.new.memo) }
     ensures map { IsMap (M.content solver.new.memo) }
 {

@@ -40,8 +40,8 @@ pub(crate) fn number_within<B: Board, M: Memo<B>, G: Guide<B>, W: Watcher>(
         → SaysLeast (M.content solver.new.memo) position.now moves) }
     ensures known { IfErr result (λ cut. (j : ℕ) → SaysLeast (M.content solver.old.memo) position.now j
         → j ≤ cut.no_win_in) }
-    ensures looks { LooksOn B.geometry M.content M.dropped bounds.most
-        (lowered bounds.each solver.old.limit solver.old.expanded) slices.old slices.new solver.old solver.new result }
+    ensures looks { LooksOn B.geometry M.content M.dropped (lowered bounds.each solver.old.limit solver.old.expanded)
+        slices.old slices.new solver.old solver.new result }
     ensures right { AreTrue B.geometry (M.content solver.new.memo) }
     ensures map { IsMap (M.content solver.new.memo) }
 {
@@ -81,8 +81,8 @@ fn number<B: Board, M: Memo<B>, G: Guide<B>, W: Watcher>(
         → SaysLeast (M.content solver.new.memo) position.now moves) }
     ensures known { IfErr result (λ cut. (j : ℕ) → SaysLeast (M.content solver.old.memo) position.now j
         → j ≤ cut.no_win_in) }
-    ensures looks { LooksOn B.geometry M.content M.dropped most solver.old.limit slices.old slices.new solver.old
-        solver.new result }
+    ensures looks { LooksOn B.geometry M.content M.dropped solver.old.limit slices.old slices.new solver.old solver.new
+        result }
 {
     dw_solve::laws::searches_add_up();
     solver.keeps_its_limit();

@@ -23,18 +23,24 @@ abbrev pub lowered : (each : Option ℕ) → (limit expanded : ℕ) → ℕ
 lowered None limit expanded = limit
 lowered (Some bound) limit expanded = min limit (expanded + bound)
 
+-- the most moves within which a win was looked for: the number that was found, or one more than the moves known to be
+-- too few
+abbrev pub reached : Result ℕ Cut → ℕ
+reached (Ok k) = k
+reached (Err cut) = cut.no_win_in + 1
+
 -- if the limit is why the search stopped, it was met
 abbrev pub StopsAt : ℕ → ℕ → Result ℕ Cut → Type 0
 StopsAt limit expanded (Ok k) = Unit {0}
 StopsAt limit expanded (Err cut) = cut.stop ≡ Limit → expanded ≡ limit
 
--- searches for the least number of moves, up to n, in slices that began before: each expansion is counted, up to a
--- limit that may be lower than the solver's own, and the slices go on
-pub record LooksOn {M W : Type 0} (g : Geometry) (content : M → Content) (lost : M → ℕ) (n limit : ℕ)
+-- Searches for the least number of moves, in slices that began before: each expansion is counted, up to a limit that
+-- may be lower than the solver's own; no win is looked for within more moves than the answer tells; the slices go on.
+pub record LooksOn {M W : Type 0} (g : Geometry) (content : M → Content) (lost : M → ℕ) (limit : ℕ)
     (before after : Slices W) (old new : Solving M) (answer : Result ℕ Cut) : Type 0 where
   pub count : IsCounted old.expanded old.limit new.expanded new.limit
   pub few : new.expanded ≤ limit
   pub stop : StopsAt limit new.expanded answer
-  pub on : GoesOn g content lost n before.first before.start (cut_off answer n) old new
+  pub on : GoesOn g content lost (reached answer) before.first before.start (cut_off answer (reached answer)) old new
   pub first : after.first ≡ before.first
   pub start : after.start ≡ before.start

@@ -1,9 +1,9 @@
 use Rattle.std.proofs.Common.{◌≤◌, ◌-◌, ◌∙◌, ap, sym, subst, arith, refl, rules}
-use Rattle.dw_study.specs.Slices.{Began}
 use Rattle.dw_study.proofs.OpenLemmas.{each_is, few_within, no_lower, stays_stopped}
 use Rattle.dw_solve.specs.Questions.{moment_of}
-use Rattle.dw_study.proofs.SliceLemmas.{begun_here, stop_cuts}
-use Rattle.dw_study.proofs.WentLemmas.{answered, went_looked, went_then, went_ok, went_stop, began_here, began_looked}
+use Rattle.dw_study.proofs.SliceLemmas.{begun_here, goes_on_wider}
+use Rattle.dw_study.proofs.WentLemmas.{began_cut, began_here, began_stopped, went_looked, went_ok, went_stop, went_then}
+use Rattle.dw_study.proofs.WentLemmas.{went_wider}
 use Rattle.dw_study.proofs.find.find.Goals as goal
 
 pub returns-in_err-judged-in-Ok-clause-began : goal.returns-in_err-judged-in-Ok-clause-began
@@ -19,47 +19,47 @@ returns-in_err-judged-in-Ok-clause-began g c =
     let before = c.args.solver.now in
     let after = c.judge_on.new.solver in
     let result = c.from_residual.result in
-    subst (λ z. Began geo content lost n z c.args.slices.now c.judge_on.new.slices before after result)
-    (stop_cuts result c.in_err-judged-in-Ok.field-0.0 n c.from_residual.ensures.1)
+    began_stopped geo content lost n c.args.slices.now c.judge_on.new.slices before after result
+    c.in_err-judged-in-Ok.field-0.0 c.from_residual.ensures.1
     (began_here geo content lost c.searches_add_up.ensures n c.args.slices.now begun c.judge_on.new.slices before after
     result (ap (λ z. z.first) c.begin.ensures) (ap (λ z. z.start) c.begin.ensures ∙ c.expanded-start.ensures)
-    (went_then geo content lost k n begun looked c.judge_on.new.slices before c.number_within.new.solver after result
-    found.number.1 (went_looked geo content lost n _ begun looked before c.number_within.new.solver k found.looks)
+    (went_wider geo content lost k n begun c.judge_on.new.slices before after result found.number.1
+    (went_then geo content lost k k begun looked c.judge_on.new.slices before c.number_within.new.solver after result
+    (omega arith) (went_looked geo content lost _ begun looked before c.number_within.new.solver k found.looks)
     (went_stop geo content lost k looked c.judge_on.new.slices c.number_within.new.solver after
-    c.in_err-judged-in-Ok.field-0.0 result c.from_residual.ensures.1 c.in_err-judged-in-Ok.ensures.went)))
+    c.in_err-judged-in-Ok.field-0.0 result c.from_residual.ensures.1 c.in_err-judged-in-Ok.ensures.went))))
 
 pub returns-in_ok-judged-in-Ok-clause-began : goal.returns-in_ok-judged-in-Ok-clause-began
 returns-in_ok-judged-in-Ok-clause-began g c =
     let geo = g.B.Board.geometry in
     let content = g.M.Memo.content in
     let lost = g.M.Memo.dropped in
-    let n = c.args.bounds.most in
     let k = c.in-Ok.moves in
-    let found = c.in-Ok.ensures in
     let begun = c.begin.new.self in
     let looked = c.number_within.new.slices in
     let before = c.args.solver.now in
     let after = c.judge_on.new.solver in
-    began_here geo content lost c.searches_add_up.ensures n c.args.slices.now begun c.judge_on.new.slices before after _
+    began_here geo content lost c.searches_add_up.ensures k c.args.slices.now begun c.judge_on.new.slices before after _
     (ap (λ z. z.first) c.begin.ensures) (ap (λ z. z.start) c.begin.ensures ∙ c.expanded-start.ensures)
-    (went_then geo content lost k n begun looked c.judge_on.new.slices before c.number_within.new.solver after _
-    found.number.1 (went_looked geo content lost n _ begun looked before c.number_within.new.solver k found.looks)
+    (went_then geo content lost k k begun looked c.judge_on.new.slices before c.number_within.new.solver after _
+    (omega arith)
+    (went_looked geo content lost _ begun looked before c.number_within.new.solver k c.in-Ok.ensures.looks)
     (went_ok geo content lost k looked c.judge_on.new.slices c.number_within.new.solver after
     c.in_ok-judged-in-Ok.judged _ c.in_ok-judged-in-Ok.ensures.went))
 
 pub returns-in-Err-clause-began : goal.returns-in-Err-clause-began
 returns-in-Err-clause-began g c =
-    began_looked g.B.Board.geometry g.M.Memo.content g.M.Memo.dropped c.searches_add_up.ensures c.args.bounds.most _
-    c.args.slices.now c.begin.new.self c.number_within.new.slices c.args.solver.now c.number_within.new.solver _ _
-    (ap (λ z. z.first) c.begin.ensures) (ap (λ z. z.start) c.begin.ensures ∙ c.expanded-start.ensures)
-    (λ e. cc) c.in-Err.ensures.looks
+    began_cut g.B.Board.geometry g.M.Memo.content g.M.Memo.dropped c.searches_add_up.ensures _ _ c.args.slices.now
+    c.begin.new.self c.number_within.new.slices c.args.solver.now c.number_within.new.solver _ _
+    (ap (λ z. z.first) c.begin.ensures) (ap (λ z. z.start) c.begin.ensures ∙ c.expanded-start.ensures) (λ e. cc)
+    (omega arith) c.in-Err.ensures.looks
 
 pub returns-in-Err-2-clause-began : goal.returns-in-Err-2-clause-began
 returns-in-Err-2-clause-began g c =
-    began_looked g.B.Board.geometry g.M.Memo.content g.M.Memo.dropped c.searches_add_up.ensures c.args.bounds.most _
+    began_cut g.B.Board.geometry g.M.Memo.content g.M.Memo.dropped c.searches_add_up.ensures c.args.bounds.most _
     c.args.slices.now c.begin.new.self c.number_within.new.slices c.args.solver.now c.number_within.new.solver _ _
-    (ap (λ z. z.first) c.begin.ensures) (ap (λ z. z.start) c.begin.ensures ∙ c.expanded-start.ensures)
-    (search rules) c.in-Err-2.ensures.looks
+    (ap (λ z. z.first) c.begin.ensures) (ap (λ z. z.start) c.begin.ensures ∙ c.expanded-start.ensures) (search rules)
+    (let below = c.in-Err-2.ensures.number.0 in omega (arith, below)) c.in-Err-2.ensures.looks
 
 pub returns-in_err-judged-in-Ok-clause-stays : goal.returns-in_err-judged-in-Ok-clause-stays
 returns-in_err-judged-in-Ok-clause-stays g c =
@@ -101,7 +101,9 @@ returns-in_ok-judged-in-Ok-clause-known g c =
       few = few_within c.args.bounds.each before.limit before.expanded then.expanded found.looks.few;
       before = begun_here geo content lost c.searches_add_up.ensures n c.args.slices.now.first c.begin.new.self.first
           c.begin.new.self.start 0 before then (ap (λ z. z.first) c.begin.ensures)
-          (ap (λ z. z.start) c.begin.ensures ∙ c.expanded-start.ensures) found.looks.on;
+          (ap (λ z. z.start) c.begin.ensures ∙ c.expanded-start.ensures)
+          (goes_on_wider geo content lost c.in-Ok.moves n c.begin.new.self.first c.begin.new.self.start 0 before then
+          found.number.1 found.looks.on);
       says = found.says;
       after = c.in_ok-judged-in-Ok.ensures.searched;
     }

@@ -1,8 +1,15 @@
-use Rattle.std.proofs.Common.{◌≤◌, ◌∙◌, sym, ap, arith, below_more, Err}
+use Rattle.std.proofs.Common.{◌≡◌, ℕ, ◌+◌, ◌-◌, ◌≤◌, ◌∙◌, sym, subst, ap, arith, below_more, Err}
 use Rattle.std.proofs.lemmas.Bool.{true≢false}
-use Rattle.dw_study.proofs.SliceLemmas.{goes_on_then, goes_on_looser, counted_then, idle_on, known_below, loss_then}
+use Rattle.dw_study.specs.Slices.{GoesOn}
+use Rattle.dw_study.proofs.SliceLemmas.{goes_on_after, goes_on_wider, counted_then, idle_on, known_below, loss_then}
 use Rattle.dw_study.proofs.SliceLemmas.{says_more}
 use Rattle.dw_study.proofs.looking.number.Goals as goal
+
+one_more : (n : ℕ) → n ≡ n + 1 - 1
+one_more n = omega arith
+
+one_less : (n : ℕ) → 1 ≤ n → n ≡ n - 1 + 1
+one_less n some = omega (arith, some)
 
 pub moves-preserved : goal.moves-preserved
 moves-preserved g c =
@@ -14,9 +21,11 @@ moves-preserved g c =
           c.moves.solver c.wins_on.new.solver says c.moves.auto.moves (omega (arith, within))
           (now.idle j says (omega (arith, within))) here.known).1;
       count = counted_then _ _ _ _ _ _ now.count here.went.count;
-      on = goes_on_then g.B.Board.geometry g.M.Memo.content g.M.Memo.dropped c.moves.moves c.args.most
-          c.args.slices.now.first c.args.slices.now.start c.moves.slices.first c.moves.slices.start 0 c.args.solver.now
-          c.moves.solver c.wins_on.new.solver (omega (arith, c.moves-test.true)) now.first now.start now.on here.went.on;
+      on = subst (λ n. GoesOn g.B.Board.geometry g.M.Memo.content g.M.Memo.dropped n c.args.slices.now.first
+          c.args.slices.now.start 0 c.args.solver.now c.wins_on.new.solver) (one_more c.moves.moves)
+          (goes_on_after g.B.Board.geometry g.M.Memo.content g.M.Memo.dropped c.moves.moves c.args.slices.now.first
+          c.args.slices.now.start c.moves.slices.first c.moves.slices.start 0 c.args.solver.now c.moves.solver
+          c.wins_on.new.solver now.first now.start now.on here.went.on);
       lost = loss_then _ _ _ now.lost here.searched.1.counted;
       says = λ kept k low high. says_more g.B.Board.geometry g.M.Memo.content g.M.Memo.dropped
           c.searches_add_up.ensures c.args.position.now c.moves.moves c.args.solver.now c.moves.solver
@@ -47,9 +56,9 @@ returns-in-Ok-true-clause-looks g c =
       count = count;
       few = count.within;
       stop = tt;
-      on = goes_on_then g.B.Board.geometry g.M.Memo.content g.M.Memo.dropped c.moves.moves c.args.most
-          c.args.slices.now.first c.args.slices.now.start c.moves.slices.first c.moves.slices.start 0 c.args.solver.now
-          c.moves.solver c.wins_on.new.solver (omega (arith, c.moves-test.true)) now.first now.start now.on here.on;
+      on = goes_on_after g.B.Board.geometry g.M.Memo.content g.M.Memo.dropped c.moves.moves c.args.slices.now.first
+          c.args.slices.now.start c.moves.slices.first c.moves.slices.start 0 c.args.solver.now c.moves.solver
+          c.wins_on.new.solver now.first now.start now.on here.on;
       first = here.first ∙ now.first;
       start = here.start ∙ now.start;
     }
@@ -61,17 +70,16 @@ returns-in-Err-clause-looks g c =
     let lost = g.M.Memo.dropped in
     let now = c.moves.invariant in
     let here = c.in-Err.ensures.went in
-    let less : c.moves.moves ≤ c.args.most = omega (arith, c.moves-test.true) in
     let count = counted_then _ _ _ _ _ _ now.count here.count in
     record {
       count = count;
       few = count.within;
       stop = λ e. here.stop (ap (λ z. Err z) e) ∙ here.count.same ∙ now.count.same;
-      on = goes_on_looser geo content lost c.args.most c.args.slices.now.first c.args.slices.now.start c.moves.moves
-          c.args.most c.args.solver.now c.wins_on.new.solver less
-          (goes_on_then geo content lost c.moves.moves c.args.most c.args.slices.now.first c.args.slices.now.start
+      on = subst (λ n. GoesOn geo content lost n c.args.slices.now.first c.args.slices.now.start n c.args.solver.now
+          c.wins_on.new.solver) (one_less c.moves.moves c.moves.auto.moves)
+          (goes_on_after geo content lost c.moves.moves c.args.slices.now.first c.args.slices.now.start
           c.moves.slices.first c.moves.slices.start c.moves.moves c.args.solver.now c.moves.solver
-          c.wins_on.new.solver less now.first now.start now.on here.on);
+          c.wins_on.new.solver now.first now.start now.on here.on);
       first = here.first ∙ now.first;
       start = here.start ∙ now.start;
     }
@@ -79,7 +87,16 @@ returns-in-Err-clause-looks g c =
 pub returns-clause-looks : goal.returns-clause-looks
 returns-clause-looks g c =
     let now = c.moves.invariant in
-    record { count = now.count; few = now.count.within; stop = tt; on = now.on; first = now.first; start = now.start }
+    let end = c.moves.auto.moves-end (omega arith) in
+    record {
+      count = now.count;
+      few = now.count.within;
+      stop = tt;
+      on = goes_on_wider g.B.Board.geometry g.M.Memo.content g.M.Memo.dropped (c.moves.moves - 1) c.args.most
+          c.args.slices.now.first c.args.slices.now.start 0 c.args.solver.now c.moves.solver (omega (arith, end)) now.on;
+      first = now.first;
+      start = now.start;
+    }
 
 pub returns-in-Err-clause-known : goal.returns-in-Err-clause-known
 returns-in-Err-clause-known g c j says =

@@ -13,7 +13,7 @@ invariant-moves g l = record {
   idle : (j : ℕ) → SaysLeast (g.M.Memo.content l.initial.solver.memo) l.position j → l.moves ≤ j + 1
       → Idle g.M.Memo.content l.initial.solver l.solver;
   count : IsCounted l.initial.solver.expanded l.initial.solver.limit l.solver.expanded l.solver.limit;
-  on : GoesOn g.B.Board.geometry g.M.Memo.content g.M.Memo.dropped l.most l.initial.slices.first
+  on : GoesOn g.B.Board.geometry g.M.Memo.content g.M.Memo.dropped (l.moves - 1) l.initial.slices.first
       l.initial.slices.start 0 l.initial.solver l.solver;
   lost : LossIsCounted (g.M.Memo.dropped l.initial.solver.memo) (g.M.Memo.dropped l.solver.memo);
   says : LostNothing g.M.Memo.content g.M.Memo.dropped l.initial.solver l.solver

@@ -17,8 +17,8 @@ pub returns-clause-looks : goal.returns-clause-looks
 returns-clause-looks g c =
     let before = c.args.solver.now in
     let until = c.count_after-until.result in
-    looks_between g.B.Board.geometry g.M.Memo.content g.M.Memo.dropped c.args.bounds.most
-    (min before.limit until) (lowered c.args.bounds.each before.limit before.expanded) c.args.slices.now
+    looks_between g.B.Board.geometry g.M.Memo.content g.M.Memo.dropped (min before.limit until)
+    (lowered c.args.bounds.each before.limit before.expanded) c.args.slices.now
     c.number-number.new.slices before c.lower-limit.new.solver c.number-number.new.solver c.raise.new.solver
     c.number-number.result c.lower-limit.ensures.lowered
     (c.raise.ensures ∙ ap (λ z. record c.number-number.new.solver { limit = z }) c.lower-limit.ensures.was)

@@ -10,10 +10,10 @@ use Rattle.dw_solution.proofs.writer.Writer.+play.Goals as goal
 pub write_play-returns : goal.write_play-returns
 write_play-returns g t c =
     let geo = g.B.Board.geometry in
-    let spot = c.args.spot.now in
-    on_ok_map c.write_play.result _ _ (λ rest. play_added geo spot.position spot.half c.args.due c.in_ok-branches.branches
-    c.in-Some.first.mv (tree_at c.args.steps.now spot.depth) (tree_at c.in-Some.first.rest.now (spot.depth + 1))
-    (tree_at c.in-Some.first.rest.now spot.depth) _ _ _ _ c.in-Some.ensures.0 c.in_ok-branches.ensures.some
+    let state = c.args.state.now in
+    on_ok_map c.write_play.result _ _ (λ rest. play_added geo state.position state.half c.args.due c.in_ok-branches.branches
+    c.in-Some.first.mv (tree_at c.args.steps.now state.depth) (tree_at c.in-Some.first.rest.now (state.depth + 1))
+    (tree_at c.in-Some.first.rest.now state.depth) _ _ _ _ c.in-Some.ensures.0 c.in_ok-branches.ensures.some
     c.in_ok-write_move.ensures c.in_ok-branches.ensures.words
     (subst (λ z. IsAdded (AreWords geo z.position z.half c.in_ok-branches.branches (tree_at c.in-Some.first.rest.now z.depth))
     c.write_variations.new.self.text.items c.write_play.new.self.text.items) c.behind.ensures rest))
@@ -22,18 +22,18 @@ write_play-returns g t c =
 pub write_variations-moves-preserved : goal.write_variations-moves-preserved
 write_variations-moves-preserved g t c =
     let geo = g.B.Board.geometry in
-    let spot = c.args.spot.now in
+    let state = c.args.state.now in
     let is = c.in-Some.ensures.0 in
     record {
-      said = λ final more. c.moves.invariant.said final (variation_added geo spot.position spot.half c.in-Some.first.mv
-          (tree_at c.moves.left.now spot.depth) (tree_at c.in-Some.first.rest.now (spot.depth + 1))
-          (tree_at c.in-Some.first.rest.now spot.depth) _ _ _ _ _ final is c.in_ok-push.ensures.items
+      said = λ final more. c.moves.invariant.said final (variation_added geo state.position state.half c.in-Some.first.mv
+          (tree_at c.moves.left.now state.depth) (tree_at c.in-Some.first.rest.now (state.depth + 1))
+          (tree_at c.in-Some.first.rest.now state.depth) _ _ _ _ _ final is c.in_ok-push.ensures.items
           c.in_ok-write_move.ensures
           (subst (λ z. IsAdded (AreWords geo z.position z.half false (tree_at c.in-Some.first.rest.now z.depth))
           c.write_move.new.self.text.items c.write_play.new.self.text.items) c.behind.ensures
           c.in_ok-write_play.ensures)
           c.in_ok-close.ensures more);
       some = c.moves.invariant.some ∙ (ap (λ z. c.moves.some || has_move z) is ∙ or_right c.moves.some true refl);
-      playable = (subst (IsPlayable geo spot.position) is c.moves.invariant.playable).2;
+      playable = (subst (IsPlayable geo state.position) is c.moves.invariant.playable).2;
       shorter = omega (arith, c.in-Some.ensures.1, c.moves.invariant.shorter);
     }

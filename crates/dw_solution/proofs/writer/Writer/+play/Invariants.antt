@@ -14,12 +14,12 @@ decreases-write_variations g l = length l.steps.now
 abbrev pub invariant-write_variations-moves : goal.invariant-write_variations-moves
 invariant-write_variations-moves g l = record {
   said : (final : List ℕ)
-      → IsAdded (AreVariations g.B.Board.geometry l.spot.position l.spot.half (tree_at l.left l.spot.depth))
+      → IsAdded (AreVariations g.B.Board.geometry l.state.position l.state.half (tree_at l.left l.state.depth))
       l.self.text.items final
-      → IsAdded (AreVariations g.B.Board.geometry l.spot.position l.spot.half (tree_at l.steps l.spot.depth))
+      → IsAdded (AreVariations g.B.Board.geometry l.state.position l.state.half (tree_at l.steps l.state.depth))
       l.initial.self.text.items final;
-  some : has_move (tree_at l.steps l.spot.depth) ≡ (l.some || has_move (tree_at l.left l.spot.depth));
-  playable : IsPlayable g.B.Board.geometry l.spot.position (tree_at l.left l.spot.depth);
+  some : has_move (tree_at l.steps l.state.depth) ≡ (l.some || has_move (tree_at l.left l.state.depth));
+  playable : IsPlayable g.B.Board.geometry l.state.position (tree_at l.left l.state.depth);
   shorter : length l.left ≤ length l.steps;
 }
 
