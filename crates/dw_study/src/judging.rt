@@ -3,8 +3,8 @@ ghost use Rattle.std.specs.Prelude.{◌≤◌, ◌<◌, IfOk};
 ghost use Rattle.dw_memo.specs.Content.{IsMap};
 ghost use Rattle.dw_solve.specs.Facts.{AreTrue};
 ghost use Rattle.dw_solve.specs.Work.{cut_off};
-ghost use Rattle.dw_report.specs.Verdict.{IsVerdict, Tries};
-ghost use Rattle.dw_report.specs.Judging.{said_by};
+ghost use Rattle.dw_verdict.specs.Verdict.{IsVerdict, Tries};
+ghost use Rattle.dw_verdict.specs.Judging.{said_by};
 ghost use Rattle.dw_study.specs.Slices.{Began, IsWatched, SearchedSome, Went};
 ghost use Rattle.dw_study.specs.inner.Slicing.{AskedUntil};
 
@@ -12,9 +12,9 @@ use crate::limits::{lower, raise};
 use crate::slices::{Slices, Watcher};
 use dw_board::{Board, Position};
 use dw_memo::Memo;
-use dw_report::Judged;
-use dw_report::judge::judge;
 use dw_solve::{Guide, Solver, Stop};
+use dw_verdict::Judged;
+use dw_verdict::judge::judge;
 use std::alloc::Global;
 
 /// What `judge` answers, with searches that are cut into slices, which begin anew. After a stop all bounds in the memo

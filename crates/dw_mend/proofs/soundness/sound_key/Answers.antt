@@ -1,6 +1,6 @@
 use Rattle.std.proofs.Common.{◌≡◌, ◌∙◌, true, false, sym}
 use Rattle.dw_mend.proofs.SoundLemmas.{sound_wins, key_so}
-use Rattle.dw_report.specs.Judging.{said_by}
+use Rattle.dw_verdict.specs.Judging.{said_by}
 use Rattle.dw_mend.proofs.soundness.sound_key.Goals as goal
 
 pub returns-then-not-branch-clause-key : goal.returns-then-not-branch-clause-key
