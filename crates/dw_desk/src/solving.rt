@@ -23,7 +23,7 @@ use dw_notation::{ProblemFault, Sink, Source, write_all};
 use dw_report::refusal_text;
 use dw_solution::movetext::movetext;
 use dw_solution::{Heading, VerdictKind, first_lines};
-use dw_study::{Slices, judge_in_slices};
+use dw_study::{Slices, verdict_in_slices};
 use dw_verdict::Verdict;
 use itoa::Buffer;
 use std::alloc::{AllocError, Global};
@@ -121,8 +121,8 @@ fn solution_of<B: Board>(
 ) -> Result<Vec<u8>, DeskFault>
     ensures { IfOk result (λ text. IsSolution B.geometry position.now asked.now.n asked.now.lines text.items) }
 {
-    let judged = judge_in_slices(desk.alloc, &mut desk.solver, position, asked.n, slices)?;
-    movetext_of(desk, position, asked.n, asked.lines, &judged.verdict)
+    let verdict = verdict_in_slices(desk.alloc, &mut desk.solver, position, asked.n, slices)?;
+    movetext_of(desk, position, asked.n, asked.lines, &verdict)
 }
 
 /// The movetext of the first lines of a position within so many moves, with this verdict.

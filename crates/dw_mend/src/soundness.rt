@@ -12,7 +12,7 @@ use dw_board::{Board, Position};
 use dw_memo::Memo;
 use dw_moves::Move;
 use dw_solve::{Guide, Solver, Stop};
-use dw_study::{Slices, Watcher, judge_on, wins_on};
+use dw_study::{Slices, Watcher, verdict_on, wins_on};
 use dw_verdict::Verdict;
 use std::alloc::Global;
 
@@ -46,8 +46,8 @@ pub fn sound_key<B: Board, M: Memo<B>, G: Guide<B>, W: Watcher>(
     if wins_on(alloc, solver, position, moves - 1, slices)? {
         return Ok(None);
     }
-    let judged = judge_on(alloc, solver, position, moves, slices)?;
-    Ok(key_of(&judged.verdict))
+    let verdict = verdict_on(alloc, solver, position, moves, slices)?;
+    Ok(key_of(&verdict))
 }
 
 /// The key that a verdict tells, if it is that the position is sound.

@@ -1,7 +1,7 @@
 use Rattle.std.proofs.Common.{◌≡◌, ◌-◌}
 use Rattle.dw_solve.specs.Searching.{IsCounted}
 use Rattle.dw_study.specs.Slices.{GoesOn, SearchedSome, Watches}
-use Rattle.dw_study.proofs.judging.judge_on.Given as goal
+use Rattle.dw_study.proofs.question.ask_on.Given as goal
 
 abbrev pub invariant-slices : goal.invariant-slices
 invariant-slices g l = record {
