@@ -7,7 +7,7 @@ use Rattle.dw_board.specs.Geometry.{Geometry}
 use Rattle.dw_board.specs.Placement.{Placement}
 use Rattle.dw_moves.specs.Moves.{Move}
 use Rattle.dw_report.specs.MoveTexts.{AreChoices, AreKeyTexts, AreTryTexts}
-use Rattle.dw_report.specs.Verdict.{Verdict, dual}
+use Rattle.dw_verdict.specs.Verdict.{Verdict, dual}
 use Rattle.dw_study.specs.Finding.{judged}
 use Rattle.dw_desk.specs.FindingJson.{AreAfterKeys, AreFound, before_keys, verdict_word}
 use Rattle.dw_desk.specs.Json.{Member, count, pairs, texts}

@@ -8,7 +8,7 @@ use Rattle.dw_desk.specs.Json.{Member, count, pairs, row, texts}
 use Rattle.dw_notation.specs.declared.problems.ProblemFault.{ProblemFault}
 use Rattle.dw_report.specs.MoveTexts.{AreChoices, AreKeyTexts, AreTryTexts}
 use Rattle.dw_report.specs.Report.{refusal_text}
-use Rattle.dw_report.specs.Verdict.{Verdict, unsolvable, cooked, dual, sound}
+use Rattle.dw_verdict.specs.Verdict.{Verdict, unsolvable, cooked, dual, sound}
 use Rattle.dw_study.specs.Finding.{Finding, judged, undecided}
 
 -- the row of a problem that is refused

@@ -24,7 +24,7 @@ use Rattle.dw_page.specs.declared.words.Language.{Language}
 use Rattle.dw_page.specs.declared.words.Phrase.TheVariants as phrases
 use Rattle.dw_report.specs.MoveTexts.{AreChoices, AreKeyTexts, AreTryTexts}
 use Rattle.dw_report.specs.Report.{refusal_text}
-use Rattle.dw_report.specs.Verdict.{IsVerdict, Tries, Verdict, cooked, dual, sound, unsolvable}
+use Rattle.dw_verdict.specs.Verdict.{IsVerdict, Tries, Verdict, cooked, dual, sound, unsolvable}
 use Rattle.dw_study.specs.Finding.{IsJudgedAt}
 
 -- the value of the first tag of a name, if there is one

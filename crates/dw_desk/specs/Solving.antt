@@ -11,9 +11,9 @@ use Rattle.dw_notation.specs.TextLines.{Found}
 use Rattle.dw_notation.specs.declared.problems.ProblemFault.{ProblemFault}
 use Rattle.dw_games.specs.Games.{NumberedGame}
 use Rattle.dw_games.specs.TagRows.{TagText, AreTags}
-use Rattle.dw_list.specs.Lines.{Lines}
+use Rattle.dw_solve.specs.Lines.{Lines}
 use Rattle.dw_report.specs.Report.{refusal_text}
-use Rattle.dw_report.specs.Verdict.{Verdict, IsVerdict, unsolvable, cooked, dual, sound}
+use Rattle.dw_verdict.specs.Verdict.{Verdict, IsVerdict, unsolvable, cooked, dual, sound}
 use Rattle.dw_solution.specs.Movetext.{IsMovetext}
 use Rattle.dw_solution.specs.declared.heading.VerdictKind.{VerdictKind}
 use Rattle.dw_solution.specs.declared.heading.VerdictKind.TheVariants as kinds

@@ -6,15 +6,16 @@ ghost use Rattle.json.specs.Print.{print};
 ghost use Rattle.dw_desk.specs.FindingJson.{AreAfterKeys, AreFound, IsFoundRow, before_keys, refused_row, verdict_word};
 ghost use Rattle.dw_desk.specs.Json.{Member, count, pairs, row as row_of, texts};
 ghost use Rattle.dw_desk.specs.inner.Rows.{GoesOn, IsBegun, WritesValue};
-ghost use Rattle.dw_report.specs.Judging.{said_by};
-ghost use Rattle.dw_report.specs.Verdict.{IsVerdict, Tries};
+ghost use Rattle.dw_verdict.specs.Judging.{said_by};
+ghost use Rattle.dw_verdict.specs.Verdict.{IsVerdict, Tries};
 ghost use Rattle.dw_study.specs.Finding.{IsFinding, judged as found_judged};
 ghost use Rattle.dw_study.specs.Telling.{told_by};
 
 use dw_board::{Board, Position, fen_text};
 use dw_notation::ProblemFault;
-use dw_report::{Judged, Verdict, dual_texts, key_texts, refusal_text, try_texts};
+use dw_report::{dual_texts, key_texts, refusal_text, try_texts};
 use dw_study::Finding;
+use dw_verdict::{Judged, Verdict};
 use json::Writer;
 use std::alloc::{AllocError, Global};
 

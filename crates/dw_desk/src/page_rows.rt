@@ -4,13 +4,14 @@ ghost use Rattle.std.specs.String.{string_bytes};
 ghost use Rattle.dw_desk.specs.Paging.{AreTryRows, IsVerdictRow, shorter, try_row};
 ghost use Rattle.dw_desk.specs.Paging as of;
 ghost use Rattle.dw_page.specs.Words as words;
-ghost use Rattle.dw_report.specs.Judging.{said_by};
-ghost use Rattle.dw_report.specs.Verdict.{IsVerdict, Tries, dual};
+ghost use Rattle.dw_verdict.specs.Judging.{said_by};
+ghost use Rattle.dw_verdict.specs.Verdict.{IsVerdict, Tries, dual};
 
 use dw_board::{Board, Position};
 use dw_moves::Move;
 use dw_page::{Language, Phrase};
-use dw_report::{Judged, Verdict, dual_texts, key_texts, try_texts};
+use dw_report::{dual_texts, key_texts, try_texts};
+use dw_verdict::{Judged, Verdict};
 use itoa::Buffer;
 use std::alloc::{AllocError, Global};
 

@@ -10,9 +10,9 @@ ghost use Rattle.dw_games.specs.GameReading.{numbered_game};
 ghost use Rattle.dw_games.specs.Games.{NumberedGame};
 ghost use Rattle.dw_games.specs.TagRows.{TagText, AreTags};
 ghost use Rattle.dw_page.specs.Pages.{author_of, end, head, refused, values_of};
-ghost use Rattle.dw_report.specs.Judging.{said_by};
+ghost use Rattle.dw_verdict.specs.Judging.{said_by};
 ghost use Rattle.dw_report.specs.Report as report;
-ghost use Rattle.dw_report.specs.Verdict.{IsVerdict, Tries};
+ghost use Rattle.dw_verdict.specs.Verdict.{IsVerdict, Tries};
 ghost use Rattle.dw_study.specs.Finding.{IsFinding};
 ghost use Rattle.dw_study.specs.Telling.{told_by};
 
@@ -29,9 +29,10 @@ use dw_page::{
     Heading, Solution, Task, push_end, push_end_of_problem, push_head, push_problem, push_refused,
     push_solution, push_solutions_heading,
 };
-use dw_report::{Judged, Stop, refusal_text};
+use dw_report::{Stop, refusal_text};
 use dw_study::find::find;
 use dw_study::{FindBounds, Finding, Slices, judge_in_slices};
+use dw_verdict::Judged;
 use std::alloc::{AllocError, Global};
 
 /// Writes the page, each problem as soon as it is read. If the problem that was asked for is not there, nothing is

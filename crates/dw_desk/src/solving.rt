@@ -10,8 +10,8 @@ ghost use Rattle.dw_desk.specs.inner.Choosing.{AreToCome};
 ghost use Rattle.dw_games.specs.GameReading.{numbered_game};
 ghost use Rattle.dw_games.specs.Games.{NumberedGame};
 ghost use Rattle.dw_games.specs.TagRows.{tag_text};
-ghost use Rattle.dw_report.specs.Judging.{said_by};
-ghost use Rattle.dw_report.specs.Verdict.{IsVerdict};
+ghost use Rattle.dw_verdict.specs.Judging.{said_by};
+ghost use Rattle.dw_verdict.specs.Verdict.{IsVerdict};
 
 use crate::chosen::Chosen;
 use crate::desk::{Counts, Desk, DeskFault};
@@ -20,10 +20,11 @@ use dw_board::{Board, Position, fen_text};
 use dw_desk_words::SolutionWords;
 use dw_games::{Game, Tag, read_tags};
 use dw_notation::{ProblemFault, Sink, Source, write_all};
-use dw_report::{Verdict, refusal_text};
+use dw_report::refusal_text;
 use dw_solution::movetext::movetext;
 use dw_solution::{Heading, VerdictKind, first_lines};
-use dw_study::{Slices, judge_in_slices};
+use dw_study::{Slices, verdict_in_slices};
+use dw_verdict::Verdict;
 use itoa::Buffer;
 use std::alloc::{AllocError, Global};
 
@@ -120,8 +121,8 @@ fn solution_of<B: Board>(
 ) -> Result<Vec<u8>, DeskFault>
     ensures { IfOk result (λ text. IsSolution B.geometry position.now asked.now.n asked.now.lines text.items) }
 {
-    let judged = judge_in_slices(desk.alloc, &mut desk.solver, position, asked.n, slices)?;
-    movetext_of(desk, position, asked.n, asked.lines, &judged.verdict)
+    let verdict = verdict_in_slices(desk.alloc, &mut desk.solver, position, asked.n, slices)?;
+    movetext_of(desk, position, asked.n, asked.lines, &verdict)
 }
 
 /// The movetext of the first lines of a position within so many moves, with this verdict.

@@ -12,12 +12,13 @@ use Rattle.dw_moves.specs.Order.{Precedes, IsAscending, IsListOf}
 use Rattle.dw_moves.specs.Laws.{MovesListed, MovesInOrder}
 use Rattle.dw_solve.specs.Wins.{Win, Lost}
 use Rattle.dw_solve.specs.Laws.{WinsAreDecided}
-use Rattle.dw_list.specs.Lines.{Line}
+use Rattle.dw_solve.specs.Lines.{Line}
+use Rattle.dw_solve.specs.inner.LineLemmas.{win_line, line_wins}
 use Rattle.dw_list.specs.inner.Ways.{GoesOn, IsNext, left_after, AreWays, AreWaysAmong}
 use Rattle.dw_list.proofs.WayLemmas.{goes_to, goes_from, no_ways, ways_then, ways_through, ways_barred}
 use Rattle.dw_list.proofs.WayLemmas.{ways_of_attacker, ways_of_defender, ways_end}
 
--- SOME LINE
+-- HOW LINES GO ON
 
 -- the defender's moves lead on, each by some line
 some_way : (g : Geometry) (q : Placement) (n : ℕ) → ((r : Move) → Legal g q r → (l : List Move)
@@ -27,25 +28,10 @@ some_way g q n each [] exact = ([], λ r legal. (exact r).1 legal)
 some_way g q n each (r ∷ rs) exact = let legal = (exact r).0 (inl refl) in let k = each r legal in
     (r ∷ k.0, (legal, k.1))
 
--- if the attacker wins, there is a line
-pub win_line : MovesListed → (g : Geometry) (n : ℕ) (p : Placement) → Win g p n → (l : List Move) × Line g p n l
-win_line listed g zero p w = absurd w
-win_line listed g (suc n) p w =
-    let q = play g p w.0 in
-    let t = some_way g q n (λ r legal. win_line listed g n (play g q r) (w.2 r legal)) (listed g q).0 (listed g q).1 in
-    (w.0 ∷ t.0, goes_to g true p (suc n) w.0 t.0 (w.1, w.2) t.1)
-
 pub lost_goes_on : MovesListed → (g : Geometry) (n : ℕ) (q : Placement) → Lost g q n → (t : List Move)
     × GoesOn g false q n t
 lost_goes_on listed g n q lost = some_way g q n (λ r legal. win_line listed g n (play g q r) (lost r legal))
     (listed g q).0 (listed g q).1
-
--- if there is a line, the attacker wins
-pub line_wins : (g : Geometry) (p : Placement) (n : ℕ) (l : List Move) → Line g p n l → Win g p n
-line_wins g p zero l h = absurd h
-line_wins g p (suc n) [] h = absurd h
-line_wins g p (suc n) (m ∷ []) h = (m, h.0, h.1)
-line_wins g p (suc n) (m ∷ r ∷ l) h = (m, h.0, h.1)
 
 pub none_begins : (g : Geometry) (p : Placement) (n : ℕ) (l : List Move) (m : Move) (rest : List Move) → Line g p n l
     → Line g p n (l ++ m ∷ rest) → ⊥

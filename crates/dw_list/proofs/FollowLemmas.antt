@@ -14,8 +14,9 @@ use Rattle.dw_moves.specs.inner.MemberLemmas.{mem_cases, mem_split, mem_right}
 use Rattle.dw_moves.specs.Order.{Precedes, IsListOf}
 use Rattle.dw_moves.specs.Laws.{MovesHaveKeys, MovesListed}
 use Rattle.dw_solve.specs.Wins.{Win}
-use Rattle.dw_list.specs.Lines.IsPlace.{lacks, leaves}
-use Rattle.dw_list.specs.Lines.{Line, Before, Lines, After, Begins, IsPlace}
+use Rattle.dw_list.specs.Places.IsPlace.{lacks, leaves}
+use Rattle.dw_solve.specs.Lines.{Line, Before, Lines}
+use Rattle.dw_list.specs.Places.{After, Begins, IsPlace}
 use Rattle.dw_list.specs.LineStack.{BeginsAmong, Level, LineStack, IsAhead, IsBehind, Remains, IsStillAhead}
 use Rattle.dw_list.specs.inner.Ways.{GoesOn, IsNext, left_after, Keeps}
 use Rattle.dw_list.specs.inner.Levels.{AreBehind, Leads, AreLevels}
@@ -26,9 +27,10 @@ use Rattle.dw_list.specs.GivenLine.{IsAlong}
 use Rattle.dw_list.specs.inner.GivenLine.{SomePassed, IsNotAhead, IsUnlisted, WentOn, GoOnWith}
 use Rattle.dw_list.proofs.StackViewLemmas.{standing}
 use Rattle.dw_list.proofs.WayLemmas.{goes_from, next_legal, next_keeps}
-use Rattle.dw_list.specs.inner.ListLemmas.{ascending_parts}
-use Rattle.dw_list.specs.inner.LineOrderLemmas.{precedes_asym, before_asym}
-use Rattle.dw_list.proofs.DecidingLemmas.{win_line, lost_goes_on}
+use Rattle.dw_solve.specs.inner.ListLemmas.{ascending_parts}
+use Rattle.dw_solve.specs.inner.LineOrderLemmas.{precedes_asym, before_asym}
+use Rattle.dw_solve.specs.inner.LineLemmas.{win_line}
+use Rattle.dw_list.proofs.DecidingLemmas.{lost_goes_on}
 use Rattle.dw_list.proofs.StackLemmas.{leads_lost}
 use Rattle.dw_list.proofs.RemainingLemmas.{goes_next, leads_line, remains_later}
 

@@ -8,7 +8,7 @@ use Rattle.dw_board.specs.Placement.{Placement}
 use Rattle.dw_moves.specs.Moves.{Move, Legal, play}
 use Rattle.dw_moves.specs.Order.{Precedes, IsListOf}
 use Rattle.dw_moves.specs.inner.MemberLemmas.{mem_at}
-use Rattle.dw_list.specs.inner.ListLemmas.{at_item}
+use Rattle.dw_solve.specs.inner.ListLemmas.{at_item}
 use Rattle.dw_list.specs.inner.Ways.{left_after, AreWays, AreWaysAmong, Keeps, AreWaysThrough, AreAdded}
 use Rattle.dw_list.proofs.WayLemmas.{through_kept, through_barred, ways_more, ways_all, ways_none}
 

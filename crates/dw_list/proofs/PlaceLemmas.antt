@@ -6,7 +6,8 @@ use Rattle.dw_board.specs.Placement.{Placement}
 use Rattle.dw_moves.specs.Moves.{Move}
 use Rattle.dw_moves.specs.Laws.{MovesListed}
 use Rattle.dw_solve.specs.Laws.{WinsAreDecided}
-use Rattle.dw_list.specs.Lines.{Line, Begins, IsPlace}
+use Rattle.dw_solve.specs.Lines.{Line}
+use Rattle.dw_list.specs.Places.{Begins, IsPlace}
 use Rattle.dw_list.proofs.FollowLemmas.{LeavesAt, place_of, leaves_at}
 use Rattle.dw_list.proofs.DecidingLemmas.{goes_on_or_not, begin_or_not}
 

@@ -7,12 +7,12 @@ use Rattle.dw_board.specs.Geometry.{Geometry}
 use Rattle.dw_board.specs.Placement.{Placement}
 use Rattle.dw_moves.specs.Moves.{Move, play}
 use Rattle.dw_moves.specs.Order.{Precedes}
-use Rattle.dw_list.specs.Lines.{Line, Before}
+use Rattle.dw_solve.specs.Lines.{Line, Before}
 use Rattle.dw_list.specs.inner.Ways.{GoesOn, left_after}
 use Rattle.dw_list.specs.LineStack.{Level, IsAhead, IsBehind, Remains}
 use Rattle.dw_list.specs.inner.Levels.{AreBehind, Leads}
 use Rattle.dw_list.proofs.WayLemmas.{goes_to, goes_from}
-use Rattle.dw_list.specs.inner.ListLemmas.{ascending_parts}
+use Rattle.dw_solve.specs.inner.ListLemmas.{ascending_parts}
 
 -- how a line goes on at a level is how it goes on at the next one, behind the move
 pub goes_next : (g : Geometry) (f : Level) (m : Move) (a : Bool) (q : Placement) (k : ℕ) (t : List Move)

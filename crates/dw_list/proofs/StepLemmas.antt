@@ -11,7 +11,7 @@ use Rattle.dw_moves.specs.Moves.{Move, Legal, play}
 use Rattle.dw_board.specs.Lists.{Member}
 use Rattle.dw_moves.specs.Order.{Precedes, IsAscending, IsListOf}
 use Rattle.dw_moves.specs.Laws.{MovesHaveKeys}
-use Rattle.dw_list.specs.Lines.{Line, Before}
+use Rattle.dw_solve.specs.Lines.{Line, Before}
 use Rattle.dw_list.specs.LineStack.{BeginsAmong, Level, LineStack, IsAhead, IsBehind, Remains, IsStillAhead, AreToCome}
 use Rattle.dw_list.specs.inner.Ways.{GoesOn, left_after, Keeps}
 use Rattle.dw_list.specs.inner.Levels.{AreLevels}
@@ -26,8 +26,8 @@ use Rattle.dw_list.specs.inner.StackWalk.{HasStepped}
 use Rattle.dw_list.proofs.StackLemmas.{leads_count}
 use Rattle.dw_list.proofs.GatheringLemmas.{left_within}
 use Rattle.dw_list.proofs.WayLemmas.{goes_from, next_legal, next_keeps}
-use Rattle.dw_list.specs.inner.ListLemmas.{first_listed, none_listed}
-use Rattle.dw_list.specs.inner.LineOrderLemmas.{before_asym}
+use Rattle.dw_solve.specs.inner.ListLemmas.{first_listed, none_listed}
+use Rattle.dw_solve.specs.inner.LineOrderLemmas.{before_asym}
 use Rattle.dw_list.proofs.StackViewLemmas.{standing}
 use Rattle.dw_list.proofs.RemainingLemmas.{remains_as, remains_or, remains_here, leads_line, remains_later}
 

@@ -5,7 +5,7 @@ use Rattle.dw_board.specs.Placement.{Placement}
 use Rattle.dw_moves.specs.Moves.{Move}
 use Rattle.dw_list.specs.declared.fault.AfterFault.{AfterFault}
 use Rattle.dw_list.specs.declared.fault.AfterFault.TheVariants.{NotALine, Stopped}
-use Rattle.dw_list.specs.Lines.{IsPlace}
+use Rattle.dw_list.specs.Places.{IsPlace}
 
 -- the list is no line, and this is its place; or the search was stopped
 abbrev pub IsRefusal : Geometry → Placement → ℕ → List Move → AfterFault → Type 0

@@ -3,7 +3,8 @@ use Rattle.std.specs.Prelude.{◌≡◌, ℕ, List, reverse}
 use Rattle.dw_board.specs.Geometry.{Geometry}
 use Rattle.dw_board.specs.Placement.{Placement}
 use Rattle.dw_moves.specs.Moves.{Move}
-use Rattle.dw_list.specs.Lines.{Line, Lines, After}
+use Rattle.dw_solve.specs.Lines.{Line, Lines}
+use Rattle.dw_list.specs.Places.{After}
 use Rattle.dw_list.specs.LineStack.{LineStack, AreToCome}
 
 -- a list of moves is a line, and the lines after it are those still to come of a stack

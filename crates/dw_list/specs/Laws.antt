@@ -4,7 +4,8 @@ use Rattle.dw_board.specs.Geometry.{Geometry, IsBoard}
 use Rattle.dw_board.specs.Placement.{Placement}
 use Rattle.dw_moves.specs.Moves.{Move}
 use Rattle.dw_solve.specs.Wins.{Win}
-use Rattle.dw_list.specs.Lines.{Line, Lines, IsPlace}
+use Rattle.dw_solve.specs.Lines.{Line, Lines}
+use Rattle.dw_list.specs.Places.{IsPlace}
 use Rattle.dw_list.specs.LineStack.{LineStack}
 use Rattle.dw_list.specs.StackWalk.{Gives}
 

@@ -1,4 +1,4 @@
-pub mod Lines
+pub mod Places
 pub mod Laws
 pub mod LineStack
 pub mod StackWalk

@@ -5,7 +5,7 @@ use Rattle.dw_board.specs.Placement.{Placement}
 use Rattle.dw_moves.specs.Moves.{Move}
 use Rattle.dw_board.specs.Lists.{Member}
 use Rattle.dw_moves.specs.Order.{IsListOf}
-use Rattle.dw_list.specs.Lines.{Line, Before}
+use Rattle.dw_solve.specs.Lines.{Line, Before}
 
 -- A position on the way of a line, whether the attacker is to move there and how many moves he has left, and the moves
 -- there that are still ahead, in order, once they are listed.

@@ -1,7 +1,4 @@
 -- What only relates the code to the definitions: no contract of a public call names it.
-pub mod QuestionLemmas
-pub mod LineOrderLemmas
-pub mod ListLemmas
 pub mod Tasks
 pub mod Ways
 pub mod Steps

@@ -4,7 +4,7 @@ ghost use Rattle.dw_moves.specs.Moves.{Legal};
 ghost use Rattle.dw_solve.specs.declared.stop.Stop.TheVariants.{Limit};
 ghost use Rattle.dw_solve.specs.Searching.{IsCounted};
 ghost use Rattle.dw_solve.specs.Work.{moment, Searched, cut_off};
-ghost use Rattle.dw_list.specs.Lines.{Lines};
+ghost use Rattle.dw_solve.specs.Lines.{Lines};
 ghost use Rattle.dw_list.specs.inner.Ways.{AreWays, AreAdded};
 ghost use Rattle.dw_solve.specs.Questions.{Asked};
 

@@ -26,7 +26,7 @@ pub struct Lister<'a, B: Board, M: Memo<B>, G: Guide<B>> {
 
 impl<'a, B: Board, M: Memo<B>, G: Guide<B>> Lister<'a, B, M, G> {
     ghost use Rattle.dw_moves.specs.Moves as of;
-    ghost use Rattle.dw_list.specs.Lines.{Lines};
+    ghost use Rattle.dw_solve.specs.Lines.{Lines};
     ghost use Rattle.dw_solve.specs.Questions.{moment_of};
     ghost use Rattle.dw_list.specs.LineStack.{AreToCome};
     ghost use Rattle.dw_list.specs.GivenLine.{IsAlong};

@@ -9,7 +9,7 @@ use Rattle.dw_board.specs.Geometry.{Geometry}
 use Rattle.dw_board.specs.Placement.{Placement}
 use Rattle.dw_moves.specs.Moves.{Move}
 use Rattle.dw_solve.specs.Searching.{IsCounted}
-use Rattle.dw_report.specs.Verdict.{IsVerdict, sound}
+use Rattle.dw_verdict.specs.Verdict.{IsVerdict, sound}
 use Rattle.dw_mend.specs.Changes.{Change, AreNeighbours}
 use Rattle.dw_mend.specs.MendText.{IsSoundLine}
 use Rattle.dw_mend.specs.Mending.{Counts, AreBounded, AreMended, IsMendStop, part_from, part_of}

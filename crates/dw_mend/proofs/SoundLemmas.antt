@@ -5,8 +5,8 @@ use Rattle.dw_board.specs.Geometry.{Geometry, IsBoard}
 use Rattle.dw_board.specs.Placement.{Placement}
 use Rattle.dw_moves.specs.Moves.{Move, Legal}
 use Rattle.dw_solve.specs.Wins.{Win}
-use Rattle.dw_report.specs.Verdict.{Verdict, IsWinning, IsVerdict, sound}
-use Rattle.dw_report.specs.VerdictLaws.{OneVerdict}
+use Rattle.dw_verdict.specs.Verdict.{Verdict, IsWinning, IsVerdict, sound}
+use Rattle.dw_verdict.specs.VerdictLaws.{OneVerdict}
 
 -- a move that wins is a win
 winning_wins : (g : Geometry) (p : Placement) (n : ℕ) (m : Move) → IsWinning g p n m → Win g p n

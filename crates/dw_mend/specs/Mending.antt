@@ -4,7 +4,7 @@ use Rattle.std.specs.Prelude.{List, [], ◌∷◌, ◌++◌, length, take}
 use Rattle.dw_board.specs.Geometry.{Geometry}
 use Rattle.dw_board.specs.Placement.{Placement}
 use Rattle.dw_moves.specs.Moves.{Move}
-use Rattle.dw_report.specs.Verdict.{IsVerdict, sound}
+use Rattle.dw_verdict.specs.Verdict.{IsVerdict, sound}
 use Rattle.dw_mend.specs.Changes.{Change, AreNeighbours}
 use Rattle.dw_mend.specs.MendText.{IsSoundLine, count_line}
 

@@ -2,7 +2,7 @@
 ghost use Rattle.std.specs.Prelude.{◌≡◌, ℕ, ◌+◌, ◌≤◌, false, take, length, List, Some, Err, IfOk, IfSome, IsErrOf};
 ghost use Rattle.std.specs.Prelude.{OnOk, MatchOption, map};
 ghost use Rattle.dw_moves.specs.Moves.{Move as AnyMove};
-ghost use Rattle.dw_report.specs.Verdict.{IsVerdict, sound};
+ghost use Rattle.dw_verdict.specs.Verdict.{IsVerdict, sound};
 ghost use Rattle.std.specs.Io.KnownBytes.{Appends};
 ghost use Rattle.dw_board.specs.Placement.{Placement};
 ghost use Rattle.dw_memo.specs.Content.{IsMap};

@@ -5,15 +5,15 @@ ghost use Rattle.dw_memo.specs.Content.{IsMap};
 ghost use Rattle.dw_solve.specs.declared.stop.Stop.TheVariants.{Limit};
 ghost use Rattle.dw_solve.specs.Facts.{AreTrue};
 ghost use Rattle.dw_solve.specs.Searching.{IsCounted};
-ghost use Rattle.dw_report.specs.Judging.{said_by};
-ghost use Rattle.dw_report.specs.Verdict.{IsVerdict, sound};
+ghost use Rattle.dw_verdict.specs.Judging.{said_by};
+ghost use Rattle.dw_verdict.specs.Verdict.{IsVerdict, sound};
 
 use dw_board::{Board, Position};
 use dw_memo::Memo;
 use dw_moves::Move;
-use dw_report::Verdict;
 use dw_solve::{Guide, Solver, Stop};
-use dw_study::{Slices, Watcher, judge_on, wins_on};
+use dw_study::{Slices, Watcher, verdict_on, wins_on};
+use dw_verdict::Verdict;
 use std::alloc::Global;
 
 /// The key of a position that is sound within so many moves of the side to move, 1 to 20; none, if it is not. After a
@@ -39,15 +39,15 @@ pub fn sound_key<B: Board, M: Memo<B>, G: Guide<B>, W: Watcher>(
     ensures first { slices.new.first ≡ slices.old.first }
     ensures start { slices.new.start ≡ slices.old.start }
 {
-    dw_report::laws::one_verdict();
+    dw_verdict::laws::one_verdict();
     if !wins_on(alloc, solver, position, moves, slices)? {
         return Ok(None);
     }
     if wins_on(alloc, solver, position, moves - 1, slices)? {
         return Ok(None);
     }
-    let judged = judge_on(alloc, solver, position, moves, slices)?;
-    Ok(key_of(&judged.verdict))
+    let verdict = verdict_on(alloc, solver, position, moves, slices)?;
+    Ok(key_of(&verdict))
 }
 
 /// The key that a verdict tells, if it is that the position is sound.

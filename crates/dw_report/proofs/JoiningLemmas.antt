@@ -9,7 +9,7 @@ use Rattle.dw_board.specs.Placement.{Placement}
 use Rattle.dw_moves.specs.Moves.{Move, Legal, play}
 use Rattle.dw_board.specs.Lists.{Member}
 use Rattle.dw_notation.specs.Text.{IsMoveText, ArePlayable, AreMoveTexts, AreJoined}
-use Rattle.dw_report.specs.Verdict.{reach}
+use Rattle.dw_verdict.specs.Verdict.{reach}
 
 -- the position after the first so many of some moves
 pub record Reaches (g : Geometry) (p : Placement) (moves : List Move) (i : ℕ) (current : Placement) : Type 0 where

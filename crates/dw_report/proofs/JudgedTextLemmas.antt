@@ -8,9 +8,10 @@ use Rattle.dw_moves.specs.Moves.{Move, Legal, play}
 use Rattle.dw_board.specs.Lists.{Member}
 use Rattle.dw_notation.specs.Text.{ArePlayable, AreMoveTexts, AreJoined}
 use Rattle.dw_notation.specs.TextLaws.{MovesHaveTexts, LinesHaveTexts}
-use Rattle.dw_list.specs.Lines.{Line}
-use Rattle.dw_report.specs.Verdict.{IsWinning, Keys, reach, Verdict, unsolvable, cooked, dual, sound, IsVerdict, IsTry}
-use Rattle.dw_report.specs.VerdictLaws.{OneVerdict, TriesAreListed}
+use Rattle.dw_solve.specs.Lines.{Line}
+use Rattle.dw_verdict.specs.Verdict.{Keys, reach, Verdict, unsolvable, cooked, dual, sound, IsVerdict, IsTry}
+use Rattle.dw_verdict.specs.VerdictLaws.{OneVerdict, TriesAreListed}
+use Rattle.dw_verdict.specs.inner.WinningLemmas.{winning_legal}
 use Rattle.dw_report.specs.JudgedText.{next_number, IsVerdictText, IsTryLine, AreTryLines}
 use Rattle.dw_report.specs.inner.JudgedText.{IsVerdictLine}
 use Rattle.dw_report.specs.inner.JudgedText.{AreTriesListed}
@@ -43,10 +44,6 @@ joined_only : MovesHaveTexts → (g : Geometry) (p : Placement) (mark : List ℕ
 joined_only law g p mark moves joined other (texts, are, e) (others, are', e') =
     e ∙ (ap (λ (z : List (List ℕ)). join_by (λ text. text) mark z) (move_texts_only law g p moves texts others are are')
     ∙ sym e')
-
-pub winning_legal : (g : Geometry) (p : Placement) (n : ℕ) (m : Move) → IsWinning g p n m → Legal g p m
-winning_legal g p zero m h = absurd h
-winning_legal g p (suc n) m h = h.0
 
 -- all keys are legal
 pub keys_legal : (g : Geometry) (p : Placement) (n : ℕ) (keys : List Move) → Keys g p n keys → (m : Move)

@@ -8,12 +8,6 @@ pub mod JudgedTextLemmas
 pub mod ListedTextLemmas
 pub mod TextLemmas
 pub mod WritingLemmas
-pub mod ChoiceLemmas
-pub mod VerdictLemmas
-pub mod KeyListLemmas
-pub mod RefutingLemmas
-pub mod TryListLemmas
-pub mod ChoiceLoopLemmas
 pub mod JoiningLemmas
 pub mod MoveTextLemmas
 pub mod VerdictTextLemmas

@@ -15,7 +15,8 @@ use Rattle.dw_notation.specs.Text.{IsLineText, ArePlayable}
 use Rattle.dw_notation.specs.TextLaws.{LinesHaveTexts}
 use Rattle.dw_notation.specs.Writes.{StopsShort, Writes}
 use Rattle.dw_notation.specs.inner.Writes.{WritesShort}
-use Rattle.dw_list.specs.Lines.{Line, Lines, After}
+use Rattle.dw_solve.specs.Lines.{Line, Lines}
+use Rattle.dw_list.specs.Places.{After}
 use Rattle.dw_list.specs.LineStack.{LineStack, AreToCome}
 use Rattle.dw_list.specs.StackWalk.{Gives, GivesFirst, GivesNone}
 use Rattle.dw_list.specs.inner.StackWalk.{GivesNext}

@@ -11,10 +11,11 @@ use Rattle.dw_moves.specs.inner.MemberLemmas.{mem_left, mem_right}
 use Rattle.dw_moves.specs.Order.{IsAscending}
 use Rattle.dw_moves.specs.Laws.{MovesHaveKeys}
 use Rattle.dw_notation.specs.TextLaws.{LinesHaveTexts}
-use Rattle.dw_list.specs.Lines.{Line, Lines, Before, After}
+use Rattle.dw_solve.specs.Lines.{Line, Lines, Before}
+use Rattle.dw_list.specs.Places.{After}
 use Rattle.dw_list.specs.Laws.{LinesExist, LineOrPlace}
-use Rattle.dw_list.specs.inner.LineOrderLemmas.{before_asym}
-use Rattle.dw_list.specs.inner.ListLemmas.{ascending_parts}
+use Rattle.dw_solve.specs.inner.LineOrderLemmas.{before_asym}
+use Rattle.dw_solve.specs.inner.ListLemmas.{ascending_parts}
 use Rattle.dw_report.specs.ListedText.{AreLineTexts, IsComplete, IsCut, IsListing, IsListedText, more_after}
 use Rattle.dw_report.specs.inner.Rows.{refused_line}
 use Rattle.dw_report.proofs.JudgedTextLemmas.{line_playable}

@@ -1,15 +1,15 @@
 -- The texts of moves and of tries, gathered one after another.
-use Rattle.std.proofs.Common.{◌≡◌, ℕ, ◌+◌, ◌<◌, ◌≤◌, zero, suc, List, [], ◌∷◌, ◌++◌, length, map, take, get_or, refl, sym}
+use Rattle.std.proofs.Common.{◌≡◌, ℕ, ◌+◌, ◌<◌, zero, suc, List, [], ◌∷◌, ◌++◌, length, map, take, get_or, refl, sym}
 use Rattle.std.proofs.Common.{ap, ◌∙◌, subst, inl, inr, arith}
 use Rattle.std.proofs.lemmas.List.{take_more, map_push}
 use Rattle.dw_board.specs.Geometry.{Geometry}
 use Rattle.dw_board.specs.Placement.{Placement}
 use Rattle.dw_board.specs.Lists.{Member}
-use Rattle.dw_moves.specs.Moves.{Move, Legal, play}
+use Rattle.dw_moves.specs.Moves.{Move}
 use Rattle.dw_notation.specs.Text.{IsMoveText, AreMoveTexts}
-use Rattle.dw_list.specs.Lines.{Line}
-use Rattle.dw_report.specs.Verdict.{IsWinning, Keys, IsVerdict, dual}
-use Rattle.dw_report.specs.MoveTexts.{AreKeyTexts, AreTryTexts}
+use Rattle.dw_solve.specs.Lines.{Line}
+use Rattle.dw_verdict.specs.Verdict.{IsWinning, Keys, IsVerdict, dual}
+use Rattle.dw_report.specs.MoveTexts.{AreTryTexts}
 use Rattle.dw_report.specs.inner.MoveTexts.{IsTryWords}
 use Rattle.dw_report.proofs.JoiningLemmas.{move_texts_more}
 

@@ -14,7 +14,7 @@ use Rattle.dw_report.specs.Request.{Request}
 use Rattle.dw_report.specs.Report.{IsMovesText, IsSaid, IsFurther, IsProblemText, AreTexts, first_line, move_line}
 use Rattle.dw_report.specs.inner.Rows.{count_line}
 use Rattle.dw_report.specs.Report.{chosen, IsReport}
-use Rattle.dw_report.specs.VerdictLaws.{OneVerdict, TriesAreListed}
+use Rattle.dw_verdict.specs.VerdictLaws.{OneVerdict, TriesAreListed}
 use Rattle.dw_report.specs.declared.settings.Command.{Command}
 use Rattle.dw_report.specs.declared.settings.Command.TheVariants.{Show, Moves, Judge, List as Lists}
 use Rattle.dw_report.proofs.JudgedTextLemmas.{judged_some, judged_only}

@@ -16,9 +16,8 @@ use Rattle.dw_notation.specs.Writes.{StopsShort, Writes}
 use Rattle.dw_notation.specs.inner.Writes.{WritesShort}
 use Rattle.dw_solve.specs.declared.stop.Stop.{Stop}
 use Rattle.dw_solve.specs.Laws.{WinsAreDecided}
-use Rattle.dw_list.specs.inner.ListLemmas.{at_item}
-use Rattle.dw_report.specs.Verdict.{Verdict, IsVerdict, IsRefutation, IsTry, Tries}
-use Rattle.dw_report.specs.inner.Judging.{FindsRefutation}
+use Rattle.dw_solve.specs.inner.ListLemmas.{at_item}
+use Rattle.dw_verdict.specs.Verdict.{Verdict, IsVerdict, IsRefutation, IsTry, Tries, FindsRefutation}
 use Rattle.dw_report.specs.JudgedText.{IsVerdictText, IsTryLine, AreTryLines, IsJudgedText}
 use Rattle.dw_report.specs.inner.JudgedText.{AreTriesListed}
 use Rattle.dw_report.specs.inner.JudgedText.{IsTryText}
@@ -26,9 +25,9 @@ use Rattle.dw_report.specs.Running.{AreWholeLines, AreLinesOf}
 use Rattle.dw_report.specs.inner.Running.{TextEnds}
 use Rattle.dw_report.specs.declared.problem.TextFault.{TextFault}
 use Rattle.dw_report.specs.declared.problem.TextFault.TheVariants.{Stopped, Sink}
-use Rattle.dw_report.specs.inner.GatheredLemmas.{AreGathered, gathered_none, gathered_more, gathered_same}
+use Rattle.dw_verdict.specs.inner.GatheredLemmas.{AreGathered, gathered_none, gathered_more, gathered_same}
 use Rattle.dw_report.proofs.JoiningLemmas.{one_of_them}
-use Rattle.dw_report.proofs.VerdictLemmas.{refutation_some, tries_listed}
+use Rattle.dw_verdict.specs.inner.WinningLemmas.{refutation_some, tries_listed}
 use Rattle.dw_report.proofs.WritingLemmas.{stops_within}
 
 -- a stop before anything was written

@@ -6,7 +6,7 @@ use Rattle.dw_board.specs.Placement.{Placement}
 use Rattle.dw_moves.specs.Moves.{Move, Legal, play}
 use Rattle.dw_board.specs.Lists.{Member}
 use Rattle.dw_notation.specs.Text.{IsMoveText, IsLineText, ArePlayable, AreJoined}
-use Rattle.dw_report.specs.Verdict.{unsolvable, cooked, dual, sound, reach, IsVerdict}
+use Rattle.dw_verdict.specs.Verdict.{unsolvable, cooked, dual, sound, reach, IsVerdict}
 use Rattle.dw_report.specs.JudgedText.{next_number, IsVerdictText, IsTryLine}
 use Rattle.dw_report.specs.inner.JoinedLemmas.{joined_3, joined_5, joined_7, joined_9}
 use Rattle.dw_report.proofs.JudgedTextLemmas.{keys_legal, line_playable, playable_front}

@@ -4,7 +4,7 @@ use Rattle.dw_board.specs.Geometry.{Geometry}
 use Rattle.dw_board.specs.Placement.{Placement}
 use Rattle.dw_moves.specs.Moves.{Move, play}
 use Rattle.dw_notation.specs.Text.{IsMoveText, IsLineText, AreJoined}
-use Rattle.dw_report.specs.Verdict.{Verdict, unsolvable, cooked, dual, sound, IsVerdict, Tries, reach}
+use Rattle.dw_verdict.specs.Verdict.{Verdict, unsolvable, cooked, dual, sound, IsVerdict, Tries, reach}
 
 -- the number of the attacker's next move, after whole turns
 abbrev pub next_number : List Move → ℕ

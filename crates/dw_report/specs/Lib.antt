@@ -1,7 +1,4 @@
 pub mod Request
-pub mod Verdict
-pub mod VerdictLaws
-pub mod Judging
 pub mod JudgedText
 pub mod MoveTexts
 pub mod ListedText

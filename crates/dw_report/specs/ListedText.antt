@@ -5,7 +5,8 @@ use Rattle.dw_board.specs.Geometry.{Geometry}
 use Rattle.dw_board.specs.Placement.{Placement}
 use Rattle.dw_moves.specs.Moves.{Move}
 use Rattle.dw_notation.specs.Text.{IsLineText}
-use Rattle.dw_list.specs.Lines.{Lines, After, IsPlace}
+use Rattle.dw_solve.specs.Lines.{Lines}
+use Rattle.dw_list.specs.Places.{After, IsPlace}
 use Rattle.dw_list.specs.Tokens.{token_of}
 
 -- the text of each line of play, on a line of its own

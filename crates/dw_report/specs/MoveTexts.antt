@@ -4,7 +4,7 @@ use Rattle.dw_board.specs.Geometry.{Geometry}
 use Rattle.dw_board.specs.Placement.{Placement}
 use Rattle.dw_moves.specs.Moves.{Move, play}
 use Rattle.dw_notation.specs.Text.{IsMoveText, IsLineText, AreMoveTexts}
-use Rattle.dw_report.specs.Verdict.{Keys, reach}
+use Rattle.dw_verdict.specs.Verdict.{Keys, reach}
 
 -- the texts of all keys, in order
 abbrev pub AreKeyTexts : Geometry → Placement → ℕ → List (List ℕ) → Type 0

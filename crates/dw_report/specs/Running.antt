@@ -13,7 +13,7 @@ use Rattle.dw_notation.specs.declared.problems.TheConstants.{MAX_PROBLEMS, MAX_R
 use Rattle.dw_notation.specs.declared.problems.Form.{Form}
 use Rattle.dw_solve.specs.declared.stop.Stop.{Stop}
 use Rattle.dw_solve.specs.declared.stop.Stop.TheVariants.{Memory, Limit}
-use Rattle.dw_list.specs.Lines.{Line}
+use Rattle.dw_solve.specs.Lines.{Line}
 use Rattle.dw_report.specs.Request.{number_is_asked, Request}
 use Rattle.dw_report.specs.Report.{IsReport, IsReportOn, IsFurther, AreTexts, first_line, chosen}
 use Rattle.dw_report.specs.declared.settings.Summary.{Summary}

@@ -2,7 +2,5 @@
 pub mod Rows
 pub mod JudgedText
 pub mod MoveTexts
-pub mod Judging
 pub mod Running
-pub mod GatheredLemmas
 pub mod JoinedLemmas

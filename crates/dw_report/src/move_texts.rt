@@ -5,18 +5,18 @@ ghost use Rattle.dw_board.specs.Lists.{Member};
 ghost use Rattle.dw_moves.specs.Moves.{Legal, play as after};
 ghost use Rattle.dw_moves.specs.Moves as of;
 ghost use Rattle.dw_notation.specs.Text.{AreMoveTexts, IsLineText, IsMoveText};
-ghost use Rattle.dw_report.specs.Judging.{said_by};
+ghost use Rattle.dw_verdict.specs.Judging.{said_by};
 ghost use Rattle.dw_report.specs.MoveTexts.{AreKeyTexts, AreTryTexts, AreChoices};
-ghost use Rattle.dw_report.specs.Verdict.{IsVerdict, Tries, reach, dual};
+ghost use Rattle.dw_verdict.specs.Verdict.{IsVerdict, Tries, reach, dual};
 ghost use Rattle.dw_report.specs.inner.MoveTexts.{IsTryWords};
 
 use crate::judged::reached;
-use crate::verdict::Verdict;
 use dw_board::{Board, Position};
 use dw_moves::Move;
 use dw_moves::play::play;
 use dw_notation::line_text::line_text;
 use dw_notation::text_in;
+use dw_verdict::Verdict;
 use std::alloc::{AllocError, Global};
 use std::slice;
 

@@ -14,10 +14,10 @@ use Rattle.dw_moves.specs.inner.MemberLemmas.{mem_right}
 use Rattle.dw_notation.specs.Text.{ArePlayable}
 use Rattle.dw_solve.specs.Searching.{IsCounted}
 use Rattle.dw_list.specs.Laws.{NoneBegins, LinesExist}
-use Rattle.dw_list.specs.Lines.{Line, Lines, Before}
+use Rattle.dw_solve.specs.Lines.{Line, Lines, Before}
 use Rattle.dw_list.specs.LineStack.{LineStack, AreToCome}
 use Rattle.dw_list.specs.StackWalk.{GivesFirst, GivesNone}
-use Rattle.dw_list.specs.inner.LineOrderLemmas.{precedes_asym}
+use Rattle.dw_solve.specs.inner.LineOrderLemmas.{precedes_asym}
 use Rattle.dw_solution.specs.Movetext.{AreAllPlayable}
 use Rattle.dw_solution.specs.inner.Steps.{last_line, Parts, MayFollow}
 use Rattle.dw_solution.specs.inner.Taking.{AreTaken, Takes, GoesOn}

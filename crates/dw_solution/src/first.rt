@@ -4,7 +4,7 @@ ghost use Rattle.dw_board.specs.Placement.{Placement};
 ghost use Rattle.dw_moves.specs.Moves as of;
 ghost use Rattle.dw_solve.specs.declared.stop.Stop.TheVariants.{Limit};
 ghost use Rattle.dw_solve.specs.Searching.{IsCounted};
-ghost use Rattle.dw_list.specs.Lines.{Lines};
+ghost use Rattle.dw_solve.specs.Lines.{Lines};
 ghost use Rattle.dw_list.specs.Listing.{lender, solver_of, stack_of};
 ghost use Rattle.dw_solution.specs.Movetext.{AreAllPlayable};
 ghost use Rattle.dw_solution.specs.inner.Taking.{AreTaken, Takes, GoesOn};

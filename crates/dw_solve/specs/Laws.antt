@@ -2,10 +2,12 @@
 use Rattle.std.specs.Prelude.{◌≡◌, ℕ, ◌+◌, ◌≤◌, ◌⊎◌, ◌↔◌, List, length}
 use Rattle.dw_board.specs.Geometry.{Geometry, IsBoard}
 use Rattle.dw_board.specs.Placement.{Placement}
+use Rattle.dw_moves.specs.Moves.{Move}
 use Rattle.dw_moves.specs.Replies.{HasSureReply, AlwaysReply}
 use Rattle.dw_memo.specs.Content.{Content, IsMap}
 use Rattle.dw_board.specs.Lists.{Member, NoRepeat}
 use Rattle.dw_solve.specs.Wins.{Win, Lost}
+use Rattle.dw_solve.specs.Lines.{Line}
 use Rattle.dw_solve.specs.Facts.{IsClosed, AreTrue, IsDecided}
 use Rattle.dw_solve.specs.Work.{Moment, decided_at, LossIsCounted, NothingLost, Searched}
 
@@ -17,6 +19,10 @@ pub record WinsStay : Type 0 where
 -- there is a win or there is none
 abbrev pub WinsAreDecided : Type 0
 WinsAreDecided = (g : Geometry) (p : Placement) (n : ℕ) → Win g p n ⊎ (Win g p n → ⊥)
+
+-- there is a line exactly if there is a win
+abbrev pub WinsHaveLines : Type 0
+WinsHaveLines = (g : Geometry) (p : Placement) (n : ℕ) → Win g p n ↔ ((l : List Move) × Line g p n l)
 
 -- there is no win in one move if the other side always has a reply; so there is none if it has a sure one
 pub record NoWinInOne : Type 0 where

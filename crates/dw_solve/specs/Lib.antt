@@ -1,4 +1,5 @@
 pub mod Wins
+pub mod Lines
 pub mod Facts
 pub mod Laws
 pub mod Trial

@@ -1,6 +1,6 @@
 //! Laws of the definitions, each the contract of a function that does nothing.
 ghost use Rattle.dw_solve.specs.Laws.{WinsStay, WinsAreDecided, NoWinInOne, ClosedIsTrue, DecidedAreCounted};
-ghost use Rattle.dw_solve.specs.Laws.{SearchesAddUp};
+ghost use Rattle.dw_solve.specs.Laws.{SearchesAddUp, WinsHaveLines};
 
 use dw_moves::laws::{moves_listed, sure_replies};
 
@@ -14,6 +14,14 @@ pub fn wins_stay()
 /// Example: at `W:W27,45:B16` White has a win within 2 moves, and none within 1.
 pub fn wins_are_decided()
     ensures { WinsAreDecided }
+{
+    moves_listed()
+}
+
+/// A position has a line within so many moves exactly if it has a win.
+/// Example: within 2 moves `W:W27,45:B16` has the line `45-40`, `16-21`, `27x16`; within 1 it has no win, and no line.
+pub fn wins_have_lines()
+    ensures { WinsHaveLines }
 {
     moves_listed()
 }

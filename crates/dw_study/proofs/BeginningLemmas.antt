@@ -10,7 +10,7 @@ use Rattle.dw_moves.specs.Moves.{Move, Legal, play}
 use Rattle.dw_moves.specs.inner.MemberLemmas.{mem_cases}
 use Rattle.dw_games.specs.Walk.{beginning_at}
 use Rattle.dw_notation.specs.Text.{ArePlayable}
-use Rattle.dw_report.specs.Verdict.{reach}
+use Rattle.dw_verdict.specs.Verdict.{reach}
 
 -- GATHERED FROM THE END
 

@@ -13,7 +13,7 @@ use Rattle.dw_board.specs.Lists.{Member}
 use Rattle.dw_moves.specs.Moves.{Move, Legal}
 use Rattle.dw_moves.specs.Order.{IsAscending}
 use Rattle.dw_moves.specs.inner.MemberLemmas.{mem_left, mem_right, mem_cases, mem_map_back}
-use Rattle.dw_list.specs.inner.ListLemmas.{at_item}
+use Rattle.dw_solve.specs.inner.ListLemmas.{at_item}
 use Rattle.dw_games.specs.Walk.{place_of, beginning_at, IsNext}
 use Rattle.dw_games.specs.declared.branches.Node.{Node}
 use Rattle.dw_study.specs.declared.branch.Child.{Child}

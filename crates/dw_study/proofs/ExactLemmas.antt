@@ -9,11 +9,11 @@ use Rattle.dw_moves.specs.Order.{Precedes, IsListOf}
 use Rattle.dw_moves.specs.Laws.{MovesInOrder}
 use Rattle.dw_moves.specs.inner.MoveLemmas.{same_moves}
 use Rattle.dw_moves.specs.inner.MemberLemmas.{mem_left, mem_right, mem_cases, mem_map_back}
-use Rattle.dw_list.specs.Lines.{Line}
+use Rattle.dw_solve.specs.Lines.{Line}
 use Rattle.dw_solve.specs.Wins.{Win, Lost}
 use Rattle.dw_games.specs.Play.{after}
 use Rattle.dw_games.specs.Laws.{IsPlayed}
-use Rattle.dw_report.specs.Verdict.{IsWinning}
+use Rattle.dw_verdict.specs.Verdict.{IsWinning}
 use Rattle.dw_study.specs.Remarks.{Remark, fails, also, leaves_open, GoesOnBy, if_any, AtAttacker}
 use Rattle.dw_study.specs.Remarks.{without_move, with_moves, AtDefender, over, without_reply, with_replies, InTurn, nothing}
 use Rattle.dw_study.specs.Remarks.{one_more, AreRemarks}

@@ -7,8 +7,8 @@ use Rattle.dw_moves.specs.Moves.{Move}
 use Rattle.dw_solve.specs.Laws.{WinsAreDecided, WinsStay}
 use Rattle.dw_solve.specs.Solving.{IsLeast}
 use Rattle.dw_solve.specs.Wins.{Win}
-use Rattle.dw_report.specs.Verdict.{Verdict}
-use Rattle.dw_report.specs.VerdictLaws.{OneVerdict, TriesAreListed}
+use Rattle.dw_verdict.specs.Verdict.{Verdict}
+use Rattle.dw_verdict.specs.VerdictLaws.{OneVerdict, TriesAreListed}
 use Rattle.dw_study.specs.Finding.{judged, IsJudgedAt, IsFinding}
 
 -- no win within any number up to n

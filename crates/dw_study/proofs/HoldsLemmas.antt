@@ -12,12 +12,12 @@ use Rattle.std.proofs.Common.{Bool, true, false}
 use Rattle.std.proofs.lemmas.Bool.{true≢false}
 use Rattle.dw_moves.specs.inner.MoveLemmas.{same_moves, same_moves-is}
 use Rattle.dw_moves.specs.inner.MemberLemmas.{mem_left, mem_right, mem_cases, mem_map}
-use Rattle.dw_list.specs.Lines.{Line}
+use Rattle.dw_solve.specs.Lines.{Line}
 use Rattle.dw_solve.specs.Wins.{Win, Lost}
 use Rattle.dw_solve.specs.Laws.{WinsAreDecided}
 use Rattle.dw_games.specs.Play.{after}
 use Rattle.dw_games.specs.Laws.{IsPlayed}
-use Rattle.dw_report.specs.Verdict.{IsWinning}
+use Rattle.dw_verdict.specs.Verdict.{IsWinning}
 use Rattle.dw_study.specs.Remarks.{Remark, fails, ends, GoesOnBy, IsFirstRefutation, AtAttacker, without_move, with_moves}
 use Rattle.dw_study.specs.Remarks.{AtDefender, over, without_reply, with_replies, InTurn, nothing, one_more}
 use Rattle.dw_study.specs.Remarks.{also, leaves_open, if_any, AreRemarks}

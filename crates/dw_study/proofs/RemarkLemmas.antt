@@ -10,10 +10,10 @@ use Rattle.dw_moves.specs.Order.{Precedes}
 use Rattle.dw_moves.specs.Laws.{MovesHaveKeys}
 use Rattle.dw_moves.specs.inner.MemberLemmas.{mem_cases}
 use Rattle.dw_moves.specs.inner.OneListLemmas.{list_only}
-use Rattle.dw_list.specs.inner.LineOrderLemmas.{precedes_asym}
+use Rattle.dw_solve.specs.inner.LineOrderLemmas.{precedes_asym}
 use Rattle.dw_games.specs.Movetext.{AreDistinct, IsTree}
 use Rattle.dw_games.specs.Movetext as tree
-use Rattle.dw_report.specs.Verdict.{IsWinning}
+use Rattle.dw_verdict.specs.Verdict.{IsWinning}
 use Rattle.dw_study.specs.Remarks.{Remark, fails, also, leaves_open, GoesOnBy, StandsBefore, IsFailing, if_any}
 use Rattle.dw_study.specs.Remarks.{AtAttacker, without_move, with_moves, AtDefender, over, without_reply, with_replies}
 use Rattle.dw_study.specs.Remarks.{InTurn, nothing, one_more, AndBehind, AfterKey, AreRemarks}

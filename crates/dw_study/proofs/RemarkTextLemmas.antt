@@ -5,7 +5,7 @@ use Rattle.dw_board.specs.Geometry.{Geometry}
 use Rattle.dw_board.specs.Placement.{Placement}
 use Rattle.dw_moves.specs.Moves.{Move, play}
 use Rattle.dw_notation.specs.Text.{IsLineText, IsMoveText, AreJoined}
-use Rattle.dw_report.specs.Verdict.{reach}
+use Rattle.dw_verdict.specs.Verdict.{reach}
 use Rattle.dw_report.specs.inner.JoinedLemmas.{joined_3, joined_5, joined_7, joined_9}
 use Rattle.dw_study.specs.Remarks.{Remark, fails, also, leaves_open, ends}
 use Rattle.dw_study.specs.RemarkText.{behind_blank, IsRemarkText}

@@ -16,11 +16,11 @@ use Rattle.dw_moves.specs.Moves.{Move, Legal, play}
 use Rattle.dw_moves.specs.Order.{Precedes, IsAscending, IsListOf}
 use Rattle.dw_moves.specs.Laws.{MovesHaveKeys}
 use Rattle.dw_moves.specs.inner.MemberLemmas.{mem_cases, mem_map}
-use Rattle.dw_list.specs.inner.ListLemmas.{at_item, ascending_parts, listed_as}
-use Rattle.dw_list.specs.inner.LineOrderLemmas.{precedes_asym}
+use Rattle.dw_solve.specs.inner.ListLemmas.{at_item, ascending_parts, listed_as}
+use Rattle.dw_solve.specs.inner.LineOrderLemmas.{precedes_asym}
 use Rattle.dw_solve.specs.Wins.{Win, Lost}
-use Rattle.dw_report.specs.Verdict.{IsWinning}
-use Rattle.dw_report.specs.inner.GatheredLemmas.{GatheredTo, to_none, to_more, to_same, to_all, item_among}
+use Rattle.dw_verdict.specs.Verdict.{IsWinning}
+use Rattle.dw_verdict.specs.inner.GatheredLemmas.{GatheredTo, to_none, to_more, to_same, to_all, item_among}
 use Rattle.dw_games.specs.Walk.{place_of, beginning_at}
 use Rattle.dw_games.specs.declared.branches.Node.{Node}
 use Rattle.dw_study.specs.declared.branch.Spot.{Spot}

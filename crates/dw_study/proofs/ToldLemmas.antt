@@ -10,7 +10,7 @@ use Rattle.dw_notation.specs.Text.{ArePlayable}
 use Rattle.dw_games.specs.Movetext.{IsTree, AreDistinct, again, first, nothing as no_path}
 use Rattle.dw_games.specs.Play.{IsVariation, empty, passed, move, variation}
 use Rattle.dw_games.specs.Tokens.{Token}
-use Rattle.dw_report.specs.Verdict.{IsWinning, reach}
+use Rattle.dw_verdict.specs.Verdict.{IsWinning, reach}
 use Rattle.dw_study.specs.Laws.{RemarksCanBeTold}
 use Rattle.dw_study.specs.RemarkText.{CanBeTold}
 use Rattle.dw_study.specs.Remarks.{Remark, fails, also, leaves_open, ends, if_any, GoesOnBy, AtAttacker, AtDefender}

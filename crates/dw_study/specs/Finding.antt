@@ -5,7 +5,7 @@ use Rattle.dw_board.specs.Placement.{Placement}
 use Rattle.dw_moves.specs.Moves.{Move}
 use Rattle.dw_solve.specs.Wins.{Win}
 use Rattle.dw_solve.specs.Solving.{IsLeast}
-use Rattle.dw_report.specs.Verdict.{Verdict, IsVerdict, Tries}
+use Rattle.dw_verdict.specs.Verdict.{Verdict, IsVerdict, Tries}
 
 -- the number of moves at which a position is judged: the least up to `most` within which there is a win, or `most`
 -- itself if there is none

@@ -3,10 +3,10 @@ use Rattle.std.specs.Prelude.{◌≡◌, ◌↔◌, ℕ, ◌<◌, List, [], ◌�
 use Rattle.dw_board.specs.Geometry.{Geometry, IsBoard}
 use Rattle.dw_board.specs.Placement.{Placement}
 use Rattle.dw_board.specs.Lists.{Member}
-use Rattle.dw_list.specs.Lines.{Line}
+use Rattle.dw_solve.specs.Lines.{Line}
 use Rattle.dw_moves.specs.Moves.{Move}
 use Rattle.dw_games.specs.Movetext.{IsTree}
-use Rattle.dw_report.specs.Verdict.{Verdict}
+use Rattle.dw_verdict.specs.Verdict.{Verdict}
 use Rattle.dw_study.specs.Finding.{judged, undecided, IsFinding}
 use Rattle.dw_study.specs.RemarkText.{CanBeTold}
 use Rattle.dw_study.specs.Remarks.{Remark, fails, also, leaves_open, ends, AreRemarks}

@@ -5,7 +5,7 @@ use Rattle.dw_board.specs.Placement.{Placement}
 use Rattle.dw_board.specs.Lists.{Member}
 use Rattle.dw_moves.specs.Moves.{Move, Legal, play}
 use Rattle.dw_notation.specs.Text.{IsMoveText, IsLineText, ArePlayable, AreJoined}
-use Rattle.dw_report.specs.Verdict.{reach}
+use Rattle.dw_verdict.specs.Verdict.{reach}
 use Rattle.dw_report.specs.JudgedText.{next_number}
 use Rattle.dw_study.specs.Remarks.{Remark, fails, also, leaves_open, ends}
 

@@ -6,7 +6,7 @@ use Rattle.dw_board.specs.Placement.{Placement}
 use Rattle.dw_board.specs.Lists.{Member}
 use Rattle.dw_moves.specs.Moves.{Move, Legal, NoMove, play}
 use Rattle.dw_moves.specs.Order.{Precedes, IsListOf}
-use Rattle.dw_report.specs.Verdict.{IsWinning, Refutes}
+use Rattle.dw_verdict.specs.Verdict.{IsWinning, Refutes}
 
 pub data Remark : Type 0 where
   fails : (beginning : List Move) (move reply : Move) → Remark

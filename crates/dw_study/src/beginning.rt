@@ -3,7 +3,7 @@ ghost use Rattle.std.specs.Prelude.{◌≡◌, ◌<◌, ◌≤◌, None, Some, l
 ghost use Rattle.std.specs.String.{string_bytes};
 ghost use Rattle.dw_notation.specs.Text.{ArePlayable};
 ghost use Rattle.dw_games.specs.Walk.{beginning_at, place_of};
-ghost use Rattle.dw_report.specs.Verdict.{reach};
+ghost use Rattle.dw_verdict.specs.Verdict.{reach};
 ghost use Rattle.dw_study.specs.RemarkText.{behind_blank};
 ghost use Rattle.dw_study.specs.inner.Beginnings.{IsBegun};
 

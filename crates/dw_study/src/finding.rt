@@ -1,6 +1,6 @@
 //! What is found of a position.
 use dw_board::Board;
-use dw_report::Judged;
+use dw_verdict::Judged;
 
 /// How far is looked for a win.
 /// Example: `FindBounds { most: 20, each: Some(1_000_000) }` looks for one within 20 moves, until 1,000,000 positions

@@ -8,8 +8,8 @@ pub fn one_finding()
 {
     dw_solve::laws::wins_are_decided();
     dw_solve::laws::wins_stay();
-    dw_report::laws::one_verdict();
-    dw_report::laws::tries_are_listed();
+    dw_verdict::laws::one_verdict();
+    dw_verdict::laws::tries_are_listed();
 }
 
 /// There is only one list of remarks on the tree of a movetext within so many moves.

@@ -16,6 +16,7 @@ pub mod judging;
 pub mod laws;
 mod limits;
 mod looking;
+mod question;
 pub mod remark;
 mod remark_texts;
 mod seen;
@@ -25,7 +26,7 @@ mod text;
 pub mod turns;
 
 pub use finding::{FindBounds, Finding};
-pub use judging::{judge_in_slices, judge_on};
+pub use judging::{judge_in_slices, judge_on, verdict_in_slices, verdict_on};
 pub use remark::{Checked, Remark};
 pub use remark_texts::remark_text;
 pub use sliced::{wins_in_slices, wins_on};

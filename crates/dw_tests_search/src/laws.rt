@@ -13,6 +13,7 @@ pub fn law(found: &mut RowText) {
     wins::decided_are_counted();
     wins::searches_add_up();
     wins::no_win_in_one();
+    wins::wins_have_lines();
     lines::none_begins();
     lines::lines_exist();
     lines::line_or_place();

@@ -6,7 +6,7 @@ use Rattle.dw_moves.specs.Moves.{Move}
 use Rattle.dw_board.specs.Lists.{Member}
 use Rattle.dw_list.specs.declared.given_line.GivenLine.{GivenLine}
 use Rattle.dw_list.specs.declared.given_line.GivenLine.TheVariants.{Along, Place}
-use Rattle.dw_list.specs.Lines.{IsPlace}
+use Rattle.dw_list.specs.Places.{IsPlace}
 use Rattle.dw_list.specs.inner.Ways.{IsNext}
 use Rattle.dw_list.specs.LineStack.{Level, LineStack}
 use Rattle.dw_list.specs.inner.Steps.{with_ahead}

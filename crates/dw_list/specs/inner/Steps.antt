@@ -6,7 +6,7 @@ use Rattle.dw_board.specs.Geometry.{Geometry}
 use Rattle.dw_board.specs.Placement.{Placement}
 use Rattle.dw_moves.specs.Moves.{Move, Legal}
 use Rattle.dw_moves.specs.Order.{Precedes, IsListOf}
-use Rattle.dw_list.specs.Lines.{Line, Before}
+use Rattle.dw_solve.specs.Lines.{Line, Before}
 use Rattle.dw_list.specs.LineStack.{Level, LineStack, IsStillAhead}
 
 -- a level whose moves are not listed

@@ -6,7 +6,7 @@ use Rattle.dw_board.specs.Placement.{Placement}
 use Rattle.dw_moves.specs.Moves.{Move, Legal, play, NoMove}
 use Rattle.dw_moves.specs.Order.{IsListOf}
 use Rattle.dw_solve.specs.Wins.{Lost}
-use Rattle.dw_list.specs.Lines.{Line, Before}
+use Rattle.dw_solve.specs.Lines.{Line, Before}
 use Rattle.dw_list.specs.LineStack.{BeginsAmong}
 
 -- a line goes on with these moves, where the attacker has n moves left

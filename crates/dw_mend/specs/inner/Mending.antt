@@ -8,7 +8,7 @@ use Rattle.dw_solve.specs.Facts.{AreTrue}
 use Rattle.dw_solve.specs.Searching.{IsCounted}
 use Rattle.dw_solve.specs.Solving.{Solving}
 use Rattle.dw_solve.specs.declared.stop.Stop.TheVariants.{Limit}
-use Rattle.dw_report.specs.Verdict.{IsVerdict, sound}
+use Rattle.dw_verdict.specs.Verdict.{IsVerdict, sound}
 use Rattle.dw_mend.specs.Changes.{Change}
 use Rattle.dw_mend.specs.MendText.{IsSoundLine}
 use Rattle.dw_mend.specs.declared.mend.Soundness as finds

@@ -3,7 +3,7 @@ use Rattle.std.specs.Prelude.{◌≡◌, ℕ, ◌-◌, ◌⊎◌, List, []}
 use Rattle.dw_board.specs.Geometry.{Geometry}
 use Rattle.dw_board.specs.Placement.{Placement}
 use Rattle.dw_moves.specs.Moves.{Move, play}
-use Rattle.dw_report.specs.Verdict.{Verdict, IsVerdict, IsRefutation, Tries}
+use Rattle.dw_verdict.specs.Verdict.{Verdict, IsVerdict, IsRefutation, Tries}
 use Rattle.dw_report.specs.JudgedText.{IsVerdictText, IsTryLine, AreTryLines}
 
 -- what is written of one legal move: its line if it is a try, else nothing

@@ -4,7 +4,7 @@ use Rattle.dw_board.specs.Geometry.{Geometry}
 use Rattle.dw_board.specs.Placement.{Placement}
 use Rattle.dw_moves.specs.Moves.{Move}
 use Rattle.dw_notation.specs.Text.{IsLineText}
-use Rattle.dw_list.specs.Lines.{Lines}
+use Rattle.dw_solve.specs.Lines.{Lines}
 use Rattle.dw_list.specs.LineStack.{LineStack, AreToCome}
 
 -- the text of a line of play and a line feed

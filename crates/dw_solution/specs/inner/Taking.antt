@@ -3,7 +3,7 @@ use Rattle.std.specs.Prelude.{◌≡◌, ℕ, List, [], ◌∷◌, ◌++◌, Boo
 use Rattle.dw_board.specs.Geometry.{Geometry}
 use Rattle.dw_board.specs.Placement.{Placement}
 use Rattle.dw_moves.specs.Moves.{Move}
-use Rattle.dw_list.specs.Lines.{Lines}
+use Rattle.dw_solve.specs.Lines.{Lines}
 use Rattle.dw_list.specs.LineStack.{LineStack, AreToCome}
 
 -- these lines are the first ones of a position, and those still to come of a stack are the others

@@ -5,7 +5,7 @@ use Rattle.dw_board.specs.Geometry.{Geometry}
 use Rattle.dw_board.specs.Placement.{Placement}
 use Rattle.dw_moves.specs.Moves.{Move}
 use Rattle.dw_notation.specs.Text.{IsLineText}
-use Rattle.dw_report.specs.Verdict.{reach}
+use Rattle.dw_verdict.specs.Verdict.{reach}
 use Rattle.dw_study.specs.RemarkText.{behind_blank}
 use Rattle.dw_study.specs.declared.beginning.Beginning.{Beginning}
 

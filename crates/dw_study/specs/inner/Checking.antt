@@ -8,7 +8,7 @@ use Rattle.dw_board.specs.Lists.{Member}
 use Rattle.dw_moves.specs.Moves.{Move, Legal, play}
 use Rattle.dw_moves.specs.Order.{Precedes, IsListOf}
 use Rattle.dw_solve.specs.Wins.{Lost}
-use Rattle.dw_report.specs.Verdict.{IsWinning}
+use Rattle.dw_verdict.specs.Verdict.{IsWinning}
 use Rattle.dw_study.specs.declared.branch.Child.{Child}
 use Rattle.dw_study.specs.declared.branch.Seen.{Seen}
 use Rattle.dw_study.specs.declared.remark.Remark.TheVariants.{Fails}

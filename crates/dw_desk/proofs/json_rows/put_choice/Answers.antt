@@ -2,8 +2,8 @@ use Rattle.std.proofs.Common.{◌≡◌, ◌∙◌, ◌∷◌, [], map, ap, sym,
 use Rattle.std.specs.Prelude.{codes}
 use Rattle.std.specs.String.{string_bytes}
 use Rattle.json.specs.Json.{string}
-use Rattle.dw_report.specs.Judging.{said_by}
-use Rattle.dw_report.specs.Verdict.{IsVerdict, dual}
+use Rattle.dw_verdict.specs.Judging.{said_by}
+use Rattle.dw_verdict.specs.Verdict.{IsVerdict, dual}
 use Rattle.dw_desk.specs.Json.{texts}
 use Rattle.dw_desk.proofs.FoundLemmas.{choice_told}
 use Rattle.dw_desk.proofs.RowLemmas.{both, then_ok}

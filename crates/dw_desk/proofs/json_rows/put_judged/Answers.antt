@@ -2,7 +2,7 @@ use Rattle.std.proofs.Common.{◌≡◌, ◌∙◌, ◌++◌, ◌∷◌, [], ℕ
 use Rattle.std.specs.Prelude.{codes}
 use Rattle.std.specs.String.{string_bytes}
 use Rattle.json.specs.Json.{string}
-use Rattle.dw_report.specs.Judging.{said_by}
+use Rattle.dw_verdict.specs.Judging.{said_by}
 use Rattle.dw_desk.specs.FindingJson.{before_keys}
 use Rattle.dw_desk.specs.Json.{count, pairs, texts}
 use Rattle.dw_desk.proofs.FoundLemmas.{judged_told, judged_written}

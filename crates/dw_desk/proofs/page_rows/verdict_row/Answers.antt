@@ -5,8 +5,8 @@ use Rattle.std.specs.String.{string_bytes}
 use Rattle.dw_desk.specs.Paging.{IsVerdictRow, shorter}
 use Rattle.dw_page.specs.Words.{phrase}
 use Rattle.dw_page.specs.declared.words.Phrase.TheVariants as phrases
-use Rattle.dw_report.specs.Judging.{said_by}
-use Rattle.dw_report.specs.Verdict.{IsVerdict, Verdict, cooked, dual, sound}
+use Rattle.dw_verdict.specs.Judging.{said_by}
+use Rattle.dw_verdict.specs.Verdict.{IsVerdict, Verdict, cooked, dual, sound}
 use Rattle.dw_desk.proofs.PagingLemmas.{if_ok_map, join_texts}
 use Rattle.dw_desk.proofs.page_rows.verdict_row.Goals as goal
 

@@ -1,7 +1,7 @@
 use Rattle.std.proofs.Common.{◌≡◌, ◌<◌, ◌↔◌, Bool, true, false, ℕ, nat_lt, length, take, refl, sym, subst, inl, inr}
 use Rattle.std.specs.Prelude.{IsTrue}
 use Rattle.std.proofs.lemmas.Bool.{cases_lt, le-ltb, lt-ltb, true≢false}
-use Rattle.dw_report.specs.Judging.{said_by}
+use Rattle.dw_verdict.specs.Judging.{said_by}
 use Rattle.dw_solution.specs.Movetext.{IsMovetext}
 use Rattle.dw_solution.specs.declared.heading.Heading.{Heading}
 use Rattle.dw_desk.proofs.solving.movetext_of.Goals as goal

@@ -5,8 +5,8 @@ use Rattle.dw_list.specs.inner.Ways.{AreWays}
 use Rattle.dw_list.proofs.WayLemmas.{no_ways}
 use Rattle.dw_list.proofs.GatheringLemmas.{added_kept, added_none, among_none, added_more, ways_over, ways_whole}
 use Rattle.dw_list.proofs.GatheringLemmas.{measure_falls, left_within, legal_at}
-use Rattle.dw_list.specs.inner.QuestionLemmas.{answered, asked_none, asked_then, asked_wider, asked_ok, asked_stop}
-use Rattle.dw_list.specs.inner.QuestionLemmas.{asked_memory}
+use Rattle.dw_solve.specs.inner.QuestionLemmas.{answered, asked_none, asked_then, asked_wider, asked_ok, asked_stop}
+use Rattle.dw_solve.specs.inner.QuestionLemmas.{asked_memory}
 use Rattle.dw_list.proofs.all_lines.+ways.Goals as goal
 
 pub push_ways-returns-in_err-behind-clause-asked : goal.push_ways-returns-in_err-behind-clause-asked

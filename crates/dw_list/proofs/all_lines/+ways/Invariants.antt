@@ -1,7 +1,7 @@
 use Rattle.std.proofs.Common.{◌≡◌, ◌+◌, ◌*◌, ◌<◌, ◌⊎◌, true, cond, map, length, take}
 use Rattle.dw_list.specs.inner.Ways.{AreWaysAmong}
 use Rattle.dw_solve.specs.Questions.{Asked}
-use Rattle.dw_list.specs.inner.QuestionLemmas.{answered}
+use Rattle.dw_solve.specs.inner.QuestionLemmas.{answered}
 use Rattle.dw_list.proofs.all_lines.+ways.Given as goal
 
 abbrev pub decreases-push_ways : goal.decreases-push_ways

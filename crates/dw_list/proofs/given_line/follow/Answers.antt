@@ -1,6 +1,6 @@
 use Rattle.std.proofs.Common.{arith, sym, ◌∙◌}
 use Rattle.std.proofs.lemmas.Bool.{true≢false}
-use Rattle.dw_list.specs.inner.QuestionLemmas.{asked_none, asked_wider, asked_ok, asked_stop, asked_memory, asked_for}
+use Rattle.dw_solve.specs.inner.QuestionLemmas.{asked_none, asked_wider, asked_ok, asked_stop, asked_memory, asked_for}
 use Rattle.dw_list.proofs.StepLemmas.{candidate_few}
 use Rattle.dw_list.proofs.FollowLemmas.{follow_barred, follow_moves, follow_lost}
 use Rattle.dw_list.proofs.given_line.follow.Goals as goal

@@ -1,6 +1,6 @@
 use Rattle.std.proofs.Common.{◌≡◌, ◌+◌}
 use Rattle.dw_solve.specs.Questions.{Asked}
-use Rattle.dw_list.specs.inner.QuestionLemmas.{answered}
+use Rattle.dw_solve.specs.inner.QuestionLemmas.{answered}
 use Rattle.dw_list.proofs.FollowLemmas.{Follows}
 use Rattle.dw_list.proofs.given_line.followed.Given as goal
 

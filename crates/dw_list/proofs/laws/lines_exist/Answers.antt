@@ -4,10 +4,11 @@ use Rattle.dw_board.specs.Placement.{Placement}
 use Rattle.dw_moves.specs.Moves.{Move}
 use Rattle.dw_board.specs.Lists.{Member}
 use Rattle.dw_solve.specs.Wins.{Win}
-use Rattle.dw_list.specs.Lines.{Line, Before, Lines}
+use Rattle.dw_solve.specs.Lines.{Line, Before, Lines}
 use Rattle.dw_moves.specs.inner.OneListLemmas.{list_only}
-use Rattle.dw_list.specs.inner.LineOrderLemmas.{before_asym}
-use Rattle.dw_list.proofs.DecidingLemmas.{ways_exist, win_line, line_wins}
+use Rattle.dw_solve.specs.inner.LineOrderLemmas.{before_asym}
+use Rattle.dw_solve.specs.inner.LineLemmas.{win_line, line_wins}
+use Rattle.dw_list.proofs.DecidingLemmas.{ways_exist}
 use Rattle.dw_list.proofs.laws.lines_exist.Goals as goal
 
 lines_none : (g : Geometry) (p : Placement) (n : _) (ls : List (List Move)) → Lines g p n ls → (Win g p n → ⊥) → ls ≡ []

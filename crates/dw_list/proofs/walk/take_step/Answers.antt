@@ -1,5 +1,5 @@
 use Rattle.std.proofs.Common.{arith, refl}
-use Rattle.dw_list.specs.inner.QuestionLemmas.{asked_none, asked_wider, asked_ok, asked_stop, asked_memory}
+use Rattle.dw_solve.specs.inner.QuestionLemmas.{asked_none, asked_wider, asked_ok, asked_stop, asked_memory}
 use Rattle.dw_list.proofs.StepLemmas.{candidate_few, walk_met, walk_listed, walk_given, walk_back}
 use Rattle.dw_list.proofs.StepLemmas.{walk_passed, walk_entered}
 use Rattle.dw_list.proofs.walk.take_step.Goals as goal

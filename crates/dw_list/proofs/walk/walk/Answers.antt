@@ -1,7 +1,7 @@
 use Rattle.std.proofs.Common.{subst, sym}
 use Rattle.dw_list.specs.StackWalk.{SameToCome}
 use Rattle.dw_list.specs.inner.StackWalk.{HasStepped}
-use Rattle.dw_list.specs.inner.QuestionLemmas.{answered, asked_none, asked_then, asked_ok, asked_stop, asked_for}
+use Rattle.dw_solve.specs.inner.QuestionLemmas.{answered, asked_none, asked_then, asked_ok, asked_stop, asked_for}
 use Rattle.dw_list.proofs.StepLemmas.{same_none, same_then, same_to_come, if_stopped, gives_none, gives_first}
 use Rattle.dw_list.proofs.walk.walk.Goals as goal
 

@@ -1,7 +1,7 @@
 use Rattle.std.proofs.Common.{◌*◌, ◌^◌}
 use Rattle.dw_solve.specs.Questions.{Asked}
 use Rattle.dw_list.specs.inner.Steps.{cost}
-use Rattle.dw_list.specs.inner.QuestionLemmas.{answered}
+use Rattle.dw_solve.specs.inner.QuestionLemmas.{answered}
 use Rattle.dw_list.proofs.StepLemmas.{SameLines}
 use Rattle.dw_list.proofs.walk.walk.Given as goal
 

@@ -1,6 +1,6 @@
 use Rattle.std.proofs.Common.{◌≡◌, ◌∙◌, true, false, sym}
 use Rattle.dw_mend.proofs.SoundLemmas.{sound_wins, key_so}
-use Rattle.dw_report.specs.Judging.{said_by}
+use Rattle.dw_verdict.specs.Judging.{said_by}
 use Rattle.dw_mend.proofs.soundness.sound_key.Goals as goal
 
 pub returns-then-not-branch-clause-key : goal.returns-then-not-branch-clause-key
@@ -12,4 +12,4 @@ returns-then-not-branch-clause-key g c = λ m is.
 pub returns-clause-key : goal.returns-clause-key
 returns-clause-key g c =
     key_so g.B.Board.geometry g.met.B.Board.numbers c.one_verdict.ensures c.args.position.now c.args.moves
-    (said_by c.in_ok-judged.judged.verdict) c.key_of.result c.in_ok-judged.ensures.verdict c.key_of.ensures
+    (said_by c.in_ok-verdict.verdict) c.key_of.result c.in_ok-verdict.ensures.verdict c.key_of.ensures

@@ -1,5 +1,5 @@
 use Rattle.std.specs.String.{string_bytes}
-use Rattle.dw_report.proofs.ChoiceLoopLemmas.{ok_map}
+use Rattle.std.proofs.lemmas.Result.{IfOk-weaker}
 use Rattle.dw_report.proofs.VerdictTextLemmas.{dual_playable, choices_legal, dual_made}
 use Rattle.dw_report.proofs.judged.dual_line.Goals as goal
 
@@ -17,7 +17,7 @@ joined_text-requires g c = choices_legal g.B.Board.geometry c.args.position.now 
 
 pub returns : goal.returns
 returns g c =
-    ok_map _ _ c.concat.result
+    IfOk-weaker c.concat.result _ _
     (λ line e. dual_made g.B.Board.geometry c.args.position.now c.reached.result c.args.moves c.args.at.now
     c.args.choices.now c.in_ok-line.line.bytes (string_bytes c.in_ok-choices.choices) c.format.result.now
     c.as_str.result.now c.format-2.result.now c.as_str-2.result.now (string_bytes line)

@@ -1,7 +1,7 @@
 use Rattle.std.proofs.Common.{◌++◌, ◌+◌, ap, ◌∙◌, subst, sym}
 use Rattle.std.specs.String.{string_bytes}
-use Rattle.dw_report.specs.Judging.{said_by}
-use Rattle.dw_report.specs.Verdict.{Tries}
+use Rattle.dw_verdict.specs.Judging.{said_by}
+use Rattle.dw_verdict.specs.Verdict.{Tries}
 use Rattle.dw_report.proofs.TryTextLemmas.{TextTo, try_among, text_next}
 use Rattle.dw_report.proofs.judged.judged_text.Goals as goal
 

@@ -1,5 +1,5 @@
 use Rattle.std.specs.String.{string_bytes}
-use Rattle.dw_report.specs.Judging.{said_by}
+use Rattle.dw_verdict.specs.Judging.{said_by}
 use Rattle.dw_report.proofs.TryTextLemmas.{TextTo}
 use Rattle.dw_report.proofs.judged.judged_text.Given as goal
 

@@ -1,11 +1,11 @@
 use Rattle.std.specs.String.{string_bytes}
-use Rattle.dw_report.proofs.ChoiceLoopLemmas.{ok_map}
+use Rattle.std.proofs.lemmas.Result.{IfOk-weaker}
 use Rattle.dw_report.proofs.VerdictTextLemmas.{try_made}
 use Rattle.dw_report.proofs.judged.try_line.Goals as goal
 
 pub returns : goal.returns
 returns g c =
-    ok_map _ _ c.concat.result
+    IfOk-weaker c.concat.result _ _
     (λ line e. try_made g.B.Board.geometry c.args.position.now c.play.result c.args.mv.now c.args.reply.now
     c.in_ok-first.first.bytes c.in_ok-second.second.bytes c.as_str.result.now c.as_str-2.result.now
     (string_bytes line)

@@ -1,9 +1,9 @@
 use Rattle.std.proofs.Common.{sym, subst}
 use Rattle.std.specs.String.{string_bytes}
-use Rattle.dw_report.specs.Verdict.{IsVerdict}
-use Rattle.dw_report.specs.Judging.{said_by}
+use Rattle.std.proofs.lemmas.Result.{IfOk-weaker}
+use Rattle.dw_verdict.specs.Verdict.{IsVerdict}
+use Rattle.dw_verdict.specs.Judging.{said_by}
 use Rattle.dw_report.specs.JudgedText.{IsVerdictText}
-use Rattle.dw_report.proofs.ChoiceLoopLemmas.{ok_map}
 use Rattle.dw_report.proofs.VerdictTextLemmas.{dual_is, key_legal, sound_made}
 use Rattle.dw_report.proofs.judged.verdict_line.Goals as goal
 
@@ -28,7 +28,7 @@ returns-in_ok-key-in-Sound g c =
     let geo = g.B.Board.geometry in
     let p = c.args.position.now in
     let n = c.args.moves in
-    ok_map _ _ c.concat-in-Sound.result
+    IfOk-weaker c.concat-in-Sound.result _ _
     (λ line e. subst (λ v. IsVerdictText geo p n (said_by v) (string_bytes line)) (sym c.in-Sound.is)
     (sound_made geo p n c.in-Sound.key c.in_ok-key-in-Sound.key.bytes c.format-in-Sound.result.now c.as_str.result.now
     (string_bytes line) c.in_ok-key-in-Sound.ensures.text c.format-in-Sound.ensures.text c.as_str.ensures.value e))

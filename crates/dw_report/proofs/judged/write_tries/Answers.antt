@@ -5,7 +5,7 @@ use Rattle.dw_moves.specs.Order.{Precedes, IsListOf}
 use Rattle.dw_notation.specs.Writes.{Writes}
 use Rattle.dw_report.specs.inner.JudgedText.{IsTryText}
 use Rattle.dw_report.specs.inner.Running.{TextEnds, SinkEnds}
-use Rattle.dw_report.specs.inner.GatheredLemmas.{item_among}
+use Rattle.dw_verdict.specs.inner.GatheredLemmas.{item_among}
 use Rattle.dw_report.proofs.SpendingLemmas.{counted_none, counted_then}
 use Rattle.dw_report.proofs.FaultLemmas.{sink_same, sink_stopped, spends_same, spends_done, spends_no_memory}
 use Rattle.dw_report.proofs.FaultLemmas.{spends_further}

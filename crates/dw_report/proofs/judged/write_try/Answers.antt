@@ -3,8 +3,7 @@ use Rattle.std.specs.Io.KnownBytes.{Appends}
 use Rattle.std.specs.String.{string_bytes}
 use Rattle.std.proofs.lemmas.Result.{err_from_is_err_and}
 use Rattle.dw_notation.specs.Writes.{StopsShort}
-use Rattle.dw_report.specs.Verdict.{IsRefutation}
-use Rattle.dw_report.specs.inner.Judging.{FindsRefutation}
+use Rattle.dw_verdict.specs.Verdict.{IsRefutation, FindsRefutation}
 use Rattle.dw_report.specs.inner.JudgedText.{IsTryText}
 use Rattle.dw_report.proofs.WritingLemmas.{at_sink}
 use Rattle.dw_report.proofs.FaultLemmas.{sink_stopped, sink_failed, spends_done, spends_no_memory, spends_sink}

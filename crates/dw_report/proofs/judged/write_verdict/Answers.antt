@@ -28,8 +28,8 @@ pub returns-in_err-verdict-clause-spends : goal.returns-in_err-verdict-clause-sp
 returns-in_err-verdict-clause-spends g c =
     let why = err_from_is_err_and c.from_residual.result c.from_residual.ensures.1 in
     spends_stopped c.args.solver.now c.verdict.new.solver c.verdict.result c.from_residual.result
-    c.in_err-verdict.field-0.0 c.in_err-verdict.was (why.1 ∙ ap Err why.2) c.verdict.ensures.asked.stop
-    c.verdict.ensures.asked.count
+    c.in_err-verdict.field-0.0 c.in_err-verdict.was (why.1 ∙ ap Err why.2) c.verdict.ensures.stop
+    c.verdict.ensures.count
 
 pub returns-in_err-line-clause-sink : goal.returns-in_err-line-clause-sink
 returns-in_err-line-clause-sink g c =
@@ -41,7 +41,7 @@ pub returns-in_err-line-clause-spends : goal.returns-in_err-line-clause-spends
 returns-in_err-line-clause-spends g c =
     let why = err_from_is_err_and c.from_residual-in_err-line.result c.from_residual-in_err-line.ensures.1 in
     spends_no_memory c.args.solver.now c.verdict.new.solver c.from_residual-in_err-line.result why.0 why.1 why.2
-    c.verdict.ensures.asked.count
+    c.verdict.ensures.count
 
 pub returns-in_err-write_all-clause-sink : goal.returns-in_err-write_all-clause-sink
 returns-in_err-write_all-clause-sink g c =
@@ -55,8 +55,8 @@ returns-in_err-write_all-clause-spends g c =
     let end = c.from_residual-in_err-write_all in
     let why = err_from_is_err_and end.result end.ensures.1 in
     spends_sink c.args.solver.now c.verdict.new.solver end.result (why.1 ∙ ap Err why.2)
-    c.verdict.ensures.asked.count
+    c.verdict.ensures.count
 
 pub returns-clause-spends : goal.returns-clause-spends
 returns-clause-spends g c =
-    spends_done c.args.solver.now c.verdict.new.solver _ c.verdict.ensures.asked.count
+    spends_done c.args.solver.now c.verdict.new.solver _ c.verdict.ensures.count

@@ -1,7 +1,7 @@
 use Rattle.std.proofs.Common.{◌∙◌, refl, sym, ap, subst, arith, Some, Err}
 use Rattle.std.proofs.lemmas.Result.{err_from_is_err_and}
 use Rattle.dw_list.specs.Listing.{stack_of, solver_of}
-use Rattle.dw_list.specs.Lines.{Lines}
+use Rattle.dw_solve.specs.Lines.{Lines}
 use Rattle.dw_report.specs.ListedText.{IsListedText}
 use Rattle.dw_report.specs.inner.Rows.{HasLines}
 use Rattle.dw_report.proofs.LineRowLemmas.{listed_after, listed_written, listed_fault}

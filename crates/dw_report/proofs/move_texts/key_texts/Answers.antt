@@ -1,7 +1,7 @@
 use Rattle.std.proofs.Common.{take, subst, sym}
-use Rattle.dw_report.specs.Judging.{said_by}
-use Rattle.dw_report.specs.Verdict.{IsVerdict, Keys}
-use Rattle.dw_report.proofs.ChoiceLoopLemmas.{ok_map}
+use Rattle.std.proofs.lemmas.Result.{IfOk-weaker}
+use Rattle.dw_verdict.specs.Judging.{said_by}
+use Rattle.dw_verdict.specs.Verdict.{IsVerdict, Keys}
 use Rattle.dw_report.proofs.JudgedTextLemmas.{keys_legal}
 use Rattle.dw_report.proofs.MoveTextLemmas.{dual_opens}
 use Rattle.dw_report.proofs.move_texts.key_texts.Goals as goal
@@ -38,7 +38,7 @@ returns-in-Dual g c = λ n v.
     let p = c.args.position.now in
     let at = c.as_slice-in-Dual.result.now in
     let said = subst (λ w. IsVerdict geo p n (said_by w)) c.in-Dual.is v in
-    ok_map _ _ c.move_texts-in-Dual.result
+    IfOk-weaker c.move_texts-in-Dual.result _ _
     (λ texts e. (
       take 1 at,
       subst (λ z. Keys geo p n (take 1 z)) (sym c.as_slice-in-Dual.ensures.value)

@@ -1,4 +1,4 @@
-use Rattle.std.proofs.Common.{◌+◌, ◌++◌, ◌∷◌, [], map, take, ap, ◌∙◌, subst, sym}
+use Rattle.std.proofs.Common.{◌+◌, map, take, ap, ◌∙◌, subst, sym}
 use Rattle.std.specs.String.{string_bytes}
 use Rattle.std.proofs.lemmas.List.{map_push}
 use Rattle.dw_notation.specs.Text.{IsMoveText, AreMoveTexts}

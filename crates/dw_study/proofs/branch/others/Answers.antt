@@ -2,7 +2,7 @@ use Rattle.std.proofs.Common.{◌+◌, map, sym, ap, ◌∙◌, subst, arith}
 use Rattle.dw_board.specs.Lists.{Member}
 use Rattle.dw_moves.specs.Moves.{Legal}
 use Rattle.dw_moves.specs.Order.{Precedes, IsListOf}
-use Rattle.dw_report.specs.inner.GatheredLemmas.{GatheredTo, to_none, to_more, to_same, to_all}
+use Rattle.dw_verdict.specs.inner.GatheredLemmas.{GatheredTo, to_none, to_more, to_same, to_all}
 use Rattle.dw_study.proofs.ChildLemmas.{is_so, is_not_so}
 use Rattle.dw_study.proofs.branch.others.Goals.{then-not-has+in_ok-push, else-not-has}
 use Rattle.dw_study.proofs.branch.others.Goals as goal

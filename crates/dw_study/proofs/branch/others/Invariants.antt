@@ -1,7 +1,7 @@
 use Rattle.std.proofs.Common.{map}
 use Rattle.dw_board.specs.Lists.{Member}
 use Rattle.dw_moves.specs.Order.{Precedes}
-use Rattle.dw_report.specs.inner.GatheredLemmas.{GatheredTo}
+use Rattle.dw_verdict.specs.inner.GatheredLemmas.{GatheredTo}
 use Rattle.dw_study.proofs.branch.others.Given as goal
 
 abbrev pub invariant-moves : goal.invariant-moves

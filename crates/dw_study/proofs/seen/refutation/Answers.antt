@@ -1,7 +1,7 @@
 use Rattle.std.proofs.Common.{map, sym, ap, ◌∙◌, subst, arith}
 use Rattle.dw_moves.specs.Moves.{Legal, play}
 use Rattle.dw_moves.specs.Order.{Precedes, IsListOf}
-use Rattle.dw_report.specs.inner.GatheredLemmas.{item_among}
+use Rattle.dw_verdict.specs.inner.GatheredLemmas.{item_among}
 use Rattle.dw_study.specs.Remarks.{IsFirstRefutation}
 use Rattle.dw_study.proofs.SeenLemmas.{won_more, won_all, first_found, no_win, a_win}
 use Rattle.dw_study.proofs.WentLemmas.{answered, went_none, went_then, went_ok, went_stop}

@@ -1,7 +1,7 @@
 use Rattle.std.proofs.Common.{◌+◌, ◌-◌, ◌≤◌, sym, ap, ◌∙◌, subst, arith, map-id, refl}
 use Rattle.dw_moves.specs.Order.{Precedes, IsAscending}
-use Rattle.dw_report.specs.Verdict.{IsWinning}
-use Rattle.dw_report.specs.inner.GatheredLemmas.{GatheredTo, to_none, to_more, to_same}
+use Rattle.dw_verdict.specs.Verdict.{IsWinning}
+use Rattle.dw_verdict.specs.inner.GatheredLemmas.{GatheredTo, to_none, to_more, to_same}
 use Rattle.dw_study.proofs.SeenLemmas.{winning_all, item_member, wins_found, fails_found}
 use Rattle.dw_study.proofs.WentLemmas.{answered, went_none, went_then, went_ok, went_stop, went_memory}
 use Rattle.dw_study.proofs.seen.winning.Goals.{then-is_none+in_ok-push, else-is_none}

@@ -1,6 +1,6 @@
 use Rattle.dw_moves.specs.Order.{Precedes, IsAscending}
-use Rattle.dw_report.specs.Verdict.{IsWinning}
-use Rattle.dw_report.specs.inner.GatheredLemmas.{GatheredTo}
+use Rattle.dw_verdict.specs.Verdict.{IsWinning}
+use Rattle.dw_verdict.specs.inner.GatheredLemmas.{GatheredTo}
 use Rattle.dw_study.specs.Slices.{Went}
 use Rattle.dw_study.proofs.WentLemmas.{answered}
 use Rattle.dw_study.proofs.seen.winning.Given as goal

@@ -1,0 +1,85 @@
+//! Questions about a position, asked in slices.
+ghost use Rattle.std.specs.Prelude.{ℕ, ◌≤◌, ◌<◌, IfOk};
+ghost use Rattle.dw_board.specs.Placement.{Placement};
+ghost use Rattle.dw_memo.specs.Content.{IsMap};
+ghost use Rattle.dw_solve.specs.Facts.{AreTrue};
+ghost use Rattle.dw_solve.specs.Questions.{Asked};
+ghost use Rattle.dw_study.specs.Slices.{IsWatched, SearchedSome, Went};
+ghost use Rattle.dw_study.specs.inner.Slicing.{AskedUntil};
+
+use crate::limits::{lower, raise};
+use crate::slices::{Slices, Watcher};
+use dw_board::{Board, Position};
+use dw_memo::Memo;
+use dw_solve::{Guide, Solver, Stop};
+use std::alloc::Global;
+
+/// What is asked of a solver about a position, with the type of the answer.
+pub(crate) trait Question<B: Board, A> {
+    /// It is the answer at a position, for a win within so many moves.
+    ghost is_answer: { Placement → ℕ → A → Type 0 };
+
+    /// Asks it, for a win within so many moves of the side to move, 1 to 20.
+    fn ask<M: Memo<B>, G: Guide<B>>(
+        &self,
+        alloc: Global,
+        solver: &mut Solver<B, M, G>,
+        position: &Position<B>,
+        moves: u8,
+    ) -> Result<A, Stop>
+        requires few { (1 ≤ moves) × (moves ≤ 20) }
+        ensures answer { IfOk result (is_answer position.now moves) }
+        ensures asked { Asked B.geometry M.content M.dropped moves solver.old solver.new result }
+        ensures right { AreTrue B.geometry (M.content solver.new.memo) }
+        ensures map { IsMap (M.content solver.new.memo) };
+}
+
+/// What a question is answered, in slices that began before.
+pub(crate) fn ask_on<B: Board, M: Memo<B>, G: Guide<B>, W: Watcher, A: Drop, Q: Question<B, A>>(
+    alloc: Global,
+    solver: &mut Solver<B, M, G>,
+    position: &Position<B>,
+    moves: u8,
+    slices: &mut Slices<W>,
+    question: &Q,
+) -> Result<A, Stop>
+    requires few { (1 ≤ moves) × (moves ≤ 20) }
+    ensures answer { IfOk result (Q.is_answer position.now moves) }
+    ensures went { Went B.geometry M.content M.dropped moves slices.old slices.new solver.old solver.new result }
+    ensures searched { SearchedSome B.geometry M.content M.dropped moves solver.old solver.new }
+    ensures watched { IsWatched W.told moves slices.old.first slices.old.start solver.old.expanded
+        solver.new.expanded slices.old.watcher slices.new.watcher }
+    ensures right { AreTrue B.geometry (M.content solver.new.memo) }
+    ensures map { IsMap (M.content solver.new.memo) }
+{
+    dw_solve::laws::searches_add_up();
+    solver.keeps_its_limit();
+    'slices: loop {
+        let until = slices.next_limit(solver.expanded(), solver.limit());
+        match ask_until(alloc, solver, position, moves, until, question) {
+            Err(Stop::Limit) if until < solver.limit() => slices.tell(moves, solver.expanded()),
+            answer => return answer,
+        }
+    }
+}
+
+/// What a question is answered, under a limit that may be lower.
+fn ask_until<B: Board, M: Memo<B>, G: Guide<B>, A: Drop, Q: Question<B, A>>(
+    alloc: Global,
+    solver: &mut Solver<B, M, G>,
+    position: &Position<B>,
+    moves: u8,
+    until: u64,
+    question: &Q,
+) -> Result<A, Stop>
+    requires few { (1 ≤ moves) × (moves ≤ 20) }
+    requires enough { solver.old.expanded ≤ until }
+    requires some { until < solver.old.limit → 1 ≤ until }
+    ensures answer { IfOk result (Q.is_answer position.now moves) }
+    ensures asked { AskedUntil B.geometry M.content M.dropped moves until solver.old solver.new result }
+{
+    let limit = lower(solver, until);
+    let answer = question.ask(alloc, solver, position, moves);
+    raise(solver, limit);
+    answer
+}

@@ -1,0 +1,11 @@
+-- How keys, duals and tries are looked for.
+use Rattle.dw_verdict.specs.Verdict.{Verdict, unsolvable, cooked, dual, sound}
+use Rattle.dw_verdict.specs.declared.verdict.Verdict as verdicts
+use Rattle.dw_verdict.specs.declared.verdict.Verdict.TheVariants.{Unsolvable, Cooked, Dual, Sound}
+
+-- what a verdict says
+abbrev pub said_by : {B : Type 0} → verdicts.Verdict B → Verdict
+said_by Unsolvable = unsolvable
+said_by (Cooked shortest keys) = cooked shortest keys.items
+said_by (Dual at choices) = dual at.items choices.items
+said_by (Sound key) = sound key

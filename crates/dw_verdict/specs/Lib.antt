@@ -1,0 +1,4 @@
+pub mod Verdict
+pub mod VerdictLaws
+pub mod Judging
+pub mod inner

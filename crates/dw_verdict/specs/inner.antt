@@ -1,0 +1,4 @@
+-- What only relates the code to the definitions: no contract of a public call names it.
+pub mod Judging
+pub mod GatheredLemmas
+pub mod WinningLemmas
