@@ -27,7 +27,11 @@ told (Ok position) movetext = take (MAX_MOVETEXT + 1) movetext
 told (Err fault) movetext = []
 
 abbrev pub said_with : Found → (text movetext : List ℕ) → Said
-said_with found text movetext = record { found = found; tags = tags_if_valid found text; movetext = told found movetext }
+said_with found text movetext = record {
+  found = found;
+  tags = tags_if_valid found text;
+  movetext = told found movetext;
+}
 
 -- A row of comments, sections and other bytes: its front, before the first section, and what the sections say in turn.
 -- The movetext of a section is what stands behind its last tag, up to the next section.

@@ -67,8 +67,8 @@ pub record ReadsOn {B S : Type 0} (g : Geometry) (coming : S → Option (List �
 
 -- a section is passed, with the games of a text that goes on behind it
 pub record ReadsSection {S : Type 0} (g : Geometry) (coming : S → Option (List ℕ)) (has_ended is_failed : S → Bool)
-    (pulls : S → ℕ) (old new : Input S) (begun row before after : BoundedBuf) (result : Result (Option Found) GameFault) :
-    Type 0 where
+    (pulls : S → ℕ) (old new : Input S) (begun row before after : BoundedBuf)
+    (result : Result (Option Found) GameFault) : Type 0 where
   pub passed : List ℕ
   pub passes : Passes coming has_ended is_failed pulls old new passed (is_failure result)
   pub rows : OnOk result ((limit : ℕ) → IsKept limit [] begun → IsKept limit passed row)
