@@ -1,5 +1,5 @@
 -- Beginnings, gathered move by move from their ends; and moves that are played.
-use Rattle.std.proofs.Common.{◌≡◌, ℕ, zero, suc, ◌+◌, ◌<◌, ◌≤◌, List, [], ◌∷◌, ◌++◌, length, take, drop, get_or, refl}
+use Rattle.std.proofs.Common.{◌≡◌, ℕ, zero, suc, ◌+◌, ◌<◌, ◌≤◌, List, [], ◌∷◌, ◌++◌, length, take, get_or, refl}
 use Rattle.std.proofs.Common.{sym, ap, ◌∙◌, subst, inl, inr, arith, append_assoc, append-nil, Option, Some}
 use Rattle.std.proofs.Common.{None, reverse, slice_get}
 use Rattle.std.proofs.lemmas.List.{take_all, take_more, reverse-append, length-append, length-reverse}

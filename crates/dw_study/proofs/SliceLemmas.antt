@@ -15,7 +15,7 @@ use Rattle.dw_solve.specs.Questions.{moment_of, Idle, LostNothing}
 use Rattle.dw_solve.specs.Certificates.{SaysLeast, SaysWin}
 use Rattle.dw_solve.specs.Searching.{IsCounted}
 use Rattle.dw_solve.specs.Solving.{Solving}
-use Rattle.dw_solve.specs.Work.{Moment, Searched, Stronger, LossIsCounted, cut_off}
+use Rattle.dw_solve.specs.Work.{Moment, Searched, Stronger, LossIsCounted}
 use Rattle.dw_study.specs.Slices.{SearchedInSlices, SearchedSome, GoesOn, Watches, IsWatched, of_none, of_one_more}
 use Rattle.dw_study.specs.Slices.{next_end}
 

@@ -13,7 +13,7 @@ use Rattle.dw_games.specs.Tokens.{Token}
 use Rattle.dw_verdict.specs.Verdict.{IsWinning, reach}
 use Rattle.dw_study.specs.Laws.{RemarksCanBeTold}
 use Rattle.dw_study.specs.RemarkText.{CanBeTold}
-use Rattle.dw_study.specs.Remarks.{Remark, fails, also, leaves_open, ends, if_any, GoesOnBy, AtAttacker, AtDefender}
+use Rattle.dw_study.specs.Remarks.{Remark, fails, also, leaves_open, if_any, GoesOnBy, AtAttacker, AtDefender}
 use Rattle.dw_study.specs.Remarks.{without_move, with_moves, over, without_reply, with_replies, InTurn, nothing, one_more}
 use Rattle.dw_study.specs.Remarks.{AfterKey, AreRemarks}
 use Rattle.dw_study.proofs.BeginningLemmas.{playable_push, reach_push}

@@ -1,5 +1,6 @@
 -- Searches in slices, one after another.
-use Rattle.std.proofs.Common.{◌≡◌, ℕ, ◌-◌, ◌^◌, ◌<◌, ◌≤◌, refl, sym, subst, ap, ◌∙◌, arith, Result, Ok, Err, IsErrOf}
+use Rattle.std.proofs.Common.{◌≡◌, ℕ, ◌+◌, ◌-◌, ◌^◌, ◌<◌, ◌≤◌, refl, sym, subst, ap, ◌∙◌, arith, Result, Ok, Err}
+use Rattle.std.proofs.Common.{IsErrOf}
 use Rattle.std.specs.Result.{IsErrAnd}
 use Rattle.dw_board.specs.Geometry.{Geometry}
 use Rattle.dw_memo.specs.Content.{Content}

@@ -1,4 +1,4 @@
-use Rattle.std.proofs.Common.{◌≡◌, ◌+◌, ◌/◌, ◌<◌, ◌∙◌, max, ap, sym, subst, arith, length, IfSome, Some, None}
+use Rattle.std.proofs.Common.{◌≡◌, ◌+◌, ◌/◌, ◌<◌, ◌∙◌, max, ap, sym, subst, arith, length, IfSome, Some}
 use Rattle.dw_games.specs.Walk.{beginning_at}
 use Rattle.dw_study.proofs.TurnLemmas.{TurnsTo, node_there, turns_more, turns_same, turns_all}
 use Rattle.dw_study.proofs.turns.turns_of.Goals.{in-Some, in_default}
