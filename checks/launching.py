@@ -180,16 +180,19 @@ def stands_on(crate):
     return {crate}.union(*(stands_on(name) for name in named[crate] if name in named))
 
 
+ALL = len(stands_on("dw"))  # crates that make `dw`
+
+
 def builds():
     """The first call builds, the next ones run; a new source or another kit builds again what stands on it."""
     with copy() as made:
         status, out, complained = made.call("judge", "-n", "2", "a b")
         asked = made.asked()
-        assert (status, out) == (0, "program 9 judge -n 2 a b\n"), (status, out, complained)
-        assert len(asked) == 9 and asked[0] == "dw_board" and asked[-1] == "dw", asked
+        assert (status, out) == (0, f"program {ALL} judge -n 2 a b\n"), (status, out, complained)
+        assert len(asked) == ALL and asked[0] == "dw_board" and asked[-1] == "dw", asked
         assert "dw: built" in complained, complained
         assert made.libraries() == sorted(f"{crate}.rlib" for crate in asked[:-1]) and made.is_whole()
-        assert made.call("x") == (0, "program 9 x\n", "") and not made.asked()
+        assert made.call("x") == (0, f"program {ALL} x\n", "") and not made.asked()
         status, out, complained = made.call("find", name="dw-desk")
         more = sorted(stands_on("dw_desk") - stands_on("dw"))
         assert (status, out) == (0, f"program {len(more)} find\n"), (status, out, complained)
@@ -198,7 +201,7 @@ def builds():
         os.utime(made.top / "crates/dw_solve/src/lib.rt", (later, later))
         time.sleep(1.2)
         assert made.call()[0] == 0
-        assert sorted(made.asked()) == ["dw", "dw_list", "dw_report", "dw_solve"]
+        assert sorted(made.asked()) == sorted(name for name in stands_on("dw") if "dw_solve" in stands_on(name))
         os.utime(made.top / "crates/dw_bench/src/lib.rt")
         assert made.call()[2] == "" and not made.asked(), "a crate that the program does not stand on"
         # As after `rt ci`: the program alone, newer than all sources.
@@ -207,7 +210,7 @@ def builds():
         assert made.call()[2] == "" and not made.asked(), "the program of the gate is not taken"
         (made.kit / "version").write_text("kit 2\n")
         os.utime(made.top / "crates/dw/src/main.rt")
-        assert made.call()[0] == 0 and len(made.asked()) == 9
+        assert made.call()[0] == 0 and len(made.asked()) == ALL
     print("a first call, later ones, a newer source, the gate's program, another kit: as stated")
 
 
@@ -222,7 +225,7 @@ def fails():
         (made.kit / "fails").unlink()
         made.asked()
         assert made.call()[0] == 0
-        assert sorted(made.asked())[:2] == ["dw", "dw_list"], "what was proved is proved again"
+        assert stands_on("dw_list").intersection(made.asked()) == {"dw_list"}, "what was proved is proved again"
     with copy() as made:
         made.environment["PATH"] = "/usr/bin:/bin"
         status, out, complained = made.call()
@@ -276,14 +279,14 @@ def at_once():
         second = made.start("second")
         ends = [process.communicate(timeout=PATIENCE) for process in (first, second)]
         assert (first.returncode, second.returncode) == (0, 0), ends
-        assert (ends[0][0], ends[1][0]) == ("program 9 first\n", "program 9 second\n"), ends
+        assert (ends[0][0], ends[1][0]) == (f"program {ALL} first\n", f"program {ALL} second\n"), ends
         assert ends[1][1] == "dw: another call builds the program; waiting for it\n", ends[1]
-        assert len(made.asked()) == 9
+        assert len(made.asked()) == ALL
     with copy() as made:
         source = made.top / "crates/dw_tests_rules/src"
         (source / "lib.rt").rename(source / "main.rt")
         made.environment["DW_BUILD"] = "dw_tests_rules dw"
-        assert made.call("x")[:2] == (0, "") and len(made.asked()) == 12
+        assert made.call("x")[:2] == (0, "") and len(made.asked()) == len(stands_on("dw") | stands_on("dw_tests_rules"))
         assert (source.parent / "out/dw_tests_rules").exists() and made.program.exists()
         assert made.call() == (0, "", "")
     print("two programs named by DW_BUILD: built once, and none is run")

@@ -1,75 +1,109 @@
 //! `dw-desk`: what composers, editors and judges ask about problems of international draughts.
 #![tactic(auto)]
 
-ghost use Rattle.std.specs.Prelude.{◌≡◌};
+ghost use Rattle.std.specs.Prelude.{◌≡◌, ◌⊎◌};
 ghost use Rattle.std.specs.Process.{exit_status};
-ghost use Rattle.dw_desk.specs.Ending as of;
+ghost use Rattle.dw_commands.specs.Ending.{outcome_of};
 
-mod certifying;
-mod checking;
-mod chosen;
-mod desk;
-mod ending;
-mod finding;
-mod json_rows;
-mod mending;
-mod page_rows;
-mod paging;
 mod progress;
-mod solving;
-mod writing;
 
-use desk::obey_on;
-use dw_board::{Eight, Ten};
-use dw_desk_words::{DeskWords, command, requested};
-use dw_program::{BoardSize, Unread, why_unread, words_given};
-use dw_report::RunFault;
-use ending::{Ending, NO_MEMORY, status_of};
-use std::fmt::Display;
+use dw_arguments::{BoardSize, CliError, DeskArgs};
+use dw_board::{Board, Eight, Ten};
+use dw_commands::{Ending, Message, end_unread, outcome};
+use dw_desk_commands::run_on;
+use dw_notation::{Reading, Writing};
+use dw_study::Slices;
+use progress::Progress;
+use std::fs::File;
+use std::io::{IsTerminal, Read};
 use std::process::ExitCode;
+use std::{env, io};
+
+/// The program's name, in what it says of itself.
+const PROGRAM: &str = "dw-desk";
+
+/// How many positions the first slice of a search expands that is shown.
+const FIRST_SLICE: u64 = 50_000;
 
 fn main(rt: HostRuntime) -> ExitCode {
-    let words = match words_given(&rt, "dw-desk") {
-        Ok(words) => words,
-        Err(why) => return end_unread(&rt, &why),
-    };
-    let Ok(command) = command(rt.alloc()) else {
-        return end_unread(&rt, &Unread::Memory);
-    };
-    match command.try_get_matches_from(words.as_slice()) {
-        Err(error) => end_unread(&rt, &why_unread(&rt, &error)),
-        Ok(matches) => match requested(&matches) {
-            Ok(words) => obey(&rt, &words),
-            Err(text) => end_with(&rt, &Ending::Words(text)),
+    match words_of(&rt) {
+        Ok(words) => match DeskArgs::parse(rt.alloc(), words.as_slice()) {
+            Ok(args) => end_with(&rt, &run(&rt, &args)),
+            Err(error) => end_refused(&rt, &error),
+        },
+        Err(error) => {
+            let error = CliError::unreadable(rt.alloc(), PROGRAM, error.kind());
+            end_refused(&rt, &error)
+        }
+    }
+}
+
+/// The words of the command line, the program's name first.
+fn words_of(rt: &HostRuntime) -> io::Result<Vec<String>> {
+    Ok(env::args(rt)?.collect::<Vec<String>>(rt.alloc())?)
+}
+
+/// Writes the help, if that was asked for, and ends.
+fn end_refused(rt: &HostRuntime, error: &CliError) -> ExitCode {
+    let mut sink = Writing::new(rt.stdout());
+    end_with(rt, &end_unread(error, &mut sink))
+}
+
+/// Does what the arguments ask for, on the board that they name.
+fn run<'a>(rt: &HostRuntime, args: &DeskArgs<'a>) -> Ending<&'a str> {
+    match args.board {
+        BoardSize::Ten => run_from::<Ten>(rt, args),
+        BoardSize::Eight => run_from::<Eight>(rt, args),
+    }
+}
+
+/// Does what was asked for, with the problems of the file or of standard input.
+fn run_from<'a, B: Board>(rt: &HostRuntime, args: &DeskArgs<'a>) -> Ending<&'a str>
+    requires { (B.geometry.rows ≡ 10) ⊎ (B.geometry.rows ≡ 8) }
+{
+    match args.file {
+        None => run_with::<B>(rt, args, &mut rt.stdin()),
+        Some(path) => match File::open(rt, path) {
+            Ok(mut file) => run_with::<B>(rt, args, &mut file),
+            Err(_) => Ending::NotOpened(path),
         },
     }
 }
 
-/// Ends if the words are not obeyed.
-fn end_unread(rt: &HostRuntime, why: &Unread) -> ExitCode {
-    let ending = match why {
-        Unread::Help => Ending::Done,
-        Unread::HelpNotWritten => Ending::Failed(RunFault::Write),
-        Unread::NoCommand(text) => Ending::Words(text.as_str()),
-        Unread::Memory => Ending::Failed(NO_MEMORY),
-    };
-    end_with(rt, &ending)
-}
-
-/// Does what the arguments ask for, on the board that they name.
-fn obey(rt: &HostRuntime, words: &DeskWords<'_>) -> ExitCode {
-    let ending = match words.board {
-        BoardSize::Ten => obey_on::<Ten>(rt, words),
-        BoardSize::Eight => obey_on::<Eight>(rt, words),
-    };
-    end_with(rt, &ending)
-}
-
-/// Says on standard error how the program ended, and gives its exit status. If that can not be written, there is nobody
-/// left to tell.
-fn end_with<T: Display>(rt: &HostRuntime, ending: &Ending<T>) -> ExitCode
-    ensures { exit_status result ≡ of.status_of ending.now }
+/// Does what was asked for, with the problems that the reader gives. A file and standard input are read through the
+/// same code.
+fn run_with<'a, B: Board>(
+    rt: &HostRuntime,
+    args: &DeskArgs<'a>,
+    reader: &mut dyn Read,
+) -> Ending<&'a str>
+    requires { (B.geometry.rows ≡ 10) ⊎ (B.geometry.rows ≡ 8) }
 {
-    let _ = eprint!(rt; "{ending}");
-    ExitCode::from(status_of(ending))
+    let mut slices = slices_of(rt, args);
+    let mut source = Reading::new(reader);
+    let mut sink = Writing::new(rt.stdout());
+    run_on::<B, _, _, _>(rt.alloc(), &mut slices, args, &mut source, &mut sink)
+}
+
+/// The slices of the searches, and who is told of them. If nobody looks on, the first slice is all of a search.
+fn slices_of<'a>(rt: &'a HostRuntime, args: &DeskArgs<'_>) -> Slices<Progress<'a>> {
+    let is_shown = args.progress || rt.stderr().is_terminal();
+    let first = if is_shown { FIRST_SLICE } else { u64::MAX };
+    Slices::new(first, Progress::new(rt, is_shown))
+}
+
+/// Says on standard error how the program ended, and gives its exit status. If that cannot be written, there is nobody
+/// left to tell.
+fn end_with(rt: &HostRuntime, ending: &Ending<&str>) -> ExitCode
+    ensures { exit_status result ≡ (outcome_of ending.now).status }
+{
+    let exit = outcome(ending);
+    if exit.is_told {
+        let message = Message {
+            program: PROGRAM,
+            ending,
+        };
+        let _ = eprint!(rt; "{message}");
+    }
+    ExitCode::from(exit.status)
 }

@@ -1,4 +1,5 @@
 //! The line at a terminal that shows how far a search is.
+use dw_desk_commands::DeskWatcher;
 use dw_study::Watcher;
 use std::time::{Duration, Instant};
 
@@ -32,22 +33,6 @@ impl<'a> Progress<'a> {
             begun: None,
             written: None,
         }
-    }
-
-    /// The search for a problem begins. Without a clock it is not shown.
-    pub(crate) fn begin(&mut self, problem: u32) {
-        self.problem = problem;
-        self.begun = if self.is_shown {
-            Instant::now(self.rt).ok()
-        } else {
-            None
-        };
-    }
-
-    /// The search is over: the line is taken away.
-    pub(crate) fn end(&mut self) {
-        self.begun = None;
-        self.make_way();
     }
 
     /// Whether the line may be written now.
@@ -87,5 +72,23 @@ impl Watcher for Progress<'_> {
             self.written = None;
             let _ = eprint!(self.rt; "\r\x1b[K");
         }
+    }
+}
+
+impl DeskWatcher for Progress<'_> {
+    /// The search for a problem begins. Without a clock it is not shown.
+    fn begin(&mut self, problem: u32) {
+        self.problem = problem;
+        self.begun = if self.is_shown {
+            Instant::now(self.rt).ok()
+        } else {
+            None
+        };
+    }
+
+    /// The search is over: the line is taken away.
+    fn end(&mut self) {
+        self.begun = None;
+        self.make_way();
     }
 }

@@ -1,5 +1,5 @@
 -- The words of a page, in four languages.
-use Rattle.std.specs.Prelude.{ℕ, ◌==◌, ◌&&◌, List, [], Option, Some, None, bytes_eq, codes, if◌then◌else◌, nat_le}
+use Rattle.std.specs.Prelude.{ℕ, ◌==◌, ◌&&◌, List, [], codes, if◌then◌else◌, nat_le}
 use Rattle.std.specs.Prelude.{encode_utf8_all as utf8}
 use Rattle.dw_board.specs.declared.piece.Side.{Side}
 use Rattle.dw_board.specs.declared.piece.Side.TheVariants.{White, Black}
@@ -8,19 +8,6 @@ use Rattle.dw_page.specs.declared.words.Language.TheVariants.{English, Dutch, Fr
 use Rattle.dw_page.specs.declared.words.Phrase.{Phrase}
 use Rattle.dw_page.specs.declared.words.Phrase.TheVariants.{Sound, Dual, Cooked, Shorter, NoWin, Tries, Solution}
 use Rattle.dw_page.specs.declared.words.Phrase.TheVariants.{Solutions, More, Refused}
-
--- the language of a name
-abbrev pub language_of : List ℕ → Language
-language_of name =
-    if bytes_eq name (codes "nl") then Dutch
-    else if bytes_eq name (codes "fr") then French
-    else if bytes_eq name (codes "ru") then Russian
-    else English
-
--- the language that is asked for, English if none is
-abbrev pub language_asked : Option (List ℕ) → Language
-language_asked None = English
-language_asked (Some name) = language_of name
 
 -- the name of a language in a page
 abbrev pub tag : Language → List ℕ

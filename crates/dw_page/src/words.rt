@@ -1,11 +1,11 @@
 //! The words of a page, in four languages.
-ghost use Rattle.std.specs.Prelude.{◌≡◌, option_map};
+ghost use Rattle.std.specs.Prelude.{◌≡◌};
 ghost use Rattle.dw_page.specs.Words as of;
 
 use dw_board::Side;
 
 /// The language of a page.
-/// Example: the option `--lang nl` stands for `Language::Dutch`.
+/// Example: `dw-desk page --lang nl` writes a page in `Language::Dutch`.
 #[derive(Clone, Copy, Debug, PartialEq, Eq)]
 pub enum Language {
     English,
@@ -41,19 +41,6 @@ pub enum Phrase {
 }
 
 impl Language {
-    /// The language of a name, English if it is none of `nl`, `fr` and `ru`.
-    /// Example: that of `fr` is `Language::French`.
-    pub fn named(name: Option<&str>) -> Language
-        ensures { result ≡ of.language_asked (option_map (λ n. n.now) name.entry) }
-    {
-        match name {
-            Some("nl") => Language::Dutch,
-            Some("fr") => Language::French,
-            Some("ru") => Language::Russian,
-            _ => Language::English,
-        }
-    }
-
     /// Its name in a page.
     /// Example: that of `Language::Dutch` is `nl`.
     pub fn tag(self) -> &'static str

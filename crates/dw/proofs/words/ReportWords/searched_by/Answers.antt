@@ -1,4 +1,0 @@
-use Rattle.dw.proofs.words.ReportWords.searched_by.Goals as goal
-
-pub invariant_of-result-clause-some_number : goal.invariant_of-result-clause-some_number
-invariant_of-result-clause-some_number c = c.read_by-read.result.some_number

@@ -1,0 +1,142 @@
+-- What each command of `dw-desk` asks for, by its options.
+use Rattle.std.specs.Prelude.{◌≡◌, ℕ, true, Result, Ok, Err, IsErr, MatchBool, Option, Some, None, is_some}
+use Rattle.std.specs.Prelude.{unwrap_or, List, [], codes}
+use Rattle.std.specs.Option.{option_or}
+use Rattle.std.specs.Str.{bytes_eq}
+use Rattle.std.specs.Borrow.{Bor}
+use Rattle.clap.specs.Words.{Row, Text}
+use Rattle.dw_arguments.specs.Choices.{language_named, placing_named}
+use Rattle.dw_arguments.specs.Commands.{Keeps, ReadsFrom, moves_within, problem_asked}
+use Rattle.dw_arguments.specs.Options.{flag_given, number_given, text_given}
+use Rattle.dw_arguments.specs.Numbers.{part_named, portion_named}
+use Rattle.dw_arguments.specs.declared.certify.CertifyArgs.{CertifyArgs}
+use Rattle.dw_arguments.specs.declared.check.CheckArgs.{CheckArgs}
+use Rattle.dw_arguments.specs.declared.find.FindArgs.{FindArgs}
+use Rattle.dw_arguments.specs.declared.mend.MendArgs.{MendArgs}
+use Rattle.dw_arguments.specs.declared.page.PageArgs.{PageArgs}
+use Rattle.dw_arguments.specs.declared.portion.Portion.{Portion}
+use Rattle.dw_arguments.specs.declared.solution.SolutionArgs.{SolutionArgs}
+use Rattle.dw_arguments.specs.declared.desk.DeskArgs.{DeskArgs}
+use Rattle.dw_arguments.specs.declared.desk.Task.{Task}
+use Rattle.dw_arguments.specs.declared.desk.Task.TheVariants as tasks
+
+-- how many lines a solution is written with at most
+abbrev pub lines_given : List Row → ℕ
+lines_given options = unwrap_or (number_given 1 1000000 options (codes "lines")) 1000
+
+-- the number of positions of --each
+abbrev pub each_given : List Row → Option ℕ
+each_given options = number_given 1 1000000000000 options (codes "each")
+
+pub record AsksFind (options : List Row) (asked : FindArgs) : Type 0 where
+  pub most : asked.most ≡ unwrap_or (number_given 1 20 options (codes "most")) 20
+  pub each : asked.each ≡ each_given options
+  pub json : asked.json ≡ flag_given options (codes "json")
+
+pub record AsksCheck (options : List Row) (asked : CheckArgs) : Type 0 where
+  pub n : asked.n ≡ number_given 1 20 options (codes "n")
+
+pub record AsksSolution (options : List Row) (asked : SolutionArgs) : Type 0 where
+  pub n : asked.n ≡ moves_within options
+  pub lines : asked.lines ≡ lines_given options
+
+-- -n or --most, of which one has to be there
+pub record AsksPage (options : List Row) (asked : PageArgs) : Type 0 where
+  pub moves : asked.moves ≡ unwrap_or (option_or (number_given 1 20 options (codes "n"))
+      (number_given 1 20 options (codes "most"))) 1
+  pub is_least : asked.is_least ≡ is_some (number_given 1 20 options (codes "most"))
+  pub lines : asked.lines ≡ lines_given options
+  pub title : asked.title.now ≡ unwrap_or (text_given options (codes "title")) (codes "dw-desk")
+  pub language : asked.language ≡ language_named (text_given options (codes "lang"))
+  pub numbers : asked.numbers ≡ flag_given options (codes "numbers")
+  pub solutions : asked.solutions ≡ placing_named (text_given options (codes "solutions"))
+
+pub record AsksCertify (options : List Row) (asked : CertifyArgs) : Type 0 where
+  pub n : asked.n ≡ moves_within options
+
+pub record AsksMend (options : List Row) (asked : MendArgs) : Type 0 where
+  pub n : asked.n ≡ moves_within options
+  pub each : asked.each ≡ each_given options
+  pub part : part_named (text_given options (codes "part")) ≡ Some (asked.part, asked.parts)
+
+-- what every command asks for
+abbrev pub Reads : List Row → DeskArgs → Type 0
+Reads options args = ReadsFrom options args.board args.form args.file
+
+-- what a command asks for that searches
+pub record Searches (options : List Row) (args : DeskArgs) : Type 0 where
+  pub reads : Reads options args
+  pub keeps : Keeps options 1000000 args.memo args.cache
+  pub progress : args.progress ≡ flag_given options (codes "progress")
+
+-- the portion that a text names
+pub record IsPortion (text : Option (List ℕ)) (portion : Portion) : Type 0 where
+  pub numbers : portion_named text ≡ Some (portion.first, portion.last)
+  pub is_asked : portion.is_asked ≡ is_some text
+
+-- the portion of one problem, the first if no number is given
+pub record IsOneProblem (options : List Row) (portion : Portion) : Type 0 where
+  pub first : portion.first ≡ unwrap_or (problem_asked options) 1
+  pub last : portion.last ≡ Some portion.first
+  pub is_asked : portion.is_asked ≡ true
+
+abbrev pub IsFind : List Row → Task → Type 0
+IsFind options task = (asked : FindArgs) × (task ≡ tasks.Find asked) × AsksFind options asked
+
+abbrev pub IsCheck : List Row → Task → Type 0
+IsCheck options task = (asked : CheckArgs) × (task ≡ tasks.Check asked) × AsksCheck options asked
+
+abbrev pub IsSolution : List Row → Task → Type 0
+IsSolution options task = (asked : SolutionArgs) × (task ≡ tasks.Solution asked) × AsksSolution options asked
+
+abbrev pub IsPage : List Row → Task → Type 0
+IsPage options task = (asked : PageArgs) × (task ≡ tasks.Page asked) × AsksPage options asked
+
+abbrev pub IsCertify : List Row → Task → Type 0
+IsCertify options task = (asked : CertifyArgs) × (task ≡ tasks.Certify asked) × AsksCertify options asked
+
+abbrev pub IsMend : List Row → Task → Type 0
+IsMend options task = (asked : MendArgs) × (task ≡ tasks.Mend asked) × AsksMend options asked
+
+-- the line of --line; it has to be there
+abbrev pub IsToken : List Row → Task → Type 0
+IsToken options task = (line : Bor (List ℕ)) × (task ≡ tasks.Token line)
+    × (line.now ≡ unwrap_or (text_given options (codes "line")) [])
+
+-- a command for a portion of the problems; it is refused if the text names none
+abbrev pub ForPortion : (options : List Row) → (Asks : List Row → Task → Type 0) → Result DeskArgs (Bor (List ℕ))
+    → Type 0
+ForPortion options Asks (Ok args) = Searches options args
+    × IsPortion (text_given options (codes "problem")) args.portion × Asks options args.task
+ForPortion options Asks (Err refusal) = portion_named (text_given options (codes "problem")) ≡ None
+
+-- a command for one problem; it is never refused
+abbrev pub ForOne : (options : List Row) → (Asks : List Row → Task → Type 0) → Result DeskArgs (Bor (List ℕ)) → Type 0
+ForOne options Asks (Ok args) = Searches options args × IsOneProblem options args.portion × Asks options args.task
+ForOne options Asks (Err refusal) = ⊥
+
+-- the command `mend`; it is refused if the text names no part
+abbrev pub ForPart : (options : List Row) → Result DeskArgs (Bor (List ℕ)) → Type 0
+ForPart options (Ok args) = Searches options args × IsOneProblem options args.portion × IsMend options args.task
+ForPart options (Err refusal) = part_named (text_given options (codes "part")) ≡ None
+
+-- the command `token`, which searches nothing; it is never refused
+abbrev pub ForLine : (options : List Row) → Result DeskArgs (Bor (List ℕ)) → Type 0
+ForLine options (Ok args) = Reads options args × IsOneProblem options args.portion × IsToken options args.task
+ForLine options (Err refusal) = ⊥
+
+-- what the command of this name asks for with these options; no other name is a command
+abbrev pub IsAskedBy : (name : List ℕ) → (options : List Row) → Result DeskArgs (Bor (List ℕ)) → Type 0
+IsAskedBy name options answer =
+    MatchBool (bytes_eq name (codes "find")) (ForPortion options IsFind answer)
+    (MatchBool (bytes_eq name (codes "check")) (ForPortion options IsCheck answer)
+    (MatchBool (bytes_eq name (codes "solution")) (ForPortion options IsSolution answer)
+    (MatchBool (bytes_eq name (codes "page")) (ForPortion options IsPage answer)
+    (MatchBool (bytes_eq name (codes "certify")) (ForOne options IsCertify answer)
+    (MatchBool (bytes_eq name (codes "mend")) (ForPart options answer)
+    (MatchBool (bytes_eq name (codes "token")) (ForLine options answer) (IsErr answer)))))))
+
+-- what a command line asks for, by its command and the options of that
+abbrev pub IsAsked : Option (Text × List Row) → Result DeskArgs (Bor (List ℕ)) → Type 0
+IsAsked (Some command) answer = IsAskedBy command.0 command.1 answer
+IsAsked None answer = IsErr answer

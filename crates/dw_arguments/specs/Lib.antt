@@ -1,0 +1,6 @@
+pub mod Choices
+pub mod Options
+pub mod Numbers
+pub mod Commands
+pub mod ReportCommands
+pub mod DeskCommands

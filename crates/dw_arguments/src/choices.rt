@@ -1,0 +1,114 @@
+//! What a user names by a word: the board, the memo, the language of a page, and where its solutions stand.
+ghost use Rattle.std.specs.Prelude.{◌≡◌};
+ghost use Rattle.std.specs.Option.{option_copied};
+
+/// The boards that the programs play on.
+/// Example: `--board 8` asks for `BoardSize::Eight`.
+#[derive(Clone, Copy, Debug, PartialEq, Eq)]
+pub enum BoardSize {
+    /// 10 by 10, with 50 squares.
+    Ten,
+    /// 8 by 8, with 32 squares.
+    Eight,
+}
+
+impl BoardSize {
+    ghost use Rattle.dw_arguments.specs.Choices.{board_named};
+
+    /// The board of so many rows: the one of eight if they are named, or else the one of ten.
+    /// Example: of `Some("8")` it is `BoardSize::Eight`, and of `None` it is `BoardSize::Ten`.
+    pub fn named(rows: Option<&str>) -> BoardSize
+        ensures { result ≡ board_named (option_copied rows.entry) }
+    {
+        match rows {
+            Some("8") => BoardSize::Eight,
+            _ => BoardSize::Ten,
+        }
+    }
+}
+
+/// What keeps the bounds that a search has found.
+/// Example: `--memo slots` asks for `MemoKind::Slots`.
+#[derive(Clone, Copy, Debug, PartialEq, Eq)]
+pub enum MemoKind {
+    /// Nothing.
+    None,
+    /// A cache of the positions used last, an `LruMemo`.
+    Lru,
+    /// A table in which each position has its one place.
+    Slots,
+    /// A table in which each position has two places, and what tells of more moves stays, a `DeepMemo`.
+    Deep,
+}
+
+impl MemoKind {
+    ghost use Rattle.dw_arguments.specs.Choices.{memo_named};
+
+    /// The memo of this name: `none`, `slots` or `deep`, or else `lru`.
+    /// Example: of `Some("deep")` it is `MemoKind::Deep`.
+    pub fn named(kind: Option<&str>) -> MemoKind
+        ensures { result ≡ memo_named (option_copied kind.entry) }
+    {
+        match kind {
+            Some("none") => MemoKind::None,
+            Some("slots") => MemoKind::Slots,
+            Some("deep") => MemoKind::Deep,
+            _ => MemoKind::Lru,
+        }
+    }
+}
+
+/// The languages that a page is written in.
+/// Example: `--lang nl` asks for `PageLanguage::Dutch`.
+#[derive(Clone, Copy, Debug, PartialEq, Eq)]
+pub enum PageLanguage {
+    English,
+    Dutch,
+    French,
+    Russian,
+}
+
+impl PageLanguage {
+    ghost use Rattle.dw_arguments.specs.Choices.{language_named};
+
+    /// The language of a name: `nl`, `fr` or `ru`, or else English.
+    /// Example: of `Some("fr")` it is `PageLanguage::French`.
+    pub fn named(name: Option<&str>) -> PageLanguage
+        ensures { result ≡ language_named (option_copied name.entry) }
+    {
+        match name {
+            Some("nl") => PageLanguage::Dutch,
+            Some("fr") => PageLanguage::French,
+            Some("ru") => PageLanguage::Russian,
+            _ => PageLanguage::English,
+        }
+    }
+}
+
+/// Where the solutions stand.
+/// Example: `--solutions end` asks for `Placing::End`.
+#[derive(Clone, Copy, Debug, PartialEq, Eq)]
+pub enum Placing {
+    /// Behind each problem.
+    After,
+    /// Behind all problems.
+    End,
+    /// Nowhere.
+    None,
+}
+
+impl Placing {
+    ghost use Rattle.dw_arguments.specs.Choices.{placing_named};
+
+    /// The place of a name: `end` or `none`, or else after each problem.
+    /// Example: of `Some("end")` it is `Placing::End`.
+    pub fn named(name: Option<&str>) -> Placing
+        ensures { result ≡ placing_named (option_copied name.entry) }
+    {
+        match name {
+            Some("end") => Placing::End,
+            Some("none") => Placing::None,
+            _ => Placing::After,
+        }
+    }
+}

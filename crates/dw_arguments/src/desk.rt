@@ -1,0 +1,51 @@
+//! What is asked for with a command of `dw-desk`.
+ghost use Rattle.std.specs.Prelude.{◌≤◌};
+
+use crate::certify::CertifyArgs;
+use crate::check::CheckArgs;
+use crate::choices::{BoardSize, MemoKind};
+use crate::find::FindArgs;
+use crate::mend::MendArgs;
+use crate::page::PageArgs;
+use crate::portion::Portion;
+use crate::solution::SolutionArgs;
+use dw_notation::Form;
+
+/// What is done.
+/// Example: `dw-desk check` asks for `Task::Check`.
+#[derive(Clone, Copy)]
+pub enum Task<'a> {
+    /// The number of moves and the verdict are found.
+    Find(FindArgs),
+    /// The solution is checked.
+    Check(CheckArgs),
+    /// The problem is written as a game, with its solution.
+    Solution(SolutionArgs),
+    /// The problems are put on a page.
+    Page(PageArgs<'a>),
+    /// The certificate of the first of the chosen problems is written.
+    Certify(CertifyArgs),
+    /// The neighbours of the first of the chosen problems that are sound are written.
+    Mend(MendArgs),
+    /// The token of this line of the first of the chosen problems is written.
+    Token { line: &'a str },
+}
+
+/// What the arguments of `dw-desk` ask for.
+/// See [`DeskArgs::requested`] for an example.
+#[derive(Clone, Copy)]
+pub struct DeskArgs<'a> {
+    pub task: Task<'a>,
+    pub board: BoardSize,
+    pub form: Form,
+    pub portion: Portion,
+    pub memo: MemoKind,
+    /// The most positions that the memo keeps, `FEWEST_KEPT` to `MOST_KEPT`.
+    pub cache: usize,
+    /// Whether the progress line was asked for.
+    pub progress: bool,
+    /// The file to read, or standard input.
+    pub file: Option<&'a str>,
+    pub ghost some_kept: { 1 ≤ cache },
+    pub ghost few_kept: { cache ≤ 4_000_000 },
+}

@@ -1,0 +1,200 @@
+//! The commands of `dw-desk`, and how what is asked for with one is read.
+ghost use Rattle.std.specs.Prelude.{◌≡◌};
+ghost use Rattle.clap.specs.Words.{subcommand_rows_of};
+ghost use Rattle.dw_arguments.specs.DeskCommands.{ForPart, ForPortion, IsAsked, IsAskedBy, IsOneProblem, IsToken};
+ghost use Rattle.dw_arguments.specs.DeskCommands.{Reads, Searches};
+ghost use Rattle.dw_arguments.specs.Options.{options_of};
+
+use crate::certify::{CertifyArgs, certify_command};
+use crate::check::{CheckArgs, check_command};
+use crate::choices::{BoardSize, MemoKind};
+use crate::desk::{DeskArgs, Task};
+use crate::desk_options::USUALLY_KEPT;
+use crate::error::CliError;
+use crate::find::{FindArgs, find_command};
+use crate::mend::{MendArgs, NO_PART, mend_command};
+use crate::options::{FEWEST_KEPT, VERSION, flag_given, form_given, kept_given, text_given};
+use crate::page::{PageArgs, page_command};
+use crate::portion::{NO_PORTION, Portion};
+use crate::solution::{SolutionArgs, solution_command};
+use crate::token::token_command;
+use clap::{ArgMatches, Command};
+use std::alloc::{AllocError, Global};
+
+/// What is said of arguments that name no command.
+const NO_COMMAND: &str = "dw-desk: no command\n";
+
+const ABOUT: &str = "Finds out what composers, editors and judges ask about problems of draughts.";
+
+const EXAMPLES: &str = "\
+Problems are read from FILE, or from standard input: one FEN text a line, as W:W27,45:B16,
+or with --pdn out of the tags of a PDN file, as [FEN \"W:W27,45:B16\"]. At a terminal end them
+with Ctrl-D.
+`dw-desk COMMAND --help` says what a command does, with an example.
+
+Examples:
+  dw-desk find --most 6 examples/problems.fen
+  dw-desk check examples/solutions.pdn
+
+Exit status: 0 done, 1 a problem, a solution or a line was refused, a solution does not hold, a
+problem is undecided or not there, 2 the arguments are no command, 3 the program was stopped or a
+file could not be read or written.";
+
+/// The commands that `dw-desk` knows, with their options and their help.
+///
+/// # Errors
+///
+/// Memory was refused.
+/// Example: `dw-desk find a.fen` is one of them, and `dw-desk judge` is none.
+pub fn command<'a>(alloc: Global) -> Result<Command<'a>, AllocError> {
+    let find = find_command(alloc)?;
+    let check = check_command(alloc)?;
+    let solution = solution_command(alloc)?;
+    let page = page_command(alloc)?;
+    let certify = certify_command(alloc)?;
+    let mend = mend_command(alloc)?;
+    let token = token_command(alloc)?;
+    Command::new(alloc, "dw-desk")
+        .bin_name("dw-desk")?
+        .version(VERSION)
+        .about(ABOUT)
+        .after_help(EXAMPLES)
+        .subcommand_required(true)
+        .arg_required_else_help(true)
+        .subcommand(find)?
+        .subcommand(check)?
+        .subcommand(solution)?
+        .subcommand(page)?
+        .subcommand(certify)?
+        .subcommand(mend)?
+        .subcommand(token)
+}
+
+impl<'a> DeskArgs<'a> {
+    ghost use Rattle.clap.specs.declared.parser.matches.ArgMatches.{ArgMatches};
+    ghost use Rattle.std.specs.Prelude.{IfOk, Ok};
+
+    /// Reads the words of a command line, the program's name first.
+    ///
+    /// # Errors
+    ///
+    /// They are no command, they ask for help, or memory was refused.
+    /// Example: `dw-desk token --line 32-28 a.fen` asks for `Task::Token`, and `dw-desk judge` is no command.
+    pub fn parse(alloc: Global, words: &'a [String]) -> Result<Self, CliError>
+        ensures { IfOk result (λ args. (matches : ArgMatches) × IsAsked (subcommand_rows_of matches) (Ok args)) }
+    {
+        match command(alloc)?.try_get_matches_from(words) {
+            Ok(matches) => match DeskArgs::requested(&matches) {
+                Ok(args) => Ok(args),
+                Err(text) => Err(CliError::Refused(text)),
+            },
+            Err(error) => Err(CliError::of(alloc, &error)),
+        }
+    }
+
+    /// Tells what parsed arguments ask for.
+    ///
+    /// # Errors
+    ///
+    /// What is said of them if they are no command, as a text that ends a line.
+    /// Example: `dw-desk find --most 6 a.fen` asks to find the number of moves of each problem in `a.fen`, up to 6.
+    pub fn requested(matches: &ArgMatches<'a>) -> Result<Self, &'static str>
+        ensures { IsAsked (subcommand_rows_of matches.now) result }
+    {
+        match matches.subcommand() {
+            Some((name, matches)) => asked_by(name, matches),
+            None => Err(NO_COMMAND),
+        }
+    }
+}
+
+/// What the command of this name asks for.
+fn asked_by<'a>(name: &str, matches: &ArgMatches<'a>) -> Result<DeskArgs<'a>, &'static str>
+    ensures { IsAskedBy name.now (options_of matches.now) result }
+{
+    match name {
+        "find" => for_portion(matches, Task::Find(FindArgs::new(matches))),
+        "check" => for_portion(matches, Task::Check(CheckArgs::new(matches))),
+        "solution" => for_portion(matches, Task::Solution(SolutionArgs::new(matches))),
+        "page" => for_portion(matches, Task::Page(PageArgs::new(matches))),
+        "certify" => Ok(for_one(matches, Task::Certify(CertifyArgs::new(matches)))),
+        "mend" => for_part(matches),
+        "token" => Ok(for_line(matches)),
+        _ => Err(NO_COMMAND),
+    }
+}
+
+/// What a command asks for that searches for a portion of the problems.
+fn for_portion<'a>(matches: &ArgMatches<'a>, task: Task<'a>) -> Result<DeskArgs<'a>, &'static str>
+    ensures { ForPortion (options_of matches.now) (λ options asked. asked ≡ task.entry) result }
+{
+    match Portion::named(text_given(matches, "problem")) {
+        Some(portion) => Ok(searched(matches, task, portion)),
+        None => Err(NO_PORTION),
+    }
+}
+
+/// What a command asks for that searches for one problem, the first if no other is named.
+fn for_one<'a>(matches: &ArgMatches<'a>, task: Task<'a>) -> DeskArgs<'a>
+    ensures searches { Searches (options_of matches.now) result }
+    ensures one { IsOneProblem (options_of matches.now) result.portion }
+    ensures task { result.task ≡ task.entry }
+{
+    searched(matches, task, Portion::of_one(matches))
+}
+
+/// What the command `mend` asks for.
+fn for_part<'a>(matches: &ArgMatches<'a>) -> Result<DeskArgs<'a>, &'static str>
+    ensures { ForPart (options_of matches.now) result }
+{
+    match MendArgs::new(matches) {
+        Some(asked) => Ok(for_one(matches, Task::Mend(asked))),
+        None => Err(NO_PART),
+    }
+}
+
+/// What the command `token` asks for, which searches nothing.
+fn for_line<'a>(matches: &ArgMatches<'a>) -> DeskArgs<'a>
+    ensures reads { Reads (options_of matches.now) result }
+    ensures one { IsOneProblem (options_of matches.now) result.portion }
+    ensures line { IsToken (options_of matches.now) result.task }
+{
+    let line = text_given(matches, "line").unwrap_or("");
+    read(matches, Task::Token { line }, Portion::of_one(matches))
+}
+
+/// What a command asks for that searches.
+fn searched<'a>(matches: &ArgMatches<'a>, task: Task<'a>, portion: Portion) -> DeskArgs<'a>
+    ensures searches { Searches (options_of matches.now) result }
+    ensures portion { result.portion ≡ portion }
+    ensures task { result.task ≡ task.entry }
+{
+    DeskArgs {
+        task,
+        board: BoardSize::named(text_given(matches, "board")),
+        form: form_given(matches),
+        portion,
+        memo: MemoKind::named(text_given(matches, "memo")),
+        cache: kept_given(matches).unwrap_or(USUALLY_KEPT),
+        progress: flag_given(matches, "progress"),
+        file: text_given(matches, "FILE"),
+    }
+}
+
+/// What a command asks for that only reads, and searches nothing.
+fn read<'a>(matches: &ArgMatches<'a>, task: Task<'a>, portion: Portion) -> DeskArgs<'a>
+    ensures reads { Reads (options_of matches.now) result }
+    ensures portion { result.portion ≡ portion }
+    ensures task { result.task ≡ task.entry }
+{
+    DeskArgs {
+        task,
+        board: BoardSize::named(text_given(matches, "board")),
+        form: form_given(matches),
+        portion,
+        memo: MemoKind::None,
+        cache: FEWEST_KEPT,
+        progress: false,
+        file: text_given(matches, "FILE"),
+    }
+}

@@ -1,0 +1,57 @@
+//! Arguments that several commands have.
+ghost use Rattle.std.specs.Prelude.{◌≡◌, ◌≤◌};
+ghost use Rattle.dw_arguments.specs.Commands.{moves_within};
+ghost use Rattle.dw_arguments.specs.DeskCommands.{lines_given};
+ghost use Rattle.dw_arguments.specs.Options.{options_of};
+
+use crate::options::{FEWEST_MOVES, count_given, flag, moves_given, option};
+use clap::{Arg, ArgMatches, value_parser};
+use std::alloc::Global;
+
+/// How many positions a memo keeps if the arguments say nothing.
+pub(crate) const USUALLY_KEPT: usize = 1_000_000;
+
+/// The fewest lines that a solution is written with.
+const FEWEST_LINES: u64 = 1;
+
+/// The most lines that a solution is written with.
+const MOST_LINES: u64 = 1_000_000;
+
+/// How many lines a solution is written with if the arguments say nothing.
+const USUAL_LINES: u64 = 1000;
+
+pub(crate) const CACHE_HELP: &str = "Keep at most C positions, 1 to 4000000 [default: 1000000]";
+
+/// `--lines`, `USUAL_LINES` if it is not given.
+pub(crate) fn lines<'a>(alloc: Global) -> Arg<'a> {
+    let numbers = value_parser!(u64).range(FEWEST_LINES as i64..=MOST_LINES as i64);
+    let help = "Write at most K lines of the solution, 1 to 1000000 [default: 1000]";
+    option(alloc, "lines", "K", numbers, help)
+}
+
+/// How many lines are written at most, `FEWEST_LINES` to `MOST_LINES`.
+pub(crate) fn lines_of(matches: &ArgMatches<'_>) -> usize
+    ensures value { result ≡ lines_given (options_of matches.now) }
+    ensures some { 1 ≤ result }
+    ensures few { result ≤ 1_000_000 }
+{
+    count_given(matches, "lines", FEWEST_LINES, MOST_LINES).unwrap_or(USUAL_LINES) as usize
+}
+
+/// The number of moves of `-n`, which has to be there.
+pub(crate) fn moves_of(matches: &ArgMatches<'_>) -> u8
+    ensures value { result ≡ moves_within (options_of matches.now) }
+    ensures some { 1 ≤ result }
+    ensures few { result ≤ 20 }
+{
+    moves_given(matches, "n").unwrap_or(FEWEST_MOVES)
+}
+
+/// `--progress`, a flag.
+pub(crate) fn progress<'a>(alloc: Global) -> Arg<'a> {
+    flag(
+        alloc,
+        "progress",
+        "Show how far a search is on standard error, also if that is no terminal",
+    )
+}

@@ -1,0 +1,63 @@
+//! Why a command line is not obeyed.
+use clap::Error;
+use clap::error::ErrorKind;
+use std::alloc::{AllocError, Global};
+use std::io;
+
+/// Why a command line is not obeyed.
+/// Example: of `dw --help` it is `CliError::Help`, and of `dw solve` it is `CliError::NoCommand`.
+#[derive(Drop)]
+pub enum CliError {
+    /// Help was asked for; the text is for standard output.
+    Help(String),
+    /// The words are no command; the text for standard error says why, with its own line ends.
+    NoCommand(String),
+    /// As `NoCommand`, if the parser knows the words and yet they ask for nothing.
+    Refused(&'static str),
+    /// Memory was refused.
+    Memory,
+}
+
+impl From<AllocError> for CliError {
+    fn from(_refused: AllocError) -> CliError {
+        CliError::Memory
+    }
+}
+
+impl CliError {
+    /// Tells why the words could not be fetched: one is not UTF-8, or memory was refused. `program` is the program's
+    /// name.
+    /// Example: of `io::ErrorKind::OutOfMemory` it is `CliError::Memory`.
+    pub fn unreadable(alloc: Global, program: &str, kind: io::ErrorKind) -> CliError {
+        match kind {
+            io::ErrorKind::InvalidData => not_utf8(alloc, program),
+            _ => CliError::Memory,
+        }
+    }
+
+    /// Takes over the error of a parser.
+    pub(crate) fn of(alloc: Global, error: &Error) -> CliError {
+        if error.kind() == ErrorKind::OutOfMemory {
+            return CliError::Memory;
+        }
+        let Ok(text) = format!(in alloc; "{error}") else {
+            return CliError::Memory;
+        };
+        if error.use_stderr() {
+            CliError::NoCommand(text)
+        } else {
+            CliError::Help(text)
+        }
+    }
+}
+
+/// What is said of words that are not UTF-8, in the form of what is said of others that are no command.
+fn not_utf8(alloc: Global, program: &str) -> CliError {
+    match format!(in alloc;
+        "error: invalid UTF-8 was detected in one or more arguments\n\nUsage: {program} \
+        <COMMAND>\n\nFor more information, try '--help'.\n"
+    ) {
+        Ok(text) => CliError::NoCommand(text),
+        Err(_) => CliError::Memory,
+    }
+}

@@ -1,0 +1,88 @@
+//! The arguments of the command `find`.
+ghost use Rattle.std.specs.Prelude.{◌≤◌, IfSome};
+ghost use Rattle.std.proofs.Props.{props};
+
+use crate::desk_options::{CACHE_HELP, progress};
+use crate::options::{
+    MOST_MOVES, board, cache, file, flag, flag_given, memo, most, moves_given, pdn, positions,
+    positions_given,
+};
+use crate::portion::problem;
+use clap::{Arg, ArgMatches, Command};
+use std::alloc::{AllocError, Global};
+
+/// What the command `find` is asked for.
+/// Example: `--most 6 --json` asks for lines of JSON, with up to 6 moves.
+#[derive(Clone, Copy)]
+pub struct FindArgs {
+    /// The most moves within which a win is looked for, `FEWEST_MOVES` to `MOST_MOVES`.
+    pub most: u8,
+    /// How many positions may be expanded for each problem until its number of moves is known, `FEWEST_POSITIONS` to
+    /// `MOST_POSITIONS`.
+    pub each: Option<u64>,
+    /// Whether a line of JSON is written for each problem.
+    pub json: bool,
+    pub ghost some_moves: { 1 ≤ most },
+    pub ghost few_moves: { most ≤ 20 },
+    pub ghost some_positions: { IfSome each (λ positions. 1 ≤ positions) } by { Prim.hlevel props },
+    pub ghost few_positions: { IfSome each (λ positions. positions ≤ 1_000_000_000_000) } by { Prim.hlevel props },
+}
+
+const MOST_HELP: &str =
+    "Look for a win in at most N moves of the side to move, 1 to 20 [default: 20]";
+
+const EACH_HELP: &str =
+    "Go to the next problem after L positions, 1 to 1000000000000 [default: never]";
+
+const ABOUT: &str = "Finds in how many moves each problem is won, and judges it at that number.";
+
+const EXAMPLES: &str = "\
+What is written is what `dw judge -n N` writes for the least N with a win, or for --most if there
+is none. With --each a problem that takes too long is left undecided, and the next one begins:
+it is told in how many moves there is no win. The problems before do not matter then, since each
+begins with an empty memo.
+
+Examples:
+  echo W:W10,16,48:B13 | dw-desk find
+  dw-desk find --most 6 --each 1000000 examples/problems.fen
+  dw-desk find --json --problem 1-3 examples/problems.fen";
+
+/// The command with its arguments.
+pub(crate) fn find_command<'a>(alloc: Global) -> Result<Command<'a>, AllocError> {
+    let arguments = vec![in alloc;
+        board(alloc),
+        pdn(alloc),
+        problem(alloc),
+        file(alloc),
+        most(alloc, MOST_HELP),
+        positions(alloc, "each", EACH_HELP),
+        json(alloc),
+        memo(alloc, "deep"),
+        cache(alloc, CACHE_HELP),
+        progress(alloc),
+    ]?;
+    Command::new(alloc, "find")
+        .about(ABOUT)
+        .after_help(EXAMPLES)
+        .args(arguments)
+}
+
+fn json<'a>(alloc: Global) -> Arg<'a> {
+    flag(alloc, "json", "Write one line of JSON for each problem")
+}
+
+impl FindArgs {
+    ghost use Rattle.dw_arguments.specs.DeskCommands.{AsksFind};
+    ghost use Rattle.dw_arguments.specs.Options.{options_of};
+
+    /// What the options ask for.
+    pub(crate) fn new(matches: &ArgMatches<'_>) -> Self
+        ensures { AsksFind (options_of matches.now) result }
+    {
+        FindArgs {
+            most: moves_given(matches, "most").unwrap_or(MOST_MOVES),
+            each: positions_given(matches, "each"),
+            json: flag_given(matches, "json"),
+        }
+    }
+}

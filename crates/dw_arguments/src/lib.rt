@@ -1,0 +1,33 @@
+//! The command lines of `dw` and of `dw-desk`: their commands, their options, and what is asked for with them.
+//!
+//! Begin with `ReportArgs::parse` and `DeskArgs::parse`, which read the words of a command line. Nothing here knows an
+//! operating system: words come as a list, and what is to be said of them goes out as a `CliError`.
+#![tactic(auto)]
+
+pub mod certify;
+pub mod check;
+pub mod choices;
+pub mod desk;
+pub mod desk_commands;
+mod desk_options;
+pub mod error;
+pub mod find;
+pub mod mend;
+pub mod options;
+pub mod page;
+pub mod portion;
+pub mod report;
+pub mod solution;
+mod token;
+
+pub use certify::CertifyArgs;
+pub use check::CheckArgs;
+pub use choices::{BoardSize, MemoKind, PageLanguage, Placing};
+pub use desk::{DeskArgs, Task};
+pub use error::CliError;
+pub use find::FindArgs;
+pub use mend::MendArgs;
+pub use page::PageArgs;
+pub use portion::Portion;
+pub use report::{ReportArgs, ReportCommand};
+pub use solution::SolutionArgs;

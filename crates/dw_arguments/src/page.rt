@@ -1,0 +1,124 @@
+//! The arguments of the command `page`.
+ghost use Rattle.std.specs.Prelude.{◌≤◌};
+
+use crate::choices::{PageLanguage, Placing};
+use crate::desk_options::{CACHE_HELP, lines, lines_of, progress};
+use crate::options::{
+    FEWEST_MOVES, board, cache, file, flag, flag_given, memo, most, moves_given, option, pdn,
+    text_given, within,
+};
+use crate::portion::problem;
+use clap::builder::ValueParser;
+use clap::{Arg, ArgMatches, Command};
+use std::alloc::{AllocError, Global};
+
+/// What the command `page` is asked for.
+/// Example: `--most 6` asks for the least number of moves with a win, up to 6.
+#[derive(Clone, Copy)]
+pub struct PageArgs<'a> {
+    /// The number of moves within which the win is, `FEWEST_MOVES` to `MOST_MOVES`.
+    pub moves: u8,
+    /// Whether the least number of moves up to that one is looked for.
+    pub is_least: bool,
+    /// How many lines are written at most, 1 to 1,000,000.
+    pub lines: usize,
+    pub title: &'a str,
+    pub language: PageLanguage,
+    /// Whether drawings have the numbers of the squares.
+    pub numbers: bool,
+    pub solutions: Placing,
+    pub ghost some_moves: { 1 ≤ moves },
+    pub ghost few_moves: { moves ≤ 20 },
+    pub ghost some_lines: { 1 ≤ lines },
+    pub ghost few_lines: { lines ≤ 1_000_000 },
+}
+
+const WITHIN_HELP: &str = "Ask for a win in N moves of the side to move, 1 to 20";
+
+const MOST_HELP: &str = "Ask for the least number of moves with a win, up to N, 1 to 20";
+
+const ABOUT: &str =
+    "Writes a page of all problems with diagrams and solutions, for a browser or a printer.";
+
+const EXAMPLES: &str = "\
+The page is one HTML file that needs no other. A click on a move shows the position after it, and
+so do the arrow keys; a printer puts up to six problems on a sheet. With --pdn each problem has its
+tags Event, White, Date and Site. -n or --most has to be there: a win in N moves, or in the least
+number up to N.
+
+Examples:
+  dw-desk page -n 2 examples/problems.fen > problems.html
+  dw-desk page --most 6 --lang fr --solutions end examples/problems.fen > problems.html
+  dw-desk page -n 3 --title 'March' --numbers --pdn examples/solutions.pdn > march.html";
+
+/// The title of a page that is given none.
+const USUAL_TITLE: &str = "dw-desk";
+
+/// The command with its arguments.
+pub(crate) fn page_command<'a>(alloc: Global) -> Result<Command<'a>, AllocError> {
+    let within = within(alloc, WITHIN_HELP)
+        .required_unless_present("most")?
+        .conflicts_with("most")?;
+    let arguments = vec![in alloc;
+        board(alloc),
+        pdn(alloc),
+        problem(alloc),
+        file(alloc),
+        within,
+        most(alloc, MOST_HELP),
+        lines(alloc),
+        title(alloc),
+        language(alloc),
+        solutions(alloc),
+        flag(
+            alloc,
+            "numbers",
+            "Write the number of each square in the diagrams"
+        ),
+        memo(alloc, "deep"),
+        cache(alloc, CACHE_HELP),
+        progress(alloc),
+    ]?;
+    Command::new(alloc, "page")
+        .about(ABOUT)
+        .after_help(EXAMPLES)
+        .args(arguments)
+}
+
+fn title<'a>(alloc: Global) -> Arg<'a> {
+    let help = "The title of the page [default: dw-desk]";
+    option(alloc, "title", "T", ValueParser::string(), help)
+}
+
+fn language<'a>(alloc: Global) -> Arg<'a> {
+    let names = ["en", "nl", "fr", "ru"].as_slice().into();
+    let help = "The language: English, Dutch, French or Russian";
+    option(alloc, "lang", "LANG", names, help).default_value("en")
+}
+
+fn solutions<'a>(alloc: Global) -> Arg<'a> {
+    let places = ["after", "end", "none"].as_slice().into();
+    let help = "Put the solutions after each problem, at the end, or nowhere";
+    option(alloc, "solutions", "WHERE", places, help).default_value("after")
+}
+
+impl<'a> PageArgs<'a> {
+    ghost use Rattle.dw_arguments.specs.DeskCommands.{AsksPage};
+    ghost use Rattle.dw_arguments.specs.Options.{options_of};
+
+    /// What the options ask for.
+    pub(crate) fn new(matches: &ArgMatches<'a>) -> Self
+        ensures { AsksPage (options_of matches.now) result }
+    {
+        let most = moves_given(matches, "most");
+        PageArgs {
+            moves: moves_given(matches, "n").or(most).unwrap_or(FEWEST_MOVES),
+            is_least: most.is_some(),
+            lines: lines_of(matches),
+            title: text_given(matches, "title").unwrap_or(USUAL_TITLE),
+            language: PageLanguage::named(text_given(matches, "lang")),
+            numbers: flag_given(matches, "numbers"),
+            solutions: Placing::named(text_given(matches, "solutions")),
+        }
+    }
+}

@@ -1,0 +1,110 @@
+//! The problems that a command speaks of.
+ghost use Rattle.std.specs.Prelude.{◌≡◌, ◌≤◌, IfSome, Some, is_some, option_map, true};
+ghost use Rattle.dw_arguments.specs.Numbers.{problem_in};
+ghost use Rattle.std.specs.Option.{option_copied};
+ghost use Rattle.std.proofs.Props.{props};
+
+use crate::options::{FIRST_PROBLEM, number_within, option, problem_given};
+use clap::builder::ValueParser;
+use clap::{Arg, ArgMatches};
+use dw_notation::problems::MAX_PROBLEMS;
+use std::alloc::Global;
+
+/// The problems that are chosen.
+/// Example: `--problem 3-5` asks for those from 3 to 5, and none means all.
+#[derive(Clone, Copy, Debug, PartialEq, Eq)]
+pub struct Portion {
+    /// The number of the first, `FIRST_PROBLEM` to `MAX_PROBLEMS`.
+    pub first: u32,
+    /// The number of the last, if reading ends after it: `first` to `MAX_PROBLEMS`.
+    pub last: Option<u32>,
+    /// Whether these numbers were given.
+    pub is_asked: bool,
+    pub ghost some: { 1 ≤ first },
+    pub ghost few: { first ≤ 1_000_000 },
+    pub ghost in_order: { IfSome last (λ last. first ≤ last) } by { Prim.hlevel props },
+    pub ghost few_to_last: { IfSome last (λ last. last ≤ 1_000_000) } by { Prim.hlevel props },
+}
+
+/// What is said of numbers of problems that are none.
+pub(crate) const NO_PORTION: &str = "\
+error: invalid value for '--problem <I|I-J>': I and J are 1 to 1000000, and I is at most J
+
+For more information, try '--help'.
+";
+
+const PROBLEM_HELP: &str =
+    "Report on the problem I alone, or on those from I to J, 1 to 1000000 [default: all]";
+
+/// `--problem`, of one problem or several.
+pub(crate) fn problem<'a>(alloc: Global) -> Arg<'a> {
+    option(
+        alloc,
+        "problem",
+        "I|I-J",
+        ValueParser::string(),
+        PROBLEM_HELP,
+    )
+}
+
+impl Portion {
+    ghost use Rattle.dw_arguments.specs.DeskCommands.{IsOneProblem};
+    ghost use Rattle.dw_arguments.specs.Numbers.{portion_named};
+    ghost use Rattle.dw_arguments.specs.Options.{options_of};
+
+    /// The portion of the one problem that is named, or else of the first.
+    pub(crate) fn of_one(matches: &ArgMatches<'_>) -> Self
+        ensures { IsOneProblem (options_of matches.now) result }
+    {
+        let number = problem_given(matches).unwrap_or(FIRST_PROBLEM);
+        Portion {
+            first: number,
+            last: Some(number),
+            is_asked: true,
+        }
+    }
+
+    /// The problems that a text names: `I`, or `I-J` from I to J; all, if there is no text.
+    pub(crate) fn named(text: Option<&str>) -> Option<Self>
+        ensures numbers { option_map (λ portion. (portion.first, portion.last)) result
+            ≡ portion_named (option_copied text.entry) }
+        ensures is_asked { IfSome result (λ portion. portion.is_asked ≡ is_some text.entry) }
+    {
+        match text {
+            Some(text) => Portion::in_text(text),
+            None => Some(Portion {
+                first: FIRST_PROBLEM,
+                last: None,
+                is_asked: false,
+            }),
+        }
+    }
+
+    /// The problems that a text names.
+    fn in_text(text: &str) -> Option<Self>
+        ensures numbers { option_map (λ portion. (portion.first, portion.last)) result
+            ≡ portion_named (Some text.now) }
+        ensures is_asked { IfSome result (λ portion. portion.is_asked ≡ true) }
+    {
+        let (first, last) = text.split_once('-').unwrap_or((text, text));
+        let first = number_in(first)?;
+        let last = number_in(last)?;
+        if first > last {
+            return None;
+        }
+        Some(Portion {
+            first,
+            last: Some(last),
+            is_asked: true,
+        })
+    }
+}
+
+/// A problem's number, `FIRST_PROBLEM` to `MAX_PROBLEMS`.
+fn number_in(text: &str) -> Option<u32>
+    ensures value { result ≡ problem_in text.now }
+    ensures some { IfSome result (λ number. 1 ≤ number) }
+    ensures few { IfSome result (λ number. number ≤ 1_000_000) }
+{
+    number_within(text, FIRST_PROBLEM, MAX_PROBLEMS)
+}

@@ -1,0 +1,390 @@
+//! The command line of `dw`: its commands, their options, and what is asked for with them.
+ghost use Rattle.std.specs.Prelude.{◌≡◌, ◌≤◌, IfSome, codes, option_map};
+ghost use Rattle.std.specs.Option.{option_or};
+ghost use Rattle.std.proofs.Props.{props};
+ghost use Rattle.dw_arguments.specs.Options.{number_given, options_of, text_given};
+
+use crate::choices::{BoardSize, MemoKind};
+use crate::error::CliError;
+use crate::options::{
+    FEWEST_KEPT, FEWEST_MOVES, FIRST_PROBLEM, MOST_POSITIONS, VERSION, board, cache, count_given,
+    file, form_given, kept_given, memo, moves_given, one_problem, option, pdn, positions,
+    positions_given, problem_given, text_given, within,
+};
+use clap::builder::ValueParser;
+use clap::{Arg, ArgMatches, Command, value_parser};
+use dw_notation::Form;
+use std::alloc::{AllocError, Global};
+
+/// The commands of `dw`.
+/// Example: `dw judge` asks for `ReportCommand::Judge`.
+#[derive(Clone, Copy, Debug, PartialEq, Eq)]
+pub enum ReportCommand {
+    /// The position is shown, as a diagram.
+    Show,
+    /// The legal moves are listed.
+    Moves,
+    /// The verdict is given.
+    Judge,
+    /// The lines of the forced win are listed.
+    List,
+}
+
+/// What the arguments of `dw` ask for.
+/// See [`ReportArgs::requested`] for an example.
+#[derive(Clone, Copy)]
+pub struct ReportArgs<'a> {
+    pub command: ReportCommand,
+    pub form: Form,
+    /// The number of the one problem to report, `FIRST_PROBLEM` to `MAX_PROBLEMS`, or all.
+    pub only: Option<u32>,
+    pub board: BoardSize,
+    /// Within how many moves a win is looked for, `FEWEST_MOVES` to `MOST_MOVES`.
+    pub n: u8,
+    /// The most positions to expand, `FEWEST_POSITIONS` to `MOST_POSITIONS`.
+    pub positions: u64,
+    pub memo: MemoKind,
+    /// The most positions that the memo keeps, `FEWEST_KEPT` to `MOST_KEPT`.
+    pub cache: usize,
+    /// The most lines to list, `FEWEST_LINES` to `MOST_LINES`.
+    pub lines: u64,
+    /// The token of the line after which the list begins.
+    pub after: Option<&'a str>,
+    /// The file to read, or standard input.
+    pub file: Option<&'a str>,
+    pub ghost some_number: { IfSome only (λ number. 1 ≤ number) } by { Prim.hlevel props },
+    pub ghost few_number: { IfSome only (λ number. number ≤ 1_000_000) } by { Prim.hlevel props },
+    pub ghost some_moves: { 1 ≤ n },
+    pub ghost few_moves: { n ≤ 20 },
+    pub ghost some_positions: { 1 ≤ positions },
+    pub ghost few_positions: { positions ≤ 1_000_000_000_000 },
+    pub ghost some_kept: { 1 ≤ cache },
+    pub ghost few_kept: { cache ≤ 4_000_000 },
+    pub ghost some_lines: { 1 ≤ lines },
+    pub ghost few_lines: { lines ≤ 1_000_000_000 },
+}
+
+/// The fewest lines that a run may list.
+const FEWEST_LINES: u64 = 1;
+
+/// The most lines that a run may list, and what it may if the arguments say nothing.
+const MOST_LINES: u64 = 1_000_000_000;
+
+/// What is said of arguments that name no command.
+const NO_COMMAND: &str = "dw: no command\n";
+
+/// How many positions a memo keeps if the arguments say nothing.
+const USUALLY_KEPT: usize = 100_000;
+
+const CACHE_HELP: &str = "Keep at most C positions, 1 to 4000000 [default: 100000]";
+
+const PROBLEM_HELP: &str =
+    "Report on the problem of this number alone, 1 to 1000000 [default: all]";
+
+const WITHIN_HELP: &str = "Look for a win in N moves of the side to move, 1 to 20";
+
+const POSITIONS_HELP: &str = "Stop after L positions, 1 to 1000000000000 [default: 1000000000000]";
+
+const ABOUT: &str =
+    "Solves problems of international draughts: verdicts, and every line of a forced win.";
+
+const EXAMPLES: &str = "\
+Problems are read from FILE, or from standard input: one FEN text a line, as W:W27,45:B16,
+or with --pdn out of the tags of a PDN file, as [FEN \"W:W27,45:B16\"]. At a terminal end them
+with Ctrl-D.
+`dw COMMAND --help` says what a command does, with an example.
+
+Examples:
+  dw judge -n 2 examples/problems.fen
+  dw list -n 2 --problem 1 examples/problems.fen
+
+Exit status: 0 done, 1 a problem or a token was refused or is not there, 2 the arguments are no
+command, 3 the program was stopped or a file could not be read or written.";
+
+const SHOW_ABOUT: &str = "Shows each problem's position as a diagram.";
+
+const SHOW_EXAMPLES: &str = "\
+In a diagram w and b are men, W and B kings, and a point is an empty square.
+
+Examples:
+  echo W:W27,45:B16 | dw show
+  dw show --pdn examples/games.pdn";
+
+const MOVES_ABOUT: &str = "Lists each problem's legal moves, each with the position after it.";
+
+const MOVES_EXAMPLES: &str = "\
+A quiet move is written 32-28 and a capture 32x23, or with all its squares if two captures
+have the same start and end. After the moves stand their number and how many pieces each takes.
+
+Examples:
+  echo W:WK46:B28 | dw moves
+  dw moves --problem 2 examples/problems.fen";
+
+const JUDGE_ABOUT: &str =
+    "Judges each problem: can the side to move force a win, and is the problem sound?";
+
+const JUDGE_EXAMPLES: &str = "\
+The side to move wins if the other has no legal move left. The verdict is one of these:
+  unsolvable  no first move wins in N moves
+  cooked      several first moves win in N moves, or fewer moves are enough
+  dual        one first move wins, and later there is a choice, be it of a king's last square;
+              the first such place is told
+  sound       one first move wins, and so does one move at each later turn
+After the verdict stands each try: a first move that does not win in N moves because of one
+reply alone.
+
+N counts up to the end, when the other side has no move left. To find it, ask for 1, 2, 3 and
+so on: with too great an N a sound problem is called cooked.
+
+Examples:
+  echo W:W27,45:B16 | dw judge -n 2
+  dw judge -n 2 examples/problems.fen
+
+The answer does not depend on --memo and --cache, only the time does. A run that reaches
+--positions ends with status 3, and what it wrote before is right.";
+
+const LIST_ABOUT: &str = "Lists every line of each problem's forced win, in order.";
+
+const LIST_EXAMPLES: &str = "\
+A line is a way in which each move of the side to move keeps a forced win in N moves and the
+other side plays anything legal, up to its last move: 1. 45-40 16-21 2. 27x16.
+After the lines stands `complete` with their number, or `more after` with a token: with
+--after the list goes on after that line.
+
+Examples:
+  echo W:W27,32,38:B18 | dw list -n 2
+  echo W:W27,32,38:B18 | dw list -n 2 --lines 2";
+
+/// The commands that `dw` knows, with their options and their help.
+///
+/// # Errors
+///
+/// Memory was refused.
+/// Example: `dw show a.fen` is one of them, and `dw solve` is none.
+pub fn command<'a>(alloc: Global) -> Result<Command<'a>, AllocError> {
+    let commands = subcommands(alloc)?;
+    Command::new(alloc, "dw")
+        .version(VERSION)
+        .about(ABOUT)
+        .after_help(EXAMPLES)
+        .subcommand_required(true)
+        .arg_required_else_help(true)
+        .subcommands(commands)
+}
+
+fn subcommands<'a>(alloc: Global) -> Result<Vec<Command<'a>>, AllocError> {
+    let mut commands = Vec::new(alloc);
+    for command in [
+        ReportCommand::Show,
+        ReportCommand::Moves,
+        ReportCommand::Judge,
+        ReportCommand::List,
+    ] {
+        commands.push(subcommand(alloc, command)?)?;
+    }
+    Ok(commands)
+}
+
+/// A command with its arguments: it reads problems, and may search for wins too, and list lines as well.
+fn subcommand<'a>(alloc: Global, command: ReportCommand) -> Result<Command<'a>, AllocError> {
+    match command {
+        ReportCommand::Show | ReportCommand::Moves => reader(alloc, command),
+        ReportCommand::Judge => searcher(alloc, command),
+        ReportCommand::List => lister(alloc),
+    }
+}
+
+/// A command that reads problems, with the arguments of every command.
+fn reader<'a>(alloc: Global, command: ReportCommand) -> Result<Command<'a>, AllocError> {
+    let arguments = reading(alloc)?;
+    let [name, about, examples] = texts(command);
+    Command::new(alloc, name)
+        .about(about)
+        .after_help(examples)
+        .args(arguments)
+}
+
+/// A command that searches for wins too.
+fn searcher<'a>(alloc: Global, command: ReportCommand) -> Result<Command<'a>, AllocError> {
+    let arguments = searching(alloc)?;
+    reader(alloc, command)?.args(arguments)
+}
+
+/// The command that lists lines as well.
+fn lister<'a>(alloc: Global) -> Result<Command<'a>, AllocError> {
+    let arguments = listing(alloc)?;
+    searcher(alloc, ReportCommand::List)?.args(arguments)
+}
+
+/// The name of a command, what it does, and how it is used.
+fn texts<'a>(command: ReportCommand) -> [&'a str; 3] {
+    match command {
+        ReportCommand::Show => ["show", SHOW_ABOUT, SHOW_EXAMPLES],
+        ReportCommand::Moves => ["moves", MOVES_ABOUT, MOVES_EXAMPLES],
+        ReportCommand::Judge => ["judge", JUDGE_ABOUT, JUDGE_EXAMPLES],
+        ReportCommand::List => ["list", LIST_ABOUT, LIST_EXAMPLES],
+    }
+}
+
+/// The arguments of every command.
+fn reading<'a>(alloc: Global) -> Result<Vec<Arg<'a>>, AllocError> {
+    Ok(vec![in alloc;
+        board(alloc),
+        pdn(alloc),
+        one_problem(alloc, PROBLEM_HELP),
+        file(alloc),
+    ]?)
+}
+
+/// The arguments of a command that searches for wins.
+fn searching<'a>(alloc: Global) -> Result<Vec<Arg<'a>>, AllocError> {
+    Ok(vec![in alloc;
+        within(alloc, WITHIN_HELP).required(true),
+        positions(alloc, "positions", POSITIONS_HELP),
+        memo(alloc, "lru"),
+        cache(alloc, CACHE_HELP),
+    ]?)
+}
+
+/// The arguments of the command that lists lines.
+fn listing<'a>(alloc: Global) -> Result<Vec<Arg<'a>>, AllocError> {
+    Ok(vec![in alloc; lines(alloc), after(alloc)]?)
+}
+
+fn lines<'a>(alloc: Global) -> Arg<'a> {
+    let numbers = value_parser!(u64).range(FEWEST_LINES as i64..=MOST_LINES as i64);
+    let help = "List at most K lines, 1 to 1000000000 [default: 1000000000]";
+    option(alloc, "lines", "K", numbers, help)
+}
+
+fn after<'a>(alloc: Global) -> Arg<'a> {
+    let help = "Begin after the line of this token, of problem 1 or that of --problem";
+    option(alloc, "after", "TOKEN", ValueParser::string(), help)
+}
+
+impl<'a> ReportArgs<'a> {
+    ghost use Rattle.clap.specs.Words.{subcommand_rows_of};
+    ghost use Rattle.clap.specs.declared.parser.matches.ArgMatches.{ArgMatches};
+    ghost use Rattle.std.specs.Prelude.{IfOk, Some};
+    ghost use Rattle.dw_arguments.specs.Commands.{problem_asked};
+    ghost use Rattle.dw_arguments.specs.ReportCommands.{IsAsked, IsAskedBy, Lists, Reads, Searches};
+
+    /// Reads the words of a command line, the program's name first.
+    ///
+    /// # Errors
+    ///
+    /// They are no command, they ask for help, or memory was refused.
+    /// Example: `dw show a.fen` asks for `ReportCommand::Show`, and `dw solve` is no command.
+    pub fn parse(alloc: Global, words: &'a [String]) -> Result<Self, CliError>
+        ensures { IfOk result (λ args. (matches : ArgMatches) × IsAsked (subcommand_rows_of matches) (Some args)) }
+    {
+        match command(alloc)?.try_get_matches_from(words) {
+            Ok(matches) => match ReportArgs::requested(&matches) {
+                Some(args) => Ok(args),
+                None => Err(CliError::Refused(NO_COMMAND)),
+            },
+            Err(error) => Err(CliError::of(alloc, &error)),
+        }
+    }
+
+    /// Tells what parsed arguments ask for.
+    /// Example: `dw show --problem 3 a.fen` asks for problem 3 alone, of the file `a.fen`.
+    pub fn requested(matches: &ArgMatches<'a>) -> Option<Self>
+        ensures { IsAsked (subcommand_rows_of matches.now) result }
+    {
+        match matches.subcommand() {
+            Some((name, matches)) => ReportArgs::asked_by(name, matches),
+            None => None,
+        }
+    }
+
+    /// What the command of this name asks for.
+    fn asked_by(name: &str, matches: &ArgMatches<'a>) -> Option<Self>
+        ensures { IsAskedBy name.now (options_of matches.now) result }
+    {
+        match name {
+            "show" => Some(ReportArgs::read_by(matches, ReportCommand::Show)),
+            "moves" => Some(ReportArgs::read_by(matches, ReportCommand::Moves)),
+            "judge" => Some(ReportArgs::searched_by(matches, ReportCommand::Judge)),
+            "list" => Some(ReportArgs::listed_by(matches)),
+            _ => None,
+        }
+    }
+
+    /// What a command that reads problems asks for. It searches nothing and lists no lines.
+    fn read_by(matches: &ArgMatches<'a>, command: ReportCommand) -> Self
+        ensures command { result.command ≡ command }
+        ensures only { result.only ≡ problem_asked (options_of matches.now) }
+        ensures reads { Reads (options_of matches.now) result }
+    {
+        ReportArgs {
+            command,
+            form: form_given(matches),
+            only: problem_given(matches),
+            board: BoardSize::named(text_given(matches, "board")),
+            n: FEWEST_MOVES,
+            positions: MOST_POSITIONS,
+            memo: MemoKind::None,
+            cache: FEWEST_KEPT,
+            lines: FEWEST_LINES,
+            after: None,
+            file: text_given(matches, "FILE"),
+        }
+    }
+
+    /// What a command that searches for wins asks for.
+    fn searched_by(matches: &ArgMatches<'a>, command: ReportCommand) -> Self
+        ensures command { result.command ≡ command }
+        ensures only { result.only ≡ problem_asked (options_of matches.now) }
+        ensures searches { Searches (options_of matches.now) result }
+    {
+        let read = ReportArgs::read_by(matches, command);
+        ReportArgs {
+            command,
+            form: read.form,
+            only: read.only,
+            board: read.board,
+            n: moves_given(matches, "n").unwrap_or(FEWEST_MOVES),
+            positions: positions_given(matches, "positions").unwrap_or(MOST_POSITIONS),
+            memo: MemoKind::named(text_given(matches, "memo")),
+            cache: kept_given(matches).unwrap_or(USUALLY_KEPT),
+            lines: read.lines,
+            after: read.after,
+            file: read.file,
+        }
+    }
+
+    /// What the command that lists lines asks for.
+    fn listed_by(matches: &ArgMatches<'a>) -> Self
+        ensures command { result.command ≡ ReportCommand.List }
+        ensures lists { Lists (options_of matches.now) result }
+    {
+        let asked = ReportArgs::searched_by(matches, ReportCommand::List);
+        ReportArgs {
+            command: asked.command,
+            form: asked.form,
+            only: problem_or_first(matches),
+            board: asked.board,
+            n: asked.n,
+            positions: asked.positions,
+            memo: asked.memo,
+            cache: asked.cache,
+            lines: count_given(matches, "lines", FEWEST_LINES, MOST_LINES).unwrap_or(MOST_LINES),
+            after: text_given(matches, "after"),
+            file: asked.file,
+        }
+    }
+}
+
+/// The problem whose lines are listed: a token without the number of a problem is one of the first problem.
+fn problem_or_first(matches: &ArgMatches<'_>) -> Option<u32>
+    ensures value { result ≡ option_or (number_given 1 1_000_000 (options_of matches.now) (codes "problem"))
+        (option_map (λ token. 1) (text_given (options_of matches.now) (codes "after"))) }
+    ensures some { IfSome result (λ number. 1 ≤ number) }
+    ensures few { IfSome result (λ number. number ≤ 1_000_000) }
+{
+    match (problem_given(matches), text_given(matches, "after")) {
+        (None, Some(_)) => Some(FIRST_PROBLEM),
+        (asked, _) => asked,
+    }
+}

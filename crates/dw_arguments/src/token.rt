@@ -1,0 +1,38 @@
+//! The arguments of the command `token`.
+use crate::options::{board, file, one_problem, option, pdn};
+use clap::builder::ValueParser;
+use clap::{Arg, Command};
+use std::alloc::{AllocError, Global};
+
+const ABOUT: &str =
+    "Writes the token of a line, with which `dw list --after` goes on behind that line.";
+
+const EXAMPLES: &str = "\
+So a list that was cut off goes on behind its last whole line.
+
+Examples:
+  echo W:W27,32,38:B18 | dw-desk token --line '1. 32-28 18-22 2. 27x18'
+  dw-desk token --problem 3 --line '1. 32-28 18-22 2. 27x18' examples/problems.fen";
+
+/// The command with its arguments.
+pub(crate) fn token_command<'a>(alloc: Global) -> Result<Command<'a>, AllocError> {
+    let arguments = vec![in alloc;
+        board(alloc),
+        pdn(alloc),
+        one_problem(
+            alloc,
+            "The line is one of the problem I, 1 to 1000000 [default: 1]"
+        ),
+        line(alloc),
+        file(alloc),
+    ]?;
+    Command::new(alloc, "token")
+        .about(ABOUT)
+        .after_help(EXAMPLES)
+        .args(arguments)
+}
+
+fn line<'a>(alloc: Global) -> Arg<'a> {
+    let help = "The line: moves without variations, the last one the attacker's";
+    option(alloc, "line", "TEXT", ValueParser::string(), help).required(true)
+}

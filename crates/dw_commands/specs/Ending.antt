@@ -1,0 +1,74 @@
+-- How a program ends: the table of its exit statuses.
+use Rattle.std.specs.Prelude.{◌≡◌, ◌⊎◌, ℕ, ◌==◌, nat_lt, if◌then◌else◌, Bool, true, false, List, Option, Some, None}
+use Rattle.std.specs.Prelude.{Result, Ok, Err}
+use Rattle.std.specs.Borrow.{Bor}
+use Rattle.std.specs.Io.KnownBytes.{Appends}
+use Rattle.std.specs.String.{string_bytes}
+use Rattle.dw_arguments.specs.declared.error.CliError.{CliError}
+use Rattle.dw_arguments.specs.declared.error.CliError.TheVariants as words
+use Rattle.dw_report.specs.declared.settings.Summary.{Summary}
+use Rattle.dw_report.specs.declared.settings.RunFault.{RunFault}
+use Rattle.dw_report.specs.declared.settings.RunFault.TheVariants.{Stopped, Write}
+use Rattle.dw_solve.specs.declared.stop.Stop.TheVariants.{Memory}
+use Rattle.dw_commands.specs.declared.ending.Ending.{Ending}
+use Rattle.dw_commands.specs.declared.ending.Ending.TheVariants as end
+use Rattle.dw_commands.specs.declared.ending.Exit.{Exit}
+
+-- memory was refused before the run
+abbrev pub no_memory : {T : Type 0} → Ending T
+no_memory = end.Failed (Stopped Memory 0)
+
+-- standard output failed
+abbrev pub write_failed : {T : Type 0} → Ending T
+write_failed = end.Failed Write
+
+-- if the problem that was asked for was not shown, there is none
+abbrev pub asked_of : {T : Type 0} → ℕ → Option ℕ → Ending T
+asked_of shown None = end.Done
+asked_of shown (Some number) = if shown == 0 then end.NoProblem number else end.Done
+
+-- something was refused, or the problem asked for is not there, or all was done
+abbrev pub done_of : {T : Type 0} → Summary → Option ℕ → Ending T
+done_of summary only = if nat_lt 0 summary.refused then end.Refused else asked_of summary.shown only
+
+-- the ending after a run, of which one problem may have been asked for
+abbrev pub ending_of : {T : Type 0} → Result Summary RunFault → Option ℕ → Ending T
+ending_of (Err fault) only = end.Failed fault
+ending_of (Ok summary) only = done_of summary only
+
+-- no line is written
+abbrev pub quiet : ℕ → Exit
+quiet status = record { status = status; is_told = false }
+
+-- the line of the ending is written
+abbrev pub told : ℕ → Exit
+told status = record { status = status; is_told = true }
+
+-- 0: all was done; 1: something was refused, is undecided or is not there; 2: the words are no command; 3: the program
+-- was stopped, the memo was too small, or a file could not be opened, read or written. All endings have a line but the
+-- first and a refusal that the output says.
+abbrev pub outcome_of : {T : Type 0} → Ending T → Exit
+outcome_of end.Done = quiet 0
+outcome_of end.Refused = quiet 1
+outcome_of (end.NoProblem number) = told 1
+outcome_of (end.TokenRefused fault) = told 1
+outcome_of (end.ProblemRefused fault) = told 1
+outcome_of (end.LineRefused number name place) = told 1
+outcome_of (end.NoCommand text) = told 2
+outcome_of end.TooManyPositions = told 3
+outcome_of (end.NotOpened file) = told 3
+outcome_of (end.Failed fault) = told 3
+
+-- the words are no command, for a reason that is told
+abbrev pub SaysWhy : List ℕ → Ending (Bor (List ℕ)) → Type 0
+SaysWhy why (end.NoCommand text) = text.now ≡ why
+SaysWhy why ending = ⊥
+
+-- The ending if words are not obeyed. The help that was asked for is written, unless the sink fails; of other words
+-- nothing is written.
+abbrev pub EndsUnread : (before after : Option (List ℕ)) → (failed : Bool) → CliError → Ending (Bor (List ℕ)) → Type 0
+EndsUnread before after failed (words.Help text) ending =
+    ((ending ≡ end.Done) × Appends before after (string_bytes text)) ⊎ ((ending ≡ write_failed) × (failed ≡ true))
+EndsUnread before after failed (words.NoCommand text) ending = SaysWhy (string_bytes text) ending × (after ≡ before)
+EndsUnread before after failed (words.Refused text) ending = SaysWhy text.now ending × (after ≡ before)
+EndsUnread before after failed words.Memory ending = (ending ≡ no_memory) × (after ≡ before)

@@ -1,5 +1,0 @@
--- What only relates the code to the definitions: no contract of a public call names it, but for what is sealed.
-pub mod Choosing
-pub mod Searching
-pub mod Rows
-pub mod Tallies

@@ -1,0 +1,88 @@
+-- Remarks that the code holds, and what they say, place by place.
+use Rattle.std.proofs.Common.{◌≡◌, ℕ, zero, suc, ◌+◌, ◌<◌, ◌≤◌, List, [], ◌∷◌, ◌++◌, length, map, take, get_or}
+use Rattle.std.proofs.Common.{Option, Some}
+use Rattle.std.proofs.Common.{Bool, true, false, cond, refl, sym, ap, ◌∙◌, subst, inl, inr, add-zero, arith, take_all}
+use Rattle.std.specs.List.{count_by}
+use Rattle.std.proofs.lemmas.List.Sums.{sum_by_push}
+use Rattle.std.proofs.lemmas.List.{length-map}
+use Rattle.dw_board.specs.Lists.{Member}
+use Rattle.dw_study.specs.Remarks.{Remark, fails, also, leaves_open, ends}
+use Rattle.dw_games.specs.declared.fault.MovetextFaultKind.{MovetextFaultKind}
+use Rattle.dw_desk_commands.specs.Checking.{Counted, counted, is_fail, is_end, is_open, is_also, refused_line}
+use Rattle.dw_desk_commands.specs.inner.Tallies.{one_more}
+
+-- what the item at a place says: one thing, which comes next
+pub record Says {A R : Type 0} (f : A → Option R) (said : List R) (i : ℕ) (x : A) : Type 0 where
+  pub this : R
+  pub says : f x ≡ Some this
+  pub among : Member this said
+  pub next : take (i + 1) said ≡ take i said ++ this ∷ []
+
+some_same : {R : Type 0} (r s : R) → Some r ≡ Some s → r ≡ s
+some_same r s e = cc
+
+head_same : {X : Type 0} (x y : X) (xs ys : List X) → x ∷ xs ≡ y ∷ ys → x ≡ y
+head_same x y xs ys e = cc
+
+tail_same : {X : Type 0} (x y : X) (xs ys : List X) → x ∷ xs ≡ y ∷ ys → xs ≡ ys
+tail_same x y xs ys e = cc
+
+pub says_at : {A R : Type 0} (f : A → Option R) (items : List A) (said : List R) (i : ℕ) (x : A)
+    → map f items ≡ map (λ r. Some r) said → i < length items → x ≡ get_or items i x → Says f said i x
+says_at f [] said i x e low is = absurd (omega arith)
+says_at f (a ∷ items) [] i x e low is = cc
+says_at f (a ∷ items) (r ∷ said) zero x e low is = record {
+  this = r;
+  says = ap f is ∙ head_same (f a) (Some r) (map f items) (map (λ r. Some r) said) e;
+  among = inl refl;
+  next = refl;
+}
+says_at f (a ∷ items) (r ∷ said) (suc i) x e low is =
+    let h = says_at f items said i x (tail_same (f a) (Some r) (map f items) (map (λ r. Some r) said) e)
+    (omega (arith, low)) is in
+    let step : suc (i + 1) ≡ suc i + 1 = omega arith in
+    record {
+      this = h.this;
+      says = h.says;
+      among = inr h.among;
+      next = subst (λ z. take z (r ∷ said) ≡ r ∷ (take i said ++ h.this ∷ [])) step (ap (λ z. r ∷ z) h.next);
+    }
+
+-- at the end all is said
+pub all_said : {A R : Type 0} (f : A → Option R) (items : List A) (said : List R) (i : ℕ)
+    → map f items ≡ map (λ r. Some r) said → length items ≤ i → take i said ≡ said
+all_said f items said i e past =
+    let many : length items ≡ length said = sym (length-map items f) ∙ (ap length e ∙ length-map said (λ r. Some r)) in
+    take_all i said (omega (arith, many, past))
+
+abbrev numbers : (a b c d : ℕ) → Counted
+numbers a b c d = record { that_fail = a; that_end = b; left_open = c; left_out = d }
+
+same_numbers : (a b c d e f h i : ℕ) → a ≡ e → b ≡ f → c ≡ h → d ≡ i → numbers a b c d ≡ numbers e f h i
+same_numbers a b c d e f h i first second third fourth = rw (first, second, third, fourth) refl
+
+yes : (p : Remark → Bool) (remarks : List Remark) (r : Remark) → p r ≡ true
+    → count_by p (remarks ++ r ∷ []) ≡ count_by p remarks + 1
+yes p remarks r is = sum_by_push (λ x. cond (p x) 1 0) remarks r ∙ ap (λ z. count_by p remarks + cond z 1 0) is
+
+no : (p : Remark → Bool) (remarks : List Remark) (r : Remark) → p r ≡ false
+    → count_by p (remarks ++ r ∷ []) ≡ count_by p remarks
+no p remarks r is = sum_by_push (λ x. cond (p x) 1 0) remarks r
+    ∙ (ap (λ z. count_by p remarks + cond z 1 0) is ∙ add-zero (count_by p remarks))
+
+-- one remark more is counted
+pub counted_next : (remarks : List Remark) (r : Remark) → counted (remarks ++ r ∷ []) ≡ one_more r (counted remarks)
+counted_next remarks (fails b m reply) = let r = fails b m reply in same_numbers _ _ _ _ _ _ _ _
+    (yes is_fail remarks r refl) (no is_end remarks r refl) (no is_open remarks r refl) (no is_also remarks r refl)
+counted_next remarks (ends b) = let r = ends b in same_numbers _ _ _ _ _ _ _ _
+    (no is_fail remarks r refl) (yes is_end remarks r refl) (no is_open remarks r refl) (no is_also remarks r refl)
+counted_next remarks (leaves_open b replies) = let r = leaves_open b replies in same_numbers _ _ _ _ _ _ _ _
+    (no is_fail remarks r refl) (no is_end remarks r refl) (yes is_open remarks r refl) (no is_also remarks r refl)
+counted_next remarks (also b keys) = let r = also b keys in same_numbers _ _ _ _ _ _ _ _
+    (no is_fail remarks r refl) (no is_end remarks r refl) (no is_open remarks r refl) (yes is_also remarks r refl)
+
+-- a refusal by an equal fault at an equal place
+pub refused_same : {given what : MovetextFaultKind} {there place : ℕ} (text : List ℕ) → given ≡ what → there ≡ place
+    → text ≡ refused_line given there → text ≡ refused_line what place
+refused_same {given} {what} {there} {place} text fault at line =
+    line ∙ (ap (λ z. refused_line z there) fault ∙ ap (refused_line what) at)

@@ -1,0 +1,198 @@
+-- The parts of a page.
+use Rattle.std.proofs.Common.{◌≡◌, ◌++◌, ◌∷◌, ◌∙◌, ◌+◌, ◌<◌, ◌≤◌, ap, refl, sym, subst, arith, ℕ, Bool, List, [], Bor}
+use Rattle.std.proofs.Common.{Option, Some, None, MatchOption, cond, flat_map, map, length, option_map, append-nil}
+use Rattle.std.proofs.Common.{Result, Ok, Err, IfOk, append_assoc, length-append, ◌⊎◌, inl, inr, true, false}
+use Rattle.std.specs.Io.KnownBytes.{Appends}
+use Rattle.std.specs.List.{All, cons_option, count_by, filter_map, join_by}
+use Rattle.std.specs.Prelude.{codes}
+use Rattle.std.proofs.KnownBytes.{Appends-trans}
+use Rattle.std.proofs.lemmas.Grind.{flat_map-append}
+use Rattle.std.proofs.lemmas.List.{map-append, length-map}
+use Rattle.std.proofs.lemmas.List.Elements.{All-push}
+use Rattle.std.proofs.lemmas.List.Sums.{count_by-le-length, sum_by_push}
+use Rattle.dw_board.specs.Geometry.{Geometry}
+use Rattle.dw_desk_commands.specs.inner.Choosing.{HandsOut}
+use Rattle.dw_arguments.specs.declared.portion.Portion.{Portion}
+use Rattle.dw_desk_commands.specs.Paging.{IsPage, IsPageOf, IsPart, IsShownIn, Shown, first_of, heading_of, language_for}
+use Rattle.dw_desk_commands.specs.Paging.{source, value}
+use Rattle.dw_desk_commands.specs.declared.desk.Counts.{Counts}
+use Rattle.dw_arguments.specs.declared.page.PageArgs.{PageArgs}
+use Rattle.dw_games.specs.Games.{NumberedGame}
+use Rattle.dw_games.specs.TagRows.{said_by, tag_text}
+use Rattle.dw_games.specs.declared.tags.Tag.{Tag as ReadTag}
+use Rattle.dw_notation.specs.Tags.{Tag, values_named}
+use Rattle.dw_notation.specs.declared.problems.TheConstants.{MAX_PROBLEMS}
+use Rattle.dw_page.specs.Pages.{end, head}
+
+-- texts that things give, joined
+flat_map-map : {X : Type 0} (f : X → List ℕ) (sep : List ℕ) (xs : List X)
+    → flat_map (λ x. sep ++ f x) xs ≡ flat_map (λ t. sep ++ t) (map f xs)
+flat_map-map f sep [] = refl
+flat_map-map f sep (x ∷ xs) = ap (λ t. (sep ++ f x) ++ t) (flat_map-map f sep xs)
+
+pub join_texts : {X : Type 0} (f : X → List ℕ) (sep : List ℕ) (xs : List X)
+    → join_by f sep xs ≡ join_by (λ t. t) sep (map f xs)
+join_texts f sep [] = refl
+join_texts f sep (x ∷ xs) = ap (λ t. f x ++ t) (flat_map-map f sep xs)
+
+-- what follows from an answer
+pub if_ok_map : {T E : Type 0} (r : Result T E) (P Q : T → Type 0) → ((x : T) → P x → Q x) → IfOk r P → IfOk r Q
+if_ok_map (Ok x) P Q f h = f x h
+if_ok_map (Err e) P Q f h = h
+
+-- what was found under a name
+pub value_is : (name : List ℕ) (tags : List Tag) (found : Option (Bor (List ℕ)))
+    → MatchOption found (values_named name tags ≡ [])
+    (λ v. (others : List (List ℕ)) × (values_named name tags ≡ v.now ∷ others))
+    → option_map (λ v. v.now) found ≡ value name tags
+value_is name tags None h = sym (ap first_of h)
+value_is name tags (Some v) h = sym (ap first_of h.1)
+
+pub source_is : (tags : List Tag) (event site date : Option (Bor (List ℕ)))
+    → option_map (λ v. v.now) event ≡ value (codes "Event") tags
+    → option_map (λ v. v.now) site ≡ value (codes "Site") tags
+    → option_map (λ v. v.now) date ≡ value (codes "Date") tags
+    → filter_map (option_map (λ v. v.now)) (event ∷ site ∷ date ∷ []) ≡ source tags
+source_is tags event site date one two three =
+    ap (λ o. cons_option o (cons_option (option_map (λ v. v.now) site)
+    (cons_option (option_map (λ v. v.now) date) []))) one
+    ∙ (ap (λ o. cons_option (value (codes "Event") tags) (cons_option o
+    (cons_option (option_map (λ v. v.now) date) []))) two
+    ∙ ap (λ o. cons_option (value (codes "Event") tags) (cons_option (value (codes "Site") tags) (cons_option o [])))
+    three)
+
+pub said_map : (read : List ReadTag) → said_by read ≡ map (λ t. t.tag) (map tag_text read)
+said_map [] = refl
+said_map (t ∷ read) = ap (λ z. (tag_text t).tag ∷ z) (said_map read)
+
+-- what is written of the games that were handed out, and what is to come later
+pub record SoFar (g : Geometry) (asked : PageArgs) (Old New : List NumberedGame → Type 0) (counts : Counts)
+    (before after : Option (List ℕ)) (later : List ℕ) : Type 0 where
+  pub shown : List Shown
+  pub handed : (more : List NumberedGame) → New more → Old (map (λ s. s.game) shown ++ more)
+  pub each : All (IsShownIn g asked) shown
+  pub number : length shown ≤ MAX_PROBLEMS + 1 → counts.shown ≡ length shown
+  pub refused : length shown ≤ MAX_PROBLEMS + 1 → counts.refused ≡ count_by (λ s. s.is_refused) shown
+  pub wrote : Appends before after
+      (head g (language_for asked.language) asked.title.now ++ flat_map (λ s. s.part) shown)
+  pub kept : later ≡ heading_of asked.solutions (language_for asked.language) ++ flat_map (λ s. s.later) shown
+
+pub none_yet : (g : Geometry) (asked : PageArgs) (Old : List NumberedGame → Type 0) (counts : Counts)
+    (before after : Option (List ℕ)) (later : List ℕ) → counts.shown ≡ 0 → counts.refused ≡ 0
+    → Appends before after (head g (language_for asked.language) asked.title.now)
+    → later ≡ heading_of asked.solutions (language_for asked.language) → SoFar g asked Old Old counts before after later
+none_yet g asked Old counts before after later shown refused wrote kept = record {
+  shown = [];
+  handed = λ more these. these;
+  each = λ k d lt. absurd (omega (arith, lt));
+  number = λ few. shown;
+  refused = λ few. refused;
+  wrote = subst (Appends before after) (sym (append-nil (head g (language_for asked.language) asked.title.now))) wrote;
+  kept = kept ∙ sym (append-nil (heading_of asked.solutions (language_for asked.language)));
+}
+
+-- the counts with one game more
+counted_one : (xs : List Shown) (this : Shown) (counts counted : Counts)
+    → (length xs ≤ MAX_PROBLEMS + 1 → counts.shown ≡ length xs)
+    → (length xs ≤ MAX_PROBLEMS + 1 → counts.refused ≡ count_by (λ s. s.is_refused) xs)
+    → (counts.shown < 4294967295 → counts.refused < 4294967295
+    → counted ≡ record { shown = counts.shown + 1; refused = counts.refused + cond this.is_refused 1 0 })
+    → length (xs ++ this ∷ []) ≤ MAX_PROBLEMS + 1
+    → (counted.shown ≡ length (xs ++ this ∷ [])) × (counted.refused ≡ count_by (λ s. s.is_refused) (xs ++ this ∷ []))
+counted_one xs this counts counted number bad_number with few =
+    let more = length-append xs (this ∷ []) in
+    let room : length xs ≤ MAX_PROBLEMS = omega (arith, few, more) in
+    let shown = number (omega (arith, room)) in
+    let refused = bad_number (omega (arith, room)) in
+    let bad = count_by-le-length (λ s. s.is_refused) xs in
+    let is = with (omega (arith, room, shown)) (omega (arith, room, refused, bad)) in (
+      ap (λ c. c.shown) is ∙ (ap (λ n. n + 1) shown ∙ sym more),
+      ap (λ c. c.refused) is ∙ (ap (λ n. n + cond this.is_refused 1 0) refused
+          ∙ sym (sum_by_push (λ s. cond s.is_refused 1 0) xs this)),
+    )
+
+-- one more text
+flat_push : {X : Type 0} (f : X → List ℕ) (front : List ℕ) (xs : List X) (y : X)
+    → (front ++ flat_map f xs) ++ f y ≡ front ++ flat_map f (xs ++ y ∷ [])
+flat_push f front xs y =
+    append_assoc front (flat_map f xs) (f y)
+    ∙ ap (λ t. front ++ t) (sym (flat_map-append f xs (y ∷ []) ∙ ap (λ t. flat_map f xs ++ t) (append-nil (f y))))
+
+-- one more is written
+pub then_one : (g : Geometry) (asked : PageArgs) (Old Mid New : List NumberedGame → Type 0) (counts counted : Counts)
+    (before after written : Option (List ℕ)) (later kept : List ℕ) (game : NumberedGame) (is_refused : Bool)
+    → SoFar g asked Old Mid counts before after later → HandsOut Mid New (Some game)
+    → ((part new : List ℕ) × IsPart g asked game.number game.said.found game.said.tags is_refused part new
+    × (kept ≡ later ++ new) × Appends after written part)
+    → (counts.shown < 4294967295 → counts.refused < 4294967295
+    → counted ≡ record { shown = counts.shown + 1; refused = counts.refused + cond is_refused 1 0 })
+    → SoFar g asked Old New counted before written kept
+then_one g asked Old Mid New counts counted before after written later kept game is_refused so_far handed one with =
+    let xs = so_far.shown in
+    let this : Shown = record { game = game; is_refused = is_refused; part = one.0; later = one.1 } in
+    let counts_one = counted_one xs this counts counted so_far.number so_far.refused with in
+    let front = head g (language_for asked.language) asked.title.now in
+    let heading = heading_of asked.solutions (language_for asked.language) in
+    record {
+      shown = xs ++ this ∷ [];
+      handed = λ more these. subst Old
+          (sym (ap (λ t. t ++ more) (map-append (λ s. s.game) xs (this ∷ []))
+          ∙ append_assoc (map (λ s. s.game) xs) (game ∷ []) more))
+          (so_far.handed (game ∷ more) (handed more these));
+      each = All-push (IsShownIn g asked) xs this so_far.each one.2;
+      number = λ few. (counts_one few).0;
+      refused = λ few. (counts_one few).1;
+      wrote = subst (Appends before written) (flat_push (λ s. s.part) front xs this)
+          (Appends-trans before after written (front ++ flat_map (λ s. s.part) xs) one.0 so_far.wrote one.4);
+      kept = one.3 ∙ (ap (λ t. t ++ one.1) so_far.kept ∙ flat_push (λ s. s.later) heading xs this);
+    }
+
+-- no more comes, and the page ends
+pub all_written : (g : Geometry) (asked : PageArgs) (Old Mid : List NumberedGame → Type 0) (counts : Counts)
+    (before after ended : Option (List ℕ)) (later : List ℕ) → SoFar g asked Old Mid counts before after later
+    → HandsOut Mid Mid None → Appends after ended (later ++ end)
+    → (games : List NumberedGame) × (text : List ℕ) × Old games × IsPage g asked games counts text
+    × Appends before ended text
+all_written g asked Old Mid counts before after ended later so_far none wrote =
+    let xs = so_far.shown in
+    let front = head g (language_for asked.language) asked.title.now in
+    let heading = heading_of asked.solutions (language_for asked.language) in
+    let parts = flat_map (λ s. s.part) xs in
+    let laters = flat_map (λ s. s.later) xs in (
+      map (λ s. s.game) xs,
+      front ++ (parts ++ (heading ++ (laters ++ end))),
+      subst Old (append-nil (map (λ s. s.game) xs)) (so_far.handed [] none),
+      record {
+        games_shown = xs;
+        are = refl;
+        each = so_far.each;
+        shown = so_far.number;
+        refused = so_far.refused;
+        is = refl;
+      },
+      subst (Appends before ended)
+          (ap (λ t. (front ++ parts) ++ (t ++ end)) so_far.kept
+          ∙ (ap (λ t. (front ++ parts) ++ t) (append_assoc heading laters end)
+          ∙ append_assoc front parts (heading ++ (laters ++ end))))
+          (Appends-trans before after ended (front ++ parts) (later ++ end) so_far.wrote wrote),
+    )
+
+-- a page of which games are counted has some
+pub not_empty : (g : Geometry) (asked : PageArgs) (games : List NumberedGame) (counts : Counts) (text : List ℕ)
+    → IsPage g asked games counts text → 1 ≤ counts.shown → games ≡ [] → ⊥
+not_empty g asked games counts text page some none =
+    let shown = page.games_shown in
+    let no_length : length shown ≡ 0 =
+    sym (length-map shown (λ s. s.game)) ∙ (ap length (sym page.are) ∙ ap length none) in
+    let count = page.shown (omega (arith, no_length)) in
+    omega (arith, some, count, no_length)
+
+-- a page of no games
+pub page_of_none : (g : Geometry) (asked : PageArgs) (portion : Portion) (is_asked : Bool) (counts : Counts)
+    (text : List ℕ) → is_asked ≡ portion.is_asked
+    → ((IsPage g asked [] counts text × (is_asked ≡ false))
+    ⊎ ((is_asked ≡ true) × (counts.shown ≡ 0) × (counts.refused ≡ 0) × (text ≡ [])))
+    → IsPageOf g asked portion [] counts text
+page_of_none g asked portion is_asked counts text same (inl page) = inl (page.0, λ none. sym same ∙ page.1)
+page_of_none g asked portion is_asked counts text same (inr none) =
+    inr (refl, sym same ∙ none.0, none.1, none.2, none.3)

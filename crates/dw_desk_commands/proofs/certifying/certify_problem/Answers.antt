@@ -1,0 +1,47 @@
+use Rattle.std.proofs.Common.{Option, Some, None, List, [], ◌∙◌, ap, refl, subst}
+use Rattle.std.specs.Prelude.{ℕ, option_map}
+use Rattle.std.specs.Io.KnownBytes.{Appends}
+use Rattle.std.proofs.KnownBytes.{Appends-nil}
+use Rattle.dw_commands.specs.declared.ending.Ending.TheVariants.{NoProblem}
+use Rattle.dw_desk_commands.specs.inner.NextGame.{IsNext, as_list}
+use Rattle.dw_desk_commands.specs.ProblemText.{IsReportOnOne}
+use Rattle.dw_desk_commands.proofs.ChosenLemmas.{is_next}
+use Rattle.dw_desk_commands.proofs.ProblemLemmas.{ok_so}
+use Rattle.dw_games.specs.GameReading.{numbered_game}
+use Rattle.dw_games.specs.Games.{NumberedGame, problem_of}
+use Rattle.dw_desk_commands.specs.Certifying.{IsCertifyOf}
+use Rattle.dw_desk_commands.proofs.certifying.certify_problem.Goals as goal
+
+pub returns-in-None : goal.returns-in-None
+returns-in-None g c =
+    let geo = g.B.Board.geometry in
+    let source = g.S.Source in (
+      None,
+      [],
+      subst (λ z. IsNext geo source.coming source.has_ended c.args.chosen.now c.next.new.self
+          (option_map numbered_game z)) c.in-None.is
+          (is_next geo source.coming source.has_ended c.args.chosen.now c.next.new.self c.in_ok-game.field-0
+          c.in_ok-game.ensures.given c.in_ok-game.ensures.more),
+      (ap NoProblem (c.first.ensures ∙ ap (λ z. z.first) c.in_ok-game.ensures.portion), refl),
+      Appends-nil (g.K.Sink.taken c.args.sink.now),
+    )
+
+pub returns-in-Some : goal.returns-in-Some
+returns-in-Some g c =
+    let geo = g.B.Board.geometry in
+    let source = g.S.Source in
+    let before = g.K.Sink.taken c.args.sink.now in
+    let after = g.K.Sink.taken c.write_certificate.new.sink in
+    let game = numbered_game c.in-Some.game in
+    let One = λ (game : NumberedGame). IsCertifyOf geo c.args.asked.now.n (problem_of game) in
+    let next : IsNext geo source.coming source.has_ended c.args.chosen.now c.next.new.self (Some game) =
+    subst (λ z. IsNext geo source.coming source.has_ended c.args.chosen.now c.next.new.self
+    (option_map numbered_game z)) c.in-Some.is
+    (is_next geo source.coming source.has_ended c.args.chosen.now c.next.new.self c.in_ok-game.field-0
+    c.in_ok-game.ensures.given c.in_ok-game.ensures.more) in
+    ok_so (λ ending. (text : List ℕ) × One game ending text × Appends before after text)
+    (λ ending. (next : Option NumberedGame) × (text : List ℕ)
+    × IsNext geo source.coming source.has_ended c.args.chosen.now c.next.new.self next
+    × IsReportOnOne One c.args.chosen.now.portion.first (as_list next) ending text × Appends before after text)
+    c.write_certificate.result
+    (λ ending told. (Some game, told.0, next, told.1, told.2)) c.write_certificate.ensures

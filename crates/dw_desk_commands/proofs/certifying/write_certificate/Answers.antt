@@ -1,0 +1,37 @@
+use Rattle.std.proofs.Common.{[], refl, sym, subst}
+use Rattle.std.proofs.KnownBytes.{Appends-nil}
+use Rattle.dw_desk_commands.specs.Certifying.{Certifies}
+use Rattle.dw_desk_commands.specs.ProblemText.{IsDoneWith}
+use Rattle.dw_commands.specs.declared.ending.Ending.TheVariants.{TooManyPositions, Failed}
+use Rattle.dw_notation.specs.Problems.{numbered}
+use Rattle.dw_report.specs.Report.{first_line}
+use Rattle.dw_report.specs.declared.settings.RunFault.TheVariants.{Stopped}
+use Rattle.dw_solve.specs.declared.stop.Stop.TheVariants.{Memory}
+use Rattle.dw_desk_commands.proofs.certifying.write_certificate.Goals as goal
+
+pub returns-then-dropped-gt0 : goal.returns-then-dropped-gt0
+returns-then-dropped-gt0 g c =
+    let geo = g.B.Board.geometry in (
+      [],
+      subst (λ z. IsDoneWith (Certifies geo c.args.asked.now.n) (first_line geo (numbered c.args.problem.now)) z
+          TooManyPositions []) (sym c.in-Ok.is) refl,
+      Appends-nil (g.K.Sink.taken c.args.sink.now),
+    )
+
+pub returns-in-Err-Missing : goal.returns-in-Err-Missing
+returns-in-Err-Missing g c =
+    let geo = g.B.Board.geometry in (
+      [],
+      subst (λ z. IsDoneWith (Certifies geo c.args.asked.now.n) (first_line geo (numbered c.args.problem.now)) z
+          TooManyPositions []) (sym c.in-Ok.is) refl,
+      Appends-nil (g.K.Sink.taken c.args.sink.now),
+    )
+
+pub returns-in-Err-Memory : goal.returns-in-Err-Memory
+returns-in-Err-Memory g c =
+    let geo = g.B.Board.geometry in (
+      [],
+      subst (λ z. IsDoneWith (Certifies geo c.args.asked.now.n) (first_line geo (numbered c.args.problem.now)) z
+          (Failed (Stopped Memory c.expanded-expanded.result)) []) (sym c.in-Ok.is) refl,
+      Appends-nil (g.K.Sink.taken c.args.sink.now),
+    )

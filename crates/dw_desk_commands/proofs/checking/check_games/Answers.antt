@@ -1,0 +1,49 @@
+use Rattle.std.proofs.Common.{subst}
+use Rattle.std.specs.Prelude.{option_map}
+use Rattle.dw_games.specs.GameReading.{numbered_game}
+use Rattle.dw_desk_commands.specs.inner.Choosing.{HandsOut}
+use Rattle.dw_desk_commands.specs.Checking.{IsCheckOf}
+use Rattle.dw_desk_commands.specs.inner.Choosing.{AreToCome}
+use Rattle.dw_desk_commands.proofs.ReportLemmas.{all_written, none_yet, then_one}
+use Rattle.dw_desk_commands.proofs.checking.check_games.Goals as goal
+
+pub games-init : goal.games-init
+games-init g c =
+    let geo = g.B.Board.geometry in
+    let source = g.S.Source in
+    let One = IsCheckOf geo c.args.n in
+    record {
+      so_far = none_yet One (AreToCome geo source.coming source.has_ended c.args.chosen.now) c.default-counts.result
+          (g.K.Sink.taken c.args.sink.now) c.default-counts.ensures.0 c.default-counts.ensures.1;
+      works = c.requires;
+    }
+
+pub games-preserved : goal.games-preserved
+games-preserved g c =
+    let geo = g.B.Board.geometry in
+    let source = g.S.Source in
+    let taken = g.K.Sink.taken in
+    let One = IsCheckOf geo c.args.n in
+    let Old = AreToCome geo source.coming source.has_ended c.args.chosen.now in
+    let Mid = AreToCome geo source.coming source.has_ended c.games.chosen in
+    let New = AreToCome geo source.coming source.has_ended c.next.new.self in
+    record {
+      so_far = then_one One Old Mid New c.games.counts c.with-counts.result (taken c.args.sink.now)
+          (taken c.games.sink) (taken c.report.new.sink) (numbered_game c.in-Some.game)
+          c.in_ok-report.field-0 c.games.invariant.so_far
+          (subst (λ z. HandsOut Mid New (option_map numbered_game z)) c.in-Some.is c.in_ok-game.ensures.given)
+          c.in_ok-report.ensures.text c.with-counts.ensures.more;
+      works = c.in_ok-report.ensures.works;
+    }
+
+pub returns : goal.returns
+returns g c =
+    let geo = g.B.Board.geometry in
+    let source = g.S.Source in
+    let taken = g.K.Sink.taken in
+    let One = IsCheckOf geo c.args.n in
+    let Old = AreToCome geo source.coming source.has_ended c.args.chosen.now in
+    let Mid = AreToCome geo source.coming source.has_ended c.games.chosen in
+    let New = AreToCome geo source.coming source.has_ended c.next.new.self in
+    all_written One Old Mid c.games.counts (taken c.args.sink.now) (taken c.games.sink) c.games.invariant.so_far
+    (subst (λ z. HandsOut Mid New (option_map numbered_game z)) c.in_default.is c.in_ok-game.ensures.given)

@@ -1,0 +1,21 @@
+use Rattle.std.proofs.Common.{◌≡◌, false}
+use Rattle.dw_desk_commands.specs.Finding.{IsFindOf}
+use Rattle.dw_games.specs.Games.{problem_of}
+use Rattle.dw_desk_commands.specs.inner.Choosing.{AreToCome}
+use Rattle.dw_desk_commands.proofs.ReportLemmas.{SoFar}
+use Rattle.dw_desk_commands.proofs.finding.find_problems.Given as goal
+
+abbrev pub invariant-games : goal.invariant-games
+invariant-games g l =
+    let geo = g.B.Board.geometry in
+    let source = g.S.Source in
+    record {
+      so_far : SoFar (λ game. IsFindOf geo l.asked.json l.asked.most l.asked.each (problem_of game))
+          (AreToCome geo source.coming source.has_ended l.initial.chosen)
+          (AreToCome geo source.coming source.has_ended l.chosen) l.counts
+          (g.K.Sink.taken l.initial.sink) (g.K.Sink.taken l.sink);
+      works : g.K.Sink.is_failed l.sink ≡ false;
+    }
+
+abbrev pub decreases-games : goal.decreases-games
+decreases-games g l = l.chosen.left

@@ -1,0 +1,37 @@
+use Rattle.std.proofs.Common.{◌++◌, [], arith, inl, inr, refl, subst}
+use Rattle.std.specs.Io.KnownBytes.{Appends}
+use Rattle.std.proofs.KnownBytes.{Appends-nil, Appends-trans}
+use Rattle.dw_desk_commands.specs.Paging.{language_for, heading_of}
+use Rattle.dw_page.specs.Pages.{end, head}
+use Rattle.dw_desk_commands.proofs.paging.empty_page.Goals as goal
+
+pub returns-then-is_asked : goal.returns-then-is_asked
+returns-then-is_asked g c = (
+  [],
+  inr (c.if-is_asked.true, c.default.ensures.0, c.default.ensures.1, refl),
+  Appends-nil (g.K.Sink.taken c.args.sink.now),
+)
+
+pub returns : goal.returns
+returns g c =
+    let asked = c.args.asked.now in
+    let front = head g.B.Board.geometry (language_for asked.language) asked.title.now in
+    let heading = heading_of asked.solutions (language_for asked.language) in
+    let taken = g.K.Sink.taken in (
+      front ++ (heading ++ end),
+      inl (
+        (record {
+          games_shown = [];
+          are = refl;
+          each = λ k d lt. absurd (omega (arith, lt));
+          shown = λ few. c.default-2.ensures.0;
+          refused = λ few. c.default-2.ensures.1;
+          is = refl;
+        }),
+        c.if-is_asked.false,
+      ),
+      Appends-trans (taken c.args.sink.now) (taken c.begin_page.new.sink) (taken c.end_page.new.sink) front
+          (heading ++ end) c.in_ok-later.ensures.head
+          (subst (λ t. Appends (taken c.begin_page.new.sink) (taken c.end_page.new.sink) (t ++ end))
+          c.in_ok-later.ensures.later c.in_ok-end_page.ensures),
+    )

@@ -1,0 +1,19 @@
+use Rattle.std.proofs.Common.{◌≡◌, ◌≤◌, false}
+use Rattle.dw_desk_commands.specs.inner.Choosing.{AreToCome}
+use Rattle.dw_desk_commands.proofs.PagingLemmas.{SoFar}
+use Rattle.dw_desk_commands.proofs.paging.page_problems.Given as goal
+
+abbrev pub invariant-games : goal.invariant-games
+invariant-games g l =
+    let geo = g.B.Board.geometry in
+    let source = g.S.Source in
+    record {
+      so_far : SoFar geo l.asked (AreToCome geo source.coming source.has_ended l.fn.chosen)
+          (AreToCome geo source.coming source.has_ended l.chosen) l.counts (g.K.Sink.taken l.fn.sink)
+          (g.K.Sink.taken l.sink) l.later.items;
+      some : 1 ≤ l.counts.shown;
+      works : g.K.Sink.is_failed l.sink ≡ false;
+    }
+
+abbrev pub decreases-games : goal.decreases-games
+decreases-games g l = l.chosen.left

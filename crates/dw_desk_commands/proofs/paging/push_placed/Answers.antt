@@ -1,0 +1,41 @@
+use Rattle.std.proofs.Common.{[], append-nil, refl, subst, sym}
+use Rattle.dw_desk_commands.specs.Paging.{language_for, IsSolved, Stands}
+use Rattle.dw_desk_commands.proofs.paging.push_placed.Goals as goal
+
+pub returns-in_ok-push_solved-in-After : goal.returns-in_ok-push_solved-in-After
+returns-in_ok-push_solved-in-After g c =
+    let task = c.args.task.now in
+    let asked = c.args.asked.now in
+    let s = c.in_ok-push_solved-in-After.ensures in (
+      s.0,
+      [],
+      subst (λ z. Stands z (IsSolved g.B.Board.geometry (language_for asked.language) asked.lines task.number
+          task.position.now task.moves) s.0 []) (sym c.in-After.is) (s.1, refl),
+      s.2,
+      sym (append-nil c.args.later.now.items),
+    )
+
+pub returns-in_ok-push_solved-in-End : goal.returns-in_ok-push_solved-in-End
+returns-in_ok-push_solved-in-End g c =
+    let task = c.args.task.now in
+    let asked = c.args.asked.now in
+    let s = c.in_ok-push_solved-in-End.ensures in (
+      [],
+      s.0,
+      subst (λ z. Stands z (IsSolved g.B.Board.geometry (language_for asked.language) asked.lines task.number
+          task.position.now task.moves) [] s.0) (sym c.in-End.is) (refl, s.1),
+      sym (append-nil c.args.part.now.items),
+      s.2,
+    )
+
+pub returns-in-None : goal.returns-in-None
+returns-in-None g c =
+    let task = c.args.task.now in
+    let asked = c.args.asked.now in (
+      [],
+      [],
+      subst (λ z. Stands z (IsSolved g.B.Board.geometry (language_for asked.language) asked.lines task.number
+          task.position.now task.moves) [] []) (sym c.in-None.is) (refl, refl),
+      sym (append-nil c.args.part.now.items),
+      sym (append-nil c.args.later.now.items),
+    )

@@ -1,0 +1,36 @@
+use Rattle.std.proofs.Common.{◌++◌, codes, false, refl, sym, subst}
+use Rattle.std.specs.Io.KnownBytes.{Appends}
+use Rattle.std.proofs.KnownBytes.{Appends-trans}
+use Rattle.dw_desk_commands.specs.Solving.{AreWrittenTags, IsGameFor}
+use Rattle.dw_desk_commands.proofs.solving.write_game.Goals as goal
+
+pub returns-in_ok-write_all-in-Ok-2-clause-text : goal.returns-in_ok-write_all-in-Ok-2-clause-text
+returns-in_ok-write_all-in-Ok-2-clause-text g c =
+    let geo = g.B.Board.geometry in
+    let taken = g.K.Sink.taken in
+    let asked = c.args.asked.now in
+    let game = c.args.game.now in
+    let start = taken c.args.sink.now in
+    let first = taken c.write_tags.new.sink in
+    let second = taken c.write_all.new.sink in
+    let last = taken c.write_all-in-Ok.new.sink in
+    let tags = c.in_ok-write_tags-in-Ok.ensures.tags in
+    let movetext = c.in_ok-text-in-Ok.text.items in
+    let end = codes "\n\n" in
+    let text = tags.0 ++ (movetext ++ end) in (
+      text,
+      subst (λ z. IsGameFor geo asked.n asked.lines game.problem.number z game.tags.items false text) (sym c.in-Ok.is) (
+        refl,
+        (
+          tags.0,
+          movetext,
+          subst (λ z. AreWrittenTags geo c.in-Ok.position z tags.0) c.as_slice.ensures.value tags.1,
+          c.in_ok-text-in-Ok.ensures,
+          refl,
+        ),
+      ),
+      Appends-trans start first last tags.0 (movetext ++ end) tags.2
+          (Appends-trans first second last movetext end
+          (subst (Appends first second) c.as_slice-in-Ok.ensures.value c.in_ok-write_all-in-Ok.ensures.ok)
+          c.in_ok-write_all-in-Ok-2.ensures.ok),
+    )

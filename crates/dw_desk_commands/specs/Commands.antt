@@ -1,0 +1,62 @@
+-- What each command does with the chosen problems of a text.
+use Rattle.std.specs.Prelude.{◌≡◌, ◌⊎◌, ℕ, Option, List}
+use Rattle.std.specs.Io.KnownBytes.{Appends}
+use Rattle.dw_board.specs.Geometry.{Geometry}
+use Rattle.dw_desk_commands.specs.Certifying.{IsCertifyOf}
+use Rattle.dw_desk_commands.specs.Checking.{IsCheckOf}
+use Rattle.dw_desk_commands.specs.Chosen.{AreChosenOf}
+use Rattle.dw_desk_commands.specs.Ending.{ending_after}
+use Rattle.dw_desk_commands.specs.Finding.{IsFindOf}
+use Rattle.dw_desk_commands.specs.Mending.{IsMendOf}
+use Rattle.dw_desk_commands.specs.Paging.{IsPageOf}
+use Rattle.dw_desk_commands.specs.ProblemText.{IsReportOnAll, IsReportOnOne}
+use Rattle.dw_desk_commands.specs.Solving.{IsGameOf}
+use Rattle.dw_desk_commands.specs.Writing.{IsTokenFor}
+use Rattle.dw_desk_commands.specs.declared.desk.Counts.{Counts}
+use Rattle.dw_commands.specs.declared.ending.Ending.{Ending}
+use Rattle.dw_commands.specs.declared.ending.Ending.TheVariants.{Failed}
+use Rattle.dw_arguments.specs.declared.portion.Portion.{Portion}
+use Rattle.dw_arguments.specs.declared.desk.DeskArgs.{DeskArgs}
+use Rattle.dw_arguments.specs.declared.desk.Task.{Task}
+use Rattle.dw_arguments.specs.declared.desk.Task.TheVariants as task
+use Rattle.dw_games.specs.Games.{NumberedGame, problem_of}
+use Rattle.dw_notation.specs.declared.problems.Form.{Form}
+use Rattle.dw_notation.specs.declared.problems.Form.TheVariants.{Pdn}
+use Rattle.dw_report.specs.declared.settings.RunFault.{RunFault}
+
+-- how a text has its problems: solutions stand in games alone
+abbrev pub form_for : Task → Form → Form
+form_for (task.Check asked) form = Pdn
+form_for other form = form
+
+-- What a command writes of the chosen games, and how the program ends after it.
+abbrev pub Tells : {T : Type 0} → Geometry → Portion → Task → List NumberedGame → Ending T → List ℕ → Type 0
+Tells g portion (task.Find asked) games ending text =
+    IsReportOnAll (λ game. IsFindOf g asked.json asked.most asked.each (problem_of game)) portion games ending text
+Tells g portion (task.Check asked) games ending text = IsReportOnAll (IsCheckOf g asked.n) portion games ending text
+Tells g portion (task.Solution asked) games ending text =
+    IsReportOnAll (IsGameOf g asked.n asked.lines) portion games ending text
+Tells g portion (task.Page asked) games ending text =
+    (counts : Counts) × IsPageOf g asked portion games counts text
+    × (ending ≡ ending_after counts.shown counts.refused portion)
+Tells g portion (task.Certify asked) games ending text =
+    IsReportOnOne (λ game. IsCertifyOf g asked.n (problem_of game)) portion.first games ending text
+Tells g portion (task.Mend asked) games ending text =
+    (expanded : ℕ) × IsReportOnOne (λ game. IsMendOf g asked.n asked.each asked.part asked.parts expanded
+    (problem_of game)) portion.first games ending text
+Tells g portion (task.Token line) games ending text =
+    IsReportOnOne (λ game. IsTokenFor g line.now game.said.found) portion.first games ending text
+
+-- The chosen games of a text are read, and of these just this is written; then the program ends.
+pub record DoesIt {T : Type 0} (g : Geometry) (words : DeskArgs) (coming before after : Option (List ℕ))
+    (ending : Ending T) : Type 0 where
+  pub games : List NumberedGame
+  pub are : AreChosenOf g (form_for words.task words.form) words.portion coming games
+  pub text : List ℕ
+  pub told : Tells g words.portion words.task games ending text
+  pub written : Appends before after text
+
+-- a command is obeyed; or the program was stopped, or a stream failed
+abbrev pub Obeys : {T : Type 0} → Geometry → DeskArgs → (coming before after : Option (List ℕ)) → Ending T → Type 0
+Obeys g words coming before after ending =
+    ((fault : RunFault) × (ending ≡ Failed fault)) ⊎ DoesIt g words coming before after ending

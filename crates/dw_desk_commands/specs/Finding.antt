@@ -1,0 +1,44 @@
+-- What `find` says of a position.
+use Rattle.std.specs.Prelude.{◌≡◌, ℕ, Bool, true, false, Ok, Err, Option, Some, None, List, MatchBool}
+use Rattle.dw_board.specs.Geometry.{Geometry}
+use Rattle.dw_board.specs.Placement.{Placement}
+use Rattle.dw_desk_commands.specs.FindingJson.{IsFoundRow, refused_row}
+use Rattle.dw_desk_commands.specs.ProblemText.{IsProblemText}
+use Rattle.dw_notation.specs.Problems.{Numbered}
+use Rattle.dw_notation.specs.TextLines.{Found}
+use Rattle.dw_study.specs.Finding.{Finding, IsFinding, judged, undecided}
+use Rattle.dw_study.specs.FoundText.{IsFoundText}
+
+-- whether a finding leaves the number of moves open
+abbrev pub is_open : Finding → Bool
+is_open (judged k verdict tries) = false
+is_open (undecided k) = true
+
+-- if any number of positions may be expanded, the number of moves is found
+abbrev pub MayStayOpen : (each : Option ℕ) → Finding → Type 0
+MayStayOpen None finding = is_open finding ≡ false
+MayStayOpen (Some bound) finding = Unit {0}
+
+-- what is found of a position within so many moves at most
+abbrev pub IsFound : Geometry → (most : ℕ) → (each : Option ℕ) → Placement → Finding → Type 0
+IsFound g most each p finding = IsFinding g p most finding × MayStayOpen each finding
+
+-- what is said of it in words; the problem counts as refused if the number of moves stays open
+abbrev pub SaysFound : Geometry → (most : ℕ) → (each : Option ℕ) → Placement → (refused : Bool) → List ℕ → Type 0
+SaysFound g most each p refused text =
+    (finding : Finding) × IsFound g most each p finding × (refused ≡ is_open finding) × IsFoundText g p finding text
+
+-- a line of JSON
+abbrev pub IsJsonOf : Geometry → (most : ℕ) → (each : Option ℕ) → (number : ℕ) → Found → (refused : Bool) → List ℕ
+    → Type 0
+IsJsonOf g most each number (Ok p) refused text =
+    (finding : Finding) × IsFound g most each p finding × (refused ≡ is_open finding)
+    × IsFoundRow g number p finding text
+IsJsonOf g most each number (Err fault) refused text = (refused ≡ true) × (text ≡ refused_row number fault)
+
+-- what is written of a problem: a text in words, or a line of JSON
+abbrev pub IsFindOf : Geometry → (json : Bool) → (most : ℕ) → (each : Option ℕ) → Numbered → (refused : Bool) → List ℕ
+    → Type 0
+IsFindOf g json most each problem refused text =
+    MatchBool json (IsJsonOf g most each problem.number problem.found refused text)
+    (IsProblemText g (SaysFound g most each) problem refused text)

@@ -1,0 +1,14 @@
+pub mod Certifying
+pub mod Checking
+pub mod Chosen
+pub mod Commands
+pub mod Ending
+pub mod Finding
+pub mod FindingJson
+pub mod Json
+pub mod Mending
+pub mod Paging
+pub mod ProblemText
+pub mod Solving
+pub mod Writing
+pub mod inner

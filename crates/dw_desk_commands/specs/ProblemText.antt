@@ -1,0 +1,70 @@
+-- The texts of problems.
+use Rattle.std.specs.Prelude.{◌≡◌, ◌+◌, ◌≤◌, ℕ, Bool, true, Ok, Err, List, []}
+use Rattle.std.specs.Prelude.{◌∷◌, ◌++◌, length, map}
+use Rattle.std.specs.List.{count_by}
+use Rattle.dw_board.specs.Geometry.{Geometry}
+use Rattle.dw_board.specs.Placement.{Placement}
+use Rattle.dw_desk_commands.specs.declared.desk.Counts.{Counts}
+use Rattle.dw_commands.specs.declared.ending.Ending.{Ending}
+use Rattle.dw_commands.specs.declared.ending.Ending.TheVariants.{Refused, NoProblem}
+use Rattle.dw_desk_commands.specs.Ending.{ending_after}
+use Rattle.dw_arguments.specs.declared.portion.Portion.{Portion}
+use Rattle.dw_games.specs.Games.{NumberedGame}
+use Rattle.dw_notation.specs.Problems.{Numbered}
+use Rattle.dw_notation.specs.TextLines.{Found}
+use Rattle.dw_notation.specs.declared.problems.TheConstants.{MAX_PROBLEMS}
+use Rattle.dw_report.specs.Report.{first_line}
+
+-- what follows a first line: what is said of the position, and whether the problem counts as refused by that; after a
+-- refusal nothing
+abbrev pub IsFurther : (Says : Placement → (refused : Bool) → List ℕ → Type 0) → Found → (refused : Bool) → List ℕ
+    → Type 0
+IsFurther Says (Ok p) refused text = Says p refused text
+IsFurther Says (Err fault) refused text = (refused ≡ true) × (text ≡ [])
+
+-- The text of a problem: its first line, and what follows it.
+pub record IsProblemText (g : Geometry) (Says : Placement → (refused : Bool) → List ℕ → Type 0) (problem : Numbered)
+    (refused : Bool) (text : List ℕ) : Type 0 where
+  pub further : List ℕ
+  pub follows : IsFurther Says problem.found refused further
+  pub is : text ≡ first_line g problem ++ further
+
+-- texts of what was read in turn, one after another
+pub data AreTexts {X : Type 0} (One : X → List ℕ → Type 0) : List X → List ℕ → Type 0 where
+  nothing : AreTexts One [] []
+  one_more : {xs : List X} {text : List ℕ} (x : X) (one : List ℕ) → AreTexts One xs text → One x one
+      → AreTexts One (xs ++ x ∷ []) (text ++ one)
+
+-- a game that is reported, and whether it counts as refused
+pub record Reported : Type 0 where
+  pub game : NumberedGame
+  pub is_refused : Bool
+
+-- The report on some games: what is written of each in turn; how many they are, and how many count as refused. A text
+-- has no more games than are counted.
+pub record IsReport (One : NumberedGame → (refused : Bool) → List ℕ → Type 0) (games : List NumberedGame)
+    (counts : Counts) (text : List ℕ) : Type 0 where
+  pub reported : List Reported
+  pub are : games ≡ map (λ r. r.game) reported
+  pub texts : AreTexts (λ r. One r.game r.is_refused) reported text
+  pub shown : length reported ≤ MAX_PROBLEMS + 1 → counts.shown ≡ length reported
+  pub refused : length reported ≤ MAX_PROBLEMS + 1 → counts.refused ≡ count_by (λ r. r.is_refused) reported
+
+-- The report on all games that are chosen. How the program ends after it follows from how many they are, and how many
+-- count as refused.
+abbrev pub IsReportOnAll : {T : Type 0} → (One : NumberedGame → (refused : Bool) → List ℕ → Type 0) → Portion
+    → List NumberedGame → Ending T → List ℕ → Type 0
+IsReportOnAll One portion games ending text =
+    (counts : Counts) × IsReport One games counts text × (ending ≡ ending_after counts.shown counts.refused portion)
+
+-- the report on the first of the chosen games alone, if there is one; or that the one with this number is not there
+abbrev pub IsReportOnOne : {T : Type 0} → (One : NumberedGame → Ending T → List ℕ → Type 0) → (number : ℕ)
+    → List NumberedGame → Ending T → List ℕ → Type 0
+IsReportOnOne One number [] ending text = (ending ≡ NoProblem number) × (text ≡ [])
+IsReportOnOne One number (game ∷ more) ending text = One game ending text
+
+-- what a command does with a problem that has a position; a refused one leaves its first line alone
+abbrev pub IsDoneWith : {T : Type 0} → (Does : Placement → Ending T → List ℕ → Type 0) → (line : List ℕ) → Found
+    → Ending T → List ℕ → Type 0
+IsDoneWith Does line (Ok p) ending text = Does p ending text
+IsDoneWith Does line (Err fault) ending text = (ending ≡ Refused) × (text ≡ line)

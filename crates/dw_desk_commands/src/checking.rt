@@ -1,0 +1,313 @@
+//! The command `check`: what the solution in each game gets wrong, and what it leaves out.
+ghost use Rattle.std.specs.Prelude.{◌≡◌, ◌+◌, ◌≤◌, ◌<◌, ◌↔◌, ℕ, List, [], Some, false, map, IfOk, OnOk, IsTrue};
+ghost use Rattle.std.specs.Prelude.{codes, if◌then◌else◌};
+ghost use Rattle.std.specs.Io.KnownBytes.{Appends};
+ghost use Rattle.std.specs.String.{string_bytes};
+ghost use Rattle.dw_board.specs.Lists.{Member};
+ghost use Rattle.dw_desk_commands.specs.Checking.{IsCheckOf, IsCheckedText, IsNumberFor, counted, no_win_line};
+ghost use Rattle.dw_desk_commands.specs.Checking as of;
+ghost use Rattle.dw_desk_commands.specs.ProblemText.{AreTexts, IsReport};
+ghost use Rattle.dw_desk_commands.specs.inner.Choosing.{AreToCome};
+ghost use Rattle.dw_desk_commands.specs.inner.Tallies.{one_more, tallied, total};
+ghost use Rattle.dw_games.specs.GameReading.{numbered_game};
+ghost use Rattle.dw_games.specs.Games.{NumberedGame};
+ghost use Rattle.dw_games.specs.Movetext.{IsTree};
+ghost use Rattle.dw_moves.specs.Moves.{Move};
+ghost use Rattle.dw_solve.specs.Wins.{Win};
+ghost use Rattle.dw_study.specs.RemarkText.{CanBeTold, IsRemarkText};
+ghost use Rattle.dw_study.specs.Remarks.{AreRemarks, Remark as AnyRemark};
+ghost use Rattle.dw_study.specs.Telling.{Say, remark_in};
+
+use crate::chosen::Chosen;
+use crate::desk::{Counts, Desk, DeskFault};
+use crate::watcher::DeskWatcher;
+use dw_arguments::options::{FEWEST_MOVES, MOST_MOVES};
+use dw_board::{Board, Position};
+use dw_games::{Game, MovetextFault, MovetextFaultKind, Tree, read_movetext};
+use dw_notation::{Sink, Source, write_all};
+use dw_report::{Stop, problem_line};
+use dw_study::check::check;
+use dw_study::{Checked, Remark, Slices, remark_text, turns_of};
+use itoa::Buffer;
+use std::alloc::{AllocError, Global};
+
+/// Checks the solutions of the chosen games, each as soon as it is read, within as many moves as are asked for, or as
+/// many as each has.
+pub(crate) fn check_games<B: Board, W: DeskWatcher, S: Source, K: Sink>(
+    desk: &mut Desk<B>,
+    slices: &mut Slices<W>,
+    chosen: &mut Chosen<'_, B, S>,
+    n: Option<u8>,
+    sink: &mut K,
+) -> Result<Counts, DeskFault>
+    requires { K.is_failed sink.old ≡ false }
+    ensures { IfOk result (λ counts. (games : List NumberedGame) × (text : List ℕ)
+        × AreToCome B.geometry S.coming S.has_ended chosen.old games
+        × IsReport (IsCheckOf B.geometry n) games counts text
+        × Appends (K.taken sink.old) (K.taken sink.new) text) }
+{
+    let mut counts = Counts::default();
+    'games: while let Some(game) = chosen.next()? {
+        counts = counts.with(report(desk, slices, n, &game, sink)?);
+    }
+    Ok(counts)
+}
+
+/// Reports one game, and answers whether it or its solution is refused, or the solution fails.
+fn report<B: Board, W: DeskWatcher, K: Sink>(
+    desk: &mut Desk<B>,
+    slices: &mut Slices<W>,
+    n: Option<u8>,
+    game: &Game<B>,
+    sink: &mut K,
+) -> Result<bool, DeskFault>
+    requires { K.is_failed sink.old ≡ false }
+    ensures text { IfOk result (λ refused. (text : List ℕ)
+        × IsCheckOf B.geometry n (numbered_game game.now) refused text
+        × Appends (K.taken sink.old) (K.taken sink.new) text) }
+    ensures works { IfOk result (λ _. K.is_failed sink.new ≡ false) }
+{
+    write_all(sink, problem_line(&game.problem).as_str().as_bytes())?;
+    let Ok(position) = &game.problem.found else {
+        return Ok(true);
+    };
+    match read_movetext(desk.alloc, position, game.movetext.as_slice()) {
+        Ok(tree) => {
+            let n = moves_for(n, &tree);
+            let checked = checked(desk, slices, game.problem.number, position, &tree, n)?;
+            let fails = write_checked(desk.alloc, position, &tree, n, &checked, sink)?;
+            Ok(fails)
+        }
+        Err(MovetextFault::Refused { what, place }) => {
+            let line = refused_line(desk.alloc, what, place)?;
+            write_all(sink, line.as_str().as_bytes())?;
+            Ok(true)
+        }
+        Err(MovetextFault::Memory) => Err(DeskFault::Stopped(Stop::Memory)),
+    }
+}
+
+/// Within how many moves a solution is looked at: as many as are asked for, or as it has.
+fn moves_for<B: Board>(asked: Option<u8>, tree: &Tree<B>) -> u8
+    ensures number { IsNumberFor asked tree.now result }
+    ensures some { 1 ≤ result }
+    ensures few { result ≤ 20 }
+{
+    let moves = match asked {
+        Some(moves) => moves,
+        None => turns_of(tree),
+    };
+    moves.clamp(FEWEST_MOVES, MOST_MOVES)
+}
+
+/// Compares a solution with the truth, and shows how far the search is.
+fn checked<B: Board, W: DeskWatcher>(
+    desk: &mut Desk<B>,
+    slices: &mut Slices<W>,
+    number: u32,
+    position: &Position<B>,
+    tree: &Tree<B>,
+    n: u8,
+) -> Result<Checked<B>, DeskFault>
+    requires some { 1 ≤ n }
+    requires few { n ≤ 20 }
+    ensures wins { IfOk result (λ checked. IsTrue checked.wins ↔ Win B.geometry position.now n) }
+    ensures remarks { IfOk result (λ checked. Say tree.now checked.remarks.items
+        (AreRemarks B.geometry tree.now n position.now [])) }
+{
+    desk.begin(slices, number);
+    let checked = check(desk.alloc, &mut desk.solver, position, tree, n, slices);
+    slices.watcher.end();
+    Ok(checked?)
+}
+
+/// That a solution has this fault.
+fn refused_line(alloc: Global, what: MovetextFaultKind, place: u32) -> Result<String, AllocError>
+    ensures { IfOk result (λ line. string_bytes line ≡ of.refused_line what place) }
+{
+    let mut digits = Buffer::new();
+    let mut places = Buffer::new();
+    [
+        "solution refused: ",
+        digits.format(what.number()),
+        " ",
+        what.name(),
+        " at ",
+        places.format(place),
+        "\n",
+    ]
+    .concat(alloc)
+}
+
+/// Writes what was found out of a solution, and answers whether it fails.
+fn write_checked<B: Board, K: Sink>(
+    alloc: Global,
+    position: &Position<B>,
+    tree: &Tree<B>,
+    n: u8,
+    checked: &Checked<B>,
+    sink: &mut K,
+) -> Result<bool, DeskFault>
+    requires works { K.is_failed sink.old ≡ false }
+    requires wins { IsTrue checked.now.wins ↔ Win B.geometry position.now n }
+    requires remarks { Say tree.now checked.now.remarks.items (AreRemarks B.geometry tree.now n position.now []) }
+    requires tree { (movetext : List ℕ) × IsTree B.geometry position.now movetext tree.now }
+    ensures text { IfOk result (λ refused. (text : List ℕ)
+        × IsCheckedText B.geometry position.now n tree.now refused text
+        × Appends (K.taken sink.old) (K.taken sink.new) text) }
+    ensures works { IfOk result (λ _. K.is_failed sink.new ≡ false) }
+{
+    dw_study::laws::remarks_can_be_told();
+    let line = win_line(alloc, checked.wins, n)?;
+    write_all(sink, line.as_str().as_bytes())?;
+    let remarks = checked.remarks.as_slice();
+    write_remarks(alloc, position, tree, remarks, sink)?;
+    let tally = tally_of(remarks);
+    let line = last_line(alloc, n, tally)?;
+    write_all(sink, line.as_str().as_bytes())?;
+    Ok(!tally.holds())
+}
+
+/// A line that says that there is no win, if so.
+fn win_line(alloc: Global, wins: bool, n: u8) -> Result<String, AllocError>
+    ensures win { IsTrue wins → IfOk result (λ line. string_bytes line ≡ []) }
+    ensures none { wins ≡ false → IfOk result (λ line. string_bytes line ≡ no_win_line n) }
+{
+    if wins {
+        Ok(String::new(alloc))
+    } else {
+        let mut digits = Buffer::new();
+        ["no win in ", digits.format(n), "\n"].concat(alloc)
+    }
+}
+
+/// Writes remarks on the tree of a position, in turn.
+fn write_remarks<B: Board, K: Sink>(
+    alloc: Global,
+    position: &Position<B>,
+    tree: &Tree<B>,
+    remarks: &[Remark<B>],
+    sink: &mut K,
+) -> Result<(), DeskFault>
+    requires { K.is_failed sink.old ≡ false }
+    ensures texts { (said : List AnyRemark) → map (remark_in tree.now) remarks.now ≡ map (λ r. Some r) said
+        → ((r : AnyRemark) → Member r said → CanBeTold B.geometry position.now r)
+        → OnOk result ((told : List ℕ) × AreTexts (IsRemarkText B.geometry position.now) said told
+        × Appends (K.taken sink.old) (K.taken sink.new) told) }
+    ensures works { OnOk result (K.is_failed sink.new ≡ false) }
+{
+    'remarks: for remark in remarks {
+        write_remark(alloc, position, tree, remark, sink)?;
+    }
+    Ok(())
+}
+
+/// Writes a remark on the tree of a position.
+fn write_remark<B: Board, K: Sink>(
+    alloc: Global,
+    position: &Position<B>,
+    tree: &Tree<B>,
+    remark: &Remark<B>,
+    sink: &mut K,
+) -> Result<(), DeskFault>
+    requires { K.is_failed sink.old ≡ false }
+    ensures text { (r : AnyRemark) → remark_in tree.now remark.now ≡ Some r → CanBeTold B.geometry position.now r
+        → OnOk result ((text : List ℕ) × IsRemarkText B.geometry position.now r text
+        × Appends (K.taken sink.old) (K.taken sink.new) text) }
+    ensures works { OnOk result (K.is_failed sink.new ≡ false) }
+{
+    if let Some(text) = remark_text(alloc, position, tree, remark)? {
+        write_all(sink, text.as_str().as_bytes())?;
+    }
+    Ok(())
+}
+
+/// How many remarks there are of each kind.
+#[derive(Clone, Copy, Default)]
+struct Tally {
+    fails: u64,
+    ends: u64,
+    open: u64,
+    also: u64,
+}
+
+impl Tally {
+    /// One remark more.
+    fn with<B: Board>(self, remark: &Remark<B>) -> Tally
+        requires { total self < 18446744073709551615 }
+        ensures counts { (tree : List (List Move)) (r : AnyRemark) → remark_in tree remark.now ≡ Some r
+            → tallied result ≡ one_more r (tallied self) }
+        ensures total { total result ≡ total self + 1 }
+    {
+        match remark {
+            Remark::Fails { .. } => Tally {
+                fails: self.fails + 1,
+                ..self
+            },
+            Remark::Ends { .. } => Tally {
+                ends: self.ends + 1,
+                ..self
+            },
+            Remark::Open { .. } => Tally {
+                open: self.open + 1,
+                ..self
+            },
+            Remark::Also { .. } => Tally {
+                also: self.also + 1,
+                ..self
+            },
+        }
+    }
+
+    /// Whether a solution with these remarks holds: no move of it fails, and no path of it ends too soon.
+    fn holds(self) -> bool
+        ensures { result ≡ of.holds (tallied self) }
+    {
+        self.fails == 0 && self.ends == 0
+    }
+}
+
+/// How many of these remarks there are of each kind.
+fn tally_of<B: Board>(remarks: &[Remark<B>]) -> Tally
+    ensures { (tree : List (List Move)) (said : List AnyRemark)
+        → map (remark_in tree) remarks.now ≡ map (λ r. Some r) said → tallied result ≡ counted said }
+{
+    let mut tally = Tally::default();
+    'remarks: for remark in remarks {
+        tally = tally.with(remark);
+    }
+    tally
+}
+
+/// The last line: whether the solution holds, and the numbers of remarks.
+fn last_line(alloc: Global, n: u8, tally: Tally) -> Result<String, AllocError>
+    ensures { IfOk result (λ line. string_bytes line ≡ of.last_line n (tallied tally)) }
+{
+    let mut digits = Buffer::new();
+    let mut fails = Buffer::new();
+    let mut ends = Buffer::new();
+    let mut open = Buffer::new();
+    let mut also = Buffer::new();
+    [
+        word(tally.holds()),
+        " in ",
+        digits.format(n),
+        ": ",
+        fails.format(tally.fails),
+        " fail, ",
+        ends.format(tally.ends),
+        " end, ",
+        open.format(tally.open),
+        " open, ",
+        also.format(tally.also),
+        " also\n",
+    ]
+    .concat(alloc)
+}
+
+/// Whether a solution holds, in a word.
+fn word(holds: bool) -> &'static str
+    ensures { result.now ≡ (if holds then codes "holds" else codes "fails") }
+{
+    if holds { "holds" } else { "fails" }
+}

@@ -1,0 +1,148 @@
+//! The problems that a command speaks of, one after another.
+ghost use Rattle.std.specs.Prelude.{◌≡◌, ◌<◌, ◌-◌, if◌then◌else◌, ℕ, List, Some, false, option_map, IfOk, IfSome};
+
+use crate::desk::DeskFault;
+use dw_arguments::Portion;
+use dw_board::Board;
+use dw_games::{Game, Games};
+use dw_notation::problems::MAX_PROBLEMS;
+use dw_notation::{Form, Problems, Source};
+use std::alloc::Global;
+
+/// The chosen problems of a text, in order, each as a game. One that has a line to itself has no tags and no movetext.
+#[derive(Drop)]
+pub(crate) struct Chosen<'a, B: Board, S> {
+    alloc: Global,
+    text: Text<'a, B, S>,
+    portion: Portion,
+    /// How many problems of the text are still looked at.
+    left: u32,
+}
+
+impl<'a, B: Board, S: Source> Chosen<'a, B, S> {
+    ghost use Rattle.dw_desk_commands.specs.Chosen.{AreChosenOf, is_in};
+    ghost use Rattle.dw_desk_commands.specs.inner.Choosing.{HandsOut};
+    ghost use Rattle.dw_desk_commands.specs.inner.Choosing.{AreToCome, IsKnown, is_met};
+    ghost use Rattle.dw_games.specs.GameReading.{numbered_game};
+    ghost use Rattle.dw_games.specs.Games.{NumberedGame};
+
+    /// The problems of a portion, of a text of this form that the source gives.
+    pub(crate) fn new(alloc: Global, source: &'a mut S, form: Form, portion: Portion) -> Self
+        requires { S.is_failed source.old ≡ false }
+        ensures chosen { (games : List NumberedGame) → AreToCome B.geometry S.coming S.has_ended result games
+            → AreChosenOf B.geometry form portion (S.coming source.old) games }
+        ensures known { (bytes : List ℕ) → S.coming source.old ≡ Some bytes
+            → IsKnown S.coming S.has_ended result }
+        ensures portion { result.portion ≡ portion }
+    {
+        Chosen {
+            alloc,
+            text: Text::new(alloc, source, form),
+            portion,
+            left: MAX_PROBLEMS + 1,
+        }
+    }
+
+    /// The number of the first problem of the portion.
+    pub(crate) fn first(&self) -> u32
+        ensures { result ≡ self.now.portion.first }
+    {
+        self.portion.first
+    }
+
+    /// Whether these problems were asked for by their numbers.
+    pub(crate) fn is_asked(&self) -> bool
+        ensures { result ≡ self.now.portion.is_asked }
+    {
+        self.portion.is_asked
+    }
+
+    /// The next of them, or none if there is no more. Reading ends behind the last.
+    pub(crate) fn next(&mut self) -> Result<Option<Game<B>>, DeskFault>
+        ensures given { IfOk result (λ found. HandsOut (AreToCome B.geometry S.coming S.has_ended self.old)
+            (AreToCome B.geometry S.coming S.has_ended self.new) (option_map numbered_game found)) }
+        ensures more { IfOk result (λ found. IfSome found (λ _. IsKnown S.coming S.has_ended self.old
+            → (games : List NumberedGame) × AreToCome B.geometry S.coming S.has_ended self.new games)) }
+        ensures portion { self.new.portion ≡ self.old.portion }
+        ensures fewer { IfOk result (λ found. IfSome found (λ _. self.new.left < self.old.left)) }
+    {
+        'games: while self.left > 0 {
+            let Some(game) = self.text.next(self.alloc)? else {
+                return Ok(None);
+            };
+            let number = game.problem.number;
+            self.left = self.left_behind(number);
+            if self.has(number) {
+                return Ok(Some(game));
+            }
+        }
+        Ok(None)
+    }
+
+    /// Whether a number is in the portion.
+    fn has(&self, number: u32) -> bool
+        ensures { result ≡ is_in self.now.portion number }
+    {
+        self.portion.first <= number
+            && match self.portion.last {
+                Some(last) => number <= last,
+                None => true,
+            }
+    }
+
+    /// How many problems are still looked at behind a number: none, if the portion ends there.
+    fn left_behind(&self, number: u32) -> u32
+        requires { 0 < self.now.left }
+        ensures { result ≡ (if is_met self.now.portion.last number then 0 else self.now.left - 1) }
+    {
+        match self.portion.last {
+            Some(last) if last <= number => 0,
+            _ => self.left - 1,
+        }
+    }
+}
+
+/// A text by how it has its problems.
+#[derive(Drop)]
+enum Text<'a, B: Board, S> {
+    Fens(Problems<'a, B, S>),
+    Pdn(Games<'a, B, S>),
+}
+
+impl<'a, B: Board, S: Source> Text<'a, B, S> {
+    ghost use Rattle.dw_desk_commands.specs.Chosen.{AreGamesIn};
+    ghost use Rattle.dw_desk_commands.specs.inner.Choosing.{AreAhead, ComesNext, EndIsKnown, source_of};
+    ghost use Rattle.dw_games.specs.Games.{NumberedGame};
+
+    /// A text of this form that the source gives.
+    fn new(alloc: Global, source: &'a mut S, form: Form) -> Self
+        requires { S.is_failed source.old ≡ false }
+        ensures source { source_of result ≡ source.old }
+        ensures games { (bytes : List ℕ) (games : List NumberedGame) → AreAhead B.geometry result bytes games
+            → AreGamesIn B.geometry form bytes games }
+        ensures end { EndIsKnown S.coming S.has_ended result }
+    {
+        match form {
+            Form::Fens => Text::Fens(Problems::new(source, form)),
+            Form::Pdn => Text::Pdn(Games::new(alloc, source)),
+        }
+    }
+
+    /// The next problem, chosen or not.
+    fn next(&mut self, alloc: Global) -> Result<Option<Game<B>>, DeskFault>
+        ensures given { IfOk result (ComesNext B.geometry S.coming S.has_ended self.old self.new) }
+        ensures end { EndIsKnown S.coming S.has_ended self.old → EndIsKnown S.coming S.has_ended self.new }
+    {
+        match self {
+            Text::Pdn(games) => Ok(games.next()?),
+            Text::Fens(problems) => match problems.next()? {
+                None => Ok(None),
+                Some(problem) => Ok(Some(Game {
+                    problem,
+                    tags: Vec::new(alloc),
+                    movetext: Vec::new(alloc),
+                })),
+            },
+        }
+    }
+}

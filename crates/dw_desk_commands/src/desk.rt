@@ -1,0 +1,237 @@
+//! What every command does: it searches with a solver, and counts what it reports.
+ghost use Rattle.std.specs.Prelude.{◌≡◌, ◌⊎◌, ◌+◌, ◌<◌, ◌≤◌, false, if◌then◌else◌, IfOk};
+ghost use Rattle.dw_desk_commands.specs.Commands.{DoesIt, Obeys, form_for};
+ghost use Rattle.dw_desk_commands.specs.Ending.{ending_after};
+ghost use Rattle.dw_desk_commands.specs.declared.desk.DeskFault.TheVariants as because;
+ghost use Rattle.dw_desk_commands.specs.inner.Faults.{of_game, of_mend, run_fault};
+ghost use Rattle.dw_solve.specs.declared.stop.Stop.TheVariants as stops;
+
+use crate::certifying::certify_problem;
+use crate::checking::check_games;
+use crate::chosen::Chosen;
+use crate::finding::find_problems;
+use crate::mending::mend_problem;
+use crate::paging::page_problems;
+use crate::solving::solve_problems;
+use crate::watcher::DeskWatcher;
+use crate::writing::write_line;
+use dw_arguments::{DeskArgs, Task};
+use dw_board::Board;
+use dw_commands::{Ending, LeakedMemo, memo_of};
+use dw_games::GameFault;
+use dw_mend::MendFault;
+use dw_notation::{Form, ReadFault, Sink, Source, WriteFault};
+use dw_report::{RunFault, Stop};
+use dw_solve::{ByTrial, Solver};
+use dw_study::Slices;
+use std::alloc::{AllocError, Global};
+
+/// How many problems were reported, and how many of them were refused, stayed undecided or fail.
+#[derive(Clone, Copy, Default)]
+pub struct Counts {
+    pub shown: u32,
+    pub refused: u32,
+}
+
+impl Counts {
+    /// How the program ends after these.
+    pub(crate) fn ending<T>(self, args: &DeskArgs<'_>) -> Ending<T>
+        ensures { result ≡ ending_after self.shown self.refused args.now.portion }
+    {
+        if self.shown == 0 && args.portion.is_asked {
+            Ending::NoProblem(args.portion.first)
+        } else if self.refused == 0 {
+            Ending::Done
+        } else {
+            Ending::Refused
+        }
+    }
+
+    /// One problem more is reported.
+    pub(crate) fn with(self, is_refused: bool) -> Counts
+        ensures more { self.shown < 4294967295 → self.refused < 4294967295 → result ≡ record {
+          shown = self.shown + 1;
+          refused = self.refused + (if is_refused then 1 else 0);
+        } }
+        ensures some { 1 ≤ result.shown }
+    {
+        Counts {
+            shown: self.shown.saturating_add(1),
+            refused: self.refused.saturating_add(u32::from(is_refused)),
+        }
+    }
+}
+
+/// Why a problem was not reported to its end.
+#[derive(Clone, Copy)]
+pub(crate) enum DeskFault {
+    Stopped(Stop),
+    Read,
+    Write,
+}
+
+impl DeskFault {
+    /// The fault as that of a run, after so many expansions.
+    fn in_run(self, expanded: u64) -> RunFault
+        ensures { result ≡ run_fault self expanded }
+    {
+        match self {
+            DeskFault::Stopped(why) => RunFault::Stopped { why, expanded },
+            DeskFault::Read => RunFault::Read,
+            DeskFault::Write => RunFault::Write,
+        }
+    }
+}
+
+impl From<AllocError> for DeskFault {
+    ghost from_gives = { λ _ fault. fault ≡ because.Stopped stops.Memory };
+
+    fn from(_refused: AllocError) -> DeskFault {
+        DeskFault::Stopped(Stop::Memory)
+    }
+}
+
+impl From<Stop> for DeskFault {
+    ghost from_gives = { λ stop fault. fault ≡ because.Stopped stop };
+
+    fn from(stop: Stop) -> DeskFault {
+        DeskFault::Stopped(stop)
+    }
+}
+
+impl From<ReadFault> for DeskFault {
+    ghost from_gives = { λ _ fault. fault ≡ because.Read };
+
+    fn from(_failed: ReadFault) -> DeskFault {
+        DeskFault::Read
+    }
+}
+
+impl From<GameFault> for DeskFault {
+    ghost from_gives = { λ why fault. fault ≡ of_game why };
+
+    fn from(fault: GameFault) -> DeskFault {
+        match fault {
+            GameFault::Failed => DeskFault::Read,
+            GameFault::Memory => DeskFault::Stopped(Stop::Memory),
+        }
+    }
+}
+
+impl From<MendFault> for DeskFault {
+    ghost from_gives = { λ why fault. fault ≡ of_mend why };
+
+    fn from(fault: MendFault) -> DeskFault {
+        match fault {
+            MendFault::Stopped(stop) => DeskFault::Stopped(stop),
+            MendFault::Write => DeskFault::Write,
+        }
+    }
+}
+
+impl From<WriteFault> for DeskFault {
+    ghost from_gives = { λ _ fault. fault ≡ because.Write };
+
+    fn from(_failed: WriteFault) -> DeskFault {
+        DeskFault::Write
+    }
+}
+
+/// What searches for the problems.
+#[derive(Drop)]
+pub(crate) struct Desk<B: Board> {
+    pub(crate) alloc: Global,
+    pub(crate) solver: Solver<B, LeakedMemo<B>, ByTrial>,
+}
+
+impl<B: Board> Desk<B> {
+    /// Begins with another problem: the memo may forget those before, and the line that shows how far a search is tells
+    /// its number.
+    pub(crate) fn begin<W: DeskWatcher>(&mut self, slices: &mut Slices<W>, number: u32)
+        ensures count { self.new.solver.expanded ≡ self.old.solver.expanded }
+        ensures first { slices.new.first ≡ slices.old.first }
+    {
+        self.solver.forget();
+        slices.watcher.begin(number);
+    }
+}
+
+/// Does what was asked for, with the problems of a source, and tells how the program ends.
+/// Example: of `dw-desk find`, `W:W32:B28` gives two lines, and the program ends with `Ending::Done`.
+pub fn run_on<'a, B: Board, W: DeskWatcher, S: Source, K: Sink>(
+    alloc: Global,
+    slices: &mut Slices<W>,
+    args: &DeskArgs<'a>,
+    source: &mut S,
+    sink: &mut K,
+) -> Ending<&'a str>
+    requires rows { (B.geometry.rows ≡ 10) ⊎ (B.geometry.rows ≡ 8) }
+    requires source { S.is_failed source.old ≡ false }
+    requires sink { K.is_failed sink.old ≡ false }
+    ensures { Obeys B.geometry args.now (S.coming source.old) (K.taken sink.old) (K.taken sink.new) result }
+{
+    let Ok(solver) = solver_of::<B>(alloc, args) else {
+        return Ending::no_memory();
+    };
+    let mut desk = Desk { alloc, solver };
+    match dispatch(&mut desk, slices, args, source, sink) {
+        Ok(ending) => ending,
+        Err(fault) => Ending::Failed(fault.in_run(desk.solver.expanded())),
+    }
+}
+
+/// Does what was asked for, with the problems of a source, unless something stops it.
+fn dispatch<'a, B: Board, W: DeskWatcher, S: Source, K: Sink>(
+    desk: &mut Desk<B>,
+    slices: &mut Slices<W>,
+    args: &DeskArgs<'a>,
+    source: &mut S,
+    sink: &mut K,
+) -> Result<Ending<&'a str>, DeskFault>
+    requires rows { (B.geometry.rows ≡ 10) ⊎ (B.geometry.rows ≡ 8) }
+    requires source { S.is_failed source.old ≡ false }
+    requires sink { K.is_failed sink.old ≡ false }
+    ensures { IfOk result (DoesIt B.geometry args.now (S.coming source.old) (K.taken sink.old) (K.taken sink.new)) }
+{
+    let mut chosen = Chosen::new(desk.alloc, source, form_of(args), args.portion);
+    match args.task {
+        Task::Find(asked) => {
+            return Ok(find_problems(desk, slices, &mut chosen, args, &asked, sink)?.ending(args));
+        }
+        Task::Check(asked) => {
+            return Ok(check_games(desk, slices, &mut chosen, asked.n, sink)?.ending(args));
+        }
+        Task::Solution(asked) => {
+            return Ok(solve_problems(desk, slices, &mut chosen, &asked, sink)?.ending(args));
+        }
+        Task::Page(asked) => {
+            return Ok(page_problems(desk, slices, &mut chosen, &asked, sink)?.ending(args));
+        }
+        Task::Certify(asked) => return certify_problem(desk, slices, &mut chosen, &asked, sink),
+        Task::Mend(asked) => return mend_problem(desk, slices, &mut chosen, &asked, sink),
+        Task::Token { line } => {
+            return write_line::<_, B, _, _>(desk.alloc, &mut chosen, line, sink);
+        }
+    }
+}
+
+/// How the text has its problems: solutions stand in games alone.
+fn form_of(args: &DeskArgs<'_>) -> Form
+    ensures { result ≡ form_for args.now.task args.now.form }
+{
+    match args.task {
+        Task::Check(_) => Form::Pdn,
+        _ => args.form,
+    }
+}
+
+/// The solver for one problem or for all, over an empty memo.
+pub(crate) fn solver_of<B: Board>(
+    alloc: Global,
+    args: &DeskArgs<'_>,
+) -> Result<Solver<B, LeakedMemo<B>, ByTrial>, AllocError>
+    ensures { IfOk result (λ solver. solver.expanded ≡ 0) }
+{
+    let memo = memo_of(alloc, args.memo, args.cache)?;
+    Ok(Solver::new(memo, ByTrial, u64::MAX))
+}

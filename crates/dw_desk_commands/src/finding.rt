@@ -1,0 +1,170 @@
+//! The command `find`: the least number of moves within which each problem is won, with the verdict.
+ghost use Rattle.std.specs.Prelude.{◌≡◌, ℕ, List, false, IfOk, IfSome};
+ghost use Rattle.std.specs.Io.KnownBytes.{Appends};
+ghost use Rattle.std.specs.String.{string_bytes};
+ghost use Rattle.dw_desk_commands.specs.Finding.{IsFindOf, IsFound, IsJsonOf, SaysFound, is_open};
+ghost use Rattle.dw_desk_commands.specs.ProblemText.{IsProblemText, IsReport};
+ghost use Rattle.dw_desk_commands.specs.inner.Choosing.{AreToCome};
+ghost use Rattle.dw_desk_commands.specs.inner.Searching.{IsBounded};
+ghost use Rattle.dw_games.specs.Games.{NumberedGame, problem_of};
+ghost use Rattle.dw_notation.specs.Problems.{Numbered, numbered};
+ghost use Rattle.dw_study.specs.Telling.{told_by};
+
+use crate::chosen::Chosen;
+use crate::desk::{Counts, Desk, DeskFault, solver_of};
+use crate::json_rows::{found_line, refused_line};
+use crate::watcher::DeskWatcher;
+use dw_arguments::{DeskArgs, FindArgs};
+use dw_board::{Board, Position};
+use dw_notation::{Problem, Sink, Source, write_all};
+use dw_report::problem_line;
+use dw_study::find::find;
+use dw_study::{FindBounds, Finding, Slices, found_text};
+
+/// Reports the chosen problems, each as soon as it is read.
+pub(crate) fn find_problems<B: Board, W: DeskWatcher, S: Source, K: Sink>(
+    desk: &mut Desk<B>,
+    slices: &mut Slices<W>,
+    chosen: &mut Chosen<'_, B, S>,
+    args: &DeskArgs<'_>,
+    asked: &FindArgs,
+    sink: &mut K,
+) -> Result<Counts, DeskFault>
+    requires { K.is_failed sink.old ≡ false }
+    ensures { IfOk result (λ counts. (games : List NumberedGame) × (text : List ℕ)
+        × AreToCome B.geometry S.coming S.has_ended chosen.old games
+        × IsReport (λ game. IsFindOf B.geometry asked.now.json asked.now.most asked.now.each (problem_of game)) games
+        counts text
+        × Appends (K.taken sink.old) (K.taken sink.new) text) }
+{
+    let mut counts = Counts::default();
+    'games: while let Some(game) = chosen.next()? {
+        counts = counts.with(report(desk, slices, args, asked, &game.problem, sink)?);
+    }
+    Ok(counts)
+}
+
+/// Reports one problem, and answers whether it was refused or stayed undecided.
+fn report<B: Board, W: DeskWatcher, K: Sink>(
+    desk: &mut Desk<B>,
+    slices: &mut Slices<W>,
+    args: &DeskArgs<'_>,
+    asked: &FindArgs,
+    problem: &Problem<B>,
+    sink: &mut K,
+) -> Result<bool, DeskFault>
+    requires { K.is_failed sink.old ≡ false }
+    ensures text { IfOk result (λ refused. (text : List ℕ)
+        × IsFindOf B.geometry asked.now.json asked.now.most asked.now.each (numbered problem.now) refused text
+        × Appends (K.taken sink.old) (K.taken sink.new) text) }
+    ensures works { IfOk result (λ _. K.is_failed sink.new ≡ false) }
+{
+    if asked.json {
+        report_in_json(desk, slices, args, asked, problem, sink)
+    } else {
+        report_in_words(desk, slices, args, asked, problem, sink)
+    }
+}
+
+/// Reports one problem in words: its first line, and what is found of its position.
+fn report_in_words<B: Board, W: DeskWatcher, K: Sink>(
+    desk: &mut Desk<B>,
+    slices: &mut Slices<W>,
+    args: &DeskArgs<'_>,
+    asked: &FindArgs,
+    problem: &Problem<B>,
+    sink: &mut K,
+) -> Result<bool, DeskFault>
+    requires { K.is_failed sink.old ≡ false }
+    ensures text { IfOk result (λ refused. (text : List ℕ)
+        × IsProblemText B.geometry (SaysFound B.geometry asked.now.most asked.now.each) (numbered problem.now) refused
+        text
+        × Appends (K.taken sink.old) (K.taken sink.new) text) }
+    ensures works { IfOk result (λ _. K.is_failed sink.new ≡ false) }
+{
+    write_all(sink, problem_line(problem).as_str().as_bytes())?;
+    let Ok(position) = &problem.found else {
+        return Ok(true);
+    };
+    let finding = search(desk, slices, args, asked, problem.number, position)?;
+    let text = found_text(desk.alloc, position, &finding)?;
+    write_all(sink, text.as_str().as_bytes())?;
+    Ok(is_undecided(&finding))
+}
+
+/// Reports one problem as a line of JSON.
+fn report_in_json<B: Board, W: DeskWatcher, K: Sink>(
+    desk: &mut Desk<B>,
+    slices: &mut Slices<W>,
+    args: &DeskArgs<'_>,
+    asked: &FindArgs,
+    problem: &Problem<B>,
+    sink: &mut K,
+) -> Result<bool, DeskFault>
+    requires { K.is_failed sink.old ≡ false }
+    ensures text { IfOk result (λ refused. (text : List ℕ)
+        × IsJsonOf B.geometry asked.now.most asked.now.each problem.now.number problem.now.found refused text
+        × Appends (K.taken sink.old) (K.taken sink.new) text) }
+    ensures works { IfOk result (λ _. K.is_failed sink.new ≡ false) }
+{
+    let (line, is_refused) = json_of(desk, slices, args, asked, problem)?;
+    write_all(sink, line.as_str().as_bytes())?;
+    Ok(is_refused)
+}
+
+/// The line of JSON of one problem, and whether it was refused or stayed undecided.
+fn json_of<B: Board, W: DeskWatcher>(
+    desk: &mut Desk<B>,
+    slices: &mut Slices<W>,
+    args: &DeskArgs<'_>,
+    asked: &FindArgs,
+    problem: &Problem<B>,
+) -> Result<(String, bool), DeskFault>
+    ensures { IfOk result (λ told. IsJsonOf B.geometry asked.now.most asked.now.each problem.now.number
+        problem.now.found told.1 (string_bytes told.0)) }
+{
+    let number = problem.number;
+    match &problem.found {
+        Ok(position) => {
+            let finding = search(desk, slices, args, asked, number, position)?;
+            let line = found_line(desk.alloc, number, position, &finding)?;
+            Ok((line, is_undecided(&finding)))
+        }
+        Err(fault) => Ok((refused_line(desk.alloc, number, *fault)?, true)),
+    }
+}
+
+/// Whether the number of moves is not known.
+fn is_undecided<B: Board>(finding: &Finding<B>) -> bool
+    ensures { result ≡ is_open (told_by finding.now) }
+{
+    matches!(finding, Finding::Undecided { .. })
+}
+
+/// Searches for one problem, and shows how far it is. If the number of positions is bounded, the memo is empty first,
+/// so that nothing depends on the problems before.
+fn search<B: Board, W: DeskWatcher>(
+    desk: &mut Desk<B>,
+    slices: &mut Slices<W>,
+    args: &DeskArgs<'_>,
+    asked: &FindArgs,
+    number: u32,
+    position: &Position<B>,
+) -> Result<Finding<B>, DeskFault>
+    ensures found { IfOk result (λ finding. IsFound B.geometry asked.now.most asked.now.each position.now
+        (told_by finding)) }
+    ensures bounded { IfSome asked.now.each (λ _. IfOk result (IsBounded B.geometry position.now asked.now.most
+        slices.old.first asked.now.each desk.new.solver)) }
+{
+    if asked.each.is_some() {
+        desk.solver = solver_of(desk.alloc, args)?;
+    }
+    let bounds = FindBounds {
+        most: asked.most,
+        each: asked.each,
+    };
+    desk.begin(slices, number);
+    let finding = find(desk.alloc, &mut desk.solver, position, bounds, slices);
+    slices.watcher.end();
+    Ok(finding?)
+}

@@ -1,0 +1,408 @@
+//! The command `page`: all problems on a page, with diagrams and solutions.
+ghost use Rattle.std.specs.Prelude.{◌≡◌, ◌≤◌, ◌⊎◌, ◌++◌, ◌∷◌, [], ℕ, List, true, false, IfOk, OnOk, codes, map};
+ghost use Rattle.std.specs.Prelude.{filter_map, option_map};
+ghost use Rattle.std.specs.Io.KnownBytes.{Appends};
+ghost use Rattle.dw_desk_commands.specs.Paging.{IsAskedIn, IsPage, IsPageOf, IsPart, IsPositionPart, IsSolved, Stands};
+ghost use Rattle.dw_desk_commands.specs.Paging.{language_for, task_part};
+ghost use Rattle.dw_desk_commands.specs.Paging as of;
+ghost use Rattle.dw_desk_commands.specs.inner.Choosing.{AreToCome};
+ghost use Rattle.dw_games.specs.GameReading.{numbered_game};
+ghost use Rattle.dw_games.specs.Games.{NumberedGame};
+ghost use Rattle.dw_games.specs.TagRows.{TagText, AreTags};
+ghost use Rattle.dw_page.specs.Pages.{author_of, end, head, refused, values_of};
+ghost use Rattle.dw_verdict.specs.Judging.{said_by};
+ghost use Rattle.dw_report.specs.Report as report;
+ghost use Rattle.dw_verdict.specs.Verdict.{IsVerdict, Tries};
+ghost use Rattle.dw_study.specs.Finding.{IsFinding};
+ghost use Rattle.dw_study.specs.Telling.{told_by};
+
+use crate::chosen::Chosen;
+use crate::desk::{Counts, Desk, DeskFault};
+use crate::page_rows::{tries_row, verdict_row};
+use crate::solving::movetext_of;
+use crate::watcher::DeskWatcher;
+use dw_arguments::{PageArgs, PageLanguage, Placing};
+use dw_board::{Board, Position};
+use dw_games::{Game, read_tags, value_named};
+use dw_notation::{ProblemFault, Sink, Source, write_all};
+use dw_page::{
+    Heading, Language, Look, Solution, Task, push_end, push_end_of_problem, push_head,
+    push_problem, push_refused, push_solution, push_solutions_heading,
+};
+use dw_report::{Stop, refusal_text};
+use dw_study::find::find;
+use dw_study::{FindBounds, Finding, Slices, judge_in_slices};
+use dw_verdict::Judged;
+use std::alloc::{AllocError, Global};
+
+/// Writes the page, each problem as soon as it is read. If the problem that was asked for is not there, nothing is
+/// written.
+pub(crate) fn page_problems<B: Board, W: DeskWatcher, S: Source, K: Sink>(
+    desk: &mut Desk<B>,
+    slices: &mut Slices<W>,
+    chosen: &mut Chosen<'_, B, S>,
+    asked: &PageArgs<'_>,
+    sink: &mut K,
+) -> Result<Counts, DeskFault>
+    requires { K.is_failed sink.old ≡ false }
+    ensures { IfOk result (λ counts. (games : List NumberedGame) × (text : List ℕ)
+        × AreToCome B.geometry S.coming S.has_ended chosen.old games
+        × IsPageOf B.geometry asked.now chosen.old.portion games counts text
+        × Appends (K.taken sink.old) (K.taken sink.new) text) }
+{
+    let Some(first) = chosen.next()? else {
+        return empty_page::<B, K>(desk.alloc, asked, chosen.is_asked(), sink);
+    };
+    let mut later = begin_page::<B, K>(desk.alloc, asked, sink)?;
+    let is_refused = write_part(desk, slices, asked, &first, &mut later, sink)?;
+    let mut counts = Counts::default().with(is_refused);
+    'games: while let Some(game) = chosen.next()? {
+        counts = counts.with(write_part(desk, slices, asked, &game, &mut later, sink)?);
+    }
+    end_page(desk.alloc, &mut later, sink)?;
+    Ok(counts)
+}
+
+/// Writes a page of no problems, unless one was asked for.
+fn empty_page<B: Board, K: Sink>(
+    alloc: Global,
+    asked: &PageArgs<'_>,
+    is_asked: bool,
+    sink: &mut K,
+) -> Result<Counts, DeskFault>
+    requires { K.is_failed sink.old ≡ false }
+    ensures { IfOk result (λ counts. (text : List ℕ)
+        × ((IsPage B.geometry asked.now [] counts text × (is_asked ≡ false))
+        ⊎ ((is_asked ≡ true) × (counts.shown ≡ 0) × (counts.refused ≡ 0) × (text ≡ [])))
+        × Appends (K.taken sink.old) (K.taken sink.new) text) }
+{
+    if is_asked {
+        return Ok(Counts::default());
+    }
+    let mut later = begin_page::<B, K>(alloc, asked, sink)?;
+    end_page(alloc, &mut later, sink)?;
+    Ok(Counts::default())
+}
+
+/// Writes the head of a page, and returns what is to stand at its end: so far the heading of the solutions, if they
+/// stand there.
+fn begin_page<B: Board, K: Sink>(
+    alloc: Global,
+    asked: &PageArgs<'_>,
+    sink: &mut K,
+) -> Result<Vec<u8>, DeskFault>
+    requires { K.is_failed sink.old ≡ false }
+    ensures head { IfOk result (λ _. Appends (K.taken sink.old) (K.taken sink.new)
+        (head B.geometry (language_for asked.now.language) asked.now.title.now)) }
+    ensures later { IfOk result (λ later. later.items
+        ≡ of.heading_of asked.now.solutions (language_for asked.now.language)) }
+    ensures works { IfOk result (λ _. K.is_failed sink.new ≡ false) }
+{
+    let mut head = Vec::new(alloc);
+    push_head::<B>(alloc, &mut head, &look_of(asked))?;
+    write_all(sink, head.as_slice())?;
+    Ok(heading_of(alloc, asked)?)
+}
+
+/// The heading of the solutions, if they stand at the end.
+fn heading_of(alloc: Global, asked: &PageArgs<'_>) -> Result<Vec<u8>, AllocError>
+    ensures { IfOk result (λ text. text.items ≡ of.heading_of asked.now.solutions (language_for asked.now.language)) }
+{
+    let mut text = Vec::new(alloc);
+    match asked.solutions {
+        Placing::End => push_solutions_heading(alloc, &mut text, &look_of(asked))?,
+        Placing::After | Placing::None => {}
+    }
+    Ok(text)
+}
+
+/// Writes what stands at the end of a page, and its end.
+fn end_page<K: Sink>(alloc: Global, later: &mut Vec<u8>, sink: &mut K) -> Result<(), DeskFault>
+    requires { K.is_failed sink.old ≡ false }
+    ensures { OnOk result (Appends (K.taken sink.old) (K.taken sink.new) (later.old.items ++ end)) }
+{
+    push_end(alloc, later)?;
+    write_all(sink, later.as_slice())?;
+    Ok(())
+}
+
+/// Writes the part of the page that a problem has, and answers whether the problem is refused.
+fn write_part<B: Board, W: DeskWatcher, K: Sink>(
+    desk: &mut Desk<B>,
+    slices: &mut Slices<W>,
+    asked: &PageArgs<'_>,
+    game: &Game<B>,
+    later: &mut Vec<u8>,
+    sink: &mut K,
+) -> Result<bool, DeskFault>
+    requires { K.is_failed sink.old ≡ false }
+    ensures part { IfOk result (λ is_refused. (part new : List ℕ) × IsPart B.geometry asked.now
+        (numbered_game game.now).number (numbered_game game.now).said.found (numbered_game game.now).said.tags
+        is_refused part new × (later.new.items ≡ later.old.items ++ new)
+        × Appends (K.taken sink.old) (K.taken sink.new) part) }
+    ensures works { IfOk result (λ _. K.is_failed sink.new ≡ false) }
+{
+    let number = game.problem.number;
+    match &game.problem.found {
+        Ok(position) => {
+            let section = game.tags.as_slice();
+            let part = known_part(desk, slices, asked, number, position, section, later)?;
+            write_all(sink, part.as_slice())?;
+            Ok(false)
+        }
+        Err(fault) => {
+            let part = refused_part(desk.alloc, asked, number, *fault)?;
+            write_all(sink, part.as_slice())?;
+            Ok(true)
+        }
+    }
+}
+
+/// The part of a problem that is refused.
+fn refused_part(
+    alloc: Global,
+    asked: &PageArgs<'_>,
+    number: u32,
+    fault: ProblemFault,
+) -> Result<Vec<u8>, AllocError>
+    ensures { IfOk result (λ part. part.items
+        ≡ refused (language_for asked.now.language) number (report.refusal_text fault)) }
+{
+    let mut part = Vec::new(alloc);
+    let why = refusal_text(fault);
+    push_refused(alloc, &mut part, &look_of(asked), number, why.as_str())?;
+    Ok(part)
+}
+
+/// The part of a problem that has a position.
+fn known_part<B: Board, W: DeskWatcher>(
+    desk: &mut Desk<B>,
+    slices: &mut Slices<W>,
+    asked: &PageArgs<'_>,
+    number: u32,
+    position: &Position<B>,
+    section: &[u8],
+    later: &mut Vec<u8>,
+) -> Result<Vec<u8>, DeskFault>
+    ensures { IfOk result (λ part. (new : List ℕ)
+        × IsPositionPart B.geometry asked.now number position.now section.now part.items new
+        × (later.new.items ≡ later.old.items ++ new)) }
+{
+    if asked.is_least {
+        match found(desk, slices, asked, number, position)? {
+            Finding::Judged { moves, judged } => {
+                let task = Task {
+                    number,
+                    position,
+                    moves,
+                };
+                judged_part(desk, asked, &task, &judged, section, later)
+            }
+            Finding::Undecided { .. } => Err(DeskFault::Stopped(Stop::Limit)),
+        }
+    } else {
+        let judged = judged_within(desk, slices, asked, number, position)?;
+        let task = Task {
+            number,
+            position,
+            moves: asked.moves,
+        };
+        judged_part(desk, asked, &task, &judged, section, later)
+    }
+}
+
+/// The least number of moves with a win, and the verdict.
+fn found<B: Board, W: DeskWatcher>(
+    desk: &mut Desk<B>,
+    slices: &mut Slices<W>,
+    asked: &PageArgs<'_>,
+    number: u32,
+    position: &Position<B>,
+) -> Result<Finding<B>, DeskFault>
+    ensures finding { IfOk result (λ finding. IsFinding B.geometry position.now asked.now.moves (told_by finding)) }
+{
+    let bounds = FindBounds {
+        most: asked.moves,
+        each: None,
+    };
+    desk.begin(slices, number);
+    let finding = find(desk.alloc, &mut desk.solver, position, bounds, slices);
+    slices.watcher.end();
+    Ok(finding?)
+}
+
+/// The verdict within the number of moves that is asked for.
+fn judged_within<B: Board, W: DeskWatcher>(
+    desk: &mut Desk<B>,
+    slices: &mut Slices<W>,
+    asked: &PageArgs<'_>,
+    number: u32,
+    position: &Position<B>,
+) -> Result<Judged<B>, DeskFault>
+    ensures verdict { IfOk result (λ judged.
+        IsVerdict B.geometry position.now asked.now.moves (said_by judged.verdict)) }
+    ensures tries { IfOk result (λ judged. Tries B.geometry position.now asked.now.moves judged.tries.items) }
+{
+    desk.begin(slices, number);
+    let judged = judge_in_slices(desk.alloc, &mut desk.solver, position, asked.moves, slices);
+    slices.watcher.end();
+    Ok(judged?)
+}
+
+/// The part of a problem that is judged, with its solution where that is to stand.
+fn judged_part<B: Board>(
+    desk: &mut Desk<B>,
+    asked: &PageArgs<'_>,
+    task: &Task<'_, B>,
+    judged: &Judged<B>,
+    section: &[u8],
+    later: &mut Vec<u8>,
+) -> Result<Vec<u8>, DeskFault>
+    requires some { 1 ≤ task.now.moves }
+    requires few { task.now.moves ≤ 20 }
+    requires verdict { IsVerdict B.geometry task.now.position.now task.now.moves (said_by judged.now.verdict) }
+    requires tries { Tries B.geometry task.now.position.now task.now.moves judged.now.tries.items }
+    requires asked { IsAskedIn B.geometry asked.now task.now.position.now task.now.moves }
+    ensures { IfOk result (λ part. (new : List ℕ)
+        × IsPositionPart B.geometry asked.now task.now.number task.now.position.now section.now part.items new
+        × (later.new.items ≡ later.old.items ++ new)) }
+{
+    let mut part = Vec::new(desk.alloc);
+    push_tagged(desk, asked, task, section, &mut part)?;
+    push_placed(desk, asked, task, judged, &mut part, later)?;
+    push_end_of_problem(&mut part)?;
+    Ok(part)
+}
+
+/// The solution of a problem where it is to stand: behind its problem, or later.
+fn push_placed<B: Board>(
+    desk: &mut Desk<B>,
+    asked: &PageArgs<'_>,
+    task: &Task<'_, B>,
+    judged: &Judged<B>,
+    part: &mut Vec<u8>,
+    later: &mut Vec<u8>,
+) -> Result<(), DeskFault>
+    requires some { 1 ≤ task.now.moves }
+    requires few { task.now.moves ≤ 20 }
+    requires verdict { IsVerdict B.geometry task.now.position.now task.now.moves (said_by judged.now.verdict) }
+    requires tries { Tries B.geometry task.now.position.now task.now.moves judged.now.tries.items }
+    ensures { OnOk result ((behind new : List ℕ) × Stands asked.now.solutions (IsSolved B.geometry
+        (language_for asked.now.language) asked.now.lines task.now.number task.now.position.now task.now.moves) behind
+        new
+        × (part.new.items ≡ part.old.items ++ behind) × (later.new.items ≡ later.old.items ++ new)) }
+{
+    match asked.solutions {
+        Placing::After => {
+            push_solved(desk, asked, task, judged, false, part)?;
+            Ok(())
+        }
+        Placing::End => {
+            push_solved(desk, asked, task, judged, true, later)?;
+            Ok(())
+        }
+        Placing::None => Ok(()),
+    }
+}
+
+/// A problem up to what is asked, under the tags of its section.
+fn push_tagged<B: Board>(
+    desk: &Desk<B>,
+    asked: &PageArgs<'_>,
+    task: &Task<'_, B>,
+    section: &[u8],
+    page: &mut Vec<u8>,
+) -> Result<(), DeskFault>
+    ensures { OnOk result ((tags : List TagText) × AreTags section.now tags × (page.new.items ≡ page.old.items
+        ++ task_part B.geometry asked.now task.now.number task.now.position.now (map (λ t. t.tag) tags)
+        task.now.moves)) }
+{
+    let tags = read_tags(desk.alloc, section)?;
+    let tags = tags.as_slice();
+    let heading = heading_under(
+        value_named(tags, b"White"),
+        value_named(tags, b"Event"),
+        value_named(tags, b"Site"),
+        value_named(tags, b"Date"),
+    );
+    push_problem(desk.alloc, page, &look_of(asked), task, &heading)?;
+    Ok(())
+}
+
+/// The heading of a problem whose tags have these values.
+fn heading_under<'v>(
+    author: Option<&'v [u8]>,
+    event: Option<&'v [u8]>,
+    site: Option<&'v [u8]>,
+    date: Option<&'v [u8]>,
+) -> Heading<'v>
+    ensures author { author_of result ≡ option_map (λ v. v.now) author.entry }
+    ensures source { values_of result
+        ≡ filter_map (option_map (λ v. v.now)) (event.entry ∷ site.entry ∷ date.entry ∷ []) }
+{
+    let source = [event, site, date];
+    Heading { author, source }
+}
+
+/// The solution of a problem, apart from it or not.
+fn push_solved<B: Board>(
+    desk: &mut Desk<B>,
+    asked: &PageArgs<'_>,
+    task: &Task<'_, B>,
+    judged: &Judged<B>,
+    is_apart: bool,
+    page: &mut Vec<u8>,
+) -> Result<(), DeskFault>
+    requires some { 1 ≤ task.now.moves }
+    requires few { task.now.moves ≤ 20 }
+    requires verdict { IsVerdict B.geometry task.now.position.now task.now.moves (said_by judged.now.verdict) }
+    requires tries { Tries B.geometry task.now.position.now task.now.moves judged.now.tries.items }
+    ensures { OnOk result ((text : List ℕ) × IsSolved B.geometry (language_for asked.now.language) asked.now.lines
+        task.now.number task.now.position.now task.now.moves is_apart text
+        × (page.new.items ≡ page.old.items ++ text)) }
+{
+    let position = task.position;
+    let movetext = movetext_of(desk, position, task.moves, asked.lines, &judged.verdict)?;
+    let verdict = verdict_row(
+        desk.alloc,
+        language_of(asked.language),
+        position,
+        task.moves,
+        judged,
+    )?;
+    let tries = tries_row(desk.alloc, position, judged)?;
+    let solution = Solution {
+        verdict: verdict.as_str(),
+        tries: tries.as_slice(),
+        movetext: movetext.as_slice(),
+    };
+    push_solution(desk.alloc, page, &look_of(asked), task, &solution, is_apart)?;
+    Ok(())
+}
+
+/// How the page is written that is asked for.
+fn look_of<'a>(asked: &PageArgs<'a>) -> Look<'a>
+    ensures { result ≡ record {
+      title = asked.now.title;
+      language = language_for asked.now.language;
+      numbers = asked.now.numbers;
+    } }
+{
+    Look {
+        title: asked.title,
+        language: language_of(asked.language),
+        numbers: asked.numbers,
+    }
+}
+
+/// The language of the page that is asked for.
+fn language_of(language: PageLanguage) -> Language
+    ensures { result ≡ language_for language }
+{
+    match language {
+        PageLanguage::English => Language::English,
+        PageLanguage::Dutch => Language::Dutch,
+        PageLanguage::French => Language::French,
+        PageLanguage::Russian => Language::Russian,
+    }
+}

@@ -1,3 +1,0 @@
-pub mod Names
-pub mod Numbers
-pub mod Commands

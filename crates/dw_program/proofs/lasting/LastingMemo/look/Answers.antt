@@ -1,8 +1,0 @@
-use Rattle.std.proofs.Common.{subst}
-use Rattle.dw_memo.specs.Choice.{content_of}
-use Rattle.dw_memo.specs.Content.{SameEntries}
-use Rattle.dw_program.proofs.lasting.LastingMemo.look.Goals as goal
-
-pub returns-clause-same : goal.returns-clause-same
-returns-clause-same g c =
-    subst (λ m. SameEntries (content_of m) (content_of c.look.new.self)) c.self.view_is c.look.ensures.same
