@@ -1,89 +1,65 @@
 //! The command `check`: what the solution in each game gets wrong, and what it leaves out.
 ghost use Rattle.std.specs.Prelude.{◌≡◌, ◌+◌, ◌≤◌, ◌<◌, ◌↔◌, ℕ, List, [], Some, false, map, IfOk, OnOk, IsTrue};
-ghost use Rattle.std.specs.Prelude.{codes, if◌then◌else◌};
+ghost use Rattle.std.specs.Prelude.{codes, if◌then◌else◌, IsErrOf};
 ghost use Rattle.std.specs.Io.KnownBytes.{Appends};
 ghost use Rattle.std.specs.String.{string_bytes};
 ghost use Rattle.dw_board.specs.Lists.{Member};
 ghost use Rattle.dw_desk_commands.specs.Checking.{IsCheckOf, IsCheckedText, IsNumberFor, counted, no_win_line};
 ghost use Rattle.dw_desk_commands.specs.Checking as of;
-ghost use Rattle.dw_desk_commands.specs.ProblemText.{AreTexts, IsReport};
-ghost use Rattle.dw_desk_commands.specs.inner.Choosing.{AreToCome};
+ghost use Rattle.dw_desk_commands.specs.ProblemText.{AreTexts};
+ghost use Rattle.dw_desk_commands.specs.inner.Faults.{SinkFails};
 ghost use Rattle.dw_desk_commands.specs.inner.Tallies.{one_more, tallied, total};
-ghost use Rattle.dw_games.specs.GameReading.{numbered_game};
-ghost use Rattle.dw_games.specs.Games.{NumberedGame};
 ghost use Rattle.dw_games.specs.Movetext.{IsTree};
 ghost use Rattle.dw_moves.specs.Moves.{Move};
 ghost use Rattle.dw_solve.specs.Wins.{Win};
+ghost use Rattle.dw_solve.specs.declared.stop.Stop.TheVariants.{Limit};
 ghost use Rattle.dw_study.specs.RemarkText.{CanBeTold, IsRemarkText};
 ghost use Rattle.dw_study.specs.Remarks.{AreRemarks, Remark as AnyRemark};
 ghost use Rattle.dw_study.specs.Telling.{Say, remark_in};
 
-use crate::chosen::Chosen;
-use crate::desk::{Counts, Desk, DeskFault};
+use crate::desk::{Desk, DeskFault};
+use crate::reporting::ReportEach;
 use crate::watcher::DeskWatcher;
+use dw_arguments::CheckArgs;
 use dw_arguments::options::{FEWEST_MOVES, MOST_MOVES};
 use dw_board::{Board, Position};
 use dw_games::{Game, MovetextFault, MovetextFaultKind, Tree, read_movetext};
-use dw_notation::{Sink, Source, write_all};
+use dw_notation::{Sink, write_all};
 use dw_report::{Stop, problem_line};
 use dw_study::check::check;
 use dw_study::{Checked, Remark, Slices, remark_text, turns_of};
 use itoa::Buffer;
 use std::alloc::{AllocError, Global};
 
-/// Checks the solutions of the chosen games, each as soon as it is read, within as many moves as are asked for, or as
-/// many as each has.
-pub(crate) fn check_games<B: Board, W: DeskWatcher, S: Source, K: Sink>(
-    desk: &mut Desk<B>,
-    slices: &mut Slices<W>,
-    chosen: &mut Chosen<'_, B, S>,
-    n: Option<u8>,
-    sink: &mut K,
-) -> Result<Counts, DeskFault>
-    requires { K.is_failed sink.old ≡ false }
-    ensures { IfOk result (λ counts. (games : List NumberedGame) × (text : List ℕ)
-        × AreToCome B.geometry S.coming S.has_ended chosen.old games
-        × IsReport (IsCheckOf B.geometry n) games counts text
-        × Appends (K.taken sink.old) (K.taken sink.new) text) }
-{
-    let mut counts = Counts::default();
-    'games: while let Some(game) = chosen.next()? {
-        counts = counts.with(report(desk, slices, n, &game, sink)?);
-    }
-    Ok(counts)
-}
+impl<B: Board> ReportEach<B> for CheckArgs {
+    ghost says = { λ asked. IsCheckOf B.geometry asked.n };
 
-/// Reports one game, and answers whether it or its solution is refused, or the solution fails.
-fn report<B: Board, W: DeskWatcher, K: Sink>(
-    desk: &mut Desk<B>,
-    slices: &mut Slices<W>,
-    n: Option<u8>,
-    game: &Game<B>,
-    sink: &mut K,
-) -> Result<bool, DeskFault>
-    requires { K.is_failed sink.old ≡ false }
-    ensures text { IfOk result (λ refused. (text : List ℕ)
-        × IsCheckOf B.geometry n (numbered_game game.now) refused text
-        × Appends (K.taken sink.old) (K.taken sink.new) text) }
-    ensures works { IfOk result (λ _. K.is_failed sink.new ≡ false) }
-{
-    write_all(sink, problem_line(&game.problem).as_str().as_bytes())?;
-    let Ok(position) = &game.problem.found else {
-        return Ok(true);
-    };
-    match read_movetext(desk.alloc, position, game.movetext.as_slice()) {
-        Ok(tree) => {
-            let n = moves_for(n, &tree);
-            let checked = checked(desk, slices, game.problem.number, position, &tree, n)?;
-            let fails = write_checked(desk.alloc, position, &tree, n, &checked, sink)?;
-            Ok(fails)
+    /// Reports one game, and returns whether it or its solution is refused, or the solution fails.
+    fn report<W: DeskWatcher, K: Sink>(
+        &self,
+        desk: &mut Desk<B>,
+        slices: &mut Slices<W>,
+        game: &Game<B>,
+        sink: &mut K,
+    ) -> Result<bool, DeskFault> {
+        write_all(sink, problem_line(&game.problem).as_str().as_bytes())?;
+        let Ok(position) = &game.problem.found else {
+            return Ok(true);
+        };
+        match read_movetext(desk.alloc, position, game.movetext.as_slice()) {
+            Ok(tree) => {
+                let n = moves_for(self.n, &tree);
+                let checked = checked(desk, slices, game.problem.number, position, &tree, n)?;
+                let fails = write_checked(desk.alloc, position, &tree, n, &checked, sink)?;
+                Ok(fails)
+            }
+            Err(MovetextFault::Refused { what, place }) => {
+                let line = refused_line(desk.alloc, what, place)?;
+                write_all(sink, line.as_str().as_bytes())?;
+                Ok(true)
+            }
+            Err(MovetextFault::Memory) => Err(DeskFault::Stopped(Stop::Memory)),
         }
-        Err(MovetextFault::Refused { what, place }) => {
-            let line = refused_line(desk.alloc, what, place)?;
-            write_all(sink, line.as_str().as_bytes())?;
-            Ok(true)
-        }
-        Err(MovetextFault::Memory) => Err(DeskFault::Stopped(Stop::Memory)),
     }
 }
 
@@ -108,17 +84,18 @@ fn checked<B: Board, W: DeskWatcher>(
     position: &Position<B>,
     tree: &Tree<B>,
     n: u8,
-) -> Result<Checked<B>, DeskFault>
+) -> Result<Checked<B>, Stop>
     requires some { 1 ≤ n }
     requires few { n ≤ 20 }
     ensures wins { IfOk result (λ checked. IsTrue checked.wins ↔ Win B.geometry position.now n) }
     ensures remarks { IfOk result (λ checked. Say tree.now checked.remarks.items
         (AreRemarks B.geometry tree.now n position.now [])) }
+    ensures stop { IsErrOf result Limit → desk.new.solver.expanded ≡ u64.MAX }
 {
     desk.begin(slices, number);
     let checked = check(desk.alloc, &mut desk.solver, position, tree, n, slices);
     slices.watcher.end();
-    Ok(checked?)
+    checked
 }
 
 /// That a solution has this fault.
@@ -156,6 +133,7 @@ fn write_checked<B: Board, K: Sink>(
         × IsCheckedText B.geometry position.now n tree.now refused text
         × Appends (K.taken sink.old) (K.taken sink.new) text) }
     ensures works { IfOk result (λ _. K.is_failed sink.new ≡ false) }
+    ensures fails { SinkFails (K.is_failed sink.new) result }
 {
     dw_study::laws::remarks_can_be_told();
     let line = win_line(alloc, checked.wins, n)?;
@@ -195,6 +173,7 @@ fn write_remarks<B: Board, K: Sink>(
         → OnOk result ((told : List ℕ) × AreTexts (IsRemarkText B.geometry position.now) said told
         × Appends (K.taken sink.old) (K.taken sink.new) told) }
     ensures works { OnOk result (K.is_failed sink.new ≡ false) }
+    ensures fails { SinkFails (K.is_failed sink.new) result }
 {
     'remarks: for remark in remarks {
         write_remark(alloc, position, tree, remark, sink)?;
@@ -215,6 +194,7 @@ fn write_remark<B: Board, K: Sink>(
         → OnOk result ((text : List ℕ) × IsRemarkText B.geometry position.now r text
         × Appends (K.taken sink.old) (K.taken sink.new) text) }
     ensures works { OnOk result (K.is_failed sink.new ≡ false) }
+    ensures fails { SinkFails (K.is_failed sink.new) result }
 {
     if let Some(text) = remark_text(alloc, position, tree, remark)? {
         write_all(sink, text.as_str().as_bytes())?;

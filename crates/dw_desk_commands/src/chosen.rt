@@ -1,5 +1,6 @@
 //! The problems that a command speaks of, one after another.
-ghost use Rattle.std.specs.Prelude.{◌≡◌, ◌<◌, ◌-◌, if◌then◌else◌, ℕ, List, Some, false, option_map, IfOk, IfSome};
+ghost use Rattle.std.specs.Prelude.{◌≡◌, ◌<◌, ◌-◌, if◌then◌else◌, ℕ, List, false, option_map, IfOk, IfErr, IfSome};
+ghost use Rattle.std.specs.Prelude.{OnOk};
 
 use crate::desk::DeskFault;
 use dw_arguments::Portion;
@@ -20,20 +21,20 @@ pub(crate) struct Chosen<'a, B: Board, S> {
 }
 
 impl<'a, B: Board, S: Source> Chosen<'a, B, S> {
-    ghost use Rattle.dw_desk_commands.specs.Chosen.{AreChosenOf, is_in};
+    ghost use Rattle.dw_desk_commands.specs.Chosen.{is_in};
     ghost use Rattle.dw_desk_commands.specs.inner.Choosing.{HandsOut};
     ghost use Rattle.dw_desk_commands.specs.inner.Choosing.{AreToCome, IsKnown, is_met};
+    ghost use Rattle.dw_desk_commands.specs.inner.Choosing.{IsFresh, Runs, lender, source_of};
+    ghost use Rattle.dw_desk_commands.specs.inner.Faults.{IsCaused};
     ghost use Rattle.dw_games.specs.GameReading.{numbered_game};
     ghost use Rattle.dw_games.specs.Games.{NumberedGame};
 
     /// The problems of a portion, of a text of this form that the source gives.
     pub(crate) fn new(alloc: Global, source: &'a mut S, form: Form, portion: Portion) -> Self
         requires { S.is_failed source.old ≡ false }
-        ensures chosen { (games : List NumberedGame) → AreToCome B.geometry S.coming S.has_ended result games
-            → AreChosenOf B.geometry form portion (S.coming source.old) games }
-        ensures known { (bytes : List ℕ) → S.coming source.old ≡ Some bytes
-            → IsKnown S.coming S.has_ended result }
-        ensures portion { result.portion ≡ portion }
+        ensures fresh { IsFresh B.geometry S.coming S.has_ended form portion result }
+        ensures source { source_of result.text ≡ source.old }
+        ensures lender { lender result.text ≡ source.entry.ghost_name }
     {
         Chosen {
             alloc,
@@ -59,12 +60,16 @@ impl<'a, B: Board, S: Source> Chosen<'a, B, S> {
 
     /// The next of them, or none if there is no more. Reading ends behind the last.
     pub(crate) fn next(&mut self) -> Result<Option<Game<B>>, DeskFault>
+        requires { Runs self.old.text }
         ensures given { IfOk result (λ found. HandsOut (AreToCome B.geometry S.coming S.has_ended self.old)
             (AreToCome B.geometry S.coming S.has_ended self.new) (option_map numbered_game found)) }
         ensures more { IfOk result (λ found. IfSome found (λ _. IsKnown S.coming S.has_ended self.old
             → (games : List NumberedGame) × AreToCome B.geometry S.coming S.has_ended self.new games)) }
         ensures portion { self.new.portion ≡ self.old.portion }
         ensures fewer { IfOk result (λ found. IfSome found (λ _. self.new.left < self.old.left)) }
+        ensures lender { lender self.new.text ≡ lender self.old.text }
+        ensures cause { IfErr result (IsCaused (S.is_failed (source_of self.new.text)) false) }
+        ensures runs { OnOk result (Runs self.new.text) }
     {
         'games: while self.left > 0 {
             let Some(game) = self.text.next(self.alloc)? else {
@@ -111,7 +116,8 @@ enum Text<'a, B: Board, S> {
 
 impl<'a, B: Board, S: Source> Text<'a, B, S> {
     ghost use Rattle.dw_desk_commands.specs.Chosen.{AreGamesIn};
-    ghost use Rattle.dw_desk_commands.specs.inner.Choosing.{AreAhead, ComesNext, EndIsKnown, source_of};
+    ghost use Rattle.dw_desk_commands.specs.inner.Choosing.{AreAhead, ComesNext, EndIsKnown, Runs, lender, source_of};
+    ghost use Rattle.dw_desk_commands.specs.inner.Faults.{IsCaused};
     ghost use Rattle.dw_games.specs.Games.{NumberedGame};
 
     /// A text of this form that the source gives.
@@ -121,6 +127,8 @@ impl<'a, B: Board, S: Source> Text<'a, B, S> {
         ensures games { (bytes : List ℕ) (games : List NumberedGame) → AreAhead B.geometry result bytes games
             → AreGamesIn B.geometry form bytes games }
         ensures end { EndIsKnown S.coming S.has_ended result }
+        ensures lender { lender result ≡ source.entry.ghost_name }
+        ensures runs { Runs result }
     {
         match form {
             Form::Fens => Text::Fens(Problems::new(source, form)),
@@ -130,8 +138,12 @@ impl<'a, B: Board, S: Source> Text<'a, B, S> {
 
     /// The next problem, chosen or not.
     fn next(&mut self, alloc: Global) -> Result<Option<Game<B>>, DeskFault>
+        requires { Runs self.old }
         ensures given { IfOk result (ComesNext B.geometry S.coming S.has_ended self.old self.new) }
         ensures end { EndIsKnown S.coming S.has_ended self.old → EndIsKnown S.coming S.has_ended self.new }
+        ensures lender { lender self.new ≡ lender self.old }
+        ensures cause { IfErr result (IsCaused (S.is_failed (source_of self.new)) false) }
+        ensures runs { OnOk result (Runs self.new) }
     {
         match self {
             Text::Pdn(games) => Ok(games.next()?),

@@ -1,21 +1,18 @@
 //! What every command does: it searches with a solver, and counts what it reports.
-ghost use Rattle.std.specs.Prelude.{◌≡◌, ◌⊎◌, ◌+◌, ◌<◌, ◌≤◌, false, if◌then◌else◌, IfOk};
+ghost use Rattle.std.specs.Prelude.{◌≡◌, ◌⊎◌, ◌+◌, ◌<◌, ◌≤◌, false, if◌then◌else◌, Bool, IfOk, IfErr, OnOk};
 ghost use Rattle.dw_desk_commands.specs.Commands.{DoesIt, Obeys, form_for};
-ghost use Rattle.dw_desk_commands.specs.Ending.{ending_after};
+ghost use Rattle.dw_desk_commands.specs.Ending.{FailsForCause, HasCause, ending_after};
 ghost use Rattle.dw_desk_commands.specs.declared.desk.DeskFault.TheVariants as because;
-ghost use Rattle.dw_desk_commands.specs.inner.Faults.{of_game, of_mend, run_fault};
+ghost use Rattle.dw_desk_commands.specs.inner.Choosing.{IsFresh, source_of};
+ghost use Rattle.dw_desk_commands.specs.inner.Faults.{CommandFails, of_game, of_mend, run_fault};
 ghost use Rattle.dw_solve.specs.declared.stop.Stop.TheVariants as stops;
 
-use crate::certifying::certify_problem;
-use crate::checking::check_games;
 use crate::chosen::Chosen;
-use crate::finding::find_problems;
-use crate::mending::mend_problem;
 use crate::paging::page_problems;
-use crate::solving::solve_problems;
+use crate::reporting::{report_all, report_first};
 use crate::watcher::DeskWatcher;
-use crate::writing::write_line;
-use dw_arguments::{DeskArgs, Task};
+use crate::writing::Line;
+use dw_arguments::{DeskArgs, MemoKind, Task};
 use dw_board::Board;
 use dw_commands::{Ending, LeakedMemo, memo_of};
 use dw_games::GameFault;
@@ -137,14 +134,37 @@ impl From<WriteFault> for DeskFault {
     }
 }
 
-/// What searches for the problems.
+/// What searches for the problems: a solver without a limit, over a memo of this kind and size.
 #[derive(Drop)]
 pub(crate) struct Desk<B: Board> {
     pub(crate) alloc: Global,
+    pub(crate) memo: MemoKind,
+    pub(crate) cache: usize,
     pub(crate) solver: Solver<B, LeakedMemo<B>, ByTrial>,
+    ghost some_kept: { 1 ≤ cache },
+    ghost few_kept: { cache ≤ 4000000 },
+    ghost unbounded: { solver.limit ≡ 18446744073709551615 },
 }
 
 impl<B: Board> Desk<B> {
+    /// A desk over an empty memo.
+    fn new(alloc: Global, args: &DeskArgs<'_>) -> Result<Self, AllocError> {
+        Ok(Desk {
+            alloc,
+            memo: args.memo,
+            cache: args.cache,
+            solver: solver_of(alloc, args.memo, args.cache)?,
+        })
+    }
+
+    /// Takes an empty memo, and counts positions from 0 again.
+    pub(crate) fn renew(&mut self) -> Result<(), AllocError>
+        ensures { OnOk result (self.new.solver.expanded ≡ 0) }
+    {
+        self.solver = solver_of(self.alloc, self.memo, self.cache)?;
+        Ok(())
+    }
+
     /// Begins with another problem: the memo may forget those before, and the line that shows how far a search is tells
     /// its number.
     pub(crate) fn begin<W: DeskWatcher>(&mut self, slices: &mut Slices<W>, number: u32)
@@ -156,7 +176,8 @@ impl<B: Board> Desk<B> {
     }
 }
 
-/// Does what was asked for, with the problems of a source, and tells how the program ends.
+/// Does what was asked for, with the problems of a source, and tells how the program ends. It fails only if memory was
+/// refused, if a stream failed, or if 2^64 - 1 positions were expanded.
 /// Example: of `dw-desk find`, `W:W32:B28` gives two lines, and the program ends with `Ending::Done`.
 pub fn run_on<'a, B: Board, W: DeskWatcher, S: Source, K: Sink>(
     alloc: Global,
@@ -168,12 +189,12 @@ pub fn run_on<'a, B: Board, W: DeskWatcher, S: Source, K: Sink>(
     requires rows { (B.geometry.rows ≡ 10) ⊎ (B.geometry.rows ≡ 8) }
     requires source { S.is_failed source.old ≡ false }
     requires sink { K.is_failed sink.old ≡ false }
-    ensures { Obeys B.geometry args.now (S.coming source.old) (K.taken sink.old) (K.taken sink.new) result }
+    ensures obeys { Obeys B.geometry args.now (S.coming source.old) (K.taken sink.old) (K.taken sink.new) result }
+    ensures fails { FailsForCause (K.is_failed sink.new) result }
 {
-    let Ok(solver) = solver_of::<B>(alloc, args) else {
+    let Ok(mut desk) = Desk::<B>::new(alloc, args) else {
         return Ending::no_memory();
     };
-    let mut desk = Desk { alloc, solver };
     match dispatch(&mut desk, slices, args, source, sink) {
         Ok(ending) => ending,
         Err(fault) => Ending::Failed(fault.in_run(desk.solver.expanded())),
@@ -191,26 +212,60 @@ fn dispatch<'a, B: Board, W: DeskWatcher, S: Source, K: Sink>(
     requires rows { (B.geometry.rows ≡ 10) ⊎ (B.geometry.rows ≡ 8) }
     requires source { S.is_failed source.old ≡ false }
     requires sink { K.is_failed sink.old ≡ false }
-    ensures { IfOk result (DoesIt B.geometry args.now (S.coming source.old) (K.taken sink.old) (K.taken sink.new)) }
+    ensures does { IfOk result (DoesIt B.geometry args.now (S.coming source.old) (K.taken sink.old)
+        (K.taken sink.new)) }
+    ensures told { IfOk result (FailsForCause false) }
+    ensures fails { (read_failed : Bool) × IfErr result (λ fault.
+        HasCause read_failed (K.is_failed sink.new) (run_fault fault desk.new.solver.expanded)) }
 {
-    let mut chosen = Chosen::new(desk.alloc, source, form_of(args), args.portion);
+    let mut chosen = Chosen::<B, S>::new(desk.alloc, source, form_of(args), args.portion);
+    do_with(desk, slices, args, &mut chosen, sink)
+}
+
+/// Does what was asked for, with the chosen problems, unless something stops it.
+fn do_with<'a, B: Board, W: DeskWatcher, S: Source, K: Sink>(
+    desk: &mut Desk<B>,
+    slices: &mut Slices<W>,
+    args: &DeskArgs<'a>,
+    chosen: &mut Chosen<'_, B, S>,
+    sink: &mut K,
+) -> Result<Ending<&'a str>, DeskFault>
+    requires rows { (B.geometry.rows ≡ 10) ⊎ (B.geometry.rows ≡ 8) }
+    requires fresh { IsFresh B.geometry S.coming S.has_ended (form_for args.now.task args.now.form)
+        args.now.portion chosen.old }
+    requires sink { K.is_failed sink.old ≡ false }
+    ensures does { IfOk result (DoesIt B.geometry args.now (S.coming (source_of chosen.old.text))
+        (K.taken sink.old) (K.taken sink.new)) }
+    ensures told { IfOk result (FailsForCause false) }
+    ensures ends { CommandFails S.is_failed (K.is_failed sink.new) desk.new.solver.expanded chosen.old chosen.new result }
+{
     match args.task {
         Task::Find(asked) => {
-            return Ok(find_problems(desk, slices, &mut chosen, args, &asked, sink)?.ending(args));
+            return Ok(report_all(&asked, desk, slices, chosen, sink)?.ending(args));
         }
         Task::Check(asked) => {
-            return Ok(check_games(desk, slices, &mut chosen, asked.n, sink)?.ending(args));
+            return Ok(report_all(&asked, desk, slices, chosen, sink)?.ending(args));
         }
         Task::Solution(asked) => {
-            return Ok(solve_problems(desk, slices, &mut chosen, &asked, sink)?.ending(args));
+            return Ok(report_all(&asked, desk, slices, chosen, sink)?.ending(args));
         }
         Task::Page(asked) => {
-            return Ok(page_problems(desk, slices, &mut chosen, &asked, sink)?.ending(args));
+            return Ok(page_problems(desk, slices, chosen, &asked, sink)?.ending(args));
         }
-        Task::Certify(asked) => return certify_problem(desk, slices, &mut chosen, &asked, sink),
-        Task::Mend(asked) => return mend_problem(desk, slices, &mut chosen, &asked, sink),
+        Task::Certify(asked) => {
+            return report_first::<&'a str, _, _, _, _, _>(&asked, desk, slices, chosen, sink);
+        }
+        Task::Mend(asked) => {
+            return report_first::<&'a str, _, _, _, _, _>(&asked, desk, slices, chosen, sink);
+        }
         Task::Token { line } => {
-            return write_line::<_, B, _, _>(desk.alloc, &mut chosen, line, sink);
+            return report_first::<&'a str, _, _, _, _, _>(
+                &Line { text: line },
+                desk,
+                slices,
+                chosen,
+                sink,
+            );
         }
     }
 }
@@ -225,13 +280,17 @@ fn form_of(args: &DeskArgs<'_>) -> Form
     }
 }
 
-/// The solver for one problem or for all, over an empty memo.
-pub(crate) fn solver_of<B: Board>(
+/// A solver without a limit, over an empty memo of this kind and size.
+fn solver_of<B: Board>(
     alloc: Global,
-    args: &DeskArgs<'_>,
+    memo: MemoKind,
+    cache: usize,
 ) -> Result<Solver<B, LeakedMemo<B>, ByTrial>, AllocError>
-    ensures { IfOk result (λ solver. solver.expanded ≡ 0) }
+    requires some { 1 ≤ cache }
+    requires few { cache ≤ 4_000_000 }
+    ensures none { IfOk result (λ solver. solver.expanded ≡ 0) }
+    ensures unbounded { IfOk result (λ solver. solver.limit ≡ u64.MAX) }
 {
-    let memo = memo_of(alloc, args.memo, args.cache)?;
+    let memo = memo_of(alloc, memo, cache)?;
     Ok(Solver::new(memo, ByTrial, u64::MAX))
 }

@@ -1,68 +1,43 @@
 //! The command `find`: the least number of moves within which each problem is won, with the verdict.
-ghost use Rattle.std.specs.Prelude.{◌≡◌, ℕ, List, false, IfOk, IfSome};
+ghost use Rattle.std.specs.Prelude.{◌≡◌, ℕ, List, false, IfOk, IfSome, IsErrOf};
 ghost use Rattle.std.specs.Io.KnownBytes.{Appends};
 ghost use Rattle.std.specs.String.{string_bytes};
 ghost use Rattle.dw_desk_commands.specs.Finding.{IsFindOf, IsFound, IsJsonOf, SaysFound, is_open};
-ghost use Rattle.dw_desk_commands.specs.ProblemText.{IsProblemText, IsReport};
-ghost use Rattle.dw_desk_commands.specs.inner.Choosing.{AreToCome};
+ghost use Rattle.dw_desk_commands.specs.ProblemText.{IsProblemText};
+ghost use Rattle.dw_desk_commands.specs.inner.Faults.{ReportFails};
 ghost use Rattle.dw_desk_commands.specs.inner.Searching.{IsBounded};
-ghost use Rattle.dw_games.specs.Games.{NumberedGame, problem_of};
+ghost use Rattle.dw_games.specs.Games.{problem_of};
 ghost use Rattle.dw_notation.specs.Problems.{Numbered, numbered};
+ghost use Rattle.dw_solve.specs.declared.stop.Stop.TheVariants.{Limit};
 ghost use Rattle.dw_study.specs.Telling.{told_by};
 
-use crate::chosen::Chosen;
-use crate::desk::{Counts, Desk, DeskFault, solver_of};
+use crate::desk::{Desk, DeskFault};
 use crate::json_rows::{found_line, refused_line};
+use crate::reporting::ReportEach;
 use crate::watcher::DeskWatcher;
-use dw_arguments::{DeskArgs, FindArgs};
+use dw_arguments::FindArgs;
 use dw_board::{Board, Position};
-use dw_notation::{Problem, Sink, Source, write_all};
-use dw_report::problem_line;
+use dw_games::Game;
+use dw_notation::{Problem, Sink, write_all};
+use dw_report::{Stop, problem_line};
 use dw_study::find::find;
 use dw_study::{FindBounds, Finding, Slices, found_text};
 
-/// Reports the chosen problems, each as soon as it is read.
-pub(crate) fn find_problems<B: Board, W: DeskWatcher, S: Source, K: Sink>(
-    desk: &mut Desk<B>,
-    slices: &mut Slices<W>,
-    chosen: &mut Chosen<'_, B, S>,
-    args: &DeskArgs<'_>,
-    asked: &FindArgs,
-    sink: &mut K,
-) -> Result<Counts, DeskFault>
-    requires { K.is_failed sink.old ≡ false }
-    ensures { IfOk result (λ counts. (games : List NumberedGame) × (text : List ℕ)
-        × AreToCome B.geometry S.coming S.has_ended chosen.old games
-        × IsReport (λ game. IsFindOf B.geometry asked.now.json asked.now.most asked.now.each (problem_of game)) games
-        counts text
-        × Appends (K.taken sink.old) (K.taken sink.new) text) }
-{
-    let mut counts = Counts::default();
-    'games: while let Some(game) = chosen.next()? {
-        counts = counts.with(report(desk, slices, args, asked, &game.problem, sink)?);
-    }
-    Ok(counts)
-}
+impl<B: Board> ReportEach<B> for FindArgs {
+    ghost says = { λ asked game. IsFindOf B.geometry asked.json asked.most asked.each (problem_of game) };
 
-/// Reports one problem, and answers whether it was refused or stayed undecided.
-fn report<B: Board, W: DeskWatcher, K: Sink>(
-    desk: &mut Desk<B>,
-    slices: &mut Slices<W>,
-    args: &DeskArgs<'_>,
-    asked: &FindArgs,
-    problem: &Problem<B>,
-    sink: &mut K,
-) -> Result<bool, DeskFault>
-    requires { K.is_failed sink.old ≡ false }
-    ensures text { IfOk result (λ refused. (text : List ℕ)
-        × IsFindOf B.geometry asked.now.json asked.now.most asked.now.each (numbered problem.now) refused text
-        × Appends (K.taken sink.old) (K.taken sink.new) text) }
-    ensures works { IfOk result (λ _. K.is_failed sink.new ≡ false) }
-{
-    if asked.json {
-        report_in_json(desk, slices, args, asked, problem, sink)
-    } else {
-        report_in_words(desk, slices, args, asked, problem, sink)
+    fn report<W: DeskWatcher, K: Sink>(
+        &self,
+        desk: &mut Desk<B>,
+        slices: &mut Slices<W>,
+        game: &Game<B>,
+        sink: &mut K,
+    ) -> Result<bool, DeskFault> {
+        if self.json {
+            report_in_json(desk, slices, self, &game.problem, sink)
+        } else {
+            report_in_words(desk, slices, self, &game.problem, sink)
+        }
     }
 }
 
@@ -70,7 +45,6 @@ fn report<B: Board, W: DeskWatcher, K: Sink>(
 fn report_in_words<B: Board, W: DeskWatcher, K: Sink>(
     desk: &mut Desk<B>,
     slices: &mut Slices<W>,
-    args: &DeskArgs<'_>,
     asked: &FindArgs,
     problem: &Problem<B>,
     sink: &mut K,
@@ -81,12 +55,13 @@ fn report_in_words<B: Board, W: DeskWatcher, K: Sink>(
         text
         × Appends (K.taken sink.old) (K.taken sink.new) text) }
     ensures works { IfOk result (λ _. K.is_failed sink.new ≡ false) }
+    ensures fails { ReportFails (K.is_failed sink.new) desk.new.solver.expanded result }
 {
     write_all(sink, problem_line(problem).as_str().as_bytes())?;
     let Ok(position) = &problem.found else {
         return Ok(true);
     };
-    let finding = search(desk, slices, args, asked, problem.number, position)?;
+    let finding = search(desk, slices, asked, problem.number, position)?;
     let text = found_text(desk.alloc, position, &finding)?;
     write_all(sink, text.as_str().as_bytes())?;
     Ok(is_undecided(&finding))
@@ -96,7 +71,6 @@ fn report_in_words<B: Board, W: DeskWatcher, K: Sink>(
 fn report_in_json<B: Board, W: DeskWatcher, K: Sink>(
     desk: &mut Desk<B>,
     slices: &mut Slices<W>,
-    args: &DeskArgs<'_>,
     asked: &FindArgs,
     problem: &Problem<B>,
     sink: &mut K,
@@ -106,8 +80,9 @@ fn report_in_json<B: Board, W: DeskWatcher, K: Sink>(
         × IsJsonOf B.geometry asked.now.most asked.now.each problem.now.number problem.now.found refused text
         × Appends (K.taken sink.old) (K.taken sink.new) text) }
     ensures works { IfOk result (λ _. K.is_failed sink.new ≡ false) }
+    ensures fails { ReportFails (K.is_failed sink.new) desk.new.solver.expanded result }
 {
-    let (line, is_refused) = json_of(desk, slices, args, asked, problem)?;
+    let (line, is_refused) = json_of(desk, slices, asked, problem)?;
     write_all(sink, line.as_str().as_bytes())?;
     Ok(is_refused)
 }
@@ -116,17 +91,17 @@ fn report_in_json<B: Board, W: DeskWatcher, K: Sink>(
 fn json_of<B: Board, W: DeskWatcher>(
     desk: &mut Desk<B>,
     slices: &mut Slices<W>,
-    args: &DeskArgs<'_>,
     asked: &FindArgs,
     problem: &Problem<B>,
-) -> Result<(String, bool), DeskFault>
-    ensures { IfOk result (λ told. IsJsonOf B.geometry asked.now.most asked.now.each problem.now.number
+) -> Result<(String, bool), Stop>
+    ensures row { IfOk result (λ told. IsJsonOf B.geometry asked.now.most asked.now.each problem.now.number
         problem.now.found told.1 (string_bytes told.0)) }
+    ensures stop { IsErrOf result Limit → desk.new.solver.expanded ≡ u64.MAX }
 {
     let number = problem.number;
     match &problem.found {
         Ok(position) => {
-            let finding = search(desk, slices, args, asked, number, position)?;
+            let finding = search(desk, slices, asked, number, position)?;
             let line = found_line(desk.alloc, number, position, &finding)?;
             Ok((line, is_undecided(&finding)))
         }
@@ -146,18 +121,18 @@ fn is_undecided<B: Board>(finding: &Finding<B>) -> bool
 fn search<B: Board, W: DeskWatcher>(
     desk: &mut Desk<B>,
     slices: &mut Slices<W>,
-    args: &DeskArgs<'_>,
     asked: &FindArgs,
     number: u32,
     position: &Position<B>,
-) -> Result<Finding<B>, DeskFault>
+) -> Result<Finding<B>, Stop>
     ensures found { IfOk result (λ finding. IsFound B.geometry asked.now.most asked.now.each position.now
         (told_by finding)) }
     ensures bounded { IfSome asked.now.each (λ _. IfOk result (IsBounded B.geometry position.now asked.now.most
         slices.old.first asked.now.each desk.new.solver)) }
+    ensures stop { IsErrOf result Limit → desk.new.solver.expanded ≡ u64.MAX }
 {
     if asked.each.is_some() {
-        desk.solver = solver_of(desk.alloc, args)?;
+        desk.renew()?;
     }
     let bounds = FindBounds {
         most: asked.most,

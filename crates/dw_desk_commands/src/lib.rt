@@ -13,6 +13,7 @@ mod json_rows;
 mod mending;
 mod page_rows;
 mod paging;
+mod reporting;
 mod solving;
 pub mod watcher;
 mod writing;

@@ -1,11 +1,13 @@
 //! The command `page`: all problems on a page, with diagrams and solutions.
 ghost use Rattle.std.specs.Prelude.{◌≡◌, ◌≤◌, ◌⊎◌, ◌++◌, ◌∷◌, [], ℕ, List, true, false, IfOk, OnOk, codes, map};
-ghost use Rattle.std.specs.Prelude.{filter_map, option_map};
+ghost use Rattle.std.specs.Prelude.{filter_map, option_map, Err, IsErrOf};
 ghost use Rattle.std.specs.Io.KnownBytes.{Appends};
 ghost use Rattle.dw_desk_commands.specs.Paging.{IsAskedIn, IsPage, IsPageOf, IsPart, IsPositionPart, IsSolved, Stands};
 ghost use Rattle.dw_desk_commands.specs.Paging.{language_for, task_part};
 ghost use Rattle.dw_desk_commands.specs.Paging as of;
-ghost use Rattle.dw_desk_commands.specs.inner.Choosing.{AreToCome};
+ghost use Rattle.dw_desk_commands.specs.Finding.{is_open};
+ghost use Rattle.dw_desk_commands.specs.inner.Choosing.{AreToCome, Runs};
+ghost use Rattle.dw_desk_commands.specs.inner.Faults.{CommandFails, ReportFails, SinkFails};
 ghost use Rattle.dw_games.specs.GameReading.{numbered_game};
 ghost use Rattle.dw_games.specs.Games.{NumberedGame};
 ghost use Rattle.dw_games.specs.TagRows.{TagText, AreTags};
@@ -13,6 +15,7 @@ ghost use Rattle.dw_page.specs.Pages.{author_of, end, head, refused, values_of};
 ghost use Rattle.dw_verdict.specs.Judging.{said_by};
 ghost use Rattle.dw_report.specs.Report as report;
 ghost use Rattle.dw_verdict.specs.Verdict.{IsVerdict, Tries};
+ghost use Rattle.dw_solve.specs.declared.stop.Stop.TheVariants.{Limit};
 ghost use Rattle.dw_study.specs.Finding.{IsFinding};
 ghost use Rattle.dw_study.specs.Telling.{told_by};
 
@@ -44,11 +47,13 @@ pub(crate) fn page_problems<B: Board, W: DeskWatcher, S: Source, K: Sink>(
     asked: &PageArgs<'_>,
     sink: &mut K,
 ) -> Result<Counts, DeskFault>
-    requires { K.is_failed sink.old ≡ false }
-    ensures { IfOk result (λ counts. (games : List NumberedGame) × (text : List ℕ)
+    requires works { K.is_failed sink.old ≡ false }
+    requires runs { Runs chosen.old.text }
+    ensures report { IfOk result (λ counts. (games : List NumberedGame) × (text : List ℕ)
         × AreToCome B.geometry S.coming S.has_ended chosen.old games
         × IsPageOf B.geometry asked.now chosen.old.portion games counts text
         × Appends (K.taken sink.old) (K.taken sink.new) text) }
+    ensures ends { CommandFails S.is_failed (K.is_failed sink.new) desk.new.solver.expanded chosen.old chosen.new result }
 {
     let Some(first) = chosen.next()? else {
         return empty_page::<B, K>(desk.alloc, asked, chosen.is_asked(), sink);
@@ -71,10 +76,11 @@ fn empty_page<B: Board, K: Sink>(
     sink: &mut K,
 ) -> Result<Counts, DeskFault>
     requires { K.is_failed sink.old ≡ false }
-    ensures { IfOk result (λ counts. (text : List ℕ)
+    ensures page { IfOk result (λ counts. (text : List ℕ)
         × ((IsPage B.geometry asked.now [] counts text × (is_asked ≡ false))
         ⊎ ((is_asked ≡ true) × (counts.shown ≡ 0) × (counts.refused ≡ 0) × (text ≡ [])))
         × Appends (K.taken sink.old) (K.taken sink.new) text) }
+    ensures fails { SinkFails (K.is_failed sink.new) result }
 {
     if is_asked {
         return Ok(Counts::default());
@@ -97,6 +103,7 @@ fn begin_page<B: Board, K: Sink>(
     ensures later { IfOk result (λ later. later.items
         ≡ of.heading_of asked.now.solutions (language_for asked.now.language)) }
     ensures works { IfOk result (λ _. K.is_failed sink.new ≡ false) }
+    ensures fails { SinkFails (K.is_failed sink.new) result }
 {
     let mut head = Vec::new(alloc);
     push_head::<B>(alloc, &mut head, &look_of(asked))?;
@@ -119,7 +126,8 @@ fn heading_of(alloc: Global, asked: &PageArgs<'_>) -> Result<Vec<u8>, AllocError
 /// Writes what stands at the end of a page, and its end.
 fn end_page<K: Sink>(alloc: Global, later: &mut Vec<u8>, sink: &mut K) -> Result<(), DeskFault>
     requires { K.is_failed sink.old ≡ false }
-    ensures { OnOk result (Appends (K.taken sink.old) (K.taken sink.new) (later.old.items ++ end)) }
+    ensures text { OnOk result (Appends (K.taken sink.old) (K.taken sink.new) (later.old.items ++ end)) }
+    ensures fails { SinkFails (K.is_failed sink.new) result }
 {
     push_end(alloc, later)?;
     write_all(sink, later.as_slice())?;
@@ -141,6 +149,7 @@ fn write_part<B: Board, W: DeskWatcher, K: Sink>(
         is_refused part new × (later.new.items ≡ later.old.items ++ new)
         × Appends (K.taken sink.old) (K.taken sink.new) part) }
     ensures works { IfOk result (λ _. K.is_failed sink.new ≡ false) }
+    ensures fails { ReportFails (K.is_failed sink.new) desk.new.solver.expanded result }
 {
     let number = game.problem.number;
     match &game.problem.found {
@@ -183,10 +192,11 @@ fn known_part<B: Board, W: DeskWatcher>(
     position: &Position<B>,
     section: &[u8],
     later: &mut Vec<u8>,
-) -> Result<Vec<u8>, DeskFault>
-    ensures { IfOk result (λ part. (new : List ℕ)
+) -> Result<Vec<u8>, Stop>
+    ensures part { IfOk result (λ part. (new : List ℕ)
         × IsPositionPart B.geometry asked.now number position.now section.now part.items new
         × (later.new.items ≡ later.old.items ++ new)) }
+    ensures stop { IsErrOf result Limit → desk.new.solver.expanded ≡ u64.MAX }
 {
     if asked.is_least {
         match found(desk, slices, asked, number, position)? {
@@ -198,7 +208,7 @@ fn known_part<B: Board, W: DeskWatcher>(
                 };
                 judged_part(desk, asked, &task, &judged, section, later)
             }
-            Finding::Undecided { .. } => Err(DeskFault::Stopped(Stop::Limit)),
+            Finding::Undecided { .. } => Err(Stop::Limit),
         }
     } else {
         let judged = judged_within(desk, slices, asked, number, position)?;
@@ -218,8 +228,10 @@ fn found<B: Board, W: DeskWatcher>(
     asked: &PageArgs<'_>,
     number: u32,
     position: &Position<B>,
-) -> Result<Finding<B>, DeskFault>
+) -> Result<Finding<B>, Stop>
     ensures finding { IfOk result (λ finding. IsFinding B.geometry position.now asked.now.moves (told_by finding)) }
+    ensures judged { IfOk result (λ finding. is_open (told_by finding) ≡ false) }
+    ensures stop { IsErrOf result Limit → desk.new.solver.expanded ≡ u64.MAX }
 {
     let bounds = FindBounds {
         most: asked.moves,
@@ -228,7 +240,7 @@ fn found<B: Board, W: DeskWatcher>(
     desk.begin(slices, number);
     let finding = find(desk.alloc, &mut desk.solver, position, bounds, slices);
     slices.watcher.end();
-    Ok(finding?)
+    finding
 }
 
 /// The verdict within the number of moves that is asked for.
@@ -238,15 +250,16 @@ fn judged_within<B: Board, W: DeskWatcher>(
     asked: &PageArgs<'_>,
     number: u32,
     position: &Position<B>,
-) -> Result<Judged<B>, DeskFault>
+) -> Result<Judged<B>, Stop>
     ensures verdict { IfOk result (λ judged.
         IsVerdict B.geometry position.now asked.now.moves (said_by judged.verdict)) }
     ensures tries { IfOk result (λ judged. Tries B.geometry position.now asked.now.moves judged.tries.items) }
+    ensures stop { IsErrOf result Limit → desk.new.solver.expanded ≡ u64.MAX }
 {
     desk.begin(slices, number);
     let judged = judge_in_slices(desk.alloc, &mut desk.solver, position, asked.moves, slices);
     slices.watcher.end();
-    Ok(judged?)
+    judged
 }
 
 /// The part of a problem that is judged, with its solution where that is to stand.
@@ -257,15 +270,16 @@ fn judged_part<B: Board>(
     judged: &Judged<B>,
     section: &[u8],
     later: &mut Vec<u8>,
-) -> Result<Vec<u8>, DeskFault>
+) -> Result<Vec<u8>, Stop>
     requires some { 1 ≤ task.now.moves }
     requires few { task.now.moves ≤ 20 }
     requires verdict { IsVerdict B.geometry task.now.position.now task.now.moves (said_by judged.now.verdict) }
     requires tries { Tries B.geometry task.now.position.now task.now.moves judged.now.tries.items }
     requires asked { IsAskedIn B.geometry asked.now task.now.position.now task.now.moves }
-    ensures { IfOk result (λ part. (new : List ℕ)
+    ensures part { IfOk result (λ part. (new : List ℕ)
         × IsPositionPart B.geometry asked.now task.now.number task.now.position.now section.now part.items new
         × (later.new.items ≡ later.old.items ++ new)) }
+    ensures stop { IsErrOf result Limit → desk.new.solver.expanded ≡ u64.MAX }
 {
     let mut part = Vec::new(desk.alloc);
     push_tagged(desk, asked, task, section, &mut part)?;
@@ -282,15 +296,16 @@ fn push_placed<B: Board>(
     judged: &Judged<B>,
     part: &mut Vec<u8>,
     later: &mut Vec<u8>,
-) -> Result<(), DeskFault>
+) -> Result<(), Stop>
     requires some { 1 ≤ task.now.moves }
     requires few { task.now.moves ≤ 20 }
     requires verdict { IsVerdict B.geometry task.now.position.now task.now.moves (said_by judged.now.verdict) }
     requires tries { Tries B.geometry task.now.position.now task.now.moves judged.now.tries.items }
-    ensures { OnOk result ((behind new : List ℕ) × Stands asked.now.solutions (IsSolved B.geometry
+    ensures solution { OnOk result ((behind new : List ℕ) × Stands asked.now.solutions (IsSolved B.geometry
         (language_for asked.now.language) asked.now.lines task.now.number task.now.position.now task.now.moves) behind
         new
         × (part.new.items ≡ part.old.items ++ behind) × (later.new.items ≡ later.old.items ++ new)) }
+    ensures stop { IsErrOf result Limit → desk.new.solver.expanded ≡ u64.MAX }
 {
     match asked.solutions {
         Placing::After => {
@@ -312,10 +327,11 @@ fn push_tagged<B: Board>(
     task: &Task<'_, B>,
     section: &[u8],
     page: &mut Vec<u8>,
-) -> Result<(), DeskFault>
-    ensures { OnOk result ((tags : List TagText) × AreTags section.now tags × (page.new.items ≡ page.old.items
+) -> Result<(), Stop>
+    ensures text { OnOk result ((tags : List TagText) × AreTags section.now tags × (page.new.items ≡ page.old.items
         ++ task_part B.geometry asked.now task.now.number task.now.position.now (map (λ t. t.tag) tags)
         task.now.moves)) }
+    ensures stop { result ≡ Err Limit → ⊥ }
 {
     let tags = read_tags(desk.alloc, section)?;
     let tags = tags.as_slice();
@@ -352,14 +368,15 @@ fn push_solved<B: Board>(
     judged: &Judged<B>,
     is_apart: bool,
     page: &mut Vec<u8>,
-) -> Result<(), DeskFault>
+) -> Result<(), Stop>
     requires some { 1 ≤ task.now.moves }
     requires few { task.now.moves ≤ 20 }
     requires verdict { IsVerdict B.geometry task.now.position.now task.now.moves (said_by judged.now.verdict) }
     requires tries { Tries B.geometry task.now.position.now task.now.moves judged.now.tries.items }
-    ensures { OnOk result ((text : List ℕ) × IsSolved B.geometry (language_for asked.now.language) asked.now.lines
+    ensures solution { OnOk result ((text : List ℕ) × IsSolved B.geometry (language_for asked.now.language) asked.now.lines
         task.now.number task.now.position.now task.now.moves is_apart text
         × (page.new.items ≡ page.old.items ++ text)) }
+    ensures stop { IsErrOf result Limit → desk.new.solver.expanded ≡ u64.MAX }
 {
     let position = task.position;
     let movetext = movetext_of(desk, position, task.moves, asked.lines, &judged.verdict)?;

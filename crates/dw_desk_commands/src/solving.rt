@@ -1,26 +1,24 @@
 //! The command `solution`: each problem as a game of a PDN file, with its solution.
-ghost use Rattle.std.specs.Prelude.{◌≡◌, ◌≤◌, ℕ, List, false, map, IfOk, OnOk};
+ghost use Rattle.std.specs.Prelude.{◌≡◌, ◌≤◌, ℕ, List, false, map, IfOk, OnOk, IsErrOf};
 ghost use Rattle.std.specs.Io.KnownBytes.{Appends};
 ghost use Rattle.std.specs.List.{flat_map};
 ghost use Rattle.std.specs.String.{string_bytes};
 ghost use Rattle.dw_desk_commands.specs.Solving.{AreWrittenTags, IsGameOf, IsSolution, new_lines, own_line};
 ghost use Rattle.dw_desk_commands.specs.Solving as of;
-ghost use Rattle.dw_desk_commands.specs.ProblemText.{IsReport};
-ghost use Rattle.dw_desk_commands.specs.inner.Choosing.{AreToCome};
-ghost use Rattle.dw_games.specs.GameReading.{numbered_game};
-ghost use Rattle.dw_games.specs.Games.{NumberedGame};
+ghost use Rattle.dw_desk_commands.specs.inner.Faults.{SinkFails};
 ghost use Rattle.dw_games.specs.TagRows.{tag_text};
+ghost use Rattle.dw_solve.specs.declared.stop.Stop.TheVariants.{Limit};
 ghost use Rattle.dw_verdict.specs.Judging.{said_by};
 ghost use Rattle.dw_verdict.specs.Verdict.{IsVerdict};
 
-use crate::chosen::Chosen;
-use crate::desk::{Counts, Desk, DeskFault};
+use crate::desk::{Desk, DeskFault};
+use crate::reporting::ReportEach;
 use crate::watcher::DeskWatcher;
 use dw_arguments::SolutionArgs;
 use dw_board::{Board, Position, fen_text};
 use dw_games::{Game, Tag, read_tags};
-use dw_notation::{ProblemFault, Sink, Source, write_all};
-use dw_report::refusal_text;
+use dw_notation::{ProblemFault, Sink, write_all};
+use dw_report::{Stop, refusal_text};
 use dw_solution::movetext::movetext;
 use dw_solution::{Heading, VerdictKind, first_lines};
 use dw_study::{Slices, verdict_in_slices};
@@ -28,54 +26,31 @@ use dw_verdict::Verdict;
 use itoa::Buffer;
 use std::alloc::{AllocError, Global};
 
-/// Writes the chosen problems as games, each as soon as it is read.
-pub(crate) fn solve_problems<B: Board, W: DeskWatcher, S: Source, K: Sink>(
-    desk: &mut Desk<B>,
-    slices: &mut Slices<W>,
-    chosen: &mut Chosen<'_, B, S>,
-    asked: &SolutionArgs,
-    sink: &mut K,
-) -> Result<Counts, DeskFault>
-    requires { K.is_failed sink.old ≡ false }
-    ensures { IfOk result (λ counts. (games : List NumberedGame) × (text : List ℕ)
-        × AreToCome B.geometry S.coming S.has_ended chosen.old games
-        × IsReport (IsGameOf B.geometry asked.now.n asked.now.lines) games counts text
-        × Appends (K.taken sink.old) (K.taken sink.new) text) }
-{
-    let mut counts = Counts::default();
-    'games: while let Some(game) = chosen.next()? {
-        counts = counts.with(write_game(desk, slices, asked, &game, sink)?);
-    }
-    Ok(counts)
-}
+impl<B: Board> ReportEach<B> for SolutionArgs {
+    ghost says = { λ asked. IsGameOf B.geometry asked.n asked.lines };
 
-/// Writes a problem as a game, with the tags that its section has, and answers whether it is refused.
-fn write_game<B: Board, W: DeskWatcher, K: Sink>(
-    desk: &mut Desk<B>,
-    slices: &mut Slices<W>,
-    asked: &SolutionArgs,
-    game: &Game<B>,
-    sink: &mut K,
-) -> Result<bool, DeskFault>
-    requires { K.is_failed sink.old ≡ false }
-    ensures text { IfOk result (λ refused. (text : List ℕ)
-        × IsGameOf B.geometry asked.now.n asked.now.lines (numbered_game game.now) refused text
-        × Appends (K.taken sink.old) (K.taken sink.new) text) }
-    ensures works { IfOk result (λ _. K.is_failed sink.new ≡ false) }
-{
-    let number = game.problem.number;
-    match &game.problem.found {
-        Ok(position) => {
-            let text = searched(desk, slices, asked, number, position)?;
-            write_tags(desk, position, game.tags.as_slice(), sink)?;
-            write_all(sink, text.as_slice())?;
-            write_all(sink, b"\n\n")?;
-            Ok(false)
-        }
-        Err(fault) => {
-            let text = refused_game(desk.alloc, number, *fault)?;
-            write_all(sink, text.as_str().as_bytes())?;
-            Ok(true)
+    /// Writes a problem as a game, with the tags that its section has, and returns whether it is refused.
+    fn report<W: DeskWatcher, K: Sink>(
+        &self,
+        desk: &mut Desk<B>,
+        slices: &mut Slices<W>,
+        game: &Game<B>,
+        sink: &mut K,
+    ) -> Result<bool, DeskFault> {
+        let number = game.problem.number;
+        match &game.problem.found {
+            Ok(position) => {
+                let text = searched(desk, slices, self, number, position)?;
+                write_tags(desk, position, game.tags.as_slice(), sink)?;
+                write_all(sink, text.as_slice())?;
+                write_all(sink, b"\n\n")?;
+                Ok(false)
+            }
+            Err(fault) => {
+                let text = refused_game(desk.alloc, number, *fault)?;
+                write_all(sink, text.as_str().as_bytes())?;
+                Ok(true)
+            }
         }
     }
 }
@@ -103,8 +78,9 @@ fn searched<B: Board, W: DeskWatcher>(
     asked: &SolutionArgs,
     number: u32,
     position: &Position<B>,
-) -> Result<Vec<u8>, DeskFault>
-    ensures { IfOk result (λ text. IsSolution B.geometry position.now asked.now.n asked.now.lines text.items) }
+) -> Result<Vec<u8>, Stop>
+    ensures text { IfOk result (λ text. IsSolution B.geometry position.now asked.now.n asked.now.lines text.items) }
+    ensures stop { IsErrOf result Limit → desk.new.solver.expanded ≡ u64.MAX }
 {
     desk.begin(slices, number);
     let text = solution_of(desk, slices, asked, position);
@@ -118,8 +94,9 @@ fn solution_of<B: Board, W: DeskWatcher>(
     slices: &mut Slices<W>,
     asked: &SolutionArgs,
     position: &Position<B>,
-) -> Result<Vec<u8>, DeskFault>
-    ensures { IfOk result (λ text. IsSolution B.geometry position.now asked.now.n asked.now.lines text.items) }
+) -> Result<Vec<u8>, Stop>
+    ensures text { IfOk result (λ text. IsSolution B.geometry position.now asked.now.n asked.now.lines text.items) }
+    ensures stop { IsErrOf result Limit → desk.new.solver.expanded ≡ u64.MAX }
 {
     let verdict = verdict_in_slices(desk.alloc, &mut desk.solver, position, asked.n, slices)?;
     movetext_of(desk, position, asked.n, asked.lines, &verdict)
@@ -132,11 +109,12 @@ pub(crate) fn movetext_of<B: Board>(
     moves: u8,
     lines: usize,
     verdict: &Verdict<B>,
-) -> Result<Vec<u8>, DeskFault>
+) -> Result<Vec<u8>, Stop>
     requires some { 1 ≤ moves }
     requires few { moves ≤ 20 }
     requires verdict { IsVerdict B.geometry position.now moves (said_by verdict.now) }
-    ensures { IfOk result (λ text. IsSolution B.geometry position.now moves lines text.items) }
+    ensures text { IfOk result (λ text. IsSolution B.geometry position.now moves lines text.items) }
+    ensures stop { IsErrOf result Limit → desk.new.solver.expanded ≡ u64.MAX }
 {
     dw_list::laws::lines_exist();
     let first = first_lines(desk.alloc, &mut desk.solver, position, moves, lines)?;
@@ -171,6 +149,7 @@ fn write_tags<B: Board, K: Sink>(
     ensures tags { OnOk result ((text : List ℕ) × AreWrittenTags B.geometry position.now section.now text
         × Appends (K.taken sink.old) (K.taken sink.new) text) }
     ensures works { OnOk result (K.is_failed sink.new ≡ false) }
+    ensures fails { SinkFails (K.is_failed sink.new) result }
 {
     let tags = read_tags(desk.alloc, section)?;
     write_own_tags(tags.as_slice(), sink)?;
@@ -185,6 +164,7 @@ fn write_own_tags<K: Sink>(tags: &[Tag<'_>], sink: &mut K) -> Result<(), DeskFau
     ensures lines { OnOk result (Appends (K.taken sink.old) (K.taken sink.new)
         (flat_map own_line (map tag_text tags.now))) }
     ensures works { OnOk result (K.is_failed sink.new ≡ false) }
+    ensures fails { SinkFails (K.is_failed sink.new) result }
 {
     'tags: for tag in tags {
         write_own(tag, sink)?;
@@ -216,6 +196,7 @@ fn write_own<K: Sink>(tag: &Tag<'_>, sink: &mut K) -> Result<(), DeskFault>
     requires { K.is_failed sink.old ≡ false }
     ensures line { OnOk result (Appends (K.taken sink.old) (K.taken sink.new) (own_line (tag_text tag.now))) }
     ensures works { OnOk result (K.is_failed sink.new ≡ false) }
+    ensures fails { SinkFails (K.is_failed sink.new) result }
 {
     if !tag.is_named(b"GameType") && !tag.is_named(b"FEN") {
         write_all(sink, tag.text)?;

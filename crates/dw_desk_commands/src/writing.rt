@@ -1,40 +1,43 @@
 //! The command `token`: a line of play as a token.
-ghost use Rattle.std.specs.Prelude.{◌≡◌, ◌⊎◌, ℕ, List, Option, false, IfOk};
+ghost use Rattle.std.specs.Prelude.{◌≡◌, ◌⊎◌, ℕ, List, false, IfOk};
 ghost use Rattle.std.specs.Io.KnownBytes.{Appends};
-ghost use Rattle.dw_desk_commands.specs.ProblemText.{IsReportOnOne};
+ghost use Rattle.dw_desk_commands.specs.Ending.{FailsForCause};
 ghost use Rattle.dw_desk_commands.specs.Writing.{IsTokenFor};
-ghost use Rattle.dw_desk_commands.specs.inner.NextGame.{IsNext, as_list};
-ghost use Rattle.dw_games.specs.Games.{NumberedGame};
+ghost use Rattle.dw_desk_commands.specs.inner.Faults.{SinkFails};
 
-use crate::chosen::Chosen;
-use crate::desk::DeskFault;
+use crate::desk::{Desk, DeskFault};
+use crate::reporting::ReportOne;
+use crate::watcher::DeskWatcher;
 use dw_board::{Board, Position};
 use dw_commands::Ending;
-use dw_games::{LineFault, read_line};
+use dw_games::{Game, LineFault, read_line};
 use dw_list::write_token;
-use dw_notation::{ProblemFault, Sink, Source, write_all};
+use dw_notation::{ProblemFault, Sink, write_all};
 use dw_report::Stop;
+use dw_study::Slices;
 use std::alloc::Global;
 
-/// Writes the token of a line of the chosen problem, and tells how that ended. If anything is refused, nothing is
-/// written.
-pub(crate) fn write_line<T, B: Board, S: Source, K: Sink>(
-    alloc: Global,
-    chosen: &mut Chosen<'_, B, S>,
-    line: &str,
-    sink: &mut K,
-) -> Result<Ending<T>, DeskFault>
-    requires rows { (B.geometry.rows ≡ 10) ⊎ (B.geometry.rows ≡ 8) }
-    requires sink { K.is_failed sink.old ≡ false }
-    ensures { IfOk result (λ ending. (next : Option NumberedGame) × (text : List ℕ)
-        × IsNext B.geometry S.coming S.has_ended chosen.old chosen.new next
-        × IsReportOnOne (λ game. IsTokenFor B.geometry line.now game.said.found) chosen.old.portion.first (as_list next)
-        ending text
-        × Appends (K.taken sink.old) (K.taken sink.new) text) }
-{
-    match chosen.next()? {
-        Some(game) => write_token_of(alloc, &game.problem.found, line, sink),
-        None => Ok(Ending::NoProblem(chosen.first())),
+/// The line whose token is asked for.
+#[derive(Clone, Copy)]
+pub(crate) struct Line<'a> {
+    pub(crate) text: &'a str,
+}
+
+impl<B: Board, E> ReportOne<B, E> for Line<'_> {
+    ghost asks = { λ line. (B.geometry.rows ≡ 10) ⊎ (B.geometry.rows ≡ 8) };
+
+    ghost says = { λ line expanded game. IsTokenFor B.geometry line.text.now game.said.found };
+
+    /// Writes the token of the line in a problem, and returns how that ended. If anything is refused, nothing is
+    /// written.
+    fn report<W: DeskWatcher, K: Sink>(
+        &self,
+        desk: &mut Desk<B>,
+        _slices: &mut Slices<W>,
+        game: &Game<B>,
+        sink: &mut K,
+    ) -> Result<Ending<E>, DeskFault> {
+        write_token_of(desk.alloc, &game.problem.found, self.text, sink)
     }
 }
 
@@ -47,8 +50,10 @@ fn write_token_of<T, B: Board, K: Sink>(
 ) -> Result<Ending<T>, DeskFault>
     requires rows { (B.geometry.rows ≡ 10) ⊎ (B.geometry.rows ≡ 8) }
     requires sink { K.is_failed sink.old ≡ false }
-    ensures { IfOk result (λ ending. (text : List ℕ) × IsTokenFor B.geometry line.now found.now ending text
+    ensures report { IfOk result (λ ending. (text : List ℕ) × IsTokenFor B.geometry line.now found.now ending text
         × Appends (K.taken sink.old) (K.taken sink.new) text) }
+    ensures told { IfOk result (FailsForCause false) }
+    ensures fails { SinkFails (K.is_failed sink.new) result }
 {
     let position = match found {
         Ok(position) => position,

@@ -1,5 +1,5 @@
 //! The games of a text of tags: what its sections say, each with its bytes and the movetext behind it.
-ghost use Rattle.std.specs.Prelude.{◌≡◌, ◌∷◌, ◌+◌, ◌||◌, [], false, None, List, ℕ, drop};
+ghost use Rattle.std.specs.Prelude.{◌≡◌, ◌∷◌, ◌+◌, ◌||◌, [], false, None, List, ℕ, drop, OnOk};
 ghost use Rattle.dw_games.specs.declared.games.GameFault.TheVariants.{Memory};
 ghost use Rattle.dw_games.specs.declared.games.Stage.TheVariants.{Over};
 ghost use Rattle.dw_games.specs.inner.GameReaders.{stage_behind};
@@ -114,7 +114,7 @@ impl<'a, B: Board, S: Source> Games<'a, B, S> {
     ghost use Rattle.dw_games.specs.Games.{AreGames, NumberedGame, games_from};
     ghost use Rattle.dw_games.specs.GameReading.{lender, source_of, numbered_game, is_failure};
     ghost use Rattle.dw_games.specs.GameReading.{GivesNext, EndIsTrue, StandsStill, Rests};
-    ghost use Rattle.dw_games.specs.inner.GameReaders.{reading_of, IsHandedOut, ReadsGame};
+    ghost use Rattle.dw_games.specs.inner.GameReaders.{reading_of, fault_of, IsHandedOut, ReadsGame};
     ghost use Rattle.dw_games.specs.inner.Inputs.{unread_of};
     ghost use Rattle.dw_games.specs.inner.Playing.{unclosed};
 
@@ -191,7 +191,8 @@ impl<'a, B: Board, S: Source> Games<'a, B, S> {
     /// Reads the game of the section that begins here.
     fn read_game(&mut self) -> Result<Option<Game<B>>, GameFault>
         requires { unread_of self.old.input ≡ 91 ∷ drop 1 (unread_of self.old.input) }
-        ensures { ReadsGame B.geometry S.coming S.has_ended S.is_failed S.pulls_left self.old self.new result }
+        ensures reads { ReadsGame B.geometry S.coming S.has_ended S.is_failed S.pulls_left self.old self.new result }
+        ensures goes_on { OnOk result (fault_of self.new.stage ≡ None) }
     {
         dw_notation::laws::texts_of_tags_say();
         let mut row = BoundedBuf::new(self.alloc, MAX_SECTION);
@@ -207,7 +208,8 @@ impl<'a, B: Board, S: Source> Games<'a, B, S> {
 
     /// Reads up to the end of the next game.
     fn read_on(&mut self) -> Result<Option<Game<B>>, GameFault>
-        ensures { ReadsGame B.geometry S.coming S.has_ended S.is_failed S.pulls_left self.old self.new result }
+        ensures reads { ReadsGame B.geometry S.coming S.has_ended S.is_failed S.pulls_left self.old self.new result }
+        ensures goes_on { OnOk result (fault_of self.new.stage ≡ None) }
     {
         dw_notation::laws::texts_of_tags_say();
         let mut front = BoundedBuf::new(self.alloc, 0);
@@ -241,6 +243,7 @@ impl<'a, B: Board, S: Source> Games<'a, B, S> {
             → S.is_failed (source_of self.new) ≡ (S.is_failed (source_of self.old) || is_failure result) }
         ensures still { StandsStill (reading_of self.old) result }
         ensures rests { Rests (reading_of self.old) → source_of self.new ≡ source_of self.old }
+        ensures goes_on { OnOk result ((reading_of self.new).fault ≡ None) }
     {
         match self.stage {
             Stage::Over => Ok(None),

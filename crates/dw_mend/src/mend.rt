@@ -1,5 +1,5 @@
 //! The neighbours of a position that are sound, each in a line as soon as it is known.
-ghost use Rattle.std.specs.Prelude.{◌≡◌, ℕ, ◌+◌, ◌≤◌, false, take, length, List, Some, Err, IfOk, IfSome, IsErrOf};
+ghost use Rattle.std.specs.Prelude.{◌≡◌, ℕ, ◌+◌, ◌≤◌, false, true, take, length, List, Some, Err, IfOk, IfSome, IsErrOf};
 ghost use Rattle.std.specs.Prelude.{OnOk, MatchOption, map};
 ghost use Rattle.dw_moves.specs.Moves.{Move as AnyMove};
 ghost use Rattle.dw_verdict.specs.Verdict.{IsVerdict, sound};
@@ -95,6 +95,7 @@ impl From<WriteFault> for MendFault {
 /// many. Those that would take more positions than the bounds allow stay undecided, and are counted. The slices begin
 /// anew, and their watcher is told after each neighbour too; it makes way before each line is written. After a stop the
 /// lines of the first neighbours were written, all bounds in the memo are right, and the solver's limit is what it was.
+/// `Write` comes only if the sink failed.
 /// Example: of `W:W27,32:B18`, within 2 moves, the first line is `without 27: W:W32:B18, sound in 2: 32-28`, and the
 /// last one is `sound 44 of 310`.
 pub fn mend<B: Board, M: Memo<B>, G: Guide<B>, W: Watcher, K: Sink>(
@@ -124,6 +125,7 @@ pub fn mend<B: Board, M: Memo<B>, G: Guide<B>, W: Watcher, K: Sink>(
     ensures right { AreTrue B.geometry (M.content solver.new.memo) }
     ensures map { IsMap (M.content solver.new.memo) }
     ensures sink { OnOk result (K.is_failed sink.new ≡ false) }
+    ensures write { result ≡ Err because.Write → K.is_failed sink.new ≡ true }
 {
     solver.keeps_its_limit();
     solver.keeps_its_facts();
@@ -160,6 +162,7 @@ fn mend_these<B: Board, M: Memo<B>, G: Guide<B>, W: Watcher, K: Sink>(
         × Appends (K.taken sink.old) (K.taken sink.new) text }
     ensures leaves { Leaves B.geometry M.content solver.old solver.new result }
     ensures sink { OnOk result (K.is_failed sink.new ≡ false) }
+    ensures write { result ≡ Err because.Write → K.is_failed sink.new ≡ true }
 {
     solver.keeps_its_limit();
     solver.keeps_its_facts();
@@ -222,6 +225,7 @@ fn write_found<B: Board, M: Memo<B>, G: Guide<B>, W: Watcher, K: Sink>(
     ensures right { AreTrue B.geometry (M.content solver.new.memo) }
     ensures map { IsMap (M.content solver.new.memo) }
     ensures sink { OnOk result (K.is_failed sink.new ≡ false) }
+    ensures write { result ≡ Err because.Write → K.is_failed sink.new ≡ true }
 {
     let found = found_of(alloc, solver, &neighbour.position, bounds, slices)?;
     if let Soundness::Sound(key) = &found {

@@ -1,8 +1,9 @@
 -- How far the reading of the chosen problems has come.
 use Rattle.std.specs.Prelude.{◌≡◌, ◌⊎◌, ◌++◌, ◌∷◌, if◌then◌else◌, ℕ, Bool, true, false, List, [], Option, Some, None}
-use Rattle.std.specs.Prelude.{map, take, nat_le}
+use Rattle.std.specs.Prelude.{map, take, nat_le, ⊤}
+use Rattle.std.specs.Borrow.{GName}
 use Rattle.dw_board.specs.Geometry.{Geometry}
-use Rattle.dw_desk_commands.specs.Chosen.{as_game, is_in}
+use Rattle.dw_desk_commands.specs.Chosen.{AreChosenOf, as_game, is_in}
 use Rattle.dw_desk_commands.specs.declared.chosen.Chosen.{Chosen}
 use Rattle.dw_desk_commands.specs.declared.chosen.Text.{Text}
 use Rattle.dw_desk_commands.specs.declared.chosen.Text.TheVariants.{Fens, Pdn}
@@ -13,7 +14,18 @@ use Rattle.dw_games.specs.Games.{NumberedGame}
 use Rattle.dw_games.specs.declared.games.Game.{Game}
 use Rattle.dw_games.specs.inner.GameReaders.{reading_of}
 use Rattle.dw_notation.specs.Reading as problems
+use Rattle.dw_notation.specs.declared.problems.Form.{Form}
 use Rattle.dw_notation.specs.inner.Readers.{reader_of}
+
+-- the name of the reference to the source that a text holds
+abbrev pub lender : {B S : Type 0} → Text B S → GName
+lender (Fens lines) = problems.lender lines
+lender (Pdn sections) = games.lender sections
+
+-- no fault has stopped the reader of a text
+abbrev pub Runs : {B S : Type 0} → Text B S → Type 0
+Runs (Fens lines) = ⊤
+Runs (Pdn sections) = (reading_of sections).fault ≡ None
 
 -- the source that a text is read from
 abbrev pub source_of : {B S : Type 0} → Text B S → S
@@ -87,6 +99,16 @@ IsTextKnown coming has_ended text =
 -- Sealed: the clauses of commands name it, and say all that is to be known of it.
 unfoldable pub IsKnown : {B S : Type 0} → (S → Option (List ℕ)) → (S → Bool) → Chosen B S → Type 0
 IsKnown coming has_ended chosen = IsTextKnown coming has_ended chosen.text
+
+-- Nothing was read yet: the chosen games are all that are to come, and if it is known what the source gives, it is
+-- known of the text.
+pub record IsFresh {B S : Type 0} (g : Geometry) (coming : S → Option (List ℕ)) (has_ended : S → Bool) (form : Form)
+    (asked : Portion) (chosen : Chosen B S) : Type 0 where
+  pub all : (games : List NumberedGame) → AreToCome g coming has_ended chosen games
+      → AreChosenOf g form asked (coming (source_of chosen.text)) games
+  pub known : (bytes : List ℕ) → coming (source_of chosen.text) ≡ Some bytes → IsKnown coming has_ended chosen
+  pub portion : chosen.portion ≡ asked
+  pub runs : Runs chosen.text
 
 -- of the games that are to come the first is handed out, and those behind it stay to come; or none comes
 abbrev pub HandsOut : (Old New : List NumberedGame → Type 0) → Option NumberedGame → Type 0

@@ -1,5 +1,8 @@
 -- Why a problem was not reported to its end, by the fault of what was called.
-use Rattle.std.specs.Prelude.{ℕ}
+use Rattle.std.specs.Prelude.{◌≡◌, ℕ, Bool, false, Result, IfErr}
+use Rattle.dw_desk_commands.specs.Ending.{HasCause}
+use Rattle.dw_desk_commands.specs.declared.chosen.Chosen.{Chosen}
+use Rattle.dw_desk_commands.specs.inner.Choosing.{lender, source_of}
 use Rattle.dw_desk_commands.specs.declared.desk.DeskFault.{DeskFault}
 use Rattle.dw_desk_commands.specs.declared.desk.DeskFault.TheVariants as because
 use Rattle.dw_games.specs.declared.games.GameFault.{GameFault}
@@ -25,3 +28,22 @@ abbrev pub run_fault : DeskFault → ℕ → RunFault
 run_fault (because.Stopped stop) expanded = running.Stopped stop expanded
 run_fault because.Read expanded = running.Read
 run_fault because.Write expanded = running.Write
+
+-- a fault has its cause, whatever was expanded
+abbrev pub IsCaused : (source_failed sink_failed : Bool) → DeskFault → Type 0
+IsCaused source_failed sink_failed fault = (expanded : ℕ) → HasCause source_failed sink_failed (run_fault fault expanded)
+
+-- an error of what only writes has its cause in the sink
+abbrev pub SinkFails : {X : Type 0} → (sink_failed : Bool) → Result X DeskFault → Type 0
+SinkFails sink_failed result = IfErr result (IsCaused false sink_failed)
+
+-- an error of what searches and writes has its cause in the sink, or in the number of positions expanded
+abbrev pub ReportFails : {X : Type 0} → (sink_failed : Bool) → (expanded : ℕ) → Result X DeskFault → Type 0
+ReportFails sink_failed expanded result =
+    IfErr result (λ fault. HasCause false sink_failed (run_fault fault expanded))
+
+-- A command reads from the source that it was given, and an error of it has its cause.
+pub record CommandFails {B S X : Type 0} (is_failed : S → Bool) (sink_failed : Bool) (expanded : ℕ)
+    (old new : Chosen B S) (result : Result X DeskFault) : Type 0 where
+  pub source : lender new.text ≡ lender old.text
+  pub cause : IfErr result (λ fault. HasCause (is_failed (source_of new.text)) sink_failed (run_fault fault expanded))

@@ -5,15 +5,15 @@ use Rattle.dw_desk_commands.specs.Paging.{language_for, heading_of}
 use Rattle.dw_page.specs.Pages.{end, head}
 use Rattle.dw_desk_commands.proofs.paging.empty_page.Goals as goal
 
-pub returns-then-is_asked : goal.returns-then-is_asked
-returns-then-is_asked g c = (
+pub returns-then-is_asked-clause-page : goal.returns-then-is_asked-clause-page
+returns-then-is_asked-clause-page g c = (
   [],
   inr (c.if-is_asked.true, c.default.ensures.0, c.default.ensures.1, refl),
   Appends-nil (g.K.Sink.taken c.args.sink.now),
 )
 
-pub returns : goal.returns
-returns g c =
+pub returns-clause-page : goal.returns-clause-page
+returns-clause-page g c =
     let asked = c.args.asked.now in
     let front = head g.B.Board.geometry (language_for asked.language) asked.title.now in
     let heading = heading_of asked.solutions (language_for asked.language) in
@@ -33,5 +33,5 @@ returns g c =
       Appends-trans (taken c.args.sink.now) (taken c.begin_page.new.sink) (taken c.end_page.new.sink) front
           (heading ++ end) c.in_ok-later.ensures.head
           (subst (λ t. Appends (taken c.begin_page.new.sink) (taken c.end_page.new.sink) (t ++ end))
-          c.in_ok-later.ensures.later c.in_ok-end_page.ensures),
+          c.in_ok-later.ensures.later c.in_ok-end_page.ensures.text),
     )

@@ -28,6 +28,8 @@ games-init g c =
           c.in_ok-is_refused.ensures.part c.with-counts.ensures.more;
       some = c.with-counts.ensures.some;
       works = c.in_ok-is_refused.ensures.works;
+      lender = c.in_ok-first.ensures.lender;
+      runs = c.in_ok-first.ensures.runs;
     }
 
 pub games-preserved : goal.games-preserved
@@ -47,10 +49,12 @@ games-preserved g c =
           c.in_ok-write_part.ensures.part c.with-counts-in-Some-2.ensures.more;
       some = c.with-counts-in-Some-2.ensures.some;
       works = c.in_ok-write_part.ensures.works;
+      lender = c.in_ok-game.ensures.lender ∙ c.games.invariant.lender;
+      runs = c.in_ok-game.ensures.runs;
     }
 
-pub returns : goal.returns
-returns g c =
+pub returns-clause-report : goal.returns-clause-report
+returns-clause-report g c =
     let geo = g.B.Board.geometry in
     let source = g.S.Source in
     let taken = g.K.Sink.taken in
@@ -60,7 +64,7 @@ returns g c =
     let all = all_written geo c.args.asked.now Old Mid c.games.counts (taken c.args.sink.now) (taken c.games.sink)
     (taken c.end_page.new.sink) c.games.later.items c.games.invariant.so_far
     (subst (λ z. HandsOut Mid New (option_map numbered_game z)) c.in_default-2.is c.in_ok-game.ensures.given)
-    c.in_ok-end_page.ensures in (
+    c.in_ok-end_page.ensures.text in (
       all.0,
       all.1,
       all.2,
@@ -72,8 +76,8 @@ returns g c =
       all.4,
     )
 
-pub returns-in_default : goal.returns-in_default
-returns-in_default g c =
+pub returns-in_default-clause-report : goal.returns-in_default-clause-report
+returns-in_default-clause-report g c =
     let geo = g.B.Board.geometry in
     let source = g.S.Source in
     let taken = g.K.Sink.taken in
@@ -93,4 +97,4 @@ returns-in_default g c =
           (c.is_asked.ensures ∙ ap (λ z. z.is_asked) c.in_ok-first.ensures.portion) told.1,
       told.2,
     ))
-    c.empty_page.ensures
+    c.empty_page.ensures.page

@@ -1,5 +1,5 @@
 use Rattle.std.proofs.Common.{◌≡◌, ◌≤◌, false}
-use Rattle.dw_desk_commands.specs.inner.Choosing.{AreToCome}
+use Rattle.dw_desk_commands.specs.inner.Choosing.{AreToCome, Runs, lender}
 use Rattle.dw_desk_commands.proofs.PagingLemmas.{SoFar}
 use Rattle.dw_desk_commands.proofs.paging.page_problems.Given as goal
 
@@ -13,6 +13,8 @@ invariant-games g l =
           (g.K.Sink.taken l.sink) l.later.items;
       some : 1 ≤ l.counts.shown;
       works : g.K.Sink.is_failed l.sink ≡ false;
+      lender : lender l.chosen.text ≡ lender l.fn.chosen.text;
+      runs : Runs l.chosen.text;
     }
 
 abbrev pub decreases-games : goal.decreases-games

@@ -2,11 +2,11 @@ use Rattle.std.proofs.Common.{[], append-nil, refl, subst, sym}
 use Rattle.dw_desk_commands.specs.Paging.{language_for, IsSolved, Stands}
 use Rattle.dw_desk_commands.proofs.paging.push_placed.Goals as goal
 
-pub returns-in_ok-push_solved-in-After : goal.returns-in_ok-push_solved-in-After
-returns-in_ok-push_solved-in-After g c =
+pub returns-in_ok-push_solved-in-After-clause-solution : goal.returns-in_ok-push_solved-in-After-clause-solution
+returns-in_ok-push_solved-in-After-clause-solution g c =
     let task = c.args.task.now in
     let asked = c.args.asked.now in
-    let s = c.in_ok-push_solved-in-After.ensures in (
+    let s = c.in_ok-push_solved-in-After.ensures.solution in (
       s.0,
       [],
       subst (λ z. Stands z (IsSolved g.B.Board.geometry (language_for asked.language) asked.lines task.number
@@ -15,11 +15,11 @@ returns-in_ok-push_solved-in-After g c =
       sym (append-nil c.args.later.now.items),
     )
 
-pub returns-in_ok-push_solved-in-End : goal.returns-in_ok-push_solved-in-End
-returns-in_ok-push_solved-in-End g c =
+pub returns-in_ok-push_solved-in-End-clause-solution : goal.returns-in_ok-push_solved-in-End-clause-solution
+returns-in_ok-push_solved-in-End-clause-solution g c =
     let task = c.args.task.now in
     let asked = c.args.asked.now in
-    let s = c.in_ok-push_solved-in-End.ensures in (
+    let s = c.in_ok-push_solved-in-End.ensures.solution in (
       [],
       s.0,
       subst (λ z. Stands z (IsSolved g.B.Board.geometry (language_for asked.language) asked.lines task.number
@@ -28,8 +28,8 @@ returns-in_ok-push_solved-in-End g c =
       s.2,
     )
 
-pub returns-in-None : goal.returns-in-None
-returns-in-None g c =
+pub returns-in-None-clause-solution : goal.returns-in-None-clause-solution
+returns-in-None-clause-solution g c =
     let task = c.args.task.now in
     let asked = c.args.asked.now in (
       [],

@@ -7,8 +7,8 @@ use Rattle.dw_page.specs.declared.page.Look.{Look}
 use Rattle.dw_desk_commands.proofs.PagingLemmas.{said_map, source_is, value_is}
 use Rattle.dw_desk_commands.proofs.paging.push_tagged.Goals as goal
 
-pub returns : goal.returns
-returns g c =
+pub returns-clause-text : goal.returns-clause-text
+returns-clause-text g c =
     let geo = g.B.Board.geometry in
     let read = c.as_slice-tags.result.now in
     let said = said_by read in

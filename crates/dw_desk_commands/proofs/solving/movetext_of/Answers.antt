@@ -14,8 +14,8 @@ test_is false a b h = elim (cases_lt a b) [
   | inr most ↦ sym (le-ltb a b most)
 ]
 
-pub returns : goal.returns
-returns g c =
+pub returns-clause-text : goal.returns-clause-text
+returns-clause-text g c =
     let geo = g.B.Board.geometry in
     let p = c.args.position.now in
     let n = c.args.moves in

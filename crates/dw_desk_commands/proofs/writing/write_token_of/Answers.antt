@@ -7,8 +7,8 @@ use Rattle.dw_desk_commands.specs.Writing.{IsTokenFor}
 use Rattle.dw_commands.specs.declared.ending.Ending.TheVariants.{Done, LineRefused}
 use Rattle.dw_desk_commands.proofs.writing.write_token_of.Goals as goal
 
-pub returns-in_ok-write_all-in-Ok-read_line : goal.returns-in_ok-write_all-in-Ok-read_line
-returns-in_ok-write_all-in-Ok-read_line g c =
+pub returns-in_ok-write_all-in-Ok-read_line-clause-report : goal.returns-in_ok-write_all-in-Ok-read_line-clause-report
+returns-in_ok-write_all-in-Ok-read_line-clause-report g c =
     let geo = g.B.Board.geometry in
     let p = c.in-Ok.position in
     let line = c.args.line.now in
@@ -30,8 +30,8 @@ returns-in_ok-write_all-in-Ok-read_line g c =
           c.in_ok-write_all-in-Ok-read_line.ensures.ok,
     )
 
-pub returns-in-Err-Refused : goal.returns-in-Err-Refused
-returns-in-Err-Refused g c =
+pub returns-in-Err-Refused-clause-report : goal.returns-in-Err-Refused-clause-report
+returns-in-Err-Refused-clause-report g c =
     let geo = g.B.Board.geometry in
     let p = c.in-Ok.position in
     let line = c.args.line.now in

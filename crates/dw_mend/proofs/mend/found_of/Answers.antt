@@ -1,1 +1,0 @@
-use Rattle.dw_mend.proofs.mend.found_of.Goals as goal

@@ -47,6 +47,8 @@ games-preserved g c =
           (subst (ComesNext geo source.coming source.has_ended old.text c.next.new.self) c.in-Some.is
           c.in_ok-game.ensures.given) c.in_ok-game.ensures.end (c.games.invariant.known start);
       portion = c.games.invariant.portion;
+      lender = c.in_ok-game.ensures.lender ∙ c.games.invariant.lender;
+      runs = c.in_ok-game.ensures.runs;
       fewer = let less = less_left old.left c.left_behind-self.result _ c.games-test.true c.left_behind-self.ensures in
           omega (arith, less, c.games.invariant.fewer);
     }

@@ -1,5 +1,5 @@
 use Rattle.std.proofs.Common.{◌≡◌, ◌≤◌, List}
-use Rattle.dw_desk_commands.specs.inner.Choosing.{AreToCome, IsTextKnown}
+use Rattle.dw_desk_commands.specs.inner.Choosing.{AreToCome, IsTextKnown, Runs, lender}
 use Rattle.dw_games.specs.Games.{NumberedGame}
 use Rattle.dw_desk_commands.proofs.chosen.Chosen.next.Given as goal
 
@@ -13,6 +13,8 @@ invariant-games g l =
       known : IsTextKnown source.coming source.has_ended l.initial.self.text
           → IsTextKnown source.coming source.has_ended l.self.text;
       portion : l.self.portion ≡ l.initial.self.portion;
+      lender : lender l.self.text ≡ lender l.initial.self.text;
+      runs : Runs l.self.text;
       fewer : l.self.left ≤ l.initial.self.left;
     }
 

@@ -4,15 +4,15 @@ use Rattle.dw_games.proofs.InputLemmas.{Passes-trans}
 use Rattle.dw_games.proofs.HandLemmas.{ReadsGame-fault, ReadsGame-section}
 use Rattle.dw_games.proofs.games.Games.read_game.Goals as goal
 
-pub returns-in_err-found : goal.returns-in_err-found
-returns-in_err-found g c =
+pub returns-in_err-found-clause-reads : goal.returns-in_err-found-clause-reads
+returns-in_err-found-clause-reads g c =
     let s = g.S.Source in
     let e = err_from_is_err_and c.from_residual.result c.from_residual.ensures.1 in
     rw (e.1, e.2) (ReadsGame-fault g.B.Board.geometry s.coming s.has_ended s.is_failed s.pulls_left _ _
     c.in_err-found.ensures.passed c.in_err-found.field-0.0 c.in_err-found.ensures.passes)
 
-pub returns-in_err-scan_to_section : goal.returns-in_err-scan_to_section
-returns-in_err-scan_to_section g c =
+pub returns-in_err-scan_to_section-clause-reads : goal.returns-in_err-scan_to_section-clause-reads
+returns-in_err-scan_to_section-clause-reads g c =
     let s = g.S.Source in
     let section = rw c.in-Some.is at c.in_ok-found.ensures in
     let e = err_from_is_err_and c.from_residual-in_err-scan_to_section.result c.from_residual-in_err-scan_to_section.ensures.1 in
@@ -21,8 +21,8 @@ returns-in_err-scan_to_section g c =
     (Passes-trans s.coming s.has_ended s.is_failed s.pulls_left _ c.read_section.new.input _ section.passed
     c.in_err-scan_to_section.ensures.passed _ section.passes c.in_err-scan_to_section.ensures.passes))
 
-pub returns : goal.returns
-returns g c =
+pub returns-clause-reads : goal.returns-clause-reads
+returns-clause-reads g c =
     let s = g.S.Source in
     let section = rw c.in-Some.is at c.in_ok-found.ensures in
     ReadsGame-section g.B.Board.geometry s.coming s.has_ended s.is_failed s.pulls_left c.texts_of_tags_say.ensures _

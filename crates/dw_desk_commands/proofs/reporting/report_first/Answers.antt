@@ -8,13 +8,12 @@ use Rattle.dw_desk_commands.specs.ProblemText.{IsReportOnOne}
 use Rattle.dw_desk_commands.proofs.ChosenLemmas.{is_next}
 use Rattle.dw_desk_commands.proofs.ProblemLemmas.{ok_so}
 use Rattle.dw_games.specs.GameReading.{numbered_game}
-use Rattle.dw_games.specs.Games.{NumberedGame, problem_of}
-use Rattle.dw_desk_commands.specs.Mending.{IsMendOf}
+use Rattle.dw_games.specs.Games.{NumberedGame}
 use Rattle.std.proofs.Common.{◌-◌}
-use Rattle.dw_desk_commands.proofs.mending.mend_problem.Goals as goal
+use Rattle.dw_desk_commands.proofs.reporting.report_first.Goals as goal
 
-pub returns-in-None : goal.returns-in-None
-returns-in-None g c =
+pub returns-in-None-clause-report : goal.returns-in-None-clause-report
+returns-in-None-clause-report g c =
     let geo = g.B.Board.geometry in
     let source = g.S.Source in (
       None,
@@ -27,16 +26,15 @@ returns-in-None g c =
       Appends-nil (g.K.Sink.taken c.args.sink.now),
     )
 
-pub returns-in-Some : goal.returns-in-Some
-returns-in-Some g c =
+pub returns-in-Some-clause-report : goal.returns-in-Some-clause-report
+returns-in-Some-clause-report g c =
     let geo = g.B.Board.geometry in
     let source = g.S.Source in
     let before = g.K.Sink.taken c.args.sink.now in
-    let after = g.K.Sink.taken c.write_neighbours.new.sink in
+    let after = g.K.Sink.taken c.report.new.sink in
     let game = numbered_game c.in-Some.game in
-    let One = λ (game : NumberedGame). IsMendOf geo c.args.asked.now.n c.args.asked.now.each
-    c.args.asked.now.part c.args.asked.now.parts
-    (c.write_neighbours.new.desk.solver.expanded - c.args.desk.now.solver.expanded) (problem_of game) in
+    let One = g.R.ReportOne.says c.args.command.now
+    (c.report.new.desk.solver.expanded - c.args.desk.now.solver.expanded) in
     let next : IsNext geo source.coming source.has_ended c.args.chosen.now c.next.new.self (Some game) =
     subst (λ z. IsNext geo source.coming source.has_ended c.args.chosen.now c.next.new.self
     (option_map numbered_game z)) c.in-Some.is
@@ -46,5 +44,5 @@ returns-in-Some g c =
     (λ ending. (next : Option NumberedGame) × (text : List ℕ)
     × IsNext geo source.coming source.has_ended c.args.chosen.now c.next.new.self next
     × IsReportOnOne One c.args.chosen.now.portion.first (as_list next) ending text × Appends before after text)
-    c.write_neighbours.result
-    (λ ending told. (Some game, told.0, next, told.1, told.2)) c.write_neighbours.ensures
+    c.report.result
+    (λ ending told. (Some game, told.0, next, told.1, told.2)) c.report.ensures.text

@@ -1,21 +1,22 @@
-use Rattle.std.proofs.Common.{subst}
+use Rattle.std.proofs.Common.{◌∙◌, refl, subst}
 use Rattle.std.specs.Prelude.{option_map}
 use Rattle.dw_games.specs.GameReading.{numbered_game}
 use Rattle.dw_desk_commands.specs.inner.Choosing.{HandsOut}
-use Rattle.dw_desk_commands.specs.Solving.{IsGameOf}
 use Rattle.dw_desk_commands.specs.inner.Choosing.{AreToCome}
 use Rattle.dw_desk_commands.proofs.ReportLemmas.{all_written, none_yet, then_one}
-use Rattle.dw_desk_commands.proofs.solving.solve_problems.Goals as goal
+use Rattle.dw_desk_commands.proofs.reporting.report_all.Goals as goal
 
 pub games-init : goal.games-init
 games-init g c =
     let geo = g.B.Board.geometry in
     let source = g.S.Source in
-    let One = IsGameOf geo c.args.asked.now.n c.args.asked.now.lines in
+    let One = g.R.ReportEach.says c.args.command.now in
     record {
       so_far = none_yet One (AreToCome geo source.coming source.has_ended c.args.chosen.now) c.default-counts.result
           (g.K.Sink.taken c.args.sink.now) c.default-counts.ensures.0 c.default-counts.ensures.1;
-      works = c.requires;
+      works = c.requires.works;
+      lender = refl;
+      runs = c.requires.runs;
     }
 
 pub games-preserved : goal.games-preserved
@@ -23,25 +24,27 @@ games-preserved g c =
     let geo = g.B.Board.geometry in
     let source = g.S.Source in
     let taken = g.K.Sink.taken in
-    let One = IsGameOf geo c.args.asked.now.n c.args.asked.now.lines in
+    let One = g.R.ReportEach.says c.args.command.now in
     let Old = AreToCome geo source.coming source.has_ended c.args.chosen.now in
     let Mid = AreToCome geo source.coming source.has_ended c.games.chosen in
     let New = AreToCome geo source.coming source.has_ended c.next.new.self in
     record {
       so_far = then_one One Old Mid New c.games.counts c.with-counts.result (taken c.args.sink.now)
-          (taken c.games.sink) (taken c.write_game.new.sink) (numbered_game c.in-Some.game)
-          c.in_ok-write_game.field-0 c.games.invariant.so_far
+          (taken c.games.sink) (taken c.report.new.sink) (numbered_game c.in-Some.game)
+          c.in_ok-report.field-0 c.games.invariant.so_far
           (subst (λ z. HandsOut Mid New (option_map numbered_game z)) c.in-Some.is c.in_ok-game.ensures.given)
-          c.in_ok-write_game.ensures.text c.with-counts.ensures.more;
-      works = c.in_ok-write_game.ensures.works;
+          c.in_ok-report.ensures.text c.with-counts.ensures.more;
+      works = c.in_ok-report.ensures.works;
+      lender = c.in_ok-game.ensures.lender ∙ c.games.invariant.lender;
+      runs = c.in_ok-game.ensures.runs;
     }
 
-pub returns : goal.returns
-returns g c =
+pub returns-clause-report : goal.returns-clause-report
+returns-clause-report g c =
     let geo = g.B.Board.geometry in
     let source = g.S.Source in
     let taken = g.K.Sink.taken in
-    let One = IsGameOf geo c.args.asked.now.n c.args.asked.now.lines in
+    let One = g.R.ReportEach.says c.args.command.now in
     let Old = AreToCome geo source.coming source.has_ended c.args.chosen.now in
     let Mid = AreToCome geo source.coming source.has_ended c.games.chosen in
     let New = AreToCome geo source.coming source.has_ended c.next.new.self in

@@ -8,7 +8,7 @@ use Rattle.dw_games.specs.Movetext.{IsTree}
 use Rattle.dw_desk_commands.specs.Checking.{SaysChecked}
 use Rattle.dw_desk_commands.proofs.CheckingLemmas.{refused_same}
 use Rattle.dw_desk_commands.proofs.ProblemLemmas.{line_and_more}
-use Rattle.dw_desk_commands.proofs.checking.report.Goals as goal
+use Rattle.dw_desk_commands.proofs.checking.CheckArgsReportEach.report.Goals as goal
 
 pub returns-in_ok-fails-in-Ok-read_movetext-clause-text : goal.returns-in_ok-fails-in-Ok-read_movetext-clause-text
 returns-in_ok-fails-in-Ok-read_movetext-clause-text g c =
@@ -17,7 +17,7 @@ returns-in_ok-fails-in-Ok-read_movetext-clause-text g c =
     let game = c.args.game.now in
     let p = c.in-Ok.position in
     let new = c.in_ok-fails-in-Ok-read_movetext.ensures.text in
-    line_and_more geo (SaysChecked geo c.args.n game.movetext.items) (problem_of (numbered_game game)) p _ new.0
+    line_and_more geo (SaysChecked geo c.args.self.now.n game.movetext.items) (problem_of (numbered_game game)) p _ new.0
     (taken c.args.sink.now) (taken c.write_all.new.sink) (taken c.write_checked.new.sink) c.in-Ok.is
     (inl (
       c.in-Ok-read_movetext.tree,
@@ -39,7 +39,7 @@ returns-in_ok-write_all-in-Err-Refused-clause-text g c =
     let what = c.in-Err-Refused.what in
     let place = c.in-Err-Refused.place in
     let line = string_bytes c.in_ok-line-in-Err-Refused.line in
-    line_and_more geo (SaysChecked geo c.args.n game.movetext.items) (problem_of (numbered_game game)) p
+    line_and_more geo (SaysChecked geo c.args.self.now.n game.movetext.items) (problem_of (numbered_game game)) p
     true line (taken c.args.sink.now) (taken c.write_all.new.sink) (taken c.write_all-in-Err-Refused.new.sink)
     c.in-Ok.is
     (inr (

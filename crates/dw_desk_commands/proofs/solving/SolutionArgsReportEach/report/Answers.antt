@@ -2,13 +2,13 @@ use Rattle.std.proofs.Common.{◌++◌, codes, false, refl, sym, subst}
 use Rattle.std.specs.Io.KnownBytes.{Appends}
 use Rattle.std.proofs.KnownBytes.{Appends-trans}
 use Rattle.dw_desk_commands.specs.Solving.{AreWrittenTags, IsGameFor}
-use Rattle.dw_desk_commands.proofs.solving.write_game.Goals as goal
+use Rattle.dw_desk_commands.proofs.solving.SolutionArgsReportEach.report.Goals as goal
 
 pub returns-in_ok-write_all-in-Ok-2-clause-text : goal.returns-in_ok-write_all-in-Ok-2-clause-text
 returns-in_ok-write_all-in-Ok-2-clause-text g c =
     let geo = g.B.Board.geometry in
     let taken = g.K.Sink.taken in
-    let asked = c.args.asked.now in
+    let asked = c.args.self.now in
     let game = c.args.game.now in
     let start = taken c.args.sink.now in
     let first = taken c.write_tags.new.sink in
@@ -25,7 +25,7 @@ returns-in_ok-write_all-in-Ok-2-clause-text g c =
           tags.0,
           movetext,
           subst (λ z. AreWrittenTags geo c.in-Ok.position z tags.0) c.as_slice.ensures.value tags.1,
-          c.in_ok-text-in-Ok.ensures,
+          c.in_ok-text-in-Ok.ensures.text,
           refl,
         ),
       ),

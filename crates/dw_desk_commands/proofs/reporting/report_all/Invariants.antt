@@ -1,19 +1,20 @@
 use Rattle.std.proofs.Common.{◌≡◌, false}
-use Rattle.dw_desk_commands.specs.Checking.{IsCheckOf}
-use Rattle.dw_desk_commands.specs.inner.Choosing.{AreToCome}
+use Rattle.dw_desk_commands.specs.inner.Choosing.{AreToCome, Runs, lender}
 use Rattle.dw_desk_commands.proofs.ReportLemmas.{SoFar}
-use Rattle.dw_desk_commands.proofs.checking.check_games.Given as goal
+use Rattle.dw_desk_commands.proofs.reporting.report_all.Given as goal
 
 abbrev pub invariant-games : goal.invariant-games
 invariant-games g l =
     let geo = g.B.Board.geometry in
     let source = g.S.Source in
     record {
-      so_far : SoFar (IsCheckOf geo l.n)
+      so_far : SoFar (g.R.ReportEach.says l.command)
           (AreToCome geo source.coming source.has_ended l.initial.chosen)
           (AreToCome geo source.coming source.has_ended l.chosen) l.counts
           (g.K.Sink.taken l.initial.sink) (g.K.Sink.taken l.sink);
       works : g.K.Sink.is_failed l.sink ≡ false;
+      lender : lender l.chosen.text ≡ lender l.initial.chosen.text;
+      runs : Runs l.chosen.text;
     }
 
 abbrev pub decreases-games : goal.decreases-games

@@ -7,31 +7,31 @@ use Rattle.dw_notation.specs.Problems.{numbered}
 use Rattle.dw_report.specs.Report.{first_line}
 use Rattle.dw_report.specs.declared.settings.RunFault.TheVariants.{Stopped}
 use Rattle.dw_solve.specs.declared.stop.Stop.TheVariants.{Memory}
-use Rattle.dw_desk_commands.proofs.certifying.write_certificate.Goals as goal
+use Rattle.dw_desk_commands.proofs.certifying.CertifyArgsReportOne.report.Goals as goal
 
-pub returns-then-dropped-gt0 : goal.returns-then-dropped-gt0
-returns-then-dropped-gt0 g c =
+pub returns-then-dropped-gt0-clause-text : goal.returns-then-dropped-gt0-clause-text
+returns-then-dropped-gt0-clause-text g c =
     let geo = g.B.Board.geometry in (
       [],
-      subst (λ z. IsDoneWith (Certifies geo c.args.asked.now.n) (first_line geo (numbered c.args.problem.now)) z
+      subst (λ z. IsDoneWith (Certifies geo c.args.self.now.n) (first_line geo (numbered c.args.game.now.problem)) z
           TooManyPositions []) (sym c.in-Ok.is) refl,
       Appends-nil (g.K.Sink.taken c.args.sink.now),
     )
 
-pub returns-in-Err-Missing : goal.returns-in-Err-Missing
-returns-in-Err-Missing g c =
+pub returns-in-Err-Missing-clause-text : goal.returns-in-Err-Missing-clause-text
+returns-in-Err-Missing-clause-text g c =
     let geo = g.B.Board.geometry in (
       [],
-      subst (λ z. IsDoneWith (Certifies geo c.args.asked.now.n) (first_line geo (numbered c.args.problem.now)) z
+      subst (λ z. IsDoneWith (Certifies geo c.args.self.now.n) (first_line geo (numbered c.args.game.now.problem)) z
           TooManyPositions []) (sym c.in-Ok.is) refl,
       Appends-nil (g.K.Sink.taken c.args.sink.now),
     )
 
-pub returns-in-Err-Memory : goal.returns-in-Err-Memory
-returns-in-Err-Memory g c =
+pub returns-in-Err-Memory-clause-text : goal.returns-in-Err-Memory-clause-text
+returns-in-Err-Memory-clause-text g c =
     let geo = g.B.Board.geometry in (
       [],
-      subst (λ z. IsDoneWith (Certifies geo c.args.asked.now.n) (first_line geo (numbered c.args.problem.now)) z
+      subst (λ z. IsDoneWith (Certifies geo c.args.self.now.n) (first_line geo (numbered c.args.game.now.problem)) z
           (Failed (Stopped Memory c.expanded-expanded.result)) []) (sym c.in-Ok.is) refl,
       Appends-nil (g.K.Sink.taken c.args.sink.now),
     )
