@@ -237,7 +237,8 @@ fn do_with<'a, B: Board, W: DeskWatcher, S: Source, K: Sink>(
     ensures does { IfOk result (DoesIt B.geometry args.now (S.coming (source_of chosen.old.text))
         (K.taken sink.old) (K.taken sink.new)) }
     ensures told { IfOk result (FailsForCause false) }
-    ensures ends { CommandFails S.is_failed (K.is_failed sink.new) desk.new.solver.expanded chosen.old chosen.new result }
+    ensures ends { CommandFails S.is_failed (K.is_failed sink.new) desk.new.solver.expanded chosen.old chosen.new
+        result }
 {
     match args.task {
         Task::Find(asked) => {

@@ -53,7 +53,8 @@ pub(crate) fn page_problems<B: Board, W: DeskWatcher, S: Source, K: Sink>(
         × AreToCome B.geometry S.coming S.has_ended chosen.old games
         × IsPageOf B.geometry asked.now chosen.old.portion games counts text
         × Appends (K.taken sink.old) (K.taken sink.new) text) }
-    ensures ends { CommandFails S.is_failed (K.is_failed sink.new) desk.new.solver.expanded chosen.old chosen.new result }
+    ensures ends { CommandFails S.is_failed (K.is_failed sink.new) desk.new.solver.expanded chosen.old chosen.new
+        result }
 {
     let Some(first) = chosen.next()? else {
         return empty_page::<B, K>(desk.alloc, asked, chosen.is_asked(), sink);
@@ -373,8 +374,8 @@ fn push_solved<B: Board>(
     requires few { task.now.moves ≤ 20 }
     requires verdict { IsVerdict B.geometry task.now.position.now task.now.moves (said_by judged.now.verdict) }
     requires tries { Tries B.geometry task.now.position.now task.now.moves judged.now.tries.items }
-    ensures solution { OnOk result ((text : List ℕ) × IsSolved B.geometry (language_for asked.now.language) asked.now.lines
-        task.now.number task.now.position.now task.now.moves is_apart text
+    ensures solution { OnOk result ((text : List ℕ) × IsSolved B.geometry (language_for asked.now.language)
+        asked.now.lines task.now.number task.now.position.now task.now.moves is_apart text
         × (page.new.items ≡ page.old.items ++ text)) }
     ensures stop { IsErrOf result Limit → desk.new.solver.expanded ≡ u64.MAX }
 {

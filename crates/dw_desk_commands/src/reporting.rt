@@ -53,7 +53,8 @@ pub(crate) fn report_all<B: Board, W: DeskWatcher, S: Source, K: Sink, R: Report
         × AreToCome B.geometry S.coming S.has_ended chosen.old games
         × IsReport (R.says command.now) games counts text
         × Appends (K.taken sink.old) (K.taken sink.new) text) }
-    ensures ends { CommandFails S.is_failed (K.is_failed sink.new) desk.new.solver.expanded chosen.old chosen.new result }
+    ensures ends { CommandFails S.is_failed (K.is_failed sink.new) desk.new.solver.expanded chosen.old chosen.new
+        result }
 {
     let mut counts = Counts::default();
     'games: while let Some(game) = chosen.next()? {
@@ -104,7 +105,8 @@ pub(crate) fn report_first<E, B: Board, W: DeskWatcher, S: Source, K: Sink, R: R
         chosen.old.portion.first (as_list next) ending text
         × Appends (K.taken sink.old) (K.taken sink.new) text) }
     ensures told { IfOk result (FailsForCause false) }
-    ensures ends { CommandFails S.is_failed (K.is_failed sink.new) desk.new.solver.expanded chosen.old chosen.new result }
+    ensures ends { CommandFails S.is_failed (K.is_failed sink.new) desk.new.solver.expanded chosen.old chosen.new
+        result }
 {
     match chosen.next()? {
         Some(game) => command.report(desk, slices, &game, sink),

@@ -1,6 +1,6 @@
 //! The neighbours of a position that are sound, each in a line as soon as it is known.
-ghost use Rattle.std.specs.Prelude.{◌≡◌, ℕ, ◌+◌, ◌≤◌, false, true, take, length, List, Some, Err, IfOk, IfSome, IsErrOf};
-ghost use Rattle.std.specs.Prelude.{OnOk, MatchOption, map};
+ghost use Rattle.std.specs.Prelude.{◌≡◌, ℕ, ◌+◌, ◌≤◌, false, true, take, length, List, Some, Err, IfOk, IfSome};
+ghost use Rattle.std.specs.Prelude.{IsErrOf, OnOk, MatchOption, map};
 ghost use Rattle.dw_moves.specs.Moves.{Move as AnyMove};
 ghost use Rattle.dw_verdict.specs.Verdict.{IsVerdict, sound};
 ghost use Rattle.std.specs.Io.KnownBytes.{Appends};

@@ -12,7 +12,7 @@ use dw_board::{Board, Position};
 use dw_memo::Memo;
 use dw_moves::Move;
 use dw_solve::{Guide, Solver, Stop};
-use dw_study::{Slices, Watcher, verdict_on, wins_on};
+use dw_study::{Slices, Watcher, verdict_resuming, wins_resuming};
 use dw_verdict::Verdict;
 use std::alloc::Global;
 
@@ -40,13 +40,13 @@ pub fn sound_key<B: Board, M: Memo<B>, G: Guide<B>, W: Watcher>(
     ensures start { slices.new.start ≡ slices.old.start }
 {
     dw_verdict::laws::one_verdict();
-    if !wins_on(alloc, solver, position, moves, slices)? {
+    if !wins_resuming(alloc, solver, position, moves, slices)? {
         return Ok(None);
     }
-    if wins_on(alloc, solver, position, moves - 1, slices)? {
+    if wins_resuming(alloc, solver, position, moves - 1, slices)? {
         return Ok(None);
     }
-    let verdict = verdict_on(alloc, solver, position, moves, slices)?;
+    let verdict = verdict_resuming(alloc, solver, position, moves, slices)?;
     Ok(key_of(&verdict))
 }
 

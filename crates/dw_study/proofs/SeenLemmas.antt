@@ -23,7 +23,7 @@ use Rattle.dw_verdict.specs.Verdict.{IsWinning}
 use Rattle.dw_verdict.specs.inner.GatheredLemmas.{GatheredTo, to_none, to_more, to_same, to_all, item_among}
 use Rattle.dw_games.specs.Walk.{place_of, beginning_at}
 use Rattle.dw_games.specs.declared.branches.Node.{Node}
-use Rattle.dw_study.specs.declared.branch.Spot.{Spot}
+use Rattle.dw_study.specs.declared.branch.CheckNode.{CheckNode}
 use Rattle.dw_study.specs.declared.branch.Child.{Child}
 use Rattle.dw_study.specs.declared.branch.Seen.{Seen}
 use Rattle.dw_study.specs.declared.remark.Remark as code
@@ -583,7 +583,7 @@ kept_some g true n p kept e = kept
 kept_some g false n p kept e = absurd (true≢false (sym e))
 
 -- the beginning with one move more
-abbrev pub after_child : {B : Type 0} → Geometry → Spot B → Child B → Spot B
+abbrev pub after_child : {B : Type 0} → Geometry → CheckNode B → Child B → CheckNode B
 after_child g spot c = record {
   node = Some c.node;
   position = play g spot.position c.mv;
@@ -591,33 +591,33 @@ after_child g spot c = record {
   left = left_after spot.attacks spot.left;
 }
 
-pub after_there : {B : Type 0} (g : Geometry) (tree : List (List Move)) (spot after : Spot B) (c : Child B)
+pub after_there : {B : Type 0} (g : Geometry) (tree : List (List Move)) (spot after : CheckNode B) (c : Child B)
     (b : List Move) → after ≡ after_child g spot c → slice_get tree c.node.0 ≡ Some (b ++ c.mv ∷ [])
     → beginning_at tree (place_of after.node) ≡ Some (b ++ c.mv ∷ [])
 after_there {B} g tree spot after c b is there =
-    subst (λ (z : Spot B). beginning_at tree (place_of z.node) ≡ Some (b ++ c.mv ∷ [])) (sym is) there
+    subst (λ (z : CheckNode B). beginning_at tree (place_of z.node) ≡ Some (b ++ c.mv ∷ [])) (sym is) there
 
-pub after_kept : {B : Type 0} (g : Geometry) (spot after : Spot B) (c : Child B) → after ≡ after_child g spot c
+pub after_kept : {B : Type 0} (g : Geometry) (spot after : CheckNode B) (c : Child B) → after ≡ after_child g spot c
     → IsKept g (not spot.attacks) (left_after spot.attacks spot.left) (play g spot.position c.mv)
     → IsKept g after.attacks after.left after.position
 after_kept {B} g spot after c is kept =
-    subst (λ (z : Spot B). IsKept g z.attacks z.left z.position) (sym is) kept
+    subst (λ (z : CheckNode B). IsKept g z.attacks z.left z.position) (sym is) kept
 
-pub after_less : {B : Type 0} (g : Geometry) (spot after : Spot B) (c : Child B) → after ≡ after_child g spot c
+pub after_less : {B : Type 0} (g : Geometry) (spot after : CheckNode B) (c : Child B) → after ≡ after_child g spot c
     → after.left ≤ spot.left
 after_less {B} g spot after c is =
-    subst (λ (z : Spot B). z.left ≤ spot.left) (sym is) (left_less spot.attacks spot.left)
+    subst (λ (z : CheckNode B). z.left ≤ spot.left) (sym is) (left_less spot.attacks spot.left)
 
-pub after_falls : {B : Type 0} (g : Geometry) (spot after : Spot B) (c : Child B) → after ≡ after_child g spot c
+pub after_falls : {B : Type 0} (g : Geometry) (spot after : CheckNode B) (c : Child B) → after ≡ after_child g spot c
     → IsKept g spot.attacks spot.left spot.position
     → 2 * after.left + cond after.attacks 0 1 < 2 * spot.left + cond spot.attacks 0 1
 after_falls {B} g spot after c is kept =
-    subst (λ (z : Spot B). 2 * z.left + cond z.attacks 0 1 < 2 * spot.left + cond spot.attacks 0 1) (sym is)
+    subst (λ (z : CheckNode B). 2 * z.left + cond z.attacks 0 1 < 2 * spot.left + cond spot.attacks 0 1) (sym is)
     (falls g spot.attacks spot.left spot.position kept)
 
-pub after_says : {B : Type 0} (g : Geometry) (tree : List (List Move)) (spot after : Spot B) (c : Child B)
+pub after_says : {B : Type 0} (g : Geometry) (tree : List (List Move)) (spot after : CheckNode B) (c : Child B)
     (b : List Move) (items : List (code.Remark B)) → after ≡ after_child g spot c
     → Say tree items (Behind g tree after.attacks after.left after.position (b ++ c.mv ∷ []))
     → Say tree items (Later g tree spot.attacks spot.left spot.position b c.mv)
 after_says {B} g tree spot after c b items is says =
-    subst (λ (z : Spot B). Say tree items (Behind g tree z.attacks z.left z.position (b ++ c.mv ∷ []))) is says
+    subst (λ (z : CheckNode B). Say tree items (Behind g tree z.attacks z.left z.position (b ++ c.mv ∷ []))) is says

@@ -18,7 +18,7 @@ use std::alloc::{AllocError, Global};
 /// A beginning of a path: its node, `None` at the root, and the position behind it; whether the attacker is to move
 /// there, and how many moves he has left.
 #[derive(Clone, Copy)]
-pub(crate) struct Spot<B: Board> {
+pub(crate) struct CheckNode<B: Board> {
     pub(crate) node: Option<Node>,
     pub(crate) position: Position<B>,
     pub(crate) attacks: bool,
@@ -39,7 +39,7 @@ pub(crate) struct Seen<B: Board> {
     pub(crate) followed: Vec<Child<B>>,
 }
 
-impl<B: Board> Spot<B> {
+impl<B: Board> CheckNode<B> {
     /// The beginning with one move more.
     pub(crate) fn after(&self, child: &Child<B>) -> Self
         requires { Legal B.geometry self.now.position child.now.mv }
@@ -50,7 +50,7 @@ impl<B: Board> Spot<B> {
           left = left_after self.now.attacks self.now.left;
         } }
     {
-        Spot {
+        CheckNode {
             node: Some(child.node),
             position: play(&self.position, &child.mv),
             attacks: !self.attacks,

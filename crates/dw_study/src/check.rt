@@ -10,10 +10,10 @@ ghost use Rattle.dw_study.specs.Slices.{Began, Went};
 ghost use Rattle.dw_study.specs.Telling.{Say};
 ghost use Rattle.dw_study.specs.inner.Checking.{Behind, IsKept, IsSeen};
 
-use crate::branch::{Seen, Spot};
+use crate::branch::{CheckNode, Seen};
 use crate::remark::{Checked, Remark};
 use crate::seen::{seen_by_attacker, seen_by_defender};
-use crate::sliced::wins_on;
+use crate::sliced::wins_resuming;
 use crate::slices::{Slices, Watcher};
 use dw_board::{Board, Position};
 use dw_games::Tree;
@@ -47,13 +47,13 @@ pub fn check<B: Board, M: Memo<B>, G: Guide<B>, W: Watcher>(
 {
     dw_solve::laws::searches_add_up();
     slices.begin(solver.expanded());
-    let checked = check_on(alloc, solver, position, tree, moves, slices);
+    let checked = check_resuming(alloc, solver, position, tree, moves, slices);
     solver.keeps_its_facts();
     checked
 }
 
 /// What `check` answers, in slices that began before.
-fn check_on<B: Board, M: Memo<B>, G: Guide<B>, W: Watcher>(
+fn check_resuming<B: Board, M: Memo<B>, G: Guide<B>, W: Watcher>(
     alloc: Global,
     solver: &mut Solver<B, M, G>,
     position: &Position<B>,
@@ -68,8 +68,8 @@ fn check_on<B: Board, M: Memo<B>, G: Guide<B>, W: Watcher>(
         (AreRemarks B.geometry tree.now moves position.now [])) }
     ensures went { Went B.geometry M.content M.dropped moves slices.old slices.new solver.old solver.new result }
 {
-    let wins = wins_on(alloc, solver, position, moves, slices)?;
-    let root = Spot {
+    let wins = wins_resuming(alloc, solver, position, moves, slices)?;
+    let root = CheckNode {
         node: None,
         position: *position,
         attacks: true,
@@ -85,7 +85,7 @@ fn remarks_from<B: Board, M: Memo<B>, G: Guide<B>, W: Watcher>(
     solver: &mut Solver<B, M, G>,
     slices: &mut Slices<W>,
     tree: &Tree<B>,
-    spot: &Spot<B>,
+    spot: &CheckNode<B>,
 ) -> Result<Vec<Remark<B>>, Stop>
     requires there { (b : _) × (beginning_at tree.now (place_of spot.now.node) ≡ Some b) }
     requires kept { IsKept B.geometry spot.now.attacks spot.now.left spot.now.position }
@@ -113,7 +113,7 @@ fn seen<B: Board, M: Memo<B>, G: Guide<B>, W: Watcher>(
     solver: &mut Solver<B, M, G>,
     slices: &mut Slices<W>,
     tree: &Tree<B>,
-    spot: &Spot<B>,
+    spot: &CheckNode<B>,
 ) -> Result<Seen<B>, Stop>
     requires there { (b : _) × (beginning_at tree.now (place_of spot.now.node) ≡ Some b) }
     requires kept { IsKept B.geometry spot.now.attacks spot.now.left spot.now.position }

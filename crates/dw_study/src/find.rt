@@ -7,7 +7,7 @@ ghost use Rattle.dw_study.specs.Slices.{Began};
 ghost use Rattle.dw_study.specs.Telling.{told_by, cut_short, searched_to, IsKnownInTime, StaysOpen};
 
 use crate::finding::{FindBounds, Finding};
-use crate::judging::judge_on;
+use crate::judging::judge_resuming;
 use crate::looking::number_within;
 use crate::slices::{Slices, Watcher};
 use dw_board::{Board, Position};
@@ -46,7 +46,7 @@ pub fn find<B: Board, M: Memo<B>, G: Guide<B>, W: Watcher>(
     slices.begin(start);
     match number_within(alloc, solver, position, bounds, slices) {
         Ok(moves) => {
-            let judged = judge_on(alloc, solver, position, moves, slices)?;
+            let judged = judge_resuming(alloc, solver, position, moves, slices)?;
             Ok(Finding::Judged { moves, judged })
         }
         Err(cut) if cut.stop == Stop::Limit && bounds.each == Some(solver.expanded() - start) => {

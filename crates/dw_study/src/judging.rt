@@ -7,7 +7,7 @@ ghost use Rattle.dw_verdict.specs.Verdict.{IsVerdict, Tries};
 ghost use Rattle.dw_verdict.specs.Judging.{said_by};
 ghost use Rattle.dw_study.specs.Slices.{Began, IsWatched, SearchedSome, Went};
 
-use crate::question::{Question, ask_on};
+use crate::question::{Question, ask_resuming};
 use crate::slices::{Slices, Watcher};
 use dw_board::{Board, Position};
 use dw_memo::Memo;
@@ -74,12 +74,13 @@ pub fn judge_in_slices<B: Board, M: Memo<B>, G: Guide<B>, W: Watcher>(
 {
     dw_solve::laws::searches_add_up();
     slices.begin(solver.expanded());
-    judge_on(alloc, solver, position, moves, slices)
+    judge_resuming(alloc, solver, position, moves, slices)
 }
 
-/// What `judge_in_slices` answers, in slices that began before, as [`wins_on`](crate::sliced::wins_on) does.
+/// What `judge_in_slices` answers, in slices that began before, as
+/// [`wins_resuming`](crate::sliced::wins_resuming) does.
 /// Example: at `W:W27,45:B16`, within 2 moves, it is sound by `45-40`, and the slices start where they did.
-pub fn judge_on<B: Board, M: Memo<B>, G: Guide<B>, W: Watcher>(
+pub fn judge_resuming<B: Board, M: Memo<B>, G: Guide<B>, W: Watcher>(
     alloc: Global,
     solver: &mut Solver<B, M, G>,
     position: &Position<B>,
@@ -97,7 +98,7 @@ pub fn judge_on<B: Board, M: Memo<B>, G: Guide<B>, W: Watcher>(
     ensures right { AreTrue B.geometry (M.content solver.new.memo) }
     ensures map { IsMap (M.content solver.new.memo) }
 {
-    ask_on(alloc, solver, position, moves, slices, &AllAsked)
+    ask_resuming(alloc, solver, position, moves, slices, &AllAsked)
 }
 
 /// The verdict that `judge_in_slices` answers, without the tries.
@@ -121,12 +122,12 @@ pub fn verdict_in_slices<B: Board, M: Memo<B>, G: Guide<B>, W: Watcher>(
 {
     dw_solve::laws::searches_add_up();
     slices.begin(solver.expanded());
-    verdict_on(alloc, solver, position, moves, slices)
+    verdict_resuming(alloc, solver, position, moves, slices)
 }
 
-/// The verdict that `judge_on` answers, without the tries.
+/// The verdict that `judge_resuming` answers, without the tries.
 /// Example: at `W:W27,45:B16`, within 2 moves, it is sound by `45-40`, and the slices start where they did.
-pub fn verdict_on<B: Board, M: Memo<B>, G: Guide<B>, W: Watcher>(
+pub fn verdict_resuming<B: Board, M: Memo<B>, G: Guide<B>, W: Watcher>(
     alloc: Global,
     solver: &mut Solver<B, M, G>,
     position: &Position<B>,
@@ -143,5 +144,5 @@ pub fn verdict_on<B: Board, M: Memo<B>, G: Guide<B>, W: Watcher>(
     ensures right { AreTrue B.geometry (M.content solver.new.memo) }
     ensures map { IsMap (M.content solver.new.memo) }
 {
-    ask_on(alloc, solver, position, moves, slices, &VerdictAsked)
+    ask_resuming(alloc, solver, position, moves, slices, &VerdictAsked)
 }

@@ -26,10 +26,10 @@ mod text;
 pub mod turns;
 
 pub use finding::{FindBounds, Finding};
-pub use judging::{judge_in_slices, judge_on, verdict_in_slices, verdict_on};
+pub use judging::{judge_in_slices, judge_resuming, verdict_in_slices, verdict_resuming};
 pub use remark::{Checked, Remark};
 pub use remark_texts::remark_text;
-pub use sliced::{wins_in_slices, wins_on};
+pub use sliced::{wins_in_slices, wins_resuming};
 pub use slices::{Slices, Unwatched, Watcher};
 pub use text::found_text;
 pub use turns::turns_of;

@@ -8,7 +8,7 @@ ghost use Rattle.dw_study.specs.inner.Looking.{IsLooked, LooksOn, lowered};
 
 use crate::finding::FindBounds;
 use crate::limits::{lower, raise};
-use crate::sliced::wins_on;
+use crate::sliced::wins_resuming;
 use crate::slices::{Slices, Watcher};
 use dw_board::{Board, Position};
 use dw_memo::Memo;
@@ -87,7 +87,7 @@ fn number<B: Board, M: Memo<B>, G: Guide<B>, W: Watcher>(
     dw_solve::laws::searches_add_up();
     solver.keeps_its_limit();
     'moves: for moves in 1..most + 1 {
-        match wins_on(alloc, solver, position, moves, slices) {
+        match wins_resuming(alloc, solver, position, moves, slices) {
             Ok(true) => return Ok(moves),
             Ok(false) => {}
             Err(stop) => {

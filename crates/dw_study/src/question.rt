@@ -35,7 +35,14 @@ pub(crate) trait Question<B: Board, A> {
 }
 
 /// What a question is answered, in slices that began before.
-pub(crate) fn ask_on<B: Board, M: Memo<B>, G: Guide<B>, W: Watcher, A: Drop, Q: Question<B, A>>(
+pub(crate) fn ask_resuming<
+    B: Board,
+    M: Memo<B>,
+    G: Guide<B>,
+    W: Watcher,
+    A: Drop,
+    Q: Question<B, A>,
+>(
     alloc: Global,
     solver: &mut Solver<B, M, G>,
     position: &Position<B>,

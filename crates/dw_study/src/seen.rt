@@ -8,9 +8,9 @@ ghost use Rattle.dw_study.specs.Slices.{Went};
 ghost use Rattle.dw_study.specs.inner.Checking.{AreChildren, AreOthers, AreOtherKeys};
 ghost use Rattle.dw_study.specs.inner.Checking.{FindsFirst, IsSeen, IsSorted};
 
-use crate::branch::{Child, Seen, Spot, children, others, push};
+use crate::branch::{CheckNode, Child, Seen, children, others, push};
 use crate::remark::Remark;
-use crate::sliced::wins_on;
+use crate::sliced::wins_resuming;
 use crate::slices::{Slices, Watcher};
 use dw_board::{Board, Position};
 use dw_games::Tree;
@@ -27,7 +27,7 @@ pub(crate) fn seen_by_attacker<B: Board, M: Memo<B>, G: Guide<B>, W: Watcher>(
     solver: &mut Solver<B, M, G>,
     slices: &mut Slices<W>,
     tree: &Tree<B>,
-    spot: &Spot<B>,
+    spot: &CheckNode<B>,
 ) -> Result<Seen<B>, Stop>
     requires there { (b : _) × (beginning_at tree.now (place_of spot.now.node) ≡ Some b) }
     requires some { 1 ≤ spot.now.left }
@@ -59,7 +59,7 @@ pub(crate) fn seen_by_attacker<B: Board, M: Memo<B>, G: Guide<B>, W: Watcher>(
 pub(crate) fn seen_by_defender<B: Board>(
     alloc: Global,
     tree: &Tree<B>,
-    spot: &Spot<B>,
+    spot: &CheckNode<B>,
 ) -> Result<Seen<B>, AllocError>
     requires there { (b : _) × (beginning_at tree.now (place_of spot.now.node) ≡ Some b) }
     requires lost { Lost B.geometry spot.now.position spot.now.left }
@@ -87,7 +87,7 @@ pub(crate) fn seen_by_defender<B: Board>(
 }
 
 /// What is seen where the solution ends.
-fn end<B: Board>(alloc: Global, spot: &Spot<B>) -> Result<Seen<B>, AllocError>
+fn end<B: Board>(alloc: Global, spot: &CheckNode<B>) -> Result<Seen<B>, AllocError>
     ensures remarks { IfOk result (λ seen. seen.remarks.items ≡ Remark.Ends spot.now.node ∷ []) }
     ensures followed { IfOk result (λ seen. seen.followed.items ≡ []) }
 {
@@ -104,7 +104,7 @@ fn sorted<B: Board, M: Memo<B>, G: Guide<B>, W: Watcher>(
     alloc: Global,
     solver: &mut Solver<B, M, G>,
     slices: &mut Slices<W>,
-    spot: &Spot<B>,
+    spot: &CheckNode<B>,
     children: &[Child<B>],
 ) -> Result<Seen<B>, Stop>
     requires legal { (m : _) → Member m (map (λ c. c.mv) children.now) → Legal B.geometry spot.now.position m }
@@ -141,7 +141,7 @@ fn winning<B: Board, M: Memo<B>, G: Guide<B>, W: Watcher>(
     alloc: Global,
     solver: &mut Solver<B, M, G>,
     slices: &mut Slices<W>,
-    spot: &Spot<B>,
+    spot: &CheckNode<B>,
     moves: &[Move<B>],
 ) -> Result<Vec<Move<B>>, Stop>
     requires legal { (m : _) → Member m moves.now → Legal B.geometry spot.now.position m }
@@ -179,7 +179,7 @@ fn refutation<B: Board, M: Memo<B>, G: Guide<B>, W: Watcher>(
     let list = listed(alloc, position)?;
     'replies: for reply in list.as_slice() {
         let after = play(position, &reply.step);
-        if !wins_on(alloc, solver, &after, left, slices)? {
+        if !wins_resuming(alloc, solver, &after, left, slices)? {
             return Ok(Some(reply.step));
         }
     }

@@ -44,13 +44,13 @@ pub fn wins_in_slices<B: Board, M: Memo<B>, G: Guide<B>, W: Watcher>(
 {
     dw_solve::laws::searches_add_up();
     slices.begin(solver.expanded());
-    wins_on(alloc, solver, position, moves, slices)
+    wins_resuming(alloc, solver, position, moves, slices)
 }
 
 /// What `wins_in_slices` answers, in slices that began before: those of a run of questions, of which the watcher is
 /// told as of one search.
 /// Example: at `W:W27,45:B16` it is `Ok(true)` within 2 moves, and the slices start where they did.
-pub fn wins_on<B: Board, M: Memo<B>, G: Guide<B>, W: Watcher>(
+pub fn wins_resuming<B: Board, M: Memo<B>, G: Guide<B>, W: Watcher>(
     alloc: Global,
     solver: &mut Solver<B, M, G>,
     position: &Position<B>,

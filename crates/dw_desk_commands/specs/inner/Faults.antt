@@ -31,7 +31,8 @@ run_fault because.Write expanded = running.Write
 
 -- a fault has its cause, whatever was expanded
 abbrev pub IsCaused : (source_failed sink_failed : Bool) → DeskFault → Type 0
-IsCaused source_failed sink_failed fault = (expanded : ℕ) → HasCause source_failed sink_failed (run_fault fault expanded)
+IsCaused source_failed sink_failed fault =
+    (expanded : ℕ) → HasCause source_failed sink_failed (run_fault fault expanded)
 
 -- an error of what only writes has its cause in the sink
 abbrev pub SinkFails : {X : Type 0} → (sink_failed : Bool) → Result X DeskFault → Type 0

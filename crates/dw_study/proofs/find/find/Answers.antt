@@ -17,16 +17,16 @@ returns-in_err-judged-in-Ok-clause-began g c =
     let begun = c.begin.new.self in
     let looked = c.number_within.new.slices in
     let before = c.args.solver.now in
-    let after = c.judge_on.new.solver in
+    let after = c.judge_resuming.new.solver in
     let result = c.from_residual.result in
-    began_stopped geo content lost n c.args.slices.now c.judge_on.new.slices before after result
+    began_stopped geo content lost n c.args.slices.now c.judge_resuming.new.slices before after result
     c.in_err-judged-in-Ok.field-0.0 c.from_residual.ensures.1
-    (began_here geo content lost c.searches_add_up.ensures n c.args.slices.now begun c.judge_on.new.slices before after
+    (began_here geo content lost c.searches_add_up.ensures n c.args.slices.now begun c.judge_resuming.new.slices before after
     result (ap (λ z. z.first) c.begin.ensures) (ap (λ z. z.start) c.begin.ensures ∙ c.expanded-start.ensures)
-    (went_wider geo content lost k n begun c.judge_on.new.slices before after result found.number.1
-    (went_then geo content lost k k begun looked c.judge_on.new.slices before c.number_within.new.solver after result
+    (went_wider geo content lost k n begun c.judge_resuming.new.slices before after result found.number.1
+    (went_then geo content lost k k begun looked c.judge_resuming.new.slices before c.number_within.new.solver after result
     (omega arith) (went_looked geo content lost _ begun looked before c.number_within.new.solver k found.looks)
-    (went_stop geo content lost k looked c.judge_on.new.slices c.number_within.new.solver after
+    (went_stop geo content lost k looked c.judge_resuming.new.slices c.number_within.new.solver after
     c.in_err-judged-in-Ok.field-0.0 result c.from_residual.ensures.1 c.in_err-judged-in-Ok.ensures.went))))
 
 pub returns-in_ok-judged-in-Ok-clause-began : goal.returns-in_ok-judged-in-Ok-clause-began
@@ -38,13 +38,13 @@ returns-in_ok-judged-in-Ok-clause-began g c =
     let begun = c.begin.new.self in
     let looked = c.number_within.new.slices in
     let before = c.args.solver.now in
-    let after = c.judge_on.new.solver in
-    began_here geo content lost c.searches_add_up.ensures k c.args.slices.now begun c.judge_on.new.slices before after _
+    let after = c.judge_resuming.new.solver in
+    began_here geo content lost c.searches_add_up.ensures k c.args.slices.now begun c.judge_resuming.new.slices before after _
     (ap (λ z. z.first) c.begin.ensures) (ap (λ z. z.start) c.begin.ensures ∙ c.expanded-start.ensures)
-    (went_then geo content lost k k begun looked c.judge_on.new.slices before c.number_within.new.solver after _
+    (went_then geo content lost k k begun looked c.judge_resuming.new.slices before c.number_within.new.solver after _
     (omega arith)
     (went_looked geo content lost _ begun looked before c.number_within.new.solver k c.in-Ok.ensures.looks)
-    (went_ok geo content lost k looked c.judge_on.new.slices c.number_within.new.solver after
+    (went_ok geo content lost k looked c.judge_resuming.new.slices c.number_within.new.solver after
     c.in_ok-judged-in-Ok.judged _ c.in_ok-judged-in-Ok.ensures.went))
 
 pub returns-in-Err-clause-began : goal.returns-in-Err-clause-began
@@ -63,7 +63,7 @@ returns-in-Err-2-clause-began g c =
 
 pub returns-in_err-judged-in-Ok-clause-stays : goal.returns-in_err-judged-in-Ok-clause-stays
 returns-in_err-judged-in-Ok-clause-stays g c =
-    stays_stopped g.M.Memo.content c.args.position.now c.args.bounds.each c.args.solver.now c.judge_on.new.solver
+    stays_stopped g.M.Memo.content c.args.position.now c.args.bounds.each c.args.solver.now c.judge_resuming.new.solver
     c.from_residual.result c.in_err-judged-in-Ok.field-0.0 c.from_residual.ensures.1
 
 pub returns-in_ok-judged-in-Ok-clause-stays : goal.returns-in_ok-judged-in-Ok-clause-stays

@@ -18,18 +18,18 @@ moves-preserved g c =
     record {
       none = below_more _ _ now.none (λ win. true≢false (sym (here.answer.1 win) ∙ c.in-Ok-false.field-0-test));
       idle = λ j says within. (idle_on g.M.Memo.content c.args.position.now c.moves.moves j c.args.solver.now
-          c.moves.solver c.wins_on.new.solver says c.moves.auto.moves (omega (arith, within))
+          c.moves.solver c.wins_resuming.new.solver says c.moves.auto.moves (omega (arith, within))
           (now.idle j says (omega (arith, within))) here.known).1;
       count = counted_then _ _ _ _ _ _ now.count here.went.count;
       on = subst (λ n. GoesOn g.B.Board.geometry g.M.Memo.content g.M.Memo.dropped n c.args.slices.now.first
-          c.args.slices.now.start 0 c.args.solver.now c.wins_on.new.solver) (one_more c.moves.moves)
+          c.args.slices.now.start 0 c.args.solver.now c.wins_resuming.new.solver) (one_more c.moves.moves)
           (goes_on_after g.B.Board.geometry g.M.Memo.content g.M.Memo.dropped c.moves.moves c.args.slices.now.first
           c.args.slices.now.start c.moves.slices.first c.moves.slices.start 0 c.args.solver.now c.moves.solver
-          c.wins_on.new.solver now.first now.start now.on here.went.on);
+          c.wins_resuming.new.solver now.first now.start now.on here.went.on);
       lost = loss_then _ _ _ now.lost here.searched.1.counted;
       says = λ kept k low high. says_more g.B.Board.geometry g.M.Memo.content g.M.Memo.dropped
           c.searches_add_up.ensures c.args.position.now c.moves.moves c.args.solver.now c.moves.solver
-          c.wins_on.new.solver c.in-Ok-false.field-0 c.moves.auto.moves now.lost here.searched now.says here.says kept k
+          c.wins_resuming.new.solver c.in-Ok-false.field-0 c.moves.auto.moves now.lost here.searched now.says here.says kept k
           low (omega (arith, high));
       first = here.went.first ∙ now.first;
       start = here.went.start ∙ now.start;
@@ -40,7 +40,7 @@ returns-in-Ok-true-clause-says g c =
     let now = c.moves.invariant in
     let here = c.in-Ok-true.ensures in
     says_more g.B.Board.geometry g.M.Memo.content g.M.Memo.dropped c.searches_add_up.ensures c.args.position.now
-    c.moves.moves c.args.solver.now c.moves.solver c.wins_on.new.solver c.in-Ok-true.field-0 c.moves.auto.moves now.lost
+    c.moves.moves c.args.solver.now c.moves.solver c.wins_resuming.new.solver c.in-Ok-true.field-0 c.moves.auto.moves now.lost
     here.searched now.says here.says
 
 pub returns-clause-says : goal.returns-clause-says
@@ -58,7 +58,7 @@ returns-in-Ok-true-clause-looks g c =
       stop = tt;
       on = goes_on_after g.B.Board.geometry g.M.Memo.content g.M.Memo.dropped c.moves.moves c.args.slices.now.first
           c.args.slices.now.start c.moves.slices.first c.moves.slices.start 0 c.args.solver.now c.moves.solver
-          c.wins_on.new.solver now.first now.start now.on here.on;
+          c.wins_resuming.new.solver now.first now.start now.on here.on;
       first = here.first ∙ now.first;
       start = here.start ∙ now.start;
     }
@@ -76,10 +76,10 @@ returns-in-Err-clause-looks g c =
       few = count.within;
       stop = λ e. here.stop (ap (λ z. Err z) e) ∙ here.count.same ∙ now.count.same;
       on = subst (λ n. GoesOn geo content lost n c.args.slices.now.first c.args.slices.now.start n c.args.solver.now
-          c.wins_on.new.solver) (one_less c.moves.moves c.moves.auto.moves)
+          c.wins_resuming.new.solver) (one_less c.moves.moves c.moves.auto.moves)
           (goes_on_after geo content lost c.moves.moves c.args.slices.now.first c.args.slices.now.start
           c.moves.slices.first c.moves.slices.start c.moves.moves c.args.solver.now c.moves.solver
-          c.wins_on.new.solver now.first now.start now.on here.on);
+          c.wins_resuming.new.solver now.first now.start now.on here.on);
       first = here.first ∙ now.first;
       start = here.start ∙ now.start;
     }
@@ -102,5 +102,5 @@ pub returns-in-Err-clause-known : goal.returns-in-Err-clause-known
 returns-in-Err-clause-known g c j says =
     known_below c.moves.moves j c.moves.auto.moves
     (λ within. true≢false (sym (idle_on g.M.Memo.content c.args.position.now c.moves.moves j c.args.solver.now
-    c.moves.solver c.wins_on.new.solver says c.moves.auto.moves within
+    c.moves.solver c.wins_resuming.new.solver says c.moves.auto.moves within
     (c.moves.invariant.idle j says (omega (arith, within))) c.in-Err.ensures.known).0))

@@ -29,17 +29,17 @@ replies-preserved g c =
     let geo = g.B.Board.geometry in
     let q = c.args.position.now in
     let n = c.args.left in
-    let here = c.in_ok-wins_on.ensures in
+    let here = c.in_ok-wins_resuming.ensures in
     let is = ap (λ l. l.step) c.reply.view_is in
     record {
       won = won_more (λ item. item.step) geo q n c.as_slice-reply-items.result.now c.replies.reply-index
           c.reply-item.result c.replies-test.true c.reply-item.is
-          (a_win geo q c.play-after.result n c.reply-item.result.step c.in_ok-wins_on.field-0
+          (a_win geo q c.play-after.result n c.reply-item.result.step c.in_ok-wins_resuming.field-0
           (c.play-after.ensures ∙ ap (play geo q) is) here.answer c.if-not-branch.false) c.replies.invariant.won;
       went = went_then geo g.M.Memo.content g.M.Memo.dropped n n c.args.slices.now c.replies.slices
-          c.wins_on.new.slices c.args.solver.now c.replies.solver c.wins_on.new.solver answered (omega arith)
+          c.wins_resuming.new.slices c.args.solver.now c.replies.solver c.wins_resuming.new.solver answered (omega arith)
           c.replies.invariant.went (went_ok geo g.M.Memo.content g.M.Memo.dropped n c.replies.slices
-          c.wins_on.new.slices c.replies.solver c.wins_on.new.solver c.in_ok-wins_on.field-0 0
+          c.wins_resuming.new.slices c.replies.solver c.wins_resuming.new.solver c.in_ok-wins_resuming.field-0 0
           here.went);
     }
 
@@ -54,8 +54,8 @@ returns-then-not-branch-clause-found g c =
     subst (IsFirstRefutation geo q n) (sym is)
     (first_found (λ item. item.step) geo q n c.as_slice-reply-items.result.now c.replies.reply-index
     c.reply-item.result all c.replies-test.true c.reply-item.is
-    (no_win geo q c.play-after.result n c.reply-item.result.step c.in_ok-wins_on.field-0
-    (c.play-after.ensures ∙ ap (play geo q) is) c.in_ok-wins_on.ensures.answer c.if-not-branch.true)
+    (no_win geo q c.play-after.result n c.reply-item.result.step c.in_ok-wins_resuming.field-0
+    (c.play-after.ensures ∙ ap (play geo q) is) c.in_ok-wins_resuming.ensures.answer c.if-not-branch.true)
     c.replies.invariant.won)
 
 pub returns-clause-found : goal.returns-clause-found
@@ -67,28 +67,28 @@ returns-clause-found g c =
     won_all (λ item. item.step) geo q c.args.left c.as_slice-reply-items.result.now c.replies.reply-index all
     (omega (arith, c.replies-test.false)) c.replies.invariant.won
 
-pub returns-in_err-wins_on-clause-went : goal.returns-in_err-wins_on-clause-went
-returns-in_err-wins_on-clause-went g c =
+pub returns-in_err-wins_resuming-clause-went : goal.returns-in_err-wins_resuming-clause-went
+returns-in_err-wins_resuming-clause-went g c =
     let geo = g.B.Board.geometry in
     let n = c.args.left in
-    let here = c.in_err-wins_on.ensures in
-    went_then geo g.M.Memo.content g.M.Memo.dropped n n c.args.slices.now c.replies.slices c.wins_on.new.slices
-    c.args.solver.now c.replies.solver c.wins_on.new.solver c.from_residual-in_err-wins_on.result (omega arith)
+    let here = c.in_err-wins_resuming.ensures in
+    went_then geo g.M.Memo.content g.M.Memo.dropped n n c.args.slices.now c.replies.slices c.wins_resuming.new.slices
+    c.args.solver.now c.replies.solver c.wins_resuming.new.solver c.from_residual-in_err-wins_resuming.result (omega arith)
     c.replies.invariant.went
-    (went_stop geo g.M.Memo.content g.M.Memo.dropped n c.replies.slices c.wins_on.new.slices c.replies.solver
-    c.wins_on.new.solver c.in_err-wins_on.field-0.0 c.from_residual-in_err-wins_on.result
-    c.from_residual-in_err-wins_on.ensures.1
+    (went_stop geo g.M.Memo.content g.M.Memo.dropped n c.replies.slices c.wins_resuming.new.slices c.replies.solver
+    c.wins_resuming.new.solver c.in_err-wins_resuming.field-0.0 c.from_residual-in_err-wins_resuming.result
+    c.from_residual-in_err-wins_resuming.ensures.1
     here.went)
 
 pub returns-then-not-branch-clause-went : goal.returns-then-not-branch-clause-went
 returns-then-not-branch-clause-went g c =
     let geo = g.B.Board.geometry in
     let n = c.args.left in
-    let here = c.in_ok-wins_on.ensures in
-    went_then geo g.M.Memo.content g.M.Memo.dropped n n c.args.slices.now c.replies.slices c.wins_on.new.slices
-    c.args.solver.now c.replies.solver c.wins_on.new.solver _ (omega arith) c.replies.invariant.went
-    (went_ok geo g.M.Memo.content g.M.Memo.dropped n c.replies.slices c.wins_on.new.slices c.replies.solver
-    c.wins_on.new.solver c.in_ok-wins_on.field-0 _
+    let here = c.in_ok-wins_resuming.ensures in
+    went_then geo g.M.Memo.content g.M.Memo.dropped n n c.args.slices.now c.replies.slices c.wins_resuming.new.slices
+    c.args.solver.now c.replies.solver c.wins_resuming.new.solver _ (omega arith) c.replies.invariant.went
+    (went_ok geo g.M.Memo.content g.M.Memo.dropped n c.replies.slices c.wins_resuming.new.slices c.replies.solver
+    c.wins_resuming.new.solver c.in_ok-wins_resuming.field-0 _
     here.went)
 
 pub returns-clause-went : goal.returns-clause-went
