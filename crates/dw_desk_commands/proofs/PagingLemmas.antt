@@ -19,7 +19,7 @@ use Rattle.dw_desk_commands.specs.declared.desk.Counts.{Counts}
 use Rattle.dw_arguments.specs.declared.page.PageArgs.{PageArgs}
 use Rattle.dw_games.specs.Games.{NumberedGame}
 use Rattle.dw_games.specs.TagRows.{said_by, tag_text}
-use Rattle.dw_games.specs.declared.tags.Tag.{Tag as ReadTag}
+use Rattle.dw_notation.specs.declared.tags.Tag.{Tag as ReadTag}
 use Rattle.dw_notation.specs.Tags.{Tag, values_named}
 use Rattle.dw_notation.specs.declared.problems.TheConstants.{MAX_PROBLEMS}
 use Rattle.dw_page.specs.Pages.{end, head}

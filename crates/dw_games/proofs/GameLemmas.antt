@@ -1,17 +1,17 @@
 -- Lemmas on the games of a text.
-use Rattle.std.proofs.Common.{◌≡◌, ◌==◌, ◌||◌, ◌&&◌, ◌+◌, ◌<◌, ℕ, List, [], ◌∷◌, ◌++◌, drop, true}
-use Rattle.std.proofs.Common.{false, Err, refl, sym, ap, ◌∙◌, subst, arith}
+use Rattle.std.proofs.Common.{◌≡◌, ◌==◌, ◌||◌, ◌&&◌, ◌+◌, ◌<◌, ◌≤◌, ℕ, List, [], ◌∷◌, ◌++◌, drop, true}
+use Rattle.std.proofs.Common.{false, refl, sym, ap, ◌∙◌, subst, arith}
 use Rattle.std.proofs.Common.{inl, inr}
-use Rattle.std.proofs.lemmas.Bool.{and_parts, eqb-true, cases_Bool, cond-true, cond-false, lt-ltb}
+use Rattle.std.proofs.lemmas.Bool.{and_parts, eqb-true, cases_Bool, cond-true, cond-false, lt-ltb, le-ltb, ne_eqb, cases_lt}
 use Rattle.dw_board.specs.Geometry.{Geometry}
 use Rattle.dw_notation.specs.TextLines.{Found, without_mark}
 use Rattle.dw_notation.specs.WholeTexts.{SectionsSay}
 use Rattle.dw_notation.specs.TagLaws.{TextsOfTagsSay}
 use Rattle.dw_notation.specs.WholeTexts.SectionsSay.{nothing, other, comment, last_comment, section, last_section}
-use Rattle.dw_notation.specs.declared.problems.ProblemFault.TheVariants.{TooManyProblems}
 use Rattle.dw_games.specs.Games.{Said, said_with, HasGames, games_from}
 use Rattle.dw_games.specs.Games.HasGames.{nothing as no_games, other as no_section, comment as no_comment}
 use Rattle.dw_games.specs.Games.HasGames.{last_comment as open_comment, section as with_section, last_section as with_last}
+use Rattle.dw_games.specs.inner.GameReaders.{counted_found}
 use Rattle.dw_games.specs.inner.Playing.{unclosed}
 use Rattle.dw_games.proofs.SectionLemmas.{first, IsSection-begins}
 
@@ -107,10 +107,22 @@ mark_passed g (a ∷ b ∷ c ∷ bytes) front games has = elim (cases_Bool ((a =
 ]
 
 -- ---- numbers
-pub games_from-next : (handed : ℕ) (said : Said) (more : List Said) → handed < 1000000
-    → games_from handed (said ∷ more) ≡ record { number = handed + 1; said = said } ∷ games_from (handed + 1) more
-games_from-next handed said more less = rw (lt-ltb handed 1000000 less) refl
+games_from-full : (more : List Said) → games_from 1000001 more ≡ []
+games_from-full [] = refl
+games_from-full (said ∷ more) = refl
 
-pub games_from-last : (handed : ℕ) (said : Said) (more : List Said) → handed ≡ 1000000
-    → games_from handed (said ∷ more) ≡ record { number = handed + 1; said = said_with (Err TooManyProblems) [] [] } ∷ []
-games_from-last handed said more full = rw full refl
+pub games_from-one : (handed : ℕ) (found : Found) (text movetext : List ℕ) (more : List Said) → handed ≤ 1000000
+    → games_from handed (said_with found text movetext ∷ more)
+    ≡ record { number = handed + 1; said = said_with (counted_found handed found) text movetext }
+    ∷ games_from (handed + 1) more
+games_from-one handed found text movetext more h = elim (cases_lt handed 1000000) [
+  | inl less ↦ rw (lt-ltb handed 1000000 less) refl
+  | inr full ↦ let e : handed ≡ 1000000 = omega (arith, h, full) in rw e (rw (games_from-full more) refl)
+]
+
+pub games_from-over : (handed : ℕ) (said : List Said) → 1000000 < handed → games_from handed said ≡ []
+games_from-over handed [] h = refl
+games_from-over handed (one ∷ said) h = rw (
+  le-ltb handed 1000000 (omega (arith, h)),
+  ne_eqb handed 1000000 (λ e. omega (arith, h, e)),
+) refl

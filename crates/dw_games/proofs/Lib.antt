@@ -10,7 +10,6 @@ pub mod TellingLemmas
 pub mod OneGamesLemmas
 pub mod ToldLemmas
 pub mod TagNameLemmas
-pub mod TagPartLemmas
 pub mod TagRowLemmas
 pub mod TokenLemmas
 pub mod PlaceLemmas

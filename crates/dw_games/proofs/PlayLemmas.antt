@@ -7,13 +7,12 @@ use Rattle.dw_board.specs.Geometry.{Geometry}
 use Rattle.dw_games.specs.Games.{Said, HasGames}
 use Rattle.dw_games.specs.Games.HasGames.{nothing, other, comment, last_comment}
 use Rattle.dw_games.specs.GameReading.{is_failure}
-use Rattle.dw_games.specs.inner.Inputs.{unread_of, Passes}
+use Rattle.dw_notation.specs.Buffering.{Input, Passes}
 use Rattle.dw_games.specs.inner.Keeping.{IsKept}
 use Rattle.dw_games.specs.inner.Playing.{InComment, is_in_comment, unclosed, HasGamesFrom, ReadsPlay}
 use Rattle.dw_games.specs.inner.Playing.{PlaysOn}
 use Rattle.dw_games.specs.inner.Playing.InComment.{closed, left_open}
 use Rattle.dw_games.specs.declared.games.GameFault.{GameFault}
-use Rattle.dw_games.specs.declared.input.Input.{Input}
 use Rattle.dw_games.specs.declared.bounded_buf.BoundedBuf.{BoundedBuf}
 use Rattle.dw_games.specs.declared.play.PlayEnd.{PlayEnd}
 use Rattle.dw_games.specs.declared.play.PlayEnd.TheVariants.{Section, Text, Open}
@@ -78,15 +77,15 @@ module _ {S : Type 0} (coming : S → Option (List ℕ)) (has_ended is_failed : 
 
   -- it is kept and passed
   pub PlaysOn-byte : (old mid now : Input S) (before kept after : BoundedBuf) (was : Bool) (byte : ℕ)
-      → On old mid before kept was → unread_of mid ≡ byte ∷ drop 1 (unread_of mid)
+      → On old mid before kept was → mid.unread ≡ byte ∷ drop 1 mid.unread
       → ((byte == 91) && not was) ≡ false
       → ((limit : ℕ) (text : List ℕ) → IsKept limit text kept → IsKept limit (text ++ byte ∷ []) after)
-      → Passes coming has_ended is_failed pulls mid now (take 1 (unread_of mid)) false
+      → Passes coming has_ended is_failed pulls mid now (take 1 mid.unread) false
       → On old now before after (is_in_comment was byte)
   PlaysOn-byte old mid now before kept after was byte on next none push pass = record {
     passed = on.passed ++ byte ∷ [];
     passes = subst (λ l. Passes coming has_ended is_failed pulls old now (on.passed ++ l) false) (ap (take 1) next)
-        (Passes-trans coming has_ended is_failed pulls old mid now on.passed (take 1 (unread_of mid)) false on.passes pass);
+        (Passes-trans coming has_ended is_failed pulls old mid now on.passed (take 1 mid.unread) false on.passes pass);
     keeps = λ limit text is. subst (λ l. IsKept limit l after) (append_assoc text on.passed (byte ∷ []))
         (push limit (text ++ on.passed) (on.keeps limit text is));
     said = λ g more front games has.
@@ -101,13 +100,13 @@ module _ {S : Type 0} (coming : S → Option (List ℕ)) (has_ended is_failed : 
 
   -- a section begins
   pub PlaysOn-section : (old now : Input S) (before after : BoundedBuf) → On old now before after false
-      → unread_of now ≡ 91 ∷ drop 1 (unread_of now) → Result-of old now before after (Ok Section)
+      → now.unread ≡ 91 ∷ drop 1 now.unread → Result-of old now before after (Ok Section)
   PlaysOn-section old now before after on next = record {
     passed = on.passed;
     passes = on.passes;
     kept = on.keeps;
-    said = λ g bytes games has. subst (λ l. HasGames g (on.passed ++ (unread_of now ++ bytes)) l games)
-        (append-nil on.passed) (on.said g (unread_of now ++ bytes) [] games has);
+    said = λ g bytes games has. subst (λ l. HasGames g (on.passed ++ (now.unread ++ bytes)) l games)
+        (append-nil on.passed) (on.said g (now.unread ++ bytes) [] games has);
     ends = next;
   }
 
@@ -118,24 +117,24 @@ module _ {S : Type 0} (coming : S → Option (List ℕ)) (has_ended is_failed : 
 
   -- the text ends
   pub PlaysOn-text : (old now : Input S) (before after : BoundedBuf) → On old now before after false
-      → (unread_of now ≡ []) × (now.met_end ≡ true) → Result-of old now before after (Ok Text)
+      → (now.unread ≡ []) × (now.met_end ≡ true) → Result-of old now before after (Ok Text)
   PlaysOn-text old now before after on end = record {
     passed = on.passed;
     passes = on.passes;
     kept = on.keeps;
-    said = λ g bytes games has. subst (λ l. HasGames g (on.passed ++ (unread_of now ++ bytes)) on.passed l) (sym has.1)
-        (from_end g on.passed (unread_of now ++ bytes) [] (on.said g [] [] [] nothing) has.0);
+    said = λ g bytes games has. subst (λ l. HasGames g (on.passed ++ (now.unread ++ bytes)) on.passed l) (sym has.1)
+        (from_end g on.passed (now.unread ++ bytes) [] (on.said g [] [] [] nothing) has.0);
     ends = end;
   }
 
   pub PlaysOn-open : (old now : Input S) (before after : BoundedBuf) → On old now before after true
-      → (unread_of now ≡ []) × (now.met_end ≡ true) → Result-of old now before after (Ok Open)
+      → (now.unread ≡ []) × (now.met_end ≡ true) → Result-of old now before after (Ok Open)
   PlaysOn-open old now before after on end = record {
     passed = on.passed;
     passes = on.passes;
     kept = on.keeps;
-    said = λ g bytes games has. subst (λ l. HasGames g (on.passed ++ (unread_of now ++ bytes)) on.passed l) (sym has.1)
-        (from_end g on.passed (unread_of now ++ bytes) (unclosed ∷ [])
+    said = λ g bytes games has. subst (λ l. HasGames g (on.passed ++ (now.unread ++ bytes)) on.passed l) (sym has.1)
+        (from_end g on.passed (now.unread ++ bytes) (unclosed ∷ [])
         (on.said g [] [] (unclosed ∷ []) (left_open [] refl)) has.0);
     ends = end;
   }

@@ -11,11 +11,10 @@ use Rattle.dw_notation.specs.inner.Readers.{ahead_of}
 use Rattle.dw_notation.specs.declared.problems.section_reader.SectionReader.{SectionReader}
 use Rattle.dw_games.specs.Games.{Said, said_with, HasGames}
 use Rattle.dw_games.specs.GameReading.{is_failure}
-use Rattle.dw_games.specs.inner.Inputs.{unread_of, Passes}
+use Rattle.dw_notation.specs.Buffering.{Input, Passes}
 use Rattle.dw_games.specs.inner.Keeping.{IsKept, spaces_on, row_of}
 use Rattle.dw_games.specs.inner.Sectioning.{ReadsOn, ReadsSection, EndsWell}
 use Rattle.dw_games.specs.declared.games.GameFault.{GameFault}
-use Rattle.dw_games.specs.declared.input.Input.{Input}
 use Rattle.dw_games.specs.declared.bounded_buf.BoundedBuf.{BoundedBuf}
 use Rattle.dw_games.proofs.InputLemmas.{Passes-refl, Passes-trans}
 use Rattle.dw_games.proofs.SectionLemmas.{first, cut_at, last_at, cut_games, last_games, empty_games, spaces_on-append}
@@ -60,20 +59,20 @@ module _ {B S : Type 0} (g : Geometry) (coming : S → Option (List ℕ)) (has_e
   -- it does not end the section
   pub ReadsOn-byte : (old mid now : Input S) (begun row longer before kept after : BoundedBuf) (reader next : SectionReader B)
       (byte : ℕ) (result : Option Found) → On old mid begun row before kept reader
-      → unread_of mid ≡ byte ∷ drop 1 (unread_of mid)
+      → mid.unread ≡ byte ∷ drop 1 mid.unread
       → ((over : Bool) (more : List ℕ) → ahead_of reader g over (byte ∷ more)
       ≡ option_to_list result ++ ahead_of next g over more)
       → ahead_of next g false [] ≡ [] → result ≡ None
       → ((limit : ℕ) (text : List ℕ) → IsKept limit text row → IsKept limit (text ++ byte ∷ []) longer)
       → ((limit : ℕ) (text : List ℕ) → IsKept limit text kept
       → IsKept limit (cond (is_space byte) (text ++ byte ∷ []) []) after)
-      → Passes coming has_ended is_failed pulls mid now (take 1 (unread_of mid)) false
+      → Passes coming has_ended is_failed pulls mid now (take 1 mid.unread) false
       → On old now begun longer before after next
   ReadsOn-byte old mid now begun row longer before kept after reader next byte result on here add unsaid none push keep
       pass = record {
         passed = on.passed ++ byte ∷ [];
         passes = subst (λ l. Passes coming has_ended is_failed pulls old now (on.passed ++ l) false) (ap (take 1) here)
-            (Passes-trans coming has_ended is_failed pulls old mid now on.passed (take 1 (unread_of mid)) false on.passes
+            (Passes-trans coming has_ended is_failed pulls old mid now on.passed (take 1 mid.unread) false on.passes
             pass);
         rows = λ limit is. push limit on.passed (on.rows limit is);
         keeps = λ limit is. subst (λ l. IsKept limit l after) (sym (spaces_on-append [] on.passed (byte ∷ [])))
@@ -93,14 +92,14 @@ module _ {B S : Type 0} (g : Geometry) (coming : S → Option (List ℕ)) (has_e
   -- it ends the section
   pub ReadsOn-cut : TextsOfTagsSay → (old now : Input S) (begun row before kept : BoundedBuf) (reader next : SectionReader B)
       (byte : ℕ) (result : Option Found) (found : Found) → On old now begun row before kept reader
-      → unread_of old ≡ 91 ∷ drop 1 (unread_of old) → unread_of now ≡ byte ∷ drop 1 (unread_of now)
+      → old.unread ≡ 91 ∷ drop 1 old.unread → now.unread ≡ byte ∷ drop 1 now.unread
       → ((over : Bool) (more : List ℕ) → ahead_of reader g over (byte ∷ more)
       ≡ option_to_list result ++ ahead_of next g over more)
       → result ≡ Some found
       → ReadsSection g coming has_ended is_failed pulls old now begun row before kept (Ok (Some found))
   ReadsOn-cut law old now begun row before kept reader next byte result found on begins here add is =
-      let behind = drop 1 (unread_of now) in
-      let joined : on.passed ++ byte ∷ behind ≡ 91 ∷ (drop 1 (unread_of old) ++ on.passes.read) =
+      let behind = drop 1 now.unread in
+      let joined : on.passed ++ byte ∷ behind ≡ 91 ∷ (drop 1 old.unread ++ on.passes.read) =
       ap (λ l. on.passed ++ l) (sym here) ∙ sym on.passes.same ∙ ap (λ l. l ++ on.passes.read) begins in
       let front = front_begins on.passed behind _ byte joined in
       let all : ahead_of reader g false (byte ∷ []) ≡ found ∷ ahead_of next g false [] =
@@ -114,7 +113,7 @@ module _ {B S : Type 0} (g : Geometry) (coming : S → Option (List ℕ)) (has_e
         kept = on.keeps;
         ends = cut_ends_well g on.passed byte found cut;
         said = λ bytes front games over has.
-            let text : unread_of now ++ bytes ≡ byte ∷ (behind ++ bytes) = ap (λ l. l ++ bytes) here in
+            let text : now.unread ++ bytes ≡ byte ∷ (behind ++ bytes) = ap (λ l. l ++ bytes) here in
             subst (λ l. HasGames g (on.passed ++ l) []
             (said_with found (row_of on.passed) (spaces_on [] on.passed ++ front) ∷ games)) (sym text) (cut_games g on.passed (behind ++ bytes) front byte found games cut
             (subst (λ l. HasGames g l front games) text has));
@@ -122,11 +121,11 @@ module _ {B S : Type 0} (g : Geometry) (coming : S → Option (List ℕ)) (has_e
 
   -- the text ends it
   pub ReadsOn-last : TextsOfTagsSay → (old now : Input S) (begun row before kept : BoundedBuf) (reader : SectionReader B)
-      (result : Option Found) → On old now begun row before kept reader → unread_of old ≡ 91 ∷ drop 1 (unread_of old)
-      → (unread_of now ≡ []) × (now.met_end ≡ true) → ahead_of reader g true [] ≡ option_to_list result
+      (result : Option Found) → On old now begun row before kept reader → old.unread ≡ 91 ∷ drop 1 old.unread
+      → (now.unread ≡ []) × (now.met_end ≡ true) → ahead_of reader g true [] ≡ option_to_list result
       → ReadsSection g coming has_ended is_failed pulls old now begun row before kept (Ok result)
   ReadsOn-last law old now begun row before kept reader result on begins end finish =
-      let joined : on.passed ++ [] ≡ 91 ∷ (drop 1 (unread_of old) ++ on.passes.read) =
+      let joined : on.passed ++ [] ≡ 91 ∷ (drop 1 old.unread ++ on.passes.read) =
       ap (λ l. on.passed ++ l) (sym end.0) ∙ sym on.passes.same ∙ ap (λ l. l ++ on.passes.read) begins in
       let last = last_at law g on.passed _ result (on.said true []) (append-nil on.passed) joined finish
       (nothing_ended old now begun row before kept reader on) in
@@ -138,11 +137,11 @@ module _ {B S : Type 0} (g : Geometry) (coming : S → Option (List ℕ)) (has_e
         ends = subst (λ r. MatchOption r ⊥ (λ found. EndsWell found on.passed)) (sym last.1)
             (last_ends_well g on.passed last.0 last.2);
         said = subst (λ r. MatchOption r ⊥ (λ found. (bytes front : List ℕ) (games : List Said)
-            → (now.met_end ≡ true → bytes ≡ []) → HasGames g (unread_of now ++ bytes) front games
-            → HasGames g (on.passed ++ (unread_of now ++ bytes)) []
+            → (now.met_end ≡ true → bytes ≡ []) → HasGames g (now.unread ++ bytes) front games
+            → HasGames g (on.passed ++ (now.unread ++ bytes)) []
             (said_with found (row_of on.passed) (spaces_on [] on.passed ++ front) ∷ games))) (sym last.1)
             (λ bytes front games over has.
-            let none : unread_of now ++ bytes ≡ [] = ap (λ l. l ++ bytes) end.0 ∙ over end.1 in
+            let none : now.unread ++ bytes ≡ [] = ap (λ l. l ++ bytes) end.0 ∙ over end.1 in
             let empty = empty_games g has none in
             subst (λ l. HasGames g l [] (said_with last.0 (row_of on.passed) (spaces_on [] on.passed ++ front) ∷ games))
             (sym (ap (λ l. on.passed ++ l) none ∙ append-nil on.passed))

@@ -18,11 +18,11 @@ numbered_game game = record {
 
 -- the name of the reference to the source that the reader holds
 abbrev pub lender : {B S : Type 0} → Games B S → GName
-lender games = games.input.source.ghost_name
+lender games = games.source.ghost_name
 
 -- the source as it stands now
 abbrev pub source_of : {B S : Type 0} → Games B S → S
-source_of games = games.input.source.now
+source_of games = games.source.now
 
 -- How far a reader has come. Callers know of it what the clauses say, and nothing else.
 pub record Reader : Type 1 where

@@ -1,17 +1,14 @@
 -- The whole tags of a text, each as it stands there.
 use Rattle.std.specs.Prelude.{◌≡◌, ℕ, true, false, List, [], ◌∷◌, ◌++◌, map}
 use Rattle.dw_notation.specs.Tags.{Tag, IsTag, is_space}
+use Rattle.dw_notation.specs.ReadTags.{NoTag, said_by_tag}
+use Rattle.dw_notation.specs.declared.tags.Tag.{Tag as ReadTag}
 use Rattle.dw_games.specs.Tokens.{begins_with}
-use Rattle.dw_games.specs.declared.tags.Tag.{Tag as ReadTag}
 
 -- a tag as it stands in a text: its bytes, from the first bracket to the last, and what it says
 pub record TagText : Type 0 where
   pub text : List ℕ
   pub tag : Tag
-
--- the bytes do not begin with a whole tag
-abbrev pub NoTag : List ℕ → Type 0
-NoTag bytes = (text more : List ℕ) (tag : Tag) → bytes ≡ text ++ more → IsTag text tag → ⊥
 
 -- the whole tags of a text in turn, with spaces alone before and between them, up to the first place behind spaces
 -- where none stands
@@ -24,8 +21,8 @@ pub data AreTags : List ℕ → List TagText → Type 0 where
 
 -- a tag that was read, whatever holds its bytes
 abbrev pub tag_text : ReadTag → TagText
-tag_text read = record { text = read.text.now; tag = record { name = read.name.now; value = read.value.items } }
+tag_text read = record { text = read.text.now; tag = said_by_tag read }
 
 -- what the tags say that were read
 abbrev pub said_by : List ReadTag → List Tag
-said_by read = map (λ (t : ReadTag). (tag_text t).tag) read
+said_by = map said_by_tag

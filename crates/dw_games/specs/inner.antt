@@ -6,10 +6,8 @@ pub mod TreeCodes
 pub mod Reading
 pub mod Refusals
 pub mod Noting
-pub mod Inputs
 pub mod Keeping
 pub mod Playing
 pub mod Sectioning
 pub mod GameReaders
 pub mod LineReading
-pub mod TagReading

@@ -1,9 +1,10 @@
-//! Classes of bytes.
+//! Bytes that stand in rows.
 ghost use Rattle.std.specs.Prelude.{◌≡◌};
-ghost use Rattle.dw_notation.specs.Tags.{ends_line as line_end_test, is_space as space_test};
 ghost use Rattle.dw_games.specs.inner.Classes.{test_of};
 
-/// Bytes that stand in a row in a token or in a tag.
+use dw_notation::bytes::{ends_line, is_space};
+
+/// Bytes that stand in a row in a token or between tags.
 #[derive(Clone, Copy)]
 pub(crate) enum Class {
     Digit,
@@ -16,10 +17,6 @@ pub(crate) enum Class {
     Inside,
     /// All but the end of a line.
     InLine,
-    /// A blank within a tag.
-    Blank,
-    /// What a tag's name is written with.
-    Name,
     /// What stands between tags.
     Space,
 }
@@ -38,23 +35,7 @@ impl Class {
             }
             Class::Inside => byte != b'}',
             Class::InLine => !ends_line(byte),
-            Class::Blank => byte == b' ' || byte == b'\t',
-            Class::Name => byte.is_ascii_alphanumeric() || byte == b'_',
             Class::Space => is_space(byte),
         }
     }
-}
-
-/// A space, a tab, a carriage return or a line feed.
-pub(crate) fn is_space(byte: u8) -> bool
-    ensures { result ≡ space_test byte }
-{
-    byte == b' ' || byte == b'\t' || ends_line(byte)
-}
-
-/// A carriage return or a line feed.
-pub(crate) fn ends_line(byte: u8) -> bool
-    ensures { result ≡ line_end_test byte }
-{
-    byte == b'\n' || byte == b'\r'
 }

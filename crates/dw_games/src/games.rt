@@ -1,19 +1,18 @@
 //! The games of a text of tags: what its sections say, each with its bytes and the movetext behind it.
-ghost use Rattle.std.specs.Prelude.{◌≡◌, ◌∷◌, ◌+◌, ◌||◌, [], false, None, List, ℕ, drop, OnOk};
-ghost use Rattle.dw_games.specs.declared.games.GameFault.TheVariants.{Memory};
+ghost use Rattle.std.specs.Prelude.{◌≡◌, ◌∷◌, ◌+◌, ◌≤◌, ◌||◌, [], false, None, List, ℕ, drop};
+ghost use Rattle.std.specs.Prelude.{OnOk};
+ghost use Rattle.dw_games.specs.declared.games.GameFault.TheVariants.{Failed, Memory};
 ghost use Rattle.dw_games.specs.declared.games.Stage.TheVariants.{Over};
 ghost use Rattle.dw_games.specs.inner.GameReaders.{stage_behind};
 ghost use Rattle.dw_games.specs.inner.Keeping.{IsKept, IsKeptFor, IsTold};
 
 use crate::bounded_buf::BoundedBuf;
-use crate::count::Count;
-use crate::input::Input;
 use crate::movetext::MAX_MOVETEXT;
 use crate::play::{PlayEnd, scan_to_section};
 use crate::section::read_section;
 use dw_board::{Board, Position};
-use dw_notation::problems::MAX_SECTION;
-use dw_notation::{Problem, ProblemFault, Source};
+use dw_notation::problems::{MAX_PROBLEMS, MAX_SECTION};
+use dw_notation::{Buffer, Numbering, Problem, ProblemFault, ReadFault, Source};
 use std::alloc::{AllocError, Global};
 use std::marker::PhantomData;
 use thiserror::Error;
@@ -46,6 +45,14 @@ impl From<AllocError> for GameFault {
 
     fn from(_refused: AllocError) -> GameFault {
         GameFault::Memory
+    }
+}
+
+impl From<ReadFault> for GameFault {
+    ghost from_gives = { λ _ e. e ≡ Failed };
+
+    fn from(_failed: ReadFault) -> GameFault {
+        GameFault::Failed
     }
 }
 
@@ -104,9 +111,10 @@ fn tags_if_valid<B: Board>(
 #[derive(Drop)]
 pub struct Games<'a, B: Board, S> {
     alloc: Global,
-    input: Input<'a, S>,
+    source: &'a mut S,
+    buffer: Buffer,
     stage: Stage,
-    handed: Count,
+    numbers: Numbering,
     board: PhantomData<B>,
 }
 
@@ -114,8 +122,9 @@ impl<'a, B: Board, S: Source> Games<'a, B, S> {
     ghost use Rattle.dw_games.specs.Games.{AreGames, NumberedGame, games_from};
     ghost use Rattle.dw_games.specs.GameReading.{lender, source_of, numbered_game, is_failure};
     ghost use Rattle.dw_games.specs.GameReading.{GivesNext, EndIsTrue, StandsStill, Rests};
-    ghost use Rattle.dw_games.specs.inner.GameReaders.{reading_of, fault_of, IsHandedOut, ReadsGame};
-    ghost use Rattle.dw_games.specs.inner.Inputs.{unread_of};
+    ghost use Rattle.dw_games.specs.inner.GameReaders.{reading_of, fault_of, input_in, is_done, ReadsGame};
+    ghost use Rattle.dw_notation.specs.Buffering.{unread_in};
+    ghost use Rattle.dw_notation.specs.Numbering.{handed_out};
     ghost use Rattle.dw_games.specs.inner.Playing.{unclosed};
 
     /// A reader of all games that the source has still to give.
@@ -132,88 +141,83 @@ impl<'a, B: Board, S: Source> Games<'a, B, S> {
     {
         Games {
             alloc,
-            input: Input::new(source),
+            source,
+            buffer: Buffer::new(),
             stage: Stage::Reading,
-            handed: Count::new(),
+            numbers: Numbering::new(),
             board: PhantomData,
         }
     }
 
-    /// Hands out what a section says, its tags and its movetext.
-    fn hand_out(
-        &mut self,
-        found: Result<Position<B>, ProblemFault>,
-        tags: Vec<u8>,
-        movetext: Vec<u8>,
-    ) -> Game<B>
-        ensures input { self.new.input ≡ self.old.input }
-        ensures given { IsHandedOut self.old self.new
-            (record { found = found; tags = tags.items; movetext = movetext.items }) result }
+    /// Whether all games are handed out.
+    fn is_over(&self) -> bool
+        ensures { result ≡ is_done self.now.stage (handed_out self.now.numbers) }
     {
-        let number = self.handed.next();
-        match self.handed.increased() {
-            Some(handed) => {
-                self.handed = handed;
-                let problem = Problem { number, found };
-                Game {
-                    problem,
-                    tags,
-                    movetext,
-                }
-            }
-            None => {
-                self.stage = Stage::Over;
-                let found = Err(ProblemFault::TooManyProblems);
-                let problem = Problem { number, found };
-                Game {
-                    problem,
-                    tags: Vec::new(self.alloc),
-                    movetext: Vec::new(self.alloc),
-                }
-            }
+        match self.stage {
+            Stage::Over => true,
+            Stage::Stopped(_) => false,
+            Stage::Reading | Stage::Open => self.numbers.is_over(),
         }
     }
 
     /// Hands out the problem that a comment is which the end of the text leaves open.
     fn hand_out_open(&mut self) -> Game<B>
-        ensures input { self.new.input ≡ self.old.input }
+        requires { handed_out self.old.numbers ≤ MAX_PROBLEMS }
+        ensures lender { lender self.new ≡ lender self.old }
+        ensures input { input_in self.new ≡ input_in self.old }
         ensures stage { self.new.stage ≡ Over }
-        ensures given { numbered_game result ∷ [] ≡ games_from self.old.handed.games (unclosed ∷ []) }
+        ensures given { numbered_game result ∷ [] ≡ games_from (handed_out self.old.numbers) (unclosed ∷ []) }
     {
         self.stage = Stage::Over;
-        self.hand_out(
-            Err(ProblemFault::UnclosedComment),
-            Vec::new(self.alloc),
-            Vec::new(self.alloc),
-        )
+        let unclosed = Err(ProblemFault::UnclosedComment);
+        Game {
+            problem: self.numbers.hand_out(unclosed),
+            tags: Vec::new(self.alloc),
+            movetext: Vec::new(self.alloc),
+        }
     }
 
     /// Reads the game of the section that begins here.
     fn read_game(&mut self) -> Result<Option<Game<B>>, GameFault>
-        requires { unread_of self.old.input ≡ 91 ∷ drop 1 (unread_of self.old.input) }
+        requires begins { unread_in self.old.buffer ≡ 91 ∷ drop 1 (unread_in self.old.buffer) }
+        requires room { handed_out self.old.numbers ≤ MAX_PROBLEMS }
+        ensures lender { lender self.new ≡ lender self.old }
         ensures reads { ReadsGame B.geometry S.coming S.has_ended S.is_failed S.pulls_left self.old self.new result }
         ensures goes_on { OnOk result (fault_of self.new.stage ≡ None) }
     {
         dw_notation::laws::texts_of_tags_say();
         let mut row = BoundedBuf::new(self.alloc, MAX_SECTION);
         let mut spaces = BoundedBuf::new(self.alloc, MAX_MOVETEXT + 1);
-        let Some(found) = read_section::<B, S>(&mut self.input, &mut row, &mut spaces)? else {
+        let Some(found) = read_section::<B, S>(
+            self.source,
+            &mut self.buffer,
+            &mut row,
+            &mut spaces,
+        )?
+        else {
             return Ok(None);
         };
-        let tags = tags_if_valid(self.alloc, &found, row);
-        let mut movetext = movetext_if_valid(self.alloc, &found, spaces);
-        self.stage = stage_behind(scan_to_section(&mut self.input, &mut movetext)?);
-        Ok(Some(self.hand_out(found, tags, movetext.into_bytes())))
+        let problem = self.numbers.hand_out(found);
+        let tags = tags_if_valid(self.alloc, &problem.found, row);
+        let mut movetext = movetext_if_valid(self.alloc, &problem.found, spaces);
+        self.stage = stage_behind(scan_to_section(self.source, &mut self.buffer, &mut movetext)?);
+        Ok(Some(Game {
+            problem,
+            tags,
+            movetext: movetext.into_bytes(),
+        }))
     }
 
     /// Reads up to the end of the next game.
     fn read_on(&mut self) -> Result<Option<Game<B>>, GameFault>
+        requires { handed_out self.old.numbers ≤ MAX_PROBLEMS }
+        ensures lender { lender self.new ≡ lender self.old }
         ensures reads { ReadsGame B.geometry S.coming S.has_ended S.is_failed S.pulls_left self.old self.new result }
         ensures goes_on { OnOk result (fault_of self.new.stage ≡ None) }
     {
         dw_notation::laws::texts_of_tags_say();
         let mut front = BoundedBuf::new(self.alloc, 0);
-        match scan_to_section(&mut self.input, &mut front)? {
+        match scan_to_section(self.source, &mut self.buffer, &mut front)? {
             PlayEnd::Section => self.read_game(),
             PlayEnd::Open => Ok(Some(self.hand_out_open())),
             PlayEnd::Text => {
@@ -245,6 +249,10 @@ impl<'a, B: Board, S: Source> Games<'a, B, S> {
         ensures rests { Rests (reading_of self.old) → source_of self.new ≡ source_of self.old }
         ensures goes_on { OnOk result ((reading_of self.new).fault ≡ None) }
     {
+        dw_notation::laws::texts_of_tags_say();
+        if self.is_over() {
+            return Ok(None);
+        }
         match self.stage {
             Stage::Over => Ok(None),
             Stage::Stopped(fault) => Err(fault),

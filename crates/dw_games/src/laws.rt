@@ -49,13 +49,17 @@ pub fn games_tell_sections()
 /// Example: `[A "1"] [B "2"] *` has the whole tags `[A "1"]` and `[B "2"]` and no others.
 pub fn one_row_of_tags()
     ensures { OneRowOfTags }
-{}
+{
+    dw_notation::laws::one_tag_at_front();
+}
 
 /// The whole tags of a section that leaves no tag unclosed are the tags that the section has, in their order.
 /// Example: the section `[A "1"] [B "2"]` has the tag `A` with the value `1`, and `B` with `2`.
 pub fn sections_have_their_tags()
     ensures { SectionsHaveTheirTags }
-{}
+{
+    dw_notation::laws::one_tag_at_front();
+}
 
 /// What is told of a movetext has the answers of the whole: where it is cut, both are too large.
 /// Example: of a movetext of 2,000,000 bytes the first 1,048,577 are told, which are refused as `too large at 1048577`.

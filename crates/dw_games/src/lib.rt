@@ -13,10 +13,8 @@
 mod bounded_buf;
 mod branches;
 mod class;
-mod count;
 pub mod fault;
 pub mod games;
-mod input;
 pub mod laws;
 pub mod line;
 pub mod movetext;

@@ -1,11 +1,11 @@
 //! What stands behind the tags of a section, up to the next one: comments and other bytes.
 ghost use Rattle.std.specs.Prelude.{◌≡◌};
+ghost use Rattle.dw_notation.specs.Buffering.{input_of};
 ghost use Rattle.dw_games.specs.inner.Playing.{ReadsPlay, begins_section, is_in_comment};
 
 use crate::bounded_buf::BoundedBuf;
 use crate::games::GameFault;
-use crate::input::Input;
-use dw_notation::Source;
+use dw_notation::{Buffer, Source};
 
 /// What stands behind bytes without a section.
 #[derive(Clone, Copy)]
@@ -34,19 +34,21 @@ fn is_in_comment(was: bool, byte: u8) -> bool
 
 /// Passes the bytes up to a section or the end of the text, and keeps them.
 pub(crate) fn scan_to_section<S: Source>(
-    input: &mut Input<'_, S>,
+    source: &mut S,
+    buffer: &mut Buffer,
     kept: &mut BoundedBuf,
 ) -> Result<PlayEnd, GameFault>
-    ensures { ReadsPlay S.coming S.has_ended S.is_failed S.pulls_left input.old input.new kept.old kept.new result }
+    ensures { ReadsPlay S.coming S.has_ended S.is_failed S.pulls_left (input_of source.old buffer.old)
+        (input_of source.new buffer.new) kept.old kept.new result }
 {
     let mut is_comment = false;
-    'bytes: while let Some(byte) = input.peek()? {
+    'bytes: while let Some(byte) = buffer.peek(source)? {
         if begins_section(is_comment, byte) {
             return Ok(PlayEnd::Section);
         }
         is_comment = is_in_comment(is_comment, byte);
         kept.push(byte)?;
-        input.pass();
+        buffer.consume(1);
     }
     Ok(if is_comment {
         PlayEnd::Open

@@ -1,34 +1,14 @@
 //! The tags of a section, read from its bytes.
-ghost use Rattle.std.specs.Prelude.{◌≡◌, ◌≤◌, ℕ, List, [], ◌∷◌, ◌++◌, false, length, map};
-ghost use Rattle.std.specs.Prelude.{IfOk, IfSome, IfNone, MatchOption};
-ghost use Rattle.dw_notation.specs.Tags.{IsTag, is_space, same_name, values_named};
+ghost use Rattle.std.specs.Prelude.{◌≡◌, ◌≤◌, ℕ, List, [], ◌∷◌, false, length, map, IfOk, MatchOption};
+ghost use Rattle.dw_notation.specs.Tags.{is_space, values_named};
 ghost use Rattle.dw_games.specs.Tokens.{begins_with};
-ghost use Rattle.dw_games.specs.TagRows.{NoTag, AreTags, TagText, tag_text, said_by};
-ghost use Rattle.dw_games.specs.inner.TagReading.{IsHead, IsSpelled, IsTail, sign_of};
+ghost use Rattle.dw_games.specs.TagRows.{AreTags, TagText, tag_text, said_by};
 
-use crate::class::{Class, ends_line};
+use crate::class::Class;
 use crate::tokens::run_of;
+pub use dw_notation::tags::Tag;
+use dw_notation::tags::read_tag;
 use std::alloc::{AllocError, Global};
-
-/// A tag of a text: its bytes as they stand there, from the first bracket to the last, its name, and its value, in
-/// which `\"` of the text is a quotation mark and `\\` a backslash.
-/// Example: `[Event "a \"b\""]` has the name `Event` and the value `a "b"`.
-#[derive(Drop)]
-pub struct Tag<'t> {
-    pub text: &'t [u8],
-    pub name: &'t [u8],
-    pub value: Vec<u8>,
-}
-
-impl Tag<'_> {
-    /// Whether this is its name, without regard to the case of letters.
-    /// Example: the tag `[fen "x"]` is named `FEN`.
-    pub fn is_named(&self, name: &[u8]) -> bool
-        ensures { result ≡ same_name self.now.name.now name.now }
-    {
-        self.name.eq_ignore_ascii_case(name)
-    }
-}
 
 /// The whole tags of a section, or of any other text: in turn, with spaces alone before and between them, up to the
 /// first place behind spaces where none stands. By `laws::one_row_of_tags` it has no others, and by
@@ -39,7 +19,7 @@ pub fn read_tags<'t>(alloc: Global, section: &'t [u8]) -> Result<Vec<Tag<'t>>, A
 {
     let mut tags = Vec::new(alloc);
     let mut rest = past_spaces(section);
-    'tags: while let Some(tag) = first_tag(alloc, rest)? {
+    'tags: while let Some(tag) = read_tag(alloc, rest)? {
         let (_, behind) = rest.split_at(tag.text.len());
         rest = past_spaces(behind);
         tags.push(tag)?;
@@ -69,134 +49,4 @@ fn past_spaces(text: &[u8]) -> &[u8]
 {
     let (_, rest) = text.split_at(run_of(text, Class::Space));
     rest
-}
-
-/// The tag that a text begins with.
-fn first_tag<'t>(alloc: Global, text: &'t [u8]) -> Result<Option<Tag<'t>>, AllocError>
-    ensures some { IfOk result (λ found. IfSome found (λ tag. (more : List ℕ) × (text.now ≡ tag.text.now ++ more)
-        × IsTag tag.text.now (tag_text tag).tag)) }
-    ensures none { IfOk result (λ found. IfNone found (NoTag text.now)) }
-{
-    let Some(head) = head_of(text) else {
-        return Ok(None);
-    };
-    let Some(spelled) = value_of(alloc, head.more)? else {
-        return Ok(None);
-    };
-    let Some(more) = behind_tail(spelled.more) else {
-        return Ok(None);
-    };
-    let (text, _) = text.split_at(text.len() - more.len());
-    Ok(Some(Tag {
-        text,
-        name: head.name,
-        value: spelled.value,
-    }))
-}
-
-/// The name of a tag, and what stands behind the quotation mark that opens its value.
-#[derive(Clone, Copy)]
-struct Head<'t> {
-    name: &'t [u8],
-    more: &'t [u8],
-}
-
-/// The front of a tag, up to its value.
-fn head_of(text: &[u8]) -> Option<Head<'_>>
-    ensures some { IfSome result (λ head. IsHead text.now head.name.now head.more.now) }
-    ensures none { IfNone result ((name more : List ℕ) → IsHead text.now name more → ⊥) }
-{
-    let inside = behind(text, b'[')?;
-    let (_, named) = inside.split_at(run_of(inside, Class::Blank));
-    let (name, rest) = named.split_at(run_of(named, Class::Name));
-    let (_, rest) = rest.split_at(run_of(rest, Class::Blank));
-    let more = behind(rest, b'"')?;
-    if name.is_empty() {
-        None
-    } else {
-        Some(Head { name, more })
-    }
-}
-
-/// What stands behind a byte that begins a text.
-fn behind(text: &[u8], byte: u8) -> Option<&[u8]>
-    ensures { MatchOption result ((more : List ℕ) → text.now ≡ byte ∷ more → ⊥) (λ more. text.now ≡ byte ∷ more.now) }
-{
-    match text.split_first() {
-        Some((first, more)) if *first == byte => Some(more),
-        _ => None,
-    }
-}
-
-/// What a byte of a value is.
-#[derive(Clone, Copy)]
-enum Sign {
-    /// The quotation mark that ends the value.
-    Close,
-    /// The end of a line, which no value goes past.
-    Break,
-    /// The backslash before another byte.
-    Escape,
-    /// It stands for itself.
-    Own,
-    /// It stands for itself, behind a backslash that does too.
-    Both,
-}
-
-/// What a byte of a value is, by whether a backslash stands before it.
-fn sign_of(is_escaped: bool, byte: u8) -> Sign
-    ensures { result ≡ sign_of is_escaped byte }
-{
-    match byte {
-        b'"' | b'\\' if is_escaped => Sign::Own,
-        b'"' => Sign::Close,
-        b'\\' => Sign::Escape,
-        _ if ends_line(byte) => Sign::Break,
-        _ if is_escaped => Sign::Both,
-        _ => Sign::Own,
-    }
-}
-
-/// A value, and what stands behind the quotation mark that ends it.
-#[derive(Drop)]
-struct Spelled<'t> {
-    value: Vec<u8>,
-    more: &'t [u8],
-}
-
-/// The value at the front of a text, which stands behind a quotation mark.
-fn value_of<'t>(alloc: Global, text: &'t [u8]) -> Result<Option<Spelled<'t>>, AllocError>
-    ensures some { IfOk result (λ found. IfSome found (λ s. IsSpelled text.now s.value.items s.more.now)) }
-    ensures none { IfOk result (λ found. IfNone found ((value more : List ℕ) → IsSpelled text.now value more → ⊥)) }
-{
-    let mut value = Vec::new(alloc);
-    let mut is_escaped = false;
-    'bytes: for (i, byte) in text.iter().enumerate() {
-        match sign_of(is_escaped, *byte) {
-            Sign::Close => {
-                let (_, more) = text.split_at(i + 1);
-                return Ok(Some(Spelled { value, more }));
-            }
-            Sign::Break => return Ok(None),
-            Sign::Escape => is_escaped = true,
-            Sign::Own => {
-                value.push(*byte)?;
-                is_escaped = false;
-            }
-            Sign::Both => {
-                value.push(b'\\')?;
-                value.push(*byte)?;
-                is_escaped = false;
-            }
-        }
-    }
-    Ok(None)
-}
-
-/// What stands behind the bracket that ends a tag, behind its value.
-fn behind_tail(text: &[u8]) -> Option<&[u8]>
-    ensures { MatchOption result ((more : List ℕ) → IsTail text.now more → ⊥) (λ more. IsTail text.now more.now) }
-{
-    let (_, rest) = text.split_at(run_of(text, Class::Blank));
-    behind(rest, b']')
 }

@@ -6,9 +6,10 @@ ghost use Rattle.dw_notation.specs.Tags.{is_space as is_space_byte};
 ghost use Rattle.dw_games.specs.Tokens.{IsRun, IsToken, AreTokens, begins_with};
 ghost use Rattle.dw_games.specs.inner.Classes.{test_of};
 
-use crate::class::{Class, ends_line, is_space};
+use crate::class::Class;
 use crate::fault::{MovetextFault, MovetextFaultKind};
 use crate::movetext::MAX_MOVETEXT;
+use dw_notation::bytes::{ends_line, is_space};
 
 /// What a token of a movetext is.
 /// Example: `32-28!` has a token that is `Written` and one that is `Passed`.

@@ -1,6 +1,6 @@
 -- Lemmas on reading on.
-use Rattle.std.proofs.Common.{◌≡◌, ℕ, ◌+◌, ◌*◌, ◌<◌, ◌≤◌, length, cond, MatchBool, arith, List, [], ◌++◌, Bool, true}
-use Rattle.std.proofs.Common.{false, Option, refl, sym, ap, ◌∙◌, append_assoc, append-nil, Result, Ok, is_err, IsErr}
+use Rattle.std.proofs.Common.{◌≡◌, ℕ, ◌≤◌, length, List, [], ◌++◌, Bool, true}
+use Rattle.std.proofs.Common.{false, subst, ◌⊎◌, Option, refl, sym, ap, ◌∙◌, append_assoc, append-nil, Result, Ok, is_err, IsErr}
 use Rattle.std.proofs.Common.{◌||◌, inl, inr}
 use Rattle.std.proofs.KnownBytes.{Consumes-nil, Consumes-trans}
 use Rattle.std.specs.Io.KnownBytes.{Consumes}
@@ -8,17 +8,19 @@ use Rattle.dw_board.specs.Geometry.{Geometry}
 use Rattle.dw_notation.specs.inner.Ahead.{found_from, behind_mark}
 use Rattle.dw_notation.specs.inner.Held.{held_line}
 use Rattle.dw_notation.specs.inner.Pieces.{pieces_ahead, pieces_behind}
-use Rattle.dw_notation.specs.inner.Cutting.{rest_of, found_ahead, CarriesOn, TakesPiece, TakesLast, found_behind}
-use Rattle.dw_notation.specs.inner.Cutting.{found_cut}
+use Rattle.dw_notation.specs.inner.Cutting.{found_ahead, CarriesOn, TakesPiece, TakesLast, found_behind}
+use Rattle.dw_notation.specs.inner.Cutting.{found_cut, progress_at}
+use Rattle.dw_notation.specs.Buffering.{Input, unread_in, input_of, Passes}
+use Rattle.dw_notation.specs.declared.streams.buffer.Buffer.{Buffer}
 use Rattle.dw_notation.specs.declared.problems.TheConstants.{MAX_READ}
 use Rattle.dw_notation.specs.declared.problems.fens.Front.{Front}
 use Rattle.dw_notation.specs.declared.problems.fens.Front.TheVariants.{Bare, One, Two, Behind}
-use Rattle.dw_notation.specs.declared.problems.reader.Cutter.{Cutter}
+use Rattle.dw_notation.specs.inner.Cutting.{Progress}
 use Rattle.dw_notation.specs.declared.problems.reader.Pieces.{Pieces}
 use Rattle.dw_notation.specs.declared.problems.reader.Pieces.TheVariants.{InLines, InSections}
 
-pub CarriesOn-refl : (coming : Option (List ℕ)) (cutter : Cutter) → CarriesOn coming coming cutter cutter
-CarriesOn-refl coming cutter = record {
+pub CarriesOn-refl : (coming : Option (List ℕ)) (progress : Progress) → CarriesOn coming coming progress progress
+CarriesOn-refl coming progress = record {
   read = [];
   took = Consumes-nil coming;
   need = inl refl;
@@ -26,7 +28,7 @@ CarriesOn-refl coming cutter = record {
 }
 
 -- what was read ends no piece
-pub CarriesOn-cut : (coming left : Option (List ℕ)) (old mid new : Cutter) → CarriesOn coming left old mid
+pub CarriesOn-cut : (coming left : Option (List ℕ)) (old mid new : Progress) → CarriesOn coming left old mid
     → ((g : Geometry) (at_end : Bool) (more : List ℕ) → found_ahead at_end g mid more ≡ found_ahead at_end g new more)
     → CarriesOn coming left old new
 CarriesOn-cut coming left old mid new so_far same = record {
@@ -37,7 +39,7 @@ CarriesOn-cut coming left old mid new so_far same = record {
 }
 
 -- what was read ends one
-pub TakesPiece-cut : (coming left : Option (List ℕ)) (old mid new : Cutter) → CarriesOn coming left old mid
+pub TakesPiece-cut : (coming left : Option (List ℕ)) (old mid new : Progress) → CarriesOn coming left old mid
     → ((g : Geometry) (at_end : Bool) (more : List ℕ) → found_ahead at_end g mid more ≡ found_cut g new
     ++ found_behind at_end g new more)
     → TakesPiece coming left old new
@@ -61,34 +63,51 @@ ended-piece g (InLines lines) = ended-front g (held_line lines.line) lines.front
 ended-piece g (InSections sections) = refl
 
 -- nothing more ends, where all that was read belongs to the piece begun
-pub ended-none : (g : Geometry) (new : Cutter) → rest_of new ≡ [] → found_ahead false g new [] ≡ []
+pub ended-none : (g : Geometry) (new : Progress) → new.rest ≡ [] → found_ahead false g new [] ≡ []
 ended-none g new none = ap (λ l. pieces_ahead false g new.pieces (l ++ [])) none ∙ ended-piece g new.pieces
 
 -- a read into the empty buffer
-pub CarriesOn-fill : (coming left after : Option (List ℕ)) (old mid new : Cutter) → CarriesOn coming left old mid
-    → (rest_of mid ≡ []) → (new.pieces ≡ mid.pieces) → Consumes left after (rest_of new)
-    → length (rest_of new) ≤ MAX_READ → CarriesOn coming after old new
+pub CarriesOn-fill : (coming left after : Option (List ℕ)) (old mid new : Progress) → CarriesOn coming left old mid
+    → (mid.rest ≡ []) → (new.pieces ≡ mid.pieces) → Consumes left after new.rest
+    → length new.rest ≤ MAX_READ → CarriesOn coming after old new
 CarriesOn-fill coming left after old mid new so_far none pieces bytes few = record {
-  read = so_far.read ++ rest_of new;
-  took = Consumes-trans coming left after so_far.read (rest_of new) so_far.took bytes;
+  read = so_far.read ++ new.rest;
+  took = Consumes-trans coming left after so_far.read new.rest so_far.took bytes;
   need = inr (
     so_far.read,
-    rest_of new,
+    new.rest,
     refl,
     few,
     λ g. ap (found_ahead false g old) (sym (append-nil so_far.read))
         ∙ so_far.same g false [] ∙ ended-none g mid none,
   );
   same = λ g at_end more.
-      ap (found_ahead at_end g old) (append_assoc so_far.read (rest_of new) more)
-      ∙ so_far.same g at_end (rest_of new ++ more)
-      ∙ ap (λ l. pieces_ahead at_end g mid.pieces (l ++ (rest_of new ++ more))) none
-      ∙ ap (λ p. pieces_ahead at_end g p (rest_of new ++ more)) (sym pieces);
+      ap (found_ahead at_end g old) (append_assoc so_far.read new.rest more)
+      ∙ so_far.same g at_end (new.rest ++ more)
+      ∙ ap (λ l. pieces_ahead at_end g mid.pieces (l ++ (new.rest ++ more))) none
+      ∙ ap (λ p. pieces_ahead at_end g p (new.rest ++ more)) (sym pieces);
 }
 
+-- the same of a source that is read through a buffer, of which nothing is read while a byte is unread
+pub CarriesOn-filled : {S : Type 0} (coming : S → Option (List ℕ)) (has_ended is_failed : S → Bool) (pulls : S → ℕ)
+    (first : Option (List ℕ)) (old : Progress) (pieces : Pieces) (handed : ℕ) (source after : S) (mid new : Buffer)
+    (fails : Bool) → CarriesOn first (coming source) old (progress_at mid pieces handed)
+    → Passes coming has_ended is_failed pulls (input_of source mid) (input_of after new) [] fails
+    → (unread_in mid ≡ []) ⊎ (input_of after new ≡ input_of source mid) → length (unread_in new) ≤ MAX_READ
+    → CarriesOn first (coming after) old (progress_at new pieces handed)
+CarriesOn-filled coming has_ended is_failed pulls first old pieces handed source after mid new fails so_far passes
+    (inl none) few =
+    let read : passes.read ≡ unread_in new = ap (λ l. l ++ passes.read) (sym none) ∙ passes.same in
+    CarriesOn-fill first (coming source) (coming after) old (progress_at mid pieces handed)
+    (progress_at new pieces handed) so_far none refl (subst (Consumes (coming source) (coming after)) read passes.took) few
+CarriesOn-filled {S} coming has_ended is_failed pulls first old pieces handed source after mid new fails so_far passes
+    (inr same) few =
+    let at : Input S → Progress = λ i. record { rest = i.unread; pieces = pieces; handed = handed; met_end = i.met_end } in
+    subst (λ i. CarriesOn first (coming i.source) old (at i)) (sym same) so_far
+
 -- the end of the text
-pub TakesLast-end : (coming left : Option (List ℕ)) (old mid new : Cutter) → CarriesOn coming left old mid
-    → (rest_of mid ≡ []) → (rest_of new ≡ rest_of mid) → ((g : Geometry) → pieces_ahead true g mid.pieces []
+pub TakesLast-end : (coming left : Option (List ℕ)) (old mid new : Progress) → CarriesOn coming left old mid
+    → (mid.rest ≡ []) → (new.rest ≡ mid.rest) → ((g : Geometry) → pieces_ahead true g mid.pieces []
     ≡ found_cut g new) → ((g : Geometry) → pieces_behind true g new.pieces [] ≡ [])
     → TakesLast coming left old new
 TakesLast-end coming left old mid new so_far none rest found over = record {
@@ -103,18 +122,6 @@ TakesLast-end coming left old mid new so_far none rest found over = record {
   none = rest ∙ none;
   over = over;
 }
-
--- the measure of the reads: one that gives bytes lowers the bound, and one that meets the end is the last
-pub reads-fall : (met_end : Bool) (new old : ℕ) → MatchBool met_end (new ≤ old) (new < old) → new + cond met_end 0 1
-    < old + 1
-reads-fall true new old h = omega arith
-reads-fall false new old h = omega arith
-
-pub weight-fill : (met_end : Bool) (new old : ℕ) (rest : List ℕ) → MatchBool met_end (new ≤ old) (new < old)
-    → length rest ≤ 2048 → (met_end ≡ true → rest ≡ [])
-    → new * 2049 + length rest ≤ old * 2049
-weight-fill true new old rest h few none = let e : length rest ≡ 0 = ap length (none refl) in omega arith
-weight-fill false new old rest h few none = omega arith
 
 pub not_err : {X Y : Type 0} {r : Result X Y} {x : X} → r ≡ Ok x → IsErr r → ⊥
 not_err {r} {x} e h = let bad : false ≡ true = sym (ap is_err e) ∙ h in cc

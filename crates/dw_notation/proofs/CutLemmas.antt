@@ -12,9 +12,6 @@ use Rattle.dw_notation.specs.inner.TextLines.{line_found}
 use Rattle.dw_notation.specs.TextLines.{NoLineFeed}
 use Rattle.dw_notation.specs.inner.TextLines.{SaysSame, is_line_feed}
 use Rattle.dw_notation.specs.inner.Ahead.{found_from}
-use Rattle.dw_notation.specs.inner.Pieces.{pieces_ahead}
-use Rattle.dw_notation.specs.inner.Pieces.{pieces_behind, pieces_cut}
-use Rattle.dw_notation.specs.declared.problems.reader.Pieces.{Pieces}
 
 pub NoLineFeed-push : (bytes : List ℕ) (byte : ℕ) → NoLineFeed bytes → (byte == 10) ≡ false
     → NoLineFeed (bytes ++ byte ∷ [])
@@ -118,20 +115,6 @@ pub slice_range-drop : (xs : List ℕ) (i j k : ℕ) → i + k ≤ j → slice_r
 slice_range-drop xs i j k h =
     let e : j - i ≡ k + (j - (i + k)) = omega arith in
     rw (e, drop-take) (rw drop-drop refl)
-
--- what is behind a cut in what was read
-pub found-rest : (at_end : Bool) (g : Geometry) (old new : Pieces) (buffer more : List ℕ) (i j k : ℕ) → i + k ≤ j
-    → pieces_ahead at_end g old (slice_range buffer i j ++ more) ≡ option_to_list (pieces_cut g new)
-    ++ pieces_behind at_end g new (drop k (slice_range buffer i j) ++ more)
-    → pieces_ahead at_end g old (slice_range buffer i j ++ more) ≡ option_to_list (pieces_cut g new)
-    ++ pieces_behind at_end g new (slice_range buffer (i + k) j ++ more)
-found-rest at_end g old new buffer more i j k h e =
-    e ∙ ap (λ l. option_to_list (pieces_cut g new) ++ pieces_behind at_end g new (l ++ more))
-    (sym (slice_range-drop buffer i j k h))
-
--- a range from a place to the same one is empty
-pub slice_range-none : (xs : List ℕ) (i : ℕ) → slice_range xs i i ≡ []
-slice_range-none xs i = let e : i - i ≡ 0 = omega arith in ap (λ n. take n (drop i xs)) e
 
 pub length-slice_range-le : (xs : List ℕ) (i j : ℕ) → length (slice_range xs i j) ≤ j - i
 length-slice_range-le xs i j = omega (arith, length-take (j - i) (drop i xs))

@@ -7,27 +7,27 @@ use Rattle.dw_notation.specs.TextLines.{Found}
 use Rattle.dw_notation.specs.Problems.{Numbered, numbered, number_from}
 use Rattle.dw_notation.specs.Reading.{NextGives, ReadsAtNeed}
 use Rattle.dw_notation.specs.inner.Pieces.{pieces_ahead, pieces_behind}
-use Rattle.dw_notation.specs.inner.Cutting.{rest_of, found_ahead, problems_from, to_come, ended, reader_at, CarriesOn}
+use Rattle.dw_notation.specs.inner.Cutting.{found_ahead, problems_from, to_come, ended, reader_at, CarriesOn}
 use Rattle.dw_notation.specs.inner.Cutting.{ReadsOnAtNeed, TakesPiece, TakesLast, HandsOut, ReadsPiece, found_behind}
 use Rattle.dw_notation.specs.inner.Cutting.{found_cut}
 use Rattle.dw_notation.specs.declared.problems.TheConstants.{MAX_PROBLEMS}
-use Rattle.dw_notation.specs.declared.problems.reader.Cutter.{Cutter}
+use Rattle.dw_notation.specs.inner.Cutting.{Progress}
 use Rattle.dw_notation.specs.declared.problems.Problem.{Problem}
 use Rattle.dw_notation.specs.declared.problems.ReadFault.{ReadFault}
 use Rattle.dw_notation.proofs.NumberLemmas.{number_from-over}
 use Rattle.dw_notation.proofs.CarryLemmas.{ended-none}
 
 -- what handing out the piece did
-pub record PieceHanded (g : Geometry) (cut new : Cutter) (problems : List Numbered) : Type 0 where
+pub record PieceHanded (g : Geometry) (cut new : Progress) (problems : List Numbered) : Type 0 where
   pub ahead : (at_end : Bool) (more : List ℕ) → pieces_behind at_end g cut.pieces more
       ≡ pieces_ahead at_end g new.pieces more
-  pub rest : rest_of new ≡ rest_of cut
+  pub rest : new.rest ≡ cut.rest
   pub given : (found : List Found) → number_from cut.handed (found_cut g cut ++ found)
       ≡ problems ++ number_from new.handed found
 
-pub HandsOut-refl : (g : Geometry) (coming : Option (List ℕ)) (cutter : Cutter)
-    → HandsOut g coming coming cutter cutter []
-HandsOut-refl g coming cutter = record {
+pub HandsOut-refl : (g : Geometry) (coming : Option (List ℕ)) (progress : Progress)
+    → HandsOut g coming coming progress progress []
+HandsOut-refl g coming progress = record {
   read = [];
   took = Consumes-nil coming;
   need = inl refl;
@@ -35,14 +35,14 @@ HandsOut-refl g coming cutter = record {
 }
 
 -- what is behind the piece is ahead
-found_ahead-behind : (at_end : Bool) (g : Geometry) (cut new : Cutter) (problems : List Numbered) (more : List ℕ)
+found_ahead-behind : (at_end : Bool) (g : Geometry) (cut new : Progress) (problems : List Numbered) (more : List ℕ)
     → PieceHanded g cut new problems
     → found_behind at_end g cut more ≡ found_ahead at_end g new more
 found_ahead-behind at_end g cut new problems more handed =
-    handed.ahead at_end (rest_of cut ++ more) ∙ ap (λ l. pieces_ahead at_end g new.pieces (l ++ more)) (sym handed.rest)
+    handed.ahead at_end (cut.rest ++ more) ∙ ap (λ l. pieces_ahead at_end g new.pieces (l ++ more)) (sym handed.rest)
 
 -- what was read at need, and then more at need
-need-join : (g : Geometry) (old mid : Cutter) (read more : List ℕ) → old.handed ≤ MAX_PROBLEMS
+need-join : (g : Geometry) (old mid : Progress) (read more : List ℕ) → old.handed ≤ MAX_PROBLEMS
     → ReadsAtNeed g (reader_at old) read
     → ((rest : List ℕ) → ended g old (read ++ rest) ≡ ended g mid rest) → ReadsOnAtNeed mid more
     → ReadsAtNeed g (reader_at old) (read ++ more)
@@ -58,7 +58,7 @@ need-join g old mid read more room need same (inr (before, last, split, few, non
 )
 
 -- nothing so far, and then a piece
-pub HandsOut-piece : (g : Geometry) (coming left after : Option (List ℕ)) (old mid cut new : Cutter)
+pub HandsOut-piece : (g : Geometry) (coming left after : Option (List ℕ)) (old mid cut new : Progress)
     (problems : List Numbered)
     → old.handed ≤ MAX_PROBLEMS → HandsOut g coming left old mid [] → TakesPiece left after mid cut → (cut.handed ≡ mid.handed)
     → PieceHanded g cut new problems
@@ -77,7 +77,7 @@ HandsOut-piece g coming left after old mid cut new problems room so_far piece sa
 }
 
 -- a problem that was handed out
-pub NextGives-problem : {B : Type 0} (g : Geometry) (coming left : Option (List ℕ)) (old new : Cutter)
+pub NextGives-problem : {B : Type 0} (g : Geometry) (coming left : Option (List ℕ)) (old new : Progress)
     (problem : Problem B)
     → HandsOut g coming left old new (numbered problem ∷ []) → NextGives g coming left (reader_at old) (reader_at new) (Ok (Some problem))
 NextGives-problem g coming left old new problem out = record {
@@ -91,7 +91,7 @@ NextGives-problem g coming left old new problem out = record {
 }
 
 -- all problems are handed out
-pub NextGives-over : {B : Type 0} (g : Geometry) (coming left : Option (List ℕ)) (old new : Cutter)
+pub NextGives-over : {B : Type 0} (g : Geometry) (coming left : Option (List ℕ)) (old new : Progress)
     → HandsOut g coming left old new [] → 1000000 < new.handed → NextGives {B = B} g coming left (reader_at old) (reader_at new) (Ok None)
 NextGives-over g coming left old new out over =
     let done : (more : List ℕ) → to_come g new more
@@ -105,9 +105,9 @@ NextGives-over g coming left old new out over =
     }
 
 -- the source failed
-pub NextGives-err : {B : Type 0} (g : Geometry) (coming left after : Option (List ℕ)) (old mid new : Cutter)
+pub NextGives-err : {B : Type 0} (g : Geometry) (coming left after : Option (List ℕ)) (old mid new : Progress)
     (fault : ReadFault)
-    → old.handed ≤ MAX_PROBLEMS → HandsOut g coming left old mid [] → CarriesOn left after mid new → (rest_of new ≡ []) → (new.handed ≡ mid.handed)
+    → old.handed ≤ MAX_PROBLEMS → HandsOut g coming left old mid [] → CarriesOn left after mid new → (new.rest ≡ []) → (new.handed ≡ mid.handed)
     → NextGives {B = B} g coming after (reader_at old) (reader_at new) (Err fault)
 NextGives-err g coming left after old mid new fault room so_far on none same_number =
     let read = so_far.read ++ on.read in
@@ -129,7 +129,7 @@ NextGives-err g coming left after old mid new fault room so_far on none same_num
     }
 
 -- the last piece of the text
-pub to_come-last : (g : Geometry) (coming left after : Option (List ℕ)) (old mid cut new : Cutter)
+pub to_come-last : (g : Geometry) (coming left after : Option (List ℕ)) (old mid cut new : Progress)
     (problems : List Numbered)
     → (so_far : HandsOut g coming left old mid []) → (last : TakesLast left after mid cut) → (cut.handed ≡ mid.handed)
     → PieceHanded g cut new problems
@@ -150,7 +150,7 @@ to_come-last g coming left after old mid cut new problems so_far last same_numbe
       empty,
     )
 
-pub NextGives-last : {B : Type 0} (g : Geometry) (coming left after : Option (List ℕ)) (old mid cut new : Cutter)
+pub NextGives-last : {B : Type 0} (g : Geometry) (coming left after : Option (List ℕ)) (old mid cut new : Progress)
     (problem : Problem B)
     → old.handed ≤ MAX_PROBLEMS → HandsOut g coming left old mid [] → TakesLast left after mid cut → (cut.handed ≡ mid.handed)
     → PieceHanded g cut new (numbered problem ∷ []) → (new.met_end ≡ true)
@@ -165,7 +165,7 @@ NextGives-last g coming left after old mid cut new problem room so_far last same
       (to_come-last g coming left after old mid cut new (numbered problem ∷ []) so_far last same_number handed).0;
 }
 
-pub NextGives-none : {B : Type 0} (g : Geometry) (coming left after : Option (List ℕ)) (old mid cut new : Cutter)
+pub NextGives-none : {B : Type 0} (g : Geometry) (coming left after : Option (List ℕ)) (old mid cut new : Progress)
     → old.handed ≤ MAX_PROBLEMS → HandsOut g coming left old mid [] → TakesLast left after mid cut → (cut.handed ≡ mid.handed)
     → PieceHanded g cut new [] → (new.met_end ≡ true)
     → NextGives {B = B} g coming after (reader_at old) (reader_at new) (Ok None)
@@ -178,7 +178,7 @@ NextGives-none g coming left after old mid cut new room so_far last same_number 
       gives = (end.0 ∙ end.1, end.1, inl met);
     }
 
-pub NextGives-some : {B : Type 0} (g : Geometry) (coming left after : Option (List ℕ)) (old mid cut new : Cutter)
+pub NextGives-some : {B : Type 0} (g : Geometry) (coming left after : Option (List ℕ)) (old mid cut new : Progress)
     (problem : Problem B) (is_whole : Bool)
     → old.handed ≤ MAX_PROBLEMS → HandsOut g coming left old mid [] → ReadsPiece left after mid cut (Ok is_whole) → (cut.handed ≡ mid.handed)
     → PieceHanded g cut new (numbered problem ∷ []) → (new.met_end ≡ cut.met_end)
@@ -189,7 +189,7 @@ NextGives-some g coming left after old mid cut new problem true room so_far piec
 NextGives-some g coming left after old mid cut new problem false room so_far piece same_number handed met =
     NextGives-last g coming left after old mid cut new problem room so_far piece.0 same_number handed (met ∙ piece.1)
 
-pub NextGives-end : {B : Type 0} (g : Geometry) (coming left after : Option (List ℕ)) (old mid cut new : Cutter)
+pub NextGives-end : {B : Type 0} (g : Geometry) (coming left after : Option (List ℕ)) (old mid cut new : Progress)
     (is_whole : Bool) → is_whole ≡ false
     → old.handed ≤ MAX_PROBLEMS → HandsOut g coming left old mid [] → ReadsPiece left after mid cut (Ok is_whole) → (cut.handed ≡ mid.handed)
     → PieceHanded g cut new [] → (new.met_end ≡ cut.met_end)
@@ -198,7 +198,7 @@ NextGives-end g coming left after old mid cut new true e room so_far piece same_
 NextGives-end g coming left after old mid cut new false e room so_far piece same_number handed met =
     NextGives-none g coming left after old mid cut new room so_far piece.0 same_number handed (met ∙ piece.1)
 
-pub HandsOut-blank : (g : Geometry) (coming left after : Option (List ℕ)) (old mid cut new : Cutter) (is_whole : Bool)
+pub HandsOut-blank : (g : Geometry) (coming left after : Option (List ℕ)) (old mid cut new : Progress) (is_whole : Bool)
     → is_whole ≡ true
     → old.handed ≤ MAX_PROBLEMS → HandsOut g coming left old mid [] → ReadsPiece left after mid cut (Ok is_whole) → (cut.handed ≡ mid.handed)
     → PieceHanded g cut new []

@@ -16,6 +16,8 @@ pub mod HoldingLemmas
 pub mod PassingLemmas
 pub mod TagReadingLemmas
 pub mod TagBreakingLemmas
+pub mod TagFrontLemmas
+pub mod TagLoopLemmas
 pub mod SectionReadingLemmas
 pub mod WholeTextLemmas
 pub mod MoveTextLemmas

@@ -13,7 +13,7 @@ use Rattle.dw_notation.specs.declared.problems.Form.{Form}
 use Rattle.dw_notation.specs.declared.problems.Form.TheVariants.{Fens, Pdn}
 use Rattle.dw_notation.specs.declared.problems.pdn.automaton.State.TheVariants.{Outside}
 use Rattle.dw_notation.specs.declared.problems.pdn.Sections.{Sections}
-use Rattle.dw_notation.specs.declared.problems.reader.Cutter.{Cutter}
+use Rattle.dw_notation.specs.inner.Cutting.{Progress}
 use Rattle.dw_notation.proofs.HoldingLemmas.{held_from-bare}
 use Rattle.dw_notation.proofs.TextSaysLemmas.{FensAreRead, lines_say, lines_say-only}
 use Rattle.dw_notation.proofs.WholeTextLemmas.{sections_say, sections_say-only}
@@ -46,13 +46,13 @@ module _ (law : FensAreRead) where
   }
 
   -- what a reader will hand out that has read nothing
-  pub fresh_ahead : (g : Geometry) (form : Form) (over : Bool) (bytes : List ℕ) (cutter : Cutter) → cutter.handed ≡ 0
-      → found_ahead over g cutter bytes ≡ found_of over g form bytes
-      → AreProblems g form over bytes (problems_from over g cutter bytes)
-  fresh_ahead g form over bytes cutter none found = record {
+  pub fresh_ahead : (g : Geometry) (form : Form) (over : Bool) (bytes : List ℕ) (progress : Progress) → progress.handed ≡ 0
+      → found_ahead over g progress bytes ≡ found_of over g form bytes
+      → AreProblems g form over bytes (problems_from over g progress bytes)
+  fresh_ahead g form over bytes progress none found = record {
     found = found_of over g form bytes;
     said = text_says g form over bytes;
-    numbers = ap (λ n. number_from n (found_ahead over g cutter bytes)) none ∙ ap (number_from 0) found;
+    numbers = ap (λ n. number_from n (found_ahead over g progress bytes)) none ∙ ap (number_from 0) found;
   }
 
   pub texts_of_tags_say : TextsOfTagsSay

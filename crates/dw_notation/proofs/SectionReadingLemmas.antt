@@ -17,10 +17,12 @@ use Rattle.dw_notation.specs.Tags.IsSection.{single, broken, longer, longer_brok
 use Rattle.dw_notation.specs.declared.problems.pdn.automaton.State.{State}
 use Rattle.dw_notation.specs.declared.problems.pdn.automaton.State.TheVariants.{Outside, Comment, Between, BeforeName}
 use Rattle.dw_notation.specs.declared.problems.pdn.automaton.Transition.{Transition}
-use Rattle.dw_notation.specs.declared.problems.pdn.automaton.Action.TheVariants.{Keep, Open, EndLine, End}
+use Rattle.dw_notation.specs.declared.problems.pdn.automaton.Action.TheVariants.{Keep, Open, Close, EndLine, NextTag, End}
 use Rattle.dw_notation.specs.declared.problems.pdn.section.TagKind.{TagKind}
 use Rattle.dw_notation.specs.declared.problems.pdn.section.TagKind.TheVariants.{FenTag, GameTag, OtherTag}
-use Rattle.dw_notation.proofs.TagReadingLemmas.{Reads, join_reads, run_reads, between, tag_reads}
+use Rattle.dw_notation.proofs.TagReadingLemmas.{Reads, join_reads, reads_found, outside, run_reads, between, tag_reads}
+use Rattle.dw_notation.proofs.TagReadingLemmas.{tag_body}
+use Rattle.dw_notation.proofs.TagReadingLemmas.Path.{here, step}
 use Rattle.dw_notation.proofs.TagBreakingLemmas.{SoFar, unclosed_reads, line_ends, text_ends}
 
 -- where the reading stands behind these tags, which have so many bytes
@@ -54,7 +56,7 @@ pub record Begins (state : State) (s : Section) (tags : List Tag) (some : Bool) 
 
 pub begins_outside : Begins Outside bare [] false 0 (record bare { read = 1 })
 begins_outside = record {
-  reads = λ at_end g more. refl;
+  reads = step 91 Open refl (λ f. refl) here;
   name = refl;
   read = refl;
   unclosed = refl;
@@ -66,7 +68,7 @@ begins_outside = record {
 begins_between : (tags : List Tag) (some : Bool) (size n : ℕ) (s : Section) → Holds tags some size n s
     → Begins Between s tags some n (record s { read = s.read + 1; name = [] })
 begins_between tags some size n s h = record {
-  reads = λ at_end g more. refl;
+  reads = step 91 NextTag refl (λ f. refl) here;
   name = refl;
   read =
       ap (λ k. k + 1) h.read;
@@ -127,23 +129,25 @@ pub tag_on : (state : State) (s t : Section) (tags : List Tag) (some : Bool) (te
 tag_on state s t tags some text tag n m begins size is =
     let length_is = tag_length text tag is in
     let read = begins.read in
-    let body = is.first ++ (tag.name ++ (is.middle ++ 34 ∷ (is.spelling ++ 34 ∷ (is.last ++ 93 ∷ [])))) in
-    let u : Section = with_tag (kind_of tag.name) (record t {
-      read = m;
-      size = m;
+    let body = is.first ++ (tag.name ++ (is.middle ++ 34 ∷ (is.spelling ++ 34 ∷ is.last))) in
+    let k = t.read + length is.first + length tag.name + length is.middle + length is.spelling + length is.last + 2 in
+    let u : ℕ → Section = λ r. with_tag (kind_of tag.name) (record t {
+      read = r;
+      size = r;
       name = tag.name;
-      kind =
-          kind_of tag.name;
+      kind = kind_of tag.name;
       value = tag.value;
     }) in
-    let reads : Reads BeforeName t body Between u =
-    tag_reads t tag is.first is.middle is.last is.spelling m begins.name is.blank_first is.blank_middle is.blank_last
-    is.some is.named is.spells (omega arith) in
+    let closed : Reads BeforeName t (body ++ 93 ∷ []) Between (u (k + 1)) =
+    join_reads (outside (tag_reads t tag is.first is.middle is.last is.spelling k begins.name is.blank_first
+    is.blank_middle is.blank_last is.some is.named is.spells refl)) (step 93 Close refl (λ f. refl) here) in
+    let whole : k + 1 ≡ m = omega (arith, length_is, read, size) in
     record {
       next = Between;
-      behind = u;
-      reads = subst (λ l. Reads state s l Between u) (sym is.joined) (join_reads state BeforeName Between s t u
-          (91 ∷ []) body begins.reads reads);
+      behind = u m;
+      reads = subst (λ l. Reads state s l Between (u m)) (sym (is.joined ∙ ap (λ l. 91 ∷ l)
+          (sym (tag_body is.first tag.name is.middle is.spelling is.last (93 ∷ [])))))
+          (join_reads begins.reads (subst (λ r. Reads BeforeName t (body ++ 93 ∷ []) Between (u r)) whole closed));
       stands = with_tag_stands (kind_of tag.name) tags some tag m t refl begins.unclosed begins.fens begins.games;
     }
 
@@ -159,8 +163,7 @@ unclosed_on state s t tags some text n m begins size is =
     record {
       next = line.next;
       behind = line.last;
-      reads = subst (λ l. Reads state s l line.next line.last) (sym is.joined) (join_reads state BeforeName line.next s
-          t line.last (91 ∷ []) is.line begins.reads line.reads);
+      reads = subst (λ l. Reads state s l line.next line.last) (sym is.joined) (join_reads begins.reads line.reads);
       stands = record {
         read = omega arith;
         fens = line.fens ∙ begins.fens;
@@ -183,8 +186,8 @@ gap_on false gap tags some n state s stands spaces =
     record {
       behind = record s { read = n + length gap };
       reads = subst (λ p. Reads p s gap Between (record s { read = n + length gap })) (sym at_place.0)
-          (run_reads is_space Between between gap spaces s (n + length gap)
-          (ap (λ k. k + length gap) (sym stands.read)));
+          (outside (run_reads is_space Between between gap spaces s (n + length gap)
+          (ap (λ k. k + length gap) (sym stands.read))));
       holds = record {
         read = refl;
         size = at_place.1;
@@ -202,10 +205,8 @@ gap_on true (byte ∷ gap) tags some n state s stands spaces =
     let t : Section = after EndLine s in
     record {
       behind = record t { read = n + length (byte ∷ gap) };
-      reads = λ at_end g more.
-          ap (λ x. found_by x.action (section_found g s) ++ sections_found at_end g x.state (after x.action s)
-          (gap ++ more)) ends
-          ∙ run_reads is_space Between between gap spaces.1 t (n + length (byte ∷ gap)) (omega arith) at_end g more;
+      reads = step byte EndLine ends (λ f. refl)
+          (outside (run_reads is_space Between between gap spaces.1 t (n + length (byte ∷ gap)) (omega arith)));
       holds = record {
         read = refl;
         size = stands.read;
@@ -225,8 +226,7 @@ join_on : (s mid : Section) (state : State) (text gap next : List ℕ) (tags mor
 join_on s mid state text gap next tags more_tags some more_some last m one two three = record {
   next = three.next;
   behind = three.behind;
-  reads = join_reads Outside state three.next bare mid three.behind text (gap ++ next) one
-      (join_reads state Between three.next mid two.behind three.behind gap next two.reads three.reads);
+  reads = join_reads one (join_reads two.reads three.reads);
   stands = three.stands;
 }
 
@@ -271,7 +271,7 @@ whole_reads text gap tags some last is spaces =
     let one = section_reads is in
     let two = gap_on last gap tags some (length text) one.next one.behind one.stands spaces in (
       two.behind,
-      join_reads Outside one.next Between bare one.behind two.behind text gap one.reads two.reads,
+      join_reads one.reads two.reads,
       λ g. Holds-found g tags some (length text) (length text + length gap) two.behind two.holds,
     )
 
@@ -308,7 +308,7 @@ sections_are_found at_end g text gap more tags some last byte is spaces ends =
     let outside : transition Outside byte ≡ cond (byte == 123) (at Comment Keep) (at Outside Keep) = rw parts.0 refl in
     let rest = any_section at_end g s bare more in
     let found = whole.2 g in
-    let here : from s (cond (byte == 123) (at Comment End) (at Outside End))
+    let ended : from s (cond (byte == 123) (at Comment End) (at Outside End))
     ≡ said ∷ from bare (cond (byte == 123) (at Comment Keep) (at Outside Keep)) =
     elim (byte == 123) as (λ v. from s (cond v (at Comment End) (at Outside End))
     ≡ said ∷ from bare (cond v (at Comment Keep) (at Outside Keep))) [
@@ -316,9 +316,9 @@ sections_are_found at_end g text gap more tags some last byte is spaces ends =
       | false ↦ ap (λ f. f ∷ sections_found at_end g Outside s more) found ∙ ap (λ l. said ∷ l) rest.0
     ] in
     ap (sections_found at_end g Outside bare) (sym (append_assoc text gap (byte ∷ more)))
-    ∙ whole.1 at_end g (byte ∷ more)
+    ∙ reads_found at_end g (byte ∷ more) whole.1
     ∙ ap (from s) ending
-    ∙ here
+    ∙ ended
     ∙ ap (λ x. said ∷ from bare x) (sym outside)
 
 last_with_gap : (g : Geometry) (text gap : List ℕ) (tags : List Tag) (some last : Bool) → IsSection text tags some last
@@ -326,7 +326,7 @@ last_with_gap : (g : Geometry) (text gap : List ℕ) (tags : List Tag) (some las
     → sections_found true g Outside bare (text ++ gap) ≡ tags_found g (length text) some tags ∷ []
 last_with_gap g text gap tags some last is spaces =
     let whole = whole_reads text gap tags some last is spaces in
-    ap (sections_found true g Outside bare) (sym (append-nil (text ++ gap))) ∙ whole.1 true g []
+    ap (sections_found true g Outside bare) (sym (append-nil (text ++ gap))) ∙ reads_found true g [] whole.1
     ∙ ap (λ f. f ∷ []) (whole.2 g)
 
 last_alone : (g : Geometry) (text : List ℕ) (tags : List Tag) (some last : Bool) → IsSection text tags some last
@@ -345,7 +345,7 @@ last_alone g text tags some true is =
       games =
           one.stands.games;
     } in
-    one.reads true g []
+    reads_found true g [] one.reads
     ∙ text_ends (section_found g s) (section_found g (after EndLine s)) in_line.1.1
     ∙ ap (λ f. f ∷ []) (Holds-found g tags some (length text) (s.read + 1) (after EndLine s) held)
 
@@ -357,19 +357,17 @@ last_section_is_found g text gap tags some last is (inr none) =
 -- ---- comments
 comment_reads : (text : List ℕ) → list_all (λ byte. not (closes byte)) text ≡ true → (s : Section)
     → Reads Comment s text Comment s
-comment_reads [] all s at_end g more = refl
-comment_reads (byte ∷ text) all s at_end g more =
+comment_reads [] all s = here
+comment_reads (byte ∷ text) all s =
     let both = and_parts (not (closes byte)) (list_all (λ b. not (closes b)) text) all in
-    let stays : transition Comment byte ≡ at Comment Keep = rw (not-true (closes byte) both.0) refl in
-    ap (λ x. found_by x.action (section_found g s) ++ sections_found at_end g x.state (after x.action s) (text ++ more))
-    stays ∙ comment_reads text both.1 s at_end g more
+    step byte Keep (rw (not-true (closes byte) both.0) refl) (λ f. refl) (comment_reads text both.1 s)
 
 pub comments_say_nothing : CommentsSayNothing
-comments_say_nothing at_end g text more all = comment_reads text all bare at_end g (125 ∷ more)
+comments_say_nothing at_end g text more all = reads_found at_end g (125 ∷ more) (comment_reads text all bare)
 
 pub open_comment_is_found : OpenCommentIsFound
 open_comment_is_found g text all = ap (sections_found true g Comment bare) (sym (append-nil text))
-    ∙ comment_reads text all bare true g []
+    ∙ reads_found true g [] (comment_reads text all bare)
 
 pub others_say_nothing : OthersSayNothing
 others_say_nothing at_end g byte more h =
@@ -380,11 +378,11 @@ others_say_nothing at_end g byte more h =
 -- ---- what is unfinished has given nothing
 pub open_comment_gives_nothing : OpenCommentGivesNothing
 open_comment_gives_nothing g text all = ap (sections_found false g Comment bare) (sym (append-nil text))
-    ∙ comment_reads text all bare false g []
+    ∙ reads_found false g [] (comment_reads text all bare)
 
 pub open_section_gives_nothing : OpenSectionGivesNothing
 open_section_gives_nothing g text gap tags some last is (inl spaces) =
     ap (sections_found false g Outside bare) (sym (append-nil (text ++ gap)))
-    ∙ (whole_reads text gap tags some last is spaces).1 false g []
+    ∙ reads_found false g [] (whole_reads text gap tags some last is spaces).1
 open_section_gives_nothing g text gap tags some last is (inr none) =
-    ap (λ l. sections_found false g Outside bare (text ++ l)) none ∙ (section_reads is).reads false g []
+    ap (λ l. sections_found false g Outside bare (text ++ l)) none ∙ reads_found false g [] (section_reads is).reads

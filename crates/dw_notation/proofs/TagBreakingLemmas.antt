@@ -1,17 +1,19 @@
 -- How the line of an unclosed tag is read.
 use Rattle.std.proofs.Common.{◌≡◌, ℕ, ◌+◌, ◌<◌, ◌==◌, ◌⊎◌, inl, inr, List, [], ◌∷◌, ◌++◌, length, Bool, true, false}
-use Rattle.std.proofs.Common.{not, refl, sym, ap, ◌∙◌, subst, arith, append_assoc, append-nil, length-append}
+use Rattle.std.proofs.Common.{not, Option, Some, refl, sym, ap, ◌∙◌, subst, arith, append_assoc, append-nil, length-append}
 use Rattle.std.proofs.lemmas.Bool.{cases_Bool, and_parts, and_from, or_cases, not-true, eqb-true}
 use Rattle.std.proofs.lemmas.List.Folds.{list_all-append}
 use Rattle.std.specs.List.{list_all}
 use Rattle.dw_board.specs.FenTokens.{is_blank}
 use Rattle.dw_notation.specs.TextLines.{Found}
-use Rattle.dw_notation.specs.inner.Sections.{transition, at, Section, after, section_found, found_by}
+use Rattle.dw_notation.specs.inner.Sections.{transition, at, Section, after}
 use Rattle.dw_notation.specs.Tags.{is_name_byte, ends_line}
-use Rattle.dw_notation.specs.inner.Sections.{found_at_end, sections_found}
+use Rattle.dw_notation.specs.inner.Sections.{found_at_end}
 use Rattle.dw_notation.specs.Tags.{Tag, Spells, IsTag, IsUnclosed}
 use Rattle.dw_notation.specs.Tags.Spells.{nothing, quotation, backslash, lone, plain}
-use Rattle.dw_notation.proofs.TagReadingLemmas.{Reads}
+use Rattle.dw_notation.specs.inner.TagReading.{TagRead, read_by}
+use Rattle.dw_notation.proofs.TagReadingLemmas.{IsSilent, Reads}
+use Rattle.dw_notation.proofs.TagReadingLemmas.Path.{here, step}
 use Rattle.dw_notation.specs.declared.problems.pdn.automaton.State.{State}
 use Rattle.dw_notation.specs.declared.problems.pdn.automaton.State.TheVariants.{Between, BeforeName, InName, BehindName, InValue}
 use Rattle.dw_notation.specs.declared.problems.pdn.automaton.State.TheVariants.{Escaped, BehindValue, Rest}
@@ -21,7 +23,7 @@ use Rattle.dw_notation.specs.declared.problems.pdn.automaton.Action.TheVariants.
 
 all_push : (p : ℕ → Bool) (text : List ℕ) (byte : ℕ) → list_all p text ≡ true → p byte ≡ true
     → list_all p (text ++ byte ∷ []) ≡ true
-all_push p text byte all here = list_all-append p text (byte ∷ []) ∙ and_from _ _ all (and_from _ _ here refl)
+all_push p text byte all one = list_all-append p text (byte ∷ []) ∙ and_from _ _ all (and_from _ _ one refl)
 
 spells_join : {text value other more : List ℕ} → Spells text value → Spells other more
     → Spells (text ++ other) (value ++ more)
@@ -51,12 +53,14 @@ pub data SoFar : State → List ℕ → Type 0 where
       → SoFar BehindValue (91 ∷ (first ++ (name ++ (middle ++ 34 ∷ (spelling ++ 34 ∷ last)))))
   rest : (text : List ℕ) → SoFar Rest text
 
--- a byte in a tag finds nothing and adds no tag
+-- a byte in the line of a tag finds nothing, adds no tag, and ends none
 pub record IsQuiet (action : Action) : Type 0 where
-  pub found : (f : Found) → found_by action f ≡ []
+  pub found : IsSilent action
   pub read : (s : Section) → (after action s).read ≡ s.read + 1
   pub fens : (s : Section) → (after action s).fens ≡ s.fens
   pub games : (s : Section) → (after action s).games ≡ s.games
+  pub goes : (s : Section) (bytes : List ℕ) (further : Section → Option TagRead) (one : TagRead)
+      → read_by action s bytes further ≡ Some one → further (after action s) ≡ Some one
 
 -- one more byte of the line: the tag goes on, or it is whole
 abbrev pub GoesOn : State → List ℕ → ℕ → Type 0
@@ -72,22 +76,22 @@ goes_on state next action text other byte e joined so_far quiet =
     )
 
 quiet_count : IsQuiet Count
-quiet_count = record { found = λ f. refl; read = λ s. refl; fens = λ s. refl; games = λ s. refl }
+quiet_count = record { found = λ f. refl; read = λ s. refl; fens = λ s. refl; games = λ s. refl; goes = λ s bytes further one e. e }
 
 quiet_name : (byte : ℕ) → IsQuiet (AddName byte)
-quiet_name byte = record { found = λ f. refl; read = λ s. refl; fens = λ s. refl; games = λ s. refl }
+quiet_name byte = record { found = λ f. refl; read = λ s. refl; fens = λ s. refl; games = λ s. refl; goes = λ s bytes further one e. e }
 
 quiet_open : IsQuiet OpenValue
-quiet_open = record { found = λ f. refl; read = λ s. refl; fens = λ s. refl; games = λ s. refl }
+quiet_open = record { found = λ f. refl; read = λ s. refl; fens = λ s. refl; games = λ s. refl; goes = λ s bytes further one e. e }
 
 quiet_value : (byte : ℕ) → IsQuiet (AddValue byte)
-quiet_value byte = record { found = λ f. refl; read = λ s. refl; fens = λ s. refl; games = λ s. refl }
+quiet_value byte = record { found = λ f. refl; read = λ s. refl; fens = λ s. refl; games = λ s. refl; goes = λ s bytes further one e. e }
 
 quiet_both : (byte : ℕ) → IsQuiet (AddBoth byte)
-quiet_both byte = record { found = λ f. refl; read = λ s. refl; fens = λ s. refl; games = λ s. refl }
+quiet_both byte = record { found = λ f. refl; read = λ s. refl; fens = λ s. refl; games = λ s. refl; goes = λ s bytes further one e. e }
 
 quiet_break : IsQuiet Break
-quiet_break = record { found = λ f. refl; read = λ s. refl; fens = λ s. refl; games = λ s. refl }
+quiet_break = record { found = λ f. refl; read = λ s. refl; fens = λ s. refl; games = λ s. refl; goes = λ s bytes further one e. cc }
 
 breaks : (state : State) (text : List ℕ) (byte : ℕ) → transition state byte ≡ at Rest Break → GoesOn state text byte
 breaks state text byte e = goes_on state Rest Break text (text ++ byte ∷ []) byte e refl (rest (text ++ byte ∷ []))
@@ -240,7 +244,7 @@ line_reads [] state text so_far in_line unbroken s = record {
   read = omega arith;
   fens = refl;
   games = refl;
-  reads = λ at_end g more. refl;
+  reads = here;
 }
 line_reads (byte ∷ line) state text so_far in_line unbroken s =
     let both = and_parts (not (ends_line byte)) (list_all (λ b. not (ends_line b)) line) in_line in
@@ -258,9 +262,7 @@ line_reads (byte ∷ line) state text so_far in_line unbroken s =
             read = omega (arith, more_read.read, one);
             fens = more_read.fens ∙ on.1.fens s;
             games = more_read.games ∙ on.1.games s;
-            reads = λ at_end g more.
-                ap (λ l. l ++ sections_found at_end g t.state (after t.action s) (line ++ more))
-                (on.1.found (section_found g s)) ∙ more_read.reads at_end g more;
+            reads = step byte t.action refl on.1.found more_read.reads;
           }
       | inr whole ↦ absurd (unbroken (text ++ byte ∷ []) line whole.0 (sym joined) whole.1)
     ]

@@ -2,12 +2,10 @@
 use Rattle.std.proofs.Common.{◌≡◌, ℕ, zero, suc, ◌+◌, ◌≤◌, ◌==◌, ◌⊎◌, inl, inr, List, [], ◌∷◌, ◌++◌, length, Bool, true}
 use Rattle.std.proofs.Common.{false, Err, not, refl, sym, ap, ◌∙◌, subst, arith, append_assoc, append-nil}
 use Rattle.std.proofs.Common.{length-append}
-use Rattle.std.proofs.lemmas.Bool.{cases_Bool, and_parts, and_from, not-true, eqb-true}
+use Rattle.std.proofs.lemmas.Bool.{cases_Bool, and_from, eqb-true}
 use Rattle.std.specs.List.{list_all}
-use Rattle.dw_board.specs.Boards.{ten}
 use Rattle.dw_board.specs.Geometry.{Geometry}
 use Rattle.dw_notation.specs.TextLines.{Found}
-use Rattle.dw_notation.specs.inner.Sections.{transition, Section, bare, after, section_found, sections_found}
 use Rattle.dw_notation.specs.Tags.{ends_line}
 use Rattle.dw_notation.specs.Tags.{Tag, IsTag, IsUnclosed, is_space, IsGap, IsSection}
 use Rattle.dw_notation.specs.inner.Tags.{tags_found, outside_found}
@@ -17,13 +15,9 @@ use Rattle.dw_notation.specs.TextLines.{if_over}
 use Rattle.dw_notation.specs.WholeTexts.{IsOpen, SectionsSay}
 use Rattle.dw_notation.specs.WholeTexts.SectionsSay.{nothing, other, comment, last_comment, section, last_section}
 use Rattle.dw_notation.specs.declared.problems.ProblemFault.TheVariants.{UnclosedComment}
-use Rattle.dw_notation.specs.declared.problems.pdn.automaton.State.{State}
-use Rattle.dw_notation.specs.declared.problems.pdn.automaton.State.TheVariants.{Outside, BeforeName}
 use Rattle.dw_notation.proofs.TextSaysLemmas.{FensAreRead, section_says, section_says-only}
-use Rattle.dw_notation.proofs.TagReadingLemmas.{Reads, join_reads}
-use Rattle.dw_notation.proofs.TagBreakingLemmas.{SoFar, tag_goes_on}
-use Rattle.dw_notation.proofs.TagBreakingLemmas.SoFar.{before, named, behind, valued, escaped, closing, rest}
-use Rattle.dw_notation.proofs.SectionReadingLemmas.{begins_outside, tag_on, sections_are_found, last_section_is_found}
+use Rattle.dw_notation.proofs.TagFrontLemmas.{tag_or_none}
+use Rattle.dw_notation.proofs.SectionReadingLemmas.{sections_are_found, last_section_is_found}
 use Rattle.dw_notation.proofs.SectionReadingLemmas.{comments_say_nothing, open_comment_is_found, others_say_nothing}
 use Rattle.dw_notation.proofs.SectionReadingLemmas.{open_comment_gives_nothing, open_section_gives_nothing}
 
@@ -94,105 +88,6 @@ cut p (byte ∷ text) = elim (cases_Bool (p byte)) [
   | inr none ↦ record { front = []; back = byte ∷ text; joined = refl; all = refl; stops = at_byte byte text none }
 ]
 
--- ---- a tag at the front
-record HasTag (text : List ℕ) : Type 0 where
-  pub front : List ℕ
-  pub back : List ℕ
-  pub tag : Tag
-  pub joined : text ≡ front ++ back
-  pub is : IsTag front tag
-
-abbrev NoTag : List ℕ → Type 0
-NoTag text = (front back : List ℕ) (tag : Tag) → text ≡ front ++ back → IsTag front tag → ⊥
-
--- in a tag, the letter x finds nothing
-in_tag : {state : State} {text : List ℕ} → SoFar state text → (s : Section)
-    → sections_found false ten state s (120 ∷ []) ≡ []
-in_tag (before first b1) s = refl
-in_tag (named first name b1 some n) s = refl
-in_tag (behind first name middle b1 some n b2) s = refl
-in_tag (valued first name middle spelling value b1 some n b2 spells) s = refl
-in_tag (escaped first name middle spelling value b1 some n b2 spells) s = refl
-in_tag (closing first name middle spelling value last b1 some n b2 spells b3) s = refl
-in_tag (rest text) s = refl
-
--- so what is read so far is no whole tag, for it would find something
-not_whole : {state : State} {text : List ℕ} (s : Section) → SoFar state text → Reads Outside bare text state s
-    → (tag : Tag) → IsTag text tag → ⊥
-not_whole {state} {text} s so_far reads tag is =
-    let whole = tag_on Outside bare (record bare { read = 1 }) [] false text tag 0 (length text) begins_outside
-    (omega arith) is in
-    let between = (whole.stands.whole refl).0 in
-    let one : sections_found false ten whole.next whole.behind (120 ∷ []) ≡ [] = sym (whole.reads false ten (120 ∷ []))
-    ∙ reads false ten (120 ∷ []) ∙ in_tag so_far s in
-    let bad : section_found ten whole.behind ∷ [] ≡ [] = subst (λ p. sections_found false ten p whole.behind (120 ∷ [])
-    ≡ []) between one in
-    cc
-
--- a beginning of a text with one more byte is all of it, or one of the text
-shorter : (text front back : List ℕ) (byte : ℕ) → text ++ byte ∷ [] ≡ front ++ back → (front ≡ text ++ byte ∷ [])
-    ⊎ ((more : List ℕ) × (text ≡ front ++ more))
-shorter text [] back byte e = inr (text, refl)
-shorter [] (x ∷ front) back byte e =
-    let head : byte ≡ x = cc in
-    let none : front ≡ [] = let tail : [] ≡ front ++ back = cc in nothing_joined front back tail in
-    inl (ap (λ l. x ∷ l) none ∙ ap (λ y. y ∷ []) (sym head))
-  where
-    nothing_joined : (xs ys : List ℕ) → [] ≡ xs ++ ys → xs ≡ []
-    nothing_joined [] ys h = refl
-    nothing_joined (y ∷ xs) ys h = let bad : [] ≡ y ∷ (xs ++ ys) = h in absurd (let worse : ⊥ = cc in worse)
-shorter (y ∷ text) (x ∷ front) back byte e =
-    let head : y ≡ x = cc in
-    let tail : text ++ byte ∷ [] ≡ front ++ back = cc in
-    elim (shorter text front back byte tail) [
-      | inl all ↦ inl (ap (λ l. x ∷ l) all ∙ ap (λ z. z ∷ (text ++ byte ∷ [])) (sym head))
-      | inr part ↦ inr (part.0, ap (λ z. z ∷ text) head ∙ ap (λ l. x ∷ l) part.1)
-    ]
-
-one_more : (text : List ℕ) (byte : ℕ) → NoTag text → ((tag : Tag) → IsTag (text ++ byte ∷ []) tag → ⊥)
-    → NoTag (text ++ byte ∷ [])
-one_more text byte none not_all front back tag e is = elim (shorter text front back byte e) [
-  | inl all ↦ not_all tag (subst (λ l. IsTag l tag) all is)
-  | inr part ↦ none front part.0 tag part.1 is
-]
-
-find_tag : (line : List ℕ) (state : State) (text : List ℕ) (s : Section) → SoFar state text
-    → Reads Outside bare text state s → list_all (λ byte. not (ends_line byte)) line ≡ true → NoTag text
-    → HasTag (text ++ line) ⊎ NoTag (text ++ line)
-find_tag [] state text s so_far reads in_line none = inr (subst NoTag (sym (append-nil text)) none)
-find_tag (byte ∷ line) state text s so_far reads in_line none =
-    let both = and_parts (not (ends_line byte)) (list_all (λ b. not (ends_line b)) line) in_line in
-    let joined : text ++ byte ∷ line ≡ (text ++ byte ∷ []) ++ line = sym (append_assoc text (byte ∷ []) line) in
-    elim (tag_goes_on byte (not-true _ both.0) so_far) [
-      | inl on ↦
-          let t = transition state byte in
-          let next = after t.action s in
-          let one : Reads state s (byte ∷ []) t.state next = λ at_end g more. ap (λ l. l
-          ++ sections_found at_end g t.state next more) (on.1.found (section_found g s)) in
-          let all : Reads Outside bare (text ++ byte ∷ []) t.state next = join_reads Outside state t.state bare s next
-          text (byte ∷ []) reads one in
-          subst (λ l. HasTag l ⊎ NoTag l) (sym joined) (find_tag line t.state (text ++ byte ∷ []) next on.0 all both.1
-          (one_more text byte none (not_whole next on.0 all)))
-      | inr whole ↦ inl (record {
-        front = text ++ byte ∷ [];
-        back = line;
-        tag = whole.0;
-        joined = joined;
-        is =
-            whole.1;
-      })
-    ]
-
-only_bracket : NoTag (91 ∷ [])
-only_bracket front back tag e is =
-    let sizes = ap length e in
-    let parts = length-append front back in
-    let some = is.some in
-    let whole = ap length is.joined in
-    let l1 = length-append is.first (tag.name ++ (is.middle ++ 34 ∷ (is.spelling ++ 34 ∷ (is.last ++ 93 ∷ [])))) in
-    let l2 = length-append tag.name (is.middle ++ 34 ∷ (is.spelling ++ 34 ∷ (is.last ++ 93 ∷ []))) in
-    absurd (omega (arith, sizes, parts, some, whole, l1, l2))
-
 -- a whole tag, or its line, which is unclosed
 record FrontTag (text : List ℕ) : Type 0 where
   pub front : List ℕ
@@ -204,12 +99,11 @@ front_tag : (line : List ℕ) → FrontTag (91 ∷ line)
 front_tag line =
     let c = cut (λ byte. not (ends_line byte)) line in
     let joined : 91 ∷ line ≡ (91 ∷ c.front) ++ c.back = ap (λ l. 91 ∷ l) c.joined in
-    elim (find_tag c.front BeforeName (91 ∷ []) (record bare { read = 1 }) (before [] refl) begins_outside.reads c.all
-    only_bracket) [
+    elim (tag_or_none c.front) [
       | inl has ↦ record {
-        front = has.front;
-        back = has.back ++ c.back;
-        joined = joined ∙ ap (λ l. l ++ c.back) has.joined ∙ append_assoc has.front has.back c.back;
+        front = has.text;
+        back = has.more ++ c.back;
+        joined = joined ∙ ap (λ l. l ++ c.back) has.joined ∙ append_assoc has.text has.more c.back;
         is = inl (has.tag, has.is);
       }
       | inr none ↦ record {

@@ -1,4 +1,5 @@
 pub mod Streams
+pub mod Buffering
 pub mod Endpoints
 pub mod Writes
 pub mod Text
@@ -8,7 +9,9 @@ pub mod TextLines
 pub mod Tags
 pub mod WholeTexts
 pub mod TagLaws
+pub mod ReadTags
 pub mod Problems
+pub mod Numbering
 pub mod Reading
 pub mod MoveReading
 pub mod MoveReadingLaws

@@ -6,6 +6,7 @@ pub mod Held
 pub mod Sections
 pub mod HeldSection
 pub mod Tags
+pub mod TagReading
 pub mod Pieces
 pub mod Problems
 pub mod Cutting

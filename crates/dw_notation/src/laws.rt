@@ -1,6 +1,6 @@
 //! Laws of the definitions, each the contract of a function that does nothing.
 ghost use Rattle.dw_notation.specs.Problems.{TextsHaveProblems, EndedComeFirst};
-ghost use Rattle.dw_notation.specs.TagLaws.{TextsOfTagsSay};
+ghost use Rattle.dw_notation.specs.TagLaws.{TextsOfTagsSay, OneTagAtFront};
 ghost use Rattle.dw_notation.specs.TextLaws.{MovesHaveTexts, EndsTell, LinesHaveTexts};
 ghost use Rattle.dw_notation.specs.MoveReadingLaws.{NamesOneThing, HasOneAnswer, WrittenMoveIsNamed, WrittenMoveIsRead};
 
@@ -19,6 +19,12 @@ pub fn texts_of_tags_say()
 {
     dw_board::laws::reading_is_grammar();
 }
+
+/// Each text begins with one whole tag, which `read_tag` reads of it, or with none.
+/// Example: `[A "1"] [B "2"]` begins with `[A "1"]` and with no other tag.
+pub fn one_tag_at_front()
+    ensures { OneTagAtFront }
+{}
 
 /// The problems that end in a text come first among those of each text that begins so, under the same numbers.
 /// Example: a line that ends is problem 1 of `W:W32:B28` and a line feed, whatever follows.

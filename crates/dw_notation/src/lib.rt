@@ -1,7 +1,7 @@
-//! Texts of draughts: where bytes come from and go, and the problems of a byte text.
+//! Texts of draughts: where bytes come from and go, and the problems and the tags of a byte text.
 //!
 //! Everything is generic over the board. Memory is taken by `text_in`, `line_text` and `LineText`, which list the legal
-//! moves if a capture takes several pieces, and by `read_move` at two squares joined by `x`.
+//! moves if a capture takes several pieces, by `read_move` at two squares joined by `x`, and by `read_tag` for a value.
 //!
 //! Begin with `Problems`, which reads the problems of a `Source`, and with `move_text::move_text`,
 //! `line_text::line_text` and `read_move::read_move`.
@@ -9,17 +9,20 @@
 //! An example tells a position by its FEN text, on the board of ten rows if it names no other.
 #![tactic(auto)]
 
+pub mod bytes;
 pub mod laws;
 pub mod line_text;
 pub mod move_text;
 pub mod problems;
 pub mod read_move;
 pub mod streams;
+pub mod tags;
 pub mod writes;
 
 pub use line_text::{LINE_ROOM, LineText, MAX_MOVES};
 pub use move_text::{MAX_MOVE_TEXT, MOVE_ROOM, text_in};
-pub use problems::{Form, Problem, ProblemFault, Problems, ReadFault, SectionReader};
+pub use problems::{Form, Numbering, Problem, ProblemFault, Problems, ReadFault, SectionReader};
 pub use read_move::MoveFault;
-pub use streams::{Reading, Sink, Source, Writing};
+pub use streams::{Buffer, Reading, Sink, Source, Writing};
+pub use tags::{Tag, read_tag};
 pub use writes::{WriteFault, write_all};

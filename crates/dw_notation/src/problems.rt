@@ -4,11 +4,13 @@
 //! value, and a few more that say what is known of a longer line or hold the name of a tag.
 
 mod fens;
-mod pdn;
+mod numbering;
+pub(crate) mod pdn;
 mod reader;
 mod section_reader;
 
 use dw_board::{Board, FenFault, MAX_FEN, Position};
+pub use numbering::Numbering;
 pub use reader::Problems;
 pub use section_reader::SectionReader;
 use thiserror::Error;

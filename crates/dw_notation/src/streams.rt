@@ -3,9 +3,11 @@ ghost use Rattle.std.specs.Prelude.{◌≡◌, ℕ, ◌<◌, ◌||◌, List, Boo
 ghost use Rattle.std.specs.Prelude.{Option};
 ghost use Rattle.dw_notation.specs.Streams.{PullTakes, PullEnds, PullFalls, GiveAdds, GiveFails};
 
+mod buffer;
 mod reading;
 mod writing;
 
+pub use buffer::Buffer;
 pub use reading::{MAX_READS, Reading};
 pub use writing::Writing;
 

@@ -1,11 +1,11 @@
 -- The bytes of each class.
 use Rattle.std.specs.Prelude.{ℕ, Bool}
-use Rattle.dw_board.specs.FenTokens.{is_digit, is_blank}
-use Rattle.dw_notation.specs.Tags.{is_space, is_name_byte}
+use Rattle.dw_board.specs.FenTokens.{is_digit}
+use Rattle.dw_notation.specs.Tags.{is_space}
 use Rattle.dw_games.specs.Tokens.{is_dot, is_praise, is_written, is_inside, is_in_line}
 use Rattle.dw_games.specs.declared.class.Class.{Class}
 use Rattle.dw_games.specs.declared.class.Class.TheVariants.{Digit, Dot, Praise, Written, Inside, InLine}
-use Rattle.dw_games.specs.declared.class.Class.TheVariants.{Blank, Name, Space}
+use Rattle.dw_games.specs.declared.class.Class.TheVariants.{Space}
 
 -- whether a byte is of a class
 abbrev pub test_of : Class → ℕ → Bool
@@ -15,6 +15,4 @@ test_of Praise = is_praise
 test_of Written = is_written
 test_of Inside = is_inside
 test_of InLine = is_in_line
-test_of Blank = is_blank
-test_of Name = is_name_byte
 test_of Space = is_space

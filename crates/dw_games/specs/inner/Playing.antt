@@ -7,10 +7,9 @@ use Rattle.dw_notation.specs.WholeTexts.{IsOpen}
 use Rattle.dw_notation.specs.declared.problems.ProblemFault.TheVariants.{UnclosedComment}
 use Rattle.dw_games.specs.Games.{Said, said_with, HasGames}
 use Rattle.dw_games.specs.GameReading.{is_failure}
-use Rattle.dw_games.specs.inner.Inputs.{unread_of, Passes}
+use Rattle.dw_notation.specs.Buffering.{Input, Passes}
 use Rattle.dw_games.specs.inner.Keeping.{IsKept}
 use Rattle.dw_games.specs.declared.games.GameFault.{GameFault}
-use Rattle.dw_games.specs.declared.input.Input.{Input}
 use Rattle.dw_games.specs.declared.bounded_buf.BoundedBuf.{BoundedBuf}
 use Rattle.dw_games.specs.declared.play.PlayEnd.{PlayEnd}
 use Rattle.dw_games.specs.declared.play.PlayEnd.TheVariants.{Section, Text, Open}
@@ -44,9 +43,9 @@ Follows g Open text games = (text ≡ []) × (games ≡ unclosed ∷ [])
 
 -- what is known where bytes without a section end
 abbrev pub EndsAt : {S : Type 0} → PlayEnd → Input S → Type 0
-EndsAt Section input = unread_of input ≡ open_bracket ∷ drop 1 (unread_of input)
-EndsAt Text input = (unread_of input ≡ []) × (input.met_end ≡ true)
-EndsAt Open input = (unread_of input ≡ []) × (input.met_end ≡ true)
+EndsAt Section input = input.unread ≡ open_bracket ∷ drop 1 input.unread
+EndsAt Text input = (input.unread ≡ []) × (input.met_end ≡ true)
+EndsAt Open input = (input.unread ≡ []) × (input.met_end ≡ true)
 
 -- bytes without a section are passed and kept
 pub record ReadsPlay {S : Type 0} (coming : S → Option (List ℕ)) (has_ended is_failed : S → Bool) (pulls : S → ℕ)
@@ -55,7 +54,7 @@ pub record ReadsPlay {S : Type 0} (coming : S → Option (List ℕ)) (has_ended 
   pub passes : Passes coming has_ended is_failed pulls old new passed (is_failure result)
   pub kept : OnOk result ((limit : ℕ) (text : List ℕ) → IsKept limit text before → IsKept limit (text ++ passed) after)
   pub said : IfOk result (λ end. (g : Geometry) (bytes : List ℕ) (games : List Said)
-      → Follows g end (unread_of new ++ bytes) games → HasGames g (passed ++ (unread_of new ++ bytes)) passed games)
+      → Follows g end (new.unread ++ bytes) games → HasGames g (passed ++ (new.unread ++ bytes)) passed games)
   pub ends : IfOk result (λ end. EndsAt end new)
 
 -- so far bytes without a section were passed and kept

@@ -11,10 +11,9 @@ use Rattle.dw_notation.specs.declared.problems.TheConstants.{MAX_SECTION}
 use Rattle.dw_notation.specs.declared.problems.section_reader.SectionReader.{SectionReader}
 use Rattle.dw_games.specs.Games.{Said, said_with, HasGames}
 use Rattle.dw_games.specs.GameReading.{is_failure}
-use Rattle.dw_games.specs.inner.Inputs.{unread_of, Passes}
+use Rattle.dw_notation.specs.Buffering.{Input, Passes}
 use Rattle.dw_games.specs.inner.Keeping.{IsKept, spaces_on, row_of}
 use Rattle.dw_games.specs.declared.games.GameFault.{GameFault}
-use Rattle.dw_games.specs.declared.input.Input.{Input}
 use Rattle.dw_games.specs.declared.bounded_buf.BoundedBuf.{BoundedBuf}
 
 -- bytes that are a section and the gap behind it, which this byte ends
@@ -75,6 +74,6 @@ pub record ReadsSection {S : Type 0} (g : Geometry) (coming : S → Option (List
   pub kept : OnOk result ((limit : ℕ) → IsKept limit [] before → IsKept limit (spaces_on [] passed) after)
   pub ends : IfOk result (λ said. MatchOption said ⊥ (λ found. EndsWell found passed))
   pub said : IfOk result (λ said. MatchOption said ⊥ (λ found. (bytes front : List ℕ) (games : List Said)
-      → (new.met_end ≡ true → bytes ≡ []) → HasGames g (unread_of new ++ bytes) front games
-      → HasGames g (passed ++ (unread_of new ++ bytes)) []
+      → (new.met_end ≡ true → bytes ≡ []) → HasGames g (new.unread ++ bytes) front games
+      → HasGames g (passed ++ (new.unread ++ bytes)) []
       (said_with found (row_of passed) (spaces_on [] passed ++ front) ∷ games)))

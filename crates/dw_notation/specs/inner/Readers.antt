@@ -3,14 +3,14 @@ use Rattle.std.specs.Prelude.{ℕ, List, Bool}
 use Rattle.dw_board.specs.Geometry.{Geometry}
 use Rattle.dw_notation.specs.TextLines.{Found}
 use Rattle.dw_notation.specs.Reading.{Reader}
-use Rattle.dw_notation.specs.inner.Cutting.{reader_at}
+use Rattle.dw_notation.specs.inner.Cutting.{progress_of, reader_at}
 use Rattle.dw_notation.specs.inner.HeldSection.{sections_ahead}
 use Rattle.dw_notation.specs.declared.problems.reader.Problems.{Problems}
 use Rattle.dw_notation.specs.declared.problems.section_reader.SectionReader.{SectionReader}
 
 -- Sealed: the clauses of public calls name it, and say all that is to be known of it.
 unfoldable pub reader_of : {B S : Type 0} → Problems B S → Reader
-reader_of problems = reader_at problems.cutter
+reader_of problems = reader_at (progress_of problems)
 
 -- Sealed: the clauses of public calls name it, and say all that is to be known of it. It is what is said by the bytes
 -- that a reader was given and by these, as far as it was not told yet.

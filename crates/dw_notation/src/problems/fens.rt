@@ -12,20 +12,14 @@ ghost use Rattle.dw_notation.specs.inner.Ahead.{found_from, behind_mark};
 ghost use Rattle.dw_notation.specs.inner.Ahead.{passed_over, is_behind};
 
 use super::{MAX_LINE, PAST_FEN, ProblemFault};
+use crate::bytes::is_blank;
 use arrayvec::ArrayVec;
 use dw_board::{Board, FenFault, FenFaultKind, Position, read_fen};
-
-/// A space or a tab.
-pub(super) fn is_blank_byte(byte: u8) -> bool
-    ensures { result ≡ is_blank byte }
-{
-    byte == b' ' || byte == b'\t'
-}
 
 fn is_blank_text(text: &[u8]) -> bool
     ensures { result ≡ list_all is_blank text.now }
 {
-    text.iter().all(|byte| is_blank_byte(*byte))
+    text.iter().all(|byte| is_blank(*byte))
 }
 
 /// The line without one carriage return at its end.
@@ -121,7 +115,7 @@ impl LongLine {
         requires { 0 < length piece.now }
         ensures { SaysSame (long_bytes self ++ piece.now) (long_bytes result) }
     {
-        let is_blank = self.is_blank && is_blank_byte(self.last);
+        let is_blank = self.is_blank && is_blank(self.last);
         LongLine::new(self.len, is_blank, piece)
     }
 
@@ -132,7 +126,7 @@ impl LongLine {
         if self.last == b'\r' {
             return read_long_text(self.len - 1, self.is_blank);
         }
-        let is_blank = self.is_blank && is_blank_byte(self.last);
+        let is_blank = self.is_blank && is_blank(self.last);
         read_long_text(self.len, is_blank)
     }
 }

@@ -5,7 +5,7 @@ ghost use Rattle.std.specs.List.{position};
 ghost use Rattle.dw_board.specs.Geometry.{Geometry};
 ghost use Rattle.dw_notation.specs.inner.Tags.{opens, closes};
 
-mod automaton;
+pub(crate) mod automaton;
 mod section;
 
 use super::ProblemFault;

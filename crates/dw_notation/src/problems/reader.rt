@@ -6,8 +6,8 @@ ghost use Rattle.dw_board.specs.Geometry.{Geometry};
 
 use super::fens::TextLines;
 use super::pdn::Sections;
-use super::{Form, MAX_PROBLEMS, MAX_READ, Problem, ProblemFault, ReadFault};
-use crate::streams::Source;
+use super::{Form, MAX_PROBLEMS, Numbering, Problem, ProblemFault, ReadFault};
+use crate::streams::{Buffer, Source};
 use dw_board::{Board, Position};
 use std::marker::PhantomData;
 
@@ -81,163 +81,28 @@ impl Pieces {
     }
 }
 
-/// What was read of a text and not yet handed out. It holds 2,048 bytes of input and those of its piece.
-#[derive(Drop)]
-struct Cutter {
-    buffer: [u8; MAX_READ],
-    start: usize,
-    end: usize,
-    pieces: Pieces,
-    handed: u32,
-    met_end: bool,
-    ghost ordered: { start ≤ end },
-    ghost in_buffer: { end ≤ 2048 },
-}
-
-impl Cutter {
-    ghost use Rattle.dw_notation.specs.Problems.{number_from};
-    ghost use Rattle.dw_notation.specs.inner.Problems.{found_of, numbered_in};
-    ghost use Rattle.dw_notation.specs.inner.Pieces.{pieces_ahead, pieces_behind};
-    ghost use Rattle.dw_notation.specs.inner.Cutting.{EndIsKnown, IsFilled, rest_of, found_ahead, found_behind};
-    ghost use Rattle.dw_notation.specs.inner.Cutting.{found_cut};
-
-    /// Nothing was read.
-    fn new(form: Form) -> Cutter
-        ensures ahead { (over : Bool) (g : Geometry) (bytes : List ℕ)
-            → found_ahead over g result bytes ≡ found_of over g form bytes }
-        ensures handed { result.handed ≡ 0 }
-        ensures met_end { result.met_end ≡ false }
-    {
-        Cutter {
-            buffer: [0; MAX_READ],
-            start: 0,
-            end: 0,
-            pieces: Pieces::new(form),
-            handed: 0,
-            met_end: false,
-        }
-    }
-
-    fn handed(&self) -> u32
-        ensures { result ≡ self.now.handed }
-    {
-        self.handed
-    }
-
-    fn met_end(&self) -> bool
-        ensures { result ≡ self.now.met_end }
-    {
-        self.met_end
-    }
-
-    /// Cuts off a piece that ends in what was read, and answers whether there is one.
-    fn cut(&mut self) -> bool
-        ensures handed { self.new.handed ≡ self.old.handed }
-        ensures met_end { self.new.met_end ≡ self.old.met_end }
-        ensures found { result ≡ true → ((g : Geometry) (at_end : Bool) (more : List ℕ) →
-            found_ahead at_end g self.old more ≡ found_cut g self.new ++ found_behind at_end g self.new more) }
-        ensures shorter { result ≡ true → length (rest_of self.new) < length (rest_of self.old) }
-        ensures none { result ≡ false → rest_of self.new ≡ [] }
-        ensures same { result ≡ false → ((g : Geometry) (at_end : Bool) (more : List ℕ)
-            → found_ahead at_end g self.old more ≡ found_ahead at_end g self.new more) }
-    {
-        let Cutter {
-            ref buffer,
-            ref mut start,
-            end,
-            ref mut pieces,
-            ..
-        } = *self;
-        match pieces.cut(&buffer[*start..end]) {
-            Some(place) => {
-                *start += place + 1;
-                true
-            }
-            None => {
-                *start = end;
-                false
-            }
-        }
-    }
-
-    /// Cuts off the last piece of the text, which its end ends.
-    fn finish(&mut self)
-        ensures found { (g : Geometry) → pieces_ahead true g self.old.pieces [] ≡ found_cut g self.new }
-        ensures over { (g : Geometry) → pieces_behind true g self.new.pieces [] ≡ [] }
-        ensures rest { rest_of self.new ≡ rest_of self.old }
-        ensures handed { self.new.handed ≡ self.old.handed }
-        ensures met_end { self.new.met_end ≡ self.old.met_end }
-    {
-        self.pieces.finish();
-    }
-
-    /// Reads on, or meets the end of the text.
-    fn fill<S: Source>(&mut self, source: &mut S) -> Result<(), ReadFault>
-        requires rest { rest_of self.old ≡ [] }
-        requires met_end { self.old.met_end ≡ false }
-        ensures filled { IsFilled (S.coming source.old) (S.coming source.new) self.old self.new result }
-        ensures more { OnOk result (MatchBool self.new.met_end
-            (S.pulls_left source.new ≤ S.pulls_left source.old)
-            (S.pulls_left source.new < S.pulls_left source.old)) }
-        ensures end { EndIsKnown (S.coming source.new) (S.has_ended source.new) self.new }
-        ensures failed { S.is_failed source.new ≡ (S.is_failed source.old || is_err result) }
-        ensures again { S.is_failed source.old ≡ true → IsErr result }
-    {
-        self.start = 0;
-        self.end = 0;
-        match source.pull(&mut self.buffer) {
-            None => Err(ReadFault::Failed),
-            Some(count) => {
-                self.end = count;
-                self.met_end = count == 0;
-                Ok(())
-            }
-        }
-    }
-
-    /// Hands out what the piece that was cut off says, if it is a problem, and forgets it.
-    fn hand_out<B: Board>(&mut self) -> Option<Problem<B>>
-        requires { self.old.handed ≤ MAX_PROBLEMS }
-        ensures ahead { (g : Geometry) (at_end : Bool) (more : List ℕ)
-            → pieces_behind at_end g self.old.pieces more ≡ pieces_ahead at_end g self.new.pieces more }
-        ensures rest { rest_of self.new ≡ rest_of self.old }
-        ensures met_end { self.new.met_end ≡ self.old.met_end }
-        ensures handed { self.new.handed ≡ self.old.handed + length (option_to_list result) }
-        ensures number { IfSome result (λ problem. problem.number ≡ self.new.handed) }
-        ensures given { (found : _)
-            → number_from self.old.handed (found_cut B.geometry self.old ++ found)
-            ≡ numbered_in result ++ number_from self.new.handed found }
-    {
-        let found = self.pieces.found();
-        self.pieces.clear();
-        let found = found?;
-        let found = if self.handed < MAX_PROBLEMS {
-            found
-        } else {
-            Err(ProblemFault::TooManyProblems)
-        };
-        self.handed += 1;
-        Some(Problem {
-            number: self.handed,
-            found,
-        })
-    }
-}
-
 /// The problems of a source, each cut out of the bytes as they are read. It takes no memory, and of its
 /// input it holds at most 4,096 bytes.
 /// See [`Problems::next`] for an example.
 #[derive(Drop)]
 pub struct Problems<'a, B: Board, S> {
     source: &'a mut S,
-    cutter: Cutter,
+    buffer: Buffer,
+    pieces: Pieces,
+    numbers: Numbering,
     board: PhantomData<B>,
 }
 
 impl<'a, B: Board, S: Source> Problems<'a, B, S> {
-    ghost use Rattle.dw_notation.specs.Problems.{AreProblems};
+    ghost use Rattle.dw_notation.specs.Buffering.{unread_in, met_end_in, EndIsKnown};
+    ghost use Rattle.dw_notation.specs.Buffering.{weight};
+    ghost use Rattle.dw_notation.specs.Numbering.{handed_out};
+    ghost use Rattle.dw_notation.specs.Problems.{AreProblems, number_from};
     ghost use Rattle.dw_notation.specs.Reading.{lender, source_of, NextGives, EndIsTrue, HasStopped, IsCounted};
-    ghost use Rattle.dw_notation.specs.inner.Cutting.{IsStarved, ReadsPiece, EndIsKnown, weight};
+    ghost use Rattle.dw_notation.specs.inner.Problems.{numbered_in};
+    ghost use Rattle.dw_notation.specs.inner.Pieces.{pieces_ahead, pieces_behind};
+    ghost use Rattle.dw_notation.specs.inner.Cutting.{progress_of, found_ahead, found_behind, found_cut};
+    ghost use Rattle.dw_notation.specs.inner.Cutting.{IsStarved, ReadsPiece};
     ghost use Rattle.dw_notation.specs.inner.Readers.{reader_of};
 
     /// A reader of all problems that the source has still to give.
@@ -255,40 +120,86 @@ impl<'a, B: Board, S: Source> Problems<'a, B, S> {
         dw_board::laws::reading_is_grammar();
         Problems {
             source,
-            cutter: Cutter::new(form),
+            buffer: Buffer::new(),
+            pieces: Pieces::new(form),
+            numbers: Numbering::new(),
             board: PhantomData,
+        }
+    }
+
+    /// Cuts off a piece that ends in what was read, and says whether there is one.
+    fn cut(&mut self) -> bool
+        ensures source { self.new.source ≡ self.old.source }
+        ensures met_end { met_end_in self.new.buffer ≡ met_end_in self.old.buffer }
+        ensures numbers { self.new.numbers ≡ self.old.numbers }
+        ensures found { result ≡ true → ((g : Geometry) (at_end : Bool) (more : List ℕ)
+            → found_ahead at_end g (progress_of self.old) more
+            ≡ found_cut g (progress_of self.new) ++ found_behind at_end g (progress_of self.new) more) }
+        ensures shorter { result ≡ true → length (unread_in self.new.buffer) < length (unread_in self.old.buffer) }
+        ensures none { result ≡ false → unread_in self.new.buffer ≡ [] }
+        ensures same { result ≡ false → ((g : Geometry) (at_end : Bool) (more : List ℕ)
+            → found_ahead at_end g (progress_of self.old) more ≡ found_ahead at_end g (progress_of self.new) more) }
+    {
+        let bytes = self.buffer.unread();
+        let count = bytes.len();
+        match self.pieces.cut(bytes) {
+            Some(place) => {
+                self.buffer.consume(place + 1);
+                true
+            }
+            None => {
+                self.buffer.consume(count);
+                false
+            }
         }
     }
 
     /// Reads up to the end of a piece, and answers whether it ends before the text does.
     fn next_piece(&mut self) -> Result<bool, ReadFault>
         ensures lender { lender self.new ≡ lender self.old }
-        ensures handed { self.new.cutter.handed ≡ self.old.cutter.handed }
+        ensures numbers { self.new.numbers ≡ self.old.numbers }
         ensures piece { ReadsPiece (S.coming (source_of self.old)) (S.coming (source_of self.new))
-            self.old.cutter self.new.cutter result }
-        ensures end { EndIsKnown (S.coming (source_of self.old)) (S.has_ended (source_of self.old)) self.old.cutter
-            → EndIsKnown (S.coming (source_of self.new)) (S.has_ended (source_of self.new)) self.new.cutter }
+            (progress_of self.old) (progress_of self.new) result }
+        ensures end { EndIsKnown (S.coming (source_of self.old)) (S.has_ended (source_of self.old))
+            (met_end_in self.old.buffer)
+            → EndIsKnown (S.coming (source_of self.new)) (S.has_ended (source_of self.new))
+            (met_end_in self.new.buffer) }
         ensures failed { S.is_failed (source_of self.new) ≡ (S.is_failed (source_of self.old) || is_err result) }
-        ensures stays { self.old.cutter.met_end ≡ true → self.new.cutter.met_end ≡ true }
-        ensures again { S.is_failed (source_of self.old) ≡ true → IsStarved self.old.cutter
-            → IsErr result }
+        ensures stays { met_end_in self.old.buffer ≡ true → met_end_in self.new.buffer ≡ true }
+        ensures again { S.is_failed (source_of self.old) ≡ true → IsStarved (progress_of self.old) → IsErr result }
         ensures falls { result ≡ Ok true
-            → weight (S.pulls_left (source_of self.new)) self.new.cutter
-            < weight (S.pulls_left (source_of self.old)) self.old.cutter }
+            → weight (S.pulls_left (source_of self.new)) (unread_in self.new.buffer)
+            < weight (S.pulls_left (source_of self.old)) (unread_in self.old.buffer) }
     {
         'reads: loop {
-            if self.cutter.cut() {
-                return Ok(true);
-            }
-            if self.cutter.met_end() {
-                self.cutter.finish();
+            self.buffer.fill(self.source)?;
+            if self.buffer.unread().is_empty() {
+                self.pieces.finish();
                 return Ok(false);
             }
-            match self.cutter.fill(self.source) {
-                Err(fault) => return Err(fault),
-                Ok(()) => {}
+            if self.cut() {
+                return Ok(true);
             }
         }
+    }
+
+    /// Hands out what the piece that was cut off says, if it is a problem, and forgets it.
+    fn hand_out(&mut self) -> Option<Problem<B>>
+        requires { handed_out self.old.numbers ≤ MAX_PROBLEMS }
+        ensures source { self.new.source ≡ self.old.source }
+        ensures buffer { self.new.buffer ≡ self.old.buffer }
+        ensures ahead { (g : Geometry) (at_end : Bool) (more : List ℕ)
+            → pieces_behind at_end g self.old.pieces more ≡ pieces_ahead at_end g self.new.pieces more }
+        ensures handed { handed_out self.new.numbers
+            ≡ handed_out self.old.numbers + length (option_to_list result) }
+        ensures number { IfSome result (λ problem. problem.number ≡ handed_out self.new.numbers) }
+        ensures given { (found : _)
+            → number_from (handed_out self.old.numbers) (found_cut B.geometry (progress_of self.old) ++ found)
+            ≡ numbered_in result ++ number_from (handed_out self.new.numbers) found }
+    {
+        let found = self.pieces.found();
+        self.pieces.clear();
+        Some(self.numbers.hand_out(found?))
     }
 
     /// The next problem, or `None` if the text has no more. `Failed` is the source's fault: no problem
@@ -311,13 +222,13 @@ impl<'a, B: Board, S: Source> Problems<'a, B, S> {
         ensures counted { IsCounted (reader_of self.old) (reader_of self.new) result }
     {
         'pieces: loop {
-            if self.cutter.handed() > MAX_PROBLEMS {
+            if self.numbers.is_over() {
                 return Ok(None);
             }
             match self.next_piece() {
                 Err(fault) => return Err(fault),
                 Ok(is_whole) => {
-                    if let Some(problem) = self.cutter.hand_out() {
+                    if let Some(problem) = self.hand_out() {
                         return Ok(Some(problem));
                     }
                     if !is_whole {

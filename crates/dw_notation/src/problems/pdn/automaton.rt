@@ -7,14 +7,13 @@
 //! its line. In a value a backslash stands before a quotation mark or a backslash; before any other byte
 //! it stands for itself.
 ghost use Rattle.std.specs.Prelude.{◌≡◌};
-ghost use Rattle.dw_notation.specs.Tags.{is_name_byte, ends_line};
 ghost use Rattle.dw_notation.specs.inner.Sections.{transition, broken_by};
 
-use super::super::fens::is_blank_byte;
+use crate::bytes::{ends_line, is_blank, is_name_byte, is_space};
 
 /// Where a text of tags stands.
 #[derive(Clone, Copy)]
-pub(super) enum State {
+pub(crate) enum State {
     Outside,
     Comment,
     /// Behind a tag of a section.
@@ -32,7 +31,7 @@ pub(super) enum State {
 
 /// What a byte does to a section.
 #[derive(Clone, Copy)]
-pub(super) enum Action {
+pub(crate) enum Action {
     /// It is none of the section.
     Keep,
     /// It opens a section.
@@ -58,21 +57,9 @@ pub(super) enum Action {
 
 /// Where a byte leads, and what it does.
 #[derive(Clone, Copy)]
-pub(super) struct Transition {
-    pub(super) state: State,
-    pub(super) action: Action,
-}
-
-fn is_name_byte(byte: u8) -> bool
-    ensures { result ≡ is_name_byte byte }
-{
-    byte.is_ascii_alphanumeric() || byte == b'_'
-}
-
-fn ends_line(byte: u8) -> bool
-    ensures { result ≡ ends_line byte }
-{
-    byte == b'\n' || byte == b'\r'
+pub(crate) struct Transition {
+    pub(crate) state: State,
+    pub(crate) action: Action,
 }
 
 fn at(state: State, action: Action) -> Transition
@@ -117,7 +104,7 @@ fn step_between(byte: u8) -> Transition
 {
     if byte == b'[' {
         at(State::BeforeName, Action::NextTag)
-    } else if is_blank_byte(byte) || ends_line(byte) {
+    } else if is_space(byte) {
         at(State::Between, Action::Count)
     } else if byte == b'{' {
         at(State::Comment, Action::End)
@@ -129,7 +116,7 @@ fn step_between(byte: u8) -> Transition
 fn step_before_name(byte: u8) -> Transition
     ensures { result ≡ transition State.BeforeName byte }
 {
-    if is_blank_byte(byte) {
+    if is_blank(byte) {
         at(State::BeforeName, Action::Count)
     } else if is_name_byte(byte) {
         at(State::InName, Action::AddName(byte))
@@ -143,7 +130,7 @@ fn step_in_name(byte: u8) -> Transition
 {
     if is_name_byte(byte) {
         at(State::InName, Action::AddName(byte))
-    } else if is_blank_byte(byte) {
+    } else if is_blank(byte) {
         at(State::BehindName, Action::Count)
     } else if byte == b'"' {
         at(State::InValue, Action::OpenValue)
@@ -155,7 +142,7 @@ fn step_in_name(byte: u8) -> Transition
 fn step_behind_name(byte: u8) -> Transition
     ensures { result ≡ transition State.BehindName byte }
 {
-    if is_blank_byte(byte) {
+    if is_blank(byte) {
         at(State::BehindName, Action::Count)
     } else if byte == b'"' {
         at(State::InValue, Action::OpenValue)
@@ -193,7 +180,7 @@ fn step_escaped(byte: u8) -> Transition
 fn step_behind_value(byte: u8) -> Transition
     ensures { result ≡ transition State.BehindValue byte }
 {
-    if is_blank_byte(byte) {
+    if is_blank(byte) {
         at(State::BehindValue, Action::Count)
     } else if byte == b']' {
         at(State::Between, Action::Close)
@@ -214,7 +201,7 @@ fn step_rest(byte: u8) -> Transition
 
 impl State {
     /// Where the next byte leads, and what it does.
-    pub(super) fn transition(self, byte: u8) -> Transition
+    pub(crate) fn transition(self, byte: u8) -> Transition
         ensures { result ≡ transition self byte }
     {
         match self {

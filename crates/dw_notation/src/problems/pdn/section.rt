@@ -4,9 +4,9 @@ ghost use Rattle.dw_notation.specs.inner.Sections.{kind_of};
 ghost use Rattle.dw_notation.specs.Tags.{same_name};
 ghost use Rattle.dw_notation.specs.inner.HeldSection.{game_on, number_held, counted};
 
-use super::super::fens::is_blank_byte;
 use super::super::{MAX_SECTION, PAST_FEN, ProblemFault};
 use super::automaton::Action;
+use crate::bytes::is_blank;
 use arrayvec::ArrayVec;
 use dw_board::{Board, Position, read_fen};
 
@@ -85,7 +85,7 @@ impl Game {
 fn first_of_game(byte: u8) -> Game
     ensures { result ≡ game_on Game.Before byte }
 {
-    if is_blank_byte(byte) {
+    if is_blank(byte) {
         Game::Before
     } else if byte.is_ascii_digit() {
         Game::Within(byte - b'0')

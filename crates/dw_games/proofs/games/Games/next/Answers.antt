@@ -1,5 +1,10 @@
-use Rattle.dw_games.proofs.HandLemmas.{open_given}
+use Rattle.std.proofs.Common.{◌∙◌, sym}
+use Rattle.dw_games.proofs.HandLemmas.{over_given, open_given}
 use Rattle.dw_games.proofs.games.Games.next.Goals as goal
+
+pub returns-then-is_over-clause-given : goal.returns-then-is_over-clause-given
+returns-then-is_over-clause-given g c = over_given c.texts_of_tags_say.ensures g.B.Board.geometry g.S.Source.coming
+    c.args.self.now (sym c.is_over.ensures ∙ c.if-is_over.true)
 
 pub returns-in-Open-clause-given : goal.returns-in-Open-clause-given
 returns-in-Open-clause-given g c =

@@ -1,5 +1,6 @@
 use Rattle.std.proofs.Common.{refl}
 use Rattle.std.proofs.lemmas.Result.{err_from_is_err_and}
+use Rattle.dw_notation.specs.Buffering.{input_of}
 use Rattle.dw_games.proofs.HandLemmas.{ReadsGame-fault, ReadsGame-front, ReadsGame-open, ReadsGame-end}
 use Rattle.dw_games.proofs.games.Games.read_on.Goals as goal
 
@@ -21,7 +22,7 @@ pub returns-in-Open-clause-reads : goal.returns-in-Open-clause-reads
 returns-in-Open-clause-reads g c =
     let s = g.S.Source in
     ReadsGame-open g.B.Board.geometry s.coming s.has_ended s.is_failed s.pulls_left c.texts_of_tags_say.ensures _
-    c.hand_out_open.new.self c.scan_to_section.new.input c.new-front.result c.scan_to_section.new.kept c.hand_out_open.result
+    c.hand_out_open.new.self (input_of c.scan_to_section.new.source c.scan_to_section.new.buffer) c.new-front.result c.scan_to_section.new.kept c.hand_out_open.result
     (rw c.in-Open.is at c.in_ok-scan_to_section.ensures) c.hand_out_open.ensures.input c.hand_out_open.ensures.stage
     c.hand_out_open.ensures.given
 

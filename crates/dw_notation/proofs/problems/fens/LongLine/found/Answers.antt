@@ -17,7 +17,7 @@ returns g c =
     let long = c.args.self in
     let blank : (long.is_blank && is_blank long.last) ≡ c.if-self.is_blank = elim c.if-self.branch [
       | then-self w ↦ ap (λ b. b && is_blank long.last) w.if-self.true
-          ∙ sym (w.is_blank-is ∙ w.is_blank_byte-is_blank.ensures)
+          ∙ sym (w.is_blank-is ∙ w.is_blank-is_blank.ensures)
       | else-self w ↦ ap (λ b. b && is_blank long.last) w.if-self.false ∙ sym (w.is_blank-is ∙ w.if-self.false)
     ] in
     c.read_long_text-2.ensures ∙ ap (long_text_found long.len) (sym blank)

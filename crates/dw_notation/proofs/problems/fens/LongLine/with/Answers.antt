@@ -11,7 +11,7 @@ returns c =
     let size = length-padded long.is_blank long.len long.last in
     let blank : (long.is_blank && is_blank long.last) ≡ c.if-self.is_blank = elim c.if-self.branch [
       | then-self w ↦ ap (λ b. b && is_blank long.last) w.if-self.true
-          ∙ sym (w.is_blank-is ∙ w.is_blank_byte-is_blank.ensures)
+          ∙ sym (w.is_blank-is ∙ w.is_blank-is_blank.ensures)
       | else-self w ↦ ap (λ b. b && is_blank long.last) w.if-self.false ∙ sym (w.is_blank-is ∙ w.if-self.false)
     ] in
     c.new.ensures (padded long.is_blank long.len long.last) (omega (arith, size))

@@ -1,25 +1,25 @@
 use Rattle.std.proofs.Common.{◌≡◌, true, []}
-use Rattle.dw_notation.specs.inner.Cutting.{EndIsKnown}
-use Rattle.dw_notation.specs.inner.Cutting.{IsStarved}
-use Rattle.dw_notation.specs.inner.Cutting.{HandsOut, weight}
+use Rattle.dw_notation.specs.Buffering.{unread_in, met_end_in, EndIsKnown, weight}
+use Rattle.dw_notation.specs.Numbering.{handed_out}
+use Rattle.dw_notation.specs.inner.Cutting.{IsStarved, HandsOut, progress_of}
 use Rattle.dw_notation.proofs.problems.reader.Problems.next.Given as goal
 
 abbrev pub invariant-pieces : goal.invariant-pieces
 invariant-pieces g l =
     let source = g.S.Source in
+    let old = l.initial.self.source.now in
+    let now = l.self.source.now in
     record {
       lender : l.self.source.ghost_name ≡ l.initial.self.source.ghost_name;
-      nothing : HandsOut g.B.Board.geometry (source.coming l.initial.self.source.now) (source.coming l.self.source.now)
-          l.initial.self.cutter l.self.cutter [];
-      end : EndIsKnown (source.coming l.initial.self.source.now) (source.has_ended l.initial.self.source.now)
-          l.initial.self.cutter
-          → EndIsKnown (source.coming l.self.source.now) (source.has_ended l.self.source.now) l.self.cutter;
-      handed : l.self.cutter.handed ≡ l.initial.self.cutter.handed;
-      stays : l.initial.self.cutter.met_end ≡ true → l.self.cutter.met_end ≡ true;
-      failed : source.is_failed l.self.source.now ≡ source.is_failed l.initial.self.source.now;
-      again : source.is_failed l.initial.self.source.now ≡ true → IsStarved l.initial.self.cutter
-          → IsStarved l.self.cutter;
+      nothing : HandsOut g.B.Board.geometry (source.coming old) (source.coming now) (progress_of l.initial.self)
+          (progress_of l.self) [];
+      end : EndIsKnown (source.coming old) (source.has_ended old) (met_end_in l.initial.self.buffer)
+          → EndIsKnown (source.coming now) (source.has_ended now) (met_end_in l.self.buffer);
+      handed : handed_out l.self.numbers ≡ handed_out l.initial.self.numbers;
+      stays : met_end_in l.initial.self.buffer ≡ true → met_end_in l.self.buffer ≡ true;
+      failed : source.is_failed now ≡ source.is_failed old;
+      again : source.is_failed old ≡ true → IsStarved (progress_of l.initial.self) → IsStarved (progress_of l.self);
     }
 
 abbrev pub decreases-pieces : goal.decreases-pieces
-decreases-pieces g l = weight (g.S.Source.pulls_left l.self.source.now) l.self.cutter
+decreases-pieces g l = weight (g.S.Source.pulls_left l.self.source.now) (unread_in l.self.buffer)

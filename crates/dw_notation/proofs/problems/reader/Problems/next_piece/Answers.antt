@@ -1,40 +1,42 @@
-use Rattle.std.proofs.Common.{◌≡◌, true, false, rules, arith, ◌∙◌, sym}
-use Rattle.dw_notation.proofs.CutLemmas.{length-slice_range-le}
-use Rattle.dw_notation.proofs.CarryLemmas.{CarriesOn-cut, CarriesOn-fill, TakesLast-end, weight-fill, not_err}
+use Rattle.std.proofs.Common.{arith, ap, ◌∙◌}
+use Rattle.dw_notation.specs.Numbering.{handed_out}
+use Rattle.dw_notation.specs.inner.Cutting.{progress_of, progress_at}
+use Rattle.dw_notation.proofs.CarryLemmas.{CarriesOn-cut, CarriesOn-filled, TakesPiece-cut, not_err}
 use Rattle.dw_notation.proofs.CarryLemmas.{or-not_err}
 use Rattle.dw_notation.proofs.problems.reader.Problems.next_piece.Goals as goal
 
-pub returns-then-met_end-clause-piece : goal.returns-then-met_end-clause-piece
-returns-then-met_end-clause-piece g c =
-    let end = c.finish.ensures in
-    let cut = c.cut.ensures in
-    let so_far = CarriesOn-cut _ _ c.args.self.now.cutter c.reads.self.cutter c.cut.new.self c.reads.invariant.carried
-    (cut.same c.if-cut.false) in (
-      TakesLast-end _ _ c.args.self.now.cutter c.cut.new.self c.finish.new.self so_far (cut.none c.if-cut.false)
-          end.rest end.found end.over,
-      end.met_end ∙ sym c.met_end.ensures ∙ c.if-met_end.true,
-    )
+pub returns-then-cut-clause-piece : goal.returns-then-cut-clause-piece
+returns-then-cut-clause-piece g c =
+    let s = g.S.Source in
+    let now = c.reads.self in
+    let fill = c.in_ok-fill.ensures in
+    let carried = CarriesOn-filled s.coming s.has_ended s.is_failed s.pulls_left _ (progress_of c.args.self.now) now.pieces
+    (handed_out now.numbers) now.source.now c.fill.new.source now.buffer c.fill.new.self _ c.reads.invariant.carried fill.passes fill.need fill.few in
+    rw c.cut.ensures.source (TakesPiece-cut _ _ (progress_of c.args.self.now)
+    (progress_at c.fill.new.self now.pieces (handed_out now.numbers)) (progress_of c.cut.new.self) carried
+    (c.cut.ensures.found c.if-cut.true))
 
 pub reads-preserved : goal.reads-preserved
 reads-preserved g c =
+    let s = g.S.Source in
+    let now = c.reads.self in
     let so_far = c.reads.invariant in
+    let fill = c.in_ok-fill.ensures in
     let cut = c.cut.ensures in
-    let fill = c.fill.ensures in
-    let new = c.fill.new.self in
-    let none = cut.none c.if-cut.false in
-    let unmet : c.cut.new.self.met_end ≡ false = sym c.met_end.ensures ∙ c.if-met_end.false in
-    let carried = CarriesOn-cut _ _ c.args.self.now.cutter c.reads.self.cutter c.cut.new.self so_far.carried
-    (cut.same c.if-cut.false) in
-    let short = length-slice_range-le new.buffer new.start new.end in
-    let light = weight-fill new.met_end _ _ _ c.in-Ok.ensures.more (omega (arith, short, new.in_buffer)) fill.filled.none in
+    let carried = CarriesOn-filled s.coming s.has_ended s.is_failed s.pulls_left _ (progress_of c.args.self.now) now.pieces
+    (handed_out now.numbers) now.source.now c.fill.new.source now.buffer c.fill.new.self _ so_far.carried fill.passes fill.need fill.few in
+    let lighter = fill.passes.lighter in
     record {
-      lender = search rules;
-      carried = CarriesOn-fill _ _ _ _ c.cut.new.self new carried none fill.filled.pieces fill.filled.bytes
-          (omega (arith, short, new.in_buffer));
-      handed = fill.filled.handed ∙ cut.handed ∙ so_far.handed;
-      stays = λ was. let bad : true ≡ false = sym (so_far.stays was) ∙ sym cut.met_end ∙ unmet in cc;
-      end = λ _. fill.end;
-      failed = fill.failed ∙ or-not_err _ c.in-Ok.is ∙ so_far.failed;
-      again = λ failed starved. absurd (not_err c.in-Ok.is (fill.again (so_far.failed ∙ failed)));
-      lighter = omega (arith, light, so_far.lighter);
+      lender = ap (λ r. r.ghost_name) cut.source ∙ so_far.lender;
+      carried = rw cut.source (CarriesOn-cut _ _ (progress_of c.args.self.now)
+          (progress_at c.fill.new.self now.pieces (handed_out now.numbers)) (progress_of c.cut.new.self) carried
+          (cut.same c.if-cut.false));
+      numbers = cut.numbers ∙ so_far.numbers;
+      stays = λ was. cut.met_end ∙ (fill.passes.stays (so_far.stays was)).1;
+      end = λ known. rw (cut.source, cut.met_end) (fill.passes.end (so_far.end known));
+      failed = ap (λ r. s.is_failed r.now) cut.source ∙ c.fill.ensures.passes.failed ∙ or-not_err _ c.in_ok-fill.was ∙ so_far.failed;
+      again = λ failed starved.
+          let stands = so_far.again failed starved in
+          absurd (not_err c.in_ok-fill.was (c.fill.ensures.again (so_far.failed ∙ failed) stands.0 stands.1));
+      lighter = rw (cut.source, cut.none c.if-cut.false) (omega (arith, lighter, so_far.lighter));
     }

@@ -1,27 +1,25 @@
-use Rattle.std.proofs.Common.{◌≡◌, ◌≤◌, ◌+◌, true, cond}
-use Rattle.dw_notation.specs.inner.Cutting.{EndIsKnown}
-use Rattle.dw_notation.specs.inner.Cutting.{IsStarved}
-use Rattle.dw_notation.specs.inner.Cutting.{CarriesOn, weight}
+use Rattle.std.proofs.Common.{◌≡◌, ◌≤◌, true}
+use Rattle.dw_notation.specs.Buffering.{unread_in, met_end_in, EndIsKnown, weight}
+use Rattle.dw_notation.specs.inner.Cutting.{IsStarved, CarriesOn, progress_of}
 use Rattle.dw_notation.proofs.problems.reader.Problems.next_piece.Given as goal
 
 abbrev pub invariant-reads : goal.invariant-reads
 invariant-reads g l =
     let source = g.S.Source in
+    let old = l.initial.self.source.now in
+    let now = l.self.source.now in
     record {
       lender : l.self.source.ghost_name ≡ l.initial.self.source.ghost_name;
-      carried : CarriesOn (source.coming l.initial.self.source.now) (source.coming l.self.source.now)
-          l.initial.self.cutter l.self.cutter;
-      handed : l.self.cutter.handed ≡ l.initial.self.cutter.handed;
-      stays : l.initial.self.cutter.met_end ≡ true → l.self.cutter.met_end ≡ true;
-      end : EndIsKnown (source.coming l.initial.self.source.now) (source.has_ended l.initial.self.source.now)
-          l.initial.self.cutter
-          → EndIsKnown (source.coming l.self.source.now) (source.has_ended l.self.source.now) l.self.cutter;
-      failed : source.is_failed l.self.source.now ≡ source.is_failed l.initial.self.source.now;
-      again : source.is_failed l.initial.self.source.now ≡ true → IsStarved l.initial.self.cutter
-          → IsStarved l.self.cutter;
-      lighter : weight (source.pulls_left l.self.source.now) l.self.cutter
-          ≤ weight (source.pulls_left l.initial.self.source.now) l.initial.self.cutter;
+      carried : CarriesOn (source.coming old) (source.coming now) (progress_of l.initial.self) (progress_of l.self);
+      numbers : l.self.numbers ≡ l.initial.self.numbers;
+      stays : met_end_in l.initial.self.buffer ≡ true → met_end_in l.self.buffer ≡ true;
+      end : EndIsKnown (source.coming old) (source.has_ended old) (met_end_in l.initial.self.buffer)
+          → EndIsKnown (source.coming now) (source.has_ended now) (met_end_in l.self.buffer);
+      failed : source.is_failed now ≡ source.is_failed old;
+      again : source.is_failed old ≡ true → IsStarved (progress_of l.initial.self) → IsStarved (progress_of l.self);
+      lighter : weight (source.pulls_left now) (unread_in l.self.buffer)
+          ≤ weight (source.pulls_left old) (unread_in l.initial.self.buffer);
     }
 
 abbrev pub decreases-reads : goal.decreases-reads
-decreases-reads g l = g.S.Source.pulls_left l.self.source.now + cond l.self.cutter.met_end 0 1
+decreases-reads g l = weight (g.S.Source.pulls_left l.self.source.now) (unread_in l.self.buffer)

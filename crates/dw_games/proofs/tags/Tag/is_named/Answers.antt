@@ -1,5 +1,0 @@
-use Rattle.dw_games.proofs.TagNameLemmas.{same_name-test}
-use Rattle.dw_games.proofs.tags.Tag.is_named.Goals as goal
-
-pub returns : goal.returns
-returns c = same_name-test _ _ _ c.eq_ignore_ascii_case.ensures.test

@@ -1,0 +1,42 @@
+-- What a buffer over a source shows its caller.
+use Rattle.std.specs.Prelude.{◌≡◌, ℕ, ◌+◌, ◌*◌, ◌≤◌, ◌||◌, List, [], ◌++◌, length, Bool, true, Option}
+use Rattle.std.specs.List.{slice_range}
+use Rattle.std.specs.Io.KnownBytes.{Consumes, IsAtEnd}
+use Rattle.dw_notation.specs.declared.streams.buffer.Buffer.{Buffer}
+
+-- the bytes read and not yet consumed
+abbrev pub unread_in : Buffer → List ℕ
+unread_in buffer = slice_range buffer.bytes buffer.start buffer.end
+
+-- whether the source's end was met
+abbrev pub met_end_in : Buffer → Bool
+met_end_in buffer = buffer.met_end
+
+-- a source as it stands, and what was read of it
+pub record Input (S : Type 0) : Type 0 where
+  pub source : S
+  pub unread : List ℕ
+  pub met_end : Bool
+
+abbrev pub input_of : {S : Type 0} → S → Buffer → Input S
+input_of source buffer = record { source = source; unread = unread_in buffer; met_end = met_end_in buffer }
+
+-- the end that was met is the source's, which has nothing left
+abbrev pub EndIsKnown : Option (List ℕ) → Bool → Bool → Type 0
+EndIsKnown coming has_ended met_end = met_end ≡ true → IsAtEnd coming × (has_ended ≡ true)
+
+-- bounds the bytes that can still be consumed
+abbrev pub weight : ℕ → List ℕ → ℕ
+weight pulls unread = pulls * 2049 + length unread
+
+-- these bytes were consumed, and the source has failed at it or not
+pub record Passes {S : Type 0} (coming : S → Option (List ℕ)) (has_ended is_failed : S → Bool) (pulls : S → ℕ)
+    (old new : Input S) (passed : List ℕ) (fails : Bool) : Type 0 where
+  pub read : List ℕ
+  pub took : Consumes (coming old.source) (coming new.source) read
+  pub same : old.unread ++ read ≡ passed ++ new.unread
+  pub stays : old.met_end ≡ true → (read ≡ []) × (new.met_end ≡ true)
+  pub end : EndIsKnown (coming old.source) (has_ended old.source) old.met_end
+      → EndIsKnown (coming new.source) (has_ended new.source) new.met_end
+  pub failed : is_failed new.source ≡ (is_failed old.source || fails)
+  pub lighter : weight (pulls new.source) new.unread + length passed ≤ weight (pulls old.source) old.unread

@@ -1,0 +1,54 @@
+//! The numbers of problems.
+ghost use Rattle.std.specs.Prelude.{◌≡◌, ◌+◌, ◌<◌, ◌≤◌, MatchBool, Err, nat_lt, if◌then◌else◌};
+ghost use Rattle.dw_notation.specs.declared.problems.ProblemFault.TheVariants.{TooManyProblems};
+
+use super::{MAX_PROBLEMS, Problem, ProblemFault};
+use dw_board::{Board, Position};
+
+/// Numbers the problems of a text from 1 on. One more than there may be is `TooManyProblems`, and it is the last.
+/// Example: a new one gives the first problem the number 1.
+#[derive(Clone, Copy)]
+pub struct Numbering {
+    handed: u32,
+}
+
+impl Numbering {
+    ghost use Rattle.dw_notation.specs.Numbering.{handed_out};
+
+    /// Of no problem yet.
+    /// See [`Numbering`] for an example.
+    pub fn new() -> Numbering
+        ensures { handed_out result ≡ 0 }
+    {
+        Numbering { handed: 0 }
+    }
+
+    /// Whether the last problem was numbered that there may be.
+    /// Example: of a new one it is `false`.
+    pub fn is_over(self) -> bool
+        ensures { MatchBool result (MAX_PROBLEMS < handed_out self) (handed_out self ≤ MAX_PROBLEMS) }
+    {
+        self.handed > MAX_PROBLEMS
+    }
+
+    /// The next problem, which says this, or that it is one too many.
+    /// Example: of a new one it has the number 1, and says what is given.
+    pub fn hand_out<B: Board>(&mut self, found: Result<Position<B>, ProblemFault>) -> Problem<B>
+        requires { handed_out self.old ≤ MAX_PROBLEMS }
+        ensures handed { handed_out self.new ≡ handed_out self.old + 1 }
+        ensures number { result.number ≡ handed_out self.old + 1 }
+        ensures found { result.found
+            ≡ (if nat_lt (handed_out self.old) MAX_PROBLEMS then found else Err TooManyProblems) }
+    {
+        let found = if self.handed < MAX_PROBLEMS {
+            found
+        } else {
+            Err(ProblemFault::TooManyProblems)
+        };
+        self.handed += 1;
+        Problem {
+            number: self.handed,
+            found,
+        }
+    }
+}

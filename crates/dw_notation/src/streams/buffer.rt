@@ -1,0 +1,114 @@
+//! A buffer over a source.
+ghost use Rattle.std.specs.Prelude.{◌≡◌, ◌⊎◌, ◌<◌, ◌≤◌, [], ◌∷◌, true, false, length, drop, is_err};
+ghost use Rattle.std.specs.Prelude.{IfOk, IsErr, MatchOption};
+
+use super::Source;
+use crate::problems::{MAX_READ, ReadFault};
+
+/// The bytes that were read of a source and not yet consumed, 2,048 at most, and whether its end was met.
+/// Example: of a source of 5,000 bytes the first `fill` reads at most 2,048.
+#[derive(Drop)]
+pub struct Buffer {
+    bytes: [u8; MAX_READ],
+    start: usize,
+    end: usize,
+    met_end: bool,
+    ghost ordered: { start ≤ end },
+    ghost in_bytes: { end ≤ 2048 },
+}
+
+impl Buffer {
+    ghost use Rattle.dw_notation.specs.Buffering.{unread_in, met_end_in, input_of, Passes};
+
+    /// Nothing was read.
+    /// See [`Buffer`] for an example.
+    pub fn new() -> Buffer
+        ensures unread { unread_in result ≡ [] }
+        ensures met_end { met_end_in result ≡ false }
+    {
+        Buffer {
+            bytes: [0; MAX_READ],
+            start: 0,
+            end: 0,
+            met_end: false,
+        }
+    }
+
+    /// The bytes that were read and not yet consumed.
+    /// Example: after a `fill` there is none only at the source's end.
+    pub fn unread(&self) -> &[u8]
+        ensures { result.now ≡ unread_in self.now }
+    {
+        &self.bytes[self.start..self.end]
+    }
+
+    /// Reads on if no byte is unread and the end was not met.
+    ///
+    /// # Errors
+    ///
+    /// `Failed` if the source fails.
+    /// Example: of the empty source it reads nothing, and meets the end.
+    pub fn fill<S: Source>(&mut self, source: &mut S) -> Result<(), ReadFault>
+        ensures passes { Passes S.coming S.has_ended S.is_failed S.pulls_left (input_of source.old self.old)
+            (input_of source.new self.new) [] (is_err result) }
+        ensures more { IfOk result (λ _. unread_in self.new ≡ [] → met_end_in self.new ≡ true) }
+        ensures need { (unread_in self.old ≡ []) ⊎ (input_of source.new self.new ≡ input_of source.old self.old) }
+        ensures few { length (unread_in self.new) ≤ MAX_READ }
+        ensures fault { IsErr result → (unread_in self.new ≡ []) × (met_end_in self.new ≡ false) }
+        ensures again { S.is_failed source.old ≡ true → unread_in self.old ≡ [] → met_end_in self.old ≡ false
+            → IsErr result }
+    {
+        if self.start < self.end || self.met_end {
+            return Ok(());
+        }
+        self.start = 0;
+        self.end = 0;
+        match source.pull(&mut self.bytes) {
+            None => Err(ReadFault::Failed),
+            Some(count) => {
+                self.end = count;
+                self.met_end = count == 0;
+                Ok(())
+            }
+        }
+    }
+
+    /// Passes over so many of the bytes that were read.
+    /// Example: after `consume(1)` the second of them is the first.
+    pub fn consume(&mut self, count: usize)
+        requires { count ≤ length (unread_in self.old) }
+        ensures met_end { met_end_in self.new ≡ met_end_in self.old }
+        ensures unread { unread_in self.new ≡ drop count (unread_in self.old) }
+    {
+        self.start += count;
+    }
+
+    /// The next byte of a source, which stays the next until it is consumed; `None` at the end.
+    ///
+    /// # Errors
+    ///
+    /// `Failed` if the source fails.
+    /// Example: of a source of `*` it is the star, and after `consume(1)` it is `None`.
+    pub fn peek<S: Source>(&mut self, source: &mut S) -> Result<Option<u8>, ReadFault>
+        ensures passes { Passes S.coming S.has_ended S.is_failed S.pulls_left (input_of source.old self.old)
+            (input_of source.new self.new) [] (is_err result) }
+        ensures next { IfOk result (λ next. MatchOption next
+            ((unread_in self.new ≡ []) × (met_end_in self.new ≡ true))
+            (λ byte. unread_in self.new ≡ byte ∷ drop 1 (unread_in self.new))) }
+    {
+        self.fill(source)?;
+        Ok(self.first())
+    }
+
+    /// The first of the bytes that were read and not yet consumed.
+    fn first(&self) -> Option<u8>
+        ensures { MatchOption result (unread_in self.now ≡ [])
+            (λ byte. unread_in self.now ≡ byte ∷ drop 1 (unread_in self.now)) }
+    {
+        if self.start < self.end {
+            Some(self.bytes[self.start])
+        } else {
+            None
+        }
+    }
+}
