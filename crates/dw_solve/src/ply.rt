@@ -44,6 +44,25 @@ impl<B: Board> Ply<B> {
         Ok(())
     }
 
+    /// The same for a search, which needs no rank of a single move.
+    pub(crate) fn fill_unless_single<G: Guide<B>>(
+        &mut self,
+        position: &Position<B>,
+        guide: &G,
+    ) -> Result<(), AllocError>
+        ensures { OnOk result (AreRanked B.geometry position.now self.new.ranked.items) }
+    {
+        legal_into(position, &mut self.legal)?;
+        self.ranked.clear();
+        let legal = self.legal.as_slice();
+        if legal.len() == 1 {
+            return rank_all(position, &AnyOrder, legal, &mut self.ranked);
+        }
+        rank_all(position, guide, legal, &mut self.ranked)?;
+        self.ranked.sort_unstable_by_key(|entry| entry.0);
+        Ok(())
+    }
+
     /// Takes up the legal moves of a position, in any order.
     pub(crate) fn fill_anyhow(&mut self, position: &Position<B>) -> Result<(), AllocError>
         ensures { OnOk result (AreRanked B.geometry position.now self.new.ranked.items) }

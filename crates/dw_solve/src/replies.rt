@@ -1,6 +1,6 @@
 //! The defender's replies, before one of them is searched.
 ghost use Rattle.std.specs.Prelude.{◌≡◌, ◌++◌, ◌∷◌, [], IfOk, OnOk, IfSome};
-ghost use Rattle.dw_moves.specs.Moves.{Legal};
+ghost use Rattle.dw_moves.specs.Moves.{Legal, play};
 ghost use Rattle.dw_solve.specs.inner.Ranking.{IsSureReply, AreLinedUpLast};
 
 use crate::guide::Guide;
@@ -26,24 +26,29 @@ pub(crate) enum Tried {
     PutOff(u32),
 }
 
-/// The rank of a reply, while the attacker has so many moves left, if others are to be searched first: not if it is the
-/// only one, and not if it is so good that the ranks of the others would mostly be for nothing.
+/// The rank of a reply, after which the position is this and the attacker has so many moves left; or `None` if it is the
+/// only one, or so good that the ranks of the others would mostly be for nothing.
 pub(crate) fn put_off<B: Board, G: Guide<B>>(
     guide: &G,
     position: &Position<B>,
     reply: &Move<B>,
+    after: &Position<B>,
     moves: u8,
     is_only: bool,
 ) -> Option<u32>
-    requires { Legal B.geometry position.now reply.now }
+    requires legal { Legal B.geometry position.now reply.now }
+    requires reached { after.now ≡ play B.geometry position.now reply.now }
 {
     if is_only {
         return None;
     }
     let (rank, good) = if moves <= FEW_MOVES {
-        (guide.quick_rank(position, reply), GOOD_QUICK_RANK)
+        (
+            guide.quick_rank_reached(position, reply, after),
+            GOOD_QUICK_RANK,
+        )
     } else {
-        (guide.rank(position, reply), GOOD_RANK)
+        (guide.rank_reached(position, reply, after), GOOD_RANK)
     };
     if rank <= good { None } else { Some(rank) }
 }

@@ -220,7 +220,7 @@ fn try_reply<B: Board, M: Memo<B>, G: Guide<B>>(
     if let Some(wins) = known(search, &after, moves) {
         return Ok(Tried::Answered(wins));
     }
-    if let Some(rank) = put_off(&search.guide, position, reply, moves, is_only) {
+    if let Some(rank) = put_off(&search.guide, position, reply, &after, moves, is_only) {
         return Ok(Tried::PutOff(rank));
     }
     let wins = expand(search, plies, &after, moves)?;
@@ -349,7 +349,7 @@ fn line_up<B: Board, M, G: Guide<B>>(
             guide: &search.guide,
             history: &search.history,
         };
-        ply.fill(position, &guide)
+        ply.fill_unless_single(position, &guide)
     }
 }
 
