@@ -163,7 +163,9 @@ put_off_legal g q ranked i x all low is = all x.1 (move_of ranked x (member_at r
 
 pub all_win : (g : Geometry) (q : Placement) (n : ℕ) (ranked : List (ℕ × Move)) (i : ℕ) → length ranked ≤ i
     → AllWon g q n ranked i → AllWin g q n ranked
-all_win g q n ranked i end won r there = let k = at_index ranked r there in won k.1 (k.0, r) (omega (arith, k.2, end)) k.3
+all_win g q n ranked i end won r there =
+    let k = at_index ranked r there in
+    won k.1 (k.0, r) (omega (arith, k.2, end)) k.3
 
 pub one_does_not : (g : Geometry) (q : Placement) (n : ℕ) (ranked : List (ℕ × Move)) (i : ℕ) (x : ℕ × Move)
     → i < length ranked → x ≡ get_or ranked i x → (Win g (play g q x.1) n → ⊥) → AllWin g q n ranked → ⊥

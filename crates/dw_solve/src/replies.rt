@@ -26,7 +26,7 @@ pub(crate) enum Tried {
     PutOff(u32),
 }
 
-/// The rank of a reply, after which the position is this and the attacker has so many moves left; or `None` if it is the
+/// The rank of a reply that leads to this position, in which the attacker has so many moves left. `None` if it is the
 /// only one, or so good that the ranks of the others would mostly be for nothing.
 pub(crate) fn put_off<B: Board, G: Guide<B>>(
     guide: &G,

@@ -158,8 +158,8 @@ pub(crate) fn loses<B: Board, M: Memo<B>, G: Guide<B>>(
     all_replies_lose(search, rest, position, ply.ranked.as_slice(), moves)
 }
 
-/// Goes through the legal replies. Answers whether one refutes that the memo decides, or that is good; the others, which
-/// the memo does not decide, are added with their ranks to an empty list.
+/// Goes through the legal replies. Answers whether one refutes that the memo decides, or that is good. The others are
+/// added with their ranks to an empty list.
 #[cycle(search)]
 fn good_reply_refutes<B: Board, M: Memo<B>, G: Guide<B>>(
     search: &mut Search<M, G>,
@@ -211,8 +211,9 @@ fn try_reply<B: Board, M: Memo<B>, G: Guide<B>>(
     ensures answer { IfOk result (IfAnswered (λ yes.
         IsTrue yes ↔ Win B.geometry (play B.geometry position.now reply.now) moves)) }
     ensures searched { HasSearched B.geometry M.content M.dropped moves search.old search.new result }
-    ensures says { LosesNothing M.content M.dropped search.old search.new
-        → IfOk result (IfAnswered (SaysWin (M.content search.new.memo) (play B.geometry position.now reply.now) moves)) }
+    ensures says { let after = play B.geometry position.now reply.now in
+        LosesNothing M.content M.dropped search.old search.new
+        → IfOk result (IfAnswered (SaysWin (M.content search.new.memo) after moves)) }
     ensures known { (moves ≡ 0) ⊎ IsDecided (M.content search.old.memo) (play B.geometry position.now reply.now) moves
         → IsOk result × StaysIdle M.content search.old search.new }
 {
@@ -353,7 +354,8 @@ fn line_up<B: Board, M, G: Guide<B>>(
     }
 }
 
-/// Takes it up that the attacker does not win with his last move, if that is seen at a glance. The memo may leave it out.
+/// Takes it up that the attacker does not win with his last move, if that is seen at a glance. The memo may leave it
+/// out.
 fn refute<B: Board, M: Memo<B>, G>(
     search: &mut Search<M, G>,
     position: &Position<B>,
