@@ -20,7 +20,7 @@ use std::marker::{Model, PhantomData};
 pub(crate) struct Table<B: Board, T: Bucket<B>> {
     buckets: Vec<T>,
     most: usize,
-    taken: usize,
+    counted: usize,
     dropped: u64,
     board: PhantomData<B>,
 }
@@ -47,7 +47,7 @@ impl<B: Board, T: Bucket<B>> Table<B, T> {
         Ok(Table {
             buckets,
             most,
-            taken: 0,
+            counted: 0,
             dropped: 0,
             board: PhantomData,
         })
@@ -70,10 +70,10 @@ impl<B: Board, T: Bucket<B>> Table<B, T> {
         ensures note { IsNote self.old.content position.now bounds result self.new.content self.old.dropped
             self.new.dropped }
     {
-        make_room(&mut self.buckets, self.taken, self.most);
+        make_room(&mut self.buckets, self.counted, self.most);
         let index = bucket_of(position, self.buckets.len());
         let entered = self.buckets[index].enter(position, bounds);
-        self.taken = self.taken.saturating_add(usize::from(entered.fills));
+        self.counted = self.counted.saturating_add(usize::from(entered.counts));
         self.dropped = self.dropped.saturating_add(entered.lost);
         entered.noted
     }
@@ -99,7 +99,7 @@ impl<B: Board, T: Bucket<B>> Table<B, T> {
     {
         if FEW < self.buckets.len() {
             clear(&mut self.buckets);
-            self.taken = 0;
+            self.counted = 0;
         }
     }
 
