@@ -202,8 +202,8 @@ impl<B: Board> Bucket<B> for Slot<B> {
         }
     }
 
-    /// Each slot counts that is filled, and all but a sixteenth are. A larger table would lose less, and be slower for all that: much of what stands in
-    /// it belongs to problems that are done.
+    /// Each slot counts that is filled, and all but a sixteenth are. A larger table would lose less, and be slower for
+    /// all that: much of what stands in it belongs to problems that are done.
     fn is_crowded(buckets: usize, counted: usize) -> bool {
         buckets - buckets / PER_FREE < counted
     }
