@@ -55,6 +55,10 @@ impl<B: Board> Memo<B> for LeakedMemo<B> {
         self.memo.put(position, bounds)
     }
 
+    fn skip_one_move(&mut self) -> bool {
+        self.memo.skip_one_move()
+    }
+
     fn forget(&mut self) {
         self.memo.forget();
     }

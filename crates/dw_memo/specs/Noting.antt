@@ -29,3 +29,7 @@ pub record IsNote (old : Content) (p : Placement) (b : Bounds) (answer : Noted) 
   pub missing : List Entry
   pub are_missing : AreMissing old p b new missing
   pub count : after ≡ min (before + length missing) (2 ^ 64 - 1)
+
+-- the count of lost entries grew by one, up to the greatest 64-bit number
+abbrev pub IsOneLost : ℕ → ℕ → Type 0
+IsOneLost before after = after ≡ min (before + 1) (2 ^ 64 - 1)

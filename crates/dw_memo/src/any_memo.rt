@@ -45,6 +45,15 @@ impl<B: Board> Memo<B> for AnyMemo<B> {
         }
     }
 
+    fn skip_one_move(&mut self) -> bool {
+        match self {
+            AnyMemo::None(memo) => Memo::<B>::skip_one_move(memo),
+            AnyMemo::Lru(memo) => memo.skip_one_move(),
+            AnyMemo::Slots(memo) => memo.skip_one_move(),
+            AnyMemo::Deep(memo) => memo.skip_one_move(),
+        }
+    }
+
     fn forget(&mut self) {
         match self {
             AnyMemo::None(memo) => Memo::<B>::forget(memo),

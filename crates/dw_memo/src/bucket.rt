@@ -14,8 +14,8 @@ pub(crate) struct Entered {
     pub(crate) noted: Noted,
     /// How many entries were lost by it, the given one too.
     pub(crate) lost: u64,
-    /// Whether a place was taken that counts as free in `is_crowded`.
-    pub(crate) fills: bool,
+    /// Whether it counts in `is_crowded`.
+    pub(crate) counts: bool,
 }
 
 /// One or more places for positions with their bounds.
@@ -47,6 +47,6 @@ pub(crate) trait Bucket<B: Board>: Copy {
         requires map { IsMap (entries self.now) }
         ensures { IsSplit B.geometry buckets index (entries self.now) (entries result.0) (entries result.1) };
 
-    /// Whether a table of so many buckets, with so many filled places, loses too much.
-    fn is_crowded(buckets: usize, taken: usize) -> bool;
+    /// Whether a table of so many buckets, to which so much came that counts, loses too much.
+    fn is_crowded(buckets: usize, counted: usize) -> bool;
 }

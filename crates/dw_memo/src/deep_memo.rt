@@ -66,6 +66,10 @@ impl<B: Board> Memo<B> for DeepMemo<B> {
         self.table.forget();
     }
 
+    fn skip_one_move(&mut self) -> bool {
+        self.table.skip()
+    }
+
     fn dropped(&self) -> u64 {
         self.table.dropped()
     }

@@ -25,14 +25,14 @@ pub(crate) fn first_size(most: usize) -> usize
     size
 }
 
-/// Doubles a table that is crowded, so many of its places being taken, if it may have as many buckets.
-pub(crate) fn make_room<B: Board, T: Bucket<B>>(buckets: &mut Vec<T>, taken: usize, most: usize)
+/// Doubles a table that is crowded by so much that came to it, if it may have as many buckets.
+pub(crate) fn make_room<B: Board, T: Bucket<B>>(buckets: &mut Vec<T>, counted: usize, most: usize)
     requires { IsTable B.geometry T.entries buckets.old.items }
     ensures table { IsTable B.geometry T.entries buckets.new.items }
     ensures same { SameEntries (held T.entries buckets.old.items) (held T.entries buckets.new.items) }
 {
     let size = buckets.len();
-    if T::is_crowded(size, taken) && size <= most / 2 {
+    if T::is_crowded(size, counted) && size <= most / 2 {
         double(buckets);
     }
 }

@@ -8,7 +8,7 @@ ghost use Rattle.dw_memo.specs.Recent.{content_of, IsRecent};
 
 use crate::bounds::Bounds;
 use crate::fact::{Fact, bounds_of};
-use crate::memo::{Memo, Noted};
+use crate::memo::{Memo, Noted, skip_after_loss};
 use dw_board::{Board, Position};
 use lru::LruCache;
 use std::alloc::{AllocError, Global};
@@ -68,6 +68,10 @@ impl<B: Board> Memo<B> for LruMemo<B> {
         let (noted, lost) = push(&mut self.cache, *position, bounds);
         self.dropped = self.dropped.saturating_add(lost);
         noted
+    }
+
+    fn skip_one_move(&mut self) -> bool {
+        skip_after_loss(&mut self.dropped)
     }
 
     fn dropped(&self) -> u64 {

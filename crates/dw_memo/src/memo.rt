@@ -1,7 +1,7 @@
 //! What a memo is: a cache of bounds.
-ghost use Rattle.std.specs.Prelude.{◌≡◌, ℕ};
+ghost use Rattle.std.specs.Prelude.{◌≡◌, ℕ, true, false};
 ghost use Rattle.dw_memo.specs.Content.{Content, IsMap, SameEntries, IsFound, MayForget};
-ghost use Rattle.dw_memo.specs.Noting.{IsNote};
+ghost use Rattle.dw_memo.specs.Noting.{IsNote, IsOneLost};
 
 use crate::bounds::Bounds;
 use dw_board::{Board, Position};
@@ -44,6 +44,22 @@ pub trait Memo<B: Board> {
         ensures note { IsNote (content self.old) position.now bounds result (content self.new) (dropped self.old)
             (dropped self.new) };
 
+    /// Leaves out bounds that tell of one move alone, which are then neither looked up nor noted, and counts one entry
+    /// as not kept. Or it answers `false`, and does nothing. Once a memo has lost something, to find such bounds again
+    /// takes less time than to look them up.
+    /// Example: of a new memo it is `false`, and so of an `LruMemo` until something was pushed out of it, or not kept.
+    fn skip_one_move(&mut self) -> bool
+        ensures map { IsMap (content self.old) }
+        ensures map_after { IsMap (content self.new) }
+        ensures same { SameEntries (content self.old) (content self.new) }
+        ensures dropped { result ≡ false → dropped self.new ≡ dropped self.old }
+        ensures left_out { result ≡ true → IsOneLost (dropped self.old) (dropped self.new) }
+    {
+        // The map is one, as in `forget`.
+        let _ = self.dropped();
+        false
+    }
+
     /// Tells that what is asked next has little to do with what was asked before. A memo may give up all entries then,
     /// if it is quicker without them; they do not count as lost. Most keep theirs.
     /// Example: after it an `LruMemo` holds what it held before, and a `DeepMemo` nothing, if its table had grown.
@@ -81,4 +97,17 @@ pub trait Memo<B: Board> {
     {
         self.put(&position, bounds)
     }
+}
+
+/// Counts one more lost entry, if some were lost before. Else it answers `false`, and does nothing.
+#[inline]
+pub(crate) fn skip_after_loss(dropped: &mut u64) -> bool
+    ensures none { result ≡ false → dropped.new ≡ dropped.old }
+    ensures one { result ≡ true → IsOneLost dropped.old dropped.new }
+{
+    if *dropped == 0 {
+        return false;
+    }
+    *dropped = dropped.saturating_add(1);
+    true
 }

@@ -16,6 +16,9 @@ use dw_board::{Board, Position};
 /// What a place is worth whose fact is fresh and tells of one move.
 const LITTLE: u16 = 2;
 
+/// A table doubles when so many facts of two moves or more came to it for each of its pairs.
+const PER_PAIR: usize = 4;
+
 /// Two places for positions with what is known of them. If both are taken, a new position gets that which is worth
 /// less; but bounds that tell of one move alone get none of a fact that is worth more. A fact that tells of two moves
 /// or more makes the one beside it older, and so worth less: else a table in which many problems are solved would keep
@@ -36,9 +39,9 @@ impl<B: Board> Pair<B> {
         ensures choice { IsChoice self.old position.now bounds result.noted self.new }
     {
         if self.first.holds(position) {
-            enter_into(&mut self.first, position, bounds)
+            enter_again(&mut self.first, position, bounds)
         } else if self.second.holds(position) {
-            enter_into(&mut self.second, position, bounds)
+            enter_again(&mut self.second, position, bounds)
         } else if self.second.worth() < self.first.worth() {
             contend(&mut self.second, &mut self.first, position, bounds)
         } else {
@@ -67,23 +70,23 @@ fn contend<B: Board>(
         return Entered {
             noted: Noted::NotKept,
             lost: 1,
-            fills: false,
+            counts: false,
         };
     }
-    enter_into(lesser, position, bounds)
+    Entered {
+        counts: 1 < bounds.depth(),
+        ..lesser.enter(position, bounds)
+    }
 }
 
-/// Puts the bounds of a position into a place. The place counts as filled if they tell of two moves or more, and what
-/// stood there did not: most facts tell of one move alone, and a table that grew for them would be slower to look into
-/// for all that it holds.
+/// Puts the bounds of a position into the place that it has already.
 #[inline]
-fn enter_into<B: Board>(place: &mut Slot<B>, position: &Position<B>, bounds: Bounds) -> Entered
+fn enter_again<B: Board>(place: &mut Slot<B>, position: &Position<B>, bounds: Bounds) -> Entered
     ensures kept { result.noted ≡ Kept }
     ensures note { IsNote (standing place.old) position.now bounds result.noted (standing place.new) 0 result.lost }
 {
-    let fills = 1 < bounds.depth() && place.worth() <= LITTLE;
     Entered {
-        fills,
+        counts: false,
         ..place.enter(position, bounds)
     }
 }
@@ -124,9 +127,10 @@ impl<B: Board> Bucket<B> for Pair<B> {
         (Pair { first, second }, away)
     }
 
-    /// Three quarters of its places have facts of two moves or more. The fuller a table is, the more of its pairs are
-    /// full, and lose what comes to them.
-    fn is_crowded(buckets: usize, taken: usize) -> bool {
-        buckets - buckets / 4 < taken / 2
+    /// Facts of two moves or more came into places of other positions, or free ones, twice as often as it has places.
+    /// Facts of one move do not count: they are soon found again. A larger table would lose less, and be slower for all
+    /// that the caches do not hold.
+    fn is_crowded(buckets: usize, counted: usize) -> bool {
+        buckets < counted / PER_PAIR
     }
 }

@@ -183,12 +183,12 @@ impl<B: Board> Bucket<B> for Slot<B> {
     #[inline]
     fn enter(&mut self, position: &Position<B>, bounds: Bounds) -> Entered {
         let lost = self.lost(position);
-        let fills = self.is_free();
+        let counts = self.is_free();
         *self = Slot::with(position, Fact::new(bounds));
         Entered {
             noted: Noted::Kept,
             lost,
-            fills,
+            counts,
         }
     }
 
@@ -202,9 +202,9 @@ impl<B: Board> Bucket<B> for Slot<B> {
         }
     }
 
-    /// All but a sixteenth is taken. A larger table would lose less, and be slower for all that: much of what stands in
-    /// it belongs to problems that are done.
-    fn is_crowded(buckets: usize, taken: usize) -> bool {
-        buckets - buckets / PER_FREE < taken
+    /// Each slot counts that is filled, and all but a sixteenth are. A larger table would lose less, and be slower for
+    /// all that: much of what stands in it belongs to problems that are done.
+    fn is_crowded(buckets: usize, counted: usize) -> bool {
+        buckets - buckets / PER_FREE < counted
     }
 }

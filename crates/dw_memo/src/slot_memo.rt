@@ -58,6 +58,10 @@ impl<B: Board> Memo<B> for SlotMemo<B> {
         self.table.put(position, bounds)
     }
 
+    fn skip_one_move(&mut self) -> bool {
+        self.table.skip()
+    }
+
     fn dropped(&self) -> u64 {
         self.table.dropped()
     }

@@ -1,13 +1,13 @@
 //! A table in which each position has one bucket. All memory of the table is taken at the start.
-ghost use Rattle.std.specs.Prelude.{◌≡◌, ◌≤◌, ◌<◌, [], IfOk};
+ghost use Rattle.std.specs.Prelude.{◌≡◌, ◌≤◌, ◌<◌, [], IfOk, true, false};
 ghost use Rattle.dw_memo.specs.inner.Buckets as of;
 ghost use Rattle.dw_memo.specs.Content.{IsMap, IsFound, MayForget};
-ghost use Rattle.dw_memo.specs.Noting.{IsNote};
+ghost use Rattle.dw_memo.specs.Noting.{IsNote, IsOneLost};
 
 use crate::bounds::Bounds;
 use crate::bucket::Bucket;
 use crate::growing::{FEW, clear, first_size, make_room, widen};
-use crate::memo::Noted;
+use crate::memo::{Noted, skip_after_loss};
 use dw_board::{Board, Position};
 use std::alloc::{AllocError, Global};
 use std::marker::{Model, PhantomData};
@@ -20,7 +20,7 @@ use std::marker::{Model, PhantomData};
 pub(crate) struct Table<B: Board, T: Bucket<B>> {
     buckets: Vec<T>,
     most: usize,
-    taken: usize,
+    counted: usize,
     dropped: u64,
     board: PhantomData<B>,
 }
@@ -47,7 +47,7 @@ impl<B: Board, T: Bucket<B>> Table<B, T> {
         Ok(Table {
             buckets,
             most,
-            taken: 0,
+            counted: 0,
             dropped: 0,
             board: PhantomData,
         })
@@ -70,12 +70,23 @@ impl<B: Board, T: Bucket<B>> Table<B, T> {
         ensures note { IsNote self.old.content position.now bounds result self.new.content self.old.dropped
             self.new.dropped }
     {
-        make_room(&mut self.buckets, self.taken, self.most);
+        make_room(&mut self.buckets, self.counted, self.most);
         let index = bucket_of(position, self.buckets.len());
         let entered = self.buckets[index].enter(position, bounds);
-        self.taken = self.taken.saturating_add(usize::from(entered.fills));
+        self.counted = self.counted.saturating_add(usize::from(entered.counts));
         self.dropped = self.dropped.saturating_add(entered.lost);
         entered.noted
+    }
+
+    /// Counts one entry as not kept, if others were lost before. Else it answers `false`, and does nothing.
+    #[inline]
+    pub(crate) fn skip(&mut self) -> bool
+        ensures map { IsMap self.old.content }
+        ensures content { self.new.content ≡ self.old.content }
+        ensures dropped { result ≡ false → self.new.dropped ≡ self.old.dropped }
+        ensures left_out { result ≡ true → IsOneLost self.old.dropped self.new.dropped }
+    {
+        skip_after_loss(&mut self.dropped)
     }
 
     /// Gives up all that it holds, and begins with few buckets again, if it has grown: a small table is as quick as an
@@ -88,7 +99,7 @@ impl<B: Board, T: Bucket<B>> Table<B, T> {
     {
         if FEW < self.buckets.len() {
             clear(&mut self.buckets);
-            self.taken = 0;
+            self.counted = 0;
         }
     }
 

@@ -1,8 +1,8 @@
--- Replies of which the memo does not say who wins after them.
-use Rattle.std.proofs.Common.{◌≡◌, ℕ, ◌+◌, ◌≤◌, ◌<◌, ◌⊎◌, Bool, true, false, not, List, [], ◌∷◌, ◌++◌, length}
-use Rattle.std.proofs.Common.{add-one, get_or, map, take, refl, sym, ap, ◌∙◌, subst, inl, inr, arith, IsTrue}
-use Rattle.std.proofs.lemmas.List.{map-append, take_all}
-use Rattle.std.proofs.Math.Seq.{take-suc}
+-- Replies of which some are put off, and the others were answered.
+use Rattle.std.proofs.Common.{◌≡◌, ℕ, ◌+◌, ◌≤◌, ◌<◌, ◌⊎◌, ◌↔◌, Bool, true, false, List, [], ◌∷◌, ◌++◌, length}
+use Rattle.std.proofs.Common.{get_or, refl, sym, ap, ◌∙◌, subst, inl, inr, arith, IsTrue}
+use Rattle.std.specs.Prelude.{Option, Some, None}
+use Rattle.std.proofs.lemmas.List.{map-append}
 use Rattle.std.specs.List.Sorted.{IsPermutation}
 use Rattle.std.proofs.lemmas.Bool.{true≢false}
 use Rattle.std.proofs.lemmas.List.Sorted.{IsPermutation-sym}
@@ -11,25 +11,23 @@ use Rattle.dw_board.specs.Lists.{Member}
 use Rattle.dw_board.specs.Placement.{Placement}
 use Rattle.dw_memo.specs.Content.{Content, SameEntries}
 use Rattle.dw_moves.specs.Moves.{Move, Legal, AreLegal, play}
-use Rattle.dw_moves.specs.inner.MemberLemmas.{mem_left, mem_right, mem_cases, mem_map, mem_map_back}
+use Rattle.dw_moves.specs.inner.MemberLemmas.{mem_left, mem_right, mem_cases}
 use Rattle.dw_solve.specs.Wins.{Win, Lost}
-use Rattle.dw_solve.specs.Facts.{KnownWin, KnownFail, AreTrue}
-use Rattle.dw_solve.specs.Ranking.{moves_of}
+use Rattle.dw_solve.specs.Facts.{KnownWin, KnownFail, AreTrue, IsDecided, RepliesAreDecided}
+use Rattle.dw_solve.specs.Ranking.{AreRanked, moves_of}
 use Rattle.dw_solve.specs.Certificates.{SaysWin, SaysLost}
 use Rattle.dw_solve.specs.Searching.{IsCounted}
-use Rattle.dw_solve.specs.Work.{Moment, NothingLost}
+use Rattle.dw_solve.specs.Work.{Moment, NothingLost, Searched}
 use Rattle.dw_solve.specs.declared.search.Search.{Search}
-use Rattle.dw_solve.specs.declared.replies.Replies.{Replies}
-use Rattle.dw_solve.specs.declared.replies.Replies.TheVariants.{Refuted, Sure, Open}
-use Rattle.dw_solve.specs.inner.Ranking.{IsKnownRefuted, AreOpen, ArePlayed, AreLinedUp, AreLinedUpLast, AreLeft, OneFails, IsTakenUp}
-use Rattle.dw_solve.specs.inner.Searching.{at_time, HasLooked}
+use Rattle.dw_solve.specs.inner.Ranking.{AreAllLegal, AreLinedUpLast, AreOpen, IsAnswered, AllWin, SaysAll}
+use Rattle.dw_solve.specs.inner.Searching.{at_time, HasLooked, IsKnown}
 use Rattle.dw_solve.proofs.MemoLemmas.{same_win, same_fail}
 use Rattle.dw_solve.proofs.RankLemmas.{get_same, member_at, index_of, split, still_there, AllWon, move_of, rank_of}
 use Rattle.dw_solve.proofs.TriedLemmas.{Answered, Tried, searched_after}
-use Rattle.dw_solve.proofs.WorkLemmas.{searched_none}
+use Rattle.dw_solve.proofs.WorkLemmas.{searched_none, first_kept, second_kept}
 
 -- ---- looks at the memo, one after another
-flip : (c d : Content) → SameEntries c d → SameEntries d c
+pub flip : (c d : Content) → SameEntries c d → SameEntries d c
 flip c d same e = ((same e).1, (same e).0)
 
 module _ {M G : Type 0} (g : Geometry) (content : M → Content) (lost : M → ℕ) where
@@ -59,201 +57,205 @@ counted_looked a l b l' low count limit = record {
   same = limit;
 }
 
--- ---- one reply
-pub taken_refuted : (old new : Content) (p : Placement) (n : ℕ) (wins : Bool) → SameEntries old new
-    → SaysWin new p n wins → IsTrue (not wins) → (n ≡ 0) ⊎ KnownFail old p n
-taken_refuted old new p n true same says h = absurd (true≢false (sym h))
-taken_refuted old new p n false same says h = elim (says.unless (λ t. true≢false (sym t))) [
-  | inl none ↦ inl none
-  | inr f ↦ inr (same_fail old new same p n f)
-]
+-- ---- replies one after another
+-- a search, in which of the replies below i these were put off, and the others answered
+pub record PutOff (g : Geometry) (q : Placement) (n : ℕ) (legal : List Move) (i : ℕ) (replies : List Move)
+    (a c : Moment) : Type 0 where
+  pub work : Searched g n 0 a c
+  pub legal_too : AreAllLegal g q replies
+  pub others : (k : ℕ) (r : Move) → k < i → r ≡ get_or legal k r → Member r replies ⊎ IsAnswered g q n a c r
 
-pub taken_won : (old new : Content) (n : ℕ) (r : Move × Placement) (moves : List Move) (wins : Bool)
-    → SameEntries old new → SaysWin new r.1 n wins → not wins ≡ false → IsTakenUp old n r moves moves
-taken_won old new n r moves true same says h = inl (refl, same_win old new same r.1 n (says.when refl))
-taken_won old new n r moves false same says h = absurd (true≢false h)
-
--- ---- one after another
--- the moves were added of some of the replies below i, and the memo says of the others that there is a win after them
-pub record AreLeftBelow (c : Content) (n : ℕ) (played : List (Move × Placement)) (i : ℕ) (moves : List Move) : Type 0
-  where
-    pub from : (m : Move) → Member m moves → (r : Move × Placement) × Member r played × (r.0 ≡ m)
-    pub others : (k : ℕ) (r : Move × Placement) → k < i → r ≡ get_or played k r → Member r.0 moves ⊎ KnownWin c r.1 n
-
-pub left_none : (c : Content) (n : ℕ) (played : List (Move × Placement)) (moves : List Move) → moves ≡ []
-    → AreLeftBelow c n played 0 moves
-left_none c n played moves none = record {
-  from = λ m there. absurd (subst (Member m) none there);
+pub put_off_none : (g : Geometry) (q : Placement) (n : ℕ) (legal replies : List Move) (a : Moment) → replies ≡ []
+    → PutOff g q n legal 0 replies a a
+put_off_none g q n legal replies a none = record {
+  work = searched_none g n 0 a;
+  legal_too = λ m there. absurd (subst (Member m) none there);
   others = λ k r low e. absurd (omega (arith, low));
 }
 
-module _ (c d : Content) (n : ℕ) (played : List (Move × Placement)) (i : ℕ) (r : Move × Placement)
-    (old new : List Move) (same : SameEntries c d) (h : AreLeftBelow c n played i old) (low : i < length played)
-    (is : r ≡ get_or played i r) where
-  this_one : (k : ℕ) (x : Move × Placement) → k ≡ i → x ≡ get_or played k x → x ≡ r
+module _ (g : Geometry) (q : Placement) (n : ℕ) (legal : List Move) (i : ℕ) (old : List Move) (r : Move)
+    (a b c : Moment) (h : PutOff g q n legal i old a b) (low : i < length legal) (is : r ≡ get_or legal i r)
+    (w : Searched g n 0 b c) where
+  this_one : (k : ℕ) (x : Move) → k ≡ i → x ≡ get_or legal k x → r ≡ x
   this_one k x e at =
-      let at_i : x ≡ get_or played i x = subst (λ z. x ≡ get_or played z x) e at in
-      at_i ∙ (get_same played i x r low ∙ sym is)
+      let at_i : x ≡ get_or legal i x = subst (λ z. x ≡ get_or legal z x) e at in
+      is ∙ (get_same legal i r x low ∙ sym at_i)
 
-  pub left_more : IsTakenUp d n r old new → AreLeftBelow c n played (i + 1) new
-  left_more (inl won) = record {
-    from = λ m there. h.from m (subst (Member m) won.0 there);
+  later : (x : Move) → IsAnswered g q n a b x → IsAnswered g q n a c x
+  later x here = record {
+    wins = here.wins;
+    says = λ kept.
+        (w.worked (second_kept a b c h.work.counted w.counted kept)).stronger.wins (play g q x) n
+        (here.says (first_kept a b c h.work.counted w.counted kept));
+  }
+
+  -- the attacker wins after the reply
+  pub put_off_won : (wins : Bool) → wins ≡ true → (IsTrue wins ↔ Win g (play g q r) n)
+      → (NothingLost b c → SaysWin c.content (play g q r) n wins) → PutOff g q n legal (i + 1) old a c
+  put_off_won wins won answer says = record {
+    work = searched_after g n 0 a b c h.work w;
+    legal_too = h.legal_too;
     others = λ k x under at. elim (split k i under) [
-      | inl e ↦ inr (subst (λ (z : Move × Placement). KnownWin c z.1 n) (sym (this_one k x e at))
-          (same_win c d same r.1 n won.1))
-      | inr less ↦ subst (λ z. Member x.0 z ⊎ KnownWin c x.1 n) (sym won.0) (h.others k x less at)
+      | inl e ↦ inr (subst (IsAnswered g q n a c) (this_one k x e at) (record {
+        wins = answer.0 won;
+        says = λ kept. (says (second_kept a b c h.work.counted w.counted kept)).when won;
+      }))
+      | inr less ↦ elim (h.others k x less at) [ inl there ↦ inl there | inr here ↦ inr (later x here) ]
     ];
   }
-  left_more (inr added) = record {
-    from = λ m there. elim (mem_cases m old (r.0 ∷ []) (subst (Member m) added there)) [
-      | inl o ↦ h.from m o
-      | inr (inl e) ↦ (r, member_at played i r low is, sym e)
+
+  -- it is put off, too
+  pub put_off_more : (new : List Move) → Legal g q r → new ≡ old ++ r ∷ [] → PutOff g q n legal (i + 1) new a c
+  put_off_more new mine added = record {
+    work = searched_after g n 0 a b c h.work w;
+    legal_too = λ m there. elim (mem_cases m old (r ∷ []) (subst (Member m) added there)) [
+      | inl o ↦ h.legal_too m o
+      | inr (inl e) ↦ subst (Legal g q) (sym e) mine
       | inr (inr none) ↦ absurd none
     ];
-    others = λ k x under at. subst (λ z. Member x.0 z ⊎ KnownWin c x.1 n) (sym added) (elim (split k i under) [
-      | inl e ↦ inl (mem_right x.0 old (r.0 ∷ []) (inl (ap (λ (z : Move × Placement). z.0) (this_one k x e at))))
+    others = λ k x under at. subst (λ z. Member x z ⊎ IsAnswered g q n a c x) (sym added) (elim (split k i under) [
+      | inl e ↦ inl (mem_right x old (r ∷ []) (inl (sym (this_one k x e at))))
       | inr less ↦ elim (h.others k x less at) [
-        | inl o ↦ inl (mem_left x.0 old (r.0 ∷ []) o)
-        | inr known ↦ inr known
+        | inl there ↦ inl (mem_left x old (r ∷ []) there)
+        | inr here ↦ inr (later x here)
       ]
     ]);
   }
 
-pub left_end : (c : Content) (n : ℕ) (played : List (Move × Placement)) (i : ℕ) (moves : List Move)
-    → length played ≤ i → AreLeftBelow c n played i moves → AreLeft c n played moves
-left_end c n played i moves end h = record {
-  from = h.from;
-  others = λ r there. let k = index_of r played there in h.others k.0 r (omega (arith, k.1, end)) k.2;
+pub moves_added : (old new : List (ℕ × Move)) (rank : ℕ) (r : Move) → new ≡ old ++ (rank, r) ∷ []
+    → moves_of new ≡ moves_of old ++ r ∷ []
+moves_added old new rank r added = ap moves_of added ∙ map-append (λ (z : ℕ × Move). z.1) old ((rank, r) ∷ [])
+
+pub put_off_all : (g : Geometry) (q : Placement) (n : ℕ) (legal : List Move) (i : ℕ) (replies : List Move)
+    (a c : Moment) → AreLegal g q legal → length legal ≤ i → PutOff g q n legal i replies a c
+    → AreOpen g q n replies a c
+put_off_all g q n legal i replies a c all end h = record {
+  legal = h.legal_too;
+  others = λ r l. let k = index_of r legal ((all.exactly r).1 l) in h.others k.0 r (omega (arith, k.1, end)) k.2;
 }
 
--- ---- all of them
--- one more move with the position after it
-pub played_more : (g : Geometry) (q : Placement) (moves : List Move) (played : List (Move × Placement)) (i : ℕ)
-    (m : Move) (p : Placement) → played ≡ map (λ m. (m, play g q m)) (take i moves) → i < length moves
-    → m ≡ get_or moves i m → p ≡ play g q m
-    → played ++ (m, p) ∷ [] ≡ map (λ m. (m, play g q m)) (take (i + 1) moves)
-played_more g q moves played i m p h low is at =
-    ap (λ z. played ++ (m, z) ∷ []) at
-    ∙ (ap (λ z. z ++ (m, play g q m) ∷ []) h
-    ∙ (sym (map-append (λ m. (m, play g q m)) (take i moves) (m ∷ []))
-    ∙ (ap (λ z. map (λ m. (m, play g q m)) (take i moves ++ z ∷ [])) is
-    ∙ ap (map (λ m. (m, play g q m))) (sym (take-suc moves i m low) ∙ ap (λ n. take n moves) (sym (add-one i))))))
-
--- ---- all of them
--- the moves with the positions after them
-pub all_played : (g : Geometry) (q : Placement) (moves : List Move) (played : List (Move × Placement)) (i : ℕ)
-    → AreLegal g q moves → played ≡ map (λ m. (m, play g q m)) (take i moves) → length moves ≤ i
-    → ArePlayed g q played
-all_played g q moves played i legal h end = record {
-  each = λ r there.
-      let f = mem_map_back (λ m. (m, play g q m)) r moves (subst (Member r) is there) in
-      subst (λ (z : Move × Placement). Legal g q z.0 × (z.1 ≡ play g q z.0)) (sym f.2)
-      ((legal.exactly f.0).0 f.1, refl);
-  all = λ m l. subst (Member (m, play g q m)) (sym is)
-      (mem_map (λ z. (z, play g q z)) m moves ((legal.exactly m).1 l));
-} where
-  is : played ≡ map (λ m. (m, play g q m)) moves
-  is = h ∙ ap (map (λ m. (m, play g q m))) (take_all i moves end)
-
-pub one_fails : (g : Geometry) (c : Content) (q : Placement) (n : ℕ) (played : List (Move × Placement))
-    → ArePlayed g q played → OneFails c n played → IsKnownRefuted g c q n
-one_fails g c q n played p f =
-    let is = p.each f.0 f.1 in
-    (f.0.0, is.0, elim f.2 [ inl none ↦ inl none | inr fail ↦ inr (subst (λ z. KnownFail c z n) is.1 fail) ])
-
-pub open_left : (g : Geometry) (c : Content) (q : Placement) (n : ℕ) (played : List (Move × Placement))
-    (moves : List Move) → ArePlayed g q played → AreLeft c n played moves → AreOpen g c q n moves
-open_left g c q n played moves p l = record {
-  legal = λ m there. let f = l.from m there in subst (Legal g q) f.2 (p.each f.0 f.1).0;
-  others = λ m legal. l.others (m, play g q m) (p.all m legal);
-}
-
+-- ---- those that were put off
 -- they may stand in any order
-pub open_anyhow : (g : Geometry) (c : Content) (q : Placement) (n : ℕ) (moves : List Move)
-    (ranked sorted : List (ℕ × Move)) → AreOpen g c q n moves → moves_of ranked ≡ moves → IsPermutation ranked sorted
-    → AreOpen g c q n (moves_of sorted)
-open_anyhow g c q n moves ranked sorted o are moved = record {
+pub open_anyhow : (g : Geometry) (q : Placement) (n : ℕ) (ranked sorted : List (ℕ × Move)) (a c : Moment)
+    → AreOpen g q n (moves_of ranked) a c → IsPermutation ranked sorted → AreOpen g q n (moves_of sorted) a c
+open_anyhow g q n ranked sorted a c o moved = record {
   legal = λ m there.
       let r = rank_of sorted m there in
       let old = still_there sorted ranked (IsPermutation-sym ranked sorted moved) (r.0, m) r.1 in
-      o.legal m (subst (Member m) are (move_of ranked (r.0, m) old));
+      o.legal m (move_of ranked (r.0, m) old);
   others = λ m l. elim (o.others m l) [
     | inl there ↦
-        let r = rank_of ranked m (subst (Member m) (sym are) there) in
+        let r = rank_of ranked m there in
         inl (move_of sorted (r.0, m) (still_there ranked sorted moved (r.0, m) r.1))
     | inr known ↦ inr known
   ];
 }
 
--- all legal moves are open
-pub open_all : (g : Geometry) (c : Content) (q : Placement) (n : ℕ) (moves : List Move) → AreLegal g q moves
-    → AreOpen g c q n moves
-open_all g c q n moves all = record { legal = λ m. (all.exactly m).0; others = λ m l. inl ((all.exactly m).1 l) }
-
--- ---- replies that are searched
-pub open_legal : (g : Geometry) (c : Content) (q : Placement) (n : ℕ) (ranked : List (ℕ × Move)) (i : ℕ) (x : ℕ × Move)
-    → AreOpen g c q n (moves_of ranked) → i < length ranked → x ≡ get_or ranked i x → Legal g q x.1
-open_legal g c q n ranked i x o low is = o.legal x.1 (move_of ranked x (member_at ranked i x low is))
-
--- an open reply stands in the list with a rank
+-- a reply stands in the list with a rank
 at_index : (ranked : List (ℕ × Move)) (m : Move) → Member m (moves_of ranked)
     → (rank k : ℕ) × (k < length ranked) × ((rank, m) ≡ get_or ranked k (rank, m))
 at_index ranked m there = let r = rank_of ranked m there in let k = index_of (r.0, m) ranked r.1 in
     (r.0, k.0, k.1, k.2)
 
-pub open_won : (g : Geometry) (c : Content) (q : Placement) (n : ℕ) (ranked : List (ℕ × Move)) (i : ℕ) → AreTrue g c
-    → AreOpen g c q n (moves_of ranked) → length ranked ≤ i → AllWon g q n ranked i → Lost g q n
-open_won g c q n ranked i right o end won r l = elim (o.others r l) [
-  | inl there ↦ let k = at_index ranked r there in won k.1 (k.0, r) (omega (arith, k.2, end)) k.3
-  | inr known ↦ right.wins (play g q r) n known
-]
+pub put_off_legal : (g : Geometry) (q : Placement) (ranked : List (ℕ × Move)) (i : ℕ) (x : ℕ × Move)
+    → AreAllLegal g q (moves_of ranked) → i < length ranked → x ≡ get_or ranked i x → Legal g q x.1
+put_off_legal g q ranked i x all low is = all x.1 (move_of ranked x (member_at ranked i x low is))
 
-pub says_open : (g : Geometry) (n : ℕ) (q : Placement) (ranked : List (ℕ × Move)) (i : ℕ) (a c : Moment)
-    → AreOpen g a.content q n (moves_of ranked) → length ranked ≤ i → Tried g n (Answered g q n) ranked i a c
-    → NothingLost a c → SaysLost g c.content q n true
-says_open g n q ranked i a c o end h kept = record {
-  when = λ _ r l. elim (o.others r l) [
-    | inl there ↦ let k = at_index ranked r there in h.1 kept k.1 (k.0, r) (omega (arith, k.2, end)) k.3
-    | inr known ↦ (h.0.worked kept).stronger.wins (play g q r) n known
-  ];
+pub all_win : (g : Geometry) (q : Placement) (n : ℕ) (ranked : List (ℕ × Move)) (i : ℕ) → length ranked ≤ i
+    → AllWon g q n ranked i → AllWin g q n ranked
+all_win g q n ranked i end won r there =
+    let k = at_index ranked r there in
+    won k.1 (k.0, r) (omega (arith, k.2, end)) k.3
+
+pub one_does_not : (g : Geometry) (q : Placement) (n : ℕ) (ranked : List (ℕ × Move)) (i : ℕ) (x : ℕ × Move)
+    → i < length ranked → x ≡ get_or ranked i x → (Win g (play g q x.1) n → ⊥) → AllWin g q n ranked → ⊥
+one_does_not g q n ranked i x low is fails all = fails (all x.1 (move_of ranked x (member_at ranked i x low is)))
+
+pub says_all : (g : Geometry) (n : ℕ) (q : Placement) (ranked : List (ℕ × Move)) (i : ℕ) (a c : Moment)
+    → length ranked ≤ i → Tried g n (Answered g q n) ranked i a c → NothingLost a c
+    → SaysAll g c.content q n ranked true
+says_all g n q ranked i a c end h kept = record {
+  when = λ _ r there. let k = at_index ranked r there in h.1 kept k.1 (k.0, r) (omega (arith, k.2, end)) k.3;
   unless = λ t. absurd (t refl);
 }
 
--- ---- a reply that is known to refute
-pub refuted_is_not_lost : (g : Geometry) (c : Content) (q : Placement) (n : ℕ) → AreTrue g c → IsKnownRefuted g c q n
-    → Lost g q n → ⊥
-refuted_is_not_lost g c q n right r lost = elim r.2 [
-  | inl none ↦ subst (Win g (play g q r.0)) none (lost r.0 r.1)
-  | inr fails ↦ right.fails (play g q r.0) n fails (lost r.0 r.1)
+pub says_not_all : (g : Geometry) (c : Content) (q : Placement) (n : ℕ) (ranked : List (ℕ × Move))
+    → SaysLost g c q n false → SaysAll g c q n ranked false
+says_not_all g c q n ranked s = record { when = λ t. absurd (true≢false (sym t)); unless = s.unless }
+
+-- ---- all replies
+module _ (g : Geometry) (q : Placement) (n cut : ℕ) (ranked : List (ℕ × Move)) (a b c : Moment)
+    (o : AreOpen g q n (moves_of ranked) a b) (v : Searched g n 0 a b) (w : Searched g n cut b c) where
+  pub all_lose : (answer : Bool) → (IsTrue answer ↔ AllWin g q n ranked) → IsTrue answer ↔ Lost g q n
+  all_lose answer is = (
+    (λ t r l. elim (o.others r l) [ inl there ↦ is.0 t r there | inr here ↦ here.wins ]),
+    (λ lost. is.1 (λ r there. lost r (o.legal r there))),
+  )
+
+  pub says_all_lose : (answer : Bool) → NothingLost a c → (NothingLost b c → SaysAll g c.content q n ranked answer)
+      → SaysLost g c.content q n answer
+  says_all_lose answer kept says =
+      let first = first_kept a b c v.counted w.counted kept in
+      let second = second_kept a b c v.counted w.counted kept in
+      let s = says second in
+      record {
+        when = λ t r l. elim (o.others r l) [
+          | inl there ↦ s.when t r there
+          | inr here ↦ (w.worked second).stronger.wins (play g q r) n (here.says first)
+        ];
+        unless = s.unless;
+      }
+
+-- ---- looks at the last move of the attacker
+abbrev pub AllKnown : Geometry → Content → Placement → List Move → ℕ → Type 0
+AllKnown g c q legal i = (k : ℕ) (r : Move) → k < i → r ≡ get_or legal k r → KnownWin c (play g q r) 1
+
+pub known_none : (g : Geometry) (c : Content) (q : Placement) (legal : List Move) → AllKnown g c q legal 0
+known_none g c q legal k r low e = absurd (omega (arith, low))
+
+pub known_more : (g : Geometry) (c : Content) (q : Placement) (legal : List Move) (i : ℕ) (r : Move)
+    → AllKnown g c q legal i → i < length legal → r ≡ get_or legal i r → KnownWin c (play g q r) 1
+    → AllKnown g c q legal (i + 1)
+known_more g c q legal i r h low is here k x under at = elim (split k i under) [
+  | inl e ↦
+      let at_i : x ≡ get_or legal i x = subst (λ z. x ≡ get_or legal z x) e at in
+      subst (λ z. KnownWin c (play g q z) 1) (is ∙ (get_same legal i r x low ∙ sym at_i)) here
+  | inr less ↦ h k x less at
 ]
 
-pub refuted_same : (g : Geometry) (c d : Content) (q : Placement) (n : ℕ) → SameEntries c d → IsKnownRefuted g d q n
-    → IsKnownRefuted g c q n
-refuted_same g c d q n same r = (
-  r.0,
-  r.1,
-  elim r.2 [
-    | inl none ↦ inl none
-    | inr f ↦ inr (same_fail c d same (play g q r.0) n f)
-  ],
+pub known_all : (g : Geometry) (c d : Content) (q : Placement) (legal : List Move) (i : ℕ) → AreTrue g c
+    → SameEntries c d → AreLegal g q legal → length legal ≤ i → AllKnown g c q legal i
+    → (IsTrue true ↔ Lost g q 1) × SaysLost g d q 1 true
+known_all g c d q legal i right same all end h =
+    let each : (r : Move) → Legal g q r → KnownWin c (play g q r) 1 = λ r l.
+    let k = index_of r legal ((all.exactly r).1 l) in h k.0 r (omega (arith, k.1, end)) k.2 in (
+      ((λ _ r l. right.wins (play g q r) 1 (each r l)), (λ _. refl)),
+      record {
+        when = λ _ r l. same_win d c (flip c d same) (play g q r) 1 (each r l);
+        unless = λ t. absurd (t refl);
+      },
+    )
+
+pub known_refuted : (g : Geometry) (c d : Content) (q : Placement) (r : Move) (wins : Bool) → Legal g q r
+    → wins ≡ false → IsKnown g c d (play g q r) 1 wins → (IsTrue false ↔ Lost g q 1) × SaysLost g d q 1 false
+known_refuted g c d q r wins l none known = (
+  ((λ t. absurd (true≢false (sym t))), (λ lost. absurd (true≢false (sym (known.answer.1 (lost r l)) ∙ none)))),
+  record {
+    when = λ t. absurd (true≢false (sym t));
+    unless = λ _. (r, l, known.says.unless (λ t. true≢false (sym t ∙ none)));
+  },
 )
 
-pub says_known : (g : Geometry) (c d : Content) (q : Placement) (n : ℕ) → SameEntries c d → IsKnownRefuted g c q n
-    → SaysLost g d q n false
-says_known g c d q n same r = record {
-  when = λ t. absurd (true≢false (sym t));
-  unless = λ _. refuted_same g d c q n (flip c d same) r;
-}
+pub not_all_known : (g : Geometry) (c d : Content) (q : Placement) (r : Move) → Legal g q r → SameEntries c d
+    → (IsDecided d (play g q r) 1 → ⊥) → RepliesAreDecided g c q 1 → ⊥
+not_all_known g c d q r l same unknown all = elim (all r l) [
+  | inl none ↦ omega (arith, none)
+  | inr (inl w) ↦ unknown (inl (same_win d c (flip c d same) (play g q r) 1 w))
+  | inr (inr f) ↦ unknown (inr (same_fail d c (flip c d same) (play g q r) 1 f))
+]
 
--- ---- at the last move of the attacker
-pub last_lined_up : {B : Type 0} (g : Geometry) (c : Content) (q : Placement) (n : ℕ) (ranked : List (ℕ × Move))
-    (r : Replies B) → n ≡ 1 → AreLinedUpLast g q ranked r → AreLinedUp g c q n ranked r
-last_lined_up g c q n ranked Refuted one h = absurd h
-last_lined_up g c q n ranked (Sure after) one h = (one, h)
-last_lined_up g c q n ranked Open one h = open_all g c q n (moves_of ranked) h
-
--- the replies that are gone through are those still open
-pub open_here : {B : Type 0} (g : Geometry) (c : Content) (q : Placement) (n : ℕ) (ranked items : List (ℕ × Move))
-    (r : Replies B) → AreLinedUp g c q n ranked r → r ≡ Open → items ≡ ranked → AreOpen g c q n (moves_of items)
-open_here g c q n ranked items r h is at =
-    subst (λ z. AreOpen g c q n (moves_of z)) (sym at) (subst (AreLinedUp g c q n ranked) is h)
+-- ---- the replies at that move, in a list
+pub last_ranked : (g : Geometry) (q : Placement) (ranked items : List (ℕ × Move)) (o : Option Placement)
+    → AreLinedUpLast g q ranked o → o ≡ None → items ≡ ranked → AreRanked g q items
+last_ranked g q ranked items o h is at =
+    subst (AreRanked g q) (sym at) (subst (AreLinedUpLast g q ranked) is h)

@@ -98,6 +98,14 @@ reply_decided g c d q p r n e f all u legal at = elim (all r legal) [
   | inr k ↦ inr (subst (λ z. IsDecided d z n) (sym at) (decided_same c d (play g q r) n u.1 k))
 ]
 
+-- and all replies are that were, if no entry changes
+pub replies_same : (g : Geometry) (c d : Content) (q : Placement) (n : ℕ) → SameEntries c d → RepliesAreDecided g c q n
+    → RepliesAreDecided g d q n
+replies_same g c d q n same all r legal = elim (all r legal) [
+  | inl none ↦ inl none
+  | inr k ↦ inr (decided_same c d (play g q r) n same k)
+]
+
 -- an answer is no stop
 pub ok_is_no_err : {A E : Type 0} (x : A) (e : E) → Ok x ≡ Err e → ⊥
 ok_is_no_err x e q = cc

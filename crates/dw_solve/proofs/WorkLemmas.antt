@@ -15,7 +15,7 @@ use Rattle.dw_memo.specs.declared.memo.Noted.{Noted}
 use Rattle.dw_memo.specs.Bounding.{at_least, at_most, with_fail, with_win}
 use Rattle.dw_memo.specs.Content.{Entry, entry, Content, positions, IsMap, SameEntries}
 use Rattle.dw_board.specs.Lists.{Member}
-use Rattle.dw_memo.specs.Noting.{IsPutIn, IsNote}
+use Rattle.dw_memo.specs.Noting.{IsPutIn, IsNote, IsOneLost}
 use Rattle.dw_moves.specs.inner.MemberLemmas as laws
 use Rattle.dw_solve.specs.Facts.{KnownWin, KnownFail, IsDecided, IsClosed}
 use Rattle.dw_solve.specs.inner.Searching.{HasBounds, IsNoted, SaysMove}
@@ -140,6 +140,18 @@ stronger_same : (c d : Content) → SameEntries c d → Stronger c d
 stronger_same c d same =
     let back : SameEntries d c = λ e. ((same e).1, (same e).0) in
     record { wins = λ p n. same_win d c back p n; fails = λ p n. same_fail d c back p n }
+
+-- bounds were left out, which counts as a loss
+pub left_out_loses : (a c : Moment) → IsOneLost a.lost c.lost → NothingLost a c → ⊥
+left_out_loses a c one kept = omega (arith, one, kept.0, kept.1)
+
+pub searched_left_out : (g : Geometry) (n cut : ℕ) (a c : Moment) → SameEntries a.content c.content
+    → IsOneLost a.lost c.lost → a.expanded ≤ c.expanded → Searched g n cut a c
+searched_left_out g n cut a c same one rises = record {
+  few = record { positions = []; few = omega (arith, rises); all = λ e m. inl ((same e).1 m) };
+  counted = record { rises = λ h. omega (arith, one, h); within = λ h. omega (arith, one, h) };
+  worked = λ kept. absurd (left_out_loses a c one kept);
+}
 
 pub searched_same : (g : Geometry) (n cut : ℕ) (a c : Moment) → IsMap a.content → SameEntries a.content c.content
     → a.lost ≡ c.lost → a.expanded ≡ c.expanded → Searched g n cut a c

@@ -3,7 +3,7 @@ ghost use Rattle.std.specs.Prelude.{◌≡◌};
 ghost use Rattle.dw_moves.specs.Moves.{Legal, play};
 ghost use Rattle.dw_solve.specs.Trial.{IsCaptureRank, IsRankByTrial, IsTrial};
 
-use crate::trial::trial;
+use crate::trial::{freedom, trial};
 use dw_board::{Board, Position};
 use dw_moves::Move;
 use dw_moves::best::best_captures;
@@ -26,17 +26,23 @@ pub trait Guide<B: Board> {
     {
         self.rank(position, mv)
     }
-}
 
-/// The quick ranks of a guide.
-#[derive(Drop)]
-pub(crate) struct Quickly<'a, G> {
-    pub(crate) guide: &'a G,
-}
+    /// The rank of a move that leads to this position. A guide that ranks moves by it need not make the move again.
+    /// Example: by `AnyOrder` it is 0.
+    fn rank_reached(&self, position: &Position<B>, mv: &Move<B>, _after: &Position<B>) -> u32
+        requires legal { Legal B.geometry position.now mv.now }
+        requires reached { _after.now ≡ play B.geometry position.now mv.now }
+    {
+        self.rank(position, mv)
+    }
 
-impl<'a, B: Board, G: Guide<B>> Guide<B> for Quickly<'a, G> {
-    fn rank(&self, position: &Position<B>, mv: &Move<B>) -> u32 {
-        self.guide.quick_rank(position, mv)
+    /// The quick rank of a move that leads to this position.
+    /// Example: by `ByTrial` it is the `trial` of the move.
+    fn quick_rank_reached(&self, position: &Position<B>, mv: &Move<B>, _after: &Position<B>) -> u32
+        requires legal { Legal B.geometry position.now mv.now }
+        requires reached { _after.now ≡ play B.geometry position.now mv.now }
+    {
+        self.quick_rank(position, mv)
     }
 }
 
@@ -72,12 +78,13 @@ impl<B: Board> Guide<B> for ByTrial {
         requires { Legal B.geometry position.now mv.now }
         ensures { IsRankByTrial B.geometry (play B.geometry position.now mv.now) result }
     {
-        let counted = trial(position, mv);
-        if counted == 0 {
-            capture_rank(&played(position, mv))
-        } else {
-            PER_CHOICE * counted
-        }
+        rank_by_trial(&played(position, mv))
+    }
+
+    fn rank_reached(&self, _position: &Position<B>, _mv: &Move<B>, after: &Position<B>) -> u32
+        ensures { IsRankByTrial B.geometry after.now result }
+    {
+        rank_by_trial(after)
     }
 
     fn quick_rank(&self, position: &Position<B>, mv: &Move<B>) -> u32
@@ -85,6 +92,24 @@ impl<B: Board> Guide<B> for ByTrial {
         ensures { IsTrial B.geometry (play B.geometry position.now mv.now) result }
     {
         trial(position, mv)
+    }
+
+    fn quick_rank_reached(&self, _position: &Position<B>, _mv: &Move<B>, after: &Position<B>) -> u32
+        ensures { IsTrial B.geometry after.now result }
+    {
+        freedom(after)
+    }
+}
+
+/// The rank of a move that leads to this position.
+fn rank_by_trial<B: Board>(after: &Position<B>) -> u32
+    ensures { IsRankByTrial B.geometry after.now result }
+{
+    let counted = freedom(after);
+    if counted == 0 {
+        capture_rank(after)
+    } else {
+        PER_CHOICE * counted
     }
 }
 

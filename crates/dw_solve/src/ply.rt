@@ -1,9 +1,8 @@
 //! The moves of one position, in the order in which a search goes through them.
 ghost use Rattle.std.specs.Prelude.{◌≡◌, [], IfOk, OnOk, IfSome};
 ghost use Rattle.std.specs.List.Sorted.{IsNonDecreasingBy};
-ghost use Rattle.dw_moves.specs.Moves.{AreLegal};
 ghost use Rattle.dw_solve.specs.Ranking.{AreRanked, moves_of};
-ghost use Rattle.dw_solve.specs.inner.Ranking.{AreAllLegal, ArePlayed, IsLastWin, IsSureReply};
+ghost use Rattle.dw_solve.specs.inner.Ranking.{AreAllLegal, IsLastWin, IsSureReply};
 
 use crate::guide::{AnyOrder, Guide};
 use dw_board::{Board, Position};
@@ -16,10 +15,6 @@ use std::alloc::{AllocError, Global};
 pub(crate) struct Ply<B: Board> {
     /// The legal moves.
     pub(crate) legal: Vec<Move<B>>,
-    /// The same with the position to which each leads, where the memo is asked.
-    pub(crate) reached: Vec<(Move<B>, Position<B>)>,
-    /// Those of them that the memo does not decide.
-    pub(crate) undecided: Vec<Move<B>>,
     /// Legal moves with their ranks, the lowest first.
     pub(crate) ranked: Vec<(u32, Move<B>)>,
 }
@@ -31,8 +26,6 @@ impl<B: Board> Ply<B> {
     {
         Ply {
             legal: Vec::new(alloc),
-            reached: Vec::new(alloc),
-            undecided: Vec::new(alloc),
             ranked: Vec::new(alloc),
         }
     }
@@ -48,6 +41,25 @@ impl<B: Board> Ply<B> {
     {
         self.gather(position, guide)?;
         self.ranked.sort_unstable_by_key(|ranked| ranked.0);
+        Ok(())
+    }
+
+    /// The same for a search, which needs no rank of a single move.
+    pub(crate) fn fill_unless_single<G: Guide<B>>(
+        &mut self,
+        position: &Position<B>,
+        guide: &G,
+    ) -> Result<(), AllocError>
+        ensures { OnOk result (AreRanked B.geometry position.now self.new.ranked.items) }
+    {
+        legal_into(position, &mut self.legal)?;
+        self.ranked.clear();
+        let legal = self.legal.as_slice();
+        if legal.len() == 1 {
+            return rank_all(position, &AnyOrder, legal, &mut self.ranked);
+        }
+        rank_all(position, guide, legal, &mut self.ranked)?;
+        self.ranked.sort_unstable_by_key(|entry| entry.0);
         Ok(())
     }
 
@@ -96,7 +108,7 @@ impl<B: Board> Ply<B> {
 }
 
 /// Adds legal moves with their ranks to an empty list.
-pub(crate) fn rank_all<B: Board, G: Guide<B>>(
+fn rank_all<B: Board, G: Guide<B>>(
     position: &Position<B>,
     guide: &G,
     legal: &[Move<B>],
@@ -108,22 +120,6 @@ pub(crate) fn rank_all<B: Board, G: Guide<B>>(
 {
     'moves: for mv in legal {
         ranked.push((guide.rank(position, mv), *mv))?;
-    }
-    Ok(())
-}
-
-/// Adds the legal moves with the positions to which they lead to an empty list.
-pub(crate) fn play_all<B: Board>(
-    position: &Position<B>,
-    legal: &[Move<B>],
-    reached: &mut Vec<(Move<B>, Position<B>)>,
-) -> Result<(), AllocError>
-    requires legal { AreLegal B.geometry position.now legal.now }
-    requires empty { reached.old.items ≡ [] }
-    ensures { OnOk result (ArePlayed B.geometry position.now reached.new.items) }
-{
-    'moves: for mv in legal {
-        reached.push((*mv, played(position, mv)))?;
     }
     Ok(())
 }

@@ -1,9 +1,9 @@
 //! The search: attacker and defender in turn.
 ghost use Rattle.std.specs.Prelude.{◌≡◌, false, ◌≢◌, ℕ, ◌+◌, ◌*◌, ◌≤◌, ◌<◌, ◌↔◌, length, IfOk, OnOk, IfSome, IsSome};
-ghost use Rattle.std.specs.Prelude.{IsNone, ◌⊎◌, IsOk, IsErr, IsErrOf, IsTrue, Contains, cond};
+ghost use Rattle.std.specs.Prelude.{IsNone, ◌⊎◌, IsOk, IsErr, IsErrOf, IsTrue, Contains, cond, []};
 ghost use Rattle.dw_memo.specs.Bounding.{with_win, with_fail};
 ghost use Rattle.dw_memo.specs.Content.{IsMap, SameEntries};
-ghost use Rattle.dw_moves.specs.Moves.{Move, Legal, play};
+ghost use Rattle.dw_moves.specs.Moves.{Move, Legal, AreLegal, play};
 ghost use Rattle.dw_moves.specs.Replies.{AlwaysReply};
 ghost use Rattle.dw_solve.specs.declared.stop.Stop.TheVariants.{Limit};
 ghost use Rattle.dw_solve.specs.Wins.{Win, Lost};
@@ -13,18 +13,18 @@ ghost use Rattle.dw_solve.specs.inner.Searching.{HasLooked, IsLookedUp};
 ghost use Rattle.dw_solve.specs.inner.Searching.{HasBounds, IsNoted, SaysMove, IsUndecided};
 ghost use Rattle.dw_solve.specs.Work.{Searched};
 ghost use Rattle.dw_solve.specs.Certificates.{SaysWin, SaysLost};
-ghost use Rattle.dw_solve.specs.Ranking.{AreRanked};
-ghost use Rattle.dw_solve.specs.inner.Ranking.{IsSureReply};
+ghost use Rattle.dw_solve.specs.Ranking.{AreRanked, moves_of};
+ghost use Rattle.dw_solve.specs.inner.Ranking.{AreAllLegal, AreOpen, AllWin, SaysAll, IfAnswered, IsLossLookedUp};
 
 use crate::guide::Guide;
 use crate::history::{ByHistory, FEWEST_LEFT, History};
 use crate::ply::Ply;
-use crate::replies::{Replies, line_up_replies};
+use crate::replies::{Tried, add_reply, line_up_last, put_off};
 use crate::stop::Stop;
 use dw_board::{Board, Position};
 use dw_memo::{Bounds, Memo};
 use dw_moves::play::play as played;
-use dw_moves::{Move, has_move};
+use dw_moves::{Move, has_move, legal_into};
 use std::alloc::AllocError;
 
 /// What a search works on: a memo, an order of moves, how many positions it has expanded and may expand, and which
@@ -58,10 +58,6 @@ pub(crate) fn wins<B: Board, M: Memo<B>, G: Guide<B>>(
     ensures known { (moves ≡ 0) ⊎ IsDecided (M.content search.old.memo) position.now moves
         → IsOk result × StaysIdle M.content search.old search.new }
 {
-    if moves == 1 {
-        let (last, _) = plies.split_first_mut().unwrap();
-        return wins_at_once(search, last, position);
-    }
     if let Some(answer) = known(search, position, moves) {
         return Ok(answer);
     }
@@ -121,7 +117,8 @@ fn some_move_wins<B: Board, M: Memo<B>, G: Guide<B>>(
     Ok(false)
 }
 
-/// Whether the side to move has lost: the other wins within so many of its moves after every reply.
+/// Whether the side to move has lost: the other wins within so many of its moves after every reply. A reply that is
+/// known to be good is searched as soon as it is met, and the others later, by their ranks.
 #[cycle(search)]
 pub(crate) fn loses<B: Board, M: Memo<B>, G: Guide<B>>(
     search: &mut Search<M, G>,
@@ -136,23 +133,200 @@ pub(crate) fn loses<B: Board, M: Memo<B>, G: Guide<B>>(
     ensures says { LosesNothing M.content M.dropped search.old search.new
         → IfOk result (SaysLost B.geometry (M.content search.new.memo) position.now moves) }
     ensures known { RepliesAreDecided B.geometry (M.content search.old.memo) position.now moves
-        → (IsErrOf result Limit → ⊥) × StaysIdle M.content search.old search.new }
+        → (moves ≡ 1) ⊎ ((IsErrOf result Limit → ⊥) × StaysIdle M.content search.old search.new) }
 {
     if moves == 0 {
         return Ok(!has_move(position));
     }
+    if moves == 1 {
+        return loses_last(search, plies, position);
+    }
     let (ply, rest) = plies.split_first_mut().unwrap();
-    match line_up_replies(search, ply, position, moves)? {
-        Replies::Refuted => return Ok(false),
-        Replies::Sure(after) => {
-            refute(search, &after)?;
+    legal_into(position, &mut ply.legal)?;
+    ply.ranked.clear();
+    if good_reply_refutes(
+        search,
+        rest,
+        position,
+        ply.legal.as_slice(),
+        &mut ply.ranked,
+        moves,
+    )? {
+        return Ok(false);
+    }
+    ply.ranked.sort_unstable_by_key(|ranked| ranked.0);
+    all_replies_lose(search, rest, position, ply.ranked.as_slice(), moves)
+}
+
+/// Goes through the legal replies. Answers whether one refutes that the memo decides, or that is good. The others are
+/// added with their ranks to an empty list.
+#[cycle(search)]
+fn good_reply_refutes<B: Board, M: Memo<B>, G: Guide<B>>(
+    search: &mut Search<M, G>,
+    plies: &mut [Ply<B>],
+    position: &Position<B>,
+    legal: &[Move<B>],
+    ranked: &mut Vec<(u32, Move<B>)>,
+    moves: u8,
+) -> Result<bool, Stop>
+    requires legal { AreLegal B.geometry position.now legal.now }
+    requires empty { ranked.old.items ≡ [] }
+    requires ready { CanSearch B.geometry M.content search.old }
+    requires room { 2 * moves ≤ length plies.old }
+    requires some { 1 ≤ moves }
+    ensures refuted { IfOk result (λ yes. IsTrue yes → Lost B.geometry position.now moves → ⊥) }
+    ensures open { IfOk result (λ yes. yes ≡ false →
+        AreOpen B.geometry position.now moves (moves_of ranked.new.items)
+        (at_time M.content M.dropped search.old) (at_time M.content M.dropped search.new)) }
+    ensures searched { HasSearched B.geometry M.content M.dropped moves search.old search.new result }
+    ensures says { LosesNothing M.content M.dropped search.old search.new
+        → IfOk result (λ yes. IsTrue yes → SaysLost B.geometry (M.content search.new.memo) position.now moves false) }
+    ensures known { RepliesAreDecided B.geometry (M.content search.old.memo) position.now moves
+        → (IsErrOf result Limit → ⊥) × StaysIdle M.content search.old search.new }
+{
+    let is_only = legal.len() == 1;
+    'replies: for reply in legal {
+        match try_reply(search, plies, position, reply, moves, is_only)? {
+            Tried::Answered(true) => {}
+            Tried::Answered(false) => return Ok(true),
+            Tried::PutOff(rank) => add_reply(ranked, rank, reply)?,
+        }
+    }
+    Ok(false)
+}
+
+/// Whether the attacker wins within so many of his moves after a reply, if the memo decides it or the reply is good.
+#[cycle(search)]
+fn try_reply<B: Board, M: Memo<B>, G: Guide<B>>(
+    search: &mut Search<M, G>,
+    plies: &mut [Ply<B>],
+    position: &Position<B>,
+    reply: &Move<B>,
+    moves: u8,
+    is_only: bool,
+) -> Result<Tried, Stop>
+    requires legal { Legal B.geometry position.now reply.now }
+    requires ready { CanSearch B.geometry M.content search.old }
+    requires room { 2 * moves ≤ length plies.old }
+    ensures answer { IfOk result (IfAnswered (λ yes.
+        IsTrue yes ↔ Win B.geometry (play B.geometry position.now reply.now) moves)) }
+    ensures searched { HasSearched B.geometry M.content M.dropped moves search.old search.new result }
+    ensures says { let after = play B.geometry position.now reply.now in
+        LosesNothing M.content M.dropped search.old search.new
+        → IfOk result (IfAnswered (SaysWin (M.content search.new.memo) after moves)) }
+    ensures known { (moves ≡ 0) ⊎ IsDecided (M.content search.old.memo) (play B.geometry position.now reply.now) moves
+        → IsOk result × StaysIdle M.content search.old search.new }
+{
+    let after = played(position, reply);
+    if let Some(wins) = known(search, &after, moves) {
+        return Ok(Tried::Answered(wins));
+    }
+    if let Some(rank) = put_off(&search.guide, position, reply, &after, moves, is_only) {
+        return Ok(Tried::PutOff(rank));
+    }
+    let wins = expand(search, plies, &after, moves)?;
+    Ok(Tried::Answered(wins))
+}
+
+/// Whether the attacker wins within so many of his moves after each of these replies.
+#[cycle(search)]
+fn all_replies_lose<B: Board, M: Memo<B>, G: Guide<B>>(
+    search: &mut Search<M, G>,
+    plies: &mut [Ply<B>],
+    position: &Position<B>,
+    ranked: &[(u32, Move<B>)],
+    moves: u8,
+) -> Result<bool, Stop>
+    requires legal { AreAllLegal B.geometry position.now (moves_of ranked.now) }
+    requires ready { CanSearch B.geometry M.content search.old }
+    requires room { 2 * moves ≤ length plies.old }
+    ensures answer { IfOk result (λ yes. IsTrue yes ↔ AllWin B.geometry position.now moves ranked.now) }
+    ensures searched { HasSearched B.geometry M.content M.dropped moves search.old search.new result }
+    ensures says { LosesNothing M.content M.dropped search.old search.new
+        → IfOk result (SaysAll B.geometry (M.content search.new.memo) position.now moves ranked.now) }
+    ensures known { RepliesAreDecided B.geometry (M.content search.old.memo) position.now moves
+        → (IsErrOf result Limit → ⊥) × StaysIdle M.content search.old search.new }
+{
+    'replies: for candidate in ranked {
+        if !wins(search, plies, &played(position, &candidate.1), moves)? {
             return Ok(false);
         }
-        Replies::Open => {}
     }
+    Ok(true)
+}
+
+/// Whether the side to move has lost, as a caller asks: with one move left the memo is asked about each reply, which it
+/// is not in a search once it has lost something.
+pub(crate) fn loses_at_root<B: Board, M: Memo<B>, G: Guide<B>>(
+    search: &mut Search<M, G>,
+    plies: &mut [Ply<B>],
+    position: &Position<B>,
+    moves: u8,
+) -> Result<bool, Stop>
+    requires ready { CanSearch B.geometry M.content search.old }
+    requires room { 0 < moves → 2 * moves + 1 ≤ length plies.old }
+    ensures answer { IfOk result (λ yes. IsTrue yes ↔ Lost B.geometry position.now moves) }
+    ensures searched { HasSearched B.geometry M.content M.dropped moves search.old search.new result }
+    ensures says { LosesNothing M.content M.dropped search.old search.new
+        → IfOk result (SaysLost B.geometry (M.content search.new.memo) position.now moves) }
+    ensures known { RepliesAreDecided B.geometry (M.content search.old.memo) position.now moves
+        → (IsErrOf result Limit → ⊥) × StaysIdle M.content search.old search.new }
+{
+    if moves != 1 {
+        return loses(search, plies, position, moves);
+    }
+    match known_loss(search, plies, position)? {
+        Some(answer) => Ok(answer),
+        None => loses_last(search, plies, position),
+    }
+}
+
+/// Whether the side to move has lost, with one move of the attacker left, if the memo decides each reply or one that
+/// refutes.
+fn known_loss<B: Board, M: Memo<B>, G>(
+    search: &mut Search<M, G>,
+    plies: &mut [Ply<B>],
+    position: &Position<B>,
+) -> Result<Option<bool>, AllocError>
+    requires right { AreTrue B.geometry (M.content search.old.memo) }
+    requires room { 1 ≤ length plies.old }
+    ensures looked { HasLooked B.geometry M.content M.dropped search.old search.new }
+    ensures answer { IfOk result (IsLossLookedUp B.geometry (M.content search.old.memo) (M.content search.new.memo)
+        position.now 1) }
+{
+    let (ply, _) = plies.split_first_mut().unwrap();
+    legal_into(position, &mut ply.legal)?;
+    'replies: for reply in ply.legal.as_slice() {
+        match known(search, &played(position, reply), 1) {
+            Some(true) => {}
+            Some(false) => return Ok(Some(false)),
+            None => return Ok(None),
+        }
+    }
+    Ok(Some(true))
+}
+
+/// Whether the side to move has lost, with one move of the attacker left.
+fn loses_last<B: Board, M: Memo<B>, G>(
+    search: &mut Search<M, G>,
+    plies: &mut [Ply<B>],
+    position: &Position<B>,
+) -> Result<bool, Stop>
+    requires ready { CanSearch B.geometry M.content search.old }
+    requires room { 2 ≤ length plies.old }
+    ensures answer { IfOk result (λ yes. IsTrue yes ↔ Lost B.geometry position.now 1) }
+    ensures searched { HasSearched B.geometry M.content M.dropped 1 search.old search.new result }
+    ensures says { LosesNothing M.content M.dropped search.old search.new
+        → IfOk result (SaysLost B.geometry (M.content search.new.memo) position.now 1) }
+{
+    let (ply, rest) = plies.split_first_mut().unwrap();
+    if let Some(after) = line_up_last(ply, position)? {
+        refute(search, &after)?;
+        return Ok(false);
+    }
+    let (last, _) = rest.split_first_mut().unwrap();
     'replies: for candidate in ply.ranked.as_slice() {
-        let reply = &candidate.1;
-        if !wins(search, rest, &played(position, reply), moves)? {
+        if !wins_last(search, last, &played(position, &candidate.1))? {
             return Ok(false);
         }
     }
@@ -176,12 +350,12 @@ fn line_up<B: Board, M, G: Guide<B>>(
             guide: &search.guide,
             history: &search.history,
         };
-        ply.fill(position, &guide)
+        ply.fill_unless_single(position, &guide)
     }
 }
 
-/// Takes it up that the attacker does not win with his last move, if that is seen at a glance: the position is
-/// counted and noted, unless the memo decides it.
+/// Takes it up that the attacker does not win with his last move, if that is seen at a glance. The memo may leave it
+/// out.
 fn refute<B: Board, M: Memo<B>, G>(
     search: &mut Search<M, G>,
     position: &Position<B>,
@@ -191,8 +365,23 @@ fn refute<B: Board, M: Memo<B>, G>(
     ensures searched { HasSearched B.geometry M.content M.dropped 1 search.old search.new result }
     ensures says { LosesNothing M.content M.dropped search.old search.new
         → OnOk result (SaysWin (M.content search.new.memo) position.now 1 false) }
-    ensures known { IsDecided (M.content search.old.memo) position.now 1
-        → IsOk result × StaysIdle M.content search.old search.new }
+{
+    if leave_out(search)? {
+        return Ok(());
+    }
+    refute_noted(search, position)
+}
+
+/// The same, if the memo does not leave it out: the position is counted and noted, unless the memo decides it.
+fn refute_noted<B: Board, M: Memo<B>, G>(
+    search: &mut Search<M, G>,
+    position: &Position<B>,
+) -> Result<(), Stop>
+    requires ready { CanSearch B.geometry M.content search.old }
+    requires lost { AlwaysReply B.geometry position.now }
+    ensures searched { HasSearched B.geometry M.content M.dropped 1 search.old search.new result }
+    ensures says { LosesNothing M.content M.dropped search.old search.new
+        → OnOk result (SaysWin (M.content search.new.memo) position.now 1 false) }
 {
     let bounds = bounds_now(&mut search.memo, position);
     if bounds.decide(1).is_some() {
@@ -203,8 +392,40 @@ fn refute<B: Board, M: Memo<B>, G>(
     Ok(())
 }
 
-/// Whether the side to move wins with its next move, which is its last. Nothing else comes between the look at the
-/// memo and the note, so the bounds are looked up once.
+/// Whether the side to move wins with its next move, which is its last. The memo may leave it out.
+fn wins_last<B: Board, M: Memo<B>, G>(
+    search: &mut Search<M, G>,
+    ply: &mut Ply<B>,
+    position: &Position<B>,
+) -> Result<bool, Stop>
+    requires ready { CanSearch B.geometry M.content search.old }
+    ensures answer { IfOk result (λ yes. IsTrue yes ↔ Win B.geometry position.now 1) }
+    ensures searched { HasSearched B.geometry M.content M.dropped 1 search.old search.new result }
+    ensures says { LosesNothing M.content M.dropped search.old search.new
+        → IfOk result (SaysWin (M.content search.new.memo) position.now 1) }
+{
+    if leave_out(search)? {
+        let won = ply.wins_at_once(position)?;
+        return Ok(won);
+    }
+    wins_at_once(search, ply, position)
+}
+
+/// Counts a position with one move left, if the memo leaves its bounds out. That is a loss, which it counts.
+fn leave_out<B: Board, M: Memo<B>, G>(search: &mut Search<M, G>) -> Result<bool, Stop>
+    requires { CanSearch B.geometry M.content search.old }
+    ensures searched { HasSearched B.geometry M.content M.dropped 1 search.old search.new result }
+    ensures loses { IfOk result (λ yes. IsTrue yes → LosesNothing M.content M.dropped search.old search.new → ⊥) }
+{
+    if !search.memo.skip_one_move() {
+        return Ok(false);
+    }
+    count(search)?;
+    Ok(true)
+}
+
+/// The same, if the memo does not leave it out. Nothing else comes between the look at the memo and the note, so the
+/// bounds are looked up once.
 fn wins_at_once<B: Board, M: Memo<B>, G>(
     search: &mut Search<M, G>,
     ply: &mut Ply<B>,
@@ -212,13 +433,9 @@ fn wins_at_once<B: Board, M: Memo<B>, G>(
 ) -> Result<bool, Stop>
     requires ready { CanSearch B.geometry M.content search.old }
     ensures answer { IfOk result (λ yes. IsTrue yes ↔ Win B.geometry position.now 1) }
-    ensures spent { OnOk result ((IsDecided (M.content search.old.memo) position.now 1 → ⊥)
-        → search.old.expanded < search.new.expanded) }
     ensures searched { HasSearched B.geometry M.content M.dropped 1 search.old search.new result }
     ensures says { LosesNothing M.content M.dropped search.old search.new
         → IfOk result (SaysWin (M.content search.new.memo) position.now 1) }
-    ensures known { IsDecided (M.content search.old.memo) position.now 1
-        → IsOk result × StaysIdle M.content search.old search.new }
 {
     let bounds = bounds_now(&mut search.memo, position);
     if let Some(answer) = bounds.decide(1) {

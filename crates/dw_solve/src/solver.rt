@@ -15,7 +15,7 @@ use crate::guide::Guide;
 use crate::history::History;
 use crate::lineup::Lineup;
 use crate::ply::Ply;
-use crate::search::{Search, expand, known, loses};
+use crate::search::{Search, expand, known, loses_at_root};
 use crate::stop::Stop;
 use dw_board::{Board, Position};
 use dw_memo::Memo;
@@ -286,7 +286,7 @@ fn ask_loses<B: Board, M: Memo<B>, G: Guide<B>>(
     let needed = if moves == 0 { 0 } else { PLIES };
     let mut plies = prepared(alloc, spare.take(), needed)?;
     search.history.forget();
-    let answer = loses(search, plies.as_mut_slice(), position, moves);
+    let answer = loses_at_root(search, plies.as_mut_slice(), position, moves);
     *spare = Some(plies);
     answer
 }

@@ -15,6 +15,14 @@ pub fn trial<B: Board>(position: &Position<B>, mv: &Move<B>) -> u32
     ensures value { IsTrial B.geometry (play B.geometry position.now mv.now) result }
     ensures small { result ≤ 400 }
 {
-    let after = played(position, mv);
-    count_if_quiet(&after).unwrap_or(0)
+    freedom(&played(position, mv))
+}
+
+/// How free the side to move is: the number of its quiet moves, at most 400, or 0 if it must capture.
+#[inline]
+pub(crate) fn freedom<B: Board>(position: &Position<B>) -> u32
+    ensures value { IsTrial B.geometry position.now result }
+    ensures small { result ≤ 400 }
+{
+    count_if_quiet(position).unwrap_or(0)
 }

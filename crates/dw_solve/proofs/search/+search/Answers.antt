@@ -1,155 +1,36 @@
-use Rattle.std.proofs.Common.{◌≡◌, ◌∙◌, ◌+◌, ◌-◌, ◌*◌, ◌≤◌, true, false, Ok, length, refl, sym, subst, arith, inl, inr, ◌↔◌}
+use Rattle.std.proofs.Common.{◌≡◌, ◌∙◌, ◌+◌, ◌-◌, ◌*◌, ◌≤◌, true, false, Ok, length, refl, sym, ap, subst, arith, inl, inr, ◌↔◌, ◌⊎◌}
 use Rattle.std.specs.Prelude.{IsTrue, IfOk}
-use Rattle.std.proofs.lemmas.Result.{on_ok_weaker, IfOk-from_err}
+use Rattle.std.proofs.lemmas.Result.{IfOk-weaker, IfOk-from_err}
 use Rattle.std.proofs.lemmas.Bool.{true≢false}
 use Rattle.std.specs.List.{IsFirstAndRest}
 use Rattle.std.proofs.lemmas.Option.{MatchOption-at_some}
 use Rattle.dw_solve.specs.Wins.{Win, Lost}
 use Rattle.dw_solve.specs.Facts.{AreTrue, IsDecided}
-use Rattle.dw_solve.specs.Ranking.{AreRanked}
-use Rattle.dw_solve.specs.inner.Ranking.{AreLinedUp}
-use Rattle.dw_solve.specs.Work.{moment, Searched}
+use Rattle.dw_solve.specs.Ranking.{AreRanked, moves_of}
+use Rattle.dw_solve.specs.inner.Ranking.{AreAllLegal, AreOpen, AllWin, SaysAll, IfAnswered}
+use Rattle.dw_solve.specs.Work.{moment, Searched, cut_off}
 use Rattle.dw_solve.specs.inner.Searching.{at_time, HasSearched}
-use Rattle.dw_solve.specs.Certificates.{SaysWin}
+use Rattle.dw_solve.specs.Certificates.{SaysWin, SaysLost}
 use Rattle.dw_moves.specs.Moves.{play}
-use Rattle.dw_solve.proofs.OpenLemmas.{open_here, open_legal, open_won, says_open, refuted_is_not_lost, says_known}
-use Rattle.dw_solve.proofs.OpenLemmas.{counted_looked}
+use Rattle.dw_moves.specs.inner.MoveLemmas.{listed_is_legal}
+use Rattle.dw_solve.proofs.OpenLemmas.{put_off_none, put_off_won, put_off_more, put_off_all, put_off_legal, moves_added}
+use Rattle.dw_solve.proofs.OpenLemmas.{open_anyhow, all_win, one_does_not, says_all, says_not_all, all_lose, says_all_lose}
 use Rattle.dw_solve.proofs.RankLemmas.{ranked_legal, below_more, win_by, never_won}
 use Rattle.dw_solve.proofs.WorkLemmas.{searched_none, searched_wider, searched_looser, searched_stop, stop_passed}
-use Rattle.dw_solve.proofs.WorkLemmas.{moment_is, begun_is, wins_stopped, wins_ended}
+use Rattle.dw_solve.proofs.WorkLemmas.{moment_is, begun_is, wins_stopped, wins_ended, second_kept}
 use Rattle.dw_solve.proofs.StepLemmas.{searched_nothing, searched_on, searched_for_fewer, searched_ok, searched_err}
 use Rattle.dw_solve.proofs.StepLemmas.{searched_memory, searched_looked, memory_is_no_limit, counted_one}
 use Rattle.dw_solve.proofs.TriedLemmas.{Refuted, Answered, tried_none, tried_later, refuted_more, answered_more}
 use Rattle.dw_solve.proofs.TriedLemmas.{says_winning, says_none, says_refuted}
 use Rattle.dw_solve.proofs.WinLemmas.{hopeless_is}
-use Rattle.dw_solve.proofs.SearchLemmas.{ok_is_no_err, not_known, spent_in, unchanged_none, unchanged_then, reply_decided}
+use Rattle.dw_solve.proofs.SearchLemmas.{ok_is_no_err, not_known, spent_in, unchanged_none, unchanged_then, reply_decided, replies_same}
 use Rattle.dw_solve.proofs.SearchLemmas.{lost_at_none, says_at_none, decided_same, counted_none, counted_then, is_so, is_not}
 use Rattle.dw_solve.proofs.SearchLemmas.{answer_no, answer_yes, some_first, counted_within, same_within, one_spent}
 use Rattle.dw_solve.proofs.SearchLemmas.{none_below_none, none_or_one, none_or_some, one_at_most, one_less}
 use Rattle.dw_solve.proofs.SearchLemmas.{room_for_replies, room_for_moves}
 use Rattle.dw_solve.proofs.SearchLemmas.{room_left, room_after, none_at_most, same_at_most}
 use Rattle.dw_solve.proofs.search.+search.Goals as goal
-
-pub loses-play-requires : goal.loses-play-requires
-loses-play-requires g t c =
-    let geo = g.B.Board.geometry in
-    let taken = open_here geo (g.M.Memo.content c.args.search.now.memo) c.args.position.now c.args.moves
-    c.line_up_replies.new.ply.ranked.items c.as_slice-candidate-items.result.now _
-    c.in_ok-line_up_replies.ensures.known c.in-Open.is c.as_slice-candidate-items.ensures.value in
-    open_legal geo (g.M.Memo.content c.args.search.now.memo) c.args.position.now c.args.moves
-    c.as_slice-candidate-items.result.now c.replies.candidate-index c.candidate-item.result taken c.replies-test.true
-    c.candidate-item.is
-
-pub loses-wins-requires : goal.loses-wins-requires
-loses-wins-requires g t c κs within =
-    let rest = (MatchOption-at_some (length c.args.plies.now ≡ 0) (λ p. IsFirstAndRest c.args.plies.now p.0.now p.1.now)
-    c.unwrap.result c.unwrap.ensures c.split_first_mut.ensures.cases).1 in
-    let f = c.decreases in
-    let k = c.replies.invariant.1.0 in (
-      omega (arith, f),
-      (
-        within.0,
-        (
-          within.1.0,
-          (
-            within.1.1,
-            (
-              record {
-                right = c.replies.invariant.0;
-                within = counted_within c.args.search.now.expanded c.args.search.now.limit
-                    c.replies.search.expanded c.replies.search.limit k;
-              },
-              room_left c.args.moves (length c.args.plies.now) (length c.unwrap.result.1.now) (length c.replies.rest)
-                  c.requires.room c.if-moves-eq0.false rest c.replies.auto.rest,
-            ),
-          ),
-        ),
-      ),
-    )
-
-pub loses-replies-init : goal.loses-replies-init
-loses-replies-init g t c =
-    let content = g.M.Memo.content in
-    let lost = g.M.Memo.dropped in
-    let looked = c.line_up_replies.ensures.looked in (
-      looked.right,
-      (
-        counted_looked c.args.search.now.expanded c.args.search.now.limit c.line_up_replies.new.search.expanded
-            c.line_up_replies.new.search.limit c.requires.ready.within looked.count looked.limit,
-        (
-          (λ k x low e. absurd (none_below_none k low)),
-          tried_later g.B.Board.geometry c.args.moves (Answered g.B.Board.geometry c.args.position.now c.args.moves) _
-              (at_time content lost c.args.search.now) (at_time content lost c.line_up_replies.new.search)
-              (searched_wider g.B.Board.geometry 0 c.args.moves 0 (at_time content lost c.args.search.now)
-              (at_time content lost c.line_up_replies.new.search) (none_at_most c.args.moves) looked.work),
-          λ all. (looked.count, looked.same),
-        ),
-      ),
-    )
-
-pub loses-replies-preserved : goal.loses-replies-preserved
-loses-replies-preserved g t c =
-    let geo = g.B.Board.geometry in
-    let content = g.M.Memo.content in
-    let lost = g.M.Memo.dropped in
-    let taken = open_here geo (g.M.Memo.content c.args.search.now.memo) c.args.position.now c.args.moves
-    c.line_up_replies.new.ply.ranked.items c.as_slice-candidate-items.result.now _
-    c.in_ok-line_up_replies.ensures.known c.in-Open.is c.as_slice-candidate-items.ensures.value in
-    let legal = open_legal geo (g.M.Memo.content c.args.search.now.memo) c.args.position.now c.args.moves
-    c.as_slice-candidate-items.result.now c.replies.candidate-index c.candidate-item.result taken c.replies-test.true
-    c.candidate-item.is in
-    let won = subst (λ q. Win geo q c.args.moves) c.play.ensures
-    (is_so c.in_ok-wins.field-0 _ c.in_ok-wins.ensures.answer c.if-not-branch.false) in (
-      c.in_ok-wins.ensures.searched.right,
-      (
-        counted_then c.args.search.now.expanded c.args.search.now.limit c.replies.search.expanded c.replies.search.limit
-            c.wins.new.search.expanded c.wins.new.search.limit c.replies.invariant.1.0
-            c.in_ok-wins.ensures.searched.count,
-        (
-          below_more (λ r. Win geo (play geo c.args.position.now r) c.args.moves) c.as_slice-candidate-items.result.now
-              c.replies.candidate-index c.candidate-item.result c.replies.invariant.1.1.0 c.replies-test.true
-              c.candidate-item.is won,
-          answered_more geo c.args.moves c.args.position.now c.as_slice-candidate-items.result.now
-              c.replies.candidate-index c.candidate-item.result c.play.result c.in_ok-wins.field-0
-              (at_time content lost c.args.search.now) (at_time content lost c.replies.search)
-              (at_time content lost c.wins.new.search)
-              c.replies.invariant.1.1.1 c.replies-test.true c.candidate-item.is c.play.ensures c.if-not-branch.false
-              c.in_ok-wins.ensures.searched.work c.in_ok-wins.ensures.says,
-          λ all.
-              let before = c.replies.invariant.1.1.2 all in
-              let here = c.in_ok-wins.ensures.known (reply_decided geo (content c.args.search.now.memo)
-              (content c.replies.search.memo) c.args.position.now c.play.result c.candidate-item.result.1 c.args.moves
-              c.args.search.now.expanded c.replies.search.expanded all before legal c.play.ensures) in
-              unchanged_then (content c.args.search.now.memo) (content c.replies.search.memo)
-              (content c.wins.new.search.memo) c.args.search.now.expanded c.replies.search.expanded
-              c.wins.new.search.expanded before here.1,
-        ),
-      ),
-    )
-
-pub loses-returns-then-not-branch-clause-answer : goal.loses-returns-then-not-branch-clause-answer
-loses-returns-then-not-branch-clause-answer g t c =
-    let geo = g.B.Board.geometry in
-    let taken = open_here geo (g.M.Memo.content c.args.search.now.memo) c.args.position.now c.args.moves
-    c.line_up_replies.new.ply.ranked.items c.as_slice-candidate-items.result.now _
-    c.in_ok-line_up_replies.ensures.known c.in-Open.is c.as_slice-candidate-items.ensures.value in
-    let legal = open_legal geo (g.M.Memo.content c.args.search.now.memo) c.args.position.now c.args.moves
-    c.as_slice-candidate-items.result.now c.replies.candidate-index c.candidate-item.result taken c.replies-test.true
-    c.candidate-item.is in
-    answer_no (Lost geo c.args.position.now c.args.moves) (λ lost.
-    is_not c.in_ok-wins.field-0 _ c.in_ok-wins.ensures.answer c.if-not-branch.true
-    (subst (λ q. Win geo q c.args.moves) (sym c.play.ensures) (lost c.candidate-item.result.1 legal)))
-
-pub loses-returns-clause-answer : goal.loses-returns-clause-answer
-loses-returns-clause-answer g t c =
-    let geo = g.B.Board.geometry in
-    let taken = open_here geo (g.M.Memo.content c.args.search.now.memo) c.args.position.now c.args.moves
-    c.line_up_replies.new.ply.ranked.items c.as_slice-candidate-items.result.now _
-    c.in_ok-line_up_replies.ensures.known c.in-Open.is c.as_slice-candidate-items.ensures.value in
-    answer_yes (Lost geo c.args.position.now c.args.moves)
-    (open_won geo (g.M.Memo.content c.args.search.now.memo) c.args.position.now c.args.moves
-    c.as_slice-candidate-items.result.now c.replies.candidate-index c.requires.ready.right taken c.replies-test.false
-    c.replies.invariant.1.1.0)
+use Rattle.dw_solve.proofs.search.+search.Goals.{good_reply_refutes-in-Answered-true, good_reply_refutes-in-PutOff+in_ok-add_reply-in-PutOff}
 
 pub some_move_wins-play-requires : goal.some_move_wins-play-requires
 some_move_wins-play-requires g t c =
@@ -265,90 +146,6 @@ expand-some_move_wins-requires g t c κs within =
         ),
       ),
     )
-
-pub loses-returns-then-moves-eq0-clause-answer : goal.loses-returns-then-moves-eq0-clause-answer
-loses-returns-then-moves-eq0-clause-answer g t c = lost_at_none g.B.Board.geometry c.args.position.now c.args.moves
-    c.has_move.result c.if-moves-eq0.true c.has_move.ensures
-
-pub loses-returns-then-moves-eq0-clause-searched : goal.loses-returns-then-moves-eq0-clause-searched
-loses-returns-then-moves-eq0-clause-searched g t c =
-    let geo = g.B.Board.geometry in
-    let content = g.M.Memo.content in
-    let lost = g.M.Memo.dropped in
-    searched_ok geo content lost c.args.moves _ _ 0 _ (searched_nothing geo content lost c.args.moves c.args.search.now
-    c.requires.ready)
-
-pub loses-returns-then-moves-eq0-clause-says : goal.loses-returns-then-moves-eq0-clause-says
-loses-returns-then-moves-eq0-clause-says g t c kept =
-    says_at_none g.B.Board.geometry (g.M.Memo.content c.args.search.now.memo) c.args.position.now c.args.moves
-    c.has_move.result c.if-moves-eq0.true c.has_move.ensures
-
-pub loses-returns-in_err-line_up_replies-clause-searched : goal.loses-returns-in_err-line_up_replies-clause-searched
-loses-returns-in_err-line_up_replies-clause-searched g t c =
-    let geo = g.B.Board.geometry in
-    let content = g.M.Memo.content in
-    let lost = g.M.Memo.dropped in
-    let looked = c.line_up_replies.ensures.looked in
-    searched_memory geo content lost c.args.moves _ _ _ c.from_residual.ensures.1
-    (searched_looked geo content lost c.args.moves c.args.search.now c.line_up_replies.new.search c.requires.ready
-    looked.right looked.count looked.limit looked.work)
-
-pub loses-returns-in_err-wins-clause-searched : goal.loses-returns-in_err-wins-clause-searched
-loses-returns-in_err-wins-clause-searched g t c =
-    let geo = g.B.Board.geometry in
-    let content = g.M.Memo.content in
-    let lost = g.M.Memo.dropped in
-    searched_err geo content lost c.args.moves _ _ c.in_err-wins.field-0.0 _ c.from_residual-in_err-wins.ensures.1
-    (searched_on geo content lost c.args.moves c.args.search.now c.replies.search c.wins.new.search _ (record {
-      right = c.replies.invariant.0;
-      count = c.replies.invariant.1.0;
-      stop = λ e. absurd (ok_is_no_err _ _ e);
-      work = c.replies.invariant.1.1.1.0;
-    }) c.in_err-wins.ensures.searched)
-
-pub loses-returns-then-not-branch-clause-searched : goal.loses-returns-then-not-branch-clause-searched
-loses-returns-then-not-branch-clause-searched g t c =
-    let geo = g.B.Board.geometry in
-    let content = g.M.Memo.content in
-    let lost = g.M.Memo.dropped in
-    searched_ok geo content lost c.args.moves _ _ _ _
-    (searched_on geo content lost c.args.moves c.args.search.now c.replies.search c.wins.new.search _ (record {
-      right = c.replies.invariant.0;
-      count = c.replies.invariant.1.0;
-      stop = λ e. absurd (ok_is_no_err _ _ e);
-      work = c.replies.invariant.1.1.1.0;
-    }) c.in_ok-wins.ensures.searched)
-
-pub loses-returns-then-not-branch-clause-says : goal.loses-returns-then-not-branch-clause-says
-loses-returns-then-not-branch-clause-says g t c =
-    let geo = g.B.Board.geometry in
-    let taken = open_here geo (g.M.Memo.content c.args.search.now.memo) c.args.position.now c.args.moves
-    c.line_up_replies.new.ply.ranked.items c.as_slice-candidate-items.result.now _
-    c.in_ok-line_up_replies.ensures.known c.in-Open.is c.as_slice-candidate-items.ensures.value in
-    let legal = open_legal geo (g.M.Memo.content c.args.search.now.memo) c.args.position.now c.args.moves
-    c.as_slice-candidate-items.result.now c.replies.candidate-index c.candidate-item.result taken c.replies-test.true
-    c.candidate-item.is in
-    says_refuted geo c.args.moves c.args.position.now c.candidate-item.result.1 c.play.result c.in_ok-wins.field-0 _ _ _
-    c.replies.invariant.1.1.1.0 c.in_ok-wins.ensures.searched.work legal c.play.ensures c.if-not-branch.true
-    c.in_ok-wins.ensures.says
-
-pub loses-returns-clause-searched : goal.loses-returns-clause-searched
-loses-returns-clause-searched g t c = record {
-  right = c.replies.invariant.0;
-  count = c.replies.invariant.1.0;
-  stop = λ e. absurd (ok_is_no_err _ _ e);
-  work = c.replies.invariant.1.1.1.0;
-}
-
-pub loses-returns-clause-says : goal.loses-returns-clause-says
-loses-returns-clause-says g t c =
-    let geo = g.B.Board.geometry in
-    let taken = open_here geo (g.M.Memo.content c.args.search.now.memo) c.args.position.now c.args.moves
-    c.line_up_replies.new.ply.ranked.items c.as_slice-candidate-items.result.now _
-    c.in_ok-line_up_replies.ensures.known c.in-Open.is c.as_slice-candidate-items.ensures.value in
-    says_open geo c.args.moves c.args.position.now c.as_slice-candidate-items.result.now c.replies.candidate-index
-    (at_time g.M.Memo.content g.M.Memo.dropped c.args.search.now) _ taken c.replies-test.false
-    c.replies.invariant.1.1.1
 
 pub some_move_wins-returns-in_err-loses-clause-searched : goal.some_move_wins-returns-in_err-loses-clause-searched
 some_move_wins-returns-in_err-loses-clause-searched g t c =
@@ -483,170 +280,8 @@ expand-returns-clause-says g t c =
     c.requires.undecided.undecided c.requires.undecided.map
     (searched_none _ 0 0 _) c.in_ok-won.ensures.searched.work c.in_ok-won.ensures.says c.note.ensures.noted).says
 
-pub loses-returns-in_err-wins-clause-known : goal.loses-returns-in_err-wins-clause-known
-loses-returns-in_err-wins-clause-known g t c all =
-    let geo = g.B.Board.geometry in
-    let taken = open_here geo (g.M.Memo.content c.args.search.now.memo) c.args.position.now c.args.moves
-    c.line_up_replies.new.ply.ranked.items c.as_slice-candidate-items.result.now _
-    c.in_ok-line_up_replies.ensures.known c.in-Open.is c.as_slice-candidate-items.ensures.value in
-    let legal = open_legal geo (g.M.Memo.content c.args.search.now.memo) c.args.position.now c.args.moves
-    c.as_slice-candidate-items.result.now c.replies.candidate-index c.candidate-item.result taken c.replies-test.true
-    c.candidate-item.is in
-    let before = c.replies.invariant.1.1.2 all in
-    let here = c.in_err-wins.ensures.known (reply_decided geo _ _ c.args.position.now c.play.result
-    c.candidate-item.result.1 c.args.moves _ _ all before legal c.play.ensures) in
-    absurd (true≢false (sym here.0))
-
-pub loses-returns-then-not-branch-clause-known : goal.loses-returns-then-not-branch-clause-known
-loses-returns-then-not-branch-clause-known g t c all =
-    let geo = g.B.Board.geometry in
-    let taken = open_here geo (g.M.Memo.content c.args.search.now.memo) c.args.position.now c.args.moves
-    c.line_up_replies.new.ply.ranked.items c.as_slice-candidate-items.result.now _
-    c.in_ok-line_up_replies.ensures.known c.in-Open.is c.as_slice-candidate-items.ensures.value in
-    let legal = open_legal geo (g.M.Memo.content c.args.search.now.memo) c.args.position.now c.args.moves
-    c.as_slice-candidate-items.result.now c.replies.candidate-index c.candidate-item.result taken c.replies-test.true
-    c.candidate-item.is in
-    let before = c.replies.invariant.1.1.2 all in
-    let here = c.in_ok-wins.ensures.known (reply_decided geo _ _ c.args.position.now c.play.result
-    c.candidate-item.result.1 c.args.moves _ _ all before legal c.play.ensures) in
-    let after = unchanged_then _ _ _ _ _ _ before here.1 in
-    ((λ none. ok_is_no_err _ _ none), after)
-
-pub loses-returns-clause-known : goal.loses-returns-clause-known
-loses-returns-clause-known g t c all = let u = c.replies.invariant.1.1.2 all in ((λ none. ok_is_no_err _ _ none), u)
-
 pub wins-returns-in-Some-clause-answer : goal.wins-returns-in-Some-clause-answer
 wins-returns-in-Some-clause-answer g t c = c.in-Some.ensures.answer.answer
-
-pub loses-returns-in_err-refute-in-Sure-clause-known : goal.loses-returns-in_err-refute-in-Sure-clause-known
-loses-returns-in_err-refute-in-Sure-clause-known g t c all =
-    let geo = g.B.Board.geometry in
-    let sure = subst (AreLinedUp geo (g.M.Memo.content c.args.search.now.memo) c.args.position.now c.args.moves
-    c.line_up_replies.new.ply.ranked.items) c.in-Sure.is c.in_ok-line_up_replies.ensures.known in
-    let reply = sure.1 in
-    let one = sure.0 in
-    let looked = c.line_up_replies.ensures.looked in
-    let seen = g.M.Memo.content c.line_up_replies.new.search.memo in
-    let here = c.in_err-refute-in-Sure.ensures.known (elim (all reply.0 reply.1) [
-      | inl none ↦ absurd (none_or_one c.args.moves none one)
-      | inr known ↦ decided_same (g.M.Memo.content c.args.search.now.memo) seen c.in-Sure.after 1 looked.same
-          (subst (λ n. IsDecided (g.M.Memo.content c.args.search.now.memo) c.in-Sure.after n) one
-          (subst (λ q. IsDecided (g.M.Memo.content c.args.search.now.memo) q c.args.moves) (sym reply.2) known))
-    ]) in
-    absurd (true≢false (sym here.0))
-
-pub loses-returns-in-Sure-clause-answer : goal.loses-returns-in-Sure-clause-answer
-loses-returns-in-Sure-clause-answer g t c =
-    let geo = g.B.Board.geometry in
-    let sure = subst (AreLinedUp geo (g.M.Memo.content c.args.search.now.memo) c.args.position.now c.args.moves
-    c.line_up_replies.new.ply.ranked.items) c.in-Sure.is c.in_ok-line_up_replies.ensures.known in
-    let reply = sure.1 in
-    let one = sure.0 in
-    answer_no (Lost geo c.args.position.now c.args.moves)
-    (λ lost. hopeless_is geo c.in-Sure.after c.args.moves one reply.3
-    (subst (λ q. Win geo q c.args.moves) (sym reply.2) (lost reply.0 reply.1)))
-
-pub loses-returns-in-Sure-clause-says : goal.loses-returns-in-Sure-clause-says
-loses-returns-in-Sure-clause-says g t c kept =
-    let geo = g.B.Board.geometry in
-    let sure = subst (AreLinedUp geo (g.M.Memo.content c.args.search.now.memo) c.args.position.now c.args.moves
-    c.line_up_replies.new.ply.ranked.items) c.in-Sure.is c.in_ok-line_up_replies.ensures.known in
-    let reply = sure.1 in
-    let one = sure.0 in
-    let before = at_time g.M.Memo.content g.M.Memo.dropped c.args.search.now in
-    let seen = at_time g.M.Memo.content g.M.Memo.dropped c.line_up_replies.new.search in
-    let after = at_time g.M.Memo.content g.M.Memo.dropped c.refute.new.search in
-    says_refuted geo c.args.moves c.args.position.now reply.0 c.in-Sure.after false before seen after
-    (searched_wider geo 0 c.args.moves 0 before seen (none_at_most c.args.moves) c.line_up_replies.ensures.looked.work)
-    (searched_wider geo 1 c.args.moves 0 seen after (one_at_most c.args.moves one)
-    c.in_ok-refute-in-Sure.ensures.searched.work) reply.1 reply.2 refl
-    (λ k. subst (λ n. SaysWin after.content c.in-Sure.after n false) (sym one) (c.in_ok-refute-in-Sure.ensures.says k)) kept
-
-pub loses-returns-in-Sure-clause-known : goal.loses-returns-in-Sure-clause-known
-loses-returns-in-Sure-clause-known g t c all =
-    let geo = g.B.Board.geometry in
-    let sure = subst (AreLinedUp geo (g.M.Memo.content c.args.search.now.memo) c.args.position.now c.args.moves
-    c.line_up_replies.new.ply.ranked.items) c.in-Sure.is c.in_ok-line_up_replies.ensures.known in
-    let reply = sure.1 in
-    let one = sure.0 in
-    let looked = c.line_up_replies.ensures.looked in
-    let seen = g.M.Memo.content c.line_up_replies.new.search.memo in
-    let here = c.in_ok-refute-in-Sure.ensures.known (elim (all reply.0 reply.1) [
-      | inl none ↦ absurd (none_or_one c.args.moves none one)
-      | inr known ↦ decided_same (g.M.Memo.content c.args.search.now.memo) seen c.in-Sure.after 1 looked.same
-          (subst (λ n. IsDecided (g.M.Memo.content c.args.search.now.memo) c.in-Sure.after n) one
-          (subst (λ q. IsDecided (g.M.Memo.content c.args.search.now.memo) q c.args.moves) (sym reply.2) known))
-    ]) in (
-      (λ none. ok_is_no_err _ _ none),
-      unchanged_then (g.M.Memo.content c.args.search.now.memo) seen
-          (g.M.Memo.content c.refute.new.search.memo) c.args.search.now.expanded c.line_up_replies.new.search.expanded
-          c.refute.new.search.expanded (looked.count, looked.same) here.1,
-    )
-
-pub wins-returns-then-moves-eq1-clause-answer : goal.wins-returns-then-moves-eq1-clause-answer
-wins-returns-then-moves-eq1-clause-answer g t c =
-    subst (λ n. IfOk c.wins_at_once.result (λ yes. IsTrue yes ↔ Win g.B.Board.geometry c.args.position.now n))
-    (sym c.if-moves-eq1.true) c.wins_at_once.ensures.answer
-
-pub wins-returns-then-moves-eq1-clause-spent : goal.wins-returns-then-moves-eq1-clause-spent
-wins-returns-then-moves-eq1-clause-spent g t c =
-    on_ok_weaker c.wins_at_once.result (λ less some undecided.
-    less (λ known. undecided (subst (IsDecided (g.M.Memo.content c.args.search.now.memo) c.args.position.now)
-    (sym c.if-moves-eq1.true) known))) c.wins_at_once.ensures.spent
-
-pub wins-returns-then-moves-eq1-clause-known : goal.wins-returns-then-moves-eq1-clause-known
-wins-returns-then-moves-eq1-clause-known g t c h = elim h [
-  | inl none ↦ absurd (none_or_one c.args.moves none c.if-moves-eq1.true)
-  | inr known ↦ c.wins_at_once.ensures.known
-      (subst (IsDecided (g.M.Memo.content c.args.search.now.memo) c.args.position.now) c.if-moves-eq1.true known)
-]
-
-pub loses-returns-in_err-refute-in-Sure-clause-searched : goal.loses-returns-in_err-refute-in-Sure-clause-searched
-loses-returns-in_err-refute-in-Sure-clause-searched g t c =
-    let geo = g.B.Board.geometry in
-    let content = g.M.Memo.content in
-    let lost = g.M.Memo.dropped in
-    let sure = subst (AreLinedUp geo (g.M.Memo.content c.args.search.now.memo) c.args.position.now c.args.moves
-    c.line_up_replies.new.ply.ranked.items) c.in-Sure.is c.in_ok-line_up_replies.ensures.known in
-    let reply = sure.1 in
-    let one = sure.0 in
-    let looked = c.line_up_replies.ensures.looked in
-    searched_err geo content lost c.args.moves _ _ c.in_err-refute-in-Sure.field-0.0 _ c.from_residual-in_err-refute-in-Sure.ensures.1
-    (searched_on geo content lost c.args.moves c.args.search.now c.line_up_replies.new.search c.refute.new.search _
-    (searched_looked geo content lost c.args.moves c.args.search.now
-    c.line_up_replies.new.search c.requires.ready looked.right looked.count looked.limit looked.work)
-    (searched_for_fewer geo content lost 1 c.args.moves _ _ _ (one_at_most c.args.moves one)
-    c.in_err-refute-in-Sure.ensures.searched))
-
-pub loses-returns-in-Sure-clause-searched : goal.loses-returns-in-Sure-clause-searched
-loses-returns-in-Sure-clause-searched g t c =
-    let geo = g.B.Board.geometry in
-    let content = g.M.Memo.content in
-    let lost = g.M.Memo.dropped in
-    let sure = subst (AreLinedUp geo (g.M.Memo.content c.args.search.now.memo) c.args.position.now c.args.moves
-    c.line_up_replies.new.ply.ranked.items) c.in-Sure.is c.in_ok-line_up_replies.ensures.known in
-    let reply = sure.1 in
-    let one = sure.0 in
-    let looked = c.line_up_replies.ensures.looked in
-    searched_ok geo content lost c.args.moves _ _ _ _
-    (searched_on geo content lost c.args.moves c.args.search.now c.line_up_replies.new.search c.refute.new.search _
-    (searched_looked geo content lost c.args.moves c.args.search.now
-    c.line_up_replies.new.search c.requires.ready looked.right looked.count looked.limit looked.work)
-    (searched_for_fewer geo content lost 1 c.args.moves _ _ _ (one_at_most c.args.moves one)
-    c.in_ok-refute-in-Sure.ensures.searched))
-
-pub wins-returns-then-moves-eq1-clause-searched : goal.wins-returns-then-moves-eq1-clause-searched
-wins-returns-then-moves-eq1-clause-searched g t c =
-    subst
-    (λ n. HasSearched g.B.Board.geometry g.M.Memo.content g.M.Memo.dropped n c.args.search.now c.wins_at_once.new.search
-    c.wins_at_once.result)
-    (sym c.if-moves-eq1.true) c.wins_at_once.ensures.searched
-
-pub wins-returns-then-moves-eq1-clause-says : goal.wins-returns-then-moves-eq1-clause-says
-wins-returns-then-moves-eq1-clause-says g t c kept =
-    subst
-    (λ n. IfOk c.wins_at_once.result (SaysWin (g.M.Memo.content c.wins_at_once.new.search.memo) c.args.position.now n))
-    (sym c.if-moves-eq1.true) (c.wins_at_once.ensures.says kept)
 
 pub expand-returns-in_err-count-clause-searched : goal.expand-returns-in_err-count-clause-searched
 expand-returns-in_err-count-clause-searched g t c =
@@ -694,15 +329,6 @@ wins-returns-in-Some-clause-says g t c kept = c.in-Some.ensures.answer.says
 pub wins-returns-in-Some-clause-known : goal.wins-returns-in-Some-clause-known
 wins-returns-in-Some-clause-known g t c decided = (refl, (c.known.ensures.looked.count, c.known.ensures.looked.same))
 
-pub loses-returns-then-moves-eq0-clause-known : goal.loses-returns-then-moves-eq0-clause-known
-loses-returns-then-moves-eq0-clause-known g t c all = ((λ none. ok_is_no_err _ _ none), unchanged_none _ _)
-
-pub loses-returns-in_err-line_up_replies-clause-known : goal.loses-returns-in_err-line_up_replies-clause-known
-loses-returns-in_err-line_up_replies-clause-known g t c all = (
-  (λ e. memory_is_no_limit c.from_residual.result _ c.from_residual.ensures.1 e),
-  (c.line_up_replies.ensures.looked.count, c.line_up_replies.ensures.looked.same),
-)
-
 pub wins-known-requires : goal.wins-known-requires
 wins-known-requires g t c = c.requires.ready.right
 
@@ -711,43 +337,10 @@ expand-count-requires g t c =
     same_within c.args.search.now.expanded c.args.search.now.limit c.args.search.now.expanded c.args.search.now.limit
     c.requires.ready.within refl refl
 
-pub loses-unwrap-requires : goal.loses-unwrap-requires
-loses-unwrap-requires g t c =
-    some_first c.split_first_mut.result (length c.args.plies.now) _ c.split_first_mut.ensures.cases
-    (room_for_replies c.args.moves (length c.args.plies.now) c.requires.room c.if-moves-eq0.false)
-
-pub wins-unwrap-requires : goal.wins-unwrap-requires
-wins-unwrap-requires g t c =
-    some_first c.split_first_mut.result (length c.args.plies.now) _ c.split_first_mut.ensures.cases
-    (room_for_moves c.args.moves (length c.args.plies.now) c.requires.room
-    (one_at_most c.args.moves c.if-moves-eq1.true))
-
 pub expand-unwrap-requires : goal.expand-unwrap-requires
 expand-unwrap-requires g t c =
     some_first c.split_first_mut.result (length c.args.plies.now) _ c.split_first_mut.ensures.cases
     (room_for_moves c.args.moves (length c.args.plies.now) c.requires.room c.requires.undecided.some)
-
-pub loses-returns-in_err-line_up_replies-clause-answer : goal.loses-returns-in_err-line_up_replies-clause-answer
-loses-returns-in_err-line_up_replies-clause-answer g t c = IfOk-from_err c.from_residual.result _ c.from_residual.ensures.0
-
-pub loses-returns-in_err-line_up_replies-clause-says : goal.loses-returns-in_err-line_up_replies-clause-says
-loses-returns-in_err-line_up_replies-clause-says g t c kept = IfOk-from_err c.from_residual.result _ c.from_residual.ensures.0
-
-pub loses-returns-in_err-refute-in-Sure-clause-answer : goal.loses-returns-in_err-refute-in-Sure-clause-answer
-loses-returns-in_err-refute-in-Sure-clause-answer g t c =
-    IfOk-from_err c.from_residual-in_err-refute-in-Sure.result _ c.from_residual-in_err-refute-in-Sure.ensures.0
-
-pub loses-returns-in_err-refute-in-Sure-clause-says : goal.loses-returns-in_err-refute-in-Sure-clause-says
-loses-returns-in_err-refute-in-Sure-clause-says g t c kept =
-    IfOk-from_err c.from_residual-in_err-refute-in-Sure.result _ c.from_residual-in_err-refute-in-Sure.ensures.0
-
-pub loses-returns-in_err-wins-clause-answer : goal.loses-returns-in_err-wins-clause-answer
-loses-returns-in_err-wins-clause-answer g t c =
-    IfOk-from_err c.from_residual-in_err-wins.result _ c.from_residual-in_err-wins.ensures.0
-
-pub loses-returns-in_err-wins-clause-says : goal.loses-returns-in_err-wins-clause-says
-loses-returns-in_err-wins-clause-says g t c kept =
-    IfOk-from_err c.from_residual-in_err-wins.result _ c.from_residual-in_err-wins.ensures.0
 
 pub some_move_wins-returns-in_err-loses-clause-answer : goal.some_move_wins-returns-in_err-loses-clause-answer
 some_move_wins-returns-in_err-loses-clause-answer g t c =
@@ -789,38 +382,6 @@ expand-returns-in_err-won-clause-says g t c kept =
 pub expand-returns-in_err-won-clause-spent : goal.expand-returns-in_err-won-clause-spent
 expand-returns-in_err-won-clause-spent g t c =
     IfOk-from_err c.from_residual-in_err-won.result _ c.from_residual-in_err-won.ensures.0
-
-pub loses-returns-in-Refuted-clause-answer : goal.loses-returns-in-Refuted-clause-answer
-loses-returns-in-Refuted-clause-answer g t c =
-    let geo = g.B.Board.geometry in
-    let known = subst (AreLinedUp geo (g.M.Memo.content c.args.search.now.memo) c.args.position.now c.args.moves
-    c.line_up_replies.new.ply.ranked.items) c.in-Refuted.is c.in_ok-line_up_replies.ensures.known in
-    answer_no (Lost geo c.args.position.now c.args.moves)
-    (refuted_is_not_lost geo (g.M.Memo.content c.args.search.now.memo) c.args.position.now c.args.moves
-    c.requires.ready.right known)
-
-pub loses-returns-in-Refuted-clause-searched : goal.loses-returns-in-Refuted-clause-searched
-loses-returns-in-Refuted-clause-searched g t c =
-    let geo = g.B.Board.geometry in
-    let content = g.M.Memo.content in
-    let lost = g.M.Memo.dropped in
-    let looked = c.line_up_replies.ensures.looked in
-    searched_ok geo content lost c.args.moves _ _ 0 _ (searched_looked geo content lost c.args.moves c.args.search.now
-    c.line_up_replies.new.search c.requires.ready looked.right looked.count looked.limit looked.work)
-
-pub loses-returns-in-Refuted-clause-says : goal.loses-returns-in-Refuted-clause-says
-loses-returns-in-Refuted-clause-says g t c kept =
-    let geo = g.B.Board.geometry in
-    let known = subst (AreLinedUp geo (g.M.Memo.content c.args.search.now.memo) c.args.position.now c.args.moves
-    c.line_up_replies.new.ply.ranked.items) c.in-Refuted.is c.in_ok-line_up_replies.ensures.known in
-    says_known geo (g.M.Memo.content c.args.search.now.memo) (g.M.Memo.content c.line_up_replies.new.search.memo)
-    c.args.position.now c.args.moves c.line_up_replies.ensures.looked.same known
-
-pub loses-returns-in-Refuted-clause-known : goal.loses-returns-in-Refuted-clause-known
-loses-returns-in-Refuted-clause-known g t c all = (
-  (λ none. ok_is_no_err _ _ none),
-  (c.line_up_replies.ensures.looked.count, c.line_up_replies.ensures.looked.same),
-)
 
 pub wins-expand-requires : goal.wins-expand-requires
 wins-expand-requires g t c κs within =
@@ -868,3 +429,537 @@ pub wins-returns-clause-known : goal.wins-returns-clause-known
 wins-returns-clause-known g t c =
     not_known _ (g.M.Memo.content c.args.search.now.memo) (g.M.Memo.content c.known.new.search.memo) c.args.position.now
     c.args.moves c.known.ensures.looked.same c.in_default.ensures.answer
+
+pub loses-returns-then-moves-eq0-clause-answer : goal.loses-returns-then-moves-eq0-clause-answer
+loses-returns-then-moves-eq0-clause-answer g t c = lost_at_none g.B.Board.geometry c.args.position.now c.args.moves
+    c.has_move.result c.if-moves-eq0.true c.has_move.ensures
+
+pub loses-returns-then-moves-eq0-clause-searched : goal.loses-returns-then-moves-eq0-clause-searched
+loses-returns-then-moves-eq0-clause-searched g t c =
+    let geo = g.B.Board.geometry in
+    let content = g.M.Memo.content in
+    let lost = g.M.Memo.dropped in
+    searched_ok geo content lost c.args.moves _ _ 0 _ (searched_nothing geo content lost c.args.moves c.args.search.now
+    c.requires.ready)
+
+pub loses-returns-then-moves-eq0-clause-says : goal.loses-returns-then-moves-eq0-clause-says
+loses-returns-then-moves-eq0-clause-says g t c kept =
+    says_at_none g.B.Board.geometry (g.M.Memo.content c.args.search.now.memo) c.args.position.now c.args.moves
+    c.has_move.result c.if-moves-eq0.true c.has_move.ensures
+
+pub loses-returns-then-moves-eq1-clause-answer : goal.loses-returns-then-moves-eq1-clause-answer
+loses-returns-then-moves-eq1-clause-answer g t c =
+    subst (λ n. IfOk c.loses_last.result (λ yes. IsTrue yes ↔ Lost g.B.Board.geometry c.args.position.now n))
+    (sym c.if-moves-eq1.true) c.loses_last.ensures.answer
+
+pub loses-returns-in_err-legal_into-clause-searched : goal.loses-returns-in_err-legal_into-clause-searched
+loses-returns-in_err-legal_into-clause-searched g t c =
+    searched_memory g.B.Board.geometry g.M.Memo.content g.M.Memo.dropped c.args.moves _ _ _ c.from_residual.ensures.1
+    (searched_nothing g.B.Board.geometry g.M.Memo.content g.M.Memo.dropped c.args.moves c.args.search.now
+    c.requires.ready)
+
+pub loses-all_replies_lose-requires : goal.loses-all_replies_lose-requires
+loses-all_replies_lose-requires g t c κs within =
+    let geo = g.B.Board.geometry in
+    let rest = (MatchOption-at_some (length c.args.plies.now ≡ 0) (λ p. IsFirstAndRest c.args.plies.now p.0.now p.1.now)
+    c.unwrap.result c.unwrap.ensures c.split_first_mut.ensures.cases).1 in
+    let before = at_time g.M.Memo.content g.M.Memo.dropped c.args.search.now in
+    let after = at_time g.M.Memo.content g.M.Memo.dropped c.good_reply_refutes.new.search in
+    let sorted = open_anyhow geo c.args.position.now c.args.moves c.good_reply_refutes.new.ranked.items
+    c.sort_unstable_by_key.new.self.items before after (c.in_ok-good_reply_refutes.ensures.open c.if-branch.false)
+    c.sort_unstable_by_key.ensures.permutation in
+    let f = c.decreases in (
+      omega (arith, f),
+      (
+        within.0,
+        (
+          within.1.0,
+          (
+            within.1.1,
+            (
+              subst (λ z. AreAllLegal geo c.args.position.now (moves_of z)) (sym c.as_slice-2.ensures.value)
+                  sorted.legal,
+              (
+                record {
+                  right = c.in_ok-good_reply_refutes.ensures.searched.right;
+                  within = counted_within c.args.search.now.expanded c.args.search.now.limit
+                      c.good_reply_refutes.new.search.expanded c.good_reply_refutes.new.search.limit
+                      c.in_ok-good_reply_refutes.ensures.searched.count;
+                },
+                room_left c.args.moves (length c.args.plies.now) (length c.unwrap.result.1.now)
+                    (length c.good_reply_refutes.new.plies) c.requires.room c.if-moves-eq0.false rest
+                    c.good_reply_refutes.auto.plies,
+              ),
+            ),
+          ),
+        ),
+      ),
+    )
+
+pub loses-returns-clause-answer : goal.loses-returns-clause-answer
+loses-returns-clause-answer g t c =
+    let geo = g.B.Board.geometry in
+    let content = g.M.Memo.content in
+    let lost = g.M.Memo.dropped in
+    let before = at_time content lost c.args.search.now in
+    let after = at_time content lost c.good_reply_refutes.new.search in
+    let last = at_time content lost c.all_replies_lose.new.search in
+    let here = subst (λ z. AreOpen geo c.args.position.now c.args.moves (moves_of z) before after)
+    (sym c.as_slice-2.ensures.value)
+    (open_anyhow geo c.args.position.now c.args.moves c.good_reply_refutes.new.ranked.items
+    c.sort_unstable_by_key.new.self.items before after (c.in_ok-good_reply_refutes.ensures.open c.if-branch.false)
+    c.sort_unstable_by_key.ensures.permutation) in
+    IfOk-weaker c.all_replies_lose.result
+    (λ yes. IsTrue yes ↔ AllWin geo c.args.position.now c.args.moves c.as_slice-2.result.now)
+    (λ yes. IsTrue yes ↔ Lost geo c.args.position.now c.args.moves)
+    (λ answer h. all_lose geo c.args.position.now c.args.moves (cut_off c.all_replies_lose.result c.args.moves)
+    c.as_slice-2.result.now before after last here c.in_ok-good_reply_refutes.ensures.searched.work
+    c.all_replies_lose.ensures.searched.work answer h)
+    c.all_replies_lose.ensures.answer
+
+pub loses-returns-clause-says : goal.loses-returns-clause-says
+loses-returns-clause-says g t c kept =
+    let geo = g.B.Board.geometry in
+    let content = g.M.Memo.content in
+    let lost = g.M.Memo.dropped in
+    let before = at_time content lost c.args.search.now in
+    let after = at_time content lost c.good_reply_refutes.new.search in
+    let last = at_time content lost c.all_replies_lose.new.search in
+    let here = subst (λ z. AreOpen geo c.args.position.now c.args.moves (moves_of z) before after)
+    (sym c.as_slice-2.ensures.value)
+    (open_anyhow geo c.args.position.now c.args.moves c.good_reply_refutes.new.ranked.items
+    c.sort_unstable_by_key.new.self.items before after (c.in_ok-good_reply_refutes.ensures.open c.if-branch.false)
+    c.sort_unstable_by_key.ensures.permutation) in
+    let v = c.in_ok-good_reply_refutes.ensures.searched.work in
+    let w = c.all_replies_lose.ensures.searched.work in
+    IfOk-weaker c.all_replies_lose.result
+    (SaysAll geo last.content c.args.position.now c.args.moves c.as_slice-2.result.now)
+    (SaysLost geo last.content c.args.position.now c.args.moves)
+    (λ answer h. says_all_lose geo c.args.position.now c.args.moves (cut_off c.all_replies_lose.result c.args.moves)
+    c.as_slice-2.result.now before after last here v w answer kept (λ _. h))
+    (c.all_replies_lose.ensures.says (second_kept before after last v.counted w.counted kept))
+
+pub loses-returns-clause-searched : goal.loses-returns-clause-searched
+loses-returns-clause-searched g t c =
+    let geo = g.B.Board.geometry in
+    let content = g.M.Memo.content in
+    let lost = g.M.Memo.dropped in
+    let h = c.all_replies_lose.ensures.searched in
+    searched_on geo content lost c.args.moves _ c.good_reply_refutes.new.search _ _
+    (searched_ok geo content lost c.args.moves _ _ _ 0 c.in_ok-good_reply_refutes.ensures.searched)
+    (record { right = h.right; count = h.count; stop = h.stop; work = h.work })
+
+pub loses-returns-clause-known : goal.loses-returns-clause-known
+loses-returns-clause-known g t c all =
+    let geo = g.B.Board.geometry in
+    let first = g.M.Memo.content c.args.search.now.memo in
+    let then = g.M.Memo.content c.good_reply_refutes.new.search.memo in
+    let here = c.in_ok-good_reply_refutes.ensures.known all in
+    let later = c.all_replies_lose.ensures.known
+    (replies_same geo first then c.args.position.now c.args.moves here.1.1 all) in
+    inr (
+      later.0,
+      unchanged_then first then (g.M.Memo.content c.all_replies_lose.new.search.memo)
+          c.args.search.now.expanded c.good_reply_refutes.new.search.expanded c.all_replies_lose.new.search.expanded here.1
+          later.1,
+    )
+
+pub good_reply_refutes-replies-init : goal.good_reply_refutes-replies-init
+good_reply_refutes-replies-init g t c = (
+  c.requires.ready.right,
+  (
+    counted_none c.args.search.now.expanded c.args.search.now.limit c.requires.ready.within,
+    (
+      put_off_none g.B.Board.geometry c.args.position.now c.args.moves c.args.legal.now
+          (moves_of c.args.ranked.now.items) (at_time g.M.Memo.content g.M.Memo.dropped c.args.search.now)
+          (ap moves_of c.requires.empty),
+      λ all. unchanged_none (g.M.Memo.content c.args.search.now.memo) c.args.search.now.expanded,
+    ),
+  ),
+)
+
+pub good_reply_refutes-try_reply-requires : goal.good_reply_refutes-try_reply-requires
+good_reply_refutes-try_reply-requires g t c κs within =
+    let geo = g.B.Board.geometry in
+    let legal = listed_is_legal geo c.args.position.now c.args.legal.now c.replies.reply-index c.reply-item.result
+    c.requires.legal c.replies-test.true c.reply-item.is in
+    let f = c.decreases in
+    let k = c.replies.invariant.1.0 in (
+      omega (arith, f),
+      (
+        within.0,
+        (
+          within.1.0,
+          (
+            within.1.1,
+            (
+              legal,
+              (
+                record {
+                  right = c.replies.invariant.0;
+                  within = counted_within c.args.search.now.expanded c.args.search.now.limit
+                      c.replies.search.expanded c.replies.search.limit k;
+                },
+                subst (λ k. 2 * c.args.moves ≤ k) (sym c.replies.auto.plies) c.requires.room,
+              ),
+            ),
+          ),
+        ),
+      ),
+    )
+
+pub good_reply_refutes-returns-in_err-try_reply-clause-searched : goal.good_reply_refutes-returns-in_err-try_reply-clause-searched
+good_reply_refutes-returns-in_err-try_reply-clause-searched g t c =
+    let geo = g.B.Board.geometry in
+    let content = g.M.Memo.content in
+    let lost = g.M.Memo.dropped in
+    searched_err geo content lost c.args.moves _ _ c.in_err-try_reply.field-0.0 _ c.from_residual.ensures.1
+    (searched_on geo content lost c.args.moves c.args.search.now c.replies.search c.try_reply.new.search _
+    (record {
+      right = c.replies.invariant.0;
+      count = c.replies.invariant.1.0;
+      stop = λ e. absurd (ok_is_no_err _ _ e);
+      work = c.replies.invariant.1.1.0.work;
+    }) c.in_err-try_reply.ensures.searched)
+
+pub good_reply_refutes-returns-in_err-try_reply-clause-known : goal.good_reply_refutes-returns-in_err-try_reply-clause-known
+good_reply_refutes-returns-in_err-try_reply-clause-known g t c all =
+    let geo = g.B.Board.geometry in
+    let content = g.M.Memo.content in
+    let legal = listed_is_legal geo c.args.position.now c.args.legal.now c.replies.reply-index c.reply-item.result
+    c.requires.legal c.replies-test.true c.reply-item.is in
+    let before = c.replies.invariant.1.1.1 all in
+    let here = c.in_err-try_reply.ensures.known (reply_decided geo (content c.args.search.now.memo)
+    (content c.replies.search.memo) c.args.position.now (play geo c.args.position.now c.reply-item.result)
+    c.reply-item.result c.args.moves c.args.search.now.expanded c.replies.search.expanded all before legal refl) in
+    absurd (true≢false (sym here.0))
+
+pub good_reply_refutes-returns-in-Answered-false-clause-refuted : goal.good_reply_refutes-returns-in-Answered-false-clause-refuted
+good_reply_refutes-returns-in-Answered-false-clause-refuted g t c _ all =
+    let geo = g.B.Board.geometry in
+    let legal = listed_is_legal geo c.args.position.now c.args.legal.now c.replies.reply-index c.reply-item.result
+    c.requires.legal c.replies-test.true c.reply-item.is in
+    let after = play geo c.args.position.now c.reply-item.result in
+    let answer = subst (IfAnswered (λ yes. IsTrue yes ↔ Win geo after c.args.moves)) c.in-Answered-false.is
+    c.in_ok-try_reply.ensures.answer in
+    is_not c.in-Answered-false.field-0 (Win geo after c.args.moves) answer c.in-Answered-false.field-0-test
+    (all c.reply-item.result legal)
+
+pub good_reply_refutes-returns-in-Answered-false-clause-searched : goal.good_reply_refutes-returns-in-Answered-false-clause-searched
+good_reply_refutes-returns-in-Answered-false-clause-searched g t c =
+    let geo = g.B.Board.geometry in
+    let content = g.M.Memo.content in
+    let lost = g.M.Memo.dropped in
+    searched_ok geo content lost c.args.moves _ _ _ _
+    (searched_on geo content lost c.args.moves c.args.search.now c.replies.search c.try_reply.new.search _
+    (record {
+      right = c.replies.invariant.0;
+      count = c.replies.invariant.1.0;
+      stop = λ e. absurd (ok_is_no_err _ _ e);
+      work = c.replies.invariant.1.1.0.work;
+    }) c.in_ok-try_reply.ensures.searched)
+
+pub good_reply_refutes-returns-in-Answered-false-clause-says : goal.good_reply_refutes-returns-in-Answered-false-clause-says
+good_reply_refutes-returns-in-Answered-false-clause-says g t c kept _ =
+    let geo = g.B.Board.geometry in
+    let content = g.M.Memo.content in
+    let lost = g.M.Memo.dropped in
+    let legal = listed_is_legal geo c.args.position.now c.args.legal.now c.replies.reply-index c.reply-item.result
+    c.requires.legal c.replies-test.true c.reply-item.is in
+    let after = play geo c.args.position.now c.reply-item.result in
+    says_refuted geo c.args.moves c.args.position.now c.reply-item.result after c.in-Answered-false.field-0
+    (at_time content lost c.args.search.now) (at_time content lost c.replies.search)
+    (at_time content lost c.try_reply.new.search) c.replies.invariant.1.1.0.work
+    c.in_ok-try_reply.ensures.searched.work legal refl c.in-Answered-false.field-0-test
+    (λ k. subst (IfAnswered (SaysWin (content c.try_reply.new.search.memo) after c.args.moves))
+    c.in-Answered-false.is (c.in_ok-try_reply.ensures.says k)) kept
+
+pub good_reply_refutes-returns-in-Answered-false-clause-known : goal.good_reply_refutes-returns-in-Answered-false-clause-known
+good_reply_refutes-returns-in-Answered-false-clause-known g t c all =
+    let geo = g.B.Board.geometry in
+    let content = g.M.Memo.content in
+    let legal = listed_is_legal geo c.args.position.now c.args.legal.now c.replies.reply-index c.reply-item.result
+    c.requires.legal c.replies-test.true c.reply-item.is in
+    let before = c.replies.invariant.1.1.1 all in
+    let here = c.in_ok-try_reply.ensures.known (reply_decided geo (content c.args.search.now.memo)
+    (content c.replies.search.memo) c.args.position.now (play geo c.args.position.now c.reply-item.result)
+    c.reply-item.result c.args.moves c.args.search.now.expanded c.replies.search.expanded all before legal refl) in (
+      (λ none. ok_is_no_err _ _ none),
+      unchanged_then (content c.args.search.now.memo) (content c.replies.search.memo)
+          (content c.try_reply.new.search.memo) c.args.search.now.expanded c.replies.search.expanded
+          c.try_reply.new.search.expanded before here.1,
+    )
+
+pub good_reply_refutes-returns-in_err-add_reply-in-PutOff-clause-searched : goal.good_reply_refutes-returns-in_err-add_reply-in-PutOff-clause-searched
+good_reply_refutes-returns-in_err-add_reply-in-PutOff-clause-searched g t c =
+    let geo = g.B.Board.geometry in
+    let content = g.M.Memo.content in
+    let lost = g.M.Memo.dropped in
+    searched_memory geo content lost c.args.moves _ _ _ c.from_residual-in_err-add_reply-in-PutOff.ensures.1
+    (searched_on geo content lost c.args.moves c.args.search.now c.replies.search c.try_reply.new.search _
+    (record {
+      right = c.replies.invariant.0;
+      count = c.replies.invariant.1.0;
+      stop = λ e. absurd (ok_is_no_err _ _ e);
+      work = c.replies.invariant.1.1.0.work;
+    }) (searched_ok geo content lost c.args.moves _ _ _ 0 c.in_ok-try_reply.ensures.searched))
+
+pub good_reply_refutes-returns-in_err-add_reply-in-PutOff-clause-known : goal.good_reply_refutes-returns-in_err-add_reply-in-PutOff-clause-known
+good_reply_refutes-returns-in_err-add_reply-in-PutOff-clause-known g t c all =
+    let geo = g.B.Board.geometry in
+    let content = g.M.Memo.content in
+    let legal = listed_is_legal geo c.args.position.now c.args.legal.now c.replies.reply-index c.reply-item.result
+    c.requires.legal c.replies-test.true c.reply-item.is in
+    let before = c.replies.invariant.1.1.1 all in
+    let here = c.in_ok-try_reply.ensures.known (reply_decided geo (content c.args.search.now.memo)
+    (content c.replies.search.memo) c.args.position.now (play geo c.args.position.now c.reply-item.result)
+    c.reply-item.result c.args.moves c.args.search.now.expanded c.replies.search.expanded all before legal refl) in (
+      (λ e. memory_is_no_limit c.from_residual-in_err-add_reply-in-PutOff.result _
+          c.from_residual-in_err-add_reply-in-PutOff.ensures.1 e),
+      unchanged_then (content c.args.search.now.memo) (content c.replies.search.memo)
+          (content c.try_reply.new.search.memo) c.args.search.now.expanded c.replies.search.expanded
+          c.try_reply.new.search.expanded before here.1,
+    )
+
+pub good_reply_refutes-replies-preserved : goal.good_reply_refutes-replies-preserved
+good_reply_refutes-replies-preserved g t c =
+    let geo = g.B.Board.geometry in
+    let content = g.M.Memo.content in
+    let lost = g.M.Memo.dropped in
+    let legal = listed_is_legal geo c.args.position.now c.args.legal.now c.replies.reply-index c.reply-item.result
+    c.requires.legal c.replies-test.true c.reply-item.is in
+    let after = play geo c.args.position.now c.reply-item.result in
+    let first = at_time content lost c.args.search.now in
+    let before = at_time content lost c.replies.search in
+    let last = at_time content lost c.try_reply.new.search in
+    let so_far = c.replies.invariant.1.1.0 in
+    let w = c.in_ok-try_reply.ensures.searched.work in (
+      c.in_ok-try_reply.ensures.searched.right,
+      (
+        counted_then c.args.search.now.expanded c.args.search.now.limit c.replies.search.expanded c.replies.search.limit
+            c.try_reply.new.search.expanded c.try_reply.new.search.limit c.replies.invariant.1.0
+            c.in_ok-try_reply.ensures.searched.count,
+        (
+          elim c.match-branch-2.branch [
+            | good_reply_refutes-in-Answered-true z ↦ rw z.ranked-is
+                (put_off_won geo c.args.position.now c.args.moves c.args.legal.now c.replies.reply-index
+                (moves_of c.replies.ranked.items) c.reply-item.result first before last so_far c.replies-test.true
+                c.reply-item.is w z.in-Answered-true.field-0 z.in-Answered-true.field-0-test
+                (subst (IfAnswered (λ yes. IsTrue yes ↔ Win geo after c.args.moves)) z.in-Answered-true.is
+                c.in_ok-try_reply.ensures.answer)
+                (λ k. subst (IfAnswered (SaysWin last.content after c.args.moves)) z.in-Answered-true.is
+                (c.in_ok-try_reply.ensures.says k)))
+            | good_reply_refutes-in-PutOff+in_ok-add_reply-in-PutOff z ↦ rw z.ranked-is
+                (put_off_more geo c.args.position.now c.args.moves c.args.legal.now c.replies.reply-index
+                (moves_of c.replies.ranked.items) c.reply-item.result first before last so_far c.replies-test.true
+                c.reply-item.is w (moves_of z.add_reply.new.ranked.items) legal
+                (moves_added c.replies.ranked.items z.add_reply.new.ranked.items z.in-PutOff.rank c.reply-item.result
+                z.in_ok-add_reply-in-PutOff.ensures))
+          ],
+          λ all.
+              let before = c.replies.invariant.1.1.1 all in
+              let here = c.in_ok-try_reply.ensures.known (reply_decided geo (content c.args.search.now.memo)
+              (content c.replies.search.memo) c.args.position.now (play geo c.args.position.now c.reply-item.result)
+              c.reply-item.result c.args.moves c.args.search.now.expanded c.replies.search.expanded all before legal refl) in
+              unchanged_then (content c.args.search.now.memo) (content c.replies.search.memo)
+              (content c.try_reply.new.search.memo) c.args.search.now.expanded c.replies.search.expanded
+              c.try_reply.new.search.expanded before here.1,
+        ),
+      ),
+    )
+
+pub good_reply_refutes-returns-clause-open : goal.good_reply_refutes-returns-clause-open
+good_reply_refutes-returns-clause-open g t c = λ _. put_off_all g.B.Board.geometry c.args.position.now c.args.moves
+    c.args.legal.now c.replies.reply-index (moves_of c.replies.ranked.items)
+    (at_time g.M.Memo.content g.M.Memo.dropped c.args.search.now)
+    (at_time g.M.Memo.content g.M.Memo.dropped c.replies.search) c.requires.legal c.replies-test.false
+    c.replies.invariant.1.1.0
+
+pub good_reply_refutes-returns-clause-known : goal.good_reply_refutes-returns-clause-known
+good_reply_refutes-returns-clause-known g t c all =
+    ((λ none. ok_is_no_err _ _ none), c.replies.invariant.1.1.1 all)
+
+pub try_reply-returns-in_err-wins-clause-searched : goal.try_reply-returns-in_err-wins-clause-searched
+try_reply-returns-in_err-wins-clause-searched g t c =
+    let geo = g.B.Board.geometry in
+    let content = g.M.Memo.content in
+    let lost = g.M.Memo.dropped in
+    let looked = c.known.ensures.looked in
+    searched_err geo content lost c.args.moves _ _ c.in_err-wins.field-0.0 _ c.from_residual.ensures.1
+    (searched_on geo content lost c.args.moves c.args.search.now c.known.new.search c.expand.new.search _
+    (searched_looked geo content lost c.args.moves _ _ c.requires.ready looked.right looked.count looked.limit
+    looked.work) c.in_err-wins.ensures.searched)
+
+pub try_reply-returns-in_err-wins-clause-known : goal.try_reply-returns-in_err-wins-clause-known
+try_reply-returns-in_err-wins-clause-known g t c known =
+    not_known _ (g.M.Memo.content c.args.search.now.memo) (g.M.Memo.content c.known.new.search.memo)
+    c.play-after.result c.args.moves c.known.ensures.looked.same c.in_default.ensures.answer
+    (subst (λ q. (c.args.moves ≡ 0) ⊎ IsDecided (g.M.Memo.content c.args.search.now.memo) q c.args.moves)
+    (sym c.play-after.ensures) known)
+
+pub try_reply-returns-clause-searched : goal.try_reply-returns-clause-searched
+try_reply-returns-clause-searched g t c =
+    let geo = g.B.Board.geometry in
+    let content = g.M.Memo.content in
+    let lost = g.M.Memo.dropped in
+    let looked = c.known.ensures.looked in
+    searched_ok geo content lost c.args.moves _ _ _ _
+    (searched_on geo content lost c.args.moves c.args.search.now c.known.new.search c.expand.new.search _
+    (searched_looked geo content lost c.args.moves _ _ c.requires.ready looked.right looked.count looked.limit
+    looked.work) c.in_ok-wins.ensures.searched)
+
+pub try_reply-returns-clause-says : goal.try_reply-returns-clause-says
+try_reply-returns-clause-says g t c kept =
+    let content = g.M.Memo.content in
+    let lost = g.M.Memo.dropped in
+    let first = at_time content lost c.args.search.now in
+    let before = at_time content lost c.known.new.search in
+    let last = at_time content lost c.expand.new.search in
+    subst (λ q. SaysWin last.content q c.args.moves c.in_ok-wins.wins) c.play-after.ensures
+    (c.in_ok-wins.ensures.says (second_kept first before last c.known.ensures.looked.work.counted
+    c.in_ok-wins.ensures.searched.work.counted kept))
+
+pub try_reply-returns-clause-known : goal.try_reply-returns-clause-known
+try_reply-returns-clause-known g t c known =
+    not_known _ (g.M.Memo.content c.args.search.now.memo) (g.M.Memo.content c.known.new.search.memo)
+    c.play-after.result c.args.moves c.known.ensures.looked.same c.in_default.ensures.answer
+    (subst (λ q. (c.args.moves ≡ 0) ⊎ IsDecided (g.M.Memo.content c.args.search.now.memo) q c.args.moves)
+    (sym c.play-after.ensures) known)
+
+pub all_replies_lose-play-requires : goal.all_replies_lose-play-requires
+all_replies_lose-play-requires g t c =
+    put_off_legal g.B.Board.geometry c.args.position.now c.args.ranked.now c.replies.candidate-index
+    c.candidate-item.result c.requires.legal c.replies-test.true c.candidate-item.is
+
+pub all_replies_lose-returns-in_err-wins-clause-searched : goal.all_replies_lose-returns-in_err-wins-clause-searched
+all_replies_lose-returns-in_err-wins-clause-searched g t c =
+    let geo = g.B.Board.geometry in
+    let content = g.M.Memo.content in
+    let lost = g.M.Memo.dropped in
+    searched_err geo content lost c.args.moves _ _ c.in_err-wins.field-0.0 _ c.from_residual.ensures.1
+    (searched_on geo content lost c.args.moves c.args.search.now c.replies.search c.wins.new.search _
+    (record {
+      right = c.replies.invariant.0;
+      count = c.replies.invariant.1.0;
+      stop = λ e. absurd (ok_is_no_err _ _ e);
+      work = c.replies.invariant.1.1.1.0;
+    }) c.in_err-wins.ensures.searched)
+
+pub all_replies_lose-returns-in_err-wins-clause-known : goal.all_replies_lose-returns-in_err-wins-clause-known
+all_replies_lose-returns-in_err-wins-clause-known g t c all =
+    let geo = g.B.Board.geometry in
+    let content = g.M.Memo.content in
+    let legal = put_off_legal geo c.args.position.now c.args.ranked.now c.replies.candidate-index
+    c.candidate-item.result c.requires.legal c.replies-test.true c.candidate-item.is in
+    let before = c.replies.invariant.1.1.2 all in
+    let here = c.in_err-wins.ensures.known (reply_decided geo (content c.args.search.now.memo)
+    (content c.replies.search.memo) c.args.position.now c.play.result
+    c.candidate-item.result.1 c.args.moves c.args.search.now.expanded c.replies.search.expanded all before legal
+    c.play.ensures) in
+    absurd (true≢false (sym here.0))
+
+pub all_replies_lose-returns-then-not-branch-clause-answer : goal.all_replies_lose-returns-then-not-branch-clause-answer
+all_replies_lose-returns-then-not-branch-clause-answer g t c =
+    let geo = g.B.Board.geometry in
+    answer_no (AllWin geo c.args.position.now c.args.moves c.args.ranked.now)
+    (one_does_not geo c.args.position.now c.args.moves c.args.ranked.now c.replies.candidate-index
+    c.candidate-item.result c.replies-test.true c.candidate-item.is
+    (λ win. is_not c.in_ok-wins.field-0 _ c.in_ok-wins.ensures.answer c.if-not-branch.true
+    (subst (λ q. Win geo q c.args.moves) (sym c.play.ensures) win)))
+
+pub all_replies_lose-returns-then-not-branch-clause-searched : goal.all_replies_lose-returns-then-not-branch-clause-searched
+all_replies_lose-returns-then-not-branch-clause-searched g t c =
+    let geo = g.B.Board.geometry in
+    let content = g.M.Memo.content in
+    let lost = g.M.Memo.dropped in
+    searched_ok geo content lost c.args.moves _ _ _ _
+    (searched_on geo content lost c.args.moves c.args.search.now c.replies.search c.wins.new.search _
+    (record {
+      right = c.replies.invariant.0;
+      count = c.replies.invariant.1.0;
+      stop = λ e. absurd (ok_is_no_err _ _ e);
+      work = c.replies.invariant.1.1.1.0;
+    }) c.in_ok-wins.ensures.searched)
+
+pub all_replies_lose-returns-then-not-branch-clause-says : goal.all_replies_lose-returns-then-not-branch-clause-says
+all_replies_lose-returns-then-not-branch-clause-says g t c kept =
+    let geo = g.B.Board.geometry in
+    let content = g.M.Memo.content in
+    let lost = g.M.Memo.dropped in
+    let legal = put_off_legal geo c.args.position.now c.args.ranked.now c.replies.candidate-index
+    c.candidate-item.result c.requires.legal c.replies-test.true c.candidate-item.is in
+    says_not_all geo (content c.wins.new.search.memo) c.args.position.now c.args.moves c.args.ranked.now
+    (says_refuted geo c.args.moves c.args.position.now c.candidate-item.result.1 c.play.result c.in_ok-wins.field-0
+    (at_time content lost c.args.search.now) (at_time content lost c.replies.search)
+    (at_time content lost c.wins.new.search) c.replies.invariant.1.1.1.0 c.in_ok-wins.ensures.searched.work legal
+    c.play.ensures c.if-not-branch.true c.in_ok-wins.ensures.says kept)
+
+pub all_replies_lose-returns-then-not-branch-clause-known : goal.all_replies_lose-returns-then-not-branch-clause-known
+all_replies_lose-returns-then-not-branch-clause-known g t c all =
+    let geo = g.B.Board.geometry in
+    let content = g.M.Memo.content in
+    let legal = put_off_legal geo c.args.position.now c.args.ranked.now c.replies.candidate-index
+    c.candidate-item.result c.requires.legal c.replies-test.true c.candidate-item.is in
+    let before = c.replies.invariant.1.1.2 all in
+    let here = c.in_ok-wins.ensures.known (reply_decided geo (content c.args.search.now.memo)
+    (content c.replies.search.memo) c.args.position.now c.play.result
+    c.candidate-item.result.1 c.args.moves c.args.search.now.expanded c.replies.search.expanded all before legal
+    c.play.ensures) in (
+      (λ none. ok_is_no_err _ _ none),
+      unchanged_then (content c.args.search.now.memo) (content c.replies.search.memo)
+          (content c.wins.new.search.memo) c.args.search.now.expanded c.replies.search.expanded
+          c.wins.new.search.expanded before here.1,
+    )
+
+pub all_replies_lose-replies-preserved : goal.all_replies_lose-replies-preserved
+all_replies_lose-replies-preserved g t c =
+    let geo = g.B.Board.geometry in
+    let content = g.M.Memo.content in
+    let lost = g.M.Memo.dropped in
+    let legal = put_off_legal geo c.args.position.now c.args.ranked.now c.replies.candidate-index
+    c.candidate-item.result c.requires.legal c.replies-test.true c.candidate-item.is in
+    let won = subst (λ q. Win geo q c.args.moves) c.play.ensures
+    (is_so c.in_ok-wins.field-0 _ c.in_ok-wins.ensures.answer c.if-not-branch.false) in (
+      c.in_ok-wins.ensures.searched.right,
+      (
+        counted_then c.args.search.now.expanded c.args.search.now.limit c.replies.search.expanded c.replies.search.limit
+            c.wins.new.search.expanded c.wins.new.search.limit c.replies.invariant.1.0
+            c.in_ok-wins.ensures.searched.count,
+        (
+          below_more (λ r. Win geo (play geo c.args.position.now r) c.args.moves) c.args.ranked.now
+              c.replies.candidate-index c.candidate-item.result c.replies.invariant.1.1.0 c.replies-test.true
+              c.candidate-item.is won,
+          answered_more geo c.args.moves c.args.position.now c.args.ranked.now
+              c.replies.candidate-index c.candidate-item.result c.play.result c.in_ok-wins.field-0
+              (at_time content lost c.args.search.now) (at_time content lost c.replies.search)
+              (at_time content lost c.wins.new.search)
+              c.replies.invariant.1.1.1 c.replies-test.true c.candidate-item.is c.play.ensures c.if-not-branch.false
+              c.in_ok-wins.ensures.searched.work c.in_ok-wins.ensures.says,
+          λ all.
+              let before = c.replies.invariant.1.1.2 all in
+              let here = c.in_ok-wins.ensures.known (reply_decided geo (content c.args.search.now.memo)
+              (content c.replies.search.memo) c.args.position.now c.play.result
+              c.candidate-item.result.1 c.args.moves c.args.search.now.expanded c.replies.search.expanded all before legal
+              c.play.ensures) in
+              unchanged_then (content c.args.search.now.memo) (content c.replies.search.memo)
+              (content c.wins.new.search.memo) c.args.search.now.expanded c.replies.search.expanded
+              c.wins.new.search.expanded before here.1,
+        ),
+      ),
+    )
+
+pub all_replies_lose-returns-clause-answer : goal.all_replies_lose-returns-clause-answer
+all_replies_lose-returns-clause-answer g t c =
+    answer_yes (AllWin g.B.Board.geometry c.args.position.now c.args.moves c.args.ranked.now)
+    (all_win g.B.Board.geometry c.args.position.now c.args.moves c.args.ranked.now c.replies.candidate-index
+    c.replies-test.false c.replies.invariant.1.1.0)
+
+pub all_replies_lose-returns-clause-says : goal.all_replies_lose-returns-clause-says
+all_replies_lose-returns-clause-says g t c =
+    says_all g.B.Board.geometry c.args.moves c.args.position.now c.args.ranked.now c.replies.candidate-index
+    (at_time g.M.Memo.content g.M.Memo.dropped c.args.search.now)
+    (at_time g.M.Memo.content g.M.Memo.dropped c.replies.search) c.replies-test.false c.replies.invariant.1.1.1
+
+pub all_replies_lose-returns-clause-known : goal.all_replies_lose-returns-clause-known
+all_replies_lose-returns-clause-known g t c all =
+    ((λ none. ok_is_no_err _ _ none), c.replies.invariant.1.1.2 all)

@@ -17,12 +17,6 @@ returns-in-Some-clause-answer g c =
     c.bounds_now-bounds.result 1 c.decide.result c.in-Some.answer c.requires.ready.right
     c.bounds_now-bounds.ensures.bounds c.decide.ensures.value c.in-Some.is
 
-pub returns-in-Some-clause-spent : goal.returns-in-Some-clause-spent
-returns-in-Some-clause-spent g c undecided =
-    absurd (undecided (bounds_decide (g.M.Memo.content c.args.search.now.memo) c.args.position.now
-    c.bounds_now-bounds.result 1 c.decide.result c.bounds_now-bounds.ensures.bounds c.decide.ensures.value
-    (ap is_some c.in-Some.is)))
-
 pub returns-in-Some-clause-searched : goal.returns-in-Some-clause-searched
 returns-in-Some-clause-searched g c = record {
   right =
@@ -63,12 +57,6 @@ returns-in_err-count-clause-searched g c = record {
       (sym (c.in_err-count.ensures.same refl));
 }
 
-pub returns-in_err-count-clause-known : goal.returns-in_err-count-clause-known
-returns-in_err-count-clause-known g c known =
-    absurd (bounds_open (g.M.Memo.content c.args.search.now.memo) c.args.position.now c.bounds_now-bounds.result 1
-    c.decide.result c.bounds_now-bounds.ensures.map c.bounds_now-bounds.ensures.bounds c.decide.ensures.value
-    (ap is_some c.in_default.is) known)
-
 pub returns-in_err-won-clause-searched : goal.returns-in_err-won-clause-searched
 returns-in_err-won-clause-searched g c = record {
   right =
@@ -88,12 +76,6 @@ returns-in_err-won-clause-searched g c = record {
       (begun_is g.M.Memo.content g.M.Memo.dropped _ _ _ _ c.count.ensures.memo c.in_ok-count.ensures.more)
       (searched_same geo 0 0 _ _ known.map known.same (sym known.dropped) refl) (searched_none geo 0 0 _));
 }
-
-pub returns-in_err-won-clause-known : goal.returns-in_err-won-clause-known
-returns-in_err-won-clause-known g c known =
-    absurd (bounds_open (g.M.Memo.content c.args.search.now.memo) c.args.position.now c.bounds_now-bounds.result 1
-    c.decide.result c.bounds_now-bounds.ensures.map c.bounds_now-bounds.ensures.bounds c.decide.ensures.value
-    (ap is_some c.in_default.is) known)
 
 pub returns-clause-answer : goal.returns-clause-answer
 returns-clause-answer g c = last_answer g.B.Board.geometry c.args.position.now c.in_ok-won.won c.in_ok-won.ensures
@@ -150,9 +132,3 @@ returns-clause-says g c =
     c.note.ensures.note.map_before
     (same_map (g.M.Memo.content c.args.search.now.memo) now.content p c.bounds_now-bounds.result same known.bounds)
     (λ e. ((λ m. m), (λ m. m))) refl c.joined.ensures c.note.ensures.note refl)).says
-
-pub returns-clause-known : goal.returns-clause-known
-returns-clause-known g c known =
-    absurd (bounds_open (g.M.Memo.content c.args.search.now.memo) c.args.position.now c.bounds_now-bounds.result 1
-    c.decide.result c.bounds_now-bounds.ensures.map c.bounds_now-bounds.ensures.bounds c.decide.ensures.value
-    (ap is_some c.in_default.is) known)
