@@ -86,9 +86,13 @@ impl Tally {
         }
     }
 
-    /// Writes what was found of each wrong row, and how many rows were right.
+    /// Writes what was found of each wrong row, and whether all rows were right. A section without rows is not.
     pub fn report(&self, rt: &impl Print, head: &str) -> io::Result<()> {
         let (wrong, right, asked) = (self.wrong.as_str(), self.right, self.asked);
-        println!(rt; "{wrong}{head}: {right} of {asked} right")
+        if asked > 0 && right == asked {
+            println!(rt; "{wrong}{head}: all right")
+        } else {
+            println!(rt; "{wrong}{head}: {right} of {asked} right")
+        }
     }
 }

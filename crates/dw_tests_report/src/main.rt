@@ -1,12 +1,13 @@
-//! Tests of verdicts and of whole runs, over public calls: at the boards of ten, of eight and of six rows. Each row of
-//! standard input is asked, and of each section it is said how many rows were right.
+//! Tests of verdicts, of whole runs and of written movetexts, over public calls: at the boards of ten, of eight and of
+//! six rows. Each row of standard input is asked, and of each section it is said whether all rows were right.
 //!
-//! The rows hold what no clause says: worked reports, and each read and each write failing in turn.
+//! The rows hold what no clause says: worked reports and movetexts, and each read and each write failing in turn.
 #![tactic(auto)]
 
 mod asked;
 mod broken;
 mod judged;
+mod movetexts;
 mod plain;
 mod reports;
 mod row_kind;
@@ -71,6 +72,7 @@ fn answer<B: Board>(
         RowKind::Changed => reports::changed::<B>(alloc, asked, found),
         RowKind::Many => plain::many::<B>(alloc, asked, found),
         RowKind::Chosen => plain::chosen::<B>(asked, found),
+        RowKind::Movetext => movetexts::written::<B>(alloc, asked, found),
         RowKind::Law => {
             plain::law(found);
             Some(())

@@ -13,6 +13,7 @@ pub enum RowKind {
     Changed,
     Many,
     Chosen,
+    Movetext,
     Law,
 }
 
@@ -30,6 +31,7 @@ impl RowKind {
             "changed" => Some(RowKind::Changed),
             "many" => Some(RowKind::Many),
             "chosen" => Some(RowKind::Chosen),
+            "movetext" => Some(RowKind::Movetext),
             "law" => Some(RowKind::Law),
             _ => None,
         }

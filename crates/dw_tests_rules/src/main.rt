@@ -1,5 +1,5 @@
 //! Tests of boards, moves, texts, problems and solutions, over public calls: at the boards of ten and of eight rows,
-//! and at a small one of six. Each row of standard input is asked, and of each section it is said how many rows were
+//! and at a small one of six. Each row of standard input is asked, and of each section it is said whether all rows were
 //! right.
 //!
 //! The rows hold what no clause says: worked positions and texts, a call of each public function, streams that fail.

@@ -1,0 +1,38 @@
+//! Movetexts of worked solutions.
+
+use crate::asked::{AMPLE, Asked};
+use dw_board::{Board, Position};
+use dw_memo::NoMemo;
+use dw_solution::movetext::movetext;
+use dw_solution::{Heading, VerdictKind, first_lines};
+use dw_solve::{ByTrial, Solver};
+use dw_tests_common::tally::RowText;
+use dw_tests_common::texts::read_position;
+use std::alloc::Global;
+
+/// The verdict of this name.
+fn kind_named(name: &str) -> Option<VerdictKind> {
+    match name {
+        "unsolvable" => Some(VerdictKind::Unsolvable),
+        "cooked" => Some(VerdictKind::Cooked),
+        "dual" => Some(VerdictKind::Dual),
+        "sound" => Some(VerdictKind::Sound),
+        _ => None,
+    }
+}
+
+/// Adds the movetext of a row, `POSITION | NUMBER OF MOVES | MOST LINES | VERDICT`, with a line feed behind it.
+pub fn written<B: Board>(alloc: Global, asked: &Asked<'_>, found: &mut RowText) -> Option<()> {
+    let position: Position<B> = read_position(asked.column(0))?;
+    let moves = asked.moves()?;
+    let most = asked.column(2).parse::<usize>().ok()?;
+    let kind = kind_named(asked.column(3))?;
+    let mut solver = Solver::new(NoMemo::new(), ByTrial, AMPLE);
+    let first = first_lines(alloc, &mut solver, &position, moves, most).ok()?;
+    let text = movetext(alloc, &position, &first, Heading { kind, moves }).ok()?;
+    for byte in text.as_slice() {
+        found.say(&char::from(*byte));
+    }
+    found.add("\n");
+    Some(())
+}
