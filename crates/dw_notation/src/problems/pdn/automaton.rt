@@ -201,6 +201,7 @@ fn step_rest(byte: u8) -> Transition
 
 impl State {
     /// Where the next byte leads, and what it does.
+    #[inline(always)]
     pub(crate) fn transition(self, byte: u8) -> Transition
         ensures { result ≡ transition self byte }
     {
