@@ -10,7 +10,7 @@ docs/FORMATS.md have to be what `dw show` answers, the program in docs/LIBRARY.m
 the problems in docs/REPORT.md have to have the diagrams, verdicts and lines that stand there. Where README.md,
 docs/DESK.md and docs/COMPOSERS.md show a call as `$ echo FEN | ./PROGRAM WORDS` and its answer below, it has to answer
 that; other calls there are not tried. The diagram docs/diagram.svg has to be what `dw-desk page` draws of its position,
-in the page's style. Each function on the way of a problem in docs/ARCHITECTURE.md has to be in the file that is named
+in the page's style. Each function on the ways in docs/ARCHITECTURE.md has to be in the file that is named
 for it; each crate has to be named there, with files that it has.
 """
 import pathlib

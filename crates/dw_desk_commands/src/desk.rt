@@ -4,7 +4,7 @@ ghost use Rattle.dw_desk_commands.specs.Commands.{DoesIt, Obeys, form_for};
 ghost use Rattle.dw_desk_commands.specs.Ending.{FailsForCause, HasCause, ending_after};
 ghost use Rattle.dw_desk_commands.specs.declared.desk.DeskFault.TheVariants as because;
 ghost use Rattle.dw_desk_commands.specs.inner.Choosing.{IsFresh, source_of};
-ghost use Rattle.dw_desk_commands.specs.inner.Faults.{CommandFails, of_game, of_mend, run_fault};
+ghost use Rattle.dw_desk_commands.specs.inner.Faults.{CommandFails, FailsForMemory, of_game, of_mend, run_fault};
 ghost use Rattle.dw_solve.specs.declared.stop.Stop.TheVariants as stops;
 
 use crate::chosen::Chosen;
@@ -214,7 +214,7 @@ fn dispatch<'a, B: Board, W: DeskWatcher, S: Source, K: Sink>(
     requires sink { K.is_failed sink.old ≡ false }
     ensures does { IfOk result (DoesIt B.geometry args.now (S.coming source.old) (K.taken sink.old)
         (K.taken sink.new)) }
-    ensures told { IfOk result (FailsForCause false) }
+    ensures told { IfOk result FailsForMemory }
     ensures fails { (read_failed : Bool) × IfErr result (λ fault.
         HasCause read_failed (K.is_failed sink.new) (run_fault fault desk.new.solver.expanded)) }
 {
@@ -236,7 +236,7 @@ fn do_with<'a, B: Board, W: DeskWatcher, S: Source, K: Sink>(
     requires sink { K.is_failed sink.old ≡ false }
     ensures does { IfOk result (DoesIt B.geometry args.now (S.coming (source_of chosen.old.text))
         (K.taken sink.old) (K.taken sink.new)) }
-    ensures told { IfOk result (FailsForCause false) }
+    ensures told { IfOk result FailsForMemory }
     ensures ends { CommandFails S.is_failed (K.is_failed sink.new) desk.new.solver.expanded chosen.old chosen.new
         result }
 {

@@ -2,10 +2,9 @@
 ghost use Rattle.std.specs.Prelude.{◌≡◌, ◌-◌, ℕ, Bool, List, Option, false, IfOk};
 ghost use Rattle.std.specs.Io.KnownBytes.{Appends};
 ghost use Rattle.dw_commands.specs.declared.ending.Ending.{Ending};
-ghost use Rattle.dw_desk_commands.specs.Ending.{FailsForCause};
 ghost use Rattle.dw_desk_commands.specs.ProblemText.{IsReport, IsReportOnOne};
 ghost use Rattle.dw_desk_commands.specs.inner.Choosing.{AreToCome, Runs};
-ghost use Rattle.dw_desk_commands.specs.inner.Faults.{CommandFails, ReportFails};
+ghost use Rattle.dw_desk_commands.specs.inner.Faults.{CommandFails, FailsForMemory, ReportFails};
 ghost use Rattle.dw_desk_commands.specs.inner.NextGame.{IsNext, as_list};
 ghost use Rattle.dw_games.specs.GameReading.{numbered_game};
 ghost use Rattle.dw_games.specs.Games.{NumberedGame};
@@ -84,7 +83,7 @@ pub(crate) trait ReportOne<B: Board, E> {
         ensures text { IfOk result (λ ending. (text : List ℕ)
             × says self.now (desk.new.solver.expanded - desk.old.solver.expanded) (numbered_game game.now) ending text
             × Appends (K.taken sink.old) (K.taken sink.new) text) }
-        ensures told { IfOk result (FailsForCause false) }
+        ensures told { IfOk result FailsForMemory }
         ensures fails { ReportFails (K.is_failed sink.new) desk.new.solver.expanded result };
 }
 
@@ -104,7 +103,7 @@ pub(crate) fn report_first<E, B: Board, W: DeskWatcher, S: Source, K: Sink, R: R
         × IsReportOnOne (R.says command.now (desk.new.solver.expanded - desk.old.solver.expanded))
         chosen.old.portion.first (as_list next) ending text
         × Appends (K.taken sink.old) (K.taken sink.new) text) }
-    ensures told { IfOk result (FailsForCause false) }
+    ensures told { IfOk result FailsForMemory }
     ensures ends { CommandFails S.is_failed (K.is_failed sink.new) desk.new.solver.expanded chosen.old chosen.new
         result }
 {

@@ -1,9 +1,8 @@
 //! The command `token`: a line of play as a token.
 ghost use Rattle.std.specs.Prelude.{◌≡◌, ◌⊎◌, ℕ, List, false, IfOk};
 ghost use Rattle.std.specs.Io.KnownBytes.{Appends};
-ghost use Rattle.dw_desk_commands.specs.Ending.{FailsForCause};
 ghost use Rattle.dw_desk_commands.specs.Writing.{IsTokenFor};
-ghost use Rattle.dw_desk_commands.specs.inner.Faults.{SinkFails};
+ghost use Rattle.dw_desk_commands.specs.inner.Faults.{FailsForMemory, SinkFails};
 
 use crate::desk::{Desk, DeskFault};
 use crate::reporting::ReportOne;
@@ -52,7 +51,7 @@ fn write_token_of<T, B: Board, K: Sink>(
     requires sink { K.is_failed sink.old ≡ false }
     ensures report { IfOk result (λ ending. (text : List ℕ) × IsTokenFor B.geometry line.now found.now ending text
         × Appends (K.taken sink.old) (K.taken sink.new) text) }
-    ensures told { IfOk result (FailsForCause false) }
+    ensures told { IfOk result FailsForMemory }
     ensures fails { SinkFails (K.is_failed sink.new) result }
 {
     let position = match found {

@@ -1,5 +1,7 @@
 -- Why a problem was not reported to its end, by the fault of what was called.
-use Rattle.std.specs.Prelude.{◌≡◌, ℕ, Bool, false, Result, IfErr}
+use Rattle.std.specs.Prelude.{◌≡◌, ℕ, Bool, false, Result, IfErr, ⊤}
+use Rattle.dw_commands.specs.declared.ending.Ending.{Ending}
+use Rattle.dw_commands.specs.declared.ending.Ending.TheVariants as end
 use Rattle.dw_desk_commands.specs.Ending.{HasCause}
 use Rattle.dw_desk_commands.specs.declared.chosen.Chosen.{Chosen}
 use Rattle.dw_desk_commands.specs.inner.Choosing.{lender, source_of}
@@ -48,3 +50,9 @@ pub record CommandFails {B S X : Type 0} (is_failed : S → Bool) (sink_failed :
     (old new : Chosen B S) (result : Result X DeskFault) : Type 0 where
   pub source : lender new.text ≡ lender old.text
   pub cause : IfErr result (λ fault. HasCause (is_failed (source_of new.text)) sink_failed (run_fault fault expanded))
+
+-- a command that comes to its end fails only since memory was refused
+abbrev pub FailsForMemory : {T : Type 0} → Ending T → Type 0
+FailsForMemory (end.Failed (running.Stopped stops.Memory expanded)) = ⊤
+FailsForMemory (end.Failed fault) = ⊥
+FailsForMemory other = ⊤
