@@ -26,8 +26,8 @@ from wins import drawn
 TOP = pathlib.Path(__file__).resolve().parent.parent
 DW, DESK = TOP / "dw", TOP / "dw-desk"
 SEED, MOST = 23, 4
-# A search of some seconds.
-LONG, LONG_MOVES = "W:WK39,41,50:B5,12,29", 8
+# A search of some seconds, with a small memo.
+LONG, LONG_MOVES, LONG_CACHE = "W:WK39,41,50:B5,12,29", 9, 10_000
 
 
 # Options, a problem, and what is written.
@@ -263,7 +263,7 @@ def at_terminal(words, answers=False):
 def check_progress(folder):
     file = folder / "long.fen"
     file.write_text(f"{LONG}\nW:W32:B28\n")
-    words = [DESK, "find", "--most", str(LONG_MOVES), "--cache", "300", str(file)]
+    words = [DESK, "find", "--most", str(LONG_MOVES), "--cache", str(LONG_CACHE), str(file)]
     said = at_terminal(words)
     steps = [int(number) for number in re.findall(r"problem 1: \d+ moves, (\d+) positions", said)]
     assert steps == sorted(set(steps)) and len(steps) >= 2, said
