@@ -276,13 +276,13 @@ def check_progress(folder):
 
 
 def check_mending():
-    """The line that shows how far `mend` is grows with each neighbour, and stands before no answer."""
+    """The numbers in the line that shows how far `mend` is never fall, and the line stands before no answer."""
     words = [DESK, "mend", "-n", "6", "--pdn", "--problem", "35", str(TOP / "examples" / "collection.pdn")]
     answers = run(*words)
     said = at_terminal(words, answers=True)
     shown = r"problem 35: 6 moves, (\d+) positions"
     steps = [int(number) for number in re.findall(shown, said)]
-    assert steps == sorted(set(steps)) and len(steps) >= 2, said
+    assert steps == sorted(steps) and len(set(steps)) >= 2, said
     left = re.sub(rf"\r\x1b\[K({shown}(?=\r\x1b\[K))?", "", said)
     assert left.replace("\r\n", "\n") == answers, said
     print(f"mend at a terminal: {len(steps)} numbers of positions, and each answer in a line of its own")
