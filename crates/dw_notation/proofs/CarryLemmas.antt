@@ -5,16 +5,12 @@ use Rattle.std.proofs.Common.{◌||◌, inl, inr}
 use Rattle.std.proofs.KnownBytes.{Consumes-nil, Consumes-trans}
 use Rattle.std.specs.Io.KnownBytes.{Consumes}
 use Rattle.dw_board.specs.Geometry.{Geometry}
-use Rattle.dw_notation.specs.inner.Ahead.{found_from, behind_mark}
-use Rattle.dw_notation.specs.inner.Held.{held_line}
 use Rattle.dw_notation.specs.inner.Pieces.{pieces_ahead, pieces_behind}
 use Rattle.dw_notation.specs.inner.Cutting.{found_ahead, CarriesOn, TakesPiece, TakesLast, found_behind}
 use Rattle.dw_notation.specs.inner.Cutting.{found_cut, progress_at}
 use Rattle.dw_notation.specs.Buffering.{Input, unread_in, input_of, Passes}
 use Rattle.dw_notation.specs.declared.streams.buffer.Buffer.{Buffer}
 use Rattle.dw_notation.specs.declared.problems.TheConstants.{MAX_READ}
-use Rattle.dw_notation.specs.declared.problems.fens.Front.{Front}
-use Rattle.dw_notation.specs.declared.problems.fens.Front.TheVariants.{Bare, One, Two, Behind}
 use Rattle.dw_notation.specs.inner.Cutting.{Progress}
 use Rattle.dw_notation.specs.declared.problems.reader.Pieces.{Pieces}
 use Rattle.dw_notation.specs.declared.problems.reader.Pieces.TheVariants.{InLines, InSections}
@@ -50,16 +46,9 @@ TakesPiece-cut coming left old mid new so_far same = record {
   same = λ g at_end more. so_far.same g at_end more ∙ same g at_end more;
 }
 
--- ---- the front alone ends no line
-ended-front : (g : Geometry) (line : List ℕ) (front : Front) → found_from false g line (behind_mark front []) ≡ []
-ended-front g line Bare = refl
-ended-front g line One = refl
-ended-front g line Two = refl
-ended-front g line Behind = refl
-
--- nor does any piece begun
+-- ---- no byte ends no piece
 ended-piece : (g : Geometry) (pieces : Pieces) → pieces_ahead false g pieces [] ≡ []
-ended-piece g (InLines lines) = ended-front g (held_line lines.line) lines.front
+ended-piece g (InLines lines) = refl
 ended-piece g (InSections sections) = refl
 
 -- nothing more ends, where all that was read belongs to the piece begun

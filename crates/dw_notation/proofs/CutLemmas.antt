@@ -10,7 +10,7 @@ use Rattle.std.specs.List.{slice_range, position, position_or_len, before_first}
 use Rattle.dw_board.specs.Geometry.{Geometry}
 use Rattle.dw_notation.specs.inner.TextLines.{line_found}
 use Rattle.dw_notation.specs.TextLines.{NoLineFeed}
-use Rattle.dw_notation.specs.inner.TextLines.{SaysSame, is_line_feed}
+use Rattle.dw_notation.specs.inner.TextLines.{line_of, SaysSame, is_line_feed}
 use Rattle.dw_notation.specs.inner.Ahead.{found_from}
 
 pub NoLineFeed-push : (bytes : List ℕ) (byte : ℕ) → NoLineFeed bytes → (byte == 10) ≡ false
@@ -54,58 +54,54 @@ no_feed bytes none =
     let all : length bytes ≡ n = ap (λ o. unwrap_or o (length bytes)) (sym none) ∙ first_or_all is_line_feed bytes in
     subst NoLineFeed (take_all n bytes (omega (arith, all))) (NoLineFeed-before bytes)
 
-pub found_from-piece : (at_end : Bool) (g : Geometry) (line piece more : List ℕ) → NoLineFeed piece
-    → found_from at_end g line (piece ++ more) ≡ found_from at_end g (line ++ piece) more
-found_from-piece at_end g line [] more none = rw append-nil refl
-found_from-piece at_end g line (b ∷ piece) more none = rw none.0 (found_from-piece at_end g (line ++ b ∷ []) piece more
-    none.1 ∙ rw append_assoc refl)
+pub found_from-piece : (at_end : Bool) (g : Geometry) (first : Bool) (line piece more : List ℕ) → NoLineFeed piece
+    → found_from at_end g first line (piece ++ more) ≡ found_from at_end g first (line ++ piece) more
+found_from-piece at_end g first line [] more none = rw append-nil refl
+found_from-piece at_end g first line (b ∷ piece) more none = rw none.0 (found_from-piece at_end g first (line ++ b ∷ [])
+    piece more none.1 ∙ rw append_assoc refl)
 
-line_found-same : (g : Geometry) (line other : List ℕ) → SaysSame line other → line_found g line ≡ line_found g other
-line_found-same g line other same = ap (line_found g) (sym (append-nil line)) ∙ same g []
-    ∙ ap (line_found g) (append-nil other)
+line_found-same : (g : Geometry) (first : Bool) (line other : List ℕ) → SaysSame first line other
+    → line_found g (line_of first line) ≡ line_found g (line_of first other)
+line_found-same g first line other same = ap (λ l. line_found g (line_of first l)) (sym (append-nil line)) ∙ same g []
+    ∙ ap (λ l. line_found g (line_of first l)) (append-nil other)
 
-SaysSame-push : (line other : List ℕ) (byte : ℕ) → SaysSame line other
-    → SaysSame (line ++ byte ∷ []) (other ++ byte ∷ [])
-SaysSame-push line other byte same g more =
-    ap (line_found g) (append_assoc line (byte ∷ []) more) ∙ same g (byte ∷ more)
-    ∙ ap (line_found g) (sym (append_assoc other (byte ∷ []) more))
+SaysSame-push : (first : Bool) (line other : List ℕ) (byte : ℕ) → SaysSame first line other
+    → SaysSame first (line ++ byte ∷ []) (other ++ byte ∷ [])
+SaysSame-push first line other byte same g more =
+    ap (λ l. line_found g (line_of first l)) (append_assoc line (byte ∷ []) more) ∙ same g (byte ∷ more)
+    ∙ ap (λ l. line_found g (line_of first l)) (sym (append_assoc other (byte ∷ []) more))
 
-pub found_from-same : (at_end : Bool) (g : Geometry) (line other more : List ℕ) → SaysSame line other
-    → found_from at_end g line more ≡ found_from at_end g other more
-found_from-same at_end g line other [] same = ap (λ x. cond at_end (option_to_list x) [])
-    (line_found-same g line other same)
-found_from-same at_end g line other (b ∷ more) same =
-    let rest : found_from at_end g (line ++ b ∷ []) more ≡ found_from at_end g (other ++ b ∷ []) more =
-    found_from-same at_end g (line ++ b ∷ []) (other ++ b ∷ []) more (SaysSame-push line other b same) in
-    elim (b == 10) as (λ v. cond v (option_to_list (line_found g line) ++ found_from at_end g [] more)
-    (found_from at_end g (line ++ b ∷ []) more)
-    ≡ cond v (option_to_list (line_found g other) ++ found_from at_end g [] more) (found_from at_end g (other ++ b ∷ [])
-    more)) [
-      | true ↦ ap (λ x. option_to_list x ++ found_from at_end g [] more) (line_found-same g line other same)
-      | false ↦
-          rest
-    ]
+found_from-same : (at_end : Bool) (g : Geometry) (first : Bool) (line other more : List ℕ) → SaysSame first line other
+    → found_from at_end g first line more ≡ found_from at_end g first other more
+found_from-same at_end g first line other [] same = ap (λ x. cond at_end (option_to_list x) [])
+    (line_found-same g first line other same)
+found_from-same at_end g first line other (b ∷ more) same =
+    let behind = found_from at_end g false [] more in
+    ap (λ x. cond (b == 10) (option_to_list x ++ behind) (found_from at_end g first (line ++ b ∷ []) more))
+    (line_found-same g first line other same)
+    ∙ ap (λ l. cond (b == 10) (option_to_list (line_found g (line_of first other)) ++ behind) l)
+    (found_from-same at_end g first (line ++ b ∷ []) (other ++ b ∷ []) more (SaysSame-push first line other b same))
 
 -- a piece with no line feed is put onto the line
-pub found_from-push : (at_end : Bool) (g : Geometry) (line piece held more : List ℕ) → NoLineFeed piece
-    → SaysSame (line ++ piece) held
-    → found_from at_end g line (piece ++ more) ≡ found_from at_end g held more
-found_from-push at_end g line piece held more none same = found_from-piece at_end g line piece more none
-    ∙ found_from-same at_end g (line ++ piece) held more same
+pub found_from-push : (at_end : Bool) (g : Geometry) (first : Bool) (line piece held more : List ℕ) → NoLineFeed piece
+    → SaysSame first (line ++ piece) held
+    → found_from at_end g first line (piece ++ more) ≡ found_from at_end g first held more
+found_from-push at_end g first line piece held more none same = found_from-piece at_end g first line piece more none
+    ∙ found_from-same at_end g first (line ++ piece) held more same
 
 -- the line feed stands at a place in the bytes
-pub found_from-at : (at_end : Bool) (g : Geometry) (line bytes held more : List ℕ) (place : ℕ)
+pub found_from-at : (at_end : Bool) (g : Geometry) (first : Bool) (line bytes held more : List ℕ) (place : ℕ)
     → NoLineFeed (take place bytes) → drop place bytes ≡ 10 ∷ drop (place + 1) bytes
-    → SaysSame (line ++ take place bytes) held
-    → found_from at_end g line (bytes ++ more) ≡ option_to_list (line_found g held)
-    ++ found_from at_end g [] (drop (place + 1) bytes ++ more)
-found_from-at at_end g line bytes held more place none here same =
+    → SaysSame first (line ++ take place bytes) held
+    → found_from at_end g first line (bytes ++ more) ≡ option_to_list (line_found g (line_of first held))
+    ++ found_from at_end g false [] (drop (place + 1) bytes ++ more)
+found_from-at at_end g first line bytes held more place none here same =
     let whole : bytes ≡ take place bytes ++ 10 ∷ drop (place + 1) bytes = sym (take-append-drop place bytes)
     ∙ ap (λ l. take place bytes ++ l) here in
     let joined : bytes ++ more ≡ take place bytes ++ 10 ∷ (drop (place + 1) bytes ++ more) =
     ap (λ l. l ++ more) whole ∙ append_assoc (take place bytes) (10 ∷ drop (place + 1) bytes) more in
-    ap (found_from at_end g line) joined
-    ∙ found_from-push at_end g line (take place bytes) held (10 ∷ (drop (place + 1) bytes ++ more)) none same
+    ap (found_from at_end g first line) joined
+    ∙ found_from-push at_end g first line (take place bytes) held (10 ∷ (drop (place + 1) bytes ++ more)) none same
 
 pub line_found-nil : (g : Geometry) → line_found g [] ≡ None
 unfolding line_found

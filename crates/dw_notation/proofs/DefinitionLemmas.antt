@@ -3,23 +3,11 @@ use Rattle.std.proofs.Common.{◌≡◌, ℕ, ◌==◌, List, [], ◌∷◌, Boo
 use Rattle.std.proofs.lemmas.Bool.{and_parts, eqb-true, cases_Bool, cond-true, cond-false}
 use Rattle.dw_board.specs.Geometry.{Geometry}
 use Rattle.dw_notation.specs.TextLines.{without_mark}
-use Rattle.dw_notation.specs.inner.Ahead.{found_from, behind_mark}
-use Rattle.dw_notation.specs.inner.Held.{held_line}
 use Rattle.dw_notation.specs.inner.Sections.{bare, sections_found}
 use Rattle.dw_notation.specs.inner.HeldSection.{held_of, held_bare, held_from, sections_ahead}
-use Rattle.dw_notation.specs.inner.Pieces.{lines_ahead}
-use Rattle.dw_notation.specs.declared.problems.fens.Front.TheVariants.{Bare}
 use Rattle.dw_notation.specs.declared.problems.pdn.automaton.State.TheVariants.{Outside}
-use Rattle.dw_notation.specs.declared.problems.fens.TextLines.{TextLines}
 use Rattle.dw_notation.specs.declared.problems.pdn.Sections.{Sections}
 use Rattle.dw_notation.proofs.HoldingLemmas.{held_from-bare}
-
--- ---- nothing was read of a text of lines
-pub lines-new : (at_end : Bool) (g : Geometry) (lines : TextLines) → held_line lines.line ≡ [] → (lines.front ≡ Bare)
-    → (bytes : List ℕ) → lines_ahead at_end g lines bytes ≡ found_from at_end g [] (without_mark bytes)
-lines-new at_end g lines line front bytes =
-    ap (λ l. found_from at_end g l (behind_mark lines.front bytes)) line
-    ∙ ap (λ f. found_from at_end g [] (behind_mark f bytes)) front
 
 -- ---- nothing was read of a text of tags: its mark stands outside its sections
 outside-mark : (at_end : Bool) (g : Geometry) (a b c : ℕ) (bytes : List ℕ) → ((a == 0xEF) && (b == 0xBB) && (c == 0xBF))
@@ -46,9 +34,8 @@ sections-mark at_end g (a ∷ b ∷ c ∷ bytes) = elim (cases_Bool ((a == 0xEF)
 pub sections-new : (at_end : Bool) (g : Geometry) (sections : Sections) → (sections.state ≡ Outside)
     → held_of sections.section ≡ held_bare
     → (bytes : List ℕ) → sections_ahead at_end g sections bytes
-    ≡ sections_found at_end g Outside bare (without_mark bytes)
+    ≡ sections_found at_end g Outside bare bytes
 sections-new at_end g sections state section bytes =
     ap (λ p. held_from at_end g p (held_of sections.section) bytes) state
     ∙ ap (λ h. held_from at_end g Outside h bytes) section
     ∙ held_from-bare at_end g Outside bytes
-    ∙ sections-mark at_end g bytes

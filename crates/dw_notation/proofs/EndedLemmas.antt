@@ -1,11 +1,10 @@
 -- The problems that end in a text come first, whatever follows.
-use Rattle.std.proofs.Common.{◌≡◌, ℕ, ◌==◌, ◌&&◌, ◌+◌, List, [], ◌∷◌, ◌++◌, Bool, true, false, cond, option_to_list}
-use Rattle.std.proofs.Common.{nat_lt, Err, ◌⊎◌, inl, inr, refl, sym, ap, subst, ◌∙◌, append_assoc}
-use Rattle.std.proofs.lemmas.Bool.{cases_Bool, cond-false, and_parts, eqb-true}
+use Rattle.std.proofs.Common.{◌≡◌, ℕ, ◌==◌, ◌+◌, List, [], ◌∷◌, ◌++◌, Bool, true, false, cond, option_to_list}
+use Rattle.std.proofs.Common.{nat_lt, Err, refl, sym, ap, subst, ◌∙◌, append_assoc}
 use Rattle.dw_board.specs.Geometry.{Geometry}
-use Rattle.dw_notation.specs.TextLines.{Found, without_mark}
+use Rattle.dw_notation.specs.TextLines.{Found}
 use Rattle.dw_notation.specs.Problems.{Numbered, number_from, EndedComeFirst}
-use Rattle.dw_notation.specs.inner.TextLines.{line_found}
+use Rattle.dw_notation.specs.inner.TextLines.{line_of, line_found}
 use Rattle.dw_notation.specs.inner.Ahead.{found_from}
 use Rattle.dw_notation.specs.inner.Sections.{Section, transition, after, section_found, found_by, sections_found, bare}
 use Rattle.dw_notation.specs.inner.Problems.{found_of}
@@ -15,7 +14,6 @@ use Rattle.dw_notation.specs.declared.problems.Form.{Form}
 use Rattle.dw_notation.specs.declared.problems.Form.TheVariants.{Fens, Pdn}
 use Rattle.dw_notation.specs.declared.problems.pdn.automaton.State.{State}
 use Rattle.dw_notation.specs.declared.problems.pdn.automaton.State.TheVariants.{Outside}
-use Rattle.dw_notation.proofs.DefinitionLemmas.{sections-mark}
 use Rattle.dw_notation.proofs.ProblemLemmas.{text_says-only}
 use Rattle.dw_notation.proofs.TextSaysLemmas.{FensAreRead}
 
@@ -52,56 +50,18 @@ numbered_first list longer h = subst (λ l. First (number_from 0 list) (number_f
 
 -- LINES
 
-first_lines : (at_end : Bool) (g : Geometry) (line bytes more : List ℕ) → First (found_from false g line bytes)
-    (found_from at_end g line (bytes ++ more))
-first_lines at_end g line [] more = (found_from at_end g line more, refl)
-first_lines at_end g line (byte ∷ bytes) more =
-    let here = option_to_list (line_found g line) in
+first_lines : (at_end : Bool) (g : Geometry) (first : Bool) (line bytes more : List ℕ)
+    → First (found_from false g first line bytes) (found_from at_end g first line (bytes ++ more))
+first_lines at_end g first line [] more = (found_from at_end g first line more, refl)
+first_lines at_end g first line (byte ∷ bytes) more =
+    let here = option_to_list (line_found g (line_of first line)) in
     elim (byte == 10) as (λ v. First
-    (cond v (here ++ found_from false g [] bytes) (found_from false g (line ++ byte ∷ []) bytes))
-    (cond v (here ++ found_from at_end g [] (bytes ++ more))
-    (found_from at_end g (line ++ byte ∷ []) (bytes ++ more)))) [
-      | true ↦ behind here _ _ (first_lines at_end g [] bytes more)
-      | false ↦ first_lines at_end g (line ++ byte ∷ []) bytes more
+    (cond v (here ++ found_from false g false [] bytes) (found_from false g first (line ++ byte ∷ []) bytes))
+    (cond v (here ++ found_from at_end g false [] (bytes ++ more))
+    (found_from at_end g first (line ++ byte ∷ []) (bytes ++ more)))) [
+      | true ↦ behind here _ _ (first_lines at_end g false [] bytes more)
+      | false ↦ first_lines at_end g first (line ++ byte ∷ []) bytes more
     ]
-
--- what follows leaves a mark as it was, or the text is a part of one and no line has ended
-mark_stays : (bytes more : List ℕ) → (without_mark (bytes ++ more) ≡ without_mark bytes ++ more)
-    ⊎ ((g : Geometry) → found_from false g [] (without_mark bytes) ≡ [])
-mark_stays [] more = inr (λ g. refl)
-mark_stays (a ∷ []) [] = inl refl
-mark_stays (a ∷ []) (b ∷ []) = inl refl
-mark_stays (a ∷ []) (b ∷ c ∷ more) = elim (cases_Bool ((a == 0xEF) && (b == 0xBB) && (c == 0xBF))) [
-  | inl mark ↦
-      let both = and_parts (a == 0xEF) (b == 0xBB) (and_parts ((a == 0xEF) && (b == 0xBB)) (c == 0xBF) mark).0 in
-      inr (λ g. ap (λ x. found_from false g [] (x ∷ [])) (eqb-true a 0xEF both.0))
-  | inr none ↦ inl (cond-false _ more (a ∷ b ∷ c ∷ more) none)
-]
-mark_stays (a ∷ b ∷ []) [] = inl refl
-mark_stays (a ∷ b ∷ []) (c ∷ more) = elim (cases_Bool ((a == 0xEF) && (b == 0xBB) && (c == 0xBF))) [
-  | inl mark ↦
-      let both = and_parts (a == 0xEF) (b == 0xBB) (and_parts ((a == 0xEF) && (b == 0xBB)) (c == 0xBF) mark).0 in
-      inr (λ g. ap (λ x. found_from false g [] (x ∷ b ∷ [])) (eqb-true a 0xEF both.0)
-      ∙ ap (λ x. found_from false g [] (0xEF ∷ x ∷ [])) (eqb-true b 0xBB both.1))
-  | inr none ↦ inl (cond-false _ more (a ∷ b ∷ c ∷ more) none)
-]
-mark_stays (a ∷ b ∷ c ∷ bytes) more =
-    inl (elim ((a == 0xEF) && (b == 0xBB) && (c == 0xBF)) as (λ v. cond v (bytes ++ more) (a ∷ b ∷ c ∷ (bytes ++ more))
-    ≡ cond v bytes (a ∷ b ∷ c ∷ bytes) ++ more) [
-      | true ↦ refl
-      | false ↦ refl
-    ])
-
-lines_first : (at_end : Bool) (g : Geometry) (bytes more : List ℕ) → First (found_from false g [] (without_mark bytes))
-    (found_from at_end g [] (without_mark (bytes ++ more)))
-lines_first at_end g bytes more = elim (mark_stays bytes more) [
-  | inl same ↦ subst (λ z. First (found_from false g [] (without_mark bytes)) (found_from at_end g [] z)) (sym same)
-      (first_lines at_end g [] (without_mark bytes) more)
-  | inr none ↦ (
-    found_from at_end g [] (without_mark (bytes ++ more)),
-    ap (λ z. z ++ found_from at_end g [] (without_mark (bytes ++ more))) (sym (none g)),
-  )
-]
 
 -- SECTIONS
 
@@ -113,21 +73,12 @@ first_sections at_end g state s (byte ∷ bytes) more =
     behind (found_by to.action (section_found g s)) _ _
     (first_sections at_end g to.state (after to.action s) bytes more)
 
-sections_first : (at_end : Bool) (g : Geometry) (bytes more : List ℕ)
-    → First (sections_found false g Outside bare (without_mark bytes))
-    (sections_found at_end g Outside bare (without_mark (bytes ++ more)))
-sections_first at_end g bytes more =
-    let h = first_sections at_end g Outside bare bytes more in (
-      h.0,
-      sym (sections-mark at_end g (bytes ++ more)) ∙ (h.1 ∙ ap (λ l. l ++ h.0) (sections-mark false g bytes)),
-    )
-
 -- PROBLEMS
 
 found_first : (over : Bool) (g : Geometry) (form : Form) (bytes more : List ℕ) → First (found_of false g form bytes)
     (found_of over g form (bytes ++ more))
-found_first over g Fens bytes more = lines_first over g bytes more
-found_first over g Pdn bytes more = sections_first over g bytes more
+found_first over g Fens bytes more = first_lines over g true [] bytes more
+found_first over g Pdn bytes more = first_sections over g Outside bare bytes more
 
 pub ended_come_first : FensAreRead → EndedComeFirst
 ended_come_first law g form over bytes more ended problems e p =

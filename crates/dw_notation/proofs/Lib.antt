@@ -1,7 +1,7 @@
+pub mod MarkLemmas
 pub mod LongLineLemmas
 pub mod CutLemmas
 pub mod NumberLemmas
-pub mod MarkLemmas
 pub mod CarryLemmas
 pub mod DefinitionLemmas
 pub mod ProblemLemmas

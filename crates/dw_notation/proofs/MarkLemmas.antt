@@ -1,59 +1,70 @@
--- Lemmas on a byte-order mark that is read piece by piece.
-use Rattle.std.proofs.Common.{◌≡◌, ℕ, ◌+◌, ◌<◌, List, [], ◌∷◌, ◌++◌, length, slice_index, drop, Bool, true, refl, sym}
-use Rattle.std.proofs.Common.{ap, ◌∙◌}
-use Rattle.std.proofs.lemmas.List.{drop_more}
+-- Lemmas on the byte-order mark at a text's front, which is held as a part of the first line.
+use Rattle.std.proofs.Common.{◌≡◌, ℕ, ◌+◌, ◌≤◌, ◌==◌, ◌&&◌, inl, inr, List, [], ◌∷◌, ◌++◌, length, Bool, true, false}
+use Rattle.std.proofs.Common.{cond, option_to_list, refl, sym, ap, ◌∙◌, arith}
+use Rattle.std.proofs.lemmas.Bool.{and_parts, eqb-true, cases_Bool, cond-true, cond-false}
 use Rattle.dw_board.specs.Geometry.{Geometry}
-use Rattle.dw_notation.specs.TextLines.{NoLineFeed}
-use Rattle.dw_notation.specs.inner.TextLines.{SaysSame}
-use Rattle.dw_notation.specs.inner.Ahead.{found_from, behind_mark}
-use Rattle.dw_notation.specs.inner.Ahead.{passed_over, is_behind}
-use Rattle.dw_notation.specs.declared.problems.fens.Front.{Front}
-use Rattle.dw_notation.specs.declared.problems.fens.Front.TheVariants.{Bare, One, Two, Behind}
-use Rattle.dw_notation.proofs.CutLemmas.{found_from-push}
+use Rattle.dw_notation.specs.TextLines.{without_mark}
+use Rattle.dw_notation.specs.inner.TextLines.{line_of, line_found}
+use Rattle.dw_notation.specs.inner.Ahead.{found_from}
 
-passed_over-line : (front : Front) → NoLineFeed (passed_over front)
-passed_over-line Bare = tt
-passed_over-line One = (refl, tt)
-passed_over-line Two = (refl, (refl, tt))
-passed_over-line Behind = tt
+-- a mark has three bytes
+length-without_mark : (line : List ℕ) → length line ≤ length (without_mark line) + 3
+length-without_mark [] = omega arith
+length-without_mark (a ∷ []) = omega arith
+length-without_mark (a ∷ b ∷ []) = omega arith
+length-without_mark (a ∷ b ∷ c ∷ line) = elim ((a == 0xEF) && (b == 0xBB) && (c == 0xBF)) as
+    (λ v. length (a ∷ b ∷ c ∷ line) ≤ length (cond v line (a ∷ b ∷ c ∷ line)) + 3) [ true ↦ omega arith | false ↦ omega arith ]
 
-pub is_behind-true : (front : Front) → is_behind front ≡ true → front ≡ Behind
-is_behind-true Bare h = cc
-is_behind-true One h = cc
-is_behind-true Two h = cc
-is_behind-true Behind h = refl
+pub length-line_of : (first : Bool) (line : List ℕ) → length line ≤ length (line_of first line) + 3
+length-line_of true line = length-without_mark line
+length-line_of false line = omega arith
 
--- one more byte of a mark is passed over
-pub ahead-mark : (at_end : Bool) (g : Geometry) (line bytes more : List ℕ) (i : ℕ) (front next : Front)
-    → i < length bytes
-    → ((rest : List ℕ) → behind_mark front (slice_index bytes i ∷ rest) ≡ behind_mark next rest)
-    → found_from at_end g line (behind_mark front (drop i bytes ++ more))
-    ≡ found_from at_end g line (behind_mark next (drop (i + 1) bytes ++ more))
-ahead-mark at_end g line bytes more i front next inside step =
-    ap (λ l. found_from at_end g line (behind_mark front (l ++ more))) (drop_more bytes i 0 inside)
-    ∙ ap (found_from at_end g line) (step (drop (i + 1) bytes ++ more))
+-- once three bytes of the first line are read, the mark is known
+known : (at_end : Bool) (g : Geometry) (a b c : ℕ) (line bytes : List ℕ)
+    → found_from at_end g true (a ∷ b ∷ c ∷ line) bytes
+    ≡ found_from at_end g false (without_mark (a ∷ b ∷ c ∷ line)) bytes
+known at_end g a b c line [] = refl
+known at_end g a b c line (byte ∷ bytes) =
+    let here = option_to_list (line_found g (without_mark (a ∷ b ∷ c ∷ line))) ++ found_from at_end g false [] bytes in
+    let on : without_mark (a ∷ b ∷ c ∷ line) ++ byte ∷ [] ≡ without_mark (a ∷ b ∷ c ∷ (line ++ byte ∷ [])) =
+    elim ((a == 0xEF) && (b == 0xBB) && (c == 0xBF)) as (λ v. cond v line (a ∷ b ∷ c ∷ line) ++ byte ∷ []
+    ≡ cond v (line ++ byte ∷ []) (a ∷ b ∷ c ∷ (line ++ byte ∷ []))) [ true ↦ refl | false ↦ refl ] in
+    ap (λ l. cond (byte == 10) here l) (known at_end g a b c (line ++ byte ∷ []) bytes
+    ∙ ap (λ l. found_from at_end g false l bytes) (sym on))
 
--- what was passed over is no mark, and goes onto the line
-pub ahead-leave : (at_end : Bool) (g : Geometry) (line held bytes more : List ℕ) (i : ℕ) (front : Front)
-    → i < length bytes
-    → ((rest : List ℕ) → behind_mark front (slice_index bytes i ∷ rest) ≡ passed_over front
-    ++ (slice_index bytes i ∷ rest))
-    → SaysSame (line ++ passed_over front) held
-    → found_from at_end g line (behind_mark front (drop i bytes ++ more))
-    ≡ found_from at_end g held (drop i bytes ++ more)
-ahead-leave at_end g line held bytes more i front inside step same =
-    let first = drop_more bytes i 0 inside in
-    ap (λ l. found_from at_end g line (behind_mark front (l ++ more))) first
-    ∙ ap (found_from at_end g line) (step (drop (i + 1) bytes ++ more))
-    ∙ ap (λ l. found_from at_end g line (passed_over front ++ (l ++ more))) (sym first)
-    ∙ found_from-push at_end g line (passed_over front) held (drop i bytes ++ more) (passed_over-line front) same
+-- bytes that are a mark are passed over
+passed : (at_end : Bool) (g : Geometry) (a b c : ℕ) (bytes : List ℕ)
+    → ((a == 0xEF) && (b == 0xBB) && (c == 0xBF)) ≡ true
+    → found_from at_end g true [] (a ∷ b ∷ c ∷ bytes) ≡ found_from at_end g false [] bytes
+passed at_end g a b c bytes mark =
+    let all = and_parts ((a == 0xEF) && (b == 0xBB)) (c == 0xBF) mark in
+    let both = and_parts (a == 0xEF) (b == 0xBB) all.0 in
+    ap (λ x. found_from at_end g true [] (x ∷ b ∷ c ∷ bytes)) (eqb-true a 0xEF both.0)
+    ∙ ap (λ x. found_from at_end g true [] (0xEF ∷ x ∷ c ∷ bytes)) (eqb-true b 0xBB both.1)
+    ∙ ap (λ x. found_from at_end g true [] (0xEF ∷ 0xBB ∷ x ∷ bytes)) (eqb-true c 0xBF all.1)
+    ∙ known at_end g 0xEF 0xBB 0xBF [] bytes
 
--- at the end of the text, too
-pub ahead-end : (at_end : Bool) (g : Geometry) (line held : List ℕ) (front : Front)
-    → SaysSame (line ++ passed_over front) held
-    → found_from at_end g line (behind_mark front []) ≡ found_from at_end g held []
-ahead-end at_end g line held Bare same = found_from-push at_end g line [] held [] tt same
-ahead-end at_end g line held One same = found_from-push at_end g line (0xEF ∷ []) held [] (passed_over-line One) same
-ahead-end at_end g line held Two same = found_from-push at_end g line (0xEF ∷ 0xBB ∷ []) held [] (passed_over-line Two)
-    same
-ahead-end at_end g line held Behind same = found_from-push at_end g line [] held [] tt same
+-- other bytes are read
+kept : (at_end : Bool) (g : Geometry) (a b c : ℕ) (bytes : List ℕ)
+    → ((a == 0xEF) && (b == 0xBB) && (c == 0xBF)) ≡ false
+    → found_from at_end g true [] (a ∷ b ∷ c ∷ bytes) ≡ found_from at_end g false [] (a ∷ b ∷ c ∷ bytes)
+kept at_end g a b c bytes none =
+    let first = found_from at_end g false [] (b ∷ c ∷ bytes) in
+    let second = option_to_list (line_found g (a ∷ [])) ++ found_from at_end g false [] (c ∷ bytes) in
+    let third = option_to_list (line_found g (a ∷ b ∷ [])) ++ found_from at_end g false [] bytes in
+    ap (λ l. cond (a == 10) (option_to_list (line_found g []) ++ first) (cond (b == 10) second (cond (c == 10) third l)))
+    (known at_end g a b c [] bytes
+    ∙ ap (λ l. found_from at_end g false l bytes) (cond-false _ [] (a ∷ b ∷ c ∷ []) none))
+
+-- a text of lines says what it says without its mark
+pub lines-mark : (at_end : Bool) (g : Geometry) (bytes : List ℕ) → found_from at_end g true [] bytes
+    ≡ found_from at_end g false [] (without_mark bytes)
+lines-mark at_end g [] = refl
+lines-mark at_end g (a ∷ []) = refl
+lines-mark at_end g (a ∷ b ∷ []) = refl
+lines-mark at_end g (a ∷ b ∷ c ∷ bytes) = elim (cases_Bool ((a == 0xEF) && (b == 0xBB) && (c == 0xBF))) [
+  | inl mark ↦ passed at_end g a b c bytes mark ∙ ap (found_from at_end g false [])
+      (sym (cond-true _ bytes (a ∷ b ∷ c ∷ bytes) mark))
+  | inr none ↦ kept at_end g a b c bytes none ∙ ap (found_from at_end g false [])
+      (sym (cond-false _ bytes (a ∷ b ∷ c ∷ bytes) none))
+]

@@ -1,7 +1,7 @@
 -- The problems of a text are what is found in it.
 use Rattle.std.proofs.Common.{◌≡◌, ℕ, List, Bool, refl, sym, ap, ◌∙◌, subst}
 use Rattle.dw_board.specs.Geometry.{Geometry}
-use Rattle.dw_notation.specs.TextLines.{Found, without_mark}
+use Rattle.dw_notation.specs.TextLines.{Found, without_mark, LinesSay}
 use Rattle.dw_notation.specs.Problems.{number_from, TextSays, AreProblems, TextsHaveProblems}
 use Rattle.dw_notation.specs.WholeTexts.{SectionsSay}
 use Rattle.dw_notation.specs.TagLaws.{TextsOfTagsSay}
@@ -14,20 +14,24 @@ use Rattle.dw_notation.specs.declared.problems.Form.TheVariants.{Fens, Pdn}
 use Rattle.dw_notation.specs.declared.problems.pdn.automaton.State.TheVariants.{Outside}
 use Rattle.dw_notation.specs.declared.problems.pdn.Sections.{Sections}
 use Rattle.dw_notation.specs.inner.Cutting.{Progress}
+use Rattle.dw_notation.proofs.DefinitionLemmas.{sections-mark}
 use Rattle.dw_notation.proofs.HoldingLemmas.{held_from-bare}
+use Rattle.dw_notation.proofs.MarkLemmas.{lines-mark}
 use Rattle.dw_notation.proofs.TextSaysLemmas.{FensAreRead, lines_say, lines_say-only}
 use Rattle.dw_notation.proofs.WholeTextLemmas.{sections_say, sections_say-only}
 
 module _ (law : FensAreRead) where
   text_says : (g : Geometry) (form : Form) (over : Bool) (bytes : List ℕ)
       → TextSays g form over bytes (found_of over g form bytes)
-  text_says g Fens over bytes = lines_say law g over (without_mark bytes)
-  text_says g Pdn over bytes = sections_say law g over (without_mark bytes)
+  text_says g Fens over bytes = subst (LinesSay g over (without_mark bytes)) (sym (lines-mark over g bytes))
+      (lines_say law g over (without_mark bytes))
+  text_says g Pdn over bytes = subst (SectionsSay g over (without_mark bytes)) (sym (sections-mark over g bytes))
+      (sections_say law g over (without_mark bytes))
 
   pub text_says-only : (g : Geometry) (form : Form) (over : Bool) (bytes : List ℕ) (found : List Found)
       → TextSays g form over bytes found → found ≡ found_of over g form bytes
-  text_says-only g Fens over bytes found h = lines_say-only law h
-  text_says-only g Pdn over bytes found h = sections_say-only law h
+  text_says-only g Fens over bytes found h = lines_say-only law h ∙ sym (lines-mark over g bytes)
+  text_says-only g Pdn over bytes found h = sections_say-only law h ∙ sym (sections-mark over g bytes)
 
   found_problems : (g : Geometry) (form : Form) (over : Bool) (bytes : List ℕ)
       → AreProblems g form over bytes (number_from 0 (found_of over g form bytes))

@@ -128,38 +128,38 @@ module _ (law : FensAreRead) where
   line_says-only g line said h = text_says-only g (without_return line) said h
 
   -- ---- a text of lines
-  over_found : (over : Bool) (g : Geometry) (line : List ℕ) → found_from over g line []
+  over_found : (over : Bool) (g : Geometry) (line : List ℕ) → found_from over g false line []
       ≡ if_over over (option_to_list (line_found g line))
   over_found true g line = refl
   over_found false g line = refl
 
   lines_say-from : (g : Geometry) (over : Bool) (line bytes : List ℕ) → NoLineFeed line
-      → LinesSay g over (line ++ bytes) (found_from over g line bytes)
+      → LinesSay g over (line ++ bytes) (found_from over g false line bytes)
   lines_say-from g over line [] none =
-      subst (λ l. LinesSay g over l (found_from over g line [])) (sym (append-nil line))
+      subst (λ l. LinesSay g over l (found_from over g false line [])) (sym (append-nil line))
       (subst (LinesSay g over line) (sym (over_found over g line)) (last line (option_to_list (line_found g line)) none
       (line_says g line)))
   lines_say-from g over line (byte ∷ bytes) none = elim (cases_Bool (byte == 10)) [
     | inl feed ↦ rw feed (subst (λ b. LinesSay g over (line ++ b ∷ bytes) (option_to_list (line_found g line)
-        ++ found_from over g [] bytes)) (sym (eqb-true byte 10 feed)) (one_more line (option_to_list (line_found g line))
+        ++ found_from over g false [] bytes)) (sym (eqb-true byte 10 feed)) (one_more line (option_to_list (line_found g line))
         none (line_says g line) (lines_say-from g over [] bytes tt)))
-    | inr other ↦ rw other (subst (λ l. LinesSay g over l (found_from over g (line ++ byte ∷ []) bytes))
+    | inr other ↦ rw other (subst (λ l. LinesSay g over l (found_from over g false (line ++ byte ∷ []) bytes))
         (append_assoc line (byte ∷ []) bytes) (lines_say-from g over (line ++ byte ∷ []) bytes
         (NoLineFeed-push line byte none other)))
   ]
 
-  pub lines_say : (g : Geometry) (over : Bool) (bytes : List ℕ) → LinesSay g over bytes (found_from over g [] bytes)
+  pub lines_say : (g : Geometry) (over : Bool) (bytes : List ℕ) → LinesSay g over bytes (found_from over g false [] bytes)
   lines_say g over bytes = lines_say-from g over [] bytes tt
 
   pub lines_say-only : {g : Geometry} {over : Bool} {bytes : List ℕ} {found : List Found} → LinesSay g over bytes found
-      → found ≡ found_from over g [] bytes
+      → found ≡ found_from over g false [] bytes
   lines_say-only (last {g} {over} line said none says) =
       ap (if_over over) (line_says-only g line said says) ∙ sym (over_found over g line)
-      ∙ sym (found_from-piece over g [] line [] none) ∙ ap (found_from over g []) (append-nil line)
+      ∙ sym (found_from-piece over g false [] line [] none) ∙ ap (found_from over g false []) (append-nil line)
   lines_say-only (one_more {g} {over} {more} {found} line said none says rest) =
       ap (λ l. l ++ found) (line_says-only g line said says)
       ∙ ap (λ l. option_to_list (line_found g line) ++ l) (lines_say-only rest)
-      ∙ sym (found_from-piece over g [] line (10 ∷ more) none)
+      ∙ sym (found_from-piece over g false [] line (10 ∷ more) none)
 
   -- ---- a section
   fens_say : (g : Geometry) (fens : List (List ℕ)) → FensSay g fens (fens_found g fens)

@@ -2,7 +2,6 @@
 pub mod MoveReader
 pub mod TextLines
 pub mod Ahead
-pub mod Held
 pub mod Sections
 pub mod HeldSection
 pub mod Tags

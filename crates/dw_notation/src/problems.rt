@@ -1,7 +1,7 @@
 //! The problems of a byte text, cut out of the bytes as they are read.
 //!
-//! Of its input a reader holds at most 4,096 bytes: 2,048 of its last read, 1,025 of a line or of a FEN tag's
-//! value, and a few more that say what is known of a longer line or hold the name of a tag.
+//! A reader holds at most 2,048 bytes of its last read, and beside them at most 4,101 bytes of a line, or at most 1,025
+//! bytes of a FEN tag's value and 9 of a tag's name.
 
 mod fens;
 mod numbering;
@@ -31,8 +31,7 @@ pub const MAX_SECTION: usize = 65536;
 /// Example: of a file of 5,000 bytes, whose first line has 10, at most the first 2,048 are read for problem 1.
 pub const MAX_READ: usize = 2048;
 
-/// One byte more than a FEN text may have. Of a line, and of a FEN tag's value, so many are held: they tell a FEN text
-/// with a carriage return after it, and a text that is too long.
+/// One byte more than a FEN text may have. Of a FEN tag's value so many are held, which tells a text that is too long.
 const PAST_FEN: usize = MAX_FEN + 1;
 
 /// How a text holds its problems.

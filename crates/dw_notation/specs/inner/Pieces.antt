@@ -1,10 +1,9 @@
 -- The pieces of a text that are problems, by its form.
-use Rattle.std.specs.Prelude.{ℕ, List, [], Bool, Option}
+use Rattle.std.specs.Prelude.{ℕ, List, [], Bool, false, Option}
 use Rattle.dw_board.specs.Geometry.{Geometry}
 use Rattle.dw_notation.specs.TextLines.{Found}
-use Rattle.dw_notation.specs.inner.TextLines.{line_found}
-use Rattle.dw_notation.specs.inner.Ahead.{found_from, behind_mark}
-use Rattle.dw_notation.specs.inner.Held.{held_line}
+use Rattle.dw_notation.specs.inner.TextLines.{line_of, line_found}
+use Rattle.dw_notation.specs.inner.Ahead.{found_from}
 use Rattle.dw_notation.specs.inner.HeldSection.{sections_ahead, sections_cut}
 use Rattle.dw_notation.specs.declared.problems.fens.TextLines.{TextLines}
 use Rattle.dw_notation.specs.declared.problems.reader.Pieces.{Pieces}
@@ -12,15 +11,15 @@ use Rattle.dw_notation.specs.declared.problems.reader.Pieces.TheVariants.{InLine
 
 -- what the line begun and then the bytes say
 abbrev pub lines_ahead : Bool → Geometry → TextLines → List ℕ → List Found
-lines_ahead at_end g lines bytes = found_from at_end g (held_line lines.line) (behind_mark lines.front bytes)
+lines_ahead at_end g lines bytes = found_from at_end g lines.is_first lines.line.items bytes
 
 -- what the bytes say after the line that was cut off
 abbrev pub lines_behind : Bool → Geometry → TextLines → List ℕ → List Found
-lines_behind at_end g lines bytes = found_from at_end g [] (behind_mark lines.front bytes)
+lines_behind at_end g lines bytes = found_from at_end g false [] bytes
 
 -- what the line that was cut off says
 abbrev pub lines_cut : Geometry → TextLines → Option Found
-lines_cut g lines = line_found g (held_line lines.line)
+lines_cut g lines = line_found g (line_of lines.is_first lines.line.items)
 
 -- what the piece begun and then the bytes say
 abbrev pub pieces_ahead : Bool → Geometry → Pieces → List ℕ → List Found

@@ -1,7 +1,7 @@
 -- What the problems of a text are found to be, byte by byte, and a problem as it is handed out.
-use Rattle.std.specs.Prelude.{ℕ, List, [], ◌∷◌, Bool, Option, Some, None}
+use Rattle.std.specs.Prelude.{ℕ, List, [], ◌∷◌, Bool, true, Option, Some, None}
 use Rattle.dw_board.specs.Geometry.{Geometry}
-use Rattle.dw_notation.specs.TextLines.{without_mark, Found}
+use Rattle.dw_notation.specs.TextLines.{Found}
 use Rattle.dw_notation.specs.Problems.{Numbered, numbered}
 use Rattle.dw_notation.specs.inner.Ahead.{found_from}
 use Rattle.dw_notation.specs.inner.Sections.{bare, sections_found}
@@ -12,8 +12,8 @@ use Rattle.dw_notation.specs.declared.problems.pdn.automaton.State.TheVariants.{
 
 -- what a text is found to say, by its form; if it is not over, what has ended in it
 abbrev pub found_of : Bool → Geometry → Form → List ℕ → List Found
-found_of over g Fens bytes = found_from over g [] (without_mark bytes)
-found_of over g Pdn bytes = sections_found over g Outside bare (without_mark bytes)
+found_of over g Fens bytes = found_from over g true [] bytes
+found_of over g Pdn bytes = sections_found over g Outside bare bytes
 
 -- the problem handed out, if there is one
 abbrev pub numbered_in : {B : Type 0} → Option (Problem B) → List Numbered

@@ -7,8 +7,7 @@ use Rattle.dw_board.specs.Placement.{Placement}
 use Rattle.dw_board.specs.FenTokens.{is_blank}
 use Rattle.dw_board.specs.Fen.{fen}
 use Rattle.dw_board.specs.declared.fen.fault.FenFault.{FenFault}
-use Rattle.dw_board.specs.declared.fen.fault.FenFaultKind.TheVariants.{TooLong}
-use Rattle.dw_notation.specs.TextLines.{line_feed, without_return, Found}
+use Rattle.dw_notation.specs.TextLines.{line_feed, without_mark, without_return, Found}
 use Rattle.dw_notation.specs.declared.problems.TheConstants.{MAX_LINE}
 use Rattle.dw_notation.specs.declared.problems.ProblemFault.TheVariants.{Fen, LineTooLong}
 
@@ -31,12 +30,12 @@ text_found g text =
 unfoldable pub line_found : Geometry → List ℕ → Option Found
 line_found g line = text_found g (without_return line)
 
--- two beginnings of a line say the same, whatever follows
-abbrev pub SaysSame : List ℕ → List ℕ → Type 0
-SaysSame line other = (g : Geometry) (more : List ℕ) → line_found g (line ++ more) ≡ line_found g (other ++ more)
+-- a line without the byte-order mark that may stand before the first one
+abbrev pub line_of : Bool → List ℕ → List ℕ
+line_of first line = if first then without_mark line else line
 
--- what a text says that is too long for a FEN text, by its length and by whether it is blank
-abbrev pub long_text_found : ℕ → Bool → Option Found
-long_text_found length blank =
-    if nat_lt MAX_LINE length then Some (Err LineTooLong)
-    else (if blank then None else Some (Err (Fen (record { what = TooLong; place = 1025 }))))
+-- two beginnings of a line, the first one of a text or another, say the same, whatever follows
+abbrev pub SaysSame : Bool → List ℕ → List ℕ → Type 0
+SaysSame first line other =
+    (g : Geometry) (more : List ℕ) → line_found g (line_of first (line ++ more))
+    ≡ line_found g (line_of first (other ++ more))

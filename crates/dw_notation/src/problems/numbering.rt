@@ -1,5 +1,5 @@
 //! The numbers of problems.
-ghost use Rattle.std.specs.Prelude.{◌≡◌, ◌+◌, ◌<◌, ◌≤◌, MatchBool, Err, nat_lt, if◌then◌else◌};
+ghost use Rattle.std.specs.Prelude.{◌≡◌, ◌+◌, ◌<◌, ◌≤◌, MatchBool, Err, nat_le, nat_lt, if◌then◌else◌};
 ghost use Rattle.dw_notation.specs.declared.problems.ProblemFault.TheVariants.{TooManyProblems};
 
 use super::{MAX_PROBLEMS, Problem, ProblemFault};
@@ -31,12 +31,12 @@ impl Numbering {
         self.handed > MAX_PROBLEMS
     }
 
-    /// The next problem, which says this, or that it is one too many.
+    /// The next problem, which says this, or that it is one too many. After the last one it is that one again.
     /// Example: of a new one it has the number 1, and says what is given.
     pub fn hand_out<B: Board>(&mut self, found: Result<Position<B>, ProblemFault>) -> Problem<B>
-        requires { handed_out self.old ≤ MAX_PROBLEMS }
-        ensures handed { handed_out self.new ≡ handed_out self.old + 1 }
-        ensures number { result.number ≡ handed_out self.old + 1 }
+        ensures handed { handed_out self.new
+            ≡ (if nat_le (handed_out self.old) MAX_PROBLEMS then handed_out self.old + 1 else handed_out self.old) }
+        ensures number { result.number ≡ handed_out self.new }
         ensures found { result.found
             ≡ (if nat_lt (handed_out self.old) MAX_PROBLEMS then found else Err TooManyProblems) }
     {
@@ -45,7 +45,9 @@ impl Numbering {
         } else {
             Err(ProblemFault::TooManyProblems)
         };
-        self.handed += 1;
+        if !self.is_over() {
+            self.handed += 1;
+        }
         Problem {
             number: self.handed,
             found,

@@ -54,7 +54,7 @@ impl Pieces {
         ensures over { (g : Geometry) → pieces_behind true g self.new [] ≡ [] }
     {
         match self {
-            Pieces::InLines(lines) => lines.finish(),
+            Pieces::InLines(_) => {}
             Pieces::InSections(sections) => sections.finish(),
         }
     }
@@ -81,8 +81,8 @@ impl Pieces {
     }
 }
 
-/// The problems of a source, each cut out of the bytes as they are read. It takes no memory, and of its
-/// input it holds at most 4,096 bytes.
+/// The problems of a source, each cut out of the bytes as they are read. It takes no memory. Of its input it holds one
+/// read and one line at most.
 /// See [`Problems::next`] for an example.
 #[derive(Drop)]
 pub struct Problems<'a, B: Board, S> {

@@ -73,14 +73,13 @@ impl Buffer {
         }
     }
 
-    /// Passes over so many of the bytes that were read.
+    /// Passes over so many of the bytes that were read, or over all of them if there are fewer.
     /// Example: after `consume(1)` the second of them is the first.
     pub fn consume(&mut self, count: usize)
-        requires { count ≤ length (unread_in self.old) }
         ensures met_end { met_end_in self.new ≡ met_end_in self.old }
         ensures unread { unread_in self.new ≡ drop count (unread_in self.old) }
     {
-        self.start += count;
+        self.start += count.min(self.unread().len());
     }
 
     /// The next byte of a source, which stays the next until it is consumed; `None` at the end.
