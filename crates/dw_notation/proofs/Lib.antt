@@ -14,6 +14,8 @@ pub mod MoveAnswerLemmas
 pub mod MoveWrittenLemmas
 pub mod HoldingLemmas
 pub mod PassingLemmas
+pub mod BetweenLemmas
+pub mod EndingLemmas
 pub mod TagReadingLemmas
 pub mod TagBreakingLemmas
 pub mod TagFrontLemmas

@@ -13,11 +13,11 @@ use Rattle.dw_notation.proofs.MarkLemmas.{length-line_of}
 length-without_return : (line : List ℕ) → length line ≤ length (without_return line) + 1
 length-without_return line = elim (slice_index line (length line - 1) == 13) as (λ v. length line
     ≤ length (cond v (take (length line - 1) line) line) + 1) [
-  | true ↦
-      let cut = length-take-le (length line - 1) line (omega arith) in
-      omega (arith, cut)
-  | false ↦ omega arith
-]
+      | true ↦
+          let cut = length-take-le (length line - 1) line (omega arith) in
+          omega (arith, cut)
+      | false ↦ omega arith
+    ]
 
 -- a line of so many bytes is too long, with a mark and a carriage return too
 found-long : (g : Geometry) (first : Bool) (line : List ℕ) → 4101 ≤ length line

@@ -1,59 +1,45 @@
 -- Bytes outside sections that are passed over at once.
-use Rattle.std.proofs.Common.{◌≡◌, ℕ, ◌≤◌, ◌==◌, List, [], ◌∷◌, ◌++◌, length, take, drop, Bool, true, false, not, cond}
-use Rattle.std.proofs.Common.{refl, sym, ap, ◌∙◌, subst, arith, append_assoc, unwrap_or}
+use Rattle.std.proofs.Common.{◌≡◌, ℕ, ◌+◌, ◌<◌, ◌≤◌, ◌==◌, List, [], ◌∷◌, ◌++◌, length, take, drop, Bool, true, false}
+use Rattle.std.proofs.Common.{not, cond, slice_index, refl, sym, ap, ◌∙◌, subst, arith, unwrap_or}
 use Rattle.std.proofs.lemmas.Bool.{and_parts, and_from, not-true, or_parts}
-use Rattle.std.proofs.lemmas.List.{take-append-drop}
+use Rattle.std.proofs.lemmas.List.{take_more, take_all}
 use Rattle.std.proofs.lemmas.List.Sums.{prefix_len-le-length, take_while-cons}
 use Rattle.std.specs.List.{list_all, position, take_while}
 use Rattle.dw_board.specs.Geometry.{Geometry}
 use Rattle.dw_notation.specs.inner.Sections.{transition, at, found_by}
 use Rattle.dw_notation.specs.inner.HeldSection.{Held, held_after, held_found, held_from}
-use Rattle.dw_notation.specs.inner.Tags.{opens}
-use Rattle.dw_notation.specs.inner.Tags.{closes}
+use Rattle.dw_notation.specs.inner.Tags.{opens, closes, passes}
 use Rattle.dw_notation.proofs.CutLemmas.{first_or_all}
 use Rattle.dw_notation.specs.declared.problems.pdn.automaton.State.{State}
-use Rattle.dw_notation.specs.declared.problems.pdn.automaton.State.TheVariants.{Outside, Comment}
+use Rattle.dw_notation.specs.declared.problems.pdn.automaton.State.TheVariants.{Outside, Comment, Between}
+use Rattle.dw_notation.specs.declared.problems.pdn.automaton.State.TheVariants.{BeforeName, InName, BehindName}
+use Rattle.dw_notation.specs.declared.problems.pdn.automaton.State.TheVariants.{InValue, Escaped, BehindValue, Rest}
 use Rattle.dw_notation.specs.declared.problems.pdn.automaton.Action.TheVariants.{Keep}
 
+-- a byte that changes nothing
+pub passes_keeps : (state : State) (byte : ℕ) → passes state byte ≡ true → transition state byte ≡ at state Keep
+passes_keeps Outside byte h = let parts = or_parts (byte == 91) (byte == 123) (not-true _ h) in
+    rw (parts.0, parts.1) refl
+passes_keeps Comment byte h = rw (not-true (byte == 125) h) refl
+passes_keeps Between byte h = cc
+passes_keeps BeforeName byte h = cc
+passes_keeps InName byte h = cc
+passes_keeps BehindName byte h = cc
+passes_keeps InValue byte h = cc
+passes_keeps Escaped byte h = cc
+passes_keeps BehindValue byte h = cc
+passes_keeps Rest byte h = cc
+
 -- bytes that change nothing
-pass_all : (p : ℕ → Bool) (state : State) → ((byte : ℕ) → not (p byte) ≡ true → transition state byte ≡ at state Keep)
-    → (at_end : Bool) (g : Geometry) (h : Held) (text more : List ℕ) → list_all (λ byte. not (p byte)) text ≡ true
+pub pass_all : (at_end : Bool) (g : Geometry) (state : State) (h : Held) (text more : List ℕ)
+    → list_all (passes state) text ≡ true
     → held_from at_end g state h (text ++ more) ≡ held_from at_end g state h more
-pass_all p state keeps at_end g h [] more all = refl
-pass_all p state keeps at_end g h (byte ∷ text) more all =
-    let both = and_parts (not (p byte)) (list_all (λ b. not (p b)) text) all in
+pass_all at_end g state h [] more all = refl
+pass_all at_end g state h (byte ∷ text) more all =
+    let both = and_parts (passes state byte) (list_all (passes state) text) all in
     ap (λ t. found_by t.action (held_found g h) ++ held_from at_end g t.state (held_after t.action h) (text ++ more))
-    (keeps byte both.0)
-    ∙ pass_all p state keeps at_end g h text more both.1
-
-outside_keeps : (byte : ℕ) → not (opens byte) ≡ true → transition Outside byte ≡ at Outside Keep
-outside_keeps byte h = let parts = or_parts (byte == 91) (byte == 123) (not-true _ h) in rw (parts.0, parts.1) refl
-
-comment_keeps : (byte : ℕ) → not (closes byte) ≡ true → transition Comment byte ≡ at Comment Keep
-comment_keeps byte h = rw (not-true (byte == 125) h) refl
-
-pass_front : (p : ℕ → Bool) (state : State) → ((byte : ℕ) → not (p byte) ≡ true → transition state byte ≡ at state Keep)
-    → (at_end : Bool) (g : Geometry) (h : Held) (n : ℕ) (bytes more : List ℕ)
-    → list_all (λ byte. not (p byte)) (take n bytes) ≡ true
-    → held_from at_end g state h (bytes ++ more) ≡ held_from at_end g state h (drop n bytes ++ more)
-pass_front p state keeps at_end g h n bytes more all =
-    ap (λ l. held_from at_end g state h (l ++ more)) (sym (take-append-drop n bytes))
-    ∙ ap (held_from at_end g state h) (append_assoc (take n bytes) (drop n bytes) more)
-    ∙ pass_all p state keeps at_end g h (take n bytes) (drop n bytes ++ more) all
-
-pub pass_outside : (at_end : Bool) (g : Geometry) (state : State) (h : Held) (n : ℕ) (bytes more : List ℕ)
-    → (state ≡ Outside) → list_all (λ byte. not (opens byte)) (take n bytes) ≡ true
-    → held_from at_end g state h (bytes ++ more) ≡ held_from at_end g state h (drop n bytes ++ more)
-pass_outside at_end g state h n bytes more is all =
-    ap (λ p. held_from at_end g p h (bytes ++ more)) is ∙ pass_front opens Outside outside_keeps at_end g h n bytes more
-    all ∙ ap (λ p. held_from at_end g p h (drop n bytes ++ more)) (sym is)
-
-pub pass_comment : (at_end : Bool) (g : Geometry) (state : State) (h : Held) (n : ℕ) (bytes more : List ℕ)
-    → (state ≡ Comment) → list_all (λ byte. not (closes byte)) (take n bytes) ≡ true
-    → held_from at_end g state h (bytes ++ more) ≡ held_from at_end g state h (drop n bytes ++ more)
-pass_comment at_end g state h n bytes more is all =
-    ap (λ p. held_from at_end g p h (bytes ++ more)) is ∙ pass_front closes Comment comment_keeps at_end g h n bytes
-    more all ∙ ap (λ p. held_from at_end g p h (drop n bytes ++ more)) (sym is)
+    (passes_keeps state byte both.0)
+    ∙ pass_all at_end g state h text more both.1
 
 all_before : (p : ℕ → Bool) (bytes : List ℕ) → list_all p (take_while p bytes) ≡ true
 all_before p [] = refl

@@ -21,7 +21,9 @@ pub mod writes;
 
 pub use line_text::{LINE_ROOM, LineText, MAX_MOVES};
 pub use move_text::{MAX_MOVE_TEXT, MOVE_ROOM, text_in};
-pub use problems::{Form, Numbering, Problem, ProblemFault, Problems, ReadFault, SectionReader};
+pub use problems::{
+    Form, Numbering, Problem, ProblemFault, Problems, ReadFault, SectionFinder, SectionReader,
+};
 pub use read_move::MoveFault;
 pub use streams::{Buffer, Reading, Sink, Source, Writing};
 pub use tags::{Tag, read_tag};

@@ -7,11 +7,13 @@ mod fens;
 mod numbering;
 pub(crate) mod pdn;
 mod reader;
+mod section_finder;
 mod section_reader;
 
 use dw_board::{Board, FenFault, MAX_FEN, Position};
 pub use numbering::Numbering;
 pub use reader::Problems;
+pub use section_finder::SectionFinder;
 pub use section_reader::SectionReader;
 use thiserror::Error;
 

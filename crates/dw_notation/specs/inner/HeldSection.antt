@@ -1,6 +1,6 @@
 -- What is held of a section, and what decides what it says.
-use Rattle.std.specs.Prelude.{ℕ, ◌==◌, ◌+◌, ◌-◌, ◌*◌, ◌||◌, if◌then◌else◌, not, min, List, [], ◌∷◌, ◌++◌, length, Bool}
-use Rattle.std.specs.Prelude.{true, false, Option, Some, None, Err, nat_lt}
+use Rattle.std.specs.Prelude.{◌≡◌, ℕ, ◌==◌, ◌+◌, ◌-◌, ◌*◌, ◌<◌, ◌||◌, if◌then◌else◌, not, min, List, [], ◌∷◌, ◌++◌, length}
+use Rattle.std.specs.Prelude.{take, Bool, true, false, Option, Some, None, option_to_list, Err, nat_lt}
 use Rattle.std.specs.Char.{is_ascii_digit}
 use Rattle.dw_board.specs.Geometry.{Geometry}
 use Rattle.dw_board.specs.Fen.{fen}
@@ -152,3 +152,11 @@ cut_found g Comment h = Some (Err UnclosedComment)
 
 abbrev pub sections_cut : Geometry → Sections → Option Found
 sections_cut g s = cut_found g s.cut (held_of s.section)
+
+-- the byte at a place ends a section, and no byte before it does
+pub record EndsAt (old new : Sections) (bytes : List ℕ) (k : ℕ) : Type 0 where
+  pub within : k < length bytes
+  pub cut : new.cut ≡ Section
+  pub before : (g : Geometry) → sections_ahead false g old (take k bytes) ≡ []
+  pub said : (g : Geometry) (at_end : Bool) (more : List ℕ) → sections_ahead at_end g old (take (k + 1) bytes ++ more)
+      ≡ option_to_list (sections_cut g new) ++ sections_ahead at_end g new more

@@ -1,10 +1,10 @@
 -- What readers of problems and of sections are to their callers.
-use Rattle.std.specs.Prelude.{ℕ, List, Bool}
+use Rattle.std.specs.Prelude.{ℕ, List, Bool, Option}
 use Rattle.dw_board.specs.Geometry.{Geometry}
 use Rattle.dw_notation.specs.TextLines.{Found}
 use Rattle.dw_notation.specs.Reading.{Reader}
 use Rattle.dw_notation.specs.inner.Cutting.{progress_of, reader_at}
-use Rattle.dw_notation.specs.inner.HeldSection.{sections_ahead}
+use Rattle.dw_notation.specs.inner.HeldSection.{sections_ahead, sections_cut}
 use Rattle.dw_notation.specs.declared.problems.reader.Problems.{Problems}
 use Rattle.dw_notation.specs.declared.problems.section_reader.SectionReader.{SectionReader}
 
@@ -16,3 +16,7 @@ reader_of problems = reader_at (progress_of problems)
 -- that a reader was given and by these, as far as it was not told yet.
 unfoldable pub ahead_of : {B : Type 0} → SectionReader B → Geometry → Bool → List ℕ → List Found
 ahead_of reader g over bytes = sections_ahead over g reader.sections bytes
+
+-- Sealed, as that is: what was cut off last says.
+unfoldable pub cut_of : {B : Type 0} → SectionReader B → Geometry → Option Found
+cut_of reader g = sections_cut g reader.sections

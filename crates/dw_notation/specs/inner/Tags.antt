@@ -10,7 +10,8 @@ use Rattle.dw_notation.specs.inner.Sections.{kind_of, fens_found, bare, sections
 use Rattle.dw_notation.specs.declared.problems.TheConstants.{MAX_SECTION}
 use Rattle.dw_notation.specs.declared.problems.ProblemFault.TheVariants.{WrongGame, SectionTooLong, UnclosedTag}
 use Rattle.dw_notation.specs.declared.problems.ProblemFault.TheVariants.{UnclosedComment}
-use Rattle.dw_notation.specs.declared.problems.pdn.automaton.State.TheVariants.{Outside}
+use Rattle.dw_notation.specs.declared.problems.pdn.automaton.State.{State}
+use Rattle.dw_notation.specs.declared.problems.pdn.automaton.State.TheVariants.{Outside, Comment}
 use Rattle.dw_notation.specs.declared.problems.pdn.section.TagKind.{TagKind}
 use Rattle.dw_notation.specs.declared.problems.pdn.section.TagKind.TheVariants.{FenTag, GameTag, OtherTag}
 
@@ -25,6 +26,12 @@ ends_section byte = not ((byte == open_bracket) || is_space byte)
 -- closes a comment
 abbrev pub closes : ℕ → Bool
 closes byte = byte == close_brace
+
+-- changes nothing, by where the text stands
+abbrev pub passes : State → ℕ → Bool
+passes Outside byte = not (opens byte)
+passes Comment byte = not (closes byte)
+passes _ byte = false
 
 abbrev pub with_fen : TagKind → List ℕ → List (List ℕ) → List (List ℕ)
 with_fen FenTag value fens = value ∷ fens

@@ -1,9 +1,7 @@
 //! The sections of a PDN text, cut out of its bytes one after another.
-ghost use Rattle.std.specs.Prelude.{◌≡◌, ◌+◌, ◌<◌, ◌≤◌, ℕ, Bool, true, if◌then◌else◌, IfSome, IfNone};
+ghost use Rattle.std.specs.Prelude.{◌≡◌, ◌+◌, ◌<◌, ℕ, Bool, true, false, if◌then◌else◌, IfSome, IfNone};
 ghost use Rattle.std.specs.Prelude.{List, [], ◌∷◌, ◌++◌, length, take, drop, option_to_list};
-ghost use Rattle.std.specs.List.{position};
 ghost use Rattle.dw_board.specs.Geometry.{Geometry};
-ghost use Rattle.dw_notation.specs.inner.Tags.{opens, closes};
 
 pub(crate) mod automaton;
 mod section;
@@ -22,20 +20,6 @@ enum Cut {
     Comment,
 }
 
-/// The place of the first byte that opens a tag or a comment.
-fn opening_at(bytes: &[u8]) -> Option<usize>
-    ensures { result ≡ position opens bytes.now }
-{
-    bytes.iter().position(|byte| *byte == b'[' || *byte == b'{')
-}
-
-/// The place of the first byte that closes a comment.
-fn closing_at(bytes: &[u8]) -> Option<usize>
-    ensures { result ≡ position closes bytes.now }
-{
-    bytes.iter().position(|byte| *byte == b'}')
-}
-
 /// How far a text of tags was read, and what was cut off last.
 #[derive(Drop)]
 pub(super) struct Sections {
@@ -45,7 +29,7 @@ pub(super) struct Sections {
 }
 
 impl Sections {
-    ghost use Rattle.dw_notation.specs.inner.HeldSection.{sections_ahead, sections_cut, held_of, held_bare};
+    ghost use Rattle.dw_notation.specs.inner.HeldSection.{sections_ahead, sections_cut, held_of, held_bare, EndsAt};
 
     pub(super) fn new() -> Sections
         ensures state { result.state ≡ State.Outside }
@@ -59,8 +43,9 @@ impl Sections {
     }
 
     /// Reads a byte, and answers whether it ends a section, which is then cut off.
-    pub(super) fn add(&mut self, byte: u8) -> bool
-        ensures { (g : Geometry) (at_end : Bool) (more : List ℕ) → sections_ahead at_end g self.old (byte ∷ more)
+    fn add(&mut self, byte: u8) -> bool
+        ensures cut { result ≡ true → self.new.cut ≡ Cut.Section }
+        ensures said { (g : Geometry) (at_end : Bool) (more : List ℕ) → sections_ahead at_end g self.old (byte ∷ more)
             ≡ (if result then option_to_list (sections_cut g self.new) else [])
             ++ sections_ahead at_end g self.new more }
     {
@@ -74,36 +59,19 @@ impl Sections {
         false
     }
 
-    /// How many bytes say nothing here, and may be passed over at once.
-    fn passed(&self, bytes: &[u8]) -> usize
-        ensures within { result ≤ length bytes.now }
-        ensures same { (g : Geometry) (at_end : Bool) (more : List ℕ)
-            → sections_ahead at_end g self.now (bytes.now ++ more)
-            ≡ sections_ahead at_end g self.now (drop result bytes.now ++ more) }
-    {
-        match self.state {
-            State::Outside => opening_at(bytes).unwrap_or(bytes.len()),
-            State::Comment => closing_at(bytes).unwrap_or(bytes.len()),
-            _ => 0,
-        }
-    }
-
     /// Reads up to the byte that ends a section, and answers its place; all bytes, if there is none.
     pub(super) fn cut(&mut self, bytes: &[u8]) -> Option<usize>
-        ensures some { IfSome result (λ k. (k < length bytes.now) × ((g : Geometry) (at_end : Bool) (more : List ℕ) →
-            sections_ahead at_end g self.old (bytes.now ++ more)
-            ≡ option_to_list (sections_cut g self.new)
-            ++ sections_ahead at_end g self.new (drop (k + 1) bytes.now ++ more))) }
+        ensures some { IfSome result (EndsAt self.old self.new bytes.now) }
         ensures none { IfNone result ((g : Geometry) (at_end : Bool) (more : List ℕ) →
             sections_ahead at_end g self.old (bytes.now ++ more) ≡ sections_ahead at_end g self.new more) }
     {
-        let mut at = self.passed(bytes);
+        let mut at = self.state.passed(bytes);
         'bytes: while at < bytes.len() {
             if self.add(bytes[at]) {
                 return Some(at);
             }
             at += 1;
-            at += self.passed(&bytes[at..]);
+            at += self.state.passed(&bytes[at..]);
         }
         None
     }

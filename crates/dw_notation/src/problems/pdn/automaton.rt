@@ -6,8 +6,10 @@
 //! marks, with blanks around them. What breaks this leaves the tag unclosed, and it reaches to the end of
 //! its line. In a value a backslash stands before a quotation mark or a backslash; before any other byte
 //! it stands for itself.
-ghost use Rattle.std.specs.Prelude.{◌≡◌};
+ghost use Rattle.std.specs.Prelude.{◌≡◌, ◌≤◌, length, take, true};
+ghost use Rattle.std.specs.List.{list_all, position};
 ghost use Rattle.dw_notation.specs.inner.Sections.{transition, broken_by};
+ghost use Rattle.dw_notation.specs.inner.Tags.{opens, closes, passes};
 
 use crate::bytes::{ends_line, is_blank, is_name_byte, is_space};
 
@@ -199,7 +201,33 @@ fn step_rest(byte: u8) -> Transition
     }
 }
 
+/// The place of the first byte that opens a tag or a comment.
+fn opening_at(bytes: &[u8]) -> Option<usize>
+    ensures { result ≡ position opens bytes.now }
+{
+    bytes.iter().position(|byte| *byte == b'[' || *byte == b'{')
+}
+
+/// The place of the first byte that closes a comment.
+fn closing_at(bytes: &[u8]) -> Option<usize>
+    ensures { result ≡ position closes bytes.now }
+{
+    bytes.iter().position(|byte| *byte == b'}')
+}
+
 impl State {
+    /// How many bytes change nothing here, and may be passed over at once.
+    pub(crate) fn passed(self, bytes: &[u8]) -> usize
+        ensures within { result ≤ length bytes.now }
+        ensures passed { list_all (passes self) (take result bytes.now) ≡ true }
+    {
+        match self {
+            State::Outside => opening_at(bytes).unwrap_or(bytes.len()),
+            State::Comment => closing_at(bytes).unwrap_or(bytes.len()),
+            _ => 0,
+        }
+    }
+
     /// Where the next byte leads, and what it does.
     #[inline(always)]
     pub(crate) fn transition(self, byte: u8) -> Transition

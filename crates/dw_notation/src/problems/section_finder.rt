@@ -1,0 +1,66 @@
+//! Where the next section of a PDN text begins.
+ghost use Rattle.std.specs.Prelude.{◌≡◌, ◌+◌, ◌<◌, [], ◌∷◌, false, length, take, drop, IfSome, IfNone, if◌then◌else◌};
+ghost use Rattle.dw_notation.specs.WholeTexts.{IsBetween};
+ghost use Rattle.dw_notation.specs.declared.problems.pdn.automaton.State.TheVariants as state;
+
+use super::pdn::automaton::{Action, State};
+
+/// Finds where the next section of a text begins, whatever pieces the text comes in. It passes over movetext, and over
+/// comments in braces, in which no section begins.
+/// See [`SectionFinder::find`] for an example.
+#[derive(Clone, Copy)]
+pub struct SectionFinder {
+    is_comment: bool,
+}
+
+impl SectionFinder {
+    ghost use Rattle.dw_notation.specs.WholeTexts.{in_comment};
+
+    /// The text begins outside a comment.
+    /// See [`SectionFinder::find`] for an example.
+    pub fn new() -> SectionFinder
+        ensures { in_comment result ≡ false }
+    {
+        SectionFinder { is_comment: false }
+    }
+
+    /// Whether the text stands in a comment.
+    /// Example: after `1. 32-28 {the` it does.
+    pub fn is_in_comment(self) -> bool
+        ensures { result ≡ in_comment self }
+    {
+        self.is_comment
+    }
+
+    /// Returns the place of the bracket that begins the next section. It passes over all bytes if there is none.
+    /// Example: in `{[} [FEN "x"]` the place is 4.
+    pub fn find(&mut self, bytes: &[u8]) -> Option<usize>
+        ensures some { IfSome result (λ k. (k < length bytes.now) × (in_comment self.new ≡ false)
+            × IsBetween (in_comment self.old) false (take k bytes.now)
+            × (drop k bytes.now ≡ 91 ∷ drop (k + 1) bytes.now)) }
+        ensures none { IfNone result (IsBetween (in_comment self.old) (in_comment self.new) bytes.now) }
+    {
+        let mut at = self.state().passed(bytes);
+        'bytes: while at < bytes.len() {
+            let to = self.state().transition(bytes[at]);
+            if let Action::Open = to.action {
+                return Some(at);
+            }
+            self.is_comment = matches!(to.state, State::Comment);
+            at += 1;
+            at += self.state().passed(&bytes[at..]);
+        }
+        None
+    }
+
+    /// Where the text stands.
+    fn state(self) -> State
+        ensures { result ≡ (if self.is_comment then state.Comment else state.Outside) }
+    {
+        if self.is_comment {
+            State::Comment
+        } else {
+            State::Outside
+        }
+    }
+}
