@@ -1,7 +1,11 @@
 -- Lemmas on the bytes of an input that are passed, and on what is kept of them.
-use Rattle.std.proofs.Common.{◌≡◌, ℕ, ◌<◌, ◌≤◌, ◌||◌, List, [], ◌∷◌, ◌++◌, length, take, drop, Bool, true}
-use Rattle.std.proofs.Common.{false, Option, refl, sym, ap, ◌∙◌, subst, arith, append_assoc, append-nil, length-append}
-use Rattle.std.proofs.lemmas.List.{length-take, take-append-drop, take-append-le, take_all}
+use Rattle.std.proofs.Common.{◌≡◌, ℕ, ◌+◌, ◌-◌, ◌||◌, inl, inr, min, List, [], ◌∷◌, ◌++◌, length, take, drop, Bool, true}
+use Rattle.std.proofs.Common.{false, Option, Some, None, IfSome, IfNone, is_some, unwrap_or, Result, Ok, Err, OnOk}
+use Rattle.std.proofs.Common.{is_ok, cond, refl, sym, ap, ◌∙◌, subst, arith, append_assoc, append-nil}
+use Rattle.std.proofs.Common.{length-append}
+use Rattle.std.proofs.Math.Seq.{take-append-add}
+use Rattle.std.proofs.lemmas.Bool.{cases_lt}
+use Rattle.std.proofs.lemmas.List.{length-take, take-append-drop, take-append-le, take_all, take_min}
 use Rattle.std.proofs.KnownBytes.{Consumes-nil, Consumes-trans}
 use Rattle.std.specs.Io.KnownBytes.{Consumes}
 use Rattle.dw_notation.specs.Buffering.{Input, Passes}
@@ -11,22 +15,22 @@ or-false true = refl
 or-false false = refl
 
 module _ {S : Type 0} (coming : S → Option (List ℕ)) (has_ended is_failed : S → Bool) (pulls : S → ℕ) where
-  -- a byte is passed
-  pub Passes-byte : (old new : Input S) → new.source ≡ old.source
-      → new.met_end ≡ old.met_end → new.unread ≡ drop 1 old.unread
-      → Passes coming has_ended is_failed pulls old new (take 1 old.unread) false
-  Passes-byte old new source met rest = record {
+  -- a piece of what was read is passed
+  pub Passes-piece : (old new : Input S) (count : ℕ) → new.source ≡ old.source
+      → new.met_end ≡ old.met_end → new.unread ≡ drop count old.unread
+      → Passes coming has_ended is_failed pulls old new (take count old.unread) false
+  Passes-piece old new count source met rest = record {
     read = [];
     took = subst (λ s. Consumes (coming old.source) (coming s) []) (sym source)
         (Consumes-nil (coming old.source));
-    same = append-nil old.unread ∙ sym (take-append-drop 1 old.unread)
-        ∙ ap (λ l. take 1 old.unread ++ l) (sym rest);
+    same = append-nil old.unread ∙ sym (take-append-drop count old.unread)
+        ∙ ap (λ l. take count old.unread ++ l) (sym rest);
     stays = λ m. (refl, met ∙ m);
     end = λ known. rw (source, met) known;
     failed = ap is_failed source ∙ sym (or-false (is_failed old.source));
     lighter =
-        let split = sym (length-append (take 1 old.unread) (drop 1 old.unread))
-        ∙ ap length (take-append-drop 1 old.unread) in
+        let split = sym (length-append (take count old.unread) (drop count old.unread))
+        ∙ ap length (take-append-drop count old.unread) in
         let same = ap pulls source in
         let short = ap length rest in
         omega (arith, split, same, short);
@@ -61,17 +65,43 @@ module _ {S : Type 0} (coming : S → Option (List ℕ)) (has_ended is_failed : 
     lighter = omega (arith, a.lighter, b.lighter, length-append first second);
   }
 
--- ---- one more byte is kept
-pub take-push : (limit : ℕ) (text bytes : List ℕ) (byte : ℕ) → bytes ≡ take limit text → length bytes < limit
-    → bytes ++ byte ∷ [] ≡ take limit (text ++ byte ∷ [])
-take-push limit text bytes byte e less =
+-- ---- one more piece is kept, as far as there is room
+pub take-extend : (limit : ℕ) (text piece kept : List ℕ) (count : ℕ) → kept ≡ take limit text
+    → count ≡ min (length piece) (limit - length kept) → kept ++ take count piece ≡ take limit (text ++ piece)
+take-extend limit text piece kept count e is =
     let few = ap length e ∙ length-take limit text in
-    let all = take_all limit text (omega (arith, less, few)) in
-    ap (λ l. l ++ byte ∷ []) (e ∙ all)
-    ∙ sym (take_all limit (text ++ byte ∷ []) (omega (arith, less, few, length-append text (byte ∷ []))))
+    elim (cases_lt limit (length text)) [
+      | inl full ↦
+          let none : count ≡ 0 = omega (arith, is, few, full) in
+          ap (λ n. kept ++ take n piece) none ∙ append-nil kept ∙ e
+          ∙ sym (take-append-le limit text piece (omega (arith, full)))
+      | inr room ↦
+          let all : kept ≡ text = e ∙ take_all limit text room in
+          let size = ap length all in
+          let least : count ≡ min (limit - length text) (length piece) = omega (arith, is, size) in
+          let whole : length text + (limit - length text) ≡ limit = omega (arith, room) in
+          ap (λ l. l ++ take count piece) all ∙ ap (λ n. text ++ take n piece) least
+          ∙ ap (λ l. text ++ l) (take_min (limit - length text) piece)
+          ∙ sym (take-append-add text piece (limit - length text)) ∙ ap (λ n. take n (text ++ piece)) whole
+    ]
 
-pub take-full : (limit : ℕ) (text bytes : List ℕ) (byte : ℕ) → bytes ≡ take limit text → limit ≤ length bytes
-    → bytes ≡ take limit (text ++ byte ∷ [])
-take-full limit text bytes byte e full =
-    let few = ap length e ∙ length-take limit text in
-    e ∙ sym (take-append-le limit text (byte ∷ []) (omega (arith, full, few)))
+-- memory was there, or not
+pub extended : {T E Q : Type 0} (r : Result T E) (now all old : List ℕ) → now ≡ cond (is_ok r) all old → (now ≡ all → Q)
+    → OnOk r Q
+extended (Ok x) now all old is f = f is
+extended (Err e) now all old is f = tt
+
+-- the place that was found, or the number of all bytes
+pub found_at : (P : ℕ → Type 0) (found : Option ℕ) (count all : ℕ) → count ≡ unwrap_or found all → is_some found ≡ true
+    → IfSome found P → P count
+found_at P (Some k) count all is some h = subst P (sym is) h
+found_at P None count all is some h = cc
+
+pub none_found : {P : Type 0} (found : Option ℕ) (count all : ℕ) → count ≡ unwrap_or found all → is_some found ≡ false
+    → IfNone found P → (count ≡ all) × P
+none_found (Some k) count all is none h = cc
+none_found None count all is none h = (is, h)
+
+-- what is unread begins with this byte
+pub begins : {byte : ℕ} (unread rest : List ℕ) → unread ≡ byte ∷ rest → unread ≡ byte ∷ drop 1 unread
+begins {byte} unread rest is = is ∙ ap (λ l. byte ∷ l) (sym (ap (drop 1) is))

@@ -1,15 +1,16 @@
 -- Lemmas on bytes without a section.
-use Rattle.std.proofs.Common.{◌≡◌, ◌==◌, ◌&&◌, ℕ, not, List, [], ◌∷◌, ◌++◌, take, drop, Bool, true}
-use Rattle.std.proofs.Common.{false, Option, Result, Ok, Err, refl, sym, ap, subst, append_assoc}
-use Rattle.std.proofs.Common.{append-nil, inl, inr}
-use Rattle.std.proofs.lemmas.Bool.{cases_Bool, eqb-true, and_parts}
+use Rattle.std.proofs.Common.{◌≡◌, ◌==◌, ℕ, List, [], ◌∷◌, ◌++◌, drop, Bool, true}
+use Rattle.std.proofs.Common.{false, Option, Result, Ok, Err, refl, sym, subst, append_assoc}
+use Rattle.std.proofs.Common.{append-nil, cond}
 use Rattle.dw_board.specs.Geometry.{Geometry}
 use Rattle.dw_games.specs.Games.{Said, HasGames}
-use Rattle.dw_games.specs.Games.HasGames.{nothing, other, comment, last_comment}
+use Rattle.dw_games.specs.Games.HasGames.{nothing as no_games, other as other_byte, comment, last_comment}
+use Rattle.dw_notation.specs.WholeTexts.{IsBetween}
+use Rattle.dw_notation.specs.WholeTexts.IsBetween.{nothing, other, opened as open_brace, within, closed as close_brace}
 use Rattle.dw_games.specs.GameReading.{is_failure}
 use Rattle.dw_notation.specs.Buffering.{Input, Passes}
 use Rattle.dw_games.specs.inner.Keeping.{IsKept}
-use Rattle.dw_games.specs.inner.Playing.{InComment, is_in_comment, unclosed, HasGamesFrom, ReadsPlay}
+use Rattle.dw_games.specs.inner.Playing.{InComment, unclosed, HasGamesFrom, ReadsPlay}
 use Rattle.dw_games.specs.inner.Playing.{PlaysOn}
 use Rattle.dw_games.specs.inner.Playing.InComment.{closed, left_open}
 use Rattle.dw_games.specs.declared.games.GameFault.{GameFault}
@@ -29,28 +30,16 @@ inside : (g : Geometry) (byte : ℕ) → (byte == 125) ≡ false → {more front
 inside g byte none (closed text is has) = closed (byte ∷ text) (rw none is) has
 inside g byte none (left_open text is) = left_open (byte ∷ text) (rw none is)
 
-byte_on : (g : Geometry) (was : Bool) (byte : ℕ) (more front : List ℕ) (games : List Said)
-    → ((byte == 91) && not was) ≡ false → HasGamesFrom (is_in_comment was byte) g more front games
-    → HasGamesFrom was g (byte ∷ more) (byte ∷ front) games
-byte_on g true byte more front games none has = elim (cases_Bool (byte == 125)) [
-  | inl brace ↦ subst (λ b. InComment g (b ∷ more) (b ∷ front) games) (sym (eqb-true byte 125 brace))
-      (closed [] refl (rw brace at has))
-  | inr no_brace ↦ inside g byte no_brace (rw no_brace at has)
-]
-byte_on g false byte more front games none has = elim (cases_Bool (byte == 123)) [
-  | inl brace ↦ subst (λ b. HasGames g (b ∷ more) (b ∷ front) games) (sym (eqb-true byte 123 brace))
-      (opened g (rw brace at has))
-  | inr no_brace ↦ elim (cases_Bool (byte == 91)) [
-    | inl bracket ↦ let bad : true ≡ false = rw bracket at none in cc
-    | inr no_bracket ↦ other byte (rw (no_bracket, no_brace) refl) (rw no_brace at has)
-  ]
-]
-
-pub section_byte : (byte : ℕ) (was : Bool) → ((byte == 91) && not was) ≡ true → (byte ≡ 91) × (was ≡ false)
-section_byte byte true h =
-    let both = and_parts (byte == 91) false h in let bad : true ≡ false = sym both.1 in (eqb-true byte 91 both.0, bad)
-section_byte byte false h =
-    let both = and_parts (byte == 91) true h in (eqb-true byte 91 both.0, refl)
+-- ---- bytes between sections
+pub between_games : (g : Geometry) {begins ends : Bool} {text : List ℕ} → IsBetween begins ends text
+    → (more front : List ℕ) (games : List Said) → HasGamesFrom ends g more front games
+    → HasGamesFrom begins g (text ++ more) (text ++ front) games
+between_games g nothing more front games has = has
+between_games g (other byte neither is) more front games has = other_byte byte neither
+    (between_games g is more front games has)
+between_games g (open_brace is) more front games has = opened g (between_games g is more front games has)
+between_games g (within byte here is) more front games has = inside g byte here (between_games g is more front games has)
+between_games g (close_brace is) more front games has = closed [] refl (between_games g is more front games has)
 
 module _ {S : Type 0} (coming : S → Option (List ℕ)) (has_ended is_failed : S → Bool) (pulls : S → ℕ) where
   abbrev On : Input S → Input S → BoundedBuf → BoundedBuf → Bool → Type 0
@@ -64,35 +53,32 @@ module _ {S : Type 0} (coming : S → Option (List ℕ)) (has_ended is_failed : 
     said = λ g more front games has. has;
   }
 
-  -- the next byte is known
-  pub PlaysOn-peek : (old mid now : Input S) (before kept : BoundedBuf) (was : Bool) → On old mid before kept was
+  -- the next bytes are known
+  pub PlaysOn-fill : (old mid now : Input S) (before kept : BoundedBuf) (was : Bool) → On old mid before kept was
       → Passes coming has_ended is_failed pulls mid now [] false → On old now before kept was
-  PlaysOn-peek old mid now before kept was on peek = record {
+  PlaysOn-fill old mid now before kept was on fill = record {
     passed = on.passed;
     passes = subst (λ l. Passes coming has_ended is_failed pulls old now l false) (append-nil on.passed)
-        (Passes-trans coming has_ended is_failed pulls old mid now on.passed [] false on.passes peek);
+        (Passes-trans coming has_ended is_failed pulls old mid now on.passed [] false on.passes fill);
     keeps = on.keeps;
     said = on.said;
   }
 
-  -- it is kept and passed
-  pub PlaysOn-byte : (old mid now : Input S) (before kept after : BoundedBuf) (was : Bool) (byte : ℕ)
-      → On old mid before kept was → mid.unread ≡ byte ∷ drop 1 mid.unread
-      → ((byte == 91) && not was) ≡ false
-      → ((limit : ℕ) (text : List ℕ) → IsKept limit text kept → IsKept limit (text ++ byte ∷ []) after)
-      → Passes coming has_ended is_failed pulls mid now (take 1 mid.unread) false
-      → On old now before after (is_in_comment was byte)
-  PlaysOn-byte old mid now before kept after was byte on next none push pass = record {
-    passed = on.passed ++ byte ∷ [];
-    passes = subst (λ l. Passes coming has_ended is_failed pulls old now (on.passed ++ l) false) (ap (take 1) next)
-        (Passes-trans coming has_ended is_failed pulls old mid now on.passed (take 1 mid.unread) false on.passes pass);
-    keeps = λ limit text is. subst (λ l. IsKept limit l after) (append_assoc text on.passed (byte ∷ []))
-        (push limit (text ++ on.passed) (on.keeps limit text is));
+  -- they are kept and passed
+  pub PlaysOn-piece : (old mid now : Input S) (before kept after : BoundedBuf) (was next : Bool) (piece : List ℕ)
+      → On old mid before kept was → IsBetween was next piece
+      → ((limit : ℕ) (text : List ℕ) → IsKept limit text kept → IsKept limit (text ++ piece) after)
+      → Passes coming has_ended is_failed pulls mid now piece false
+      → On old now before after next
+  PlaysOn-piece old mid now before kept after was next piece on between extend pass = record {
+    passed = on.passed ++ piece;
+    passes = Passes-trans coming has_ended is_failed pulls old mid now on.passed piece false on.passes pass;
+    keeps = λ limit text is. subst (λ l. IsKept limit l after) (append_assoc text on.passed piece)
+        (extend limit (text ++ on.passed) (on.keeps limit text is));
     said = λ g more front games has.
-        subst (λ l. HasGames g l ((on.passed ++ byte ∷ []) ++ front) games)
-        (sym (append_assoc on.passed (byte ∷ []) more))
-        (subst (λ l. HasGames g (on.passed ++ byte ∷ more) l games) (sym (append_assoc on.passed (byte ∷ []) front))
-        (on.said g (byte ∷ more) (byte ∷ front) games (byte_on g was byte more front games none has)));
+        subst (λ l. HasGames g l ((on.passed ++ piece) ++ front) games) (sym (append_assoc on.passed piece more))
+        (subst (λ l. HasGames g (on.passed ++ (piece ++ more)) l games) (sym (append_assoc on.passed piece front))
+        (on.said g (piece ++ more) (piece ++ front) games (between_games g between more front games has)));
   }
 
   abbrev Result-of : Input S → Input S → BoundedBuf → BoundedBuf → Result PlayEnd GameFault → Type 0
@@ -116,18 +102,18 @@ module _ {S : Type 0} (coming : S → Option (List ℕ)) (has_ended is_failed : 
       (subst (λ l. HasGames g (passed ++ []) l games) (append-nil passed) has)
 
   -- the text ends
-  pub PlaysOn-text : (old now : Input S) (before after : BoundedBuf) → On old now before after false
+  PlaysOn-text : (old now : Input S) (before after : BoundedBuf) → On old now before after false
       → (now.unread ≡ []) × (now.met_end ≡ true) → Result-of old now before after (Ok Text)
   PlaysOn-text old now before after on end = record {
     passed = on.passed;
     passes = on.passes;
     kept = on.keeps;
     said = λ g bytes games has. subst (λ l. HasGames g (on.passed ++ (now.unread ++ bytes)) on.passed l) (sym has.1)
-        (from_end g on.passed (now.unread ++ bytes) [] (on.said g [] [] [] nothing) has.0);
+        (from_end g on.passed (now.unread ++ bytes) [] (on.said g [] [] [] no_games) has.0);
     ends = end;
   }
 
-  pub PlaysOn-open : (old now : Input S) (before after : BoundedBuf) → On old now before after true
+  PlaysOn-open : (old now : Input S) (before after : BoundedBuf) → On old now before after true
       → (now.unread ≡ []) × (now.met_end ≡ true) → Result-of old now before after (Ok Open)
   PlaysOn-open old now before after on end = record {
     passed = on.passed;
@@ -139,15 +125,22 @@ module _ {S : Type 0} (coming : S → Option (List ℕ)) (has_ended is_failed : 
     ends = end;
   }
 
+  pub PlaysOn-end : (old now : Input S) (before after : BoundedBuf) (was : Bool) (end : PlayEnd) → On old now before after was
+      → (now.unread ≡ []) × (now.met_end ≡ true) → end ≡ cond was Open Text → Result-of old now before after (Ok end)
+  PlaysOn-end old now before after true end on none is = subst (λ e. Result-of old now before after (Ok e)) (sym is)
+      (PlaysOn-open old now before after on none)
+  PlaysOn-end old now before after false end on none is = subst (λ e. Result-of old now before after (Ok e)) (sym is)
+      (PlaysOn-text old now before after on none)
+
   -- the source fails, or memory is refused
   pub PlaysOn-fault : (old mid now : Input S) (before kept after : BoundedBuf) (was : Bool) (fault : GameFault)
       → On old mid before kept was
       → Passes coming has_ended is_failed pulls mid now [] (is_failure {A = PlayEnd} (Err fault))
       → Result-of old now before after (Err fault)
-  PlaysOn-fault old mid now before kept after was fault on peek = record {
+  PlaysOn-fault old mid now before kept after was fault on fill = record {
     passed = on.passed;
     passes = subst (λ l. Passes coming has_ended is_failed pulls old now l (is_failure {A = PlayEnd} (Err fault)))
-        (append-nil on.passed) (Passes-trans coming has_ended is_failed pulls old mid now on.passed [] _ on.passes peek);
+        (append-nil on.passed) (Passes-trans coming has_ended is_failed pulls old mid now on.passed [] _ on.passes fill);
     kept = tt;
     said = tt;
     ends = tt;

@@ -1,10 +1,9 @@
 -- Lemmas on reading a section.
-use Rattle.std.proofs.Common.{◌≡◌, ℕ, List, [], ◌∷◌, ◌++◌, take, drop, Bool, true, false, Option, Some, None}
-use Rattle.std.proofs.Common.{Ok, Err, MatchOption, refl, sym, ap, ◌∙◌, subst, append_assoc, append-nil, cond}
+use Rattle.std.proofs.Common.{◌≡◌, ℕ, List, [], ◌∷◌, ◌++◌, drop, Bool, true, false, Option, Some}
+use Rattle.std.proofs.Common.{Ok, Err, MatchOption, refl, sym, ap, ◌∙◌, subst, append_assoc, append-nil}
 use Rattle.std.proofs.Common.{option_to_list}
 use Rattle.dw_board.specs.Geometry.{Geometry}
 use Rattle.dw_notation.specs.TextLines.{Found}
-use Rattle.dw_notation.specs.Tags.{is_space}
 use Rattle.dw_notation.specs.WholeTexts.{SectionsSay}
 use Rattle.dw_notation.specs.TagLaws.{TextsOfTagsSay}
 use Rattle.dw_notation.specs.inner.Readers.{ahead_of}
@@ -42,82 +41,85 @@ module _ {B S : Type 0} (g : Geometry) (coming : S → Option (List ℕ)) (has_e
     unsaid = unsaid;
   }
 
-  -- the next byte is known
-  pub ReadsOn-peek : (old mid now : Input S) (begun row before kept : BoundedBuf) (reader : SectionReader B)
+  -- the next bytes are known
+  pub ReadsOn-fill : (old mid now : Input S) (begun row before kept : BoundedBuf) (reader : SectionReader B)
       → On old mid begun row before kept reader → Passes coming has_ended is_failed pulls mid now [] false
       → On old now begun row before kept reader
-  ReadsOn-peek old mid now begun row before kept reader on peek = record {
+  ReadsOn-fill old mid now begun row before kept reader on fill = record {
     passed = on.passed;
     passes = subst (λ l. Passes coming has_ended is_failed pulls old now l false) (append-nil on.passed)
-        (Passes-trans coming has_ended is_failed pulls old mid now on.passed [] false on.passes peek);
+        (Passes-trans coming has_ended is_failed pulls old mid now on.passed [] false on.passes fill);
     rows = on.rows;
     keeps = on.keeps;
     said = on.said;
     unsaid = on.unsaid;
   }
 
-  -- it does not end the section
-  pub ReadsOn-byte : (old mid now : Input S) (begun row longer before kept after : BoundedBuf) (reader next : SectionReader B)
-      (byte : ℕ) (result : Option Found) → On old mid begun row before kept reader
-      → mid.unread ≡ byte ∷ drop 1 mid.unread
-      → ((over : Bool) (more : List ℕ) → ahead_of reader g over (byte ∷ more)
-      ≡ option_to_list result ++ ahead_of next g over more)
-      → ahead_of next g false [] ≡ [] → result ≡ None
-      → ((limit : ℕ) (text : List ℕ) → IsKept limit text row → IsKept limit (text ++ byte ∷ []) longer)
-      → ((limit : ℕ) (text : List ℕ) → IsKept limit text kept
-      → IsKept limit (cond (is_space byte) (text ++ byte ∷ []) []) after)
-      → Passes coming has_ended is_failed pulls mid now (take 1 mid.unread) false
+  -- they do not end the section
+  pub ReadsOn-piece : (old mid now : Input S) (begun row longer before kept after : BoundedBuf) (reader next : SectionReader B)
+      (piece : List ℕ) → On old mid begun row before kept reader
+      → ((over : Bool) (more : List ℕ) → ahead_of reader g over (piece ++ more) ≡ ahead_of next g over more)
+      → ahead_of next g false [] ≡ []
+      → ((limit : ℕ) (text : List ℕ) → IsKept limit text row → IsKept limit (text ++ piece) longer)
+      → ((limit : ℕ) (text : List ℕ) → IsKept limit text kept → IsKept limit (spaces_on text piece) after)
+      → Passes coming has_ended is_failed pulls mid now piece false
       → On old now begun longer before after next
-  ReadsOn-byte old mid now begun row longer before kept after reader next byte result on here add unsaid none push keep
-      pass = record {
-        passed = on.passed ++ byte ∷ [];
-        passes = subst (λ l. Passes coming has_ended is_failed pulls old now (on.passed ++ l) false) (ap (take 1) here)
-            (Passes-trans coming has_ended is_failed pulls old mid now on.passed (take 1 mid.unread) false on.passes
-            pass);
-        rows = λ limit is. push limit on.passed (on.rows limit is);
-        keeps = λ limit is. subst (λ l. IsKept limit l after) (sym (spaces_on-append [] on.passed (byte ∷ [])))
-            (keep limit (spaces_on [] on.passed) (on.keeps limit is));
-        said = λ over more. subst (SectionsSay g over ((on.passed ++ byte ∷ []) ++ more))
-            (add over more ∙ ap (λ r. option_to_list r ++ ahead_of next g over more) none)
-            (subst (λ l. SectionsSay g over l (ahead_of reader g over (byte ∷ more)))
-            (sym (append_assoc on.passed (byte ∷ []) more)) (on.said over (byte ∷ more)));
-        unsaid = unsaid;
-      }
+  ReadsOn-piece old mid now begun row longer before kept after reader next piece on same unsaid extend keep pass = record {
+    passed = on.passed ++ piece;
+    passes = Passes-trans coming has_ended is_failed pulls old mid now on.passed piece false on.passes pass;
+    rows = λ limit is. extend limit on.passed (on.rows limit is);
+    keeps = λ limit is. subst (λ l. IsKept limit l after) (sym (spaces_on-append [] on.passed piece))
+        (keep limit (spaces_on [] on.passed) (on.keeps limit is));
+    said = λ over more. subst (SectionsSay g over ((on.passed ++ piece) ++ more)) (same over more)
+        (subst (λ l. SectionsSay g over l (ahead_of reader g over (piece ++ more)))
+        (sym (append_assoc on.passed piece more)) (on.said over (piece ++ more)));
+    unsaid = unsaid;
+  }
 
   nothing_ended : (old now : Input S) (begun row before kept : BoundedBuf) (reader : SectionReader B)
       → (on : On old now begun row before kept reader) → SectionsSay g false on.passed []
   nothing_ended old now begun row before kept reader on = subst (SectionsSay g false on.passed) on.unsaid
       (subst (λ l. SectionsSay g false l (ahead_of reader g false [])) (append-nil on.passed) (on.said false []))
 
-  -- it ends the section
-  pub ReadsOn-cut : TextsOfTagsSay → (old now : Input S) (begun row before kept : BoundedBuf) (reader next : SectionReader B)
-      (byte : ℕ) (result : Option Found) (found : Found) → On old now begun row before kept reader
+  -- a byte behind them ends the section
+  pub ReadsOn-cut : TextsOfTagsSay → (old mid now : Input S) (begun row longer before kept after : BoundedBuf)
+      (reader next : SectionReader B) (piece : List ℕ) (byte : ℕ) (result : Option Found) (found : Found)
+      → On old mid begun row before kept reader
       → old.unread ≡ 91 ∷ drop 1 old.unread → now.unread ≡ byte ∷ drop 1 now.unread
-      → ((over : Bool) (more : List ℕ) → ahead_of reader g over (byte ∷ more)
-      ≡ option_to_list result ++ ahead_of next g over more)
-      → result ≡ Some found
-      → ReadsSection g coming has_ended is_failed pulls old now begun row before kept (Ok (Some found))
-  ReadsOn-cut law old now begun row before kept reader next byte result found on begins here add is =
+      → ahead_of reader g false piece ≡ []
+      → ((over : Bool) (more : List ℕ) → ahead_of reader g over ((piece ++ byte ∷ []) ++ more)
+      ≡ found ∷ ahead_of next g over more)
+      → ((limit : ℕ) (text : List ℕ) → IsKept limit text row → IsKept limit (text ++ piece) longer)
+      → ((limit : ℕ) (text : List ℕ) → IsKept limit text kept → IsKept limit (spaces_on text piece) after)
+      → Passes coming has_ended is_failed pulls mid now piece false → result ≡ Some found
+      → ReadsSection g coming has_ended is_failed pulls old now begun longer before after (Ok result)
+  ReadsOn-cut law old mid now begun row longer before kept after reader next piece byte result found on begins here none add
+      extend keep pass is =
+      let passed = on.passed ++ piece in
+      let passes = Passes-trans coming has_ended is_failed pulls old mid now on.passed piece false on.passes pass in
       let behind = drop 1 now.unread in
-      let joined : on.passed ++ byte ∷ behind ≡ 91 ∷ (drop 1 old.unread ++ on.passes.read) =
-      ap (λ l. on.passed ++ l) (sym here) ∙ sym on.passes.same ∙ ap (λ l. l ++ on.passes.read) begins in
-      let front = front_begins on.passed behind _ byte joined in
-      let all : ahead_of reader g false (byte ∷ []) ≡ found ∷ ahead_of next g false [] =
-      add false [] ∙ ap (λ r. option_to_list r ++ ahead_of next g false []) is in
-      let cut = cut_at law g on.passed front.0 byte found _ (on.said false (byte ∷ [])) refl front.1 all
-      (nothing_ended old now begun row before kept reader on) in
-      record {
-        passed = on.passed;
-        passes = on.passes;
-        rows = on.rows;
-        kept = on.keeps;
-        ends = cut_ends_well g on.passed byte found cut;
+      let joined : passed ++ byte ∷ behind ≡ 91 ∷ (drop 1 old.unread ++ passes.read) =
+      ap (λ l. passed ++ l) (sym here) ∙ sym passes.same ∙ ap (λ l. l ++ passes.read) begins in
+      let front = front_begins passed behind _ byte joined in
+      let all : ahead_of reader g false (piece ++ byte ∷ []) ≡ found ∷ ahead_of next g false [] =
+      ap (ahead_of reader g false) (sym (append-nil (piece ++ byte ∷ []))) ∙ add false [] in
+      let cut = cut_at law g passed front.0 byte found _ (subst (λ l. SectionsSay g false l
+      (ahead_of reader g false (piece ++ byte ∷ []))) (sym (append_assoc on.passed piece (byte ∷ [])))
+      (on.said false (piece ++ byte ∷ []))) refl front.1 all
+      (subst (SectionsSay g false passed) none (on.said false piece)) in
+      subst (λ r. ReadsSection g coming has_ended is_failed pulls old now begun longer before after (Ok r)) (sym is) (record {
+        passed = passed;
+        passes = passes;
+        rows = λ limit row_is. extend limit on.passed (on.rows limit row_is);
+        kept = λ limit kept_is. subst (λ l. IsKept limit l after) (sym (spaces_on-append [] on.passed piece))
+            (keep limit (spaces_on [] on.passed) (on.keeps limit kept_is));
+        ends = cut_ends_well g passed byte found cut;
         said = λ bytes front games over has.
             let text : now.unread ++ bytes ≡ byte ∷ (behind ++ bytes) = ap (λ l. l ++ bytes) here in
-            subst (λ l. HasGames g (on.passed ++ l) []
-            (said_with found (row_of on.passed) (spaces_on [] on.passed ++ front) ∷ games)) (sym text) (cut_games g on.passed (behind ++ bytes) front byte found games cut
+            subst (λ l. HasGames g (passed ++ l) [] (said_with found (row_of passed) (spaces_on [] passed ++ front) ∷ games))
+            (sym text) (cut_games g passed (behind ++ bytes) front byte found games cut
             (subst (λ l. HasGames g l front games) text has));
-      }
+      })
 
   -- the text ends it
   pub ReadsOn-last : TextsOfTagsSay → (old now : Input S) (begun row before kept : BoundedBuf) (reader : SectionReader B)
@@ -157,10 +159,10 @@ module _ {B S : Type 0} (g : Geometry) (coming : S → Option (List ℕ)) (has_e
       (fault : GameFault) → On old mid begun row before kept reader
       → Passes coming has_ended is_failed pulls mid now [] (is_failure {A = Option Found} (Err fault))
       → ReadsSection g coming has_ended is_failed pulls old now begun longer before after (Err fault)
-  ReadsOn-fault old mid now begun row longer before kept after reader fault on peek = record {
+  ReadsOn-fault old mid now begun row longer before kept after reader fault on fill = record {
     passed = on.passed;
     passes = subst (λ l. Passes coming has_ended is_failed pulls old now l (is_failure {A = Option Found} (Err fault)))
-        (append-nil on.passed) (Passes-trans coming has_ended is_failed pulls old mid now on.passed [] _ on.passes peek);
+        (append-nil on.passed) (Passes-trans coming has_ended is_failed pulls old mid now on.passed [] _ on.passes fill);
     rows = tt;
     kept = tt;
     ends = tt;

@@ -1,10 +1,11 @@
 -- Lemmas on a section that is read byte by byte.
-use Rattle.std.proofs.Common.{◌≡◌, ◌==◌, ◌-◌, ◌||◌, ◌⊎◌, ℕ, not, List, [], ◌∷◌, ◌++◌, length, take, Bool, true, false}
+use Rattle.std.proofs.Common.{◌≡◌, ◌==◌, ◌+◌, ◌-◌, ◌<◌, ◌≤◌, ◌||◌, ◌⊎◌, ℕ, not, List, [], ◌∷◌, ◌++◌, length, take, drop, Bool}
+use Rattle.std.proofs.Common.{true, false, slice_index}
 use Rattle.std.proofs.Common.{Option, Some, None, Ok, Err, MatchBool, refl, sym, ap, ◌∙◌, subst, arith, append_assoc}
 use Rattle.std.proofs.Common.{append-nil, inl, inr, option_to_list, cond, nat_lt, length-append}
 use Rattle.std.proofs.Math.Seq.{take-append_seam}
 use Rattle.std.proofs.lemmas.Bool.{and_parts, ltb-false}
-use Rattle.std.proofs.lemmas.List.{same_from_push}
+use Rattle.std.proofs.lemmas.List.{same_from_push, take-append-drop, take_more}
 use Rattle.std.specs.List.{list_all}
 use Rattle.dw_board.specs.Geometry.{Geometry}
 use Rattle.dw_board.specs.Placement.{Placement}
@@ -137,11 +138,28 @@ pub spaces_on-append : (spaces text more : List ℕ) → spaces_on spaces (text 
 spaces_on-append spaces [] more = refl
 spaces_on-append spaces (byte ∷ text) more = spaces_on-append (cond (is_space byte) (spaces ++ byte ∷ []) []) text more
 
-spaces_on-gap : (spaces gap : List ℕ) → list_all is_space gap ≡ true → spaces_on spaces gap ≡ spaces ++ gap
+pub spaces_on-gap : (spaces gap : List ℕ) → list_all is_space gap ≡ true → spaces_on spaces gap ≡ spaces ++ gap
 spaces_on-gap spaces [] all = sym (append-nil spaces)
 spaces_on-gap spaces (byte ∷ gap) all =
     let both = and_parts (is_space byte) (list_all is_space gap) all in
     rw both.0 (spaces_on-gap (spaces ++ byte ∷ []) gap both.1 ∙ append_assoc spaces (byte ∷ []) gap)
+
+-- the spaces at the end of a piece, behind other bytes of it
+pub spaces_on-rest : (spaces piece : List ℕ) (start : ℕ) → 0 < start → start ≤ length piece
+    → list_all is_space (drop start piece) ≡ true → is_space (slice_index piece (start - 1)) ≡ false
+    → spaces_on spaces piece ≡ drop start piece
+spaces_on-rest spaces piece start some inside all no_space =
+    let front = take (start - 1) piece in
+    let last = slice_index piece (start - 1) in
+    let e : start - 1 + 1 ≡ start = omega (arith, some) in
+    let joined : take start piece ≡ front ++ last ∷ [] =
+    ap (λ n. take n piece) (sym e) ∙ take_more piece (start - 1) 0 (omega (arith, some, inside)) in
+    let none : spaces_on spaces (take start piece) ≡ [] =
+    ap (spaces_on spaces) joined ∙ spaces_on-append spaces front (last ∷ [])
+    ∙ ap (λ v. cond v (spaces_on spaces front ++ last ∷ []) []) no_space in
+    ap (spaces_on spaces) (sym (take-append-drop start piece))
+    ∙ spaces_on-append spaces (take start piece) (drop start piece)
+    ∙ ap (λ l. spaces_on l (drop start piece)) none ∙ spaces_on-gap [] (drop start piece) all
 
 spaces_on-bracket : (spaces text : List ℕ) → spaces_on spaces (text ++ 93 ∷ []) ≡ []
 spaces_on-bracket spaces text = spaces_on-append spaces text (93 ∷ [])

@@ -1,5 +1,5 @@
 //! What is kept of a text.
-ghost use Rattle.std.specs.Prelude.{◌≡◌, ◌∷◌, ◌++◌, [], OnOk, List, ℕ};
+ghost use Rattle.std.specs.Prelude.{◌≡◌, ◌++◌, [], OnOk, List, ℕ};
 ghost use Rattle.std.specs.Str.{IsTrimAsciiEnd};
 ghost use Rattle.dw_games.specs.inner.Keeping.{IsKept};
 
@@ -25,15 +25,14 @@ impl BoundedBuf {
         }
     }
 
-    /// Puts a byte behind the text.
-    pub(crate) fn push(&mut self, byte: u8) -> Result<(), AllocError>
+    /// Puts a piece after the text.
+    pub(crate) fn extend(&mut self, piece: &[u8]) -> Result<(), AllocError>
         ensures { (limit : ℕ) (text : List ℕ) → IsKept limit text self.old
-            → OnOk result (IsKept limit (text ++ byte ∷ []) self.new) }
+            → OnOk result (IsKept limit (text ++ piece.now) self.new) }
     {
-        if self.bytes.len() < self.limit {
-            self.bytes.push(byte)?;
-        }
-        Ok(())
+        let room = self.limit.saturating_sub(self.bytes.len());
+        let count = piece.len().min(room);
+        self.bytes.extend_from_slice(&piece[..count])
     }
 
     /// Begins again with the empty text.

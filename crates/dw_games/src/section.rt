@@ -1,8 +1,9 @@
-//! A section of tags, and the spaces behind it.
-ghost use Rattle.std.specs.Prelude.{◌≡◌, ℕ, List, [], ◌∷◌, ◌++◌, drop, OnOk, if◌then◌else◌};
+//! A section of tags, and the spaces after it.
+ghost use Rattle.std.specs.Prelude.{◌≡◌, ◌-◌, ◌<◌, ◌≤◌, ℕ, List, ◌∷◌, drop, length, slice_index, true, false, OnOk};
+ghost use Rattle.std.specs.List.{list_all};
 ghost use Rattle.dw_notation.specs.Tags.{open_bracket, is_space as is_space_byte};
 ghost use Rattle.dw_notation.specs.Buffering.{unread_in, input_of};
-ghost use Rattle.dw_games.specs.inner.Keeping.{IsKept};
+ghost use Rattle.dw_games.specs.inner.Keeping.{IsKept, spaces_on};
 ghost use Rattle.dw_games.specs.inner.Sectioning.{ReadsSection};
 
 use crate::bounded_buf::BoundedBuf;
@@ -12,20 +13,33 @@ use dw_notation::bytes::is_space;
 use dw_notation::{Buffer, ProblemFault, SectionReader, Source};
 use std::alloc::AllocError;
 
-/// Keeps a byte, if it is a space, behind the spaces that stand before it.
-fn keep_space(spaces: &mut BoundedBuf, byte: u8) -> Result<(), AllocError>
+/// Keeps the spaces at the end of a text that has one more piece.
+fn keep_spaces(spaces: &mut BoundedBuf, piece: &[u8]) -> Result<(), AllocError>
     ensures { (limit : ℕ) (text : List ℕ) → IsKept limit text spaces.old
-        → OnOk result (IsKept limit (if is_space_byte byte then text ++ byte ∷ [] else []) spaces.new) }
+        → OnOk result (IsKept limit (spaces_on text piece.now) spaces.new) }
 {
-    if is_space(byte) {
-        spaces.push(byte)
-    } else {
+    let start = spaces_at(piece);
+    if start > 0 {
         spaces.clear();
-        Ok(())
     }
+    let (_, rest) = piece.split_at(start);
+    spaces.extend(rest)
 }
 
-/// Passes the bytes of a section and the spaces behind it, and answers what it says. All of them are kept in a row, and
+/// The place where the spaces at the end of a text begin.
+fn spaces_at(text: &[u8]) -> usize
+    ensures within { result ≤ length text.now }
+    ensures spaces { list_all is_space_byte (drop result text.now) ≡ true }
+    ensures before { 0 < result → is_space_byte (slice_index text.now (result - 1)) ≡ false }
+{
+    let mut start = text.len();
+    'spaces: while start > 0 && is_space(text[start - 1]) {
+        start -= 1;
+    }
+    start
+}
+
+/// Passes the bytes of a section and the spaces after it, and answers what it says. All of them are kept in a row, and
 /// the spaces also alone.
 pub(crate) fn read_section<B: Board, S: Source>(
     source: &mut S,
@@ -39,13 +53,19 @@ pub(crate) fn read_section<B: Board, S: Source>(
 {
     dw_notation::laws::texts_of_tags_say();
     let mut reader = SectionReader::<B>::new();
-    'bytes: while let Some(byte) = buffer.peek(source)? {
-        if let Some(found) = reader.add(byte) {
-            return Ok(Some(found));
+    'pieces: loop {
+        buffer.fill(source)?;
+        let bytes = buffer.unread();
+        if bytes.is_empty() {
+            return Ok(reader.finish());
         }
-        row.push(byte)?;
-        keep_space(spaces, byte)?;
-        buffer.consume(1);
+        let end = reader.cut(bytes);
+        let count = end.unwrap_or(bytes.len());
+        row.extend(&bytes[..count])?;
+        keep_spaces(spaces, &bytes[..count])?;
+        buffer.consume(count);
+        if end.is_some() {
+            return Ok(reader.found());
+        }
     }
-    Ok(reader.finish())
 }

@@ -1,11 +1,11 @@
 -- Lemmas on what is held of a line: a line that is not held whole is too long, whatever follows.
 use Rattle.std.proofs.Common.{◌≡◌, ℕ, ◌==◌, ◌+◌, ◌-◌, ◌≤◌, inl, inr, List, ◌++◌, length, take, Bool, true, false, cond}
-use Rattle.std.proofs.Common.{min, slice_index, Some, Err, refl, sym, ap, ◌∙◌, subst, arith, length-append}
+use Rattle.std.proofs.Common.{min, slice_index, Some, Err, refl, sym, ap, ◌∙◌, arith, length-append}
 use Rattle.std.proofs.lemmas.List.{length-take-le, take_all}
 use Rattle.std.proofs.lemmas.Bool.{lt-ltb, cases_lt}
 use Rattle.dw_board.specs.Geometry.{Geometry}
 use Rattle.dw_notation.specs.TextLines.{without_return}
-use Rattle.dw_notation.specs.inner.TextLines.{text_found, line_of, line_found, SaysSame}
+use Rattle.dw_notation.specs.inner.TextLines.{line_of, line_found, SaysSame}
 use Rattle.dw_notation.specs.declared.problems.ProblemFault.TheVariants.{LineTooLong}
 use Rattle.dw_notation.proofs.MarkLemmas.{length-line_of}
 

@@ -1,6 +1,6 @@
 -- Lemmas on the numbers of problems.
-use Rattle.std.proofs.Common.{◌≡◌, ℕ, ◌+◌, ◌<◌, ◌≤◌, List, [], ◌∷◌, Err, nat_lt, nat_le, if◌then◌else◌, cond, refl, arith, inl, inr}
-use Rattle.std.proofs.lemmas.Bool.{cases_lt, lt-ltb, le-ltb, le-leb, ne_eqb, cond-true}
+use Rattle.std.proofs.Common.{◌≡◌, ℕ, ◌+◌, ◌<◌, ◌≤◌, List, [], ◌∷◌, Err, nat_lt, if◌then◌else◌, refl, arith, inl, inr}
+use Rattle.std.proofs.lemmas.Bool.{cases_lt, lt-ltb, le-ltb, ne_eqb}
 use Rattle.dw_notation.specs.TextLines.{Found}
 use Rattle.dw_notation.specs.Problems.{number_from, numbered}
 use Rattle.dw_notation.specs.declared.problems.TheConstants.{MAX_PROBLEMS}
@@ -33,8 +33,3 @@ number_from-over handed (f ∷ found) h = rw (
   le-ltb handed 1000000 (omega arith),
   ne_eqb handed 1000000 (λ e. omega (arith, e)),
 ) refl
-
--- one more is handed out, as long as the last was not
-pub one_more : (handed : ℕ) → handed ≤ MAX_PROBLEMS → cond (nat_le handed MAX_PROBLEMS) (handed + 1) handed
-    ≡ handed + 1
-one_more handed few = cond-true _ (handed + 1) handed (le-leb handed MAX_PROBLEMS few)

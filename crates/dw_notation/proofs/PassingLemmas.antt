@@ -1,14 +1,13 @@
 -- Bytes outside sections that are passed over at once.
-use Rattle.std.proofs.Common.{◌≡◌, ℕ, ◌+◌, ◌<◌, ◌≤◌, ◌==◌, List, [], ◌∷◌, ◌++◌, length, take, drop, Bool, true, false}
-use Rattle.std.proofs.Common.{not, cond, slice_index, refl, sym, ap, ◌∙◌, subst, arith, unwrap_or}
+use Rattle.std.proofs.Common.{◌≡◌, ℕ, ◌≤◌, ◌==◌, List, [], ◌∷◌, ◌++◌, length, take, Bool, true, false}
+use Rattle.std.proofs.Common.{not, cond, refl, sym, ap, ◌∙◌, subst, arith, unwrap_or}
 use Rattle.std.proofs.lemmas.Bool.{and_parts, and_from, not-true, or_parts}
-use Rattle.std.proofs.lemmas.List.{take_more, take_all}
 use Rattle.std.proofs.lemmas.List.Sums.{prefix_len-le-length, take_while-cons}
 use Rattle.std.specs.List.{list_all, position, take_while}
 use Rattle.dw_board.specs.Geometry.{Geometry}
 use Rattle.dw_notation.specs.inner.Sections.{transition, at, found_by}
 use Rattle.dw_notation.specs.inner.HeldSection.{Held, held_after, held_found, held_from}
-use Rattle.dw_notation.specs.inner.Tags.{opens, closes, passes}
+use Rattle.dw_notation.specs.inner.Tags.{passes}
 use Rattle.dw_notation.proofs.CutLemmas.{first_or_all}
 use Rattle.dw_notation.specs.declared.problems.pdn.automaton.State.{State}
 use Rattle.dw_notation.specs.declared.problems.pdn.automaton.State.TheVariants.{Outside, Comment, Between}

@@ -1,9 +1,10 @@
--- Bytes without a section, read one by one.
-use Rattle.std.specs.Prelude.{◌≡◌, ◌==◌, ◌&&◌, ℕ, not, if◌then◌else◌, List, [], ◌∷◌, ◌++◌, drop, Bool, true, false}
+-- Bytes without a section.
+use Rattle.std.specs.Prelude.{◌≡◌, ℕ, if◌then◌else◌, List, [], ◌∷◌, ◌++◌, drop, Bool, true, false}
 use Rattle.std.specs.Prelude.{Option, Result, Err, OnOk, IfOk}
 use Rattle.dw_board.specs.Geometry.{Geometry}
-use Rattle.dw_notation.specs.Tags.{open_bracket, open_brace, close_brace}
-use Rattle.dw_notation.specs.WholeTexts.{IsOpen}
+use Rattle.dw_notation.specs.Tags.{open_bracket, close_brace}
+use Rattle.dw_notation.specs.WholeTexts.{IsOpen, in_comment}
+use Rattle.dw_notation.specs.declared.problems.section_finder.SectionFinder.{SectionFinder}
 use Rattle.dw_notation.specs.declared.problems.ProblemFault.TheVariants.{UnclosedComment}
 use Rattle.dw_games.specs.Games.{Said, said_with, HasGames}
 use Rattle.dw_games.specs.GameReading.{is_failure}
@@ -13,12 +14,6 @@ use Rattle.dw_games.specs.declared.games.GameFault.{GameFault}
 use Rattle.dw_games.specs.declared.bounded_buf.BoundedBuf.{BoundedBuf}
 use Rattle.dw_games.specs.declared.play.PlayEnd.{PlayEnd}
 use Rattle.dw_games.specs.declared.play.PlayEnd.TheVariants.{Section, Text, Open}
-
-abbrev pub begins_section : Bool → ℕ → Bool
-begins_section is_comment byte = (byte == open_bracket) && not is_comment
-
-abbrev pub is_in_comment : Bool → ℕ → Bool
-is_in_comment was byte = if was then not (byte == close_brace) else (byte == open_brace)
 
 -- what a comment left open says
 abbrev pub unclosed : Said
@@ -40,6 +35,10 @@ abbrev pub Follows : Geometry → PlayEnd → List ℕ → List Said → Type 0
 Follows g Section text games = HasGames g text [] games
 Follows g Text text games = (text ≡ []) × (games ≡ [])
 Follows g Open text games = (text ≡ []) × (games ≡ unclosed ∷ [])
+
+-- what stands behind the bytes where the text ends
+abbrev pub end_of_text : SectionFinder → PlayEnd
+end_of_text finder = if in_comment finder then Open else Text
 
 -- what is known where bytes without a section end
 abbrev pub EndsAt : {S : Type 0} → PlayEnd → Input S → Type 0

@@ -1,4 +1,4 @@
--- A section, read byte by byte.
+-- A section, read piece by piece.
 use Rattle.std.specs.Prelude.{◌≡◌, ◌==◌, ◌<◌, ◌||◌, ◌⊎◌, not, ℕ, List, [], ◌∷◌, ◌++◌, length, Bool, true, false}
 use Rattle.std.specs.Prelude.{Option, Result, Ok, Err, OnOk, IfOk, MatchOption}
 use Rattle.std.specs.List.{list_all}

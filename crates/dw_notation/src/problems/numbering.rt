@@ -1,5 +1,5 @@
 //! The numbers of problems.
-ghost use Rattle.std.specs.Prelude.{◌≡◌, ◌+◌, ◌<◌, ◌≤◌, MatchBool, Err, nat_le, nat_lt, if◌then◌else◌};
+ghost use Rattle.std.specs.Prelude.{◌≡◌, ◌+◌, ◌<◌, ◌≤◌, MatchBool, Err, nat_lt, if◌then◌else◌};
 ghost use Rattle.dw_notation.specs.declared.problems.ProblemFault.TheVariants.{TooManyProblems};
 
 use super::{MAX_PROBLEMS, Problem, ProblemFault};
@@ -34,8 +34,8 @@ impl Numbering {
     /// The next problem, which says this, or that it is one too many. After the last one it is that one again.
     /// Example: of a new one it has the number 1, and says what is given.
     pub fn hand_out<B: Board>(&mut self, found: Result<Position<B>, ProblemFault>) -> Problem<B>
-        ensures handed { handed_out self.new
-            ≡ (if nat_le (handed_out self.old) MAX_PROBLEMS then handed_out self.old + 1 else handed_out self.old) }
+        ensures more { handed_out self.old ≤ MAX_PROBLEMS → handed_out self.new ≡ handed_out self.old + 1 }
+        ensures last { MAX_PROBLEMS < handed_out self.old → handed_out self.new ≡ handed_out self.old }
         ensures number { result.number ≡ handed_out self.new }
         ensures found { result.found
             ≡ (if nat_lt (handed_out self.old) MAX_PROBLEMS then found else Err TooManyProblems) }

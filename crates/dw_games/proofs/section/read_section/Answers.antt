@@ -1,66 +1,107 @@
-use Rattle.std.proofs.Common.{refl}
+use Rattle.std.proofs.Common.{◌≡◌, ◌+◌, ◌<◌, ◌++◌, ◌∷◌, ℕ, List, Bool, Some, [], false, length, take, drop, slice_index, refl}
+use Rattle.std.proofs.Common.{sym, ap, subst, ◌∙◌, arith}
+use Rattle.std.proofs.lemmas.Bool.{eqb-true}
+use Rattle.std.proofs.lemmas.List.{nil_from_length, take_all, take_more, drop_more}
 use Rattle.std.proofs.lemmas.Result.{err_from_is_err_and}
-use Rattle.dw_notation.specs.Buffering.{input_of}
+use Rattle.dw_notation.specs.Buffering.{Passes, unread_in, input_of}
+use Rattle.dw_notation.specs.TextLines.{Found}
+use Rattle.dw_notation.specs.inner.Readers.{ahead_of, cut_of}
 use Rattle.dw_games.specs.declared.games.GameFault.TheVariants.{Failed}
-use Rattle.dw_games.proofs.InputLemmas.{Passes-refl, Passes-byte}
-use Rattle.dw_games.proofs.ReadLemmas.{ReadsOn-peek, ReadsOn-byte, ReadsOn-cut, ReadsOn-last}
+use Rattle.dw_games.proofs.InputLemmas.{Passes-refl, Passes-piece, found_at, none_found, begins}
+use Rattle.dw_games.proofs.ReadLemmas.{ReadsOn-fill, ReadsOn-piece, ReadsOn-cut, ReadsOn-last}
 use Rattle.dw_games.proofs.ReadLemmas.{ReadsOn-fault}
 use Rattle.dw_games.proofs.section.read_section.Goals as goal
 
-pub returns-in_err-byte : goal.returns-in_err-byte
-returns-in_err-byte g c =
+pub returns-in_err-fill : goal.returns-in_err-fill
+returns-in_err-fill g c =
     let s = g.S.Source in
     let e = err_from_is_err_and c.from_residual.result c.from_residual.ensures.1 in
-    rw (e.1, e.2) (ReadsOn-fault g.B.Board.geometry s.coming s.has_ended s.is_failed s.pulls_left _ (input_of c.bytes.source c.bytes.buffer) _ _
-    c.bytes.row _ _ c.bytes.spaces _ c.bytes.reader Failed c.bytes.invariant c.in_err-byte.ensures.passes)
+    rw (e.1, e.2) (ReadsOn-fault g.B.Board.geometry s.coming s.has_ended s.is_failed s.pulls_left _
+    (input_of c.pieces.source c.pieces.buffer) _ _ c.pieces.row _ _ c.pieces.spaces _ c.pieces.reader Failed
+    c.pieces.invariant c.in_err-fill.ensures.passes)
 
-pub returns-in-Some-add : goal.returns-in-Some-add
-returns-in-Some-add g c =
+pub returns-then-is_empty : goal.returns-then-is_empty
+returns-then-is_empty g c =
     let s = g.S.Source in
-    ReadsOn-cut g.B.Board.geometry s.coming s.has_ended s.is_failed s.pulls_left c.texts_of_tags_say.ensures _
-    (input_of c.peek.new.source c.peek.new.self) _ c.bytes.row _ c.bytes.spaces c.bytes.reader c.add.new.self c.in-Some.byte c.add.result c.in-Some-add.found
-    (ReadsOn-peek g.B.Board.geometry s.coming s.has_ended s.is_failed s.pulls_left _ (input_of c.bytes.source c.bytes.buffer) _ _ _ _ _
-    c.bytes.reader c.bytes.invariant c.in_ok-byte.ensures.passes)
-    c.requires (rw c.in-Some.is at c.in_ok-byte.ensures.next) c.add.ensures.said c.in-Some-add.is
-
-pub returns-in_err-push : goal.returns-in_err-push
-returns-in_err-push g c =
-    let s = g.S.Source in
-    let e = err_from_is_err_and c.from_residual-in_err-push.result c.from_residual-in_err-push.ensures.1 in
-    rw (e.1, e.2) (ReadsOn-fault g.B.Board.geometry s.coming s.has_ended s.is_failed s.pulls_left _ (input_of c.peek.new.source c.peek.new.self) _ _
-    c.bytes.row _ _ c.bytes.spaces _ c.bytes.reader _
-    (ReadsOn-peek g.B.Board.geometry s.coming s.has_ended s.is_failed s.pulls_left _ (input_of c.bytes.source c.bytes.buffer) _ _ _ _ _
-    c.bytes.reader c.bytes.invariant c.in_ok-byte.ensures.passes)
-    (Passes-refl s.coming s.has_ended s.is_failed s.pulls_left (input_of c.peek.new.source c.peek.new.self)))
-
-pub returns-in_err-keep_space : goal.returns-in_err-keep_space
-returns-in_err-keep_space g c =
-    let s = g.S.Source in
-    let e = err_from_is_err_and c.from_residual-in_err-keep_space.result c.from_residual-in_err-keep_space.ensures.1 in
-    rw (e.1, e.2) (ReadsOn-fault g.B.Board.geometry s.coming s.has_ended s.is_failed s.pulls_left _ (input_of c.peek.new.source c.peek.new.self) _ _
-    c.bytes.row _ _ c.bytes.spaces _ c.bytes.reader _
-    (ReadsOn-peek g.B.Board.geometry s.coming s.has_ended s.is_failed s.pulls_left _ (input_of c.bytes.source c.bytes.buffer) _ _ _ _ _
-    c.bytes.reader c.bytes.invariant c.in_ok-byte.ensures.passes)
-    (Passes-refl s.coming s.has_ended s.is_failed s.pulls_left (input_of c.peek.new.source c.peek.new.self)))
-
-pub bytes-preserved : goal.bytes-preserved
-bytes-preserved g c =
-    let s = g.S.Source in
-    let pass = c.consume.ensures in
-    ReadsOn-byte g.B.Board.geometry s.coming s.has_ended s.is_failed s.pulls_left _ (input_of c.peek.new.source c.peek.new.self) (input_of c.peek.new.source c.consume.new.self) _
-    c.bytes.row c.push.new.self _ c.bytes.spaces c.keep_space.new.spaces c.bytes.reader c.add.new.self c.in-Some.byte c.add.result
-    (ReadsOn-peek g.B.Board.geometry s.coming s.has_ended s.is_failed s.pulls_left _ (input_of c.bytes.source c.bytes.buffer) _ _ _ _ _
-    c.bytes.reader c.bytes.invariant c.in_ok-byte.ensures.passes)
-    (rw c.in-Some.is at c.in_ok-byte.ensures.next) c.add.ensures.said c.add.ensures.begun c.in_default-add.is
-    c.in_ok-push.ensures c.in_ok-keep_space.ensures
-    (Passes-byte s.coming s.has_ended s.is_failed s.pulls_left (input_of c.peek.new.source c.peek.new.self) (input_of c.peek.new.source c.consume.new.self) refl
-    pass.met_end pass.unread)
-
-pub returns : goal.returns
-returns g c =
-    let s = g.S.Source in
+    let none : unread_in c.fill.new.self ≡ [] =
+    sym c.unread-bytes.ensures ∙ nil_from_length c.unread-bytes.result.now
+    (eqb-true _ 0 (sym c.is_empty.ensures ∙ c.if-is_empty.true)) in
     ReadsOn-last g.B.Board.geometry s.coming s.has_ended s.is_failed s.pulls_left c.texts_of_tags_say.ensures _
-    (input_of c.peek.new.source c.peek.new.self) _ c.bytes.row _ c.bytes.spaces c.bytes.reader c.finish.result
-    (ReadsOn-peek g.B.Board.geometry s.coming s.has_ended s.is_failed s.pulls_left _ (input_of c.bytes.source c.bytes.buffer) _ _ _ _ _
-    c.bytes.reader c.bytes.invariant c.in_ok-byte.ensures.passes)
-    c.requires (rw c.in_default.is at c.in_ok-byte.ensures.next) c.finish.ensures
+    (input_of c.fill.new.source c.fill.new.self) _ c.pieces.row _ c.pieces.spaces c.pieces.reader c.finish.result
+    (ReadsOn-fill g.B.Board.geometry s.coming s.has_ended s.is_failed s.pulls_left _
+    (input_of c.pieces.source c.pieces.buffer) _ _ _ _ _ c.pieces.reader c.pieces.invariant c.in_ok-fill.ensures.passes)
+    c.requires (none, c.in_ok-fill.ensures.more none) c.finish.ensures
+
+pub returns-in_err-extend : goal.returns-in_err-extend
+returns-in_err-extend g c =
+    let s = g.S.Source in
+    let e = err_from_is_err_and c.from_residual-in_err-extend.result c.from_residual-in_err-extend.ensures.1 in
+    rw (e.1, e.2) (ReadsOn-fault g.B.Board.geometry s.coming s.has_ended s.is_failed s.pulls_left _
+    (input_of c.fill.new.source c.fill.new.self) _ _ c.pieces.row _ _ c.pieces.spaces _ c.pieces.reader _
+    (ReadsOn-fill g.B.Board.geometry s.coming s.has_ended s.is_failed s.pulls_left _
+    (input_of c.pieces.source c.pieces.buffer) _ _ _ _ _ c.pieces.reader c.pieces.invariant c.in_ok-fill.ensures.passes)
+    (Passes-refl s.coming s.has_ended s.is_failed s.pulls_left (input_of c.fill.new.source c.fill.new.self)))
+
+pub returns-in_err-keep_spaces : goal.returns-in_err-keep_spaces
+returns-in_err-keep_spaces g c =
+    let s = g.S.Source in
+    let e = err_from_is_err_and c.from_residual-in_err-keep_spaces.result c.from_residual-in_err-keep_spaces.ensures.1 in
+    rw (e.1, e.2) (ReadsOn-fault g.B.Board.geometry s.coming s.has_ended s.is_failed s.pulls_left _
+    (input_of c.fill.new.source c.fill.new.self) _ _ c.pieces.row _ _ c.pieces.spaces _ c.pieces.reader _
+    (ReadsOn-fill g.B.Board.geometry s.coming s.has_ended s.is_failed s.pulls_left _
+    (input_of c.pieces.source c.pieces.buffer) _ _ _ _ _ c.pieces.reader c.pieces.invariant c.in_ok-fill.ensures.passes)
+    (Passes-refl s.coming s.has_ended s.is_failed s.pulls_left (input_of c.fill.new.source c.fill.new.self)))
+
+pub returns-then-is_some : goal.returns-then-is_some
+returns-then-is_some g c =
+    let s = g.S.Source in
+    let board = g.B.Board.geometry in
+    let bytes = c.unread-bytes.result.now in
+    let count = c.unwrap_or-count.result in
+    let mid = input_of c.fill.new.source c.fill.new.self in
+    let new = input_of c.fill.new.source c.consume.new.self in
+    let old = c.pieces.reader in
+    let next = c.cut-end.new.self in
+    let here = found_at (λ k. (found : Found) × (k < length bytes) × (cut_of next board ≡ Some found)
+    × (ahead_of old board false (take k bytes) ≡ [])
+    × ((over : Bool) (more : List ℕ) → ahead_of old board over (take (k + 1) bytes ++ more)
+    ≡ found ∷ ahead_of next board over more))
+    c.cut-end.result count (length bytes) c.unwrap_or-count.ensures (sym c.is_some.ensures ∙ c.if-is_some.true)
+    c.cut-end.ensures.some in
+    let byte = slice_index bytes count in
+    let rest : drop count bytes ≡ new.unread =
+    ap (drop count) c.unread-bytes.ensures ∙ sym c.consume.ensures.unread in
+    ReadsOn-cut board s.coming s.has_ended s.is_failed s.pulls_left c.texts_of_tags_say.ensures _ mid new _ c.pieces.row
+    c.extend.new.self _ c.pieces.spaces c.keep_spaces.new.spaces old next (take count bytes) byte c.found.result here.0
+    (ReadsOn-fill board s.coming s.has_ended s.is_failed s.pulls_left _
+    (input_of c.pieces.source c.pieces.buffer) _ _ _ _ _ old c.pieces.invariant c.in_ok-fill.ensures.passes)
+    c.requires (begins new.unread _ (sym rest ∙ drop_more bytes count 0 here.1)) here.3
+    (λ over more. ap (λ l. ahead_of old board over (l ++ more)) (sym (take_more bytes count 0 here.1)) ∙ here.4 over more)
+    c.in_ok-extend.ensures c.in_ok-keep_spaces.ensures
+    (subst (λ l. Passes s.coming s.has_ended s.is_failed s.pulls_left mid new (take count l) false) (sym c.unread-bytes.ensures)
+    (Passes-piece s.coming s.has_ended s.is_failed s.pulls_left mid new count refl c.consume.ensures.met_end
+    c.consume.ensures.unread))
+    (c.found.ensures ∙ here.2)
+
+pub pieces-preserved : goal.pieces-preserved
+pieces-preserved g c =
+    let s = g.S.Source in
+    let board = g.B.Board.geometry in
+    let bytes = c.unread-bytes.result.now in
+    let count = c.unwrap_or-count.result in
+    let mid = input_of c.fill.new.source c.fill.new.self in
+    let new = input_of c.fill.new.source c.consume.new.self in
+    let old = c.pieces.reader in
+    let next = c.cut-end.new.self in
+    let all = none_found c.cut-end.result count (length bytes) c.unwrap_or-count.ensures
+    (sym c.is_some.ensures ∙ c.if-is_some.false) c.cut-end.ensures.none in
+    let whole : take count bytes ≡ bytes = take_all count bytes (omega (arith, all.0)) in
+    ReadsOn-piece board s.coming s.has_ended s.is_failed s.pulls_left _ mid new _ c.pieces.row c.extend.new.self _
+    c.pieces.spaces c.keep_spaces.new.spaces old next (take count bytes)
+    (ReadsOn-fill board s.coming s.has_ended s.is_failed s.pulls_left _
+    (input_of c.pieces.source c.pieces.buffer) _ _ _ _ _ old c.pieces.invariant c.in_ok-fill.ensures.passes)
+    (λ over more. ap (λ l. ahead_of old board over (l ++ more)) whole ∙ all.1 over more) c.cut-end.ensures.begun
+    c.in_ok-extend.ensures c.in_ok-keep_spaces.ensures
+    (subst (λ l. Passes s.coming s.has_ended s.is_failed s.pulls_left mid new (take count l) false) (sym c.unread-bytes.ensures)
+    (Passes-piece s.coming s.has_ended s.is_failed s.pulls_left mid new count refl c.consume.ensures.met_end
+    c.consume.ensures.unread))

@@ -1,4 +1,4 @@
-use Rattle.std.proofs.Common.{◌++◌}
+use Rattle.std.proofs.Common.{◌++◌, ◌∙◌}
 use Rattle.std.proofs.lemmas.Result.{err_from_is_err_and}
 use Rattle.dw_notation.specs.Buffering.{input_of}
 use Rattle.dw_games.proofs.InputLemmas.{Passes-trans}
@@ -33,5 +33,5 @@ returns-clause-reads g c =
     c.in_ok-scan_to_section.field-0
     (record { problem = c.hand_out-problem.result; tags = c.tags_if_valid-tags.result; movetext = c.into_bytes.result }) section
     c.in_ok-scan_to_section.ensures c.new-row.ensures c.tags_if_valid-tags.ensures c.new-spaces.ensures
-    c.movetext_if_valid-movetext.ensures c.into_bytes.ensures c.stage_behind-self.ensures c.requires.room number.handed
-    number.number number.found
+    c.movetext_if_valid-movetext.ensures c.into_bytes.ensures c.stage_behind-self.ensures c.requires.room
+    (number.more c.requires.room) (number.number ∙ number.more c.requires.room) number.found

@@ -1,4 +1,4 @@
-use Rattle.std.proofs.Common.{◌≡◌, ◌++◌, ◌+◌, ◌∙◌, [], drop, false, option_to_list, ap, sym}
+use Rattle.std.proofs.Common.{◌++◌, ◌+◌, ◌∙◌, [], drop, false, option_to_list, ap, sym}
 use Rattle.dw_notation.specs.inner.Ahead.{found_from}
 use Rattle.dw_notation.specs.inner.TextLines.{line_of, line_found}
 use Rattle.dw_notation.proofs.CutLemmas.{first_feed, no_feed, found_from-at, found_from-push}

@@ -1,4 +1,4 @@
-use Rattle.std.proofs.Common.{◌≡◌, ◌++◌, ◌-◌, length, take, min, subst, sym, rules, arith}
+use Rattle.std.proofs.Common.{◌≡◌, ◌++◌, take, subst, sym, rules, arith}
 use Rattle.dw_notation.specs.inner.TextLines.{SaysSame}
 use Rattle.dw_notation.proofs.LongLineLemmas.{SaysSame-held}
 use Rattle.dw_notation.proofs.problems.fens.TextLines.push.Goals as goal

@@ -25,8 +25,7 @@ returns-in-Open-clause-some c =
     let opens : (transition (state_of c.bytes.self.is_comment) byte).action ≡ Open =
     ap (λ s. (transition s byte).action) (sym c.state-in-bytes.ensures) ∙ ap (λ t. t.action) (sym c.transition-to.ensures)
     ∙ c.in-Open.is in
-    let begins = begins_section c.bytes.self.is_comment byte opens in
-    (
+    let begins = begins_section c.bytes.self.is_comment byte opens in (
       omega arith,
       begins.0,
       subst (λ b. IsBetween c.args.self.now.is_comment b (take c.bytes.at bytes)) begins.0 c.bytes.invariant.passed,

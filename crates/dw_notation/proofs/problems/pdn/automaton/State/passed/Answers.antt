@@ -1,4 +1,4 @@
-use Rattle.std.proofs.Common.{◌≡◌, ℕ, ap, sym, subst, true, ◌∙◌, length, take, unwrap_or}
+use Rattle.std.proofs.Common.{◌≡◌, ap, sym, subst, true, ◌∙◌, length, take, unwrap_or}
 use Rattle.std.specs.List.{list_all}
 use Rattle.dw_notation.specs.inner.Tags.{opens, closes, passes}
 use Rattle.dw_notation.proofs.PassingLemmas.{none_before}
