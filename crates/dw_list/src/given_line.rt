@@ -22,7 +22,7 @@ pub(crate) enum GivenLine<B: Board> {
 }
 
 /// Goes along a list of moves, level by level.
-pub(crate) fn followed<B: Board, M: Memo<B>, G: Guide<B>>(
+pub(crate) fn walk_along<B: Board, M: Memo<B>, G: Guide<B>>(
     alloc: Global,
     solver: &mut Solver<B, M, G>,
     position: &Position<B>,
@@ -42,7 +42,7 @@ pub(crate) fn followed<B: Board, M: Memo<B>, G: Guide<B>>(
     stack.keeps_its_levels();
     let mut place: usize = 1;
     'line: for mv in line {
-        let went = follow(alloc, solver, &mut stack, mv)?;
+        let went = descend(alloc, solver, &mut stack, mv)?;
         if !went {
             return Ok(GivenLine::Place(place));
         }
@@ -58,7 +58,7 @@ pub(crate) fn followed<B: Board, M: Memo<B>, G: Guide<B>>(
 }
 
 /// Goes on with a move, if lines do so.
-fn follow<B: Board, M: Memo<B>, G: Guide<B>>(
+fn descend<B: Board, M: Memo<B>, G: Guide<B>>(
     alloc: Global,
     solver: &mut Solver<B, M, G>,
     stack: &mut Stack<B>,

@@ -6,7 +6,7 @@ ghost use Rattle.dw_solve.specs.Searching.{IsCounted};
 ghost use Rattle.dw_solve.specs.Work.{Searched};
 
 use crate::fault::AfterFault;
-use crate::given_line::{GivenLine, followed};
+use crate::given_line::{GivenLine, walk_along};
 use crate::stack::Stack;
 use crate::walk::walk;
 use dw_board::{Board, Position};
@@ -81,7 +81,7 @@ impl<'a, B: Board, M: Memo<B>, G: Guide<B>> Lister<'a, B, M, G> {
     {
         let position = *self.stack.position();
         let moves = self.stack.moves();
-        match followed(alloc, self.solver, &position, moves, line) {
+        match walk_along(alloc, self.solver, &position, moves, line) {
             Err(stop) => Err(AfterFault::Stopped(stop)),
             Ok(GivenLine::Place(place)) => Err(AfterFault::NotALine(place)),
             Ok(GivenLine::Along(stack)) => {

@@ -15,14 +15,14 @@ use dw_board::{Board, Dir, Kind, Position, Square, Squares};
 
 /// A capture so far: where it began, where it stands, what it has taken, and how many that are.
 #[derive(Drop)]
-struct Begun<B: Board> {
+struct Chain<B: Board> {
     from: Square<B>,
     at: Square<B>,
     taken: Squares<B>,
     count: u8,
 }
 
-impl<B: Board> Begun<B> {
+impl<B: Board> Chain<B> {
     /// One that has not jumped yet.
     #[inline(always)]
     fn on(from: Square<B>) -> Self
@@ -31,7 +31,7 @@ impl<B: Board> Begun<B> {
         ensures taken { result.taken ≡ set.empty }
         ensures count { result.count ≡ 0 }
     {
-        Begun {
+        Chain {
             from,
             at: from,
             taken: Squares::none(),
@@ -48,7 +48,7 @@ impl<B: Board> Begun<B> {
         ensures taken { result.taken ≡ set.insert self.now.taken over }
         ensures count { result.count ≡ self.now.count + 1 }
     {
-        Begun {
+        Chain {
             from: self.from,
             at: landing,
             taken: self.taken.with(over),
@@ -120,12 +120,12 @@ fn walk_from<B: Board, K: Keeper<B>>(
         field.now.occupied → Offers K.holds (Begins B.geometry p direction from) keeper.old keeper.new) }
 {
     let behind = field.without(from);
-    let begun = Begun::on(from);
+    let chain = Chain::on(from);
     keeper.begin(&from);
     if field.men.has(from) {
-        walk_towards::<B, Stepper, K>(&behind, &begun, direction, keeper)
+        walk_towards::<B, Stepper, K>(&behind, &chain, direction, keeper)
     } else if field.kings.has(from) {
-        walk_towards::<B, Slider, K>(&behind, &begun, direction, keeper)
+        walk_towards::<B, Slider, K>(&behind, &chain, direction, keeper)
     } else {
         Ok(())
     }
@@ -135,24 +135,24 @@ fn walk_from<B: Board, K: Keeper<B>>(
 #[cycle(walk)]
 fn walk<B: Board, M: Mover<B>, K: Keeper<B>>(
     field: &Field<B>,
-    begun: &Begun<B>,
+    chain: &Chain<B>,
     keeper: &mut K,
 ) -> Result<(), K::Fault>
-    requires on_board { OnBoard B.geometry begun.now.at }
-    requires few { begun.now.count + set.len (set.difference field.now.enemies begun.now.taken) ≤ 20 }
-    requires counted { begun.now.count ≡ set.len begun.now.taken }
-    requires path { (path : List ℕ) × (K.is_on keeper.old path × (length path ≡ begun.now.count + 1)) }
+    requires on_board { OnBoard B.geometry chain.now.at }
+    requires few { chain.now.count + set.len (set.difference field.now.enemies chain.now.taken) ≤ 20 }
+    requires counted { chain.now.count ≡ set.len chain.now.taken }
+    requires path { (path : List ℕ) × (K.is_on keeper.old path × (length path ≡ chain.now.count + 1)) }
     ensures kept { OnOk result ((p : Placement) (side : Side) (path : List ℕ)
         → IsGround B.geometry p side field.now.enemies field.now.occupied → K.is_on keeper.old path
         → Offers K.holds (GoesOn B.geometry p (record { side = side; kind = M.as_kind })
-        (so_far begun.now.from begun.now.at begun.now.taken path)) keeper.old keeper.new) }
+        (so_far chain.now.from chain.now.at chain.now.taken path)) keeper.old keeper.new) }
     ensures on { OnOk result ((path : List ℕ) → K.is_on keeper.old path → K.is_on keeper.new path) }
 {
-    walk_towards::<B, M, K>(field, begun, Dir::UpLeft, keeper)?;
-    walk_towards::<B, M, K>(field, begun, Dir::UpRight, keeper)?;
-    walk_towards::<B, M, K>(field, begun, Dir::DownLeft, keeper)?;
-    walk_towards::<B, M, K>(field, begun, Dir::DownRight, keeper)?;
-    keeper.offer(&begun.ended(), begun.count)
+    walk_towards::<B, M, K>(field, chain, Dir::UpLeft, keeper)?;
+    walk_towards::<B, M, K>(field, chain, Dir::UpRight, keeper)?;
+    walk_towards::<B, M, K>(field, chain, Dir::DownLeft, keeper)?;
+    walk_towards::<B, M, K>(field, chain, Dir::DownRight, keeper)?;
+    keeper.offer(&chain.ended(), chain.count)
 }
 
 /// Offers those that go on in one direction: over the enemy that is met, onto the square behind it, or for a king onto
@@ -161,29 +161,29 @@ fn walk<B: Board, M: Mover<B>, K: Keeper<B>>(
 #[inline(always)]
 fn walk_towards<B: Board, M: Mover<B>, K: Keeper<B>>(
     field: &Field<B>,
-    begun: &Begun<B>,
+    chain: &Chain<B>,
     direction: Dir,
     keeper: &mut K,
 ) -> Result<(), K::Fault>
-    requires on_board { OnBoard B.geometry begun.now.at }
-    requires few { begun.now.count + set.len (set.difference field.now.enemies begun.now.taken) ≤ 20 }
-    requires counted { begun.now.count ≡ set.len begun.now.taken }
-    requires path { (path : List ℕ) × (K.is_on keeper.old path × (length path ≡ begun.now.count + 1)) }
+    requires on_board { OnBoard B.geometry chain.now.at }
+    requires few { chain.now.count + set.len (set.difference field.now.enemies chain.now.taken) ≤ 20 }
+    requires counted { chain.now.count ≡ set.len chain.now.taken }
+    requires path { (path : List ℕ) × (K.is_on keeper.old path × (length path ≡ chain.now.count + 1)) }
     ensures kept { OnOk result ((p : Placement) (side : Side) (path : List ℕ)
         → IsGround B.geometry p side field.now.enemies field.now.occupied → K.is_on keeper.old path
         → Offers K.holds (GoesTowards B.geometry p (record { side = side; kind = M.as_kind })
-        (so_far begun.now.from begun.now.at begun.now.taken path) direction) keeper.old keeper.new) }
+        (so_far chain.now.from chain.now.at chain.now.taken path) direction) keeper.old keeper.new) }
     ensures on { OnOk result ((path : List ℕ) → K.is_on keeper.old path → K.is_on keeper.new path) }
 {
-    let Some(over) = M::met(field, &begun.at, direction) else {
+    let Some(over) = M::met(field, &chain.at, direction) else {
         return Ok(());
     };
-    if begun.taken.has(over) {
+    if chain.taken.has(over) {
         return Ok(());
     }
     let mut at = over;
     'landings: while let Some(landing) = free_step(field.occupied, at, direction) {
-        walk_onto::<B, M, K>(field, &begun.onto(over, landing), keeper)?;
+        walk_onto::<B, M, K>(field, &chain.onto(over, landing), keeper)?;
         match M::kind() {
             Kind::Man => break,
             Kind::King => at = landing,
@@ -198,24 +198,24 @@ fn walk_towards<B: Board, M: Mover<B>, K: Keeper<B>>(
 #[inline(always)]
 fn walk_onto<B: Board, M: Mover<B>, K: Keeper<B>>(
     field: &Field<B>,
-    begun: &Begun<B>,
+    chain: &Chain<B>,
     keeper: &mut K,
 ) -> Result<(), K::Fault>
-    requires on_board { OnBoard B.geometry begun.now.at }
-    requires few { begun.now.count + set.len (set.difference field.now.enemies begun.now.taken) ≤ 20 }
-    requires counted { begun.now.count ≡ set.len begun.now.taken }
-    requires path { (path : List ℕ) × (K.is_on keeper.old path × (length path ≡ begun.now.count)) }
+    requires on_board { OnBoard B.geometry chain.now.at }
+    requires few { chain.now.count + set.len (set.difference field.now.enemies chain.now.taken) ≤ 20 }
+    requires counted { chain.now.count ≡ set.len chain.now.taken }
+    requires path { (path : List ℕ) × (K.is_on keeper.old path × (length path ≡ chain.now.count)) }
     ensures kept { OnOk result ((p : Placement) (side : Side) (path : List ℕ)
         → IsGround B.geometry p side field.now.enemies field.now.occupied → K.is_on keeper.old path
         → Offers K.holds (GoesOn B.geometry p (record { side = side; kind = M.as_kind })
-        (so_far begun.now.from begun.now.at begun.now.taken (path ++ begun.now.at ∷ []))) keeper.old keeper.new) }
+        (so_far chain.now.from chain.now.at chain.now.taken (path ++ chain.now.at ∷ []))) keeper.old keeper.new) }
     ensures on { OnOk result ((path : List ℕ) → K.is_on keeper.old path → K.is_on keeper.new path) }
 {
-    keeper.enter(&begun.at);
-    if M::goes_on(field, &begun.at, &begun.taken) {
-        walk::<B, M, K>(field, begun, keeper)?;
+    keeper.enter(&chain.at);
+    if M::goes_on(field, &chain.at, &chain.taken) {
+        walk::<B, M, K>(field, chain, keeper)?;
     } else {
-        keeper.offer(&begun.ended(), begun.count)?;
+        keeper.offer(&chain.ended(), chain.count)?;
     }
     keeper.leave();
     Ok(())

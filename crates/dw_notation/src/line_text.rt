@@ -46,7 +46,7 @@ impl<B: Board> Default for WrittenMove<B> {
     }
 }
 
-/// The text of a line, kept beside its moves. See [`LineText::follow`] for an example.
+/// The text of a line, kept beside its moves. See [`LineText::switch_to`] for an example.
 #[derive(Drop)]
 pub struct LineText<B: Board> {
     start: Position<B>,
@@ -86,7 +86,7 @@ impl<B: Board> LineText<B> {
     /// Goes over to a line of at most 39 moves, each legal after those before it. Only what comes after the moves that
     /// both lines begin with is written anew. If out of memory, the text is that of some first moves of the line.
     /// Example: after the line `1. 32-28 18-22 2. 27x18` the text of `1. 32-28 18-22 2. 28x17` takes one more word.
-    pub fn follow(&mut self, alloc: Global, line: &[Move<B>]) -> Result<(), AllocError>
+    pub fn switch_to(&mut self, alloc: Global, line: &[Move<B>]) -> Result<(), AllocError>
         requires few { length line.now ≤ 39 }
         requires legal { ArePlayable B.geometry self.old.start line.now }
         ensures start { self.new.start ≡ self.old.start }
@@ -196,7 +196,7 @@ pub fn line_text<B: Board>(
     ensures { IfOk result (λ text. IsLineText B.geometry position.now moves.now text.bytes) }
 {
     let mut text = LineText::new(position);
-    text.follow(alloc, moves)?;
+    text.switch_to(alloc, moves)?;
     Ok(text.text)
 }
 

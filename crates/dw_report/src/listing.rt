@@ -234,7 +234,7 @@ fn write_row<B: Board, K: Sink>(
     ensures memory { (why : Stop) → result ≡ Err (because.Stopped why) → why ≡ Stop.Memory }
 {
     dw_notation::laws::lines_have_texts();
-    text.follow(alloc, line)?;
+    text.switch_to(alloc, line)?;
     fill_row(row, text);
     write_all(sink, row.as_str().as_bytes())?;
     Ok(())

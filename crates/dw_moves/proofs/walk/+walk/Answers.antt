@@ -23,7 +23,7 @@ use Rattle.dw_moves.proofs.walk.+walk.Goals.{walk_towards-in_default-free_step}
 pub walk-returns-clause-kept : goal.walk-returns-clause-kept
 walk-returns-clause-kept g t c =
     let holds = g.K.Keeper.holds in
-    let b0 = c.args.begun.now in
+    let b0 = c.args.chain.now in
     on_ok_weaker c.offer.result (λ kept p side path ground on.
     let b : Listed = so_far b0.from b0.at b0.taken path in
     let on1 = c.in_ok-walk_towards.ensures.on path on in
@@ -42,7 +42,7 @@ walk-returns-clause-kept g t c =
 pub walk_onto-returns-clause-kept : goal.walk_onto-returns-clause-kept
 walk_onto-returns-clause-kept g t c = λ p side path ground on.
     let holds = g.K.Keeper.holds in
-    let b0 = c.args.begun.now in
+    let b0 = c.args.chain.now in
     let here : List ℕ = path ++ b0.at ∷ [] in
     let b : Listed = so_far b0.from b0.at b0.taken here in
     let E : Listed → Type 0 = GoesOn g.B.Board.geometry p (record { side = side; kind = g.M.Mover.as_kind }) b in
@@ -77,7 +77,7 @@ walk_towards-landings-init g t c = record {
 
 pub walk_towards-onto-requires : goal.walk_towards-onto-requires
 walk_towards-onto-requires g t c =
-    let less = difference_less c.args.field.now.enemies c.args.begun.now.taken c.in-Some.over c.in-Some.ensures.enemy
+    let less = difference_less c.args.field.now.enemies c.args.chain.now.taken c.in-Some.over c.in-Some.ensures.enemy
     (sym c.has.ensures ∙ c.if-has.false) in
     omega (arith, less, c.requires.few)
 
@@ -85,13 +85,13 @@ pub walk_towards-walk_onto-requires : goal.walk_towards-walk_onto-requires
 walk_towards-walk_onto-requires g t c κs within =
     let geo = g.B.Board.geometry in
     let enemies = c.args.field.now.enemies in
-    let fresh : fin.contains c.args.begun.now.taken c.in-Some.over ≡ false = sym c.has.ensures ∙ c.if-has.false in
-    let less = difference_less enemies c.args.begun.now.taken c.in-Some.over c.in-Some.ensures.enemy fresh in
+    let fresh : fin.contains c.args.chain.now.taken c.in-Some.over ≡ false = sym c.has.ensures ∙ c.if-has.false in
+    let less = difference_less enemies c.args.chain.now.taken c.in-Some.over c.in-Some.ensures.enemy fresh in
     let left : fin.len (fin.difference enemies c.onto.result.taken)
-    ≡ fin.len (fin.difference enemies (fin.insert c.args.begun.now.taken c.in-Some.over)) =
+    ≡ fin.len (fin.difference enemies (fin.insert c.args.chain.now.taken c.in-Some.over)) =
     ap (λ v. fin.len (fin.difference enemies v)) c.onto.ensures.taken in
-    let more : fin.len c.onto.result.taken ≡ fin.len c.args.begun.now.taken + 1 = ap fin.len c.onto.ensures.taken
-    ∙ len_more c.args.begun.now.taken c.in-Some.over fresh in
+    let more : fin.len c.onto.result.taken ≡ fin.len c.args.chain.now.taken + 1 = ap fin.len c.onto.ensures.taken
+    ∙ len_more c.args.chain.now.taken c.in-Some.over fresh in
     let on : OnBoard geo c.in-Some-free_step.landing = (step_is geo g.met.B.Board.numbers c.landings.at
     c.in-Some-free_step.landing c.args.direction c.landings.invariant.on c.in-Some-free_step.ensures.steps).on in
     let count = c.onto.ensures.count in
@@ -131,7 +131,7 @@ walk_towards-landings-smaller g t c = ray_shorter g.B.Board.geometry g.met.B.Boa
 pub walk_towards-landings-preserved : goal.walk_towards-landings-preserved
 walk_towards-landings-preserved g t c =
     let geo = g.B.Board.geometry in
-    let b0 = c.args.begun.now in
+    let b0 = c.args.chain.now in
     let landing = c.in-Some-free_step.landing in
     let inv = c.landings.invariant in
     record {
@@ -153,7 +153,7 @@ pub walk_towards-returns-clause-kept : goal.walk_towards-returns-clause-kept
 walk_towards-returns-clause-kept g t c = λ p side path ground on.
     let geo = g.B.Board.geometry in
     let holds = g.K.Keeper.holds in
-    let b0 = c.args.begun.now in
+    let b0 = c.args.chain.now in
     let piece : Piece = record { side = side; kind = g.M.Mover.as_kind } in
     let b : Listed = so_far b0.from b0.at b0.taken path in
     let inv = c.landings.invariant in
@@ -221,15 +221,15 @@ walk_onto-walk-requires g t c κs w =
     let r = c.requires in
     let p = r.path in
     let less = c.decreases in
-    let here = p.0 ++ c.args.begun.now.at ∷ [] in
+    let here = p.0 ++ c.args.chain.now.at ∷ [] in
     let on = c.enter.ensures.on p.0 p.1.0 in
-    let long = length-append p.0 (c.args.begun.now.at ∷ []) ∙ ap (λ n. n + 1) p.1.1 in
+    let long = length-append p.0 (c.args.chain.now.at ∷ []) ∙ ap (λ n. n + 1) p.1.1 in
     (omega (arith, less), (w.0, (w.1.0, (w.1.1.0, (w.1.1.1, (r.on_board, (r.few, (r.counted, (here, (on, long))))))))))
 
 pub walk_onto-returns-clause-on : goal.walk_onto-returns-clause-on
 walk_onto-returns-clause-on g t c = λ path on.
     let is_on = g.K.Keeper.is_on in
-    let here : List ℕ = path ++ c.args.begun.now.at ∷ [] in
+    let here : List ℕ = path ++ c.args.chain.now.at ∷ [] in
     let on1 = c.enter.ensures.on path on in
     let there : is_on c.if-goes_on.keeper here = elim c.if-goes_on.branch [
       | walk_onto-then-goes_on+in_ok-walk w ↦ subst (λ z. is_on z here) (sym w.keeper-is)
@@ -237,7 +237,7 @@ walk_onto-returns-clause-on g t c = λ path on.
       | walk_onto-else-goes_on+in_ok-offer w ↦ subst (λ z. is_on z here) (sym w.keeper-is)
           (w.in_ok-offer.ensures.on here on1)
     ] in
-    c.leave.ensures.on path c.args.begun.now.at there
+    c.leave.ensures.on path c.args.chain.now.at there
 
 pub walk_towards-returns-clause-on : goal.walk_towards-returns-clause-on
 walk_towards-returns-clause-on g t c = λ path on.

@@ -10,13 +10,13 @@ use Rattle.dw_moves.proofs.WalkLemmas.{Landed}
 use Rattle.dw_moves.proofs.walk.+walk.Given as goal
 
 abbrev pub decreases-walk_onto : goal.decreases-walk_onto
-decreases-walk_onto g l = 3 * fin.len (fin.difference l.field.now.enemies l.begun.now.taken) + 2
+decreases-walk_onto g l = 3 * fin.len (fin.difference l.field.now.enemies l.chain.now.taken) + 2
 
 abbrev pub decreases-walk : goal.decreases-walk
-decreases-walk g l = 3 * fin.len (fin.difference l.field.now.enemies l.begun.now.taken) + 1
+decreases-walk g l = 3 * fin.len (fin.difference l.field.now.enemies l.chain.now.taken) + 1
 
 abbrev pub decreases-walk_towards : goal.decreases-walk_towards
-decreases-walk_towards g l = 3 * fin.len (fin.difference l.field.now.enemies l.begun.now.taken)
+decreases-walk_towards g l = 3 * fin.len (fin.difference l.field.now.enemies l.chain.now.taken)
 
 abbrev pub invariant-walk_towards-landings : goal.invariant-walk_towards-landings
 invariant-walk_towards-landings g l = record {
@@ -26,7 +26,7 @@ invariant-walk_towards-landings g l = record {
       → IsGround g.B.Board.geometry p side l.field.enemies l.field.occupied
       → g.K.Keeper.is_on l.initial.keeper path
       → Landed g.K.Keeper.holds g.B.Board.geometry p (record { side = side; kind = g.M.Mover.as_kind })
-      (so_far l.begun.from l.begun.at l.begun.taken path) l.over l.direction l.at l.initial.keeper l.keeper;
+      (so_far l.chain.from l.chain.at l.chain.taken path) l.over l.direction l.at l.initial.keeper l.keeper;
 }
 
 abbrev pub decreases-walk_towards-landings : goal.decreases-walk_towards-landings

@@ -6,20 +6,20 @@ use Rattle.dw_report.proofs.TryTextLemmas.{nothing_written}
 use Rattle.dw_report.proofs.FaultLemmas.{sink_stopped, sink_failed, only_memory, not_stopped, ok_not_stopped}
 use Rattle.dw_report.proofs.listing.write_row.Goals as goal
 
-pub returns-in_err-follow-clause-text : goal.returns-in_err-follow-clause-text
-returns-in_err-follow-clause-text g c =
+pub returns-in_err-switch_to-clause-text : goal.returns-in_err-switch_to-clause-text
+returns-in_err-switch_to-clause-text g c =
     let why = err_from_is_err_and c.from_residual.result c.from_residual.ensures.1 in
     nothing_written (IsRow g.B.Board.geometry c.args.text.now.start c.args.line.now)
     (g.K.Sink.taken c.args.sink.now) c.from_residual.result why.0 stops.Memory why.1 why.2
 
-pub returns-in_err-follow-clause-sink : goal.returns-in_err-follow-clause-sink
-returns-in_err-follow-clause-sink g c =
+pub returns-in_err-switch_to-clause-sink : goal.returns-in_err-switch_to-clause-sink
+returns-in_err-switch_to-clause-sink g c =
     let why = err_from_is_err_and c.from_residual.result c.from_residual.ensures.1 in
     let sink = g.K.Sink.is_failed c.args.sink.now in
     sink_stopped sink sink c.from_residual.result stops.Memory (why.1 ∙ ap Err why.2) refl
 
-pub returns-in_err-follow-clause-memory : goal.returns-in_err-follow-clause-memory
-returns-in_err-follow-clause-memory g c =
+pub returns-in_err-switch_to-clause-memory : goal.returns-in_err-switch_to-clause-memory
+returns-in_err-switch_to-clause-memory g c =
     let why = err_from_is_err_and c.from_residual.result c.from_residual.ensures.1 in
     only_memory c.from_residual.result why.0 why.1 why.2
 
@@ -40,6 +40,6 @@ pub returns-clause-memory : goal.returns-clause-memory
 returns-clause-memory g c =
     λ why e. absurd (ok_not_stopped _ why e)
 
-pub follow-requires : goal.follow-requires
-follow-requires g c =
+pub switch_to-requires : goal.switch_to-requires
+switch_to-requires g c =
     (omega arith, (c.requires.few, c.requires.legal))

@@ -2,7 +2,7 @@ use Rattle.std.proofs.Common.{◌≡◌, ◌+◌}
 use Rattle.dw_solve.specs.Questions.{Asked}
 use Rattle.dw_solve.specs.inner.QuestionLemmas.{answered}
 use Rattle.dw_list.proofs.FollowLemmas.{Follows}
-use Rattle.dw_list.proofs.given_line.followed.Given as goal
+use Rattle.dw_list.proofs.given_line.walk_along.Given as goal
 
 abbrev pub invariant-line : goal.invariant-line
 invariant-line g l = record {

@@ -3,7 +3,7 @@ use Rattle.std.proofs.lemmas.Bool.{true≢false}
 use Rattle.dw_solve.specs.inner.QuestionLemmas.{asked_none, asked_wider, asked_ok, asked_stop, asked_memory, asked_for}
 use Rattle.dw_list.proofs.StepLemmas.{candidate_few}
 use Rattle.dw_list.proofs.FollowLemmas.{follow_barred, follow_moves, follow_lost}
-use Rattle.dw_list.proofs.given_line.follow.Goals as goal
+use Rattle.dw_list.proofs.given_line.descend.Goals as goal
 
 pub returns-in_default-clause-barred : goal.returns-in_default-clause-barred
 returns-in_default-clause-barred g c _ on =

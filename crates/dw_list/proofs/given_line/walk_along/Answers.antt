@@ -3,10 +3,10 @@ use Rattle.dw_list.specs.Places.{IsPlace}
 use Rattle.dw_solve.specs.inner.QuestionLemmas.{answered, asked_none, asked_then, asked_ok, asked_stop, asked_memory}
 use Rattle.dw_solve.specs.inner.QuestionLemmas.{asked_for}
 use Rattle.dw_list.proofs.FollowLemmas.{place_of, Follows, follows_init, follows_more, follows_place, follows_short, follows_line}
-use Rattle.dw_list.proofs.given_line.followed.Goals as goal
+use Rattle.dw_list.proofs.given_line.walk_along.Goals as goal
 
-pub follow-requires : goal.follow-requires
-follow-requires g c = (lit< tt, c.line.invariant.follows.unlisted)
+pub descend-requires : goal.descend-requires
+descend-requires g c = (lit< tt, c.line.invariant.follows.unlisted)
 
 pub returns-in_err-went-clause-asked : goal.returns-in_err-went-clause-asked
 returns-in_err-went-clause-asked g c =
@@ -45,7 +45,7 @@ line-preserved g c =
     let n = c.args.moves in
     record {
       follows = follows_more geo c.args.position.now c.args.moves c.args.line.now c.line.mv-index c.mv-item.result
-          c.line.stack c.follow.new.stack c.line.invariant.follows c.line-test.true c.mv-item.is
+          c.line.stack c.descend.new.stack c.line.invariant.follows c.line-test.true c.mv-item.is
           (c.in_ok-went.ensures.went c.if-not-went.false) c.keeps_its_levels-in-line.ensures.levels;
       place = ap (λ z. z + 1) c.line.invariant.place;
       asked = asked_then geo content lost c.searches_add_up.ensures n _ _ _ answered c.line.invariant.asked

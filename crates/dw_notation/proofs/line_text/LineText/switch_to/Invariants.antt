@@ -1,7 +1,7 @@
 use Rattle.std.proofs.Common.{◌≡◌, ◌++◌, take, drop}
 use Rattle.dw_notation.specs.Text.{ArePlayable}
 use Rattle.dw_notation.specs.inner.WrittenMoves.{after_moves}
-use Rattle.dw_notation.proofs.line_text.LineText.follow.Given as goal
+use Rattle.dw_notation.proofs.line_text.LineText.switch_to.Given as goal
 
 abbrev pub invariant-moves : goal.invariant-moves
 invariant-moves g l = record {

@@ -3,7 +3,7 @@ use Rattle.dw_notation.specs.Text.{ArePlayable}
 use Rattle.dw_notation.specs.inner.WrittenMoves.{after_moves}
 use Rattle.dw_notation.proofs.LineWrittenLemmas.{next_legal, moves_more, playable_from, rest_is, played_short, after_push}
 use Rattle.dw_notation.proofs.LineWrittenLemmas.{begins_line}
-use Rattle.dw_notation.proofs.line_text.LineText.follow.Goals as goal
+use Rattle.dw_notation.proofs.line_text.LineText.switch_to.Goals as goal
 
 pub moves-init : goal.moves-init
 moves-init g c =
