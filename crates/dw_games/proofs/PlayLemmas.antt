@@ -5,8 +5,8 @@ use Rattle.std.proofs.Common.{append-nil, cond}
 use Rattle.dw_board.specs.Geometry.{Geometry}
 use Rattle.dw_games.specs.Games.{Said, HasGames}
 use Rattle.dw_games.specs.Games.HasGames.{nothing as no_games, other as other_byte, comment, last_comment}
-use Rattle.dw_notation.specs.WholeTexts.{IsBetween}
-use Rattle.dw_notation.specs.WholeTexts.IsBetween.{nothing, other, opened as open_brace, within, closed as close_brace}
+use Rattle.dw_notation.specs.Between.{IsBetween}
+use Rattle.dw_notation.specs.Between.IsBetween.{nothing, other, opened as open_brace, within, closed as close_brace}
 use Rattle.dw_games.specs.GameReading.{is_failure}
 use Rattle.dw_notation.specs.Buffering.{Input, Passes}
 use Rattle.dw_games.specs.inner.Keeping.{IsKept}

@@ -6,8 +6,8 @@ use Rattle.std.proofs.lemmas.Bool.{and_parts, cases_Bool, eqb-true, not-true}
 use Rattle.std.proofs.lemmas.List.{drop_more, take_all, length-drop}
 use Rattle.std.proofs.Math.Seq.{take-add}
 use Rattle.std.specs.List.{list_all}
-use Rattle.dw_notation.specs.WholeTexts.{IsBetween}
-use Rattle.dw_notation.specs.WholeTexts.IsBetween.{nothing, other, opened, within, closed}
+use Rattle.dw_notation.specs.Between.{IsBetween}
+use Rattle.dw_notation.specs.Between.IsBetween.{nothing, other, opened, within, closed}
 use Rattle.dw_notation.specs.inner.Sections.{transition}
 use Rattle.dw_notation.specs.inner.Tags.{passes}
 use Rattle.dw_notation.specs.declared.problems.pdn.automaton.State.{State}

@@ -8,6 +8,7 @@ pub mod LineTexts
 pub mod TextLines
 pub mod Tags
 pub mod WholeTexts
+pub mod Between
 pub mod TagLaws
 pub mod ReadTags
 pub mod Problems

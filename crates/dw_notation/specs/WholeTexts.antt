@@ -5,7 +5,6 @@ use Rattle.dw_board.specs.Geometry.{Geometry}
 use Rattle.dw_notation.specs.TextLines.{Found, if_over}
 use Rattle.dw_notation.specs.Tags.{open_bracket, open_brace, close_brace, is_space, Tag, IsGap, IsSection, SectionSays}
 use Rattle.dw_notation.specs.declared.problems.ProblemFault.TheVariants.{UnclosedComment}
-use Rattle.dw_notation.specs.declared.problems.section_finder.SectionFinder.{SectionFinder}
 
 -- no closing brace
 abbrev pub IsOpen : List ℕ → Type 0
@@ -29,17 +28,3 @@ pub data SectionsSay : Geometry → Bool → List ℕ → List Found → Type 0 
   last_section : {g : Geometry} {over : Bool} {tags : List Tag} {some last : Bool} (text gap : List ℕ) (said : Found)
       → IsSection text tags some last → IsGap last gap ⊎ (gap ≡ []) → SectionSays g (length text) some tags said
       → SectionsSay g over (text ++ gap) (if_over over (said ∷ []))
-
--- comments and other bytes between sections, by whether they begin in a comment and whether they end in one
-pub data IsBetween : (begins ends : Bool) → List ℕ → Type 0 where
-  nothing : {here : Bool} → IsBetween here here []
-  other : {ends : Bool} {more : List ℕ} (byte : ℕ) → ((byte == open_bracket) || (byte == open_brace)) ≡ false
-      → IsBetween false ends more → IsBetween false ends (byte ∷ more)
-  opened : {ends : Bool} {more : List ℕ} → IsBetween true ends more → IsBetween false ends (open_brace ∷ more)
-  within : {ends : Bool} {more : List ℕ} (byte : ℕ) → (byte == close_brace) ≡ false → IsBetween true ends more
-      → IsBetween true ends (byte ∷ more)
-  closed : {ends : Bool} {more : List ℕ} → IsBetween false ends more → IsBetween true ends (close_brace ∷ more)
-
--- whether the text stands in a comment where the next section is looked for
-abbrev pub in_comment : SectionFinder → Bool
-in_comment finder = finder.is_comment

@@ -3,7 +3,8 @@ use Rattle.std.specs.Prelude.{◌≡◌, ℕ, if◌then◌else◌, List, [], ◌
 use Rattle.std.specs.Prelude.{Option, Result, Err, OnOk, IfOk}
 use Rattle.dw_board.specs.Geometry.{Geometry}
 use Rattle.dw_notation.specs.Tags.{open_bracket, close_brace}
-use Rattle.dw_notation.specs.WholeTexts.{IsOpen, in_comment}
+use Rattle.dw_notation.specs.WholeTexts.{IsOpen}
+use Rattle.dw_notation.specs.Between.{in_comment}
 use Rattle.dw_notation.specs.declared.problems.section_finder.SectionFinder.{SectionFinder}
 use Rattle.dw_notation.specs.declared.problems.ProblemFault.TheVariants.{UnclosedComment}
 use Rattle.dw_games.specs.Games.{Said, said_with, HasGames}

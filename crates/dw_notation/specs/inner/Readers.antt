@@ -17,6 +17,7 @@ reader_of problems = reader_at (progress_of problems)
 unfoldable pub ahead_of : {B : Type 0} → SectionReader B → Geometry → Bool → List ℕ → List Found
 ahead_of reader g over bytes = sections_ahead over g reader.sections bytes
 
--- Sealed, as that is: what was cut off last says.
+-- Sealed: the clauses of public calls name it, and say all that is to be known of it. It is what the piece says that
+-- was cut off last.
 unfoldable pub cut_of : {B : Type 0} → SectionReader B → Geometry → Option Found
 cut_of reader g = sections_cut g reader.sections

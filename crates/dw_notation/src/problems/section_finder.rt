@@ -1,6 +1,6 @@
 //! Where the next section of a PDN text begins.
 ghost use Rattle.std.specs.Prelude.{◌≡◌, ◌+◌, ◌<◌, [], ◌∷◌, false, length, take, drop, IfSome, IfNone, if◌then◌else◌};
-ghost use Rattle.dw_notation.specs.WholeTexts.{IsBetween};
+ghost use Rattle.dw_notation.specs.Between.{IsBetween};
 ghost use Rattle.dw_notation.specs.declared.problems.pdn.automaton.State.TheVariants as state;
 
 use super::pdn::automaton::{Action, State};
@@ -14,7 +14,7 @@ pub struct SectionFinder {
 }
 
 impl SectionFinder {
-    ghost use Rattle.dw_notation.specs.WholeTexts.{in_comment};
+    ghost use Rattle.dw_notation.specs.Between.{in_comment};
 
     /// The text begins outside a comment.
     /// See [`SectionFinder::find`] for an example.

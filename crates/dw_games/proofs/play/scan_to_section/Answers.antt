@@ -2,7 +2,7 @@ use Rattle.std.proofs.Common.{◌≡◌, ◌+◌, ◌<◌, ◌∷◌, [], false,
 use Rattle.std.proofs.lemmas.List.{take_all}
 use Rattle.std.proofs.lemmas.Result.{err_from_is_err_and}
 use Rattle.dw_notation.specs.Buffering.{Passes, unread_in, input_of}
-use Rattle.dw_notation.specs.WholeTexts.{IsBetween, in_comment}
+use Rattle.dw_notation.specs.Between.{IsBetween, in_comment}
 use Rattle.dw_games.specs.declared.games.GameFault.TheVariants.{Failed}
 use Rattle.dw_games.specs.inner.Playing.{PlaysOn}
 use Rattle.dw_games.proofs.InputLemmas.{Passes-refl, Passes-piece, found_at, none_found, begins}

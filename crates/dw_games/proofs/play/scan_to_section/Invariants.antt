@@ -1,5 +1,5 @@
 use Rattle.dw_notation.specs.Buffering.{unread_in, input_of, weight}
-use Rattle.dw_notation.specs.WholeTexts.{in_comment}
+use Rattle.dw_notation.specs.Between.{in_comment}
 use Rattle.dw_games.specs.inner.Playing.{PlaysOn}
 use Rattle.dw_games.proofs.play.scan_to_section.Given as goal
 

@@ -1,7 +1,7 @@
 use Rattle.std.proofs.Common.{◌≡◌, ◌+◌, ◌∷◌, true, take, drop, slice_index, subst, sym, ap, ◌∙◌, arith}
 use Rattle.std.proofs.lemmas.List.{drop_more}
 use Rattle.std.specs.List.{list_all}
-use Rattle.dw_notation.specs.WholeTexts.{IsBetween}
+use Rattle.dw_notation.specs.Between.{IsBetween}
 use Rattle.dw_notation.specs.inner.Sections.{transition}
 use Rattle.dw_notation.specs.inner.Tags.{passes}
 use Rattle.dw_notation.specs.declared.problems.pdn.automaton.Action.TheVariants.{Open}

@@ -1,5 +1,5 @@
 use Rattle.std.proofs.Common.{length, take, ◌-◌, ◌≤◌}
-use Rattle.dw_notation.specs.WholeTexts.{IsBetween}
+use Rattle.dw_notation.specs.Between.{IsBetween}
 use Rattle.dw_notation.proofs.problems.section_finder.SectionFinder.find.Given as goal
 
 abbrev pub invariant-bytes : goal.invariant-bytes
